@@ -1,18 +1,28 @@
-//! What every crate stands on: the core program, the limits and answers of a run, and the traits of the outside with their forms in memory.
+//! What every crate stands on: the core program, the limits and answers of a run, the refusals of a source, and the traits of the
+//! outside with their forms in memory.
 #![tactic(auto)]
 
+mod cells;
+mod names;
 mod program;
+mod refusal;
 mod run;
 mod shelves;
 mod sinks;
 mod sources;
 mod traits;
 
+pub use cells::{Cell, Simple};
+pub use names::{
+    BUILTINS, Builtin, KEYWORDS, PRELUDE_NAMES, REFUSED_NAMES, builtin_of, is_keyword,
+    is_prelude_name, is_refused_name,
+};
 pub use program::{
     ArithOp, ClosureBody, CompareOp, CoreProgram, GapKind, Goal, Mode, Name, Place, PlaceKind,
     Pred, Rule, Term, TestKind,
 };
-pub use run::{Ending, Limits, Outcome, RunFault};
+pub use refusal::{Kind, ReadFault, Refusal, text_of};
+pub use run::{Ending, Fault, Limits, Outcome, RunFault};
 pub use shelves::{MapShelf, SureShelf};
 pub use sinks::{ByteSink, SureSink};
 pub use sources::{ByteSource, SureSource};

@@ -1,0 +1,76 @@
+// Why a source is refused.
+ghost use Rattle.std.specs.Prelude.{◌≡◌};
+ghost use Rattle.dg_base.specs.Refusals.{text_of_kind};
+ghost use Rattle.dg_base.specs.declared.refusal.ReadFault.TheVariants.{OutOfMemory};
+
+use std::alloc::{AllocError, AllocFailed};
+use thiserror::Error;
+
+/// What a source is refused for.
+#[derive(Clone, Copy, PartialEq, Eq, Debug)]
+pub enum Kind {
+    BadByte,
+    Unclosed,
+    Unexpected,
+    NotInProfile,
+    BadHead,
+    AccessLoop,
+    BadNow,
+    BadInitial,
+    TooMany,
+    NoEntry,
+    SourceTooLong,
+    NotBuiltYet,
+}
+
+/// What a source is refused for, and the line that is named, from 1.
+#[derive(Clone, Copy, PartialEq, Eq, Debug)]
+pub struct Refusal {
+    pub kind: Kind,
+    pub line: u32,
+}
+
+/// What a call that reads a source answers in place of its result.
+#[derive(Clone, Copy, PartialEq, Eq, Debug, Error)]
+pub enum ReadFault {
+    #[error("line {}: {}", .0.line, text_of(.0.kind))]
+    Refused(Refusal),
+    #[error("out of memory")]
+    OutOfMemory,
+}
+
+impl From<AllocError> for ReadFault {
+    ghost from_gives = { λ _ fault. fault ≡ OutOfMemory };
+
+    fn from(_error: AllocError) -> ReadFault {
+        ReadFault::OutOfMemory
+    }
+}
+
+impl<T: Drop> From<AllocFailed<T>> for ReadFault {
+    ghost from_gives = { λ _ fault. fault ≡ OutOfMemory };
+
+    fn from(_failed: AllocFailed<T>) -> ReadFault {
+        ReadFault::OutOfMemory
+    }
+}
+
+/// The text that is printed for a refusal.
+pub fn text_of(kind: Kind) -> &'static str
+    ensures { result.now ≡ text_of_kind kind }
+{
+    match kind {
+        Kind::BadByte => "bad character",
+        Kind::Unclosed => "unclosed construct",
+        Kind::Unexpected => "unexpected token",
+        Kind::NotInProfile => "not in this profile",
+        Kind::BadHead => "bad head",
+        Kind::AccessLoop => "access rule loops or is repeated",
+        Kind::BadNow => "cannot be changed here",
+        Kind::BadInitial => "bad initial value",
+        Kind::TooMany => "too many",
+        Kind::NoEntry => "no rule for (program entry point)",
+        Kind::SourceTooLong => "source too long",
+        Kind::NotBuiltYet => "not built yet",
+    }
+}
