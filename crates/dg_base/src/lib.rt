@@ -3,6 +3,7 @@
 #![tactic(auto)]
 
 mod cells;
+mod laws;
 mod names;
 mod program;
 mod refusal;
@@ -11,8 +12,10 @@ mod shelves;
 mod sinks;
 mod sources;
 mod traits;
+mod writing;
 
 pub use cells::{Cell, Simple};
+pub use laws::faults_last;
 pub use names::{
     BUILTINS, Builtin, KEYWORDS, PRELUDE_NAMES, REFUSED_NAMES, builtin_of, is_keyword,
     is_prelude_name, is_refused_name,
@@ -28,3 +31,7 @@ pub use sinks::{ByteSink, SureSink};
 pub use sources::{ByteSource, SureSource};
 pub use sqlite_items::{Boxed, Items};
 pub use traits::{Failed, Shelf, ShelfFault, Sink, Source, StoreFault};
+pub use writing::{WriteFault, write_all, write_both};
+
+#[cfg(test)]
+mod tests;
