@@ -1,4 +1,4 @@
-//! What every crate stands on: the core program, the limits and answers of a run, the refusals of a source, and the traits of the
+//! What every crate stands on: the tree of a source, the core program, the limits and answers of a run, the refusals of a source, and the traits of the
 //! outside with their forms in memory.
 #![tactic(auto)]
 
@@ -12,6 +12,7 @@ mod shelves;
 mod sinks;
 mod sources;
 mod traits;
+mod tree;
 mod writing;
 
 pub use cells::{Cell, Simple};
@@ -31,6 +32,7 @@ pub use sinks::{ByteSink, SureSink};
 pub use sources::{ByteSource, SureSource};
 pub use sqlite_items::{Boxed, Items};
 pub use traits::{Failed, Shelf, ShelfFault, Sink, Source, StoreFault};
+pub use tree::{Arm, Body, Head, Item, ItemBody, NowChange, Part, Stmt, Tree, Value};
 pub use writing::{WriteFault, write_all, write_both};
 
 #[cfg(test)]
