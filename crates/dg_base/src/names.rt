@@ -133,51 +133,51 @@ pub const PRELUDE_NAMES: [&str; 4] = [
 ];
 
 // Whether a name is one of these.
-fn is_among(name: &str, names: &[&str]) -> bool
+fn is_among(name: &[u8], names: &[&str]) -> bool
     ensures { result ≡ list_any (λ known. bytes_eq known.now name.now) names.now }
 {
-    names.iter().any(|known| *known == name)
+    names.iter().any(|known| known.as_bytes() == name)
 }
 
 /// Whether this is a keyword's name.
-pub fn is_keyword(name: &str) -> bool
+pub fn is_keyword(name: &[u8]) -> bool
     ensures { result ≡ name_among name.now keywords }
 {
     is_among(name, &KEYWORDS)
 }
 
 /// Whether this is a name that the profile refuses.
-pub fn is_refused_name(name: &str) -> bool
+pub fn is_refused_name(name: &[u8]) -> bool
     ensures { result ≡ name_among name.now refused_names }
 {
     is_among(name, &REFUSED_NAMES)
 }
 
 /// Whether this is the name of a predicate that every program has.
-pub fn is_prelude_name(name: &str) -> bool
+pub fn is_prelude_name(name: &[u8]) -> bool
     ensures { result ≡ name_among name.now prelude_names }
 {
     is_among(name, &PRELUDE_NAMES)
 }
 
 // The built-in query of a name, the first among these.
-fn search_table(name: &str, known: &[(&str, Builtin)]) -> Option<Builtin>
+fn search_table(name: &[u8], known: &[(&str, Builtin)]) -> Option<Builtin>
     ensures { result ≡ option_map (λ entry. entry.1) (find (λ entry. bytes_eq entry.0.now name.now) known.now) }
 {
     known
         .iter()
-        .find(|entry| entry.0 == name)
+        .find(|entry| entry.0.as_bytes() == name)
         .map(|entry| entry.1)
 }
 
-fn first_of(name: &str, known: &[(&str, Builtin)]) -> Option<Builtin>
+fn first_of(name: &[u8], known: &[(&str, Builtin)]) -> Option<Builtin>
     ensures { result ≡ builtin_among name.now (map (λ entry. (entry.0.now, entry.1)) known.now) }
 {
     search_table(name, known)
 }
 
 /// The built-in query of this name.
-pub fn builtin_of(name: &str) -> Option<Builtin>
+pub fn builtin_of(name: &[u8]) -> Option<Builtin>
     ensures { result ≡ builtin_named name.now }
 {
     first_of(name, &BUILTINS)

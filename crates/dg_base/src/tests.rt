@@ -53,12 +53,12 @@ fn a_sure_shelf_has_no_bytes_for_a_name_without_contents(rt: HostRuntime) -> Res
 
 #[test]
 fn names_are_found_in_the_tables(rt: HostRuntime) -> Result<(), Fail> {
-    assert!(rt; is_keyword("(elseif)") && !is_keyword("(bold)"));
-    assert!(rt; is_refused_name("(save undo $)") && is_prelude_name("($ is one of $)"));
+    assert!(rt; is_keyword(b"(elseif)") && !is_keyword(b"(bold)"));
+    assert!(rt; is_refused_name(b"(save undo $)") && is_prelude_name(b"($ is one of $)"));
     assert_eq!(rt;
-        builtin_of("(repeat forever)"),
+        builtin_of(b"(repeat forever)"),
         Some(Builtin::RepeatForever)
     );
-    assert_eq!(rt; builtin_of("(repeat)"), None);
+    assert_eq!(rt; builtin_of(b"(repeat)"), None);
     Ok(())
 }

@@ -1,0 +1,7 @@
+//! The command.
+#![tactic(auto)]
+
+mod command;
+mod scan;
+
+fn main(_rt: HostRuntime) {}
