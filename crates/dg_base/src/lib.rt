@@ -3,6 +3,7 @@
 #![tactic(auto)]
 
 mod cells;
+mod heads;
 mod laws;
 mod names;
 mod program;
@@ -16,6 +17,7 @@ mod tree;
 mod writing;
 
 pub use cells::{Cell, Simple};
+pub use heads::name_of;
 pub use laws::faults_last;
 pub use names::{
     BUILTINS, Builtin, KEYWORDS, PRELUDE_NAMES, REFUSED_NAMES, builtin_of, is_keyword,

@@ -1,8 +1,6 @@
 // Writes whole texts to a sink, which may take a piece in several puts.
-ghost use Rattle.std.specs.Prelude.{◌++◌, OnOk, OnErr};
-ghost use Rattle.std.specs.Io.KnownBytes.{Appends};
-ghost use Rattle.dg_base.specs.Causes.{HasCause};
-ghost use Rattle.dg_base.specs.Written.{TakesFront, IsTooSmall, RoomTaken};
+ghost use Rattle.std.specs.Prelude.{◌≤◌, ◌++◌, OnOk, OnErr};
+ghost use Rattle.dg_base.specs.Written.{view, Wrote, BrokeOff};
 
 use crate::traits::Sink;
 use thiserror::Error;
@@ -14,16 +12,13 @@ pub struct WriteFault;
 
 /// Writes a whole text.
 pub fn write_all<K: Sink>(sink: &mut K, text: &[u8]) -> Result<(), WriteFault>
-    ensures whole { OnOk result (Appends (K.taken sink.old) (K.taken sink.new) text.now) }
-    ensures room { OnOk result (RoomTaken (K.room sink.old) (K.room sink.new) text.now) }
-    ensures front { OnErr result (TakesFront (K.taken sink.old) (K.taken sink.new) text.now) }
-    ensures small { OnErr result (IsTooSmall (K.room sink.old) text.now) }
-    ensures cause { HasCause (K.faults sink.old) (K.faults sink.new) result }
+    ensures ok { OnOk result (Wrote (view (K.taken sink.old) (K.room sink.old) (K.faults sink.old)) (view (K.taken sink.new) (K.room sink.new) (K.faults sink.new)) text.now) }
+    ensures err { OnErr result (BrokeOff (view (K.taken sink.old) (K.room sink.old) (K.faults sink.old)) (view (K.taken sink.new) (K.room sink.new) (K.faults sink.new)) text.now) }
 {
-    let mut done = 0;
-    while done < text.len() {
-        match sink.put(&text[done..]) {
-            Ok(count) => done += count,
+    let mut at = 0;
+    while at < text.len() {
+        match sink.put(&text[at..]) {
+            Ok(count) => at += count,
             Err(_) => return Err(WriteFault),
         }
     }
@@ -31,13 +26,10 @@ pub fn write_all<K: Sink>(sink: &mut K, text: &[u8]) -> Result<(), WriteFault>
 }
 
 /// Writes two texts, one behind the other.
-#[tactic(auto, using(crate::proofs::WrittenLemmas::appends_both, crate::proofs::WrittenLemmas::room_both, crate::proofs::WrittenLemmas::front_first, crate::proofs::WrittenLemmas::front_second, crate::proofs::WrittenLemmas::small_first, crate::proofs::WrittenLemmas::small_second))]
+#[tactic(auto, using(crate::proofs::WrittenLemmas::wrote_on, crate::proofs::WrittenLemmas::broke_first))]
 pub fn write_both<K: Sink>(sink: &mut K, first: &[u8], second: &[u8]) -> Result<(), WriteFault>
-    ensures whole { OnOk result (Appends (K.taken sink.old) (K.taken sink.new) (first.now ++ second.now)) }
-    ensures room { OnOk result (RoomTaken (K.room sink.old) (K.room sink.new) (first.now ++ second.now)) }
-    ensures front { OnErr result (TakesFront (K.taken sink.old) (K.taken sink.new) (first.now ++ second.now)) }
-    ensures small { OnErr result (IsTooSmall (K.room sink.old) (first.now ++ second.now)) }
-    ensures cause { HasCause (K.faults sink.old) (K.faults sink.new) result }
+    ensures ok { OnOk result (Wrote (view (K.taken sink.old) (K.room sink.old) (K.faults sink.old)) (view (K.taken sink.new) (K.room sink.new) (K.faults sink.new)) (first.now ++ second.now)) }
+    ensures err { OnErr result (BrokeOff (view (K.taken sink.old) (K.room sink.old) (K.faults sink.old)) (view (K.taken sink.new) (K.room sink.new) (K.faults sink.new)) (first.now ++ second.now)) }
 {
     match write_all(sink, first) {
         Ok(()) => {}

@@ -1,17 +1,22 @@
-use Rattle.std.proofs.Common.{rules, arith, length, ◌≤◌, ◌-◌, ◌+◌}
-use Rattle.std.proofs.lemmas.Grind.{common_steps}
-use Rattle.dg_base.proofs.WrittenLemmas.{rest_all, appends_more, front_kept, room_more}
+use Rattle.std.proofs.Common.{arith}
+use Rattle.dg_base.specs.Written.{view}
+use Rattle.dg_base.proofs.WrittenLemmas.{rest_length, wrote_more, wrote_all, put_failed, falls}
 use Rattle.dg_base.proofs.writing.write_all.Goals as goal
 
-pub loop-done-preserved : goal.loop-done-preserved
-loop-done-preserved g c =
-    let within : c.loop-done.done + c.in-Ok.count ≤ length c.args.text.now = grind (arith, common_steps) in
+pub loop-at-preserved : goal.loop-at-preserved
+loop-at-preserved g c =
+    let inv = c.loop-at.invariant in
+    let put = c.in-Ok.ensures in
     record {
-      within = within;
-      taken = appends_more _ _ _ c.args.text.now c.loop-done.done c.in-Ok.count c.loop-done.invariant.taken (rw rest_all at c.in-Ok.ensures.taken);
-      room = room_more _ _ _ _ c.args.text.now c.loop-done.done c.in-Ok.count within c.loop-done.invariant.room c.in-Ok.ensures.room;
-      later = omega (arith, c.in-Ok.ensures.cause.later);
+      within = omega (arith, put.part.0, rest_length c.args.text.now c.loop-at.at, inv.within, c.loop-at-test.true);
+      wrote =
+          wrote_more (view (g.K.Sink.taken c.args.sink.now) (g.K.Sink.room c.args.sink.now) (g.K.Sink.faults c.args.sink.now)) (view (g.K.Sink.taken c.loop-at.sink) (g.K.Sink.room c.loop-at.sink) (g.K.Sink.faults c.loop-at.sink))
+          (view (g.K.Sink.taken c.put.new.self) (g.K.Sink.room c.put.new.self) (g.K.Sink.faults c.put.new.self)) c.args.text.now c.loop-at.at c.in-Ok.count put.part.0 inv.wrote put.taken (falls _ (g.K.Sink.room c.loop-at.sink) (g.K.Sink.room c.put.new.self) c.in-Ok.count put.room) put.cause.later;
     }
 
-pub returns-in-Err-clause-front : goal.returns-in-Err-clause-front
-returns-in-Err-clause-front g c = front_kept _ _ _ c.args.text.now c.loop-done.done c.loop-done.invariant.taken c.in-Err.ensures.taken
+pub returns-in-Err-clause-err : goal.returns-in-Err-clause-err
+returns-in-Err-clause-err g c =
+    let inv = c.loop-at.invariant in
+    let put = c.in-Err.ensures in
+    put_failed (view (g.K.Sink.taken c.args.sink.now) (g.K.Sink.room c.args.sink.now) (g.K.Sink.faults c.args.sink.now)) (view (g.K.Sink.taken c.loop-at.sink) (g.K.Sink.room c.loop-at.sink) (g.K.Sink.faults c.loop-at.sink))
+    (view (g.K.Sink.taken c.put.new.self) (g.K.Sink.room c.put.new.self) (g.K.Sink.faults c.put.new.self)) c.args.text.now c.loop-at.at _ inv.within inv.wrote put.taken put.fits put.cause.later put.cause.failed

@@ -1,15 +1,12 @@
-use Rattle.std.proofs.Common.{◌≡◌, ◌≤◌, ◌-◌, take, length}
-use Rattle.std.specs.Io.KnownBytes.{Appends}
-use Rattle.dg_base.specs.Written.{RoomTaken}
+use Rattle.std.proofs.Common.{length, take, ◌-◌, ◌≤◌}
+use Rattle.dg_base.specs.Written.{view, Wrote}
 use Rattle.dg_base.proofs.writing.write_all.Given as goal
 
-abbrev pub invariant-loop-done : goal.invariant-loop-done
-invariant-loop-done g l = record {
-  within : l.done ≤ length l.text;
-  taken : Appends (g.K.Sink.taken l.initial.sink) (g.K.Sink.taken l.sink) (take l.done l.text);
-  room : RoomTaken (g.K.Sink.room l.initial.sink) (g.K.Sink.room l.sink) (take l.done l.text);
-  later : g.K.Sink.faults l.initial.sink ≤ g.K.Sink.faults l.sink;
+abbrev pub invariant-loop-at : goal.invariant-loop-at
+invariant-loop-at g l = record {
+  within : l.at ≤ length l.text;
+  wrote : Wrote (view (g.K.Sink.taken l.initial.sink) (g.K.Sink.room l.initial.sink) (g.K.Sink.faults l.initial.sink)) (view (g.K.Sink.taken l.sink) (g.K.Sink.room l.sink) (g.K.Sink.faults l.sink)) (take l.at l.text);
 }
 
-abbrev pub decreases-loop-done : goal.decreases-loop-done
-decreases-loop-done g l = length l.text - l.done
+abbrev pub decreases-loop-at : goal.decreases-loop-at
+decreases-loop-at g l = length l.text - l.at

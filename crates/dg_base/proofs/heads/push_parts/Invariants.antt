@@ -1,0 +1,8 @@
+use Rattle.std.proofs.Common.{◌≡◌, ◌++◌, drop, map}
+use Rattle.dg_base.specs.Heads.{parts_behind}
+use Rattle.dg_base.specs.Tree.{parts_of}
+use Rattle.dg_base.specs.TreeView.{part_view}
+use Rattle.dg_base.proofs.heads.push_parts.Given as goal
+
+abbrev pub invariant-loop-part : goal.invariant-loop-part
+invariant-loop-part l = l.name.items ++ parts_behind (parts_of (map part_view (drop l.part-index l.parts))) ≡ l.initial.name.items ++ parts_behind (parts_of (map part_view l.parts))
