@@ -1,3 +1,4 @@
 pub mod Command
 pub mod CommandView
 pub mod Scan
+pub mod Plain

@@ -2,6 +2,8 @@
 #![tactic(auto)]
 
 mod command;
+mod lowering;
+mod plain;
 mod scan;
 
 fn main(_rt: HostRuntime) {}
