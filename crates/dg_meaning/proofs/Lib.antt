@@ -4,3 +4,4 @@ pub mod Silently
 pub mod Context
 pub mod Tags
 pub mod Keeps
+pub mod Worked
