@@ -5,16 +5,36 @@ use Rattle.std.proofs.lemmas.Bool.{cond_both}
 use Rattle.dg_base.specs.declared.program.Goal.{Goal, out-Goal}
 use Rattle.dg_base.specs.declared.run.Ending.TheVariants.{Done as Done-Ending, StepLimit}
 use Rattle.dg_meaning.specs.World.{Game, World, Answered, noted, worked}
-use Rattle.dg_meaning.specs.Path.{Step, Do, Answers, Cut, Refuse, Back, Leave, Registers, Result, Failing, CutFail, StopTo, End, Branch, Enter, Clash, TakeOut, Kind, Plain, Rules, Shield, Gathers, Move, GoesOn, FailsAt, EndsAt, StopsAt, Chooses}
+use Rattle.dg_meaning.specs.Path.{Step, Do, Answers, Cut, Refuse, Back, Leave, Registers, Path, Result, Failing, CutFail, StopTo, End, Branch, Enter, Clash, TakeOut, Kind, Plain, Rules, Shield, Gathers, Move, GoesOn, FailsAt, EndsAt, StopsAt, Chooses}
 use Rattle.dg_meaning.specs.Moves.{path_of, move}
-use Rattle.dg_meaning.specs.Search.{Search, search, answer, later, retried, leave, begin, cut, choose, after_move}
+use Rattle.dg_meaning.specs.Search.{Search, search, answer, later, retried, leave, begun, begin, cut, cut_result, after_branch, choose, branches_cut, after_move}
 use Rattle.dg_meaning.specs.Transcript.{Run, run_of, run, start_world, start_path}
 use Rattle.dg_meaning.specs.Context.{Around, InBranch, InCut, unwind, gathers, tags_of, Opens, Way, ways, Live, cut_to, pushed, live, way_to, Sound, BranchIn, BranchesIn}
 use Rattle.dg_meaning.specs.Keeps.{IsQuiet, world_of, unwound, Stands, Failed, Stopping, Resumed, Finished, FailsTo, Began, new_choice, After, WentOn, Keeps}
 use Rattle.dg_meaning.proofs.Silently.{silently_here, silently_on}
-use Rattle.dg_meaning.proofs.Search.{search_steps}
+use Rattle.dg_meaning.specs.OneRun.{Grows}
+use Rattle.dg_meaning.proofs.OneRun.{grows_same, grows_on}
+use Rattle.dg_meaning.proofs.Search.{IsGood, after_branch_good, choose_good, search_good, search_steps}
 use Rattle.dg_meaning.proofs.Context.{live_of, later_twice, others_begin, Fails, run_fails, resumes, fails, leaving, opens_outside, stops}
 use Rattle.dg_meaning.proofs.Tags.{stop_mark, steps_mark, branch_others, MoveIn, move_in}
+
+-- ## What has happened
+
+unwind_grows : (s : Search) → IsGood s → (ctx : List Around) (n : ℕ) (w : World) (r : Result) → Grows w (unwind s ctx n w r).world
+unwind_grows s h [] n w r = grows_same w
+unwind_grows s h (InCut t ∷ ctx) n w r = unwind_grows s h ctx n w (cut_result t r)
+unwind_grows s h (InBranch k t bs ∷ ctx) n w r =
+    let a = after_branch k t n w r (choose s (later k) t bs) (λ c. choose s (later k) t (branches_cut t c bs)) in
+    let good = after_branch_good k t n w r (choose s (later k) t bs) (λ c. choose s (later k) t (branches_cut t c bs)) (λ m v. choose_good s h (later k) t bs m v) (λ c m v. choose_good s h (later k) t (branches_cut t c bs) m v) in
+    grows_on w a.world _ good.grows (unwind_grows s h ctx a.left a.world a.result)
+
+pub has_happened : (g : Game) (cs : List Live) (ws : List Way) (path : Path) (n : ℕ) (w : World) (run : Run) → Stands g cs ws path n w run → Grows w run.world
+has_happened g cs ws path n w run st =
+    let a = search g n path w in
+    subst (λ (x : Run). Grows w x.world) (sym st.is) (grows_on w a.world _ (search_good g n path w).grows (unwind_grows (search g) (search_good g) st.ctx a.left a.world a.result))
+
+pub has_happened_before : (g : Game) (cs : List Live) (n : ℕ) (w : World) (run : Run) → Failed g cs n w run → Grows w run.world
+has_happened_before g cs n w run st = subst (λ (x : Run). Grows w x.world) (sym st.is) (unwind_grows (search g) (search_good g) st.ctx n w Failing)
 
 -- ## Marks
 
@@ -217,6 +237,8 @@ starts g typed n = record {
 pub keeps : Keeps
 keeps = record {
   starts = starts;
+  has_happened = has_happened;
+  has_happened_before = has_happened_before;
   passes_answer = passes_answer;
   passes_cut = passes_cut;
   passes_leave = passes_leave;

@@ -34,7 +34,7 @@ good_on n m w v a le b g = record { left = omega (arith, g.left); grows = grows_
 abbrev IsGoodNext : (ℕ → World → Answer) → Type 0
 IsGoodNext next = (m : ℕ) (v : World) → Good m v (next m v)
 
-after_branch_good : (k : Kind) (t n : ℕ) (w : World) (r : Result) (next : ℕ → World → Answer) (stopped : Option ℕ → ℕ → World → Answer) → IsGoodNext next → ((c : Option ℕ) → IsGoodNext (stopped c)) → Good n w (after_branch k t n w r next stopped)
+pub after_branch_good : (k : Kind) (t n : ℕ) (w : World) (r : Result) (next : ℕ → World → Answer) (stopped : Option ℕ → ℕ → World → Answer) → IsGoodNext next → ((c : Option ℕ) → IsGoodNext (stopped c)) → Good n w (after_branch k t n w r next stopped)
 after_branch_good k t n w Failing next stopped g h = g n w
 after_branch_good k t n w (CutFail u) next stopped g h = good_at n w (leave k t w) _ (leave_grows k t w)
 after_branch_good k t n w (StopTo s c) next stopped g h =
@@ -48,7 +48,7 @@ begin_good s g (TakeOut t path) n w =
     let v = begun path.registers 0 (dropped t w) in
     good_on n n w v _ (omega arith) (grows_on w (dropped t w) v (dropped_grows t w) (begun_grows path.registers 0 (dropped t w))) (g n path v)
 
-choose_good : (s : Search) → IsGood s → (k : Kind) (t : ℕ) (bs : List Branch) (n : ℕ) (w : World) → Good n w (choose s k t bs n w)
+pub choose_good : (s : Search) → IsGood s → (k : Kind) (t : ℕ) (bs : List Branch) (n : ℕ) (w : World) → Good n w (choose s k t bs n w)
 choose_good s g k t [] n w = good_at n w (exhausted k w) _ (exhausted_grows k w)
 choose_good s g k t (b ∷ bs) n w =
     let a = begin s b n (retried k w) in

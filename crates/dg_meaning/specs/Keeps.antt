@@ -8,6 +8,7 @@ use Rattle.dg_meaning.specs.Path.{Step, Do, Answers, Cut, Refuse, Back, Leave, R
 use Rattle.dg_meaning.specs.Moves.{path_of, move}
 use Rattle.dg_meaning.specs.Search.{Search, search, answer, later, retried, begun, choose, branches_cut}
 use Rattle.dg_meaning.specs.Transcript.{Run, run_of, run, start_world, start_path}
+use Rattle.dg_meaning.specs.OneRun.{Grows}
 use Rattle.dg_meaning.specs.Context.{Around, InBranch, unwind, Opens, Way, ways, Live, cut_to, pushed, live, way_to, Shielded, PathIn, Sound, Silently}
 
 -- No gathering is open.
@@ -129,6 +130,9 @@ pub record WentOn (g : Game) (cs : List Live) (ws : List Way) (s : ℕ) (n : ℕ
 pub record Keeps : Type 0 where
   -- The run of a game stands at the query of its entry point, with no choice.
   pub starts : (g : Game) (typed : List ℕ) (n : ℕ) → Stands g [] [] (start_path g) n (start_world typed) (run g typed n)
+  -- What has happened where a run stands, or has failed, has happened in the run.
+  pub has_happened : (g : Game) (cs : List Live) (ws : List Way) (path : Path) (n : ℕ) (w : World) (run : Run) → Stands g cs ws path n w run → Grows w run.world
+  pub has_happened_before : (g : Game) (cs : List Live) (n : ℕ) (w : World) (run : Run) → Failed g cs n w run → Grows w run.world
   -- That a rule was answered is noted.
   pub passes_answer : (g : Game) (cs : List Live) (ws : List Way) (q : ℕ) (steps : List Step) (r : Registers) (n : ℕ) (w : World) (run : Run) → Stands g cs ws (path_of (Answers q ∷ steps) r) n w run → Stands g cs ws (path_of steps r) n (noted (Answered q) w) run
   -- A mark that cuts to t drops the choices that are not older.

@@ -1,0 +1,8 @@
+//! The interpreter: it runs a core program and writes what its meaning says.
+#![tactic(auto)]
+
+mod engine;
+mod frames;
+mod output;
+mod run;
+mod spacer;
