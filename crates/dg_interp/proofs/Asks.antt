@@ -1,21 +1,20 @@
 -- A query is asked, and a word is printed.
-use Rattle.std.proofs.Common.{◌≡◌, ℕ, zero, suc, ◌+◌, ◌^◌, ◌<◌, ◌≤◌, List, [], ◌∷◌, ◌++◌, Option, Some, None, Bool, true, false, refl, sym, ap, ◌∙◌, subst, arith, length, length-append, Bor}
+use Rattle.std.proofs.Common.{◌≡◌, ℕ, zero, suc, ◌+◌, ◌^◌, ◌<◌, ◌≤◌, List, [], ◌∷◌, ◌++◌, refl, sym, ap, ◌∙◌, subst, arith, length, length-append}
 use Rattle.std.specs.Prelude.{slice_get, reverse}
 use Rattle.std.specs.List.{All}
 use Rattle.std.proofs.lemmas.List.{append-nil}
 use Rattle.std.specs.declared.vec.Vec.{Vec}
 use Rattle.std.specs.declared.alloc.Global.{Global}
-use Rattle.dg_base.specs.declared.program.Goal.{Goal, out-Goal}
+use Rattle.dg_base.specs.declared.program.Goal.{out-Goal}
 use Rattle.dg_base.specs.declared.program.Goal.TheVariants.{Text, Ask, outs-Text, outs-Ask}
 use Rattle.dg_base.specs.declared.program.Rule.{Rule}
 use Rattle.dg_base.specs.declared.program.Pred.{Pred}
 use Rattle.dg_base.specs.declared.program.CoreProgram.{CoreProgram}
-use Rattle.dg_meaning.specs.World.{Game, World, Event, Print, Piece, Prints, Asked, HasFailed, prints, noted, worked}
-use Rattle.dg_meaning.specs.Path.{Step, Do, Registers, Branch, Kind, Plain, Rules, Shield, Gathers, Move}
-use Rattle.dg_meaning.specs.Moves.{path_of, rules_of, rule_branches, choice, ask, move, printed, exhausted}
+use Rattle.dg_meaning.specs.World.{Game, World, Piece, Prints, Asked, HasFailed, prints, noted, worked}
+use Rattle.dg_meaning.specs.Path.{Step, Branch, Kind, Plain, Rules, Shield, Gathers, Move}
+use Rattle.dg_meaning.specs.Moves.{rules_of, rule_branches, choice, move, printed}
 use Rattle.dg_meaning.specs.Transcript.{Run}
-use Rattle.dg_meaning.specs.Context.{Way, Live}
-use Rattle.dg_meaning.specs.Keeps.{IsQuiet, world_of, Stands, After}
+use Rattle.dg_meaning.specs.Keeps.{IsQuiet, world_of, After}
 use Rattle.dg_meaning.specs.Built.{IsBuiltRule}
 use Rattle.dg_meaning.proofs.Silently.{prints_append}
 use Rattle.dg_meaning.proofs.Keeps.{takes}
@@ -26,7 +25,7 @@ use Rattle.dg_interp.specs.declared.engine.Engine.{Engine}
 use Rattle.dg_interp.specs.Frames.{steps_behind, steps_at, AreChoices, AreFrames, StandOn}
 use Rattle.dg_interp.specs.Engine.{IsSound, IsReady, StandsAt, FailsAt, TakesAt, BeginsAt, BeganWith, Adds, Then, Leads}
 use Rattle.dg_interp.proofs.Links.{same_append, behind_new, frames_append, choices_same, stand_raise}
-use Rattle.dg_interp.proofs.Places.{adds_nothing, adds_on, adds_noted}
+use Rattle.dg_interp.proofs.Places.{adds_on, adds_noted}
 use Rattle.dg_interp.proofs.Turns.{all_first, all_rest}
 
 -- ## What a goal does
@@ -65,8 +64,8 @@ module _ (g : Game) (query : Query) (e : Engine) (w : World) (run : Run) (quiet 
   asked rules are =
       let m = moves ∙ ap asks (sym are) in
       subst (λ m. After g st.lives st.ways e.left m run) m
-        (takes g st.lives st.ways (Ask query.pred [] query.many) e.here.tag steps st.registers e.left w run quiet
-          (subst (λ m. IsQuiet (world_of m)) (sym m) (choice_quiet (Rules query.pred) st.registers.next_tag (rule_branches query.pred 0 query.many steps st.registers rules) asked_world quiet)) st.stands)
+      (takes g st.lives st.ways (Ask query.pred [] query.many) e.here.tag steps st.registers e.left w run quiet
+      (subst (λ m. IsQuiet (world_of m)) (sym m) (choice_quiet (Rules query.pred) st.registers.next_tag (rule_branches query.pred 0 query.many steps st.registers rules) asked_world quiet)) st.stands)
 
 pub nothing_in : (rules : List Rule) → length rules ≤ 0 → rules ≡ []
 nothing_in [] h = refl
@@ -131,7 +130,7 @@ module _ (old : Engine) (frames : Vec Frame Global) (ready : IsReady old) (pushe
       choices = subst (λ l. AreChoices l (reverse old.choices.items) st.lives) (sym pushed_on) (choices_same fs gs (length fs) old.newest (reverse old.choices.items) st.lives (same_append fs old.here) ready.sound.choices st.choices);
       tag = st.tag;
       began = λ rule others split.
-        subst (λ s. BeganWith g left.query rule others s st.registers st.lives st.ways old.left (noted (Asked left.query.pred) (worked 1 w)) run) (sym behind)
+          subst (λ s. BeganWith g left.query rule others s st.registers st.lives st.ways old.left (noted (Asked left.query.pred) (worked 1 w)) run) (sym behind)
           (asked g left.query old w run quiet st (rule ∷ others) (sym split ∙ are));
     };
   }

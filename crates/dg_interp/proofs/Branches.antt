@@ -1,33 +1,27 @@
 -- The next branch of a choice, and the rules of a query.
-use Rattle.std.proofs.Common.{◌≡◌, ◌≢◌, ℕ, zero, suc, ◌+◌, ◌^◌, ◌<◌, ◌≤◌, List, [], ◌∷◌, ◌++◌, Option, Some, None, Bool, true, false, refl, sym, ap, ◌∙◌, subst, arith, length, take, length-append, length-take, Bor}
-use Rattle.std.specs.Prelude.{slice_get, reverse, Result, Ok, Err, IfOk}
-use Rattle.std.specs.List.{All}
+use Rattle.std.proofs.Common.{◌≡◌, ℕ, ◌+◌, List, [], ◌∷◌, ◌++◌, Bool, true, false, refl, sym, ap, ◌∙◌, subst, arith, length, take, length-take}
+use Rattle.std.specs.Prelude.{reverse, Result, Ok, Err, IfOk, IfErr}
 use Rattle.std.specs.declared.vec.Vec.{Vec}
 use Rattle.std.specs.declared.alloc.Global.{Global}
-use Rattle.dg_base.specs.declared.program.Goal.{Goal, out-Goal}
-use Rattle.dg_base.specs.declared.program.Goal.TheVariants.{Ask, outs-Ask}
 use Rattle.dg_base.specs.declared.program.Rule.{Rule}
-use Rattle.dg_base.specs.declared.program.CoreProgram.{CoreProgram}
-use Rattle.dg_meaning.specs.World.{Game, World, Asked, prints, noted, worked}
-use Rattle.dg_meaning.specs.Path.{Step, Do, Registers, Branch, Kind, Rules as RulesOf, Failing, Move}
-use Rattle.dg_meaning.specs.Moves.{path_of, rules_of, rule_branches, rule_steps, choice_cells, enter, choice, ask, move, exhausted}
+use Rattle.dg_meaning.specs.World.{Game, World}
+use Rattle.dg_meaning.specs.Path.{Step, Registers, Rules as RulesOf, Failing}
+use Rattle.dg_meaning.specs.Moves.{rule_branches, rule_steps, choice_cells, enter}
 use Rattle.dg_meaning.specs.Search.{retried}
 use Rattle.dg_meaning.specs.Transcript.{Run}
-use Rattle.dg_meaning.specs.Context.{Way, Live, pushed}
-use Rattle.dg_meaning.specs.Keeps.{IsQuiet, world_of, Stands, Failed, Finished, FailsTo, GoesBack, Resumed, Began, After}
+use Rattle.dg_meaning.specs.Context.{Live, pushed}
+use Rattle.dg_meaning.specs.Keeps.{IsQuiet, Finished, FailsTo, Resumed, Began}
 use Rattle.dg_meaning.proofs.Silently.{retried_silently, quiet_later}
-use Rattle.dg_meaning.proofs.Keeps.{failed, begins_next, takes}
+use Rattle.dg_meaning.proofs.Keeps.{failed, begins_next}
 use Rattle.dg_interp.specs.declared.frames.Query.{Query}
 use Rattle.dg_interp.specs.declared.frames.Frame.{Frame}
-use Rattle.dg_interp.specs.declared.frames.Left.{Left}
 use Rattle.dg_interp.specs.declared.frames.Choice.{Choice}
 use Rattle.dg_interp.specs.declared.engine.Engine.{Engine}
-use Rattle.dg_interp.specs.Frames.{steps_behind, steps_at, IsLeft, kind_of, branches_of, IsChoice, AreChoices, IsFrame, AreFrames, StandOn}
-use Rattle.dg_interp.specs.Engine.{IsSound, IsReady, StandsAt, FailsAt, TakesAt, BeginsAt, BeganWith, Adds, Then, Leads, Ends, WentBack, NoneLeft, Branches}
-use Rattle.dg_interp.proofs.Links.{same_append, same_take, behind_same, behind_new, frames_append, frames_take, choices_same, stand_raise}
-use Rattle.dg_meaning.specs.Built.{IsBuiltRule}
+use Rattle.dg_interp.specs.Frames.{steps_behind, IsLeft, IsChoice, AreChoices, AreFrames, StandOn}
+use Rattle.dg_interp.specs.Engine.{IsSound, StandsAt, FailsAt, BeginsAt, BeganWith, Adds, Then, Leads, Ends, WentBack, NoneLeft, Branches}
+use Rattle.dg_interp.proofs.Links.{same_take, behind_same, frames_take, choices_same}
 use Rattle.dg_interp.proofs.Turns.{reverse_pop}
-use Rattle.dg_interp.proofs.Places.{adds_nothing, adds_on, adds_silently, then_on, leads_on}
+use Rattle.dg_interp.proofs.Places.{adds_nothing, adds_on, adds_silently, leads_on}
 
 -- ## One after another
 
@@ -48,19 +42,23 @@ pub if_ok_map : {A E : Type 0} (r : Result A E) (P Q : A → Type 0) → ((x : A
 if_ok_map (Ok x) P Q f h = f x h
 if_ok_map (Err e) P Q f h = h
 
+pub if_err_map : {A E : Type 0} (r : Result A E) (P Q : E → Type 0) → ((x : E) → P x → Q x) → IfErr r P → IfErr r Q
+if_err_map (Ok x) P Q f h = h
+if_err_map (Err e) P Q f h = f e h
+
 -- ## The next branch of the newest choice
 
 -- the next of a choice's rules, by what the choice is
 next_with : (g : Game) (query : Query) (rule : Rule) (others : List Rule) (steps : List Step) (r : Registers) (c : Live) (cs : List Live) (n : ℕ) (w : World) (run : Run) →
-  c.kind ≡ RulesOf query.pred → c.tag ≡ r.next_tag → c.height ≡ 0 →
-  Began g (pushed (rule_branches query.pred 0 query.many steps r others) (record c { others = rule_branches query.pred 0 query.many steps r others }) cs) c.ways_on (enter (choice_cells 0 others + 6 + rule.vars) 1 r (rule_steps query.pred query.many r.next_tag rule steps)) n w run →
-  BeganWith g query rule others steps r cs c.ways_on n w run
+    c.kind ≡ RulesOf query.pred → c.tag ≡ r.next_tag → c.height ≡ 0 →
+    Began g (pushed (rule_branches query.pred 0 query.many steps r others) (record c { others = rule_branches query.pred 0 query.many steps r others }) cs) c.ways_on (enter (choice_cells 0 others + 6 + rule.vars) 1 r (rule_steps query.pred query.many r.next_tag rule steps)) n w run →
+    BeganWith g query rule others steps r cs c.ways_on n w run
 next_with g query rule others steps r c cs n w run kind tag height h =
     let bs = rule_branches query.pred 0 query.many steps r others in
     let b = enter (choice_cells 0 others + 6 + rule.vars) 1 r (rule_steps query.pred query.many r.next_tag rule steps) in
     subst (λ k. Began g (pushed bs (record { kind = k; tag = r.next_tag; others = bs; height = 0; ways_on = c.ways_on }) cs) c.ways_on b n w run) kind
-      (subst (λ t. Began g (pushed bs (record { kind = c.kind; tag = t; others = bs; height = 0; ways_on = c.ways_on }) cs) c.ways_on b n w run) tag
-        (subst (λ i. Began g (pushed bs (record { kind = c.kind; tag = c.tag; others = bs; height = i; ways_on = c.ways_on }) cs) c.ways_on b n w run) height h))
+    (subst (λ t. Began g (pushed bs (record { kind = c.kind; tag = t; others = bs; height = 0; ways_on = c.ways_on }) cs) c.ways_on b n w run) tag
+    (subst (λ i. Began g (pushed bs (record { kind = c.kind; tag = c.tag; others = bs; height = i; ways_on = c.ways_on }) cs) c.ways_on b n w run) height h))
 
 module _ (old : Engine) (o : Choice) (frames : Vec Frame Global) (choices : Vec Choice Global) (sound : IsSound old) (popped : old.choices.items ≡ choices.items ++ o ∷ []) (cut : frames.items ≡ take o.height old.frames.items) where
   abbrev fs : List Frame
@@ -112,10 +110,10 @@ module _ (old : Engine) (o : Choice) (frames : Vec Frame Global) (choices : Vec 
           choices = subst (λ l. AreChoices l os cs) (sym cut) (choices_same fs (take o.height fs) o.height o.tag os cs (same_take fs o.height) stand.3 others);
           tag = is.tag_at;
           began = λ rule more split.
-            let branches : c.others ≡ rule_branches o.left.query.pred 0 o.left.query.many (steps_behind frames.items (length frames.items)) r (rule ∷ more) =
+              let branches : c.others ≡ rule_branches o.left.query.pred 0 o.left.query.many (steps_behind frames.items (length frames.items)) r (rule ∷ more) =
               is.others ∙ ap (rule_branches o.left.query.pred 0 o.left.query.many (steps_behind fs o.height) r) split
               ∙ ap (λ s. rule_branches o.left.query.pred 0 o.left.query.many s r (rule ∷ more)) (sym behind) in
-            next_with g o.left.query rule more (steps_behind frames.items (length frames.items)) r c cs old.left (retried c.kind v) run is.kind (is.tag ∙ sym is.tag_at) is.height
+              next_with g o.left.query rule more (steps_behind frames.items (length frames.items)) r c cs old.left (retried c.kind v) run is.kind (is.tag ∙ sym is.tag_at) is.height
               (begins_next g c cs _ _ old.left v run branches still is.height resumed);
         };
       }

@@ -6,3 +6,5 @@ pub mod Turns
 pub mod Branches
 pub mod Asks
 pub mod Runs
+pub mod Whole
+pub mod Starts

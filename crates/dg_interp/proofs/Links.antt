@@ -1,9 +1,9 @@
 -- Laws of linked frames and open choices.
 use Rattle.std.proofs.Common.{◌≡◌, ℕ, zero, suc, ◌+◌, ◌<◌, ◌≤◌, inl, inr, List, [], ◌∷◌, ◌++◌, Option, Some, None, refl, sym, ap, ◌∙◌, subst, arith, length, take, length-append, length-take}
 use Rattle.std.proofs.lemmas.Option.{slice_get_past}
-use Rattle.std.specs.Prelude.{Bool, true, false, eqb, nat_lt, slice_get, if◌then◌else◌}
+use Rattle.std.specs.Prelude.{true, false, eqb, nat_lt, slice_get, if◌then◌else◌}
 use Rattle.std.proofs.lemmas.Bool.{cond_both, cond-true, cond-false, cases_lt, eq-eqb, ne_eqb}
-use Rattle.dg_meaning.specs.Path.{Step, Branch}
+use Rattle.dg_meaning.specs.Path.{Step}
 use Rattle.dg_meaning.specs.Context.{Live, cut_to}
 use Rattle.dg_interp.specs.declared.frames.Frame.{Frame}
 use Rattle.dg_interp.specs.declared.frames.Choice.{Choice}
@@ -136,7 +136,7 @@ choices_cut t fs (o ∷ os) [] h = absurd h
 choices_cut t fs (o ∷ os) (c ∷ cs) h =
     let same : nat_lt c.tag t ≡ nat_lt o.tag t = ap (λ x. nat_lt x t) h.0.tag in
     subst (λ b. AreChoices fs (older_than t (o ∷ os)) (if b then c ∷ cs else cut_to t cs)) (sym same)
-      (elim (nat_lt o.tag t) as (λ b. AreChoices fs (if b then o ∷ os else older_than t os) (if b then c ∷ cs else cut_to t cs)) [ true ↦ h | false ↦ choices_cut t fs os cs h.1 ])
+    (elim (nat_lt o.tag t) as (λ b. AreChoices fs (if b then o ∷ os else older_than t os) (if b then c ∷ cs else cut_to t cs)) [ true ↦ h | false ↦ choices_cut t fs os cs h.1 ])
 
 pub stand_cut : (t n u : ℕ) (os : List Choice) → StandOn n u os → StandOn n u (older_than t os)
 stand_cut t n u [] s = tt

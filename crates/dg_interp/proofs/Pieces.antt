@@ -1,7 +1,7 @@
 -- What a spacer stands for behind one more piece.
-use Rattle.std.proofs.Common.{◌≡◌, ℕ, zero, suc, ◌-◌, ◌<◌, List, [], ◌∷◌, ◌++◌, Option, Some, None, refl, sym, ap, ◌∙◌, subst, arith, length, get_or}
+use Rattle.std.proofs.Common.{◌≡◌, ℕ, zero, suc, ◌-◌, ◌<◌, List, [], ◌∷◌, ◌++◌, Option, Some, refl, sym, ap, ◌∙◌, subst, arith, length, get_or}
 use Rattle.dg_meaning.specs.World.{Print, Piece}
-use Rattle.dg_meaning.specs.Render.{separator, first_of, last_of, capital, Met, nothing_met, met_from, met_behind, written}
+use Rattle.dg_meaning.specs.Render.{separator, first_of, last_of, capital, Met, nothing_met, met_from, met_behind}
 use Rattle.dg_interp.specs.declared.spacer.Spacer.{Spacer}
 use Rattle.dg_interp.specs.Output.{SinkView, Wrote, BrokeOff}
 use Rattle.dg_meaning.specs.Transcript.{newline_behind}

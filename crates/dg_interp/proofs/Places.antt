@@ -1,18 +1,18 @@
 -- Where an engine stands, and how it goes on from there.
-use Rattle.std.proofs.Common.{◌≡◌, ◌≢◌, ℕ, zero, suc, ◌+◌, ◌-◌, ◌^◌, ◌<◌, ◌≤◌, List, [], ◌∷◌, ◌++◌, Option, Some, Bool, true, false, refl, sym, ap, ◌∙◌, subst, arith, length, take, drop, get_or, length-append, length-take, append_assoc, Bor}
+use Rattle.std.proofs.Common.{◌≡◌, ◌≢◌, ℕ, suc, ◌+◌, ◌-◌, ◌≤◌, List, [], ◌∷◌, ◌++◌, Some, Bool, true, false, refl, sym, ap, ◌∙◌, subst, arith, length, take, get_or, length-take, append_assoc}
 use Rattle.std.specs.Prelude.{not, max, slice_get, reverse}
 use Rattle.std.proofs.lemmas.Option.{slice_get-get_or}
 use Rattle.dg_base.specs.declared.run.Ending.TheVariants.{Done}
-use Rattle.std.proofs.lemmas.List.{reverse-append, append-nil}
+use Rattle.std.proofs.lemmas.List.{append-nil}
 use Rattle.std.specs.declared.vec.Vec.{Vec}
 use Rattle.std.specs.declared.alloc.Global.{Global}
 use Rattle.dg_meaning.specs.World.{Game, World, Event, Print, Answered, prints, noted}
-use Rattle.dg_meaning.specs.Path.{Step, Answers, Cut, Registers, End}
+use Rattle.dg_meaning.specs.Path.{Step, Answers, Cut, End}
 use Rattle.dg_meaning.specs.Moves.{path_of, first_alone}
 use Rattle.dg_meaning.specs.Transcript.{Run}
 use Rattle.dg_meaning.specs.Context.{Live, cut_to, Silently}
-use Rattle.dg_meaning.specs.Keeps.{IsQuiet, Stands, Failed, Finished}
-use Rattle.dg_meaning.proofs.Silently.{prints_append, prints_later, typed_later, quiet_later, noted_silently}
+use Rattle.dg_meaning.specs.Keeps.{IsQuiet, Stands, Finished}
+use Rattle.dg_meaning.proofs.Silently.{prints_later, typed_later, quiet_later, noted_silently}
 use Rattle.dg_meaning.proofs.Keeps.{passes_answer, passes_cut, done}
 use Rattle.dg_interp.specs.declared.frames.Query.{Query}
 use Rattle.dg_interp.specs.declared.frames.Mark.{Mark}
@@ -21,7 +21,7 @@ use Rattle.dg_interp.specs.declared.frames.Frame.{Frame}
 use Rattle.dg_interp.specs.declared.frames.Choice.{Choice}
 use Rattle.dg_interp.specs.declared.engine.Engine.{Engine}
 use Rattle.dg_interp.specs.Frames.{mark_steps, frame_steps, steps_behind, steps_at, AreChoices, IsFrame, AreFrames, StandOn, floor_of}
-use Rattle.dg_interp.specs.Engine.{IsSound, IsReady, StandsAt, Adds, Then, Leads, Ends, Cuts, WentOn, MarkPassed, FrameLeft, AllDone}
+use Rattle.dg_interp.specs.Engine.{IsReady, StandsAt, Adds, Then, Leads, Cuts, WentOn, MarkPassed, FrameLeft, AllDone}
 use Rattle.dg_interp.proofs.Links.{same_take, behind_same, behind_frame, behind_end, frames_take, choices_same, choices_cut, stand_cut, stand_floor, floor_within}
 
 -- ## From world to world
@@ -54,7 +54,7 @@ leads_on A B C a b g w run quiet h = then_on [] [] w (λ v. B g v run) (λ v. C 
 -- ## The same place
 
 module _ (old new : Engine) (program : new.program.now ≡ old.program.now) (newest : new.newest ≡ old.newest) (left : new.left ≡ old.left) (steps : steps_at new.frames.items new.here ≡ steps_at old.frames.items old.here)
-  (choices : (cs : List Live) → AreChoices old.frames.items (reverse old.choices.items) cs → AreChoices new.frames.items (reverse new.choices.items) cs) where
+    (choices : (cs : List Live) → AreChoices old.frames.items (reverse old.choices.items) cs → AreChoices new.frames.items (reverse new.choices.items) cs) where
   pub same_place : Leads (λ g. StandsAt g old) (λ g. StandsAt g new)
   same_place g w run quiet st = record {
     world = w;
@@ -113,21 +113,21 @@ module _ (old : Engine) (ready : IsReady old) (none : old.here.goals.now ≡ [])
     ready = record { sound = record { program = ready.sound.program; frames = ready.sound.frames; choices = ready.sound.choices; room = ready.sound.room }; linked = ready.linked; built = ready.built };
     left = refl;
     leads = λ g w run quiet st.
-      let was : steps_at fs old.here ≡ Answers query.pred ∷ rest = steps_done fs old.here (AnswerOf query) none is ∙ ap (λ m. Answers query.pred ∷ first_alone m old.here.tag rest) many in
-      record {
-        world = noted (Answered query.pred) w;
-        adds = adds_noted w (Answered query.pred) quiet refl;
-        holds = record {
-          program = st.program;
-          lives = st.lives;
-          ways = st.ways;
-          registers = st.registers;
-          choices = st.choices;
-          tag = st.tag;
-          stands = subst (λ s. Stands g st.lives st.ways (path_of s st.registers) old.left (noted (Answered query.pred) w) run) (sym off)
-            (passes_answer g st.lives st.ways query.pred rest st.registers old.left w run (subst (λ s. Stands g st.lives st.ways (path_of s st.registers) old.left w run) was st.stands));
+        let was : steps_at fs old.here ≡ Answers query.pred ∷ rest = steps_done fs old.here (AnswerOf query) none is ∙ ap (λ m. Answers query.pred ∷ first_alone m old.here.tag rest) many in
+        record {
+          world = noted (Answered query.pred) w;
+          adds = adds_noted w (Answered query.pred) quiet refl;
+          holds = record {
+            program = st.program;
+            lives = st.lives;
+            ways = st.ways;
+            registers = st.registers;
+            choices = st.choices;
+            tag = st.tag;
+            stands = subst (λ s. Stands g st.lives st.ways (path_of s st.registers) old.left (noted (Answered query.pred) w) run) (sym off)
+                (passes_answer g st.lives st.ways query.pred rest st.registers old.left w run (subst (λ s. Stands g st.lives st.ways (path_of s st.registers) old.left w run) was st.stands));
+          };
         };
-      };
   })
 
   pub cut_passed : (query : Query) (choices : Vec Choice Global) → old.here.mark ≡ AnswerOf query → query.many ≡ false → Cuts old.here.tag old.choices.items choices.items → MarkPassed old (record (marked_off old) { choices = choices })
@@ -146,28 +146,28 @@ module _ (old : Engine) (ready : IsReady old) (none : old.here.goals.now ≡ [])
         };
         left = refl;
         leads = λ g w run quiet st.
-          let was : steps_at fs old.here ≡ Answers query.pred ∷ Cut t ∷ rest = steps_done fs old.here (AnswerOf query) none is ∙ ap (λ m. Answers query.pred ∷ first_alone m t rest) many in
-          let v = noted (Answered query.pred) w in
-          let answered = passes_answer g st.lives st.ways query.pred (Cut t ∷ rest) st.registers old.left w run (subst (λ s. Stands g st.lives st.ways (path_of s st.registers) old.left w run) was st.stands) in
-          record {
-            world = v;
-            adds = adds_noted w (Answered query.pred) quiet refl;
-            holds = record {
-              program = st.program;
-              lives = cut_to t st.lives;
-              ways = st.ways;
-              registers = st.registers;
-              choices = subst (λ os. AreChoices fs os (cut_to t st.lives)) (sym cuts) (choices_cut t fs (reverse old.choices.items) st.lives st.choices);
-              tag = st.tag;
-              stands = subst (λ s. Stands g (cut_to t st.lives) st.ways (path_of s st.registers) old.left v run) (sym off) (passes_cut g st.lives st.ways t rest st.registers old.left v run answered);
+            let was : steps_at fs old.here ≡ Answers query.pred ∷ Cut t ∷ rest = steps_done fs old.here (AnswerOf query) none is ∙ ap (λ m. Answers query.pred ∷ first_alone m t rest) many in
+            let v = noted (Answered query.pred) w in
+            let answered = passes_answer g st.lives st.ways query.pred (Cut t ∷ rest) st.registers old.left w run (subst (λ s. Stands g st.lives st.ways (path_of s st.registers) old.left w run) was st.stands) in
+            record {
+              world = v;
+              adds = adds_noted w (Answered query.pred) quiet refl;
+              holds = record {
+                program = st.program;
+                lives = cut_to t st.lives;
+                ways = st.ways;
+                registers = st.registers;
+                choices = subst (λ os. AreChoices fs os (cut_to t st.lives)) (sym cuts) (choices_cut t fs (reverse old.choices.items) st.lives st.choices);
+                tag = st.tag;
+                stands = subst (λ s. Stands g (cut_to t st.lives) st.ways (path_of s st.registers) old.left v run) (sym off) (passes_cut g st.lives st.ways t rest st.registers old.left v run answered);
+              };
             };
-          };
       })
 
 -- ## The frame behind
 
 module _ (old : Engine) (frames : Vec Frame Global) (f : Frame) (needed : ℕ) (ready : IsReady old) (none : old.here.goals.now ≡ []) (off : old.here.mark ≡ Nothing) (some : old.here.behind ≢ 0)
-  (is : f ≡ get_or old.frames.items (old.here.behind - 1) f) (need : needed ≡ max (floor_of (reverse old.choices.items)) f.behind) (kept : frames.items ≡ take needed old.frames.items) where
+    (is : f ≡ get_or old.frames.items (old.here.behind - 1) f) (need : needed ≡ max (floor_of (reverse old.choices.items)) f.behind) (kept : frames.items ≡ take needed old.frames.items) where
   abbrev was : List Frame
   was = old.frames.items
 
@@ -237,9 +237,9 @@ pub all_done : (old e : Engine) → WentOn old e → e.here.goals.now ≡ [] →
 all_done old e h none off end = record {
   left = h.left;
   ends = λ g w run quiet st.
-    then_on [] [] w (λ v. StandsAt g e v run) (λ v. Finished old.left v (End Done) run) (h.leads g w run quiet st)
+      then_on [] [] w (λ v. StandsAt g e v run) (λ v. Finished old.left v (End Done) run) (h.leads g w run quiet st)
       (λ v q k.
-        let steps : steps_at e.frames.items e.here ≡ [] = steps_done e.frames.items e.here Nothing none off ∙ ap (steps_behind e.frames.items) end ∙ behind_end e.frames.items in
-        let stands = subst (λ n. Stands g k.lives k.ways (path_of [] k.registers) n v run) h.left (subst (λ s. Stands g k.lives k.ways (path_of s k.registers) e.left v run) steps k.stands) in
-        record { world = v; adds = adds_nothing v q; holds = done g k.lives k.ways k.registers old.left v run stands });
+      let steps : steps_at e.frames.items e.here ≡ [] = steps_done e.frames.items e.here Nothing none off ∙ ap (steps_behind e.frames.items) end ∙ behind_end e.frames.items in
+      let stands = subst (λ n. Stands g k.lives k.ways (path_of [] k.registers) n v run) h.left (subst (λ s. Stands g k.lives k.ways (path_of s k.registers) e.left v run) steps k.stands) in
+      record { world = v; adds = adds_nothing v q; holds = done g k.lives k.ways k.registers old.left v run stands });
 }

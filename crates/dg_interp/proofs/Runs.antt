@@ -1,7 +1,7 @@
 -- How goals add up to a run.
-use Rattle.std.proofs.Common.{◌≡◌, ℕ, zero, suc, ◌+◌, ◌<◌, ◌≤◌, List, [], ◌∷◌, ◌++◌, Option, Some, None, Bool, true, false, refl, sym, ap, ◌∙◌, subst, arith, length, append_assoc}
+use Rattle.std.proofs.Common.{◌≡◌, ℕ, suc, ◌<◌, List, [], ◌∷◌, ◌++◌, Bool, refl, sym, ap, ◌∙◌, subst, arith, length, append_assoc}
 use Rattle.std.proofs.lemmas.List.{append-nil}
-use Rattle.dg_base.specs.declared.program.Goal.{Goal, out-Goal}
+use Rattle.dg_base.specs.declared.program.Goal.{Goal}
 use Rattle.dg_base.specs.declared.program.Goal.TheVariants.{Text, Ask, outs-Ask}
 use Rattle.dg_base.specs.declared.program.Term.{Term}
 use Rattle.dg_base.specs.declared.run.Ending.{Ending}
@@ -9,7 +9,7 @@ use Rattle.dg_base.specs.declared.run.Ending.TheVariants.{Done, Failed, StepLimi
 use Rattle.dg_base.specs.declared.run.RunFault.{RunFault}
 use Rattle.dg_base.specs.declared.run.RunFault.TheVariants.{Read, Write, OutOfMemory}
 use Rattle.dg_meaning.specs.World.{Game, World, Event, Print, Piece, prints}
-use Rattle.dg_meaning.specs.Path.{Do, Failing, End}
+use Rattle.dg_meaning.specs.Path.{Failing, End}
 use Rattle.dg_meaning.specs.Moves.{path_of, goals_at}
 use Rattle.dg_meaning.specs.Render.{Met, nothing_met, met_from, met_behind, written, render, render_from}
 use Rattle.dg_meaning.specs.Transcript.{Run, ending_of, text_of}
@@ -24,8 +24,8 @@ use Rattle.dg_interp.specs.declared.engine.Engine.{Engine}
 use Rattle.dg_interp.specs.Output.{SinkView, Wrote, BrokeOff}
 use Rattle.dg_interp.specs.Spacer.{StandsFor, Added, growth}
 use Rattle.dg_interp.specs.Frames.{steps_behind, mark_steps}
-use Rattle.dg_interp.specs.Engine.{IsReady, StandsAt, TakesAt, Adds, Then, Taken, WentOn, AtGoal, AllDone, WentBack, NoneLeft}
-use Rattle.dg_interp.specs.Running.{HasText, Reaches, GoesOn, HasEnded, HasPart, IsBroken, GoalDone}
+use Rattle.dg_interp.specs.Engine.{StandsAt, TakesAt, Adds, Then, Taken, WentOn, AtGoal, AllDone, WentBack, NoneLeft}
+use Rattle.dg_interp.specs.Running.{HasText, Reaches, GoesOn, HasEnded, IsBroken, GoalDone}
 use Rattle.dg_interp.proofs.Writing.{wrote_on, broke_first, broke_later}
 use Rattle.dg_interp.proofs.Places.{adds_on, adds_silently}
 use Rattle.dg_interp.proofs.Asks.{prints_word}
@@ -95,7 +95,7 @@ finished_so : (r : _) (e : Ending) (n m : ℕ) (s : Spacer) (k : SinkView) (g : 
 finished_so r e n m s k g w run start text same is t =
     let f = t.holds in
     ended_so e n m s k g w f.world run start (adds_on w t.world f.world [] [] t.adds (adds_silently t.world f.world t.adds.quiet f.silently)) text same
-      (f.is ∙ ap (λ x. record { left = n; world = f.world; ending = x }) (sym is))
+    (f.is ∙ ap (λ x. record { left = n; world = f.world; ending = x }) (sym is))
 
 pub run_done : (a b : Engine) (s : Spacer) (k : SinkView) → AllDone a b → Reaches a s k (HasEnded Done b.left s k)
 run_done a b s k h g w run start quiet st text = finished_so (End Done) Done a.left b.left s k g w run start text (sym h.left) refl (h.ends g w run quiet st)
@@ -123,8 +123,8 @@ module _ (x : Goal) (name bytes : List ℕ) (old mid : Engine) (s s' : Spacer) (
     ready = taken.ready;
     left = taken.left;
     reaches = λ g w run start quiet st text.
-      let t = word_then g w run quiet st in
-      record { world = t.world; typed = t.adds.typed; quiet = t.adds.quiet; stands = t.holds; text = subst (HasText s' start k') (sym t.adds.prints_are) (text_added s s' start k k' (prints w.events) (Piece bytes) text added) };
+        let t = word_then g w run quiet st in
+        record { world = t.world; typed = t.adds.typed; quiet = t.adds.quiet; stands = t.holds; text = subst (HasText s' start k') (sym t.adds.prints_are) (text_added s s' start k k' (prints w.events) (Piece bytes) text added) };
   }
 
   pub word_lost : ((es : List Print) → StandsFor s es → BrokeOff k k' (growth es (Piece bytes))) → Reaches old s k (IsBroken Write s' k')
@@ -133,7 +133,7 @@ module _ (x : Goal) (name bytes : List ℕ) (old mid : Engine) (s s' : Spacer) (
       let h = t.holds in
       let is : text_of t.world.events ≡ render (prints w.events) ++ growth (prints w.events) (Piece bytes) = ap render t.adds.prints_are ∙ render_grows (prints w.events) (Piece bytes) in
       text_begins t.world.events run.world.events (has_happened g h.lives h.ways _ mid.left t.world run h.stands).events start k'
-        (subst (BrokeOff start k') (sym is) (broke_later start k k' (render (prints w.events)) (growth (prints w.events) (Piece bytes)) text.wrote (broke (prints w.events) text.stands)))
+      (subst (BrokeOff start k') (sym is) (broke_later start k k' (render (prints w.events)) (growth (prints w.events) (Piece bytes)) text.wrote (broke (prints w.events) text.stands)))
 
 -- ## A query
 
@@ -151,8 +151,8 @@ module _ (x : Goal) (query : Query) (args : List Term) (old mid new : Engine) (s
     ready = h.ready;
     left = taken.left ∙ ap suc (sym h.left);
     reaches = λ g w run start quiet st text.
-      let t = h.leads g w run quiet (query_at g w run st) in
-      record { world = t.world; typed = t.adds.typed; quiet = t.adds.quiet; stands = t.holds; text = text_same s start k (prints w.events) (prints t.world.events) t.adds.prints_are text };
+        let t = h.leads g w run quiet (query_at g w run st) in
+        record { world = t.world; typed = t.adds.typed; quiet = t.adds.quiet; stands = t.holds; text = text_same s start k (prints w.events) (prints t.world.events) t.adds.prints_are text };
   }
 
   pub query_failed : NoneLeft (λ g. TakesAt g (Ask query.pred [] query.many) mid) mid new → Reaches old s k (HasEnded Failed new.left s k)

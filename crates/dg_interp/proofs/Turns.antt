@@ -1,35 +1,29 @@
 -- A goal is taken, and a branch begins.
-use Rattle.std.proofs.Common.{◌≡◌, ℕ, zero, suc, ◌+◌, ◌-◌, ◌^◌, ◌<◌, ◌≤◌, List, [], ◌∷◌, ◌++◌, Option, Some, Bool, true, false, refl, sym, ap, ◌∙◌, subst, arith, length, take, drop, get_or, length-append, length-take, length-drop, Bor}
-use Rattle.std.specs.Prelude.{slice_get, reverse, Result, Ok, Err, IfOk}
+use Rattle.std.proofs.Common.{◌≡◌, ℕ, zero, suc, ◌+◌, ◌<◌, ◌≤◌, List, [], ◌∷◌, ◌++◌, refl, sym, ap, ◌∙◌, subst, arith, length, take, drop, get_or, Bor}
+use Rattle.std.specs.Prelude.{reverse}
 use Rattle.std.specs.List.{All}
 use Rattle.std.proofs.lemmas.List.{reverse-append, append-nil}
 use Rattle.std.specs.declared.vec.Vec.{Vec}
 use Rattle.std.specs.declared.alloc.Global.{Global}
-use Rattle.dg_base.specs.declared.program.Goal.{Goal, Goal-F, out-Goal}
-use Rattle.dg_base.specs.declared.program.Goal.TheVariants.{Text, Ask, outs-Text, outs-Ask}
-use Rattle.dg_base.specs.declared.program.Goal.TheOpen.{Text as Text-F, Ask as Ask-F}
+use Rattle.dg_base.specs.declared.program.Goal.{Goal}
 use Rattle.dg_base.specs.declared.program.Rule.{Rule}
-use Rattle.dg_base.specs.declared.program.CoreProgram.{CoreProgram}
-use Rattle.dg_meaning.specs.World.{Game, World, Print, Piece, Asked, prints, noted, worked}
-use Rattle.dg_meaning.specs.Path.{Step, Do, Registers, Branch, Kind, Rules as RulesOf, Failing, Move}
-use Rattle.dg_meaning.specs.Moves.{path_of, goals_at, rules_of, rule_branches, rule_steps, choice_cells, enter, inside, choice, ask, move, printed, exhausted}
-use Rattle.dg_meaning.specs.Search.{retried, begun}
+use Rattle.dg_meaning.specs.World.{Game, World, prints}
+use Rattle.dg_meaning.specs.Path.{Do, Registers, Branch, Rules as RulesOf}
+use Rattle.dg_meaning.specs.Moves.{path_of, rule_branches, rule_steps, choice_cells, inside}
+use Rattle.dg_meaning.specs.Search.{begun}
 use Rattle.dg_meaning.specs.Transcript.{Run}
 use Rattle.dg_meaning.specs.Context.{Way, Live, pushed}
-use Rattle.dg_meaning.specs.Keeps.{IsQuiet, world_of, Stands, Failed, Finished, FailsTo, Began, After}
+use Rattle.dg_meaning.specs.Keeps.{IsQuiet, Stands}
 use Rattle.dg_meaning.specs.Built.{IsBuiltGoal, IsBuiltRule}
-use Rattle.dg_meaning.proofs.Silently.{retried_silently, exhausted_silently, silently_on}
-use Rattle.dg_meaning.proofs.Keeps.{failed, begins_next, takes}
 use Rattle.dg_interp.specs.declared.frames.Query.{Query}
 use Rattle.dg_interp.specs.declared.frames.Mark.TheVariants.{AnswerOf}
 use Rattle.dg_interp.specs.declared.frames.Frame.{Frame}
 use Rattle.dg_interp.specs.declared.frames.Left.{Left}
 use Rattle.dg_interp.specs.declared.frames.Choice.{Choice}
 use Rattle.dg_interp.specs.declared.engine.Engine.{Engine}
-use Rattle.dg_interp.specs.Frames.{frame_steps, steps_behind, steps_at, kind_of, branches_of, IsLeft, AreChoices, AreFrames, StandOn}
-use Rattle.dg_interp.specs.Engine.{IsSound, IsReady, StandsAt, FailsAt, TakesAt, BeginsAt, BeganWith, Adds, Then, Leads, Ends, Taken, WentBack, NoneLeft, Branches, kept_if}
-use Rattle.dg_interp.proofs.Links.{same_append, same_take, behind_same, behind_new, frames_append, frames_take, choices_same, stand_raise}
-use Rattle.dg_interp.proofs.Places.{adds_nothing, adds_on, adds_silently, adds_noted, then_on, leads_on}
+use Rattle.dg_interp.specs.Frames.{frame_steps, steps_behind, steps_at, AreChoices, StandOn}
+use Rattle.dg_interp.specs.Engine.{IsSound, IsReady, StandsAt, BeginsAt, BeganWith, Then, Taken, WentBack, kept_if}
+use Rattle.dg_interp.proofs.Links.{stand_raise}
 
 -- ## Lists
 
@@ -79,7 +73,7 @@ module _ (old : Engine) (x : Goal) (goals : Bor (List Goal)) (left : ℕ) (ready
           choices = st.choices;
           tag = st.tag;
           stands =
-            subst (λ n. Stands g st.lives st.ways (path_of (Do x old.here.tag ∷ steps_at fs (record old.here { goals = goals })) st.registers) n w run) less
+              subst (λ n. Stands g st.lives st.ways (path_of (Do x old.here.tag ∷ steps_at fs (record old.here { goals = goals })) st.registers) n w run) less
               (subst (λ (l : List Goal). Stands g st.lives st.ways (path_of (frame_steps l old.here.tag old.here.mark (steps_behind fs old.here.behind)) st.registers) old.left w run) split st.stands);
         };
       }
@@ -103,7 +97,7 @@ module _ (fs : List Frame) (o : Choice) (os : List Choice) (cs : List Live) (r :
   kept_choices (x ∷ xs) e h = (record { registers = r; tag_at = tag; kind = refl; tag = tag; others = ap (λ l. branches l) e; height = refl }, h)
 
 module _ (old : Engine) (left others : Left) (rule : Rule) (choices : Vec Choice Global) (goals : Bor (List Goal)) (sound : IsSound old) (split : left.rules.now ≡ rule ∷ others.rules.now) (same : others.query ≡ left.query) (built : All IsBuiltRule left.rules.now)
-  (kept : reverse choices.items ≡ kept_if others.rules.now (record { tag = old.newest; left = others; height = length old.frames.items }) (reverse old.choices.items)) (body : goals.now ≡ rule.body) where
+    (kept : reverse choices.items ≡ kept_if others.rules.now (record { tag = old.newest; left = others; height = length old.frames.items }) (reverse old.choices.items)) (body : goals.now ≡ rule.body) where
   abbrev was : List Frame
   was = old.frames.items
 
@@ -144,7 +138,7 @@ module _ (old : Engine) (left others : Left) (rule : Rule) (choices : Vec Choice
           choices = subst (λ l. AreChoices was l lives) (sym kept) (kept_choices was o (reverse old.choices.items) st.lives r st.ways st.tag others.rules.now refl st.choices);
           tag = ap (λ n. n + 1) st.tag;
           stands = subst (λ s. Stands g lives st.ways (path_of s (inside cells r)) old.left v run) (sym (steps r st.tag))
-            (subst (λ q. BeganWith g q rule others.rules.now (steps_behind was (length was)) r st.lives st.ways old.left w run) (sym same) (st.began rule others.rules.now split));
+              (subst (λ q. BeganWith g q rule others.rules.now (steps_behind was (length was)) r st.lives st.ways old.left w run) (sym same) (st.began rule others.rules.now split));
         };
       }
 
@@ -161,9 +155,9 @@ module _ (old : Engine) (left others : Left) (rule : Rule) (choices : Vec Choice
 
 -- the number of frames as the code counts it
 pub rules_begun_on : (old : Engine) (left others : Left) (rule : Rule) (choices : Vec Choice Global) (goals : Bor (List Goal)) (height : ℕ) → IsSound old → left.rules.now ≡ rule ∷ others.rules.now → others.query ≡ left.query → All IsBuiltRule left.rules.now →
-  reverse choices.items ≡ kept_if others.rules.now (record { tag = old.newest; left = others; height = height }) (reverse old.choices.items) → goals.now ≡ rule.body → height ≡ length old.frames.items →
-  WentBack (λ g. BeginsAt g left old) old (record old { choices = choices; here = record { goals = goals; tag = old.newest; mark = AnswerOf others.query; behind = height } })
+    reverse choices.items ≡ kept_if others.rules.now (record { tag = old.newest; left = others; height = height }) (reverse old.choices.items) → goals.now ≡ rule.body → height ≡ length old.frames.items →
+    WentBack (λ g. BeginsAt g left old) old (record old { choices = choices; here = record { goals = goals; tag = old.newest; mark = AnswerOf others.query; behind = height } })
 rules_begun_on old left others rule choices goals height sound split same built kept body e =
     subst (λ n. WentBack (λ g. BeginsAt g left old) old (record old { choices = choices; here = record { goals = goals; tag = old.newest; mark = AnswerOf others.query; behind = n } })) (sym e)
-      (rules_begun old left others rule choices goals sound split same built
-        (subst (λ n. reverse choices.items ≡ kept_if others.rules.now (record { tag = old.newest; left = others; height = n }) (reverse old.choices.items)) e kept) body)
+    (rules_begun old left others rule choices goals sound split same built
+    (subst (λ n. reverse choices.items ≡ kept_if others.rules.now (record { tag = old.newest; left = others; height = n }) (reverse old.choices.items)) e kept) body)

@@ -1,6 +1,6 @@
 -- Bytes that are written in parts.
-use Rattle.std.proofs.Common.{◌≡◌, ℕ, zero, suc, ◌+◌, ◌-◌, ◌<◌, ◌≤◌, List, [], ◌∷◌, ◌++◌, Option, Some, None, refl, sym, ap, ◌∙◌, subst, arith, length, take, drop, append_assoc, length-drop, length-append, length-take}
-use Rattle.std.specs.Prelude.{Result, Ok, Err, IsOk}
+use Rattle.std.proofs.Common.{◌≡◌, ℕ, zero, suc, ◌+◌, ◌-◌, ◌≤◌, List, [], ◌∷◌, ◌++◌, Option, Some, None, refl, sym, ap, ◌∙◌, subst, arith, length, take, drop, append_assoc, length-drop, length-append, length-take}
+use Rattle.std.specs.Prelude.{Ok, Err}
 use Rattle.std.specs.Io.KnownBytes.{Keeps, Appends}
 use Rattle.std.proofs.lemmas.List.{take-append-drop, append-nil}
 use Rattle.dg_base.specs.Causes.{Rose}
@@ -63,6 +63,7 @@ wrote_on a b c xs ys h k = record {
 -- a failure in a front of the bytes
 pub broke_first : (a b : SinkView) (xs ys : List ℕ) → BrokeOff a b xs → BrokeOff a b (xs ++ ys)
 broke_first a b xs ys h = record {
+  later = h.later;
   rose = h.rose;
   part = h.part;
   rest = h.rest ++ ys;
@@ -74,6 +75,7 @@ broke_first a b xs ys h = record {
 -- a failure behind a front of the bytes
 pub broke_later : (a b c : SinkView) (xs ys : List ℕ) → Wrote a b xs → BrokeOff b c ys → BrokeOff a c (xs ++ ys)
 broke_later a b c xs ys h k = record {
+  later = omega (arith, h.later, k.later);
   rose = let le = h.later in let r = k.rose in omega arith;
   part = xs ++ k.part;
   rest = k.rest;
@@ -123,7 +125,7 @@ over_refused : {E : Type 0} (room : Option ℕ) (piece : List ℕ) (e : E) → T
 over_refused None piece e h = tt
 over_refused (Some room) piece e h = let no : length piece ≤ room → ⊥ = λ le. let x = h le in cc in omega (arith, no)
 
-pub put_failed : {E : Type 0} (a b c : SinkView) (bytes : List ℕ) (at : ℕ) (e : E) → at ≤ length bytes → Wrote a b (take at bytes) → Keeps b.taken c.taken → TakesWithinRoom {E = E} b.room (rest_at bytes at) (Err e) → Rose b.faults c.faults → BrokeOff a c bytes
-put_failed a b c bytes at e le h t r f =
-    let here : BrokeOff b c (rest_at bytes at) = record { rose = f; part = []; rest = rest_at bytes at; is = refl; taken = appends_none b.taken c.taken t; over = over_refused b.room (rest_at bytes at) e r } in
+pub put_failed : {E : Type 0} (a b c : SinkView) (bytes : List ℕ) (at : ℕ) (e : E) → at ≤ length bytes → Wrote a b (take at bytes) → Keeps b.taken c.taken → TakesWithinRoom {E = E} b.room (rest_at bytes at) (Err e) → b.faults ≤ c.faults → Rose b.faults c.faults → BrokeOff a c bytes
+put_failed a b c bytes at e le h t r m f =
+    let here : BrokeOff b c (rest_at bytes at) = record { later = m; rose = f; part = []; rest = rest_at bytes at; is = refl; taken = appends_none b.taken c.taken t; over = over_refused b.room (rest_at bytes at) e r } in
     subst (BrokeOff a c) (ap (λ l. take at bytes ++ l) (rest_is bytes at) ∙ take-append-drop at bytes) (broke_later a b c (take at bytes) (rest_at bytes at) h here)

@@ -1,11 +1,11 @@
 -- What an engine stands for, and what its parts do to that. Hold it against the Dialog manual, chapter "Choice points".
 use Rattle.std.specs.Prelude.{ℕ, suc, ◌+◌, ◌^◌, ◌≡◌, ◌<◌, ◌≤◌, ◌++◌, nat_lt, List, [], ◌∷◌, Bool, true, false, length, reverse, if◌then◌else◌}
 use Rattle.std.specs.List.{All}
-use Rattle.dg_base.specs.declared.program.Goal.{Goal, out-Goal}
+use Rattle.dg_base.specs.declared.program.Goal.{Goal}
 use Rattle.dg_base.specs.declared.program.Rule.{Rule}
 use Rattle.dg_base.specs.declared.program.CoreProgram.{CoreProgram}
 use Rattle.dg_base.specs.declared.run.Ending.TheVariants.{Done as Done-Ending}
-use Rattle.dg_meaning.specs.World.{Game, World, Print, prints, worked}
+use Rattle.dg_meaning.specs.World.{Game, World, Print, prints}
 use Rattle.dg_meaning.specs.Path.{Step, Do, Registers, Rules, Result, Failing, End}
 use Rattle.dg_meaning.specs.Moves.{path_of, enter, choice_cells, rule_steps, rule_branches}
 use Rattle.dg_meaning.specs.Transcript.{Run, run, start_world}
@@ -70,7 +70,7 @@ abbrev pub BeganWith : Game → Query → Rule → List Rule → List Step → R
 BeganWith g query rule others steps r lives ways n w run =
     let branches = rule_branches query.pred 0 query.many steps r others in
     Began g (pushed branches (record { kind = Rules query.pred; tag = r.next_tag; others = branches; height = 0; ways_on = ways }) lives) ways
-      (enter (choice_cells 0 others + 6 + rule.vars) 1 r (rule_steps query.pred query.many r.next_tag rule steps)) n w run
+    (enter (choice_cells 0 others + 6 + rule.vars) 1 r (rule_steps query.pred query.many r.next_tag rule steps)) n w run
 
 -- ## What its parts do
 

@@ -1,8 +1,7 @@
 -- What the frames and choices of an engine are in the meaning. Hold it against the Dialog manual, chapter "Choice points".
-use Rattle.std.specs.Prelude.{ℕ, zero, suc, ◌+◌, ◌≡◌, ◌<◌, ◌≤◌, ◌++◌, eqb, List, [], ◌∷◌, Option, Some, None, length, slice_get, if◌then◌else◌}
+use Rattle.std.specs.Prelude.{ℕ, zero, suc, ◌≡◌, ◌<◌, ◌≤◌, ◌++◌, eqb, List, [], ◌∷◌, Option, Some, None, length, slice_get, if◌then◌else◌}
 use Rattle.std.specs.List.{All}
 use Rattle.dg_base.specs.declared.program.Goal.{Goal}
-use Rattle.dg_base.specs.declared.program.Rule.{Rule}
 use Rattle.dg_meaning.specs.Path.{Step, Answers, Registers, Branch, Kind, Rules}
 use Rattle.dg_meaning.specs.Moves.{goals_at, first_alone, rule_branches}
 use Rattle.dg_meaning.specs.Context.{Live}

@@ -31,6 +31,7 @@ pub record Wrote (old new : SinkView) (bytes : List ℕ) : Type 0 where
 
 -- The sink failed while it was given these bytes: its count rose, it took a front of them, and they are more than a room that it told.
 pub record BrokeOff (old new : SinkView) (bytes : List ℕ) : Type 0 where
+  pub later : old.faults ≤ new.faults
   pub rose : Rose old.faults new.faults
   pub part : List ℕ
   pub rest : List ℕ

@@ -3,6 +3,9 @@
 
 mod engine;
 mod frames;
+mod interpreter;
 mod output;
 mod run;
 mod spacer;
+
+pub use interpreter::interpret;

@@ -7,7 +7,7 @@ use Rattle.dg_base.specs.declared.run.Ending.TheVariants.{Done as Done-Ending, S
 use Rattle.dg_meaning.specs.World.{Game, World, Answered, noted, worked}
 use Rattle.dg_meaning.specs.Path.{Step, Do, Answers, Cut, Refuse, Back, Leave, Registers, Path, Result, Failing, CutFail, StopTo, End, Branch, Enter, Clash, TakeOut, Kind, Plain, Rules, Shield, Gathers, Move, GoesOn, FailsAt, EndsAt, StopsAt, Chooses}
 use Rattle.dg_meaning.specs.Moves.{path_of, move}
-use Rattle.dg_meaning.specs.Search.{Search, search, answer, later, retried, leave, begun, begin, cut, cut_result, after_branch, choose, branches_cut, after_move}
+use Rattle.dg_meaning.specs.Search.{Search, search, answer, later, retried, leave, begin, cut, cut_result, after_branch, choose, branches_cut, after_move}
 use Rattle.dg_meaning.specs.Transcript.{Run, run_of, run, start_world, start_path}
 use Rattle.dg_meaning.specs.Context.{Around, InBranch, InCut, unwind, gathers, tags_of, Opens, Way, ways, Live, cut_to, pushed, live, way_to, Sound, BranchIn, BranchesIn}
 use Rattle.dg_meaning.specs.Keeps.{IsQuiet, world_of, unwound, Stands, Failed, Stopping, Resumed, Finished, FailsTo, Began, new_choice, After, WentOn, Keeps}

@@ -296,3 +296,8 @@ follows_run d a b (inr h) = record { grows = h.1; same = λ no. absurd (no (ap e
 pub run_goes_on : (g : Game) (typed : List ℕ) (m more : ℕ) → GoesOnFrom (run g typed m) (run g typed (m + more)) more
 unfolding run
 run_goes_on g typed m more = follows_run more _ _ (search_follows g more m (m + more) (start_path g) (start_world typed) refl)
+
+-- no more is left of a run's budget than there was
+pub run_within : (g : Game) (typed : List ℕ) (n : ℕ) → (run g typed n).left ≤ n
+unfolding run
+run_within g typed n = (search_good g n (start_path g) (start_world typed)).left

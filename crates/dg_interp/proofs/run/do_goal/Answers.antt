@@ -1,5 +1,3 @@
-use Rattle.std.proofs.Common.{rules, refl}
-use Rattle.dg_interp.specs.Output.{view}
 use Rattle.dg_interp.proofs.Runs.{word_done, word_lost, query_done, query_failed, memory_lost}
 use Rattle.dg_interp.proofs.run.do_goal.Goals as goal
 

@@ -1,4 +1,4 @@
-use Rattle.std.proofs.Common.{◌≡◌, ◌<◌, ◌≤◌, ◌+◌, refl, arith, sym, ◌∙◌, subst, List, [], length, rules}
+use Rattle.std.proofs.Common.{◌<◌, ◌≤◌, ◌+◌, refl, sym, subst, List, [], length, rules}
 use Rattle.std.specs.List.{All}
 use Rattle.dg_base.specs.declared.program.Goal.TheVariants.{Ask}
 use Rattle.dg_base.specs.declared.program.Rule.{Rule}
@@ -34,5 +34,5 @@ returns c =
     let mid = record c.args.self.now { frames = c.push.new.self; newest = c.args.self.now.newest + 1 } in
     record {
       asked = went_back_from (λ g. TakesAt g (Ask q.pred [] q.many) c.args.self.now) (λ g. BeginsAt g left mid) c.args.self.now mid c.begin.new.self refl
-        (asks_some c.args.self.now c.push.new.self c.requires.ready c.in_ok-push.ensures.items left c.rules_of-rules.ensures) c.in_ok-begin.ensures.begun;
+          (asks_some c.args.self.now c.push.new.self c.requires.ready c.in_ok-push.ensures.items left c.rules_of-rules.ensures) c.in_ok-begin.ensures.begun;
     }

@@ -17,5 +17,5 @@ returns-in_ok-begin-in-Some c =
     let mid = record c.args.self.now { frames = c.truncate.new.self; choices = c.pop.new.self; newest = c.in-Some.choice.tag } in
     record {
       back = went_back_from (λ g. FailsAt g c.args.self.now) (λ g. BeginsAt g c.in-Some.choice.left mid) c.args.self.now mid c.begin.new.self refl
-        (begins_popped c.args.self.now c.in-Some.choice c.truncate.new.self c.pop.new.self c.requires.sound c.in-Some.ensures.items c.truncate.ensures.items) c.in_ok-begin-in-Some.ensures.begun;
+          (begins_popped c.args.self.now c.in-Some.choice c.truncate.new.self c.pop.new.self c.requires.sound c.in-Some.ensures.items c.truncate.ensures.items) c.in_ok-begin-in-Some.ensures.begun;
     }

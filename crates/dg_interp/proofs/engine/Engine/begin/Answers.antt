@@ -8,6 +8,6 @@ returns c =
     let all = c.args.left.rules.now in
     record {
       begun = rules_begun_on c.args.self.now c.args.left (record { query = c.args.left.query; rules = _ }) c.index-left-0.result c.keep.new.choices c.as_slice.result c.len-height.result c.requires.sound
-        (first_and_rest all c.index-left-0.result (length all - 1) c.requires.left.0 c.index-left-0.is (omega arith)) refl c.requires.left.1 c.in_ok-keep.ensures.kept
-        (c.as_slice.ensures ∙ ap (λ (r : Rule). r.body) (sym c.index-left-0.is)) (search rules);
+          (first_and_rest all c.index-left-0.result (length all - 1) c.requires.left.0 c.index-left-0.is (omega arith)) refl c.requires.left.1 c.in_ok-keep.ensures.kept
+          (c.as_slice.ensures ∙ ap (λ (r : Rule). r.body) (sym c.index-left-0.is)) (search rules);
     }

@@ -9,4 +9,4 @@ returns-then-self-eq0 c =
 pub loop-self-preserved : goal.loop-self-preserved
 loop-self-preserved c =
     went_further c.args.self.now c.pass_mark.new.self c.leave_frame.new.self
-      (went_further c.args.self.now c.loop-self.self c.pass_mark.new.self c.loop-self.invariant c.pass_mark.ensures.passed.went_on) c.leave_frame.ensures.left.went_on
+    (went_further c.args.self.now c.loop-self.self c.pass_mark.new.self c.loop-self.invariant c.pass_mark.ensures.passed.went_on) c.leave_frame.ensures.left.went_on

@@ -1,5 +1,3 @@
-use Rattle.std.proofs.Common.{List, []}
-use Rattle.dg_interp.specs.Output.{Wrote, BrokeOff}
 use Rattle.dg_interp.proofs.Pieces.{closed, newline_broke, line_broke}
 use Rattle.dg_interp.proofs.spacer.Spacer.close.Goals as goal
 

@@ -1,5 +1,3 @@
-use Rattle.std.proofs.Common.{List, []}
-use Rattle.dg_interp.specs.Output.{view, Wrote, BrokeOff}
 use Rattle.dg_interp.proofs.Pieces.{piece_added, separator_broke, piece_broke}
 use Rattle.dg_interp.proofs.spacer.Spacer.piece.Goals as goal
 
