@@ -1,0 +1,10 @@
+pub mod Writing
+pub mod Pieces
+pub mod Links
+pub mod Places
+pub mod Turns
+pub mod Branches
+pub mod Asks
+pub mod Runs
+pub mod Whole
+pub mod Starts

@@ -1,0 +1,11 @@
+use Rattle.dg_interp.proofs.Places.{not_true, not_false, nothing_passed, answer_passed, cut_passed}
+use Rattle.dg_interp.proofs.engine.Engine.pass_mark.Goals as goal
+
+pub returns-in-Nothing : goal.returns-in-Nothing
+returns-in-Nothing c = record { passed = nothing_passed c.args.self.now c.requires.ready c.requires.done c.in-Nothing.is }
+
+pub returns-then-not-query : goal.returns-then-not-query
+returns-then-not-query c = record { passed = cut_passed c.args.self.now c.requires.ready c.requires.done c.in-AnswerOf.query c.cut.new.choices c.in-AnswerOf.is (not_true _ c.if-not-query.true) c.cut.ensures }
+
+pub returns-else-not-query : goal.returns-else-not-query
+returns-else-not-query c = record { passed = answer_passed c.args.self.now c.requires.ready c.requires.done c.in-AnswerOf.query c.in-AnswerOf.is (not_false _ c.if-not-query.false) }

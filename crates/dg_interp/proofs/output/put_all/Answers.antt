@@ -1,0 +1,22 @@
+use Rattle.std.proofs.Common.{arith}
+use Rattle.dg_interp.specs.Output.{view}
+use Rattle.dg_interp.proofs.Writing.{rest_length, wrote_more, put_failed, falls}
+use Rattle.dg_interp.proofs.output.put_all.Goals as goal
+
+pub loop-at-preserved : goal.loop-at-preserved
+loop-at-preserved g c =
+    let inv = c.loop-at.invariant in
+    let put = c.in-Ok.ensures in
+    record {
+      within = omega (arith, put.part.0, rest_length c.args.bytes.now c.loop-at.at, inv.within, c.loop-at-test.true);
+      wrote =
+          wrote_more (view (g.K.Sink.taken c.args.sink.now) (g.K.Sink.room c.args.sink.now) (g.K.Sink.faults c.args.sink.now)) (view (g.K.Sink.taken c.loop-at.sink) (g.K.Sink.room c.loop-at.sink) (g.K.Sink.faults c.loop-at.sink))
+          (view (g.K.Sink.taken c.put.new.self) (g.K.Sink.room c.put.new.self) (g.K.Sink.faults c.put.new.self)) c.args.bytes.now c.loop-at.at c.in-Ok.n put.part.0 inv.wrote put.taken (falls _ (g.K.Sink.room c.loop-at.sink) (g.K.Sink.room c.put.new.self) c.in-Ok.n put.room) put.cause.later;
+    }
+
+pub returns-in-Err-clause-err : goal.returns-in-Err-clause-err
+returns-in-Err-clause-err g c =
+    let inv = c.loop-at.invariant in
+    let put = c.in-Err.ensures in
+    put_failed (view (g.K.Sink.taken c.args.sink.now) (g.K.Sink.room c.args.sink.now) (g.K.Sink.faults c.args.sink.now)) (view (g.K.Sink.taken c.loop-at.sink) (g.K.Sink.room c.loop-at.sink) (g.K.Sink.faults c.loop-at.sink))
+    (view (g.K.Sink.taken c.put.new.self) (g.K.Sink.room c.put.new.self) (g.K.Sink.faults c.put.new.self)) c.args.bytes.now c.loop-at.at c.in-Err.failed inv.within inv.wrote put.taken put.fits put.cause.later put.cause.failed

@@ -1,0 +1,6 @@
+pub mod Output
+pub mod Spacer
+pub mod Frames
+pub mod Engine
+pub mod Running
+pub mod Interpret

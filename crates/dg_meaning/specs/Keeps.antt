@@ -1,0 +1,157 @@
+-- The rules by which an engine may go on that keeps a path, the choices that were not cut, and the ways on behind stoppable parts, in place of the search's recursion.
+-- Hold it against the Dialog manual, chapter "Choice points". Gathering is left out of these rules.
+use Rattle.std.specs.Prelude.{ℕ, suc, ◌≡◌, List, [], ◌∷◌, nat_lt, Option, Some, None, if◌then◌else◌}
+use Rattle.dg_base.specs.declared.program.Goal.{Goal, out-Goal}
+use Rattle.dg_base.specs.declared.run.Ending.TheVariants.{Done as Done-Ending, StepLimit}
+use Rattle.dg_meaning.specs.World.{Game, World, Answered, noted, worked}
+use Rattle.dg_meaning.specs.Path.{Step, Do, Answers, Cut, Refuse, Back, Leave, Registers, Path, Result, Failing, StopTo, End, Answer, Branch, Enter, Clash, TakeOut, Kind, Plain, Rules, Shield, Gathers, Move, GoesOn, FailsAt, EndsAt, StopsAt, Chooses}
+use Rattle.dg_meaning.specs.Moves.{path_of, move}
+use Rattle.dg_meaning.specs.Search.{Search, search, answer, later, retried, begun, choose, branches_cut}
+use Rattle.dg_meaning.specs.Transcript.{Run, run_of, run, start_world, start_path}
+use Rattle.dg_meaning.specs.OneRun.{Grows}
+use Rattle.dg_meaning.specs.Context.{Around, InBranch, unwind, Opens, Way, ways, Live, cut_to, pushed, live, way_to, Shielded, PathIn, Sound, Silently}
+
+-- No gathering is open.
+abbrev pub IsQuiet : World → Type 0
+IsQuiet w = w.gathered ≡ []
+
+-- The world that a move leaves.
+abbrev pub world_of : Move → World
+world_of (GoesOn path w) = w
+world_of (FailsAt w) = w
+world_of (EndsAt e w) = w
+world_of (StopsAt t w) = w
+world_of (Chooses k t b bs w) = w
+
+abbrev pub unwound : Search → List Around → Answer → Run
+unwound s ctx a = unwind s ctx a.left a.world a.result
+
+-- ## Where a run stands
+
+-- The run r comes from this path, inside these choices and ways.
+pub record Stands (g : Game) (cs : List Live) (ws : List Way) (path : Path) (n : ℕ) (w : World) (r : Run) : Type 0 where
+  pub ctx : List Around
+  pub is : r ≡ unwound (search g) ctx (search g n path w)
+  pub sound : Sound ctx
+  pub opens : Opens w ctx
+  pub inner : PathIn ctx path
+  pub choices : live ctx ≡ cs
+  pub ways_are : ways ctx ≡ ws
+
+-- The run r comes from a failure inside these choices.
+pub record Failed (g : Game) (cs : List Live) (n : ℕ) (w : World) (r : Run) : Type 0 where
+  pub ctx : List Around
+  pub is : r ≡ unwind (search g) ctx n w Failing
+  pub sound : Sound ctx
+  pub opens : Opens w ctx
+  pub choices : live ctx ≡ cs
+
+-- The run r comes from a stop to s inside these choices and ways.
+pub record Stopping (g : Game) (cs : List Live) (ws : List Way) (s : ℕ) (n : ℕ) (w : World) (r : Run) : Type 0 where
+  pub ctx : List Around
+  pub is : r ≡ unwind (search g) ctx n w (StopTo s None)
+  pub sound : Sound ctx
+  pub opens : Opens w ctx
+  pub shielded : Shielded ctx s
+  pub choices : live ctx ≡ cs
+  pub ways_are : ways ctx ≡ ws
+
+-- The run r comes from the branches of this choice that were not begun, inside these choices.
+pub record Resumed (g : Game) (c : Live) (cs : List Live) (n : ℕ) (w : World) (r : Run) : Type 0 where
+  pub kind : Kind
+  pub kind_is : later kind ≡ c.kind
+  pub ctx : List Around
+  pub is : r ≡ unwound (search g) ctx (choose (search g) c.kind c.tag c.others n w)
+  pub sound : Sound (InBranch kind c.tag c.others ∷ ctx)
+  pub opens : Opens w (InBranch kind c.tag c.others ∷ ctx)
+  pub choices : live ctx ≡ cs
+  pub ways_are : ways ctx ≡ c.ways_on
+
+-- The run r has ended so, and nothing was printed since.
+pub record Finished (n : ℕ) (w : World) (result : Result) (r : Run) : Type 0 where
+  pub world : World
+  pub silently : Silently w world
+  pub is : r ≡ run_of (answer n world result)
+
+-- ## Where it goes on
+
+-- A failure goes to the newest choice, and without one the run has failed.
+pub record GoesBack (g : Game) (c : Live) (cs : List Live) (n : ℕ) (w : World) (r : Run) : Type 0 where
+  pub world : World
+  pub silently : Silently w world
+  pub resumed : Resumed g c cs n world r
+
+abbrev pub FailsTo : Game → ℕ → World → Run → List Live → Type 0
+FailsTo g n w r [] = Finished n w Failing r
+FailsTo g n w r (c ∷ cs) = GoesBack g c cs n w r
+
+-- A branch begins inside these choices and ways.
+abbrev pub Began : Game → List Live → List Way → Branch → ℕ → World → Run → Type 0
+Began g cs ws (Enter path work) n w r = Stands g cs ws path n (begun path.registers work w) r
+Began g cs ws (Clash registers) n w r = Failed g cs n (begun registers 0 w) r
+Began g cs ws (TakeOut t path) n w r = Unit {0}
+
+-- A choice whose first branch begins, with these behind it.
+abbrev pub new_choice : Kind → ℕ → List Branch → List Way → List Live → List Live
+new_choice k t bs ws cs = pushed bs (record { kind = later k; tag = t; others = bs; height = 0; ways_on = ws }) cs
+
+-- Where a run stands behind a move.
+abbrev pub After : Game → List Live → List Way → ℕ → Move → Run → Type 0
+After g cs ws n (GoesOn path w) r = Stands g cs ws path n w r
+After g cs ws n (FailsAt w) r = Failed g cs n w r
+After g cs ws n (EndsAt e w) r = Finished n w (End e) r
+After g cs ws n (StopsAt s w) r = Stopping g cs ws s n w r
+After g cs ws n (Chooses Plain t b bs w) r = Began g (new_choice Plain t bs ws cs) ws b n w r
+After g cs ws n (Chooses (Rules pred) t b bs w) r = Began g (new_choice (Rules pred) t bs ws cs) ws b n w r
+After g cs ws n (Chooses Shield t b bs w) r = Began g (new_choice Shield t bs ws cs) (record { tag = t; others = bs; height = 0 } ∷ ws) b n w r
+After g cs ws n (Chooses Gathers t b bs w) r = Unit {0}
+
+-- The choices at the way on of t, behind a cut.
+abbrev pub resumed_at : ℕ → Option ℕ → List Around → List Live
+resumed_at t None ctx = live ctx
+resumed_at t (Some c) ctx = if nat_lt t c then live ctx else cut_to c (live ctx)
+
+-- The run goes on behind the stoppable part s, with the choices inside it cut.
+pub record WentOn (g : Game) (cs : List Live) (ws : List Way) (s : ℕ) (n : ℕ) (w : World) (r : Run) : Type 0 where
+  pub way : Way
+  pub outer : List Way
+  pub is : way_to s ws ≡ Some (way, outer)
+  pub world : World
+  pub silently : Silently w world
+  pub cut_at : Option ℕ
+  pub ctx : List Around
+  pub same : r ≡ unwound (search g) ctx (choose (search g) Plain s (branches_cut s cut_at way.others) n world)
+  pub choices : cut_to s cs ≡ resumed_at s cut_at ctx
+  pub ways_are : ways ctx ≡ outer
+
+-- ## The rules
+
+-- What an engine may do at each step of a path, at a failure and at a stop.
+pub record Keeps : Type 0 where
+  -- The run of a game stands at the query of its entry point, with no choice.
+  pub starts : (g : Game) (typed : List ℕ) (n : ℕ) → Stands g [] [] (start_path g) n (start_world typed) (run g typed n)
+  -- What has happened where a run stands, or has failed, has happened in the run.
+  pub has_happened : (g : Game) (cs : List Live) (ws : List Way) (path : Path) (n : ℕ) (w : World) (run : Run) → Stands g cs ws path n w run → Grows w run.world
+  pub has_happened_before : (g : Game) (cs : List Live) (n : ℕ) (w : World) (run : Run) → Failed g cs n w run → Grows w run.world
+  -- That a rule was answered is noted.
+  pub passes_answer : (g : Game) (cs : List Live) (ws : List Way) (q : ℕ) (steps : List Step) (r : Registers) (n : ℕ) (w : World) (run : Run) → Stands g cs ws (path_of (Answers q ∷ steps) r) n w run → Stands g cs ws (path_of steps r) n (noted (Answered q) w) run
+  -- A mark that cuts to t drops the choices that are not older.
+  pub passes_cut : (g : Game) (cs : List Live) (ws : List Way) (t : ℕ) (steps : List Step) (r : Registers) (n : ℕ) (w : World) (run : Run) → Stands g cs ws (path_of (Cut t ∷ steps) r) n w run → Stands g (cut_to t cs) ws (path_of steps r) n w run
+  -- At the end of a stoppable part the choices inside it are dropped, and the part outside it is the innermost.
+  pub passes_leave : (g : Game) (cs : List Live) (ws : List Way) (t : ℕ) (outer : Option ℕ) (steps : List Step) (r : Registers) (n : ℕ) (w : World) (run : Run) → Stands g cs ws (path_of (Leave t outer ∷ steps) r) n w run → Stands g (cut_to t cs) ws (path_of steps (record r { stoppable = outer })) n w run
+  -- At an answer of what is negated the choices inside it and its way on are dropped, and it fails.
+  pub passes_refuse : (g : Game) (cs : List Live) (ws : List Way) (t : ℕ) (steps : List Step) (r : Registers) (n : ℕ) (w : World) (run : Run) → Stands g cs ws (path_of (Refuse t ∷ steps) r) n w run → Failed g (cut_to t cs) n w run
+  -- At an answer of what is exhausted it fails.
+  pub passes_back : (g : Game) (cs : List Live) (ws : List Way) (steps : List Step) (r : Registers) (n : ℕ) (w : World) (run : Run) → Stands g cs ws (path_of (Back ∷ steps) r) n w run → Failed g cs n w run
+  -- A failure goes back to the newest choice.
+  pub fails : (g : Game) (cs : List Live) (n : ℕ) (w : World) (run : Run) → IsQuiet w → Failed g cs n w run → FailsTo g n w run cs
+  -- Its next branch begins, and the choice is kept while it has more.
+  pub begins_next : (g : Game) (c : Live) (cs : List Live) (b : Branch) (bs : List Branch) (n : ℕ) (w : World) (run : Run) → c.others ≡ b ∷ bs → IsQuiet w → c.height ≡ 0 → Resumed g c cs n w run → Began g (pushed bs (record c { others = bs }) cs) c.ways_on b n (retried c.kind w) run
+  -- A goal is taken where the budget has one, and its move says where it goes on.
+  pub takes : (g : Game) (cs : List Live) (ws : List Way) (x : Goal) (t : ℕ) (steps : List Step) (r : Registers) (n : ℕ) (w : World) (run : Run) → (let m = move g (out-Goal x) t steps r (worked 1 w) in IsQuiet w → IsQuiet (world_of m) → Stands g cs ws (path_of (Do x t ∷ steps) r) (suc n) w run → After g cs ws n m run)
+  -- Where the budget has none the run ends at its limit.
+  pub limited : (g : Game) (cs : List Live) (ws : List Way) (x : Goal) (t : ℕ) (steps : List Step) (r : Registers) (w : World) (run : Run) → Stands g cs ws (path_of (Do x t ∷ steps) r) 0 w run → Finished 0 w (End StepLimit) run
+  -- Without a step the run is done.
+  pub done : (g : Game) (cs : List Live) (ws : List Way) (r : Registers) (n : ℕ) (w : World) (run : Run) → Stands g cs ws (path_of [] r) n w run → Finished n w (End Done-Ending) run
+  -- A stop goes on behind the stoppable part.
+  pub stops_on : (g : Game) (cs : List Live) (ws : List Way) (s : ℕ) (n : ℕ) (w : World) (run : Run) → Stopping g cs ws s n w run → WentOn g cs ws s n w run

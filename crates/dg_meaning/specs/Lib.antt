@@ -1,0 +1,12 @@
+pub mod World
+pub mod Path
+pub mod Render
+pub mod Moves
+pub mod Search
+pub mod Transcript
+pub mod OneRun
+pub mod Peaks
+pub mod Shows
+pub mod Built
+pub mod Context
+pub mod Keeps

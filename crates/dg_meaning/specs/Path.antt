@@ -1,0 +1,62 @@
+-- What a search goes along, what may come of a goal, and what a search answers. Hold it against the Dialog manual, chapters "Choice points" and "Control flow".
+use Rattle.std.specs.Prelude.{ℕ, List, Option}
+use Rattle.dg_base.specs.declared.program.Term.{Term}
+use Rattle.dg_base.specs.declared.program.Goal.{Goal}
+use Rattle.dg_base.specs.declared.run.Ending.{Ending}
+use Rattle.dg_meaning.specs.World.{World}
+
+-- A goal with the tag of the choice that its (just) cuts to, or a mark. The marks: a rule of a predicate was answered, choices back to a tag are cut, cut and then fail, fail, gather a term and fail, leave a stoppable part with what is innermost outside it.
+pub data Step : Type 0 where
+  Do : (goal : Goal) → (tag : ℕ) → Step
+  Answers : (pred : ℕ) → Step
+  Cut : (tag : ℕ) → Step
+  Refuse : (tag : ℕ) → Step
+  Back : Step
+  Keep : (tag : ℕ) → (term : Term) → Step
+  Leave : (tag : ℕ) → (outer : Option ℕ) → Step
+
+-- What backtracking takes back: the tag of the next choice (an older choice has a smaller one), the innermost stoppable part, and the counts of heap and trail.
+pub record Registers : Type 0 where
+  pub next_tag : ℕ
+  pub stoppable : Option ℕ
+  pub heap : ℕ
+  pub trail : ℕ
+
+-- The steps left, and the registers.
+pub record Path : Type 0 where
+  pub steps : List Step
+  pub registers : Registers
+
+-- A failure, a failure that ends all choices back to a tag, a stop to a stoppable part with the oldest choice that was cut on the way, or an end of the run.
+pub data Result : Type 0 where
+  Failing : Result
+  CutFail : (tag : ℕ) → Result
+  StopTo : (tag : ℕ) → (cut : Option ℕ) → Result
+  End : (ending : Ending) → Result
+
+-- What a search answers: the goals left of its budget, the world and the result.
+pub record Answer : Type 0 where
+  pub left : ℕ
+  pub world : World
+  pub result : Result
+
+-- A branch of a choice: a path with the work of beginning it, one that has failed as soon as these registers were reached, or a path at whose beginning a gathering is taken out.
+pub data Branch : Type 0 where
+  Enter : (path : Path) → (work : ℕ) → Branch
+  Clash : (registers : Registers) → Branch
+  TakeOut : (tag : ℕ) → (path : Path) → Branch
+
+-- A choice without more, one between the rules of a predicate, one whose first branch may be stopped, and one whose first branch gathers.
+pub data Kind : Type 0 where
+  Plain : Kind
+  Rules : (pred : ℕ) → Kind
+  Shield : Kind
+  Gathers : Kind
+
+-- What comes of a goal: the search goes on, has failed, ends, stops, or has a choice of a tag.
+pub data Move : Type 0 where
+  GoesOn : (path : Path) → (world : World) → Move
+  FailsAt : (world : World) → Move
+  EndsAt : (ending : Ending) → (world : World) → Move
+  StopsAt : (tag : ℕ) → (world : World) → Move
+  Chooses : (kind : Kind) → (tag : ℕ) → (first : Branch) → (others : List Branch) → (world : World) → Move

@@ -1,0 +1,72 @@
+-- What an interpreter may write. Hold it against the Dialog manual, chapter "Output", and "Beyond the program" on limits.
+use Rattle.std.specs.Prelude.{ℕ, ◌+◌, ◌-◌, ◌≡◌, ◌<◌, ◌≤◌, ◌⊎◌, List, [], length, Option, Some, None}
+use Rattle.dg_base.specs.declared.run.Ending.TheVariants.{InputEnded, StepLimit}
+use Rattle.dg_base.specs.declared.run.Limits.{Limits}
+use Rattle.dg_base.specs.declared.run.Outcome.{Outcome}
+use Rattle.dg_meaning.specs.World.{Game, Event}
+use Rattle.dg_meaning.specs.Transcript.{run, transcript, closed, line_of, no_memory_line, input_fault_line}
+use Rattle.dg_meaning.specs.OneRun.{Begins}
+use Rattle.dg_meaning.specs.Peaks.{Area, peak, limit_of, limit_ending, IsWithin}
+
+-- The bytes that an input has left, where it tells them.
+abbrev pub IsLeft : Option (List ℕ) → List ℕ → Type 0
+IsLeft None typed = Unit {0}
+IsLeft (Some left) typed = left ≡ typed
+
+-- The whole transcript of the run whose budget is the step limit, its ending and the goals that it took; the input has left what that run has left.
+pub record ShowsRun (g : Game) (typed : List ℕ) (limits : Limits) (bytes : List ℕ) (outcome : Outcome) (left : Option (List ℕ)) : Type 0 where
+  pub text : bytes ≡ transcript g typed limits.steps
+  pub ending : outcome.ending ≡ (run g typed limits.steps).ending
+  pub goals : outcome.goals + (run g typed limits.steps).left ≡ limits.steps
+  pub left_is : IsLeft left (run g typed limits.steps).world.typed
+
+-- A limit was met while a goal was done, or before the first: the run up to that goal passes the limit, and what was printed before is closed with the limit's line.
+pub record ShowsLimit (g : Game) (typed : List ℕ) (limits : Limits) (bytes : List ℕ) (outcome : Outcome) : Type 0 where
+  pub area : Area
+  pub ending : outcome.ending ≡ limit_ending area
+  pub goals : outcome.goals ≤ limits.steps
+  pub passed : limit_of area limits < peak area g typed outcome.goals
+  pub part : List Event
+  pub text : bytes ≡ closed part (line_of outcome.ending)
+  pub until : Begins part (run g typed outcome.goals).world.events
+  pub since : Begins (run g typed (outcome.goals - 1)).world.events part
+  pub none_before_the_first : outcome.goals ≡ 0 → part ≡ []
+  pub covers : (m : ℕ) → m ≤ limits.steps → IsWithin limits g typed m → Begins (run g typed m).world.events part
+
+-- These bytes and this outcome show the game on these typed bytes within the limits.
+abbrev pub Shows : Game → List ℕ → Limits → List ℕ → Outcome → Option (List ℕ) → Type 0
+Shows g typed limits bytes outcome left = ShowsRun g typed limits bytes outcome left ⊎ ShowsLimit g typed limits bytes outcome
+
+-- ## Where the run was broken off
+
+-- What was printed up to some moment of the run, closed with the line on want of memory.
+pub record ShowsNoMemory (g : Game) (typed : List ℕ) (limits : Limits) (bytes : List ℕ) : Type 0 where
+  pub part : List Event
+  pub text : bytes ≡ closed part no_memory_line
+  pub until : Begins part (run g typed limits.steps).world.events
+
+-- How many typed bytes the run with a budget of m goals takes.
+abbrev pub taken_by : Game → List ℕ → ℕ → ℕ
+taken_by g typed m = length typed - length (run g typed m).world.typed
+
+-- How many of these bytes an input has given, where it tells what it has left; of one that doesn't tell, any number fits.
+abbrev pub HasGiven : List ℕ → Option (List ℕ) → ℕ → Type 0
+HasGiven typed None t = Unit {0}
+HasGiven typed (Some left) t = t + length left ≡ length typed
+
+-- The input failed at the goal behind the first m ones: what these printed, closed with the line on input faults. Of t bytes that the input gave, they took no more, and that goal takes them or finds no byte.
+pub record ShowsInputFault (g : Game) (typed : List ℕ) (limits : Limits) (bytes : List ℕ) (left : Option (List ℕ)) : Type 0 where
+  pub goals : ℕ
+  pub below : goals < limits.steps
+  pub text : bytes ≡ closed (run g typed goals).world.events input_fault_line
+  pub given : ℕ
+  pub is_given : HasGiven typed left given
+  pub goes_on : (run g typed goals).ending ≡ StepLimit
+  pub no_more : taken_by g typed goals ≤ given
+  pub reads : ((run g typed (goals + 1)).ending ≡ InputEnded) ⊎ ((given ≤ taken_by g typed (goals + 1)) × (taken_by g typed goals < taken_by g typed (goals + 1)))
+
+-- A text that a run may be about to write: what shows it, or what is written where it was broken off.
+pub data MayWrite (g : Game) (typed : List ℕ) (limits : Limits) (bytes : List ℕ) : Type 0 where
+  whole : (outcome : Outcome) → (left : Option (List ℕ)) → Shows g typed limits bytes outcome left → MayWrite g typed limits bytes
+  without_memory : ShowsNoMemory g typed limits bytes → MayWrite g typed limits bytes
+  without_input : (left : Option (List ℕ)) → ShowsInputFault g typed limits bytes left → MayWrite g typed limits bytes

@@ -1,0 +1,82 @@
+-- A run and its transcript. Hold it against the Dialog manual, chapters "Choice points" (a program asks its entry point) and "Output".
+use Rattle.std.specs.Prelude.{ℕ, List, [], ◌∷◌, ◌++◌, Option, Some, None, false, codes}
+use Rattle.dg_base.specs.declared.program.Goal.TheVariants.{Ask}
+use Rattle.dg_base.specs.declared.run.Ending.{Ending}
+use Rattle.dg_base.specs.declared.run.Ending.TheVariants.{Done as Done-Ending, Quit as Quit-Ending, Failed as Failed-Ending, Stopped, InputEnded, StepLimit, HeapLimit, TrailLimit, AuxLimit, KeepLimit}
+use Rattle.dg_meaning.specs.World.{Game, World, Event, prints}
+use Rattle.dg_meaning.specs.Path.{Do, Path, Result, Failing, CutFail, StopTo, End, Answer}
+use Rattle.dg_meaning.specs.Search.{search}
+use Rattle.dg_meaning.specs.Render.{render, nothing_met, met_from}
+
+-- ## A run
+
+-- How a run has ended, what happened in it, and what is left of its budget of goals.
+pub record Run : Type 0 where
+  pub left : ℕ
+  pub world : World
+  pub ending : Ending
+
+abbrev pub ending_of : Result → Ending
+ending_of Failing = Failed-Ending
+ending_of (CutFail t) = Failed-Ending
+ending_of (StopTo s c) = Stopped
+ending_of (End e) = e
+
+abbrev pub run_of : Answer → Run
+run_of a = record { left = a.left; world = a.world; ending = ending_of a.result }
+
+-- Nothing has happened, and all of the typed bytes are left.
+abbrev pub start_world : List ℕ → World
+start_world typed = record { events = []; gathered = []; meters = record { heap = 0; trail = 0; aux = 0; keep = 0; work = 0 }; typed = typed; dice = 0 }
+
+-- The query of the entry point.
+abbrev pub start_path : Game → Path
+start_path g = record { steps = Do (Ask g.program.entry [] false) 0 ∷ []; registers = record { next_tag = 1; stoppable = None; heap = 0; trail = 0 } }
+
+-- The run of a game on typed bytes, with a budget of n goals.
+unfoldable pub run : Game → List ℕ → ℕ → Run
+run g typed n = run_of (search g n (start_path g) (start_world typed))
+
+-- ## Its transcript
+
+-- The text of events.
+abbrev pub text_of : List Event → List ℕ
+text_of events = render (prints events)
+
+-- The line of an ending; a run that is done or has quit has none.
+abbrev pub line_of : Ending → List ℕ
+line_of Done-Ending = []
+line_of Quit-Ending = []
+line_of Failed-Ending = codes "[Failed]" ++ 10 ∷ []
+line_of Stopped = codes "[Stopped]" ++ 10 ∷ []
+line_of InputEnded = codes "[End of input]" ++ 10 ∷ []
+line_of StepLimit = codes "[Step limit]" ++ 10 ∷ []
+line_of HeapLimit = codes "[Heap limit]" ++ 10 ∷ []
+line_of TrailLimit = codes "[Trail limit]" ++ 10 ∷ []
+line_of AuxLimit = codes "[Aux limit]" ++ 10 ∷ []
+line_of KeepLimit = codes "[Keep limit]" ++ 10 ∷ []
+
+-- The line after want of memory.
+abbrev pub no_memory_line : List ℕ
+no_memory_line = codes "[No memory]" ++ 10 ∷ []
+
+-- The line after an input fault.
+abbrev pub input_fault_line : List ℕ
+input_fault_line = codes "[Input fault]" ++ 10 ∷ []
+
+-- A newline, where a piece was printed.
+abbrev pub newline_behind : Option ℕ → List ℕ
+newline_behind None = []
+newline_behind (Some last) = 10 ∷ []
+
+-- What closes a text: a newline where a piece was printed, and a line.
+abbrev pub closing : List Event → List ℕ → List ℕ
+closing events line = newline_behind (met_from nothing_met (prints events)).last ++ line
+
+-- The text of events, closed with a line.
+abbrev pub closed : List Event → List ℕ → List ℕ
+closed events line = text_of events ++ closing events line
+
+-- All that a run with a budget of n goals writes.
+abbrev pub transcript : Game → List ℕ → ℕ → List ℕ
+transcript g typed n = let r = run g typed n in closed r.world.events (line_of r.ending)

@@ -1,0 +1,18 @@
+//! What a program means: the search, the text that it prints, its limits, and what an interpreter may write.
+#![tactic(auto)]
+
+ghost use Rattle.std.specs.Prelude.{ℕ, ◌+◌, List};
+ghost use Rattle.dg_meaning.specs.World.{Game};
+ghost use Rattle.dg_meaning.specs.Transcript.{run};
+ghost use Rattle.dg_meaning.specs.OneRun.{GoesOnFrom};
+ghost use Rattle.dg_meaning.specs.Keeps.{Keeps};
+
+/// All runs of a game are cuts of one run.
+pub fn runs_are_cuts()
+    ensures { (g : Game) → (typed : List ℕ) → (m : ℕ) → (more : ℕ) → GoesOnFrom (run g typed m) (run g typed (m + more)) more }
+{}
+
+/// What an engine may keep of a run, and how it goes on from there.
+pub fn engines_may_keep()
+    ensures { Keeps }
+{}
