@@ -1,4 +1,3 @@
-pub mod Writing
 pub mod Pieces
 pub mod Links
 pub mod Places

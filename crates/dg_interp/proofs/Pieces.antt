@@ -3,10 +3,10 @@ use Rattle.std.proofs.Common.{◌≡◌, ℕ, zero, suc, ◌-◌, ◌<◌, List,
 use Rattle.dg_meaning.specs.World.{Print, Piece}
 use Rattle.dg_meaning.specs.Render.{separator, first_of, last_of, capital, Met, nothing_met, met_from, met_behind}
 use Rattle.dg_interp.specs.declared.spacer.Spacer.{Spacer}
-use Rattle.dg_interp.specs.Output.{SinkView, Wrote, BrokeOff}
+use Rattle.dg_base.specs.Written.{SinkView, Wrote, BrokeOff}
 use Rattle.dg_meaning.specs.Transcript.{newline_behind}
 use Rattle.dg_interp.specs.Spacer.{StandsFor, Added, growth, ending_line}
-use Rattle.dg_interp.proofs.Writing.{wrote_on, broke_first, broke_later}
+use Rattle.dg_base.proofs.WrittenLemmas.{wrote_on, broke_first, broke_later}
 
 last_at : (before : Option ℕ) (b : ℕ) (bs : List ℕ) (n : ℕ) → n ≡ length bs → Some (get_or (b ∷ bs) n 0) ≡ last_of before (b ∷ bs)
 last_at before b [] zero e = refl

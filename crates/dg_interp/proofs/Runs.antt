@@ -21,12 +21,12 @@ use Rattle.dg_meaning.proofs.Keeps.{has_happened, limited}
 use Rattle.dg_interp.specs.declared.frames.Query.{Query}
 use Rattle.dg_interp.specs.declared.spacer.Spacer.{Spacer}
 use Rattle.dg_interp.specs.declared.engine.Engine.{Engine}
-use Rattle.dg_interp.specs.Output.{SinkView, Wrote, BrokeOff}
+use Rattle.dg_base.specs.Written.{SinkView, Wrote, BrokeOff}
 use Rattle.dg_interp.specs.Spacer.{StandsFor, Added, growth}
 use Rattle.dg_interp.specs.Frames.{steps_behind, mark_steps}
 use Rattle.dg_interp.specs.Engine.{StandsAt, TakesAt, Adds, Then, Taken, WentOn, AtGoal, AllDone, WentBack, NoneLeft}
 use Rattle.dg_interp.specs.Running.{HasText, Reaches, GoesOn, HasEnded, IsBroken, GoalDone}
-use Rattle.dg_interp.proofs.Writing.{wrote_on, broke_first, broke_later}
+use Rattle.dg_base.proofs.WrittenLemmas.{wrote_on, broke_first, broke_later}
 use Rattle.dg_interp.proofs.Places.{adds_on, adds_silently}
 use Rattle.dg_interp.proofs.Asks.{prints_word}
 

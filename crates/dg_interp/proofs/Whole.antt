@@ -11,12 +11,12 @@ use Rattle.dg_meaning.specs.Shows.{IsLeft, ShowsNoMemory, MayWrite, whole, witho
 use Rattle.dg_meaning.proofs.Search.{run_within}
 use Rattle.dg_interp.specs.declared.spacer.Spacer.{Spacer}
 use Rattle.dg_interp.specs.declared.engine.Engine.{Engine}
-use Rattle.dg_interp.specs.Output.{SinkView, Wrote, BrokeOff}
+use Rattle.dg_base.specs.Written.{SinkView, Wrote, BrokeOff}
 use Rattle.dg_interp.specs.Spacer.{StandsFor, ending_line}
 use Rattle.dg_interp.specs.Engine.{Starts}
 use Rattle.dg_interp.specs.Running.{HasText, Reaches, HasEnded, HasPart, IsBroken}
 use Rattle.dg_interp.specs.Interpret.{game, ForTyped, HasShown, HasLostOutput, HasLostMemory}
-use Rattle.dg_interp.proofs.Writing.{wrote_nothing, wrote_on, broke_first, broke_later}
+use Rattle.dg_base.proofs.WrittenLemmas.{wrote_nothing, wrote_on, broke_first, broke_later}
 
 -- the whole text of a run may be written
 may_write : (g : Game) (typed : List ℕ) (limits : Limits) → MayWrite g typed limits (transcript g typed limits.steps)

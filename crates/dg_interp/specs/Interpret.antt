@@ -7,7 +7,7 @@ use Rattle.dg_base.specs.declared.run.RunFault.{RunFault}
 use Rattle.dg_base.specs.declared.run.RunFault.TheVariants.{Read, Write, OutOfMemory}
 use Rattle.dg_meaning.specs.World.{Game}
 use Rattle.dg_meaning.specs.Shows.{Shows, ShowsNoMemory, ShowsInputFault, MayWrite}
-use Rattle.dg_interp.specs.Output.{SinkView, Wrote, BrokeOff}
+use Rattle.dg_base.specs.Written.{SinkView, Wrote, BrokeOff}
 
 abbrev pub game : CoreProgram → List ℕ → Game
 game program dice = record { program = program; dice = dice }

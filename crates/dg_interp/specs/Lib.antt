@@ -1,4 +1,3 @@
-pub mod Output
 pub mod Spacer
 pub mod Frames
 pub mod Engine

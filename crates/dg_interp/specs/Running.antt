@@ -10,7 +10,7 @@ use Rattle.dg_meaning.specs.OneRun.{Begins}
 use Rattle.dg_meaning.specs.Keeps.{IsQuiet}
 use Rattle.dg_interp.specs.declared.spacer.Spacer.{Spacer}
 use Rattle.dg_interp.specs.declared.engine.Engine.{Engine}
-use Rattle.dg_interp.specs.Output.{SinkView, Wrote, BrokeOff}
+use Rattle.dg_base.specs.Written.{SinkView, Wrote, BrokeOff}
 use Rattle.dg_interp.specs.Spacer.{StandsFor}
 use Rattle.dg_interp.specs.Engine.{IsReady, StandsAt}
 

@@ -4,7 +4,7 @@ use Rattle.dg_meaning.specs.World.{Print}
 use Rattle.dg_meaning.specs.Render.{nothing_met, met_from, written}
 use Rattle.dg_meaning.specs.Transcript.{newline_behind}
 use Rattle.dg_interp.specs.declared.spacer.Spacer.{Spacer}
-use Rattle.dg_interp.specs.Output.{SinkView, Wrote}
+use Rattle.dg_base.specs.Written.{SinkView, Wrote}
 
 -- It keeps what the next piece meets behind these things.
 pub record StandsFor (s : Spacer) (es : List Print) : Type 0 where

@@ -4,7 +4,7 @@ ghost use Rattle.dg_base.specs.Causes.{Rose};
 ghost use Rattle.dg_meaning.specs.Transcript.{line_of};
 ghost use Rattle.dg_meaning.specs.Built.{IsBuilt};
 ghost use Rattle.dg_meaning.specs.Shows.{IsLeft};
-ghost use Rattle.dg_interp.specs.Output.{view};
+ghost use Rattle.dg_base.specs.Written.{view};
 ghost use Rattle.dg_interp.specs.Engine.{Starts};
 ghost use Rattle.dg_interp.specs.Interpret.{game, ForTyped, HasShown, HasBrokenOff};
 

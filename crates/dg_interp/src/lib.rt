@@ -5,7 +5,6 @@ mod built;
 mod engine;
 mod frames;
 mod interpreter;
-mod output;
 mod run;
 mod spacer;
 

@@ -1,6 +1,6 @@
 // Goals, one after another.
 ghost use Rattle.std.specs.Prelude.{◌<◌, IfOk, IfErr, length, Option, Some, None};
-ghost use Rattle.dg_interp.specs.Output.{view};
+ghost use Rattle.dg_base.specs.Written.{view};
 ghost use Rattle.dg_interp.specs.Engine.{IsReady};
 ghost use Rattle.dg_interp.specs.Running.{Reaches, IsBroken, HasEnded, Does};
 

@@ -3,15 +3,10 @@ ghost use Rattle.std.specs.Prelude.{◌≡◌, ◌+◌, List, [], Some, OnOk, On
 ghost use Rattle.dg_meaning.specs.World.{Print, Piece as PieceOf};
 ghost use Rattle.dg_meaning.specs.Render.{opens as is_opening, closes as is_closing, separator, first_of, last_of};
 ghost use Rattle.dg_meaning.specs.Transcript.{newline_behind};
-ghost use Rattle.dg_interp.specs.Output.{view, Wrote, BrokeOff};
+ghost use Rattle.dg_base.specs.Written.{view, Wrote, BrokeOff};
 ghost use Rattle.dg_interp.specs.Spacer.{StandsFor, Added, growth, ending_line};
 
-use crate::output::put_all;
-use dg_base::Sink;
-
-/// The sink has failed.
-#[derive(Clone, Copy, Debug, PartialEq, Eq)]
-pub struct WriteFault;
+use dg_base::{Sink, WriteFault, write_all};
 
 /// What is known of the text so far.
 #[derive(Clone, Copy, Drop)]
@@ -90,10 +85,10 @@ impl Spacer {
         ensures ok { OnOk result ((es : List Print) → StandsFor self.old es → Added (PieceOf piece.now) es (view (K.taken sink.old) (K.room sink.old) (K.faults sink.old)) (view (K.taken sink.new) (K.room sink.new) (K.faults sink.new)) self.new) }
         ensures err { OnErr result ((es : List Print) → StandsFor self.old es → BrokeOff (view (K.taken sink.old) (K.room sink.old) (K.faults sink.old)) (view (K.taken sink.new) (K.room sink.new) (K.faults sink.new)) (growth es (PieceOf piece.now))) }
     {
-        if let Err(_) = put_all(sink, separator_of(self.last, first_of_piece(piece))) {
+        if let Err(_) = write_all(sink, separator_of(self.last, first_of_piece(piece))) {
             return Err(WriteFault);
         }
-        if let Err(_) = put_all(sink, piece) {
+        if let Err(_) = write_all(sink, piece) {
             return Err(WriteFault);
         }
         self.last = last_of_piece(self.last, piece);
@@ -105,10 +100,10 @@ impl Spacer {
         ensures ok { OnOk result ((es : List Print) → StandsFor self.old es → Wrote (view (K.taken sink.old) (K.room sink.old) (K.faults sink.old)) (view (K.taken sink.new) (K.room sink.new) (K.faults sink.new)) (ending_line es line.now)) }
         ensures err { OnErr result ((es : List Print) → StandsFor self.old es → BrokeOff (view (K.taken sink.old) (K.room sink.old) (K.faults sink.old)) (view (K.taken sink.new) (K.room sink.new) (K.faults sink.new)) (ending_line es line.now)) }
     {
-        if let Err(_) = put_all(sink, newline(self.last)) {
+        if let Err(_) = write_all(sink, newline(self.last)) {
             return Err(WriteFault);
         }
-        if let Err(_) = put_all(sink, line) {
+        if let Err(_) = write_all(sink, line) {
             return Err(WriteFault);
         }
         Ok(())

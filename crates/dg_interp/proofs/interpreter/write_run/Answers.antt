@@ -1,5 +1,5 @@
 use Rattle.std.proofs.Common.{[]}
-use Rattle.dg_interp.specs.Output.{view}
+use Rattle.dg_base.specs.Written.{view}
 use Rattle.dg_interp.proofs.Whole.{left_within, has_shown, closing_lost, text_lost, nothing_read, memory_shown, memory_closing_lost}
 use Rattle.dg_interp.proofs.interpreter.write_run.Goals as goal
 

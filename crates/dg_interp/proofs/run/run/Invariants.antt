@@ -1,4 +1,4 @@
-use Rattle.dg_interp.specs.Output.{view}
+use Rattle.dg_base.specs.Written.{view}
 use Rattle.dg_interp.specs.Engine.{IsReady}
 use Rattle.dg_interp.specs.Running.{Reaches, GoesOn}
 use Rattle.dg_interp.proofs.run.run.Given as goal
