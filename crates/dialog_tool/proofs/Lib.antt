@@ -1,3 +1,5 @@
 pub mod Numbers
 pub mod PlainText
 pub mod NamesLemmas
+pub mod BuiltLemmas
+pub mod FaultLemmas

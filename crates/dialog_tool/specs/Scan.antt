@@ -4,8 +4,7 @@ use Rattle.std.specs.List.{list_any}
 use Rattle.std.specs.Option.{option_or, is_some}
 use Rattle.std.specs.Str.{bytes_eq}
 use Rattle.dg_base.specs.Names.{keywords, refused_names, name_among, builtin_named}
-use Rattle.dg_base.specs.declared.refusal.ReadFault.{ReadFault}
-use Rattle.dg_base.specs.declared.refusal.ReadFault.TheVariants.{Refused}
+use Rattle.dg_base.specs.declared.refusal.Refusal.{Refusal}
 use Rattle.dg_base.specs.declared.refusal.Kind.TheVariants.{NotBuiltYet}
 use Rattle.dg_lex.specs.Bad.{lines}
 use Rattle.dg_lex.specs.Tokens.{IsLexed}
@@ -102,9 +101,9 @@ pub record IsScanned (source : List ℕ) (tokens : List Token) (found : Option �
   pub lexed : IsLexed (plain_front source) tokens
   pub line : found ≡ option_or (line_in false tokens) (foreign_line source)
 
--- the source shows more than plain rules, and is refused with that line
-pub record IsNotBuilt (source : List ℕ) (fault : ReadFault) : Type 0 where
+-- the source shows more than plain rules, and is refused so
+pub record IsNotBuilt (source : List ℕ) (refusal : Refusal) : Type 0 where
   pub tokens : List Token
   pub line : ℕ
   pub scanned : IsScanned source tokens (Some line)
-  pub is : fault ≡ Refused (record { kind = NotBuiltYet; line = line })
+  pub is : refusal ≡ record { kind = NotBuiltYet; line = line }

@@ -5,6 +5,7 @@ ghost use Rattle.std.specs.Str.{bytes_eq};
 ghost use Rattle.dg_base.specs.Tree.{stmts_of, Item as PlainItem};
 ghost use Rattle.dg_base.specs.Names.{name_among};
 ghost use Rattle.dg_base.specs.TreeView.{head_view, stmt_view, body_view, said_view, item_view};
+ghost use Rattle.dialog_tool.specs.Faults.{IsFault};
 ghost use Rattle.dialog_tool.specs.Plain as spec;
 
 use crate::plain::first_unbuilt;
@@ -279,7 +280,7 @@ fn refusal(kind: Kind, line: u32) -> ReadFault
 pub fn lower(alloc: Global, items: &[Item]) -> Result<CoreProgram, ReadFault>
     ensures core { IfOk result (λ core. core ≡ spec.core_of (map item_view items.now)) }
     ensures accepted { IfOk result (λ _. spec.refusal_of (map item_view items.now) ≡ None) }
-    ensures refused { IfErr result (λ fault. (fault ≡ ReadFault.OutOfMemory) ⊎ ((r : _) × (spec.refusal_of (map item_view items.now) ≡ Some r) × (fault ≡ ReadFault.Refused r))) }
+    ensures refused { IfErr result (IsFault (λ refusal. spec.refusal_of (map item_view items.now) ≡ Some refusal)) }
 {
     if let Some(line) = first_unbuilt(alloc, items)? {
         return Err(refusal(Kind::NotBuiltYet, line));

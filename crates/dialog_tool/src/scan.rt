@@ -4,6 +4,7 @@ ghost use Rattle.std.specs.Option.{option_map};
 ghost use Rattle.dg_lex.specs.Bad.{lines};
 ghost use Rattle.dialog_tool.specs.Scan as spec;
 ghost use Rattle.dialog_tool.specs.Command.{are_digits};
+ghost use Rattle.dialog_tool.specs.Faults.{IsFault};
 
 use dg_base::{Kind, ReadFault, Refusal, builtin_of, is_keyword, is_refused_name};
 use dg_lex::{Token, TokenKind, lex};
@@ -176,7 +177,7 @@ fn foreign_line(source: &[u8], front: &[u8]) -> Option<u32>
 pub fn plain_tokens(alloc: Global, source: &[u8]) -> Result<Vec<Token<'_>>, ReadFault>
     requires { length source.now ≤ 12000 }
     ensures plain { IfOk result (λ tokens. spec.IsScanned source.now tokens.items None) }
-    ensures refused { IfErr result (λ fault. (fault ≡ ReadFault.OutOfMemory) ⊎ spec.IsNotBuilt source.now fault) }
+    ensures refused { IfErr result (IsFault (spec.IsNotBuilt source.now)) }
 {
     let front = plain_front(source);
     let tokens = match lex(alloc, front) {

@@ -1,0 +1,181 @@
+-- The answers of the program, one by one: hold them against the table of statuses in man/dialog.1.
+use Rattle.std.specs.Prelude.{◌≡◌, ◌⊎◌, ℕ, List, [], ◌∷◌, ◌++◌, Option, Some, None, Bool, IsTrue, IsSome, Result, Ok, Err, codes, decimal}
+use Rattle.dg_base.specs.Causes.{Rose}
+use Rattle.dg_base.specs.Shelves.{Told, held, WhereTold}
+use Rattle.dg_base.specs.Written.{SinkView, Wrote, BrokeOff}
+use Rattle.dg_base.specs.Refusals.{text_of_kind}
+use Rattle.dg_base.specs.declared.program.CoreProgram.{CoreProgram as Core}
+use Rattle.dg_base.specs.declared.refusal.Refusal.{Refusal}
+use Rattle.dg_base.specs.declared.run.Limits.{Limits}
+use Rattle.dg_base.specs.declared.run.Ending.{Ending}
+use Rattle.dg_base.specs.declared.run.Ending.TheVariants.{Done, Quit, Failed, Stopped, InputEnded, StepLimit, HeapLimit, TrailLimit, AuxLimit, KeepLimit}
+use Rattle.dg_base.specs.declared.run.Outcome.{Outcome}
+use Rattle.dg_meaning.specs.Shows.{MayWrite, ShowsNoMemory}
+use Rattle.dg_meaning.specs.Transcript.{no_memory_line}
+use Rattle.dg_interp.specs.Interpret.{game, ForTyped, HasShown, HasLostInput, HasLostOutput, HasLostMemory}
+use Rattle.dialog_tool.specs.Command.{Command, debug, usage_line}
+use Rattle.dialog_tool.specs.Source.{Compiles}
+
+-- ---- lines
+
+-- FILE:LINE: TEXT
+abbrev pub refusal_line : List ℕ → Refusal → List ℕ
+refusal_line name r = name ++ (codes ":" ++ (decimal r.line ++ (codes ": " ++ (text_of_kind r.kind ++ codes "\n"))))
+
+-- FILE: file fault
+abbrev pub file_fault_line : List ℕ → List ℕ
+file_fault_line name = name ++ codes ": file fault\n"
+
+-- ---- statuses
+
+-- this status, or one of the two that may come before it
+abbrev pub Comes : ℕ → ℕ → Type 0
+Comes status result = (result ≡ status) ⊎ ((result ≡ 5) ⊎ (result ≡ 6))
+
+-- the status of an ending
+abbrev pub status_of : Ending → ℕ
+status_of Done = 0
+status_of Quit = 0
+status_of Failed = 0
+status_of Stopped = 0
+status_of InputEnded = 0
+status_of StepLimit = 3
+status_of HeapLimit = 3
+status_of TrailLimit = 3
+status_of AuxLimit = 3
+status_of KeepLimit = 3
+
+-- the limits of a run with at most so many goals
+abbrev pub limits_of : ℕ → Limits
+limits_of steps = record { steps = steps; heap = 1000000; trail = 200000; aux = 100000; keep = 10000 }
+
+-- ---- what the answers speak of
+
+-- the words are a command, and this holds of its file's name, its steps and, where they are told, the file's contents
+abbrev pub AtSource : Option Command → Told → (List ℕ → ℕ → List ℕ → Type 0) → Type 0
+AtSource None told P = ⊥
+AtSource (Some (debug name steps)) told P = WhereTold told (λ contents. P name steps (held (contents name)))
+
+-- where the words are a command and the contents of its file are told, this holds of them
+abbrev pub IfSource : Option Command → Told → (List ℕ → ℕ → List ℕ → Type 0) → Type 0
+IfSource None told P = Unit {0}
+IfSource (Some (debug name steps)) None P = Unit {0}
+IfSource (Some (debug name steps)) (Some contents) P = P name steps (held (contents name))
+
+-- ---- the answers
+
+-- 1: the source is refused, and out took the line that says so
+pub record IsRefused (old new : SinkView) (name : List ℕ) (steps : ℕ) (source : List ℕ) : Type 0 where
+  pub refusal : Refusal
+  pub compiles : Compiles source (Err refusal)
+  pub wrote : Wrote old new (refusal_line name refusal)
+
+-- 0 and 3: the source is a program, and out took a text that shows a run of it on the typed bytes
+pub record IsRun (status : ℕ) (left left_behind : Option (List ℕ)) (dice : List ℕ) (old new : SinkView) (name : List ℕ) (steps : ℕ) (source : List ℕ) : Type 0 where
+  pub program : Core
+  pub compiles : Compiles source (Ok program)
+  pub outcome : Outcome
+  pub shown : ForTyped left (λ typed. HasShown (game program dice) typed (limits_of steps) outcome left_behind old new)
+  pub is_status : status ≡ status_of outcome.ending
+
+-- 5: the input failed in a run, and out took the text up to there with its closing
+pub record IsCutOff (left left_behind : Option (List ℕ)) (dice : List ℕ) (old new : SinkView) (name : List ℕ) (steps : ℕ) (source : List ℕ) : Type 0 where
+  pub program : Core
+  pub compiles : Compiles source (Ok program)
+  pub lost : ForTyped left (λ typed. HasLostInput (game program dice) typed (limits_of steps) left_behind old new)
+
+-- 5: the shelf failed at the command's file, and out took the line that names it; a shelf that is sure fails only where it has no such file
+pub record ShelfFailed (command : Option Command) (told : Told) (sure : Bool) (before after : ℕ) (old new : SinkView) : Type 0 where
+  pub rose : Rose before after
+  pub name : List ℕ
+  pub steps : ℕ
+  pub file : command ≡ Some (debug name steps)
+  pub missing : IsTrue sure → WhereTold told (λ contents. IsSome (contents name) → ⊥)
+  pub wrote : Wrote old new (file_fault_line name)
+
+-- 5: the input failed
+pub record InputFailed (command : Option Command) (told : Told) (before after : ℕ) (left left_behind : Option (List ℕ)) (dice : List ℕ) (old new : SinkView) : Type 0 where
+  pub rose : Rose before after
+  pub cut_off : AtSource command told (IsCutOff left left_behind dice old new)
+
+-- a program's run may write this text
+pub record MayShow (left : Option (List ℕ)) (dice text : List ℕ) (name : List ℕ) (steps : ℕ) (source : List ℕ) : Type 0 where
+  pub program : Core
+  pub compiles : Compiles source (Ok program)
+  pub writes : ForTyped left (λ typed. MayWrite (game program dice) typed (limits_of steps) text)
+
+-- the source is refused with this line
+pub record IsRefusalLine (text : List ℕ) (name : List ℕ) (steps : ℕ) (source : List ℕ) : Type 0 where
+  pub refusal : Refusal
+  pub compiles : Compiles source (Err refusal)
+  pub is : text ≡ refusal_line name refusal
+
+-- the texts that a call may be writing
+pub data MayPrint (command : Option Command) (told : Told) (left : Option (List ℕ)) (dice text : List ℕ) : Type 0 where
+  usage : command ≡ None → text ≡ usage_line → MayPrint command told left dice text
+  refusal : AtSource command told (IsRefusalLine text) → MayPrint command told left dice text
+  shown : AtSource command told (MayShow left dice text) → MayPrint command told left dice text
+  file_fault : (name : List ℕ) → (steps : ℕ) → command ≡ Some (debug name steps) → text ≡ file_fault_line name → MayPrint command told left dice text
+  no_memory : text ≡ no_memory_line → MayPrint command told left dice text
+
+-- 5: out failed within such a text, of which it took a front; where it told a room, the text is longer
+pub record OutFailed (command : Option Command) (told : Told) (left : Option (List ℕ)) (dice : List ℕ) (old new : SinkView) : Type 0 where
+  pub text : List ℕ
+  pub allowed : MayPrint command told left dice text
+  pub broke : BrokeOff old new text
+
+-- a run's text up to some moment, closed with the line on want of memory
+pub record ShowsSome (left : Option (List ℕ)) (dice text : List ℕ) (name : List ℕ) (steps : ℕ) (source : List ℕ) : Type 0 where
+  pub program : Core
+  pub compiles : Compiles source (Ok program)
+  pub shows : ForTyped left (λ typed. ShowsNoMemory (game program dice) typed (limits_of steps) text)
+
+-- 6: out took the line on want of memory, behind what a run had printed where there was one
+pub record NoMemory (command : Option Command) (told : Told) (left : Option (List ℕ)) (dice : List ℕ) (old new : SinkView) : Type 0 where
+  pub text : List ℕ
+  pub is : (text ≡ no_memory_line) ⊎ AtSource command told (ShowsSome left dice text)
+  pub wrote : Wrote old new text
+
+-- ---- one program and one source
+
+-- out took a text that shows a run of this program, with the status of its ending
+pub record Shown (status : ℕ) (program : Core) (steps : ℕ) (left left_behind : Option (List ℕ)) (dice : List ℕ) (old new : SinkView) : Type 0 where
+  pub outcome : Outcome
+  pub shown : ForTyped left (λ typed. HasShown (game program dice) typed (limits_of steps) outcome left_behind old new)
+  pub is_status : status ≡ status_of outcome.ending
+
+-- the input failed in a run of this program
+pub record LostInput (program : Core) (steps : ℕ) (before after : ℕ) (left left_behind : Option (List ℕ)) (dice : List ℕ) (old new : SinkView) : Type 0 where
+  pub rose : Rose before after
+  pub lost : ForTyped left (λ typed. HasLostInput (game program dice) typed (limits_of steps) left_behind old new)
+
+-- memory ran out in a run of this program
+abbrev pub LostMemory : Core → ℕ → Option (List ℕ) → List ℕ → SinkView → SinkView → Type 0
+LostMemory program steps left dice old new = ForTyped left (λ typed. HasLostMemory (game program dice) typed (limits_of steps) old new)
+
+-- out failed in a run of this program
+abbrev pub LostOutput : Core → ℕ → Option (List ℕ) → List ℕ → SinkView → SinkView → Type 0
+LostOutput program steps left dice old new = ForTyped left (λ typed. HasLostOutput (game program dice) typed (limits_of steps) old new)
+
+-- the input failed in a run of a source
+pub record SourceLostInput (before after : ℕ) (left left_behind : Option (List ℕ)) (dice : List ℕ) (old new : SinkView) (name : List ℕ) (steps : ℕ) (source : List ℕ) : Type 0 where
+  pub rose : Rose before after
+  pub cut_off : IsCutOff left left_behind dice old new name steps source
+
+-- a text that may be written once a source was fetched
+pub data MayPrintOf (left : Option (List ℕ)) (dice text name : List ℕ) (steps : ℕ) (source : List ℕ) : Type 0 where
+  line : IsRefusalLine text name steps source → MayPrintOf left dice text name steps source
+  show : MayShow left dice text name steps source → MayPrintOf left dice text name steps source
+  memory : text ≡ no_memory_line → MayPrintOf left dice text name steps source
+
+-- out failed within such a text
+pub record SourceLostOutput (left : Option (List ℕ)) (dice : List ℕ) (old new : SinkView) (name : List ℕ) (steps : ℕ) (source : List ℕ) : Type 0 where
+  pub text : List ℕ
+  pub allowed : MayPrintOf left dice text name steps source
+  pub broke : BrokeOff old new text
+
+-- memory ran out once a source was fetched
+pub record SourceLostMemory (left : Option (List ℕ)) (dice : List ℕ) (old new : SinkView) (name : List ℕ) (steps : ℕ) (source : List ℕ) : Type 0 where
+  pub text : List ℕ
+  pub is : (text ≡ no_memory_line) ⊎ ShowsSome left dice text name steps source
+  pub wrote : Wrote old new text

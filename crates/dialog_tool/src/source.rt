@@ -1,0 +1,41 @@
+// From the bytes of a source to its core program.
+ghost use Rattle.std.specs.Prelude.{◌≡◌, ◌≤◌, ◌⊎◌, length, Ok, Err, IfOk, IfErr};
+ghost use Rattle.dg_base.specs.TreeView.{tree_view};
+ghost use Rattle.dg_meaning.specs.Built.{IsBuilt};
+ghost use Rattle.dialog_tool.specs.Read.{IsRead};
+ghost use Rattle.dialog_tool.specs.Faults.{IsFault};
+ghost use Rattle.dialog_tool.specs.Source.{Compiles};
+
+use crate::lowering::lower;
+use crate::scan::plain_tokens;
+use dg_base::{CoreProgram, ReadFault, Tree};
+use dg_lex::Token;
+use std::alloc::Global;
+
+fn read(_alloc: Global, _tokens: &[Token<'_>]) -> Result<Tree, ReadFault>
+    ensures tree { IfOk result (λ tree. IsRead _tokens.now (Ok (tree_view tree))) }
+    ensures refused { IfErr result (IsFault (λ r. IsRead _tokens.now (Err r))) }
+{
+    Err(ReadFault::OutOfMemory)
+}
+
+/// The core program of a source, or why the source is refused.
+pub fn compile(alloc: Global, source: &[u8]) -> Result<CoreProgram, ReadFault>
+    requires { length source.now ≤ 12000 }
+    ensures program { IfOk result (λ program. Compiles source.now (Ok program)) }
+    ensures built { IfOk result (λ program. IsBuilt program) }
+    ensures refused { IfErr result (IsFault (λ refusal. Compiles source.now (Err refusal))) }
+{
+    let tokens = match plain_tokens(alloc, source) {
+        Ok(tokens) => tokens,
+        Err(fault) => return Err(fault),
+    };
+    let tree = match read(alloc, &tokens) {
+        Ok(tree) => tree,
+        Err(fault) => return Err(fault),
+    };
+    match lower(alloc, tree.items.as_slice()) {
+        Ok(program) => Ok(program),
+        Err(fault) => Err(fault),
+    }
+}
