@@ -3,3 +3,4 @@ pub mod PlainText
 pub mod NamesLemmas
 pub mod BuiltLemmas
 pub mod FaultLemmas
+pub mod SourceLemmas

@@ -1,5 +1,5 @@
 -- Which parts of the language aren't there yet, as far as the characters and tokens of a source show it: hold it against docs/LANGUAGE.md, "What runs today".
-use Rattle.std.specs.Prelude.{◌≡◌, ℕ, ◌+◌, ◌&&◌, ◌||◌, ◌++◌, List, [], ◌∷◌, Bool, true, false, not, nat_eq, nat_le, nat_lt, length, Option, Some, None, codes, if◌then◌else◌}
+use Rattle.std.specs.Prelude.{◌≡◌, ℕ, ◌+◌, ◌&&◌, ◌||◌, ◌++◌, List, [], ◌∷◌, Bool, true, false, not, nat_eq, nat_le, nat_lt, length, map, Option, Some, None, codes, if◌then◌else◌}
 use Rattle.std.specs.List.{list_any}
 use Rattle.std.specs.Option.{option_or, is_some}
 use Rattle.std.specs.Str.{bytes_eq}
@@ -7,7 +7,7 @@ use Rattle.dg_base.specs.Names.{keywords, refused_names, name_among, builtin_nam
 use Rattle.dg_base.specs.declared.refusal.Refusal.{Refusal}
 use Rattle.dg_base.specs.declared.refusal.Kind.TheVariants.{NotBuiltYet}
 use Rattle.dg_lex.specs.Bad.{lines}
-use Rattle.dg_lex.specs.Tokens.{IsLexed}
+use Rattle.dg_lex.specs.Tokens.{IsLexed, Seen, seen}
 use Rattle.dg_lex.specs.declared.token.Token.{Token}
 use Rattle.dg_lex.specs.declared.token.TokenKind.{TokenKind}
 use Rattle.dg_lex.specs.declared.token.TokenKind.TheVariants.{Word, Dict, Object, Var, Anon, At, Hash, RoundOpen, RoundClose, SquareOpen, SquareClose, BraceOpen, BraceClose, Bar, Star, Tilde}
@@ -55,9 +55,9 @@ abbrev pub with_word : List ℕ → List ℕ → List ℕ
 with_word name word = if nat_eq (length name) 1 then name ++ word else name ++ 32 ∷ word
 
 -- the name that is closed behind these tokens, where nothing but words stands before its end
-abbrev pub name_behind : List ℕ → List Token → Option (List ℕ)
+abbrev pub name_behind : List ℕ → List Seen → Option (List ℕ)
 name_behind name [] = None
-name_behind name (t ∷ ts) = if is_word t.kind then name_behind (with_word name t.text.now) ts else (if is_close t.kind then Some (name ++ 41 ∷ []) else None)
+name_behind name (t ∷ ts) = if is_word t.kind then name_behind (with_word name t.text) ts else (if is_close t.kind then Some (name ++ 41 ∷ []) else None)
 
 -- a keyword, a refused name or a built-in query
 abbrev pub is_reserved : List ℕ → Bool
@@ -68,29 +68,29 @@ is_reserved_name None = false
 is_reserved_name (Some name) = is_reserved name
 
 -- a word of this spelling
-abbrev pub is_the_word : List ℕ → Token → Bool
-is_the_word word t = is_word t.kind && bytes_eq t.text.now word
+abbrev pub is_the_word : List ℕ → Seen → Bool
+is_the_word word t = is_word t.kind && bytes_eq t.text word
 
 -- a declaration begins
-abbrev pub declares : List Token → Bool
+abbrev pub declares : List Seen → Bool
 declares [] = false
 declares (t ∷ []) = false
 declares (t ∷ u ∷ ts) = is_the_word (codes "global") t && is_the_word (codes "variable") u
 
 -- behind a parenthesis that may be in another one: it is nested, a declaration, or a reserved name
-abbrev pub opens_more : Bool → List Token → Bool
+abbrev pub opens_more : Bool → List Seen → Bool
 opens_more inside behind = inside || (declares behind || is_reserved_name (name_behind (40 ∷ []) behind))
 
 -- a token with these behind it, in a parenthesis or not, shows more than plain rules: such a parenthesis, or a number in one
-abbrev pub shows_more : Bool → Token → List Token → Bool
-shows_more inside t behind = (is_open t.kind && opens_more inside behind) || (is_word t.kind && (inside && are_digits t.text.now))
+abbrev pub shows_more : Bool → Seen → List Seen → Bool
+shows_more inside t behind = (is_open t.kind && opens_more inside behind) || (is_word t.kind && (inside && are_digits t.text))
 
 -- whether what stands behind a token is in a parenthesis
-abbrev pub inside_behind : Bool → Token → Bool
+abbrev pub inside_behind : Bool → Seen → Bool
 inside_behind inside t = is_open t.kind || (inside && not (is_close t.kind))
 
 -- the line of the first token that shows more; a parenthesis ends with its item
-abbrev pub line_in : Bool → List Token → Option ℕ
+abbrev pub line_in : Bool → List Seen → Option ℕ
 line_in inside [] = None
 line_in inside (t ∷ ts) = if shows_more (inside && not t.first) t ts then Some t.line else line_in (inside_behind (inside && not t.first) t) ts
 
@@ -99,7 +99,7 @@ line_in inside (t ∷ ts) = if shows_more (inside && not t.first) t ts then Some
 -- these tokens stand before the first foreign character, and this is the first line that shows more than plain rules
 pub record IsScanned (source : List ℕ) (tokens : List Token) (found : Option ℕ) : Type 0 where
   pub lexed : IsLexed (plain_front source) tokens
-  pub line : found ≡ option_or (line_in false tokens) (foreign_line source)
+  pub line : found ≡ option_or (line_in false (map seen tokens)) (foreign_line source)
 
 -- the source shows more than plain rules, and is refused so
 pub record IsNotBuilt (source : List ℕ) (refusal : Refusal) : Type 0 where

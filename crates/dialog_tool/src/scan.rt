@@ -1,7 +1,8 @@
 // Finds what isn't there yet, as far as the characters and tokens of a source show it.
-ghost use Rattle.std.specs.Prelude.{◌≡◌, ◌≤◌, ◌<◌, ◌∷◌, [], false, length, drop, Some, None, ◌⊎◌, IfOk, IfErr, IfSome};
+ghost use Rattle.std.specs.Prelude.{◌≡◌, ◌≤◌, ◌<◌, ◌∷◌, [], false, length, drop, map, Some, None, ◌⊎◌, IfOk, IfErr, IfSome};
 ghost use Rattle.std.specs.Option.{option_map};
 ghost use Rattle.dg_lex.specs.Bad.{lines};
+ghost use Rattle.dg_lex.specs.Tokens.{seen};
 ghost use Rattle.dialog_tool.specs.Scan as spec;
 ghost use Rattle.dialog_tool.specs.Command.{are_digits};
 ghost use Rattle.dialog_tool.specs.Faults.{IsFault};
@@ -45,13 +46,13 @@ fn is_reserved(name: &[u8]) -> bool
 }
 
 fn is_the_word(word: &[u8], token: &Token<'_>) -> bool
-    ensures { result ≡ spec.is_the_word word.now token.now }
+    ensures { result ≡ spec.is_the_word word.now (seen token.now) }
 {
     token.kind == TokenKind::Word && token.text == word
 }
 
 fn declares(behind: &[Token<'_>]) -> bool
-    ensures { result ≡ spec.declares behind.now }
+    ensures { result ≡ spec.declares (map seen behind.now) }
 {
     match behind {
         [first, second, ..] => is_the_word(b"global", first) && is_the_word(b"variable", second),
@@ -72,7 +73,7 @@ fn add_word(name: &mut Vec<u8>, word: &[u8]) -> Result<(), AllocError>
 
 // The name that is closed behind these tokens, where nothing but words stands before its end.
 fn name_behind(alloc: Global, behind: &[Token<'_>]) -> Result<Option<Vec<u8>>, AllocError>
-    ensures { IfOk result (λ name. option_map (λ v. v.items) name ≡ spec.name_behind (40 ∷ []) behind.now) }
+    ensures { IfOk result (λ name. option_map (λ v. v.items) name ≡ spec.name_behind (40 ∷ []) (map seen behind.now)) }
 {
     let mut name = vec![in alloc; b'(']?;
     let mut at = 0;
@@ -93,7 +94,7 @@ fn name_behind(alloc: Global, behind: &[Token<'_>]) -> Result<Option<Vec<u8>>, A
 
 // Whether a parenthesis with these tokens behind it shows more than plain rules.
 fn opens_more(alloc: Global, inside: bool, behind: &[Token<'_>]) -> Result<bool, AllocError>
-    ensures { IfOk result (λ more. more ≡ spec.opens_more inside behind.now) }
+    ensures { IfOk result (λ more. more ≡ spec.opens_more inside (map seen behind.now)) }
 {
     if inside {
         return Ok(true);
@@ -114,7 +115,7 @@ fn shows_more(
     token: &Token<'_>,
     behind: &[Token<'_>],
 ) -> Result<bool, AllocError>
-    ensures { IfOk result (λ more. more ≡ spec.shows_more inside token.now behind.now) }
+    ensures { IfOk result (λ more. more ≡ spec.shows_more inside (seen token.now) (map seen behind.now)) }
 {
     match token.kind {
         TokenKind::RoundOpen => opens_more(alloc, inside, behind),
@@ -124,7 +125,7 @@ fn shows_more(
 }
 
 fn inside_behind(inside: bool, token: &Token<'_>) -> bool
-    ensures { result ≡ spec.inside_behind inside token.now }
+    ensures { result ≡ spec.inside_behind inside (seen token.now) }
 {
     match token.kind {
         TokenKind::RoundOpen => true,
@@ -135,7 +136,7 @@ fn inside_behind(inside: bool, token: &Token<'_>) -> bool
 
 // The line of the first token that shows more than plain rules.
 fn line_in(alloc: Global, tokens: &[Token<'_>]) -> Result<Option<u32>, AllocError>
-    ensures { IfOk result (λ line. line ≡ spec.line_in false tokens.now) }
+    ensures { IfOk result (λ line. line ≡ spec.line_in false (map seen tokens.now)) }
 {
     let mut inside = false;
     let mut at = 0;

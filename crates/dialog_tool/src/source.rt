@@ -1,6 +1,7 @@
 // From the bytes of a source to its core program.
-ghost use Rattle.std.specs.Prelude.{◌≡◌, ◌≤◌, ◌⊎◌, length, Ok, Err, IfOk, IfErr};
+ghost use Rattle.std.specs.Prelude.{◌≡◌, ◌≤◌, ◌⊎◌, length, map, Ok, Err, IfOk, IfErr};
 ghost use Rattle.dg_base.specs.TreeView.{tree_view};
+ghost use Rattle.dg_lex.specs.Tokens.{seen};
 ghost use Rattle.dg_meaning.specs.Built.{IsBuilt};
 ghost use Rattle.dialog_tool.specs.Read.{IsRead};
 ghost use Rattle.dialog_tool.specs.Faults.{IsFault};
@@ -13,8 +14,8 @@ use dg_lex::Token;
 use std::alloc::Global;
 
 fn read(_alloc: Global, _tokens: &[Token<'_>]) -> Result<Tree, ReadFault>
-    ensures tree { IfOk result (λ tree. IsRead _tokens.now (Ok (tree_view tree))) }
-    ensures refused { IfErr result (IsFault (λ r. IsRead _tokens.now (Err r))) }
+    ensures tree { IfOk result (λ tree. IsRead (map seen _tokens.now) (Ok (tree_view tree))) }
+    ensures refused { IfErr result (IsFault (λ r. IsRead (map seen _tokens.now) (Err r))) }
 {
     Err(ReadFault::OutOfMemory)
 }

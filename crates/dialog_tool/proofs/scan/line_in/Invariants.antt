@@ -1,11 +1,12 @@
-use Rattle.std.proofs.Common.{◌≡◌, ◌≤◌, ◌-◌, false, drop, length}
+use Rattle.std.proofs.Common.{◌≡◌, ◌≤◌, ◌-◌, false, drop, length, map}
+use Rattle.dg_lex.specs.Tokens.{seen}
 use Rattle.dialog_tool.specs.Scan.{line_in}
 use Rattle.dialog_tool.proofs.scan.line_in.Given as goal
 
 abbrev pub invariant-loop-at : goal.invariant-loop-at
 invariant-loop-at l = record {
   within : l.at ≤ length l.tokens;
-  same : line_in false l.tokens ≡ line_in l.inside (drop l.at l.tokens);
+  same : line_in false (map seen l.tokens) ≡ line_in l.inside (map seen (drop l.at l.tokens));
 }
 
 abbrev pub decreases-loop-at : goal.decreases-loop-at
