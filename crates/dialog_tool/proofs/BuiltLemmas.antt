@@ -6,6 +6,9 @@ use Rattle.std.proofs.lemmas.Bool.{and_parts}
 use Rattle.std.proofs.lemmas.List.Elements.{All-cons, All-append, All-map}
 use Rattle.dg_base.specs.Heads.{name_of}
 use Rattle.dg_base.specs.Tree.{Stmt, text, print, ask, ask_all, ask_not, group, not_group, now, choice, choice_else, exhaust, stoppable, collect, accumulate, select, first_answer, Stmts, no_stmts, stmt, Body, no_branches, branch, Said, topic, rule, deny, access, global_variable, Item}
+use Rattle.dg_base.specs.TreeView.{item_view}
+use Rattle.dg_base.specs.declared.tree.Item.{Item as CodeItem}
+use Rattle.dg_base.specs.declared.program.CoreProgram.{CoreProgram as Core}
 use Rattle.dg_base.specs.declared.program.Goal.{Goal}
 use Rattle.dg_base.specs.declared.program.Goal.TheVariants.{outs-Text, outs-Ask}
 use Rattle.dg_base.specs.declared.program.Rule.{Rule}
@@ -68,3 +71,6 @@ accepted_built items h = core_built items (here (first_unbuilt items) _ h)
     here : (line : Option ℕ) (other : Option Refusal) → not_built_or line other ≡ None → line ≡ None
     here None other e = refl
     here (Some line) other e = cc
+
+pub program_built : (items : List CodeItem) (program : Core) → refusal_of (map item_view items) ≡ None → program ≡ core_of (map item_view items) → IsBuilt program
+program_built items program accepted is = subst IsBuilt (sym is) (accepted_built (map item_view items) accepted)

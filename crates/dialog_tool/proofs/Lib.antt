@@ -4,3 +4,4 @@ pub mod NamesLemmas
 pub mod BuiltLemmas
 pub mod FaultLemmas
 pub mod SourceLemmas
+pub mod AnswerLemmas

@@ -2,6 +2,11 @@
 use Rattle.std.proofs.Common.{◌≡◌, ◌<◌, ◌≤◌, ℕ, List, [], map, length, Option, Some, None, false, Result, Ok, Err, refl, sym, ◌∙◌, ap, subst, arith}
 use Rattle.std.specs.Option.{option_or}
 use Rattle.dg_base.specs.Tree.{Item}
+use Rattle.dg_base.specs.TreeView.{item_view}
+use Rattle.dg_base.specs.declared.tree.Item.{Item as CodeItem}
+use Rattle.dg_base.specs.declared.refusal.ReadFault.{ReadFault}
+use Rattle.dialog_tool.specs.Faults.{IsFault}
+use Rattle.dialog_tool.proofs.FaultLemmas.{fault_map}
 use Rattle.dg_base.specs.declared.program.CoreProgram.{CoreProgram as Core}
 use Rattle.dg_base.specs.declared.refusal.Refusal.{Refusal}
 use Rattle.dg_base.specs.declared.refusal.Kind.TheVariants.{NotBuiltYet}
@@ -14,7 +19,7 @@ use Rattle.dialog_tool.specs.Read.{IsRead}
 use Rattle.dialog_tool.specs.Source.{Compiles, too_long, shows_more, not_read, refused, accepted}
 
 read_one : (ts : List Seen) (a b : Result (List Item) Refusal) → IsRead ts a → IsRead ts b → a ≡ b
-read_one ts a b h k = absurd h.none
+read_one ts a b h k = h.is ∙ sym k.is
 
 scan_tokens : (source : List ℕ) (ts us : List Token) (a b : Option ℕ) → IsScanned source ts a → IsScanned source us b → map seen ts ≡ map seen us
 scan_tokens source ts us a b h k = tokens_one _ _ (without_mark (plain_front source)) ts us h.lexed k.lexed
@@ -56,3 +61,20 @@ one_answer source a b (accepted short ts s is k h e) (shows_more short' us n t f
 one_answer source a b (accepted short ts s is k h e) (not_read short' us t r' k' f) = let same = items_one source ts us None None (Ok is) (Err r') s t k k' in cc
 one_answer source a b (accepted short ts s is k h e) (refused short' us t js k' r' h' f) = let same = items_one source ts us None None (Ok is) (Ok js) s t k k' in cc
 one_answer source a b (accepted short ts s is k h e) (accepted short' us t js k' h' f) = let same = items_one source ts us None None (Ok is) (Ok js) s t k k' in cc
+
+-- ## From the calls to the answer
+
+pub not_read_of : (source : List ℕ) (tokens given : List Token) (fault : ReadFault) → length source ≤ 12000 → IsScanned source tokens None → given ≡ tokens
+    → IsFault (λ r. IsRead (map seen given) (Err r)) fault → IsFault (λ r. Compiles source (Err r)) fault
+not_read_of source tokens given fault short scanned same h =
+    fault_map _ _ (λ r k. not_read short tokens scanned r (subst (λ (l : List Token). IsRead (map seen l) (Err r)) same k) refl) fault h
+
+pub refused_of : (source : List ℕ) (tokens given : List Token) (items seen_items : List CodeItem) (fault : ReadFault) → length source ≤ 12000 → IsScanned source tokens None → given ≡ tokens
+    → IsRead (map seen given) (Ok (map item_view items)) → seen_items ≡ items → IsFault (λ r. refusal_of (map item_view seen_items) ≡ Some r) fault → IsFault (λ r. Compiles source (Err r)) fault
+refused_of source tokens given items seen_items fault short scanned same read is h =
+    fault_map _ _ (λ r k. refused short tokens scanned (map item_view items) (subst (λ (l : List Token). IsRead (map seen l) (Ok (map item_view items))) same read) r (subst (λ (l : List CodeItem). refusal_of (map item_view l) ≡ Some r) is k) refl) fault h
+
+pub accepted_of : (source : List ℕ) (tokens given : List Token) (items seen_items : List CodeItem) (program : Core) → length source ≤ 12000 → IsScanned source tokens None → given ≡ tokens
+    → IsRead (map seen given) (Ok (map item_view items)) → seen_items ≡ items → refusal_of (map item_view seen_items) ≡ None → program ≡ core_of (map item_view seen_items) → Compiles source (Ok program)
+accepted_of source tokens given items seen_items program short scanned same read is none core =
+    accepted short tokens scanned (map item_view items) (subst (λ (l : List Token). IsRead (map seen l) (Ok (map item_view items))) same read) (subst (λ (l : List CodeItem). refusal_of (map item_view l) ≡ None) is none) (ap Ok (core ∙ ap (λ (l : List CodeItem). core_of (map item_view l)) is))

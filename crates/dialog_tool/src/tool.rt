@@ -7,11 +7,14 @@ ghost use Rattle.dg_meaning.specs.Transcript.{no_memory_line};
 ghost use Rattle.dialog_tool.specs.Command.{texts, command_of, debug as debug_command, usage_line};
 ghost use Rattle.dialog_tool.specs.Source.{Compiles};
 ghost use Rattle.dg_meaning.specs.Built.{IsBuilt};
+ghost use Rattle.dialog_tool.specs.Plain.{refusal_at};
 ghost use Rattle.dialog_tool.specs.Answers.{status_of, limits_of, Shown, LostInput, LostMemory, LostOutput, SourceLostInput, SourceLostOutput, SourceLostMemory, refusal_line, file_fault_line, Comes, AtSource, IfSource, IsRefused, IsRun, ShelfFailed, InputFailed, OutFailed, NoMemory};
 
 use crate::command::{Command, command_of};
+use crate::source::compile;
 use dg_base::{
-    CoreProgram, Ending, Limits, Refusal, RunFault, Sink, Source, text_of, write_all, write_both,
+    CoreProgram, Ending, Kind, Limits, ReadFault, Refusal, RunFault, Shelf, ShelfFault, Sink,
+    Source, text_of, write_all, write_both,
 };
 use dg_interp::interpret;
 use std::alloc::{AllocError, Global};
@@ -139,5 +142,75 @@ fn run_program<S: Source, K: Sink>(
         Err(RunFault::Read) => FAULT,
         Err(RunFault::Write) => FAULT,
         Err(RunFault::OutOfMemory) => NO_MEMORY,
+    }
+}
+
+// Reads and runs a source.
+fn run_source<S: Source, K: Sink>(
+    alloc: Global,
+    name: &str,
+    steps: u64,
+    source: &[u8],
+    input: &mut S,
+    dice: &[u16],
+    out: &mut K,
+) -> u8
+    requires dice { 0 < length dice.now }
+    requires short { length source.now ≤ 12000 }
+    ensures statuses { (result ≡ 0) ⊎ ((result ≡ 1) ⊎ Comes 3 result) }
+    ensures refused { result ≡ 1 → IsRefused (view (K.taken out.old) (K.room out.old) (K.faults out.old)) (view (K.taken out.new) (K.room out.new) (K.faults out.new)) name.now steps source.now }
+    ensures refuses { (r : _) → Compiles source.now (Err r) → Comes 1 result }
+    ensures ran { (result ≡ 0) ⊎ (result ≡ 3) → IsRun result (S.left input.old) (S.left input.new) dice.now (view (K.taken out.old) (K.room out.old) (K.faults out.old)) (view (K.taken out.new) (K.room out.new) (K.faults out.new)) name.now steps source.now }
+    ensures runs { (p : _) → Compiles source.now (Ok p) → (result ≡ 0) ⊎ Comes 3 result }
+    ensures memory { result ≡ 6 → SourceLostMemory (S.left input.old) dice.now (view (K.taken out.old) (K.room out.old) (K.faults out.old)) (view (K.taken out.new) (K.room out.new) (K.faults out.new)) name.now steps source.now }
+    ensures fault { result ≡ 5 →
+        SourceLostInput (S.faults input.old) (S.faults input.new) (S.left input.old) (S.left input.new) dice.now (view (K.taken out.old) (K.room out.old) (K.faults out.old)) (view (K.taken out.new) (K.room out.new) (K.faults out.new)) name.now steps source.now
+        ⊎ SourceLostOutput (S.left input.old) dice.now (view (K.taken out.old) (K.room out.old) (K.faults out.old)) (view (K.taken out.new) (K.room out.new) (K.faults out.new)) name.now steps source.now }
+    ensures later { S.faults input.old ≤ S.faults input.new }
+{
+    match compile(alloc, source) {
+        Ok(program) => run_program(alloc, &program, steps, input, dice, out),
+        Err(ReadFault::Refused(refusal)) => refuse(alloc, name, &refusal, out),
+        Err(ReadFault::OutOfMemory) => no_memory(out),
+    }
+}
+
+// Fetches, reads and runs a source.
+fn debug<F: Shelf, S: Source, K: Sink>(
+    alloc: Global,
+    name: &str,
+    steps: u64,
+    shelf: &mut F,
+    input: &mut S,
+    dice: &[u16],
+    out: &mut K,
+) -> u8
+    requires { 0 < length dice.now }
+    ensures statuses { (result ≡ 0) ⊎ ((result ≡ 1) ⊎ Comes 3 result) }
+    ensures refused { result ≡ 1 → AtSource (Some (debug_command name.now steps)) (F.contents shelf.old) (IsRefused (view (K.taken out.old) (K.room out.old) (K.faults out.old)) (view (K.taken out.new) (K.room out.new) (K.faults out.new))) }
+    ensures refuses { IfSource (Some (debug_command name.now steps)) (F.contents shelf.old) (λ name steps source. (r : _) → Compiles source (Err r) → Comes 1 result) }
+    ensures ran { (result ≡ 0) ⊎ (result ≡ 3) → AtSource (Some (debug_command name.now steps)) (F.contents shelf.old) (IsRun result (S.left input.old) (S.left input.new) dice.now (view (K.taken out.old) (K.room out.old) (K.faults out.old)) (view (K.taken out.new) (K.room out.new) (K.faults out.new))) }
+    ensures runs { IfSource (Some (debug_command name.now steps)) (F.contents shelf.old) (λ name steps source. (p : _) → Compiles source (Ok p) → (result ≡ 0) ⊎ Comes 3 result) }
+    ensures memory { result ≡ 6 → NoMemory (Some (debug_command name.now steps)) (F.contents shelf.old) (S.left input.old) dice.now (view (K.taken out.old) (K.room out.old) (K.faults out.old)) (view (K.taken out.new) (K.room out.new) (K.faults out.new)) }
+    ensures fault { result ≡ 5 →
+        ShelfFailed (Some (debug_command name.now steps)) (F.contents shelf.old) (F.sure shelf.old) (F.faults shelf.old) (F.faults shelf.new) (view (K.taken out.old) (K.room out.old) (K.faults out.old)) (view (K.taken out.new) (K.room out.new) (K.faults out.new))
+        ⊎ (InputFailed (Some (debug_command name.now steps)) (F.contents shelf.old) (S.faults input.old) (S.faults input.new) (S.left input.old) (S.left input.new) dice.now (view (K.taken out.old) (K.room out.old) (K.faults out.old)) (view (K.taken out.new) (K.room out.new) (K.faults out.new))
+        ⊎ OutFailed (Some (debug_command name.now steps)) (F.contents shelf.old) (S.left input.old) dice.now (view (K.taken out.old) (K.room out.old) (K.faults out.old)) (view (K.taken out.new) (K.room out.new) (K.faults out.new))) }
+    ensures kept { KeepsAll (F.contents shelf.old) (F.contents shelf.new) }
+{
+    match shelf.fetch(alloc, name, 12_000) {
+        Ok(source) => run_source(alloc, name, steps, &source, input, dice, out),
+        Err(ShelfFault::TooLong) => refuse(alloc, name, &too_long(), out),
+        Err(ShelfFault::Failed) => file_fault(name, out),
+        Err(ShelfFault::OutOfMemory) => no_memory(out),
+    }
+}
+
+fn too_long() -> Refusal
+    ensures { result ≡ refusal_at Kind.NotBuiltYet 1 }
+{
+    Refusal {
+        kind: Kind::NotBuiltYet,
+        line: 1,
     }
 }
