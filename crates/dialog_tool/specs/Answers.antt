@@ -64,6 +64,11 @@ IfSource (Some (debug name steps)) (Some contents) P = P name steps (held (conte
 
 -- ---- the answers
 
+-- 2: the words are no command, and out took the usage line
+pub record IsUsage (command : Option Command) (old new : SinkView) : Type 0 where
+  pub none : command ≡ None
+  pub wrote : Wrote old new usage_line
+
 -- 1: the source is refused, and out took the line that says so
 pub record IsRefused (old new : SinkView) (name : List ℕ) (steps : ℕ) (source : List ℕ) : Type 0 where
   pub refusal : Refusal

@@ -1,6 +1,7 @@
-//! The command.
+//! The command `dialog`.
 #![tactic(auto)]
 
+mod adapters;
 mod command;
 mod lowering;
 mod plain;
@@ -8,4 +9,36 @@ mod scan;
 mod source;
 mod tool;
 
-fn main(_rt: HostRuntime) {}
+use adapters::{FileShelf, StdinSource, StdoutSink};
+use std::io::ErrorKind;
+use std::process::ExitCode;
+use std::{env, io};
+
+// The words behind the program's name; none where one isn't UTF-8, which is no word of a command.
+fn words(rt: &HostRuntime) -> io::Result<Vec<String>> {
+    let mut words = Vec::new(rt.alloc());
+    let all = match env::args(rt) {
+        Ok(all) => all,
+        Err(error) if error.kind() == ErrorKind::InvalidData => return Ok(words),
+        Err(error) => return Err(error),
+    };
+    for word in all.skip(1) {
+        words.push(word)?;
+    }
+    Ok(words)
+}
+
+fn run(rt: &HostRuntime) -> io::Result<u8> {
+    let words = words(rt)?;
+    let mut shelf = FileShelf::new(rt);
+    let mut input = StdinSource::new(rt.reader());
+    let mut out = StdoutSink::new(io::writer(rt));
+    Ok(tool::tool(rt.alloc(), &words, &mut shelf, &mut input, &mut out, &[0]))
+}
+
+fn main(rt: HostRuntime) -> ExitCode {
+    match run(&rt) {
+        Ok(status) => ExitCode::from(status),
+        Err(_) => ExitCode::from(6),
+    }
+}

@@ -8,7 +8,7 @@ ghost use Rattle.dialog_tool.specs.Command.{texts, command_of, debug as debug_co
 ghost use Rattle.dialog_tool.specs.Source.{Compiles};
 ghost use Rattle.dg_meaning.specs.Built.{IsBuilt};
 ghost use Rattle.dialog_tool.specs.Plain.{refusal_at};
-ghost use Rattle.dialog_tool.specs.Answers.{status_of, limits_of, Shown, LostInput, LostMemory, LostOutput, SourceLostInput, SourceLostOutput, SourceLostMemory, refusal_line, file_fault_line, Comes, AtSource, IfSource, IsRefused, IsRun, ShelfFailed, InputFailed, OutFailed, NoMemory};
+ghost use Rattle.dialog_tool.specs.Answers.{status_of, limits_of, Shown, LostInput, LostMemory, LostOutput, SourceLostInput, SourceLostOutput, SourceLostMemory, refusal_line, file_fault_line, Comes, AtSource, IfSource, IsUsage, IsRefused, IsRun, ShelfFailed, InputFailed, OutFailed, NoMemory};
 
 use crate::command::{Command, command_of};
 use crate::source::compile;
@@ -212,5 +212,40 @@ fn too_long() -> Refusal
     Refusal {
         kind: Kind::NotBuiltYet,
         line: 1,
+    }
+}
+
+/// Does what the words behind the program's name ask for, and answers the exit status: 0 the run ended, 1 the source is refused,
+/// 2 the words are no command, 3 a limit was met, 5 the shelf, the input or the output failed, 6 memory ran out.
+pub fn tool<F: Shelf, S: Source, K: Sink>(
+    alloc: Global,
+    words: &[String],
+    shelf: &mut F,
+    input: &mut S,
+    out: &mut K,
+    dice: &[u16],
+) -> u8
+    requires { 0 < length dice.now }
+    ensures statuses { (result ≡ 0) ⊎ ((result ≡ 1) ⊎ ((result ≡ 2) ⊎ Comes 3 result)) }
+
+    // 2 comes exactly where the words are no command.
+    ensures usage { result ≡ 2 → IsUsage (command_of (texts words.now)) (view (K.taken out.old) (K.room out.old) (K.faults out.old)) (view (K.taken out.new) (K.room out.new) (K.faults out.new)) }
+    ensures no_command { command_of (texts words.now) ≡ None → Comes 2 result }
+
+    // 1 comes exactly where the source is refused; 0 and 3 where it is a program.
+    ensures refused { result ≡ 1 → AtSource (command_of (texts words.now)) (F.contents shelf.old) (IsRefused (view (K.taken out.old) (K.room out.old) (K.faults out.old)) (view (K.taken out.new) (K.room out.new) (K.faults out.new))) }
+    ensures refuses { IfSource (command_of (texts words.now)) (F.contents shelf.old) (λ name steps source. (r : _) → Compiles source (Err r) → Comes 1 result) }
+    ensures ran { (result ≡ 0) ⊎ (result ≡ 3) → AtSource (command_of (texts words.now)) (F.contents shelf.old) (IsRun result (S.left input.old) (S.left input.new) dice.now (view (K.taken out.old) (K.room out.old) (K.faults out.old)) (view (K.taken out.new) (K.room out.new) (K.faults out.new))) }
+    ensures runs { IfSource (command_of (texts words.now)) (F.contents shelf.old) (λ name steps source. (p : _) → Compiles source (Ok p) → (result ≡ 0) ⊎ Comes 3 result) }
+    ensures memory { result ≡ 6 → NoMemory (command_of (texts words.now)) (F.contents shelf.old) (S.left input.old) dice.now (view (K.taken out.old) (K.room out.old) (K.faults out.old)) (view (K.taken out.new) (K.room out.new) (K.faults out.new)) }
+    ensures fault { result ≡ 5 →
+        ShelfFailed (command_of (texts words.now)) (F.contents shelf.old) (F.sure shelf.old) (F.faults shelf.old) (F.faults shelf.new) (view (K.taken out.old) (K.room out.old) (K.faults out.old)) (view (K.taken out.new) (K.room out.new) (K.faults out.new))
+        ⊎ (InputFailed (command_of (texts words.now)) (F.contents shelf.old) (S.faults input.old) (S.faults input.new) (S.left input.old) (S.left input.new) dice.now (view (K.taken out.old) (K.room out.old) (K.faults out.old)) (view (K.taken out.new) (K.room out.new) (K.faults out.new))
+        ⊎ OutFailed (command_of (texts words.now)) (F.contents shelf.old) (S.left input.old) dice.now (view (K.taken out.old) (K.room out.old) (K.faults out.old)) (view (K.taken out.new) (K.room out.new) (K.faults out.new))) }
+    ensures kept { KeepsAll (F.contents shelf.old) (F.contents shelf.new) }
+{
+    match command_of(words) {
+        Some(Command::Debug { name, steps }) => debug(alloc, name, steps, shelf, input, dice, out),
+        None => usage(out),
     }
 }
