@@ -151,20 +151,22 @@ impl<'p> Engine<'p> {
         requires left { IsLeft left }
         ensures begun { OnOk result (WentBack (λ g. BeginsAt g left.entry self.old) self.old self.new) }
     {
-        let height = self.frames.len();
-        let query = left.query;
-        let others = Left {
-            query,
-            rules: &left.rules[1..],
+        let [rule, others @ ..] = left.rules else {
+            unreachable!();
         };
+        let query = left.query;
+        let height = self.frames.len();
         let choice = Choice {
             tag: self.newest,
-            left: others,
+            left: Left {
+                query,
+                rules: others,
+            },
             height,
         };
         keep(&mut self.choices, choice)?;
         self.here = Frame {
-            goals: left.rules[0].body.as_slice(),
+            goals: rule.body.as_slice(),
             tag: self.newest,
             mark: Mark::AnswerOf(query),
             behind: height,

@@ -5,3 +5,4 @@ pub mod Context
 pub mod Tags
 pub mod Keeps
 pub mod Worked
+pub mod Limits

@@ -1,10 +1,14 @@
 //! What a program means: the search, the text that it prints, its limits, and what an interpreter may write.
 #![tactic(auto)]
 
-ghost use Rattle.std.specs.Prelude.{ℕ, ◌+◌, List};
+ghost use Rattle.std.specs.Prelude.{ℕ, ◌+◌, List, Option};
+ghost use Rattle.dg_base.specs.declared.run.Limits.{Limits};
+ghost use Rattle.dg_base.specs.declared.run.Outcome.{Outcome};
 ghost use Rattle.dg_meaning.specs.World.{Game};
 ghost use Rattle.dg_meaning.specs.Transcript.{run};
 ghost use Rattle.dg_meaning.specs.OneRun.{GoesOnFrom};
+ghost use Rattle.dg_meaning.specs.Peaks.{IsWithin};
+ghost use Rattle.dg_meaning.specs.Shows.{ShowsRun, Shows};
 ghost use Rattle.dg_meaning.specs.Keeps.{Keeps};
 
 /// All runs of a game are cuts of one run.
@@ -15,4 +19,9 @@ pub fn runs_are_cuts()
 /// What an engine may keep of a run, and how it goes on from there.
 pub fn engines_may_keep()
     ensures { Keeps }
+{}
+
+/// A game whose run stays within the limits shows its whole transcript.
+pub fn runs_within_limits_are_whole()
+    ensures { (g : Game) → (typed : List ℕ) → (limits : Limits) → (bytes : List ℕ) → (outcome : Outcome) → (left : Option (List ℕ)) → IsWithin limits g typed limits.steps → Shows g typed limits bytes outcome left → ShowsRun g typed limits bytes outcome left }
 {}
