@@ -1,0 +1,9 @@
+mod Views
+mod More
+mod Spelled
+mod Sound
+mod Ends
+mod Complete
+mod Whole
+mod Closing
+mod Laws

@@ -1,0 +1,8 @@
+//! The reader: from the tokens of a source to its tree.
+#![tactic(auto)]
+
+mod forms;
+mod frames;
+mod keyword;
+
+
