@@ -7,3 +7,5 @@ mod Complete
 mod Whole
 mod Closing
 mod Laws
+mod Numbers
+mod Keys

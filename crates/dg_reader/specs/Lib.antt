@@ -3,3 +3,4 @@ pub mod Grammar
 pub mod TokenView
 pub mod Machine
 pub mod Frames
+pub mod Keywords

@@ -4,5 +4,4 @@
 mod forms;
 mod frames;
 mod keyword;
-
-
+mod words;
