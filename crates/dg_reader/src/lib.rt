@@ -4,4 +4,5 @@
 mod forms;
 mod frames;
 mod keyword;
+mod put;
 mod words;
