@@ -6,7 +6,7 @@ use Rattle.std.proofs.lemmas.List.{map-append}
 use Rattle.dg_base.specs.TreeView.{part_view}
 use Rattle.dg_base.specs.declared.tree.Part as code
 use Rattle.dg_base.specs.Tree.{Part, part_word, part_value, Parts, no_parts, part, Value, parts_of}
-use Rattle.dg_reader.specs.Grammar.{are_words, Keyword, collect_word, accumulate_word, into_word, keyword_of, keyword_with, keyword_among, bare_keywords, is_query}
+use Rattle.dg_reader.specs.Grammar.{are_words, Keyword, collect_word, accumulate_word, into_word, keyword_of, keyword_with, keyword_among, bare_keywords, is_query, is_declaration}
 use Rattle.dg_reader.specs.Keywords.{is_word, valued_word, valued_in, valued_view, last_value, IsValued}
 use Rattle.dg_reader.specs.declared.keyword.Valued.{Valued}
 use Rattle.dg_reader.specs.declared.keyword.Valued.TheVariants.{Collect, Accumulate, Into}
@@ -81,3 +81,9 @@ last-push (q ∷ r ∷ ps) p = last-push (r ∷ ps) p
 
 pub last_of : (xs ys : List code.Part) (p : code.Part) → xs ≡ ys ++ p ∷ [] → last_value (map part_view xs) ≡ last_value (part_view p ∷ [])
 last_of xs ys p e = ap (λ (l : List code.Part). last_value (map part_view l)) e ∙ ap last_value (map-append part_view ys (p ∷ [])) ∙ last-push (map part_view ys) (part_view p)
+
+pub short_declares_nothing : (ps : List Part) → length ps < 2 → false ≡ is_declaration (parts_of ps)
+short_declares_nothing [] h = refl
+short_declares_nothing (part_word w ∷ []) h = refl
+short_declares_nothing (part_value v ∷ []) h = refl
+short_declares_nothing (p ∷ q ∷ ps) h = absurd (omega arith)

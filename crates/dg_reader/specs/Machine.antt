@@ -176,26 +176,35 @@ open_list [] = None
 open_list (in_body o bs ss ws ∷ below) = Some (in_list false [] ∷ in_body o bs ss ws ∷ below)
 open_list (f ∷ below) = if takes_value f then Some (in_list (choices_in f) [] ∷ f ∷ below) else None
 
--- Braces begin: a group, a negated group, changes, or a closure.
+-- Braces begin inside this: a group or a closure.
+abbrev pub body_inside : Frame → Stack → Option Stack
+body_inside (in_body o bs ss ws) below = Some (new_body of_group ∷ in_body o bs ss ws ∷ below)
+body_inside f below = if takes_value f then Some (new_body of_closure ∷ f ∷ below) else None
+
+-- Braces begin: of a negated group, of changes, or inside what goes on behind them.
 abbrev pub open_body : Stack → Option Stack
 open_body [] = None
-open_body (in_body o bs ss ws ∷ below) = Some (new_body of_group ∷ in_body o bs ss ws ∷ below)
 open_body (behind_tilde ∷ below) = Some (new_body of_not_group ∷ below)
 open_body (behind_now ∷ below) = Some (in_changes [] ∷ below)
-open_body (f ∷ below) = if takes_value f then Some (new_body of_closure ∷ f ∷ below) else None
+open_body (f ∷ below) = body_inside f below
+
+-- A parenthesis begins inside this.
+abbrev pub open_inside : Frame → Stack → Option Stack
+open_inside (in_head sign ps) below = Some (in_nested (choices_in (in_head sign ps)) [] ∷ in_head sign ps ∷ below)
+open_inside behind_now below = Some (in_change true [] ∷ behind_now ∷ below)
+open_inside (in_changes cs) below = Some (in_change true [] ∷ in_changes cs ∷ below)
+open_inside (in_body o bs ss ws) below = Some (in_query for_one [] ∷ in_body o bs ss ws ∷ below)
+open_inside f below = None
 
 -- A parenthesis begins.
 abbrev pub open_paren : Stack → Option Stack
+open_paren [] = None
 open_paren (start ∷ below) = Some (in_head plain_rule [] ∷ below)
 open_paren (start_of sign ∷ below) = Some (in_head sign [] ∷ below)
-open_paren (in_head sign ps ∷ below) = Some (in_nested (choices_in (in_head sign ps)) [] ∷ in_head sign ps ∷ below)
 open_paren (behind_star ∷ below) = Some (in_query for_all [] ∷ below)
 open_paren (behind_tilde ∷ below) = Some (in_query for_none [] ∷ below)
-open_paren (behind_now ∷ below) = Some (in_change true [] ∷ behind_now ∷ below)
-open_paren (in_changes cs ∷ below) = Some (in_change true [] ∷ in_changes cs ∷ below)
 open_paren (behind_clear ∷ below) = Some (in_change false [] ∷ below)
-open_paren (in_body o bs ss ws ∷ below) = Some (in_query for_one [] ∷ in_body o bs ss ws ∷ below)
-open_paren st = None
+open_paren (f ∷ below) = open_inside f below
 
 -- ---- keywords
 
@@ -298,12 +307,16 @@ abbrev pub put_star : Stack → Option Stack
 put_star (in_body o bs ss ws ∷ below) = Some (behind_star ∷ in_body o bs ss ws ∷ below)
 put_star st = put_value current_topic st
 
+abbrev pub tilde_inside : Frame → Stack → Option Stack
+tilde_inside behind_now below = Some (behind_clear ∷ behind_now ∷ below)
+tilde_inside (in_changes cs) below = Some (behind_clear ∷ in_changes cs ∷ below)
+tilde_inside (in_body o bs ss ws) below = Some (behind_tilde ∷ in_body o bs ss ws ∷ below)
+tilde_inside f below = None
+
 abbrev pub put_tilde : Stack → Option Stack
+put_tilde [] = None
 put_tilde (start ∷ below) = Some (start_of negated ∷ below)
-put_tilde (in_body o bs ss ws ∷ below) = Some (behind_tilde ∷ in_body o bs ss ws ∷ below)
-put_tilde (behind_now ∷ below) = Some (behind_clear ∷ behind_now ∷ below)
-put_tilde (in_changes cs ∷ below) = Some (behind_clear ∷ in_changes cs ∷ below)
-put_tilde st = None
+put_tilde (f ∷ below) = tilde_inside f below
 
 abbrev pub put_at : Stack → Option Stack
 put_at (start ∷ below) = Some (start_of access_rule ∷ below)

@@ -53,7 +53,7 @@ pub enum Closed {
 }
 
 // Whether a part is this word.
-fn is_named(part: &Part, word: &str) -> bool
+pub fn is_named(part: &Part, word: &str) -> bool
     ensures { result ≡ is_word (part_view part.now) word.now }
 {
     match part {

@@ -4,5 +4,6 @@
 mod forms;
 mod frames;
 mod keyword;
+mod open;
 mod put;
 mod words;

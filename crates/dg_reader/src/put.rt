@@ -1,8 +1,9 @@
 // One more part, value, statement or change of what stands open.
-ghost use Rattle.std.specs.Prelude.{◌≡◌, ◌∷◌, [], map, Some};
+ghost use Rattle.std.specs.Prelude.{◌≡◌, ◌∷◌, [], map, Some, Err};
 ghost use Rattle.dg_base.specs.TreeView.{part_view, value_view, stmt_view, head_view};
 ghost use Rattle.dg_reader.specs.Tokens.{number_of};
 ghost use Rattle.dg_reader.specs.Machine as machine;
+ghost use Rattle.dg_reader.specs.declared.frames.Stop.TheVariants.{Unexpected};
 ghost use Rattle.dg_reader.specs.Frames.{stack_view, frame_view, Moves};
 
 use crate::forms::{change, dict_word, now, num, print, text, value_part, word_part, wrapped};
@@ -17,6 +18,13 @@ pub fn put_frame(stack: &mut Vec<Frame>, frame: Frame) -> Result<(), Stop>
 {
     stack.push(frame)?;
     Ok(())
+}
+
+/// A token may not stand in this.
+pub fn refuse(_frame: Frame) -> Result<(), Stop>
+    ensures { result ≡ Err Unexpected }
+{
+    Err(Stop::Unexpected)
 }
 
 /// One more statement.
