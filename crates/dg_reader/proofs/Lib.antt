@@ -2,7 +2,7 @@ mod Views
 mod More
 mod Spelled
 mod Sound
-mod Ends
+mod Steps
 mod Complete
 mod Whole
 mod Closing

@@ -16,6 +16,8 @@ use Rattle.dg_reader.specs.declared.frames.Frame.{Frame}
 use Rattle.dg_reader.specs.declared.frames.Frame.TheVariants as frame
 use Rattle.dg_reader.specs.declared.frames.Owner.{Owner}
 use Rattle.dg_reader.specs.declared.frames.Owner.TheVariants as owner
+use Rattle.dg_reader.specs.declared.ends.Opening.{Opening}
+use Rattle.dg_reader.specs.declared.ends.Opening.TheVariants as opening
 use Rattle.dg_reader.specs.declared.frames.Stop.{Stop}
 use Rattle.dg_reader.specs.declared.frames.Stop.TheVariants.{Unexpected, OutOfMemory}
 use Rattle.dg_reader.specs.declared.keyword.Bare.{Bare}
@@ -89,6 +91,11 @@ frame_view (frame.InBody o bs ss ws) = machine.in_body (owner_view o) (map branc
 -- the innermost first
 abbrev pub stack_view : List Frame → machine.Stack
 stack_view fs = map frame_view (reverse fs)
+
+abbrev pub opening_view : Opening → machine.Opening
+opening_view (opening.Begins f) = machine.begins (frame_view f)
+opening_view (opening.Waits w) = machine.waits (wrapper_view w)
+opening_view (opening.Ends k) = machine.ends (keyword_view k)
 
 -- The step was taken, or the token can't stand there, unless memory ran out.
 abbrev pub Moves : {T : Type 0} → Option machine.Stack → Result T Stop → machine.Stack → Type 0

@@ -226,20 +226,37 @@ abbrev pub end_unless_waiting : Keyword → Owner → List Stmts → List Stmt �
 end_unless_waiting k o bs ss [] below = end_of k o bs ss below
 end_unless_waiting k o bs ss (w ∷ ws) below = None
 
+-- What a keyword does in a body: it begins a construct, waits for a statement, or ends something.
+pub data Opening : Type 0 where
+  begins : Frame → Opening
+  waits : Wrapper → Opening
+  ends : Keyword → Opening
+
+abbrev pub opening : Keyword → Opening
+opening (bare now_word) = begins behind_now
+opening (bare if_word) = begins (new_body (of_condition []))
+opening (bare select_word) = begins (new_body of_select)
+opening (collect_word v) = begins (new_body (of_collect v))
+opening (accumulate_word v) = begins (new_body (of_accumulate v))
+opening (bare exhaust_word) = waits exhausting
+opening (bare stoppable_word) = waits stopping
+opening k = ends k
+
+abbrev pub opened_by : Opening → Owner → List Stmts → List Stmt → List Wrapper → Stack → Option Stack
+opened_by (begins f) o bs ss ws below = Some (f ∷ in_body o bs ss ws ∷ below)
+opened_by (waits w) o bs ss ws below = Some (in_body o bs ss (ws ++ w ∷ []) ∷ below)
+opened_by (ends k) o bs ss ws below = end_unless_waiting k o bs ss ws below
+
 -- A keyword in a body.
 abbrev pub keyword_step : Keyword → Owner → List Stmts → List Stmt → List Wrapper → Stack → Option Stack
-keyword_step (bare now_word) o bs ss ws below = Some (behind_now ∷ in_body o bs ss ws ∷ below)
-keyword_step (bare if_word) o bs ss ws below = Some (new_body (of_condition []) ∷ in_body o bs ss ws ∷ below)
-keyword_step (bare select_word) o bs ss ws below = Some (new_body of_select ∷ in_body o bs ss ws ∷ below)
-keyword_step (bare exhaust_word) o bs ss ws below = Some (in_body o bs ss (ws ++ exhausting ∷ []) ∷ below)
-keyword_step (bare stoppable_word) o bs ss ws below = Some (in_body o bs ss (ws ++ stopping ∷ []) ∷ below)
-keyword_step (collect_word v) o bs ss ws below = Some (new_body (of_collect v) ∷ in_body o bs ss ws ∷ below)
-keyword_step (accumulate_word v) o bs ss ws below = Some (new_body (of_accumulate v) ∷ in_body o bs ss ws ∷ below)
-keyword_step k o bs ss ws below = end_unless_waiting k o bs ss ws below
+keyword_step k o bs ss ws below = opened_by (opening k) o bs ss ws below
+
+abbrev pub put_opening : Opening → Stack → Option Stack
+put_opening p (in_body o bs ss ws ∷ below) = opened_by p o bs ss ws below
+put_opening p below = None
 
 abbrev pub body_keyword : Keyword → Stack → Option Stack
-body_keyword k (in_body o bs ss ws ∷ below) = keyword_step k o bs ss ws below
-body_keyword k below = None
+body_keyword k st = put_opening (opening k) st
 
 -- ---- what closes
 
