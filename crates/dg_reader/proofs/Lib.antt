@@ -9,3 +9,4 @@ mod Closing
 mod Laws
 mod Numbers
 mod Keys
+mod Closed

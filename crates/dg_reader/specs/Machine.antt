@@ -272,10 +272,14 @@ nested_closes (Some k) ps below = None
 nested_closes None no_parts below = None
 nested_closes None (part p ps) below = put_value (nested (part p ps)) below
 
+-- A parenthesis that is a keyword stands where a query may.
+abbrev pub keyword_asked : Asking → Keyword → Stack → Option Stack
+keyword_asked for_one k below = body_keyword k below
+keyword_asked a k below = None
+
 -- The parenthesis of a query in a body closes: it may be a keyword.
 abbrev pub query_closes : Option Keyword → Asking → Parts → Stack → Option Stack
-query_closes (Some k) for_one ps below = body_keyword k below
-query_closes (Some k) a ps below = None
+query_closes (Some k) a ps below = keyword_asked a k below
 query_closes None a no_parts below = None
 query_closes None a (part p ps) below = put_stmt (asked a (part p ps)) below
 

@@ -1,10 +1,12 @@
 //! The reader: from the tokens of a source to its tree.
 #![tactic(auto)]
 
+mod close;
 mod ends;
 mod forms;
 mod frames;
 mod keyword;
 mod open;
 mod put;
+mod step;
 mod words;
