@@ -7,6 +7,13 @@ use Rattle.dg_reader.specs.Grammar.{Bare, now_word, if_word, then_word, elseif_w
 use Rattle.dg_reader.specs.Grammar.{IsUnexpectedAt}
 use Rattle.dg_reader.specs.Machine.{Asking, for_one, for_all, for_none, Owner, of_item, of_group, of_not_group, of_closure, of_condition, of_then, of_else, of_select, of_collect, of_accumulate, Wrapper, exhausting, stopping, Frame, start, start_of, whole_topic, in_head, in_nested, in_query, in_change, in_list, in_tail, in_list_end, behind_star, behind_tilde, behind_now, in_changes, behind_clear, in_body, Stack, asked, wrap, wrapped, body_of, new_body, put_stmt, put_part, put_element, put_value, put_printed, put_number, word_part, element_of, word_element, word_value, put_word, put_change, choices_in, takes_value, is_body, open_list, open_body, open_paren, end_of, end_unless_waiting, keyword_step, body_keyword, head_closes, nested_closes, query_closes, change_closes, close_paren, close_list, body_closes, close_body, list_bar, put_bar, put_star, put_tilde, put_at, put_object, step, run, finished, Outcome, done, unclosed, unexpected, at_end, outcome_from, outcome}
 use Rattle.dg_reader.specs.Machine.{outcome_in}
+use Rattle.std.specs.Prelude.{IsTrue, map, reverse, get_or}
+use Rattle.std.proofs.lemmas.List.{map_more}
+use Rattle.dg_reader.specs.TokenView.{token_view}
+use Rattle.dg_lex.specs.declared.token.Token.{Token}
+use Rattle.std.proofs.lemmas.List.{reverse-reverse}
+use Rattle.dg_reader.specs.Frames.{stack_view, frame_view}
+use Rattle.dg_reader.specs.declared.frames.Frame as code
 use Rattle.dg_reader.proofs.More.{Leads}
 use Rattle.dg_reader.proofs.Spelled.{StackAt, EarlierAt, body-spelled}
 use Rattle.dg_reader.proofs.Sound.{FitsStack, Reads, Each, same, place_in}
@@ -79,7 +86,9 @@ finished_at (in_body (of_item sign ps) bs ss [] ∷ []) shape e =
   where
     given : Some (clause sign ps (body_of bs ss)) ≡ Some shape → clause sign ps (body_of bs ss) ≡ shape
     given e = cc
-finished_at st shape e = absurd (cc)
+finished_at [] shape e = absurd (cc)
+finished_at (f ∷ g ∷ below) shape e = absurd (cc)
+finished_at (f ∷ []) shape e = absurd (cc)
 
 -- What ends as an item is one.
 item_there : (ts : List Tok) (new : Stack) (shape : Shape) → run ts (start ∷ []) ≡ Some new → finished new ≡ Some shape → InItem true ts shape
@@ -159,3 +168,29 @@ goes_on ts new e u =
     let h = not_empty ts new e in
     let whole = run-append ts h.rest (start ∷ []) ∙ ap (option_and_then (run h.rest)) e ∙ h.runs in
     u h.rest (record { shape = h.shape; item = item_there (ts ++ h.rest) h.new h.shape whole h.ends })
+
+-- ---- reading on
+
+reversed_empty : (fs : List code.Frame) → reverse fs ≡ [] → fs ≡ []
+reversed_empty fs e = sym (reverse-reverse fs) ∙ ap reverse e
+
+pub not_last : (fs : List code.Frame) (f : Frame) → (fs ≡ [] → IsTrue false) → None ≡ finished (f ∷ stack_view fs)
+not_last fs f some = here (reverse fs) refl
+  where
+    untrue : IsTrue false → ⊥
+    untrue e = cc
+
+    here : (l : List code.Frame) → reverse fs ≡ l → None ≡ finished (f ∷ map frame_view l)
+    here [] e = absurd (untrue (some (reversed_empty fs e)))
+    here (g ∷ gs) e = refl
+
+pub run_more : (ts : List Token) (index : ℕ) (d : Token) (st : Stack) → index < length ts → run (map token_view (take index ts)) (start ∷ []) ≡ Some st → run (map token_view (take (index + 1) ts)) (start ∷ []) ≡ step (token_view (get_or ts index d)) st
+run_more ts index d st lt r =
+    ap (λ (l : List Tok). run l (start ∷ [])) (map_more token_view ts index d lt)
+    ∙ run-append (map token_view (take index ts)) (token_view (get_or ts index d) ∷ []) (start ∷ [])
+    ∙ ap (option_and_then (run (token_view (get_or ts index d) ∷ []))) r
+    ∙ last (step (token_view (get_or ts index d)) st)
+  where
+    last : (o : Option Stack) → option_and_then (run []) o ≡ o
+    last None = refl
+    last (Some st) = refl

@@ -4,3 +4,4 @@ pub mod TokenView
 pub mod Machine
 pub mod Frames
 pub mod Keywords
+pub mod Items

@@ -373,11 +373,17 @@ abbrev pub run : List Tok → Stack → Option Stack
 run [] st = Some st
 run (t ∷ ts) st = option_and_then (run ts) (step t st)
 
+-- The item that this construct is, where it is one.
+abbrev pub finished_frame : Frame → Option Shape
+finished_frame (whole_topic n) = Some (topic_line n)
+finished_frame (in_body (of_item sign ps) bs ss []) = Some (clause sign ps (body_of bs ss))
+finished_frame f = None
+
 -- The item that ends here, where one does.
 abbrev pub finished : Stack → Option Shape
-finished (whole_topic n ∷ []) = Some (topic_line n)
-finished (in_body (of_item sign ps) bs ss [] ∷ []) = Some (clause sign ps (body_of bs ss))
-finished st = None
+finished [] = None
+finished (f ∷ []) = finished_frame f
+finished (f ∷ g ∷ below) = None
 
 -- How a whole list of tokens ends: as an item, before one, or at a token that can't stand there.
 pub data Outcome : Type 0 where

@@ -5,6 +5,7 @@ mod close;
 mod ends;
 mod forms;
 mod frames;
+mod item;
 mod keyword;
 mod open;
 mod put;
