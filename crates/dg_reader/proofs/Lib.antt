@@ -10,3 +10,4 @@ mod Laws
 mod Numbers
 mod Keys
 mod Closed
+mod Weighed

@@ -5,3 +5,5 @@ pub mod Machine
 pub mod Frames
 pub mod Keywords
 pub mod Items
+pub mod Sums
+pub mod StackSums
