@@ -7,3 +7,5 @@ pub mod Keywords
 pub mod Items
 pub mod Sums
 pub mod StackSums
+pub mod Named
+pub mod Weights

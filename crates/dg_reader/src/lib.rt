@@ -7,6 +7,7 @@ mod forms;
 mod frames;
 mod item;
 mod keyword;
+mod names;
 mod open;
 mod put;
 mod step;
