@@ -1,6 +1,6 @@
 // Keywords: parentheses that are no queries.
 ghost use Rattle.std.specs.Prelude.{◌≡◌, ◌∷◌, [], Some, map};
-ghost use Rattle.std.specs.Option.{option_map};
+ghost use Rattle.std.specs.Option.{option_map, is_some};
 ghost use Rattle.std.specs.Str.{bytes_eq};
 ghost use Rattle.dg_base.specs.Tree as tree;
 ghost use Rattle.dg_base.specs.TreeView.{part_view, value_view};
@@ -216,4 +216,12 @@ pub fn close_parenthesis(parts: Items<Part>) -> Closed
         Some(bare) => Closed::Keyword(Keyword::Bare(bare)),
         None => Closed::Query(parts),
     }
+}
+
+/// Whether a parenthesis with these parts is a keyword.
+#[tactic(auto, using(crate::proofs::Keys::is_valued, crate::proofs::Keys::is_bare))]
+pub fn is_keyword(parts: &[Part]) -> bool
+    ensures { result ≡ is_some (keyword_of (tree.parts_of (map part_view parts.now))) }
+{
+    valued_keyword(parts).is_some() || bare_keyword(parts).is_some()
 }

@@ -11,4 +11,5 @@ mod names;
 mod open;
 mod put;
 mod step;
+mod weights;
 mod words;
