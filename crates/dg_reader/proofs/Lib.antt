@@ -1,13 +1,13 @@
-mod Views
-mod More
-mod Spelled
-mod Sound
-mod Steps
-mod Complete
-mod Whole
-mod Closing
-mod Laws
-mod Numbers
-mod Keys
-mod Closed
-mod Weighed
+pub mod Views
+pub mod More
+pub mod Spelled
+pub mod Sound
+pub mod Steps
+pub mod Complete
+pub mod Whole
+pub mod Closing
+pub mod Laws
+pub mod Numbers
+pub mod Keys
+pub mod Closed
+pub mod Weighed

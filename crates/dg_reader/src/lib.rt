@@ -13,3 +13,6 @@ mod put;
 mod step;
 mod weights;
 mod words;
+
+pub use frames::Sign;
+pub use item::{Shape, ShapeFault, shape_of};

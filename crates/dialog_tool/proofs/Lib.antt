@@ -3,5 +3,7 @@ pub mod PlainText
 pub mod NamesLemmas
 pub mod BuiltLemmas
 pub mod FaultLemmas
+pub mod ReadLemmas
+pub mod ItemLemmas
 pub mod SourceLemmas
 pub mod AnswerLemmas

@@ -7,6 +7,7 @@ use Rattle.dg_base.specs.declared.tree.Item.{Item as CodeItem}
 use Rattle.dg_base.specs.declared.refusal.ReadFault.{ReadFault}
 use Rattle.dialog_tool.specs.Faults.{IsFault}
 use Rattle.dialog_tool.proofs.FaultLemmas.{fault_map}
+use Rattle.dialog_tool.proofs.ReadLemmas.{read_one}
 use Rattle.dg_base.specs.declared.program.CoreProgram.{CoreProgram as Core}
 use Rattle.dg_base.specs.declared.refusal.Refusal.{Refusal}
 use Rattle.dg_base.specs.declared.refusal.Kind.TheVariants.{NotBuiltYet}
@@ -17,9 +18,6 @@ use Rattle.dialog_tool.specs.Scan.{IsScanned, plain_front, line_in, foreign_line
 use Rattle.dialog_tool.specs.Plain.{core_of, refusal_of, refusal_at}
 use Rattle.dialog_tool.specs.Read.{IsRead}
 use Rattle.dialog_tool.specs.Source.{Compiles, too_long, shows_more, not_read, refused, accepted}
-
-read_one : (ts : List Seen) (a b : Result (List Item) Refusal) → IsRead ts a → IsRead ts b → a ≡ b
-read_one ts a b h k = h.is ∙ sym k.is
 
 scan_tokens : (source : List ℕ) (ts us : List Token) (a b : Option ℕ) → IsScanned source ts a → IsScanned source us b → map seen ts ≡ map seen us
 scan_tokens source ts us a b h k = tokens_one _ _ (without_mark (plain_front source)) ts us h.lexed k.lexed

@@ -3,6 +3,7 @@
 
 mod adapters;
 mod command;
+mod items;
 mod lowering;
 mod plain;
 mod scan;

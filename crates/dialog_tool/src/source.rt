@@ -7,18 +7,11 @@ ghost use Rattle.dialog_tool.specs.Read.{IsRead};
 ghost use Rattle.dialog_tool.specs.Faults.{IsFault};
 ghost use Rattle.dialog_tool.specs.Source.{Compiles};
 
+use crate::items::read;
 use crate::lowering::lower;
 use crate::scan::plain_tokens;
-use dg_base::{CoreProgram, ReadFault, Tree};
-use dg_lex::Token;
+use dg_base::{CoreProgram, ReadFault};
 use std::alloc::Global;
-
-fn read(_alloc: Global, _tokens: &[Token<'_>]) -> Result<Tree, ReadFault>
-    ensures tree { IfOk result (λ tree. IsRead (map seen _tokens.now) (Ok (tree_view tree))) }
-    ensures refused { IfErr result (IsFault (λ r. IsRead (map seen _tokens.now) (Err r))) }
-{
-    Err(ReadFault::OutOfMemory)
-}
 
 /// The core program of a source, or why the source is refused.
 pub fn compile(alloc: Global, source: &[u8]) -> Result<CoreProgram, ReadFault>
