@@ -130,10 +130,26 @@ abbrev pub BranchesIn : List Around → List Branch → Type 0
 BranchesIn ctx [] = Unit {0}
 BranchesIn ctx (b ∷ bs) = BranchIn ctx b × BranchesIn ctx bs
 
--- Tags fall outwards, each mark names a choice around it, and so do the branches that were not begun.
+-- A branch takes no gathering out.
+abbrev pub KeepsGathering : Branch → Type 0
+KeepsGathering (TakeOut t path) = ⊥
+KeepsGathering b = Unit {0}
+
+abbrev pub KeepGatherings : List Branch → Type 0
+KeepGatherings [] = Unit {0}
+KeepGatherings (b ∷ bs) = KeepsGathering b × KeepGatherings bs
+
+-- Behind a first branch that gathers, one branch takes the gathering out; no other branch takes one out.
+abbrev pub TakesOut : Kind → ℕ → List Branch → Type 0
+TakesOut Gathers t [] = ⊥
+TakesOut Gathers t (TakeOut u path ∷ []) = u ≡ t
+TakesOut Gathers t (b ∷ bs) = ⊥
+TakesOut k t others = KeepGatherings others
+
+-- Tags fall outwards, each mark names a choice around it, and so do the branches that were not begun, of which those behind a gathering take it out.
 abbrev pub Sound : List Around → Type 0
 Sound [] = Unit {0}
-Sound (InBranch k t others ∷ ctx) = Older t ctx × Sound ctx × BranchesIn (InBranch Plain t [] ∷ ctx) others
+Sound (InBranch k t others ∷ ctx) = Older t ctx × Sound ctx × BranchesIn (InBranch Plain t [] ∷ ctx) others × TakesOut k t others
 Sound (InCut t ∷ ctx) = Holds ctx t × Sound ctx
 
 -- Between two worlds nothing was printed, taken or counted: only queries were answered or failed, and gatherings were dropped.

@@ -29,7 +29,7 @@ cut t a = answer a.left a.world (cut_result t a.result)
 -- A cut to a choice older than t, in front of steps.
 abbrev pub cut_first : ℕ → Option ℕ → List Step → List Step
 cut_first t None steps = steps
-cut_first t (Some c) steps = if nat_lt t c then steps else Cut c ∷ steps
+cut_first t (Some c) steps = if nat_lt c t then Cut c ∷ steps else steps
 
 abbrev pub branch_cut : ℕ → Option ℕ → Branch → Branch
 branch_cut t c (Enter path work) = Enter (record path { steps = cut_first t c path.steps }) work
