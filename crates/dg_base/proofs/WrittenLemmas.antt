@@ -1,6 +1,6 @@
 -- Texts that are written in parts.
-use Rattle.std.proofs.Common.{◌≡◌, ℕ, zero, suc, ◌+◌, ◌-◌, ◌<◌, ◌≤◌, List, [], ◌∷◌, ◌++◌, Option, Some, None, refl, sym, ap, ◌∙◌, subst, arith, length, take, drop, append_assoc, length-drop, length-append, length-take}
-use Rattle.std.specs.Prelude.{Result, Ok, Err, IsOk}
+use Rattle.std.proofs.Common.{◌≡◌, ℕ, zero, suc, ◌+◌, ◌-◌, ◌≤◌, List, [], ◌∷◌, ◌++◌, Option, Some, None, refl, sym, ap, ◌∙◌, subst, arith, length, take, drop, append_assoc, length-drop, length-append, length-take}
+use Rattle.std.specs.Prelude.{Ok, Err}
 use Rattle.std.specs.Io.KnownBytes.{Keeps, Appends}
 use Rattle.std.proofs.lemmas.List.{take-append-drop, append-nil}
 use Rattle.dg_base.specs.Causes.{Rose}

@@ -1,8 +1,8 @@
 -- The goals and the terms of a body, at every depth.
-use Rattle.std.specs.Prelude.{ℕ, List, [], ◌∷◌, ◌++◌, Option, Some, None}
+use Rattle.std.specs.Prelude.{List, [], ◌∷◌, ◌++◌, Option, Some, None}
 use Rattle.std.specs.List.{flat_map}
-use Rattle.dg_base.specs.declared.program.Goal.{Goal, Either', Once', Not', If', Exhaust', Collect', Accumulate', Stoppable', Select', Row_of-Goal, end_of-Goal, more_of-Goal, Row_of-Goal-Either-0-1, end_of-Goal-Either-0-1, more_of-Goal-Either-0-1, out-Goal}
-use Rattle.dg_base.specs.declared.program.Goal.TheOpen.{Goal-F, Text, Print, Gap, GapN, Equal, Ask, Holds, Now, Query, Either, Once, Not, If, Just, Fail, Stop, Quit, Forever, Exhaust, Collect, Accumulate, Stoppable, Select, Arith, Compare, Random, Test, IsObject, Input, SplitWord, JoinWords}
+use Rattle.dg_base.specs.declared.program.Goal.{Goal, Either', Once', Not', If', Exhaust', Collect', Accumulate', Stoppable', Select', Row_of-Goal, end_of-Goal, more_of-Goal, Row_of-Goal-Either-0-1, end_of-Goal-Either-0-1, more_of-Goal-Either-0-1}
+use Rattle.dg_base.specs.declared.program.Goal.TheOpen.{Goal-F, Print, GapN, Equal, Ask, Holds, Now, Query, Collect, Accumulate, Arith, Compare, Random, Test, IsObject, Input, SplitWord, JoinWords}
 use Rattle.dg_base.specs.declared.program.Term.{Term}
 
 -- a goal, and the goals in it at every depth

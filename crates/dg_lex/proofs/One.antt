@@ -1,5 +1,5 @@
 -- No text has two lists of tokens.
-use Rattle.std.proofs.Common.{◌≡◌, ◌<◌, ◌+◌, ℕ, List, [], ◌∷◌, ◌++◌, Bool, true, false, Option, Some, None, length, take, drop, map, refl, sym, ◌∙◌, ap, subst, arith, length-append, append_assoc}
+use Rattle.std.proofs.Common.{◌≡◌, ◌+◌, ℕ, List, [], ◌∷◌, ◌++◌, Bool, false, Some, length, take, map, refl, sym, ◌∙◌, ap, subst, arith, length-append}
 use Rattle.std.proofs.lemmas.List.{take_at, append_cancel_left}
 use Rattle.dg_lex.specs.Tokens.{IsNext, IsTokens, Seen, seen, shape, token_of, gap_length, at_first}
 use Rattle.dg_lex.specs.declared.token.Shape.{Shape}

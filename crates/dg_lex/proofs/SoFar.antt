@@ -1,5 +1,5 @@
 -- The tokens so far, and those of what is left.
-use Rattle.std.proofs.Common.{◌≡◌, List, [], ◌∷◌, ◌++◌, Bool, true, false, ℕ, sym, subst, append_assoc}
+use Rattle.std.proofs.Common.{List, [], ◌∷◌, ◌++◌, Bool, true, false, ℕ, sym, subst, append_assoc}
 use Rattle.std.proofs.lemmas.List.{append-nil}
 use Rattle.dg_lex.specs.Tokens.{IsNext, IsTokens}
 use Rattle.dg_lex.specs.declared.token.Token.{Token}

@@ -1,5 +1,5 @@
 -- The first character that no source may hold: hold it against docs/LANGUAGE.md, "Characters and tokens".
-use Rattle.std.specs.Prelude.{ℕ, ◌+◌, ◌&&◌, ◌||◌, List, [], ◌∷◌, Bool, true, false, not, nat_eq, nat_lt, take, length, Option, Some, None, count_by, if◌then◌else◌}
+use Rattle.std.specs.Prelude.{ℕ, ◌+◌, ◌&&◌, ◌||◌, List, [], ◌∷◌, Bool, false, not, nat_eq, nat_lt, take, length, Option, Some, None, count_by, if◌then◌else◌}
 use Rattle.std.specs.Option.{option_or}
 use Rattle.std.specs.Str.Lossy.{utf8_valid_len}
 use Rattle.dg_base.specs.declared.refusal.Refusal.{Refusal}

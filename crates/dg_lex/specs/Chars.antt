@@ -1,5 +1,5 @@
 -- The characters of a source: hold it against the chapter of the Dialog manual on the syntax, and docs/LANGUAGE.md, "Characters and tokens".
-use Rattle.std.specs.Prelude.{ℕ, ◌&&◌, ◌||◌, List, [], ◌∷◌, Bool, true, false, not, nat_eq, nat_le, nat_lt}
+use Rattle.std.specs.Prelude.{ℕ, ◌&&◌, ◌||◌, List, [], ◌∷◌, Bool, false, not, nat_eq, nat_le, nat_lt}
 use Rattle.std.specs.List.{list_any}
 
 abbrev pub tab : ℕ

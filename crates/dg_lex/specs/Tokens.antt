@@ -1,5 +1,5 @@
 -- The tokens of a text: hold it against the chapter of the Dialog manual on the syntax, and the table of tokens in docs/LANGUAGE.md.
-use Rattle.std.specs.Prelude.{◌≡◌, ℕ, ◌+◌, ◌&&◌, ◌||◌, List, [], ◌∷◌, ◌++◌, Bool, true, false, not, nat_eq, length, drop, Option, Some, None, if◌then◌else◌}
+use Rattle.std.specs.Prelude.{◌≡◌, ℕ, ◌+◌, ◌&&◌, ◌||◌, List, [], ◌∷◌, ◌++◌, Bool, true, false, not, nat_eq, length, Option, Some, None, if◌then◌else◌}
 use Rattle.dg_lex.specs.Chars.{newline, backslash, is_blank, is_special, is_name_char, opens_comment}
 use Rattle.dg_lex.specs.Bad.{lines}
 use Rattle.dg_lex.specs.declared.token.Token.{Token}

@@ -1,6 +1,6 @@
 use Rattle.std.proofs.Common.{arith}
 use Rattle.dg_base.specs.Written.{view}
-use Rattle.dg_base.proofs.WrittenLemmas.{rest_length, wrote_more, wrote_all, put_failed, falls}
+use Rattle.dg_base.proofs.WrittenLemmas.{rest_length, wrote_more, put_failed, falls}
 use Rattle.dg_base.proofs.writing.write_all.Goals as goal
 
 pub loop-at-preserved : goal.loop-at-preserved

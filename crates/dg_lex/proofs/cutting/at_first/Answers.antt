@@ -1,4 +1,4 @@
-use Rattle.std.proofs.Common.{◌≡◌, ◌≤◌, ◌<◌, ◌+◌, ◌-◌, ℕ, zero, suc, List, [], ◌∷◌, Bool, length, nat_eq, slice_index_or, refl, arith}
+use Rattle.std.proofs.Common.{◌≡◌, ◌≤◌, ◌-◌, ℕ, zero, suc, List, [], ◌∷◌, Bool, length, nat_eq, slice_index_or, refl, arith}
 use Rattle.dg_lex.specs.Tokens.{at_first}
 use Rattle.dg_lex.proofs.cutting.at_first.Goals as goal
 

@@ -1,4 +1,4 @@
-use Rattle.std.proofs.Common.{arith, ◌≤◌, ◌+◌, length}
+use Rattle.std.proofs.Common.{arith}
 use Rattle.dg_lex.proofs.SoFar.{one_token, at_end}
 use Rattle.dg_lex.proofs.cutting.tokens_of.Goals as goal
 

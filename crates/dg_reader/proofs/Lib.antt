@@ -1,0 +1,13 @@
+mod Views
+mod More
+mod Spelled
+mod Sound
+mod Steps
+mod Complete
+mod Whole
+mod Closing
+mod Laws
+mod Numbers
+mod Keys
+mod Closed
+mod Weighed

@@ -1,0 +1,13 @@
+use Rattle.std.proofs.Common.{Option, subst}
+use Rattle.dg_reader.specs.Machine.{Stack}
+use Rattle.dg_reader.specs.Frames.{stack_view, Moves}
+use Rattle.dg_reader.proofs.Closed.{nests}
+use Rattle.dg_reader.proofs.close.close_nested.Goals as goal
+
+pub returns-in-Query : goal.returns-in-Query
+returns-in-Query c =
+    let closed = c.in-Query.ensures in
+    let empty = c.if-is_empty.ensures in
+    subst (λ (o : Option Stack). Moves o c.put_value.result (stack_view c.put_value.new.stack.items))
+    (nests c.args.parts c.in-Query.parts _ (stack_view c.args.stack.now.items) closed.0 closed.1 empty.1 c.nested.ensures)
+    c.put_value.ensures

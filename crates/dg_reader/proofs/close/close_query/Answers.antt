@@ -1,0 +1,14 @@
+use Rattle.std.proofs.Common.{Option, subst, ◌∙◌, ap}
+use Rattle.dg_base.specs.Tree as tree
+use Rattle.dg_reader.specs.Machine.{Stack, asked}
+use Rattle.dg_reader.specs.Frames.{stack_view, asking_view, Moves}
+use Rattle.dg_reader.proofs.Closed.{asks}
+use Rattle.dg_reader.proofs.close.close_query.Goals as goal
+
+pub returns-else-is_empty : goal.returns-else-is_empty
+returns-else-is_empty c =
+    let closed = c.in-Query.ensures in
+    let empty = c.if-is_empty.ensures in
+    subst (λ (o : Option Stack). Moves o c.put_stmt.result (stack_view c.put_stmt.new.stack.items))
+    (asks (asking_view c.args.asking) c.args.parts c.in-Query.parts _ (stack_view c.args.stack.now.items) closed.0 closed.1 empty.1 (c.ask.ensures ∙ ap (asked (asking_view c.args.asking)) c.head.ensures))
+    c.put_stmt.ensures

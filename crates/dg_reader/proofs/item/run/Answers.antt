@@ -1,0 +1,19 @@
+use Rattle.std.proofs.Common.{◌≡◌, ◌∙◌, ap, None}
+use Rattle.dg_reader.specs.TokenView.{token_view}
+use Rattle.dg_reader.specs.Machine.{step}
+use Rattle.dg_reader.specs.Frames.{stack_view, Moves}
+use Rattle.dg_reader.proofs.Laws.{run_more}
+use Rattle.dg_reader.proofs.item.run.Goals as goal
+
+pub loop-index-preserved : goal.loop-index-preserved
+loop-index-preserved c = run_more c.args.tokens.now c.loop-index.index _ (stack_view c.loop-index.stack.items) c.loop-index-test.true c.loop-index.invariant ∙ c.in-Ok.ensures
+
+pub returns-in-Err-Unexpected-clause-unexpected : goal.returns-in-Err-Unexpected-clause-unexpected
+returns-in-Err-Unexpected-clause-unexpected c =
+    let stops = rw c.in-Err-Unexpected.field-0-is at c.in-Err-Unexpected.ensures in
+    record {
+      within = c.loop-index-test.true;
+      before = stack_view c.loop-index.stack.items;
+      taken = c.loop-index.invariant;
+      stops = run_more c.args.tokens.now c.loop-index.index _ (stack_view c.loop-index.stack.items) c.loop-index-test.true c.loop-index.invariant ∙ stops;
+    }

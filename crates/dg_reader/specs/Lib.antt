@@ -1,0 +1,11 @@
+pub mod Tokens
+pub mod Grammar
+pub mod TokenView
+pub mod Machine
+pub mod Frames
+pub mod Keywords
+pub mod Items
+pub mod Sums
+pub mod StackSums
+pub mod Named
+pub mod Weights

@@ -1,0 +1,88 @@
+// What stands open while an item is read, the innermost last.
+ghost use Rattle.std.specs.Prelude.{◌≡◌};
+ghost use Rattle.dg_reader.specs.declared.frames.Stop.TheVariants.{OutOfMemory};
+
+use dg_base::{Arm, Body, Head, Items, Name, NowChange, Part, Stmt, Value};
+use std::alloc::{AllocError, AllocFailed};
+
+/// Why an item isn't read on.
+#[derive(Clone, Copy, Debug, PartialEq, Eq)]
+pub enum Stop {
+    Unexpected,
+    OutOfMemory,
+}
+
+impl From<AllocError> for Stop {
+    ghost from_gives = { λ _ e. e ≡ OutOfMemory };
+
+    fn from(_: AllocError) -> Self {
+        Stop::OutOfMemory
+    }
+}
+
+impl<T: Drop> From<AllocFailed<T>> for Stop {
+    ghost from_gives = { λ _ e. e ≡ OutOfMemory };
+
+    fn from(_: AllocFailed<T>) -> Self {
+        Stop::OutOfMemory
+    }
+}
+
+/// What the sign before a head makes of its item.
+#[derive(Clone, Copy, Debug, PartialEq, Eq)]
+pub enum Sign {
+    Plain,
+    Negated,
+    Access,
+}
+
+/// Which answers a query asks for.
+#[derive(Clone, Copy, Debug, PartialEq, Eq)]
+pub enum Asking {
+    ForOne,
+    ForAll,
+    ForNone,
+}
+
+/// A keyword that waits for its statement.
+#[derive(Clone, Copy, Debug, PartialEq, Eq)]
+pub enum Wrapper {
+    Exhausting,
+    Stopping,
+}
+
+/// What a body is the body of.
+#[derive(Drop)]
+pub enum Owner {
+    Item(Sign, Head),
+    Group,
+    NotGroup,
+    Closure,
+    Condition(Items<Arm>),
+    Then(Items<Arm>, Body),
+    Else(Items<Arm>),
+    Select,
+    Collect(Value),
+    Accumulate(Value),
+}
+
+/// A construct that stands open, with what was read of it.
+#[derive(Drop)]
+pub enum Frame {
+    Start,
+    StartOf(Sign),
+    WholeTopic(Name),
+    InHead(Sign, Items<Part>),
+    InNested(bool, Items<Part>),
+    InQuery(Asking, Items<Part>),
+    InChange(bool, Items<Part>),
+    InList(bool, Items<Value>),
+    InTail(bool, Items<Value>),
+    InListEnd(bool, Items<Value>, Value),
+    BehindStar,
+    BehindTilde,
+    BehindNow,
+    InChanges(Items<NowChange>),
+    BehindClear,
+    InBody(Owner, Items<Items<Stmt>>, Items<Stmt>, Items<Wrapper>),
+}
