@@ -97,6 +97,7 @@ abbrev pub older_than : ℕ → List Choice → List Choice
 older_than t [] = []
 older_than t (o ∷ os) = if nat_lt o.tag t then o ∷ os else older_than t os
 
+-- A cut to a tag was made.
 abbrev pub Cuts : ℕ → List Choice → List Choice → Type 0
 Cuts t old new = reverse new ≡ older_than t (reverse old)
 
@@ -128,6 +129,7 @@ pub record AllDone (old new : Engine) : Type 0 where
   pub left : new.left ≡ old.left
   pub ends : Ends (λ g. StandsAt g old) old.left (End Done-Ending)
 
+-- A goal is at hand, or all steps are done.
 abbrev pub Settles : Bool → Engine → Engine → Type 0
 Settles true old new = AtGoal old new
 Settles false old new = AllDone old new

@@ -55,6 +55,7 @@ pub record GoalDone (old new : Engine) (s s' : Spacer) (before now : SinkView) :
   pub left : old.left ≡ suc new.left
   pub reaches : Reaches old s before (GoesOn new s' now)
 
+-- A goal was done, and the run goes on or has ended so.
 abbrev pub Does : Option Ending → Engine → Engine → Spacer → Spacer → SinkView → SinkView → Type 0
 Does None old new s s' before now = GoalDone old new s s' before now
 Does (Some ending) old new s s' before now = Reaches old s before (HasEnded ending new.left s' now)

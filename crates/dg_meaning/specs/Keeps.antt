@@ -20,6 +20,7 @@ world_of (EndsAt e w) = w
 world_of (StopsAt t w) = w
 world_of (Chooses k t b bs w) = w
 
+-- What the run comes to, where a search with this around it gives an answer.
 abbrev pub unwound : Search → List Around → Answer → Run
 unwound s ctx a = unwind s ctx a.left a.world a.result
 
@@ -85,6 +86,7 @@ pub record GoesBack (g : Game) (c : Live) (cs : List Live) (n : ℕ) (w : World)
   pub gatherings : length world.gathered ≡ open_at c.others c.height
   pub resumed : Resumed g c cs n world r
 
+-- Where a failure inside these choices leads.
 abbrev pub FailsTo : Game → ℕ → World → Run → List Live → Type 0
 FailsTo g n w r [] = Finished n w Failing r
 FailsTo g n w r (c ∷ cs) = GoesBack g c cs n w r
