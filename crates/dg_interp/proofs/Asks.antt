@@ -11,10 +11,11 @@ use Rattle.dg_base.specs.declared.program.Rule.{Rule}
 use Rattle.dg_base.specs.declared.program.Pred.{Pred}
 use Rattle.dg_base.specs.declared.program.CoreProgram.{CoreProgram}
 use Rattle.dg_meaning.specs.World.{Game, World, Piece, Prints, Asked, HasFailed, prints, noted, worked}
-use Rattle.dg_meaning.specs.Path.{Step, Branch, Kind, Plain, Rules, Shield, Gathers, Move}
-use Rattle.dg_meaning.specs.Moves.{rules_of, rule_branches, choice, move, printed}
+use Rattle.dg_meaning.specs.Context.{Way, Live, pushed}
+use Rattle.dg_meaning.specs.Path.{Step, Registers, Rules, Move}
+use Rattle.dg_meaning.specs.Moves.{enter, choice_cells, rule_steps, rules_of, rule_branches, choice, move, printed}
 use Rattle.dg_meaning.specs.Transcript.{Run}
-use Rattle.dg_meaning.specs.Keeps.{IsQuiet, world_of, After}
+use Rattle.dg_meaning.specs.Keeps.{Began, After}
 use Rattle.dg_meaning.specs.Built.{IsBuiltRule}
 use Rattle.dg_meaning.proofs.Silently.{prints_append}
 use Rattle.dg_meaning.proofs.Keeps.{takes}
@@ -23,7 +24,7 @@ use Rattle.dg_interp.specs.declared.frames.Frame.{Frame}
 use Rattle.dg_interp.specs.declared.frames.Left.{Left}
 use Rattle.dg_interp.specs.declared.engine.Engine.{Engine}
 use Rattle.dg_interp.specs.Frames.{steps_behind, steps_at, AreChoices, AreFrames, StandOn}
-use Rattle.dg_interp.specs.Engine.{IsSound, IsReady, StandsAt, FailsAt, TakesAt, BeginsAt, BeganWith, Adds, Then, Leads}
+use Rattle.dg_interp.specs.Engine.{IsQuiet, IsSound, IsReady, StandsAt, FailsAt, TakesAt, BeginsAt, BeganWith, Adds, Then, Leads}
 use Rattle.dg_interp.proofs.Links.{same_append, behind_new, frames_append, choices_same, stand_raise}
 use Rattle.dg_interp.proofs.Places.{adds_on, adds_noted}
 use Rattle.dg_interp.proofs.Turns.{all_first, all_rest}
@@ -35,13 +36,6 @@ adds_work n w quiet = record { prints_are = sym (append-nil (prints w.events)); 
 
 adds_asked : (pred : ℕ) (w : World) → IsQuiet w → Adds [] w (noted (Asked pred) (worked 1 w))
 adds_asked pred w quiet = adds_on w (worked 1 w) (noted (Asked pred) (worked 1 w)) [] [] (adds_work 1 w quiet) (adds_noted (worked 1 w) (Asked pred) quiet refl)
-
-choice_quiet : (k : Kind) (t : ℕ) (bs : List Branch) (w : World) → IsQuiet w → IsQuiet (world_of (choice k t bs w))
-choice_quiet k t (b ∷ bs) w quiet = quiet
-choice_quiet Plain t [] w quiet = quiet
-choice_quiet (Rules q) t [] w quiet = quiet
-choice_quiet Shield t [] w quiet = quiet
-choice_quiet Gathers t [] w quiet = quiet
 
 -- ## A query
 
@@ -64,8 +58,14 @@ module _ (g : Game) (query : Query) (e : Engine) (w : World) (run : Run) (quiet 
   asked rules are =
       let m = moves ∙ ap asks (sym are) in
       subst (λ m. After g st.lives st.ways e.left m run) m
-      (takes g st.lives st.ways (Ask query.pred [] query.many) e.here.tag steps st.registers e.left w run quiet
-      (subst (λ m. IsQuiet (world_of m)) (sym m) (choice_quiet (Rules query.pred) st.registers.next_tag (rule_branches query.pred 0 query.many steps st.registers rules) asked_world quiet)) st.stands)
+      (takes g st.lives st.ways (Ask query.pred [] query.many) e.here.tag steps st.registers e.left w run st.stands)
+
+-- the first of its rules begins, and no gathering is open
+flat : (g : Game) (query : Query) (rule : Rule) (others : List Rule) (steps : List Step) (r : Registers) (lives : List Live) (ways : List Way) (n : ℕ) (w : World) (run : Run) → IsQuiet w → After g lives ways n (choice (Rules query.pred) r.next_tag (rule_branches query.pred 0 query.many steps r (rule ∷ others)) w) run → BeganWith g query rule others steps r lives ways n w run
+flat g query rule others steps r lives ways n w run quiet h =
+    let bs = rule_branches query.pred 0 query.many steps r others in
+    let b = enter (choice_cells 0 others + 6 + rule.vars) 1 r (rule_steps query.pred query.many r.next_tag rule steps) in
+    subst (λ i. Began g (pushed bs (record { kind = Rules query.pred; tag = r.next_tag; others = bs; height = i; ways_on = ways }) lives) ways b n w run) (ap length quiet) h
 
 pub nothing_in : (rules : List Rule) → length rules ≤ 0 → rules ≡ []
 nothing_in [] h = refl
@@ -131,7 +131,7 @@ module _ (old : Engine) (frames : Vec Frame Global) (ready : IsReady old) (pushe
       tag = st.tag;
       began = λ rule others split.
           subst (λ s. BeganWith g left.query rule others s st.registers st.lives st.ways old.left (noted (Asked left.query.pred) (worked 1 w)) run) (sym behind)
-          (asked g left.query old w run quiet st (rule ∷ others) (sym split ∙ are));
+          (flat g left.query rule others (steps_at fs old.here) st.registers st.lives st.ways old.left (noted (Asked left.query.pred) (worked 1 w)) run quiet (asked g left.query old w run quiet st (rule ∷ others) (sym split ∙ are)));
     };
   }
 
@@ -152,6 +152,6 @@ prints_word name e g w run quiet st =
         registers = st.registers;
         choices = st.choices;
         tag = st.tag;
-        stands = subst (λ m. After g st.lives st.ways e.left m run) m (takes g st.lives st.ways (Text name) e.here.tag steps st.registers e.left w run quiet (subst (λ m. IsQuiet (world_of m)) (sym m) quiet) st.stands);
+        stands = subst (λ m. After g st.lives st.ways e.left m run) m (takes g st.lives st.ways (Text name) e.here.tag steps st.registers e.left w run st.stands);
       };
     }

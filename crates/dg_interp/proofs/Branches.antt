@@ -10,7 +10,7 @@ use Rattle.dg_meaning.specs.Moves.{rule_branches, rule_steps, choice_cells, ente
 use Rattle.dg_meaning.specs.Search.{retried}
 use Rattle.dg_meaning.specs.Transcript.{Run}
 use Rattle.dg_meaning.specs.Context.{Live, pushed}
-use Rattle.dg_meaning.specs.Keeps.{IsQuiet, Finished, FailsTo, Resumed, Began}
+use Rattle.dg_meaning.specs.Keeps.{Finished, FailsTo, Resumed, Began}
 use Rattle.dg_meaning.proofs.Silently.{retried_silently, quiet_later}
 use Rattle.dg_meaning.proofs.Keeps.{failed, begins_next}
 use Rattle.dg_interp.specs.declared.frames.Query.{Query}
@@ -18,7 +18,7 @@ use Rattle.dg_interp.specs.declared.frames.Frame.{Frame}
 use Rattle.dg_interp.specs.declared.frames.Choice.{Choice}
 use Rattle.dg_interp.specs.declared.engine.Engine.{Engine}
 use Rattle.dg_interp.specs.Frames.{steps_behind, IsLeft, IsChoice, AreChoices, AreFrames, StandOn}
-use Rattle.dg_interp.specs.Engine.{IsSound, StandsAt, FailsAt, BeginsAt, BeganWith, Adds, Then, Leads, Ends, WentBack, NoneLeft, Branches}
+use Rattle.dg_interp.specs.Engine.{IsQuiet, IsSound, StandsAt, FailsAt, BeginsAt, BeganWith, Adds, Then, Leads, Ends, WentBack, NoneLeft, Branches}
 use Rattle.dg_interp.proofs.Links.{same_take, behind_same, frames_take, choices_same}
 use Rattle.dg_interp.proofs.Turns.{reverse_pop}
 use Rattle.dg_interp.proofs.Places.{adds_nothing, adds_on, adds_silently, leads_on}
@@ -114,12 +114,12 @@ module _ (old : Engine) (o : Choice) (frames : Vec Frame Global) (choices : Vec 
               is.others ∙ ap (rule_branches o.left.query.pred 0 o.left.query.many (steps_behind fs o.height) r) split
               ∙ ap (λ s. rule_branches o.left.query.pred 0 o.left.query.many s r (rule ∷ more)) (sym behind) in
               next_with g o.left.query rule more (steps_behind frames.items (length frames.items)) r c cs old.left (retried c.kind v) run is.kind (is.tag ∙ sym is.tag_at) is.height
-              (begins_next g c cs _ _ old.left v run branches still is.height resumed);
+              (begins_next g c cs _ _ old.left v run branches resumed);
         };
       }
 
   pub begins_popped : Leads (λ g. FailsAt g old) (λ g. BeginsAt g o.left mid)
-  begins_popped g w run quiet st = from st.lives (subst (λ l. AreChoices fs l st.lives) was st.choices) (failed g st.lives old.left w run quiet st.failed) where
+  begins_popped g w run quiet st = from st.lives (subst (λ l. AreChoices fs l st.lives) was st.choices) (failed g st.lives old.left w run st.failed) where
     from : (cs : List Live) → AreChoices fs (o ∷ os) cs → FailsTo g old.left w run cs → Then [] w (λ u. BeginsAt g o.left mid u run)
     from [] h f = absurd h
     from (c ∷ cs) h f = begins g c cs w f.world run quiet (quiet_later w f.world quiet f.silently) (adds_silently w f.world quiet f.silently) st.program h.0 h.1 f.resumed
@@ -137,7 +137,7 @@ module _ (old : Engine) (choices : Vec Choice Global) (empty : length old.choice
   pub none_popped : NoneLeft (λ g. FailsAt g old) old (record old { choices = choices })
   none_popped = record {
     left = refl;
-    ends = λ g w run quiet st. from g w run quiet st.lives (subst (λ l. AreChoices old.frames.items l st.lives) none st.choices) (failed g st.lives old.left w run quiet st.failed);
+    ends = λ g w run quiet st. from g w run quiet st.lives (subst (λ l. AreChoices old.frames.items l st.lives) none st.choices) (failed g st.lives old.left w run st.failed);
   } where
     from : (g : Game) (w : World) (run : Run) → IsQuiet w → (cs : List Live) → AreChoices old.frames.items [] cs → FailsTo g old.left w run cs → Then [] w (λ v. Finished old.left v Failing run)
     from g w run quiet [] h f = record { world = w; adds = adds_nothing w quiet; holds = f }

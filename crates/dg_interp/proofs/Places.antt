@@ -11,7 +11,7 @@ use Rattle.dg_meaning.specs.Path.{Step, Answers, Cut, End}
 use Rattle.dg_meaning.specs.Moves.{path_of, first_alone}
 use Rattle.dg_meaning.specs.Transcript.{Run}
 use Rattle.dg_meaning.specs.Context.{Live, cut_to, Silently}
-use Rattle.dg_meaning.specs.Keeps.{IsQuiet, Stands, Finished}
+use Rattle.dg_meaning.specs.Keeps.{Stands, Finished}
 use Rattle.dg_meaning.proofs.Silently.{prints_later, typed_later, quiet_later, noted_silently}
 use Rattle.dg_meaning.proofs.Keeps.{passes_answer, passes_cut, done}
 use Rattle.dg_interp.specs.declared.frames.Query.{Query}
@@ -21,7 +21,7 @@ use Rattle.dg_interp.specs.declared.frames.Frame.{Frame}
 use Rattle.dg_interp.specs.declared.frames.Choice.{Choice}
 use Rattle.dg_interp.specs.declared.engine.Engine.{Engine}
 use Rattle.dg_interp.specs.Frames.{mark_steps, frame_steps, steps_behind, steps_at, AreChoices, IsFrame, AreFrames, StandOn, floor_of}
-use Rattle.dg_interp.specs.Engine.{IsReady, StandsAt, Adds, Then, Leads, Cuts, WentOn, MarkPassed, FrameLeft, AllDone}
+use Rattle.dg_interp.specs.Engine.{IsQuiet, IsReady, StandsAt, Adds, Then, Leads, Cuts, WentOn, MarkPassed, FrameLeft, AllDone}
 use Rattle.dg_interp.proofs.Links.{same_take, behind_same, behind_frame, behind_end, frames_take, choices_same, choices_cut, stand_cut, stand_floor, floor_within}
 
 -- ## From world to world

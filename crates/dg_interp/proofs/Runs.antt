@@ -14,7 +14,7 @@ use Rattle.dg_meaning.specs.Moves.{path_of, goals_at}
 use Rattle.dg_meaning.specs.Render.{Met, nothing_met, met_from, met_behind, written, render, render_from}
 use Rattle.dg_meaning.specs.Transcript.{Run, ending_of, text_of}
 use Rattle.dg_meaning.specs.OneRun.{Begins}
-use Rattle.dg_meaning.specs.Keeps.{IsQuiet, Stands, Finished}
+use Rattle.dg_meaning.specs.Keeps.{Stands, Finished}
 use Rattle.dg_meaning.specs.Built.{IsBuiltForm, IsBuiltGoal}
 use Rattle.dg_meaning.proofs.Silently.{prints_append}
 use Rattle.dg_meaning.proofs.Keeps.{has_happened, limited}
@@ -24,7 +24,7 @@ use Rattle.dg_interp.specs.declared.engine.Engine.{Engine}
 use Rattle.dg_base.specs.Written.{SinkView, Wrote, BrokeOff}
 use Rattle.dg_interp.specs.Spacer.{StandsFor, Added, growth}
 use Rattle.dg_interp.specs.Frames.{steps_behind, mark_steps}
-use Rattle.dg_interp.specs.Engine.{StandsAt, TakesAt, Adds, Then, Taken, WentOn, AtGoal, AllDone, WentBack, NoneLeft}
+use Rattle.dg_interp.specs.Engine.{IsQuiet, StandsAt, TakesAt, Adds, Then, Taken, WentOn, AtGoal, AllDone, WentBack, NoneLeft}
 use Rattle.dg_interp.specs.Running.{HasText, Reaches, GoesOn, HasEnded, IsBroken, GoalDone}
 use Rattle.dg_base.proofs.WrittenLemmas.{wrote_on, broke_first, broke_later}
 use Rattle.dg_interp.proofs.Places.{adds_on, adds_silently}

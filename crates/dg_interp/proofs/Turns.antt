@@ -13,7 +13,7 @@ use Rattle.dg_meaning.specs.Moves.{path_of, rule_branches, rule_steps, choice_ce
 use Rattle.dg_meaning.specs.Search.{begun}
 use Rattle.dg_meaning.specs.Transcript.{Run}
 use Rattle.dg_meaning.specs.Context.{Way, Live, pushed}
-use Rattle.dg_meaning.specs.Keeps.{IsQuiet, Stands}
+use Rattle.dg_meaning.specs.Keeps.{Stands}
 use Rattle.dg_meaning.specs.Built.{IsBuiltGoal, IsBuiltRule}
 use Rattle.dg_interp.specs.declared.frames.Query.{Query}
 use Rattle.dg_interp.specs.declared.frames.Mark.TheVariants.{AnswerOf}
@@ -22,7 +22,7 @@ use Rattle.dg_interp.specs.declared.frames.Left.{Left}
 use Rattle.dg_interp.specs.declared.frames.Choice.{Choice}
 use Rattle.dg_interp.specs.declared.engine.Engine.{Engine}
 use Rattle.dg_interp.specs.Frames.{frame_steps, steps_behind, steps_at, AreChoices, StandOn}
-use Rattle.dg_interp.specs.Engine.{IsSound, IsReady, StandsAt, BeginsAt, BeganWith, Then, Taken, WentBack, kept_if}
+use Rattle.dg_interp.specs.Engine.{IsQuiet, IsSound, IsReady, StandsAt, BeginsAt, BeganWith, Then, Taken, WentBack, kept_if}
 use Rattle.dg_interp.proofs.Links.{stand_raise}
 
 -- ## Lists

@@ -10,7 +10,7 @@ use Rattle.dg_meaning.specs.Path.{Step, Do, Registers, Rules, Result, Failing, E
 use Rattle.dg_meaning.specs.Moves.{path_of, enter, choice_cells, rule_steps, rule_branches}
 use Rattle.dg_meaning.specs.Transcript.{Run, run, start_world}
 use Rattle.dg_meaning.specs.Context.{Way, Live, pushed}
-use Rattle.dg_meaning.specs.Keeps.{IsQuiet, Stands, Failed, Finished, Began}
+use Rattle.dg_meaning.specs.Keeps.{Stands, Failed, Finished, Began}
 use Rattle.dg_meaning.specs.Built.{IsBuilt, IsBuiltGoal}
 use Rattle.dg_interp.specs.declared.frames.Query.{Query}
 use Rattle.dg_interp.specs.declared.frames.Mark.TheVariants.{Nothing}
@@ -35,6 +35,10 @@ pub record IsReady (e : Engine) : Type 0 where
   pub built : All IsBuiltGoal e.here.goals.now
 
 -- ## What it stands for
+
+-- No gathering is open.
+abbrev pub IsQuiet : World → Type 0
+IsQuiet w = w.gathered ≡ []
 
 -- The run comes from where the engine is.
 pub record StandsAt (g : Game) (e : Engine) (w : World) (run : Run) : Type 0 where
@@ -93,6 +97,7 @@ abbrev pub older_than : ℕ → List Choice → List Choice
 older_than t [] = []
 older_than t (o ∷ os) = if nat_lt o.tag t then o ∷ os else older_than t os
 
+-- A cut to a tag was made.
 abbrev pub Cuts : ℕ → List Choice → List Choice → Type 0
 Cuts t old new = reverse new ≡ older_than t (reverse old)
 
@@ -124,6 +129,7 @@ pub record AllDone (old new : Engine) : Type 0 where
   pub left : new.left ≡ old.left
   pub ends : Ends (λ g. StandsAt g old) old.left (End Done-Ending)
 
+-- A goal is at hand, or all steps are done.
 abbrev pub Settles : Bool → Engine → Engine → Type 0
 Settles true old new = AtGoal old new
 Settles false old new = AllDone old new

@@ -23,6 +23,7 @@ mark_steps (AnswerOf query) tag rest = Answers query.pred ∷ first_alone query.
 abbrev pub frame_steps : List Goal → ℕ → Mark → List Step → List Step
 frame_steps goals tag mark rest = goals_at tag goals ++ mark_steps mark tag rest
 
+-- The steps of a frame that was found, where these stand behind each link.
 abbrev pub found_steps : Option Frame → (ℕ → List Step) → List Step
 found_steps None deeper = []
 found_steps (Some f) deeper = frame_steps f.goals.now f.tag f.mark (deeper f.behind)
@@ -42,6 +43,7 @@ steps_at fs f = frame_steps f.goals.now f.tag f.mark (steps_behind fs f.behind)
 
 -- ## Choices
 
+-- The kind of a choice with these branches left.
 abbrev pub kind_of : Left → Kind
 kind_of left = Rules left.query.pred
 
@@ -71,6 +73,7 @@ pub record IsFrame (k : ℕ) (f : Frame) : Type 0 where
   pub built : All IsBuiltGoal f.goals.now
   pub older : f.behind ≤ k
 
+-- Each frame has built goals and an older one behind it.
 abbrev pub AreFrames : List Frame → Type 0
 AreFrames fs = (k : ℕ) (f : Frame) → slice_get fs k ≡ Some f → IsFrame k f
 

@@ -9,6 +9,7 @@ use Rattle.dg_meaning.specs.World.{Game}
 use Rattle.dg_meaning.specs.Shows.{Shows, ShowsNoMemory, ShowsInputFault, MayWrite}
 use Rattle.dg_base.specs.Written.{SinkView, Wrote, BrokeOff}
 
+-- The program with the dice words.
 abbrev pub game : CoreProgram → List ℕ → Game
 game program dice = record { program = program; dice = dice }
 

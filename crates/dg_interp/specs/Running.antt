@@ -7,12 +7,11 @@ use Rattle.dg_meaning.specs.World.{Game, World, Event, Print, prints}
 use Rattle.dg_meaning.specs.Render.{render}
 use Rattle.dg_meaning.specs.Transcript.{Run, text_of}
 use Rattle.dg_meaning.specs.OneRun.{Begins}
-use Rattle.dg_meaning.specs.Keeps.{IsQuiet}
 use Rattle.dg_interp.specs.declared.spacer.Spacer.{Spacer}
 use Rattle.dg_interp.specs.declared.engine.Engine.{Engine}
 use Rattle.dg_base.specs.Written.{SinkView, Wrote, BrokeOff}
 use Rattle.dg_interp.specs.Spacer.{StandsFor}
-use Rattle.dg_interp.specs.Engine.{IsReady, StandsAt}
+use Rattle.dg_interp.specs.Engine.{IsQuiet, IsReady, StandsAt}
 
 -- Since the start the sink took the text of these things, and the spacer stands for them.
 pub record HasText (s : Spacer) (start now : SinkView) (es : List Print) : Type 0 where
@@ -56,6 +55,7 @@ pub record GoalDone (old new : Engine) (s s' : Spacer) (before now : SinkView) :
   pub left : old.left ≡ suc new.left
   pub reaches : Reaches old s before (GoesOn new s' now)
 
+-- A goal was done, and the run goes on or has ended so.
 abbrev pub Does : Option Ending → Engine → Engine → Spacer → Spacer → SinkView → SinkView → Type 0
 Does None old new s s' before now = GoalDone old new s s' before now
 Does (Some ending) old new s s' before now = Reaches old s before (HasEnded ending new.left s' now)

@@ -1,16 +1,16 @@
 -- Failing and stopping in a context.
-use Rattle.std.proofs.Common.{◌≡◌, ℕ, zero, suc, ◌<◌, ◌≤◌, inl, inr, List, [], ◌∷◌, Option, Some, None, refl, sym, ap, ◌∙◌, subst, arith, length, drop}
-use Rattle.std.specs.Prelude.{min, eqb, nat_lt}
+use Rattle.std.proofs.Common.{◌≡◌, ℕ, zero, suc, ◌<◌, ◌≤◌, inl, inr, List, [], ◌∷◌, Option, Some, None, refl, sym, ap, ◌∙◌, subst, arith, length, drop, ◌++◌, ◌⊎◌}
+use Rattle.std.specs.Prelude.{min, eqb, nat_lt, if◌then◌else◌}
 use Rattle.std.proofs.lemmas.Bool.{cond_both, cond-true, cond-false, lt-ltb, le-ltb, cases_lt, cases_eq, eq-eqb, ne_eqb}
 use Rattle.std.proofs.lemmas.List.{append-nil}
-use Rattle.dg_meaning.specs.World.{World, Event, Gathering, gathered_without}
+use Rattle.dg_base.specs.declared.program.Term.{Term}
+use Rattle.dg_meaning.specs.World.{World, Event, Gathering, gathered_with, gathered_without}
 use Rattle.dg_meaning.specs.Path.{Result, Failing, CutFail, StopTo, End, Answer, Branch, Kind, Plain, Rules, Shield, Gathers}
 use Rattle.dg_meaning.specs.Moves.{exhausted}
 use Rattle.dg_meaning.specs.Search.{Search, answer, later, retried, leave, after_branch, begin, branches_cut, choose}
 use Rattle.dg_meaning.specs.Transcript.{run_of}
-use Rattle.dg_meaning.specs.Context.{Around, InBranch, InCut, unwind, gathers, tags_of, Opens, Live, cut_to, live, Holds, Older, Sound, Shielded, pushed, Way, ways, way_to, Silently}
-use Rattle.dg_meaning.specs.Keeps.{IsQuiet, resumed_at}
-use Rattle.dg_meaning.proofs.Silently.{silently_here, silently_on, exhausted_silently, quiet_later}
+use Rattle.dg_meaning.specs.Context.{Around, InBranch, InCut, unwind, gathers, tags_of, Opens, Live, cut_to, live, Holds, Older, TakesOut, Sound, Shielded, pushed, Way, ways, way_to, Silently}
+use Rattle.dg_meaning.proofs.Silently.{silently_here, silently_on, exhausted_silently}
 
 -- ## Cuts of choices
 
@@ -68,13 +68,23 @@ min_holds t u ctx h k =
 
 -- ## Leaving a first branch
 
-without_head : (t : ℕ) (gs : List Gathering) (ts : List ℕ) → tags_of gs ≡ t ∷ ts → (gathered_without t gs ≡ drop 1 gs) × (tags_of (gathered_without t gs) ≡ ts)
+pub without_head : (t : ℕ) (gs : List Gathering) (ts : List ℕ) → tags_of gs ≡ t ∷ ts → (gathered_without t gs ≡ drop 1 gs) × (tags_of (gathered_without t gs) ≡ ts)
 without_head t [] ts e = absurd (cc)
 without_head t (g ∷ gs) ts e =
     let head : g.tag ≡ t = cc in
     let tail : tags_of gs ≡ ts = cc in
     let is = cond-true (eqb g.tag t) gs (g ∷ gathered_without t gs) (eq-eqb g.tag t head) in
     (is, ap tags_of is ∙ tail)
+
+-- a term more in a gathering opens and closes none
+pub tags_kept : (t : ℕ) (x : Term) (gs : List Gathering) → tags_of (gathered_with t x gs) ≡ tags_of gs
+tags_kept t x [] = refl
+tags_kept t x (g ∷ gs) =
+    cond_both (eqb g.tag t) (record g { terms = g.terms ++ x ∷ [] } ∷ gs) (g ∷ gathered_with t x gs) (λ l. tags_of l ≡ g.tag ∷ tags_of gs) (λ e. refl) (λ e. ap (λ l. g.tag ∷ l) (tags_kept t x gs))
+
+pub length_tags : (gs : List Gathering) → length (tags_of gs) ≡ length gs
+length_tags [] = refl
+length_tags (g ∷ gs) = ap suc (length_tags gs)
 
 pub record Left (k : Kind) (t : ℕ) (w : World) (ctx : List Around) : Type 0 where
   pub silently : Silently w (leave k t w)
@@ -181,14 +191,12 @@ fails_in : (s : Search) (ctx at : List Around) (n : ℕ) (w v : World) → Silen
 fails_in s ctx at n w v e same cs (run_fails u f g) = run_fails u (silently_on w v u e f) (same ∙ g)
 fails_in s ctx at n w v e same cs (resumes k t b bs a u f g sound o) = resumes k t b bs a u (silently_on w v u e f) (same ∙ g) sound o
 
-none_gathers : (t : ℕ) (ctx : List Around) (w : World) → IsQuiet w → Opens w (InBranch Gathers t [] ∷ ctx) → ⊥
-none_gathers t ctx w e o = let h : [] ≡ t ∷ gathers ctx = sym (ap tags_of e) ∙ o in cc
-
-pub opens_outside : (k : Kind) (t : ℕ) (bs : List Branch) (ctx : List Around) (w : World) → IsQuiet w → Opens w (InBranch k t bs ∷ ctx) → Opens w ctx
-opens_outside Plain t bs ctx w e o = o
-opens_outside (Rules q) t bs ctx w e o = o
-opens_outside Shield t bs ctx w e o = o
-opens_outside Gathers t bs ctx w e o = absurd (none_gathers t ctx w e o)
+-- no first branch that gathers is without a branch behind it
+opens_outside : (k : Kind) (t : ℕ) (ctx : List Around) (w : World) → TakesOut k t [] → Opens w (InBranch k t [] ∷ ctx) → Opens w ctx
+opens_outside Plain t ctx w h o = o
+opens_outside (Rules q) t ctx w h o = o
+opens_outside Shield t ctx w h o = o
+opens_outside Gathers t ctx w h o = absurd h
 
 pub opens_exhausted : (k : Kind) (ctx : List Around) (w : World) → Opens w ctx → Opens (exhausted k w) ctx
 opens_exhausted Plain ctx w o = o
@@ -196,23 +204,23 @@ opens_exhausted (Rules q) ctx w o = o
 opens_exhausted Shield ctx w o = o
 opens_exhausted Gathers ctx w o = o
 
-fails_within : (s : Search) (m : ℕ) (ctx : List Around) (n : ℕ) (w : World) → length ctx ≤ m → IsQuiet w → Sound ctx → Opens w ctx → Fails s ctx n w (live ctx)
-fails_within s m [] n w le quiet sound o = run_fails w (silently_here w) refl
-fails_within s m (InBranch k t (b ∷ bs) ∷ ctx) n w le quiet sound o = resumes k t b bs ctx w (silently_here w) refl sound o
-fails_within s zero (InBranch k t [] ∷ ctx) n w le quiet sound o = absurd (omega arith)
-fails_within s zero (InCut t ∷ ctx) n w le quiet sound o = absurd (omega arith)
-fails_within s (suc m) (InBranch k t [] ∷ ctx) n w le quiet sound o =
+fails_within : (s : Search) (m : ℕ) (ctx : List Around) (n : ℕ) (w : World) → length ctx ≤ m → Sound ctx → Opens w ctx → Fails s ctx n w (live ctx)
+fails_within s m [] n w le sound o = run_fails w (silently_here w) refl
+fails_within s m (InBranch k t (b ∷ bs) ∷ ctx) n w le sound o = resumes k t b bs ctx w (silently_here w) refl sound o
+fails_within s zero (InBranch k t [] ∷ ctx) n w le sound o = absurd (omega arith)
+fails_within s zero (InCut t ∷ ctx) n w le sound o = absurd (omega arith)
+fails_within s (suc m) (InBranch k t [] ∷ ctx) n w le sound o =
     let v = exhausted (later k) w in
     let silently = exhausted_silently (later k) w in
     fails_in s (InBranch k t [] ∷ ctx) ctx n w v silently refl (live ctx)
-    (fails_within s m ctx n v (omega arith) (quiet_later w v quiet silently) sound.1 (opens_exhausted (later k) ctx w (opens_outside k t [] ctx w quiet o)))
-fails_within s (suc m) (InCut t ∷ ctx) n w le quiet sound o =
+    (fails_within s m ctx n v (omega arith) sound.1 (opens_exhausted (later k) ctx w (opens_outside k t ctx w sound.3 o)))
+fails_within s (suc m) (InCut t ∷ ctx) n w le sound o =
     let f = cut_fails s ctx n w t sound.1 o sound.0 in
     fails_in s (InCut t ∷ ctx) f.at n w f.world f.silently f.same (cut_to t (live ctx))
-    (subst (Fails s f.at n f.world) f.choices_are (fails_within s m f.at n f.world (omega (arith, f.shorter)) (quiet_later w f.world quiet f.silently) f.sound f.opens))
+    (subst (Fails s f.at n f.world) f.choices_are (fails_within s m f.at n f.world (omega (arith, f.shorter)) f.sound f.opens))
 
-pub fails : (s : Search) (ctx : List Around) (n : ℕ) (w : World) → IsQuiet w → Sound ctx → Opens w ctx → Fails s ctx n w (live ctx)
-fails s ctx n w quiet sound o = fails_within s (length ctx) ctx n w (omega arith) quiet sound o
+pub fails : (s : Search) (ctx : List Around) (n : ℕ) (w : World) → Sound ctx → Opens w ctx → Fails s ctx n w (live ctx)
+fails s ctx n w sound o = fails_within s (length ctx) ctx n w (omega arith) sound o
 
 -- ## Stopping
 
@@ -230,6 +238,33 @@ abbrev pub cut_opt : Option ℕ → List Live → List Live
 cut_opt None cs = cs
 cut_opt (Some c) cs = cut_to c cs
 
+-- the choices that are left behind a cut before the way on of t
+abbrev pub resumed_at : ℕ → Option ℕ → List Live → List Live
+resumed_at t None cs = cs
+resumed_at t (Some c) cs = if nat_lt c t then cut_to c cs else cs
+
+-- what was cut before a stop to t is newer than it, or around
+abbrev pub Held : List Around → ℕ → Option ℕ → Type 0
+Held ctx t None = Unit {0}
+Held ctx t (Some c) = (t < c) ⊎ Holds ctx c
+
+held_min : (ctx : List Around) (t c u : ℕ) → Holds ctx u → (t < c) ⊎ Holds ctx c → (t < min c u) ⊎ Holds ctx (min c u)
+held_min ctx t c u h held =
+    elim (cases_lt c u) [
+      | inl lt ↦ let m : c ≡ min c u = omega arith in subst (λ x. (t < x) ⊎ Holds ctx x) m held
+      | inr ge ↦ let m : u ≡ min c u = omega arith in inr (subst (Holds ctx) m h)
+    ]
+
+held_outside : (k : Kind) (u : ℕ) (others : List Branch) (ctx : List Around) (t : ℕ) (c : Option ℕ) → t < u → Held (InBranch k u others ∷ ctx) t c → Held ctx t c
+held_outside k u others ctx t None lt h = tt
+held_outside k u others ctx t (Some c) lt (inl h) = inl h
+held_outside k u others ctx t (Some c) lt (inr (inl e)) = inl (omega arith)
+held_outside k u others ctx t (Some c) lt (inr (inr h)) = inr h
+
+held_plain : (u : ℕ) (others : List Branch) (ctx : List Around) (t : ℕ) (c : Option ℕ) → Held (InBranch Shield u others ∷ ctx) t c → Held (InBranch Plain u [] ∷ ctx) t c
+held_plain u others ctx t None h = tt
+held_plain u others ctx t (Some c) h = h
+
 -- a stop goes to the stoppable part t, whose way on begins behind a cut
 pub record Stops (s : Search) (ctx : List Around) (n : ℕ) (w : World) (t : ℕ) (c : Option ℕ) : Type 0 where
   pub others : List Branch
@@ -237,22 +272,25 @@ pub record Stops (s : Search) (ctx : List Around) (n : ℕ) (w : World) (t : ℕ
   pub world : World
   pub cut : Option ℕ
   pub same : unwind s ctx n w (StopTo t c) ≡ (let a = choose s Plain t (branches_cut t cut others) n world in unwind s at a.left a.world a.result)
+  pub sound : Sound (InBranch Shield t others ∷ at)
+  pub opens : Opens world at
+  pub held : Held (InBranch Plain t [] ∷ at) t cut
   pub silently : Silently w world
   pub way : way_to t (ways ctx) ≡ Some (record { tag = t; others = others; height = length (gathers at) }, ways at)
-  pub choices : cut_to t (cut_opt c (live ctx)) ≡ resumed_at t cut at
+  pub choices : cut_to t (cut_opt c (live ctx)) ≡ resumed_at t cut (live at)
 
 -- a choice that isn't older is cut by a stop
 passes : (t : ℕ) (c : Option ℕ) (o : List Branch) (x : Live) (cs : List Live) → t ≤ x.tag → cut_to t (cut_opt c (pushed o x cs)) ≡ cut_to t (cut_opt c cs)
 passes t None o x cs le = cut_pushed t o x cs le
 passes t (Some c) o x cs le = cut_min t c (pushed o x cs) ∙ cut_pushed (min t c) o x cs (omega arith) ∙ sym (cut_min t c cs)
 
-itself : (t : ℕ) (c : Option ℕ) (at : List Around) → Older t at → cut_to t (cut_opt c (live at)) ≡ resumed_at t c at
+itself : (t : ℕ) (c : Option ℕ) (at : List Around) → Older t at → cut_to t (cut_opt c (live at)) ≡ resumed_at t c (live at)
 itself t None at older = cut_none t (live at) (live_below t at older)
 itself t (Some c) at older =
     cut_min t c (live at) ∙
-    elim (cases_lt t c) [
-      | inl h ↦ let m : min t c ≡ t = omega arith in ap (λ x. cut_to x (live at)) m ∙ cut_none t (live at) (live_below t at older) ∙ sym (cond-true (nat_lt t c) (live at) (cut_to c (live at)) (lt-ltb t c h))
-      | inr h ↦ let m : min t c ≡ c = omega arith in ap (λ x. cut_to x (live at)) m ∙ sym (cond-false (nat_lt t c) (live at) (cut_to c (live at)) (le-ltb t c h))
+    elim (cases_lt c t) [
+      | inl h ↦ let m : min t c ≡ c = omega arith in ap (λ x. cut_to x (live at)) m ∙ sym (cond-true (nat_lt c t) (cut_to c (live at)) (live at) (lt-ltb c t h))
+      | inr h ↦ let m : min t c ≡ t = omega arith in ap (λ x. cut_to x (live at)) m ∙ cut_none t (live at) (live_below t at older) ∙ sym (cond-false (nat_lt c t) (cut_to c (live at)) (live at) (le-ltb c t h))
     ]
 
 caught : (s : Search) (u : ℕ) (others : List Branch) (ctx : List Around) (n : ℕ) (w : World) (t : ℕ) (c : Option ℕ) → t ≡ u → unwind s (InBranch Shield u others ∷ ctx) n w (StopTo t c) ≡ (let a = choose s Plain t (branches_cut t c others) n w in unwind s ctx a.left a.world a.result)
@@ -269,36 +307,67 @@ way_passes t u others ctx lt =
     let x : Way = record { tag = u; others = others; height = length (gathers ctx) } in
     cond-false (eqb u t) (Some (x, ways ctx)) (way_to t (ways ctx)) (ne_eqb u t (λ e. omega arith))
 
--- the stop passes a branch that isn't stoppable
+-- the stop passes a branch that isn't the part's
 stops_past : (s : Search) (k : Kind) (u : ℕ) (others : List Branch) (ctx : List Around) (n : ℕ) (w v : World) (t : ℕ) (c : Option ℕ) → Older u ctx → Shielded ctx t → Silently w v → unwind s (InBranch k u others ∷ ctx) n w (StopTo t c) ≡ unwind s ctx n v (StopTo t c) → way_to t (ways (InBranch k u others ∷ ctx)) ≡ way_to t (ways ctx) → Stops s ctx n v t c → Stops s (InBranch k u others ∷ ctx) n w t c
 stops_past s k u others ctx n w v t c older h silently same way i =
     let lt = shield_older t u ctx older h in
-    record { others = i.others; at = i.at; world = i.world; cut = i.cut; same = same ∙ i.same; silently = silently_on w v i.world silently i.silently; way = way ∙ i.way; choices = passes t c others (live_of k u others ctx) (live ctx) (omega arith) ∙ i.choices }
+    record {
+      others = i.others;
+      at = i.at;
+      world = i.world;
+      cut = i.cut;
+      same = same ∙ i.same;
+      sound = i.sound;
+      opens = i.opens;
+      held = i.held;
+      silently = silently_on w v i.world silently i.silently;
+      way = way ∙ i.way;
+      choices = passes t c others (live_of k u others ctx) (live ctx) (omega arith) ∙ i.choices;
+    }
 
-pub stops : (s : Search) (ctx : List Around) (n : ℕ) (w : World) (t : ℕ) (c : Option ℕ) → Sound ctx → Opens w ctx → Shielded ctx t → Stops s ctx n w t c
-stops s [] n w t c sound o h = absurd h
-stops s (InCut u ∷ ctx) n w t None sound o h =
-    let i = stops s ctx n w t (Some u) sound.1 o h in
-    record { others = i.others; at = i.at; world = i.world; cut = i.cut; same = i.same; silently = i.silently; way = i.way; choices = i.choices }
-stops s (InCut u ∷ ctx) n w t (Some c) sound o h =
-    let i = stops s ctx n w t (Some (min c u)) sound.1 o h in
-    record { others = i.others; at = i.at; world = i.world; cut = i.cut; same = i.same; silently = i.silently; way = i.way; choices = ap (cut_to t) (cut_min c u (live ctx)) ∙ i.choices }
-stops s (InBranch Plain u others ∷ ctx) n w t c sound o h = stops_past s Plain u others ctx n w w t c sound.0 h (silently_here w) refl refl (stops s ctx n w t c sound.1 o h)
-stops s (InBranch (Rules q) u others ∷ ctx) n w t c sound o h = stops_past s (Rules q) u others ctx n w w t c sound.0 h (silently_here w) refl refl (stops s ctx n w t c sound.1 o h)
-stops s (InBranch Gathers u others ∷ ctx) n w t c sound o h =
+-- and a mark
+stops_marked : (s : Search) (u : ℕ) (ctx : List Around) (n : ℕ) (w : World) (t : ℕ) (c d : Option ℕ) → unwind s (InCut u ∷ ctx) n w (StopTo t c) ≡ unwind s ctx n w (StopTo t d) → cut_opt c (cut_to u (live ctx)) ≡ cut_opt d (live ctx) → Stops s ctx n w t d → Stops s (InCut u ∷ ctx) n w t c
+stops_marked s u ctx n w t c d same cuts i = record {
+  others = i.others;
+  at = i.at;
+  world = i.world;
+  cut = i.cut;
+  same = same ∙ i.same;
+  sound = i.sound;
+  opens = i.opens;
+  held = i.held;
+  silently = i.silently;
+  way = i.way;
+  choices = ap (cut_to t) cuts ∙ i.choices;
+}
+
+pub stops : (s : Search) (ctx : List Around) (n : ℕ) (w : World) (t : ℕ) (c : Option ℕ) → Sound ctx → Opens w ctx → Shielded ctx t → Held ctx t c → Stops s ctx n w t c
+stops s [] n w t c sound o h held = absurd h
+stops s (InCut u ∷ ctx) n w t None sound o h held = stops_marked s u ctx n w t None (Some u) refl refl (stops s ctx n w t (Some u) sound.1 o h (inr sound.0))
+stops s (InCut u ∷ ctx) n w t (Some c) sound o h held = stops_marked s u ctx n w t (Some c) (Some (min c u)) refl (cut_min c u (live ctx)) (stops s ctx n w t (Some (min c u)) sound.1 o h (held_min ctx t c u sound.0 held))
+stops s (InBranch Plain u others ∷ ctx) n w t c sound o h held =
+    stops_past s Plain u others ctx n w w t c sound.0 h (silently_here w) refl refl (stops s ctx n w t c sound.1 o h (held_outside Plain u others ctx t c (shield_older t u ctx sound.0 h) held))
+stops s (InBranch (Rules q) u others ∷ ctx) n w t c sound o h held =
+    stops_past s (Rules q) u others ctx n w w t c sound.0 h (silently_here w) refl refl (stops s ctx n w t c sound.1 o h (held_outside (Rules q) u others ctx t c (shield_older t u ctx sound.0 h) held))
+stops s (InBranch Gathers u others ∷ ctx) n w t c sound o h held =
     let left = leaving Gathers u others w ctx o in
-    stops_past s Gathers u others ctx n w (leave Gathers u w) t c sound.0 h left.silently refl refl (stops s ctx n (leave Gathers u w) t c sound.1 left.opens h)
-stops s (InBranch Shield u others ∷ ctx) n w t c sound o (inl e) =
+    stops_past s Gathers u others ctx n w (leave Gathers u w) t c sound.0 h left.silently refl refl (stops s ctx n (leave Gathers u w) t c sound.1 left.opens h (held_outside Gathers u others ctx t c (shield_older t u ctx sound.0 h) held))
+stops s (InBranch Shield u others ∷ ctx) n w t c sound o (inl e) held =
+    let back = sym e in
+    let older = subst (λ v. Older v ctx) back sound.0 in
     subst (λ v. Stops s (InBranch Shield v others ∷ ctx) n w t c) e (record {
       others = others;
       at = ctx;
       world = w;
       cut = c;
       same = caught s t others ctx n w t c refl;
+      sound = subst (λ v. Sound (InBranch Shield v others ∷ ctx)) back sound;
+      opens = o;
+      held = subst (λ v. Held (InBranch Plain v [] ∷ ctx) t c) back (held_plain u others ctx t c held);
       silently = silently_here w;
       way = let x : Way = record { tag = t; others = others; height = length (gathers ctx) } in cond-true (eqb t t) (Some (x, ways ctx)) (way_to t (ways ctx)) (eq-eqb t t refl);
-      choices = passes t c others (live_of Shield t others ctx) (live ctx) (omega arith) ∙ itself t c ctx (subst (λ v. Older v ctx) (sym e) sound.0);
+      choices = passes t c others (live_of Shield t others ctx) (live ctx) (omega arith) ∙ itself t c ctx older;
     })
-stops s (InBranch Shield u others ∷ ctx) n w t c sound o (inr h) =
+stops s (InBranch Shield u others ∷ ctx) n w t c sound o (inr h) held =
     let lt = shield_older t u ctx sound.0 h in
-    stops_past s Shield u others ctx n w w t c sound.0 h (silently_here w) (not_caught s u others ctx n w t c (λ e. omega arith)) (way_passes t u others ctx lt) (stops s ctx n w t c sound.1 o h)
+    stops_past s Shield u others ctx n w w t c sound.0 h (silently_here w) (not_caught s u others ctx n w t c (λ e. omega arith)) (way_passes t u others ctx lt) (stops s ctx n w t c sound.1 o h (held_outside Shield u others ctx t c lt held))

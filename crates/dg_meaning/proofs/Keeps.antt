@@ -1,21 +1,23 @@
 -- The rules by which an engine may go on.
-use Rattle.std.proofs.Common.{◌≡◌, ℕ, suc, inl, List, [], ◌∷◌, Option, None, refl, sym, ap, ◌∙◌, subst, arith, length}
-use Rattle.std.specs.Prelude.{eqb}
-use Rattle.std.proofs.lemmas.Bool.{cond_both}
-use Rattle.dg_base.specs.declared.program.Goal.{Goal, out-Goal}
+use Rattle.std.proofs.Common.{◌≡◌, ℕ, suc, inl, inr, List, [], ◌∷◌, Option, None, refl, sym, ap, ◌∙◌, subst, arith, length, Some}
+use Rattle.std.specs.Prelude.{eqb, nat_lt, if◌then◌else◌}
+use Rattle.std.proofs.lemmas.Bool.{cond_both, cond-true, cond-false, ltb-true}
+use Rattle.dg_base.specs.declared.program.Goal.{Goal, Goal-F, out-Goal}
+use Rattle.dg_base.specs.declared.program.Goal.TheOpen.{Ask, Either, Stop, Collect}
 use Rattle.dg_base.specs.declared.run.Ending.TheVariants.{Done as Done-Ending, StepLimit}
-use Rattle.dg_meaning.specs.World.{Game, World, Answered, noted, worked}
-use Rattle.dg_meaning.specs.Path.{Step, Do, Answers, Cut, Refuse, Back, Leave, Registers, Path, Result, Failing, CutFail, StopTo, End, Branch, Enter, Clash, TakeOut, Kind, Plain, Rules, Shield, Gathers, Move, GoesOn, FailsAt, EndsAt, StopsAt, Chooses}
-use Rattle.dg_meaning.specs.Moves.{path_of, move}
-use Rattle.dg_meaning.specs.Search.{Search, search, answer, later, retried, leave, begin, cut, cut_result, after_branch, choose, branches_cut, after_move}
+use Rattle.dg_base.specs.declared.program.Term.{Term}
+use Rattle.dg_meaning.specs.World.{Game, World, Answered, Asked, noted, worked, kept}
+use Rattle.dg_meaning.specs.Path.{Step, Do, Answers, Cut, Refuse, Back, Keep, Leave, Registers, Path, Result, Failing, CutFail, StopTo, End, Branch, Enter, Clash, TakeOut, Kind, Plain, Rules, Shield, Gathers, Move, GoesOn, FailsAt, EndsAt, StopsAt, Chooses}
+use Rattle.dg_meaning.specs.Moves.{path_of, choice, stop, list_branches, move}
+use Rattle.dg_meaning.specs.Search.{Search, search, answer, later, retried, leave, begun, begin, cut, cut_first, cut_result, after_branch, choose, branches_cut, after_move}
 use Rattle.dg_meaning.specs.Transcript.{Run, run_of, run, start_world, start_path}
-use Rattle.dg_meaning.specs.Context.{Around, InBranch, InCut, unwind, gathers, tags_of, Opens, Way, ways, Live, cut_to, pushed, live, way_to, Sound, BranchIn, BranchesIn}
-use Rattle.dg_meaning.specs.Keeps.{IsQuiet, world_of, unwound, Stands, Failed, Stopping, Resumed, Finished, FailsTo, Began, new_choice, After, WentOn, Keeps}
+use Rattle.dg_meaning.specs.Context.{Around, InBranch, InCut, unwind, gathers, Opens, Way, ways, Live, cut_to, pushed, live, way_to, Older, StepsIn, PathIn, KeepsGathering, TakesOut, Sound, BranchIn, BranchesIn}
+use Rattle.dg_meaning.specs.Keeps.{world_of, unwound, Stands, Failed, Stopping, Resumed, Finished, open_at, FailsTo, Began, open_outside, new_ways, After, WentOn, Keeps}
 use Rattle.dg_meaning.proofs.Silently.{silently_here, silently_on}
 use Rattle.dg_meaning.specs.OneRun.{Grows}
 use Rattle.dg_meaning.proofs.OneRun.{grows_same, grows_on}
 use Rattle.dg_meaning.proofs.Search.{IsGood, after_branch_good, choose_good, search_good, search_steps}
-use Rattle.dg_meaning.proofs.Context.{live_of, later_twice, others_begin, Fails, run_fails, resumes, fails, leaving, opens_outside, stops}
+use Rattle.dg_meaning.proofs.Context.{without_head, tags_kept, length_tags, later_twice, others_begin, Fails, run_fails, resumes, fails, leaving, resumed_at, Held, Stops, stops}
 use Rattle.dg_meaning.proofs.Tags.{stop_mark, steps_mark, branch_others, MoveIn, move_in}
 
 -- ## What has happened
@@ -89,66 +91,107 @@ passes_back g cs ws steps r n w run st = record {
   choices = st.choices;
 }
 
+pub passes_keep : (g : Game) (cs : List Live) (ws : List Way) (t : ℕ) (x : Term) (steps : List Step) (r : Registers) (n : ℕ) (w : World) (run : Run) → Stands g cs ws (path_of (Keep t x ∷ steps) r) n w run → Failed g cs n (kept t x w) run
+passes_keep g cs ws t x steps r n w run st = record {
+  ctx = st.ctx;
+  is = st.is ∙ ap (unwound (search g) st.ctx) (search_steps g n (path_of (Keep t x ∷ steps) r) w);
+  sound = st.sound;
+  opens = tags_kept t x w.gathered ∙ st.opens;
+  choices = st.choices;
+}
+
 -- ## Failing
+
+-- how many gatherings are open
+open_count : (w : World) (ctx : List Around) → Opens w ctx → length w.gathered ≡ length (gathers ctx)
+open_count w ctx o = sym (length_tags w.gathered) ∙ ap length o
+
+open_is : (k : Kind) (t : ℕ) (b : Branch) (bs : List Branch) (ctx : List Around) (w : World) → Opens w (InBranch k t (b ∷ bs) ∷ ctx) → TakesOut k t (b ∷ bs) → length w.gathered ≡ open_at (b ∷ bs) (length (gathers ctx))
+open_is Gathers t (Enter path work) bs ctx w o h = absurd h
+open_is Gathers t (Clash r) bs ctx w o h = absurd h
+open_is Gathers t (TakeOut u path) [] ctx w o h = let n = sym (length_tags w.gathered) ∙ ap length o in omega (arith, n)
+open_is Gathers t (TakeOut u path) (b ∷ bs) ctx w o h = absurd h
+open_is Plain t (Enter path work) bs ctx w o h = open_count w ctx o
+open_is Plain t (Clash r) bs ctx w o h = open_count w ctx o
+open_is Plain t (TakeOut u path) bs ctx w o h = absurd h.0
+open_is (Rules q) t (Enter path work) bs ctx w o h = open_count w ctx o
+open_is (Rules q) t (Clash r) bs ctx w o h = open_count w ctx o
+open_is (Rules q) t (TakeOut u path) bs ctx w o h = absurd h.0
+open_is Shield t (Enter path work) bs ctx w o h = open_count w ctx o
+open_is Shield t (Clash r) bs ctx w o h = open_count w ctx o
+open_is Shield t (TakeOut u path) bs ctx w o h = absurd h.0
 
 fails_to : (g : Game) (ctx : List Around) (n : ℕ) (w : World) (run : Run) → run ≡ unwind (search g) ctx n w Failing → (l : List Live) → Fails (search g) ctx n w l → FailsTo g n w run l
 fails_to g ctx n w run is [] (run_fails v e same) = record { world = v; silently = e; is = is ∙ same }
-fails_to g ctx n w run is (c ∷ cs) (resumes k t b bs at v e same sound o) =
-    record { world = v; silently = e; resumed = record { kind = k; kind_is = refl; ctx = at; is = is ∙ same; sound = sound; opens = o; choices = refl; ways_are = refl } }
+fails_to g ctx n w run is (c ∷ cs) (resumes k t b bs at v e same sound o) = record {
+  world = v;
+  silently = e;
+  gatherings = open_is k t b bs at v o sound.3;
+  resumed = record { kind = k; kind_is = refl; ctx = at; is = is ∙ same; sound = sound; opens = o; height = refl; choices = refl; ways_are = refl };
+}
 
-pub failed : (g : Game) (cs : List Live) (n : ℕ) (w : World) (run : Run) → IsQuiet w → Failed g cs n w run → FailsTo g n w run cs
-failed g cs n w run quiet f = subst (FailsTo g n w run) f.choices (fails_to g f.ctx n w run f.is (live f.ctx) (fails (search g) f.ctx n w quiet f.sound f.opens))
+pub failed : (g : Game) (cs : List Live) (n : ℕ) (w : World) (run : Run) → Failed g cs n w run → FailsTo g n w run cs
+failed g cs n w run f = subst (FailsTo g n w run) f.choices (fails_to g f.ctx n w run f.is (live f.ctx) (fails (search g) f.ctx n w f.sound f.opens))
 
-began : (g : Game) (cs : List Live) (ws : List Way) (ctx : List Around) (b : Branch) (n : ℕ) (w : World) (run : Run) → run ≡ unwound (search g) ctx (begin (search g) b n w) → Sound ctx → Opens w ctx → BranchIn ctx b → live ctx ≡ cs → ways ctx ≡ ws → Began g cs ws b n w run
-began g cs ws ctx (Enter path work) n w run is sound o h l e = record { ctx = ctx; is = is; sound = sound; opens = o; inner = h; choices = l; ways_are = e }
-began g cs ws ctx (Clash r) n w run is sound o h l e = record { ctx = ctx; is = is; sound = sound; opens = o; choices = l }
-began g cs ws ctx (TakeOut t path) n w run is sound o h l e = tt
+-- ## A branch begins
 
--- where no gathering is open, a later branch opens none
-opens_later : (k : Kind) (t : ℕ) (bs cs : List Branch) (ctx : List Around) (w : World) → IsQuiet w → Opens w (InBranch k t bs ∷ ctx) → Opens (retried (later k) w) (InBranch (later k) t cs ∷ ctx)
-opens_later Plain t bs cs ctx w e o = o
-opens_later (Rules q) t bs cs ctx w e o = o
-opens_later Shield t bs cs ctx w e o = o
-opens_later Gathers t bs cs ctx w e o = opens_outside Gathers t bs ctx w e o
+began : (g : Game) (cs : List Live) (ws : List Way) (ctx : List Around) (b : Branch) (n : ℕ) (w : World) (run : Run) → KeepsGathering b → run ≡ unwound (search g) ctx (begin (search g) b n w) → Sound ctx → Opens w ctx → BranchIn ctx b → live ctx ≡ cs → ways ctx ≡ ws → Began g cs ws b n w run
+began g cs ws ctx (Enter path work) n w run k is sound o h l e = record { ctx = ctx; is = is; sound = sound; opens = o; inner = h; choices = l; ways_are = e }
+began g cs ws ctx (Clash r) n w run k is sound o h l e = record { ctx = ctx; is = is; sound = sound; opens = o; choices = l }
+began g cs ws ctx (TakeOut t path) n w run k is sound o h l e = absurd k
 
-ways_later : (k : Kind) (t : ℕ) (bs : List Branch) (ctx : List Around) → ways (InBranch (later k) t bs ∷ ctx) ≡ ways ctx
-ways_later Plain t bs ctx = refl
-ways_later (Rules q) t bs ctx = refl
-ways_later Shield t bs ctx = refl
-ways_later Gathers t bs ctx = refl
+-- what is kept of a choice around
+kept_as : (ctx : List Around) (t height : ℕ) (ways_on : List Way) (cs : List Live) (k : Kind) (bs : List Branch) → length (gathers ctx) ≡ height → ways ctx ≡ ways_on → live ctx ≡ cs →
+    pushed bs (record { kind = k; tag = t; others = bs; height = length (gathers ctx); ways_on = ways ctx }) (live ctx) ≡ pushed bs (record { kind = k; tag = t; others = bs; height = height; ways_on = ways_on }) cs
+kept_as ctx t height ways_on cs k bs e f h =
+    ap (λ i. pushed bs (record { kind = k; tag = t; others = bs; height = i; ways_on = ways ctx }) (live ctx)) e
+    ∙ ap (λ x. pushed bs (record { kind = k; tag = t; others = bs; height = height; ways_on = x }) (live ctx)) f
+    ∙ ap (pushed bs (record { kind = k; tag = t; others = bs; height = height; ways_on = ways_on })) h
 
-none_open : (ctx : List Around) (w : World) → IsQuiet w → Opens w ctx → gathers ctx ≡ []
-none_open ctx w quiet o = sym o ∙ ap tags_of quiet
-
-module _ (g : Game) (cs : List Live) (ways_on : List Way) (ctx : List Around) (t : ℕ) (none : gathers ctx ≡ []) (choices : live ctx ≡ cs) (ways_are : ways ctx ≡ ways_on) where
-  -- what is kept of a choice around
-  kept_as : (kind k : Kind) (bs : List Branch) → later kind ≡ k → pushed bs (live_of kind t bs ctx) (live ctx) ≡ pushed bs (record { kind = k; tag = t; others = bs; height = 0; ways_on = ways_on }) cs
-  kept_as kind k bs e =
-      ap (λ j. pushed bs (record { kind = j; tag = t; others = bs; height = length (gathers ctx); ways_on = ways ctx }) (live ctx)) e
-      ∙ ap (λ (l : List ℕ). pushed bs (record { kind = k; tag = t; others = bs; height = length l; ways_on = ways ctx }) (live ctx)) none
-      ∙ ap (λ x. pushed bs (record { kind = k; tag = t; others = bs; height = 0; ways_on = x }) (live ctx)) ways_are
-      ∙ ap (pushed bs (record { kind = k; tag = t; others = bs; height = 0; ways_on = ways_on })) choices
-
--- the next branch, by the kind that the choice had at first
-next : (g : Game) (kind : Kind) (t height : ℕ) (ways_on : List Way) (ctx : List Around) (cs : List Live) (b : Branch) (bs others : List Branch) (n : ℕ) (w : World) (run : Run) → others ≡ b ∷ bs → IsQuiet w → height ≡ 0 →
-    run ≡ unwound (search g) ctx (choose (search g) (later kind) t others n w) → Sound (InBranch kind t others ∷ ctx) → Opens w (InBranch kind t others ∷ ctx) → live ctx ≡ cs → ways ctx ≡ ways_on →
+-- a later branch keeps gatherings, in a choice whose first branch doesn't gather
+next_plain : (g : Game) (kind : Kind) (t height : ℕ) (ways_on : List Way) (ctx : List Around) (cs : List Live) (b : Branch) (bs : List Branch) (n : ℕ) (w : World) (run : Run) →
+    run ≡ unwound (search g) ctx (choose (search g) (later kind) t (b ∷ bs) n w) → Older t ctx → Sound ctx → BranchesIn (InBranch Plain t [] ∷ ctx) (b ∷ bs) → KeepsGathering b → TakesOut (later kind) t bs → Opens (retried (later kind) w) (InBranch (later kind) t bs ∷ ctx) → ways (InBranch (later kind) t bs ∷ ctx) ≡ ways ctx → length (gathers ctx) ≡ height → live ctx ≡ cs → ways ctx ≡ ways_on →
     Began g (pushed bs (record { kind = later kind; tag = t; others = bs; height = height; ways_on = ways_on }) cs) ways_on b n (retried (later kind) w) run
-next g kind t height ways_on ctx cs b bs others n w run e quiet flat is sound o choices ways_are =
-    let here = InBranch (later kind) t bs ∷ ctx in
-    let none = none_open ctx w quiet (opens_outside kind t others ctx w quiet o) in
-    let inner = subst (BranchesIn (InBranch Plain t [] ∷ ctx)) e sound.2 in
-    began g _ ways_on here b n (retried (later kind) w) run
-    (is ∙ ap (λ l. unwound (search g) ctx (choose (search g) (later kind) t l n w)) e ∙ others_begin (search g) ctx kind t b bs n w)
-    (sound.0, sound.1, inner.1)
-    (opens_later kind t others bs ctx w quiet o)
+next_plain g kind t height ways_on ctx cs b bs n w run is older sound inner keeps out o same e choices ways_are =
+    began g _ ways_on (InBranch (later kind) t bs ∷ ctx) b n (retried (later kind) w) run keeps
+    (is ∙ others_begin (search g) ctx kind t b bs n w)
+    (older, sound, inner.1, out)
+    o
     (branch_others (later kind) t [] bs ctx b inner.0)
-    (kept_as g cs ways_on ctx t none choices ways_are (later kind) (later kind) bs (later_twice kind) ∙ ap (λ h. pushed bs (record { kind = later kind; tag = t; others = bs; height = h; ways_on = ways_on }) cs) (sym flat))
-    (ways_later kind t bs ctx ∙ ways_are)
+    (ap (λ k. pushed bs (record { kind = k; tag = t; others = bs; height = length (gathers ctx); ways_on = ways ctx }) (live ctx)) (later_twice kind) ∙ kept_as ctx t height ways_on cs (later kind) bs e ways_are choices)
+    (same ∙ ways_are)
 
-pub begins_next : (g : Game) (c : Live) (cs : List Live) (b : Branch) (bs : List Branch) (n : ℕ) (w : World) (run : Run) → c.others ≡ b ∷ bs → IsQuiet w → c.height ≡ 0 → Resumed g c cs n w run → Began g (pushed bs (record c { others = bs }) cs) c.ways_on b n (retried c.kind w) run
-begins_next g c cs b bs n w run e quiet flat s =
+-- the one branch behind a first that gathers takes the gathering out
+next_takes_out : (g : Game) (t height : ℕ) (ways_on : List Way) (ctx : List Around) (cs : List Live) (b : Branch) (bs : List Branch) (n : ℕ) (w : World) (run : Run) →
+    run ≡ unwound (search g) ctx (choose (search g) Plain t (b ∷ bs) n w) → Older t ctx → Sound ctx → BranchesIn (InBranch Plain t [] ∷ ctx) (b ∷ bs) → TakesOut Gathers t (b ∷ bs) → Opens w (InBranch Gathers t (b ∷ bs) ∷ ctx) → live ctx ≡ cs → ways ctx ≡ ways_on →
+    Began g (pushed bs (record { kind = Plain; tag = t; others = bs; height = height; ways_on = ways_on }) cs) ways_on b n w run
+next_takes_out g t height ways_on ctx cs (Enter path work) bs n w run is older sound inner out o choices ways_are = absurd out
+next_takes_out g t height ways_on ctx cs (Clash r) bs n w run is older sound inner out o choices ways_are = absurd out
+next_takes_out g t height ways_on ctx cs (TakeOut u path) (b ∷ bs) n w run is older sound inner out o choices ways_are = absurd out
+next_takes_out g t height ways_on ctx cs (TakeOut u path) [] n w run is older sound inner out o choices ways_are = record {
+  ctx = InBranch Plain t [] ∷ ctx;
+  is = is ∙ others_begin (search g) ctx Plain t (TakeOut u path) [] n w;
+  sound = (older, sound, tt, tt);
+  opens = (without_head u w.gathered (gathers ctx) (o ∙ ap (λ x. x ∷ gathers ctx) (sym out))).1;
+  inner = inner.0;
+  choices = choices;
+  ways_are = ways_are;
+}
+
+next : (g : Game) (kind : Kind) (t height : ℕ) (ways_on : List Way) (ctx : List Around) (cs : List Live) (b : Branch) (bs : List Branch) (n : ℕ) (w : World) (run : Run) →
+    run ≡ unwound (search g) ctx (choose (search g) (later kind) t (b ∷ bs) n w) → Sound (InBranch kind t (b ∷ bs) ∷ ctx) → Opens w (InBranch kind t (b ∷ bs) ∷ ctx) → length (gathers ctx) ≡ height → live ctx ≡ cs → ways ctx ≡ ways_on →
+    Began g (pushed bs (record { kind = later kind; tag = t; others = bs; height = height; ways_on = ways_on }) cs) ways_on b n (retried (later kind) w) run
+next g Plain t height ways_on ctx cs b bs n w run is sound o e choices ways_are = next_plain g Plain t height ways_on ctx cs b bs n w run is sound.0 sound.1 sound.2 sound.3.0 sound.3.1 o refl e choices ways_are
+next g (Rules q) t height ways_on ctx cs b bs n w run is sound o e choices ways_are = next_plain g (Rules q) t height ways_on ctx cs b bs n w run is sound.0 sound.1 sound.2 sound.3.0 sound.3.1 o refl e choices ways_are
+next g Shield t height ways_on ctx cs b bs n w run is sound o e choices ways_are = next_plain g Shield t height ways_on ctx cs b bs n w run is sound.0 sound.1 sound.2 sound.3.0 sound.3.1 o refl e choices ways_are
+next g Gathers t height ways_on ctx cs b bs n w run is sound o e choices ways_are = next_takes_out g t height ways_on ctx cs b bs n w run is sound.0 sound.1 sound.2 sound.3 o choices ways_are
+
+pub begins_next : (g : Game) (c : Live) (cs : List Live) (b : Branch) (bs : List Branch) (n : ℕ) (w : World) (run : Run) → c.others ≡ b ∷ bs → Resumed g c cs n w run → Began g (pushed bs (record c { others = bs }) cs) c.ways_on b n (retried c.kind w) run
+begins_next g c cs b bs n w run e s =
     subst (λ k. Began g (pushed bs (record { kind = k; tag = c.tag; others = bs; height = c.height; ways_on = c.ways_on }) cs) c.ways_on b n (retried k w) run) s.kind_is
-    (next g s.kind c.tag c.height c.ways_on s.ctx cs b bs c.others n w run e quiet flat (subst (λ k. run ≡ unwound (search g) s.ctx (choose (search g) k c.tag c.others n w)) (sym s.kind_is) s.is) s.sound s.opens s.choices s.ways_are)
+    (next g s.kind c.tag c.height c.ways_on s.ctx cs b bs n w run
+    (subst (λ l. run ≡ unwound (search g) s.ctx (choose (search g) (later s.kind) c.tag l n w)) e (subst (λ k. run ≡ unwound (search g) s.ctx (choose (search g) k c.tag c.others n w)) (sym s.kind_is) s.is))
+    (subst (λ l. Sound (InBranch s.kind c.tag l ∷ s.ctx)) e s.sound) (subst (λ l. Opens w (InBranch s.kind c.tag l ∷ s.ctx)) e s.opens) s.height s.choices s.ways_are)
 
 -- ## A goal
 
@@ -161,32 +204,60 @@ ends s (InBranch k t bs ∷ ctx) n w e run o is =
     let rest = ends s ctx n (leave k t w) e run left.opens is in
     record { world = rest.world; silently = silently_on w (leave k t w) rest.world left.silently rest.silently; is = rest.is }
 
-module _ (g : Game) (cs : List Live) (ws : List Way) (n : ℕ) (run : Run) (ctx : List Around) (sound : Sound ctx) (choices : live ctx ≡ cs) (ways_are : ways ctx ≡ ws) (none : gathers ctx ≡ []) where
-  kept_new : (k : Kind) (t : ℕ) (bs : List Branch) → pushed bs (live_of k t bs ctx) (live ctx) ≡ new_choice k t bs ws cs
-  kept_new k t bs = kept_as g cs ws ctx t none choices ways_are k (later k) bs refl
+-- the gatherings that are open behind a move
+abbrev MoveOpens : List Around → Move → Type 0
+MoveOpens ctx (Chooses k t b bs w) = Opens w (InBranch k t bs ∷ ctx)
+MoveOpens ctx m = Opens (world_of m) ctx
 
-  ways_new : (t : ℕ) (bs : List Branch) → ways (InBranch Shield t bs ∷ ctx) ≡ record { tag = t; others = bs; height = 0 } ∷ ws
-  ways_new t bs =
-      ap (λ (l : List ℕ). record { tag = t; others = bs; height = length l } ∷ ways ctx) none
-      ∙ ap (λ l. record { tag = t; others = bs; height = 0 } ∷ l) ways_are
+choice_opens : (ctx : List Around) (t : ℕ) (bs : List Branch) (w : World) → Opens w ctx → MoveOpens ctx (choice Plain t bs w)
+choice_opens ctx t [] w o = o
+choice_opens ctx t (b ∷ bs) w o = o
 
-  after : (m : Move) → MoveIn ctx m → run ≡ unwound (search g) ctx (after_move (search g) n m) → Opens (world_of m) ctx → After g cs ws n m run
-  after (GoesOn path w) h is o = record { ctx = ctx; is = is; sound = sound; opens = o; inner = h; choices = choices; ways_are = ways_are }
-  after (FailsAt w) h is o = record { ctx = ctx; is = is; sound = sound; opens = o; choices = choices }
-  after (EndsAt e w) h is o = ends (search g) ctx n w e run o is
-  after (StopsAt s w) h is o = record { ctx = ctx; is = is; sound = sound; opens = o; shielded = h; choices = choices; ways_are = ways_are }
-  after (Chooses Plain t b bs w) h is o = began g _ ws (InBranch Plain t bs ∷ ctx) b n w run is (h.0, sound, h.2) o h.1 (kept_new Plain t bs) ways_are
-  after (Chooses (Rules q) t b bs w) h is o = began g _ ws (InBranch (Rules q) t bs ∷ ctx) b n w run is (h.0, sound, h.2) o h.1 (kept_new (Rules q) t bs) ways_are
-  after (Chooses Shield t b bs w) h is o = began g _ _ (InBranch Shield t bs ∷ ctx) b n w run is (h.0, sound, h.2) o h.1 (kept_new Shield t bs) (ways_new t bs)
-  after (Chooses Gathers t b bs w) h is o = tt
+rules_open : (ctx : List Around) (q t : ℕ) (bs : List Branch) (w : World) → Opens w ctx → MoveOpens ctx (choice (Rules q) t bs w)
+rules_open ctx q t [] w o = o
+rules_open ctx q t (b ∷ bs) w o = o
 
-pub takes : (g : Game) (cs : List Live) (ws : List Way) (x : Goal) (t : ℕ) (steps : List Step) (r : Registers) (n : ℕ) (w : World) (run : Run) → (let m = move g (out-Goal x) t steps r (worked 1 w) in IsQuiet w → IsQuiet (world_of m) → Stands g cs ws (path_of (Do x t ∷ steps) r) (suc n) w run → After g cs ws n m run)
-takes g cs ws x t steps r n w run quiet still st =
-    let none = none_open st.ctx w quiet st.opens in
-    after g cs ws n run st.ctx st.sound st.choices st.ways_are none (move g (out-Goal x) t steps r (worked 1 w))
+stop_opens : (ctx : List Around) (s : Option ℕ) (w : World) → Opens w ctx → MoveOpens ctx (stop s w)
+stop_opens ctx None w o = o
+stop_opens ctx (Some s) w o = o
+
+move_opens : (g : Game) (ctx : List Around) (x : Goal-F Goal) (t : ℕ) (steps : List Step) (r : Registers) (w : World) → Opens w ctx → MoveOpens ctx (move g x t steps r w)
+move_opens g ctx (Ask pred args many) t steps r w o = rules_open ctx pred r.next_tag _ (noted (Asked pred) w) o
+move_opens g ctx (Either lists) t steps r w o = choice_opens ctx r.next_tag (list_branches t steps r lists) w o
+move_opens g ctx Stop t steps r w o = stop_opens ctx r.stoppable w o
+move_opens g ctx (Collect term goals into) t steps r w o = ap (λ l. r.next_tag ∷ l) o
+move_opens g ctx _ t steps r w o = o
+
+-- how many gatherings are open outside a choice
+outside_is : (k : Kind) (t : ℕ) (bs : List Branch) (ctx : List Around) (w : World) → Opens w (InBranch k t bs ∷ ctx) → length (gathers ctx) ≡ open_outside k w
+outside_is Plain t bs ctx w o = sym (open_count w ctx o)
+outside_is (Rules q) t bs ctx w o = sym (open_count w ctx o)
+outside_is Shield t bs ctx w o = sym (open_count w ctx o)
+outside_is Gathers t bs ctx w o = let n = sym (length_tags w.gathered) ∙ ap length o in omega (arith, n)
+
+ways_new : (k : Kind) (t : ℕ) (bs : List Branch) (ctx : List Around) (w : World) (ws : List Way) → Opens w (InBranch k t bs ∷ ctx) → ways ctx ≡ ws → ways (InBranch k t bs ∷ ctx) ≡ new_ways k t bs w ws
+ways_new Plain t bs ctx w ws o e = e
+ways_new (Rules q) t bs ctx w ws o e = e
+ways_new Gathers t bs ctx w ws o e = e
+ways_new Shield t bs ctx w ws o e =
+    ap (λ n. record { tag = t; others = bs; height = n } ∷ ways ctx) (sym (open_count w ctx o))
+    ∙ ap (λ l. record { tag = t; others = bs; height = length w.gathered } ∷ l) e
+
+after : (g : Game) (cs : List Live) (ws : List Way) (n : ℕ) (run : Run) (ctx : List Around) → Sound ctx → live ctx ≡ cs → ways ctx ≡ ws → (m : Move) → MoveIn ctx m → run ≡ unwound (search g) ctx (after_move (search g) n m) → MoveOpens ctx m → After g cs ws n m run
+after g cs ws n run ctx sound choices ways_are (GoesOn path w) h is o = record { ctx = ctx; is = is; sound = sound; opens = o; inner = h; choices = choices; ways_are = ways_are }
+after g cs ws n run ctx sound choices ways_are (FailsAt w) h is o = record { ctx = ctx; is = is; sound = sound; opens = o; choices = choices }
+after g cs ws n run ctx sound choices ways_are (EndsAt e w) h is o = ends (search g) ctx n w e run o is
+after g cs ws n run ctx sound choices ways_are (StopsAt s w) h is o = record { ctx = ctx; is = is; sound = sound; opens = o; shielded = h; choices = choices; ways_are = ways_are }
+after g cs ws n run ctx sound choices ways_are (Chooses k t b bs w) h is o =
+    began g _ _ (InBranch k t bs ∷ ctx) b n w run h.3 is (h.0, sound, h.2, h.4) o h.1
+    (kept_as ctx t (open_outside k w) ws cs (later k) bs (outside_is k t bs ctx w o) ways_are choices) (ways_new k t bs ctx w ws o ways_are)
+
+pub takes : (g : Game) (cs : List Live) (ws : List Way) (x : Goal) (t : ℕ) (steps : List Step) (r : Registers) (n : ℕ) (w : World) (run : Run) → Stands g cs ws (path_of (Do x t ∷ steps) r) (suc n) w run → After g cs ws n (move g (out-Goal x) t steps r (worked 1 w)) run
+takes g cs ws x t steps r n w run st =
+    after g cs ws n run st.ctx st.sound st.choices st.ways_are (move g (out-Goal x) t steps r (worked 1 w))
     (move_in st.ctx t steps r st.inner.steps.0 st.inner.steps.1 st.inner.stop st.inner.newer g (out-Goal x) (worked 1 w))
     (st.is ∙ ap (unwound (search g) st.ctx) (search_steps g (suc n) (path_of (Do x t ∷ steps) r) w))
-    (ap tags_of still ∙ sym none)
+    (move_opens g st.ctx (out-Goal x) t steps r (worked 1 w) st.opens)
 
 pub limited : (g : Game) (cs : List Live) (ws : List Way) (x : Goal) (t : ℕ) (steps : List Step) (r : Registers) (w : World) (run : Run) → Stands g cs ws (path_of (Do x t ∷ steps) r) 0 w run → Finished 0 w (End StepLimit) run
 limited g cs ws x t steps r w run st =
@@ -198,20 +269,55 @@ done g cs ws r n w run st =
 
 -- ## A stop
 
+-- a cut in front of steps is done
+cut_done : (g : Game) (t : ℕ) (cut : Option ℕ) (cs : List Live) (ws : List Way) (path : Path) (n : ℕ) (w : World) (run : Run) → Stands g cs ws (record path { steps = cut_first t cut path.steps }) n w run → Stands g (resumed_at t cut cs) ws path n w run
+cut_done g t None cs ws path n w run st = st
+cut_done g t (Some c) cs ws path n w run st =
+    cond_both (nat_lt c t) (Cut c ∷ path.steps) path.steps (λ x. Stands g cs ws (record path { steps = x }) n w run → Stands g (if nat_lt c t then cut_to c cs else cs) ws path n w run)
+    (λ e h. subst (λ l. Stands g l ws path n w run) (sym (cond-true (nat_lt c t) (cut_to c cs) cs e)) (passes_cut g cs ws c path.steps path.registers n w run h))
+    (λ e h. subst (λ l. Stands g l ws path n w run) (sym (cond-false (nat_lt c t) (cut_to c cs) cs e)) h)
+    st
+
+-- the tags of the cut are around
+cut_in : (ctx : List Around) (t : ℕ) (cut : Option ℕ) (steps : List Step) → Held ctx t cut → StepsIn ctx steps → StepsIn ctx (cut_first t cut steps)
+cut_in ctx t None steps held h = h
+cut_in ctx t (Some c) steps held h =
+    cond_both (nat_lt c t) (Cut c ∷ steps) steps (StepsIn ctx)
+    (λ e. let lt = ltb-true c t e in (elim held [ inl past ↦ absurd (omega arith) | inr x ↦ x ], h))
+    (λ e. h)
+
+module _ (g : Game) (n : ℕ) (w : World) (s : ℕ) (run : Run) (ctx : List Around) (i : Stops (search g) ctx n w s None) (is : run ≡ unwind (search g) ctx n w (StopTo s None)) (path : Path) (work : ℕ) (only : i.others ≡ Enter path work ∷ []) where
+  abbrev on : Path
+  on = record path { steps = cut_first s i.cut path.steps }
+
+  inner : PathIn (InBranch Plain s [] ∷ i.at) path
+  inner = (subst (BranchesIn (InBranch Plain s [] ∷ i.at)) only i.sound.2).0
+
+  way_begins : Stands g (live i.at) (ways i.at) on n (begun path.registers work i.world) run
+  way_begins = record {
+    ctx = InBranch Plain s [] ∷ i.at;
+    is = is ∙ i.same ∙ ap (λ l. unwound (search g) i.at (choose (search g) Plain s (branches_cut s i.cut l) n i.world)) only ∙ others_begin (search g) i.at Plain s (Enter on work) [] n i.world;
+    sound = (i.sound.0, i.sound.1, tt, tt);
+    opens = i.opens;
+    inner = record { steps = cut_in (InBranch Plain s [] ∷ i.at) s i.cut path.steps i.held inner.steps; stop = inner.stop; newer = inner.newer };
+    choices = refl;
+    ways_are = refl;
+  }
+
+  way_on : Stands g (cut_to s (live ctx)) (ways i.at) path n (begun path.registers work i.world) run
+  way_on = subst (λ l. Stands g l (ways i.at) path n (begun path.registers work i.world) run) (sym i.choices) (cut_done g s i.cut (live i.at) (ways i.at) path n (begun path.registers work i.world) run way_begins)
+
 pub stops_on : (g : Game) (cs : List Live) (ws : List Way) (s : ℕ) (n : ℕ) (w : World) (run : Run) → Stopping g cs ws s n w run → WentOn g cs ws s n w run
 stops_on g cs ws s n w run st =
-    let i = stops (search g) st.ctx n w s None st.sound st.opens st.shielded in
+    let i = stops (search g) st.ctx n w s None st.sound st.opens st.shielded tt in
     record {
       way = record { tag = s; others = i.others; height = length (gathers i.at) };
       outer = ways i.at;
       is = ap (way_to s) (sym st.ways_are) ∙ i.way;
       world = i.world;
       silently = i.silently;
-      cut_at = i.cut;
-      ctx = i.at;
-      same = st.is ∙ i.same;
-      choices = ap (cut_to s) (sym st.choices) ∙ i.choices;
-      ways_are = refl;
+      gatherings = open_count i.world i.at i.opens;
+      stands = λ path work only. subst (λ l. Stands g (cut_to s l) (ways i.at) path n (begun path.registers work i.world) run) st.choices (way_on g n w s run st.ctx i st.is path work only);
     }
 
 -- ## The start
@@ -227,7 +333,7 @@ unfolding run
 starts g typed n = record {
   ctx = InBranch Plain 0 [] ∷ [];
   is = let a = search g n (start_path g) (start_world typed) in in_first (search g) a.left a.world a.result;
-  sound = (tt, tt, tt);
+  sound = (tt, tt, tt, tt);
   opens = refl;
   inner = record { steps = (inl refl, tt); stop = tt; newer = (omega arith, tt) };
   choices = refl;
@@ -243,6 +349,7 @@ keeps = record {
   passes_cut = passes_cut;
   passes_leave = passes_leave;
   passes_refuse = passes_refuse;
+  passes_keep = passes_keep;
   passes_back = passes_back;
   fails = failed;
   begins_next = begins_next;

@@ -8,7 +8,7 @@ use Rattle.dg_base.specs.declared.program.Rule.{Rule}
 use Rattle.dg_meaning.specs.World.{Game, World, Asked, noted}
 use Rattle.dg_meaning.specs.Path.{Step, Do, Answers, Cut, Refuse, Back, Keep, Leave, Registers, Path, Branch, Enter, Clash, TakeOut, Kind, Plain, Rules, Shield, Gathers, Move, GoesOn, FailsAt, EndsAt, StopsAt, Chooses}
 use Rattle.dg_meaning.specs.Moves.{path_of, enter, inside, goals_at, choice_cells, first_alone, rule_steps, rule_branches, list_branches, choice, rules_of, stop, move}
-use Rattle.dg_meaning.specs.Context.{Around, InBranch, InCut, Holds, Older, Shielded, StopIn, StepsIn, PathIn, BranchIn, BranchesIn}
+use Rattle.dg_meaning.specs.Context.{Around, InBranch, InCut, Holds, Older, Shielded, StopIn, StepsIn, PathIn, BranchIn, BranchesIn, KeepsGathering, KeepGatherings, TakesOut}
 
 -- ## More around a path
 
@@ -93,14 +93,21 @@ older_raise t u (InCut v ∷ ctx) le h = older_raise t u ctx le h
 
 -- ## A move
 
--- the tags of a move stay inside; gathering is left out
+-- the tags of a move stay inside, and it takes no gathering out before its time
 abbrev pub MoveIn : List Around → Move → Type 0
 MoveIn ctx (GoesOn path w) = PathIn ctx path
 MoveIn ctx (FailsAt w) = Unit {0}
 MoveIn ctx (EndsAt e w) = Unit {0}
 MoveIn ctx (StopsAt s w) = Shielded ctx s
-MoveIn ctx (Chooses Gathers t b bs w) = Unit {0}
-MoveIn ctx (Chooses k t b bs w) = Older t ctx × BranchIn (InBranch k t bs ∷ ctx) b × BranchesIn (InBranch Plain t [] ∷ ctx) bs
+MoveIn ctx (Chooses k t b bs w) = Older t ctx × BranchIn (InBranch k t bs ∷ ctx) b × BranchesIn (InBranch Plain t [] ∷ ctx) bs × KeepsGathering b × TakesOut k t bs
+
+rules_keep : (pred arguments : ℕ) (many : Bool) (steps : List Step) (r : Registers) (rules : List Rule) → KeepGatherings (rule_branches pred arguments many steps r rules)
+rules_keep pred arguments many steps r [] = tt
+rules_keep pred arguments many steps r (rule ∷ rules) = (tt, rules_keep pred arguments many steps r rules)
+
+lists_keep : (t : ℕ) (steps : List Step) (r : Registers) (lists : List (List Goal)) → KeepGatherings (list_branches t steps r lists)
+lists_keep t steps r [] = tt
+lists_keep t steps r (goals ∷ lists) = (tt, lists_keep t steps r lists)
 
 module _ (ctx : List Around) (t : ℕ) (steps : List Step) (r : Registers) (holds : Holds ctx t) (rest : StepsIn ctx steps) (stopping : StopIn ctx r.stoppable) (older : Older r.next_tag ctx) where
   -- steps in a branch of the new choice
@@ -136,42 +143,40 @@ module _ (ctx : List Around) (t : ℕ) (steps : List Step) (r : Registers) (hold
   lists_in [] = tt
   lists_in (gs ∷ lists) = (one (choice_cells 0 lists) 1 _ (goals gs steps outside), lists_in lists)
 
-  choice_plain : (bs : List Branch) (w : World) → BranchesIn (InBranch Plain r.next_tag [] ∷ ctx) bs → MoveIn ctx (choice Plain r.next_tag bs w)
-  choice_plain [] w h = tt
-  choice_plain (b ∷ bs) w h = (older, branch_others Plain r.next_tag [] bs ctx b h.0, h.1)
+  choice_plain : (bs : List Branch) (w : World) → BranchesIn (InBranch Plain r.next_tag [] ∷ ctx) bs → KeepGatherings bs → MoveIn ctx (choice Plain r.next_tag bs w)
+  choice_plain [] w h k = tt
+  choice_plain (b ∷ bs) w h k = (older, branch_others Plain r.next_tag [] bs ctx b h.0, h.1, k.0, k.1)
 
-  choice_rules : (pred : ℕ) (bs : List Branch) (w : World) → BranchesIn (InBranch Plain r.next_tag [] ∷ ctx) bs → MoveIn ctx (choice (Rules pred) r.next_tag bs w)
-  choice_rules pred [] w h = tt
-  choice_rules pred (b ∷ bs) w h = (older, branch_others (Rules pred) r.next_tag [] bs ctx b h.0, h.1)
+  choice_rules : (pred : ℕ) (bs : List Branch) (w : World) → BranchesIn (InBranch Plain r.next_tag [] ∷ ctx) bs → KeepGatherings bs → MoveIn ctx (choice (Rules pred) r.next_tag bs w)
+  choice_rules pred [] w h k = tt
+  choice_rules pred (b ∷ bs) w h k = (older, branch_others (Rules pred) r.next_tag [] bs ctx b h.0, h.1, k.0, k.1)
 
   stop_in : (o : Option ℕ) (w : World) → StopIn ctx o → MoveIn ctx (stop o w)
   stop_in None w h = tt
   stop_in (Some s) w h = h
 
   single : (heap : ℕ) (l : List Step) (w : World) → In l → MoveIn ctx (Chooses Plain r.next_tag (enter heap 0 r l) [] w)
-  single heap l w h = (older, one heap 0 l h, tt)
+  single heap l w h = (older, one heap 0 l h, tt, tt, tt)
 
   double : (heap : ℕ) (l m : List Step) (w : World) → In l → In m → MoveIn ctx (Chooses Plain r.next_tag (enter heap 0 r l) (enter 0 0 r m ∷ []) w)
-  double heap l m w h k = (older, branch_others Plain r.next_tag [] (enter 0 0 r m ∷ []) ctx (enter heap 0 r l) (one heap 0 l h), (one 0 0 m k, tt))
+  double heap l m w h k = (older, branch_others Plain r.next_tag [] (enter 0 0 r m ∷ []) ctx (enter heap 0 r l) (one heap 0 l h), (one 0 0 m k, tt), tt, (tt, tt))
 
   stoppable_in : (gs : List Goal) (w : World) → MoveIn ctx (Chooses Shield r.next_tag (Enter (path_of (goals_at t gs ++ Leave r.next_tag r.stoppable ∷ steps) (record (inside 10 r) { stoppable = Some r.next_tag })) 0) (enter 0 0 r steps ∷ []) w)
   stoppable_in gs w =
       let others = enter 0 0 r steps ∷ [] in
-      let here = InBranch Shield r.next_tag others ∷ ctx in (
-        older,
-        record {
-          steps = steps_append here (goals_at t gs) (Leave r.next_tag r.stoppable ∷ steps) (goals_in here t (inr holds) gs) (inl refl, (stop_push Shield r.next_tag others ctx r.stoppable stopping, steps_push Shield r.next_tag others ctx steps rest));
-          stop = inl refl;
-          newer = (omega arith, older_raise r.next_tag (r.next_tag + 1) ctx (omega arith) older);
-        },
-        (one 0 0 steps outside, tt),
-      )
+      let here = InBranch Shield r.next_tag others ∷ ctx in
+      let branch : PathIn here (path_of (goals_at t gs ++ Leave r.next_tag r.stoppable ∷ steps) (record (inside 10 r) { stoppable = Some r.next_tag })) = record {
+        steps = steps_append here (goals_at t gs) (Leave r.next_tag r.stoppable ∷ steps) (goals_in here t (inr holds) gs) (inl refl, (stop_push Shield r.next_tag others ctx r.stoppable stopping, steps_push Shield r.next_tag others ctx steps rest));
+        stop = inl refl;
+        newer = (omega arith, older_raise r.next_tag (r.next_tag + 1) ctx (omega arith) older);
+      } in
+      (older, branch, (one 0 0 steps outside, tt), tt, (tt, tt))
 
   pub move_in : (g : Game) (x : Goal-F Goal) (w : World) → MoveIn ctx (move g x t steps r w)
   move_in g (Text name) w = record { steps = rest; stop = stopping; newer = older }
   move_in g (Gap kind) w = record { steps = rest; stop = stopping; newer = older }
-  move_in g (Ask pred args many) w = choice_rules pred _ (noted (Asked pred) w) (rules_in pred (length args) many (rules_of (slice_get g.program.preds pred)))
-  move_in g (Either lists) w = choice_plain (list_branches t steps r lists) w (lists_in lists)
+  move_in g (Ask pred args many) w = choice_rules pred _ (noted (Asked pred) w) (rules_in pred (length args) many (rules_of (slice_get g.program.preds pred))) (rules_keep pred (length args) many steps r (rules_of (slice_get g.program.preds pred)))
+  move_in g (Either lists) w = choice_plain (list_branches t steps r lists) w (lists_in lists) (lists_keep t steps r lists)
   move_in g (Once gs) w = single 10 (goals_at t gs ++ Cut r.next_tag ∷ steps) w (goals gs (Cut r.next_tag ∷ steps) (inl refl, outside))
   move_in g (Not gs) w = double 10 (goals_at t gs ++ Refuse r.next_tag ∷ []) steps w (goals gs (Refuse r.next_tag ∷ []) (inl refl, tt)) outside
   move_in g (If test first other) w =
@@ -182,5 +187,7 @@ module _ (ctx : List Around) (t : ℕ) (steps : List Step) (r : Registers) (hold
   move_in g Forever w = double 10 steps (Do Forever-Goal t ∷ steps) w outside (inr holds, outside)
   move_in g (Exhaust gs) w = double 10 (goals_at t gs ++ Back ∷ []) steps w (goals gs (Back ∷ []) tt) outside
   move_in g (Stoppable gs) w = stoppable_in gs w
-  move_in g (Collect term gs into) w = tt
+  move_in g (Collect term gs into) w =
+      let others = TakeOut r.next_tag (path_of steps (inside 0 r)) ∷ [] in
+      (older, branch_others Gathers r.next_tag [] others ctx (enter 10 0 r (goals_at t gs ++ Keep r.next_tag term ∷ [])) (one 10 0 _ (goals gs (Keep r.next_tag term ∷ []) tt)), (one 0 0 steps outside, tt), tt, refl)
   move_in g _ w = tt

@@ -13,6 +13,7 @@ IsBuiltForm (Text name) = Unit {0}
 IsBuiltForm (Ask pred args many) = args ≡ []
 IsBuiltForm _ = ⊥
 
+-- A goal of one of these forms.
 abbrev pub IsBuiltGoal : Goal → Type 0
 IsBuiltGoal g = IsBuiltForm (out-Goal g)
 

@@ -27,6 +27,7 @@ gathers (InBranch Gathers t others ∷ ctx) = t ∷ gathers ctx
 gathers (InBranch k t others ∷ ctx) = gathers ctx
 gathers (InCut t ∷ ctx) = gathers ctx
 
+-- The tags of gatherings.
 abbrev pub tags_of : List Gathering → List ℕ
 tags_of [] = []
 tags_of (g ∷ gs) = g.tag ∷ tags_of gs
@@ -100,6 +101,7 @@ Shielded (InBranch Shield u others ∷ ctx) t = (t ≡ u) ⊎ Shielded ctx t
 Shielded (InBranch k u others ∷ ctx) t = Shielded ctx t
 Shielded (InCut u ∷ ctx) t = Shielded ctx t
 
+-- The stoppable part, where there is one, is around.
 abbrev pub StopIn : List Around → Option ℕ → Type 0
 StopIn ctx None = Unit {0}
 StopIn ctx (Some s) = Shielded ctx s
@@ -121,19 +123,38 @@ pub record PathIn (ctx : List Around) (path : Path) : Type 0 where
   pub stop : StopIn ctx path.registers.stoppable
   pub newer : Older path.registers.next_tag ctx
 
+-- What a branch names is around it.
 abbrev pub BranchIn : List Around → Branch → Type 0
 BranchIn ctx (Enter path work) = PathIn ctx path
 BranchIn ctx (Clash r) = Unit {0}
 BranchIn ctx (TakeOut t path) = PathIn ctx path
 
+-- So it is for each of these branches.
 abbrev pub BranchesIn : List Around → List Branch → Type 0
 BranchesIn ctx [] = Unit {0}
 BranchesIn ctx (b ∷ bs) = BranchIn ctx b × BranchesIn ctx bs
 
--- Tags fall outwards, each mark names a choice around it, and so do the branches that were not begun.
+-- A branch takes no gathering out.
+abbrev pub KeepsGathering : Branch → Type 0
+KeepsGathering (TakeOut t path) = ⊥
+KeepsGathering b = Unit {0}
+
+-- None of these branches takes a gathering out.
+abbrev pub KeepGatherings : List Branch → Type 0
+KeepGatherings [] = Unit {0}
+KeepGatherings (b ∷ bs) = KeepsGathering b × KeepGatherings bs
+
+-- Behind a first branch that gathers, one branch takes the gathering out; no other branch takes one out.
+abbrev pub TakesOut : Kind → ℕ → List Branch → Type 0
+TakesOut Gathers t [] = ⊥
+TakesOut Gathers t (TakeOut u path ∷ []) = u ≡ t
+TakesOut Gathers t (b ∷ bs) = ⊥
+TakesOut k t others = KeepGatherings others
+
+-- Tags fall outwards, each mark names a choice around it, and so do the branches that were not begun, of which those behind a gathering take it out.
 abbrev pub Sound : List Around → Type 0
 Sound [] = Unit {0}
-Sound (InBranch k t others ∷ ctx) = Older t ctx × Sound ctx × BranchesIn (InBranch Plain t [] ∷ ctx) others
+Sound (InBranch k t others ∷ ctx) = Older t ctx × Sound ctx × BranchesIn (InBranch Plain t [] ∷ ctx) others × TakesOut k t others
 Sound (InCut t ∷ ctx) = Holds ctx t × Sound ctx
 
 -- Between two worlds nothing was printed, taken or counted: only queries were answered or failed, and gatherings were dropped.

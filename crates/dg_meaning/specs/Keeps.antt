@@ -1,19 +1,16 @@
 -- The rules by which an engine may go on that keeps a path, the choices that were not cut, and the ways on behind stoppable parts, in place of the search's recursion.
--- Hold it against the Dialog manual, chapter "Choice points". Gathering is left out of these rules.
-use Rattle.std.specs.Prelude.{ℕ, suc, ◌≡◌, List, [], ◌∷◌, nat_lt, Option, Some, None, if◌then◌else◌}
+-- Hold it against the Dialog manual, chapter "Choice points".
+use Rattle.std.specs.Prelude.{ℕ, suc, ◌+◌, ◌-◌, ◌≡◌, List, [], ◌∷◌, length, Option, Some, None}
+use Rattle.dg_base.specs.declared.program.Term.{Term}
 use Rattle.dg_base.specs.declared.program.Goal.{Goal, out-Goal}
 use Rattle.dg_base.specs.declared.run.Ending.TheVariants.{Done as Done-Ending, StepLimit}
-use Rattle.dg_meaning.specs.World.{Game, World, Answered, noted, worked}
-use Rattle.dg_meaning.specs.Path.{Step, Do, Answers, Cut, Refuse, Back, Leave, Registers, Path, Result, Failing, StopTo, End, Answer, Branch, Enter, Clash, TakeOut, Kind, Plain, Rules, Shield, Gathers, Move, GoesOn, FailsAt, EndsAt, StopsAt, Chooses}
+use Rattle.dg_meaning.specs.World.{Game, World, Answered, noted, worked, kept, dropped}
+use Rattle.dg_meaning.specs.Path.{Step, Do, Answers, Cut, Refuse, Back, Keep, Leave, Registers, Path, Result, Failing, StopTo, End, Answer, Branch, Enter, Clash, TakeOut, Kind, Shield, Gathers, Move, GoesOn, FailsAt, EndsAt, StopsAt, Chooses}
 use Rattle.dg_meaning.specs.Moves.{path_of, move}
-use Rattle.dg_meaning.specs.Search.{Search, search, answer, later, retried, begun, choose, branches_cut}
+use Rattle.dg_meaning.specs.Search.{Search, search, answer, later, retried, begun, choose}
 use Rattle.dg_meaning.specs.Transcript.{Run, run_of, run, start_world, start_path}
 use Rattle.dg_meaning.specs.OneRun.{Grows}
-use Rattle.dg_meaning.specs.Context.{Around, InBranch, unwind, Opens, Way, ways, Live, cut_to, pushed, live, way_to, Shielded, PathIn, Sound, Silently}
-
--- No gathering is open.
-abbrev pub IsQuiet : World → Type 0
-IsQuiet w = w.gathered ≡ []
+use Rattle.dg_meaning.specs.Context.{Around, InBranch, unwind, gathers, Opens, Way, ways, Live, cut_to, pushed, live, way_to, Shielded, PathIn, Sound, Silently}
 
 -- The world that a move leaves.
 abbrev pub world_of : Move → World
@@ -23,6 +20,7 @@ world_of (EndsAt e w) = w
 world_of (StopsAt t w) = w
 world_of (Chooses k t b bs w) = w
 
+-- What the run comes to, where a search with this around it gives an answer.
 abbrev pub unwound : Search → List Around → Answer → Run
 unwound s ctx a = unwind s ctx a.left a.world a.result
 
@@ -64,6 +62,7 @@ pub record Resumed (g : Game) (c : Live) (cs : List Live) (n : ℕ) (w : World) 
   pub is : r ≡ unwound (search g) ctx (choose (search g) c.kind c.tag c.others n w)
   pub sound : Sound (InBranch kind c.tag c.others ∷ ctx)
   pub opens : Opens w (InBranch kind c.tag c.others ∷ ctx)
+  pub height : length (gathers ctx) ≡ c.height
   pub choices : live ctx ≡ cs
   pub ways_are : ways ctx ≡ c.ways_on
 
@@ -75,12 +74,19 @@ pub record Finished (n : ℕ) (w : World) (result : Result) (r : Run) : Type 0 w
 
 -- ## Where it goes on
 
+-- How many gatherings are open where a choice goes on: one more where that takes one out.
+abbrev pub open_at : List Branch → ℕ → ℕ
+open_at (TakeOut t path ∷ bs) height = height + 1
+open_at bs height = height
+
 -- A failure goes to the newest choice, and without one the run has failed.
 pub record GoesBack (g : Game) (c : Live) (cs : List Live) (n : ℕ) (w : World) (r : Run) : Type 0 where
   pub world : World
   pub silently : Silently w world
+  pub gatherings : length world.gathered ≡ open_at c.others c.height
   pub resumed : Resumed g c cs n world r
 
+-- Where a failure inside these choices leads.
 abbrev pub FailsTo : Game → ℕ → World → Run → List Live → Type 0
 FailsTo g n w r [] = Finished n w Failing r
 FailsTo g n w r (c ∷ cs) = GoesBack g c cs n w r
@@ -89,11 +95,21 @@ FailsTo g n w r (c ∷ cs) = GoesBack g c cs n w r
 abbrev pub Began : Game → List Live → List Way → Branch → ℕ → World → Run → Type 0
 Began g cs ws (Enter path work) n w r = Stands g cs ws path n (begun path.registers work w) r
 Began g cs ws (Clash registers) n w r = Failed g cs n (begun registers 0 w) r
-Began g cs ws (TakeOut t path) n w r = Unit {0}
+Began g cs ws (TakeOut t path) n w r = Stands g cs ws path n (begun path.registers 0 (dropped t w)) r
 
--- A choice whose first branch begins, with these behind it.
-abbrev pub new_choice : Kind → ℕ → List Branch → List Way → List Live → List Live
-new_choice k t bs ws cs = pushed bs (record { kind = later k; tag = t; others = bs; height = 0; ways_on = ws }) cs
+-- How many gatherings are open outside a choice whose first branch begins in this world.
+abbrev pub open_outside : Kind → World → ℕ
+open_outside Gathers w = length w.gathered - 1
+open_outside k w = length w.gathered
+
+-- The choices where the first branch of a choice begins, with these behind it.
+abbrev pub new_choices : Kind → ℕ → List Branch → World → List Way → List Live → List Live
+new_choices k t bs w ws cs = pushed bs (record { kind = later k; tag = t; others = bs; height = open_outside k w; ways_on = ws }) cs
+
+-- The ways on there.
+abbrev pub new_ways : Kind → ℕ → List Branch → World → List Way → List Way
+new_ways Shield t bs w ws = record { tag = t; others = bs; height = length w.gathered } ∷ ws
+new_ways k t bs w ws = ws
 
 -- Where a run stands behind a move.
 abbrev pub After : Game → List Live → List Way → ℕ → Move → Run → Type 0
@@ -101,28 +117,17 @@ After g cs ws n (GoesOn path w) r = Stands g cs ws path n w r
 After g cs ws n (FailsAt w) r = Failed g cs n w r
 After g cs ws n (EndsAt e w) r = Finished n w (End e) r
 After g cs ws n (StopsAt s w) r = Stopping g cs ws s n w r
-After g cs ws n (Chooses Plain t b bs w) r = Began g (new_choice Plain t bs ws cs) ws b n w r
-After g cs ws n (Chooses (Rules pred) t b bs w) r = Began g (new_choice (Rules pred) t bs ws cs) ws b n w r
-After g cs ws n (Chooses Shield t b bs w) r = Began g (new_choice Shield t bs ws cs) (record { tag = t; others = bs; height = 0 } ∷ ws) b n w r
-After g cs ws n (Chooses Gathers t b bs w) r = Unit {0}
+After g cs ws n (Chooses k t b bs w) r = Began g (new_choices k t bs w ws cs) (new_ways k t bs w ws) b n w r
 
--- The choices at the way on of t, behind a cut.
-abbrev pub resumed_at : ℕ → Option ℕ → List Around → List Live
-resumed_at t None ctx = live ctx
-resumed_at t (Some c) ctx = if nat_lt t c then live ctx else cut_to c (live ctx)
-
--- The run goes on behind the stoppable part s, with the choices inside it cut.
+-- The run goes on behind the stoppable part s, with the choices that aren't older cut.
 pub record WentOn (g : Game) (cs : List Live) (ws : List Way) (s : ℕ) (n : ℕ) (w : World) (r : Run) : Type 0 where
   pub way : Way
   pub outer : List Way
   pub is : way_to s ws ≡ Some (way, outer)
   pub world : World
   pub silently : Silently w world
-  pub cut_at : Option ℕ
-  pub ctx : List Around
-  pub same : r ≡ unwound (search g) ctx (choose (search g) Plain s (branches_cut s cut_at way.others) n world)
-  pub choices : cut_to s cs ≡ resumed_at s cut_at ctx
-  pub ways_are : ways ctx ≡ outer
+  pub gatherings : length world.gathered ≡ way.height
+  pub stands : (path : Path) (work : ℕ) → way.others ≡ Enter path work ∷ [] → Stands g (cut_to s cs) outer path n (begun path.registers work world) r
 
 -- ## The rules
 
@@ -141,14 +146,16 @@ pub record Keeps : Type 0 where
   pub passes_leave : (g : Game) (cs : List Live) (ws : List Way) (t : ℕ) (outer : Option ℕ) (steps : List Step) (r : Registers) (n : ℕ) (w : World) (run : Run) → Stands g cs ws (path_of (Leave t outer ∷ steps) r) n w run → Stands g (cut_to t cs) ws (path_of steps (record r { stoppable = outer })) n w run
   -- At an answer of what is negated the choices inside it and its way on are dropped, and it fails.
   pub passes_refuse : (g : Game) (cs : List Live) (ws : List Way) (t : ℕ) (steps : List Step) (r : Registers) (n : ℕ) (w : World) (run : Run) → Stands g cs ws (path_of (Refuse t ∷ steps) r) n w run → Failed g (cut_to t cs) n w run
+  -- At an answer of what is gathered the term is kept, and it fails.
+  pub passes_keep : (g : Game) (cs : List Live) (ws : List Way) (t : ℕ) (x : Term) (steps : List Step) (r : Registers) (n : ℕ) (w : World) (run : Run) → Stands g cs ws (path_of (Keep t x ∷ steps) r) n w run → Failed g cs n (kept t x w) run
   -- At an answer of what is exhausted it fails.
   pub passes_back : (g : Game) (cs : List Live) (ws : List Way) (steps : List Step) (r : Registers) (n : ℕ) (w : World) (run : Run) → Stands g cs ws (path_of (Back ∷ steps) r) n w run → Failed g cs n w run
   -- A failure goes back to the newest choice.
-  pub fails : (g : Game) (cs : List Live) (n : ℕ) (w : World) (run : Run) → IsQuiet w → Failed g cs n w run → FailsTo g n w run cs
+  pub fails : (g : Game) (cs : List Live) (n : ℕ) (w : World) (run : Run) → Failed g cs n w run → FailsTo g n w run cs
   -- Its next branch begins, and the choice is kept while it has more.
-  pub begins_next : (g : Game) (c : Live) (cs : List Live) (b : Branch) (bs : List Branch) (n : ℕ) (w : World) (run : Run) → c.others ≡ b ∷ bs → IsQuiet w → c.height ≡ 0 → Resumed g c cs n w run → Began g (pushed bs (record c { others = bs }) cs) c.ways_on b n (retried c.kind w) run
+  pub begins_next : (g : Game) (c : Live) (cs : List Live) (b : Branch) (bs : List Branch) (n : ℕ) (w : World) (run : Run) → c.others ≡ b ∷ bs → Resumed g c cs n w run → Began g (pushed bs (record c { others = bs }) cs) c.ways_on b n (retried c.kind w) run
   -- A goal is taken where the budget has one, and its move says where it goes on.
-  pub takes : (g : Game) (cs : List Live) (ws : List Way) (x : Goal) (t : ℕ) (steps : List Step) (r : Registers) (n : ℕ) (w : World) (run : Run) → (let m = move g (out-Goal x) t steps r (worked 1 w) in IsQuiet w → IsQuiet (world_of m) → Stands g cs ws (path_of (Do x t ∷ steps) r) (suc n) w run → After g cs ws n m run)
+  pub takes : (g : Game) (cs : List Live) (ws : List Way) (x : Goal) (t : ℕ) (steps : List Step) (r : Registers) (n : ℕ) (w : World) (run : Run) → Stands g cs ws (path_of (Do x t ∷ steps) r) (suc n) w run → After g cs ws n (move g (out-Goal x) t steps r (worked 1 w)) run
   -- Where the budget has none the run ends at its limit.
   pub limited : (g : Game) (cs : List Live) (ws : List Way) (x : Goal) (t : ℕ) (steps : List Step) (r : Registers) (w : World) (run : Run) → Stands g cs ws (path_of (Do x t ∷ steps) r) 0 w run → Finished 0 w (End StepLimit) run
   -- Without a step the run is done.

@@ -23,6 +23,7 @@ exhausted k w = w
 
 -- ## The branches of a choice
 
+-- The path of these steps and registers.
 abbrev pub path_of : List Step → Registers → Path
 path_of steps r = record { steps = steps; registers = r }
 

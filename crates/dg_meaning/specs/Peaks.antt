@@ -20,12 +20,14 @@ greatest Trail m = m.trail
 greatest Aux m = m.aux
 greatest Keep m = m.keep
 
+-- The limit of an area.
 abbrev pub limit_of : Area → Limits → ℕ
 limit_of Heap l = l.heap
 limit_of Trail l = l.trail
 limit_of Aux l = l.aux
 limit_of Keep l = l.keep
 
+-- The ending of a run that met the limit of an area.
 abbrev pub limit_ending : Area → Ending
 limit_ending Heap = HeapLimit
 limit_ending Trail = TrailLimit

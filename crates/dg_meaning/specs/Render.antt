@@ -6,14 +6,17 @@ use Rattle.dg_meaning.specs.World.{Print, Piece, GapOf, SpacesOf}
 
 -- ## The gap between two pieces
 
+-- It is a (line).
 abbrev pub is_line : Print → Bool
 is_line (GapOf Line) = true
 is_line e = false
 
+-- It is a (par).
 abbrev pub is_par : Print → Bool
 is_par (GapOf Par) = true
 is_par e = false
 
+-- It is an (uppercase).
 abbrev pub is_upper : Print → Bool
 is_upper (GapOf Upper) = true
 is_upper e = false
@@ -26,6 +29,7 @@ spaces_from n (GapOf Par ∷ gap) = spaces_from 0 gap
 spaces_from n (SpacesOf k ∷ gap) = spaces_from (min (n + k) 16383) gap
 spaces_from n (e ∷ gap) = spaces_from n gap
 
+-- The spaces that a gap asks for.
 abbrev pub spaces_of : List Print → List ℕ
 spaces_of gap = replicate (spaces_from 0 gap) 32
 
@@ -61,6 +65,7 @@ separator gap (Some before) after =
 
 -- ## Pieces
 
+-- The capital of a letter from a to z, and else the byte itself.
 abbrev pub upper : ℕ → ℕ
 upper b = if nat_le 97 b && nat_le b 122 then b - 32 else b
 
@@ -69,6 +74,7 @@ abbrev pub capital : List Print → List ℕ → List ℕ
 capital gap [] = []
 capital gap (b ∷ bs) = (if list_any is_upper gap then upper b else b) ∷ bs
 
+-- The first of some bytes, or 0 where there is none.
 abbrev pub first_of : List ℕ → ℕ
 first_of [] = 0
 first_of (b ∷ bs) = b
@@ -83,6 +89,7 @@ pub record Met : Type 0 where
   pub last : Option ℕ
   pub gap : List Print
 
+-- What the first piece meets.
 abbrev pub nothing_met : Met
 nothing_met = record { last = None; gap = [] }
 
@@ -98,10 +105,12 @@ met_behind m e = record m { gap = m.gap ++ e ∷ [] }
 
 -- ## The text
 
+-- What is met behind these things.
 abbrev pub met_from : Met → List Print → Met
 met_from m [] = m
 met_from m (e ∷ es) = met_from (met_behind m e) es
 
+-- The bytes by which these things make the text grow.
 abbrev pub render_from : Met → List Print → List ℕ
 render_from m [] = []
 render_from m (e ∷ es) = written m e ++ render_from (met_behind m e) es

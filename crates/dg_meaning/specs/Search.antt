@@ -10,6 +10,7 @@ use Rattle.dg_meaning.specs.Moves.{exhausted, move}
 abbrev pub Search : Type 0
 Search = ℕ → Path → World → Answer
 
+-- The answer of these three.
 abbrev pub answer : ℕ → World → Result → Answer
 answer n w r = record { left = n; world = w; result = r }
 
@@ -23,19 +24,22 @@ cut_result t (StopTo s None) = StopTo s (Some t)
 cut_result t (StopTo s (Some c)) = StopTo s (Some (min c t))
 cut_result t (End e) = End e
 
+-- The answer behind a mark that cuts to t.
 abbrev pub cut : ℕ → Answer → Answer
 cut t a = answer a.left a.world (cut_result t a.result)
 
 -- A cut to a choice older than t, in front of steps.
 abbrev pub cut_first : ℕ → Option ℕ → List Step → List Step
 cut_first t None steps = steps
-cut_first t (Some c) steps = if nat_lt t c then steps else Cut c ∷ steps
+cut_first t (Some c) steps = if nat_lt c t then Cut c ∷ steps else steps
 
+-- A branch with such a cut in front of its steps.
 abbrev pub branch_cut : ℕ → Option ℕ → Branch → Branch
 branch_cut t c (Enter path work) = Enter (record path { steps = cut_first t c path.steps }) work
 branch_cut t c (Clash r) = Clash r
 branch_cut t c (TakeOut u path) = TakeOut u (record path { steps = cut_first t c path.steps })
 
+-- Branches with such a cut in front of the steps of each.
 abbrev pub branches_cut : ℕ → Option ℕ → List Branch → List Branch
 branches_cut t c [] = []
 branches_cut t c (b ∷ bs) = branch_cut t c b ∷ branches_cut t c bs
@@ -73,6 +77,7 @@ after_branch k t n w (End e) next stopped = answer n (leave k t w) (End e)
 abbrev pub begun : Registers → ℕ → World → World
 begun r work w = worked work (reached r.heap r.trail w)
 
+-- A branch begins, and s searches what it goes on with.
 abbrev pub begin : Search → Branch → ℕ → World → Answer
 begin s (Enter path work) n w = s n path (begun path.registers work w)
 begin s (Clash r) n w = answer n (begun r 0 w) Failing

@@ -16,12 +16,14 @@ pub record Run : Type 0 where
   pub world : World
   pub ending : Ending
 
+-- The ending of a run whose search gives this result.
 abbrev pub ending_of : Result → Ending
 ending_of Failing = Failed-Ending
 ending_of (CutFail t) = Failed-Ending
 ending_of (StopTo s c) = Stopped
 ending_of (End e) = e
 
+-- The run whose search gives this answer.
 abbrev pub run_of : Answer → Run
 run_of a = record { left = a.left; world = a.world; ending = ending_of a.result }
 
