@@ -1,7 +1,7 @@
 -- A parenthesis that is a query closes as one.
-use Rattle.std.proofs.Common.{◌≡◌, List, [], ◌∷◌, Bool, true, false, Option, Some, None, map, refl, sym, ◌∙◌, ap, subst}
+use Rattle.std.proofs.Common.{◌≡◌, List, [], ◌∷◌, Bool, false, Option, Some, None, map, sym, ◌∙◌, ap}
 use Rattle.std.specs.Prelude.{IsTrue}
-use Rattle.dg_base.specs.Tree.{Parts, part, Stmt, Value, nested, parts_of}
+use Rattle.dg_base.specs.Tree.{Parts, Stmt, Value, nested, parts_of}
 use Rattle.dg_base.specs.TreeView.{part_view}
 use Rattle.dg_base.specs.declared.tree.Part as code
 use Rattle.dg_reader.specs.Grammar.{Keyword, Sign, keyword_of}

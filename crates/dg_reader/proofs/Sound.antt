@@ -1,15 +1,12 @@
 -- What is taken token by token is spelled by what stands open.
-use Rattle.std.proofs.Common.{◌≡◌, ◌⊎◌, inl, inr, ℕ, List, [], ◌∷◌, ◌++◌, Bool, true, false, not, Option, Some, None, refl, sym, ◌∙◌, ap, subst}
-use Rattle.std.specs.Prelude.{codes, ◌&&◌, if◌then◌else◌}
-use Rattle.std.specs.Str.{bytes_eq}
-use Rattle.dg_base.specs.declared.program.Mode.{Mode}
-use Rattle.dg_base.specs.Tree.{Part, part_word, part_value, Parts, no_parts, part, Value, num, dict_word, object_name, current_topic, anonymous, variable, plain_list, tailed_list, closure, nested, word_choice, Values, no_values, value, Stmt, text, print, ask, ask_all, ask_not, group, not_group, now, choice, choice_else, exhaust, stoppable, collect, accumulate, select, first_answer, Stmts, no_stmts, stmt, Body, no_branches, branch, Arms, no_arms, arm, Changes, no_changes, change, parts_of, values_of, stmts_of, branches_of, arms_of, changes_of}
-use Rattle.dg_reader.specs.Tokens.{Tok, word, dict, object, var, anon, at, hash, open_round, close_round, open_square, close_square, open_brace, close_brace, bar, star, tilde, are_digits, number_of, word_parts, are_several, is_choice}
-use Rattle.dg_reader.specs.Grammar.{Bare, now_word, if_word, then_word, elseif_word, else_word, endif_word, or_word, exhaust_word, stoppable_word, select_word, end_word, Keyword, bare, collect_word, accumulate_word, into_word, keyword_words, keyword_of, keyword_with, is_query, IsQuery, Follow, OneAt, TokenAt, Where, WordsAt, KeywordAt, Parenthesis, WordAndValue, Place, of_head, of_nested, of_query, of_list, behind_bar, printed, has_choices, TakesQuery, SpellsNumber, IsWhole, SpellsElement, SpellsWord, SpellsChoice, IsPrinted, HasElement, HasArm, IsOneChange, ChangeSignAt, PartAt, PartsAt, ValueAt, ElementsAt, StmtAt, StmtsAt, BodyAt, BranchesAt, ArmsAt, ChangesAt, Sign, plain_rule, negated, access_rule, Shape, topic_line, clause, is_declaration, head_place, SignAt, ShapeAt, IsEnd, InItem, HasShape, IsUnclosed, IsUnexpected, IsDecided}
-use Rattle.dg_reader.specs.Grammar.{are_words, keyword_among, bare_keywords}
-use Rattle.dg_reader.specs.Machine.{Asking, for_one, for_all, for_none, Owner, of_item, of_group, of_not_group, of_closure, of_condition, of_then, of_else, of_select, of_collect, of_accumulate, Wrapper, exhausting, stopping, Frame, start, start_of, whole_topic, in_head, in_nested, in_query, in_change, in_list, in_tail, in_list_end, behind_star, behind_tilde, behind_now, in_changes, behind_clear, in_body, Stack, asked, wrap, wrapped, body_of, new_body, put_stmt, put_part, put_element, put_value, put_printed, put_number, word_part, element_of, word_element, word_value, put_word, put_change, choices_in, takes_value, is_body, open_list, open_body, open_paren, end_of, end_unless_waiting, keyword_step, body_keyword, head_closes, nested_closes, query_closes, change_closes, close_paren, close_list, body_closes, close_body, list_bar, put_bar, put_star, put_tilde, put_at, put_object, step, run, finished, Outcome, done, unclosed, unexpected, at_end, outcome_from, outcome}
-use Rattle.dg_reader.proofs.More.{Leads, HandsOn, one_more, token_more, where_more, words_more, keyword_more, change_sign_more, sign_more, word_and_value_more, parts_more, value_more, elements_more, stmts_more, body_more, arms_more, changes_more, parenthesis_more}
-use Rattle.dg_reader.proofs.Spelled.{next_arm, HasArms, OwnerAt, EarlierAt, wrapper_word, WaitingAt, AskingAt, FrameAt, StackAt, earlier_more, asking_more, body_frame_more, frame_more, stack_more, parts-push, elements-push, stmts-push, changes-push, earlier-push, arms-push, next_arm-push, HasArms-push, HasArm-of, body-spelled, waiting-push, wrapped-spelled, word_in_head, value_in_head}
+use Rattle.std.proofs.Common.{◌≡◌, ℕ, List, [], ◌∷◌, ◌++◌, Bool, true, false, Option, Some, None, refl, sym, ◌∙◌, ap, subst}
+use Rattle.std.specs.Prelude.{if◌then◌else◌}
+use Rattle.dg_base.specs.Tree.{Part, part_word, part_value, Value, num, dict_word, object_name, current_topic, word_choice, Stmt, text, print, parts_of, stmts_of}
+use Rattle.dg_reader.specs.Tokens.{Tok, word, dict, object, open_round, open_square, star, are_digits, number_of, word_parts, are_several}
+use Rattle.dg_reader.specs.Grammar.{Follow, OneAt, TokenAt, Place, of_head, of_nested, of_query, of_list, behind_bar, printed, has_choices, SpellsNumber, SpellsElement, SpellsWord, SpellsChoice, IsPrinted, ChangeSignAt, PartAt, PartsAt, ValueAt, StmtAt, StmtsAt, head_place, SignAt}
+use Rattle.dg_reader.specs.Machine.{Owner, of_item, of_closure, Frame, start, start_of, whole_topic, in_head, in_nested, in_query, in_change, in_list, in_tail, in_list_end, behind_star, behind_tilde, behind_now, in_changes, behind_clear, in_body, Stack, wrapped, put_stmt, put_part, put_element, put_value, put_printed, put_number, word_part, element_of, word_element, word_value, put_word, put_star, put_object}
+use Rattle.dg_reader.proofs.More.{Leads}
+use Rattle.dg_reader.proofs.Spelled.{OwnerAt, EarlierAt, AskingAt, FrameAt, StackAt, stack_more, parts-push, elements-push, stmts-push, wrapped-spelled, word_in_head, value_in_head}
 
 -- ---- which construct stands over which
 

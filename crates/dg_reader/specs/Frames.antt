@@ -1,9 +1,6 @@
 -- What stands open in the reader, as the machine's stack. The proofs alone rest on it.
-use Rattle.std.specs.Prelude.{◌≡◌, ℕ, List, [], ◌∷◌, ◌++◌, Option, Some, None, Result, Ok, Err, map, reverse, Vec}
-use Rattle.std.specs.declared.alloc.Global.{Global}
-use Rattle.dg_base.specs.Tree as tree
+use Rattle.std.specs.Prelude.{◌≡◌, List, Option, Some, None, Result, Ok, Err, map, reverse}
 use Rattle.dg_base.specs.TreeView.{part_view, value_view, stmt_view, arm_view, body_view, head_view, change_view, branch_view}
-use Rattle.dg_base.specs.declared.tree.Part.{Part}
 use Rattle.dg_reader.specs.Grammar as grammar
 use Rattle.dg_reader.specs.Machine as machine
 use Rattle.dg_reader.specs.declared.frames.Sign.{Sign}

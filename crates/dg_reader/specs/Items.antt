@@ -1,5 +1,5 @@
 -- What the reader answers for one item, in the words of reading token by token. The proofs alone rest on it.
-use Rattle.std.specs.Prelude.{◌≡◌, ◌+◌, ◌<◌, ℕ, List, [], ◌∷◌, take, length, map, Option, Some, None, Result, Ok, Err, IsSome}
+use Rattle.std.specs.Prelude.{◌≡◌, ◌+◌, ◌<◌, ℕ, List, [], ◌∷◌, take, length, map, Some, None, Result, Ok, Err}
 use Rattle.dg_base.specs.TreeView.{head_view, body_view}
 use Rattle.dg_reader.specs.Grammar.{Shape, topic_line, clause}
 use Rattle.dg_reader.specs.Tokens.{Tok}

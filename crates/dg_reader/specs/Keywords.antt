@@ -1,5 +1,5 @@
 -- The keywords of the code. The proofs alone rest on it.
-use Rattle.std.specs.Prelude.{◌≡◌, ◌∷◌, [], ℕ, List, Bool, true, false, Option, Some, None, map, codes, if◌then◌else◌}
+use Rattle.std.specs.Prelude.{◌≡◌, ◌∷◌, [], ℕ, List, Bool, false, Option, Some, None, map, codes, if◌then◌else◌}
 use Rattle.std.specs.Str.{bytes_eq}
 use Rattle.dg_base.specs.Tree as tree
 use Rattle.dg_base.specs.TreeView.{part_view}

@@ -1,9 +1,8 @@
 -- Reading token by token, with no token looked at ahead: what stands open, the innermost first. The proofs alone rest on it.
-use Rattle.std.specs.Prelude.{◌≡◌, ◌&&◌, ℕ, List, [], ◌∷◌, ◌++◌, Bool, true, false, not, Option, Some, None, option_and_then, if◌then◌else◌}
-use Rattle.dg_base.specs.Tree.{Part, part_word, part_value, Parts, no_parts, part, Value, num, dict_word, object_name, current_topic, anonymous, variable, plain_list, tailed_list, closure, nested, word_choice, Stmt, text, print, ask, ask_all, ask_not, group, not_group, now, choice, choice_else, exhaust, stoppable, collect, accumulate, select, Stmts, Body, Changes, parts_of, values_of, stmts_of, branches_of, arms_of, changes_of}
-use Rattle.dg_base.specs.declared.program.Mode.{Mode}
+use Rattle.std.specs.Prelude.{◌&&◌, ℕ, List, [], ◌∷◌, ◌++◌, Bool, true, false, not, Option, Some, None, option_and_then, if◌then◌else◌}
+use Rattle.dg_base.specs.Tree.{Part, part_word, part_value, Parts, no_parts, part, Value, num, dict_word, object_name, current_topic, anonymous, variable, plain_list, tailed_list, closure, nested, word_choice, Stmt, text, print, ask, ask_all, ask_not, group, not_group, now, choice, choice_else, exhaust, stoppable, collect, accumulate, select, Stmts, Body, parts_of, values_of, stmts_of, branches_of, arms_of, changes_of}
 use Rattle.dg_reader.specs.Tokens.{Tok, word, dict, object, var, anon, at, hash, open_round, close_round, open_square, close_square, open_brace, close_brace, bar, star, tilde, are_digits, number_of, word_parts, are_several}
-use Rattle.dg_reader.specs.Grammar.{Bare, now_word, if_word, then_word, elseif_word, else_word, endif_word, or_word, exhaust_word, stoppable_word, select_word, end_word, Keyword, bare, collect_word, accumulate_word, into_word, keyword_of, is_declaration, Sign, plain_rule, negated, access_rule, Shape, topic_line, clause}
+use Rattle.dg_reader.specs.Grammar.{now_word, if_word, then_word, elseif_word, else_word, endif_word, or_word, exhaust_word, stoppable_word, select_word, end_word, Keyword, bare, collect_word, accumulate_word, into_word, keyword_of, is_declaration, Sign, plain_rule, negated, access_rule, Shape, topic_line, clause}
 
 -- What asks: a query for one answer, for all answers, or for none.
 pub data Asking : Type 0 where

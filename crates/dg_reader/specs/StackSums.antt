@@ -1,6 +1,6 @@
 -- What stands open weighs what was read of it. The proofs alone rest on it.
-use Rattle.std.specs.Prelude.{◌+◌, ℕ, List, [], ◌∷◌, Bool, Option, Some, None}
-use Rattle.dg_base.specs.Tree.{Part, Parts, Value, Stmt, Stmts, Body, parts_of, values_of, stmts_of, branches_of, arms_of, changes_of}
+use Rattle.std.specs.Prelude.{◌+◌, ℕ, [], ◌∷◌, Option, Some, None}
+use Rattle.dg_base.specs.Tree.{Parts, parts_of, values_of, stmts_of, branches_of, arms_of, changes_of}
 use Rattle.dg_reader.specs.Tokens.{Tok, close_round, star}
 use Rattle.dg_reader.specs.Grammar.{Keyword, keyword_of}
 use Rattle.dg_reader.specs.Machine.{Owner, of_item, of_condition, of_then, of_else, of_collect, of_accumulate, Frame, in_head, in_nested, in_query, in_change, in_list, in_tail, in_list_end, in_changes, in_body, Stack}

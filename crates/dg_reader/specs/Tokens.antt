@@ -1,5 +1,5 @@
 -- Tokens as the grammar sees them, numbers, and choices of words: hold them against the chapters of the Dialog manual on the syntax and on values.
-use Rattle.std.specs.Prelude.{◌≡◌, ◌&&◌, ◌+◌, ◌*◌, ◌-◌, ◌++◌, ℕ, List, [], ◌∷◌, Bool, true, false, not, Option, Some, None, nat_eq, nat_le, if◌then◌else◌}
+use Rattle.std.specs.Prelude.{◌&&◌, ◌+◌, ◌*◌, ◌-◌, ◌++◌, ℕ, List, [], ◌∷◌, Bool, true, false, not, Option, Some, None, nat_eq, nat_le, if◌then◌else◌}
 
 -- A token: its kind, and for a word or a name its text without escapes.
 pub data Tok : Type 0 where

@@ -1,5 +1,5 @@
 -- How many refused names, and how many values that stand for the topic, an item has.
-use Rattle.std.specs.Prelude.{◌≡◌, ℕ, Bool, true, nat_lt, if◌then◌else◌}
+use Rattle.std.specs.Prelude.{ℕ, Bool, nat_lt, if◌then◌else◌}
 use Rattle.dg_base.specs.Tree.{Parts}
 use Rattle.dg_reader.specs.Grammar.{Shape}
 use Rattle.dg_reader.specs.Sums.{shape_sum}

@@ -1,5 +1,5 @@
 -- From one program or refusal to the answers on a source.
-use Rattle.std.proofs.Common.{◌≡◌, ◌⊎◌, inl, inr, ℕ, List, Option, Some, None, Result, Ok, Err, Bool, IsTrue, subst, refl}
+use Rattle.std.proofs.Common.{◌≡◌, ◌⊎◌, inl, inr, ℕ, List, Option, Some, None, Ok, Err, Bool, IsTrue, subst, refl}
 use Rattle.std.specs.Prelude.{IsSome}
 use Rattle.dg_base.specs.Causes.{Rose}
 use Rattle.dg_base.specs.Shelves.{Told, held, WhereTold}
@@ -8,8 +8,6 @@ use Rattle.dg_base.specs.Written.{SinkView, Wrote, BrokeOff}
 use Rattle.dg_base.specs.declared.program.CoreProgram.{CoreProgram as Core}
 use Rattle.dg_base.specs.declared.refusal.Refusal.{Refusal}
 use Rattle.dg_meaning.specs.Transcript.{no_memory_line}
-use Rattle.dg_meaning.specs.Shows.{MayWrite, ShowsNoMemory}
-use Rattle.dg_interp.specs.Interpret.{game, ForTyped, HasShown, HasLostInput, HasLostOutput, HasLostMemory}
 use Rattle.dialog_tool.specs.Source.{Compiles}
 use Rattle.dialog_tool.specs.Answers
 

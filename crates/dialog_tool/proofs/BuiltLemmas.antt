@@ -1,11 +1,11 @@
 -- The core program of plain items holds only what the interpreter runs.
-use Rattle.std.proofs.Common.{◌≡◌, ◌&&◌, ◌++◌, ◌<◌, ◌⊎◌, inl, inr, ℕ, List, [], ◌∷◌, Bool, true, false, Option, Some, None, map, length, refl, sym, subst, arith, if◌then◌else◌}
+use Rattle.std.proofs.Common.{◌≡◌, ℕ, List, [], ◌∷◌, Bool, true, false, Option, Some, None, map, refl, sym, subst, arith, if◌then◌else◌}
 use Rattle.std.specs.List.{All, flat_map}
 use Rattle.std.specs.Str.{bytes_eq}
 use Rattle.std.proofs.lemmas.Bool.{and_parts}
 use Rattle.std.proofs.lemmas.List.Elements.{All-cons, All-append, All-map}
 use Rattle.dg_base.specs.Heads.{name_of}
-use Rattle.dg_base.specs.Tree.{Stmt, text, print, ask, ask_all, ask_not, group, not_group, now, choice, choice_else, exhaust, stoppable, collect, accumulate, select, first_answer, Stmts, no_stmts, stmt, Body, no_branches, branch, Said, topic, rule, deny, access, global_variable, Item}
+use Rattle.dg_base.specs.Tree.{Stmt, text, ask, Stmts, no_stmts, stmt, Body, no_branches, branch, Said, topic, rule, Item}
 use Rattle.dg_base.specs.TreeView.{item_view}
 use Rattle.dg_base.specs.declared.tree.Item.{Item as CodeItem}
 use Rattle.dg_base.specs.declared.program.CoreProgram.{CoreProgram as Core}

@@ -1,5 +1,5 @@
 -- One item, from the answer for its tokens, and items one after another.
-use Rattle.std.proofs.Common.{◌≡◌, ◌&&◌, ◌<◌, ◌≤◌, ◌+◌, ◌-◌, ℕ, zero, suc, List, [], ◌∷◌, ◌++◌, length, take, drop, map, get_or, Bool, true, false, not, Option, Some, None, Err, refl, sym, ◌∙◌, ap, subst, arith, add-one, length-drop}
+use Rattle.std.proofs.Common.{◌≡◌, ◌&&◌, ◌<◌, ◌+◌, ◌-◌, ℕ, zero, suc, List, [], ◌∷◌, ◌++◌, length, take, drop, map, get_or, Bool, true, false, not, None, Err, refl, sym, ◌∙◌, ap, subst, arith, add-one, length-drop}
 use Rattle.std.specs.Prelude.{option_and_then}
 use Rattle.std.proofs.lemmas.List.{append-nil, map-append, take-append-drop, take_all, take_more, drop-drop}
 use Rattle.dg_base.specs.Tree.{Item}
@@ -40,9 +40,9 @@ stops_unexpected ts index h =
     let back : List Token = drop (index + 1) ts in
     let split : map token_view ts ≡ map token_view front ++ map token_view back = ap (map token_view) (sym (take-append-drop (index + 1) ts)) ∙ map-append token_view front back in
     let none : run (map token_view ts) (start ∷ []) ≡ None =
-        ap (λ (l : List Tok). run l (start ∷ [])) split
-        ∙ run-append (map token_view front) (map token_view back) (start ∷ [])
-        ∙ ap (option_and_then (run (map token_view back))) h.stops in
+    ap (λ (l : List Tok). run l (start ∷ [])) split
+    ∙ run-append (map token_view front) (map token_view back) (start ∷ [])
+    ∙ ap (option_and_then (run (map token_view back))) h.stops in
     says (map token_view ts) unexpected (ap outcome_from none)
 
 -- ## One item
@@ -154,9 +154,9 @@ pub alone_here : (ts : List Token) (at n : ℕ) → all_behind (map seen (take n
 alone_here ts at n h =
     let count : at + (n + 1) - at ≡ n + 1 = omega arith in
     let same : drop 1 (take (at + (n + 1) - at) (drop at ts)) ≡ take n (take (length ts - (at + 1)) (drop (at + 1) ts)) =
-        ap (λ (c : ℕ). drop 1 (take c (drop at ts))) count
-        ∙ drop_take (drop at ts) n
-        ∙ ap (take n) (drop-drop 1 at ts ∙ sym (rest_all ts (at + 1))) in
+    ap (λ (c : ℕ). drop 1 (take c (drop at ts))) count
+    ∙ drop_take (drop at ts) n
+    ∙ ap (take n) (drop-drop 1 at ts ∙ sym (rest_all ts (at + 1))) in
     ap (λ (l : List Token). all_behind (map seen l)) same ∙ h
 
 behind_here : (ts : List Token) (at n : ℕ) → drop (n + 1) (drop at ts) ≡ drop n (take (length ts - (at + 1)) (drop (at + 1) ts))
@@ -174,9 +174,9 @@ pub read_stops : (ts : List Token) (items : List Item) (at n : ℕ) (fault : Rea
 read_stops ts items at n fault so here alone ends =
     let count : at + (n + 1) - at ≡ n + 1 = omega arith in
     fault_map _ _ (λ r h. refused_here ts items at (n + 1) r so
-        (subst (λ (k : ℕ). IsRefusedAt (map seen (take k (drop at ts))) r) count h)
-        (ap all_behind (drop_seen (take (n + 1) (drop at ts))) ∙ ap (λ (k : ℕ). all_behind (map seen (drop 1 (take k (drop at ts))))) (sym count) ∙ alone_here ts at n alone)
-        (ap (λ (l : List Token). begins_item (map seen l)) (behind_here ts at n) ∙ ends)) fault here
+    (subst (λ (k : ℕ). IsRefusedAt (map seen (take k (drop at ts))) r) count h)
+    (ap all_behind (drop_seen (take (n + 1) (drop at ts))) ∙ ap (λ (k : ℕ). all_behind (map seen (drop 1 (take k (drop at ts))))) (sym count) ∙ alone_here ts at n alone)
+    (ap (λ (l : List Token). begins_item (map seen l)) (behind_here ts at n) ∙ ends)) fault here
 
 all_behind-push : (ts : List Seen) (t : Seen) → all_behind ts ≡ true → t.first ≡ false → all_behind (ts ++ t ∷ []) ≡ true
 all_behind-push [] t h k = ap (λ (b : Bool). not b && true) k

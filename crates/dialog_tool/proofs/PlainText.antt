@@ -1,12 +1,11 @@
 -- A text without foreign characters has no bad one.
-use Rattle.std.proofs.Common.{◌≡◌, ◌≤◌, ◌<◌, ◌+◌, ◌&&◌, ◌||◌, ℕ, zero, suc, slice_index, lit<, List, [], ◌∷◌, Bool, true, false, not, nat_eq, nat_le, nat_lt, Option, Some, None, ◌⊎◌, inl, inr, length, take, refl, sym, ap, ◌∙◌, subst, arith, if◌then◌else◌}
-use Rattle.std.proofs.lemmas.Bool.{or_parts, or_from}
+use Rattle.std.proofs.Common.{◌≡◌, ◌≤◌, ◌<◌, ◌+◌, ℕ, zero, suc, slice_index, lit<, List, [], ◌∷◌, Bool, true, false, not, nat_eq, nat_lt, Some, None, ◌⊎◌, inl, inr, length, take, refl, arith, if◌then◌else◌}
+use Rattle.std.proofs.lemmas.Bool.{or_parts}
 use Rattle.std.proofs.lemmas.Bool.Decides.{nat_tests}
 use Rattle.std.proofs.lemmas.Grind.{common_steps}
 use Rattle.dg_base.specs.declared.refusal.Refusal.{Refusal}
 use Rattle.dg_base.specs.declared.refusal.ReadFault.{ReadFault}
 use Rattle.dg_base.specs.declared.refusal.ReadFault.TheVariants.{Refused, OutOfMemory}
-use Rattle.dg_lex.specs.Chars.{is_control, begins_too_high, is_blank}
 use Rattle.std.specs.Str.Lossy.{utf8_valid_len}
 use Rattle.std.proofs.lemmas.Str.{utf8_valid_len-IsUtf8, IsUtf8-from_ascii}
 use Rattle.std.proofs.Math.Seq.{take-length}

@@ -1,5 +1,5 @@
 -- Tokens are read in one way.
-use Rattle.std.proofs.Common.{◌≡◌, ◌&&◌, ℕ, List, [], ◌∷◌, ◌++◌, Bool, true, false, not, map, Result, Ok, Err, refl, sym, ◌∙◌, ap, subst}
+use Rattle.std.proofs.Common.{◌≡◌, List, [], ◌∷◌, ◌++◌, Bool, true, false, not, Result, Ok, Err, refl, sym, ◌∙◌, ap, subst}
 use Rattle.std.proofs.lemmas.Bool.{and_parts}
 use Rattle.std.proofs.lemmas.List.{append-nil}
 use Rattle.dg_base.specs.Tree.{Item}
@@ -8,9 +8,9 @@ use Rattle.dg_base.specs.declared.refusal.Kind.{Kind}
 use Rattle.dg_base.specs.declared.refusal.Kind.TheVariants.{Unclosed, Unexpected}
 use Rattle.dg_lex.specs.Tokens.{Seen}
 use Rattle.dg_reader.specs.Tokens.{Tok}
-use Rattle.dg_reader.specs.Grammar.{Shape, InItem, HasShape, IsUnclosed, IsUnexpected}
+use Rattle.dg_reader.specs.Grammar.{Shape, InItem, HasShape}
 use Rattle.dg_reader.proofs.Laws.{shape_decided}
-use Rattle.dialog_tool.specs.Read.{toks, all_behind, begins_item, IsFront, item_of, IsItemAt, ReadTo, IsRefusedAt, not_closed, not_expected, IsRefusedIn, IsRead}
+use Rattle.dialog_tool.specs.Read.{toks, all_behind, begins_item, IsFront, item_of, IsItemAt, ReadTo, IsRefusedAt, not_closed, not_expected, IsRead}
 
 -- ## Fronts
 
@@ -66,6 +66,7 @@ item_one ts i j r r' h k =
   where
     back : (f g : Seen) (o p : List Seen) → f ≡ g → o ≡ p → (s : Shape) → InItem g.first (toks (g ∷ p)) s → InItem f.first (toks (f ∷ o)) s
     back f g o p e d s x = subst (λ (u : Seen). InItem u.first (toks (u ∷ o)) s) (sym e) (subst (λ (l : List Seen). InItem g.first (toks (g ∷ l)) s) (sym d) x)
+
     items : (f g : Seen) (s t : Shape) → f ≡ g → s ≡ t → item_of f s ≡ item_of g t
     items f g s t e d = cc
 

@@ -1,5 +1,5 @@
 -- A source has one answer.
-use Rattle.std.proofs.Common.{◌≡◌, ◌<◌, ◌≤◌, ℕ, List, [], map, length, Option, Some, None, false, Result, Ok, Err, refl, sym, ◌∙◌, ap, subst, arith}
+use Rattle.std.proofs.Common.{◌≡◌, ◌≤◌, ℕ, List, map, length, Option, Some, None, false, Result, Ok, Err, refl, sym, ◌∙◌, ap, subst, arith}
 use Rattle.std.specs.Option.{option_or}
 use Rattle.dg_base.specs.Tree.{Item}
 use Rattle.dg_base.specs.TreeView.{item_view}
@@ -10,12 +10,11 @@ use Rattle.dialog_tool.proofs.FaultLemmas.{fault_map}
 use Rattle.dialog_tool.proofs.ReadLemmas.{read_one}
 use Rattle.dg_base.specs.declared.program.CoreProgram.{CoreProgram as Core}
 use Rattle.dg_base.specs.declared.refusal.Refusal.{Refusal}
-use Rattle.dg_base.specs.declared.refusal.Kind.TheVariants.{NotBuiltYet}
 use Rattle.dg_lex.specs.Tokens.{Seen, seen, without_mark}
 use Rattle.dg_lex.specs.declared.token.Token.{Token}
 use Rattle.dg_lex.proofs.One.{tokens_one}
 use Rattle.dialog_tool.specs.Scan.{IsScanned, plain_front, line_in, foreign_line}
-use Rattle.dialog_tool.specs.Plain.{core_of, refusal_of, refusal_at}
+use Rattle.dialog_tool.specs.Plain.{core_of, refusal_of}
 use Rattle.dialog_tool.specs.Read.{IsRead}
 use Rattle.dialog_tool.specs.Source.{Compiles, too_long, shows_more, not_read, refused, accepted}
 

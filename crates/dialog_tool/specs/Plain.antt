@@ -1,10 +1,9 @@
 -- The core program of plain rules: hold it against docs/LANGUAGE.md, "What runs today", and the chapter of the Dialog manual on predicates and rules.
-use Rattle.std.specs.Prelude.{◌≡◌, ℕ, ◌++◌, ◌&&◌, List, [], ◌∷◌, Bool, true, false, not, nat_lt, length, map, Option, Some, None, codes, if◌then◌else◌}
+use Rattle.std.specs.Prelude.{ℕ, ◌++◌, ◌&&◌, List, [], ◌∷◌, Bool, true, false, not, nat_lt, length, map, Option, Some, None, codes, if◌then◌else◌}
 use Rattle.std.specs.List.{position, flat_map}
 use Rattle.std.specs.Option.{is_some}
 use Rattle.std.specs.Str.{bytes_eq}
-use Rattle.dg_base.specs.Tree as tree
-use Rattle.dg_base.specs.Tree.{Parts, no_parts, part, part_word, part_value, Stmt, text, ask, Stmts, no_stmts, stmt, Body, no_branches, branch, Said, topic, rule, deny, access, global_variable, Item}
+use Rattle.dg_base.specs.Tree.{Parts, no_parts, part, part_word, part_value, Stmt, text, ask, Stmts, no_stmts, stmt, Body, no_branches, branch, Said, topic, rule, Item}
 use Rattle.dg_base.specs.Heads.{name_of}
 use Rattle.dg_base.specs.Names.{name_among, builtin_named}
 use Rattle.dg_base.specs.declared.refusal.Refusal.{Refusal}
@@ -14,7 +13,6 @@ use Rattle.dg_base.specs.declared.program.Goal.{Goal}
 use Rattle.dg_base.specs.declared.program.Goal.TheVariants.{Text, Ask, Fail}
 use Rattle.dg_base.specs.declared.program.Rule.{Rule}
 use Rattle.dg_base.specs.declared.program.Pred.{Pred}
-use Rattle.dg_base.specs.declared.program.Place.{Place}
 use Rattle.dg_base.specs.declared.program.PlaceKind.TheVariants.{Parent}
 use Rattle.dg_base.specs.declared.program.CoreProgram.{CoreProgram as Core}
 

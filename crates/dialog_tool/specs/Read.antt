@@ -1,5 +1,5 @@
 -- The items of a source, from its tokens: hold it against docs/LANGUAGE.md, "Grammar", and against docs/REFUSALS.md on unclosed constructs and unexpected tokens.
-use Rattle.std.specs.Prelude.{◌≡◌, ◌&&◌, ℕ, List, [], ◌∷◌, ◌++◌, Bool, true, false, not, map, Result, Ok, Err}
+use Rattle.std.specs.Prelude.{◌≡◌, ◌&&◌, List, [], ◌∷◌, ◌++◌, Bool, true, not, map, Result, Ok, Err}
 use Rattle.dg_base.specs.Tree.{Parts, Body, Said, topic, rule, deny, access, Item}
 use Rattle.dg_base.specs.declared.refusal.Refusal.{Refusal}
 use Rattle.dg_base.specs.declared.refusal.Kind.TheVariants.{Unclosed, Unexpected}

@@ -10,7 +10,7 @@ use Rattle.dg_lex.specs.Bad.{lines}
 use Rattle.dg_lex.specs.Tokens.{IsLexed, Seen, seen}
 use Rattle.dg_lex.specs.declared.token.Token.{Token}
 use Rattle.dg_lex.specs.declared.token.TokenKind.{TokenKind}
-use Rattle.dg_lex.specs.declared.token.TokenKind.TheVariants.{Word, Dict, Object, Var, Anon, At, Hash, RoundOpen, RoundClose, SquareOpen, SquareClose, BraceOpen, BraceClose, Bar, Star, Tilde}
+use Rattle.dg_lex.specs.declared.token.TokenKind.TheVariants.{Word, RoundOpen, RoundClose}
 use Rattle.dialog_tool.specs.Command.{are_digits}
 
 -- ---- characters

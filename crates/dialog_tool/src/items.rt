@@ -56,7 +56,10 @@ fn item_of(alloc: Global, tokens: &[Token<'_>]) -> Result<Item, ReadFault>
         return Err(refusal(Kind::Unexpected, line));
     }
     match shape_of(alloc, tokens) {
-        Ok(shape) => Ok(Item { line, body: said_of(shape) }),
+        Ok(shape) => Ok(Item {
+            line,
+            body: said_of(shape),
+        }),
         Err(ShapeFault::Unclosed) => Err(refusal(Kind::Unclosed, line)),
         Err(ShapeFault::Unexpected(_)) => Err(refusal(Kind::Unexpected, line)),
         Err(ShapeFault::OutOfMemory) => Err(ReadFault::OutOfMemory),

@@ -1,5 +1,4 @@
 use Rattle.std.proofs.Common.{Option, subst, ◌∙◌, ap}
-use Rattle.dg_base.specs.Tree as tree
 use Rattle.dg_reader.specs.Machine.{Stack, asked}
 use Rattle.dg_reader.specs.Frames.{stack_view, asking_view, Moves}
 use Rattle.dg_reader.proofs.Closed.{asks}

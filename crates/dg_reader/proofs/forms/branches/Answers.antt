@@ -1,4 +1,4 @@
-use Rattle.std.proofs.Common.{◌∙◌, ap, map, Bool}
+use Rattle.std.proofs.Common.{◌∙◌, ap, Bool}
 use Rattle.dg_base.specs.Tree as tree
 use Rattle.dg_base.specs.TreeView.{part_step, stmt_step, value_step, arm_step, body_step, head_step, change_step}
 use Rattle.dg_base.specs.declared.tree.Body.{fold-roll-Body}

@@ -1,7 +1,5 @@
-use Rattle.std.proofs.Common.{◌≡◌, ◌∙◌, ap, None}
-use Rattle.dg_reader.specs.TokenView.{token_view}
-use Rattle.dg_reader.specs.Machine.{step}
-use Rattle.dg_reader.specs.Frames.{stack_view, Moves}
+use Rattle.std.proofs.Common.{◌∙◌}
+use Rattle.dg_reader.specs.Frames.{stack_view}
 use Rattle.dg_reader.proofs.Laws.{run_more}
 use Rattle.dg_reader.proofs.item.run.Goals as goal
 

@@ -1,4 +1,4 @@
-use Rattle.std.proofs.Common.{◌≡◌, length, map, arith}
+use Rattle.std.proofs.Common.{map, arith}
 use Rattle.dg_base.specs.TreeView.{part_view}
 use Rattle.std.proofs.lemmas.List.{length-map}
 use Rattle.dg_reader.proofs.Keys.{lengths_differ}

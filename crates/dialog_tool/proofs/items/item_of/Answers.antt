@@ -1,4 +1,4 @@
-use Rattle.std.proofs.Common.{◌≡◌, ℕ, ◌∷◌, [], false, map, subst, sym, ap}
+use Rattle.std.proofs.Common.{◌≡◌, ℕ, [], map, subst, sym}
 use Rattle.dg_base.specs.Tree.{Item, Said}
 use Rattle.dg_base.specs.declared.refusal.ReadFault.{ReadFault}
 use Rattle.dg_lex.specs.Tokens.{seen}

@@ -1,4 +1,4 @@
-use Rattle.std.proofs.Common.{◌≡◌, ◌≤◌, ◌-◌, length, drop, map}
+use Rattle.std.proofs.Common.{◌≤◌, ◌-◌, length, drop, map}
 use Rattle.dg_base.specs.TreeView.{item_view}
 use Rattle.dg_lex.specs.Tokens.{seen}
 use Rattle.dialog_tool.specs.Read.{ReadTo}

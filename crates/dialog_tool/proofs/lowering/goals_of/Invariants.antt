@@ -1,7 +1,6 @@
 use Rattle.std.proofs.Common.{◌≡◌, ◌++◌, drop, map}
-use Rattle.std.specs.List.{flat_map}
-use Rattle.dg_base.specs.Tree.{stmts_of, Item}
-use Rattle.dg_base.specs.TreeView.{stmt_view, item_view}
+use Rattle.dg_base.specs.Tree.{stmts_of}
+use Rattle.dg_base.specs.TreeView.{stmt_view}
 use Rattle.dialog_tool.specs.Plain as spec
 use Rattle.dialog_tool.proofs.lowering.goals_of.Given as goal
 

@@ -1,7 +1,7 @@
-use Rattle.std.proofs.Common.{◌≡◌, ◌++◌, drop, map}
+use Rattle.std.proofs.Common.{◌≡◌, drop, map}
 use Rattle.std.specs.List.{flat_map}
-use Rattle.dg_base.specs.Tree.{stmts_of, Item}
-use Rattle.dg_base.specs.TreeView.{stmt_view, item_view}
+use Rattle.dg_base.specs.Tree.{Item}
+use Rattle.dg_base.specs.TreeView.{item_view}
 use Rattle.dialog_tool.specs.Plain as spec
 use Rattle.dialog_tool.proofs.lowering.object_names.Given as goal
 

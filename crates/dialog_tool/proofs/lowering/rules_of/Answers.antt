@@ -1,4 +1,4 @@
-use Rattle.std.proofs.Common.{◌≡◌, ◌<◌, ◌∙◌, ℕ, List, length, get_or, map, arith, ap}
+use Rattle.std.proofs.Common.{◌≡◌, ◌<◌, ◌∙◌, ℕ, List, length, get_or, map, ap}
 use Rattle.std.proofs.lemmas.List.{get_or-map, length-map}
 use Rattle.dg_base.specs.Tree.{Item as PlainItem}
 use Rattle.dg_base.specs.TreeView.{item_view}

@@ -1,6 +1,6 @@
 use Rattle.std.proofs.Common.{◌≡◌, drop, map}
-use Rattle.dg_base.specs.Tree.{parts_of, stmts_of}
-use Rattle.dg_base.specs.TreeView.{part_view, stmt_view, item_view}
+use Rattle.dg_base.specs.Tree.{parts_of}
+use Rattle.dg_base.specs.TreeView.{part_view}
 use Rattle.dialog_tool.specs.Plain as spec
 use Rattle.dialog_tool.proofs.plain.are_words.Given as goal
 

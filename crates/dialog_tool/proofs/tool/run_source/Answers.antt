@@ -1,4 +1,4 @@
-use Rattle.std.proofs.Common.{◌≡◌, inl, inr, Ok, Err}
+use Rattle.std.proofs.Common.{inl, inr, Ok, Err}
 use Rattle.dialog_tool.proofs.AnswerLemmas.{refusal_lost, run_lost, run_short, run_shown, input_lost}
 use Rattle.dialog_tool.proofs.SourceLemmas.{one_answer}
 use Rattle.dialog_tool.proofs.tool.run_source.Goals as goal
