@@ -1,0 +1,6 @@
+pub mod Again
+pub mod Found
+pub mod FoundForms
+pub mod Stays
+pub mod InstrLaws
+pub mod Runs

@@ -1,0 +1,224 @@
+-- What an instruction does, row by row (Z-Machine Standard 1.1, section 15, with 2.2 to 2.4 on numbers, 4.6 and 4.7 on stores and branches, 6.4 on calls).
+use Rattle.std.specs.Prelude.{ℕ, zero, suc, ◌+◌, ◌-◌, ◌*◌, ◌%◌, List, [], ◌∷◌, length, take, Option, Some, None, Result, Ok, Err, Bool, true, false, nat_lt, ◌==◌, ◌&&◌, ◌||◌, if◌then◌else◌, slice_get, pos, int_lt, int_div, int_rem, bit_and, bit_or}
+use lib.IntN.{ℤ, ◌+ℤ◌, ◌-ℤ◌, negsuc}
+use Rattle.z_model.specs.declared.fault.ZFault.{ZFault}
+use Rattle.z_model.specs.declared.fault.ZFault.TheVariants.{BadOpcode, OffEnd, BadWrite, BadCall, StackFull, DivideByZero, BadReturn, BadCharacter, Unsupported}
+use Rattle.z_model.specs.declared.op.Form.{Form}
+use Rattle.z_model.specs.declared.op.Form.TheVariants as forms
+use Rattle.z_model.specs.declared.op.Branch.{Branch}
+use Rattle.z_model.specs.declared.op.Op.{Op}
+use Rattle.z_model.specs.declared.end.Args.{Args}
+use Rattle.z_model.specs.declared.story.Layout.{Layout}
+use Rattle.z_model.specs.declared.end.Act.{Act}
+use Rattle.z_model.specs.declared.end.Act.TheVariants.{Goes, PrintsCode, PrintsUnicode, PrintsNumber, PrintsText, PrintsLine, Draws, Reads, Quits}
+use Rattle.z_model.specs.declared.table.Kind.TheVariants as kinds
+use Rattle.z_model.specs.declared.table.Row.{Row}
+use Rattle.z_model.specs.declared.table.Instr.{Instr}
+use Rattle.z_model.specs.declared.table.Instr.TheVariants as instrs
+use Rattle.z_model.specs.Table.{row_at}
+use Rattle.z_model.specs.Decode.{◌>>=◌, or_fault, op_at}
+use Rattle.z_model.specs.Zscii.{is_printed, is_character}
+use Rattle.z_model.specs.Text.{string_at, print_fault}
+use Rattle.z_model.specs.Machine.{Frame, Machine, byte_in, with_byte, word_in, with_word, may_write_all, words, pushed, popped, stored_if, held_in, placed, values_of}
+
+-- ---- where it goes on
+
+abbrev pub at_pc : Machine → ℕ → Machine
+at_pc m pc = record m { pc = pc }
+
+abbrev pub goes : Result Machine ZFault → Result (Act × Machine) ZFault
+goes r = r >>= λ m. Ok (Goes, m)
+
+-- an address, which may not be below 0
+abbrev pub address : ℤ → Result ℕ ZFault
+address (pos n) = Ok n
+address (negsuc n) = Err OffEnd
+
+-- the address behind, plus the offset, minus 2
+unfoldable pub jumped : Machine → ℕ → ℤ → Result Machine ZFault
+jumped m end offset = do
+  pc ← address (pos end +ℤ offset -ℤ pos 2)
+  Ok (at_pc m pc)
+
+-- the answer of a routine, for its caller to store
+abbrev pub return_to : Layout → Machine → List Frame → ℕ → Result Machine ZFault
+return_to layout m [] x = Err BadReturn
+return_to layout m (f ∷ fs) x = stored_if layout (record m { pc = m.here.back; here = f; callers = fs }) m.here.store x
+
+unfoldable pub returned : Layout → Machine → ℕ → Result Machine ZFault
+returned layout m x = return_to layout m m.callers x
+
+-- where a branch leads: offsets 0 and 1 return
+unfoldable pub branch_taken : Layout → Machine → ℕ → ℤ → Result Machine ZFault
+branch_taken layout m end (pos zero) = returned layout m 0
+branch_taken layout m end (pos (suc zero)) = returned layout m 1
+branch_taken layout m end (pos (suc (suc n))) = jumped m end (pos (suc (suc n)))
+branch_taken layout m end (negsuc n) = jumped m end (negsuc n)
+
+abbrev pub agrees : Bool → Bool → Bool
+agrees true test = test
+agrees false true = false
+agrees false false = true
+
+unfoldable pub branched : Layout → Machine → ℕ → Option Branch → Bool → Result Machine ZFault
+branched layout m end None test = Ok (at_pc m end)
+branched layout m end (Some b) test = if agrees b.when test then branch_taken layout m end b.offset else Ok (at_pc m end)
+
+-- ---- calls
+
+abbrev pub zeros : List ℕ
+zeros = 0 ∷ 0 ∷ 0 ∷ 0 ∷ 0 ∷ 0 ∷ 0 ∷ 0 ∷ 0 ∷ 0 ∷ 0 ∷ 0 ∷ []
+
+-- the locals of a routine that has so many: its arguments, and then zeros
+abbrev pub locals_from : ℕ → Args → List ℕ
+locals_from n a = take n (a.second ∷ a.third ∷ a.fourth ∷ zeros)
+
+unfoldable pub local_count : List ℕ → ℕ → Result ℕ ZFault
+local_count memory at = do
+  n ← or_fault BadCall (slice_get memory at)
+  if nat_lt 15 n then Err BadCall else Ok n
+
+-- at most 8,192 frames and 65,536 words
+unfoldable pub entered : Machine → ℕ → Option ℕ → Args → Result Machine ZFault
+entered m end store a =
+    if nat_lt (length m.callers + 1) 8192 then (local_count m.memory (8 * a.first) >>= λ n. if nat_lt 65536 (words m + n) then Err StackFull else Ok (record m { pc = 8 * a.first + 1; here = record { back = end; store = store; args = a.count - 1; locals = locals_from n a; stack = [] }; callers = m.here ∷ m.callers })) else Err StackFull
+
+-- the routine at the packed address 0 answers 0
+unfoldable pub called : Layout → Machine → ℕ → Option ℕ → Args → Result Machine ZFault
+called layout m end store a = if a.first == 0 then stored_if layout (at_pc m end) store 0 else entered m end store a
+
+-- ---- numbers
+
+-- a word as a number with a sign
+abbrev pub signed_16 : ℕ → ℤ
+signed_16 n = if nat_lt n 32768 then pos n else pos n -ℤ pos 65536
+
+-- the word of such a number, which wraps
+abbrev pub word_from : ℤ → ℕ
+word_from (pos n) = n % 65536
+word_from (negsuc n) = 65535 - n % 65536
+
+-- truncated towards zero
+unfoldable pub quotient : ℕ → ℕ → Result ℕ ZFault
+quotient a b = if b == 0 then Err DivideByZero else Ok (word_from (int_div (signed_16 a) (signed_16 b)))
+
+-- with the sign of the dividend
+unfoldable pub remainder : ℕ → ℕ → Result ℕ ZFault
+remainder a b = if b == 0 then Err DivideByZero else Ok (word_from (int_rem (signed_16 a) (signed_16 b)))
+
+-- the first operand is one of the others
+abbrev pub equals_one : Args → Bool
+equals_one a = (a.first == a.second) || ((nat_lt 2 a.count && (a.first == a.third)) || (nat_lt 3 a.count && (a.first == a.fourth)))
+
+-- ---- the rows
+
+-- the machine behind an instruction that gives this answer
+abbrev pub answers : Layout → Machine → ℕ → Option ℕ → ℕ → Result (Act × Machine) ZFault
+answers layout m end store x = goes (stored_if layout (at_pc m end) store x)
+
+abbrev pub written : Machine → ℕ → Result (List ℕ) ZFault → Result (Act × Machine) ZFault
+written m end r = r >>= λ memory. Ok (Goes, record m { memory = memory; pc = end })
+
+-- an act, unless there is a fault
+abbrev pub unless : Option ZFault → Act → Machine → Result (Act × Machine) ZFault
+unless None act m = Ok (act, m)
+unless (Some fault) act m = Err fault
+
+-- a text that may be printed
+abbrev pub prints : Machine → ℕ → ℕ → Result (Act × Machine) ZFault
+prints m at end = unless (print_fault (string_at m.memory at)) (PrintsText at) (at_pc m end)
+
+-- the text is followed by a newline and a return, which is made once they are printed
+unfoldable pub prints_line : Layout → Machine → ℕ → Result (Act × Machine) ZFault
+prints_line layout m at =
+    unless (print_fault (string_at m.memory at)) (PrintsLine at) m >>= λ p. returned layout m 1 >>= λ after. Ok p
+
+-- a variable that an operand names is changed in place, and its new value decides on the branch
+abbrev pub changed : Layout → Machine → ℕ → (ℕ → ℕ) → Result (ℕ × Machine) ZFault
+changed layout m v by = do
+  x ← held_in layout m v
+  after ← placed layout m v (by x)
+  Ok (by x, after)
+
+abbrev pub plus_one : ℕ → ℕ
+plus_one x = (x + 1) % 65536
+
+abbrev pub minus_one : ℕ → ℕ
+minus_one x = (x + 65535) % 65536
+
+-- the tests of a reading, in their order; what is stored behind it is tried before the line is taken
+unfoldable pub reads : Layout → Machine → ℕ → Option ℕ → Args → Result (Act × Machine) ZFault
+reads layout m end store a =
+    if nat_lt 0 a.second then Err Unsupported
+    else (byte_in m.memory a.first >>= λ most. if may_write_all layout ((a.first + 1) % 65536) (most + 1) then (stored_if layout (at_pc m end) store 13 >>= λ after. Ok (Reads a.first most store, at_pc m end)) else Err BadWrite)
+
+-- a number from 1 to r by the next dice word, or 0 where r isn't above 0
+unfoldable pub random_of : Layout → ℕ → Machine → ℕ → Option ℕ → ℕ → Result (Act × Machine) ZFault
+random_of layout word m end store r =
+    if (r == 0) || nat_lt 32767 r then answers layout m end store 0
+    else (stored_if layout (at_pc m end) store (1 + word % r) >>= λ after. Ok (Draws, after))
+
+unfoldable pub do_instr : Layout → ℕ → Instr → Op → ℕ → Args → Machine → Result (Act × Machine) ZFault
+do_instr layout word instrs.Je op end a m = goes (branched layout m end op.branch (equals_one a))
+do_instr layout word instrs.Jl op end a m = goes (branched layout m end op.branch (int_lt (signed_16 a.first) (signed_16 a.second)))
+do_instr layout word instrs.Jg op end a m = goes (branched layout m end op.branch (int_lt (signed_16 a.second) (signed_16 a.first)))
+do_instr layout word instrs.IncChk op end a m = changed layout m a.first plus_one >>= λ p. goes (branched layout p.1 end op.branch (int_lt (signed_16 a.second) (signed_16 p.0)))
+do_instr layout word instrs.Or op end a m = answers layout m end op.store (bit_or a.first a.second)
+do_instr layout word instrs.And op end a m = answers layout m end op.store (bit_and a.first a.second)
+do_instr layout word instrs.Store op end a m = goes (placed layout (at_pc m end) a.first a.second)
+do_instr layout word instrs.Loadw op end a m = word_in m.memory ((a.first + 2 * a.second) % 65536) >>= λ x. answers layout m end op.store x
+do_instr layout word instrs.Loadb op end a m = byte_in m.memory ((a.first + a.second) % 65536) >>= λ x. answers layout m end op.store x
+do_instr layout word instrs.Add op end a m = answers layout m end op.store ((a.first + a.second) % 65536)
+do_instr layout word instrs.Sub op end a m = answers layout m end op.store ((a.first + (65536 - a.second)) % 65536)
+do_instr layout word instrs.Mul op end a m = answers layout m end op.store (a.first * a.second % 65536)
+do_instr layout word instrs.Div op end a m = quotient a.first a.second >>= λ x. answers layout m end op.store x
+do_instr layout word instrs.Mod op end a m = remainder a.first a.second >>= λ x. answers layout m end op.store x
+do_instr layout word instrs.Call2s op end a m = goes (called layout m end op.store a)
+do_instr layout word instrs.Call2n op end a m = goes (called layout m end op.store a)
+do_instr layout word instrs.Jz op end a m = goes (branched layout m end op.branch (a.first == 0))
+do_instr layout word instrs.Inc op end a m = changed layout (at_pc m end) a.first plus_one >>= λ p. Ok (Goes, p.1)
+do_instr layout word instrs.Dec op end a m = changed layout (at_pc m end) a.first minus_one >>= λ p. Ok (Goes, p.1)
+do_instr layout word instrs.Call1s op end a m = goes (called layout m end op.store a)
+do_instr layout word instrs.Ret op end a m = goes (returned layout m a.first)
+do_instr layout word instrs.Jump op end a m = goes (jumped m end (signed_16 a.first))
+do_instr layout word instrs.PrintPaddr op end a m = prints m (8 * a.first) end
+do_instr layout word instrs.Load op end a m = held_in layout m a.first >>= λ x. answers layout m end op.store x
+do_instr layout word instrs.Call1n op end a m = goes (called layout m end op.store a)
+do_instr layout word instrs.Rtrue op end a m = goes (returned layout m 1)
+do_instr layout word instrs.Rfalse op end a m = goes (returned layout m 0)
+do_instr layout word instrs.Print op end a m = prints m (end - op.text) end
+do_instr layout word instrs.PrintRet op end a m = prints_line layout m (end - op.text)
+do_instr layout word instrs.Nop op end a m = Ok (Goes, at_pc m end)
+do_instr layout word instrs.RetPopped op end a m = popped m >>= λ p. goes (returned layout p.1 p.0)
+do_instr layout word instrs.Quit op end a m = Ok (Quits, at_pc m end)
+do_instr layout word instrs.NewLine op end a m = Ok (PrintsCode 13, at_pc m end)
+do_instr layout word instrs.CallVs op end a m = goes (called layout m end op.store a)
+do_instr layout word instrs.Storew op end a m = written m end (with_word layout m.memory ((a.first + 2 * a.second) % 65536) a.third)
+do_instr layout word instrs.Storeb op end a m = written m end (with_byte layout m.memory ((a.first + a.second) % 65536) (a.third % 256))
+do_instr layout word instrs.Aread op end a m = reads layout m end op.store a
+do_instr layout word instrs.PrintChar op end a m = if is_printed a.first then Ok (PrintsCode a.first, at_pc m end) else Err BadCharacter
+do_instr layout word instrs.PrintNum op end a m = Ok (PrintsNumber a.first, at_pc m end)
+do_instr layout word instrs.Random op end a m = random_of layout word m end op.store a.first
+do_instr layout word instrs.Push op end a m = goes (pushed (at_pc m end) a.first)
+do_instr layout word instrs.Pull op end a m = popped (at_pc m end) >>= λ p. goes (placed layout p.1 a.first p.0)
+do_instr layout word instrs.Not op end a m = answers layout m end op.store (65535 - a.first)
+do_instr layout word instrs.CallVn op end a m = goes (called layout m end op.store a)
+do_instr layout word instrs.PrintUnicode op end a m = if is_character a.first then Ok (PrintsUnicode a.first, at_pc m end) else Err BadCharacter
+
+-- the row of an op
+abbrev pub row_for : Op → Option Row
+row_for op = row_by op.form
+  where
+    row_by : Form → Option Row
+    row_by forms.Long = row_at kinds.Two op.number
+    row_by forms.Short = row_at (if op.operands.count == 0 then kinds.Zero else kinds.One) op.number
+    row_by forms.Variable = if nat_lt op.number 32 then row_at kinds.Two op.number else row_at kinds.Several (op.number - 32)
+    row_by forms.Extended = row_at kinds.Extended op.number
+
+-- One instruction of the machine: it is decoded, its operands are taken from left to right, and then it is done; a word is the next of the dice.
+unfoldable pub machine_step : Layout → ℕ → Machine → Result (Act × Machine) ZFault
+machine_step layout word m = do
+  op ← op_at m.memory m.pc
+  a ← values_of layout m op.0.operands
+  row ← or_fault BadOpcode (row_for op.0)
+  do_instr layout word row.instr op.0 op.1 a.0 a.1
