@@ -4,3 +4,4 @@ pub mod FoundForms
 pub mod Stays
 pub mod InstrLaws
 pub mod Runs
+pub mod Written

@@ -35,7 +35,7 @@ module _ (more : List ℕ) where
   byte_stays (b ∷ bytes) zero = inr refl
   byte_stays (b ∷ bytes) (suc at) = byte_stays bytes at
 
-  end_stays : (w : List ℕ) (at : ℕ) → (text_end w at ≡ None) ⊎ (text_end (w ++ more) at ≡ text_end w at)
+  pub end_stays : (w : List ℕ) (at : ℕ) → (text_end w at ≡ None) ⊎ (text_end (w ++ more) at ≡ text_end w at)
   unfolding text_end
   end_stays [] at = inl refl
   end_stays (a ∷ []) at = inl refl

@@ -1,5 +1,5 @@
 -- How an instruction of the table is written (Z-Machine Standard 1.1, sections 4.1 to 4.8, read from the instruction to its bytes).
-use Rattle.std.specs.Prelude.{◌≡◌, ◌≢◌, ℕ, ◌+◌, ◌-◌, ◌*◌, ◌/◌, ◌%◌, ◌<◌, List, [], ◌∷◌, ◌++◌, length, Option, Some, None, Result, Ok, Err, Bool, true, false, nat_lt, slice_get, pos}
+use Rattle.std.specs.Prelude.{◌≡◌, ◌≢◌, ℕ, ◌+◌, ◌-◌, ◌*◌, ◌/◌, ◌%◌, ◌<◌, ◌≤◌, List, [], ◌∷◌, ◌++◌, length, Option, Some, None, Result, Ok, Err, Bool, true, false, nat_lt, slice_get, pos}
 use lib.IntN.{ℤ, negsuc}
 use Rattle.z_model.specs.declared.fault.ZFault.{ZFault}
 use Rattle.z_model.specs.declared.fault.ZFault.TheVariants.{BadOpcode}
@@ -15,7 +15,7 @@ use Rattle.z_model.specs.declared.table.Row.{Row}
 use Rattle.z_model.specs.declared.op.OperandType.{OperandType}
 use Rattle.z_model.specs.declared.op.OperandType.TheVariants.{Large, Small, Variable, Omitted}
 use Rattle.z_model.specs.declared.op.OperandTypes.{OperandTypes}
-use Rattle.z_model.specs.Decode.{known, variable_row, short_kind, counted, text_at, op_at}
+use Rattle.z_model.specs.Decode.{known, variable_row, short_kind, counted, text_at, text_end, op_at}
 
 abbrev pub type_of_operand : Operand → OperandType
 type_of_operand (operands.Large w) = Large
@@ -84,6 +84,9 @@ offset_bytes false when n = (128 * when + n / 256) ∷ (n % 256) ∷ []
 abbrev pub branch_bytes : Option Branch → List ℕ
 branch_bytes None = []
 branch_bytes (Some b) = offset_bytes b.short (bit b.when) (unsigned_14 b.offset)
+
+abbrev pub all_operand_bytes : OperandTypes → Operands → List ℕ
+all_operand_bytes s o = operand_bytes s.first o.first ++ (operand_bytes s.second o.second ++ (operand_bytes s.third o.third ++ operand_bytes s.fourth o.fourth))
 
 -- The bytes of an instruction, before its literal text.
 abbrev pub spelling : Op → List ℕ
@@ -168,13 +171,28 @@ pub record IsInstruction (bytes : List ℕ) (at : ℕ) (op : Op) (end : ℕ) : T
   pub stands : Stands bytes at (spelling op)
   pub text : text_at bytes row.text (at + length (spelling op)) ≡ Ok (op.text, end)
 
+-- the length of a literal text: that of one or more words, where the row has a text
+abbrev pub FitsText : Bool → ℕ → Type 0
+FitsText true n = (2 ≤ n) × (n % 2 ≡ 0)
+FitsText false n = n ≡ 0
+
 -- an op of the table
 pub record IsOfTable (op : Op) : Type 0 where
   pub row : Row
   pub is : IsOp row op
+  pub text : FitsText row.text op.text
+
+-- a literal text of so many bytes: words of which the last alone is marked
+abbrev pub IsText : Bool → ℕ → List ℕ → Type 0
+IsText true n text = (length text ≡ n) × (text_end text 0 ≡ Some n)
+IsText false n text = (text ≡ []) × (n ≡ 0)
 
 abbrev pub AreBytes : List ℕ → Type 0
 AreBytes bytes = (i b : ℕ) → slice_get bytes i ≡ Some b → b < 256
+
+-- What is written for an op, and its literal text behind it, is decoded as that op, whatever stands before and behind.
+pub record Written (op : Op) (front text rest : List ℕ) : Type 0 where
+  pub written : (is : IsOfTable op) → IsText is.row.text op.text text → op_at (front ++ (spelling op ++ (text ++ rest))) (length front) ≡ Ok (op, length front + length (spelling op) + length text)
 
 -- What is written so is decoded again, and no bytes are two instructions.
 pub record Again (bytes : List ℕ) (at : ℕ) : Type 0 where

@@ -9,7 +9,8 @@ mod table;
 mod text;
 
 ghost use Rattle.std.specs.Prelude.{List, ℕ};
-ghost use Rattle.z_model.specs.Spelling.{Again};
+ghost use Rattle.z_model.specs.Spelling.{Again, Written};
+ghost use Rattle.z_model.specs.declared.op.Op.{Op};
 ghost use Rattle.z_model.specs.Run.{World, ZState};
 ghost use Rattle.z_model.specs.Laws.{RunLaws};
 
@@ -23,6 +24,11 @@ pub use text::{Alphabet, EXTRA, PUNCTUATION};
 /// What is written as an instruction of the table is decoded again, whatever stands around it; no bytes are two instructions.
 pub fn instructions_again()
     ensures { (bytes : List ℕ) (at : ℕ) → Again bytes at }
+{}
+
+/// What is written for an op of the table, and its literal text behind it, is decoded as that op.
+pub fn written_again()
+    ensures { (op : Op) (front text rest : List ℕ) → Written op front text rest }
 {}
 
 /// A run of k + j steps is one of k and then one of j, and what was printed stays.
