@@ -4,6 +4,8 @@ use Rattle.z_model.specs.declared.fault.ZFault.{ZFault}
 use Rattle.z_model.specs.declared.fault.ZFault.TheVariants.{BadString, BadCharacter}
 use Rattle.z_model.specs.declared.text.Alphabet.{Alphabet}
 use Rattle.z_model.specs.declared.text.Alphabet.TheVariants.{Lower, Upper, Punctuation, High, Low}
+use Rattle.z_model.specs.declared.text.Reading.{Reading}
+use Rattle.z_model.specs.declared.text.Reading.TheVariants.{Gives, Turns, Refuses}
 use Rattle.z_model.specs.declared.text.TheConstants.{PUNCTUATION}
 use Rattle.z_model.specs.Decode.{text_end}
 use Rattle.z_model.specs.Zscii.{all_printed, code_bytes}
@@ -13,12 +15,6 @@ unfoldable pub z_characters : List ℕ → List ℕ
 z_characters [] = []
 z_characters (high ∷ []) = []
 z_characters (high ∷ low ∷ bytes) = (high / 4 % 32) ∷ (high % 4 * 8 + low / 32) ∷ (low % 32) ∷ (if nat_lt high 128 then z_characters bytes else [])
-
--- What a Z-character is read as: a code, behind which the alphabet is A0; another alphabet for the next one; or an abbreviation.
-pub data Reading : Type 0 where
-  Gives : (code : ℕ) → Reading
-  Turns : (alphabet : Alphabet) → Reading
-  Refuses : Reading
 
 -- Z-characters from 6 on: a letter, a code of ten bits in the next two, a newline or a sign
 abbrev pub letter : Alphabet → ℕ → Reading

@@ -19,7 +19,7 @@ pub use fault::ZFault;
 pub use op::{Branch, Form, Op, Operand, OperandType, OperandTypes, Operands};
 pub use story::{Header, Layout, StoryRefusal, read_header};
 pub use table::{Instr, Kind, NAMES, Row, find_row};
-pub use text::{Alphabet, EXTRA, PUNCTUATION};
+pub use text::{Alphabet, EXTRA, PUNCTUATION, Reading};
 
 /// What is written as an instruction of the table is decoded again, whatever stands around it; no bytes are two instructions.
 pub fn instructions_again()
