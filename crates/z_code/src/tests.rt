@@ -1,7 +1,7 @@
 // Encodings that the Inform 6 compiler lists.
 use super::*;
 use std::test::Fail;
-use z_model::Instr;
+use z_model::{Extended, Instr, One, Several, Two, Zero};
 
 const NONE: Operand = Operand::Small(0);
 
@@ -85,41 +85,41 @@ fn decodes_what_inform_encodes(rt: HostRuntime) -> Result<(), Fail> {
         ],
     );
     let cases: [(&[u8], Instr, Op); 13] = [
-        (&[0x54, 0x01, 0x01, 0x11], Instr::Add, storing(add, 17)),
+        (&[0x54, 0x01, 0x01, 0x11], Instr::Two(Two::Add), storing(add, 17)),
         (
             &[0xD4, 0x2F, 0x01, 0x2C, 0x11, 0x00],
-            Instr::Add,
+            Instr::Two(Two::Add),
             storing(large, 0),
         ),
-        (&[0x75, 0x00, 0x02, 0x03], Instr::Sub, storing(sub, 3)),
+        (&[0x75, 0x00, 0x02, 0x03], Instr::Two(Two::Sub), storing(sub, 3)),
         (
             &[0xC1, 0x95, 0x01, 0x01, 0x02, 0x03, 0x00, 0x00],
-            Instr::Je,
+            Instr::Two(Two::Je),
             branching(je, false, 0, false),
         ),
         (
             &[0x63, 0x00, 0x00, 0xC0],
-            Instr::Jg,
+            Instr::Two(Two::Jg),
             branching(jg, true, 0, true),
         ),
         (
             &[0xA0, 0x01, 0x80, 0x00],
-            Instr::Jz,
+            Instr::One(One::Jz),
             branching(jz, true, 0, false),
         ),
-        (&[0x8C, 0x00, 0x00], Instr::Jump, jump),
-        (&[0xB2, 0x11, 0xAA, 0xC6, 0x34], Instr::Print, hello),
-        (&[0xB4], Instr::Nop, nop),
-        (&[0xE2, 0xA3, 0x01, 0x02, 0x01, 0x2C], Instr::Storeb, storeb),
+        (&[0x8C, 0x00, 0x00], Instr::One(One::Jump), jump),
+        (&[0xB2, 0x11, 0xAA, 0xC6, 0x34], Instr::Zero(Zero::Print), hello),
+        (&[0xB4], Instr::Zero(Zero::Nop), nop),
+        (&[0xE2, 0xA3, 0x01, 0x02, 0x01, 0x2C], Instr::Several(Several::Storeb), storeb),
         (
             &[0xE4, 0x9F, 0x01, 0x00, 0x00],
-            Instr::Aread,
+            Instr::Several(Several::Aread),
             storing(read, 0),
         ),
-        (&[0xBE, 0x0B, 0x7F, 0xE9], Instr::PrintUnicode, unicode),
+        (&[0xBE, 0x0B, 0x7F, 0xE9], Instr::Extended(Extended::PrintUnicode), unicode),
         (
             &[0xE0, 0x15, 0x00, 0x25, 0x01, 0x02, 0x03, 0x00],
-            Instr::CallVs,
+            Instr::Several(Several::CallVs),
             storing(call, 0),
         ),
     ];

@@ -1,5 +1,5 @@
 -- What the player writes behind a story's output; the standard leaves this to the interpreter.
-use Rattle.std.specs.Prelude.{ℕ, List, [], ◌∷◌, ◌++◌, length, codes, decimal, ◌==◌, if◌then◌else◌, slice_index}
+use Rattle.std.specs.Prelude.{ℕ, List, [], ◌∷◌, ◌++◌, Bool, true, false, not, codes, decimal, ◌==◌}
 use Rattle.z_model.specs.declared.end.ZEnd.{ZEnd}
 use Rattle.z_model.specs.declared.end.ZEnd.TheVariants as ends
 use Rattle.z_model.specs.Fault.{number_of}
@@ -16,14 +16,20 @@ line_of (ends.Broken fault at) = codes "[Broken: " ++ decimal (number_of fault) 
 abbrev pub input_fault_line : List ℕ
 input_fault_line = codes "[Input fault]\n"
 
--- A line begins on a line of its own.
-abbrev pub newline_before : List ℕ → List ℕ
-newline_before [] = []
-newline_before (byte ∷ output) = if slice_index (byte ∷ output) (length output) == 10 then [] else 10 ∷ []
+-- Whether a line is open behind a text, where it was before it: the last byte isn't a newline.
+abbrev pub is_open : Bool → List ℕ → Bool
+is_open before [] = before
+is_open before (byte ∷ text) = is_open (not (byte == 10)) text
 
+-- A line begins on a line of its own: behind an output that is neither empty nor ended by a newline, a newline comes first.
+abbrev pub newline_if : Bool → List ℕ
+newline_if true = 10 ∷ []
+newline_if false = []
+
+-- the output with a line behind it, if there is one
 unfoldable pub with_end_line : List ℕ → List ℕ → List ℕ
 with_end_line output [] = output
-with_end_line output (byte ∷ line) = output ++ newline_before output ++ byte ∷ line
+with_end_line output (byte ∷ line) = output ++ (newline_if (is_open false output) ++ byte ∷ line)
 
 -- all that is written of a run
 abbrev pub transcript : Run → List ℕ

@@ -15,6 +15,16 @@ use Rattle.z_model.specs.declared.table.Kind.TheVariants as kinds
 use Rattle.z_model.specs.declared.table.Row.{Row}
 use Rattle.z_model.specs.declared.table.Instr.{Instr}
 use Rattle.z_model.specs.declared.table.Instr.TheVariants as instrs
+use Rattle.z_model.specs.declared.table.Two.{Two}
+use Rattle.z_model.specs.declared.table.Two.TheVariants as two
+use Rattle.z_model.specs.declared.table.One.{One}
+use Rattle.z_model.specs.declared.table.One.TheVariants as one
+use Rattle.z_model.specs.declared.table.Zero.{Zero}
+use Rattle.z_model.specs.declared.table.Zero.TheVariants as none
+use Rattle.z_model.specs.declared.table.Several.{Several}
+use Rattle.z_model.specs.declared.table.Several.TheVariants as several
+use Rattle.z_model.specs.declared.table.Extended.{Extended}
+use Rattle.z_model.specs.declared.table.Extended.TheVariants as extended
 use Rattle.z_model.specs.Table.{row_at}
 use Rattle.z_model.specs.Decode.{◌>>=◌, or_fault, op_at}
 use Rattle.z_model.specs.Zscii.{is_printed, is_character}
@@ -158,52 +168,72 @@ random_of layout word m end store r =
     if (r == 0) || nat_lt 32767 r then answers layout m end store 0
     else (stored_if layout (at_pc m end) store (1 + word % r) >>= λ after. Ok (Draws, after))
 
+-- the instructions with two operands
+unfoldable pub do_two : Layout → Two → Op → ℕ → Args → Machine → Result (Act × Machine) ZFault
+do_two layout two.Je op end a m = goes (branched layout m end op.branch (equals_one a))
+do_two layout two.Jl op end a m = goes (branched layout m end op.branch (int_lt (signed_16 a.first) (signed_16 a.second)))
+do_two layout two.Jg op end a m = goes (branched layout m end op.branch (int_lt (signed_16 a.second) (signed_16 a.first)))
+do_two layout two.IncChk op end a m = changed layout m a.first plus_one >>= λ p. goes (branched layout p.1 end op.branch (int_lt (signed_16 a.second) (signed_16 p.0)))
+do_two layout two.Or op end a m = answers layout m end op.store (bit_or a.first a.second)
+do_two layout two.And op end a m = answers layout m end op.store (bit_and a.first a.second)
+do_two layout two.Store op end a m = goes (placed layout (at_pc m end) a.first a.second)
+do_two layout two.Loadw op end a m = word_in m.memory ((a.first + 2 * a.second) % 65536) >>= λ x. answers layout m end op.store x
+do_two layout two.Loadb op end a m = byte_in m.memory ((a.first + a.second) % 65536) >>= λ x. answers layout m end op.store x
+do_two layout two.Add op end a m = answers layout m end op.store ((a.first + a.second) % 65536)
+do_two layout two.Sub op end a m = answers layout m end op.store ((a.first + (65536 - a.second)) % 65536)
+do_two layout two.Mul op end a m = answers layout m end op.store (a.first * a.second % 65536)
+do_two layout two.Div op end a m = quotient a.first a.second >>= λ x. answers layout m end op.store x
+do_two layout two.Mod op end a m = remainder a.first a.second >>= λ x. answers layout m end op.store x
+do_two layout two.Call2s op end a m = goes (called layout m end op.store a)
+do_two layout two.Call2n op end a m = goes (called layout m end op.store a)
+
+-- the instructions with one operand
+unfoldable pub do_one : Layout → One → Op → ℕ → Args → Machine → Result (Act × Machine) ZFault
+do_one layout one.Jz op end a m = goes (branched layout m end op.branch (a.first == 0))
+do_one layout one.Inc op end a m = changed layout (at_pc m end) a.first plus_one >>= λ p. Ok (Goes, p.1)
+do_one layout one.Dec op end a m = changed layout (at_pc m end) a.first minus_one >>= λ p. Ok (Goes, p.1)
+do_one layout one.Call1s op end a m = goes (called layout m end op.store a)
+do_one layout one.Ret op end a m = goes (returned layout m a.first)
+do_one layout one.Jump op end a m = goes (jumped m end (signed_16 a.first))
+do_one layout one.PrintPaddr op end a m = prints m (8 * a.first) end
+do_one layout one.Load op end a m = held_in layout m a.first >>= λ x. answers layout m end op.store x
+do_one layout one.Call1n op end a m = goes (called layout m end op.store a)
+
+-- the instructions without operands
+unfoldable pub do_zero : Layout → Zero → Op → ℕ → Args → Machine → Result (Act × Machine) ZFault
+do_zero layout none.Rtrue op end a m = goes (returned layout m 1)
+do_zero layout none.Rfalse op end a m = goes (returned layout m 0)
+do_zero layout none.Print op end a m = prints m (end - op.text) end
+do_zero layout none.PrintRet op end a m = prints_line layout m (end - op.text)
+do_zero layout none.Nop op end a m = Ok (Goes, at_pc m end)
+do_zero layout none.RetPopped op end a m = popped m >>= λ p. goes (returned layout p.1 p.0)
+do_zero layout none.Quit op end a m = Ok (Quits, at_pc m end)
+do_zero layout none.NewLine op end a m = Ok (PrintsCode 13, at_pc m end)
+
+-- the instructions with several operands; a word is the next of the dice
+unfoldable pub do_several : Layout → ℕ → Several → Op → ℕ → Args → Machine → Result (Act × Machine) ZFault
+do_several layout word several.CallVs op end a m = goes (called layout m end op.store a)
+do_several layout word several.Storew op end a m = written m end (with_word layout m.memory ((a.first + 2 * a.second) % 65536) a.third)
+do_several layout word several.Storeb op end a m = written m end (with_byte layout m.memory ((a.first + a.second) % 65536) (a.third % 256))
+do_several layout word several.Aread op end a m = reads layout m end op.store a
+do_several layout word several.PrintChar op end a m = if is_printed a.first then Ok (PrintsCode a.first, at_pc m end) else Err BadCharacter
+do_several layout word several.PrintNum op end a m = Ok (PrintsNumber a.first, at_pc m end)
+do_several layout word several.Random op end a m = random_of layout word m end op.store a.first
+do_several layout word several.Push op end a m = goes (pushed (at_pc m end) a.first)
+do_several layout word several.Pull op end a m = popped (at_pc m end) >>= λ p. goes (placed layout p.1 a.first p.0)
+do_several layout word several.Not op end a m = answers layout m end op.store (65535 - a.first)
+do_several layout word several.CallVn op end a m = goes (called layout m end op.store a)
+
+-- the instructions of the extended form
+unfoldable pub do_extended : Layout → Extended → Op → ℕ → Args → Machine → Result (Act × Machine) ZFault
+do_extended layout extended.PrintUnicode op end a m = if is_character a.first then Ok (PrintsUnicode a.first, at_pc m end) else Err BadCharacter
+
 unfoldable pub do_instr : Layout → ℕ → Instr → Op → ℕ → Args → Machine → Result (Act × Machine) ZFault
-do_instr layout word instrs.Je op end a m = goes (branched layout m end op.branch (equals_one a))
-do_instr layout word instrs.Jl op end a m = goes (branched layout m end op.branch (int_lt (signed_16 a.first) (signed_16 a.second)))
-do_instr layout word instrs.Jg op end a m = goes (branched layout m end op.branch (int_lt (signed_16 a.second) (signed_16 a.first)))
-do_instr layout word instrs.IncChk op end a m = changed layout m a.first plus_one >>= λ p. goes (branched layout p.1 end op.branch (int_lt (signed_16 a.second) (signed_16 p.0)))
-do_instr layout word instrs.Or op end a m = answers layout m end op.store (bit_or a.first a.second)
-do_instr layout word instrs.And op end a m = answers layout m end op.store (bit_and a.first a.second)
-do_instr layout word instrs.Store op end a m = goes (placed layout (at_pc m end) a.first a.second)
-do_instr layout word instrs.Loadw op end a m = word_in m.memory ((a.first + 2 * a.second) % 65536) >>= λ x. answers layout m end op.store x
-do_instr layout word instrs.Loadb op end a m = byte_in m.memory ((a.first + a.second) % 65536) >>= λ x. answers layout m end op.store x
-do_instr layout word instrs.Add op end a m = answers layout m end op.store ((a.first + a.second) % 65536)
-do_instr layout word instrs.Sub op end a m = answers layout m end op.store ((a.first + (65536 - a.second)) % 65536)
-do_instr layout word instrs.Mul op end a m = answers layout m end op.store (a.first * a.second % 65536)
-do_instr layout word instrs.Div op end a m = quotient a.first a.second >>= λ x. answers layout m end op.store x
-do_instr layout word instrs.Mod op end a m = remainder a.first a.second >>= λ x. answers layout m end op.store x
-do_instr layout word instrs.Call2s op end a m = goes (called layout m end op.store a)
-do_instr layout word instrs.Call2n op end a m = goes (called layout m end op.store a)
-do_instr layout word instrs.Jz op end a m = goes (branched layout m end op.branch (a.first == 0))
-do_instr layout word instrs.Inc op end a m = changed layout (at_pc m end) a.first plus_one >>= λ p. Ok (Goes, p.1)
-do_instr layout word instrs.Dec op end a m = changed layout (at_pc m end) a.first minus_one >>= λ p. Ok (Goes, p.1)
-do_instr layout word instrs.Call1s op end a m = goes (called layout m end op.store a)
-do_instr layout word instrs.Ret op end a m = goes (returned layout m a.first)
-do_instr layout word instrs.Jump op end a m = goes (jumped m end (signed_16 a.first))
-do_instr layout word instrs.PrintPaddr op end a m = prints m (8 * a.first) end
-do_instr layout word instrs.Load op end a m = held_in layout m a.first >>= λ x. answers layout m end op.store x
-do_instr layout word instrs.Call1n op end a m = goes (called layout m end op.store a)
-do_instr layout word instrs.Rtrue op end a m = goes (returned layout m 1)
-do_instr layout word instrs.Rfalse op end a m = goes (returned layout m 0)
-do_instr layout word instrs.Print op end a m = prints m (end - op.text) end
-do_instr layout word instrs.PrintRet op end a m = prints_line layout m (end - op.text)
-do_instr layout word instrs.Nop op end a m = Ok (Goes, at_pc m end)
-do_instr layout word instrs.RetPopped op end a m = popped m >>= λ p. goes (returned layout p.1 p.0)
-do_instr layout word instrs.Quit op end a m = Ok (Quits, at_pc m end)
-do_instr layout word instrs.NewLine op end a m = Ok (PrintsCode 13, at_pc m end)
-do_instr layout word instrs.CallVs op end a m = goes (called layout m end op.store a)
-do_instr layout word instrs.Storew op end a m = written m end (with_word layout m.memory ((a.first + 2 * a.second) % 65536) a.third)
-do_instr layout word instrs.Storeb op end a m = written m end (with_byte layout m.memory ((a.first + a.second) % 65536) (a.third % 256))
-do_instr layout word instrs.Aread op end a m = reads layout m end op.store a
-do_instr layout word instrs.PrintChar op end a m = if is_printed a.first then Ok (PrintsCode a.first, at_pc m end) else Err BadCharacter
-do_instr layout word instrs.PrintNum op end a m = Ok (PrintsNumber a.first, at_pc m end)
-do_instr layout word instrs.Random op end a m = random_of layout word m end op.store a.first
-do_instr layout word instrs.Push op end a m = goes (pushed (at_pc m end) a.first)
-do_instr layout word instrs.Pull op end a m = popped (at_pc m end) >>= λ p. goes (placed layout p.1 a.first p.0)
-do_instr layout word instrs.Not op end a m = answers layout m end op.store (65535 - a.first)
-do_instr layout word instrs.CallVn op end a m = goes (called layout m end op.store a)
-do_instr layout word instrs.PrintUnicode op end a m = if is_character a.first then Ok (PrintsUnicode a.first, at_pc m end) else Err BadCharacter
+do_instr layout word (instrs.Two instr) op end a m = do_two layout instr op end a m
+do_instr layout word (instrs.One instr) op end a m = do_one layout instr op end a m
+do_instr layout word (instrs.Zero instr) op end a m = do_zero layout instr op end a m
+do_instr layout word (instrs.Several instr) op end a m = do_several layout word instr op end a m
+do_instr layout word (instrs.Extended instr) op end a m = do_extended layout instr op end a m
 
 -- the row of an op
 abbrev pub row_for : Op → Option Row

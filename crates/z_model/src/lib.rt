@@ -18,7 +18,7 @@ pub use end::{Act, Args, Halt, ZEnd};
 pub use fault::ZFault;
 pub use op::{Branch, Form, Op, Operand, OperandType, OperandTypes, Operands};
 pub use story::{Header, Layout, StoryRefusal, read_header};
-pub use table::{Instr, Kind, NAMES, Row, find_row};
+pub use table::{Extended, Instr, Kind, One, Row, Several, Two, Zero, find_row};
 pub use text::{Alphabet, EXTRA, PUNCTUATION, Reading};
 
 /// What is written as an instruction of the table is decoded again, whatever stands around it; no bytes are two instructions.

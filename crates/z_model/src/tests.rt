@@ -4,12 +4,12 @@ use std::test::Fail;
 #[test]
 fn names_are_the_standards(rt: HostRuntime) -> Result<(), Fail> {
     let names = [
-        (Instr::Je, "je"),
-        (Instr::IncChk, "inc_chk"),
-        (Instr::Call2s, "call_2s"),
-        (Instr::PrintPaddr, "print_paddr"),
-        (Instr::Aread, "aread"),
-        (Instr::PrintUnicode, "print_unicode"),
+        (Instr::Two(Two::Je), "je"),
+        (Instr::Two(Two::IncChk), "inc_chk"),
+        (Instr::Two(Two::Call2s), "call_2s"),
+        (Instr::One(One::PrintPaddr), "print_paddr"),
+        (Instr::Several(Several::Aread), "aread"),
+        (Instr::Extended(Extended::PrintUnicode), "print_unicode"),
     ];
     for (instr, name) in names {
         let shown = format!(in rt.alloc(); "{instr}")?;

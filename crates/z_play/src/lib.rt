@@ -1,0 +1,7 @@
+//! A player of story files.
+#![tactic(auto)]
+
+mod arith;
+mod engine;
+mod flow;
+mod memory;
