@@ -126,6 +126,11 @@ equals_one a = (a.first == a.second) || ((nat_lt 2 a.count && (a.first == a.thir
 abbrev pub answers : Layout → Machine → ℕ → Option ℕ → ℕ → Result (Act × Machine) ZFault
 answers layout m end store x = goes (stored_if layout (at_pc m end) store x)
 
+-- the same, where the answer may be a fault
+abbrev pub answers_or : Layout → Machine → ℕ → Option ℕ → Result ℕ ZFault → Result (Act × Machine) ZFault
+answers_or layout m end store r = r >>= λ x. answers layout m end store x
+
+-- the machine with other memory, unless there is a fault
 abbrev pub written : Machine → ℕ → Result (List ℕ) ZFault → Result (Act × Machine) ZFault
 written m end r = r >>= λ memory. Ok (Goes, record m { memory = memory; pc = end })
 
@@ -143,24 +148,40 @@ unfoldable pub prints_line : Layout → Machine → ℕ → Result (Act × Machi
 prints_line layout m at =
     unless (print_fault (string_at m.memory at)) (PrintsLine at) m >>= λ p. returned layout m 1 >>= λ after. Ok p
 
--- a variable that an operand names is changed in place, and its new value decides on the branch
-abbrev pub changed : Layout → Machine → ℕ → (ℕ → ℕ) → Result (ℕ × Machine) ZFault
-changed layout m v by = do
+-- a variable that an operand names, with a number added in place
+abbrev pub added : Layout → Machine → ℕ → ℕ → Result (ℕ × Machine) ZFault
+added layout m v by = do
   x ← held_in layout m v
-  after ← placed layout m v (by x)
-  Ok (by x, after)
+  after ← placed layout m v ((x + by) % 65536)
+  Ok ((x + by) % 65536, after)
 
-abbrev pub plus_one : ℕ → ℕ
-plus_one x = (x + 1) % 65536
+abbrev pub adds : Layout → Machine → ℕ → ℕ → ℕ → Result (Act × Machine) ZFault
+adds layout m end v by = added layout (at_pc m end) v by >>= λ p. Ok (Goes, p.1)
 
-abbrev pub minus_one : ℕ → ℕ
-minus_one x = (x + 65535) % 65536
+-- its new value decides on the branch
+abbrev pub adds_and_tests : Layout → Machine → ℕ → Option Branch → ℕ → ℕ → Result (Act × Machine) ZFault
+adds_and_tests layout m end branch v limit = added layout m v 1 >>= λ p. goes (branched layout p.1 end branch (int_lt (signed_16 limit) (signed_16 p.0)))
 
--- the tests of a reading, in their order; what is stored behind it is tried before the line is taken
-unfoldable pub reads : Layout → Machine → ℕ → Option ℕ → Args → Result (Act × Machine) ZFault
-reads layout m end store a =
+-- a word is taken from the stack, and given to a variable that an operand names
+abbrev pub pulls : Layout → Machine → ℕ → ℕ → Result (Act × Machine) ZFault
+pulls layout m end v = popped (at_pc m end) >>= λ p. goes (placed layout p.1 v p.0)
+
+-- a word is taken from the stack, and returned
+abbrev pub returns_popped : Layout → Machine → Result (Act × Machine) ZFault
+returns_popped layout m = popped m >>= λ p. goes (returned layout p.1 p.0)
+
+abbrev pub prints_if : Bool → Act → Machine → Result (Act × Machine) ZFault
+prints_if may act m = if may then Ok (act, m) else Err BadCharacter
+
+-- the tests of a reading on its buffer, which give how many characters it keeps
+unfoldable pub most_typed : Layout → Machine → Args → Result ℕ ZFault
+most_typed layout m a =
     if nat_lt 0 a.second then Err Unsupported
-    else (byte_in m.memory a.first >>= λ most. if may_write_all layout ((a.first + 1) % 65536) (most + 1) then (stored_if layout (at_pc m end) store 13 >>= λ after. Ok (Reads a.first most store, at_pc m end)) else Err BadWrite)
+    else (byte_in m.memory a.first >>= λ most. if may_write_all layout ((a.first + 1) % 65536) (most + 1) then Ok most else Err BadWrite)
+
+-- what is stored behind a reading is tried before the line is taken
+unfoldable pub reads : Layout → Machine → ℕ → Option ℕ → Args → Result (Act × Machine) ZFault
+reads layout m end store a = most_typed layout m a >>= λ most. stored_if layout (at_pc m end) store 13 >>= λ after. Ok (Reads a.first most store, at_pc m end)
 
 -- a number from 1 to r by the next dice word, or 0 where r isn't above 0
 unfoldable pub random_of : Layout → ℕ → Machine → ℕ → Option ℕ → ℕ → Result (Act × Machine) ZFault
@@ -173,30 +194,30 @@ unfoldable pub do_two : Layout → Two → Op → ℕ → Args → Machine → R
 do_two layout two.Je op end a m = goes (branched layout m end op.branch (equals_one a))
 do_two layout two.Jl op end a m = goes (branched layout m end op.branch (int_lt (signed_16 a.first) (signed_16 a.second)))
 do_two layout two.Jg op end a m = goes (branched layout m end op.branch (int_lt (signed_16 a.second) (signed_16 a.first)))
-do_two layout two.IncChk op end a m = changed layout m a.first plus_one >>= λ p. goes (branched layout p.1 end op.branch (int_lt (signed_16 a.second) (signed_16 p.0)))
+do_two layout two.IncChk op end a m = adds_and_tests layout m end op.branch a.first a.second
 do_two layout two.Or op end a m = answers layout m end op.store (bit_or a.first a.second)
 do_two layout two.And op end a m = answers layout m end op.store (bit_and a.first a.second)
 do_two layout two.Store op end a m = goes (placed layout (at_pc m end) a.first a.second)
-do_two layout two.Loadw op end a m = word_in m.memory ((a.first + 2 * a.second) % 65536) >>= λ x. answers layout m end op.store x
-do_two layout two.Loadb op end a m = byte_in m.memory ((a.first + a.second) % 65536) >>= λ x. answers layout m end op.store x
+do_two layout two.Loadw op end a m = answers_or layout m end op.store (word_in m.memory ((a.first + 2 * a.second) % 65536))
+do_two layout two.Loadb op end a m = answers_or layout m end op.store (byte_in m.memory ((a.first + a.second) % 65536))
 do_two layout two.Add op end a m = answers layout m end op.store ((a.first + a.second) % 65536)
 do_two layout two.Sub op end a m = answers layout m end op.store ((a.first + (65536 - a.second)) % 65536)
 do_two layout two.Mul op end a m = answers layout m end op.store (a.first * a.second % 65536)
-do_two layout two.Div op end a m = quotient a.first a.second >>= λ x. answers layout m end op.store x
-do_two layout two.Mod op end a m = remainder a.first a.second >>= λ x. answers layout m end op.store x
+do_two layout two.Div op end a m = answers_or layout m end op.store (quotient a.first a.second)
+do_two layout two.Mod op end a m = answers_or layout m end op.store (remainder a.first a.second)
 do_two layout two.Call2s op end a m = goes (called layout m end op.store a)
 do_two layout two.Call2n op end a m = goes (called layout m end op.store a)
 
 -- the instructions with one operand
 unfoldable pub do_one : Layout → One → Op → ℕ → Args → Machine → Result (Act × Machine) ZFault
 do_one layout one.Jz op end a m = goes (branched layout m end op.branch (a.first == 0))
-do_one layout one.Inc op end a m = changed layout (at_pc m end) a.first plus_one >>= λ p. Ok (Goes, p.1)
-do_one layout one.Dec op end a m = changed layout (at_pc m end) a.first minus_one >>= λ p. Ok (Goes, p.1)
+do_one layout one.Inc op end a m = adds layout m end a.first 1
+do_one layout one.Dec op end a m = adds layout m end a.first 65535
 do_one layout one.Call1s op end a m = goes (called layout m end op.store a)
 do_one layout one.Ret op end a m = goes (returned layout m a.first)
 do_one layout one.Jump op end a m = goes (jumped m end (signed_16 a.first))
 do_one layout one.PrintPaddr op end a m = prints m (8 * a.first) end
-do_one layout one.Load op end a m = held_in layout m a.first >>= λ x. answers layout m end op.store x
+do_one layout one.Load op end a m = answers_or layout m end op.store (held_in layout m a.first)
 do_one layout one.Call1n op end a m = goes (called layout m end op.store a)
 
 -- the instructions without operands
@@ -206,7 +227,7 @@ do_zero layout none.Rfalse op end a m = goes (returned layout m 0)
 do_zero layout none.Print op end a m = prints m (end - op.text) end
 do_zero layout none.PrintRet op end a m = prints_line layout m (end - op.text)
 do_zero layout none.Nop op end a m = Ok (Goes, at_pc m end)
-do_zero layout none.RetPopped op end a m = popped m >>= λ p. goes (returned layout p.1 p.0)
+do_zero layout none.RetPopped op end a m = returns_popped layout m
 do_zero layout none.Quit op end a m = Ok (Quits, at_pc m end)
 do_zero layout none.NewLine op end a m = Ok (PrintsCode 13, at_pc m end)
 
@@ -216,17 +237,17 @@ do_several layout word several.CallVs op end a m = goes (called layout m end op.
 do_several layout word several.Storew op end a m = written m end (with_word layout m.memory ((a.first + 2 * a.second) % 65536) a.third)
 do_several layout word several.Storeb op end a m = written m end (with_byte layout m.memory ((a.first + a.second) % 65536) (a.third % 256))
 do_several layout word several.Aread op end a m = reads layout m end op.store a
-do_several layout word several.PrintChar op end a m = if is_printed a.first then Ok (PrintsCode a.first, at_pc m end) else Err BadCharacter
+do_several layout word several.PrintChar op end a m = prints_if (is_printed a.first) (PrintsCode a.first) (at_pc m end)
 do_several layout word several.PrintNum op end a m = Ok (PrintsNumber a.first, at_pc m end)
 do_several layout word several.Random op end a m = random_of layout word m end op.store a.first
 do_several layout word several.Push op end a m = goes (pushed (at_pc m end) a.first)
-do_several layout word several.Pull op end a m = popped (at_pc m end) >>= λ p. goes (placed layout p.1 a.first p.0)
+do_several layout word several.Pull op end a m = pulls layout m end a.first
 do_several layout word several.Not op end a m = answers layout m end op.store (65535 - a.first)
 do_several layout word several.CallVn op end a m = goes (called layout m end op.store a)
 
 -- the instructions of the extended form
 unfoldable pub do_extended : Layout → Extended → Op → ℕ → Args → Machine → Result (Act × Machine) ZFault
-do_extended layout extended.PrintUnicode op end a m = if is_character a.first then Ok (PrintsUnicode a.first, at_pc m end) else Err BadCharacter
+do_extended layout extended.PrintUnicode op end a m = prints_if (is_character a.first) (PrintsUnicode a.first) (at_pc m end)
 
 unfoldable pub do_instr : Layout → ℕ → Instr → Op → ℕ → Args → Machine → Result (Act × Machine) ZFault
 do_instr layout word (instrs.Two instr) op end a m = do_two layout instr op end a m

@@ -1,3 +1,4 @@
 pub mod Views
 pub mod Returns
 pub mod Entered
+pub mod Printable

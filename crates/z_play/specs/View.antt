@@ -69,3 +69,9 @@ left_to old (f ∷ fs) new = new ≡ record old { pc = old.here.back; here = f; 
 
 abbrev pub Left : Machine → Machine → Type 0
 Left old new = left_to old old.callers new
+
+-- The arrays hold what they held.
+pub record SameArrays (old new : Engine) : Type 0 where
+  pub memory : new.memory.items ≡ old.memory.items
+  pub frames : new.frames.items ≡ old.frames.items
+  pub stack : new.stack.items ≡ old.stack.items

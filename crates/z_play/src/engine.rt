@@ -3,6 +3,7 @@ ghost use Rattle.std.specs.Prelude.{◌≡◌, ◌<◌, ◌≤◌, ◌-◌, ℕ,
 ghost use Rattle.z_model.specs.Machine.{pushed, popped, variable_of, stored, stored_if, held_in, placed, value_of, value_if, values_of, local_set, local_of, global_of};
 ghost use Rattle.z_play.specs.View.{machine, Sound, Gives, Sets, Kept};
 ghost use Rattle.z_play.specs.Top.{top_of};
+ghost use Rattle.z_play.specs.Faults.{fault_of};
 
 use z_model::{Args, Layout, Operand, Operands, ZFault};
 
@@ -149,6 +150,47 @@ impl Engine {
         match store {
             Some(v) => self.store(v, x),
             None => Ok(()),
+        }
+    }
+
+    fn push_fault(&self) -> Option<ZFault>
+        requires { Sound self.now }
+        ensures { (x : ℕ) → result ≡ fault_of (pushed (machine self.now) x) }
+    {
+        if self.top >= 65536 {
+            return Some(ZFault::StackFull);
+        }
+        None
+    }
+
+    fn local_fault(&self, v: u8) -> Option<ZFault>
+        requires sound { Sound self.now }
+        requires is_local { (0 < v) × (v < 16) }
+        ensures { (x : ℕ) → result ≡ fault_of (local_set (machine self.now) v x) }
+    {
+        if self.here.locals <= v as usize - 1 {
+            return Some(ZFault::BadLocal);
+        }
+        None
+    }
+
+    // Why a store would fail, if it would.
+    #[tactic(auto, unfolding(z_model::specs::Machine::stored, z_model::specs::Machine::stored_if))]
+    pub fn store_fault(&self, store: Option<u8>) -> Option<ZFault>
+        requires { Sound self.now }
+        ensures { (x : ℕ) → result ≡ fault_of (stored_if self.now.layout (machine self.now) store x) }
+    {
+        match store {
+            None => None,
+            Some(v) => {
+                if v == 0 {
+                    return self.push_fault();
+                }
+                if v < 16 {
+                    return self.local_fault(v);
+                }
+                None
+            }
         }
     }
 

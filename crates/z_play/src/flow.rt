@@ -1,7 +1,8 @@
 // Where the machine goes on: jumps, branches, calls and returns.
-ghost use Rattle.std.specs.Prelude.{◌≡◌, ◌<◌, ◌≤◌, ◌+◌, ◌*◌, ◌++◌, take, IfOk, length};
+ghost use Rattle.std.specs.Prelude.{◌≡◌, ◌<◌, ◌≤◌, ◌+◌, ◌*◌, ◌++◌, take, IfOk, length, ℕ};
 ghost use Rattle.z_model.specs.Step.{jumped, returned, branched, branch_taken, agrees, local_count, locals_from, entered, called};
-ghost use Rattle.z_play.specs.View.{machine, Sound, Sets, Kept, Left};
+ghost use Rattle.z_play.specs.View.{machine, Sound, Sets, Kept, Left, SameArrays};
+ghost use Rattle.z_play.specs.Faults.{fault_of};
 
 use crate::engine::{Called, Engine};
 use z_model::{Args, Branch, ZFault};
@@ -81,11 +82,35 @@ impl Engine {
         requires called { 0 < self.old.depth }
         ensures kept { Kept self.old self.new }
         ensures left { Left (machine self.old) (machine self.new) }
+        ensures arrays { SameArrays self.old self.new }
+        ensures depth { self.new.depth + 1 ≡ self.old.depth }
     {
         self.depth -= 1;
         self.pc = self.here.back;
         self.top = self.here.base;
         self.here = self.frames[self.depth];
+    }
+
+    // Why a return would fail, if it would.
+    pub fn return_fault(&mut self) -> Option<ZFault>
+        requires { Sound self.old }
+        ensures kept { Kept self.old self.new }
+        ensures same { machine self.new ≡ machine self.old }
+        ensures fault { (x : ℕ) → result ≡ fault_of (returned self.old.layout (machine self.old) x) }
+    {
+        if self.depth == 0 {
+            return Some(ZFault::BadReturn);
+        }
+        let pc = self.pc;
+        let top = self.top;
+        let here = self.here;
+        self.leave();
+        let fault = self.store_fault(here.store);
+        self.depth += 1;
+        self.pc = pc;
+        self.top = top;
+        self.here = here;
+        fault
     }
 
     #[tactic(auto, unfolding(z_model::specs::Step::branched))]

@@ -5,3 +5,5 @@ mod arith;
 mod engine;
 mod flow;
 mod memory;
+mod step;
+mod text;

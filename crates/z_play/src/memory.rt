@@ -1,6 +1,6 @@
 // The bytes and words of a story: each is read and written here.
 ghost use Rattle.std.specs.Prelude.{◌≡◌, ◌<◌, ◌≤◌, ◌%◌, ◌+◌, length, IfOk, slice_set};
-ghost use Rattle.z_model.specs.Machine.{byte_in, with_byte, word_in, with_word};
+ghost use Rattle.z_model.specs.Machine.{byte_in, with_byte, word_in, with_word, may_write, may_write_all};
 ghost use Rattle.z_play.specs.View.{Sets};
 
 use z_model::{Layout, ZFault};
@@ -58,4 +58,27 @@ pub fn write_word(memory: &mut [u8], layout: Layout, at: u16, word: u16) -> Resu
     write_byte(memory, layout, at, (word / 256) as u8)?;
     write_byte(memory, layout, at.wrapping_add(1), (word % 256) as u8)?;
     Ok(())
+}
+
+fn may_write(layout: Layout, at: u16) -> bool
+    ensures { result ≡ may_write layout at }
+{
+    at == 16 || at == 17 || !(at < 64) && at < layout.base
+}
+
+/// Whether so many bytes from an address on may be written.
+#[tactic(auto, unfolding(z_model::specs::Machine::may_write_all))]
+pub fn may_write_all(layout: Layout, from: u16, count: u16) -> bool
+    ensures { result ≡ may_write_all layout from count }
+{
+    let mut at = from;
+    let mut left = count;
+    while left > 0 {
+        if !may_write(layout, at) {
+            return false;
+        }
+        at = at.wrapping_add(1);
+        left -= 1;
+    }
+    true
 }
