@@ -5,5 +5,7 @@ mod arith;
 mod engine;
 mod flow;
 mod memory;
+mod output;
 mod step;
 mod text;
+mod typed;

@@ -1,8 +1,11 @@
 // One instruction.
-ghost use Rattle.std.specs.Prelude.{◌≡◌, ◌<◌, ◌≤◌, ◌+◌, ◌-◌, ◌*◌, ◌%◌, Bool, Result, ℕ, cond};
-ghost use Rattle.z_model.specs.Machine.{with_byte, with_word};
+ghost use Rattle.std.specs.Prelude.{◌≡◌, ◌<◌, ◌≤◌, ◌+◌, ◌-◌, ◌*◌, ◌%◌, IfOk, true};
+ghost use Rattle.z_model.specs.Machine.{with_byte, with_word, may_write_all};
 ghost use Rattle.z_model.specs.Step.{goes, answers, answers_or, written, prints, prints_line, prints_if, adds, adds_and_tests, pulls, returns_popped, most_typed, reads, random_of, branched, called, returned, jumped, at_pc, do_two, do_one, do_zero, do_several, do_extended, do_instr, machine_step};
-ghost use Rattle.z_play.specs.View.{machine, Sound, Gives, Kept};
+ghost use Rattle.z_play.specs.View.{machine, Sound, Kept};
+ghost use Rattle.z_play.specs.Acts.{CanFinish, GivesAct};
+ghost use Rattle.z_model.specs.declared.story.Layout.{Layout};
+ghost use Rattle.z_model.specs.Machine.{Machine};
 ghost use Rattle.z_model.specs.Machine.{pushed, placed};
 
 use crate::arith::{divide, equals_one, is_less, modulo, signed};
@@ -28,7 +31,7 @@ impl Engine {
     fn answer(&mut self, end: u32, store: Option<u8>, x: u16) -> Result<Act, ZFault>
         requires { Sound self.old }
         ensures kept { Kept self.old self.new }
-        ensures answered { Gives result (machine self.new) (answers self.old.layout (machine self.old) end store x) }
+        ensures answered { GivesAct result self.old.layout (machine self.new) (answers self.old.layout (machine self.old) end store x) }
     {
         self.pc = end;
         self.store_if(store, x)?;
@@ -44,7 +47,7 @@ impl Engine {
     ) -> Result<Act, ZFault>
         requires { Sound self.old }
         ensures kept { Kept self.old self.new }
-        ensures answered { Gives result (machine self.new) (answers_or self.old.layout (machine self.old) end store x) }
+        ensures answered { GivesAct result self.old.layout (machine self.new) (answers_or self.old.layout (machine self.old) end store x) }
     {
         match x {
             Ok(x) => self.answer(end, store, x),
@@ -57,7 +60,7 @@ impl Engine {
         requires sound { Sound self.old }
         requires near { end ≤ 524288 }
         ensures kept { Kept self.old self.new }
-        ensures branched { Gives result (machine self.new) (goes (branched self.old.layout (machine self.old) end branch test)) }
+        ensures branched { GivesAct result self.old.layout (machine self.new) (goes (branched self.old.layout (machine self.old) end branch test)) }
     {
         self.branch(end, branch, test)?;
         Ok(Act::Goes)
@@ -67,7 +70,7 @@ impl Engine {
     fn do_call(&mut self, end: u32, store: Option<u8>, a: &Args) -> Result<Act, ZFault>
         requires { Sound self.old }
         ensures kept { Kept self.old self.new }
-        ensures called { Gives result (machine self.new) (goes (called self.old.layout (machine self.old) end store a.now)) }
+        ensures called { GivesAct result self.old.layout (machine self.new) (goes (called self.old.layout (machine self.old) end store a.now)) }
     {
         self.call(end, store, a)?;
         Ok(Act::Goes)
@@ -77,7 +80,7 @@ impl Engine {
     fn do_return(&mut self, x: u16) -> Result<Act, ZFault>
         requires { Sound self.old }
         ensures kept { Kept self.old self.new }
-        ensures returned { Gives result (machine self.new) (goes (returned self.old.layout (machine self.old) x)) }
+        ensures returned { GivesAct result self.old.layout (machine self.new) (goes (returned self.old.layout (machine self.old) x)) }
     {
         self.give_back(x)?;
         Ok(Act::Goes)
@@ -87,7 +90,7 @@ impl Engine {
         requires sound { Sound self.old }
         requires near { end ≤ 524288 }
         ensures kept { Kept self.old self.new }
-        ensures jumped { Gives result (machine self.new) (goes (jumped (machine self.old) end offset)) }
+        ensures jumped { GivesAct result self.old.layout (machine self.new) (goes (jumped (machine self.old) end offset)) }
     {
         self.jump(end, offset)?;
         Ok(Act::Goes)
@@ -96,7 +99,7 @@ impl Engine {
     fn do_place(&mut self, end: u32, v: u16, x: u16) -> Result<Act, ZFault>
         requires { Sound self.old }
         ensures kept { Kept self.old self.new }
-        ensures placed { Gives result (machine self.new) (goes (placed self.old.layout (at_pc (machine self.old) end) v x)) }
+        ensures placed { GivesAct result self.old.layout (machine self.new) (goes (placed self.old.layout (at_pc (machine self.old) end) v x)) }
     {
         self.pc = end;
         self.place(v, x)?;
@@ -106,7 +109,7 @@ impl Engine {
     fn do_push(&mut self, end: u32, x: u16) -> Result<Act, ZFault>
         requires { Sound self.old }
         ensures kept { Kept self.old self.new }
-        ensures pushed { Gives result (machine self.new) (goes (pushed (at_pc (machine self.old) end) x)) }
+        ensures pushed { GivesAct result self.old.layout (machine self.new) (goes (pushed (at_pc (machine self.old) end) x)) }
     {
         self.pc = end;
         self.push(x)?;
@@ -116,7 +119,7 @@ impl Engine {
     fn do_pull(&mut self, end: u32, v: u16) -> Result<Act, ZFault>
         requires { Sound self.old }
         ensures kept { Kept self.old self.new }
-        ensures pulled { Gives result (machine self.new) (pulls self.old.layout (machine self.old) end v) }
+        ensures pulled { GivesAct result self.old.layout (machine self.new) (pulls self.old.layout (machine self.old) end v) }
     {
         self.pc = end;
         let x = self.pop()?;
@@ -127,7 +130,7 @@ impl Engine {
     fn return_popped(&mut self) -> Result<Act, ZFault>
         requires { Sound self.old }
         ensures kept { Kept self.old self.new }
-        ensures returned { Gives result (machine self.new) (returns_popped self.old.layout (machine self.old)) }
+        ensures returned { GivesAct result self.old.layout (machine self.new) (returns_popped self.old.layout (machine self.old)) }
     {
         let x = self.pop()?;
         self.do_return(x)
@@ -137,7 +140,7 @@ impl Engine {
     fn add_in_place(&mut self, end: u32, v: u16, by: u16) -> Result<Act, ZFault>
         requires { Sound self.old }
         ensures kept { Kept self.old self.new }
-        ensures added { Gives result (machine self.new) (adds self.old.layout (machine self.old) end v by) }
+        ensures added { GivesAct result self.old.layout (machine self.new) (adds self.old.layout (machine self.old) end v by) }
     {
         self.pc = end;
         let x = self.held(v)?;
@@ -155,7 +158,7 @@ impl Engine {
         requires sound { Sound self.old }
         requires near { end ≤ 524288 }
         ensures kept { Kept self.old self.new }
-        ensures tested { Gives result (machine self.new) (adds_and_tests self.old.layout (machine self.old) end branch v limit) }
+        ensures tested { GivesAct result self.old.layout (machine self.new) (adds_and_tests self.old.layout (machine self.old) end branch v limit) }
     {
         let x = self.held(v)?;
         let more = x.wrapping_add(1);
@@ -166,7 +169,7 @@ impl Engine {
     fn store_word(&mut self, end: u32, at: u16, word: u16) -> Result<Act, ZFault>
         requires { Sound self.old }
         ensures kept { Kept self.old self.new }
-        ensures written { Gives result (machine self.new) (written (machine self.old) end (with_word self.old.layout (machine self.old).memory at word)) }
+        ensures written { GivesAct result self.old.layout (machine self.new) (written (machine self.old) end (with_word self.old.layout (machine self.old).memory at word)) }
     {
         write_word(&mut self.memory, self.layout, at, word)?;
         self.pc = end;
@@ -176,7 +179,7 @@ impl Engine {
     fn store_byte(&mut self, end: u32, at: u16, byte: u8) -> Result<Act, ZFault>
         requires { Sound self.old }
         ensures kept { Kept self.old self.new }
-        ensures written { Gives result (machine self.new) (written (machine self.old) end (with_byte self.old.layout (machine self.old).memory at byte)) }
+        ensures written { GivesAct result self.old.layout (machine self.new) (written (machine self.old) end (with_byte self.old.layout (machine self.old).memory at byte)) }
     {
         write_byte(&mut self.memory, self.layout, at, byte)?;
         self.pc = end;
@@ -185,9 +188,10 @@ impl Engine {
 
     // An act, where it may be done.
     fn act_if(&mut self, end: u32, may: bool, act: Act) -> Result<Act, ZFault>
-        requires { Sound self.old }
+        requires sound { Sound self.old }
+        requires plain { (layout : Layout) (m : Machine) → CanFinish act layout m }
         ensures kept { Kept self.old self.new }
-        ensures acts { Gives result (machine self.new) (prints_if may act (at_pc (machine self.old) end)) }
+        ensures acts { GivesAct result self.old.layout (machine self.new) (prints_if may act (at_pc (machine self.old) end)) }
     {
         if !may {
             return Err(ZFault::BadCharacter);
@@ -199,7 +203,7 @@ impl Engine {
     fn print_text(&mut self, end: u32, at: usize) -> Result<Act, ZFault>
         requires { Sound self.old }
         ensures kept { Kept self.old self.new }
-        ensures prints { Gives result (machine self.new) (prints (machine self.old) at end) }
+        ensures prints { GivesAct result self.old.layout (machine self.new) (prints (machine self.old) at end) }
     {
         match find_fault(&self.memory, at) {
             Some(fault) => Err(fault),
@@ -214,7 +218,7 @@ impl Engine {
     fn print_line(&mut self, at: usize) -> Result<Act, ZFault>
         requires { Sound self.old }
         ensures kept { Kept self.old self.new }
-        ensures prints { Gives result (machine self.new) (prints_line self.old.layout (machine self.old) at) }
+        ensures prints { GivesAct result self.old.layout (machine self.new) (prints_line self.old.layout (machine self.old) at) }
     {
         if let Some(fault) = find_fault(&self.memory, at) {
             return Err(fault);
@@ -229,7 +233,7 @@ impl Engine {
     fn random(&mut self, word: u16, end: u32, store: Option<u8>, range: u16) -> Result<Act, ZFault>
         requires { Sound self.old }
         ensures kept { Kept self.old self.new }
-        ensures drawn { Gives result (machine self.new) (random_of self.old.layout word (machine self.old) end store range) }
+        ensures drawn { GivesAct result self.old.layout (machine self.new) (random_of self.old.layout word (machine self.old) end store range) }
     {
         if range == 0 || 32767 < range {
             return self.answer(end, store, 0);
@@ -243,7 +247,8 @@ impl Engine {
     #[tactic(auto, unfolding(z_model::specs::Step::most_typed))]
     fn most_typed(&self, a: &Args) -> Result<u8, ZFault>
         requires { Sound self.now }
-        ensures { result ≡ most_typed self.now.layout (machine self.now) a.now }
+        ensures most { result ≡ most_typed self.now.layout (machine self.now) a.now }
+        ensures may { IfOk result (λ most. may_write_all self.now.layout ((a.now.first + 1) % 65536) (most + 1) ≡ true) }
     {
         if 0 < a.second {
             return Err(ZFault::Unsupported);
@@ -260,7 +265,7 @@ impl Engine {
     fn read(&mut self, end: u32, store: Option<u8>, a: &Args) -> Result<Act, ZFault>
         requires { Sound self.old }
         ensures kept { Kept self.old self.new }
-        ensures reads { Gives result (machine self.new) (reads self.old.layout (machine self.old) end store a.now) }
+        ensures reads { GivesAct result self.old.layout (machine self.new) (reads self.old.layout (machine self.old) end store a.now) }
     {
         let most = self.most_typed(a)?;
         self.pc = end;
@@ -279,7 +284,7 @@ impl Engine {
         requires sound { Sound self.old }
         requires near { end ≤ 524288 }
         ensures kept { Kept self.old self.new }
-        ensures done { Gives result (machine self.new) (do_two self.old.layout instr op.now end a.now (machine self.old)) }
+        ensures done { GivesAct result self.old.layout (machine self.new) (do_two self.old.layout instr op.now end a.now (machine self.old)) }
     {
         let x = a.first;
         let y = a.second;
@@ -313,7 +318,7 @@ impl Engine {
         requires sound { Sound self.old }
         requires near { end ≤ 524288 }
         ensures kept { Kept self.old self.new }
-        ensures done { Gives result (machine self.new) (do_one self.old.layout instr op.now end a.now (machine self.old)) }
+        ensures done { GivesAct result self.old.layout (machine self.new) (do_one self.old.layout instr op.now end a.now (machine self.old)) }
     {
         let x = a.first;
         match instr {
@@ -335,7 +340,7 @@ impl Engine {
     fn do_zero(&mut self, instr: Zero, op: &Op, end: u32, a: &Args) -> Result<Act, ZFault>
         requires sound { Sound self.old }
         ensures kept { Kept self.old self.new }
-        ensures done { Gives result (machine self.new) (do_zero self.old.layout instr op.now end a.now (machine self.old)) }
+        ensures done { GivesAct result self.old.layout (machine self.new) (do_zero self.old.layout instr op.now end a.now (machine self.old)) }
     {
         let text = (end as usize).saturating_sub(op.text);
         match instr {
@@ -351,9 +356,10 @@ impl Engine {
     }
 
     fn goes_on(&mut self, end: u32, act: Act) -> Result<Act, ZFault>
-        requires { Sound self.old }
+        requires sound { Sound self.old }
+        requires plain { (layout : Layout) (m : Machine) → CanFinish act layout m }
         ensures kept { Kept self.old self.new }
-        ensures goes { Gives result (machine self.new) (Ok (act, at_pc (machine self.old) end)) }
+        ensures goes { GivesAct result self.old.layout (machine self.new) (Ok (act, at_pc (machine self.old) end)) }
     {
         self.pc = end;
         Ok(act)
@@ -370,7 +376,7 @@ impl Engine {
     ) -> Result<Act, ZFault>
         requires { Sound self.old }
         ensures kept { Kept self.old self.new }
-        ensures done { Gives result (machine self.new) (do_several self.old.layout word instr op.now end a.now (machine self.old)) }
+        ensures done { GivesAct result self.old.layout (machine self.new) (do_several self.old.layout word instr op.now end a.now (machine self.old)) }
     {
         let x = a.first;
         match instr {
@@ -393,7 +399,7 @@ impl Engine {
     fn do_extended(&mut self, instr: Extended, op: &Op, end: u32, a: &Args) -> Result<Act, ZFault>
         requires { Sound self.old }
         ensures kept { Kept self.old self.new }
-        ensures done { Gives result (machine self.new) (do_extended self.old.layout instr op.now end a.now (machine self.old)) }
+        ensures done { GivesAct result self.old.layout (machine self.new) (do_extended self.old.layout instr op.now end a.now (machine self.old)) }
     {
         match instr {
             Extended::PrintUnicode => {
@@ -414,7 +420,7 @@ impl Engine {
         requires sound { Sound self.old }
         requires near { end ≤ 524288 }
         ensures kept { Kept self.old self.new }
-        ensures done { Gives result (machine self.new) (do_instr self.old.layout word instr op.now end a.now (machine self.old)) }
+        ensures done { GivesAct result self.old.layout (machine self.new) (do_instr self.old.layout word instr op.now end a.now (machine self.old)) }
     {
         match instr {
             Instr::Two(instr) => self.do_two(instr, op, end, a),
@@ -430,7 +436,7 @@ impl Engine {
     pub fn step(&mut self, word: u16) -> Result<Act, ZFault>
         requires { Sound self.old }
         ensures kept { Kept self.old self.new }
-        ensures stepped { Gives result (machine self.new) (machine_step self.old.layout word (machine self.old)) }
+        ensures stepped { GivesAct result self.old.layout (machine self.new) (machine_step self.old.layout word (machine self.old)) }
     {
         let found = decode(&self.memory, self.pc as usize)?;
         let args = self.values(&found.op.operands)?;
