@@ -4,3 +4,9 @@ pub mod Entered
 pub mod Printable
 pub mod Written
 pub mod Reading
+pub mod Texts
+pub mod Bytes
+pub mod Finishing
+pub mod Going
+pub mod Loading
+pub mod Lines

@@ -1,5 +1,5 @@
 -- Whether a text may be printed, code by code.
-use Rattle.std.proofs.Common.{◌≡◌, ℕ, true, false, List, [], ◌∷◌, Option, Some, None, refl, ap, ◌∙◌}
+use Rattle.std.proofs.Common.{◌≡◌, ℕ, true, false, List, [], ◌∷◌, Option, Some, None, refl}
 use Rattle.z_model.specs.declared.fault.ZFault.TheVariants.{BadString, BadCharacter}
 use Rattle.z_model.specs.Zscii.{is_printed, all_printed}
 use Rattle.z_model.specs.Text.{Text, print_fault}

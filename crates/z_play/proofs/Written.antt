@@ -1,12 +1,12 @@
 -- What a sink took, piece by piece.
-use Rattle.std.proofs.Common.{◌≡◌, ◌+◌, ◌-◌, ◌<◌, ◌≤◌, ℕ, List, [], ◌∷◌, ◌++◌, length, take, drop, Option, Some, None, Result, Ok, Err, IsOk, inl, inr, refl, sym, ◌∙◌, ap, subst, append_assoc, arith, take_all, length-drop, length-append}
+use Rattle.std.proofs.Common.{◌≡◌, ◌+◌, ◌-◌, ◌≤◌, ℕ, List, [], ◌++◌, length, take, drop, Option, Some, None, Result, Ok, Err, IsOk, OnOk, OnErr, inl, inr, sym, ◌∙◌, ap, subst, append_assoc, arith, take_all, length-drop, length-append}
 use Rattle.std.specs.Io.KnownBytes.{Appends, Keeps}
 use Rattle.std.proofs.Math.Seq.{take-add}
 use Rattle.std.proofs.lemmas.Bool.{cases_lt}
 use Rattle.std.proofs.lemmas.List.{take-append-drop, append-nil, length-take}
 use Rattle.dg_base.specs.Streams.{RoomFalls, TakesWithinRoom}
 use Rattle.dg_base.specs.declared.traits.Failed.{Failed}
-use Rattle.z_play.specs.Output.{Seen, seen, FallsBy, IsTooLong, Wrote, Cut}
+use Rattle.z_play.specs.Output.{Seen, FallsBy, IsTooLong, Wrote, Cut}
 
 appends_more : (old mid new : Option (List ℕ)) (text : List ℕ) (done count : ℕ) → Appends old mid (take done text) → Appends mid new (take count (drop done text)) → Appends old new (take (done + count) text)
 appends_more None mid new text done count h k = tt
@@ -113,3 +113,13 @@ cut_before old new xs ys cut = record {
   taken = cut.taken;
   room = more_too_long old.room xs ys cut.room;
 }
+
+-- ---- answers
+
+pub on_ok : {T E : Type 0} (r : Result T E) (P Q : Type 0) → OnOk r P → (P → Q) → OnOk r Q
+on_ok (Ok b) P Q p f = f p
+on_ok (Err failed) P Q p f = p
+
+pub on_err : {T E : Type 0} (r : Result T E) (P Q : Type 0) → OnErr r P → (P → Q) → OnErr r Q
+on_err (Ok b) P Q p f = p
+on_err (Err failed) P Q p f = f p

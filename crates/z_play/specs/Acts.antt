@@ -1,18 +1,18 @@
 -- What is left to do of an instruction once the outside has done its part, and that it can't fail.
-use Rattle.std.specs.Prelude.{◌≡◌, ◌+◌, ◌%◌, ℕ, IsOk, true, Result, Ok, Err}
+use Rattle.std.specs.Prelude.{◌≡◌, ◌+◌, ◌%◌, IsOk, true, Result, Ok, Err}
 use Rattle.z_model.specs.declared.fault.ZFault.{ZFault}
 use Rattle.z_model.specs.declared.story.Layout.{Layout}
 use Rattle.z_model.specs.declared.end.Act.{Act}
 use Rattle.z_model.specs.declared.end.Act.TheVariants.{Goes, PrintsCode, PrintsUnicode, PrintsNumber, PrintsText, PrintsLine, Draws, Reads, Quits}
 use Rattle.z_model.specs.Machine.{Machine, may_write_all, stored_if}
 use Rattle.z_model.specs.Step.{returned}
-use Rattle.z_model.specs.Zscii.{is_printed, is_character}
+use Rattle.z_model.specs.Zscii.{is_character}
 
--- A return and a store were tried, and the characters are printed.
+-- A return and a store were tried, and a character has a number in Unicode that is printed.
 abbrev pub CanFinish : Act → Layout → Machine → Type 0
 CanFinish Goes layout m = Unit {0}
 CanFinish (PrintsCode c) layout m = Unit {0}
-CanFinish (PrintsUnicode c) layout m = Unit {0}
+CanFinish (PrintsUnicode c) layout m = is_character c ≡ true
 CanFinish (PrintsNumber x) layout m = Unit {0}
 CanFinish (PrintsText at) layout m = Unit {0}
 CanFinish (PrintsLine at) layout m = IsOk (returned layout m 1)

@@ -4,3 +4,8 @@ pub mod Faults
 pub mod Acts
 pub mod Output
 pub mod Lines
+pub mod Scene
+pub mod Acting
+pub mod Played
+pub mod Advancing
+pub mod Ready

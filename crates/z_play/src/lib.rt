@@ -6,6 +6,9 @@ mod engine;
 mod flow;
 mod memory;
 mod output;
+mod player;
 mod step;
 mod text;
 mod typed;
+
+pub use player::{Fault, LoadFault, Player};

@@ -1,6 +1,7 @@
 // The bytes and words of a story: each is read and written here.
 ghost use Rattle.std.specs.Prelude.{◌≡◌, ◌<◌, ◌≤◌, ◌%◌, ◌+◌, length, IfOk, slice_set};
-ghost use Rattle.z_model.specs.Machine.{byte_in, with_byte, word_in, with_word, may_write, may_write_all};
+ghost use Rattle.z_model.specs.Machine.{byte_in, with_byte, word_in, with_word, may_write, may_write_all, with_bytes};
+ghost use Rattle.z_model.specs.Run.{with_line};
 ghost use Rattle.z_play.specs.View.{Sets};
 
 use z_model::{Layout, ZFault};
@@ -81,4 +82,37 @@ pub fn may_write_all(layout: Layout, from: u16, count: u16) -> bool
         left -= 1;
     }
     true
+}
+
+/// Writes bytes from an address on.
+pub fn write_bytes(memory: &mut [u8], layout: Layout, from: u16, bytes: &[u8]) -> Result<(), ZFault>
+    requires base { layout.base ≤ length memory.old }
+    requires room { 64 ≤ length memory.old }
+    ensures { Sets result memory.new (with_bytes layout memory.old from bytes.now) }
+{
+    let mut at = from;
+    for byte in bytes {
+        if let Err(fault) = write_byte(memory, layout, at, *byte) {
+            return Err(fault);
+        }
+        at = at.wrapping_add(1);
+    }
+    Ok(())
+}
+
+/// Writes a typed line into its buffer, and the number of its codes.
+#[tactic(auto, unfolding(z_model::specs::Run::with_line))]
+pub fn write_typed(
+    memory: &mut [u8],
+    layout: Layout,
+    buffer: u16,
+    line: &[u8],
+) -> Result<(), ZFault>
+    requires base { layout.base ≤ length memory.old }
+    requires room { 64 ≤ length memory.old }
+    requires few { length line.now ≤ 255 }
+    ensures { Sets result memory.new (with_line layout memory.old buffer line.now) }
+{
+    write_bytes(memory, layout, buffer.wrapping_add(2), line)?;
+    write_byte(memory, layout, buffer.wrapping_add(1), line.len() as u8)
 }

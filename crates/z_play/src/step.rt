@@ -1,8 +1,9 @@
 // One instruction.
-ghost use Rattle.std.specs.Prelude.{◌≡◌, ◌<◌, ◌≤◌, ◌+◌, ◌-◌, ◌*◌, ◌%◌, IfOk, true};
+ghost use Rattle.std.specs.Prelude.{◌≡◌, ◌<◌, ◌≤◌, ◌+◌, ◌-◌, ◌*◌, ◌%◌, IfOk, IsTrue, length, true};
 ghost use Rattle.z_model.specs.Machine.{with_byte, with_word, may_write_all};
 ghost use Rattle.z_model.specs.Step.{goes, answers, answers_or, written, prints, prints_line, prints_if, adds, adds_and_tests, pulls, returns_popped, most_typed, reads, random_of, branched, called, returned, jumped, at_pc, do_two, do_one, do_zero, do_several, do_extended, do_instr, machine_step};
-ghost use Rattle.z_play.specs.View.{machine, Sound, Kept};
+ghost use Rattle.z_play.specs.View.{machine, Sound, Sets, Kept};
+ghost use Rattle.z_model.specs.Run.{line_read};
 ghost use Rattle.z_play.specs.Acts.{CanFinish, GivesAct};
 ghost use Rattle.z_model.specs.declared.story.Layout.{Layout};
 ghost use Rattle.z_model.specs.Machine.{Machine};
@@ -10,7 +11,7 @@ ghost use Rattle.z_model.specs.Machine.{pushed, placed};
 
 use crate::arith::{divide, equals_one, is_less, modulo, signed};
 use crate::engine::Engine;
-use crate::memory::{may_write_all, read_byte, read_word, write_byte, write_word};
+use crate::memory::{may_write_all, read_byte, read_word, write_byte, write_typed, write_word};
 use crate::text::{find_fault, is_character, is_printed};
 use z_code::decode;
 use z_model::{Act, Args, Branch, Extended, Instr, One, Op, Several, Two, ZFault, Zero};
@@ -189,7 +190,7 @@ impl Engine {
     // An act, where it may be done.
     fn act_if(&mut self, end: u32, may: bool, act: Act) -> Result<Act, ZFault>
         requires sound { Sound self.old }
-        requires plain { (layout : Layout) (m : Machine) → CanFinish act layout m }
+        requires plain { IsTrue may → (layout : Layout) (m : Machine) → CanFinish act layout m }
         ensures kept { Kept self.old self.new }
         ensures acts { GivesAct result self.old.layout (machine self.new) (prints_if may act (at_pc (machine self.old) end)) }
     {
@@ -273,6 +274,20 @@ impl Engine {
             Some(fault) => Err(fault),
             None => Ok(Act::Reads(a.first, most, store)),
         }
+    }
+}
+
+impl Engine {
+    /// Ends a reading: the line goes into its buffer, and 13 is stored.
+    #[tactic(auto, unfolding(z_model::specs::Run::line_read))]
+    pub fn finish_read(&mut self, buffer: u16, store: Option<u8>, line: &[u8]) -> Result<(), ZFault>
+        requires sound { Sound self.old }
+        requires few { length line.now ≤ 255 }
+        ensures kept { Kept self.old self.new }
+        ensures read { Sets result (machine self.new) (line_read self.old.layout (machine self.old) buffer store line.now) }
+    {
+        write_typed(&mut self.memory, self.layout, buffer, line)?;
+        self.store_if(store, 13)
     }
 }
 

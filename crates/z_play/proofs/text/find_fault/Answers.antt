@@ -1,4 +1,4 @@
-use Rattle.std.proofs.Common.{◌≡◌, ℕ, [], ◌∷◌, Some, None, sym, ap, ◌∙◌}
+use Rattle.std.proofs.Common.{◌≡◌, [], ◌∷◌, Some, sym, ap, ◌∙◌}
 use Rattle.z_text.specs.Walk.{rest_of}
 use Rattle.z_play.proofs.Printable.{no_end, at_end, not_printed, printed}
 use Rattle.z_play.proofs.text.find_fault.Goals as goal

@@ -1,6 +1,5 @@
-use Rattle.std.proofs.Common.{◌≡◌, List, ℕ, [], ◌∷◌, Some, None, sym, ap, ◌∙◌, arith}
+use Rattle.std.proofs.Common.{[], ◌∷◌, Some, sym, ap, ◌∙◌, arith}
 use Rattle.std.specs.Io.KnownBytes.{Consumes, IsAtEnd, Keeps}
-use Rattle.z_model.specs.Typed.{left_within}
 use Rattle.z_play.proofs.Reading.{consumed, ended, no_room, no_byte, at_newline, at_byte}
 use Rattle.z_play.proofs.typed.next_byte.Goals as goal
 

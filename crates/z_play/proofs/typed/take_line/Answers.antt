@@ -1,4 +1,4 @@
-use Rattle.std.proofs.Common.{◌≡◌, List, ℕ, [], ◌∷◌, length, Some, sym, ap, ◌∙◌}
+use Rattle.std.proofs.Common.{[], ◌∷◌, length, Some, sym, ap, ◌∙◌}
 use Rattle.std.specs.Io.KnownBytes.{Consumes}
 use Rattle.z_play.proofs.Reading.{consumed, stays, typed_empty, typed_more, stops_at_first, stops_later, not_empty}
 use Rattle.z_play.proofs.typed.take_line.Goals as goal

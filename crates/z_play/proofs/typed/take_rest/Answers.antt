@@ -1,7 +1,7 @@
-use Rattle.std.proofs.Common.{◌≡◌, ◌≤◌, ◌-◌, ◌++◌, ◌∷◌, List, ℕ, [], Some, None, sym, ap, subst, ◌∙◌, arith, length}
-use Rattle.z_model.specs.Typed.{line_within, left_within, without_return}
-use Rattle.z_play.specs.Lines.{IsNext, StopsWithin}
-use Rattle.z_play.proofs.Reading.{Reading, reading_starts, reading_goes, left_shorter}
+use Rattle.std.proofs.Common.{◌≡◌, ◌≤◌, ◌++◌, ◌∷◌, List, ℕ, [], Some, sym, ap, subst, ◌∙◌, arith, length}
+use Rattle.z_model.specs.Typed.{line_within, left_within}
+use Rattle.z_play.specs.Lines.{IsNext}
+use Rattle.z_play.proofs.Reading.{reading_starts, reading_goes, left_shorter}
 use Rattle.z_play.proofs.typed.take_rest.Goals as goal
 
 pub loop-failed-init : goal.loop-failed-init
@@ -33,7 +33,7 @@ loop-failed-preserved g c = record {
   within = c.keep-kept.ensures.within;
   later = omega (arith, c.in-Ok-Some.ensures.cause.later);
   told = λ typed told.
-    let r = c.loop-failed.invariant.told typed told in
-    let next : IsNext c.in-Ok-Some.byte c.loop-failed.room r.rest (g.S.Source.left c.next_byte.new.source) = rw c.in-Ok-Some.field-0-is at (c.in-Ok-Some.ensures.told r.rest r.is) in
-    reading_goes typed c.args.first c.loop-failed.line c.keep-kept.new.line c.loop-failed.kept c.keep-kept.result c.loop-failed.held c.loop-failed.room c.in-Ok-Some.byte (g.S.Source.left c.loop-failed.source) (g.S.Source.left c.next_byte.new.source) r next.rest next.is next.line next.behind (omega (arith, ap length next.taken)) (c.keep-kept.ensures.keeps r.front r.keeps);
+      let r = c.loop-failed.invariant.told typed told in
+      let next : IsNext c.in-Ok-Some.byte c.loop-failed.room r.rest (g.S.Source.left c.next_byte.new.source) = rw c.in-Ok-Some.field-0-is at (c.in-Ok-Some.ensures.told r.rest r.is) in
+      reading_goes typed c.args.first c.loop-failed.line c.keep-kept.new.line c.loop-failed.kept c.keep-kept.result c.loop-failed.held c.loop-failed.room c.in-Ok-Some.byte (g.S.Source.left c.loop-failed.source) (g.S.Source.left c.next_byte.new.source) r next.rest next.is next.line next.behind (omega (arith, ap length next.taken)) (c.keep-kept.ensures.keeps r.front r.keeps);
 }

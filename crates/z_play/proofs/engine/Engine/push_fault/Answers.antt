@@ -1,4 +1,4 @@
-use Rattle.std.proofs.Common.{refl, arith}
+use Rattle.std.proofs.Common.{refl}
 use Rattle.z_play.proofs.Views.{is_full, is_pushed}
 use Rattle.z_play.proofs.engine.Engine.push_fault.Goals as goal
 

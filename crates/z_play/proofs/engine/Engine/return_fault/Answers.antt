@@ -1,6 +1,5 @@
-use Rattle.std.proofs.Common.{◌≡◌, refl, sym, ◌∙◌, ap, subst, Option}
+use Rattle.std.proofs.Common.{◌≡◌, refl, subst}
 use Rattle.z_model.specs.declared.story.Layout.{Layout}
-use Rattle.z_model.specs.declared.fault.ZFault.{ZFault}
 use Rattle.z_model.specs.Machine.{stored_if}
 use Rattle.z_play.specs.View.{machine}
 use Rattle.z_play.specs.Faults.{fault_of}

@@ -1,4 +1,4 @@
-use Rattle.std.proofs.Common.{◌≡◌, refl, sym, ◌∙◌, arith, get_or, ◌-◌}
+use Rattle.std.proofs.Common.{◌≡◌, refl, ◌∙◌, arith, get_or, ◌-◌}
 use Rattle.std.proofs.lemmas.List.{get_or_default}
 use Rattle.z_play.proofs.Views.{is_empty, is_popped}
 use Rattle.z_play.proofs.engine.Engine.topmost.Goals as goal
