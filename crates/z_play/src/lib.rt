@@ -8,6 +8,8 @@ mod memory;
 mod output;
 mod player;
 mod step;
+#[cfg(test)]
+mod tests;
 mod text;
 mod typed;
 
