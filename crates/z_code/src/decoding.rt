@@ -16,6 +16,7 @@ pub struct Decoded {
     pub end: usize,
 }
 
+#[inline(always)]
 fn read(bytes: &[u8], at: usize) -> Result<u8, ZFault>
     ensures byte { result ≡ byte_at bytes.now at }
     ensures within { IfOk result (λ _. at < length bytes.now) }
@@ -26,6 +27,7 @@ fn read(bytes: &[u8], at: usize) -> Result<u8, ZFault>
     }
 }
 
+#[inline(always)]
 fn known_row(kind: Kind, number: u8) -> Result<Row, ZFault>
     ensures { result ≡ known kind number }
 {
@@ -35,6 +37,7 @@ fn known_row(kind: Kind, number: u8) -> Result<Row, ZFault>
     }
 }
 
+#[inline(always)]
 fn type_of(bits: u8) -> OperandType
     ensures { result ≡ type_of bits }
 {
@@ -46,6 +49,7 @@ fn type_of(bits: u8) -> OperandType
     }
 }
 
+#[inline(always)]
 fn long_type(bit: u8) -> OperandType
     ensures { result ≡ long_type bit }
 {
@@ -55,6 +59,7 @@ fn long_type(bit: u8) -> OperandType
     }
 }
 
+#[inline(always)]
 fn types_of(byte: u8) -> OperandTypes
     ensures { result ≡ types_of byte }
 {
@@ -66,6 +71,7 @@ fn types_of(byte: u8) -> OperandTypes
     }
 }
 
+#[inline(always)]
 fn long_types(first: u8) -> OperandTypes
     ensures { result ≡ long_types first }
 {
@@ -77,6 +83,7 @@ fn long_types(first: u8) -> OperandTypes
     }
 }
 
+#[inline(always)]
 fn presence(kind: OperandType) -> u8
     ensures value { result ≡ present kind }
     ensures below { result ≤ 1 }
@@ -88,6 +95,7 @@ fn presence(kind: OperandType) -> u8
 }
 
 #[tactic(auto, unfolding(z_model::specs::Decode::count_of))]
+#[inline(always)]
 fn count_types(types: OperandTypes) -> Result<u8, ZFault>
     ensures { result ≡ count_of types }
 {
@@ -108,6 +116,7 @@ fn count_types(types: OperandTypes) -> Result<u8, ZFault>
 }
 
 #[tactic(auto, unfolding(z_model::specs::Decode::counted))]
+#[inline(always)]
 fn count_operands(row: Row, types: OperandTypes) -> Result<u8, ZFault>
     ensures { result ≡ counted row types }
 {
@@ -122,6 +131,7 @@ fn count_operands(row: Row, types: OperandTypes) -> Result<u8, ZFault>
 }
 
 #[tactic(auto, unfolding(z_model::specs::Decode::operand_at))]
+#[inline(always)]
 fn operand(bytes: &[u8], kind: OperandType, at: usize) -> Result<(Operand, usize), ZFault>
     requires { at ≤ length bytes.now }
     ensures operand { result ≡ operand_at bytes.now kind at }
@@ -146,6 +156,7 @@ fn operand(bytes: &[u8], kind: OperandType, at: usize) -> Result<(Operand, usize
 }
 
 #[tactic(auto, unfolding(z_model::specs::Decode::store_at))]
+#[inline(always)]
 fn store(bytes: &[u8], wanted: bool, at: usize) -> Result<(Option<u8>, usize), ZFault>
     requires { at ≤ length bytes.now }
     ensures store { result ≡ store_at bytes.now wanted at }
@@ -159,6 +170,7 @@ fn store(bytes: &[u8], wanted: bool, at: usize) -> Result<(Option<u8>, usize), Z
 }
 
 #[tactic(auto, unfolding(z_model::specs::Decode::branch_at))]
+#[inline(always)]
 fn branch(bytes: &[u8], wanted: bool, at: usize) -> Result<(Option<Branch>, usize), ZFault>
     requires { at ≤ length bytes.now }
     ensures branch { result ≡ branch_at bytes.now wanted at }
@@ -207,6 +219,7 @@ fn end_of_text(bytes: &[u8], start: usize) -> Option<usize>
 }
 
 #[tactic(auto, unfolding(z_model::specs::Decode::text_at))]
+#[inline(always)]
 fn text(bytes: &[u8], wanted: bool, at: usize) -> Result<(usize, usize), ZFault>
     requires { at ≤ length bytes.now }
     ensures text { result ≡ text_at bytes.now wanted at }
@@ -223,6 +236,7 @@ fn text(bytes: &[u8], wanted: bool, at: usize) -> Result<(usize, usize), ZFault>
 
 // What stands behind the types.
 #[tactic(auto, unfolding(z_model::specs::Decode::body_at))]
+#[inline(always)]
 fn body(
     bytes: &[u8],
     form: Form,
@@ -267,6 +281,7 @@ fn body(
 }
 
 #[tactic(auto, unfolding(z_model::specs::Decode::long_at))]
+#[inline(always)]
 fn long(bytes: &[u8], at: usize, first: u8) -> Result<Decoded, ZFault>
     requires { at < length bytes.now }
     ensures long { Decodes result (long_at bytes.now at first) }
@@ -278,6 +293,7 @@ fn long(bytes: &[u8], at: usize, first: u8) -> Result<Decoded, ZFault>
     body(bytes, Form::Long, number, row, long_types(first), at + 1)
 }
 
+#[inline(always)]
 fn kind_of(kind: OperandType) -> Kind
     ensures { result ≡ short_kind kind }
 {
@@ -287,6 +303,7 @@ fn kind_of(kind: OperandType) -> Kind
     }
 }
 
+#[inline(always)]
 fn one_type(kind: OperandType) -> OperandTypes
     ensures { result ≡ one_type kind }
 {
@@ -299,6 +316,7 @@ fn one_type(kind: OperandType) -> OperandTypes
 }
 
 #[tactic(auto, unfolding(z_model::specs::Decode::short_at))]
+#[inline(always)]
 fn short(bytes: &[u8], at: usize, first: u8) -> Result<Decoded, ZFault>
     requires { at < length bytes.now }
     ensures short { Decodes result (short_at bytes.now at first) }
@@ -311,6 +329,7 @@ fn short(bytes: &[u8], at: usize, first: u8) -> Result<Decoded, ZFault>
     body(bytes, Form::Short, number, row, one_type(kind), at + 1)
 }
 
+#[inline(always)]
 fn row_of_variable(number: u8) -> Result<Row, ZFault>
     ensures { result ≡ variable_row number }
 {
@@ -322,6 +341,7 @@ fn row_of_variable(number: u8) -> Result<Row, ZFault>
 }
 
 #[tactic(auto, unfolding(z_model::specs::Decode::variable_at))]
+#[inline(always)]
 fn variable(bytes: &[u8], at: usize, first: u8) -> Result<Decoded, ZFault>
     requires { at < length bytes.now }
     ensures variable { Decodes result (variable_at bytes.now at first) }
@@ -335,6 +355,7 @@ fn variable(bytes: &[u8], at: usize, first: u8) -> Result<Decoded, ZFault>
 }
 
 #[tactic(auto, unfolding(z_model::specs::Decode::extended_at))]
+#[inline(always)]
 fn extended(bytes: &[u8], at: usize) -> Result<Decoded, ZFault>
     requires { at < length bytes.now }
     ensures extended { Decodes result (extended_at bytes.now at) }
@@ -349,6 +370,7 @@ fn extended(bytes: &[u8], at: usize) -> Result<Decoded, ZFault>
 
 /// The instruction at a place with its name in the table, or the first fault, byte by byte.
 #[tactic(auto, unfolding(z_model::specs::Decode::op_at))]
+#[inline(always)]
 pub fn decode(bytes: &[u8], at: usize) -> Result<Decoded, ZFault>
     ensures op { Decodes result (op_at bytes.now at) }
     ensures instr { IfOk result (λ d. instr_of d.op ≡ Some d.instr) }

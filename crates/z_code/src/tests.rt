@@ -85,13 +85,21 @@ fn decodes_what_inform_encodes(rt: HostRuntime) -> Result<(), Fail> {
         ],
     );
     let cases: [(&[u8], Instr, Op); 13] = [
-        (&[0x54, 0x01, 0x01, 0x11], Instr::Two(Two::Add), storing(add, 17)),
+        (
+            &[0x54, 0x01, 0x01, 0x11],
+            Instr::Two(Two::Add),
+            storing(add, 17),
+        ),
         (
             &[0xD4, 0x2F, 0x01, 0x2C, 0x11, 0x00],
             Instr::Two(Two::Add),
             storing(large, 0),
         ),
-        (&[0x75, 0x00, 0x02, 0x03], Instr::Two(Two::Sub), storing(sub, 3)),
+        (
+            &[0x75, 0x00, 0x02, 0x03],
+            Instr::Two(Two::Sub),
+            storing(sub, 3),
+        ),
         (
             &[0xC1, 0x95, 0x01, 0x01, 0x02, 0x03, 0x00, 0x00],
             Instr::Two(Two::Je),
@@ -108,15 +116,27 @@ fn decodes_what_inform_encodes(rt: HostRuntime) -> Result<(), Fail> {
             branching(jz, true, 0, false),
         ),
         (&[0x8C, 0x00, 0x00], Instr::One(One::Jump), jump),
-        (&[0xB2, 0x11, 0xAA, 0xC6, 0x34], Instr::Zero(Zero::Print), hello),
+        (
+            &[0xB2, 0x11, 0xAA, 0xC6, 0x34],
+            Instr::Zero(Zero::Print),
+            hello,
+        ),
         (&[0xB4], Instr::Zero(Zero::Nop), nop),
-        (&[0xE2, 0xA3, 0x01, 0x02, 0x01, 0x2C], Instr::Several(Several::Storeb), storeb),
+        (
+            &[0xE2, 0xA3, 0x01, 0x02, 0x01, 0x2C],
+            Instr::Several(Several::Storeb),
+            storeb,
+        ),
         (
             &[0xE4, 0x9F, 0x01, 0x00, 0x00],
             Instr::Several(Several::Aread),
             storing(read, 0),
         ),
-        (&[0xBE, 0x0B, 0x7F, 0xE9], Instr::Extended(Extended::PrintUnicode), unicode),
+        (
+            &[0xBE, 0x0B, 0x7F, 0xE9],
+            Instr::Extended(Extended::PrintUnicode),
+            unicode,
+        ),
         (
             &[0xE0, 0x15, 0x00, 0x25, 0x01, 0x02, 0x03, 0x00],
             Instr::Several(Several::CallVs),

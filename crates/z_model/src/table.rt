@@ -306,6 +306,7 @@ pub const EXTENDED: [Option<Row>; 12] = [
 ];
 
 /// The row of a kind and a number.
+#[inline]
 pub fn find_row(kind: Kind, number: u8) -> Option<Row>
     ensures { result ≡ row_at kind number }
 {
