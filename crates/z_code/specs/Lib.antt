@@ -1,0 +1,4 @@
+pub use Rattle.z_model.specs.Decode
+pub use Rattle.z_model.specs.Spelling
+pub mod Decoded
+pub mod Appended

@@ -1,0 +1,14 @@
+//! The instructions of the Z-machine as bytes, there and back, and instructions whose targets aren't filled in.
+#![tactic(auto)]
+
+mod decoding;
+mod encoding;
+mod target;
+
+pub use decoding::{Decoded, decode, decode_op};
+pub use encoding::encode_op;
+pub use target::{LOp, Target};
+pub use z_model::{Branch, Form, Op, Operand, Operands};
+
+#[cfg(test)]
+mod tests;

@@ -1,0 +1,180 @@
+// Encodings that the Inform 6 compiler lists.
+use super::*;
+use std::test::Fail;
+use z_model::{Extended, Instr, One, Several, Two, Zero};
+
+const NONE: Operand = Operand::Small(0);
+
+fn op(form: Form, number: u8, count: u8, operands: [Operand; 4]) -> Op {
+    let [first, second, third, fourth] = operands;
+    Op {
+        form,
+        number,
+        operands: Operands {
+            count,
+            first,
+            second,
+            third,
+            fourth,
+        },
+        store: None,
+        branch: None,
+        text: 0,
+    }
+}
+
+fn storing(op: Op, variable: u8) -> Op {
+    Op {
+        store: Some(variable),
+        ..op
+    }
+}
+
+fn branching(op: Op, when: bool, offset: i16, short: bool) -> Op {
+    Op {
+        branch: Some(Branch {
+            when,
+            offset,
+            short,
+        }),
+        ..op
+    }
+}
+
+#[test]
+fn decodes_what_inform_encodes(rt: HostRuntime) -> Result<(), Fail> {
+    let a = Operand::Variable(1);
+    let b = Operand::Variable(2);
+    let sp = Operand::Variable(0);
+    let g1 = Operand::Variable(17);
+    let one = Operand::Small(1);
+    let add = op(Form::Long, 20, 2, [a, one, NONE, NONE]);
+    let large = op(Form::Variable, 20, 2, [Operand::Large(300), g1, NONE, NONE]);
+    let sub = op(Form::Long, 21, 2, [sp, b, NONE, NONE]);
+    let je = op(
+        Form::Variable,
+        1,
+        4,
+        [a, one, Operand::Small(2), Operand::Small(3)],
+    );
+    let jg = op(Form::Long, 3, 2, [sp, sp, NONE, NONE]);
+    let jz = op(Form::Short, 0, 1, [a, NONE, NONE, NONE]);
+    let jump = op(Form::Short, 12, 1, [Operand::Large(0), NONE, NONE, NONE]);
+    let hello = Op {
+        text: 4,
+        ..op(Form::Short, 2, 0, [NONE, NONE, NONE, NONE])
+    };
+    let nop = op(Form::Short, 4, 0, [NONE, NONE, NONE, NONE]);
+    let storeb = op(Form::Variable, 34, 3, [a, b, Operand::Large(300), NONE]);
+    let read = op(Form::Variable, 36, 2, [a, NONE, NONE, NONE]);
+    let unicode = op(
+        Form::Extended,
+        11,
+        1,
+        [Operand::Small(233), NONE, NONE, NONE],
+    );
+    let call = op(
+        Form::Variable,
+        32,
+        4,
+        [
+            Operand::Large(37),
+            one,
+            Operand::Small(2),
+            Operand::Small(3),
+        ],
+    );
+    let cases: [(&[u8], Instr, Op); 13] = [
+        (
+            &[0x54, 0x01, 0x01, 0x11],
+            Instr::Two(Two::Add),
+            storing(add, 17),
+        ),
+        (
+            &[0xD4, 0x2F, 0x01, 0x2C, 0x11, 0x00],
+            Instr::Two(Two::Add),
+            storing(large, 0),
+        ),
+        (
+            &[0x75, 0x00, 0x02, 0x03],
+            Instr::Two(Two::Sub),
+            storing(sub, 3),
+        ),
+        (
+            &[0xC1, 0x95, 0x01, 0x01, 0x02, 0x03, 0x00, 0x00],
+            Instr::Two(Two::Je),
+            branching(je, false, 0, false),
+        ),
+        (
+            &[0x63, 0x00, 0x00, 0xC0],
+            Instr::Two(Two::Jg),
+            branching(jg, true, 0, true),
+        ),
+        (
+            &[0xA0, 0x01, 0x80, 0x00],
+            Instr::One(One::Jz),
+            branching(jz, true, 0, false),
+        ),
+        (&[0x8C, 0x00, 0x00], Instr::One(One::Jump), jump),
+        (
+            &[0xB2, 0x11, 0xAA, 0xC6, 0x34],
+            Instr::Zero(Zero::Print),
+            hello,
+        ),
+        (&[0xB4], Instr::Zero(Zero::Nop), nop),
+        (
+            &[0xE2, 0xA3, 0x01, 0x02, 0x01, 0x2C],
+            Instr::Several(Several::Storeb),
+            storeb,
+        ),
+        (
+            &[0xE4, 0x9F, 0x01, 0x00, 0x00],
+            Instr::Several(Several::Aread),
+            storing(read, 0),
+        ),
+        (
+            &[0xBE, 0x0B, 0x7F, 0xE9],
+            Instr::Extended(Extended::PrintUnicode),
+            unicode,
+        ),
+        (
+            &[0xE0, 0x15, 0x00, 0x25, 0x01, 0x02, 0x03, 0x00],
+            Instr::Several(Several::CallVs),
+            storing(call, 0),
+        ),
+    ];
+    for (bytes, instr, op) in cases {
+        assert_eq!(rt;
+            decode(bytes, 0),
+            Ok(Decoded {
+                instr,
+                op,
+                end: bytes.len()
+            })
+        );
+        assert_eq!(rt; decode_op(bytes, 0), Ok((op, bytes.len())));
+    }
+    Ok(())
+}
+
+#[test]
+fn encodes_as_inform_does(rt: HostRuntime) -> Result<(), Fail> {
+    let mut out = Vec::new(rt.alloc());
+    let add = Op {
+        form: Form::Long,
+        number: 20,
+        operands: Operands {
+            count: 2,
+            first: Operand::Variable(1),
+            second: Operand::Small(1),
+            third: NONE,
+            fourth: NONE,
+        },
+        store: Some(17),
+        branch: None,
+        text: 0,
+    };
+    encode_op(&add, &mut out)?;
+    assert_eq!(rt; out.as_slice(), [0x54, 0x01, 0x01, 0x11].as_slice());
+    Ok(())
+}

@@ -1,0 +1,13 @@
+pub mod Fault
+pub mod Table
+pub mod Decode
+pub mod Spelling
+pub mod Zscii
+pub mod Text
+pub mod Typed
+pub mod Machine
+pub mod Step
+pub mod Run
+pub mod Laws
+pub mod Story
+pub mod Closing

@@ -1,0 +1,164 @@
+-- The machine: its memory, its frames and its variables (Z-Machine Standard 1.1, sections 1.1, 4.2, 6.1 to 6.4 and 7.1).
+use Rattle.std.specs.Prelude.{ℕ, zero, suc, ◌+◌, ◌-◌, ◌*◌, ◌/◌, ◌%◌, List, [], ◌∷◌, ◌++◌, length, take, Option, Some, None, Result, Ok, Err, Bool, true, false, nat_lt, ◌==◌, if◌then◌else◌, slice_get, slice_index, slice_set}
+use Rattle.z_model.specs.declared.fault.ZFault.{ZFault}
+use Rattle.z_model.specs.declared.fault.ZFault.TheVariants.{BadOpcode, BadAddress, BadWrite, StackEmpty, StackFull, BadLocal}
+use Rattle.z_model.specs.declared.op.Operand.{Operand}
+use Rattle.z_model.specs.declared.op.Operand.TheVariants as operands
+use Rattle.z_model.specs.declared.op.Operands.{Operands}
+use Rattle.z_model.specs.declared.end.Args.{Args}
+use Rattle.z_model.specs.declared.story.Layout.{Layout}
+use Rattle.z_model.specs.Decode.{◌>>=◌, or_fault}
+
+-- A routine that was called: where its caller goes on, which variable takes its answer, how many arguments it was given, its locals, and its stack with the top last.
+pub record Frame : Type 0 where
+  pub back : ℕ
+  pub store : Option ℕ
+  pub args : ℕ
+  pub locals : List ℕ
+  pub stack : List ℕ
+
+-- A table into which output goes, and how many codes went there; no instruction opens one yet.
+pub record OpenTable : Type 0 where
+  pub at : ℕ
+  pub count : ℕ
+
+-- The memory, the address of the next instruction, the present frame, the callers with the newest first, and the open tables.
+pub record Machine : Type 0 where
+  pub memory : List ℕ
+  pub pc : ℕ
+  pub here : Frame
+  pub callers : List Frame
+  pub tables : List OpenTable
+
+-- ---- bytes and words of the memory
+
+-- A byte may be read below the length; an address is below 65,536.
+abbrev pub may_read : List ℕ → ℕ → Bool
+may_read memory a = nat_lt a (length memory)
+
+-- A byte may be written in the flags at 16 and 17 and from 64 up to the static base.
+abbrev pub may_write : Layout → ℕ → Bool
+may_write layout a = if a == 16 then true else if a == 17 then true else if nat_lt a 64 then false else nat_lt a layout.base
+
+unfoldable pub byte_in : List ℕ → ℕ → Result ℕ ZFault
+byte_in memory a = if may_read memory a then Ok (slice_index memory a) else Err BadAddress
+
+unfoldable pub with_byte : Layout → List ℕ → ℕ → ℕ → Result (List ℕ) ZFault
+with_byte layout memory a b = if may_write layout a then Ok (slice_set memory a b) else Err BadWrite
+
+abbrev pub word_of : ℕ → ℕ → ℕ
+word_of high low = 256 * high + low
+
+unfoldable pub word_in : List ℕ → ℕ → Result ℕ ZFault
+word_in memory a = do
+  high ← byte_in memory a
+  low ← byte_in memory ((a + 1) % 65536)
+  Ok (word_of high low)
+
+unfoldable pub with_word : Layout → List ℕ → ℕ → ℕ → Result (List ℕ) ZFault
+with_word layout memory a x = do
+  first ← with_byte layout memory a (x / 256)
+  with_byte layout first ((a + 1) % 65536) (x % 256)
+
+-- bytes from an address on
+unfoldable pub with_bytes : Layout → List ℕ → ℕ → List ℕ → Result (List ℕ) ZFault
+with_bytes layout memory a [] = Ok memory
+with_bytes layout memory a (b ∷ bs) = with_byte layout memory a b >>= λ first. with_bytes layout first ((a + 1) % 65536) bs
+
+-- So many bytes from an address on may be written.
+unfoldable pub may_write_all : Layout → ℕ → ℕ → Bool
+may_write_all layout a zero = true
+may_write_all layout a (suc n) = if may_write layout a then may_write_all layout ((a + 1) % 65536) n else false
+
+-- ---- words on the stacks
+
+abbrev pub words_of : Frame → ℕ
+words_of f = length f.locals + length f.stack
+
+abbrev pub words_in : List Frame → ℕ
+words_in [] = 0
+words_in (f ∷ fs) = words_in fs + words_of f
+
+-- the words of all frames
+abbrev pub words : Machine → ℕ
+words m = words_in m.callers + words_of m.here
+
+abbrev pub with_stack : Machine → List ℕ → Machine
+with_stack m stack = record m { here = record m.here { stack = stack } }
+
+abbrev pub with_locals : Machine → List ℕ → Machine
+with_locals m locals = record m { here = record m.here { locals = locals } }
+
+unfoldable pub pushed : Machine → ℕ → Result Machine ZFault
+pushed m x = if nat_lt (words m) 65536 then Ok (with_stack m (m.here.stack ++ x ∷ [])) else Err StackFull
+
+unfoldable pub popped : Machine → Result (ℕ × Machine) ZFault
+popped m = if nat_lt 0 (length m.here.stack) then Ok (slice_index m.here.stack (length m.here.stack - 1), with_stack m (take (length m.here.stack - 1) m.here.stack)) else Err StackEmpty
+
+-- ---- variables
+
+abbrev pub global_at : Layout → ℕ → ℕ
+global_at layout v = layout.globals + 2 * (v - 16)
+
+abbrev pub global_of : Layout → Machine → ℕ → ℕ
+global_of layout m v = word_of (slice_index m.memory (global_at layout v)) (slice_index m.memory (global_at layout v + 1))
+
+abbrev pub local_of : Machine → ℕ → Result ℕ ZFault
+local_of m v = or_fault BadLocal (slice_get m.here.locals (v - 1))
+
+-- takes the value of a variable; 0 takes a word from the stack
+unfoldable pub variable_of : Layout → Machine → ℕ → Result (ℕ × Machine) ZFault
+variable_of layout m v =
+    if v == 0 then popped m
+    else if nat_lt v 16 then (local_of m v >>= λ x. Ok (x, m))
+    else Ok (global_of layout m v, m)
+
+abbrev pub global_set : Layout → Machine → ℕ → ℕ → Machine
+global_set layout m v x = record m { memory = slice_set (slice_set m.memory (global_at layout v) (x / 256)) (global_at layout v + 1) (x % 256) }
+
+-- gives a local a value
+unfoldable pub local_set : Machine → ℕ → ℕ → Result Machine ZFault
+local_set m v x = if nat_lt (v - 1) (length m.here.locals) then Ok (with_locals m (slice_set m.here.locals (v - 1) x)) else Err BadLocal
+
+-- gives a variable a value; 0 pushes a word
+unfoldable pub stored : Layout → Machine → ℕ → ℕ → Result Machine ZFault
+stored layout m v x = if v == 0 then pushed m x else if nat_lt v 16 then local_set m v x else Ok (global_set layout m v x)
+
+-- the store of an instruction, where it has one
+unfoldable pub stored_if : Layout → Machine → Option ℕ → ℕ → Result Machine ZFault
+stored_if layout m None x = Ok m
+stored_if layout m (Some v) x = stored layout m v x
+
+-- ---- variables that an operand names: 0 is the top of the stack, in place
+
+unfoldable pub held_in : Layout → Machine → ℕ → Result ℕ ZFault
+held_in layout m v =
+    if v == 0 then (popped m >>= λ p. Ok p.0)
+    else if nat_lt v 16 then local_of m v
+    else if nat_lt v 256 then Ok (global_of layout m v)
+    else Err BadOpcode
+
+unfoldable pub placed : Layout → Machine → ℕ → ℕ → Result Machine ZFault
+placed layout m v x =
+    if v == 0 then (popped m >>= λ p. pushed p.1 x)
+    else if nat_lt v 256 then stored layout m v x
+    else Err BadOpcode
+
+-- ---- operands, from left to right
+
+unfoldable pub value_of : Layout → Machine → Operand → Result (ℕ × Machine) ZFault
+value_of layout m (operands.Large w) = Ok (w, m)
+value_of layout m (operands.Small b) = Ok (b, m)
+value_of layout m (operands.Variable v) = variable_of layout m v
+
+unfoldable pub value_if : Layout → Machine → Bool → Operand → Result (ℕ × Machine) ZFault
+value_if layout m false x = Ok (0, m)
+value_if layout m true x = value_of layout m x
+
+unfoldable pub values_of : Layout → Machine → Operands → Result (Args × Machine) ZFault
+values_of layout m o = do
+  first ← value_if layout m (nat_lt 0 o.count) o.first
+  second ← value_if layout first.1 (nat_lt 1 o.count) o.second
+  third ← value_if layout second.1 (nat_lt 2 o.count) o.third
+  fourth ← value_if layout third.1 (nat_lt 3 o.count) o.fourth
+  Ok (record { count = o.count; first = first.0; second = second.0; third = third.0; fourth = fourth.0 }, fourth.1)

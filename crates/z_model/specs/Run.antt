@@ -1,0 +1,109 @@
+-- A step of the whole player, and a run of at most so many (Z-Machine Standard 1.1, section 5.5 on the start, section 7 on output, section 10 on input).
+use Rattle.std.specs.Prelude.{ℕ, zero, suc, ◌+◌, ◌%◌, List, [], ◌∷◌, ◌++◌, length, Option, Result, Ok, Err, slice_index, encode_utf8}
+use Rattle.std.specs.Fmt.{signed_decimal}
+use Rattle.z_model.specs.declared.fault.ZFault.{ZFault}
+use Rattle.z_model.specs.declared.story.Layout.{Layout}
+use Rattle.z_model.specs.declared.end.Halt.{Halt}
+use Rattle.z_model.specs.declared.end.Halt.TheVariants.{AtQuit, AtInput, AtFault}
+use Rattle.z_model.specs.declared.end.ZEnd.{ZEnd}
+use Rattle.z_model.specs.declared.end.ZEnd.TheVariants as ends
+use Rattle.z_model.specs.declared.end.Act.{Act}
+use Rattle.z_model.specs.declared.end.Act.TheVariants.{Goes, PrintsCode, PrintsUnicode, PrintsNumber, PrintsText, PrintsLine, Draws, Reads, Quits}
+use Rattle.z_model.specs.Decode.{◌>>=◌}
+use Rattle.z_model.specs.Zscii.{code_bytes}
+use Rattle.z_model.specs.Text.{string_at, text_bytes}
+use Rattle.z_model.specs.Typed.{typed_line, typed_left}
+use Rattle.z_model.specs.Machine.{Machine, with_byte, with_bytes, stored_if}
+use Rattle.z_model.specs.Step.{machine_step, returned, signed_16}
+
+-- What a run is given: the story's layout, and the dice words, which are used in order and again from the first.
+pub record World : Type 0 where
+  pub layout : Layout
+  pub dice : List ℕ
+
+-- The machine, the typed bytes left, the place in the dice, and the output in UTF-8.
+pub record ZState : Type 0 where
+  pub machine : Machine
+  pub typed : List ℕ
+  pub drawn : ℕ
+  pub output : List ℕ
+
+-- how an instruction leaves the run
+pub data Next : Type 0 where
+  On : (s : ZState) → Next
+  Ended : (halt : Halt) → (s : ZState) → Next
+
+-- the dice word at a place
+abbrev pub word_at : World → ℕ → ℕ
+word_at w drawn = slice_index w.dice drawn
+
+abbrev pub next_drawn : World → ℕ → ℕ
+next_drawn w drawn = (drawn + 1) % length w.dice
+
+-- the address is that of the instruction
+abbrev pub broken_at : ZState → ZFault → Next
+broken_at s fault = Ended (AtFault fault s.machine.pc) s
+
+-- a state with another machine, and more output
+abbrev pub shown : ZState → Machine → List ℕ → ZState
+shown s m text = record s { machine = m; output = s.output ++ text }
+
+abbrev pub on_unless : ZState → ZState → Result Machine ZFault → Next
+on_unless s after (Ok m) = On (record after { machine = m })
+on_unless s after (Err fault) = broken_at s fault
+
+-- a typed line in its buffer: the characters from byte 2 on, their number in byte 1
+unfoldable pub with_line : Layout → List ℕ → ℕ → List ℕ → Result (List ℕ) ZFault
+with_line layout memory buffer line = do
+  first ← with_bytes layout memory ((buffer + 2) % 65536) line
+  with_byte layout first ((buffer + 1) % 65536) (length line)
+
+-- and 13 stored behind it
+unfoldable pub line_read : Layout → Machine → ℕ → Option ℕ → List ℕ → Result Machine ZFault
+line_read layout m buffer store line = do
+  memory ← with_line layout m.memory buffer line
+  stored_if layout (record m { memory = memory }) store 13
+
+-- a typed line is taken, where a typed byte is left
+abbrev pub line_taken : World → ZState → Machine → ℕ → ℕ → Option ℕ → List ℕ → Next
+line_taken w s m buffer most store [] = Ended AtInput (record s { machine = m })
+line_taken w s m buffer most store (byte ∷ typed) = on_unless s (record s { typed = typed_left (byte ∷ typed) }) (line_read w.layout m buffer store (typed_line most (byte ∷ typed)))
+
+-- the outside's part of an instruction, behind which the machine is m
+abbrev pub act_on : World → ZState → Act → Machine → Next
+act_on w s Goes m = On (record s { machine = m })
+act_on w s (PrintsCode c) m = On (shown s m (code_bytes c))
+act_on w s (PrintsUnicode c) m = On (shown s m (encode_utf8 c))
+act_on w s (PrintsNumber x) m = On (shown s m (signed_decimal (signed_16 x)))
+act_on w s (PrintsText at) m = On (shown s m (text_bytes (string_at m.memory at)))
+act_on w s (PrintsLine at) m = on_unless s (shown s m (text_bytes (string_at m.memory at) ++ 10 ∷ [])) (returned w.layout m 1)
+act_on w s Draws m = On (record s { machine = m; drawn = next_drawn w s.drawn })
+act_on w s (Reads buffer most store) m = line_taken w s m buffer most store s.typed
+act_on w s Quits m = Ended AtQuit (record s { machine = m })
+
+abbrev pub next_by : World → ZState → Result (Act × Machine) ZFault → Next
+next_by w s (Err fault) = broken_at s fault
+next_by w s (Ok am) = act_on w s am.0 am.1
+
+-- one instruction
+unfoldable pub zstep : World → ZState → Next
+zstep w s = next_by w s (machine_step w.layout (word_at w s.drawn) s.machine)
+
+-- how a run ended, and its last state
+pub record Run : Type 0 where
+  pub end : ZEnd
+  pub state : ZState
+
+abbrev pub end_of : Halt → ZEnd
+end_of AtQuit = ends.Quit
+end_of AtInput = ends.InputEnded
+end_of (AtFault fault at) = ends.Broken fault at
+
+abbrev pub go_on : (ZState → Run) → Next → Run
+go_on more (On s) = more s
+go_on more (Ended halt s) = record { end = end_of halt; state = s }
+
+-- at most n instructions
+unfoldable pub zrun : World → ℕ → ZState → Run
+zrun w zero s = record { end = ends.StepLimit; state = s }
+zrun w (suc n) s = go_on (zrun w n) (zstep w s)

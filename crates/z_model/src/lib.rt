@@ -1,0 +1,40 @@
+//! The Z-machine of version 8: its instruction table, the meaning of a step and of a run, and which files are stories.
+#![tactic(auto)]
+
+mod end;
+mod fault;
+mod op;
+mod story;
+mod table;
+mod text;
+
+ghost use Rattle.std.specs.Prelude.{List, ℕ};
+ghost use Rattle.z_model.specs.Spelling.{Again, Written};
+ghost use Rattle.z_model.specs.declared.op.Op.{Op};
+ghost use Rattle.z_model.specs.Run.{World, ZState};
+ghost use Rattle.z_model.specs.Laws.{RunLaws};
+
+pub use end::{Act, Args, Halt, ZEnd};
+pub use fault::ZFault;
+pub use op::{Branch, Form, Op, Operand, OperandType, OperandTypes, Operands};
+pub use story::{Header, Layout, StoryRefusal, read_header};
+pub use table::{Extended, Instr, Kind, One, Row, Several, Two, Zero, find_row};
+pub use text::{Alphabet, EXTRA, PUNCTUATION, Reading};
+
+/// What is written as an instruction of the table is decoded again, whatever stands around it; no bytes are two instructions.
+pub fn instructions_again()
+    ensures { (bytes : List ℕ) (at : ℕ) → Again bytes at }
+{}
+
+/// What is written for an op of the table, and its literal text behind it, is decoded as that op.
+pub fn written_again()
+    ensures { (op : Op) (front text rest : List ℕ) → Written op front text rest }
+{}
+
+/// A run of k + j steps is one of k and then one of j, and what was printed stays.
+pub fn runs_in_pieces()
+    ensures { (w : World) (s : ZState) → RunLaws w s }
+{}
+
+#[cfg(test)]
+mod tests;

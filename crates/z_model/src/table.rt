@@ -1,0 +1,336 @@
+// The instruction table.
+ghost use Rattle.std.specs.Prelude.{◌≡◌};
+ghost use Rattle.z_model.specs.Table.{row_at};
+
+use std::fmt;
+
+/// The instructions with two operands, or with the form of such, by their names in the standard.
+#[derive(Clone, Copy, Debug, PartialEq, Eq)]
+pub enum Two {
+    Je,
+    Jl,
+    Jg,
+    IncChk,
+    Or,
+    And,
+    Store,
+    Loadw,
+    Loadb,
+    Add,
+    Sub,
+    Mul,
+    Div,
+    Mod,
+    Call2s,
+    Call2n,
+}
+
+/// The instructions with one operand, by their names in the standard.
+#[derive(Clone, Copy, Debug, PartialEq, Eq)]
+pub enum One {
+    Jz,
+    Inc,
+    Dec,
+    Call1s,
+    Ret,
+    Jump,
+    PrintPaddr,
+    Load,
+    Call1n,
+}
+
+/// The instructions without operands, by their names in the standard.
+#[derive(Clone, Copy, Debug, PartialEq, Eq)]
+pub enum Zero {
+    Rtrue,
+    Rfalse,
+    Print,
+    PrintRet,
+    Nop,
+    RetPopped,
+    Quit,
+    NewLine,
+}
+
+/// The instructions with several operands, by their names in the standard.
+#[derive(Clone, Copy, Debug, PartialEq, Eq)]
+pub enum Several {
+    CallVs,
+    Storew,
+    Storeb,
+    Aread,
+    PrintChar,
+    PrintNum,
+    Random,
+    Push,
+    Pull,
+    Not,
+    CallVn,
+}
+
+/// The instructions of the extended form, by their names in the standard.
+#[derive(Clone, Copy, Debug, PartialEq, Eq)]
+pub enum Extended {
+    PrintUnicode,
+}
+
+/// An instruction, by its kind.
+#[derive(Clone, Copy, Debug, PartialEq, Eq)]
+pub enum Instr {
+    Two(Two),
+    One(One),
+    Zero(Zero),
+    Several(Several),
+    Extended(Extended),
+}
+
+/// The names in the order of `Two`.
+pub const TWO_NAMES: [&str; 16] = [
+    "je", "jl", "jg", "inc_chk", "or", "and", "store", "loadw", "loadb", "add", "sub", "mul",
+    "div", "mod", "call_2s", "call_2n",
+];
+
+/// The names in the order of `One`.
+pub const ONE_NAMES: [&str; 9] = [
+    "jz",
+    "inc",
+    "dec",
+    "call_1s",
+    "ret",
+    "jump",
+    "print_paddr",
+    "load",
+    "call_1n",
+];
+
+/// The names in the order of `Zero`.
+pub const ZERO_NAMES: [&str; 8] = [
+    "rtrue",
+    "rfalse",
+    "print",
+    "print_ret",
+    "nop",
+    "ret_popped",
+    "quit",
+    "new_line",
+];
+
+/// The names in the order of `Several`.
+pub const SEVERAL_NAMES: [&str; 11] = [
+    "call_vs",
+    "storew",
+    "storeb",
+    "aread",
+    "print_char",
+    "print_num",
+    "random",
+    "push",
+    "pull",
+    "not",
+    "call_vn",
+];
+
+/// The names in the order of `Extended`.
+pub const EXTENDED_NAMES: [&str; 1] = ["print_unicode"];
+
+/// The kinds of instruction: with two operands, one, none, several, and the extended ones.
+#[derive(Clone, Copy, Debug, PartialEq, Eq)]
+pub enum Kind {
+    Two,
+    One,
+    Zero,
+    Several,
+    Extended,
+}
+
+/// One row: the instruction, how many operands it has, and what stands behind them.
+#[derive(Clone, Copy, Debug, PartialEq, Eq)]
+pub struct Row {
+    pub instr: Instr,
+    pub fewest: u8,
+    pub most: u8,
+    pub store: bool,
+    pub branch: bool,
+    pub text: bool,
+}
+
+// A row: the instruction, its fewest and most operands, and what stands behind them.
+macro_rules! row {
+    ($kind:ident::$instr:ident, $fewest:literal, $most:literal, nothing) => {
+        row!($kind::$instr, $fewest, $most, false, false, false)
+    };
+    ($kind:ident::$instr:ident, $fewest:literal, $most:literal, store) => {
+        row!($kind::$instr, $fewest, $most, true, false, false)
+    };
+    ($kind:ident::$instr:ident, $fewest:literal, $most:literal, branch) => {
+        row!($kind::$instr, $fewest, $most, false, true, false)
+    };
+    ($kind:ident::$instr:ident, $fewest:literal, $most:literal, text) => {
+        row!($kind::$instr, $fewest, $most, false, false, true)
+    };
+    ($kind:ident::$instr:ident, $fewest:literal, $most:literal, $store:literal, $branch:literal, $text:literal) => {
+        Some(Row {
+            instr: Instr::$kind($kind::$instr),
+            fewest: $fewest,
+            most: $most,
+            store: $store,
+            branch: $branch,
+            text: $text,
+        })
+    };
+}
+
+// Entry k of a table is the row with the number k; in the comments a, b are the operands.
+
+pub const TWO: [Option<Row>; 32] = [
+    None,
+    row!(Two::Je, 2, 4, branch), // 1: branches where the first operand equals one of the others
+    row!(Two::Jl, 2, 2, branch), // 2: branches where a is less than b, signed
+    row!(Two::Jg, 2, 2, branch), // 3: branches where a is greater than b, signed
+    None,
+    row!(Two::IncChk, 2, 2, branch), // 5: adds 1 to variable a, branches where it is greater than b then
+    None,
+    None,
+    row!(Two::Or, 2, 2, store), // 8: stores the bits of a or b
+    row!(Two::And, 2, 2, store), // 9: stores the bits of a and b
+    None,
+    None,
+    None,
+    row!(Two::Store, 2, 2, nothing), // 13: sets variable a to b
+    None,
+    row!(Two::Loadw, 2, 2, store), // 15: stores the word at a + 2b
+    row!(Two::Loadb, 2, 2, store), // 16: stores the byte at a + b
+    None,
+    None,
+    None,
+    row!(Two::Add, 2, 2, store), // 20: stores a + b
+    row!(Two::Sub, 2, 2, store), // 21: stores a - b
+    row!(Two::Mul, 2, 2, store), // 22: stores a * b
+    row!(Two::Div, 2, 2, store), // 23: stores a / b, signed, towards 0
+    row!(Two::Mod, 2, 2, store), // 24: stores the remainder of a / b, with a's sign
+    row!(Two::Call2s, 2, 2, store), // 25: calls routine a with b, stores its answer
+    row!(Two::Call2n, 2, 2, nothing), // 26: calls routine a with b
+    None,
+    None,
+    None,
+    None,
+    None,
+];
+
+pub const ONE: [Option<Row>; 16] = [
+    row!(One::Jz, 1, 1, branch), // 0: branches where a is 0
+    None,
+    None,
+    None,
+    None,
+    row!(One::Inc, 1, 1, nothing), // 5: adds 1 to variable a
+    row!(One::Dec, 1, 1, nothing), // 6: takes 1 from variable a
+    None,
+    row!(One::Call1s, 1, 1, store), // 8: calls routine a, stores its answer
+    None,
+    None,
+    row!(One::Ret, 1, 1, nothing), // 11: returns a
+    row!(One::Jump, 1, 1, nothing), // 12: goes on at the offset a
+    row!(One::PrintPaddr, 1, 1, nothing), // 13: prints the string at the packed address a
+    row!(One::Load, 1, 1, store), // 14: stores variable a
+    row!(One::Call1n, 1, 1, nothing), // 15: calls routine a
+];
+
+pub const ZERO: [Option<Row>; 16] = [
+    row!(Zero::Rtrue, 0, 0, nothing), // 0: returns 1
+    row!(Zero::Rfalse, 0, 0, nothing), // 1: returns 0
+    row!(Zero::Print, 0, 0, text), // 2: prints the text
+    row!(Zero::PrintRet, 0, 0, text), // 3: prints the text and a newline, returns 1
+    row!(Zero::Nop, 0, 0, nothing), // 4: does nothing
+    None,
+    None,
+    None,
+    row!(Zero::RetPopped, 0, 0, nothing), // 8: returns the word on top of the stack
+    None,
+    row!(Zero::Quit, 0, 0, nothing), // 10: ends the run
+    row!(Zero::NewLine, 0, 0, nothing), // 11: prints a newline
+    None,
+    None,
+    None,
+    None,
+];
+
+pub const SEVERAL: [Option<Row>; 32] = [
+    row!(Several::CallVs, 1, 4, store), // 0: calls routine a with the others, stores its answer
+    row!(Several::Storew, 3, 3, nothing), // 1: sets the word at a + 2b
+    row!(Several::Storeb, 3, 3, nothing), // 2: sets the byte at a + b
+    None,
+    row!(Several::Aread, 1, 4, store), // 4: reads a typed line into the buffer a, stores 13
+    row!(Several::PrintChar, 1, 1, nothing), // 5: prints the character with the code a
+    row!(Several::PrintNum, 1, 1, nothing), // 6: prints a as a signed number
+    row!(Several::Random, 1, 1, store), // 7: stores a number from 1 to a
+    row!(Several::Push, 1, 1, nothing), // 8: pushes a
+    row!(Several::Pull, 1, 1, nothing), // 9: sets variable a to the word on top of the stack, which it takes
+    None,
+    None,
+    None,
+    None,
+    None,
+    None,
+    None,
+    None,
+    None,
+    None,
+    None,
+    None,
+    None,
+    None,
+    row!(Several::Not, 1, 1, store), // 24: stores the bits of a turned over
+    row!(Several::CallVn, 1, 4, nothing), // 25: calls routine a with the others
+    None,
+    None,
+    None,
+    None,
+    None,
+    None,
+];
+
+pub const EXTENDED: [Option<Row>; 12] = [
+    None,
+    None,
+    None,
+    None,
+    None,
+    None,
+    None,
+    None,
+    None,
+    None,
+    None,
+    row!(Extended::PrintUnicode, 1, 1, nothing), // 11: prints the character U+a
+];
+
+/// The row of a kind and a number.
+#[inline]
+pub fn find_row(kind: Kind, number: u8) -> Option<Row>
+    ensures { result ≡ row_at kind number }
+{
+    let rows: &[Option<Row>] = match kind {
+        Kind::Two => &TWO,
+        Kind::One => &ONE,
+        Kind::Zero => &ZERO,
+        Kind::Several => &SEVERAL,
+        Kind::Extended => &EXTENDED,
+    };
+    match rows.get(number as usize) {
+        Some(row) => *row,
+        None => None,
+    }
+}
+
+impl fmt::Display for Instr {
+    fn fmt<W: fmt::Write>(&self, f: &mut fmt::Formatter<W>) -> fmt::Result {
+        f.write_str(match self {
+            Instr::Two(instr) => TWO_NAMES[*instr as usize],
+            Instr::One(instr) => ONE_NAMES[*instr as usize],
+            Instr::Zero(instr) => ZERO_NAMES[*instr as usize],
+            Instr::Several(instr) => SEVERAL_NAMES[*instr as usize],
+            Instr::Extended(instr) => EXTENDED_NAMES[*instr as usize],
+        })
+    }
+}

@@ -1,0 +1,175 @@
+-- The rest of each act.
+use Rattle.std.proofs.Common.{◌≡◌, ◌≢◌, ℕ, zero, suc, ◌+◌, ◌-◌, ◌%◌, ◌<◌, ◌≤◌, Bool, true, false, cond, eqb, ltb, List, [], ◌∷◌, length, map, Option, Some, None, Result, Ok, Err, IsOk, refl, subst, arith}
+use Rattle.std.proofs.lemmas.List.{append-nil, length-take}
+use Rattle.z_model.specs.declared.fault.ZFault.{ZFault}
+use Rattle.z_model.specs.declared.story.Layout.{Layout}
+use Rattle.z_model.specs.declared.end.Halt.{Halt}
+use Rattle.z_model.specs.declared.end.Halt.TheVariants.{AtQuit, AtInput}
+use Rattle.z_model.specs.declared.end.Act.{Act}
+use Rattle.z_model.specs.declared.end.Act.TheVariants.{Goes, PrintsCode, PrintsUnicode, PrintsNumber, PrintsText, PrintsLine, Draws, Reads, Quits}
+use Rattle.z_model.specs.Decode.{◌>>=◌}
+use Rattle.z_model.specs.Machine.{Machine, may_write, may_write_all, with_byte, with_bytes, pushed, local_set, global_set, stored, stored_if, words}
+use Rattle.z_model.specs.Step.{returned}
+use Rattle.z_model.specs.Typed.{typed_code, typed_line, typed_left, line_within, left_within, line_limit, without_return}
+use Rattle.z_model.specs.Run.{World, line_read, with_line, next_drawn}
+use Rattle.z_play.specs.Acts.{CanFinish}
+use Rattle.z_play.specs.View.{Sets}
+use Rattle.z_play.specs.Lines.{StopsWithin}
+use Rattle.z_play.specs.Acting.{Finished, Unfinished}
+use Rattle.z_play.proofs.Reading.{left_shorter}
+
+-- ---- a line that fits its buffer is read
+
+byte_ok : (layout : Layout) (memory : List ℕ) (a b : ℕ) → may_write layout a ≡ true → IsOk (with_byte layout memory a b)
+unfolding with_byte
+byte_ok layout memory a b may = rw may refl
+
+all_first : (layout : Layout) (a n : ℕ) → may_write_all layout a (suc n) ≡ true → (may_write layout a ≡ true) × (may_write_all layout ((a + 1) % 65536) n ≡ true)
+unfolding may_write_all
+all_first layout a n e = by_test (may_write layout a) refl e
+  where
+    by_test : (t : Bool) → may_write layout a ≡ t → cond t (may_write_all layout ((a + 1) % 65536) n) false ≡ true → (may_write layout a ≡ true) × (may_write_all layout ((a + 1) % 65536) n ≡ true)
+    by_test true is e = (is, e)
+    by_test false is e = absurd cc
+
+bind_ok : {A B : Type 0} (r : Result A ZFault) (f : A → Result B ZFault) → IsOk r → ((x : A) → IsOk (f x)) → IsOk (r >>= f)
+bind_ok (Ok x) f h k = k x
+bind_ok (Err e) f h k = h
+
+bytes_ok : (layout : Layout) (memory : List ℕ) (a n : ℕ) (bytes : List ℕ) → may_write_all layout a n ≡ true → length bytes ≤ n → IsOk (with_bytes layout memory a bytes)
+unfolding with_bytes
+bytes_ok layout memory a n [] may few = refl
+bytes_ok layout memory a zero (b ∷ bytes) may few = absurd (omega arith)
+bytes_ok layout memory a (suc n) (b ∷ bytes) may few =
+    let first = all_first layout a n may in
+    bind_ok (with_byte layout memory a b) (λ m. with_bytes layout m ((a + 1) % 65536) bytes) (byte_ok layout memory a b first.0) (λ m. bytes_ok layout m ((a + 1) % 65536) n bytes first.1 (omega arith))
+
+line_ok : (layout : Layout) (memory : List ℕ) (buffer most : ℕ) (line : List ℕ) → may_write_all layout ((buffer + 1) % 65536) (most + 1) ≡ true → length line ≤ most → IsOk (with_line layout memory buffer line)
+unfolding with_line
+line_ok layout memory buffer most line may few =
+    let one : most + 1 ≡ suc most = omega arith in
+    let first = all_first layout ((buffer + 1) % 65536) most (subst (λ (n : ℕ). may_write_all layout ((buffer + 1) % 65536) n ≡ true) one may) in
+    let two : ((buffer + 1) % 65536 + 1) % 65536 ≡ (buffer + 2) % 65536 = omega arith in
+    bind_ok (with_bytes layout memory ((buffer + 2) % 65536) line) _ (bytes_ok layout memory ((buffer + 2) % 65536) most line (subst (λ (a : ℕ). may_write_all layout a most ≡ true) two first.1) few) (λ m. byte_ok layout m ((buffer + 1) % 65536) (length line) first.0)
+
+-- a store doesn't fail for the memory
+store_ok : (layout : Layout) (m : Machine) (memory : List ℕ) (store : Option ℕ) (x : ℕ) → IsOk (stored_if layout m store x) → IsOk (stored_if layout (record m { memory = memory }) store x)
+unfolding stored_if stored pushed local_set
+store_ok layout m memory None x h = h
+store_ok layout m memory (Some v) x h = by_tests (eqb v 0) (ltb v 16) h
+  where
+    by_test : (t : Bool) (a b : Machine) (e : ZFault) → IsOk {T = Machine} {E = ZFault} (cond t (Ok a) (Err e)) → IsOk {T = Machine} {E = ZFault} (cond t (Ok b) (Err e))
+    by_test true a b e h = refl
+    by_test false a b e h = h
+
+    by_tests : (empty small : Bool) → IsOk (cond empty (pushed m x) (cond small (local_set m v x) (Ok (global_set layout m v x)))) → IsOk (cond empty (pushed (record m { memory = memory }) x) (cond small (local_set (record m { memory = memory }) v x) (Ok (global_set layout (record m { memory = memory }) v x))))
+    by_tests true small h = by_test (ltb (words m) 65536) _ _ _ h
+    by_tests false true h = by_test (ltb (v - 1) (length m.here.locals)) _ _ _ h
+    by_tests false false h = refl
+
+pub read_ok : (layout : Layout) (m : Machine) (buffer most : ℕ) (store : Option ℕ) (line : List ℕ) → may_write_all layout ((buffer + 1) % 65536) (most + 1) ≡ true → IsOk (stored_if layout m store 13) → length line ≤ most → IsOk (line_read layout m buffer store line)
+unfolding line_read
+read_ok layout m buffer most store line may can few = bind_ok (with_line layout m.memory buffer line) _ (line_ok layout m.memory buffer most line may few) (λ memory. store_ok layout m memory store 13 can)
+
+-- ---- the acts
+
+plain_goes : (w : World) (m : Machine) (typed : List ℕ) (drawn : ℕ) (left : Option (List ℕ)) → left ≡ Some typed → Finished w Goes m typed drawn None m left drawn
+plain_goes w m typed drawn left told = record { behind = typed; left_is = told; last = m; same = refl; is = λ before output. rw (append-nil output) refl }
+
+pub finish_draws : (w : World) (m : Machine) (typed : List ℕ) (drawn : ℕ) (left : Option (List ℕ)) → left ≡ Some typed → Finished w Draws m typed drawn None m left (next_drawn w drawn)
+finish_draws w m typed drawn left told = record { behind = typed; left_is = told; last = m; same = refl; is = λ before output. rw (append-nil output) refl }
+
+pub finish_quits : (w : World) (m : Machine) (typed : List ℕ) (drawn : ℕ) (left : Option (List ℕ)) → left ≡ Some typed → Finished w Quits m typed drawn (Some AtQuit) m left drawn
+finish_quits w m typed drawn left told = record { behind = typed; left_is = told; last = m; same = tt; is = λ before output. rw (append-nil output) refl }
+
+pub finish_line : (w : World) (m m' : Machine) (at : ℕ) (typed : List ℕ) (drawn : ℕ) (left : Option (List ℕ)) → left ≡ Some typed → returned w.layout m 1 ≡ Ok m' → Finished w (PrintsLine at) m typed drawn None m' left drawn
+finish_line w m m' at typed drawn left told e = record { behind = typed; left_is = told; last = m'; same = refl; is = λ before output. rw e refl }
+
+abbrev pub IsPlain : Act → Type 0
+IsPlain Goes = Unit {0}
+IsPlain (PrintsCode c) = Unit {0}
+IsPlain (PrintsUnicode c) = Unit {0}
+IsPlain (PrintsNumber x) = Unit {0}
+IsPlain (PrintsText at) = Unit {0}
+IsPlain (PrintsLine at) = ⊥
+IsPlain Draws = ⊥
+IsPlain (Reads buffer most store) = ⊥
+IsPlain Quits = ⊥
+
+pub finish_plain : (w : World) (act : Act) (m : Machine) (typed : List ℕ) (drawn : ℕ) (left : Option (List ℕ)) → IsPlain act → left ≡ Some typed → Finished w act m typed drawn None m left drawn
+finish_plain w Goes m typed drawn left p told = plain_goes w m typed drawn left told
+finish_plain w (PrintsCode c) m typed drawn left p told = record { behind = typed; left_is = told; last = m; same = refl; is = λ before output. refl }
+finish_plain w (PrintsUnicode c) m typed drawn left p told = record { behind = typed; left_is = told; last = m; same = refl; is = λ before output. refl }
+finish_plain w (PrintsNumber x) m typed drawn left p told = record { behind = typed; left_is = told; last = m; same = refl; is = λ before output. refl }
+finish_plain w (PrintsText at) m typed drawn left p told = record { behind = typed; left_is = told; last = m; same = refl; is = λ before output. refl }
+finish_plain w (PrintsLine at) m typed drawn left p told = absurd p
+finish_plain w Draws m typed drawn left p told = absurd p
+finish_plain w (Reads buffer most store) m typed drawn left p told = absurd p
+finish_plain w Quits m typed drawn left p told = absurd p
+
+-- ---- a reading
+
+pub finish_input : (w : World) (m new : Machine) (buffer most : ℕ) (store : Option ℕ) (typed : List ℕ) (drawn : ℕ) (left : Option (List ℕ)) → typed ≡ [] → left ≡ Some [] → Finished w (Reads buffer most store) m typed drawn (Some AtInput) new left drawn
+finish_input w m new buffer most store [] drawn left none told = record { behind = []; left_is = told; last = m; same = tt; is = λ before output. rw (append-nil output) refl }
+finish_input w m new buffer most store (b ∷ typed) drawn left none told = absurd cc
+
+pub finish_reading : (w : World) (m m' : Machine) (buffer most : ℕ) (store : Option ℕ) (typed : List ℕ) (drawn : ℕ) (left : Option (List ℕ)) → typed ≢ [] → left ≡ Some (typed_left typed) → line_read w.layout m buffer store (typed_line most typed) ≡ Ok m' → Finished w (Reads buffer most store) m typed drawn None m' left drawn
+finish_reading w m m' buffer most store [] drawn left some told e = absurd (some refl)
+finish_reading w m m' buffer most store (b ∷ typed) drawn left some told e = record { behind = typed_left (b ∷ typed); left_is = told; last = m'; same = refl; is = λ before output. rw (e, append-nil output) refl }
+
+left_less : (b : ℕ) (typed : List ℕ) → length (typed_left (b ∷ typed)) < length (b ∷ typed)
+unfolding typed_left left_within
+left_less b typed = by_test (eqb b 10) (left_shorter 65535 typed)
+  where
+    by_test : (t : Bool) → length (left_within 65535 typed) ≤ length typed → length (cond t typed (left_within 65535 typed)) < length (b ∷ typed)
+    by_test true less = omega arith
+    by_test false less = omega arith
+
+line_short : (most : ℕ) (typed : List ℕ) → length (typed_line most typed) ≤ most
+unfolding typed_line
+line_short most typed = omega (arith, length-take most (map typed_code (without_return (line_within line_limit typed))))
+
+ok_is : {A : Type 0} (r : Result A ZFault) → IsOk r → (x : A) × (r ≡ Ok x)
+ok_is (Ok x) h = (x, refl)
+ok_is (Err e) h = absurd cc
+
+pub unfinished_reading : (w : World) (m : Machine) (buffer most : ℕ) (store : Option ℕ) (typed : List ℕ) (drawn : ℕ) (left : Option (List ℕ)) → may_write_all w.layout ((buffer + 1) % 65536) (most + 1) ≡ true → IsOk (stored_if w.layout m store 13) → StopsWithin (typed_left typed) typed left → Unfinished w (Reads buffer most store) m typed drawn left
+unfinished_reading w m buffer most store [] drawn left may can stops = record { prints_none = refl; rest = stops.rest; left_is = stops.is; most = stops.most; halt = Some AtInput; last = m; behind = []; beyond = tt; is = λ before output. refl }
+unfinished_reading w m buffer most store (b ∷ typed) drawn left may can stops =
+    let read = ok_is (line_read w.layout m buffer store (typed_line most (b ∷ typed))) (read_ok w.layout m buffer most store (typed_line most (b ∷ typed)) may can (line_short most (b ∷ typed))) in
+    by_read read.0 read.1
+  where
+    by_read : (x : Machine) → line_read w.layout m buffer store (typed_line most (b ∷ typed)) ≡ Ok x → Unfinished w (Reads buffer most store) m (b ∷ typed) drawn left
+    by_read x e = record { prints_none = refl; rest = stops.rest; left_is = stops.is; most = stops.most; halt = None; last = x; behind = typed_left (b ∷ typed); beyond = (stops.least, left_less b typed); is = λ before output. rw e refl }
+
+-- ---- every act leads on
+
+pub finishes : {R : Type 0} (w : World) (act : Act) (m : Machine) (typed : List ℕ) (drawn : ℕ) → CanFinish act w.layout m → ((halt : Option Halt) (new : Machine) (left : Option (List ℕ)) (drawn' : ℕ) → Finished w act m typed drawn halt new left drawn' → R) → R
+finishes w Goes m typed drawn can k = k _ _ _ _ (finish_plain w Goes m typed drawn (Some typed) tt refl)
+finishes w (PrintsCode c) m typed drawn can k = k _ _ _ _ (finish_plain w (PrintsCode c) m typed drawn (Some typed) tt refl)
+finishes w (PrintsUnicode c) m typed drawn can k = k _ _ _ _ (finish_plain w (PrintsUnicode c) m typed drawn (Some typed) tt refl)
+finishes w (PrintsNumber x) m typed drawn can k = k _ _ _ _ (finish_plain w (PrintsNumber x) m typed drawn (Some typed) tt refl)
+finishes w (PrintsText at) m typed drawn can k = k _ _ _ _ (finish_plain w (PrintsText at) m typed drawn (Some typed) tt refl)
+finishes w (PrintsLine at) m typed drawn can k = let r = ok_is (returned w.layout m 1) can in k _ _ _ _ (finish_line w m r.0 at typed drawn (Some typed) refl r.1)
+finishes w Draws m typed drawn can k = k _ _ _ _ (finish_draws w m typed drawn (Some typed) refl)
+finishes w (Reads buffer most store) m [] drawn can k = k _ _ _ _ (finish_input w m m buffer most store [] drawn (Some []) refl refl)
+finishes w (Reads buffer most store) m (b ∷ typed) drawn can k =
+    let read = ok_is (line_read w.layout m buffer store (typed_line most (b ∷ typed))) (read_ok w.layout m buffer most store (typed_line most (b ∷ typed)) can.0 can.1 (line_short most (b ∷ typed))) in
+    k _ _ _ _ (finish_reading w m read.0 buffer most store (b ∷ typed) drawn (Some (typed_left (b ∷ typed))) (λ e. absurd cc) refl read.1)
+finishes w Quits m typed drawn can k = k _ _ _ _ (finish_quits w m typed drawn (Some typed) refl)
+
+-- ---- what a reading gives
+
+pub sets_ok : {X Y : Type 0} (r : Result X ZFault) (m : Y) (given : Result Y ZFault) → Sets r m given → IsOk given → IsOk r
+sets_ok (Ok x) m given h ok = refl
+sets_ok (Err e) m given h ok = absurd (failed h ok)
+  where
+    failed : given ≡ Err e → IsOk given → ⊥
+    failed h ok = cc
+
+pub sets_given : {X Y : Type 0} (r : Result X ZFault) (m : Y) (given : Result Y ZFault) → Sets r m given → IsOk given → given ≡ Ok m
+sets_given (Ok x) m given h ok = h
+sets_given (Err e) m given h ok = absurd (failed h ok)
+  where
+    failed : given ≡ Err e → IsOk given → ⊥
+    failed h ok = cc

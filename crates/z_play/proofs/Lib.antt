@@ -1,0 +1,12 @@
+pub mod Views
+pub mod Returns
+pub mod Entered
+pub mod Printable
+pub mod Written
+pub mod Reading
+pub mod Texts
+pub mod Bytes
+pub mod Finishing
+pub mod Going
+pub mod Loading
+pub mod Lines

@@ -1,0 +1,101 @@
+-- The line behind a run.
+use Rattle.std.proofs.Common.{◌≡◌, ◌≢◌, ℕ, List, [], ◌∷◌, ◌++◌, Bool, false, Option, inl, inr, refl, sym, ◌∙◌, ap, subst}
+use Rattle.std.proofs.lemmas.List.{append-nil}
+use Rattle.z_model.specs.declared.end.ZEnd.{ZEnd}
+use Rattle.z_model.specs.declared.end.ZEnd.TheVariants as ends
+use Rattle.z_model.specs.declared.story.Layout.{Layout}
+use Rattle.z_model.specs.Machine.{Machine}
+use Rattle.z_model.specs.Run.{World, ZState, Run, zrun}
+use Rattle.z_model.specs.Closing.{line_of, input_fault_line, is_open, newline_if, with_end_line, transcript}
+use Rattle.z_model.specs.Story.{layout_of, start_of, memory_of, first_machine, world_of, start_state}
+use Rattle.z_play.specs.Output.{Seen, Wrote, Cut}
+use Rattle.z_play.specs.Scene.{Scene, world, state}
+use Rattle.z_play.specs.Advancing.{RanTo, RanUnread}
+use Rattle.z_play.specs.Played.{Shows, InputFailed, OutputFailed}
+use Rattle.z_play.proofs.Written.{wrote_both, cut_behind, cut_before}
+
+-- ---- the text of a line
+
+line_behind : (end : ZEnd) → end ≢ ends.Quit → (output : List ℕ) → with_end_line output (line_of end) ≡ output ++ (newline_if (is_open false output) ++ line_of end)
+unfolding with_end_line
+line_behind ends.Quit some output = absurd (some refl)
+line_behind ends.InputEnded some output = refl
+line_behind ends.StepLimit some output = refl
+line_behind (ends.Broken fault at) some output = refl
+
+input_line_behind : (output : List ℕ) → with_end_line output input_fault_line ≡ output ++ (newline_if (is_open false output) ++ input_fault_line)
+unfolding with_end_line
+input_line_behind output = refl
+
+-- the output comes first
+output_first : (output line : List ℕ) → (more : List ℕ) × (with_end_line output line ≡ output ++ more)
+unfolding with_end_line
+output_first output [] = ([], sym (append-nil output))
+output_first output (b ∷ line) = (newline_if (is_open false output) ++ b ∷ line, refl)
+
+-- ---- the ends
+
+pub quit_shows : (r : Run) (old new : Scene) → RanTo r ends.Quit old new → Shows r ends.Quit new.left old.seen new.seen
+unfolding with_end_line
+quit_shows r old new ran = record { ends = ran.ends; left_is = ran.left; wrote = subst (λ (end : ZEnd). Wrote old.seen new.seen (with_end_line r.state.output (line_of end))) ran.ends ran.wrote }
+
+-- what is written of a run that ended so
+text_is : (r : Run) (end : ZEnd) (begun : Bool) → end ≢ ends.Quit → end ≡ r.end → begun ≡ is_open false r.state.output → r.state.output ++ (newline_if begun ++ line_of end) ≡ transcript r
+text_is r end begun some ended begins =
+    ap (λ (b : Bool). r.state.output ++ (newline_if b ++ line_of end)) begins
+    ∙ sym (line_behind end some r.state.output)
+    ∙ ap (λ (e : ZEnd). with_end_line r.state.output (line_of e)) ended
+
+pub end_shows : (r : Run) (end : ZEnd) (old new : Scene) (after : Seen) → old.begun ≡ false → end ≢ ends.Quit → RanTo r end old new → Wrote new.seen after (newline_if new.begun ++ line_of end) → Shows r end new.left old.seen after
+end_shows r end old new after first some ran wrote = record {
+  ends = ran.ends;
+  left_is = ran.left;
+  wrote = subst (λ (l : List ℕ). Wrote old.seen after l) (text_is r end new.begun some ran.ends (ran.begins ∙ ap (λ (b : Bool). is_open b r.state.output) first)) (wrote_both old.seen new.seen after r.state.output (newline_if new.begun ++ line_of end) ran.wrote wrote);
+}
+
+pub end_cut : (w : World) (s : ZState) (n : ℕ) (end : ZEnd) (left : Option (List ℕ)) (old new : Scene) (after : Seen) → old.begun ≡ false → end ≢ ends.Quit → RanTo (zrun w n s) end old new → Cut new.seen after (newline_if new.begun ++ line_of end) → OutputFailed w s n left old.seen after
+end_cut w s n end left old new after first some ran cut =
+    let r : Run = zrun w n s in
+    inl (subst (λ (l : List ℕ). Cut old.seen after l) (text_is r end new.begun some ran.ends (ran.begins ∙ ap (λ (b : Bool). is_open b r.state.output) first)) (cut_behind old.seen new.seen after r.state.output (newline_if new.begun ++ line_of end) ran.wrote cut))
+
+pub run_cut_short : (w : World) (s : ZState) (n : ℕ) (left : Option (List ℕ)) (old new : Seen) → Cut old new (zrun w n s).state.output → OutputFailed w s n left old new
+run_cut_short w s n left old new cut =
+    let r : Run = zrun w n s in
+    let more = output_first r.state.output (line_of r.end) in
+    inl (subst (λ (l : List ℕ). Cut old new l) (sym more.1) (cut_before old new r.state.output more.0 cut))
+
+-- ---- the input failed
+
+fault_text : (output : List ℕ) (begun : Bool) → begun ≡ is_open false output → output ++ (newline_if begun ++ input_fault_line) ≡ with_end_line output input_fault_line
+fault_text output begun begins = ap (λ (b : Bool). output ++ (newline_if b ++ input_fault_line)) begins ∙ sym (input_line_behind output)
+
+pub fault_shows : (w : World) (s : ZState) (n : ℕ) (old new : Scene) (after : Seen) → old.begun ≡ false → RanUnread w s n old new → Wrote new.seen after (newline_if new.begun ++ input_fault_line) → InputFailed w s n new.left old.seen after
+fault_shows w s n old new after first ran wrote =
+    let output : List ℕ = (zrun w ran.m s).state.output in
+    record {
+      m = ran.m;
+      rest = ran.rest;
+      left_is = ran.left;
+      stopped = ran.stopped;
+      wrote = subst (λ (l : List ℕ). Wrote old.seen after l) (fault_text output new.begun (ran.begins ∙ ap (λ (b : Bool). is_open b output) first)) (wrote_both old.seen new.seen after output (newline_if new.begun ++ input_fault_line) ran.wrote wrote);
+    }
+
+pub fault_cut : (w : World) (s : ZState) (n : ℕ) (old new : Scene) (after : Seen) → old.begun ≡ false → RanUnread w s n old new → Cut new.seen after (newline_if new.begun ++ input_fault_line) → OutputFailed w s n new.left old.seen after
+fault_cut w s n old new after first ran cut =
+    let output : List ℕ = (zrun w ran.m s).state.output in
+    inr (record {
+      m = ran.m;
+      rest = ran.rest;
+      left_is = ran.left;
+      stopped = ran.stopped;
+      cut = subst (λ (l : List ℕ). Cut old.seen after l) (fault_text output new.begun (ran.begins ∙ ap (λ (b : Bool). is_open b output) first)) (cut_behind old.seen new.seen after output (newline_if new.begun ++ input_fault_line) ran.wrote cut);
+    })
+
+-- ---- the start
+
+pub start_is : (story typed : List ℕ) (start : ℕ) (m : Machine) → memory_of story ≡ story → start ≡ start_of story → m ≡ first_machine story start → state m typed 0 [] ≡ start_state story typed
+start_is story typed start m whole at first =
+    ap (λ (k : Machine). state k typed 0 []) (first ∙ ap (λ (s : ℕ). first_machine story s) at ∙ ap (λ (l : List ℕ). first_machine l (start_of story)) (sym whole))
+
+pub world_is : (story dice : List ℕ) (l : Layout) → l ≡ layout_of story → world l dice ≡ world_of story dice
+world_is story dice l e = ap (λ (k : Layout). world k dice) e

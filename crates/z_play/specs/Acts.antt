@@ -1,0 +1,26 @@
+-- What is left to do of an instruction once the outside has done its part, and that it can't fail.
+use Rattle.std.specs.Prelude.{◌≡◌, ◌+◌, ◌%◌, IsOk, true, Result, Ok, Err}
+use Rattle.z_model.specs.declared.fault.ZFault.{ZFault}
+use Rattle.z_model.specs.declared.story.Layout.{Layout}
+use Rattle.z_model.specs.declared.end.Act.{Act}
+use Rattle.z_model.specs.declared.end.Act.TheVariants.{Goes, PrintsCode, PrintsUnicode, PrintsNumber, PrintsText, PrintsLine, Draws, Reads, Quits}
+use Rattle.z_model.specs.Machine.{Machine, may_write_all, stored_if}
+use Rattle.z_model.specs.Step.{returned}
+use Rattle.z_model.specs.Zscii.{is_character}
+
+-- A return and a store were tried, and a character has a number in Unicode that is printed.
+abbrev pub CanFinish : Act → Layout → Machine → Type 0
+CanFinish Goes layout m = Unit {0}
+CanFinish (PrintsCode c) layout m = Unit {0}
+CanFinish (PrintsUnicode c) layout m = is_character c ≡ true
+CanFinish (PrintsNumber x) layout m = Unit {0}
+CanFinish (PrintsText at) layout m = Unit {0}
+CanFinish (PrintsLine at) layout m = IsOk (returned layout m 1)
+CanFinish Draws layout m = Unit {0}
+CanFinish (Reads buffer most store) layout m = (may_write_all layout ((buffer + 1) % 65536) (most + 1) ≡ true) × IsOk (stored_if layout m store 13)
+CanFinish Quits layout m = Unit {0}
+
+-- what the table gives, where a function answers with an act and leaves the machine
+abbrev pub GivesAct : Result Act ZFault → Layout → Machine → Result (Act × Machine) ZFault → Type 0
+GivesAct (Ok act) layout m given = (given ≡ Ok (act, m)) × CanFinish act layout m
+GivesAct (Err fault) layout m given = given ≡ Err fault

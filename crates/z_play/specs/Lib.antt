@@ -1,0 +1,11 @@
+pub mod View
+pub mod Top
+pub mod Faults
+pub mod Acts
+pub mod Output
+pub mod Lines
+pub mod Scene
+pub mod Acting
+pub mod Played
+pub mod Advancing
+pub mod Ready

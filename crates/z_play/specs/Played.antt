@@ -1,0 +1,56 @@
+-- What a whole run did: the story's run as z_model gives it, with the line of its end.
+use Rattle.std.specs.Prelude.{◌≡◌, ◌<◌, ◌≤◌, ◌+◌, ◌⊎◌, ℕ, List, length, Option, Some, Result, Ok, Err}
+use Rattle.dg_base.specs.Causes.{Rose}
+use Rattle.z_model.specs.declared.end.ZEnd.{ZEnd}
+use Rattle.z_model.specs.declared.end.ZEnd.TheVariants as ends
+use Rattle.z_model.specs.Run.{World, ZState, Run, zrun}
+use Rattle.z_model.specs.Closing.{transcript, with_end_line, input_fault_line}
+use Rattle.z_play.specs.Output.{Seen, Wrote, Cut}
+use Rattle.z_play.specs.declared.player.Fault.{Fault}
+use Rattle.z_play.specs.declared.player.Fault.TheVariants.{Read, Write}
+
+-- The run ended so; the sink took its output and the line of its end, and the typed bytes are left that it leaves.
+pub record Shows (r : Run) (end : ZEnd) (left : Option (List ℕ)) (old new : Seen) : Type 0 where
+  pub ends : end ≡ r.end
+  pub left_is : left ≡ Some r.state.typed
+  pub wrote : Wrote old new (transcript r)
+
+-- The input failed behind m of n instructions, with these bytes left: so many instructions don't end the run, they took no more bytes than were taken, and one more ends for want of a byte, or takes at least those and more than before.
+pub record StoppedAt (w : World) (s : ZState) (n m : ℕ) (rest : List ℕ) : Type 0 where
+  pub below : m < n
+  pub limit : (zrun w m s).end ≡ ends.StepLimit
+  pub within : length rest ≤ length (zrun w m s).state.typed
+  pub beyond : ((zrun w (m + 1) s).end ≡ ends.InputEnded) ⊎ ((length (zrun w (m + 1) s).state.typed ≤ length rest) × (length (zrun w (m + 1) s).state.typed < length (zrun w m s).state.typed))
+
+-- The input failed; the sink took the output until then, and the line that says so.
+pub record InputFailed (w : World) (s : ZState) (n : ℕ) (left : Option (List ℕ)) (old new : Seen) : Type 0 where
+  pub m : ℕ
+  pub rest : List ℕ
+  pub left_is : left ≡ Some rest
+  pub stopped : StoppedAt w s n m rest
+  pub wrote : Wrote old new (with_end_line (zrun w m s).state.output input_fault_line)
+
+-- The output failed in that text.
+pub record InputFailedUnwritten (w : World) (s : ZState) (n : ℕ) (left : Option (List ℕ)) (old new : Seen) : Type 0 where
+  pub m : ℕ
+  pub rest : List ℕ
+  pub left_is : left ≡ Some rest
+  pub stopped : StoppedAt w s n m rest
+  pub cut : Cut old new (with_end_line (zrun w m s).state.output input_fault_line)
+
+-- The output failed in a text that the run writes.
+abbrev pub OutputFailed : World → ZState → ℕ → Option (List ℕ) → Seen → Seen → Type 0
+OutputFailed w s n left old new = Cut old new (transcript (zrun w n s)) ⊎ InputFailedUnwritten w s n left old new
+
+-- what a run did, by its answer
+abbrev pub Plays : Result ZEnd Fault → World → ZState → ℕ → Option (List ℕ) → Seen → Seen → Type 0
+Plays (Ok end) w s n left old new = Shows (zrun w n s) end left old new
+Plays (Err Read) w s n left old new = InputFailed w s n left old new
+Plays (Err Write) w s n left old new = OutputFailed w s n left old new
+
+-- Each fault has its cause, and no count falls.
+pub record HasCauses {T : Type 0} (read read' write write' : ℕ) (result : Result T Fault) : Type 0 where
+  pub reads : read ≤ read'
+  pub writes : write ≤ write'
+  pub read_failed : result ≡ Err Read → Rose read read'
+  pub write_failed : result ≡ Err Write → Rose write write'

@@ -1,0 +1,29 @@
+-- What a player holds: a story, cut to its length, and an engine for it.
+use Rattle.std.specs.Prelude.{◌≡◌, ◌+◌, ◌≤◌, ℕ, List, length, None}
+use Rattle.z_model.specs.declared.story.Layout.{Layout}
+use Rattle.z_model.specs.Story.{layout_of, start_of, memory_of, refusal_of, story_run}
+use Rattle.z_play.specs.declared.engine.Engine.{Engine}
+use Rattle.z_play.specs.View.{Sound}
+
+-- These bytes are the memory of the story that they are, and the parts of the layout lie in it.
+pub record IsStory (story : List ℕ) (start : ℕ) (layout : Layout) : Type 0 where
+  pub whole : memory_of story ≡ story
+  pub layout_is : layout ≡ layout_of story
+  pub start_is : start ≡ start_of story
+  pub size : length story ≤ 524288
+  pub base : layout.base ≤ length story
+  pub from : 64 ≤ layout.globals
+  pub globals : layout.globals + 480 ≤ layout.base
+
+pub record IsReady (story : List ℕ) (start : ℕ) (e : Engine) : Type 0 where
+  pub whole : memory_of story ≡ story
+  pub layout_is : e.layout ≡ layout_of story
+  pub start_is : start ≡ start_of story
+  pub sound : Sound e
+  pub same_size : length e.memory.items ≡ length story
+
+-- The file isn't refused, the story is its bytes up to its length, and runs as the file does.
+pub record IsLoaded (file story : List ℕ) : Type 0 where
+  pub accepted : refusal_of file ≡ None
+  pub is : story ≡ memory_of file
+  pub runs : (typed dice : List ℕ) (n : ℕ) → story_run story typed dice n ≡ story_run file typed dice n

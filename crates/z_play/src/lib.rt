@@ -1,0 +1,16 @@
+//! A player of story files.
+#![tactic(auto)]
+
+mod arith;
+mod engine;
+mod flow;
+mod memory;
+mod output;
+mod player;
+mod step;
+#[cfg(test)]
+mod tests;
+mod text;
+mod typed;
+
+pub use player::{Fault, LoadFault, Player};

@@ -1,0 +1,393 @@
+// Stories, loaded and run.
+ghost use Rattle.std.specs.Prelude.{◌≡◌, ◌<◌, ◌≤◌, ◌++◌, ℕ, List, Some, Err, IfOk, IfErr, OnOk, OnErr, length, []};
+ghost use Rattle.z_model.specs.Machine.{Machine};
+ghost use Rattle.z_model.specs.Run.{end_of};
+ghost use Rattle.z_model.specs.Closing.{is_open, line_of, newline_if, input_fault_line};
+ghost use Rattle.z_model.specs.Story.{refusal_of, first_machine, world_of, start_state, IsHeader};
+ghost use Rattle.z_play.specs.View.{machine, Sound, Kept};
+ghost use Rattle.z_play.specs.Acts.{CanFinish};
+ghost use Rattle.z_play.specs.Output.{seen, Wrote, Cut};
+ghost use Rattle.z_play.specs.Scene.{scene, world, state};
+ghost use Rattle.z_play.specs.Acting.{text_of, Finishes};
+ghost use Rattle.z_play.specs.Advancing.{Advances, RunsOn};
+ghost use Rattle.z_play.specs.Played.{Plays, HasCauses};
+ghost use Rattle.z_play.specs.Ready.{IsStory, IsLoaded};
+ghost use Rattle.dg_base.specs.Causes.{HasCause};
+
+use crate::engine::{Called, Engine};
+use crate::output::{write_all, write_code, write_line, write_number, write_text, write_unicode};
+use crate::typed::take_line;
+use dg_base::{Failed, Sink, Source};
+use itoa::Buffer;
+use std::alloc::{AllocError, Global};
+use std::marker::Model;
+use thiserror::Error;
+use z_model::{Act, Halt, Header, Layout, StoryRefusal, ZEnd, ZFault, read_header};
+
+/// Why a story isn't loaded.
+#[derive(Clone, Copy, Debug, PartialEq, Eq, Error)]
+pub enum LoadFault {
+    #[error("{0}")]
+    Refused(StoryRefusal),
+    #[error("out of memory")]
+    OutOfMemory,
+}
+
+/// Why a run was broken off.
+#[derive(Clone, Copy, Debug, PartialEq, Eq, Error)]
+pub enum Fault {
+    #[error("the input failed")]
+    Read,
+    #[error("the output failed")]
+    Write,
+}
+
+/// A story, and all the memory of its runs.
+#[derive(Drop)]
+pub struct Player {
+    story: Vec<u8>,
+    start: u32,
+    engine: Engine,
+}
+
+const OPENING: Called = Called {
+    back: 0,
+    store: None,
+    args: 0,
+    base: 0,
+    locals: 0,
+};
+
+// Writes what an instruction prints.
+fn print<K: Sink>(engine: &Engine, act: Act, begun: bool, sink: &mut K) -> Result<bool, Failed>
+    requires { CanFinish act engine.now.layout (machine engine.now) }
+    ensures ok { OnOk result (Wrote (seen (K.taken sink.old) (K.room sink.old)) (seen (K.taken sink.new) (K.room sink.new)) (text_of act (machine engine.now))) }
+    ensures begun { IfOk result (λ now. now ≡ is_open begun (text_of act (machine engine.now))) }
+    ensures err { OnErr result (Cut (seen (K.taken sink.old) (K.room sink.old)) (seen (K.taken sink.new) (K.room sink.new)) (text_of act (machine engine.now))) }
+    ensures cause { HasCause (K.faults sink.old) (K.faults sink.new) result }
+{
+    match act {
+        Act::PrintsCode(code) => write_code(sink, begun, code),
+        Act::PrintsUnicode(character) => write_unicode(sink, begun, character),
+        Act::PrintsNumber(word) => write_number(sink, begun, word),
+        Act::PrintsText(at) => write_text(sink, begun, &engine.memory, at),
+        Act::PrintsLine(at) => write_line(sink, begun, &engine.memory, at),
+        Act::Goes | Act::Draws | Act::Reads(_, _, _) | Act::Quits => Ok(begun),
+    }
+}
+
+// Takes a typed line into a buffer.
+fn read_line<S: Source>(
+    engine: &mut Engine,
+    buffer: u16,
+    most: u8,
+    store: Option<u8>,
+    source: &mut S,
+) -> Result<Option<Halt>, Failed>
+    requires sound { Sound engine.old }
+    requires can { CanFinish (Act.Reads buffer most store) engine.old.layout (machine engine.old) }
+    ensures kept { Kept engine.old engine.new }
+    ensures told { (dice typed : List ℕ) (drawn : ℕ) → S.left source.old ≡ Some typed → Finishes result (world engine.old.layout dice) (Act.Reads buffer most store) (machine engine.old) typed drawn (machine engine.new) (S.left source.new) drawn }
+    ensures cause { HasCause (S.faults source.old) (S.faults source.new) result }
+{
+    let mut room = [0; 255];
+    let line = &mut room[..most as usize];
+    match take_line(source, line) {
+        Err(failed) => Err(failed),
+        Ok(None) => Ok(Some(Halt::AtInput)),
+        Ok(Some(kept)) => {
+            engine.finish_read(buffer, store, &line[..kept]).unwrap();
+            Ok(None)
+        }
+    }
+}
+
+// Does what is left of an instruction.
+fn finish<S: Source>(
+    engine: &mut Engine,
+    act: Act,
+    drawn: &mut usize,
+    dice: &[u16],
+    source: &mut S,
+) -> Result<Option<Halt>, Failed>
+    requires sound { Sound engine.old }
+    requires can { CanFinish act engine.old.layout (machine engine.old) }
+    requires drawn { drawn.old < length dice.now }
+    ensures kept { Kept engine.old engine.new }
+    ensures drawn { drawn.new < length dice.now }
+    ensures told { (typed : List ℕ) → S.left source.old ≡ Some typed → Finishes result (world engine.old.layout dice.now) act (machine engine.old) typed drawn.old (machine engine.new) (S.left source.new) drawn.new }
+    ensures cause { HasCause (S.faults source.old) (S.faults source.new) result }
+{
+    match act {
+        Act::PrintsLine(_) => {
+            engine.give_back(1).unwrap();
+            Ok(None)
+        }
+        Act::Draws => {
+            *drawn = (*drawn + 1) % dice.len();
+            Ok(None)
+        }
+        Act::Reads(buffer, most, store) => read_line(engine, buffer, most, store, source),
+        Act::Quits => Ok(Some(Halt::AtQuit)),
+        Act::Goes
+        | Act::PrintsCode(_)
+        | Act::PrintsUnicode(_)
+        | Act::PrintsNumber(_)
+        | Act::PrintsText(_) => Ok(None),
+    }
+}
+
+// One instruction.
+fn advance<S: Source, K: Sink>(
+    engine: &mut Engine,
+    drawn: &mut usize,
+    begun: &mut bool,
+    dice: &[u16],
+    source: &mut S,
+    sink: &mut K,
+) -> Result<Option<Halt>, Fault>
+    requires sound { Sound engine.old }
+    requires drawn { drawn.old < length dice.now }
+    ensures kept { Kept engine.old engine.new }
+    ensures drawn { drawn.new < length dice.now }
+    ensures told { (typed : List ℕ) → S.left source.old ≡ Some typed → Advances result (world engine.old.layout dice.now) typed (scene (machine engine.old) drawn.old begun.old (S.left source.old) (seen (K.taken sink.old) (K.room sink.old))) (scene (machine engine.new) drawn.new begun.new (S.left source.new) (seen (K.taken sink.new) (K.room sink.new))) }
+    ensures causes { HasCauses (S.faults source.old) (S.faults source.new) (K.faults sink.old) (K.faults sink.new) result }
+{
+    let at = engine.pc;
+    match engine.step(dice[*drawn]) {
+        Err(fault) => Ok(Some(Halt::AtFault(fault, at))),
+        Ok(act) => match print(engine, act, *begun, sink) {
+            Err(_) => Err(Fault::Write),
+            Ok(now) => {
+                *begun = now;
+                match finish(engine, act, drawn, dice, source) {
+                    Ok(halt) => Ok(halt),
+                    Err(_) => Err(Fault::Read),
+                }
+            }
+        },
+    }
+}
+
+fn end_as(halt: Halt) -> ZEnd
+    ensures { result ≡ end_of halt }
+{
+    match halt {
+        Halt::AtQuit => ZEnd::Quit,
+        Halt::AtInput => ZEnd::InputEnded,
+        Halt::AtFault(fault, at) => ZEnd::Broken(fault, at),
+    }
+}
+
+// At most so many instructions.
+fn run_steps<S: Source, K: Sink>(
+    engine: &mut Engine,
+    steps: u64,
+    begun: &mut bool,
+    dice: &[u16],
+    source: &mut S,
+    sink: &mut K,
+) -> Result<ZEnd, Fault>
+    requires sound { Sound engine.old }
+    requires dice { 0 < length dice.now }
+    ensures kept { Kept engine.old engine.new }
+    ensures told { (typed : List ℕ) → S.left source.old ≡ Some typed → (drawn : ℕ) → RunsOn result (world engine.old.layout dice.now) (state (machine engine.old) typed 0 []) steps (scene (machine engine.old) 0 begun.old (S.left source.old) (seen (K.taken sink.old) (K.room sink.old))) (scene (machine engine.new) drawn begun.new (S.left source.new) (seen (K.taken sink.new) (K.room sink.new))) }
+    ensures causes { HasCauses (S.faults source.old) (S.faults source.new) (K.faults sink.old) (K.faults sink.new) result }
+{
+    z_model::runs_in_pieces();
+    let mut drawn = 0;
+    let mut left = steps;
+    while left > 0 {
+        match advance(engine, &mut drawn, begun, dice, source, sink) {
+            Err(fault) => return Err(fault),
+            Ok(halt) => match halt {
+                Some(halt) => return Ok(end_as(halt)),
+                None => left -= 1,
+            },
+        }
+    }
+    Ok(ZEnd::StepLimit)
+}
+
+fn write_broken<K: Sink>(sink: &mut K, fault: ZFault, at: u32) -> Result<(), Failed>
+    ensures ok { OnOk result (Wrote (seen (K.taken sink.old) (K.room sink.old)) (seen (K.taken sink.new) (K.room sink.new)) (line_of (ZEnd.Broken fault at))) }
+    ensures err { OnErr result (Cut (seen (K.taken sink.old) (K.room sink.old)) (seen (K.taken sink.new) (K.room sink.new)) (line_of (ZEnd.Broken fault at))) }
+    ensures cause { HasCause (K.faults sink.old) (K.faults sink.new) result }
+{
+    let mut number = Buffer::new();
+    let mut place = Buffer::new();
+    if let Err(failed) = write_all(sink, b"[Broken: ") {
+        return Err(failed);
+    }
+    if let Err(failed) = write_all(sink, number.format(fault.number()).as_bytes()) {
+        return Err(failed);
+    }
+    if let Err(failed) = write_all(sink, b" at ") {
+        return Err(failed);
+    }
+    if let Err(failed) = write_all(sink, place.format(at).as_bytes()) {
+        return Err(failed);
+    }
+    write_all(sink, b"]\n")
+}
+
+// Writes the line of an end.
+fn write_end<K: Sink>(sink: &mut K, end: ZEnd) -> Result<(), Failed>
+    ensures ok { OnOk result (Wrote (seen (K.taken sink.old) (K.room sink.old)) (seen (K.taken sink.new) (K.room sink.new)) (line_of end)) }
+    ensures err { OnErr result (Cut (seen (K.taken sink.old) (K.room sink.old)) (seen (K.taken sink.new) (K.room sink.new)) (line_of end)) }
+    ensures cause { HasCause (K.faults sink.old) (K.faults sink.new) result }
+{
+    match end {
+        ZEnd::Quit => Ok(()),
+        ZEnd::InputEnded => write_all(sink, b"[End of input]\n"),
+        ZEnd::StepLimit => write_all(sink, b"[Step limit]\n"),
+        ZEnd::Broken(fault, at) => write_broken(sink, fault, at),
+    }
+}
+
+fn write_newline<K: Sink>(sink: &mut K, begun: bool) -> Result<(), Failed>
+    ensures ok { OnOk result (Wrote (seen (K.taken sink.old) (K.room sink.old)) (seen (K.taken sink.new) (K.room sink.new)) (newline_if begun)) }
+    ensures err { OnErr result (Cut (seen (K.taken sink.old) (K.room sink.old)) (seen (K.taken sink.new) (K.room sink.new)) (newline_if begun)) }
+    ensures cause { HasCause (K.faults sink.old) (K.faults sink.new) result }
+{
+    if begun {
+        write_all(sink, b"\n")
+    } else {
+        Ok(())
+    }
+}
+
+// Writes the line of an end on a line of its own.
+fn close<K: Sink>(sink: &mut K, begun: bool, end: ZEnd) -> Result<(), Failed>
+    ensures ok { OnOk result (Wrote (seen (K.taken sink.old) (K.room sink.old)) (seen (K.taken sink.new) (K.room sink.new)) (newline_if begun ++ line_of end)) }
+    ensures err { OnErr result (Cut (seen (K.taken sink.old) (K.room sink.old)) (seen (K.taken sink.new) (K.room sink.new)) (newline_if begun ++ line_of end)) }
+    ensures cause { HasCause (K.faults sink.old) (K.faults sink.new) result }
+{
+    match write_newline(sink, begun) {
+        Ok(()) => write_end(sink, end),
+        Err(failed) => Err(failed),
+    }
+}
+
+// Says on a line of its own that the input failed.
+fn close_failed<K: Sink>(sink: &mut K, begun: bool) -> Result<(), Failed>
+    ensures ok { OnOk result (Wrote (seen (K.taken sink.old) (K.room sink.old)) (seen (K.taken sink.new) (K.room sink.new)) (newline_if begun ++ input_fault_line)) }
+    ensures err { OnErr result (Cut (seen (K.taken sink.old) (K.room sink.old)) (seen (K.taken sink.new) (K.room sink.new)) (newline_if begun ++ input_fault_line)) }
+    ensures cause { HasCause (K.faults sink.old) (K.faults sink.new) result }
+{
+    match write_newline(sink, begun) {
+        Ok(()) => write_all(sink, b"[Input fault]\n"),
+        Err(failed) => Err(failed),
+    }
+}
+
+// Goes back to the first instruction of a story.
+fn reset(engine: &mut Engine, story: &[u8], start: u32)
+    requires sound { Sound engine.old }
+    requires size { length engine.old.memory.items ≡ length story.now }
+    ensures kept { Kept engine.old engine.new }
+    ensures first { machine engine.new ≡ first_machine story.now start }
+{
+    engine.memory.copy_from_slice(story);
+    engine.pc = start;
+    engine.here = OPENING;
+    engine.depth = 0;
+    engine.top = 0;
+}
+
+impl Model for Player {
+    ghost use Rattle.std.specs.Prelude.{ℕ, List};
+    ghost use Rattle.z_play.specs.Ready.{IsReady};
+
+    ghost Value = { List ℕ };
+
+    ghost view = { λ p. p.story.items };
+
+    ghost invariant = { λ p. IsReady p.story.items p.start p.engine };
+}
+
+impl Player {
+    /// Loads a story, and takes all the memory of its runs.
+    pub fn load(alloc: Global, bytes: Vec<u8>) -> Result<Player, LoadFault>
+        ensures refused { (refusal : StoryRefusal) → result ≡ Err (LoadFault.Refused refusal) → refusal_of bytes.items ≡ Some refusal }
+        ensures loaded { IfOk result (IsLoaded bytes.items) }
+    {
+        match read_header(&bytes) {
+            Ok(header) => Player::with_header(alloc, bytes, header),
+            Err(refusal) => Err(LoadFault::Refused(refusal)),
+        }
+    }
+
+    fn with_header(alloc: Global, bytes: Vec<u8>, header: Header) -> Result<Player, LoadFault>
+        requires { IsHeader bytes.items header }
+        ensures memory { IfErr result (λ fault. fault ≡ LoadFault.OutOfMemory) }
+        ensures loaded { IfOk result (IsLoaded bytes.items) }
+    {
+        let mut story = bytes;
+        story.truncate(header.length);
+        match Player::with_memory(alloc, story, header.start, header.layout) {
+            Ok(player) => Ok(player),
+            Err(_) => Err(LoadFault::OutOfMemory),
+        }
+    }
+
+    fn with_memory(
+        alloc: Global,
+        story: Vec<u8>,
+        start: u32,
+        layout: Layout,
+    ) -> Result<Player, AllocError>
+        requires { IsStory story.items start layout }
+        ensures { IfOk result (λ p. p ≡ story.items) }
+    {
+        let memory = Vec::from_slice(alloc, &story)?;
+        let frames = vec![in alloc; OPENING; 8191]?;
+        let stack = vec![in alloc; 0u16; 65536]?;
+        let engine = Engine {
+            memory,
+            layout,
+            pc: start,
+            here: OPENING,
+            depth: 0,
+            frames,
+            top: 0,
+            stack,
+        };
+        Ok(Player {
+            story,
+            start,
+            engine,
+        })
+    }
+
+    /// Runs the story from its start for at most so many instructions.
+    pub fn run<S: Source, K: Sink>(
+        &mut self,
+        steps: u64,
+        source: &mut S,
+        dice: &[u16],
+        sink: &mut K,
+    ) -> Result<ZEnd, Fault>
+        requires { 0 < length dice.now }
+        ensures kept { self.new ≡ self.old }
+        ensures told { (typed : List ℕ) → S.left source.old ≡ Some typed → Plays result (world_of self.old dice.now) (start_state self.old typed) steps (S.left source.new) (seen (K.taken sink.old) (K.room sink.old)) (seen (K.taken sink.new) (K.room sink.new)) }
+        ensures causes { HasCauses (S.faults source.old) (S.faults source.new) (K.faults sink.old) (K.faults sink.new) result }
+    {
+        reset(&mut self.engine, &self.story, self.start);
+        let mut begun = false;
+        match run_steps(&mut self.engine, steps, &mut begun, dice, source, sink) {
+            Ok(end) => match end {
+                ZEnd::Quit => Ok(ZEnd::Quit),
+                _ => match close(sink, begun, end) {
+                    Ok(()) => Ok(end),
+                    Err(_) => Err(Fault::Write),
+                },
+            },
+            Err(Fault::Read) => match close_failed(sink, begun) {
+                Ok(()) => Err(Fault::Read),
+                Err(_) => Err(Fault::Write),
+            },
+            Err(Fault::Write) => Err(Fault::Write),
+        }
+    }
+}

@@ -1,0 +1,5 @@
+pub use Rattle.z_model.specs.Text
+pub use Rattle.z_model.specs.Zscii
+pub mod Walk
+pub mod Encode
+pub mod Codes

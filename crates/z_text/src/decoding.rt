@@ -1,0 +1,35 @@
+// Strings, read whole.
+ghost use Rattle.std.specs.Prelude.{◌≡◌, Some, None, IfOk, IsErrOf};
+ghost use Rattle.z_model.specs.Text.{string_at};
+
+use crate::walker::Walker;
+use std::alloc::Global;
+use thiserror::Error;
+
+#[derive(Clone, Copy, Debug, PartialEq, Eq, Error)]
+pub enum TextFault {
+    #[error("a string without an end, or with an abbreviation")]
+    BadString,
+    #[error("out of memory")]
+    OutOfMemory,
+}
+
+/// The codes of the string at a place, and its end.
+pub fn decode(alloc: Global, bytes: &[u8], at: usize) -> Result<(Vec<u16>, usize), TextFault>
+    ensures ok { IfOk result (λ found. string_at bytes.now at ≡ record { codes = found.0.items; end = Some found.1 }) }
+    ensures bad { IsErrOf result TextFault.BadString → (string_at bytes.now at).end ≡ None }
+{
+    let mut codes = Vec::new(alloc);
+    let mut walker = Walker::new(at);
+    loop {
+        match walker.next(bytes) {
+            Err(_) => return Err(TextFault::BadString),
+            Ok(None) => return Ok((codes, walker.place())),
+            Ok(Some(code)) => {
+                if codes.push(code).is_err() {
+                    return Err(TextFault::OutOfMemory);
+                }
+            }
+        }
+    }
+}
