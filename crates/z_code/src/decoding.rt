@@ -1,6 +1,10 @@
 // Instructions, read from bytes.
-ghost use Rattle.std.specs.Prelude.{◌≡◌, ◌<◌, ◌≤◌, ◌%◌, length, drop, Some, IfSome, IfOk};
+ghost use Rattle.std.specs.Prelude.{◌≡◌, ◌↔◌, ◌⊎◌, ◌<◌, ◌≤◌, ◌%◌, ℕ, length, drop, Some, Ok, Err, IfSome, IfOk, IfErr};
 ghost use Rattle.z_code.specs.Decoded.{Decodes, IsOfRow, instr_of};
+ghost use Rattle.z_model.specs.declared.fault.ZFault.TheVariants.{BadOpcode, OffEnd};
+ghost use Rattle.z_model.specs.declared.op.Op.{Op};
+ghost use Rattle.z_model.specs.Spelling.{IsInstruction};
+ghost use Rattle.z_model.specs.Undecoded.{PassesEnd, NoneBegins};
 ghost use Rattle.z_model.specs.Decode.{byte_at, known, counted, count_of, operand_at, store_at, branch_at, text_at, body_at, long_at, short_at, variable_at, variable_row, extended_at, op_at, type_of, long_type, long_types, one_type, types_of, short_kind, present, text_end};
 
 use z_model::{
@@ -388,11 +392,25 @@ pub fn decode(bytes: &[u8], at: usize) -> Result<Decoded, ZFault>
     }
 }
 
-/// The instruction at a place and the place behind it, or the first fault, byte by byte.
-pub fn decode_op(bytes: &[u8], at: usize) -> Result<(Op, usize), ZFault>
+fn op_and_end(bytes: &[u8], at: usize) -> Result<(Op, usize), ZFault>
     ensures op { result ≡ op_at bytes.now at }
     ensures within { IfOk result (λ x. x.1 ≤ length bytes.now) }
 {
     let found = decode(bytes, at)?;
     Ok((found.op, found.end))
+}
+
+/// The instruction at a place and the place behind it; `OffEnd` exactly where one passes the end of
+/// the bytes, and `BadOpcode` exactly where none begins.
+pub fn decode_op(bytes: &[u8], at: usize) -> Result<(Op, usize), ZFault>
+    ensures op { result ≡ op_at bytes.now at }
+    ensures found { (op : Op) (end : ℕ) → (result ≡ Ok (op, end)) ↔ IsInstruction bytes.now at op end }
+    ensures off_end { (result ≡ Err OffEnd) ↔ PassesEnd bytes.now at }
+    ensures bad_opcode { (result ≡ Err BadOpcode) ↔ NoneBegins bytes.now at }
+    ensures faults { IfErr result (λ fault. (fault ≡ OffEnd) ⊎ (fault ≡ BadOpcode)) }
+    ensures within { IfOk result (λ x. x.1 ≤ length bytes.now) }
+{
+    z_model::instructions_again();
+    z_model::faults_are_exact();
+    op_and_end(bytes, at)
 }

@@ -5,7 +5,6 @@ use Rattle.z_model.specs.Decode.{op_at}
 use Rattle.z_model.specs.Spelling.{Again}
 use Rattle.z_model.proofs.Again.{instruction_again}
 use Rattle.z_model.proofs.FoundForms.{instruction_found}
-use Rattle.z_model.proofs.Stays.{bad_opcode}
 
 same_ok : {C : Type 0} (r : Result C ZFault) (x y : C) → r ≡ Ok x → r ≡ Ok y → x ≡ y
 same_ok r x y p q = cc
@@ -19,6 +18,5 @@ pub again_holds : (bytes : List ℕ) (at : ℕ) → Again bytes at
 again_holds bytes at = record {
   again = λ op end i. instruction_again bytes at op end i;
   one = λ op op' end end' i j. one_answer (op_at bytes at) op op' end end' (instruction_again bytes at op end i) (instruction_again bytes at op' end' j);
-  bad = λ e more op end i. bad_opcode bytes at e more op end i;
   found = λ fits op end e. instruction_found bytes at fits (op, end) e;
 }

@@ -5,3 +5,7 @@ pub mod Stays
 pub mod InstrLaws
 pub mod Runs
 pub mod Written
+pub mod Completed
+pub mod CompletedForms
+pub mod Ends
+pub mod NoInstruction

@@ -1,10 +1,8 @@
 -- An op that is written between other bytes stands there.
-use Rattle.std.proofs.Common.{◌≡◌, ℕ, zero, suc, ◌+◌, ◌-◌, ◌%◌, ◌≤◌, Bool, true, false, ltb, cond, List, [], ◌∷◌, ◌++◌, length, drop, Option, Some, None, Result, Ok, Err, refl, sym, ap, subst, ◌∙◌, arith, add-one, add-zero, append_assoc, length-append, ◌⊎◌, inl, inr}
-use Rattle.std.specs.Prelude.{slice_get}
+use Rattle.std.proofs.Common.{◌≡◌, ℕ, suc, ◌+◌, ◌-◌, Bool, true, false, ltb, cond, List, [], ◌∷◌, ◌++◌, length, Some, None, Ok, refl, ap, subst, ◌∙◌, arith, add-one, add-zero, append_assoc, length-append, ◌⊎◌, inl, inr}
 use Rattle.std.proofs.Math.Seq.{drop-append_seam}
 use Rattle.z_model.specs.declared.op.Op.{Op}
-use Rattle.z_model.specs.Decode.{or_fault, text_end, text_at, op_at}
-use Rattle.z_model.specs.declared.fault.ZFault.TheVariants.{OffEnd}
+use Rattle.z_model.specs.Decode.{text_end, text_at}
 use Rattle.z_model.specs.Spelling.{spelling, Stands, IsOfTable, IsText, IsInstruction, Written}
 use Rattle.z_model.proofs.Again.{instruction_again}
 use Rattle.z_model.proofs.Stays.{end_stays}

@@ -2,6 +2,7 @@ pub mod Fault
 pub mod Table
 pub mod Decode
 pub mod Spelling
+pub mod Undecoded
 pub mod Zscii
 pub mod Text
 pub mod Typed

@@ -1,8 +1,7 @@
 -- How an instruction of the table is written (Z-Machine Standard 1.1, sections 4.1 to 4.8, read from the instruction to its bytes).
-use Rattle.std.specs.Prelude.{◌≡◌, ◌≢◌, ℕ, ◌+◌, ◌-◌, ◌*◌, ◌/◌, ◌%◌, ◌<◌, ◌≤◌, List, [], ◌∷◌, ◌++◌, length, Option, Some, None, Result, Ok, Err, Bool, true, false, nat_lt, slice_get, pos}
+use Rattle.std.specs.Prelude.{◌≡◌, ◌≢◌, ℕ, ◌+◌, ◌-◌, ◌*◌, ◌/◌, ◌%◌, ◌<◌, ◌≤◌, List, [], ◌∷◌, ◌++◌, length, Option, Some, None, Result, Ok, Bool, true, false, nat_lt, slice_get, pos}
 use lib.IntN.{ℤ, negsuc}
 use Rattle.z_model.specs.declared.fault.ZFault.{ZFault}
-use Rattle.z_model.specs.declared.fault.ZFault.TheVariants.{BadOpcode}
 use Rattle.z_model.specs.declared.op.Form.{Form}
 use Rattle.z_model.specs.declared.op.Form.TheVariants as forms
 use Rattle.z_model.specs.declared.op.Operand.{Operand}
@@ -199,4 +198,3 @@ pub record Again (bytes : List ℕ) (at : ℕ) : Type 0 where
   pub again : (op : Op) (end : ℕ) → IsInstruction bytes at op end → op_at bytes at ≡ Ok (op, end)
   pub one : (op op' : Op) (end end' : ℕ) → IsInstruction bytes at op end → IsInstruction bytes at op' end' → (op ≡ op') × (end ≡ end')
   pub found : AreBytes bytes → (op : Op) (end : ℕ) → op_at bytes at ≡ Ok (op, end) → IsInstruction bytes at op end
-  pub bad : op_at bytes at ≡ Err BadOpcode → (more : List ℕ) (op : Op) (end : ℕ) → IsInstruction (bytes ++ more) at op end → ⊥

@@ -9,7 +9,8 @@ mod table;
 mod text;
 
 ghost use Rattle.std.specs.Prelude.{List, ℕ};
-ghost use Rattle.z_model.specs.Spelling.{Again, Written};
+ghost use Rattle.z_model.specs.Spelling.{Again, AreBytes, Written};
+ghost use Rattle.z_model.specs.Undecoded.{Undecoded};
 ghost use Rattle.z_model.specs.declared.op.Op.{Op};
 ghost use Rattle.z_model.specs.Run.{World, ZState};
 ghost use Rattle.z_model.specs.Laws.{RunLaws};
@@ -24,6 +25,11 @@ pub use text::{Alphabet, EXTRA, PUNCTUATION, Reading};
 /// What is written as an instruction of the table is decoded again, whatever stands around it; no bytes are two instructions.
 pub fn instructions_again()
     ensures { (bytes : List ℕ) (at : ℕ) → Again bytes at }
+{}
+
+/// Decoding fails by the end exactly where an instruction passes it, and by a bad instruction exactly where none begins.
+pub fn faults_are_exact()
+    ensures { (bytes : List ℕ) (at : ℕ) → AreBytes bytes → Undecoded bytes at }
 {}
 
 /// What is written for an op of the table, and its literal text behind it, is decoded as that op.

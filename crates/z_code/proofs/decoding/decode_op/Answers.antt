@@ -1,0 +1,36 @@
+use Rattle.std.proofs.Common.{◌≡◌, ℕ, List, get_or, Result, Ok, Err, IfErr, Fits, w8, refl, sym, ◌∙◌, arith}
+use Rattle.std.proofs.lemmas.Option.{get_or_from_slice_get}
+use Rattle.z_model.specs.declared.fault.ZFault.{ZFault}
+use Rattle.z_model.specs.declared.op.Op.{Op}
+use Rattle.z_model.specs.Spelling.{AreBytes}
+use Rattle.z_code.proofs.decoding.decode_op.Goals as goal
+
+are_bytes : (bytes : List ℕ) → ((i : ℕ) → Fits w8 (get_or bytes i 0)) → AreBytes bytes
+are_bytes bytes fits i b e = let is = get_or_from_slice_get bytes i b 0 e in let fit = fits i in omega arith
+
+if_err : (r : Result (Op × ℕ) ZFault) (P : ZFault → Type 0) → ((fault : ZFault) → r ≡ Err fault → P fault) → IfErr r P
+if_err (Ok x) P h = tt
+if_err (Err fault) P h = h fault refl
+
+pub returns-clause-found : goal.returns-clause-found
+returns-clause-found c =
+    let is = c.op_and_end.ensures.op in
+    let law = c.instructions_again.ensures c.args.bytes.now c.args.at in
+    λ op end. (λ e. law.found (are_bytes c.args.bytes.now c.type_inv.bytes) op end (sym is ∙ e), λ i. is ∙ law.again op end i)
+
+pub returns-clause-off_end : goal.returns-clause-off_end
+returns-clause-off_end c =
+    let is = c.op_and_end.ensures.op in
+    let law = c.faults_are_exact.ensures c.args.bytes.now c.args.at (are_bytes c.args.bytes.now c.type_inv.bytes) in
+    (λ e. law.off_end.0 (sym is ∙ e), λ p. is ∙ law.off_end.1 p)
+
+pub returns-clause-bad_opcode : goal.returns-clause-bad_opcode
+returns-clause-bad_opcode c =
+    let is = c.op_and_end.ensures.op in
+    let law = c.faults_are_exact.ensures c.args.bytes.now c.args.at (are_bytes c.args.bytes.now c.type_inv.bytes) in
+    (λ e. law.bad_opcode.0 (sym is ∙ e), λ none. is ∙ law.bad_opcode.1 none)
+
+pub returns-clause-faults : goal.returns-clause-faults
+returns-clause-faults c =
+    let law = c.faults_are_exact.ensures c.args.bytes.now c.args.at (are_bytes c.args.bytes.now c.type_inv.bytes) in
+    if_err c.op_and_end.result _ (λ fault e. law.other fault (sym c.op_and_end.ensures.op ∙ e))
