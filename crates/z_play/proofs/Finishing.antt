@@ -73,7 +73,7 @@ read_ok layout m buffer most store line may can few = bind_ok (with_line layout 
 
 -- ---- the acts
 
-plain_goes : (w : World) (m : Machine) (typed : List ℕ) (drawn : ℕ) (left : Option (List ℕ)) → left ≡ Some typed → Finished w Goes m typed drawn None m left drawn
+pub plain_goes : (w : World) (m : Machine) (typed : List ℕ) (drawn : ℕ) (left : Option (List ℕ)) → left ≡ Some typed → Finished w Goes m typed drawn None m left drawn
 plain_goes w m typed drawn left told = record { behind = typed; left_is = told; last = m; same = refl; is = λ before output. rw (append-nil output) refl }
 
 pub finish_draws : (w : World) (m : Machine) (typed : List ℕ) (drawn : ℕ) (left : Option (List ℕ)) → left ≡ Some typed → Finished w Draws m typed drawn None m left (next_drawn w drawn)

@@ -114,7 +114,7 @@ impl Engine {
     }
 
     #[tactic(auto, unfolding(z_model::specs::Step::branched))]
-    #[inline]
+    #[inline(always)]
     pub fn branch(&mut self, end: u32, branch: Option<Branch>, test: bool) -> Result<(), ZFault>
         requires sound { Sound self.old }
         requires near { end ≤ 524288 }

@@ -156,6 +156,7 @@ fn advance<S: Source, K: Sink>(
     let at = engine.pc;
     match engine.step(dice[*drawn]) {
         Err(fault) => Ok(Some(Halt::AtFault(fault, at))),
+        Ok(Act::Goes) => Ok(None),
         Ok(act) => match print(engine, act, *begun, sink) {
             Err(_) => Err(Fault::Write),
             Ok(now) => {

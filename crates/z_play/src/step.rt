@@ -56,7 +56,7 @@ impl Engine {
         }
     }
 
-    #[inline]
+    #[inline(always)]
     fn test(&mut self, end: u32, branch: Option<Branch>, test: bool) -> Result<Act, ZFault>
         requires sound { Sound self.old }
         requires near { end ≤ 524288 }
