@@ -5,14 +5,15 @@ mod close;
 mod ends;
 mod forms;
 mod frames;
+mod heads;
 mod item;
 mod keyword;
 mod names;
 mod open;
 mod put;
+mod source;
 mod step;
 mod weights;
 mod words;
 
-pub use frames::Sign;
-pub use item::{Shape, ShapeFault, shape_of};
+pub use source::read;

@@ -1,26 +1,18 @@
 // The items of a source, from its tokens.
-ghost use Rattle.std.specs.Prelude.{◌≡◌, ◌<◌, ◌≤◌, [], true, length, take, drop, map, Ok, Err, IfOk, IfErr};
+ghost use Rattle.std.specs.Prelude.{◌≡◌, ◌<◌, ◌≤◌, [], true, None, length, take, drop, map, Ok, Err, IfOk, IfErr};
 ghost use Rattle.dg_base.specs.TreeView.{said_view, item_view, tree_view};
 ghost use Rattle.dg_lex.specs.Tokens.{seen};
-ghost use Rattle.dg_reader.specs.Items.{shape_view};
-ghost use Rattle.dialog_tool.specs.Faults.{IsFault};
-ghost use Rattle.dialog_tool.specs.Read as spec;
+ghost use Rattle.dg_reader.specs.Heads.{fault_in};
+ghost use Rattle.dg_reader.specs.Items.{shape_view, IsTold};
+ghost use Rattle.dg_reader.specs.Faults.{IsFault};
+ghost use Rattle.dg_reader.specs.Read as spec;
 
+use crate::heads;
+use crate::heads::said_of;
+use crate::item::{Found, ShapeFault, find};
 use dg_base::{Item, ItemBody, Items, Kind, ReadFault, Refusal, Tree};
 use dg_lex::Token;
-use dg_reader::{Shape, ShapeFault, Sign, shape_of};
 use std::alloc::Global;
-
-fn said_of(shape: Shape) -> ItemBody
-    ensures { said_view result ≡ spec.said_of (shape_view shape) }
-{
-    match shape {
-        Shape::Topic(name) => ItemBody::Topic(name),
-        Shape::Clause(Sign::Plain, head, body) => ItemBody::Rule(head, body),
-        Shape::Clause(Sign::Negated, head, body) => ItemBody::Deny(head, body),
-        Shape::Clause(Sign::Access, head, body) => ItemBody::Access(head, body),
-    }
-}
 
 // How many tokens go on an item.
 fn behind(tokens: &[Token<'_>]) -> usize
@@ -44,26 +36,45 @@ fn refusal(kind: Kind, line: u32) -> ReadFault
     ReadFault::Refused(Refusal { kind, line })
 }
 
+// An item of this shape, where it has no fault.
+fn allowed(alloc: Global, before: bool, line: u32, found: Found) -> Result<Item, ReadFault>
+    requires { IsTold found }
+    ensures item { IfOk result (λ item. (fault_in before (shape_view found.shape) ≡ None) × (item_view item ≡ record { line = line; said = spec.said_of (shape_view found.shape) })) }
+    ensures refused { IfErr result (IsFault (spec.IsFaultOf before line (shape_view found.shape))) }
+{
+    match heads::fault_in(alloc, before, &found) {
+        Ok(None) => Ok(Item {
+            line,
+            body: said_of(found.shape),
+        }),
+        Ok(Some(kind)) => Err(refusal(kind, line)),
+        Err(_) => Err(ReadFault::OutOfMemory),
+    }
+}
+
 // The item that these tokens are, of which the first alone may stand in the first column.
-fn item_of(alloc: Global, tokens: &[Token<'_>]) -> Result<Item, ReadFault>
+fn item_of(alloc: Global, before: bool, tokens: &[Token<'_>]) -> Result<Item, ReadFault>
     requires some { 0 < length tokens.now }
     requires alone { spec.all_behind (map seen (drop 1 tokens.now)) ≡ true }
-    ensures item { IfOk result (λ item. spec.IsItemAt (map seen tokens.now) (item_view item) []) }
-    ensures refused { IfErr result (IsFault (spec.IsRefusedAt (map seen tokens.now))) }
+    ensures item { IfOk result (λ item. spec.IsItemAt before (map seen tokens.now) (item_view item) []) }
+    ensures refused { IfErr result (IsFault (spec.IsRefusedAt before (map seen tokens.now))) }
 {
     let line = tokens[0].line;
     if !tokens[0].first {
         return Err(refusal(Kind::Unexpected, line));
     }
-    match shape_of(alloc, tokens) {
-        Ok(shape) => Ok(Item {
-            line,
-            body: said_of(shape),
-        }),
+    match find(alloc, tokens) {
+        Ok(found) => allowed(alloc, before, line, found),
         Err(ShapeFault::Unclosed) => Err(refusal(Kind::Unclosed, line)),
         Err(ShapeFault::Unexpected(_)) => Err(refusal(Kind::Unexpected, line)),
         Err(ShapeFault::OutOfMemory) => Err(ReadFault::OutOfMemory),
     }
+}
+
+fn is_topic(said: &ItemBody) -> bool
+    ensures { result ≡ spec.is_topic (said_view said.now) }
+{
+    matches!(said, ItemBody::Topic(_))
 }
 
 /// The tree of a source, from its tokens.
@@ -72,11 +83,15 @@ pub fn read(alloc: Global, tokens: &[Token<'_>]) -> Result<Tree, ReadFault>
     ensures refused { IfErr result (IsFault (λ r. spec.IsRead (map seen tokens.now) (Err r))) }
 {
     let mut items = Items::new(alloc);
+    let mut topic = false;
     let mut at = 0;
     while at < tokens.len() {
         let count = behind(&tokens[at + 1..]) + 1;
-        match item_of(alloc, &tokens[at..at + count]) {
-            Ok(item) => items.push(item)?,
+        match item_of(alloc, topic, &tokens[at..at + count]) {
+            Ok(item) => {
+                topic |= is_topic(&item.body);
+                items.push(item)?;
+            }
             Err(fault) => return Err(fault),
         }
         at += count;

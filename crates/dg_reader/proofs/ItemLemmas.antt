@@ -1,5 +1,5 @@
 -- One item, from the answer for its tokens, and items one after another.
-use Rattle.std.proofs.Common.{◌≡◌, ◌&&◌, ◌<◌, ◌+◌, ◌-◌, ℕ, zero, suc, List, [], ◌∷◌, ◌++◌, length, take, drop, map, get_or, Bool, true, false, not, None, Err, refl, sym, ◌∙◌, ap, subst, arith, add-one, length-drop}
+use Rattle.std.proofs.Common.{◌≡◌, ◌&&◌, ◌||◌, ◌<◌, ◌+◌, ◌-◌, ℕ, zero, suc, List, [], ◌∷◌, ◌++◌, length, take, drop, map, get_or, Bool, true, false, not, None, Err, refl, sym, ◌∙◌, ap, subst, arith, add-one, length-drop}
 use Rattle.std.specs.Prelude.{option_and_then}
 use Rattle.std.proofs.lemmas.List.{append-nil, map-append, take-append-drop, take_all, take_more, drop-drop}
 use Rattle.dg_base.specs.Tree.{Item}
@@ -15,9 +15,10 @@ use Rattle.dg_reader.specs.Machine.{run, start, Outcome, done, unclosed, unexpec
 use Rattle.dg_reader.specs.Items.{StopsAt, IsOpen, EndsAs}
 use Rattle.dg_reader.proofs.Closing.{run-append}
 use Rattle.dg_reader.proofs.Laws.{Says, outcome_says}
-use Rattle.dialog_tool.specs.Read.{toks, all_behind, begins_item, IsFront, item_of, IsItemAt, ReadTo, IsRefusedAt, not_closed, not_expected, IsRefusedIn, IsRead}
-use Rattle.dialog_tool.specs.Faults.{IsFault}
-use Rattle.dialog_tool.proofs.FaultLemmas.{fault_map}
+use Rattle.dg_reader.specs.Read.{toks, all_behind, begins_item, IsFront, is_topic, behind_topic, said_of, IsItemAt, ReadTo, IsFaultOf, IsRefusedAt, not_closed, not_expected, not_allowed, IsRefusedIn, IsRead}
+use Rattle.dg_reader.specs.Heads.{fault_in}
+use Rattle.dg_reader.specs.Faults.{IsFault}
+use Rattle.dg_reader.proofs.FaultLemmas.{fault_map}
 
 toks_seen : (ts : List Token) → map token_view ts ≡ toks (map seen ts)
 toks_seen [] = refl
@@ -53,32 +54,40 @@ front_all t ts h = record { split = ap (λ (l : List Seen). t ∷ l) (sym (appen
 in_column : (t : Seen) (ts : List Tok) (shape : Shape) → t.first ≡ true → InItem true ts shape → InItem t.first ts shape
 in_column t ts shape e h = subst (λ (b : Bool). InItem b ts shape) (sym e) h
 
-pub whole_item : (ts : List Token) (d : Token) (shape : Shape) → 0 < length ts → all_behind (map seen (drop 1 ts)) ≡ true → (get_or ts 0 d).first ≡ true → EndsAs (map token_view ts) shape → IsItemAt (map seen ts) (item_of (seen (get_or ts 0 d)) shape) []
-whole_item [] d shape some alone column h = absurd (omega arith)
-whole_item (t ∷ ts) d shape some alone column h = record {
+pub whole_item : (before : Bool) (ts : List Token) (d : Token) (shape : Shape) (item : Item) → 0 < length ts → all_behind (map seen (drop 1 ts)) ≡ true → (get_or ts 0 d).first ≡ true → EndsAs (map token_view ts) shape → fault_in before shape ≡ None → item ≡ record { line = (get_or ts 0 d).line; said = said_of shape } → IsItemAt before (map seen ts) item []
+whole_item before [] d shape item some alone column h none is = absurd (omega arith)
+whole_item before (t ∷ ts) d shape item some alone column h none is = record {
   first = seen t;
   others = map seen ts;
   front = front_all (seen t) (map seen ts) alone;
   shape = shape;
   shaped = in_column (seen t) (toks (map seen (t ∷ ts))) shape column (subst (λ (l : List Tok). InItem true l shape) (toks_seen (t ∷ ts)) (ends_item (map token_view (t ∷ ts)) shape h));
-  is = refl;
+  allowed = none;
+  is = is;
 }
 
-pub open_item : (ts : List Token) (d : Token) → 0 < length ts → all_behind (map seen (drop 1 ts)) ≡ true → (get_or ts 0 d).first ≡ true → IsOpen (map token_view ts) → IsRefusedAt (map seen ts) (record { kind = Unclosed; line = (get_or ts 0 d).line })
-open_item [] d some alone column h = absurd (omega arith)
-open_item (t ∷ ts) d some alone column h =
+pub faulty_item : (before : Bool) (ts : List Token) (d : Token) (shape : Shape) (r : Refusal) → 0 < length ts → all_behind (map seen (drop 1 ts)) ≡ true → (get_or ts 0 d).first ≡ true → EndsAs (map token_view ts) shape → IsFaultOf before (get_or ts 0 d).line shape r → IsRefusedAt before (map seen ts) r
+faulty_item before [] d shape r some alone column h fault = absurd (omega arith)
+faulty_item before (t ∷ ts) d shape r some alone column h fault =
+    not_allowed (seen t) (map seen ts) [] (front_all (seen t) (map seen ts) alone) shape
+    (in_column (seen t) (toks (map seen (t ∷ ts))) shape column (subst (λ (l : List Tok). InItem true l shape) (toks_seen (t ∷ ts)) (ends_item (map token_view (t ∷ ts)) shape h)))
+    fault
+
+pub open_item : (before : Bool) (ts : List Token) (d : Token) → 0 < length ts → all_behind (map seen (drop 1 ts)) ≡ true → (get_or ts 0 d).first ≡ true → IsOpen (map token_view ts) → IsRefusedAt before (map seen ts) (record { kind = Unclosed; line = (get_or ts 0 d).line })
+open_item before [] d some alone column h = absurd (omega arith)
+open_item before (t ∷ ts) d some alone column h =
     not_closed (seen t) (map seen ts) [] (front_all (seen t) (map seen ts) alone)
     (subst (λ (b : Bool). IsUnclosed b (toks (map seen (t ∷ ts)))) (sym column) (subst (λ (l : List Tok). IsUnclosed true l) (toks_seen (t ∷ ts)) (open_unclosed (map token_view (t ∷ ts)) h))) refl
 
-pub stopped_item : (ts : List Token) (d : Token) (index : ℕ) → 0 < length ts → all_behind (map seen (drop 1 ts)) ≡ true → (get_or ts 0 d).first ≡ true → StopsAt ts index → IsRefusedAt (map seen ts) (record { kind = Unexpected; line = (get_or ts 0 d).line })
-stopped_item [] d index some alone column h = absurd (omega arith)
-stopped_item (t ∷ ts) d index some alone column h =
+pub stopped_item : (before : Bool) (ts : List Token) (d : Token) (index : ℕ) → 0 < length ts → all_behind (map seen (drop 1 ts)) ≡ true → (get_or ts 0 d).first ≡ true → StopsAt ts index → IsRefusedAt before (map seen ts) (record { kind = Unexpected; line = (get_or ts 0 d).line })
+stopped_item before [] d index some alone column h = absurd (omega arith)
+stopped_item before (t ∷ ts) d index some alone column h =
     not_expected (seen t) (map seen ts) [] (front_all (seen t) (map seen ts) alone)
     (subst (λ (b : Bool). IsUnexpected b (toks (map seen (t ∷ ts)))) (sym column) (subst (λ (l : List Tok). IsUnexpected true l) (toks_seen (t ∷ ts)) (stops_unexpected (t ∷ ts) index h))) refl
 
-pub indented_item : (ts : List Token) (d : Token) → 0 < length ts → all_behind (map seen (drop 1 ts)) ≡ true → (get_or ts 0 d).first ≡ false → IsRefusedAt (map seen ts) (record { kind = Unexpected; line = (get_or ts 0 d).line })
-indented_item [] d some alone column = absurd (omega arith)
-indented_item (t ∷ ts) d some alone column =
+pub indented_item : (before : Bool) (ts : List Token) (d : Token) → 0 < length ts → all_behind (map seen (drop 1 ts)) ≡ true → (get_or ts 0 d).first ≡ false → IsRefusedAt before (map seen ts) (record { kind = Unexpected; line = (get_or ts 0 d).line })
+indented_item before [] d some alone column = absurd (omega arith)
+indented_item before (t ∷ ts) d some alone column =
     not_expected (seen t) (map seen ts) [] (front_all (seen t) (map seen ts) alone)
     (subst (λ (b : Bool). IsUnexpected b (toks (map seen (t ∷ ts)))) (sym column) (outcome_says false (toks (map seen (t ∷ ts))))) refl
 
@@ -108,32 +117,40 @@ all_front ts first others rest h alone = none others rest (subst (λ (l : List S
     none [] (t ∷ ts) a b = absurd (both t.first (all_behind ts) a b)
     none (o ∷ os) rest a b = none os rest (tail o.first (all_behind (os ++ rest)) a) b
 
-item_on : (ts rest : List Seen) (item : Item) → IsItemAt ts item [] → begins_item rest ≡ true → IsItemAt (ts ++ rest) item rest
-item_on ts rest item h ends = record { first = h.first; others = h.others; front = front_on ts rest h.first h.others h.front ends; shape = h.shape; shaped = h.shaped; is = h.is }
+item_on : (before : Bool) (ts rest : List Seen) (item : Item) → IsItemAt before ts item [] → begins_item rest ≡ true → IsItemAt before (ts ++ rest) item rest
+item_on before ts rest item h ends = record { first = h.first; others = h.others; front = front_on ts rest h.first h.others h.front ends; shape = h.shape; shaped = h.shaped; allowed = h.allowed; is = h.is }
 
-refused_on : (ts rest : List Seen) (r : Refusal) → IsRefusedAt ts r → all_behind (drop 1 ts) ≡ true → begins_item rest ≡ true → IsRefusedAt (ts ++ rest) r
-refused_on ts rest r (not_closed f o q front u e) alone ends = not_closed f o rest (front_on ts rest f o (subst (λ (l : List Seen). IsFront ts f o l) (all_front ts f o q front alone) front) ends) u e
-refused_on ts rest r (not_expected f o q front u e) alone ends = not_expected f o rest (front_on ts rest f o (subst (λ (l : List Seen). IsFront ts f o l) (all_front ts f o q front alone) front) ends) u e
+front_there : (ts rest : List Seen) (f : Seen) (o q : List Seen) → IsFront ts f o q → all_behind (drop 1 ts) ≡ true → begins_item rest ≡ true → IsFront (ts ++ rest) f o rest
+front_there ts rest f o q front alone ends = front_on ts rest f o (subst (λ (l : List Seen). IsFront ts f o l) (all_front ts f o q front alone) front) ends
 
-read_push : (ts : List Seen) (items : List Item) (mid rest : List Seen) (item : Item) → ReadTo ts items mid → IsItemAt mid item rest → ReadTo ts (items ++ item ∷ []) rest
-read_push ts [] mid rest item so at = (rest, subst (λ (l : List Seen). IsItemAt l item rest) so at, refl)
-read_push ts (i ∷ items) mid rest item so at = (so.0, so.1, read_push so.0 items mid rest item so.2 at)
+refused_on : (before : Bool) (ts rest : List Seen) (r : Refusal) → IsRefusedAt before ts r → all_behind (drop 1 ts) ≡ true → begins_item rest ≡ true → IsRefusedAt before (ts ++ rest) r
+refused_on before ts rest r (not_closed f o q front u e) alone ends = not_closed f o rest (front_there ts rest f o q front alone ends) u e
+refused_on before ts rest r (not_expected f o q front u e) alone ends = not_expected f o rest (front_there ts rest f o q front alone ends) u e
+refused_on before ts rest r (not_allowed f o q front shape s e) alone ends = not_allowed f o rest (front_there ts rest f o q front alone ends) shape s e
+
+read_push : (before : Bool) (ts : List Seen) (items : List Item) (mid rest : List Seen) (item : Item) → ReadTo before ts items mid → IsItemAt (behind_topic before items) mid item rest → ReadTo before ts (items ++ item ∷ []) rest
+read_push before ts [] mid rest item so at = (rest, subst (λ (l : List Seen). IsItemAt before l item rest) so at, refl)
+read_push before ts (i ∷ items) mid rest item so at = (so.0, so.1, read_push (before || is_topic i.said) so.0 items mid rest item so.2 at)
+
+pub behind_topic-push : (before : Bool) (items : List Item) (item : Item) → behind_topic before (items ++ item ∷ []) ≡ (behind_topic before items || is_topic item.said)
+behind_topic-push before [] item = refl
+behind_topic-push before (i ∷ items) item = behind_topic-push (before || is_topic i.said) items item
 
 split_seen : (ts : List Token) (at count : ℕ) → map seen (drop at ts) ≡ map seen (take count (drop at ts)) ++ map seen (drop count (drop at ts))
 split_seen ts at count = ap (map seen) (sym (take-append-drop count (drop at ts))) ∙ map-append seen (take count (drop at ts)) (drop count (drop at ts))
 
-pub one_more : (ts : List Token) (items : List Item) (at count : ℕ) (item : Item) → ReadTo (map seen ts) items (map seen (drop at ts)) → IsItemAt (map seen (take count (drop at ts))) item [] → begins_item (map seen (drop count (drop at ts))) ≡ true → ReadTo (map seen ts) (items ++ item ∷ []) (map seen (drop count (drop at ts)))
+pub one_more : (ts : List Token) (items : List Item) (at count : ℕ) (item : Item) → ReadTo false (map seen ts) items (map seen (drop at ts)) → IsItemAt (behind_topic false items) (map seen (take count (drop at ts))) item [] → begins_item (map seen (drop count (drop at ts))) ≡ true → ReadTo false (map seen ts) (items ++ item ∷ []) (map seen (drop count (drop at ts)))
 one_more ts items at count item so here ends =
-    read_push (map seen ts) items (map seen (drop at ts)) (map seen (drop count (drop at ts))) item so
-    (subst (λ (l : List Seen). IsItemAt l item (map seen (drop count (drop at ts)))) (sym (split_seen ts at count))
-    (item_on (map seen (take count (drop at ts))) (map seen (drop count (drop at ts))) item here ends))
+    read_push false (map seen ts) items (map seen (drop at ts)) (map seen (drop count (drop at ts))) item so
+    (subst (λ (l : List Seen). IsItemAt (behind_topic false items) l item (map seen (drop count (drop at ts)))) (sym (split_seen ts at count))
+    (item_on (behind_topic false items) (map seen (take count (drop at ts))) (map seen (drop count (drop at ts))) item here ends))
 
-pub refused_here : (ts : List Token) (items : List Item) (at count : ℕ) (r : Refusal) → ReadTo (map seen ts) items (map seen (drop at ts)) → IsRefusedAt (map seen (take count (drop at ts))) r → all_behind (drop 1 (map seen (take count (drop at ts)))) ≡ true → begins_item (map seen (drop count (drop at ts))) ≡ true → IsRefusedIn (map seen ts) r
+pub refused_here : (ts : List Token) (items : List Item) (at count : ℕ) (r : Refusal) → ReadTo false (map seen ts) items (map seen (drop at ts)) → IsRefusedAt (behind_topic false items) (map seen (take count (drop at ts))) r → all_behind (drop 1 (map seen (take count (drop at ts)))) ≡ true → begins_item (map seen (drop count (drop at ts))) ≡ true → IsRefusedIn (map seen ts) r
 refused_here ts items at count r so here alone ends = record {
   items = items;
   rest = map seen (drop at ts);
   before = so;
-  here = subst (λ (l : List Seen). IsRefusedAt l r) (sym (split_seen ts at count)) (refused_on (map seen (take count (drop at ts))) (map seen (drop count (drop at ts))) r here alone ends);
+  here = subst (λ (l : List Seen). IsRefusedAt (behind_topic false items) l r) (sym (split_seen ts at count)) (refused_on (behind_topic false items) (map seen (take count (drop at ts))) (map seen (drop count (drop at ts))) r here alone ends);
 }
 
 -- ## Places in the tokens
@@ -164,17 +181,17 @@ behind_here ts at n =
     let sum : at + (n + 1) ≡ (at + 1) + n = omega arith in
     drop-drop (n + 1) at ts ∙ ap (λ (k : ℕ). drop k ts) sum ∙ sym (drop-drop n (at + 1) ts) ∙ ap (drop n) (sym (rest_all ts (at + 1)))
 
-pub read_on : (ts : List Token) (items : List Item) (at n : ℕ) (item : Item) → ReadTo (map seen ts) items (map seen (drop at ts)) → IsItemAt (map seen (take (at + (n + 1) - at) (drop at ts))) item [] → begins_item (map seen (drop n (take (length ts - (at + 1)) (drop (at + 1) ts)))) ≡ true → ReadTo (map seen ts) (items ++ item ∷ []) (map seen (drop (at + (n + 1)) ts))
-read_on ts items at n item so here ends =
+pub read_on : (topic : Bool) (ts : List Token) (items : List Item) (at n : ℕ) (item : Item) → topic ≡ behind_topic false items → ReadTo false (map seen ts) items (map seen (drop at ts)) → IsItemAt topic (map seen (take (at + (n + 1) - at) (drop at ts))) item [] → begins_item (map seen (drop n (take (length ts - (at + 1)) (drop (at + 1) ts)))) ≡ true → ReadTo false (map seen ts) (items ++ item ∷ []) (map seen (drop (at + (n + 1)) ts))
+read_on topic ts items at n item same so here ends =
     let count : at + (n + 1) - at ≡ n + 1 = omega arith in
-    subst (λ (l : List Token). ReadTo (map seen ts) (items ++ item ∷ []) (map seen l)) (drop-drop (n + 1) at ts)
-    (one_more ts items at (n + 1) item so (subst (λ (k : ℕ). IsItemAt (map seen (take k (drop at ts))) item []) count here) (ap (λ (l : List Token). begins_item (map seen l)) (behind_here ts at n) ∙ ends))
+    subst (λ (l : List Token). ReadTo false (map seen ts) (items ++ item ∷ []) (map seen l)) (drop-drop (n + 1) at ts)
+    (one_more ts items at (n + 1) item so (subst (λ (b : Bool). IsItemAt b (map seen (take (n + 1) (drop at ts))) item []) same (subst (λ (k : ℕ). IsItemAt topic (map seen (take k (drop at ts))) item []) count here)) (ap (λ (l : List Token). begins_item (map seen l)) (behind_here ts at n) ∙ ends))
 
-pub read_stops : (ts : List Token) (items : List Item) (at n : ℕ) (fault : ReadFault) → ReadTo (map seen ts) items (map seen (drop at ts)) → IsFault (IsRefusedAt (map seen (take (at + (n + 1) - at) (drop at ts)))) fault → all_behind (map seen (take n (take (length ts - (at + 1)) (drop (at + 1) ts)))) ≡ true → begins_item (map seen (drop n (take (length ts - (at + 1)) (drop (at + 1) ts)))) ≡ true → IsFault (λ r. IsRead (map seen ts) (Err r)) fault
-read_stops ts items at n fault so here alone ends =
+pub read_stops : (topic : Bool) (ts : List Token) (items : List Item) (at n : ℕ) (fault : ReadFault) → topic ≡ behind_topic false items → ReadTo false (map seen ts) items (map seen (drop at ts)) → IsFault (IsRefusedAt topic (map seen (take (at + (n + 1) - at) (drop at ts)))) fault → all_behind (map seen (take n (take (length ts - (at + 1)) (drop (at + 1) ts)))) ≡ true → begins_item (map seen (drop n (take (length ts - (at + 1)) (drop (at + 1) ts)))) ≡ true → IsFault (λ r. IsRead (map seen ts) (Err r)) fault
+read_stops topic ts items at n fault same so here alone ends =
     let count : at + (n + 1) - at ≡ n + 1 = omega arith in
     fault_map _ _ (λ r h. refused_here ts items at (n + 1) r so
-    (subst (λ (k : ℕ). IsRefusedAt (map seen (take k (drop at ts))) r) count h)
+    (subst (λ (b : Bool). IsRefusedAt b (map seen (take (n + 1) (drop at ts))) r) same (subst (λ (k : ℕ). IsRefusedAt topic (map seen (take k (drop at ts))) r) count h))
     (ap all_behind (drop_seen (take (n + 1) (drop at ts))) ∙ ap (λ (k : ℕ). all_behind (map seen (drop 1 (take k (drop at ts))))) (sym count) ∙ alone_here ts at n alone)
     (ap (λ (l : List Token). begins_item (map seen l)) (behind_here ts at n) ∙ ends)) fault here
 

@@ -1,6 +1,6 @@
 use Rattle.std.proofs.Common.{◌<◌, length, arith}
-use Rattle.dialog_tool.proofs.ItemLemmas.{all_behind_more}
-use Rattle.dialog_tool.proofs.items.behind.Goals as goal
+use Rattle.dg_reader.proofs.ItemLemmas.{all_behind_more}
+use Rattle.dg_reader.proofs.source.behind.Goals as goal
 
 pub loop-token-preserved : goal.loop-token-preserved
 loop-token-preserved c =
