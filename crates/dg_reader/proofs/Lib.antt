@@ -16,3 +16,4 @@ pub mod ReadLemmas
 pub mod ItemLemmas
 pub mod HeadLemmas
 pub mod Told
+pub mod Stops

@@ -1,7 +1,8 @@
 // The shape of an item, from its tokens.
-ghost use Rattle.std.specs.Prelude.{◌≡◌, ◌∷◌, [], map, None, Some, Ok, IfOk, OnOk};
+ghost use Rattle.std.specs.Prelude.{◌≡◌, ◌∷◌, [], map, true, None, Some, Ok, IfOk, OnOk};
 ghost use Rattle.std.specs.Option.{option_map};
 ghost use Rattle.dg_base.specs.TreeView.{stmt_view, branch_view};
+ghost use Rattle.dg_reader.specs.Grammar.{IsUnexpectedAt};
 ghost use Rattle.dg_reader.specs.Machine as machine;
 ghost use Rattle.dg_reader.specs.TokenView.{token_view};
 ghost use Rattle.dg_reader.specs.Frames.{stack_view, frame_view, owner_view, Moves};
@@ -202,6 +203,7 @@ pub fn find(alloc: Global, tokens: &[Token<'_>]) -> Result<Found, ShapeFault>
     ensures told { IfOk result IsTold }
     ensures unclosed { OnUnclosed result (IsOpen (map token_view tokens.now)) }
     ensures unexpected { OnUnexpected result (λ index. StopsAt tokens.now index) }
+    ensures first { OnUnexpected result (λ index. IsUnexpectedAt true (map token_view tokens.now) index) }
 {
     match run(alloc, tokens) {
         Ok(reading) => end(reading),

@@ -7,10 +7,10 @@ ghost use Rattle.dg_reader.specs.Read.{IsRead};
 ghost use Rattle.dg_reader.specs.Faults.{IsFault};
 ghost use Rattle.dialog_tool.specs.Source.{Compiles};
 
-use dg_reader::read;
 use crate::lowering::lower;
 use crate::scan::plain_tokens;
 use dg_base::{CoreProgram, ReadFault};
+use dg_reader::read;
 use std::alloc::Global;
 
 /// The core program of a source, or why the source is refused.
