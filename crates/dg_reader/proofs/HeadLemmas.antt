@@ -7,13 +7,11 @@ use Rattle.std.proofs.lemmas.List.{take_all}
 use Rattle.std.proofs.Common.{length-drop}
 use Rattle.dg_base.specs.Tree as tree
 use Rattle.dg_base.specs.Tree.{Values, Parts, parts_of, values_of, stmts_of}
-use Rattle.dg_base.specs.TreeView.{part_view, value_view, stmt_view, head_view}
+use Rattle.dg_base.specs.TreeView.{part_view, value_view, head_view}
 use Rattle.dg_base.specs.declared.tree.Head.{Head}
 use Rattle.dg_base.specs.declared.tree.Part.{Part}
-use Rattle.dg_base.specs.declared.tree.Stmt.{Stmt}
-use Rattle.dg_base.specs.declared.tree.Value
 use Rattle.dg_base.specs.declared.tree.Value.{Value}
-use Rattle.dg_reader.specs.Heads.{is_constant, are_constants, query_in, declared_query, is_empty_branch}
+use Rattle.dg_reader.specs.Heads.{is_constant, are_constants, query_in, declared_query}
 use Rattle.dg_reader.specs.Sizes.{is_atom, elements_of, all_constant, work, value_size, values_size}
 
 -- ---- values left to be looked at

@@ -356,7 +356,11 @@ fn keeps_rules(alloc: Global, behind_topic: bool, found: &Found) -> Result<bool,
 }
 
 /// Why an item is refused that has a shape.
-pub fn fault_in(alloc: Global, behind_topic: bool, found: &Found) -> Result<Option<Kind>, AllocError>
+pub fn fault_in(
+    alloc: Global,
+    behind_topic: bool,
+    found: &Found,
+) -> Result<Option<Kind>, AllocError>
     requires refused { found.now.refused ≡ has_refused (shape_view found.now.shape) }
     requires topic { found.now.topic ≡ has_topic (shape_view found.now.shape) }
     ensures { IfOk result (λ fault. fault ≡ spec.fault_in behind_topic (shape_view found.now.shape)) }

@@ -1,9 +1,6 @@
-use Rattle.std.proofs.Common.{◌≡◌, List, Option, true, unwrap_or, map, sym, ◌∙◌, ap}
-use Rattle.std.specs.Option.{is_some}
+use Rattle.std.proofs.Common.{Option, unwrap_or, map, sym, ◌∙◌, ap}
 use Rattle.dg_base.specs.Tree.{Parts, global_variable, parts_of}
-use Rattle.dg_base.specs.TreeView.{part_view, head_view}
-use Rattle.dg_base.specs.declared.tree.Part.{Part}
-use Rattle.dg_reader.specs.Heads.{declared_query}
+use Rattle.dg_base.specs.TreeView.{part_view}
 use Rattle.dg_reader.proofs.HeadLemmas.{some_declared, declared_some, none_declared}
 use Rattle.dg_reader.proofs.heads.declared.Goals as goal
 

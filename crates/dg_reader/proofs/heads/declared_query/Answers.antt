@@ -1,4 +1,3 @@
-use Rattle.std.proofs.Common.{ℕ}
 use Rattle.dg_reader.proofs.HeadLemmas.{not_three}
 use Rattle.dg_reader.proofs.heads.declared_query.Goals as goal
 
