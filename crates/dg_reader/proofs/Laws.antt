@@ -117,7 +117,7 @@ unclosed_there ts new e f =
 no_outcome : (ts : List Tok) (shape : Shape) → run ts (start ∷ []) ≡ None → outcome ts ≡ done shape → ⊥
 no_outcome ts shape e o = absurd (let p = sym (ap outcome_from e) ∙ o in cc)
 
-unexpected_there : (ts : List Tok) → run ts (start ∷ []) ≡ None → IsUnexpected true ts
+pub unexpected_there : (ts : List Tok) → run ts (start ∷ []) ≡ None → IsUnexpected true ts
 unexpected_there ts e rest s = no_outcome (ts ++ rest) s.shape (run-append ts rest (start ∷ []) ∙ ap (option_and_then (run rest)) e) (shape_outcome s.shape (ts ++ rest) s.item.whole)
 
 stack_says : (ts : List Tok) (new : Stack) → run ts (start ∷ []) ≡ Some new → Says true ts (at_end (finished new))

@@ -11,3 +11,9 @@ pub mod Numbers
 pub mod Keys
 pub mod Closed
 pub mod Weighed
+pub mod FaultLemmas
+pub mod ReadLemmas
+pub mod ItemLemmas
+pub mod HeadLemmas
+pub mod Told
+pub mod Stops

@@ -9,3 +9,7 @@ pub mod Sums
 pub mod StackSums
 pub mod Named
 pub mod Weights
+pub mod Heads
+pub mod Faults
+pub mod Read
+pub mod Sizes

@@ -1,18 +1,37 @@
 //! The reader: from the tokens of a source to its tree.
 #![tactic(auto)]
 
+ghost use Rattle.std.specs.Prelude.{◌≡◌, List, Bool, Result};
+ghost use Rattle.dg_base.specs.Tree.{Item};
+ghost use Rattle.dg_base.specs.declared.refusal.Refusal.{Refusal};
+ghost use Rattle.dg_lex.specs.Tokens.{Seen};
+ghost use Rattle.dg_reader.specs.Grammar.{IsDecided};
+ghost use Rattle.dg_reader.specs.Read.{IsRead};
+ghost use Rattle.dg_reader.specs.Tokens.{Tok};
+
 mod close;
 mod ends;
 mod forms;
 mod frames;
+mod heads;
 mod item;
 mod keyword;
 mod names;
 mod open;
 mod put;
+mod source;
 mod step;
 mod weights;
 mod words;
 
-pub use frames::Sign;
-pub use item::{Shape, ShapeFault, shape_of};
+pub use source::read;
+
+/// Each list of tokens is an item, begins one, or does neither, and it is one item at most.
+pub fn items_are_decided()
+    ensures { (in_column : Bool) → (ts : List Tok) → IsDecided in_column ts }
+{}
+
+/// Tokens are read in one way.
+pub fn items_are_one()
+    ensures { (ts : List Seen) → (a b : Result (List Item) Refusal) → IsRead ts a → IsRead ts b → a ≡ b }
+{}

@@ -2,8 +2,5 @@ pub mod Numbers
 pub mod PlainText
 pub mod NamesLemmas
 pub mod BuiltLemmas
-pub mod FaultLemmas
-pub mod ReadLemmas
-pub mod ItemLemmas
 pub mod SourceLemmas
 pub mod AnswerLemmas

@@ -5,9 +5,9 @@ use Rattle.dg_base.specs.Tree.{Item}
 use Rattle.dg_base.specs.TreeView.{item_view}
 use Rattle.dg_base.specs.declared.tree.Item.{Item as CodeItem}
 use Rattle.dg_base.specs.declared.refusal.ReadFault.{ReadFault}
-use Rattle.dialog_tool.specs.Faults.{IsFault}
-use Rattle.dialog_tool.proofs.FaultLemmas.{fault_map}
-use Rattle.dialog_tool.proofs.ReadLemmas.{read_one}
+use Rattle.dg_reader.specs.Faults.{IsFault}
+use Rattle.dg_reader.proofs.FaultLemmas.{fault_map}
+use Rattle.dg_reader.proofs.ReadLemmas.{read_one}
 use Rattle.dg_base.specs.declared.program.CoreProgram.{CoreProgram as Core}
 use Rattle.dg_base.specs.declared.refusal.Refusal.{Refusal}
 use Rattle.dg_lex.specs.Tokens.{Seen, seen, without_mark}
@@ -15,7 +15,7 @@ use Rattle.dg_lex.specs.declared.token.Token.{Token}
 use Rattle.dg_lex.proofs.One.{tokens_one}
 use Rattle.dialog_tool.specs.Scan.{IsScanned, plain_front, line_in, foreign_line}
 use Rattle.dialog_tool.specs.Plain.{core_of, refusal_of}
-use Rattle.dialog_tool.specs.Read.{IsRead}
+use Rattle.dg_reader.specs.Read.{IsRead}
 use Rattle.dialog_tool.specs.Source.{Compiles, too_long, shows_more, not_read, refused, accepted}
 
 scan_tokens : (source : List ℕ) (ts us : List Token) (a b : Option ℕ) → IsScanned source ts a → IsScanned source us b → map seen ts ≡ map seen us

@@ -8,7 +8,7 @@ use Rattle.dg_lex.specs.Tokens.{seen}
 use Rattle.dg_lex.specs.declared.token.Token.{Token}
 use Rattle.dialog_tool.specs.Scan.{IsScanned}
 use Rattle.dialog_tool.specs.Plain.{core_of, refusal_of, refusal_at}
-use Rattle.dialog_tool.specs.Read.{IsRead}
+use Rattle.dg_reader.specs.Read.{IsRead}
 
 -- a source is too long; or it shows more than plain rules; or its items are refused as they are read, or behind that; or it is a program
 pub data Compiles (source : List ℕ) (answer : Result Core Refusal) : Type 0 where

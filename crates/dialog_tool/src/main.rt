@@ -3,7 +3,6 @@
 
 mod adapters;
 mod command;
-mod items;
 mod lowering;
 mod plain;
 mod scan;

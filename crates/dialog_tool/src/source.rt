@@ -3,14 +3,14 @@ ghost use Rattle.std.specs.Prelude.{◌≡◌, ◌≤◌, ◌⊎◌, length, map
 ghost use Rattle.dg_base.specs.TreeView.{tree_view};
 ghost use Rattle.dg_lex.specs.Tokens.{seen};
 ghost use Rattle.dg_meaning.specs.Built.{IsBuilt};
-ghost use Rattle.dialog_tool.specs.Read.{IsRead};
-ghost use Rattle.dialog_tool.specs.Faults.{IsFault};
+ghost use Rattle.dg_reader.specs.Read.{IsRead};
+ghost use Rattle.dg_reader.specs.Faults.{IsFault};
 ghost use Rattle.dialog_tool.specs.Source.{Compiles};
 
-use crate::items::read;
 use crate::lowering::lower;
 use crate::scan::plain_tokens;
 use dg_base::{CoreProgram, ReadFault};
+use dg_reader::read;
 use std::alloc::Global;
 
 /// The core program of a source, or why the source is refused.

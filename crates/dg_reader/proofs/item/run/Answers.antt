@@ -4,14 +4,17 @@ use Rattle.dg_reader.proofs.Laws.{run_more}
 use Rattle.dg_reader.proofs.item.run.Goals as goal
 
 pub loop-index-preserved : goal.loop-index-preserved
-loop-index-preserved c = run_more c.args.tokens.now c.loop-index.index _ (stack_view c.loop-index.stack.items) c.loop-index-test.true c.loop-index.invariant ∙ c.in-Ok.ensures
+loop-index-preserved c = record {
+  taken = run_more c.args.tokens.now c.loop-index.index _ (stack_view c.loop-index.reading.stack.items) c.loop-index-test.true c.loop-index.invariant.taken ∙ c.in-Ok.ensures.moves;
+  weighed = c.in-Ok.ensures.weighed;
+}
 
 pub returns-in-Err-Unexpected-clause-unexpected : goal.returns-in-Err-Unexpected-clause-unexpected
 returns-in-Err-Unexpected-clause-unexpected c =
-    let stops = rw c.in-Err-Unexpected.field-0-is at c.in-Err-Unexpected.ensures in
+    let stops = rw c.in-Err-Unexpected.field-0-is at c.in-Err-Unexpected.ensures.moves in
     record {
       within = c.loop-index-test.true;
-      before = stack_view c.loop-index.stack.items;
-      taken = c.loop-index.invariant;
-      stops = run_more c.args.tokens.now c.loop-index.index _ (stack_view c.loop-index.stack.items) c.loop-index-test.true c.loop-index.invariant ∙ stops;
+      before = stack_view c.loop-index.reading.stack.items;
+      taken = c.loop-index.invariant.taken;
+      stops = run_more c.args.tokens.now c.loop-index.index _ (stack_view c.loop-index.reading.stack.items) c.loop-index-test.true c.loop-index.invariant.taken ∙ stops;
     }

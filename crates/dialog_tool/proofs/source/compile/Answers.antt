@@ -1,6 +1,6 @@
 use Rattle.std.proofs.Common.{ap, Err}
 use Rattle.dialog_tool.specs.Source.{shows_more}
-use Rattle.dialog_tool.proofs.FaultLemmas.{fault_map}
+use Rattle.dg_reader.proofs.FaultLemmas.{fault_map}
 use Rattle.dialog_tool.proofs.BuiltLemmas.{program_built}
 use Rattle.dialog_tool.proofs.SourceLemmas.{not_read_of, refused_of, accepted_of}
 use Rattle.dialog_tool.proofs.source.compile.Goals as goal

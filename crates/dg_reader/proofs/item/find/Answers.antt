@@ -1,0 +1,7 @@
+use Rattle.dg_reader.specs.declared.item.Found.{Found}
+use Rattle.dg_reader.specs.declared.item.Reading.{Reading}
+use Rattle.dg_reader.proofs.Stops.{stops_at, unexpected_map}
+use Rattle.dg_reader.proofs.item.find.Goals as goal
+
+pub returns-in-Err-clause-first : goal.returns-in-Err-clause-first
+returns-in-Err-clause-first c = unexpected_map Reading Found c.in-Err.fault _ _ (stops_at c.args.tokens.now) c.in-Err.ensures.unexpected

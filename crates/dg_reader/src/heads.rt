@@ -1,0 +1,428 @@
+// The rules that items keep beside the grammar.
+ghost use Rattle.std.specs.Prelude.{◌≡◌, ◌+◌, ◌≤◌, ◌&&◌, not, true, map, IfOk};
+ghost use Rattle.std.specs.Option.{option_map};
+ghost use Rattle.dg_base.specs.Heads.{name_of as head_name};
+ghost use Rattle.dg_base.specs.Tree.{parts_of, stmts_of, values_of};
+ghost use Rattle.dg_base.specs.TreeView.{part_view, value_view, stmt_view, head_view, body_view, said_view};
+ghost use Rattle.dg_reader.specs.Frames.{sign_view};
+ghost use Rattle.dg_reader.specs.Heads as spec;
+ghost use Rattle.dg_reader.specs.Items.{shape_view};
+ghost use Rattle.dg_reader.specs.Read.{declared, signed, said_of};
+ghost use Rattle.dg_reader.specs.Sizes.{is_atom, elements_of, all_constant, work, value_size, values_size};
+ghost use Rattle.dg_reader.specs.Weights.{has_refused, has_topic};
+
+use crate::frames::Sign;
+use crate::item::{Found, Shape};
+use crate::open::declares;
+use dg_base::{
+    Body, Head, ItemBody, Items, Kind, Part, Stmt, Value, builtin_of, is_keyword, is_prelude_name,
+    name_of,
+};
+use std::alloc::{AllocError, Global};
+
+const PARENTS: &[u8] = b"($ has parent $)";
+
+fn is_fixed(name: &[u8]) -> bool
+    ensures { result ≡ spec.is_fixed name.now }
+{
+    builtin_of(name).is_some() && name != PARENTS
+}
+
+fn is_reserved(name: &[u8]) -> bool
+    ensures { result ≡ spec.is_reserved name.now }
+{
+    is_keyword(name) || is_prelude_name(name) || is_fixed(name)
+}
+
+fn has_value(parts: &[Part]) -> bool
+    ensures { result ≡ spec.has_value (parts_of (map part_view parts.now)) }
+{
+    for part in parts {
+        match part {
+            Part::Word(_) => {}
+            Part::Value(_) => return true,
+        }
+    }
+    false
+}
+
+fn has_own_value(value: &Value) -> bool
+    ensures { result ≡ spec.has_own_value (value_view value.now) }
+{
+    match value {
+        Value::Query(head) => has_value(head.parts.as_slice()),
+        _ => true,
+    }
+}
+
+fn queries_have_values(parts: &[Part]) -> bool
+    ensures { result ≡ spec.queries_have_values (parts_of (map part_view parts.now)) }
+{
+    for part in parts {
+        match part {
+            Part::Word(_) => {}
+            Part::Value(value) => {
+                if !has_own_value(value) {
+                    return false;
+                }
+            }
+        }
+    }
+    true
+}
+
+fn is_variable(part: &Part, name: &[u8]) -> bool
+    ensures { result ≡ spec.is_variable name.now (part_view part.now) }
+{
+    match part {
+        Part::Value(Value::Var(found)) => found.as_slice() == name,
+        _ => false,
+    }
+}
+
+fn has_variable(parts: &[Part], name: &[u8]) -> bool
+    ensures { result ≡ spec.has_variable name.now (parts_of (map part_view parts.now)) }
+{
+    for part in parts {
+        if is_variable(part, name) {
+            return true;
+        }
+    }
+    false
+}
+
+fn are_distinct_variables(parts: &[Part]) -> bool
+    ensures { result ≡ spec.are_distinct_variables (parts_of (map part_view parts.now)) }
+{
+    let mut at = 0;
+    while at < parts.len() {
+        match &parts[at] {
+            Part::Word(_) => {}
+            Part::Value(Value::Var(name)) => {
+                if has_variable(&parts[at + 1..], name.as_slice()) {
+                    return false;
+                }
+            }
+            Part::Value(_) => return false,
+        }
+        at += 1;
+    }
+    true
+}
+
+fn is_query(stmt: &Stmt) -> bool
+    ensures { result ≡ spec.is_query_stmt (stmt_view stmt.now) }
+{
+    matches!(stmt, Stmt::Ask(_) | Stmt::AskAll(_) | Stmt::AskNot(_))
+}
+
+fn are_queries(stmts: &[Stmt]) -> bool
+    ensures { result ≡ spec.are_queries (stmts_of (map stmt_view stmts.now)) }
+{
+    for stmt in stmts {
+        if !is_query(stmt) {
+            return false;
+        }
+    }
+    true
+}
+
+fn is_empty_branch(stmts: &[Stmt]) -> bool
+    ensures { result ≡ spec.is_empty_branch (stmts_of (map stmt_view stmts.now)) }
+{
+    stmts.first().is_none()
+}
+
+fn is_access_branch(stmts: &[Stmt]) -> bool
+    ensures { result ≡ spec.is_access_branch (stmts_of (map stmt_view stmts.now)) }
+{
+    !is_empty_branch(stmts) && are_queries(stmts)
+}
+
+fn is_access_body(body: &Body) -> bool
+    ensures { result ≡ spec.is_access_body (body_view body.now) }
+{
+    let [branch, others @ ..] = body.branches.as_slice() else {
+        return false;
+    };
+    match others {
+        [] => is_access_branch(branch.as_slice()),
+        [_, ..] => false,
+    }
+}
+
+fn is_empty_body(body: &Body) -> bool
+    ensures { result ≡ spec.is_empty_body (body_view body.now) }
+{
+    let [branch, others @ ..] = body.branches.as_slice() else {
+        return false;
+    };
+    match others {
+        [] => is_empty_branch(branch.as_slice()),
+        [_, ..] => false,
+    }
+}
+
+fn keeps_access_rules(sign: Sign, head: &Head, body: &Body) -> bool
+    ensures { result ≡ spec.keeps_access_rules (sign_view sign) (head_view head.now) (body_view body.now) }
+{
+    match sign {
+        Sign::Access => are_distinct_variables(head.parts.as_slice()) && is_access_body(body),
+        _ => true,
+    }
+}
+
+fn is_atom(value: &Value) -> bool
+    ensures { result ≡ is_atom (value_view value.now) }
+{
+    matches!(value, Value::Num(_) | Value::Word(_) | Value::Object(_))
+}
+
+// The elements of a list without a tail.
+fn elements_of(value: &Value) -> Option<&[Value]>
+    ensures { option_map (λ elements. values_of (map value_view elements.now)) result ≡ elements_of (value_view value.now) }
+{
+    match value {
+        Value::List(elements, None) => Some(elements.as_slice()),
+        _ => None,
+    }
+}
+
+// Whether a value is a constant, but for the elements of a list, which come to those that are left to be looked at.
+fn take_value<'a>(left: &mut Vec<&'a [Value]>, value: &'a Value) -> Result<bool, AllocError>
+    ensures fits { IfOk result (λ fits. (fits && all_constant left.new.items) ≡ (spec.is_constant (value_view value.now) && all_constant left.old.items)) }
+    ensures less { IfOk result (λ fits. fits ≡ true → work left.new.items + 1 ≤ value_size (value_view value.now) + work left.old.items) }
+{
+    if is_atom(value) {
+        return Ok(true);
+    }
+    match elements_of(value) {
+        Some(elements) => {
+            left.push(elements)?;
+            Ok(true)
+        }
+        None => Ok(false),
+    }
+}
+
+// The same of the first of some values; the others come to those that are left.
+fn take_first<'a>(left: &mut Vec<&'a [Value]>, values: &'a [Value]) -> Result<bool, AllocError>
+    ensures fits { IfOk result (λ fits. (fits && all_constant left.new.items) ≡ (spec.are_constants (values_of (map value_view values.now)) && all_constant left.old.items)) }
+    ensures less { IfOk result (λ fits. fits ≡ true → work left.new.items ≤ values_size (values_of (map value_view values.now)) + work left.old.items) }
+{
+    if values.is_empty() {
+        return Ok(true);
+    }
+    left.push(&values[1..])?;
+    take_value(left, &values[0])
+}
+
+fn is_constant(alloc: Global, value: &Value) -> Result<bool, AllocError>
+    ensures { IfOk result (λ fits. fits ≡ spec.is_constant (value_view value.now)) }
+{
+    let mut left = Vec::new(alloc);
+    if !take_value(&mut left, value)? {
+        return Ok(false);
+    }
+    while let Some(values) = left.pop() {
+        if !take_first(&mut left, values)? {
+            return Ok(false);
+        }
+    }
+    Ok(true)
+}
+
+fn is_start(alloc: Global, value: &Value) -> Result<bool, AllocError>
+    ensures { IfOk result (λ fits. fits ≡ spec.is_start (value_view value.now)) }
+{
+    match value {
+        Value::Topic | Value::Any => Ok(true),
+        _ => is_constant(alloc, value),
+    }
+}
+
+fn is_one_start(alloc: Global, value: &Value, behind: &[Part]) -> Result<bool, AllocError>
+    ensures { IfOk result (λ fits. fits ≡ (not (spec.has_value (parts_of (map part_view behind.now))) && spec.is_start (value_view value.now))) }
+{
+    if has_value(behind) {
+        return Ok(false);
+    }
+    is_start(alloc, value)
+}
+
+fn has_one_start(alloc: Global, parts: &[Part]) -> Result<bool, AllocError>
+    ensures { IfOk result (λ fits. fits ≡ spec.has_one_start (parts_of (map part_view parts.now))) }
+{
+    let mut at = 0;
+    while at < parts.len() {
+        if let Part::Value(value) = &parts[at] {
+            return is_one_start(alloc, value, &parts[at + 1..]);
+        }
+        at += 1;
+    }
+    Ok(false)
+}
+
+fn can_be_declared(alloc: Global, head: &Head) -> Result<bool, AllocError>
+    ensures { IfOk result (λ can. can ≡ spec.can_be_declared (head_view head.now)) }
+{
+    let name = name_of(alloc, head)?;
+    if builtin_of(name.as_slice()).is_some() {
+        return Ok(false);
+    }
+    has_one_start(alloc, head.parts.as_slice())
+}
+
+fn query_in(part: &Part) -> Option<&Head>
+    ensures { option_map (λ head. head_view head.now) result ≡ spec.query_in (part_view part.now) }
+{
+    match part {
+        Part::Value(Value::Query(head)) => Some(head),
+        _ => None,
+    }
+}
+
+// The query that a declaration declares.
+fn declared_query(parts: &[Part]) -> Option<&Head>
+    ensures { option_map (λ head. head_view head.now) result ≡ spec.declared_query (parts_of (map part_view parts.now)) }
+{
+    if parts.len() == 3 {
+        query_in(&parts[2])
+    } else {
+        None
+    }
+}
+
+fn declares_query(alloc: Global, parts: &[Part]) -> Result<bool, AllocError>
+    ensures { IfOk result (λ declares. declares ≡ spec.declares_query (spec.declared_query (parts_of (map part_view parts.now)))) }
+{
+    match declared_query(parts) {
+        Some(head) => can_be_declared(alloc, head),
+        None => Ok(false),
+    }
+}
+
+fn keeps_declaration_rules(
+    alloc: Global,
+    sign: Sign,
+    head: &Head,
+    body: &Body,
+) -> Result<bool, AllocError>
+    ensures { IfOk result (λ keeps. keeps ≡ spec.keeps_declaration_rules (sign_view sign) (head_view head.now) (body_view body.now)) }
+{
+    if sign == Sign::Plain && is_empty_body(body) {
+        declares_query(alloc, head.parts.as_slice())
+    } else {
+        Ok(false)
+    }
+}
+
+fn keeps_own_rules(alloc: Global, sign: Sign, head: &Head, body: &Body) -> Result<bool, AllocError>
+    ensures { IfOk result (λ keeps. keeps ≡ spec.keeps_own_rules (sign_view sign) (head_view head.now) (body_view body.now)) }
+{
+    let parts = head.parts.as_slice();
+    if declares(parts) {
+        keeps_declaration_rules(alloc, sign, head, body)
+    } else {
+        Ok(queries_have_values(parts) && keeps_access_rules(sign, head, body))
+    }
+}
+
+// Whether a rule's head has a name that it may have, and the rules of its kind are kept.
+fn keeps_head_rules(alloc: Global, sign: Sign, head: &Head, body: &Body) -> Result<bool, AllocError>
+    ensures { IfOk result (λ keeps. keeps ≡ (not (spec.is_reserved (head_name (head_view head.now))) && spec.keeps_own_rules (sign_view sign) (head_view head.now) (body_view body.now))) }
+{
+    let name = name_of(alloc, head)?;
+    if is_reserved(name.as_slice()) {
+        return Ok(false);
+    }
+    keeps_own_rules(alloc, sign, head, body)
+}
+
+/// Whether an item keeps the rules that stand beside the grammar, where a topic stands before it or not.
+fn keeps_rules(alloc: Global, behind_topic: bool, found: &Found) -> Result<bool, AllocError>
+    requires { found.now.topic ≡ has_topic (shape_view found.now.shape) }
+    ensures { IfOk result (λ keeps. keeps ≡ spec.keeps_rules behind_topic (shape_view found.now.shape)) }
+{
+    match &found.shape {
+        Shape::Topic(_) => Ok(true),
+        Shape::Clause(sign, head, body) => {
+            if found.topic && !behind_topic {
+                return Ok(false);
+            }
+            keeps_head_rules(alloc, *sign, head, body)
+        }
+    }
+}
+
+/// Why an item is refused that has a shape.
+pub fn fault_in(
+    alloc: Global,
+    behind_topic: bool,
+    found: &Found,
+) -> Result<Option<Kind>, AllocError>
+    requires refused { found.now.refused ≡ has_refused (shape_view found.now.shape) }
+    requires topic { found.now.topic ≡ has_topic (shape_view found.now.shape) }
+    ensures { IfOk result (λ fault. fault ≡ spec.fault_in behind_topic (shape_view found.now.shape)) }
+{
+    if found.refused {
+        return Ok(Some(Kind::NotInProfile));
+    }
+    if keeps_rules(alloc, behind_topic, found)? {
+        Ok(None)
+    } else {
+        Ok(Some(Kind::BadHead))
+    }
+}
+
+fn into_query(part: Part) -> Option<Head>
+    ensures { option_map head_view result ≡ spec.query_in (part_view part) }
+{
+    match part {
+        Part::Value(Value::Query(head)) => Some(head),
+        _ => None,
+    }
+}
+
+// What a declaration says: the query that it declares.
+fn declared(mut parts: Items<Part>) -> ItemBody
+    ensures { said_view result ≡ declared (parts_of (map part_view parts)) }
+{
+    if declared_query(parts.as_slice()).is_none() {
+        return ItemBody::Variable(Head { parts });
+    }
+    match parts.pop() {
+        Some(last) => match into_query(last) {
+            Some(query) => ItemBody::Variable(query),
+            None => ItemBody::Variable(Head { parts }),
+        },
+        None => ItemBody::Variable(Head { parts }),
+    }
+}
+
+// What a head with its sign and its body says.
+fn signed(sign: Sign, head: Head, body: Body) -> ItemBody
+    ensures { said_view result ≡ signed (sign_view sign) (head_view head) (body_view body) }
+{
+    match sign {
+        Sign::Plain => ItemBody::Rule(head, body),
+        Sign::Negated => ItemBody::Deny(head, body),
+        Sign::Access => ItemBody::Access(head, body),
+    }
+}
+
+/// What an item of this shape says.
+pub fn said_of(shape: Shape) -> ItemBody
+    ensures { said_view result ≡ said_of (shape_view shape) }
+{
+    match shape {
+        Shape::Topic(name) => ItemBody::Topic(name),
+        Shape::Clause(sign, head, body) => {
+            if declares(head.parts.as_slice()) {
+                declared(head.parts)
+            } else {
+                signed(sign, head, body)
+            }
+        }
+    }
+}

@@ -1,8 +1,0 @@
-use Rattle.std.proofs.Common.{◌<◌, length, arith}
-use Rattle.dialog_tool.proofs.ItemLemmas.{all_behind_more}
-use Rattle.dialog_tool.proofs.items.behind.Goals as goal
-
-pub loop-token-preserved : goal.loop-token-preserved
-loop-token-preserved c =
-    let lt : c.loop-token.token-index < length c.args.tokens.now = omega arith in
-    (omega arith, all_behind_more c.args.tokens.now c.loop-token.token-index _ lt c.loop-token.invariant.1 c.if-token.false)
