@@ -3,3 +3,8 @@ pub mod LinksLemmas
 pub mod SlotsLemmas
 pub mod Reading
 pub mod Stores
+pub mod StoreLemmas
+pub mod PartsLemmas
+pub mod Tops
+pub mod Meets
+pub mod Goings

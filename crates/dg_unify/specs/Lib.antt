@@ -6,3 +6,5 @@ pub mod Props
 pub mod Laws
 pub mod Ends
 pub mod Listed
+pub mod Parts
+pub mod Turns
