@@ -1,3 +1,9 @@
+pub mod Walks
+pub mod LookUps
+pub mod Solving
+pub mod UnifyLaws
+pub mod Unifiers
+pub mod WorkedValues
 pub mod OneRun
 pub mod Search
 pub mod Silently

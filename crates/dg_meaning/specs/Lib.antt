@@ -1,3 +1,7 @@
+pub mod Values
+pub mod Substitutions
+pub mod Unify
+pub mod Unifiers
 pub mod World
 pub mod Path
 pub mod Render

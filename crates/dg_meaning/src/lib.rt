@@ -1,9 +1,11 @@
-//! What a program means: the search, the text that it prints, its limits, and what an interpreter may write.
+//! What a program means: its values and their unification, the search, the text that it prints, its limits, and what an interpreter may write.
 #![tactic(auto)]
 
 ghost use Rattle.std.specs.Prelude.{ℕ, ◌+◌, List, Option};
 ghost use Rattle.dg_base.specs.declared.run.Limits.{Limits};
 ghost use Rattle.dg_base.specs.declared.run.Outcome.{Outcome};
+ghost use Rattle.dg_meaning.specs.Substitutions.{Substitution, IsSubstitution};
+ghost use Rattle.dg_meaning.specs.Unifiers.{WalksUp, Resolves, UnifyingExtends, UnifyingMakesEqual, UnifyingIsMostGeneral};
 ghost use Rattle.dg_meaning.specs.World.{Game};
 ghost use Rattle.dg_meaning.specs.Transcript.{run};
 ghost use Rattle.dg_meaning.specs.OneRun.{GoesOnFrom};
@@ -24,4 +26,17 @@ pub fn engines_may_keep()
 /// A game whose run stays within the limits shows its whole transcript.
 pub fn runs_within_limits_are_whole()
     ensures { (g : Game) → (typed : List ℕ) → (limits : Limits) → (bytes : List ℕ) → (outcome : Outcome) → (left : Option (List ℕ)) → IsWithin limits g typed limits.steps → Shows g typed limits bytes outcome left → ShowsRun g typed limits bytes outcome left }
+{}
+
+/// A walk looks a value up until it is no bound variable, and a value is resolved by looking up each variable in it.
+pub fn values_are_looked_up()
+    ensures walks { (S : Substitution) → IsSubstitution S → WalksUp S }
+    ensures resolves { (S : Substitution) → IsSubstitution S → Resolves S }
+{}
+
+/// Unification only extends a substitution, and makes two values equal in the most general way, where anything makes them equal.
+pub fn unification_is_most_general()
+    ensures extends { UnifyingExtends }
+    ensures equal { UnifyingMakesEqual }
+    ensures most_general { UnifyingIsMostGeneral }
 {}

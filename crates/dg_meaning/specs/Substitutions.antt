@@ -1,0 +1,84 @@
+-- What variables are bound to. Hold it against docs/LANGUAGE.md, where it says when two values unify, and the chapter of the Dialog manual on values.
+use Rattle.std.specs.Prelude.{◌≡◌, ℕ, suc, ◌+◌, eqb, List, [], ◌∷◌, ◌++◌, ◌||◌, Bool, false, if◌then◌else◌}
+use Rattle.dg_meaning.specs.Values.{Value, Var, Node, Values, NoMore, More}
+
+-- Pairs of a variable and what it is bound to, the newest first.
+abbrev pub Substitution : Type 0
+Substitution = List (ℕ × Value)
+
+-- The variable x is bound.
+abbrev pub is_bound : ℕ → Substitution → Bool
+is_bound x [] = false
+is_bound x (p ∷ S) = eqb x p.0 || is_bound x S
+
+-- ## Walking
+
+-- The value u in place of the variable x, and every other value as it is.
+abbrev pub at_var : ℕ → Value → Value → Value
+at_var x u (Var y) = if eqb y x then u else Var y
+at_var x u (Node f vs) = Node f vs
+
+-- A value looked up until it is no bound variable: first in the older pairs, then in the newest.
+abbrev pub walk : Substitution → Value → Value
+walk [] v = v
+walk (p ∷ S) v = at_var p.0 (walk S p.1) (walk S v)
+
+-- One link and n further ones where the value is the variable x, else none.
+abbrev pub links_at : ℕ → ℕ → Value → ℕ
+links_at x n (Var y) = if eqb y x then suc n else 0
+links_at x n (Node f vs) = 0
+
+-- How many pairs the walk looks up.
+abbrev pub links : Substitution → Value → ℕ
+links [] v = 0
+links (p ∷ S) v = links S v + links_at p.0 (links S p.1) (walk S v)
+
+-- ## Resolving
+
+-- A value with each variable x in it replaced by u.
+abbrev mutual
+  pub replaced : ℕ → Value → Value → Value
+  replaced x u (Var y) = if eqb y x then u else Var y
+  replaced x u (Node f vs) = Node f (all_replaced x u vs)
+
+  pub all_replaced : ℕ → Value → Values → Values
+  all_replaced x u NoMore = NoMore
+  all_replaced x u (More v vs) = More (replaced x u v) (all_replaced x u vs)
+
+-- A value with each bound variable in it, at every depth, replaced by what it is bound to.
+abbrev pub resolved : Substitution → Value → Value
+resolved [] v = v
+resolved (p ∷ S) v = replaced p.0 (resolved S p.1) (resolved S v)
+
+-- The same for each of some values.
+abbrev pub all_resolved : Substitution → Values → Values
+all_resolved S NoMore = NoMore
+all_resolved S (More v vs) = More (resolved S v) (all_resolved S vs)
+
+-- The variable x stands in a value.
+abbrev mutual
+  pub contains : ℕ → Value → Bool
+  contains x (Var y) = eqb y x
+  contains x (Node f vs) = any_contains x vs
+
+  pub any_contains : ℕ → Values → Bool
+  any_contains x NoMore = false
+  any_contains x (More v vs) = contains x v || any_contains x vs
+
+-- ## Which lists of pairs are substitutions
+
+-- A pair may stand in front: its variable isn't bound, and its value, resolved, doesn't contain the variable.
+pub record FitsFront (x : ℕ) (v : Value) (S : Substitution) : Type 0 where
+  pub unbound : is_bound x S ≡ false
+  pub absent : contains x (resolved S v) ≡ false
+
+-- Each pair fits in front of the older ones.
+abbrev pub IsSubstitution : Substitution → Type 0
+IsSubstitution [] = Unit {0}
+IsSubstitution (p ∷ S) = FitsFront p.0 p.1 S × IsSubstitution S
+
+-- A substitution has grown at its front, and is one still.
+pub record Extends (S S' : Substitution) : Type 0 where
+  pub made : Substitution
+  pub is : S' ≡ made ++ S
+  pub sound : IsSubstitution S'

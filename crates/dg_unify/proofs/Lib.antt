@@ -1,0 +1,10 @@
+pub mod Lists
+pub mod LinksLemmas
+pub mod SlotsLemmas
+pub mod Reading
+pub mod Stores
+pub mod StoreLemmas
+pub mod PartsLemmas
+pub mod Tops
+pub mod Meets
+pub mod Goings

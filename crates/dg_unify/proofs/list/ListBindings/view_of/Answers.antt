@@ -1,0 +1,19 @@
+use Rattle.std.proofs.Common.{arith, true}
+use Rattle.dg_unify.specs.Listed.{fields_of}
+use Rattle.dg_unify.proofs.Reading.{shows_pair, shows_closure, shows_unknown, no_captured, no_letter}
+use Rattle.dg_unify.proofs.list.ListBindings.view_of.Goals as goal
+
+pub returns-in-Pair : goal.returns-in-Pair
+returns-in-Pair c = shows_pair (fields_of c.args.self.now) c.args.self.now.sound c.args.at c.requires.told (omega arith) c.index.result.now c.index.ensures c.in-Pair.head c.in-Pair.tail c.in-Pair.is true
+
+pub returns-in-Closure : goal.returns-in-Closure
+returns-in-Closure c = shows_closure (fields_of c.args.self.now) c.args.self.now.sound c.args.at c.requires.told (omega arith) c.index.result.now c.index.ensures c.in-Closure.place c.in-Closure.field-1 c.in-Closure.is true
+
+pub returns-in-Unknown : goal.returns-in-Unknown
+returns-in-Unknown c = shows_unknown (fields_of c.args.self.now) c.args.self.now.sound c.args.at c.requires.told (omega arith) c.index.result.now c.index.ensures c.in-Unknown.field-0 c.in-Unknown.is true
+
+pub returns-in-Captured : goal.returns-in-Captured
+returns-in-Captured c = absurd (no_captured (fields_of c.args.self.now) c.args.self.now.sound c.args.at c.requires.told (omega arith) c.index.result.now c.index.ensures c.in-Captured.field-0 c.in-Captured.is)
+
+pub returns-in-Letter : goal.returns-in-Letter
+returns-in-Letter c = absurd (no_letter (fields_of c.args.self.now) c.args.self.now.sound c.args.at c.requires.told (omega arith) c.index.result.now c.index.ensures c.in-Letter.field-0 c.in-Letter.is)

@@ -1,0 +1,15 @@
+use Rattle.std.proofs.Common.{rules, ◌≡◌, length, refl, true}
+use Rattle.dg_unify.specs.Linked.{log_of, vars_of}
+use Rattle.dg_unify.specs.Slots.{Fields}
+use Rattle.dg_unify.specs.Listed.{fields_of}
+use Rattle.dg_unify.proofs.Stores.{stand_marked}
+use Rattle.dg_unify.proofs.list.ListBindingsBindings.mark.Goals as goal
+
+pub returns-clause-saved : goal.returns-clause-saved
+returns-clause-saved c = λ ms h.
+    let f = fields_of c.args.self.now in
+    let f' : Fields = record { slots = c.args.self.now.slots.items; log = log_of c.args.self.now.links; vars = vars_of c.args.self.now.links; since = c.vars-self.result; heap = c.args.self.now.heap; trail = c.args.self.now.trail; heap_limit = c.args.self.now.heap_limit; trail_limit = c.args.self.now.trail_limit } in
+    let ev : c.vars-self.result ≡ f.vars = search rules in
+    let es : c.len.result ≡ length f.slots = search rules in
+    let el : c.len-2.result ≡ length f.log = search rules in
+    stand_marked true f f' (record { slots = c.len.result; links = c.len-2.result; vars = c.vars-self.result; heap = c.args.self.now.heap; trail = c.args.self.now.trail }) ms c.args.self.now.sound (rw ev refl) (rw (es, el, ev) refl) h

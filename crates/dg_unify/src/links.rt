@@ -1,0 +1,108 @@
+// Which variables are bound, and in which order they were bound.
+
+ghost use Rattle.std.specs.Prelude.{◌≡◌, ℕ, ◌+◌, ◌<◌, ◌≤◌, List, [], ◌∷◌, ◌++◌, None, OnOk, OnErr, length, take, reverse, vec_len, vec_capacity};
+ghost use Rattle.dg_unify.specs.Links.{to_of, Once, AreLinked};
+ghost use Rattle.dg_unify.specs.Props.{are_linked_prop};
+
+use crate::bindings::Ref;
+use crate::slots::Link;
+use std::alloc::{AllocError, Global};
+
+/// What each variable is bound to, and all bindings, the oldest first.
+#[derive(Drop)]
+pub struct Links {
+    to: Vec<Option<Ref>>,
+    log: Vec<Link>,
+    ghost linked: { AreLinked to.items log.items } by { are_linked_prop to.items log.items },
+}
+
+impl Links {
+    ghost use Rattle.dg_unify.specs.Linked.{log_of, vars_of};
+
+    /// No variable and no binding.
+    pub fn new(alloc: Global) -> Links
+        ensures log { log_of result ≡ [] }
+        ensures vars { vars_of result ≡ 0 }
+    {
+        Links {
+            to: Vec::new(alloc),
+            log: Vec::new(alloc),
+        }
+    }
+
+    /// How many variables there are.
+    pub fn vars(&self) -> usize
+        ensures { result ≡ vars_of self.now }
+    {
+        self.to.len()
+    }
+
+    /// How many bindings there are.
+    pub fn len(&self) -> usize
+        ensures { result ≡ length (log_of self.now) }
+    {
+        self.log.len()
+    }
+
+    /// What a variable is bound to.
+    pub fn to(&self, var: u32) -> Option<Ref>
+        requires { var < vars_of self.now }
+        ensures { result ≡ to_of var (reverse (log_of self.now)) }
+    {
+        self.to[var as usize]
+    }
+
+    /// One more variable, which isn't bound.
+    pub fn add_var(&mut self) -> Result<(), AllocError>
+        ensures ok { OnOk result (vars_of self.new ≡ vars_of self.old + 1) }
+        ensures err { OnErr result (vars_of self.new ≡ vars_of self.old) }
+        ensures log { log_of self.new ≡ log_of self.old }
+    {
+        match self.to.push(None) {
+            Ok(()) => Ok(()),
+            Err(_) => Err(AllocError),
+        }
+    }
+
+    /// Binds an unbound variable.
+    pub fn bind(&mut self, var: u32, to: Ref) -> Result<(), AllocError>
+        requires within { var < vars_of self.old }
+        requires unbound { to_of var (reverse (log_of self.old)) ≡ None }
+        ensures ok { OnOk result (log_of self.new ≡ log_of self.old ++ record { var = var; to = to } ∷ []) }
+        ensures err { OnErr result (log_of self.new ≡ log_of self.old) }
+        ensures vars { vars_of self.new ≡ vars_of self.old }
+    {
+        match self.log.push(Link { var, to }) {
+            Ok(()) => {
+                self.to[var as usize] = Some(to);
+                Ok(())
+            }
+            Err(_) => Err(AllocError),
+        }
+    }
+
+    /// Takes back all bindings but so many, and all variables but so many, of which those are.
+    pub fn undo(&mut self, links: usize, vars: usize)
+        requires links_in { links ≤ length (log_of self.old) }
+        requires vars_in { vars ≤ vars_of self.old }
+        requires once { Once vars (reverse (take links (log_of self.old))) }
+        ensures log { log_of self.new ≡ take links (log_of self.old) }
+        ensures vars { vars_of self.new ≡ vars }
+    {
+        self.unlink(links);
+        self.to.truncate(vars);
+    }
+
+    // Takes back all bindings but so many.
+    fn unlink(&mut self, links: usize)
+        requires { links ≤ length (log_of self.old) }
+        ensures log { log_of self.new ≡ take links (log_of self.old) }
+        ensures vars { vars_of self.new ≡ vars_of self.old }
+    {
+        while self.log.len() > links {
+            if let Some(link) = self.log.pop() {
+                self.to[link.var as usize] = None;
+            }
+        }
+    }
+}

@@ -1,0 +1,122 @@
+// The parts of values, one after another, and whether a variable stands in some.
+
+ghost use Rattle.std.specs.Prelude.{◌≡◌, ℕ, Some};
+ghost use Rattle.dg_meaning.specs.Values.{Label, Value, Var, Node, Values};
+ghost use Rattle.dg_meaning.specs.Substitutions.{all_resolved, any_contains};
+ghost use Rattle.dg_unify.specs.Store.{Store, Holds, Shows, IsClosureAt};
+ghost use Rattle.dg_unify.specs.declared.parts.Parts.TheVariants as form;
+ghost use Rattle.dg_unify.specs.Parts.{AreIn, values_of, SplitsInto, IsRest, ShowsInner, IsVariable};
+
+use crate::bindings::{Bindings, Ref, View};
+
+/// Some values of a store: none, one, two, or the captured values of a closure from a number on.
+#[derive(Clone, Copy)]
+pub enum Parts {
+    Nothing,
+    One(Ref),
+    Two(Ref, Ref),
+    Captured(Ref, u16),
+}
+
+/// The first of some values, and the others.
+#[derive(Clone, Copy)]
+pub struct Front {
+    pub first: Ref,
+    pub rest: Parts,
+}
+
+// The captured values from a number on.
+fn captured_from<B: Bindings>(store: &B, closure: Ref, at: u16) -> Parts
+    requires { (place : ℕ) × (parts : Values) × IsClosureAt (B.meaning store.now) closure place parts }
+    ensures { IsRest (B.meaning store.now) closure at result }
+{
+    match store.captured(closure, at) {
+        None => Parts::Nothing,
+        Some(_) => Parts::Captured(closure, at),
+    }
+}
+
+// The first captured value from a number on, and the others.
+fn split_captured<B: Bindings>(store: &B, closure: Ref, at: u16) -> Option<Front>
+    requires { (place : ℕ) × (parts : Values) × IsClosureAt (B.meaning store.now) closure place parts }
+    ensures { SplitsInto (B.meaning store.now) (form.Captured closure at) result }
+{
+    match store.captured(closure, at) {
+        None => None,
+        Some(first) => Some(Front {
+            first,
+            rest: captured_from(store, closure, at + 1),
+        }),
+    }
+}
+
+/// The first of some values, and the others; none where there are none.
+pub fn split<B: Bindings>(store: &B, parts: Parts) -> Option<Front>
+    requires { AreIn (B.meaning store.now) parts }
+    ensures { SplitsInto (B.meaning store.now) parts result }
+{
+    match parts {
+        Parts::Nothing => None,
+        Parts::One(first) => Some(Front {
+            first,
+            rest: Parts::Nothing,
+        }),
+        Parts::Two(first, second) => Some(Front {
+            first,
+            rest: Parts::One(second),
+        }),
+        Parts::Captured(closure, at) => split_captured(store, closure, at),
+    }
+}
+
+/// The unbound variable that a value is.
+pub fn variable_of(view: View) -> Option<Ref>
+    ensures { IsVariable view result }
+{
+    match view {
+        View::Unbound(var) => Some(var),
+        _ => None,
+    }
+}
+
+/// The parts of a value; a variable has none.
+pub fn inner(view: View) -> Parts
+    ensures { (s : Store) (f : Label) (vs : Values) → Shows s (Node f vs) view → ShowsInner s vs result }
+{
+    match view {
+        View::Unbound(_) => Parts::Nothing,
+        View::Simple(_) => Parts::Nothing,
+        View::Pair(head, tail) => Parts::Two(head, tail),
+        View::Closure(_, closure) => Parts::Captured(closure, 0),
+        View::Unknown(_) => Parts::Nothing,
+    }
+}
+
+/// Whether an unbound variable stands in some values.
+pub fn occurs<B: Bindings>(store: &B, x: Ref, parts: Parts) -> bool
+    requires parts_in { AreIn (B.meaning store.now) parts }
+    requires x_in { (n : ℕ) × (B.meaning store.now).value x ≡ Some (Var n) }
+    ensures { (n : ℕ) → (B.meaning store.now).value x ≡ Some (Var n) → result ≡ any_contains n (all_resolved (B.meaning store.now).state.subst (values_of (B.meaning store.now) parts)) }
+{
+    let mut parts = parts;
+    'parts: loop {
+        match split(store, parts) {
+            None => return false,
+            Some(front) => match front.rest {
+                Parts::Nothing => {
+                    let view = store.walk(front.first);
+                    match variable_of(view) {
+                        Some(y) => return x.0 == y.0,
+                        None => parts = inner(view),
+                    }
+                }
+                _ => {
+                    if occurs(store, x, Parts::One(front.first)) {
+                        return true;
+                    }
+                    parts = front.rest;
+                }
+            },
+        }
+    }
+}
