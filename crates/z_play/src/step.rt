@@ -67,13 +67,15 @@ impl Engine {
         Ok(Act::Goes)
     }
 
-    #[inline]
+    #[inline(always)]
     fn do_call(&mut self, end: u32, store: Option<u8>, a: &Args) -> Result<Act, ZFault>
         requires { Sound self.old }
         ensures kept { Kept self.old self.new }
         ensures called { GivesAct result self.old.layout (machine self.new) (goes (called self.old.layout (machine self.old) end store a.now)) }
     {
-        self.call(end, store, a)?;
+        // A copy, so that the values need no place in memory where nothing is called.
+        let args = *a;
+        self.call(end, store, &args)?;
         Ok(Act::Goes)
     }
 
