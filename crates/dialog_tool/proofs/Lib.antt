@@ -1,4 +1,5 @@
-pub mod Numbers
+pub mod DigitLemmas
+pub mod DiceLemmas
 pub mod PlainText
 pub mod NamesLemmas
 pub mod BuiltLemmas
@@ -7,3 +8,5 @@ pub mod ReadLemmas
 pub mod ItemLemmas
 pub mod SourceLemmas
 pub mod AnswerLemmas
+pub mod PlayLemmas
+pub mod StoryLemmas

@@ -6,3 +6,4 @@ pub mod Plain
 pub mod Read
 pub mod Source
 pub mod Answers
+pub mod Playing

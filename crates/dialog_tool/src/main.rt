@@ -4,8 +4,11 @@
 mod adapters;
 mod command;
 mod items;
+mod lines;
 mod lowering;
+mod numbers;
 mod plain;
+mod playing;
 mod scan;
 mod source;
 mod tool;
