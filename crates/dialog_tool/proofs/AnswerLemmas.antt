@@ -81,5 +81,5 @@ source_faults told sure a a' b b' left behind dice old new name steps source is 
 pub file_faults : (told : Told) (sure : Bool) (a a' b b' : ℕ) (left behind : Option (List ℕ)) (dice : List ℕ) (old new : SinkView) (name : List ℕ) (steps : ℕ) → Rose a a' → (IsTrue sure → WhereTold told (λ contents. IsSome (contents name) → ⊥))
     → Wrote old new (Answers.file_fault_line name) ⊎ BrokeOff old new (Answers.file_fault_line name)
     → Answers.ShelfFailed (Some (debug name steps)) told sure a a' old new ⊎ (Answers.InputFailed (Some (debug name steps)) told b b' left behind dice old new ⊎ Answers.OutFailed (Some (debug name steps)) told left dice old new)
-file_faults told sure a a' b b' left behind dice old new name steps rose missing (inl wrote) = inl (record { rose = rose; name = name; steps = steps; file = refl; missing = missing; wrote = wrote })
-file_faults told sure a a' b b' left behind dice old new name steps rose missing (inr broke) = inr (inr (record { text = Answers.file_fault_line name; allowed = Answers.file_fault name steps refl refl; broke = broke }))
+file_faults told sure a a' b b' left behind dice old new name steps rose missing (inl wrote) = inl (record { rose = rose; name = name; file = refl; missing = missing; wrote = wrote })
+file_faults told sure a a' b b' left behind dice old new name steps rose missing (inr broke) = inr (inr (record { text = Answers.file_fault_line name; allowed = Answers.file_fault name refl refl; broke = broke }))

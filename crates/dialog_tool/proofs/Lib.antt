@@ -1,6 +1,9 @@
-pub mod Numbers
+pub mod DigitLemmas
+pub mod DiceLemmas
 pub mod PlainText
 pub mod NamesLemmas
 pub mod BuiltLemmas
 pub mod SourceLemmas
 pub mod AnswerLemmas
+pub mod PlayLemmas
+pub mod StoryLemmas

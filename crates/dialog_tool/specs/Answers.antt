@@ -13,7 +13,7 @@ use Rattle.dg_base.specs.declared.run.Outcome.{Outcome}
 use Rattle.dg_meaning.specs.Shows.{MayWrite, ShowsNoMemory}
 use Rattle.dg_meaning.specs.Transcript.{no_memory_line}
 use Rattle.dg_interp.specs.Interpret.{game, ForTyped, HasShown, HasLostInput, HasLostOutput, HasLostMemory}
-use Rattle.dialog_tool.specs.Command.{Command, debug, usage_line}
+use Rattle.dialog_tool.specs.Command.{Command, debug, play, usage_line}
 use Rattle.dialog_tool.specs.Source.{Compiles}
 
 -- ---- lines
@@ -51,16 +51,24 @@ limits_of steps = record { steps = steps; heap = 1000000; trail = 200000; aux = 
 
 -- ---- what the answers speak of
 
--- the words are a command, and this holds of its file's name, its steps and, where they are told, the file's contents
+-- the file that a command reads
+abbrev pub file_of : Option Command → Option (List ℕ)
+file_of None = None
+file_of (Some (debug name steps)) = Some name
+file_of (Some (play name steps dice)) = Some name
+
+-- the words run a source, and this holds of its file's name, its steps and, where they are told, the file's contents
 abbrev pub AtSource : Option Command → Told → (List ℕ → ℕ → List ℕ → Type 0) → Type 0
 AtSource None told P = ⊥
 AtSource (Some (debug name steps)) told P = WhereTold told (λ contents. P name steps (held (contents name)))
+AtSource (Some (play name steps dice)) told P = ⊥
 
--- where the words are a command and the contents of its file are told, this holds of them
+-- where the words run a source and the contents of its file are told, this holds of them
 abbrev pub IfSource : Option Command → Told → (List ℕ → ℕ → List ℕ → Type 0) → Type 0
 IfSource None told P = Unit {0}
 IfSource (Some (debug name steps)) None P = Unit {0}
 IfSource (Some (debug name steps)) (Some contents) P = P name steps (held (contents name))
+IfSource (Some (play name steps dice)) told P = Unit {0}
 
 -- ---- the answers
 
@@ -93,12 +101,11 @@ pub record IsCutOff (left left_behind : Option (List ℕ)) (dice : List ℕ) (ol
 pub record ShelfFailed (command : Option Command) (told : Told) (sure : Bool) (before after : ℕ) (old new : SinkView) : Type 0 where
   pub rose : Rose before after
   pub name : List ℕ
-  pub steps : ℕ
-  pub file : command ≡ Some (debug name steps)
+  pub file : file_of command ≡ Some name
   pub missing : IsTrue sure → WhereTold told (λ contents. IsSome (contents name) → ⊥)
   pub wrote : Wrote old new (file_fault_line name)
 
--- 5: the input failed
+-- 5: the input failed in a source's run
 pub record InputFailed (command : Option Command) (told : Told) (before after : ℕ) (left left_behind : Option (List ℕ)) (dice : List ℕ) (old new : SinkView) : Type 0 where
   pub rose : Rose before after
   pub cut_off : AtSource command told (IsCutOff left left_behind dice old new)
@@ -115,12 +122,12 @@ pub record IsRefusalLine (text : List ℕ) (name : List ℕ) (steps : ℕ) (sour
   pub compiles : Compiles source (Err refusal)
   pub is : text ≡ refusal_line name refusal
 
--- the texts that a call may be writing
+-- the texts that a call may be writing, but for those of a story
 pub data MayPrint (command : Option Command) (told : Told) (left : Option (List ℕ)) (dice text : List ℕ) : Type 0 where
   usage : command ≡ None → text ≡ usage_line → MayPrint command told left dice text
   refusal : AtSource command told (IsRefusalLine text) → MayPrint command told left dice text
   shown : AtSource command told (MayShow left dice text) → MayPrint command told left dice text
-  file_fault : (name : List ℕ) → (steps : ℕ) → command ≡ Some (debug name steps) → text ≡ file_fault_line name → MayPrint command told left dice text
+  file_fault : (name : List ℕ) → file_of command ≡ Some name → text ≡ file_fault_line name → MayPrint command told left dice text
   no_memory : text ≡ no_memory_line → MayPrint command told left dice text
 
 -- 5: out failed within such a text, of which it took a front; where it told a room, the text is longer

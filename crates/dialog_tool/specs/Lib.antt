@@ -4,3 +4,4 @@ pub mod Scan
 pub mod Plain
 pub mod Source
 pub mod Answers
+pub mod Playing

@@ -1,4 +1,6 @@
 // Whole calls, over the forms in memory. The expected texts are worked out by hand from the rules of the language.
+ghost use Rattle.std.specs.Prelude.{◌≡◌, IfOk, length};
+
 use crate::adapters::{StdinSource, StdoutSink};
 use crate::tool::tool;
 use dg_base::{ByteSink, ByteSource, MapShelf, Sink, Source, SureShelf, SureSink, SureSource};
@@ -14,17 +16,18 @@ fn words(alloc: Global, line: &str) -> Result<Vec<String>, Fail> {
     Ok(words)
 }
 
-// Runs a source in the file p.dg, and compares the status and all that was written.
+// Calls the tool with this one file, and compares the status and all that was written.
 fn gives(
     rt: &impl Abort,
     alloc: Global,
     line: &str,
-    source: &str,
+    name: &str,
+    file: &[u8],
     status: u8,
     text: &str,
 ) -> Result<(), Fail> {
     let mut shelf = SureShelf::new(alloc);
-    shelf.add(alloc, "p.dg", source.as_bytes())?;
+    shelf.add(alloc, name, file)?;
     let mut input = SureSource::new(Vec::new(alloc));
     let mut out = SureSink::new(alloc, 200)?;
     let found = tool(
@@ -35,8 +38,8 @@ fn gives(
         &mut out,
         &[0],
     );
-    assert_eq!(rt; found, status, "{source}");
-    assert_eq!(rt; out.taken(), text.as_bytes(), "{source}");
+    assert_eq!(rt; found, status, "{line}: {text}");
+    assert_eq!(rt; out.taken(), text.as_bytes(), "{line}: {text}");
     Ok(())
 }
 
@@ -97,11 +100,113 @@ fn sources_give_their_transcript_or_their_refusal(rt: HostRuntime) -> Result<(),
         ("debug", "", 2, USAGE),
         ("debug p.dg --steps 0", ORDER, 2, USAGE),
         ("debug p.dg --steps 1000000000001", ORDER, 2, USAGE),
-        ("play p.dg", ORDER, 2, USAGE),
+        ("build p.dg p.z8", ORDER, 2, USAGE),
+        ("play p.dg", ORDER, 4, "p.dg: story too short\n"),
     ];
     for (line, source, status, text) in cases {
-        gives(&rt, rt.alloc(), line, source, status, text)?;
+        gives(
+            &rt,
+            rt.alloc(),
+            line,
+            "p.dg",
+            source.as_bytes(),
+            status,
+            text,
+        )?;
     }
+    Ok(())
+}
+
+// A story of 552 bytes whose first instructions these are.
+fn story(alloc: Global, code: [u8; 8]) -> Result<Vec<u8>, Fail>
+    ensures { IfOk result (λ bytes. length bytes.items ≡ 552) }
+{
+    let mut bytes = vec![in alloc; 0u8; 544]?;
+    bytes[0] = 8;
+    bytes[0x06] = 2;
+    bytes[0x07] = 32;
+    bytes[0x0D] = 64;
+    bytes[0x0E] = 2;
+    bytes[0x0F] = 32;
+    bytes[0x1B] = 69;
+    bytes.extend_from_slice(&code)?;
+    Ok(bytes)
+}
+
+// print "hi"; new_line; quit
+const HI: [u8; 8] = [0xB2, 0xB5, 0xC5, 0xBB, 0xBA, 0, 0, 0];
+
+// random 6 -> g0; print_num g0; quit
+const THROW: [u8; 8] = [0xE7, 0x7F, 0x06, 0x10, 0xE6, 0xBF, 0x10, 0xBA];
+
+// print "hi"; aread 256 -> g0
+const ASK: [u8; 8] = [0xB2, 0xB5, 0xC5, 0xE4, 0x3F, 0x01, 0x00, 0x10];
+
+#[test]
+fn stories_are_played(rt: HostRuntime) -> Result<(), Fail> {
+    let nothing = [0, 0xB5, 0xC5, 0xBB, 0xBA, 0, 0, 0];
+    let cases = [
+        ("play s.z8", HI, 0, "hi\n"),
+        ("play s.z8", nothing, 4, "[Broken: 50 at 544]\n"),
+        ("play s.z8 --steps 2", HI, 3, "hi\n[Step limit]\n"),
+        ("play s.z8 --steps 3", HI, 0, "hi\n"),
+        ("play s.z8", THROW, 0, "1"),
+        ("play s.z8 --dice 65535", THROW, 0, "4"),
+        ("play s.z8 --dice 007,0 --steps 3", THROW, 0, "2"),
+        ("play s.z8 --steps 3 --dice 1", THROW, 0, "2"),
+        ("play s.z8", ASK, 0, "hi\n[End of input]\n"),
+        ("play s.z8 --dice 65536", HI, 2, USAGE),
+        ("play s.z8 --dice 1,,2", HI, 2, USAGE),
+        ("play s.z8 --dice 1,", HI, 2, USAGE),
+        ("play s.z8 --dice", HI, 2, USAGE),
+        ("play s.z8 --dice 1 --dice 1", HI, 2, USAGE),
+        ("play s.z8 --steps 1 --steps 1", HI, 2, USAGE),
+    ];
+    for (line, code, status, text) in cases {
+        let file = story(rt.alloc(), code)?;
+        gives(&rt, rt.alloc(), line, "s.z8", &file, status, text)?;
+    }
+    Ok(())
+}
+
+#[test]
+fn files_that_are_no_stories_are_refused(rt: HostRuntime) -> Result<(), Fail> {
+    let alloc = rt.alloc();
+    let short = vec![in alloc; 8u8; 63]?;
+    let old = vec![in alloc; 3u8; 64]?;
+    let mut high = story(alloc, HI)?;
+    high[0x0F] = 63;
+    let mut long = story(alloc, HI)?;
+    long[0x1B] = 70;
+    let huge = vec![in alloc; 0u8; 524_289]?;
+    let cases = [
+        (&short, "s.z8: story too short\n"),
+        (&old, "s.z8: story version is not 8\n"),
+        (&high, "s.z8: story map is wrong\n"),
+        (&long, "s.z8: story length is wrong\n"),
+        (&huge, "s.z8: story length is wrong\n"),
+    ];
+    for (file, text) in cases {
+        gives(&rt, alloc, "play s.z8", "s.z8", file, 4, text)?;
+    }
+    Ok(())
+}
+
+#[test]
+fn faults_end_a_story(rt: HostRuntime) -> Result<(), Fail> {
+    let alloc = rt.alloc();
+    let play = words(alloc, "play s.z8")?;
+    let mut shelf = SureShelf::new(alloc);
+    shelf.add(alloc, "s.z8", &story(alloc, ASK)?)?;
+    let mut input = ByteSource::new(Vec::new(alloc), vec![in alloc; 0]?);
+    let mut out = SureSink::new(alloc, 99)?;
+    let status = tool(alloc, &play, &mut shelf, &mut input, &mut out, &[0]);
+    assert_eq!(rt; status, 5);
+    assert_eq!(rt; out.taken(), b"hi\n[Input fault]\n".as_slice());
+    let mut small = SureSink::new(alloc, 1)?;
+    let status = tool(alloc, &play, &mut shelf, &mut input, &mut small, &[0]);
+    assert_eq!(rt; status, 5);
+    assert_eq!(rt; small.taken(), b"h".as_slice());
     Ok(())
 }
 

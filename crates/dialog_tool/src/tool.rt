@@ -1,100 +1,25 @@
 // The top call: what the words of a command line ask for is done, and the exit status says how it went.
-ghost use Rattle.std.specs.Prelude.{◌≡◌, ◌⊎◌, ◌<◌, ◌≤◌, length, None, Some, Ok, Err, OnOk, OnErr, IfOk, IfErr, string_bytes};
-ghost use Rattle.dg_base.specs.Causes.{Rose};
+ghost use Rattle.std.specs.Prelude.{◌≡◌, ◌⊎◌, ◌<◌, ◌≤◌, length, None, Some, Ok, Err};
 ghost use Rattle.dg_base.specs.Shelves.{KeepsAll};
-ghost use Rattle.dg_base.specs.Written.{view, Wrote, BrokeOff};
-ghost use Rattle.dg_meaning.specs.Transcript.{no_memory_line};
-ghost use Rattle.dialog_tool.specs.Command.{texts, command_of, debug as debug_command, usage_line};
+ghost use Rattle.dg_base.specs.Written.{view};
+ghost use Rattle.z_model.specs.Story.{refusal_of};
+ghost use Rattle.dialog_tool.specs.Command.{texts, command_of, debug as debug_command};
 ghost use Rattle.dialog_tool.specs.Source.{Compiles};
 ghost use Rattle.dg_meaning.specs.Built.{IsBuilt};
 ghost use Rattle.dialog_tool.specs.Plain.{refusal_at};
-ghost use Rattle.dialog_tool.specs.Answers.{status_of, limits_of, Shown, LostInput, LostMemory, LostOutput, SourceLostInput, SourceLostOutput, SourceLostMemory, refusal_line, file_fault_line, Comes, AtSource, IfSource, IsUsage, IsRefused, IsRun, ShelfFailed, InputFailed, OutFailed, NoMemory};
+ghost use Rattle.dialog_tool.specs.Answers.{status_of, limits_of, Shown, LostInput, LostMemory, LostOutput, SourceLostInput, SourceLostOutput, SourceLostMemory, Comes, AtSource, IfSource, IsUsage, IsRefused, IsRun, ShelfFailed, InputFailed, OutFailed, NoMemory};
+ghost use Rattle.dialog_tool.specs.Playing.{status_of_end, AtStory, IfStory, WhereTyped, run_of, IsNoStory, IsPlayed, StoryInputFailed, StoryOutFailed};
 
 use crate::command::{Command, command_of};
+use crate::lines::{DONE, FAULT, LIMIT, NO_MEMORY, file_fault, no_memory, refuse, usage};
+use crate::playing::{play, thrown};
 use crate::source::compile;
 use dg_base::{
     CoreProgram, Ending, Kind, Limits, ReadFault, Refusal, RunFault, Shelf, ShelfFault, Sink,
-    Source, text_of, write_all, write_both,
+    Source,
 };
 use dg_interp::interpret;
-use std::alloc::{AllocError, Global};
-
-const DONE: u8 = 0;
-
-const REFUSED: u8 = 1;
-
-const USAGE: u8 = 2;
-
-const LIMIT: u8 = 3;
-
-const FAULT: u8 = 5;
-
-const NO_MEMORY: u8 = 6;
-
-const USAGE_LINE: &[u8] =
-    b"usage: dialog debug FILE, build FILE OUT, play STORY, run FILE, singles FILE, make N\n";
-
-fn refusal_text(alloc: Global, name: &str, refusal: &Refusal) -> Result<String, AllocError>
-    ensures { IfOk result (λ line. string_bytes line ≡ refusal_line name.now refusal.now) }
-{
-    let line = refusal.line;
-    let text = text_of(refusal.kind);
-    format!(in alloc; "{name}:{line}: {text}\n")
-}
-
-// Writes the line on want of memory.
-fn no_memory<K: Sink>(out: &mut K) -> u8
-    ensures statuses { (result ≡ 5) ⊎ (result ≡ 6) }
-    ensures line { result ≡ 6 → Wrote (view (K.taken out.old) (K.room out.old) (K.faults out.old)) (view (K.taken out.new) (K.room out.new) (K.faults out.new)) no_memory_line }
-    ensures fault { result ≡ 5 → BrokeOff (view (K.taken out.old) (K.room out.old) (K.faults out.old)) (view (K.taken out.new) (K.room out.new) (K.faults out.new)) no_memory_line }
-{
-    match write_all(out, b"[No memory]\n") {
-        Ok(()) => NO_MEMORY,
-        Err(_) => FAULT,
-    }
-}
-
-// Writes the line of a refusal.
-fn refuse<K: Sink>(alloc: Global, name: &str, refusal: &Refusal, out: &mut K) -> u8
-    ensures statuses { Comes 1 result }
-    ensures line { result ≡ 1 → Wrote (view (K.taken out.old) (K.room out.old) (K.faults out.old)) (view (K.taken out.new) (K.room out.new) (K.faults out.new)) (refusal_line name.now refusal.now) }
-    ensures memory { result ≡ 6 → Wrote (view (K.taken out.old) (K.room out.old) (K.faults out.old)) (view (K.taken out.new) (K.room out.new) (K.faults out.new)) no_memory_line }
-    ensures fault { result ≡ 5 →
-        BrokeOff (view (K.taken out.old) (K.room out.old) (K.faults out.old)) (view (K.taken out.new) (K.room out.new) (K.faults out.new)) (refusal_line name.now refusal.now)
-        ⊎ BrokeOff (view (K.taken out.old) (K.room out.old) (K.faults out.old)) (view (K.taken out.new) (K.room out.new) (K.faults out.new)) no_memory_line }
-{
-    match refusal_text(alloc, name, refusal) {
-        Ok(line) => match write_all(out, line.as_bytes()) {
-            Ok(()) => REFUSED,
-            Err(_) => FAULT,
-        },
-        Err(_) => no_memory(out),
-    }
-}
-
-// Writes the line of a file that failed.
-fn file_fault<K: Sink>(name: &str, out: &mut K) -> u8
-    ensures statuses { result ≡ 5 }
-    ensures line { Wrote (view (K.taken out.old) (K.room out.old) (K.faults out.old)) (view (K.taken out.new) (K.room out.new) (K.faults out.new)) (file_fault_line name.now)
-        ⊎ BrokeOff (view (K.taken out.old) (K.room out.old) (K.faults out.old)) (view (K.taken out.new) (K.room out.new) (K.faults out.new)) (file_fault_line name.now) }
-{
-    match write_both(out, name.as_bytes(), b": file fault\n") {
-        Ok(()) => FAULT,
-        Err(_) => FAULT,
-    }
-}
-
-// Writes the line on words that are no command.
-fn usage<K: Sink>(out: &mut K) -> u8
-    ensures statuses { (result ≡ 2) ⊎ (result ≡ 5) }
-    ensures line { result ≡ 2 → Wrote (view (K.taken out.old) (K.room out.old) (K.faults out.old)) (view (K.taken out.new) (K.room out.new) (K.faults out.new)) usage_line }
-    ensures fault { result ≡ 5 → BrokeOff (view (K.taken out.old) (K.room out.old) (K.faults out.old)) (view (K.taken out.new) (K.room out.new) (K.faults out.new)) usage_line }
-{
-    match write_all(out, USAGE_LINE) {
-        Ok(()) => USAGE,
-        Err(_) => FAULT,
-    }
-}
+use std::alloc::Global;
 
 fn status_of(ending: Ending) -> u8
     ensures { result ≡ status_of ending }
@@ -216,7 +141,8 @@ fn too_long() -> Refusal
 }
 
 /// Does what the words behind the program's name ask for, and answers the exit status: 0 the run ended, 1 the source is refused,
-/// 2 the words are no command, 3 a limit was met, 5 the shelf, the input or the output failed, 6 memory ran out.
+/// 2 the words are no command, 3 a limit was met, 4 the story is refused or broke, 5 the shelf, the input or the output failed,
+/// 6 memory ran out.
 pub fn tool<F: Shelf, S: Source, K: Sink>(
     alloc: Global,
     words: &[String],
@@ -226,7 +152,7 @@ pub fn tool<F: Shelf, S: Source, K: Sink>(
     dice: &[u16],
 ) -> u8
     requires { 0 < length dice.now }
-    ensures statuses { (result ≡ 0) ⊎ ((result ≡ 1) ⊎ ((result ≡ 2) ⊎ Comes 3 result)) }
+    ensures statuses { (result ≡ 0) ⊎ ((result ≡ 1) ⊎ ((result ≡ 2) ⊎ ((result ≡ 3) ⊎ Comes 4 result))) }
 
     // 2 comes exactly where the words are no command.
     ensures usage { result ≡ 2 → IsUsage (command_of (texts words.now)) (view (K.taken out.old) (K.room out.old) (K.faults out.old)) (view (K.taken out.new) (K.room out.new) (K.faults out.new)) }
@@ -235,17 +161,33 @@ pub fn tool<F: Shelf, S: Source, K: Sink>(
     // 1 comes exactly where the source is refused; 0 and 3 where it is a program.
     ensures refused { result ≡ 1 → AtSource (command_of (texts words.now)) (F.contents shelf.old) (IsRefused (view (K.taken out.old) (K.room out.old) (K.faults out.old)) (view (K.taken out.new) (K.room out.new) (K.faults out.new))) }
     ensures refuses { IfSource (command_of (texts words.now)) (F.contents shelf.old) (λ name steps source. (r : _) → Compiles source (Err r) → Comes 1 result) }
-    ensures ran { (result ≡ 0) ⊎ (result ≡ 3) → AtSource (command_of (texts words.now)) (F.contents shelf.old) (IsRun result (S.left input.old) (S.left input.new) dice.now (view (K.taken out.old) (K.room out.old) (K.faults out.old)) (view (K.taken out.new) (K.room out.new) (K.faults out.new))) }
+    ensures ran { (result ≡ 0) ⊎ (result ≡ 3) →
+        AtSource (command_of (texts words.now)) (F.contents shelf.old) (IsRun result (S.left input.old) (S.left input.new) dice.now (view (K.taken out.old) (K.room out.old) (K.faults out.old)) (view (K.taken out.new) (K.room out.new) (K.faults out.new)))
+        ⊎ AtStory (command_of (texts words.now)) (F.contents shelf.old) dice.now (IsPlayed result (S.left input.old) (S.left input.new) (view (K.taken out.old) (K.room out.old) (K.faults out.old)) (view (K.taken out.new) (K.room out.new) (K.faults out.new))) }
     ensures runs { IfSource (command_of (texts words.now)) (F.contents shelf.old) (λ name steps source. (p : _) → Compiles source (Ok p) → (result ≡ 0) ⊎ Comes 3 result) }
+
+    // 4 comes exactly where the file is no story and where its run breaks; 0 and 3 where the run ends so.
+    ensures story { result ≡ 4 → AtStory (command_of (texts words.now)) (F.contents shelf.old) dice.now (λ p. IsNoStory (view (K.taken out.old) (K.room out.old) (K.faults out.old)) (view (K.taken out.new) (K.room out.new) (K.faults out.new)) p ⊎ IsPlayed 4 (S.left input.old) (S.left input.new) (view (K.taken out.old) (K.room out.old) (K.faults out.old)) (view (K.taken out.new) (K.room out.new) (K.faults out.new)) p) }
+    ensures no_story { IfStory (command_of (texts words.now)) (F.contents shelf.old) dice.now (λ p. (refusal : _) → refusal_of p.file ≡ Some refusal → Comes 4 result) }
+    ensures plays { IfStory (command_of (texts words.now)) (F.contents shelf.old) dice.now (λ p. refusal_of p.file ≡ None → WhereTyped (S.left input.old) (λ typed. Comes (status_of_end (run_of p typed p.steps).end) result)) }
+
     ensures memory { result ≡ 6 → NoMemory (command_of (texts words.now)) (F.contents shelf.old) (S.left input.old) dice.now (view (K.taken out.old) (K.room out.old) (K.faults out.old)) (view (K.taken out.new) (K.room out.new) (K.faults out.new)) }
     ensures fault { result ≡ 5 →
         ShelfFailed (command_of (texts words.now)) (F.contents shelf.old) (F.sure shelf.old) (F.faults shelf.old) (F.faults shelf.new) (view (K.taken out.old) (K.room out.old) (K.faults out.old)) (view (K.taken out.new) (K.room out.new) (K.faults out.new))
         ⊎ (InputFailed (command_of (texts words.now)) (F.contents shelf.old) (S.faults input.old) (S.faults input.new) (S.left input.old) (S.left input.new) dice.now (view (K.taken out.old) (K.room out.old) (K.faults out.old)) (view (K.taken out.new) (K.room out.new) (K.faults out.new))
-        ⊎ OutFailed (command_of (texts words.now)) (F.contents shelf.old) (S.left input.old) dice.now (view (K.taken out.old) (K.room out.old) (K.faults out.old)) (view (K.taken out.new) (K.room out.new) (K.faults out.new))) }
+        ⊎ (OutFailed (command_of (texts words.now)) (F.contents shelf.old) (S.left input.old) dice.now (view (K.taken out.old) (K.room out.old) (K.faults out.old)) (view (K.taken out.new) (K.room out.new) (K.faults out.new))
+        ⊎ (StoryInputFailed (command_of (texts words.now)) (F.contents shelf.old) (S.faults input.old) (S.faults input.new) (S.left input.old) (S.left input.new) dice.now (view (K.taken out.old) (K.room out.old) (K.faults out.old)) (view (K.taken out.new) (K.room out.new) (K.faults out.new))
+        ⊎ StoryOutFailed (command_of (texts words.now)) (F.contents shelf.old) (S.left input.old) dice.now (view (K.taken out.old) (K.room out.old) (K.faults out.old)) (view (K.taken out.new) (K.room out.new) (K.faults out.new))))) }
     ensures kept { KeepsAll (F.contents shelf.old) (F.contents shelf.new) }
 {
-    match command_of(words) {
-        Some(Command::Debug { name, steps }) => debug(alloc, name, steps, shelf, input, dice, out),
-        None => usage(out),
+    match command_of(alloc, words) {
+        Ok(Some(Command::Debug { name, steps })) => {
+            debug(alloc, name, steps, shelf, input, dice, out)
+        }
+        Ok(Some(Command::Play { name, steps, own })) => {
+            play(alloc, name, steps, thrown(&own, dice), shelf, input, out)
+        }
+        Ok(None) => usage(out),
+        Err(_) => no_memory(out),
     }
 }

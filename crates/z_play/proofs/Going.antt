@@ -17,8 +17,8 @@ use Rattle.z_play.specs.Scene.{Scene, scene, state, next_of, IsBeyond, Came, Cut
 use Rattle.z_play.specs.Acting.{text_of, Finished, Unfinished}
 use Rattle.z_play.specs.Advancing.{next_from, Advances, RanTo, RanUnread, RunsOn}
 use Rattle.z_play.specs.Played.{HasCauses}
-use Rattle.z_play.specs.declared.player.Fault.{Fault}
-use Rattle.z_play.specs.declared.player.Fault.TheVariants.{Read, Write}
+use Rattle.dg_base.specs.declared.run.Fault.{Fault}
+use Rattle.dg_base.specs.declared.run.Fault.TheVariants.{Read, Write}
 use Rattle.dg_base.specs.Causes.{Rose}
 use Rattle.z_play.proofs.Finishing.{finishes}
 use Rattle.z_play.proofs.Texts.{open_both}

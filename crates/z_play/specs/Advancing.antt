@@ -7,8 +7,8 @@ use Rattle.z_model.specs.Run.{World, ZState, Next, Run, zstep, zrun}
 use Rattle.z_play.specs.Output.{Wrote, Cut}
 use Rattle.z_play.specs.Played.{StoppedAt}
 use Rattle.z_play.specs.Scene.{Scene, state, Came, CutOff, Unread}
-use Rattle.z_play.specs.declared.player.Fault.{Fault}
-use Rattle.z_play.specs.declared.player.Fault.TheVariants.{Read, Write}
+use Rattle.dg_base.specs.declared.run.Fault.{Fault}
+use Rattle.dg_base.specs.declared.run.Fault.TheVariants.{Read, Write}
 
 -- what the next instruction comes to
 abbrev pub next_from : World → Scene → List ℕ → List ℕ → Next

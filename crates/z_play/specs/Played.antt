@@ -6,8 +6,8 @@ use Rattle.z_model.specs.declared.end.ZEnd.TheVariants as ends
 use Rattle.z_model.specs.Run.{World, ZState, Run, zrun}
 use Rattle.z_model.specs.Closing.{transcript, with_end_line, input_fault_line}
 use Rattle.z_play.specs.Output.{Seen, Wrote, Cut}
-use Rattle.z_play.specs.declared.player.Fault.{Fault}
-use Rattle.z_play.specs.declared.player.Fault.TheVariants.{Read, Write}
+use Rattle.dg_base.specs.declared.run.Fault.{Fault}
+use Rattle.dg_base.specs.declared.run.Fault.TheVariants.{Read, Write}
 
 -- The run ended so; the sink took its output and the line of its end, and the typed bytes are left that it leaves.
 pub record Shows (r : Run) (end : ZEnd) (left : Option (List ℕ)) (old new : Seen) : Type 0 where

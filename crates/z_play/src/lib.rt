@@ -13,4 +13,4 @@ mod tests;
 mod text;
 mod typed;
 
-pub use player::{Fault, LoadFault, Player};
+pub use player::{LoadFault, Player};

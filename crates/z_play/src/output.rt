@@ -20,14 +20,10 @@ pub fn write_all<K: Sink>(sink: &mut K, text: &[u8]) -> Result<(), Failed>
     ensures err { OnErr result (Cut (seen (K.taken sink.old) (K.room sink.old)) (seen (K.taken sink.new) (K.room sink.new)) text.now) }
     ensures cause { HasCause (K.faults sink.old) (K.faults sink.new) result }
 {
-    let mut done = 0;
-    while done < text.len() {
-        match sink.put(&text[done..]) {
-            Ok(count) => done += count,
-            Err(_) => return Err(Failed),
-        }
+    match dg_base::write_all(sink, text) {
+        Ok(()) => Ok(()),
+        Err(_) => Err(Failed),
     }
-    Ok(())
 }
 
 /// Whether a line is begun behind a text.

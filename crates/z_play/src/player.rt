@@ -17,7 +17,7 @@ ghost use Rattle.dg_base.specs.Causes.{HasCause};
 use crate::engine::{Called, Engine};
 use crate::output::{write_all, write_code, write_line, write_number, write_text, write_unicode};
 use crate::typed::take_line;
-use dg_base::{Failed, Sink, Source};
+use dg_base::{Failed, Fault, Sink, Source};
 use itoa::Buffer;
 use std::alloc::{AllocError, Global};
 use std::marker::Model;
@@ -31,15 +31,6 @@ pub enum LoadFault {
     Refused(StoryRefusal),
     #[error("out of memory")]
     OutOfMemory,
-}
-
-/// Why a run was broken off.
-#[derive(Clone, Copy, Debug, PartialEq, Eq, Error)]
-pub enum Fault {
-    #[error("the input failed")]
-    Read,
-    #[error("the output failed")]
-    Write,
 }
 
 /// A story, and all the memory of its runs.

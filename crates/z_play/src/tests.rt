@@ -1,6 +1,6 @@
 // Small stories.
 use super::*;
-use dg_base::{ByteSink, ByteSource, SureSink, SureSource};
+use dg_base::{Fault, SureSink, SureSource};
 use std::test::Fail;
 use z_model::{ZEnd, ZFault};
 

@@ -8,8 +8,8 @@ use Rattle.z_play.specs.Output.{seen}
 use Rattle.z_play.specs.Scene.{scene, world}
 use Rattle.z_play.specs.Advancing.{RunsOn}
 use Rattle.z_play.specs.Played.{Plays}
-use Rattle.z_play.specs.declared.player.Fault.{Fault}
-use Rattle.z_play.specs.declared.player.Fault.TheVariants.{Read, Write}
+use Rattle.dg_base.specs.declared.run.Fault.{Fault}
+use Rattle.dg_base.specs.declared.run.Fault.TheVariants.{Read, Write}
 use Rattle.z_play.proofs.Lines.{quit_shows, end_shows, end_cut, run_cut_short, fault_shows, fault_cut, start_is, world_is}
 use Rattle.z_play.proofs.player.Player.run.Goals as goal
 use Rattle.z_play.proofs.player.Player.run.Goals.{in-Ok+in-Quit, in-Ok+in_default+in-Ok-close, in-Ok+in_default+in-Err, in-Err-Read+in-Ok-close_failed, in-Err-Read+in-Err-close_failed, in-Err-Write}

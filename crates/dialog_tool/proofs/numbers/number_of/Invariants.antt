@@ -1,6 +1,6 @@
 use Rattle.std.proofs.Common.{◌≡◌, ◌≤◌, ◌+◌, ◌*◌, drop}
 use Rattle.dialog_tool.specs.Command.{are_digits, value_behind}
-use Rattle.dialog_tool.proofs.command.number_to.Given as goal
+use Rattle.dialog_tool.proofs.numbers.number_of.Given as goal
 
 abbrev pub invariant-loop-c : goal.invariant-loop-c
 invariant-loop-c l = record {

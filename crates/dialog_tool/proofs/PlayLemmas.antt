@@ -1,0 +1,129 @@
+-- From the answers of a player on a loaded story to those on its file.
+use Rattle.std.proofs.Common.{◌≡◌, ◌≤◌, ◌+◌, ◌⊎◌, inl, inr, ℕ, List, Option, Some, None, Ok, Err, refl, ◌∙◌, ap, subst}
+use Rattle.dg_base.specs.Causes.{Rose}
+use Rattle.dg_base.specs.Written as base
+use Rattle.dg_base.specs.declared.run.Fault.{Fault}
+use Rattle.dg_base.specs.declared.run.Fault.TheVariants.{Read, Write}
+use Rattle.z_model.specs.declared.end.ZEnd.{ZEnd}
+use Rattle.z_model.specs.Run.{Run, zrun}
+use Rattle.z_model.specs.Closing.{transcript, with_end_line, input_fault_line}
+use Rattle.z_model.specs.Story.{story_run, world_of, start_state}
+use Rattle.z_play.specs.Output as player
+use Rattle.z_play.specs.Played.{Plays, Shows, StoppedAt, InputFailed, InputFailedUnwritten, HasCauses}
+use Rattle.z_play.specs.Ready.{IsLoaded}
+use Rattle.dialog_tool.specs.Answers.{Comes}
+use Rattle.dialog_tool.specs.Playing
+
+-- ---- what a sink took
+
+wrote : (t t' : Option (List ℕ)) (r r' : Option ℕ) (f f' : ℕ) (text : List ℕ) → f ≤ f' → player.Wrote (player.seen t r) (player.seen t' r') text → base.Wrote (base.view t r f) (base.view t' r' f') text
+wrote t t' r r' f f' text later h = record { taken = h.taken; room = h.room; later = later }
+
+broke : (t t' : Option (List ℕ)) (r r' : Option ℕ) (f f' : ℕ) (text : List ℕ) → f ≤ f' → Rose f f' → player.Cut (player.seen t r) (player.seen t' r') text → base.BrokeOff (base.view t r f) (base.view t' r' f') text
+broke t t' r r' f f' text later rose h = record { later = later; rose = rose; part = h.front; rest = h.rest; is = h.is; taken = h.taken; over = h.room }
+
+-- ---- runs of a loaded story
+
+same_run : (file story : List ℕ) → IsLoaded file story → (typed dice : List ℕ) (n : ℕ) → zrun (world_of story dice) n (start_state story typed) ≡ story_run file typed dice n
+unfolding story_run
+same_run file story h typed dice n = h.runs typed dice n
+
+same_zrun : (file story : List ℕ) → IsLoaded file story → (typed dice : List ℕ) (n : ℕ) → zrun (world_of story dice) n (start_state story typed) ≡ zrun (world_of file dice) n (start_state file typed)
+unfolding story_run
+same_zrun file story h typed dice n = h.runs typed dice n
+
+same_stop : (file story : List ℕ) → IsLoaded file story → (typed dice : List ℕ) (n m : ℕ) (rest : List ℕ) → StoppedAt (world_of story dice) (start_state story typed) n m rest → StoppedAt (world_of file dice) (start_state file typed) n m rest
+same_stop file story h typed dice n m rest s =
+    let now = same_zrun file story h typed dice m in
+    let next = same_zrun file story h typed dice (m + 1) in
+    record {
+      below = s.below;
+      limit = rw (← now) s.limit;
+      within = rw (← now) s.within;
+      beyond = rw (← now, ← next) s.beyond;
+    }
+
+-- ---- answers
+
+-- the run ended
+pub ended : (name : List ℕ) (steps : ℕ) (dice file story typed : List ℕ) (end : ZEnd) (left' t t' : Option (List ℕ)) (r r' : Option ℕ) (f f' : ℕ) → IsLoaded file story → f ≤ f'
+    → Shows (zrun (world_of story dice) steps (start_state story typed)) end left' (player.seen t r) (player.seen t' r')
+    → Playing.HasPlayed (Playing.status_of_end end) left' (base.view t r f) (base.view t' r' f') (Playing.run_of (Playing.as_played name steps dice file) typed steps)
+ended name steps dice file story typed end left' t t' r r' f f' h later s =
+    let same = same_run file story h typed dice steps in
+    record {
+      is_status = ap Playing.status_of_end (s.ends ∙ ap (λ (x : Run). x.end) same);
+      left_is = s.left_is ∙ ap (λ (x : Run). Some x.state.typed) same;
+      wrote = wrote t t' r r' f f' _ later (subst (λ (x : Run). player.Wrote (player.seen t r) (player.seen t' r') (transcript x)) same s.wrote);
+    }
+
+-- the input failed
+pub cut_off : (name : List ℕ) (steps : ℕ) (dice file story typed : List ℕ) (left' t t' : Option (List ℕ)) (r r' : Option ℕ) (f f' : ℕ) → IsLoaded file story → f ≤ f'
+    → InputFailed (world_of story dice) (start_state story typed) steps left' (player.seen t r) (player.seen t' r')
+    → Playing.HasCutOff left' (base.view t r f) (base.view t' r' f') (Playing.as_played name steps dice file) typed
+cut_off name steps dice file story typed left' t t' r r' f f' h later s =
+    let same = same_run file story h typed dice s.m in
+    record {
+      m = s.m;
+      rest = s.rest;
+      left_is = s.left_is;
+      stopped = same_stop file story h typed dice steps s.m s.rest s.stopped;
+      wrote = wrote t t' r r' f f' _ later (subst (λ (x : Run). player.Wrote (player.seen t r) (player.seen t' r') (with_end_line x.state.output input_fault_line)) same s.wrote);
+    }
+
+-- out failed
+pub lost_run : (name : List ℕ) (steps : ℕ) (dice file story typed : List ℕ) (left' t t' : Option (List ℕ)) (r r' : Option ℕ) (f f' : ℕ) → IsLoaded file story → f ≤ f' → Rose f f'
+    → player.Cut (player.seen t r) (player.seen t' r') (transcript (zrun (world_of story dice) steps (start_state story typed))) ⊎ InputFailedUnwritten (world_of story dice) (start_state story typed) steps left' (player.seen t r) (player.seen t' r')
+    → Playing.LosesRun (base.view t r f) (base.view t' r' f') (Playing.as_played name steps dice file) typed
+lost_run name steps dice file story typed left' t t' r r' f f' h later rose (inl s) =
+    let same = same_run file story h typed dice steps in
+    record {
+      text = transcript (story_run file typed dice steps);
+      allowed = Playing.whole refl;
+      broke = broke t t' r r' f f' _ later rose (subst (λ (x : Run). player.Cut (player.seen t r) (player.seen t' r') (transcript x)) same s);
+    }
+lost_run name steps dice file story typed left' t t' r r' f f' h later rose (inr s) =
+    let same = same_run file story h typed dice s.m in
+    record {
+      text = with_end_line (story_run file typed dice s.m).state.output input_fault_line;
+      allowed = Playing.cut_off s.m s.rest (same_stop file story h typed dice steps s.m s.rest s.stopped) refl;
+      broke = broke t t' r r' f f' _ later rose (subst (λ (x : Run). player.Cut (player.seen t r) (player.seen t' r') (with_end_line x.state.output input_fault_line)) same s.cut);
+    }
+
+-- ---- from a player's call to the answers on its file
+
+pub run_ended : (name : List ℕ) (steps : ℕ) (dice file story : List ℕ) (end : ZEnd) (left left' t t' : Option (List ℕ)) (r r' : Option ℕ) (f f' : ℕ) → IsLoaded file story → f ≤ f'
+    → ((typed : List ℕ) → left ≡ Some typed → Plays (Ok end) (world_of story dice) (start_state story typed) steps left' (player.seen t r) (player.seen t' r'))
+    → Playing.IsPlayed (Playing.status_of_end end) left left' (base.view t r f) (base.view t' r' f') (Playing.as_played name steps dice file)
+run_ended name steps dice file story end None left' t t' r r' f f' h later told = record { accepted = h.accepted; played = tt }
+run_ended name steps dice file story end (Some typed) left' t t' r r' f f' h later told =
+    record { accepted = h.accepted; played = ended name steps dice file story typed end left' t t' r r' f f' h later (told typed refl) }
+
+read_failed : (name : List ℕ) (steps : ℕ) (dice file story : List ℕ) (left left' t t' : Option (List ℕ)) (r r' : Option ℕ) (f f' : ℕ) → IsLoaded file story → f ≤ f'
+    → ((typed : List ℕ) → left ≡ Some typed → Plays (Err Read) (world_of story dice) (start_state story typed) steps left' (player.seen t r) (player.seen t' r'))
+    → Playing.IsCutOff left left' (base.view t r f) (base.view t' r' f') (Playing.as_played name steps dice file)
+read_failed name steps dice file story None left' t t' r r' f f' h later told = record { accepted = h.accepted; cut_off = tt }
+read_failed name steps dice file story (Some typed) left' t t' r r' f f' h later told =
+    record { accepted = h.accepted; cut_off = cut_off name steps dice file story typed left' t t' r r' f f' h later (told typed refl) }
+
+write_failed : (name : List ℕ) (steps : ℕ) (dice file story : List ℕ) (left left' t t' : Option (List ℕ)) (r r' : Option ℕ) (f f' : ℕ) → IsLoaded file story → f ≤ f' → Rose f f'
+    → ((typed : List ℕ) → left ≡ Some typed → Plays (Err Write) (world_of story dice) (start_state story typed) steps left' (player.seen t r) (player.seen t' r'))
+    → Playing.LosesPlay left (base.view t r f) (base.view t' r' f') (Playing.as_played name steps dice file)
+write_failed name steps dice file story None left' t t' r r' f f' h later rose told = Playing.in_run h.accepted tt
+write_failed name steps dice file story (Some typed) left' t t' r r' f f' h later rose told =
+    Playing.in_run h.accepted (lost_run name steps dice file story typed left' t t' r r' f f' h later rose (told typed refl))
+
+pub run_failed : (name : List ℕ) (steps : ℕ) (dice file story : List ℕ) (fault : Fault) (left left' t t' : Option (List ℕ)) (r r' : Option ℕ) (i i' f f' : ℕ) → IsLoaded file story → HasCauses {T = ZEnd} i i' f f' (Err fault)
+    → ((typed : List ℕ) → left ≡ Some typed → Plays (Err fault) (world_of story dice) (start_state story typed) steps left' (player.seen t r) (player.seen t' r'))
+    → (Rose i i' × Playing.IsCutOff left left' (base.view t r f) (base.view t' r' f') (Playing.as_played name steps dice file)) ⊎ (Rose f f' × Playing.LosesPlay left (base.view t r f) (base.view t' r' f') (Playing.as_played name steps dice file))
+run_failed name steps dice file story Read left left' t t' r r' i i' f f' h causes told = inl (causes.read_failed refl, read_failed name steps dice file story left left' t t' r r' f f' h causes.writes told)
+run_failed name steps dice file story Write left left' t t' r r' i i' f f' h causes told = inr (causes.write_failed refl, write_failed name steps dice file story left left' t t' r r' f f' h causes.writes (causes.write_failed refl) told)
+
+-- the status is that of the run's end, but for a fault
+pub comes_by : (result : ℕ) (left left' : Option (List ℕ)) (old new : base.SinkView) (p : Playing.Play) → (result ≡ 0) ⊎ ((result ≡ 3) ⊎ ((result ≡ 4) ⊎ (result ≡ 5))) → ((result ≡ 0) ⊎ ((result ≡ 3) ⊎ (result ≡ 4)) → Playing.IsPlayed result left left' old new p)
+    → Playing.WhereTyped left (λ typed. Comes (Playing.status_of_end (Playing.run_of p typed p.steps).end) result)
+comes_by result None left' old new p is h = tt
+comes_by result (Some typed) left' old new p (inl is) h = inl (h (inl is)).played.is_status
+comes_by result (Some typed) left' old new p (inr (inl is)) h = inl (h (inr (inl is))).played.is_status
+comes_by result (Some typed) left' old new p (inr (inr (inl is))) h = inl (h (inr (inr is))).played.is_status
+comes_by result (Some typed) left' old new p (inr (inr (inr is))) h = inr (inl is)

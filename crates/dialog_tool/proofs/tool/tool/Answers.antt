@@ -1,0 +1,27 @@
+use Rattle.std.proofs.Common.{◌≡◌, ◌⊎◌, inr, Some, None, Ok, Err}
+use Rattle.std.specs.Option.{option_map}
+use Rattle.z_model.specs.Story.{refusal_of}
+use Rattle.dialog_tool.specs.Command.{texts, command_of}
+use Rattle.dialog_tool.specs.Source.{Compiles}
+use Rattle.dialog_tool.specs.Answers.{Comes}
+use Rattle.dialog_tool.specs.Playing.{WhereTyped, status_of_end, run_of}
+use Rattle.dialog_tool.proofs.StoryLemmas.{story_fails, late_source, late_story, late_play}
+use Rattle.dialog_tool.proofs.tool.tool.Goals as goal
+
+pub returns-in-Ok-Some-Play-clause-fault : goal.returns-in-Ok-Some-Play-clause-fault
+returns-in-Ok-Some-Play-clause-fault g c = λ is.
+    let command = rw (c.in-Ok-Some-Play.field-0-is, c.in-Ok-Some-Play.field-0-0-is) at c.in-Ok-Some-Play.ensures.command in
+    let fails = rw c.thrown.ensures.dice at c.play.ensures.fault in
+    story_fails (command_of (texts c.args.words.now)) (g.F.Shelf.contents c.args.shelf.now) _ _ _ _ _ (g.S.Source.left c.args.input.now) _ c.args.dice.now _ _ _ _ (option_map (λ d. d.items) c.in-Ok-Some-Play.own) command (fails is)
+
+pub returns-in-Err-clause-refuses : goal.returns-in-Err-clause-refuses
+returns-in-Err-clause-refuses g c = late_source (command_of (texts c.args.words.now)) (g.F.Shelf.contents c.args.shelf.now) (λ name steps source. (r : _) → Compiles source (Err r) → Comes 1 c.no_memory.result) (λ name steps source r refused. inr c.no_memory.ensures.statuses)
+
+pub returns-in-Err-clause-runs : goal.returns-in-Err-clause-runs
+returns-in-Err-clause-runs g c = late_source (command_of (texts c.args.words.now)) (g.F.Shelf.contents c.args.shelf.now) (λ name steps source. (p : _) → Compiles source (Ok p) → (c.no_memory.result ≡ 0) ⊎ Comes 3 c.no_memory.result) (λ name steps source p accepted. inr (inr c.no_memory.ensures.statuses))
+
+pub returns-in-Err-clause-no_story : goal.returns-in-Err-clause-no_story
+returns-in-Err-clause-no_story g c = late_story (command_of (texts c.args.words.now)) (g.F.Shelf.contents c.args.shelf.now) c.args.dice.now (λ p. (refusal : _) → refusal_of p.file ≡ Some refusal → Comes 4 c.no_memory.result) (λ p refusal refused. inr c.no_memory.ensures.statuses)
+
+pub returns-in-Err-clause-plays : goal.returns-in-Err-clause-plays
+returns-in-Err-clause-plays g c = late_story (command_of (texts c.args.words.now)) (g.F.Shelf.contents c.args.shelf.now) c.args.dice.now (λ p. refusal_of p.file ≡ None → WhereTyped (g.S.Source.left c.args.input.now) (λ typed. Comes (status_of_end (run_of p typed p.steps).end) c.no_memory.result)) (λ p accepted. late_play (g.S.Source.left c.args.input.now) p c.no_memory.result c.no_memory.ensures.statuses)
