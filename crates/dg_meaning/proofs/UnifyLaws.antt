@@ -79,7 +79,7 @@ and_right : (a b : Bool) → (a && b) ≡ true → b ≡ true
 and_right true b h = h
 and_right false b h = absurd (cc h)
 
-spelling_same : (xs ys : List ℕ) → same_spelling xs ys ≡ true → xs ≡ ys
+pub spelling_same : (xs ys : List ℕ) → same_spelling xs ys ≡ true → xs ≡ ys
 spelling_same [] [] h = refl
 spelling_same [] (y ∷ ys) h = absurd (cc h)
 spelling_same (x ∷ xs) [] h = absurd (cc h)

@@ -2,6 +2,7 @@ pub mod Values
 pub mod Substitutions
 pub mod Unify
 pub mod Unifiers
+pub mod Spellings
 pub mod World
 pub mod Path
 pub mod Render

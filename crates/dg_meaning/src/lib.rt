@@ -6,6 +6,7 @@ ghost use Rattle.dg_base.specs.declared.run.Limits.{Limits};
 ghost use Rattle.dg_base.specs.declared.run.Outcome.{Outcome};
 ghost use Rattle.dg_meaning.specs.Substitutions.{Substitution, IsSubstitution};
 ghost use Rattle.dg_meaning.specs.Unifiers.{WalksUp, Resolves, UnifyingExtends, UnifyingMakesEqual, UnifyingIsMostGeneral};
+ghost use Rattle.dg_meaning.specs.Spellings.{SpellingsUnify};
 ghost use Rattle.dg_meaning.specs.World.{Game};
 ghost use Rattle.dg_meaning.specs.Transcript.{run};
 ghost use Rattle.dg_meaning.specs.OneRun.{GoesOnFrom};
@@ -39,4 +40,9 @@ pub fn unification_is_most_general()
     ensures extends { UnifyingExtends }
     ensures equal { UnifyingMakesEqual }
     ensures most_general { UnifyingIsMostGeneral }
+{}
+
+/// It makes no difference to unification whether words are named by their numbers or by their spellings.
+pub fn spellings_unify()
+    ensures { SpellingsUnify }
 {}
