@@ -1,0 +1,2 @@
+//! The names of a source in order of first appearance, and its counts.
+#![tactic(auto)]
