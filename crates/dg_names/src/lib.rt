@@ -1,2 +1,5 @@
 //! The names of a source in order of first appearance, and its counts.
 #![tactic(auto)]
+
+mod walk;
+mod work;
