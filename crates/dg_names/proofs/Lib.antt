@@ -1,2 +1,4 @@
 pub mod Views
 pub mod WalkLemmas
+pub mod FirstLemmas
+pub mod ScopeLemmas

@@ -2,3 +2,4 @@ pub mod Mentions
 pub mod Named
 pub mod Counts
 pub mod Walk
+pub mod Scopes
