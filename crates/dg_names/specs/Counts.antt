@@ -42,17 +42,18 @@ is_excess m = false
 abbrev pub has_excess : Said → Bool
 has_excess said = nat_lt 64 (variables_of (of_said said)) || list_any is_excess (at_depth (of_said said))
 
--- The number of closures.
-abbrev pub closures_in : List Mention → ℕ
-closures_in [] = 0
-closures_in (closure ms ∷ others) = closures_in others + 1
-closures_in (m ∷ others) = closures_in others
+abbrev pub is_closure : Mention → Bool
+is_closure (closure ms) = true
+is_closure m = false
 
--- The number of selects.
-abbrev pub selects_in : List Mention → ℕ
-selects_in [] = 0
-selects_in (select n ∷ others) = selects_in others + 1
-selects_in (m ∷ others) = selects_in others
+abbrev pub is_select : Mention → Bool
+is_select (select n) = true
+is_select m = false
+
+-- How many of these mentions pass a test.
+abbrev pub number_of : (Mention → Bool) → List Mention → ℕ
+number_of test [] = 0
+number_of test (m ∷ ms) = if test m then number_of test ms + 1 else number_of test ms
 
 -- A rule, a negated rule or an access rule.
 abbrev pub is_rule : Said → Bool
@@ -72,7 +73,7 @@ are_many_names named = nat_lt 1000 (length named.objects) || (nat_lt 4000 (lengt
 
 -- A count in all passes its number.
 abbrev pub are_many : List Item → Bool
-are_many is = are_many_names (names_of is) || (nat_lt 16000 (rules_in is) || (nat_lt 16000 (closures_in (mentioned is)) || nat_lt 500 (selects_in (mentioned is))))
+are_many is = are_many_names (names_of is) || (nat_lt 16000 (rules_in is) || (nat_lt 16000 (number_of is_closure (mentioned is)) || nat_lt 500 (number_of is_select (mentioned is))))
 
 -- The first of these items at which a count passes its number, the items before them being counted too.
 abbrev pub first_passing : List Item → List Item → Option Item

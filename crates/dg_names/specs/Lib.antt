@@ -3,3 +3,4 @@ pub mod Named
 pub mod Counts
 pub mod Walk
 pub mod Scopes
+pub mod State

@@ -5,7 +5,7 @@ use Rattle.std.specs.Str.{bytes_eq}
 use Rattle.dg_base.specs.Heads.{name_of}
 use Rattle.dg_base.specs.Names.{keywords, name_among, builtin_named}
 use Rattle.dg_base.specs.Tree.{Item}
-use Rattle.dg_names.specs.Mentions.{Mention, query, object, word, variable, closure, Mentions, nothing, mention, of_said}
+use Rattle.dg_names.specs.Mentions.{Mention, query, object, word, closure, Mentions, nothing, mention, of_said}
 
 -- Each name at its first place.
 abbrev pub firsts : List (List ℕ) → List (List ℕ)
@@ -32,23 +32,25 @@ mentioned (i ∷ is) = at_depth (of_said i.said) ++ mentioned is
 abbrev pub is_predicate : List ℕ → Bool
 is_predicate name = not (name_among name keywords) && not (is_some (builtin_named name) && not (bytes_eq name (codes "($ has parent $)")))
 
--- The predicates among these mentions.
-abbrev pub predicates_in : List Mention → List (List ℕ)
-predicates_in [] = []
-predicates_in (query ps ∷ ms) = if is_predicate (name_of ps) then name_of ps ∷ predicates_in ms else predicates_in ms
-predicates_in (m ∷ ms) = predicates_in ms
+-- The predicate of a head, a query or a change.
+abbrev pub predicate_in : Mention → List (List ℕ)
+predicate_in (query ps) = if is_predicate (name_of ps) then name_of ps ∷ [] else []
+predicate_in m = []
 
--- The objects among these mentions.
-abbrev pub objects_in : List Mention → List (List ℕ)
-objects_in [] = []
-objects_in (object n ∷ ms) = n ∷ objects_in ms
-objects_in (m ∷ ms) = objects_in ms
+-- The name of an object.
+abbrev pub object_in : Mention → List (List ℕ)
+object_in (object n) = n ∷ []
+object_in m = []
 
--- The words among these mentions.
-abbrev pub words_in : List Mention → List (List ℕ)
-words_in [] = []
-words_in (word w ∷ ms) = w ∷ words_in ms
-words_in (m ∷ ms) = words_in ms
+-- A word.
+abbrev pub word_in : Mention → List (List ℕ)
+word_in (word w) = w ∷ []
+word_in m = []
+
+-- The names that these mentions give.
+abbrev pub names_in : (Mention → List (List ℕ)) → List Mention → List (List ℕ)
+names_in given [] = []
+names_in given (m ∷ ms) = given m ++ names_in given ms
 
 -- Predicates, objects and words.
 pub record Named : Type 0 where
@@ -59,7 +61,7 @@ pub record Named : Type 0 where
 -- The names of these items, in order of first appearance.
 abbrev pub names_of : List Item → Named
 names_of is = record {
-  preds = firsts (predicates_in (mentioned is));
-  objects = firsts (objects_in (mentioned is));
-  words = firsts (words_in (mentioned is));
+  preds = firsts (names_in predicate_in (mentioned is));
+  objects = firsts (names_in object_in (mentioned is));
+  words = firsts (names_in word_in (mentioned is));
 }

@@ -5,7 +5,7 @@ use Rattle.dg_base.specs.Tree.{parts_of, values_of, stmts_of, branches_of, arms_
 use Rattle.dg_base.specs.TreeView.{part_view, value_view, stmt_view, arm_view, body_view, head_view, change_view, branches_view}
 use Rattle.dg_base.specs.declared.tree.Stmt.{Stmt}
 use Rattle.dg_names.specs.Mentions as spec
-use Rattle.dg_names.specs.Mentions.{Mention, Mentions, nothing, mention, closure, of_parts, of_value, of_values, of_words, of_stmt, of_stmts, of_body, of_branches, of_arms, of_changes}
+use Rattle.dg_names.specs.Mentions.{Mention, Mentions, nothing, mention, closure, of_parts, of_head, of_value, of_values, of_words, of_stmt, of_stmts, of_body, of_branches, of_arms, of_changes}
 use Rattle.dg_names.specs.declared.work.Event.{Event}
 use Rattle.dg_names.specs.declared.work.Event.TheVariants as event
 use Rattle.dg_names.specs.declared.work.Work.{Work}
@@ -41,6 +41,8 @@ happened (Some e) = event_view e ∷ []
 
 -- What is mentioned in what is left to be looked at.
 abbrev pub walk_of : Work → List Met
+walk_of (work.Object n) = met (spec.object n.now) ∷ []
+walk_of (work.Head h) = walk (of_head (head_view h.now))
 walk_of (work.Parts ps) = walk (of_parts (parts_of (map part_view ps.now)))
 walk_of (work.Value v) = walk (of_value (value_view v.now))
 walk_of (work.Values vs) = walk (of_values (values_of (map value_view vs.now)))
@@ -122,6 +124,8 @@ abbrev mutual
   changes_size (tree.change ps set cs) = 1 + (parts_size ps + changes_size cs)
 
 abbrev pub size_of : Work → ℕ
+size_of (work.Object n) = 1
+size_of (work.Head h) = 1 + parts_size (head_view h.now)
 size_of (work.Parts ps) = parts_size (parts_of (map part_view ps.now))
 size_of (work.Value v) = value_size (value_view v.now)
 size_of (work.Values vs) = values_size (values_of (map value_view vs.now))

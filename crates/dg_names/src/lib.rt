@@ -1,5 +1,8 @@
 //! The names of a source in order of first appearance, and its counts.
 #![tactic(auto)]
 
+mod state;
+mod tally;
+mod variables;
 mod walk;
 mod work;

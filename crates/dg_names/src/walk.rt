@@ -1,14 +1,14 @@
 // A walk through a tree, in the order in which its parts stand there.
-ghost use Rattle.std.specs.Prelude.{◌≡◌, ◌+◌, ◌++◌, map, OnOk, IfOk};
+ghost use Rattle.std.specs.Prelude.{◌≡◌, ◌+◌, ◌++◌, [], map, OnOk, IfOk, IfNone};
 ghost use Rattle.std.specs.Option.{option_map};
 ghost use Rattle.dg_base.specs.Tree as tree;
 ghost use Rattle.dg_base.specs.Tree.{parts_of, values_of, stmts_of, arms_of, changes_of};
-ghost use Rattle.dg_base.specs.TreeView.{part_view, value_view, stmt_view, arm_view, body_view, head_view, change_view, branches_view, list_view, choice_view};
-ghost use Rattle.dg_names.specs.Mentions.{query, mention, join, of_parts, of_head, of_value, of_values, of_words, of_stmt, of_stmts, of_body, of_branches, of_arms, of_changes};
-ghost use Rattle.dg_names.specs.Walk.{walk, walk_of, size_of, parts_size, value_size, values_size, words_size, stmt_size, stmts_size, branches_size, arms_size, changes_size, IsPut, IsStep};
+ghost use Rattle.dg_base.specs.TreeView.{part_view, value_view, stmt_view, arm_view, body_view, head_view, change_view, branches_view, list_view, choice_view, said_view};
+ghost use Rattle.dg_names.specs.Mentions.{query, mention, join, of_parts, of_head, of_value, of_values, of_words, of_stmt, of_stmts, of_body, of_branches, of_arms, of_changes, of_said};
+ghost use Rattle.dg_names.specs.Walk.{walk, walk_of, left_of, happened, size_of, parts_size, value_size, values_size, words_size, stmt_size, stmts_size, branches_size, arms_size, changes_size, IsPut, IsStep};
 
 use crate::work::{Event, Work};
-use dg_base::{Arm, Body, Boxed, Head, Items, Name, Mode, NowChange, Part, Stmt, Value};
+use dg_base::{Arm, Body, Boxed, Head, ItemBody, Items, Name, Mode, NowChange, Part, Stmt, Value};
 use std::alloc::AllocError;
 
 fn put<'a>(left: &mut Vec<Work<'a>>, work: Work<'a>) -> Result<(), AllocError>
@@ -264,6 +264,8 @@ fn take<'a>(left: &mut Vec<Work<'a>>, work: Work<'a>) -> Result<Option<Event<'a>
     ensures { IfOk result (IsStep (walk_of work.entry) (size_of work.entry) left.old.items left.new.items) }
 {
     match work {
+        Work::Object(name) => Ok(Some(Event::Object(name))),
+        Work::Head(head) => take_head(left, head),
         Work::Parts(parts) => take_parts(left, parts),
         Work::Value(value) => take_value(left, value),
         Work::Values(values) => take_values(left, values),
@@ -275,5 +277,32 @@ fn take<'a>(left: &mut Vec<Work<'a>>, work: Work<'a>) -> Result<Option<Event<'a>
         Work::Arms(arms) => take_arms(left, arms),
         Work::Changes(changes) => take_changes(left, changes),
         Work::Closing => Ok(Some(Event::Closed)),
+    }
+}
+
+/// What a walk meets next, of what is left.
+pub fn next<'a>(left: &mut Vec<Work<'a>>) -> Result<Option<Event<'a>>, AllocError>
+    ensures walk { IfOk result (λ next. happened next ++ left_of left.new.items ≡ left_of left.old.items) }
+    ensures last { IfOk result (λ next. IfNone next (left_of left.old.items ≡ [])) }
+{
+    while let Some(work) = left.pop() {
+        if let Some(event) = take(left, work)? {
+            return Ok(Some(event));
+        }
+    }
+    Ok(None)
+}
+
+/// Puts what an item says on what is left.
+pub fn start<'a>(left: &mut Vec<Work<'a>>, said: &'a ItemBody) -> Result<(), AllocError>
+    ensures { OnOk result (left_of left.new.items ≡ walk (of_said (said_view said.now)) ++ left_of left.old.items) }
+{
+    match said {
+        ItemBody::Topic(name) => put(left, Work::Object(name.as_slice())),
+        ItemBody::Rule(head, body) | ItemBody::Deny(head, body) | ItemBody::Access(head, body) => {
+            put(left, Work::Body(body))?;
+            put(left, Work::Head(head))
+        }
+        ItemBody::Variable(head) => put(left, Work::Head(head)),
     }
 }

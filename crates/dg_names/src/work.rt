@@ -20,6 +20,8 @@ pub enum Event<'a> {
 /// A part of the tree that is left to be looked at. Closing is the end of a closure.
 #[derive(Clone, Copy)]
 pub enum Work<'a> {
+    Object(&'a [u8]),
+    Head(&'a Head),
     Parts(&'a [Part]),
     Value(&'a Value),
     Values(&'a [Value]),
