@@ -3,3 +3,6 @@ pub mod WalkLemmas
 pub mod FirstLemmas
 pub mod ScopeLemmas
 pub mod StateLemmas
+pub mod TellLemmas
+pub mod NameLemmas
+pub mod SetLemmas

@@ -52,7 +52,7 @@ closure_more s inner ms =
     ∙ sym (with_append s.names (variables_in (at_depth inner)) (variables_in (at_depth ms)))
     ∙ ap (with_names s.names) (sym (variables_append (at_depth inner) (at_depth ms))))
 
-closure_full : (inner : Mentions) → is_excess (closure inner) ≡ is_full (grown no_variables inner)
+pub closure_full : (inner : Mentions) → is_excess (closure inner) ≡ is_full (grown no_variables inner)
 closure_full inner = ap (λ (l : List (List ℕ)). nat_lt 64 (length l + unnamed_in inner)) (sym (firsts_of (variables_in (at_depth inner)))) ∙ ap (λ (k : ℕ). nat_lt 64 (length (with_names [] (variables_in (at_depth inner))) + k)) (omega arith)
 
 -- ---- tests in a row

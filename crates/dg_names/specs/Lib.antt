@@ -4,3 +4,4 @@ pub mod Counts
 pub mod Walk
 pub mod Scopes
 pub mod State
+pub mod Faults

@@ -28,9 +28,13 @@ abbrev pub mentioned : List Item → List Mention
 mentioned [] = []
 mentioned (i ∷ is) = at_depth (of_said i.said) ++ mentioned is
 
--- The name of a predicate: no keyword, and no built-in query but that of parents.
+-- A built-in query, but for that of parents.
+abbrev pub is_fixed : List ℕ → Bool
+is_fixed name = is_some (builtin_named name) && not (bytes_eq name (codes "($ has parent $)"))
+
+-- The name of a predicate: no keyword, and no such query.
 abbrev pub is_predicate : List ℕ → Bool
-is_predicate name = not (name_among name keywords) && not (is_some (builtin_named name) && not (bytes_eq name (codes "($ has parent $)")))
+is_predicate name = not (name_among name keywords) && not (is_fixed name)
 
 -- The predicate of a head, a query or a change.
 abbrev pub predicate_in : Mention → List (List ℕ)

@@ -1,14 +1,15 @@
 -- What is counted so far, as plain data. The proofs alone rest on it.
-use Rattle.std.specs.Prelude.{◌≡◌, ℕ, ◌+◌, ◌||◌, List, [], ◌∷◌, ◌++◌, Bool, false, length, map, min}
+use Rattle.std.specs.Prelude.{◌≡◌, ℕ, ◌+◌, ◌||◌, List, [], ◌∷◌, ◌++◌, Bool, false, Option, Some, None, length, map, min, Vec, nat_lt, if◌then◌else◌}
 use Rattle.std.specs.Borrow.{Bor}
-use Rattle.std.specs.declared.vec.Vec.{Vec}
 use Rattle.indexmap.specs.IndexSet.{IndexSet}
-use Rattle.dg_names.specs.Mentions.{Mention, closure, nothing}
-use Rattle.dg_names.specs.Named.{names_in, predicate_in, object_in, word_in}
-use Rattle.dg_names.specs.Counts.{number_of, is_closure, is_select}
+use Rattle.dg_names.specs.Mentions.{Mention, closure, nothing, of_said}
+use Rattle.dg_names.specs.Named.{Named, at_depth, names_in, predicate_in, object_in, word_in}
+use Rattle.dg_names.specs.Counts.{number_of, is_closure, is_select, is_rule, has_excess}
 use Rattle.dg_names.specs.Walk.{Met, met, opened, closed}
 use Rattle.dg_names.specs.Scopes as spec
 use Rattle.dg_names.specs.Scopes.{with_names, is_full, passes}
+use Rattle.dg_base.specs.Tree.{Said, Item}
+use Rattle.dg_names.specs.declared.state.Names.{Names}
 use Rattle.dg_names.specs.declared.state.Scope.{Scope}
 use Rattle.dg_names.specs.declared.state.Scopes.{Scopes}
 use Rattle.dg_names.specs.declared.state.Tally.{Tally}
@@ -65,7 +66,7 @@ told ms t = record {
 }
 
 -- The names in a set, in order.
-abbrev pub listed : {A S : Type 0} → IndexSet (Vec A) S → List (List A)
+abbrev pub listed : {A B S : Type 0} → IndexSet (Vec A B) S → List (List A)
 listed set = map (λ n. n.items) set.keys
 
 abbrev pub tally_view : Tally → Told
@@ -76,3 +77,25 @@ tally_view t = record {
   closures = t.numbers.closures;
   selects = t.numbers.selects;
 }
+
+-- ---- all items
+
+-- Nothing yet.
+abbrev pub untold : Told
+untold = record { preds = []; objects = []; words = []; closures = 0; selects = 0 }
+
+-- A count in all passes its number.
+abbrev pub has_many : Told → ℕ → Bool
+has_many t rules = (nat_lt 1000 (length t.objects) || (nat_lt 4000 (length t.words) || nat_lt 4000 (length t.preds))) || (nat_lt 16000 rules || (nat_lt 16000 t.closures || nat_lt 500 t.selects))
+
+-- The rules behind an item.
+abbrev pub rules_behind : Said → ℕ → ℕ
+rules_behind said rules = if is_rule said then rules + 1 else rules
+
+-- The first item at which a count passes, from what was told on.
+abbrev pub passing : Told → ℕ → List Item → Option Item
+passing t rules [] = None
+passing t rules (i ∷ is) = if has_excess i.said || has_many (told (at_depth (of_said i.said)) t) (rules_behind i.said rules) then Some i else passing (told (at_depth (of_said i.said)) t) (rules_behind i.said rules) is
+
+abbrev pub names_view : Names → Named
+names_view names = record { preds = listed names.preds; objects = listed names.objects; words = listed names.words }

@@ -1,8 +1,11 @@
 //! The names of a source in order of first appearance, and its counts.
 #![tactic(auto)]
 
+mod items;
 mod state;
 mod tally;
 mod variables;
 mod walk;
 mod work;
+
+pub use state::Names;

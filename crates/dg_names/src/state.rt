@@ -1,4 +1,6 @@
 // What is counted so far.
+ghost use Rattle.std.specs.Prelude.{◌≤◌};
+ghost use Rattle.indexmap.specs.IndexSet.{index_set_len};
 
 use indexmap::IndexSet;
 
@@ -36,4 +38,13 @@ pub struct Numbers {
 pub struct Tally {
     pub sets: Sets,
     pub numbers: Numbers,
+}
+
+/// The names of a source, in order of first appearance. At most 65,535 are predicates.
+#[derive(Drop)]
+pub struct Names {
+    pub preds: IndexSet<Vec<u8>>,
+    pub objects: IndexSet<Vec<u8>>,
+    pub words: IndexSet<Vec<u8>>,
+    ghost numbered: { index_set_len preds ≤ 65535 },
 }

@@ -1,5 +1,5 @@
 // The names of a source and its counts in all.
-ghost use Rattle.std.specs.Prelude.{◌≡◌, OnOk, IfOk};
+ghost use Rattle.std.specs.Prelude.{◌≡◌, OnOk, if◌then◌else◌};
 ghost use Rattle.dg_base.specs.TreeView.{head_view};
 ghost use Rattle.dg_names.specs.Counts.{is_closure, is_select, number_of};
 ghost use Rattle.dg_names.specs.Mentions.{query};
@@ -20,17 +20,23 @@ const PARENTS: &[u8] = b"($ has parent $)";
 fn add(alloc: Global, names: &mut IndexSet<Vec<u8>>, name: &[u8]) -> Result<(), AllocError>
     ensures { OnOk result (listed names.new ≡ with_name (listed names.old) name.now) }
 {
-    if !names.contains(name) {
-        names.insert(Vec::from_slice(alloc, name)?)?;
+    if names.contains(name) {
+        return Ok(());
     }
+    names.insert(Vec::from_slice(alloc, name)?)?;
     Ok(())
 }
 
-/// Whether a name may be that of a predicate: no keyword, and no built-in query but that of parents.
-pub fn is_predicate(name: &[u8]) -> bool
+fn is_fixed(name: &[u8]) -> bool
+    ensures { result ≡ spec.is_fixed name.now }
+{
+    builtin_of(name).is_some() && name != PARENTS
+}
+
+fn is_predicate(name: &[u8]) -> bool
     ensures { result ≡ spec.is_predicate name.now }
 {
-    !is_keyword(name) && !(builtin_of(name).is_some() && name != PARENTS)
+    !is_keyword(name) && !is_fixed(name)
 }
 
 fn add_predicate(alloc: Global, names: &mut IndexSet<Vec<u8>>, head: &Head) -> Result<(), AllocError>
@@ -56,15 +62,34 @@ fn tell_names(alloc: Global, sets: &mut Sets, event: Event<'_>) -> Result<(), Al
     }
 }
 
+fn is_opened(event: Event<'_>) -> bool
+    ensures { number_of is_closure (mentions_at (event_view event.entry)) ≡ (if result then 1 else 0) }
+{
+    matches!(event, Event::Opened)
+}
+
+fn is_selecting(event: Event<'_>) -> bool
+    ensures { number_of is_select (mentions_at (event_view event.entry)) ≡ (if result then 1 else 0) }
+{
+    matches!(event, Event::Selecting(_))
+}
+
+fn add_one(number: usize, counts: bool) -> usize
+    ensures { result ≡ more number (if counts then 1 else 0) }
+{
+    if counts {
+        number.saturating_add(1)
+    } else {
+        number
+    }
+}
+
 fn count(numbers: &mut Numbers, event: Event<'_>)
     ensures closures { numbers.new.closures ≡ more numbers.old.closures (number_of is_closure (mentions_at (event_view event.entry))) }
     ensures selects { numbers.new.selects ≡ more numbers.old.selects (number_of is_select (mentions_at (event_view event.entry))) }
 {
-    match event {
-        Event::Opened => numbers.closures = numbers.closures.saturating_add(1),
-        Event::Selecting(_) => numbers.selects = numbers.selects.saturating_add(1),
-        _ => {}
-    }
+    numbers.closures = add_one(numbers.closures, is_opened(event));
+    numbers.selects = add_one(numbers.selects, is_selecting(event));
 }
 
 /// Adds what is met.

@@ -283,14 +283,23 @@ fn take<'a>(left: &mut Vec<Work<'a>>, work: Work<'a>) -> Result<Option<Event<'a>
 /// What a walk meets next, of what is left.
 pub fn next<'a>(left: &mut Vec<Work<'a>>) -> Result<Option<Event<'a>>, AllocError>
     ensures walk { IfOk result (λ next. happened next ++ left_of left.new.items ≡ left_of left.old.items) }
-    ensures last { IfOk result (λ next. IfNone next (left_of left.old.items ≡ [])) }
+    ensures last { IfOk result (λ next. IfNone next (left_of left.new.items ≡ [])) }
 {
     while let Some(work) = left.pop() {
-        if let Some(event) = take(left, work)? {
-            return Ok(Some(event));
+        match take(left, work)? {
+            Some(event) => return Ok(Some(event)),
+            None => {}
         }
     }
     Ok(None)
+}
+
+fn start_rule<'a>(left: &mut Vec<Work<'a>>, head: &'a Head, body: &'a Body) -> Result<(), AllocError>
+    ensures { OnOk result (left_of left.new.items ≡ walk (join (of_head (head_view head.now)) (of_body (body_view body.now))) ++ left_of left.old.items) }
+{
+    put(left, Work::Body(body))?;
+    put(left, Work::Head(head))?;
+    Ok(())
 }
 
 /// Puts what an item says on what is left.
@@ -300,8 +309,7 @@ pub fn start<'a>(left: &mut Vec<Work<'a>>, said: &'a ItemBody) -> Result<(), All
     match said {
         ItemBody::Topic(name) => put(left, Work::Object(name.as_slice())),
         ItemBody::Rule(head, body) | ItemBody::Deny(head, body) | ItemBody::Access(head, body) => {
-            put(left, Work::Body(body))?;
-            put(left, Work::Head(head))
+            start_rule(left, head, body)
         }
         ItemBody::Variable(head) => put(left, Work::Head(head)),
     }
