@@ -11,8 +11,8 @@ any_listed n [] = refl
 any_listed n (k ∷ ks) = ap (λ (b : Bool). bytes_eq n k.items || b) (any_listed n ks)
 
 pub known_listed : (n : List ℕ) (ks : List (Vec ℕ Global)) (r : Bool) → r ≡ list_any (λ k. bytes_eq n k.items) ks → r ≡ true → map (λ k. k.items) ks ≡ with_name (map (λ k. k.items) ks) n
-known_listed n ks r e yes =
-    ap (λ (b : Bool). if b then map (λ k. k.items) ks else map (λ k. k.items) ks ++ n ∷ []) (sym yes ∙ e ∙ any_listed n ks)
+known_listed n ks r e known =
+    ap (λ (b : Bool). if b then map (λ k. k.items) ks else map (λ k. k.items) ks ++ n ∷ []) (sym known ∙ e ∙ any_listed n ks)
 
 pub new_listed : (n : List ℕ) (ks new : List (Vec ℕ Global)) (v : Vec ℕ Global) (r : Bool) → new ≡ (if list_any (λ k. bytes_eq v.items k.items) ks then ks else ks ++ v ∷ []) → v.items ≡ n → r ≡ list_any (λ k. bytes_eq n k.items) ks → r ≡ false → map (λ k. k.items) new ≡ with_name (map (λ k. k.items) ks) n
 new_listed n ks new v r e same is none =
