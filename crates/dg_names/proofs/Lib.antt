@@ -5,4 +5,5 @@ pub mod ScopeLemmas
 pub mod StateLemmas
 pub mod TellLemmas
 pub mod NameLemmas
+pub mod TreeLemmas
 pub mod SetLemmas

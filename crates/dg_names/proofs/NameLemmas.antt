@@ -1,12 +1,12 @@
 -- The first item at which a count passes, and what was told before it.
-use Rattle.std.proofs.Common.{◌≡◌, ◌+◌, ◌<◌, ◌≤◌, ◌||◌, ℕ, List, [], ◌∷◌, ◌++◌, Bool, true, false, Option, Some, None, length, min, nat_lt, refl, sym, ◌∙◌, ap, subst, append_assoc, arith}
+use Rattle.std.proofs.Common.{◌≡◌, ◌+◌, ◌<◌, ◌||◌, ℕ, List, [], ◌∷◌, ◌++◌, Bool, true, false, Option, Some, None, length, min, nat_lt, refl, sym, ◌∙◌, ap, append_assoc, arith}
 use Rattle.std.specs.Prelude.{if◌then◌else◌, Result, Ok, Err}
 use Rattle.std.proofs.lemmas.Grind.{common_steps}
-use Rattle.dg_base.specs.Tree.{Item, Said}
+use Rattle.dg_base.specs.Tree.{Item}
 use Rattle.dg_base.specs.declared.refusal.Refusal.{Refusal}
 use Rattle.dg_base.specs.declared.refusal.Kind.TheVariants.{TooMany}
 use Rattle.dg_names.specs.Mentions.{Mention, of_said}
-use Rattle.dg_names.specs.Named.{Named, at_depth, mentioned, names_of, names_in, predicate_in, object_in, word_in}
+use Rattle.dg_names.specs.Named.{Named, at_depth, mentioned, names_in, predicate_in, object_in, word_in}
 use Rattle.dg_names.specs.Counts.{is_rule, rules_in, has_excess, number_of, is_closure, is_select, are_many, first_passing, IsNamed}
 use Rattle.dg_names.specs.State.{Told, told, untold, has_many, rules_behind, passing}
 use Rattle.dg_names.proofs.FirstLemmas.{firsts_of}
@@ -37,7 +37,7 @@ many_same is = many_at _ _ _ _ _ _ (rules_in is) _ _ _ _
     (capped 500 (0 + number_of is_select (mentioned is)) (number_of is_select (mentioned is)) (omega arith) (omega arith))
 
 many_again : (t : Told) (r : ℕ) → has_many (told [] t) r ≡ has_many t r
-many_again t r = many_at _ _ _ _ _ _ r _ _ _ _ refl refl refl
+many_again t r = many_at t.objects t.objects t.words t.words t.preds t.preds r _ _ _ _ refl refl refl
     (capped 16000 (t.closures + 0) t.closures (omega arith) (omega arith))
     (capped 500 (t.selects + 0) t.selects (omega arith) (omega arith))
 

@@ -1,14 +1,14 @@
 -- A count of an item passes along a walk exactly where one passes in what the item mentions.
-use Rattle.std.proofs.Common.{◌≡◌, ◌+◌, ◌≤◌, ◌<◌, ◌||◌, ℕ, List, [], ◌∷◌, ◌++◌, Bool, true, false, length, nat_lt, refl, sym, ◌∙◌, ap, subst, append_assoc, arith}
+use Rattle.std.proofs.Common.{◌≡◌, ◌+◌, ◌≤◌, ◌||◌, ℕ, List, [], ◌∷◌, ◌++◌, Bool, true, false, length, nat_lt, refl, sym, ◌∙◌, ap, subst, append_assoc, arith}
 use Rattle.std.specs.Prelude.{if◌then◌else◌, codes}
 use Rattle.std.specs.List.{list_any}
 use Rattle.std.specs.Str.{bytes_eq}
 use Rattle.std.proofs.lemmas.List.Folds.{list_any-append}
 use Rattle.std.proofs.lemmas.Grind.{common_steps}
 use Rattle.dg_names.specs.Mentions.{Mention, Mentions, nothing, mention, query, object, word, variable, unnamed, closure, branches, select}
-use Rattle.dg_names.specs.Named.{firsts, at_depth}
-use Rattle.dg_names.specs.Counts.{variables_in, unnamed_in, variables_of, is_excess}
-use Rattle.dg_names.specs.Walk.{Met, met, opened, closed, walk}
+use Rattle.dg_names.specs.Named.{at_depth}
+use Rattle.dg_names.specs.Counts.{variables_in, unnamed_in, is_excess}
+use Rattle.dg_names.specs.Walk.{Met, met, closed, walk}
 use Rattle.dg_names.specs.Scopes.{with_name, with_names, Scope, no_variables, is_full, after, merged, grown, passes}
 use Rattle.dg_names.proofs.FirstLemmas.{firsts_of, with_append, with_again, longer}
 

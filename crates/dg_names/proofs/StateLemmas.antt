@@ -1,6 +1,6 @@
 -- What is noted at one step of a walk.
-use Rattle.std.proofs.Common.{◌≡◌, ◌+◌, ◌||◌, ℕ, List, [], ◌∷◌, ◌++◌, Bool, true, false, refl, sym, ◌∙◌, ap, subst, arith}
-use Rattle.dg_names.specs.Walk.{Met, opened, closed}
+use Rattle.std.proofs.Common.{◌≡◌, ◌||◌, List, [], ◌∷◌, ◌++◌, Bool, false, refl, sym, ◌∙◌, ap}
+use Rattle.dg_names.specs.Walk.{opened, closed}
 use Rattle.dg_names.specs.Scopes as spec
 use Rattle.dg_names.specs.Scopes.{no_variables, is_full, merged, passes}
 use Rattle.dg_names.specs.State.{scope_view, stack_of, IsNoted}
@@ -20,16 +20,16 @@ noted_opened old new inner outer = record {
 pub noted_closed : (old new : Scopes) (o : Scope) (over : Bool) → old.outer.items ≡ new.outer.items ++ o ∷ [] → scope_view new.inner ≡ merged (scope_view o) (scope_view old.inner) → over ≡ is_full (scope_view new.inner) → IsNoted closed old new over
 noted_closed old new o over outer inner full = record {
   counted = λ es.
-    ap (passes (closed ∷ es) (scope_view old.inner)) (ap stack_of outer ∙ stack_push new.outer.items o)
-    ∙ ap (λ (s : spec.Scope). is_full s || passes es s (stack_of new.outer.items)) (sym inner)
-    ∙ ap (λ (b : Bool). b || passes es (scope_view new.inner) (stack_of new.outer.items)) (sym full);
+      ap (passes (closed ∷ es) (scope_view old.inner)) (ap stack_of outer ∙ stack_push new.outer.items o)
+      ∙ ap (λ (s : spec.Scope). is_full s || passes es s (stack_of new.outer.items)) (sym inner)
+      ∙ ap (λ (b : Bool). b || passes es (scope_view new.inner) (stack_of new.outer.items)) (sym full);
   kept = λ e. sym full ∙ e;
 }
 
 pub noted_last : (old : Scopes) → old.outer.items ≡ [] → is_full (scope_view old.inner) ≡ false → IsNoted closed old old false
 noted_last old none full = record {
   counted = λ es.
-    ap (passes (closed ∷ es) (scope_view old.inner)) (ap stack_of none)
-    ∙ sym (ap (passes es (scope_view old.inner)) (ap stack_of none));
+      ap (passes (closed ∷ es) (scope_view old.inner)) (ap stack_of none)
+      ∙ sym (ap (passes es (scope_view old.inner)) (ap stack_of none));
   kept = λ e. full;
 }

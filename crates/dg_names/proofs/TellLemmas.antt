@@ -1,14 +1,15 @@
 -- What is told along a walk is what is mentioned at every depth.
-use Rattle.std.proofs.Common.{◌≡◌, ◌+◌, ◌||◌, ℕ, List, [], ◌∷◌, ◌++◌, Bool, true, false, length, min, nat_lt, refl, sym, ◌∙◌, ap, subst, append_assoc, arith}
-use Rattle.std.specs.Prelude.{if◌then◌else◌}
+use Rattle.std.proofs.Common.{◌≡◌, ◌+◌, ◌||◌, ℕ, List, [], ◌∷◌, ◌++◌, Bool, true, false, nat_lt, refl, sym, ◌∙◌, ap, subst, append_assoc, arith}
+use Rattle.std.specs.Prelude.{if◌then◌else◌, Result, IfOk}
+use Rattle.std.specs.declared.alloc.AllocError.{AllocError}
 use Rattle.std.specs.List.{list_any}
 use Rattle.dg_names.specs.Mentions.{Mention, Mentions, nothing, mention, query, object, word, variable, unnamed, closure, branches, select}
-use Rattle.dg_names.specs.Named.{firsts, at_depth, names_in, predicate_in, object_in, word_in}
-use Rattle.dg_names.specs.Counts.{variables_in, unnamed_in, variables_of, is_excess, number_of, is_closure, is_select}
-use Rattle.dg_names.specs.Walk.{Met, met, opened, closed, walk}
-use Rattle.dg_names.specs.Scopes.{with_names, Scope, no_variables, is_full, grown, passes}
+use Rattle.dg_names.specs.Named.{at_depth, names_in, predicate_in, object_in, word_in}
+use Rattle.dg_names.specs.Counts.{variables_of, is_excess, number_of, is_closure, is_select}
+use Rattle.dg_names.specs.Walk.{Met, closed, walk}
+use Rattle.dg_names.specs.Scopes.{with_names, no_variables, is_full, grown, passes}
 use Rattle.dg_names.specs.State.{mentions_at, flat, Told, more, told}
-use Rattle.dg_names.proofs.FirstLemmas.{firsts_of, with_append}
+use Rattle.dg_names.proofs.FirstLemmas.{with_append}
 use Rattle.dg_names.proofs.ScopeLemmas.{passes_walk, closure_full}
 
 flat_append : (a b : List Met) → flat (a ++ b) ≡ flat a ++ flat b
@@ -128,3 +129,10 @@ item_passes ms l e =
     ∙ passes_walk ms no_variables [] [] refl
     ∙ ap (λ (b : Bool). is_full (grown no_variables ms) || b) (or_false (list_any is_excess (at_depth ms)))
     ∙ ap (λ (b : Bool). b || list_any is_excess (at_depth ms)) (sym (closure_full ms))
+
+-- the answers of a walk through an item
+pub item_over : (r : Result Bool AllocError) (ms : Mentions) (l : List Met) → l ≡ walk ms ++ [] → IfOk r (λ (over : Bool). over ≡ passes l no_variables []) → IfOk r (λ (over : Bool). over ≡ (nat_lt 64 (variables_of ms) || list_any is_excess (at_depth ms)))
+item_over r ms l e is = subst (λ (b : Bool). IfOk r (λ (over : Bool). over ≡ b)) (item_passes ms l e) is
+
+pub item_behind : (r : Result Bool AllocError) (ms : Mentions) (l : List Met) (t t' : Told) → l ≡ walk ms ++ [] → IfOk r (λ (over : Bool). over ≡ false → told [] t' ≡ told (flat l) t) → IfOk r (λ (over : Bool). over ≡ false → told [] t' ≡ told (at_depth ms) t)
+item_behind r ms l t t' e is = subst (λ (u : Told). IfOk r (λ (over : Bool). over ≡ false → told [] t' ≡ u)) (item_told ms l t e) is

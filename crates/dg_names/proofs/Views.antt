@@ -1,10 +1,9 @@
 -- What parts, heads and bodies stand for, by what they hold.
-use Rattle.std.proofs.Common.{◌≡◌, Bool, List, map, sym, ◌∙◌, ap}
+use Rattle.std.proofs.Common.{◌≡◌, Bool, map, sym, ◌∙◌, ap}
 use Rattle.dg_base.specs.Tree as tree
 use Rattle.dg_base.specs.TreeView.{part_step, stmt_step, value_step, arm_step, body_step, head_step, change_step, part_view, value_view, stmt_view, head_view, body_view, branches_view}
 use Rattle.dg_base.specs.declared.tree.Body.{Body, fold-roll-Body}
 use Rattle.dg_base.specs.declared.tree.Head.{Head, fold-roll-Head}
-use Rattle.dg_base.specs.declared.tree.Part
 use Rattle.dg_base.specs.declared.tree.Part.{Part, fold-roll-Part}
 use Rattle.dg_base.specs.declared.tree.Part.TheVariants.{rolls-Value}
 use Rattle.dg_base.specs.declared.tree.Part.TheOpen.{Part-F}

@@ -8,7 +8,6 @@ use Rattle.dg_base.specs.Tree.{values_of, arms_of, parts_of}
 use Rattle.dg_base.specs.TreeView.{part_view, value_view, stmt_view, arm_view, body_view, branches_view, list_view, choice_view}
 use Rattle.dg_base.specs.declared.tree.Arm.{Arm}
 use Rattle.dg_base.specs.declared.tree.Body.{Body}
-use Rattle.dg_base.specs.declared.tree.Part
 use Rattle.dg_base.specs.declared.tree.Part.{Part}
 use Rattle.dg_base.specs.declared.tree.Stmt.{Stmt}
 use Rattle.dg_base.specs.declared.tree.Value.{Value}
@@ -67,19 +66,19 @@ put_one {old = old} {new = new} {w = w} e p = record {
 pub put_two : {old mid new : List Work} {v w : Work} (e : Option Event) → IsPut v old mid → IsPut w mid new → IsStep (happened e ++ (walk_of w ++ walk_of v)) (1 + (size_of w + size_of v)) old new e
 put_two {old = old} {mid = mid} {new = new} {v = v} {w = w} e p q = record {
   walk =
-    ap (λ (l : List Met). happened e ++ l) (q.walk ∙ ap (λ (l : List Met). walk_of w ++ l) p.walk ∙ sym (append_assoc (walk_of w) (walk_of v) (left_of old)))
-    ∙ sym (append_assoc (happened e) (walk_of w ++ walk_of v) (left_of old));
+      ap (λ (l : List Met). happened e ++ l) (q.walk ∙ ap (λ (l : List Met). walk_of w ++ l) p.walk ∙ sym (append_assoc (walk_of w) (walk_of v) (left_of old)))
+      ∙ sym (append_assoc (happened e) (walk_of w ++ walk_of v) (left_of old));
   size = let first = p.size in let second = q.size in omega (arith, first, second);
 }
 
 pub put_three : {old one two new : List Work} {u v w : Work} (e : Option Event) → IsPut u old one → IsPut v one two → IsPut w two new → IsStep (happened e ++ (walk_of w ++ (walk_of v ++ walk_of u))) (1 + (size_of w + (size_of v + size_of u))) old new e
 put_three {old = old} {one = one} {two = two} {new = new} {u = u} {v = v} {w = w} e p q r = record {
   walk =
-    ap (λ (l : List Met). happened e ++ l)
-    (r.walk
+      ap (λ (l : List Met). happened e ++ l)
+      (r.walk
       ∙ ap (λ (l : List Met). walk_of w ++ l) (q.walk ∙ ap (λ (l : List Met). walk_of v ++ l) p.walk ∙ sym (append_assoc (walk_of v) (walk_of u) (left_of old)))
       ∙ sym (append_assoc (walk_of w) (walk_of v ++ walk_of u) (left_of old)))
-    ∙ sym (append_assoc (happened e) (walk_of w ++ (walk_of v ++ walk_of u)) (left_of old));
+      ∙ sym (append_assoc (happened e) (walk_of w ++ (walk_of v ++ walk_of u)) (left_of old));
   size = let first = p.size in let second = q.size in let third = r.size in omega (arith, first, second, third);
 }
 

@@ -1,6 +1,5 @@
 -- Variables that are counted along a walk, the closures that stand open apart. The proofs alone rest on it.
-use Rattle.std.specs.Prelude.{ℕ, ◌+◌, ◌||◌, List, [], ◌∷◌, ◌++◌, Bool, false, length, map, codes, nat_lt, if◌then◌else◌}
-use Rattle.std.specs.Borrow.{Bor}
+use Rattle.std.specs.Prelude.{ℕ, ◌+◌, ◌||◌, List, [], ◌∷◌, ◌++◌, Bool, false, length, codes, nat_lt, if◌then◌else◌}
 use Rattle.std.specs.List.{list_any}
 use Rattle.std.specs.Str.{bytes_eq}
 use Rattle.dg_names.specs.Mentions.{Mention, variable, unnamed, Mentions}

@@ -18,14 +18,23 @@ use dg_base::ItemBody;
 use std::alloc::{AllocError, Global};
 
 const OBJECTS: usize = 1_000;
+
 const WORDS: usize = 4_000;
+
 const PREDICATES: usize = 4_000;
+
 const RULES: usize = 16_000;
+
 const CLOSURES: usize = 16_000;
+
 const SELECTS: usize = 500;
 
 // Walks through what is left: whether a count of one item passes its number.
-fn walk_on<'a>(alloc: Global, left: &mut Vec<Work<'a>>, tally: &mut Tally) -> Result<bool, AllocError>
+fn walk_on<'a>(
+    alloc: Global,
+    left: &mut Vec<Work<'a>>,
+    tally: &mut Tally,
+) -> Result<bool, AllocError>
     ensures over { IfOk result (λ over. over ≡ passes (left_of left.old.items) no_variables []) }
     ensures told { IfOk result (λ over. over ≡ false → told [] (tally_view tally.new) ≡ told (flat (left_of left.old.items)) (tally_view tally.old)) }
 {
@@ -88,11 +97,19 @@ fn has_many(tally: &Tally, rules: usize) -> bool
 pub fn is_rule(said: &ItemBody) -> bool
     ensures { result ≡ spec.is_rule (said_view said.now) }
 {
-    matches!(said, ItemBody::Rule(_, _) | ItemBody::Deny(_, _) | ItemBody::Access(_, _))
+    matches!(
+        said,
+        ItemBody::Rule(_, _) | ItemBody::Deny(_, _) | ItemBody::Access(_, _)
+    )
 }
 
 /// Adds an item, behind which there are so many rules: whether a count passes its number there.
-pub fn add_item(alloc: Global, tally: &mut Tally, rules: usize, said: &ItemBody) -> Result<bool, AllocError>
+pub fn add_item(
+    alloc: Global,
+    tally: &mut Tally,
+    rules: usize,
+    said: &ItemBody,
+) -> Result<bool, AllocError>
     ensures over { IfOk result (λ over. over ≡ (has_excess (said_view said.now) || has_many (tally_view tally.new) rules)) }
     ensures told { IfOk result (λ over. has_excess (said_view said.now) ≡ false → told [] (tally_view tally.new) ≡ told (at_depth (of_said (said_view said.now))) (tally_view tally.old)) }
 {

@@ -2,10 +2,13 @@
 #![tactic(auto)]
 
 mod items;
+mod laws;
+mod names;
 mod state;
 mod tally;
 mod variables;
 mod walk;
 mod work;
 
+pub use laws::one_answer;
 pub use state::Names;

@@ -39,7 +39,11 @@ fn is_predicate(name: &[u8]) -> bool
     !is_keyword(name) && !is_fixed(name)
 }
 
-fn add_predicate(alloc: Global, names: &mut IndexSet<Vec<u8>>, head: &Head) -> Result<(), AllocError>
+fn add_predicate(
+    alloc: Global,
+    names: &mut IndexSet<Vec<u8>>,
+    head: &Head,
+) -> Result<(), AllocError>
     ensures { OnOk result (listed names.new ≡ with_names (listed names.old) (predicate_in (query (head_view head.now)))) }
 {
     let name = name_of(alloc, head)?;

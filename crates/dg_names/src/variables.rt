@@ -17,8 +17,11 @@ use std::alloc::{AllocError, Global};
 use std::mem;
 
 const PLACES: usize = 12;
+
 const VARIABLES: usize = 64;
+
 const BRANCHES: usize = 500;
+
 const PARAMETER: &[u8] = b"_";
 
 fn is_among(names: &[&[u8]], name: &[u8]) -> bool
@@ -122,7 +125,11 @@ fn note_closed(scopes: &mut Scopes<'_>) -> Result<bool, AllocError>
 }
 
 /// Notes what is met in an item: whether a count of one item passes its number there.
-pub fn note<'a>(alloc: Global, scopes: &mut Scopes<'a>, event: Event<'a>) -> Result<bool, AllocError>
+pub fn note<'a>(
+    alloc: Global,
+    scopes: &mut Scopes<'a>,
+    event: Event<'a>,
+) -> Result<bool, AllocError>
     requires { is_full (scope_view scopes.old.inner) ≡ false }
     ensures { IfOk result (IsNoted (event_view event.entry) scopes.old scopes.new) }
 {

@@ -8,7 +8,7 @@ ghost use Rattle.dg_names.specs.Mentions.{query, mention, join, of_parts, of_hea
 ghost use Rattle.dg_names.specs.Walk.{walk, walk_of, left_of, happened, size_of, parts_size, value_size, values_size, words_size, stmt_size, stmts_size, branches_size, arms_size, changes_size, IsPut, IsStep};
 
 use crate::work::{Event, Work};
-use dg_base::{Arm, Body, Boxed, Head, ItemBody, Items, Name, Mode, NowChange, Part, Stmt, Value};
+use dg_base::{Arm, Body, Boxed, Head, ItemBody, Items, Mode, Name, NowChange, Part, Stmt, Value};
 use std::alloc::AllocError;
 
 fn put<'a>(left: &mut Vec<Work<'a>>, work: Work<'a>) -> Result<(), AllocError>
@@ -19,7 +19,11 @@ fn put<'a>(left: &mut Vec<Work<'a>>, work: Work<'a>) -> Result<(), AllocError>
 }
 
 // Puts what is met next, and then what is met behind it.
-fn take_two<'a>(left: &mut Vec<Work<'a>>, first: Work<'a>, second: Work<'a>) -> Result<Option<Event<'a>>, AllocError>
+fn take_two<'a>(
+    left: &mut Vec<Work<'a>>,
+    first: Work<'a>,
+    second: Work<'a>,
+) -> Result<Option<Event<'a>>, AllocError>
     ensures { IfOk result (IsStep (walk_of first.entry ++ walk_of second.entry) (1 + (size_of first.entry + size_of second.entry)) left.old.items left.new.items) }
 {
     put(left, second)?;
@@ -28,7 +32,12 @@ fn take_two<'a>(left: &mut Vec<Work<'a>>, first: Work<'a>, second: Work<'a>) -> 
 }
 
 // The same with a third.
-fn take_three<'a>(left: &mut Vec<Work<'a>>, first: Work<'a>, second: Work<'a>, third: Work<'a>) -> Result<Option<Event<'a>>, AllocError>
+fn take_three<'a>(
+    left: &mut Vec<Work<'a>>,
+    first: Work<'a>,
+    second: Work<'a>,
+    third: Work<'a>,
+) -> Result<Option<Event<'a>>, AllocError>
     ensures { IfOk result (IsStep (walk_of first.entry ++ (walk_of second.entry ++ walk_of third.entry)) (1 + (size_of first.entry + (size_of second.entry + size_of third.entry))) left.old.items left.new.items) }
 {
     put(left, third)?;
@@ -45,7 +54,11 @@ fn take_head<'a>(left: &mut Vec<Work<'a>>, head: &'a Head) -> Result<Option<Even
 }
 
 // The first of some parts; the others come to what is left.
-fn take_part<'a>(left: &mut Vec<Work<'a>>, first: &'a Part, others: &'a [Part]) -> Result<Option<Event<'a>>, AllocError>
+fn take_part<'a>(
+    left: &mut Vec<Work<'a>>,
+    first: &'a Part,
+    others: &'a [Part],
+) -> Result<Option<Event<'a>>, AllocError>
     ensures { IfOk result (IsStep (walk (of_parts (tree.part (part_view first.now) (parts_of (map part_view others.now))))) (parts_size (tree.part (part_view first.now) (parts_of (map part_view others.now)))) left.old.items left.new.items) }
 {
     match first {
@@ -57,7 +70,10 @@ fn take_part<'a>(left: &mut Vec<Work<'a>>, first: &'a Part, others: &'a [Part]) 
     }
 }
 
-fn take_parts<'a>(left: &mut Vec<Work<'a>>, parts: &'a [Part]) -> Result<Option<Event<'a>>, AllocError>
+fn take_parts<'a>(
+    left: &mut Vec<Work<'a>>,
+    parts: &'a [Part],
+) -> Result<Option<Event<'a>>, AllocError>
     ensures { IfOk result (IsStep (walk (of_parts (parts_of (map part_view parts.now)))) (parts_size (parts_of (map part_view parts.now))) left.old.items left.new.items) }
 {
     match parts {
@@ -66,13 +82,20 @@ fn take_parts<'a>(left: &mut Vec<Work<'a>>, parts: &'a [Part]) -> Result<Option<
     }
 }
 
-fn take_first<'a>(left: &mut Vec<Work<'a>>, first: &'a Value, others: &'a [Value]) -> Result<Option<Event<'a>>, AllocError>
+fn take_first<'a>(
+    left: &mut Vec<Work<'a>>,
+    first: &'a Value,
+    others: &'a [Value],
+) -> Result<Option<Event<'a>>, AllocError>
     ensures { IfOk result (IsStep (walk (of_values (tree.value (value_view first.now) (values_of (map value_view others.now))))) (values_size (tree.value (value_view first.now) (values_of (map value_view others.now)))) left.old.items left.new.items) }
 {
     take_two(left, Work::Value(first), Work::Values(others))
 }
 
-fn take_values<'a>(left: &mut Vec<Work<'a>>, values: &'a [Value]) -> Result<Option<Event<'a>>, AllocError>
+fn take_values<'a>(
+    left: &mut Vec<Work<'a>>,
+    values: &'a [Value],
+) -> Result<Option<Event<'a>>, AllocError>
     ensures { IfOk result (IsStep (walk (of_values (values_of (map value_view values.now)))) (values_size (values_of (map value_view values.now))) left.old.items left.new.items) }
 {
     match values {
@@ -81,7 +104,10 @@ fn take_values<'a>(left: &mut Vec<Work<'a>>, values: &'a [Value]) -> Result<Opti
     }
 }
 
-fn take_words<'a>(left: &mut Vec<Work<'a>>, words: &'a [Name]) -> Result<Option<Event<'a>>, AllocError>
+fn take_words<'a>(
+    left: &mut Vec<Work<'a>>,
+    words: &'a [Name],
+) -> Result<Option<Event<'a>>, AllocError>
     ensures { IfOk result (IsStep (walk (of_words words.now)) (words_size words.now) left.old.items left.new.items) }
 {
     match words {
@@ -94,7 +120,11 @@ fn take_words<'a>(left: &mut Vec<Work<'a>>, words: &'a [Name]) -> Result<Option<
 }
 
 // A list, its elements coming before its tail.
-fn take_list<'a>(left: &mut Vec<Work<'a>>, values: &'a [Value], tail: Option<&'a Value>) -> Result<Option<Event<'a>>, AllocError>
+fn take_list<'a>(
+    left: &mut Vec<Work<'a>>,
+    values: &'a [Value],
+    tail: Option<&'a Value>,
+) -> Result<Option<Event<'a>>, AllocError>
     ensures { IfOk result (IsStep (walk (of_value (list_view (map value_view values.now) (option_map (λ v. value_view v.now) tail.entry)))) (value_size (list_view (map value_view values.now) (option_map (λ v. value_view v.now) tail.entry))) left.old.items left.new.items) }
 {
     match tail {
@@ -106,7 +136,10 @@ fn take_list<'a>(left: &mut Vec<Work<'a>>, values: &'a [Value], tail: Option<&'a
     }
 }
 
-fn take_closure<'a>(left: &mut Vec<Work<'a>>, body: &'a Body) -> Result<Option<Event<'a>>, AllocError>
+fn take_closure<'a>(
+    left: &mut Vec<Work<'a>>,
+    body: &'a Body,
+) -> Result<Option<Event<'a>>, AllocError>
     ensures { IfOk result (IsStep (walk (of_value (tree.closure (body_view body.now)))) (value_size (tree.closure (body_view body.now))) left.old.items left.new.items) }
 {
     put(left, Work::Closing)?;
@@ -123,7 +156,10 @@ fn tail_of(tail: &Option<Boxed<Value>>) -> Option<&Value>
     }
 }
 
-fn take_value<'a>(left: &mut Vec<Work<'a>>, value: &'a Value) -> Result<Option<Event<'a>>, AllocError>
+fn take_value<'a>(
+    left: &mut Vec<Work<'a>>,
+    value: &'a Value,
+) -> Result<Option<Event<'a>>, AllocError>
     ensures { IfOk result (IsStep (walk (of_value (value_view value.now))) (value_size (value_view value.now)) left.old.items left.new.items) }
 {
     match value {
@@ -149,13 +185,20 @@ fn take_body<'a>(left: &mut Vec<Work<'a>>, body: &'a Body) -> Result<Option<Even
     Ok(Some(Event::Branching(body.branches.len())))
 }
 
-fn take_branch<'a>(left: &mut Vec<Work<'a>>, first: &'a [Stmt], others: &'a [Items<Stmt>]) -> Result<Option<Event<'a>>, AllocError>
+fn take_branch<'a>(
+    left: &mut Vec<Work<'a>>,
+    first: &'a [Stmt],
+    others: &'a [Items<Stmt>],
+) -> Result<Option<Event<'a>>, AllocError>
     ensures { IfOk result (IsStep (walk (of_branches (tree.branch (stmts_of (map stmt_view first.now)) (branches_view (map (map stmt_view) others.now))))) (branches_size (tree.branch (stmts_of (map stmt_view first.now)) (branches_view (map (map stmt_view) others.now)))) left.old.items left.new.items) }
 {
     take_two(left, Work::Stmts(first), Work::Branches(others))
 }
 
-fn take_branches<'a>(left: &mut Vec<Work<'a>>, branches: &'a [Items<Stmt>]) -> Result<Option<Event<'a>>, AllocError>
+fn take_branches<'a>(
+    left: &mut Vec<Work<'a>>,
+    branches: &'a [Items<Stmt>],
+) -> Result<Option<Event<'a>>, AllocError>
     ensures { IfOk result (IsStep (walk (of_branches (branches_view (map (map stmt_view) branches.now)))) (branches_size (branches_view (map (map stmt_view) branches.now))) left.old.items left.new.items) }
 {
     match branches {
@@ -164,13 +207,20 @@ fn take_branches<'a>(left: &mut Vec<Work<'a>>, branches: &'a [Items<Stmt>]) -> R
     }
 }
 
-fn take_next<'a>(left: &mut Vec<Work<'a>>, first: &'a Stmt, others: &'a [Stmt]) -> Result<Option<Event<'a>>, AllocError>
+fn take_next<'a>(
+    left: &mut Vec<Work<'a>>,
+    first: &'a Stmt,
+    others: &'a [Stmt],
+) -> Result<Option<Event<'a>>, AllocError>
     ensures { IfOk result (IsStep (walk (of_stmts (tree.stmt (stmt_view first.now) (stmts_of (map stmt_view others.now))))) (stmts_size (tree.stmt (stmt_view first.now) (stmts_of (map stmt_view others.now)))) left.old.items left.new.items) }
 {
     take_two(left, Work::Stmt(first), Work::Stmts(others))
 }
 
-fn take_stmts<'a>(left: &mut Vec<Work<'a>>, stmts: &'a [Stmt]) -> Result<Option<Event<'a>>, AllocError>
+fn take_stmts<'a>(
+    left: &mut Vec<Work<'a>>,
+    stmts: &'a [Stmt],
+) -> Result<Option<Event<'a>>, AllocError>
     ensures { IfOk result (IsStep (walk (of_stmts (stmts_of (map stmt_view stmts.now)))) (stmts_size (stmts_of (map stmt_view stmts.now))) left.old.items left.new.items) }
 {
     match stmts {
@@ -179,10 +229,20 @@ fn take_stmts<'a>(left: &mut Vec<Work<'a>>, stmts: &'a [Stmt]) -> Result<Option<
     }
 }
 
-fn take_arm<'a>(left: &mut Vec<Work<'a>>, condition: &'a Body, body: &'a Body, others: &'a [Arm]) -> Result<Option<Event<'a>>, AllocError>
+fn take_arm<'a>(
+    left: &mut Vec<Work<'a>>,
+    condition: &'a Body,
+    body: &'a Body,
+    others: &'a [Arm],
+) -> Result<Option<Event<'a>>, AllocError>
     ensures { IfOk result (IsStep (walk (of_arms (tree.arm (body_view condition.now) (body_view body.now) (arms_of (map arm_view others.now))))) (arms_size (tree.arm (body_view condition.now) (body_view body.now) (arms_of (map arm_view others.now)))) left.old.items left.new.items) }
 {
-    take_three(left, Work::Body(condition), Work::Body(body), Work::Arms(others))
+    take_three(
+        left,
+        Work::Body(condition),
+        Work::Body(body),
+        Work::Arms(others),
+    )
 }
 
 fn take_arms<'a>(left: &mut Vec<Work<'a>>, arms: &'a [Arm]) -> Result<Option<Event<'a>>, AllocError>
@@ -194,7 +254,11 @@ fn take_arms<'a>(left: &mut Vec<Work<'a>>, arms: &'a [Arm]) -> Result<Option<Eve
     }
 }
 
-fn take_change<'a>(left: &mut Vec<Work<'a>>, head: &'a Head, others: &'a [NowChange]) -> Result<Option<Event<'a>>, AllocError>
+fn take_change<'a>(
+    left: &mut Vec<Work<'a>>,
+    head: &'a Head,
+    others: &'a [NowChange],
+) -> Result<Option<Event<'a>>, AllocError>
     ensures { IfOk result (IsStep (walk (mention (query (head_view head.now)) (join (of_parts (head_view head.now)) (of_changes (changes_of (map change_view others.now)))))) (1 + (parts_size (head_view head.now) + changes_size (changes_of (map change_view others.now)))) left.old.items left.new.items) }
 {
     put(left, Work::Changes(others))?;
@@ -202,7 +266,10 @@ fn take_change<'a>(left: &mut Vec<Work<'a>>, head: &'a Head, others: &'a [NowCha
     Ok(Some(Event::Query(head)))
 }
 
-fn take_changes<'a>(left: &mut Vec<Work<'a>>, changes: &'a [NowChange]) -> Result<Option<Event<'a>>, AllocError>
+fn take_changes<'a>(
+    left: &mut Vec<Work<'a>>,
+    changes: &'a [NowChange],
+) -> Result<Option<Event<'a>>, AllocError>
     ensures { IfOk result (IsStep (walk (of_changes (changes_of (map change_view changes.now)))) (changes_size (changes_of (map change_view changes.now))) left.old.items left.new.items) }
 {
     match changes {
@@ -211,7 +278,11 @@ fn take_changes<'a>(left: &mut Vec<Work<'a>>, changes: &'a [NowChange]) -> Resul
     }
 }
 
-fn take_choice<'a>(left: &mut Vec<Work<'a>>, arms: &'a [Arm], other: &'a Option<Body>) -> Result<Option<Event<'a>>, AllocError>
+fn take_choice<'a>(
+    left: &mut Vec<Work<'a>>,
+    arms: &'a [Arm],
+    other: &'a Option<Body>,
+) -> Result<Option<Event<'a>>, AllocError>
     ensures { IfOk result (IsStep (walk (of_stmt (choice_view (map arm_view arms.now) (option_map body_view other.now)))) (stmt_size (choice_view (map arm_view arms.now) (option_map body_view other.now))) left.old.items left.new.items) }
 {
     match other {
@@ -223,17 +294,31 @@ fn take_choice<'a>(left: &mut Vec<Work<'a>>, arms: &'a [Arm], other: &'a Option<
     }
 }
 
-fn take_select<'a>(left: &mut Vec<Work<'a>>, mode: Mode, branches: &'a [Items<Stmt>]) -> Result<Option<Event<'a>>, AllocError>
+fn take_select<'a>(
+    left: &mut Vec<Work<'a>>,
+    mode: Mode,
+    branches: &'a [Items<Stmt>],
+) -> Result<Option<Event<'a>>, AllocError>
     ensures { IfOk result (IsStep (walk (of_stmt (tree.select mode (branches_view (map (map stmt_view) branches.now))))) (stmt_size (tree.select mode (branches_view (map (map stmt_view) branches.now)))) left.old.items left.new.items) }
 {
     put(left, Work::Branches(branches))?;
     Ok(Some(Event::Selecting(branches.len())))
 }
 
-fn take_gathering<'a>(left: &mut Vec<Work<'a>>, value: &'a Value, body: &'a Body, into: &'a Value) -> Result<Option<Event<'a>>, AllocError>
+fn take_gathering<'a>(
+    left: &mut Vec<Work<'a>>,
+    value: &'a Value,
+    body: &'a Body,
+    into: &'a Value,
+) -> Result<Option<Event<'a>>, AllocError>
     ensures { IfOk result (IsStep (walk (of_stmt (tree.collect (value_view value.now) (body_view body.now) (value_view into.now)))) (stmt_size (tree.collect (value_view value.now) (body_view body.now) (value_view into.now))) left.old.items left.new.items) }
 {
-    take_three(left, Work::Value(value), Work::Body(body), Work::Value(into))
+    take_three(
+        left,
+        Work::Value(value),
+        Work::Body(body),
+        Work::Value(into),
+    )
 }
 
 fn take_one<'a>(left: &mut Vec<Work<'a>>, work: Work<'a>) -> Result<Option<Event<'a>>, AllocError>
@@ -250,11 +335,16 @@ fn take_stmt<'a>(left: &mut Vec<Work<'a>>, stmt: &'a Stmt) -> Result<Option<Even
         Stmt::Text(_) => Ok(None),
         Stmt::Print(value) => take_one(left, Work::Value(value)),
         Stmt::Ask(head) | Stmt::AskAll(head) | Stmt::AskNot(head) => take_head(left, head),
-        Stmt::Group(body) | Stmt::NotGroup(body) | Stmt::First(body) => take_one(left, Work::Body(body)),
+        Stmt::Group(body) | Stmt::NotGroup(body) | Stmt::First(body) => take_one(
+            left,
+            Work::Body(body),
+        ),
         Stmt::Now(changes) => take_one(left, Work::Changes(changes.as_slice())),
         Stmt::If(arms, other) => take_choice(left, arms.as_slice(), other),
         Stmt::Exhaust(inner) | Stmt::Stoppable(inner) => take_one(left, Work::Stmt(inner.get())),
-        Stmt::Collect(value, body, into) | Stmt::Accumulate(value, body, into) => take_gathering(left, value, body, into),
+        Stmt::Collect(value, body, into) | Stmt::Accumulate(value, body, into) => take_gathering(
+            left, value, body, into,
+        ),
         Stmt::Select(mode, branches) => take_select(left, *mode, branches.as_slice()),
     }
 }
@@ -294,7 +384,11 @@ pub fn next<'a>(left: &mut Vec<Work<'a>>) -> Result<Option<Event<'a>>, AllocErro
     Ok(None)
 }
 
-fn start_rule<'a>(left: &mut Vec<Work<'a>>, head: &'a Head, body: &'a Body) -> Result<(), AllocError>
+fn start_rule<'a>(
+    left: &mut Vec<Work<'a>>,
+    head: &'a Head,
+    body: &'a Body,
+) -> Result<(), AllocError>
     ensures { OnOk result (left_of left.new.items ≡ walk (join (of_head (head_view head.now)) (of_body (body_view body.now))) ++ left_of left.old.items) }
 {
     put(left, Work::Body(body))?;

@@ -1,6 +1,4 @@
-use Rattle.std.proofs.Common.{◌≡◌, ◌∷◌, ◌∙◌, ap}
-use Rattle.dg_names.specs.Scopes as spec
-use Rattle.dg_names.specs.Scopes.{no_variables}
+use Rattle.std.proofs.Common.{◌∷◌, ◌∙◌, ap}
 use Rattle.dg_names.specs.State.{scope_view, stack_of, seen}
 use Rattle.dg_names.specs.declared.state.Scope.{Scope}
 use Rattle.dg_names.proofs.StateLemmas.{stack_push, noted_opened}
