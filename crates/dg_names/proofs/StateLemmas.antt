@@ -25,11 +25,3 @@ noted_closed old new o over outer inner full = record {
       ∙ ap (λ (b : Bool). b || passes es (scope_view new.inner) (stack_of new.outer.items)) (sym full);
   kept = λ e. sym full ∙ e;
 }
-
-pub noted_last : (old : Scopes) → old.outer.items ≡ [] → is_full (scope_view old.inner) ≡ false → IsNoted closed old old false
-noted_last old none full = record {
-  counted = λ es.
-      ap (passes (closed ∷ es) (scope_view old.inner)) (ap stack_of none)
-      ∙ sym (ap (passes es (scope_view old.inner)) (ap stack_of none));
-  kept = λ e. full;
-}

@@ -1,5 +1,5 @@
 -- Walks of joined mentions, and work put on what is left.
-use Rattle.std.proofs.Common.{◌≡◌, ◌+◌, ℕ, List, [], ◌∷◌, ◌++◌, Option, Some, None, Bor, length, map, refl, sym, ◌∙◌, ap, subst, append_assoc, arith}
+use Rattle.std.proofs.Common.{◌≡◌, ◌+◌, ℕ, List, [], ◌∷◌, ◌++◌, Option, Some, Bor, length, map, refl, sym, ◌∙◌, ap, subst, append_assoc, arith}
 use Rattle.std.specs.Prelude.{Result, IfOk}
 use Rattle.std.specs.Option.{option_map}
 use Rattle.std.specs.declared.alloc.AllocError.{AllocError}
@@ -12,7 +12,7 @@ use Rattle.dg_base.specs.declared.tree.Part.{Part}
 use Rattle.dg_base.specs.declared.tree.Stmt.{Stmt}
 use Rattle.dg_base.specs.declared.tree.Value.{Value}
 use Rattle.dg_names.specs.Mentions.{Mention, Mentions, nothing, mention, closure, query, object, word, variable, unnamed, branches, select, join, branches_in, of_parts, of_value, of_values, of_stmt, of_body, of_branches, of_arms}
-use Rattle.dg_names.specs.Walk.{Met, opened, closed, met, walk, event_view, happened, walk_of, left_of, size_of, parts_size, value_size, values_size, stmt_size, branches_size, arms_size, total, IsPut, IsStep}
+use Rattle.dg_names.specs.Walk.{Met, opened, closed, met, walk, happened, walk_of, left_of, size_of, parts_size, value_size, values_size, stmt_size, branches_size, arms_size, total, IsPut, IsStep}
 use Rattle.dg_names.proofs.Views.{value_seen, body_seen}
 use Rattle.dg_names.specs.declared.work.Event.{Event}
 use Rattle.dg_names.specs.declared.work.Work.{Work}
@@ -51,12 +51,6 @@ pub steps_as : (r : Result (Option Event) AllocError) (old new : List Work) (m m
 steps_as r old new m m' n n' step meets much =
     subst (λ (k : ℕ). IfOk r (IsStep m' k old new)) much (subst (λ (l : List Met). IfOk r (IsStep l n old new)) meets step)
 
-pub idle : (old : List Work) → IsStep [] 1 old old None
-idle old = record { walk = refl; size = omega arith }
-
-pub meets : (old : List Work) (e : Event) → IsStep (event_view e ∷ []) 1 old old (Some e)
-meets old e = record { walk = refl; size = omega arith }
-
 pub put_one : {old new : List Work} {w : Work} (e : Option Event) → IsPut w old new → IsStep (happened e ++ walk_of w) (1 + size_of w) old new e
 put_one {old = old} {new = new} {w = w} e p = record {
   walk = ap (λ (l : List Met). happened e ++ l) p.walk ∙ sym (append_assoc (happened e) (walk_of w) (left_of old));
@@ -69,17 +63,6 @@ put_two {old = old} {mid = mid} {new = new} {v = v} {w = w} e p q = record {
       ap (λ (l : List Met). happened e ++ l) (q.walk ∙ ap (λ (l : List Met). walk_of w ++ l) p.walk ∙ sym (append_assoc (walk_of w) (walk_of v) (left_of old)))
       ∙ sym (append_assoc (happened e) (walk_of w ++ walk_of v) (left_of old));
   size = let first = p.size in let second = q.size in omega (arith, first, second);
-}
-
-pub put_three : {old one two new : List Work} {u v w : Work} (e : Option Event) → IsPut u old one → IsPut v one two → IsPut w two new → IsStep (happened e ++ (walk_of w ++ (walk_of v ++ walk_of u))) (1 + (size_of w + (size_of v + size_of u))) old new e
-put_three {old = old} {one = one} {two = two} {new = new} {u = u} {v = v} {w = w} e p q r = record {
-  walk =
-      ap (λ (l : List Met). happened e ++ l)
-      (r.walk
-      ∙ ap (λ (l : List Met). walk_of w ++ l) (q.walk ∙ ap (λ (l : List Met). walk_of v ++ l) p.walk ∙ sym (append_assoc (walk_of v) (walk_of u) (left_of old)))
-      ∙ sym (append_assoc (walk_of w) (walk_of v ++ walk_of u) (left_of old)))
-      ∙ sym (append_assoc (happened e) (walk_of w ++ (walk_of v ++ walk_of u)) (left_of old));
-  size = let first = p.size in let second = q.size in let third = r.size in omega (arith, first, second, third);
 }
 
 -- ---- the steps of each kind
