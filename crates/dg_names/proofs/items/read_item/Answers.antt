@@ -1,0 +1,16 @@
+use Rattle.std.proofs.Common.{◌++◌, List, ◌∙◌, ap}
+use Rattle.dg_base.specs.TreeView.{said_view}
+use Rattle.dg_names.specs.Mentions.{of_said}
+use Rattle.dg_names.specs.Walk.{walk, left_of}
+use Rattle.dg_names.specs.declared.work.Work.{Work}
+use Rattle.dg_names.proofs.TellLemmas.{item_over, item_behind}
+use Rattle.dg_names.proofs.items.read_item.Goals as goal
+
+pub returns : goal.returns
+returns c =
+    let said = of_said (said_view c.args.said.now) in
+    let left = c.in_ok-start.ensures ∙ ap (λ (ws : List Work). walk said ++ left_of ws) c.new-left.ensures.items in
+    record {
+      over = item_over c.walk_on.result said _ left c.walk_on.ensures.over;
+      told = item_behind c.walk_on.result said _ _ _ left c.walk_on.ensures.told;
+    }

@@ -1,0 +1,7 @@
+pub mod Mentions
+pub mod Named
+pub mod Counts
+pub mod Walk
+pub mod Scopes
+pub mod State
+pub mod Faults

@@ -1,0 +1,14 @@
+//! The names of a source in order of first appearance, and its counts.
+#![tactic(auto)]
+
+mod items;
+mod laws;
+mod names;
+mod state;
+mod tally;
+mod variables;
+mod walk;
+mod work;
+
+pub use laws::one_answer;
+pub use state::Names;

@@ -1,0 +1,50 @@
+// What is counted so far.
+ghost use Rattle.std.specs.Prelude.{◌≤◌};
+ghost use Rattle.indexmap.specs.IndexSet.{index_set_len};
+
+use indexmap::IndexSet;
+
+/// The variables of a rule or a closure so far: the names, and how many have none.
+#[derive(Drop)]
+pub struct Scope<'a> {
+    pub names: Vec<&'a [u8]>,
+    pub unnamed: usize,
+}
+
+/// The scope that is open, and those outside it, the nearest last.
+#[derive(Drop)]
+pub struct Scopes<'a> {
+    pub inner: Scope<'a>,
+    pub outer: Vec<Scope<'a>>,
+}
+
+/// Names in order of first appearance.
+#[derive(Drop)]
+pub struct Sets {
+    pub preds: IndexSet<Vec<u8>>,
+    pub objects: IndexSet<Vec<u8>>,
+    pub words: IndexSet<Vec<u8>>,
+}
+
+/// Numbers of things in a source. One that is full stays so.
+#[derive(Clone, Copy)]
+pub struct Numbers {
+    pub closures: usize,
+    pub selects: usize,
+}
+
+/// The counts of a source.
+#[derive(Drop)]
+pub struct Tally {
+    pub sets: Sets,
+    pub numbers: Numbers,
+}
+
+/// The names of a source, in order of first appearance. At most 65,535 are predicates.
+#[derive(Drop)]
+pub struct Names {
+    pub preds: IndexSet<Vec<u8>>,
+    pub objects: IndexSet<Vec<u8>>,
+    pub words: IndexSet<Vec<u8>>,
+    ghost numbered: { index_set_len preds ≤ 65535 },
+}
