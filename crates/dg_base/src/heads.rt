@@ -51,15 +51,22 @@ fn push_parts(name: &mut Vec<u8>, parts: &[Part]) -> Result<(), AllocError>
     Ok(())
 }
 
-/// The name of a head: its words, and `$` for each place, in parentheses.
-pub fn name_of(alloc: Global, head: &Head) -> Result<Name, AllocError>
-    ensures { IfOk result (λ name. name ≡ spec.name_of (head_view head.now)) }
+/// The name of these parts: the words, and `$` for each place, in parentheses.
+pub fn name_of_parts(alloc: Global, parts: &[Part]) -> Result<Name, AllocError>
+    ensures { IfOk result (λ name. name ≡ spec.name_of (parts_of (map part_view parts.now))) }
 {
     let mut name = vec![in alloc; b'(']?;
-    if let [first, others @ ..] = head.parts.as_slice() {
+    if let [first, others @ ..] = parts {
         push_part(&mut name, first)?;
         push_parts(&mut name, others)?;
     }
     name.push(b')')?;
     Ok(Items::from_vec(name))
+}
+
+/// The name of a head: its words, and `$` for each place, in parentheses.
+pub fn name_of(alloc: Global, head: &Head) -> Result<Name, AllocError>
+    ensures { IfOk result (λ name. name ≡ spec.name_of (head_view head.now)) }
+{
+    name_of_parts(alloc, head.parts.as_slice())
 }

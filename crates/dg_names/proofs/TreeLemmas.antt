@@ -11,7 +11,7 @@ use Rattle.dg_base.specs.declared.refusal.ReadFault.TheVariants.{Refused}
 use Rattle.dg_names.specs.Mentions.{of_said}
 use Rattle.dg_names.specs.Named.{Named, at_depth, mentioned, names_of, names_in, predicate_in, object_in, word_in}
 use Rattle.dg_names.specs.Counts.{is_rule, has_excess, IsNamed}
-use Rattle.dg_names.specs.Faults.{IsFault}
+use Rattle.dg_base.specs.Faults.{IsFault}
 use Rattle.dg_names.specs.State.{Told, told, untold, has_many, rules_behind, passing}
 use Rattle.dg_names.proofs.FirstLemmas.{firsts_of}
 use Rattle.dg_names.proofs.NameLemmas.{passing_is_first, stepped, told_more}

@@ -4,4 +4,3 @@ pub mod Counts
 pub mod Walk
 pub mod Scopes
 pub mod State
-pub mod Faults

@@ -5,7 +5,7 @@ ghost use Rattle.dg_base.specs.Heads.{name_of as head_name};
 ghost use Rattle.dg_base.specs.Tree.{Item};
 ghost use Rattle.dg_base.specs.TreeView.{head_view, said_view, tree_view};
 ghost use Rattle.dg_names.specs.Counts.{IsNamed};
-ghost use Rattle.dg_names.specs.Faults.{IsFault};
+ghost use Rattle.dg_base.specs.Faults.{IsFault};
 ghost use Rattle.dg_names.specs.State.{names_view, rules_behind};
 
 use crate::items::{add_item, is_rule};

@@ -17,7 +17,7 @@ use Rattle.dg_reader.proofs.Closing.{run-append}
 use Rattle.dg_reader.proofs.Laws.{Says, outcome_says}
 use Rattle.dg_reader.specs.Read.{toks, all_behind, begins_item, IsFront, is_topic, behind_topic, said_of, IsItemAt, ReadTo, IsFaultOf, IsRefusedAt, not_closed, not_expected, not_allowed, IsRefusedIn, IsRead}
 use Rattle.dg_reader.specs.Heads.{fault_in}
-use Rattle.dg_reader.specs.Faults.{IsFault}
+use Rattle.dg_base.specs.Faults.{IsFault}
 use Rattle.dg_reader.proofs.FaultLemmas.{fault_map}
 
 toks_seen : (ts : List Token) → map token_view ts ≡ toks (map seen ts)

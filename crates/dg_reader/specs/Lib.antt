@@ -10,6 +10,5 @@ pub mod StackSums
 pub mod Named
 pub mod Weights
 pub mod Heads
-pub mod Faults
 pub mod Read
 pub mod Sizes

@@ -4,7 +4,7 @@ ghost use Rattle.dg_base.specs.TreeView.{said_view, item_view, tree_view};
 ghost use Rattle.dg_lex.specs.Tokens.{seen};
 ghost use Rattle.dg_reader.specs.Heads.{fault_in};
 ghost use Rattle.dg_reader.specs.Items.{shape_view, IsTold};
-ghost use Rattle.dg_reader.specs.Faults.{IsFault};
+ghost use Rattle.dg_base.specs.Faults.{IsFault};
 ghost use Rattle.dg_reader.specs.Read as spec;
 
 use crate::heads;

@@ -5,7 +5,7 @@ use Rattle.dg_base.specs.Tree.{Item}
 use Rattle.dg_base.specs.TreeView.{item_view}
 use Rattle.dg_base.specs.declared.tree.Item.{Item as CodeItem}
 use Rattle.dg_base.specs.declared.refusal.ReadFault.{ReadFault}
-use Rattle.dg_reader.specs.Faults.{IsFault}
+use Rattle.dg_base.specs.Faults.{IsFault}
 use Rattle.dg_reader.proofs.FaultLemmas.{fault_map}
 use Rattle.dg_reader.proofs.ReadLemmas.{read_one}
 use Rattle.dg_base.specs.declared.program.CoreProgram.{CoreProgram as Core}

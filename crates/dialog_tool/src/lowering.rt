@@ -5,7 +5,7 @@ ghost use Rattle.std.specs.Str.{bytes_eq};
 ghost use Rattle.dg_base.specs.Tree.{stmts_of, Item as PlainItem};
 ghost use Rattle.dg_base.specs.Names.{name_among};
 ghost use Rattle.dg_base.specs.TreeView.{head_view, stmt_view, body_view, said_view, item_view};
-ghost use Rattle.dg_reader.specs.Faults.{IsFault};
+ghost use Rattle.dg_base.specs.Faults.{IsFault};
 ghost use Rattle.dialog_tool.specs.Plain as spec;
 
 use crate::plain::first_unbuilt;

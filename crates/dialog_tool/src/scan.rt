@@ -5,7 +5,7 @@ ghost use Rattle.dg_lex.specs.Bad.{lines};
 ghost use Rattle.dg_lex.specs.Tokens.{seen};
 ghost use Rattle.dialog_tool.specs.Scan as spec;
 ghost use Rattle.dialog_tool.specs.Command.{are_digits};
-ghost use Rattle.dg_reader.specs.Faults.{IsFault};
+ghost use Rattle.dg_base.specs.Faults.{IsFault};
 
 use dg_base::{Kind, ReadFault, Refusal, builtin_of, is_keyword, is_refused_name};
 use dg_lex::{Token, TokenKind, lex};

@@ -4,7 +4,7 @@ ghost use Rattle.dg_base.specs.TreeView.{tree_view};
 ghost use Rattle.dg_lex.specs.Tokens.{seen};
 ghost use Rattle.dg_meaning.specs.Built.{IsBuilt};
 ghost use Rattle.dg_reader.specs.Read.{IsRead};
-ghost use Rattle.dg_reader.specs.Faults.{IsFault};
+ghost use Rattle.dg_base.specs.Faults.{IsFault};
 ghost use Rattle.dialog_tool.specs.Source.{Compiles};
 
 use crate::lowering::lower;

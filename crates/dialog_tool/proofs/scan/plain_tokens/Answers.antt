@@ -1,5 +1,5 @@
 use Rattle.std.proofs.Common.{sym, subst}
-use Rattle.dg_reader.specs.Faults.{IsFault}
+use Rattle.dg_base.specs.Faults.{IsFault}
 use Rattle.dialog_tool.specs.Scan.{IsNotBuilt}
 use Rattle.dialog_tool.proofs.PlainText.{only_memory}
 use Rattle.dialog_tool.proofs.scan.plain_tokens.Goals as goal
