@@ -6,6 +6,7 @@ mod cells;
 mod heads;
 mod laws;
 mod names;
+mod pieces;
 mod program;
 mod refusal;
 mod run;
@@ -23,6 +24,7 @@ pub use names::{
     BUILTINS, Builtin, KEYWORDS, PRELUDE_NAMES, REFUSED_NAMES, builtin_of, is_keyword,
     is_prelude_name, is_refused_name,
 };
+pub use pieces::Pieces;
 pub use program::{
     ArithOp, ClosureBody, CompareOp, CoreProgram, GapKind, Goal, Mode, Name, Place, PlaceKind,
     Pred, Rule, Term, TestKind,

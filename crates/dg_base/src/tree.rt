@@ -1,5 +1,6 @@
 // The tree of a source.
 
+use crate::pieces::Pieces;
 use crate::program::{Mode, Name};
 use sqlite_items::{Boxed, Items};
 
@@ -95,8 +96,30 @@ pub struct Item {
     pub body: ItemBody,
 }
 
-/// The tree of a source.
-#[derive(Drop)]
+/// The tree of a source. It is let go without recursion.
 pub struct Tree {
     pub items: Items<Item>,
+}
+
+impl Drop for Tree {
+    fn drop(self) {
+        let Tree { items } = self;
+        let_go_items(items);
+    }
+}
+
+// Lets go of items one by one.
+fn let_go_items(mut items: Items<Item>) {
+    for _ in 0..u64::MAX {
+        match items.pop() {
+            Some(item) => let_go_item(item),
+            None => return,
+        }
+    }
+}
+
+fn let_go_item(item: Item) {
+    let mut pieces = Pieces::new();
+    pieces.add_item(item);
+    pieces.let_go();
 }
