@@ -15,5 +15,7 @@ pub mod FaultLemmas
 pub mod ReadLemmas
 pub mod ItemLemmas
 pub mod HeadLemmas
+mod DistinctLemmas
 pub mod Told
+pub mod Queries
 pub mod Stops

@@ -10,5 +10,6 @@ pub mod StackSums
 pub mod Named
 pub mod Weights
 pub mod Heads
+pub mod Distinct
 pub mod Read
 pub mod Sizes

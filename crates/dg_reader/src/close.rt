@@ -1,6 +1,5 @@
 // What a bracket closes.
 ghost use Rattle.std.specs.Prelude.{◌≡◌, map, Err};
-ghost use Rattle.dg_reader.specs.declared.frames.Stop.TheVariants.{Unexpected};
 ghost use Rattle.dg_base.specs.Tree as tree;
 ghost use Rattle.dg_base.specs.TreeView.{part_view, value_view, stmt_view, branch_view};
 ghost use Rattle.dg_reader.specs.Grammar.{keyword_of};
@@ -14,7 +13,9 @@ use crate::forms::{
 use crate::frames::{Asking, Frame, Owner, Sign, Stop};
 use crate::keyword::{Closed, Keyword, close_parenthesis};
 use crate::open::new_body;
-use crate::put::{put_change, put_frame, put_printed, put_stmt, put_value};
+use crate::put::{
+    put_change, put_frame, put_printed, put_stmt, put_value, refuse, refuse_body, refuse_keyword,
+};
 use dg_base::{Items, Part, Stmt};
 use std::alloc::Global;
 
@@ -33,7 +34,7 @@ fn close_head(
             }
             put_frame(stack, new_body(alloc, Owner::Item(sign, head(parts))))
         }
-        Closed::Keyword(_) => Err(Stop::Unexpected),
+        Closed::Keyword(keyword) => refuse_keyword(keyword),
     }
 }
 
@@ -47,7 +48,7 @@ fn close_nested(stack: &mut Vec<Frame>, parts: Items<Part>) -> Result<(), Stop>
             }
             put_value(stack, nested(parts))
         }
-        Closed::Keyword(_) => Err(Stop::Unexpected),
+        Closed::Keyword(keyword) => refuse_keyword(keyword),
     }
 }
 
@@ -61,7 +62,7 @@ fn keyword_asked(
 {
     match asking {
         Asking::ForOne => put_keyword(alloc, stack, keyword),
-        _ => Err(Stop::Unexpected),
+        _ => refuse_keyword(keyword),
     }
 }
 
@@ -99,7 +100,7 @@ fn close_change(
             }
             put_change(alloc, stack, head(parts), set)
         }
-        Closed::Keyword(_) => Err(Stop::Unexpected),
+        Closed::Keyword(keyword) => refuse_keyword(keyword),
     }
 }
 
@@ -112,7 +113,8 @@ pub fn close_paren(alloc: Global, stack: &mut Vec<Frame>) -> Result<(), Stop>
         Some(Frame::InNested(_, parts)) => close_nested(stack, parts),
         Some(Frame::InQuery(asking, parts)) => close_query(alloc, stack, asking, parts),
         Some(Frame::InChange(set, parts)) => close_change(alloc, stack, set, parts),
-        _ => Err(Stop::Unexpected),
+        Some(frame) => refuse(frame),
+        None => Err(Stop::Unexpected),
     }
 }
 
@@ -126,7 +128,8 @@ pub fn close_list(alloc: Global, stack: &mut Vec<Frame>) -> Result<(), Stop>
             let list = tailed_list(alloc, values, tail)?;
             put_printed(alloc, stack, list)
         }
-        _ => Err(Stop::Unexpected),
+        Some(frame) => refuse(frame),
+        None => Err(Stop::Unexpected),
     }
 }
 
@@ -139,23 +142,12 @@ fn close_owner(
 ) -> Result<(), Stop>
     ensures { Moves (machine.body_closes (owner_view owner) (machine.body_of (map branch_view branches) (map stmt_view stmts)) (stack_view stack.old.items)) result (stack_view stack.new.items) }
 {
-    let inside = body(branches, stmts)?;
     match owner {
-        Owner::Group => put_stmt(alloc, stack, group(inside)),
-        Owner::NotGroup => put_stmt(alloc, stack, not_group(inside)),
-        Owner::Closure => put_value(stack, closure(inside)),
-        _ => Err(Stop::Unexpected),
+        Owner::Group => put_stmt(alloc, stack, group(body(branches, stmts)?)),
+        Owner::NotGroup => put_stmt(alloc, stack, not_group(body(branches, stmts)?)),
+        Owner::Closure => put_value(stack, closure(body(branches, stmts)?)),
+        other => refuse_body(other, branches, stmts),
     }
-}
-
-fn refuse_body(
-    _owner: Owner,
-    _branches: Items<Items<Stmt>>,
-    _stmts: Items<Stmt>,
-) -> Result<(), Stop>
-    ensures { result ≡ Err Unexpected }
-{
-    Err(Stop::Unexpected)
 }
 
 /// The brace of a body, or of changes, closes.
@@ -171,6 +163,7 @@ pub fn close_body(alloc: Global, stack: &mut Vec<Frame>) -> Result<(), Stop>
             }
         }
         Some(Frame::InChanges(changes)) => put_stmt(alloc, stack, now(changes)),
-        _ => Err(Stop::Unexpected),
+        Some(frame) => refuse(frame),
+        None => Err(Stop::Unexpected),
     }
 }

@@ -13,7 +13,8 @@ use crate::forms::{
 use crate::frames::{Frame, Owner, Stop, Wrapper};
 use crate::keyword::{Bare, Keyword};
 use crate::open::new_body;
-use crate::put::{put_frame, put_stmt};
+use crate::put::{put_frame, put_stmt, refuse, refuse_body, refuse_keyword};
+use crate::release::let_go_keyword;
 use dg_base::{Items, Mode, Stmt, Value};
 use std::alloc::Global;
 
@@ -54,7 +55,7 @@ fn begin(stack: &mut Vec<Frame>, frame: Frame) -> Result<(), Stop>
 {
     match stack.last() {
         Some(Frame::InBody(_, _, _, _)) => put_frame(stack, frame),
-        _ => Err(Stop::Unexpected),
+        _ => refuse(frame),
     }
 }
 
@@ -100,7 +101,7 @@ fn end_condition(
             let condition = body(branches, stmts)?;
             put_frame(stack, new_body(alloc, Owner::Then(arms, condition)))
         }
-        _ => Err(Stop::Unexpected),
+        other => refuse_body(other, branches, stmts),
     }
 }
 
@@ -118,7 +119,7 @@ fn next_condition(
             let arms = one_more_arm(arms, condition, body(branches, stmts)?)?;
             put_frame(stack, new_body(alloc, Owner::Condition(arms)))
         }
-        _ => Err(Stop::Unexpected),
+        other => refuse_body(other, branches, stmts),
     }
 }
 
@@ -136,7 +137,7 @@ fn begin_else(
             let arms = one_more_arm(arms, condition, body(branches, stmts)?)?;
             put_frame(stack, new_body(alloc, Owner::Else(arms)))
         }
-        _ => Err(Stop::Unexpected),
+        other => refuse_body(other, branches, stmts),
     }
 }
 
@@ -158,7 +159,7 @@ fn end_choice(
             let other = body(branches, stmts)?;
             put_stmt(alloc, stack, choice_else(arms, other))
         }
-        _ => Err(Stop::Unexpected),
+        other => refuse_body(other, branches, stmts),
     }
 }
 
@@ -177,7 +178,7 @@ fn end_select(
             let branches = all_branches(branches, stmts)?;
             put_stmt(alloc, stack, select(mode, branches))
         }
-        _ => Err(Stop::Unexpected),
+        other => refuse_body(other, branches, stmts),
     }
 }
 
@@ -200,7 +201,7 @@ fn end_gathering(
             let inside = body(branches, stmts)?;
             put_stmt(alloc, stack, accumulate(value, inside, into))
         }
-        _ => Err(Stop::Unexpected),
+        other => refuse_body(other, branches, stmts),
     }
 }
 
@@ -221,8 +222,20 @@ fn end_bare(
         Bare::Else => begin_else(alloc, stack, owner, branches, stmts),
         Bare::Endif => end_choice(alloc, stack, owner, branches, stmts),
         Bare::End(mode) => end_select(alloc, stack, mode, owner, branches, stmts),
-        _ => Err(Stop::Unexpected),
+        _ => refuse_body(owner, branches, stmts),
     }
+}
+
+fn refuse_end(
+    keyword: Keyword,
+    owner: Owner,
+    branches: Items<Items<Stmt>>,
+    stmts: Items<Stmt>,
+) -> Result<(), Stop>
+    ensures { result ≡ Err Unexpected }
+{
+    let_go_keyword(keyword);
+    refuse_body(owner, branches, stmts)
 }
 
 fn end_keyword(
@@ -238,25 +251,8 @@ fn end_keyword(
     match keyword {
         Keyword::Bare(bare) => end_bare(alloc, stack, bare, owner, branches, stmts),
         Keyword::Into(value) => end_gathering(alloc, stack, value, owner, branches, stmts),
-        _ => Err(Stop::Unexpected),
+        other => refuse_end(other, owner, branches, stmts),
     }
-}
-
-fn refuse_keyword(_keyword: Keyword) -> Result<(), Stop>
-    ensures { result ≡ Err Unexpected }
-{
-    Err(Stop::Unexpected)
-}
-
-fn refuse_end(
-    _keyword: Keyword,
-    _owner: Owner,
-    _branches: Items<Items<Stmt>>,
-    _stmts: Items<Stmt>,
-) -> Result<(), Stop>
-    ensures { result ≡ Err Unexpected }
-{
-    Err(Stop::Unexpected)
 }
 
 fn end(alloc: Global, stack: &mut Vec<Frame>, keyword: Keyword) -> Result<(), Stop>

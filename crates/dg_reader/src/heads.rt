@@ -11,6 +11,7 @@ ghost use Rattle.dg_reader.specs.Read.{declared, signed, said_of};
 ghost use Rattle.dg_reader.specs.Sizes.{is_atom, elements_of, all_constant, work, value_size, values_size};
 ghost use Rattle.dg_reader.specs.Weights.{has_refused, has_topic};
 
+use crate::distinct::are_distinct_variables;
 use crate::frames::Sign;
 use crate::item::{Found, Shape};
 use crate::open::declares;
@@ -71,45 +72,6 @@ fn queries_have_values(parts: &[Part]) -> bool
     true
 }
 
-fn is_variable(part: &Part, name: &[u8]) -> bool
-    ensures { result ≡ spec.is_variable name.now (part_view part.now) }
-{
-    match part {
-        Part::Value(Value::Var(found)) => found.as_slice() == name,
-        _ => false,
-    }
-}
-
-fn has_variable(parts: &[Part], name: &[u8]) -> bool
-    ensures { result ≡ spec.has_variable name.now (parts_of (map part_view parts.now)) }
-{
-    for part in parts {
-        if is_variable(part, name) {
-            return true;
-        }
-    }
-    false
-}
-
-fn are_distinct_variables(parts: &[Part]) -> bool
-    ensures { result ≡ spec.are_distinct_variables (parts_of (map part_view parts.now)) }
-{
-    let mut at = 0;
-    while at < parts.len() {
-        match &parts[at] {
-            Part::Word(_) => {}
-            Part::Value(Value::Var(name)) => {
-                if has_variable(&parts[at + 1..], name.as_slice()) {
-                    return false;
-                }
-            }
-            Part::Value(_) => return false,
-        }
-        at += 1;
-    }
-    true
-}
-
 fn is_query(stmt: &Stmt) -> bool
     ensures { result ≡ spec.is_query_stmt (stmt_view stmt.now) }
 {
@@ -163,12 +125,24 @@ fn is_empty_body(body: &Body) -> bool
     }
 }
 
-fn keeps_access_rules(sign: Sign, head: &Head, body: &Body) -> bool
-    ensures { result ≡ spec.keeps_access_rules (sign_view sign) (head_view head.now) (body_view body.now) }
+fn is_access_rule(alloc: Global, head: &Head, body: &Body) -> Result<bool, AllocError>
+    ensures { IfOk result (λ keeps. keeps ≡ (spec.are_distinct_variables (head_view head.now) && spec.is_access_body (body_view body.now))) }
+{
+    let distinct = are_distinct_variables(alloc, head.parts.as_slice())?;
+    Ok(distinct && is_access_body(body))
+}
+
+fn keeps_access_rules(
+    alloc: Global,
+    sign: Sign,
+    head: &Head,
+    body: &Body,
+) -> Result<bool, AllocError>
+    ensures { IfOk result (λ keeps. keeps ≡ spec.keeps_access_rules (sign_view sign) (head_view head.now) (body_view body.now)) }
 {
     match sign {
-        Sign::Access => are_distinct_variables(head.parts.as_slice()) && is_access_body(body),
-        _ => true,
+        Sign::Access => is_access_rule(alloc, head, body),
+        _ => Ok(true),
     }
 }
 
@@ -317,6 +291,19 @@ fn keeps_declaration_rules(
     }
 }
 
+// The rules of heads that declare nothing.
+fn keeps_clause_rules(
+    alloc: Global,
+    sign: Sign,
+    head: &Head,
+    body: &Body,
+) -> Result<bool, AllocError>
+    ensures { IfOk result (λ keeps. keeps ≡ (spec.queries_have_values (head_view head.now) && spec.keeps_access_rules (sign_view sign) (head_view head.now) (body_view body.now))) }
+{
+    let keeps = keeps_access_rules(alloc, sign, head, body)?;
+    Ok(queries_have_values(head.parts.as_slice()) && keeps)
+}
+
 fn keeps_own_rules(alloc: Global, sign: Sign, head: &Head, body: &Body) -> Result<bool, AllocError>
     ensures { IfOk result (λ keeps. keeps ≡ spec.keeps_own_rules (sign_view sign) (head_view head.now) (body_view body.now)) }
 {
@@ -324,7 +311,7 @@ fn keeps_own_rules(alloc: Global, sign: Sign, head: &Head, body: &Body) -> Resul
     if declares(parts) {
         keeps_declaration_rules(alloc, sign, head, body)
     } else {
-        Ok(queries_have_values(parts) && keeps_access_rules(sign, head, body))
+        keeps_clause_rules(alloc, sign, head, body)
     }
 }
 

@@ -1,5 +1,5 @@
 // The shape of an item, from its tokens.
-ghost use Rattle.std.specs.Prelude.{◌≡◌, ◌∷◌, [], map, true, None, Some, Ok, IfOk, OnOk};
+ghost use Rattle.std.specs.Prelude.{◌≡◌, ◌∷◌, [], map, true, None, Some, Ok, Err, IfOk, OnOk};
 ghost use Rattle.std.specs.Option.{option_map};
 ghost use Rattle.dg_base.specs.TreeView.{stmt_view, branch_view};
 ghost use Rattle.dg_reader.specs.Grammar.{IsUnexpectedAt};
@@ -11,6 +11,7 @@ ghost use Rattle.dg_reader.specs.declared.item.ShapeFault.TheVariants.{OutOfMemo
 
 use crate::forms::body;
 use crate::frames::{Frame, Owner, Sign, Stop};
+use crate::release::{let_go_body, let_go_frame, let_go_frames};
 use crate::step::step;
 use crate::weights::{adds_refused, adds_topic};
 use dg_base::{Body, Head, Items, Name, Stmt};
@@ -76,17 +77,18 @@ fn finished_body(
             let body = body(branches, stmts)?;
             Ok(Some(Shape::Clause(sign, head, body)))
         }
-        _ => Ok(None),
+        other => no_shape(other, branches, stmts),
     }
 }
 
 fn no_shape(
-    _owner: Owner,
-    _branches: Items<Items<Stmt>>,
-    _stmts: Items<Stmt>,
+    owner: Owner,
+    branches: Items<Items<Stmt>>,
+    stmts: Items<Stmt>,
 ) -> Result<Option<Shape>, AllocError>
     ensures { result ≡ Ok None }
 {
+    let_go_body(owner, branches, stmts);
     Ok(None)
 }
 
@@ -103,14 +105,22 @@ fn finished_frame(frame: Frame) -> Result<Option<Shape>, AllocError>
                 no_shape(owner, branches, stmts)
             }
         }
-        _ => Ok(None),
+        other => unfinished(other),
     }
 }
 
-fn not_alone(_frame: Frame) -> Result<Option<Shape>, AllocError>
+fn unfinished(frame: Frame) -> Result<Option<Shape>, AllocError>
     ensures { result ≡ Ok None }
 {
+    let_go_frame(frame);
     Ok(None)
+}
+
+fn not_alone(frame: Frame, outer: Vec<Frame>) -> Result<Option<Shape>, AllocError>
+    ensures { result ≡ Ok None }
+{
+    let_go_frames(outer);
+    unfinished(frame)
 }
 
 // The item that stands open and may end here.
@@ -123,7 +133,7 @@ fn finished(mut stack: Vec<Frame>) -> Result<Option<Shape>, AllocError>
             if stack.is_empty() {
                 finished_frame(frame)
             } else {
-                not_alone(frame)
+                not_alone(frame, stack)
             }
         }
         None => Ok(None),
@@ -156,6 +166,14 @@ fn begin(alloc: Global) -> Result<Reading, AllocError>
     })
 }
 
+// The token of this number may not stand behind what was read.
+fn stopped(reading: Reading, index: usize) -> Result<Reading, ShapeFault>
+    ensures { result ≡ Err (ShapeFault.Unexpected index) }
+{
+    let_go_frames(reading.stack);
+    Err(ShapeFault::Unexpected(index))
+}
+
 // What stands open behind all tokens.
 fn run(alloc: Global, tokens: &[Token<'_>]) -> Result<Reading, ShapeFault>
     ensures ok { IfOk result (λ reading. machine.run (map token_view tokens.now) (machine.start ∷ []) ≡ Some (stack_view reading.stack.items)) }
@@ -167,7 +185,7 @@ fn run(alloc: Global, tokens: &[Token<'_>]) -> Result<Reading, ShapeFault>
     for index in 0..tokens.len() {
         match take(alloc, &mut reading, &tokens[index]) {
             Ok(()) => {}
-            Err(Stop::Unexpected) => return Err(ShapeFault::Unexpected(index)),
+            Err(Stop::Unexpected) => return stopped(reading, index),
             Err(Stop::OutOfMemory) => return Err(ShapeFault::OutOfMemory),
         }
     }

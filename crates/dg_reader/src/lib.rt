@@ -10,6 +10,7 @@ ghost use Rattle.dg_reader.specs.Read.{IsRead};
 ghost use Rattle.dg_reader.specs.Tokens.{Tok};
 
 mod close;
+mod distinct;
 mod ends;
 mod forms;
 mod frames;
@@ -19,6 +20,7 @@ mod keyword;
 mod names;
 mod open;
 mod put;
+mod release;
 mod source;
 mod step;
 mod weights;

@@ -7,7 +7,9 @@ ghost use Rattle.dg_reader.specs.declared.frames.Stop.TheVariants.{Unexpected};
 ghost use Rattle.dg_reader.specs.Frames.{stack_view, frame_view, Moves};
 
 use crate::forms::{change, dict_word, now, num, print, text, value_part, word_part, wrapped};
-use crate::frames::{Frame, Stop};
+use crate::frames::{Frame, Owner, Stop};
+use crate::keyword::Keyword;
+use crate::release::{let_go_body, let_go_frame, let_go_keyword};
 use crate::words::{element, is_number, number};
 use dg_base::{Head, Items, Name, NowChange, Part, Stmt, Value};
 use std::alloc::Global;
@@ -21,9 +23,30 @@ pub fn put_frame(stack: &mut Vec<Frame>, frame: Frame) -> Result<(), Stop>
 }
 
 /// A token may not stand in this.
-pub fn refuse(_frame: Frame) -> Result<(), Stop>
+pub fn refuse(frame: Frame) -> Result<(), Stop>
     ensures { result ≡ Err Unexpected }
 {
+    let_go_frame(frame);
+    Err(Stop::Unexpected)
+}
+
+/// A keyword may not stand there.
+pub fn refuse_keyword(keyword: Keyword) -> Result<(), Stop>
+    ensures { result ≡ Err Unexpected }
+{
+    let_go_keyword(keyword);
+    Err(Stop::Unexpected)
+}
+
+/// A body may not end there.
+pub fn refuse_body(
+    owner: Owner,
+    branches: Items<Items<Stmt>>,
+    stmts: Items<Stmt>,
+) -> Result<(), Stop>
+    ensures { result ≡ Err Unexpected }
+{
+    let_go_body(owner, branches, stmts);
     Err(Stop::Unexpected)
 }
 

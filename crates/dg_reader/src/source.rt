@@ -9,7 +9,8 @@ ghost use Rattle.dg_reader.specs.Read as spec;
 
 use crate::heads;
 use crate::heads::said_of;
-use crate::item::{Found, ShapeFault, find};
+use crate::item::{Found, Shape, ShapeFault, find};
+use crate::release::let_go_shape;
 use dg_base::{Item, ItemBody, Items, Kind, ReadFault, Refusal, Tree};
 use dg_lex::Token;
 use std::alloc::Global;
@@ -36,6 +37,14 @@ fn refusal(kind: Kind, line: u32) -> ReadFault
     ReadFault::Refused(Refusal { kind, line })
 }
 
+// An item of this shape is refused.
+fn refused(shape: Shape, kind: Kind, line: u32) -> Result<Item, ReadFault>
+    ensures { result ≡ Err (ReadFault.Refused (record { kind = kind; line = line })) }
+{
+    let_go_shape(shape);
+    Err(refusal(kind, line))
+}
+
 // An item of this shape, where it has no fault.
 fn allowed(alloc: Global, before: bool, line: u32, found: Found) -> Result<Item, ReadFault>
     requires { IsTold found }
@@ -47,7 +56,7 @@ fn allowed(alloc: Global, before: bool, line: u32, found: Found) -> Result<Item,
             line,
             body: said_of(found.shape),
         }),
-        Ok(Some(kind)) => Err(refusal(kind, line)),
+        Ok(Some(kind)) => refused(found.shape, kind, line),
         Err(_) => Err(ReadFault::OutOfMemory),
     }
 }
@@ -82,7 +91,9 @@ pub fn read(alloc: Global, tokens: &[Token<'_>]) -> Result<Tree, ReadFault>
     ensures tree { IfOk result (λ tree. spec.IsRead (map seen tokens.now) (Ok (tree_view tree))) }
     ensures refused { IfErr result (IsFault (λ r. spec.IsRead (map seen tokens.now) (Err r))) }
 {
-    let mut items = Items::new(alloc);
+    let mut tree = Tree {
+        items: Items::new(alloc),
+    };
     let mut topic = false;
     let mut at = 0;
     while at < tokens.len() {
@@ -90,11 +101,11 @@ pub fn read(alloc: Global, tokens: &[Token<'_>]) -> Result<Tree, ReadFault>
         match item_of(alloc, topic, &tokens[at..at + count]) {
             Ok(item) => {
                 topic |= is_topic(&item.body);
-                items.push(item)?;
+                tree.items.push(item)?;
             }
             Err(fault) => return Err(fault),
         }
         at += count;
     }
-    Ok(Tree { items })
+    Ok(tree)
 }

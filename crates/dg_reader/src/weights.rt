@@ -23,7 +23,8 @@ fn is_refused_query(alloc: Global, parts: &[Part]) -> Result<bool, AllocError>
     if is_keyword(parts) {
         return Ok(false);
     }
-    refuses(alloc, parts)
+    let refused = refuses(alloc, parts)?;
+    Ok(refused)
 }
 
 fn closes_refused(alloc: Global, stack: &[Frame]) -> Result<bool, AllocError>

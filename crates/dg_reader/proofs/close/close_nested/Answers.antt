@@ -4,8 +4,8 @@ use Rattle.dg_reader.specs.Frames.{stack_view, Moves}
 use Rattle.dg_reader.proofs.Closed.{nests}
 use Rattle.dg_reader.proofs.close.close_nested.Goals as goal
 
-pub returns-in-Query : goal.returns-in-Query
-returns-in-Query c =
+pub returns-else-is_empty : goal.returns-else-is_empty
+returns-else-is_empty c =
     let closed = c.in-Query.ensures in
     let empty = c.if-is_empty.ensures in
     subst (λ (o : Option Stack). Moves o c.put_value.result (stack_view c.put_value.new.stack.items))

@@ -1,5 +1,8 @@
-use Rattle.std.proofs.Common.{◌∙◌}
+use Rattle.std.proofs.Common.{Result, subst, sym, ◌∙◌}
+use Rattle.dg_reader.specs.declared.item.Reading.{Reading}
+use Rattle.dg_reader.specs.declared.item.ShapeFault.{ShapeFault}
 use Rattle.dg_reader.specs.Frames.{stack_view}
+use Rattle.dg_reader.specs.Items.{OnUnexpected, StopsAt}
 use Rattle.dg_reader.proofs.Laws.{run_more}
 use Rattle.dg_reader.proofs.item.run.Goals as goal
 
@@ -12,9 +15,10 @@ loop-index-preserved c = record {
 pub returns-in-Err-Unexpected-clause-unexpected : goal.returns-in-Err-Unexpected-clause-unexpected
 returns-in-Err-Unexpected-clause-unexpected c =
     let stops = rw c.in-Err-Unexpected.field-0-is at c.in-Err-Unexpected.ensures.moves in
-    record {
+    subst (λ (r : Result Reading ShapeFault). OnUnexpected r (λ index. StopsAt c.args.tokens.now index)) (sym c.stopped.ensures)
+    (record {
       within = c.loop-index-test.true;
       before = stack_view c.loop-index.reading.stack.items;
       taken = c.loop-index.invariant.taken;
       stops = run_more c.args.tokens.now c.loop-index.index _ (stack_view c.loop-index.reading.stack.items) c.loop-index-test.true c.loop-index.invariant.taken ∙ stops;
-    }
+    })

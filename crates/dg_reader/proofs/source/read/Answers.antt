@@ -13,14 +13,14 @@ item_of-requires-clause-alone c = alone_here c.args.tokens.now c.loop-at.at c.be
 
 pub returns-in-Err-clause-refused : goal.returns-in-Err-clause-refused
 returns-in-Err-clause-refused c =
-    read_stops c.loop-at.topic c.args.tokens.now (map item_view c.loop-at.items) c.loop-at.at c.behind-count.result c.in-Err.fault c.loop-at.invariant.topics c.loop-at.invariant.so_far c.in-Err.ensures.refused c.behind-count.ensures.alone c.behind-count.ensures.ends
+    read_stops c.loop-at.topic c.args.tokens.now (map item_view c.loop-at.tree.items) c.loop-at.at c.behind-count.result c.in-Err.fault c.loop-at.invariant.topics c.loop-at.invariant.so_far c.in-Err.ensures.refused c.behind-count.ensures.alone c.behind-count.ensures.ends
 
 pub loop-at-preserved : goal.loop-at-preserved
 loop-at-preserved c =
-    let pushed = ap (map item_view) c.in_ok-push-in-Ok.ensures.ok ∙ map-append item_view c.loop-at.items (c.in-Ok.item ∷ []) in
+    let pushed = ap (map item_view) c.in_ok-push-in-Ok.ensures.ok ∙ map-append item_view c.loop-at.tree.items (c.in-Ok.item ∷ []) in
     record {
       so_far = subst (λ (l : List Item). ReadTo false (map seen c.args.tokens.now) l (map seen (drop (c.loop-at.at + (c.behind-count.result + 1)) c.args.tokens.now))) (sym pushed)
-          (read_on c.loop-at.topic c.args.tokens.now (map item_view c.loop-at.items) c.loop-at.at c.behind-count.result (item_view c.in-Ok.item) c.loop-at.invariant.topics c.loop-at.invariant.so_far c.in-Ok.ensures.item c.behind-count.ensures.ends);
-      topics = ap (λ (b : Bool). c.loop-at.topic || b) c.is_topic-topic.ensures ∙ ap (λ (b : Bool). b || is_topic (item_view c.in-Ok.item).said) c.loop-at.invariant.topics ∙ sym (behind_topic-push false (map item_view c.loop-at.items) (item_view c.in-Ok.item)) ∙ ap (behind_topic false) (sym pushed);
+          (read_on c.loop-at.topic c.args.tokens.now (map item_view c.loop-at.tree.items) c.loop-at.at c.behind-count.result (item_view c.in-Ok.item) c.loop-at.invariant.topics c.loop-at.invariant.so_far c.in-Ok.ensures.item c.behind-count.ensures.ends);
+      topics = ap (λ (b : Bool). c.loop-at.topic || b) c.is_topic-topic.ensures ∙ ap (λ (b : Bool). b || is_topic (item_view c.in-Ok.item).said) c.loop-at.invariant.topics ∙ sym (behind_topic-push false (map item_view c.loop-at.tree.items) (item_view c.in-Ok.item)) ∙ ap (behind_topic false) (sym pushed);
       within = grind (arith, common_steps);
     }

@@ -6,8 +6,8 @@ use Rattle.dg_reader.proofs.source.read.Given as goal
 
 abbrev pub invariant-loop-at : goal.invariant-loop-at
 invariant-loop-at l = record {
-  so_far : ReadTo false (map seen l.tokens) (map item_view l.items) (map seen (drop l.at l.tokens));
-  topics : l.topic ≡ behind_topic false (map item_view l.items);
+  so_far : ReadTo false (map seen l.tokens) (map item_view l.tree.items) (map seen (drop l.at l.tokens));
+  topics : l.topic ≡ behind_topic false (map item_view l.tree.items);
   within : l.at ≤ length l.tokens;
 }
 
