@@ -4,6 +4,9 @@ pub mod Unify
 pub mod Unifiers
 pub mod Spellings
 pub mod World
+pub mod Cells
+pub mod Pieces
+pub mod TypeTests
 pub mod Path
 pub mod Render
 pub mod Moves
