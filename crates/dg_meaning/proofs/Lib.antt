@@ -12,4 +12,5 @@ pub mod Context
 pub mod Tags
 pub mod Keeps
 pub mod Worked
+pub mod WorkedSearch
 pub mod Limits
