@@ -125,7 +125,7 @@ turn_fair n S a b s hS ha hb = turned_fair n S a b (walk S a) (walk S b) (walked
 
 -- ## Fuel
 
-turns_for_some : (k m : ℕ) → 0 < turns_for k m
+pub turns_for_some : (k m : ℕ) → 0 < turns_for k m
 turns_for_some zero m = omega arith
 turns_for_some (suc k) m = omega arith
 
