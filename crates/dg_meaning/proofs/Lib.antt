@@ -9,6 +9,7 @@ pub mod OneRun
 pub mod Search
 pub mod Silently
 pub mod Context
+pub mod Bindings
 pub mod Tags
 pub mod Keeps
 pub mod Worked

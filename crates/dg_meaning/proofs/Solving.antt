@@ -144,7 +144,7 @@ weight_append : (S : Substitution) (xs ys : Equations) → weight S (xs ++ ys) �
 weight_append S [] ys = omega arith
 weight_append S (x ∷ xs) ys = omega (arith, weight_append S xs ys)
 
-top_append : (n : ℕ) (xs ys : Equations) → top_of_equations xs ≤ n → top_of_equations ys ≤ n → top_of_equations (xs ++ ys) ≤ n
+pub top_append : (n : ℕ) (xs ys : Equations) → top_of_equations xs ≤ n → top_of_equations ys ≤ n → top_of_equations (xs ++ ys) ≤ n
 top_append n [] ys hx hy = hy
 top_append n (x ∷ xs) ys hx hy = omega (arith, top_append n xs ys (omega arith) hy)
 

@@ -12,6 +12,7 @@ pub mod Render
 pub mod Moves
 pub mod Search
 pub mod Transcript
+pub mod Bindings
 pub mod OneRun
 pub mod Peaks
 pub mod Shows
