@@ -19,11 +19,13 @@ use Rattle.dg_meaning.specs.Transcript.{Run, run_of, run, start_world, start_pat
 use Rattle.dg_meaning.specs.Context.{Around, InBranch, InCut, unwind, gathers, Opens, Way, ways, Live, cut_to, pushed, live, way_to, Older, StepsIn, PathIn, KeepsGathering, TakesOut, Sound, BranchIn, BranchesIn}
 use Rattle.dg_meaning.specs.Keeps.{world_of, unwound, Stands, Failed, Stopping, Resumed, Finished, open_at, FailsTo, Began, open_outside, new_ways, After, WentOn, Keeps}
 use Rattle.dg_meaning.proofs.Silently.{silently_here, silently_on}
+use Rattle.dg_meaning.specs.Bindings.{IsBound}
 use Rattle.dg_meaning.specs.OneRun.{Grows}
 use Rattle.dg_meaning.proofs.OneRun.{grows_same, grows_on}
 use Rattle.dg_meaning.proofs.Search.{IsGood, after_branch_good, choose_good, search_good, search_steps}
 use Rattle.dg_meaning.proofs.Context.{without_head, tags_kept, length_tags, later_twice, others_begin, Fails, run_fails, resumes, fails, leaving, resumed_at, Held, Stops, stops}
-use Rattle.dg_meaning.proofs.Tags.{stop_mark, steps_mark, branch_others, MoveIn, move_in}
+use Rattle.dg_meaning.proofs.Tags.{stop_mark, steps_mark, others_in, MoveIn, move_in}
+use Rattle.dg_meaning.proofs.Bindings.{binds_along}
 
 -- ## What has happened
 
@@ -51,7 +53,7 @@ passes_answer g cs ws q steps r n w run st = record {
   is = st.is ∙ ap (unwound (search g) st.ctx) (search_steps g n (path_of (Answers q ∷ steps) r) w ∙ sym (search_steps g n (path_of steps r) (noted (Answered q) w)));
   sound = st.sound;
   opens = st.opens;
-  inner = record { steps = st.inner.steps; stop = st.inner.stop; newer = st.inner.newer };
+  inner = record { steps = st.inner.steps; stop = st.inner.stop; newer = st.inner.newer; bound = binds_along.passes (Answers q) steps r r.stoppable st.inner.bound };
   choices = st.choices;
   ways_are = st.ways_are;
 }
@@ -62,7 +64,7 @@ passes_cut g cs ws t steps r n w run st = record {
   is = st.is ∙ ap (unwound (search g) st.ctx) (search_steps g n (path_of (Cut t ∷ steps) r) w ∙ ap (cut t) (sym (search_steps g n (path_of steps r) w)));
   sound = (st.inner.steps.0, st.sound);
   opens = st.opens;
-  inner = record { steps = steps_mark t st.ctx steps st.inner.steps.1; stop = stop_mark t st.ctx r.stoppable st.inner.stop; newer = st.inner.newer };
+  inner = record { steps = steps_mark t st.ctx steps st.inner.steps.1; stop = stop_mark t st.ctx r.stoppable st.inner.stop; newer = st.inner.newer; bound = binds_along.passes (Cut t) steps r r.stoppable st.inner.bound };
   choices = ap (cut_to t) st.choices;
   ways_are = st.ways_are;
 }
@@ -73,7 +75,7 @@ passes_leave g cs ws t outer steps r n w run st = record {
   is = st.is ∙ ap (unwound (search g) st.ctx) (search_steps g n (path_of (Leave t outer ∷ steps) r) w ∙ ap (cut t) (sym (search_steps g n (path_of steps (record r { stoppable = outer })) w)));
   sound = (st.inner.steps.0, st.sound);
   opens = st.opens;
-  inner = record { steps = steps_mark t st.ctx steps st.inner.steps.1.1; stop = stop_mark t st.ctx outer st.inner.steps.1.0; newer = st.inner.newer };
+  inner = record { steps = steps_mark t st.ctx steps st.inner.steps.1.1; stop = stop_mark t st.ctx outer st.inner.steps.1.0; newer = st.inner.newer; bound = binds_along.passes (Leave t outer) steps r outer st.inner.bound };
   choices = ap (cut_to t) st.choices;
   ways_are = st.ways_are;
 }
@@ -162,7 +164,7 @@ next_plain g kind t height ways_on ctx cs b bs n w run is older sound inner keep
     (is ∙ others_begin (search g) ctx kind t b bs n w)
     (older, sound, inner.1, out)
     o
-    (branch_others (later kind) t [] bs ctx b inner.0)
+    (others_in (later kind) t [] bs ctx b inner.0)
     (ap (λ k. pushed bs (record { kind = k; tag = t; others = bs; height = length (gathers ctx); ways_on = ways ctx }) (live ctx)) (later_twice kind) ∙ kept_as ctx t height ways_on cs (later kind) bs e ways_are choices)
     (same ∙ ways_are)
 
@@ -274,7 +276,7 @@ after g cs ws n run ctx sound choices ways_are (Chooses k t b bs w) h is o =
 pub takes : (g : Game) (cs : List Live) (ws : List Way) (x : Goal) (env : List Value) (t : ℕ) (steps : List Step) (r : Registers) (n : ℕ) (w : World) (run : Run) → Stands g cs ws (path_of (Do x env t ∷ steps) r) (suc n) w run → After g cs ws n (move g (out-Goal x) env t steps r (worked 1 w)) run
 takes g cs ws x env t steps r n w run st =
     after g cs ws n run st.ctx st.sound st.choices st.ways_are (move g (out-Goal x) env t steps r (worked 1 w))
-    (move_in g (out-Goal x) st.ctx env t steps r (worked 1 w) st.inner.steps.0 st.inner.steps.1 st.inner.stop st.inner.newer)
+    (move_in g x st.ctx env t steps r (worked 1 w) st.inner)
     (st.is ∙ ap (unwound (search g) st.ctx) (search_steps g (suc n) (path_of (Do x env t ∷ steps) r) w))
     (move_opens g st.ctx (out-Goal x) env t steps r (worked 1 w) st.opens)
 
@@ -305,6 +307,12 @@ cut_in ctx t (Some c) steps held h =
     (λ e. let lt = ltb-true c t e in (elim held [ inl past ↦ absurd (omega arith) | inr x ↦ x ], h))
     (λ e. h)
 
+cut_bound : (t : ℕ) (cut : Option ℕ) (path : Path) → IsBound path → IsBound (record path { steps = cut_first t cut path.steps })
+cut_bound t None path h = h
+cut_bound t (Some c) path h =
+    cond_both (nat_lt c t) (Cut c ∷ path.steps) path.steps (λ (l : List Step). IsBound (record path { steps = l }))
+    (λ e. record { sound = h.sound; bindings = h.bindings; steps = omega (arith, h.steps) }) (λ e. h)
+
 module _ (g : Game) (n : ℕ) (w : World) (s : ℕ) (run : Run) (ctx : List Around) (i : Stops (search g) ctx n w s None) (is : run ≡ unwind (search g) ctx n w (StopTo s None)) (path : Path) (work : ℕ) (only : i.others ≡ Enter path work ∷ []) where
   abbrev on : Path
   on = record path { steps = cut_first s i.cut path.steps }
@@ -318,7 +326,7 @@ module _ (g : Game) (n : ℕ) (w : World) (s : ℕ) (run : Run) (ctx : List Arou
     is = is ∙ i.same ∙ ap (λ l. unwound (search g) i.at (choose (search g) Plain s (branches_cut s i.cut l) n i.world)) only ∙ others_begin (search g) i.at Plain s (Enter on work) [] n i.world;
     sound = (i.sound.0, i.sound.1, tt, tt);
     opens = i.opens;
-    inner = record { steps = cut_in (InBranch Plain s [] ∷ i.at) s i.cut path.steps i.held inner.steps; stop = inner.stop; newer = inner.newer };
+    inner = record { steps = cut_in (InBranch Plain s [] ∷ i.at) s i.cut path.steps i.held inner.steps; stop = inner.stop; newer = inner.newer; bound = cut_bound s i.cut path inner.bound };
     choices = refl;
     ways_are = refl;
   }
@@ -354,7 +362,7 @@ starts g typed n = record {
   is = let a = search g n (start_path g) (start_world typed) in in_first (search g) a.left a.world a.result;
   sound = (tt, tt, tt, tt);
   opens = refl;
-  inner = record { steps = (inl refl, tt); stop = tt; newer = (omega arith, tt) };
+  inner = record { steps = (inl refl, tt); stop = tt; newer = (omega arith, tt); bound = binds_along.starts g };
   choices = refl;
   ways_are = refl;
 }
@@ -364,6 +372,7 @@ keeps = record {
   starts = starts;
   has_happened = has_happened;
   has_happened_before = has_happened_before;
+  is_bound = λ g cs ws path n w run st. st.inner.bound;
   passes_answer = passes_answer;
   passes_cut = passes_cut;
   passes_leave = passes_leave;

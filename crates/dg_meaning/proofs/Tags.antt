@@ -1,7 +1,7 @@
 -- The tags that a path names stay those of choices around it.
 use Rattle.std.proofs.Common.{◌≡◌, ℕ, ◌+◌, ◌≤◌, inl, inr, List, [], ◌∷◌, ◌++◌, Option, Some, None, Bool, true, false, refl, sym, subst, arith, length, map}
 use Rattle.std.specs.Prelude.{slice_get}
-use Rattle.dg_base.specs.declared.program.Goal.{Goal, Goal-F}
+use Rattle.dg_base.specs.declared.program.Goal.{Goal, Goal-F, out-Goal}
 use Rattle.dg_base.specs.declared.program.Goal.TheOpen.{Text, Print as Print-Form, Gap, Equal, Ask, Either, Once, Not, If, Just, Stop, Forever, Exhaust, Collect, Stoppable, Test}
 use Rattle.dg_base.specs.declared.program.Goal.TheVariants.{Forever as Forever-Goal}
 use Rattle.dg_base.specs.declared.program.Rule.{Rule}
@@ -11,7 +11,26 @@ use Rattle.dg_meaning.specs.World.{Game, World, Asked, noted}
 use Rattle.dg_meaning.specs.Cells.{writing}
 use Rattle.dg_meaning.specs.Path.{Step, Do, Answers, Cut, Refuse, Back, Keep, Leave, Registers, Path, Branch, Enter, Clash, TakeOut, Kind, Plain, Rules, Shield, Gathers, Move, GoesOn, FailsAt, EndsAt, StopsAt, Chooses}
 use Rattle.dg_meaning.specs.Moves.{path_of, begun, goals_at, inside, enter, enter_if, choice_cells, list_branches, first_alone, vars_of, rule_branch, rule_branches, rules_of, choice, goes_on_if, stop, outcome, behind_terms, move}
+use Rattle.dg_meaning.specs.Bindings.{IsBound, BranchBinds, BranchesBind, MoveBinds}
+use Rattle.dg_meaning.proofs.Bindings.{binds_along}
 use Rattle.dg_meaning.specs.Context.{Around, InBranch, InCut, Holds, Older, Shielded, StopIn, StepsIn, PathIn, BranchIn, BranchesIn, KeepsGathering, KeepGatherings, TakesOut}
+
+-- ## Tags alone
+
+-- the tags that a path names are those of choices around it, and its next choice is the newest
+record TagsIn (ctx : List Around) (path : Path) : Type 0 where
+  pub steps : StepsIn ctx path.steps
+  pub stop : StopIn ctx path.registers.stoppable
+  pub newer : Older path.registers.next_tag ctx
+
+abbrev BranchTags : List Around → Branch → Type 0
+BranchTags ctx (Enter path work) = TagsIn ctx path
+BranchTags ctx (Clash r work) = Unit {0}
+BranchTags ctx (TakeOut t path) = TagsIn ctx path
+
+abbrev BranchesTags : List Around → List Branch → Type 0
+BranchesTags ctx [] = Unit {0}
+BranchesTags ctx (b ∷ bs) = BranchTags ctx b × BranchesTags ctx bs
 
 -- ## More around a path
 
@@ -67,10 +86,10 @@ steps_others k t bs cs ctx (Back ∷ steps) h = steps_others k t bs cs ctx steps
 steps_others k t bs cs ctx (Keep u x env ∷ steps) h = steps_others k t bs cs ctx steps h
 steps_others k t bs cs ctx (Leave u o ∷ steps) h = (h.0, (stop_others k t bs cs ctx o h.1.0, steps_others k t bs cs ctx steps h.1.1))
 
-path_others : (k : Kind) (t : ℕ) (bs cs : List Branch) (ctx : List Around) (path : Path) → PathIn (InBranch Plain t bs ∷ ctx) path → PathIn (InBranch k t cs ∷ ctx) path
+path_others : (k : Kind) (t : ℕ) (bs cs : List Branch) (ctx : List Around) (path : Path) → TagsIn (InBranch Plain t bs ∷ ctx) path → TagsIn (InBranch k t cs ∷ ctx) path
 path_others k t bs cs ctx path h = record { steps = steps_others k t bs cs ctx path.steps h.steps; stop = stop_others k t bs cs ctx path.registers.stoppable h.stop; newer = h.newer }
 
-pub branch_others : (k : Kind) (t : ℕ) (bs cs : List Branch) (ctx : List Around) (b : Branch) → BranchIn (InBranch Plain t bs ∷ ctx) b → BranchIn (InBranch k t cs ∷ ctx) b
+branch_others : (k : Kind) (t : ℕ) (bs cs : List Branch) (ctx : List Around) (b : Branch) → BranchTags (InBranch Plain t bs ∷ ctx) b → BranchTags (InBranch k t cs ∷ ctx) b
 branch_others k t bs cs ctx (Enter path work) h = path_others k t bs cs ctx path h
 branch_others k t bs cs ctx (Clash r work) h = tt
 branch_others k t bs cs ctx (TakeOut u path) h = path_others k t bs cs ctx path h
@@ -97,12 +116,12 @@ older_raise t u (InCut v ∷ ctx) le h = older_raise t u ctx le h
 -- ## A move
 
 -- the tags of a move stay inside, and it takes no gathering out before its time
-abbrev pub MoveIn : List Around → Move → Type 0
-MoveIn ctx (GoesOn path w) = PathIn ctx path
-MoveIn ctx (FailsAt w) = Unit {0}
-MoveIn ctx (EndsAt e w) = Unit {0}
-MoveIn ctx (StopsAt s w) = Shielded ctx s
-MoveIn ctx (Chooses k t b bs w) = Older t ctx × BranchIn (InBranch k t bs ∷ ctx) b × BranchesIn (InBranch Plain t [] ∷ ctx) bs × KeepsGathering b × TakesOut k t bs
+abbrev MoveTags : List Around → Move → Type 0
+MoveTags ctx (GoesOn path w) = TagsIn ctx path
+MoveTags ctx (FailsAt w) = Unit {0}
+MoveTags ctx (EndsAt e w) = Unit {0}
+MoveTags ctx (StopsAt s w) = Shielded ctx s
+MoveTags ctx (Chooses k t b bs w) = Older t ctx × BranchTags (InBranch k t bs ∷ ctx) b × BranchesTags (InBranch Plain t [] ∷ ctx) bs × KeepsGathering b × TakesOut k t bs
 
 if_keeps : (b : Bool) (path : Path) (work : ℕ) → KeepsGathering (enter_if b path work)
 if_keeps true path work = tt
@@ -116,7 +135,7 @@ lists_keep : (env : List Value) (t : ℕ) (steps : List Step) (r : Registers) (l
 lists_keep env t steps r [] = tt
 lists_keep env t steps r (goals ∷ lists) = (tt, lists_keep env t steps r lists)
 
-if_in : (ctx : List Around) (b : Bool) (path : Path) (work : ℕ) → PathIn ctx path → BranchIn ctx (enter_if b path work)
+if_in : (ctx : List Around) (b : Bool) (path : Path) (work : ℕ) → TagsIn ctx path → BranchTags ctx (enter_if b path work)
 if_in ctx true path work h = h
 if_in ctx false path work h = tt
 
@@ -136,57 +155,57 @@ module _ (ctx : List Around) (env : List Value) (t : ℕ) (steps : List Step) (r
   goals : (gs : List Goal) (l : List Step) → In l → In (goals_at env t gs ++ l)
   goals gs l h = steps_append (InBranch Plain r.next_tag [] ∷ ctx) (goals_at env t gs) l (goals_in (InBranch Plain r.next_tag [] ∷ ctx) env t (inr holds) gs) h
 
-  path : (s : Registers) (l : List Step) → Inner s → In l → PathIn (InBranch Plain r.next_tag [] ∷ ctx) (path_of l s)
+  path : (s : Registers) (l : List Step) → Inner s → In l → TagsIn (InBranch Plain r.next_tag [] ∷ ctx) (path_of l s)
   path s l i h = record {
     steps = h;
     stop = subst (StopIn (InBranch Plain r.next_tag [] ∷ ctx)) (sym i.stoppable) (stop_push Plain r.next_tag [] ctx r.stoppable stopping);
     newer = subst (λ u. Older u (InBranch Plain r.next_tag [] ∷ ctx)) (sym i.next_tag) (omega arith, older_raise r.next_tag (r.next_tag + 1) ctx (omega arith) older);
   }
 
-  one : (heap work : ℕ) (l : List Step) → In l → BranchIn (InBranch Plain r.next_tag [] ∷ ctx) (enter heap work r l)
+  one : (heap work : ℕ) (l : List Step) → In l → BranchTags (InBranch Plain r.next_tag [] ∷ ctx) (enter heap work r l)
   one heap work l h = path (inside heap r) l (record { stoppable = refl; next_tag = refl }) h
 
   first_in : (many : Bool) → In (first_alone many r.next_tag steps)
   first_in true = outside
   first_in false = (inl refl, outside)
 
-  rule_in : (g : Game) (pred : ℕ) (args : List Value) (many : Bool) (heap : ℕ) (rule : Rule) → BranchIn (InBranch Plain r.next_tag [] ∷ ctx) (rule_branch g pred args many steps r heap rule)
+  rule_in : (g : Game) (pred : ℕ) (args : List Value) (many : Bool) (heap : ℕ) (rule : Rule) → BranchTags (InBranch Plain r.next_tag [] ∷ ctx) (rule_branch g pred args many steps r heap rule)
   rule_in g pred args many heap rule =
       let here = InBranch Plain r.next_tag [] ∷ ctx in
       if_in here _ _ _ (path _ _ (record { stoppable = refl; next_tag = refl })
       (steps_append here (goals_at (vars_of rule r) r.next_tag rule.body) (Answers pred ∷ first_alone many r.next_tag steps) (goals_in here (vars_of rule r) r.next_tag (inl refl) rule.body) (first_in many)))
 
-  rules_in : (g : Game) (pred : ℕ) (args : List Value) (many : Bool) (rules : List Rule) → BranchesIn (InBranch Plain r.next_tag [] ∷ ctx) (rule_branches g pred args many steps r rules)
+  rules_in : (g : Game) (pred : ℕ) (args : List Value) (many : Bool) (rules : List Rule) → BranchesTags (InBranch Plain r.next_tag [] ∷ ctx) (rule_branches g pred args many steps r rules)
   rules_in g pred args many [] = tt
   rules_in g pred args many (rule ∷ rules) = (rule_in g pred args many (choice_cells (length args) rules) rule, rules_in g pred args many rules)
 
-  lists_in : (lists : List (List Goal)) → BranchesIn (InBranch Plain r.next_tag [] ∷ ctx) (list_branches env t steps r lists)
+  lists_in : (lists : List (List Goal)) → BranchesTags (InBranch Plain r.next_tag [] ∷ ctx) (list_branches env t steps r lists)
   lists_in [] = tt
   lists_in (gs ∷ lists) = (one (choice_cells 0 lists) 1 _ (goals gs steps outside), lists_in lists)
 
-  choice_plain : (bs : List Branch) (w : World) → BranchesIn (InBranch Plain r.next_tag [] ∷ ctx) bs → KeepGatherings bs → MoveIn ctx (choice Plain r.next_tag bs w)
+  choice_plain : (bs : List Branch) (w : World) → BranchesTags (InBranch Plain r.next_tag [] ∷ ctx) bs → KeepGatherings bs → MoveTags ctx (choice Plain r.next_tag bs w)
   choice_plain [] w h k = tt
   choice_plain (b ∷ bs) w h k = (older, branch_others Plain r.next_tag [] bs ctx b h.0, h.1, k.0, k.1)
 
-  choice_rules : (pred : ℕ) (bs : List Branch) (w : World) → BranchesIn (InBranch Plain r.next_tag [] ∷ ctx) bs → KeepGatherings bs → MoveIn ctx (choice (Rules pred) r.next_tag bs w)
+  choice_rules : (pred : ℕ) (bs : List Branch) (w : World) → BranchesTags (InBranch Plain r.next_tag [] ∷ ctx) bs → KeepGatherings bs → MoveTags ctx (choice (Rules pred) r.next_tag bs w)
   choice_rules pred [] w h k = tt
   choice_rules pred (b ∷ bs) w h k = (older, branch_others (Rules pred) r.next_tag [] bs ctx b h.0, h.1, k.0, k.1)
 
-  stop_in : (o : Option ℕ) (w : World) → StopIn ctx o → MoveIn ctx (stop o w)
+  stop_in : (o : Option ℕ) (w : World) → StopIn ctx o → MoveTags ctx (stop o w)
   stop_in None w h = tt
   stop_in (Some s) w h = h
 
-  single : (heap : ℕ) (l : List Step) (w : World) → In l → MoveIn ctx (Chooses Plain r.next_tag (enter heap 0 r l) [] w)
+  single : (heap : ℕ) (l : List Step) (w : World) → In l → MoveTags ctx (Chooses Plain r.next_tag (enter heap 0 r l) [] w)
   single heap l w h = (older, one heap 0 l h, tt, tt, tt)
 
-  double : (heap : ℕ) (l m : List Step) (w : World) → In l → In m → MoveIn ctx (Chooses Plain r.next_tag (enter heap 0 r l) (enter 0 0 r m ∷ []) w)
+  double : (heap : ℕ) (l m : List Step) (w : World) → In l → In m → MoveTags ctx (Chooses Plain r.next_tag (enter heap 0 r l) (enter 0 0 r m ∷ []) w)
   double heap l m w h k = (older, branch_others Plain r.next_tag [] (enter 0 0 r m ∷ []) ctx (enter heap 0 r l) (one heap 0 l h), (one 0 0 m k, tt), tt, (tt, tt))
 
-  stoppable_in : (gs : List Goal) (w : World) → MoveIn ctx (Chooses Shield r.next_tag (Enter (path_of (goals_at env t gs ++ Leave r.next_tag r.stoppable ∷ steps) (record (inside 10 r) { stoppable = Some r.next_tag })) 0) (enter 0 0 r steps ∷ []) w)
+  stoppable_in : (gs : List Goal) (w : World) → MoveTags ctx (Chooses Shield r.next_tag (Enter (path_of (goals_at env t gs ++ Leave r.next_tag r.stoppable ∷ steps) (record (inside 10 r) { stoppable = Some r.next_tag })) 0) (enter 0 0 r steps ∷ []) w)
   stoppable_in gs w =
       let others = enter 0 0 r steps ∷ [] in
       let here = InBranch Shield r.next_tag others ∷ ctx in
-      let branch : PathIn here (path_of (goals_at env t gs ++ Leave r.next_tag r.stoppable ∷ steps) (record (inside 10 r) { stoppable = Some r.next_tag })) = record {
+      let branch : TagsIn here (path_of (goals_at env t gs ++ Leave r.next_tag r.stoppable ∷ steps) (record (inside 10 r) { stoppable = Some r.next_tag })) = record {
         steps = steps_append here (goals_at env t gs) (Leave r.next_tag r.stoppable ∷ steps) (goals_in here env t (inr holds) gs) (inl refl, (stop_push Shield r.next_tag others ctx r.stoppable stopping, steps_push Shield r.next_tag others ctx steps rest));
         stop = inl refl;
         newer = (omega arith, older_raise r.next_tag (r.next_tag + 1) ctx (omega arith) older);
@@ -194,11 +213,11 @@ module _ (ctx : List Around) (env : List Value) (t : ℕ) (steps : List Step) (r
       (older, branch, (one 0 0 steps outside, tt), tt, (tt, tt))
 
   -- the search goes on with registers of the same tags
-  on : (s : Registers) (b : Bool) (w : World) → s.stoppable ≡ r.stoppable → s.next_tag ≡ r.next_tag → MoveIn ctx (goes_on_if b steps s w)
+  on : (s : Registers) (b : Bool) (w : World) → s.stoppable ≡ r.stoppable → s.next_tag ≡ r.next_tag → MoveTags ctx (goes_on_if b steps s w)
   on s true w e f = record { steps = rest; stop = subst (StopIn ctx) (sym e) stopping; newer = subst (λ u. Older u ctx) (sym f) older }
   on s false w e f = tt
 
-  outcome_in : (g : Game) (x : Goal-F Goal) (w : World) → MoveIn ctx (outcome g x env t steps r w)
+  outcome_in : (g : Game) (x : Goal-F Goal) (w : World) → MoveTags ctx (outcome g x env t steps r w)
   outcome_in g (Text name) w = record { steps = rest; stop = stopping; newer = older }
   outcome_in g (Print-Form a) w = record { steps = rest; stop = stopping; newer = older }
   outcome_in g (Gap kind) w = record { steps = rest; stop = stopping; newer = older }
@@ -224,5 +243,44 @@ module _ (ctx : List Around) (env : List Value) (t : ℕ) (steps : List Step) (r
   outcome_in g (Test kind a) w = on r _ _ refl refl
   outcome_in g _ w = tt
 
-pub move_in : (g : Game) (x : Goal-F Goal) (ctx : List Around) (env : List Value) (t : ℕ) (steps : List Step) (r : Registers) (w : World) → Holds ctx t → StepsIn ctx steps → StopIn ctx r.stoppable → Older r.next_tag ctx → MoveIn ctx (move g x env t steps r w)
-move_in g x ctx env t steps r w holds rest stopping older = outcome_in ctx env t steps (behind_terms g x r) holds rest stopping older g x (begun (behind_terms g x r) (writing g.program (terms_held x)) w)
+move_tags : (g : Game) (x : Goal-F Goal) (ctx : List Around) (env : List Value) (t : ℕ) (steps : List Step) (r : Registers) (w : World) → Holds ctx t → StepsIn ctx steps → StopIn ctx r.stoppable → Older r.next_tag ctx → MoveTags ctx (move g x env t steps r w)
+move_tags g x ctx env t steps r w holds rest stopping older = outcome_in ctx env t steps (behind_terms g x r) holds rest stopping older g x (begun (behind_terms g x r) (writing g.program (terms_held x)) w)
+
+-- ## With bindings
+
+-- what a move names stays inside, its bindings are a substitution, and it takes no gathering out before its time
+abbrev pub MoveIn : List Around → Move → Type 0
+MoveIn ctx (GoesOn path w) = PathIn ctx path
+MoveIn ctx (FailsAt w) = Unit {0}
+MoveIn ctx (EndsAt e w) = Unit {0}
+MoveIn ctx (StopsAt s w) = Shielded ctx s
+MoveIn ctx (Chooses k t b bs w) = Older t ctx × BranchIn (InBranch k t bs ∷ ctx) b × BranchesIn (InBranch Plain t [] ∷ ctx) bs × KeepsGathering b × TakesOut k t bs
+
+path_with : (ctx : List Around) (path : Path) → TagsIn ctx path → IsBound path → PathIn ctx path
+path_with ctx path h bound = record { steps = h.steps; stop = h.stop; newer = h.newer; bound = bound }
+
+branch_with : (ctx : List Around) (r : Registers) (b : Branch) → BranchTags ctx b → BranchBinds r b → BranchIn ctx b
+branch_with ctx r (Enter path work) h k = path_with ctx path h k.is
+branch_with ctx r (Clash s work) h k = tt
+branch_with ctx r (TakeOut u path) h k = path_with ctx path h k.is
+
+branches_with : (ctx : List Around) (r : Registers) (bs : List Branch) → BranchesTags ctx bs → BranchesBind r bs → BranchesIn ctx bs
+branches_with ctx r [] h k = tt
+branches_with ctx r (b ∷ bs) h k = (branch_with ctx r b h.0 k.0, branches_with ctx r bs h.1 k.1)
+
+move_with : (ctx : List Around) (r : Registers) (m : Move) → MoveTags ctx m → MoveBinds r m → MoveIn ctx m
+move_with ctx r (GoesOn path w) h k = path_with ctx path h k.is
+move_with ctx r (FailsAt w) h k = tt
+move_with ctx r (EndsAt e w) h k = tt
+move_with ctx r (StopsAt s w) h k = h
+move_with ctx r (Chooses kind t b bs w) h k = (h.0, branch_with (InBranch kind t bs ∷ ctx) r b h.1 k.0, branches_with (InBranch Plain t [] ∷ ctx) r bs h.2 k.1, h.3, h.4)
+
+pub move_in : (g : Game) (x : Goal) (ctx : List Around) (env : List Value) (t : ℕ) (steps : List Step) (r : Registers) (w : World) → PathIn ctx (path_of (Do x env t ∷ steps) r) → MoveIn ctx (move g (out-Goal x) env t steps r w)
+move_in g x ctx env t steps r w h =
+    move_with ctx r (move g (out-Goal x) env t steps r w) (move_tags g (out-Goal x) ctx env t steps r w h.steps.0 h.steps.1 h.stop h.newer) (binds_along.takes g x env t steps r w h.bound)
+
+-- a branch that isn't stoppable is as good as a plain one
+pub others_in : (k : Kind) (t : ℕ) (bs cs : List Branch) (ctx : List Around) (b : Branch) → BranchIn (InBranch Plain t bs ∷ ctx) b → BranchIn (InBranch k t cs ∷ ctx) b
+others_in k t bs cs ctx (Enter path work) h = path_with (InBranch k t cs ∷ ctx) path (path_others k t bs cs ctx path (record { steps = h.steps; stop = h.stop; newer = h.newer })) h.bound
+others_in k t bs cs ctx (Clash r work) h = tt
+others_in k t bs cs ctx (TakeOut u path) h = path_with (InBranch k t cs ∷ ctx) path (path_others k t bs cs ctx path (record { steps = h.steps; stop = h.stop; newer = h.newer })) h.bound

@@ -11,6 +11,7 @@ use Rattle.dg_meaning.specs.Path.{Step, Do, Answers, Cut, Refuse, Back, Keep, Le
 use Rattle.dg_meaning.specs.Moves.{path_of, begun, move}
 use Rattle.dg_meaning.specs.Search.{Search, search, answer, later, retried, choose}
 use Rattle.dg_meaning.specs.Transcript.{Run, run_of, run, start_world, start_path}
+use Rattle.dg_meaning.specs.Bindings.{IsBound}
 use Rattle.dg_meaning.specs.OneRun.{Grows}
 use Rattle.dg_meaning.specs.Context.{Around, InBranch, unwind, gathers, Opens, Way, ways, Live, cut_to, pushed, live, way_to, Shielded, PathIn, Sound, Silently}
 
@@ -140,6 +141,8 @@ pub record Keeps : Type 0 where
   -- What has happened where a run stands, or has failed, has happened in the run.
   pub has_happened : (g : Game) (cs : List Live) (ws : List Way) (path : Path) (n : ℕ) (w : World) (run : Run) → Stands g cs ws path n w run → Grows w run.world
   pub has_happened_before : (g : Game) (cs : List Live) (n : ℕ) (w : World) (run : Run) → Failed g cs n w run → Grows w run.world
+  -- Where a run stands, the bindings of its path are a substitution, and each variable in them and in its steps has been made.
+  pub is_bound : (g : Game) (cs : List Live) (ws : List Way) (path : Path) (n : ℕ) (w : World) (run : Run) → Stands g cs ws path n w run → IsBound path
   -- That a rule was answered is noted.
   pub passes_answer : (g : Game) (cs : List Live) (ws : List Way) (q : ℕ) (steps : List Step) (r : Registers) (n : ℕ) (w : World) (run : Run) → Stands g cs ws (path_of (Answers q ∷ steps) r) n w run → Stands g cs ws (path_of steps r) n (noted (Answered q) w) run
   -- A mark that cuts to t drops the choices that are not older.
