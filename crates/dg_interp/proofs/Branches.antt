@@ -1,12 +1,12 @@
 -- The next branch of a choice, and the rules of a query.
-use Rattle.std.proofs.Common.{◌≡◌, ℕ, ◌+◌, List, [], ◌∷◌, ◌++◌, Bool, true, false, refl, sym, ap, ◌∙◌, subst, arith, length, take, length-take}
+use Rattle.std.proofs.Common.{◌≡◌, ℕ, List, [], ◌∷◌, ◌++◌, Bool, true, false, refl, sym, ap, ◌∙◌, subst, arith, length, take, length-take}
 use Rattle.std.specs.Prelude.{reverse, Result, Ok, Err, IfOk, IfErr}
 use Rattle.std.specs.declared.vec.Vec.{Vec}
 use Rattle.std.specs.declared.alloc.Global.{Global}
 use Rattle.dg_base.specs.declared.program.Rule.{Rule}
 use Rattle.dg_meaning.specs.World.{Game, World}
 use Rattle.dg_meaning.specs.Path.{Step, Registers, Rules as RulesOf, Failing}
-use Rattle.dg_meaning.specs.Moves.{rule_branches, rule_steps, choice_cells, enter}
+use Rattle.dg_meaning.specs.Moves.{choice_cells, rule_branch, rule_branches}
 use Rattle.dg_meaning.specs.Search.{retried}
 use Rattle.dg_meaning.specs.Transcript.{Run}
 use Rattle.dg_meaning.specs.Context.{Live, pushed}
@@ -51,11 +51,11 @@ if_err_map (Err e) P Q f h = f e h
 -- the next of a choice's rules, by what the choice is
 next_with : (g : Game) (query : Query) (rule : Rule) (others : List Rule) (steps : List Step) (r : Registers) (c : Live) (cs : List Live) (n : ℕ) (w : World) (run : Run) →
     c.kind ≡ RulesOf query.pred → c.tag ≡ r.next_tag → c.height ≡ 0 →
-    Began g (pushed (rule_branches query.pred 0 query.many steps r others) (record c { others = rule_branches query.pred 0 query.many steps r others }) cs) c.ways_on (enter (choice_cells 0 others + 6 + rule.vars) 1 r (rule_steps query.pred query.many r.next_tag rule steps)) n w run →
+    Began g (pushed (rule_branches g query.pred [] query.many steps r others) (record c { others = rule_branches g query.pred [] query.many steps r others }) cs) c.ways_on (rule_branch g query.pred [] query.many steps r (choice_cells 0 others) rule) n w run →
     BeganWith g query rule others steps r cs c.ways_on n w run
 next_with g query rule others steps r c cs n w run kind tag height h =
-    let bs = rule_branches query.pred 0 query.many steps r others in
-    let b = enter (choice_cells 0 others + 6 + rule.vars) 1 r (rule_steps query.pred query.many r.next_tag rule steps) in
+    let bs = rule_branches g query.pred [] query.many steps r others in
+    let b = rule_branch g query.pred [] query.many steps r (choice_cells 0 others) rule in
     subst (λ k. Began g (pushed bs (record { kind = k; tag = r.next_tag; others = bs; height = 0; ways_on = c.ways_on }) cs) c.ways_on b n w run) kind
     (subst (λ t. Began g (pushed bs (record { kind = c.kind; tag = t; others = bs; height = 0; ways_on = c.ways_on }) cs) c.ways_on b n w run) tag
     (subst (λ i. Began g (pushed bs (record { kind = c.kind; tag = c.tag; others = bs; height = i; ways_on = c.ways_on }) cs) c.ways_on b n w run) height h))
@@ -96,7 +96,7 @@ module _ (old : Engine) (o : Choice) (frames : Vec Frame Global) (choices : Vec 
       ∙ ap (steps_behind (take o.height fs)) count
       ∙ behind_same fs (take o.height fs) o.height o.height (omega arith) (same_take fs o.height)
 
-  begins : (g : Game) (c : Live) (cs : List Live) (w v : World) (run : Run) → IsQuiet w → IsQuiet v → Adds [] w v → old.program.now ≡ g.program → IsChoice fs o c → AreChoices fs os cs → Resumed g c cs old.left v run → Then [] w (λ u. BeginsAt g o.left mid u run)
+  begins : (g : Game) (c : Live) (cs : List Live) (w v : World) (run : Run) → IsQuiet w → IsQuiet v → Adds [] w v → old.program.now ≡ g.program → IsChoice g fs o c → AreChoices g fs os cs → Resumed g c cs old.left v run → Then [] w (λ u. BeginsAt g o.left mid u run)
   begins g c cs w v run quiet still adds program is others resumed =
       let r = is.registers in
       record {
@@ -107,20 +107,20 @@ module _ (old : Engine) (o : Choice) (frames : Vec Frame Global) (choices : Vec 
           lives = cs;
           ways = c.ways_on;
           registers = r;
-          choices = subst (λ l. AreChoices l os cs) (sym cut) (choices_same fs (take o.height fs) o.height o.tag os cs (same_take fs o.height) stand.3 others);
+          choices = subst (λ l. AreChoices g l os cs) (sym cut) (choices_same g fs (take o.height fs) o.height o.tag os cs (same_take fs o.height) stand.3 others);
           tag = is.tag_at;
           began = λ rule more split.
-              let branches : c.others ≡ rule_branches o.left.query.pred 0 o.left.query.many (steps_behind frames.items (length frames.items)) r (rule ∷ more) =
-              is.others ∙ ap (rule_branches o.left.query.pred 0 o.left.query.many (steps_behind fs o.height) r) split
-              ∙ ap (λ s. rule_branches o.left.query.pred 0 o.left.query.many s r (rule ∷ more)) (sym behind) in
+              let branches : c.others ≡ rule_branches g o.left.query.pred [] o.left.query.many (steps_behind frames.items (length frames.items)) r (rule ∷ more) =
+              is.others ∙ ap (rule_branches g o.left.query.pred [] o.left.query.many (steps_behind fs o.height) r) split
+              ∙ ap (λ s. rule_branches g o.left.query.pred [] o.left.query.many s r (rule ∷ more)) (sym behind) in
               next_with g o.left.query rule more (steps_behind frames.items (length frames.items)) r c cs old.left (retried c.kind v) run is.kind (is.tag ∙ sym is.tag_at) is.height
               (begins_next g c cs _ _ old.left v run branches resumed);
         };
       }
 
   pub begins_popped : Leads (λ g. FailsAt g old) (λ g. BeginsAt g o.left mid)
-  begins_popped g w run quiet st = from st.lives (subst (λ l. AreChoices fs l st.lives) was st.choices) (failed g st.lives old.left w run st.failed) where
-    from : (cs : List Live) → AreChoices fs (o ∷ os) cs → FailsTo g old.left w run cs → Then [] w (λ u. BeginsAt g o.left mid u run)
+  begins_popped g w run quiet st = from st.lives (subst (λ l. AreChoices g fs l st.lives) was st.choices) (failed g st.lives old.left w run st.failed) where
+    from : (cs : List Live) → AreChoices g fs (o ∷ os) cs → FailsTo g old.left w run cs → Then [] w (λ u. BeginsAt g o.left mid u run)
     from [] h f = absurd h
     from (c ∷ cs) h f = begins g c cs w f.world run quiet (quiet_later w f.world quiet f.silently) (adds_silently w f.world quiet f.silently) st.program h.0 h.1 f.resumed
 
@@ -137,8 +137,8 @@ module _ (old : Engine) (choices : Vec Choice Global) (empty : length old.choice
   pub none_popped : NoneLeft (λ g. FailsAt g old) old (record old { choices = choices })
   none_popped = record {
     left = refl;
-    ends = λ g w run quiet st. from g w run quiet st.lives (subst (λ l. AreChoices old.frames.items l st.lives) none st.choices) (failed g st.lives old.left w run st.failed);
+    ends = λ g w run quiet st. from g w run quiet st.lives (subst (λ l. AreChoices g old.frames.items l st.lives) none st.choices) (failed g st.lives old.left w run st.failed);
   } where
-    from : (g : Game) (w : World) (run : Run) → IsQuiet w → (cs : List Live) → AreChoices old.frames.items [] cs → FailsTo g old.left w run cs → Then [] w (λ v. Finished old.left v Failing run)
+    from : (g : Game) (w : World) (run : Run) → IsQuiet w → (cs : List Live) → AreChoices g old.frames.items [] cs → FailsTo g old.left w run cs → Then [] w (λ v. Finished old.left v Failing run)
     from g w run quiet [] h f = record { world = w; adds = adds_nothing w quiet; holds = f }
     from g w run quiet (c ∷ cs) h f = absurd h

@@ -1,6 +1,7 @@
 pub mod Pieces
 pub mod Links
 pub mod Places
+pub mod Plain
 pub mod Turns
 pub mod Branches
 pub mod Asks

@@ -3,6 +3,7 @@ use Rattle.std.proofs.Common.{◌≡◌, ℕ, zero, suc, ◌+◌, ◌<◌, ◌�
 use Rattle.std.proofs.lemmas.Option.{slice_get_past}
 use Rattle.std.specs.Prelude.{true, false, eqb, nat_lt, slice_get, if◌then◌else◌}
 use Rattle.std.proofs.lemmas.Bool.{cond_both, cond-true, cond-false, cases_lt, eq-eqb, ne_eqb}
+use Rattle.dg_meaning.specs.World.{Game}
 use Rattle.dg_meaning.specs.Path.{Step}
 use Rattle.dg_meaning.specs.Context.{Live, cut_to}
 use Rattle.dg_interp.specs.declared.frames.Frame.{Frame}
@@ -111,32 +112,32 @@ pub stand_raise : (h k t u : ℕ) (os : List Choice) → h ≤ k → t ≤ u →
 stand_raise h k t u [] le le' s = tt
 stand_raise h k t u (o ∷ os) le le' s = (omega (arith, s.0), omega (arith, s.1), s.2, s.3)
 
-choice_same : (fs gs : List Frame) (n : ℕ) (o : Choice) (c : Live) → o.height ≤ n → SameTo n fs gs → IsChoice fs o c → IsChoice gs o c
-choice_same fs gs n o c le same h = record {
+choice_same : (g : Game) (fs gs : List Frame) (n : ℕ) (o : Choice) (c : Live) → o.height ≤ n → SameTo n fs gs → IsChoice g fs o c → IsChoice g gs o c
+choice_same g fs gs n o c le same h = record {
   registers = h.registers;
   tag_at = h.tag_at;
   kind = h.kind;
   tag = h.tag;
-  others = h.others ∙ ap (λ steps. branches_of o.left steps h.registers) (sym (behind_same fs gs n o.height le same));
+  others = h.others ∙ ap (λ steps. branches_of g o.left steps h.registers) (sym (behind_same fs gs n o.height le same));
   height = h.height;
 }
 
 -- the choices stay the same where the frames that they stand on do
-pub choices_same : (fs gs : List Frame) (n t : ℕ) (os : List Choice) (cs : List Live) → SameTo n fs gs → StandOn n t os → AreChoices fs os cs → AreChoices gs os cs
-choices_same fs gs n t [] [] same s h = tt
-choices_same fs gs n t [] (c ∷ cs) same s h = absurd h
-choices_same fs gs n t (o ∷ os) [] same s h = absurd h
-choices_same fs gs n t (o ∷ os) (c ∷ cs) same s h =
-    (choice_same fs gs n o c s.0 same h.0, choices_same fs gs o.height o.tag os cs (same_fewer o.height n fs gs s.0 same) s.3 h.1)
+pub choices_same : (g : Game) (fs gs : List Frame) (n t : ℕ) (os : List Choice) (cs : List Live) → SameTo n fs gs → StandOn n t os → AreChoices g fs os cs → AreChoices g gs os cs
+choices_same g fs gs n t [] [] same s h = tt
+choices_same g fs gs n t [] (c ∷ cs) same s h = absurd h
+choices_same g fs gs n t (o ∷ os) [] same s h = absurd h
+choices_same g fs gs n t (o ∷ os) (c ∷ cs) same s h =
+    (choice_same g fs gs n o c s.0 same h.0, choices_same g fs gs o.height o.tag os cs (same_fewer o.height n fs gs s.0 same) s.3 h.1)
 
-pub choices_cut : (t : ℕ) (fs : List Frame) (os : List Choice) (cs : List Live) → AreChoices fs os cs → AreChoices fs (older_than t os) (cut_to t cs)
-choices_cut t fs [] [] h = tt
-choices_cut t fs [] (c ∷ cs) h = absurd h
-choices_cut t fs (o ∷ os) [] h = absurd h
-choices_cut t fs (o ∷ os) (c ∷ cs) h =
+pub choices_cut : (g : Game) (t : ℕ) (fs : List Frame) (os : List Choice) (cs : List Live) → AreChoices g fs os cs → AreChoices g fs (older_than t os) (cut_to t cs)
+choices_cut g t fs [] [] h = tt
+choices_cut g t fs [] (c ∷ cs) h = absurd h
+choices_cut g t fs (o ∷ os) [] h = absurd h
+choices_cut g t fs (o ∷ os) (c ∷ cs) h =
     let same : nat_lt c.tag t ≡ nat_lt o.tag t = ap (λ x. nat_lt x t) h.0.tag in
-    subst (λ b. AreChoices fs (older_than t (o ∷ os)) (if b then c ∷ cs else cut_to t cs)) (sym same)
-    (elim (nat_lt o.tag t) as (λ b. AreChoices fs (if b then o ∷ os else older_than t os) (if b then c ∷ cs else cut_to t cs)) [ true ↦ h | false ↦ choices_cut t fs os cs h.1 ])
+    subst (λ b. AreChoices g fs (older_than t (o ∷ os)) (if b then c ∷ cs else cut_to t cs)) (sym same)
+    (elim (nat_lt o.tag t) as (λ b. AreChoices g fs (if b then o ∷ os else older_than t os) (if b then c ∷ cs else cut_to t cs)) [ true ↦ h | false ↦ choices_cut g t fs os cs h.1 ])
 
 pub stand_cut : (t n u : ℕ) (os : List Choice) → StandOn n u os → StandOn n u (older_than t os)
 stand_cut t n u [] s = tt

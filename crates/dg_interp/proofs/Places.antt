@@ -54,7 +54,7 @@ leads_on A B C a b g w run quiet h = then_on [] [] w (λ v. B g v run) (λ v. C 
 -- ## The same place
 
 module _ (old new : Engine) (program : new.program.now ≡ old.program.now) (newest : new.newest ≡ old.newest) (left : new.left ≡ old.left) (steps : steps_at new.frames.items new.here ≡ steps_at old.frames.items old.here)
-    (choices : (cs : List Live) → AreChoices old.frames.items (reverse old.choices.items) cs → AreChoices new.frames.items (reverse new.choices.items) cs) where
+    (choices : (g : Game) (cs : List Live) → AreChoices g old.frames.items (reverse old.choices.items) cs → AreChoices g new.frames.items (reverse new.choices.items) cs) where
   pub same_place : Leads (λ g. StandsAt g old) (λ g. StandsAt g new)
   same_place g w run quiet st = record {
     world = w;
@@ -64,7 +64,7 @@ module _ (old new : Engine) (program : new.program.now ≡ old.program.now) (new
       lives = st.lives;
       ways = st.ways;
       registers = st.registers;
-      choices = choices st.lives st.choices;
+      choices = choices g st.lives st.choices;
       tag = st.tag ∙ ap (λ n. n + 1) (sym newest);
       stands = subst (λ n. Stands g st.lives st.ways (path_of (steps_at new.frames.items new.here) st.registers) n w run) (sym left) (subst (λ s. Stands g st.lives st.ways (path_of s st.registers) old.left w run) (sym steps) st.stands);
     };
@@ -105,7 +105,7 @@ module _ (old : Engine) (ready : IsReady old) (none : old.here.goals.now ≡ [])
   nothing_passed is = passed (marked_off old) none refl refl (record {
     ready = record { sound = record { program = ready.sound.program; frames = ready.sound.frames; choices = ready.sound.choices; room = ready.sound.room }; linked = ready.linked; built = ready.built };
     left = refl;
-    leads = same_place old (marked_off old) refl refl refl (off ∙ sym (steps_done fs old.here Nothing none is)) (λ cs h. h);
+    leads = same_place old (marked_off old) refl refl refl (off ∙ sym (steps_done fs old.here Nothing none is)) (λ g cs h. h);
   })
 
   pub answer_passed : (query : Query) → old.here.mark ≡ AnswerOf query → query.many ≡ true → MarkPassed old (marked_off old)
@@ -157,7 +157,7 @@ module _ (old : Engine) (ready : IsReady old) (none : old.here.goals.now ≡ [])
                 lives = cut_to t st.lives;
                 ways = st.ways;
                 registers = st.registers;
-                choices = subst (λ os. AreChoices fs os (cut_to t st.lives)) (sym cuts) (choices_cut t fs (reverse old.choices.items) st.lives st.choices);
+                choices = subst (λ os. AreChoices g fs os (cut_to t st.lives)) (sym cuts) (choices_cut g t fs (reverse old.choices.items) st.lives st.choices);
                 tag = st.tag;
                 stands = subst (λ s. Stands g (cut_to t st.lives) st.ways (path_of s st.registers) old.left v run) (sym off) (passes_cut g st.lives st.ways t rest st.registers old.left v run answered);
               };
@@ -198,8 +198,8 @@ module _ (old : Engine) (frames : Vec Frame Global) (f : Frame) (needed : ℕ) (
   stand : StandOn needed old.newest (reverse old.choices.items)
   stand = stand_floor (length was) needed old.newest (reverse old.choices.items) (omega (arith, need)) ready.sound.choices
 
-  choices_kept : (cs : List Live) → AreChoices was (reverse old.choices.items) cs → AreChoices frames.items (reverse old.choices.items) cs
-  choices_kept cs h = subst (λ l. AreChoices l (reverse old.choices.items) cs) (sym kept) (choices_same was (take needed was) needed old.newest (reverse old.choices.items) cs (same_take was needed) stand h)
+  choices_kept : (g : Game) (cs : List Live) → AreChoices g was (reverse old.choices.items) cs → AreChoices g frames.items (reverse old.choices.items) cs
+  choices_kept g cs h = subst (λ l. AreChoices g l (reverse old.choices.items) cs) (sym kept) (choices_same g was (take needed was) needed old.newest (reverse old.choices.items) cs (same_take was needed) stand h)
 
   pub frame_left : FrameLeft old new
   frame_left = record {

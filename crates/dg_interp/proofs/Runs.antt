@@ -101,15 +101,15 @@ pub run_done : (a b : Engine) (s : Spacer) (k : SinkView) → AllDone a b → Re
 run_done a b s k h g w run start quiet st text = finished_so (End Done) Done a.left b.left s k g w run start text (sym h.left) refl (h.ends g w run quiet st)
 
 -- a goal at hand where no goal is left
-limit_at : (e : Engine) (g : Game) (w : World) (run : Run) (st : StandsAt g e w run) (goals : List Goal) → 0 < length goals → Stands g st.lives st.ways (path_of (goals_at e.here.tag goals ++ mark_steps e.here.mark e.here.tag (steps_behind e.frames.items e.here.behind)) st.registers) 0 w run → Finished 0 w (End StepLimit) run
+limit_at : (e : Engine) (g : Game) (w : World) (run : Run) (st : StandsAt g e w run) (goals : List Goal) → 0 < length goals → Stands g st.lives st.ways (path_of (goals_at [] e.here.tag goals ++ mark_steps e.here.mark e.here.tag (steps_behind e.frames.items e.here.behind)) st.registers) 0 w run → Finished 0 w (End StepLimit) run
 limit_at e g w run st [] some h = absurd (omega arith)
-limit_at e g w run st (x ∷ goals) some h = limited g st.lives st.ways x e.here.tag _ st.registers w run h
+limit_at e g w run st (x ∷ goals) some h = limited g st.lives st.ways x [] e.here.tag _ st.registers w run h
 
 pub run_limited : (a b : Engine) (s : Spacer) (k : SinkView) → AtGoal a b → b.left ≡ 0 → Reaches a s k (HasEnded StepLimit b.left s k)
 run_limited a b s k h none g w run start quiet st text =
     let t = h.went_on.leads g w run quiet st in
     let x = t.holds in
-    let at = subst (λ n. Stands g x.lives x.ways (path_of (goals_at b.here.tag b.here.goals.now ++ mark_steps b.here.mark b.here.tag (steps_behind b.frames.items b.here.behind)) x.registers) n t.world run) none x.stands in
+    let at = subst (λ n. Stands g x.lives x.ways (path_of (goals_at [] b.here.tag b.here.goals.now ++ mark_steps b.here.mark b.here.tag (steps_behind b.frames.items b.here.behind)) x.registers) n t.world run) none x.stands in
     finished_so (End StepLimit) StepLimit 0 b.left s k g w run start text (sym none) refl (record { world = t.world; adds = t.adds; holds = limit_at b g t.world run x b.here.goals.now h.goal at })
 
 -- ## A word

@@ -35,8 +35,8 @@ module _ (program : Bor CoreProgram) (entry : Bor (List Goal)) (frames : Vec Fra
   none : reverse choices.items ≡ []
   none = ap reverse no_choices
 
-  steps : steps_at frames.items e.here ≡ Do (Ask program.now.entry [] false) 0 ∷ []
-  steps = ap (λ (l : List Goal). goals_at 0 l ++ steps_behind frames.items 0) is ∙ ap (λ s. Do (Ask program.now.entry [] false) 0 ∷ s) (behind_end frames.items)
+  steps : steps_at frames.items e.here ≡ Do (Ask program.now.entry [] false) [] 0 ∷ []
+  steps = ap (λ (l : List Goal). goals_at [] 0 l ++ steps_behind frames.items 0) is ∙ ap (λ s. Do (Ask program.now.entry [] false) [] 0 ∷ s) (behind_end frames.items)
 
   stands : (g : Game) (typed : List ℕ) → g.program ≡ program.now → StandsAt g e (start_world typed) (run g typed left)
   stands g typed same = record {
@@ -44,11 +44,11 @@ module _ (program : Bor CoreProgram) (entry : Bor (List Goal)) (frames : Vec Fra
     lives = [];
     ways = [];
     registers = (start_path g).registers;
-    choices = subst (λ l. AreChoices frames.items l []) (sym none) tt;
+    choices = subst (λ l. AreChoices g frames.items l []) (sym none) tt;
     tag = refl;
     stands =
         subst (λ s. Stands g [] [] (path_of s (start_path g).registers) left (start_world typed) (run g typed left)) (sym steps)
-        (subst (λ (p : CoreProgram). Stands g [] [] (path_of (Do (Ask p.entry [] false) 0 ∷ []) (start_path g).registers) left (start_world typed) (run g typed left)) same (starts g typed left));
+        (subst (λ (p : CoreProgram). Stands g [] [] (path_of (Do (Ask p.entry [] false) [] 0 ∷ []) (start_path g).registers) left (start_world typed) (run g typed left)) same (starts g typed left));
   }
 
   pub started : Starts program.now left e

@@ -9,8 +9,7 @@ use Rattle.dg_base.specs.declared.program.Goal.{Goal}
 use Rattle.dg_base.specs.declared.program.Rule.{Rule}
 use Rattle.dg_meaning.specs.World.{Game, World, prints}
 use Rattle.dg_meaning.specs.Path.{Do, Registers, Branch, Rules as RulesOf}
-use Rattle.dg_meaning.specs.Moves.{path_of, rule_branches, rule_steps, choice_cells, inside}
-use Rattle.dg_meaning.specs.Search.{begun}
+use Rattle.dg_meaning.specs.Moves.{begun, path_of, choice_cells, rule_steps, rule_branches}
 use Rattle.dg_meaning.specs.Transcript.{Run}
 use Rattle.dg_meaning.specs.Context.{Way, Live, pushed}
 use Rattle.dg_meaning.specs.Keeps.{Stands}
@@ -24,6 +23,7 @@ use Rattle.dg_interp.specs.declared.engine.Engine.{Engine}
 use Rattle.dg_interp.specs.Frames.{frame_steps, steps_behind, steps_at, AreChoices, StandOn}
 use Rattle.dg_interp.specs.Engine.{IsQuiet, IsSound, IsReady, StandsAt, BeginsAt, BeganWith, Then, Taken, WentBack, kept_if}
 use Rattle.dg_interp.proofs.Links.{stand_raise}
+use Rattle.dg_interp.proofs.Plain.{plain_registers, plain_work, plain_begins}
 
 -- ## Lists
 
@@ -73,7 +73,7 @@ module _ (old : Engine) (x : Goal) (goals : Bor (List Goal)) (left : ℕ) (ready
           choices = st.choices;
           tag = st.tag;
           stands =
-              subst (λ n. Stands g st.lives st.ways (path_of (Do x old.here.tag ∷ steps_at fs (record old.here { goals = goals })) st.registers) n w run) less
+              subst (λ n. Stands g st.lives st.ways (path_of (Do x [] old.here.tag ∷ steps_at fs (record old.here { goals = goals })) st.registers) n w run) less
               (subst (λ (l : List Goal). Stands g st.lives st.ways (path_of (frame_steps l old.here.tag old.here.mark (steps_behind fs old.here.behind)) st.registers) old.left w run) split st.stands);
         };
       }
@@ -85,14 +85,14 @@ module _ (n t : ℕ) (o : Choice) (os : List Choice) (height : o.height ≤ n) (
   kept_stand [] e s = stand_raise o.height n o.tag t os height tag s
   kept_stand (x ∷ xs) e s = (height, tag, (subst (λ (l : List Rule). 0 < length l) e (omega arith), built), s)
 
-module _ (fs : List Frame) (o : Choice) (os : List Choice) (cs : List Live) (r : Registers) (ways : List Way) (tag : r.next_tag ≡ o.tag) where
+module _ (g : Game) (fs : List Frame) (o : Choice) (os : List Choice) (cs : List Live) (r : Registers) (ways : List Way) (tag : r.next_tag ≡ o.tag) where
   abbrev branches : List Rule → List Branch
-  branches l = rule_branches o.left.query.pred 0 o.left.query.many (steps_behind fs o.height) r l
+  branches l = rule_branches g o.left.query.pred [] o.left.query.many (steps_behind fs o.height) r l
 
   abbrev kept_live : List Rule → Live
   kept_live l = record { kind = RulesOf o.left.query.pred; tag = r.next_tag; others = branches l; height = 0; ways_on = ways }
 
-  kept_choices : (l : List Rule) → l ≡ o.left.rules.now → AreChoices fs os cs → AreChoices fs (kept_if l o os) (pushed (branches l) (kept_live l) cs)
+  kept_choices : (l : List Rule) → l ≡ o.left.rules.now → AreChoices g fs os cs → AreChoices g fs (kept_if l o os) (pushed (branches l) (kept_live l) cs)
   kept_choices [] e h = h
   kept_choices (x ∷ xs) e h = (record { registers = r; tag_at = tag; kind = refl; tag = tag; others = ap (λ l. branches l) e; height = refl }, h)
 
@@ -116,17 +116,19 @@ module _ (old : Engine) (left others : Left) (rule : Rule) (choices : Vec Choice
   stand : StandOn (length was) old.newest (reverse choices.items)
   stand = subst (StandOn (length was) old.newest) (sym kept) (kept_stand (length was) old.newest o (reverse old.choices.items) (omega arith) (omega arith) (all_rest IsBuiltRule rule others.rules.now built_all) others.rules.now refl sound.choices)
 
-  steps : (r : Registers) → r.next_tag ≡ old.newest → steps_at was new.here ≡ rule_steps query.pred query.many r.next_tag rule (steps_behind was (length was))
+  steps : (r : Registers) → r.next_tag ≡ old.newest → steps_at was new.here ≡ rule_steps query.pred query.many [] r.next_tag rule (steps_behind was (length was))
   steps r e =
       ap (λ (l : List Goal). frame_steps l old.newest (AnswerOf query) (steps_behind was (length was))) body
-      ∙ ap (λ t. rule_steps query.pred query.many t rule (steps_behind was (length was))) (sym e)
+      ∙ ap (λ t. rule_steps query.pred query.many [] t rule (steps_behind was (length was))) (sym e)
 
   begins : (g : Game) (w : World) (run : Run) → IsQuiet w → BeginsAt g left old w run → Then [] w (λ v. StandsAt g new v run)
   begins g w run quiet st =
       let r = st.registers in
-      let cells = choice_cells 0 others.rules.now + 6 + rule.vars in
-      let v = begun (inside cells r) 1 w in
-      let lives = pushed (branches was o (reverse old.choices.items) st.lives r st.ways st.tag others.rules.now) (kept_live was o (reverse old.choices.items) st.lives r st.ways st.tag others.rules.now) st.lives in
+      let plain = all_first IsBuiltRule rule others.rules.now built_all in
+      let heap = choice_cells 0 others.rules.now in
+      let s = plain_registers g heap rule r in
+      let v = begun s (plain_work g rule) w in
+      let lives = pushed (branches g was o (reverse old.choices.items) st.lives r st.ways st.tag others.rules.now) (kept_live g was o (reverse old.choices.items) st.lives r st.ways st.tag others.rules.now) st.lives in
       record {
         world = v;
         adds = record { prints_are = sym (append-nil (prints w.events)); typed = refl; quiet = quiet };
@@ -134,11 +136,12 @@ module _ (old : Engine) (left others : Left) (rule : Rule) (choices : Vec Choice
           program = st.program;
           lives = lives;
           ways = st.ways;
-          registers = inside cells r;
-          choices = subst (λ l. AreChoices was l lives) (sym kept) (kept_choices was o (reverse old.choices.items) st.lives r st.ways st.tag others.rules.now refl st.choices);
+          registers = s;
+          choices = subst (λ l. AreChoices g was l lives) (sym kept) (kept_choices g was o (reverse old.choices.items) st.lives r st.ways st.tag others.rules.now refl st.choices);
           tag = ap (λ n. n + 1) st.tag;
-          stands = subst (λ s. Stands g lives st.ways (path_of s (inside cells r)) old.left v run) (sym (steps r st.tag))
-              (subst (λ q. BeganWith g q rule others.rules.now (steps_behind was (length was)) r st.lives st.ways old.left w run) (sym same) (st.began rule others.rules.now split));
+          stands = subst (λ l. Stands g lives st.ways (path_of l s) old.left v run) (sym (steps r st.tag))
+              (plain_begins g query.pred query.many (steps_behind was (length was)) r heap rule lives st.ways old.left w run plain
+              (subst (λ q. BeganWith g q rule others.rules.now (steps_behind was (length was)) r st.lives st.ways old.left w run) (sym same) (st.began rule others.rules.now split)));
         };
       }
 

@@ -7,7 +7,7 @@ use Rattle.dg_base.specs.declared.program.CoreProgram.{CoreProgram}
 use Rattle.dg_base.specs.declared.run.Ending.TheVariants.{Done as Done-Ending}
 use Rattle.dg_meaning.specs.World.{Game, World, Print, prints}
 use Rattle.dg_meaning.specs.Path.{Step, Do, Registers, Rules, Result, Failing, End}
-use Rattle.dg_meaning.specs.Moves.{path_of, enter, choice_cells, rule_steps, rule_branches}
+use Rattle.dg_meaning.specs.Moves.{path_of, choice_cells, rule_branch, rule_branches}
 use Rattle.dg_meaning.specs.Transcript.{Run, run, start_world}
 use Rattle.dg_meaning.specs.Context.{Way, Live, pushed}
 use Rattle.dg_meaning.specs.Keeps.{Stands, Failed, Finished, Began}
@@ -46,7 +46,7 @@ pub record StandsAt (g : Game) (e : Engine) (w : World) (run : Run) : Type 0 whe
   pub lives : List Live
   pub ways : List Way
   pub registers : Registers
-  pub choices : AreChoices e.frames.items (reverse e.choices.items) lives
+  pub choices : AreChoices g e.frames.items (reverse e.choices.items) lives
   pub tag : registers.next_tag ≡ e.newest + 1
   pub stands : Stands g lives ways (path_of (steps_at e.frames.items e.here) registers) e.left w run
 
@@ -54,7 +54,7 @@ pub record StandsAt (g : Game) (e : Engine) (w : World) (run : Run) : Type 0 whe
 pub record FailsAt (g : Game) (e : Engine) (w : World) (run : Run) : Type 0 where
   pub program : e.program.now ≡ g.program
   pub lives : List Live
-  pub choices : AreChoices e.frames.items (reverse e.choices.items) lives
+  pub choices : AreChoices g e.frames.items (reverse e.choices.items) lives
   pub failed : Failed g lives e.left w run
 
 -- From one world to another these things were printed, nothing was read, and no gathering is open.
@@ -72,9 +72,9 @@ pub record Then (es : List Print) (w : World) (P : World → Type 0) : Type 0 wh
 -- The first of a query's rules begins, with these others left and these steps behind them.
 abbrev pub BeganWith : Game → Query → Rule → List Rule → List Step → Registers → List Live → List Way → ℕ → World → Run → Type 0
 BeganWith g query rule others steps r lives ways n w run =
-    let branches = rule_branches query.pred 0 query.many steps r others in
+    let branches = rule_branches g query.pred [] query.many steps r others in
     Began g (pushed branches (record { kind = Rules query.pred; tag = r.next_tag; others = branches; height = 0; ways_on = ways }) lives) ways
-    (enter (choice_cells 0 others + 6 + rule.vars) 1 r (rule_steps query.pred query.many r.next_tag rule steps)) n w run
+    (rule_branch g query.pred [] query.many steps r (choice_cells 0 others) rule) n w run
 
 -- ## What its parts do
 
@@ -142,9 +142,9 @@ pub record TakesAt (g : Game) (x : Goal) (e : Engine) (w : World) (run : Run) : 
   pub lives : List Live
   pub ways : List Way
   pub registers : Registers
-  pub choices : AreChoices e.frames.items (reverse e.choices.items) lives
+  pub choices : AreChoices g e.frames.items (reverse e.choices.items) lives
   pub tag : registers.next_tag ≡ e.newest + 1
-  pub stands : Stands g lives ways (path_of (Do x e.here.tag ∷ steps_at e.frames.items e.here) registers) (suc e.left) w run
+  pub stands : Stands g lives ways (path_of (Do x [] e.here.tag ∷ steps_at e.frames.items e.here) registers) (suc e.left) w run
 
 -- A goal was taken, and what it does is left to do.
 pub record Taken (x : Goal) (old new : Engine) : Type 0 where
@@ -178,7 +178,7 @@ pub record BeginsAt (g : Game) (left : Left) (e : Engine) (w : World) (run : Run
   pub lives : List Live
   pub ways : List Way
   pub registers : Registers
-  pub choices : AreChoices e.frames.items (reverse e.choices.items) lives
+  pub choices : AreChoices g e.frames.items (reverse e.choices.items) lives
   pub tag : registers.next_tag ≡ e.newest
   pub began : (rule : Rule) (others : List Rule) → left.rules.now ≡ rule ∷ others → BeganWith g left.query rule others (steps_behind e.frames.items (length e.frames.items)) registers lives ways e.left w run
 

@@ -2,6 +2,7 @@
 use Rattle.std.specs.Prelude.{ℕ, zero, suc, ◌≡◌, ◌<◌, ◌≤◌, ◌++◌, eqb, List, [], ◌∷◌, Option, Some, None, length, slice_get, if◌then◌else◌}
 use Rattle.std.specs.List.{All}
 use Rattle.dg_base.specs.declared.program.Goal.{Goal}
+use Rattle.dg_meaning.specs.World.{Game}
 use Rattle.dg_meaning.specs.Path.{Step, Answers, Registers, Branch, Kind, Rules}
 use Rattle.dg_meaning.specs.Moves.{goals_at, first_alone, rule_branches}
 use Rattle.dg_meaning.specs.Context.{Live}
@@ -21,7 +22,7 @@ mark_steps (AnswerOf query) tag rest = Answers query.pred ∷ first_alone query.
 
 -- Goals, the mark behind them, and the steps behind that.
 abbrev pub frame_steps : List Goal → ℕ → Mark → List Step → List Step
-frame_steps goals tag mark rest = goals_at tag goals ++ mark_steps mark tag rest
+frame_steps goals tag mark rest = goals_at [] tag goals ++ mark_steps mark tag rest
 
 -- The steps of a frame that was found, where these stand behind each link.
 abbrev pub found_steps : Option Frame → (ℕ → List Step) → List Step
@@ -48,23 +49,23 @@ abbrev pub kind_of : Left → Kind
 kind_of left = Rules left.query.pred
 
 -- The branches that a choice has left, with these steps behind them.
-abbrev pub branches_of : Left → List Step → Registers → List Branch
-branches_of left steps registers = rule_branches left.query.pred 0 left.query.many steps registers left.rules.now
+abbrev pub branches_of : Game → Left → List Step → Registers → List Branch
+branches_of g left steps registers = rule_branches g left.query.pred [] left.query.many steps registers left.rules.now
 
 -- An engine's choice is one of the meaning, outside gatherings.
-pub record IsChoice (fs : List Frame) (o : Choice) (c : Live) : Type 0 where
+pub record IsChoice (g : Game) (fs : List Frame) (o : Choice) (c : Live) : Type 0 where
   pub registers : Registers
   pub tag_at : registers.next_tag ≡ o.tag
   pub kind : c.kind ≡ kind_of o.left
   pub tag : c.tag ≡ o.tag
-  pub others : c.others ≡ branches_of o.left (steps_behind fs o.height) registers
+  pub others : c.others ≡ branches_of g o.left (steps_behind fs o.height) registers
   pub height : c.height ≡ 0
 
 -- An engine's choices, the newest first, are those of the meaning.
-abbrev pub AreChoices : List Frame → List Choice → List Live → Type 0
-AreChoices fs [] [] = Unit {0}
-AreChoices fs (o ∷ os) (c ∷ cs) = IsChoice fs o c × AreChoices fs os cs
-AreChoices fs os cs = ⊥
+abbrev pub AreChoices : Game → List Frame → List Choice → List Live → Type 0
+AreChoices g fs [] [] = Unit {0}
+AreChoices g fs (o ∷ os) (c ∷ cs) = IsChoice g fs o c × AreChoices g fs os cs
+AreChoices g fs os cs = ⊥
 
 -- ## What holds of them
 

@@ -3,7 +3,7 @@ use Rattle.std.proofs.Common.{◌≡◌, ℕ, zero, suc, ◌<◌, ◌≤◌, inl
 use Rattle.std.specs.Prelude.{min, eqb, nat_lt, if◌then◌else◌}
 use Rattle.std.proofs.lemmas.Bool.{cond_both, cond-true, cond-false, lt-ltb, le-ltb, cases_lt, cases_eq, eq-eqb, ne_eqb}
 use Rattle.std.proofs.lemmas.List.{append-nil}
-use Rattle.dg_base.specs.declared.program.Term.{Term}
+use Rattle.dg_meaning.specs.Values.{Value}
 use Rattle.dg_meaning.specs.World.{World, Event, Gathering, gathered_with, gathered_without}
 use Rattle.dg_meaning.specs.Path.{Result, Failing, CutFail, StopTo, End, Answer, Branch, Kind, Plain, Rules, Shield, Gathers}
 use Rattle.dg_meaning.specs.Moves.{exhausted}
@@ -76,11 +76,11 @@ without_head t (g ∷ gs) ts e =
     let is = cond-true (eqb g.tag t) gs (g ∷ gathered_without t gs) (eq-eqb g.tag t head) in
     (is, ap tags_of is ∙ tail)
 
--- a term more in a gathering opens and closes none
-pub tags_kept : (t : ℕ) (x : Term) (gs : List Gathering) → tags_of (gathered_with t x gs) ≡ tags_of gs
+-- a value more in a gathering opens and closes none
+pub tags_kept : (t : ℕ) (x : Value) (gs : List Gathering) → tags_of (gathered_with t x gs) ≡ tags_of gs
 tags_kept t x [] = refl
 tags_kept t x (g ∷ gs) =
-    cond_both (eqb g.tag t) (record g { terms = g.terms ++ x ∷ [] } ∷ gs) (g ∷ gathered_with t x gs) (λ l. tags_of l ≡ g.tag ∷ tags_of gs) (λ e. refl) (λ e. ap (λ l. g.tag ∷ l) (tags_kept t x gs))
+    cond_both (eqb g.tag t) (record g { values = g.values ++ x ∷ [] } ∷ gs) (g ∷ gathered_with t x gs) (λ l. tags_of l ≡ g.tag ∷ tags_of gs) (λ e. refl) (λ e. ap (λ l. g.tag ∷ l) (tags_kept t x gs))
 
 pub length_tags : (gs : List Gathering) → length (tags_of gs) ≡ length gs
 length_tags [] = refl

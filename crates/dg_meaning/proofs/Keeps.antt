@@ -1,24 +1,31 @@
 -- The rules by which an engine may go on.
-use Rattle.std.proofs.Common.{◌≡◌, ℕ, suc, inl, inr, List, [], ◌∷◌, Option, None, refl, sym, ap, ◌∙◌, subst, arith, length, Some}
+use Rattle.std.proofs.Common.{◌≡◌, ℕ, suc, inl, inr, List, [], ◌∷◌, Option, None, Bool, true, false, refl, sym, ap, ◌∙◌, subst, arith, length, Some}
 use Rattle.std.specs.Prelude.{eqb, nat_lt, if◌then◌else◌}
 use Rattle.std.proofs.lemmas.Bool.{cond_both, cond-true, cond-false, ltb-true}
 use Rattle.dg_base.specs.declared.program.Goal.{Goal, Goal-F, out-Goal}
-use Rattle.dg_base.specs.declared.program.Goal.TheOpen.{Ask, Either, Stop, Collect}
+use Rattle.dg_base.specs.declared.program.Goal.TheOpen.{Print as Print-Form, Equal, Ask, Either, Stop, Collect, Test}
 use Rattle.dg_base.specs.declared.run.Ending.TheVariants.{Done as Done-Ending, StepLimit}
 use Rattle.dg_base.specs.declared.program.Term.{Term}
-use Rattle.dg_meaning.specs.World.{Game, World, Answered, Asked, noted, worked, kept}
+use Rattle.dg_base.specs.Goals.{terms_held}
+use Rattle.dg_meaning.specs.Values.{Value, value_of}
+use Rattle.dg_meaning.specs.Substitutions.{resolved}
+use Rattle.dg_meaning.specs.World.{Game, World, Piece, Answered, Asked, noted, worked, kept}
 use Rattle.dg_meaning.specs.Path.{Step, Do, Answers, Cut, Refuse, Back, Keep, Leave, Registers, Path, Result, Failing, CutFail, StopTo, End, Branch, Enter, Clash, TakeOut, Kind, Plain, Rules, Shield, Gathers, Move, GoesOn, FailsAt, EndsAt, StopsAt, Chooses}
-use Rattle.dg_meaning.specs.Moves.{path_of, choice, stop, list_branches, move}
-use Rattle.dg_meaning.specs.Search.{Search, search, answer, later, retried, leave, begun, begin, cut, cut_first, cut_result, after_branch, choose, branches_cut, after_move}
+use Rattle.dg_meaning.specs.Cells.{writing}
+use Rattle.dg_meaning.specs.Pieces.{pieces}
+use Rattle.dg_meaning.specs.Moves.{path_of, begun, printed, all_printed, choice, goes_on_if, whole_looks, stop, list_branches, outcome, behind_terms, move}
+use Rattle.dg_meaning.specs.Search.{Search, search, answer, later, retried, leave, begin, cut, cut_first, cut_result, after_branch, choose, branches_cut, after_move}
 use Rattle.dg_meaning.specs.Transcript.{Run, run_of, run, start_world, start_path}
 use Rattle.dg_meaning.specs.Context.{Around, InBranch, InCut, unwind, gathers, Opens, Way, ways, Live, cut_to, pushed, live, way_to, Older, StepsIn, PathIn, KeepsGathering, TakesOut, Sound, BranchIn, BranchesIn}
 use Rattle.dg_meaning.specs.Keeps.{world_of, unwound, Stands, Failed, Stopping, Resumed, Finished, open_at, FailsTo, Began, open_outside, new_ways, After, WentOn, Keeps}
 use Rattle.dg_meaning.proofs.Silently.{silently_here, silently_on}
+use Rattle.dg_meaning.specs.Bindings.{IsBound}
 use Rattle.dg_meaning.specs.OneRun.{Grows}
 use Rattle.dg_meaning.proofs.OneRun.{grows_same, grows_on}
 use Rattle.dg_meaning.proofs.Search.{IsGood, after_branch_good, choose_good, search_good, search_steps}
 use Rattle.dg_meaning.proofs.Context.{without_head, tags_kept, length_tags, later_twice, others_begin, Fails, run_fails, resumes, fails, leaving, resumed_at, Held, Stops, stops}
-use Rattle.dg_meaning.proofs.Tags.{stop_mark, steps_mark, branch_others, MoveIn, move_in}
+use Rattle.dg_meaning.proofs.Tags.{stop_mark, steps_mark, others_in, MoveIn, move_in}
+use Rattle.dg_meaning.proofs.Bindings.{binds_along}
 
 -- ## What has happened
 
@@ -46,7 +53,7 @@ passes_answer g cs ws q steps r n w run st = record {
   is = st.is ∙ ap (unwound (search g) st.ctx) (search_steps g n (path_of (Answers q ∷ steps) r) w ∙ sym (search_steps g n (path_of steps r) (noted (Answered q) w)));
   sound = st.sound;
   opens = st.opens;
-  inner = record { steps = st.inner.steps; stop = st.inner.stop; newer = st.inner.newer };
+  inner = record { steps = st.inner.steps; stop = st.inner.stop; newer = st.inner.newer; bound = binds_along.passes (Answers q) steps r r.stoppable st.inner.bound };
   choices = st.choices;
   ways_are = st.ways_are;
 }
@@ -57,7 +64,7 @@ passes_cut g cs ws t steps r n w run st = record {
   is = st.is ∙ ap (unwound (search g) st.ctx) (search_steps g n (path_of (Cut t ∷ steps) r) w ∙ ap (cut t) (sym (search_steps g n (path_of steps r) w)));
   sound = (st.inner.steps.0, st.sound);
   opens = st.opens;
-  inner = record { steps = steps_mark t st.ctx steps st.inner.steps.1; stop = stop_mark t st.ctx r.stoppable st.inner.stop; newer = st.inner.newer };
+  inner = record { steps = steps_mark t st.ctx steps st.inner.steps.1; stop = stop_mark t st.ctx r.stoppable st.inner.stop; newer = st.inner.newer; bound = binds_along.passes (Cut t) steps r r.stoppable st.inner.bound };
   choices = ap (cut_to t) st.choices;
   ways_are = st.ways_are;
 }
@@ -68,7 +75,7 @@ passes_leave g cs ws t outer steps r n w run st = record {
   is = st.is ∙ ap (unwound (search g) st.ctx) (search_steps g n (path_of (Leave t outer ∷ steps) r) w ∙ ap (cut t) (sym (search_steps g n (path_of steps (record r { stoppable = outer })) w)));
   sound = (st.inner.steps.0, st.sound);
   opens = st.opens;
-  inner = record { steps = steps_mark t st.ctx steps st.inner.steps.1.1; stop = stop_mark t st.ctx outer st.inner.steps.1.0; newer = st.inner.newer };
+  inner = record { steps = steps_mark t st.ctx steps st.inner.steps.1.1; stop = stop_mark t st.ctx outer st.inner.steps.1.0; newer = st.inner.newer; bound = binds_along.passes (Leave t outer) steps r outer st.inner.bound };
   choices = ap (cut_to t) st.choices;
   ways_are = st.ways_are;
 }
@@ -91,12 +98,12 @@ passes_back g cs ws steps r n w run st = record {
   choices = st.choices;
 }
 
-pub passes_keep : (g : Game) (cs : List Live) (ws : List Way) (t : ℕ) (x : Term) (steps : List Step) (r : Registers) (n : ℕ) (w : World) (run : Run) → Stands g cs ws (path_of (Keep t x ∷ steps) r) n w run → Failed g cs n (kept t x w) run
-passes_keep g cs ws t x steps r n w run st = record {
+pub passes_keep : (g : Game) (cs : List Live) (ws : List Way) (t : ℕ) (x : Term) (env : List Value) (steps : List Step) (r : Registers) (n : ℕ) (w : World) (run : Run) → Stands g cs ws (path_of (Keep t x env ∷ steps) r) n w run → Failed g cs n (kept t (resolved r.bound (value_of g.program env x)) w) run
+passes_keep g cs ws t x env steps r n w run st = record {
   ctx = st.ctx;
-  is = st.is ∙ ap (unwound (search g) st.ctx) (search_steps g n (path_of (Keep t x ∷ steps) r) w);
+  is = st.is ∙ ap (unwound (search g) st.ctx) (search_steps g n (path_of (Keep t x env ∷ steps) r) w);
   sound = st.sound;
-  opens = tags_kept t x w.gathered ∙ st.opens;
+  opens = tags_kept t (resolved r.bound (value_of g.program env x)) w.gathered ∙ st.opens;
   choices = st.choices;
 }
 
@@ -108,17 +115,17 @@ open_count w ctx o = sym (length_tags w.gathered) ∙ ap length o
 
 open_is : (k : Kind) (t : ℕ) (b : Branch) (bs : List Branch) (ctx : List Around) (w : World) → Opens w (InBranch k t (b ∷ bs) ∷ ctx) → TakesOut k t (b ∷ bs) → length w.gathered ≡ open_at (b ∷ bs) (length (gathers ctx))
 open_is Gathers t (Enter path work) bs ctx w o h = absurd h
-open_is Gathers t (Clash r) bs ctx w o h = absurd h
+open_is Gathers t (Clash r work) bs ctx w o h = absurd h
 open_is Gathers t (TakeOut u path) [] ctx w o h = let n = sym (length_tags w.gathered) ∙ ap length o in omega (arith, n)
 open_is Gathers t (TakeOut u path) (b ∷ bs) ctx w o h = absurd h
 open_is Plain t (Enter path work) bs ctx w o h = open_count w ctx o
-open_is Plain t (Clash r) bs ctx w o h = open_count w ctx o
+open_is Plain t (Clash r work) bs ctx w o h = open_count w ctx o
 open_is Plain t (TakeOut u path) bs ctx w o h = absurd h.0
 open_is (Rules q) t (Enter path work) bs ctx w o h = open_count w ctx o
-open_is (Rules q) t (Clash r) bs ctx w o h = open_count w ctx o
+open_is (Rules q) t (Clash r work) bs ctx w o h = open_count w ctx o
 open_is (Rules q) t (TakeOut u path) bs ctx w o h = absurd h.0
 open_is Shield t (Enter path work) bs ctx w o h = open_count w ctx o
-open_is Shield t (Clash r) bs ctx w o h = open_count w ctx o
+open_is Shield t (Clash r work) bs ctx w o h = open_count w ctx o
 open_is Shield t (TakeOut u path) bs ctx w o h = absurd h.0
 
 fails_to : (g : Game) (ctx : List Around) (n : ℕ) (w : World) (run : Run) → run ≡ unwind (search g) ctx n w Failing → (l : List Live) → Fails (search g) ctx n w l → FailsTo g n w run l
@@ -137,7 +144,7 @@ failed g cs n w run f = subst (FailsTo g n w run) f.choices (fails_to g f.ctx n 
 
 began : (g : Game) (cs : List Live) (ws : List Way) (ctx : List Around) (b : Branch) (n : ℕ) (w : World) (run : Run) → KeepsGathering b → run ≡ unwound (search g) ctx (begin (search g) b n w) → Sound ctx → Opens w ctx → BranchIn ctx b → live ctx ≡ cs → ways ctx ≡ ws → Began g cs ws b n w run
 began g cs ws ctx (Enter path work) n w run k is sound o h l e = record { ctx = ctx; is = is; sound = sound; opens = o; inner = h; choices = l; ways_are = e }
-began g cs ws ctx (Clash r) n w run k is sound o h l e = record { ctx = ctx; is = is; sound = sound; opens = o; choices = l }
+began g cs ws ctx (Clash r work) n w run k is sound o h l e = record { ctx = ctx; is = is; sound = sound; opens = o; choices = l }
 began g cs ws ctx (TakeOut t path) n w run k is sound o h l e = absurd k
 
 -- what is kept of a choice around
@@ -157,7 +164,7 @@ next_plain g kind t height ways_on ctx cs b bs n w run is older sound inner keep
     (is ∙ others_begin (search g) ctx kind t b bs n w)
     (older, sound, inner.1, out)
     o
-    (branch_others (later kind) t [] bs ctx b inner.0)
+    (others_in (later kind) t [] bs ctx b inner.0)
     (ap (λ k. pushed bs (record { kind = k; tag = t; others = bs; height = length (gathers ctx); ways_on = ways ctx }) (live ctx)) (later_twice kind) ∙ kept_as ctx t height ways_on cs (later kind) bs e ways_are choices)
     (same ∙ ways_are)
 
@@ -166,7 +173,7 @@ next_takes_out : (g : Game) (t height : ℕ) (ways_on : List Way) (ctx : List Ar
     run ≡ unwound (search g) ctx (choose (search g) Plain t (b ∷ bs) n w) → Older t ctx → Sound ctx → BranchesIn (InBranch Plain t [] ∷ ctx) (b ∷ bs) → TakesOut Gathers t (b ∷ bs) → Opens w (InBranch Gathers t (b ∷ bs) ∷ ctx) → live ctx ≡ cs → ways ctx ≡ ways_on →
     Began g (pushed bs (record { kind = Plain; tag = t; others = bs; height = height; ways_on = ways_on }) cs) ways_on b n w run
 next_takes_out g t height ways_on ctx cs (Enter path work) bs n w run is older sound inner out o choices ways_are = absurd out
-next_takes_out g t height ways_on ctx cs (Clash r) bs n w run is older sound inner out o choices ways_are = absurd out
+next_takes_out g t height ways_on ctx cs (Clash r work) bs n w run is older sound inner out o choices ways_are = absurd out
 next_takes_out g t height ways_on ctx cs (TakeOut u path) (b ∷ bs) n w run is older sound inner out o choices ways_are = absurd out
 next_takes_out g t height ways_on ctx cs (TakeOut u path) [] n w run is older sound inner out o choices ways_are = record {
   ctx = InBranch Plain t [] ∷ ctx;
@@ -221,12 +228,26 @@ stop_opens : (ctx : List Around) (s : Option ℕ) (w : World) → Opens w ctx �
 stop_opens ctx None w o = o
 stop_opens ctx (Some s) w o = o
 
-move_opens : (g : Game) (ctx : List Around) (x : Goal-F Goal) (t : ℕ) (steps : List Step) (r : Registers) (w : World) → Opens w ctx → MoveOpens ctx (move g x t steps r w)
-move_opens g ctx (Ask pred args many) t steps r w o = rules_open ctx pred r.next_tag _ (noted (Asked pred) w) o
-move_opens g ctx (Either lists) t steps r w o = choice_opens ctx r.next_tag (list_branches t steps r lists) w o
-move_opens g ctx Stop t steps r w o = stop_opens ctx r.stoppable w o
-move_opens g ctx (Collect term goals into) t steps r w o = ap (λ l. r.next_tag ∷ l) o
-move_opens g ctx _ t steps r w o = o
+goes_on_opens : (ctx : List Around) (b : Bool) (steps : List Step) (r : Registers) (w : World) → Opens w ctx → MoveOpens ctx (goes_on_if b steps r w)
+goes_on_opens ctx true steps r w o = o
+goes_on_opens ctx false steps r w o = o
+
+printed_opens : (ctx : List Around) (pieces : List (List ℕ)) (w : World) → Opens w ctx → Opens (all_printed pieces w) ctx
+printed_opens ctx [] w o = o
+printed_opens ctx (piece ∷ pieces) w o = printed_opens ctx pieces (printed (Piece piece) w) o
+
+outcome_opens : (g : Game) (ctx : List Around) (x : Goal-F Goal) (env : List Value) (t : ℕ) (steps : List Step) (r : Registers) (w : World) → Opens w ctx → MoveOpens ctx (outcome g x env t steps r w)
+outcome_opens g ctx (Print-Form a) env t steps r w o = printed_opens ctx (pieces g.program (resolved r.bound (value_of g.program env a))) (worked (whole_looks r (value_of g.program env a)) w) o
+outcome_opens g ctx (Equal a b) env t steps r w o = goes_on_opens ctx _ steps _ _ o
+outcome_opens g ctx (Ask pred args many) env t steps r w o = rules_open ctx pred r.next_tag _ (noted (Asked pred) w) o
+outcome_opens g ctx (Either lists) env t steps r w o = choice_opens ctx r.next_tag (list_branches env t steps r lists) w o
+outcome_opens g ctx Stop env t steps r w o = stop_opens ctx r.stoppable w o
+outcome_opens g ctx (Collect term goals into) env t steps r w o = ap (λ l. r.next_tag ∷ l) o
+outcome_opens g ctx (Test kind a) env t steps r w o = goes_on_opens ctx _ steps r _ o
+outcome_opens g ctx _ env t steps r w o = o
+
+move_opens : (g : Game) (ctx : List Around) (x : Goal-F Goal) (env : List Value) (t : ℕ) (steps : List Step) (r : Registers) (w : World) → Opens w ctx → MoveOpens ctx (move g x env t steps r w)
+move_opens g ctx x env t steps r w o = outcome_opens g ctx x env t steps (behind_terms g x r) (begun (behind_terms g x r) (writing g.program (terms_held x)) w) o
 
 -- how many gatherings are open outside a choice
 outside_is : (k : Kind) (t : ℕ) (bs : List Branch) (ctx : List Around) (w : World) → Opens w (InBranch k t bs ∷ ctx) → length (gathers ctx) ≡ open_outside k w
@@ -252,16 +273,16 @@ after g cs ws n run ctx sound choices ways_are (Chooses k t b bs w) h is o =
     began g _ _ (InBranch k t bs ∷ ctx) b n w run h.3 is (h.0, sound, h.2, h.4) o h.1
     (kept_as ctx t (open_outside k w) ws cs (later k) bs (outside_is k t bs ctx w o) ways_are choices) (ways_new k t bs ctx w ws o ways_are)
 
-pub takes : (g : Game) (cs : List Live) (ws : List Way) (x : Goal) (t : ℕ) (steps : List Step) (r : Registers) (n : ℕ) (w : World) (run : Run) → Stands g cs ws (path_of (Do x t ∷ steps) r) (suc n) w run → After g cs ws n (move g (out-Goal x) t steps r (worked 1 w)) run
-takes g cs ws x t steps r n w run st =
-    after g cs ws n run st.ctx st.sound st.choices st.ways_are (move g (out-Goal x) t steps r (worked 1 w))
-    (move_in st.ctx t steps r st.inner.steps.0 st.inner.steps.1 st.inner.stop st.inner.newer g (out-Goal x) (worked 1 w))
-    (st.is ∙ ap (unwound (search g) st.ctx) (search_steps g (suc n) (path_of (Do x t ∷ steps) r) w))
-    (move_opens g st.ctx (out-Goal x) t steps r (worked 1 w) st.opens)
+pub takes : (g : Game) (cs : List Live) (ws : List Way) (x : Goal) (env : List Value) (t : ℕ) (steps : List Step) (r : Registers) (n : ℕ) (w : World) (run : Run) → Stands g cs ws (path_of (Do x env t ∷ steps) r) (suc n) w run → After g cs ws n (move g (out-Goal x) env t steps r (worked 1 w)) run
+takes g cs ws x env t steps r n w run st =
+    after g cs ws n run st.ctx st.sound st.choices st.ways_are (move g (out-Goal x) env t steps r (worked 1 w))
+    (move_in g x st.ctx env t steps r (worked 1 w) st.inner)
+    (st.is ∙ ap (unwound (search g) st.ctx) (search_steps g (suc n) (path_of (Do x env t ∷ steps) r) w))
+    (move_opens g st.ctx (out-Goal x) env t steps r (worked 1 w) st.opens)
 
-pub limited : (g : Game) (cs : List Live) (ws : List Way) (x : Goal) (t : ℕ) (steps : List Step) (r : Registers) (w : World) (run : Run) → Stands g cs ws (path_of (Do x t ∷ steps) r) 0 w run → Finished 0 w (End StepLimit) run
-limited g cs ws x t steps r w run st =
-    ends (search g) st.ctx 0 w StepLimit run st.opens (st.is ∙ ap (unwound (search g) st.ctx) (search_steps g 0 (path_of (Do x t ∷ steps) r) w))
+pub limited : (g : Game) (cs : List Live) (ws : List Way) (x : Goal) (env : List Value) (t : ℕ) (steps : List Step) (r : Registers) (w : World) (run : Run) → Stands g cs ws (path_of (Do x env t ∷ steps) r) 0 w run → Finished 0 w (End StepLimit) run
+limited g cs ws x env t steps r w run st =
+    ends (search g) st.ctx 0 w StepLimit run st.opens (st.is ∙ ap (unwound (search g) st.ctx) (search_steps g 0 (path_of (Do x env t ∷ steps) r) w))
 
 pub done : (g : Game) (cs : List Live) (ws : List Way) (r : Registers) (n : ℕ) (w : World) (run : Run) → Stands g cs ws (path_of [] r) n w run → Finished n w (End Done-Ending) run
 done g cs ws r n w run st =
@@ -286,6 +307,12 @@ cut_in ctx t (Some c) steps held h =
     (λ e. let lt = ltb-true c t e in (elim held [ inl past ↦ absurd (omega arith) | inr x ↦ x ], h))
     (λ e. h)
 
+cut_bound : (t : ℕ) (cut : Option ℕ) (path : Path) → IsBound path → IsBound (record path { steps = cut_first t cut path.steps })
+cut_bound t None path h = h
+cut_bound t (Some c) path h =
+    cond_both (nat_lt c t) (Cut c ∷ path.steps) path.steps (λ (l : List Step). IsBound (record path { steps = l }))
+    (λ e. record { sound = h.sound; bindings = h.bindings; steps = omega (arith, h.steps) }) (λ e. h)
+
 module _ (g : Game) (n : ℕ) (w : World) (s : ℕ) (run : Run) (ctx : List Around) (i : Stops (search g) ctx n w s None) (is : run ≡ unwind (search g) ctx n w (StopTo s None)) (path : Path) (work : ℕ) (only : i.others ≡ Enter path work ∷ []) where
   abbrev on : Path
   on = record path { steps = cut_first s i.cut path.steps }
@@ -299,7 +326,7 @@ module _ (g : Game) (n : ℕ) (w : World) (s : ℕ) (run : Run) (ctx : List Arou
     is = is ∙ i.same ∙ ap (λ l. unwound (search g) i.at (choose (search g) Plain s (branches_cut s i.cut l) n i.world)) only ∙ others_begin (search g) i.at Plain s (Enter on work) [] n i.world;
     sound = (i.sound.0, i.sound.1, tt, tt);
     opens = i.opens;
-    inner = record { steps = cut_in (InBranch Plain s [] ∷ i.at) s i.cut path.steps i.held inner.steps; stop = inner.stop; newer = inner.newer };
+    inner = record { steps = cut_in (InBranch Plain s [] ∷ i.at) s i.cut path.steps i.held inner.steps; stop = inner.stop; newer = inner.newer; bound = cut_bound s i.cut path inner.bound };
     choices = refl;
     ways_are = refl;
   }
@@ -335,7 +362,7 @@ starts g typed n = record {
   is = let a = search g n (start_path g) (start_world typed) in in_first (search g) a.left a.world a.result;
   sound = (tt, tt, tt, tt);
   opens = refl;
-  inner = record { steps = (inl refl, tt); stop = tt; newer = (omega arith, tt) };
+  inner = record { steps = (inl refl, tt); stop = tt; newer = (omega arith, tt); bound = binds_along.starts g };
   choices = refl;
   ways_are = refl;
 }
@@ -345,6 +372,7 @@ keeps = record {
   starts = starts;
   has_happened = has_happened;
   has_happened_before = has_happened_before;
+  is_bound = λ g cs ws path n w run st. st.inner.bound;
   passes_answer = passes_answer;
   passes_cut = passes_cut;
   passes_leave = passes_leave;

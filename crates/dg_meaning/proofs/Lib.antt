@@ -9,7 +9,9 @@ pub mod OneRun
 pub mod Search
 pub mod Silently
 pub mod Context
+pub mod Bindings
 pub mod Tags
 pub mod Keeps
 pub mod Worked
+pub mod WorkedSearch
 pub mod Limits

@@ -1,11 +1,11 @@
 -- The order on worlds, and what each change of a world is in it.
 use Rattle.std.proofs.Common.{ℕ, List, [], ◌∷◌, ◌++◌, refl, sym, ap, ◌∙◌, arith, append_assoc}
 use Rattle.std.proofs.lemmas.List.{append-nil}
-use Rattle.dg_base.specs.declared.program.Term.{Term}
-use Rattle.dg_meaning.specs.World.{World, Meters, Event, Print, noted, worked, reached, opened, kept, dropped}
+use Rattle.dg_meaning.specs.Values.{Value}
+use Rattle.dg_meaning.specs.World.{World, Meters, Event, Print, Piece, noted, worked, reached, opened, kept, dropped}
 use Rattle.dg_meaning.specs.Path.{Registers, Kind, Rules, Gathers}
-use Rattle.dg_meaning.specs.Moves.{printed, exhausted}
-use Rattle.dg_meaning.specs.Search.{retried, leave, begun}
+use Rattle.dg_meaning.specs.Moves.{printed, all_printed, exhausted, begun}
+use Rattle.dg_meaning.specs.Search.{retried, leave}
 use Rattle.dg_meaning.specs.OneRun.{Begins, EndsWith, MetersGrow, Grows}
 
 pub begins_same : {A : Type 0} (xs : List A) → Begins xs xs
@@ -69,6 +69,10 @@ printed_grows e w = record {
   dice = omega arith;
 }
 
+pub all_printed_grows : (pieces : List (List ℕ)) (w : World) → Grows w (all_printed pieces w)
+all_printed_grows [] w = grows_same w
+all_printed_grows (piece ∷ pieces) w = grows_on w (printed (Piece piece) w) _ (printed_grows (Piece piece) w) (all_printed_grows pieces (printed (Piece piece) w))
+
 -- what is gathered is no part of the order
 pub dropped_grows : (t : ℕ) (w : World) → Grows w (dropped t w)
 dropped_grows t w = record { events = begins_same w.events; meters = meters_same w.meters; typed = record { taken = []; is = refl }; dice = omega arith }
@@ -76,7 +80,7 @@ dropped_grows t w = record { events = begins_same w.events; meters = meters_same
 pub opened_grows : (t : ℕ) (w : World) → Grows w (opened t w)
 opened_grows t w = record { events = begins_same w.events; meters = meters_same w.meters; typed = record { taken = []; is = refl }; dice = omega arith }
 
-pub kept_grows : (t : ℕ) (x : Term) (w : World) → Grows w (kept t x w)
+pub kept_grows : (t : ℕ) (x : Value) (w : World) → Grows w (kept t x w)
 kept_grows t x w = record { events = begins_same w.events; meters = meters_same w.meters; typed = record { taken = []; is = refl }; dice = omega arith }
 
 pub exhausted_grows : (k : Kind) (w : World) → Grows w (exhausted k w)

@@ -1,17 +1,23 @@
 -- The laws of the search: what it adds to the world, its equation, and that a larger budget goes on with the same run.
-use Rattle.std.proofs.Common.{◌≡◌, ℕ, zero, suc, ◌+◌, ◌<◌, ◌≤◌, ◌⊎◌, inl, inr, List, [], ◌∷◌, Option, Some, None, Bool, true, false, refl, sym, ap, ◌∙◌, subst, arith}
-use Rattle.std.specs.Prelude.{if◌then◌else◌}
+use Rattle.std.proofs.Common.{◌≡◌, ℕ, zero, suc, ◌+◌, ◌<◌, ◌≤◌, ◌⊎◌, inl, inr, List, [], ◌∷◌, Option, Some, None, Bool, true, false, refl, sym, ap, ◌∙◌, subst, arith, length}
+use Rattle.std.specs.Prelude.{◌*◌, if◌then◌else◌}
 use Rattle.dg_base.specs.declared.program.Goal.{Goal, Goal-F, out-Goal}
-use Rattle.dg_base.specs.declared.program.Goal.TheOpen.{Text, Gap, Ask, Either, Stop, Collect}
+use Rattle.dg_base.specs.declared.program.Goal.TheOpen.{Text, Print as Print-Form, Gap, Equal, Ask, Either, Stop, Collect, Test}
 use Rattle.dg_base.specs.declared.run.Ending.TheVariants.{StepLimit}
+use Rattle.dg_base.specs.Goals.{terms_held}
+use Rattle.dg_meaning.specs.Values.{Value, value_of}
+use Rattle.dg_meaning.specs.Substitutions.{resolved}
+use Rattle.dg_meaning.specs.Unify.{Unified}
 use Rattle.dg_meaning.specs.World.{Game, World, Answered, Asked, noted, worked, kept, dropped}
+use Rattle.dg_meaning.specs.Cells.{writing}
+use Rattle.dg_meaning.specs.Pieces.{pieces}
 use Rattle.dg_meaning.specs.Path.{Step, Do, Answers, Cut, Refuse, Back, Keep, Leave, Registers, Path, Result, Failing, CutFail, StopTo, End, Answer, Branch, Enter, Clash, TakeOut, Kind, Plain, Rules, Shield, Gathers, Move, GoesOn, FailsAt, EndsAt, StopsAt, Chooses}
-use Rattle.dg_meaning.specs.Moves.{exhausted, choice, list_branches, ask, stop, move}
-use Rattle.dg_meaning.specs.Search.{Search, answer, cut_result, cut, later, retried, leave, catches, after_branch, begun, begin, branches_cut, choose, choose_first, after_move, take_goal, go, nowhere, search_to, search}
+use Rattle.dg_meaning.specs.Moves.{exhausted, begun, bound_by, made_since, list_branches, choice, goes_on_if, ask, unified, whole_looks, print, stop, outcome, behind_terms, move}
+use Rattle.dg_meaning.specs.Search.{Search, answer, cut_result, cut, later, retried, leave, catches, after_branch, begin, branches_cut, choose, choose_first, after_move, take_goal, go, nowhere, search_to, search}
 use Rattle.dg_meaning.specs.Transcript.{ending_of, run_of, start_world, start_path, run}
 use Rattle.dg_meaning.specs.OneRun.{Grows, GoesOnFrom}
 use Rattle.dg_meaning.specs.Keeps.{world_of}
-use Rattle.dg_meaning.proofs.OneRun.{grows_same, grows_on, noted_grows, worked_grows, begun_grows, printed_grows, dropped_grows, opened_grows, kept_grows, exhausted_grows, retried_grows, leave_grows}
+use Rattle.dg_meaning.proofs.OneRun.{grows_same, grows_on, noted_grows, worked_grows, begun_grows, printed_grows, all_printed_grows, dropped_grows, opened_grows, kept_grows, exhausted_grows, retried_grows, leave_grows}
 
 -- ## Worlds only grow, and budgets only fall
 
@@ -43,7 +49,7 @@ after_branch_good k t n w (End e) next stopped g h = good_at n w (leave k t w) _
 
 begin_good : (s : Search) → IsGood s → (b : Branch) (n : ℕ) (w : World) → Good n w (begin s b n w)
 begin_good s g (Enter path work) n w = good_on n n w (begun path.registers work w) _ (omega arith) (begun_grows path.registers work w) (g n path (begun path.registers work w))
-begin_good s g (Clash r) n w = good_at n w (begun r 0 w) _ (begun_grows r 0 w)
+begin_good s g (Clash r work) n w = good_at n w (begun r work w) _ (begun_grows r work w)
 begin_good s g (TakeOut t path) n w =
     let v = begun path.registers 0 (dropped t w) in
     good_on n n w v _ (omega arith) (grows_on w (dropped t w) v (dropped_grows t w) (begun_grows path.registers 0 (dropped t w))) (g n path v)
@@ -71,17 +77,40 @@ stop_grows : (o : Option ℕ) (w : World) → Grows w (world_of (stop o w))
 stop_grows None w = grows_same w
 stop_grows (Some s) w = grows_same w
 
-ask_grows : (g : Game) (pred arguments : ℕ) (many : Bool) (steps : List Step) (r : Registers) (w : World) → Grows w (world_of (ask g pred arguments many steps r w))
-ask_grows g pred arguments many steps r w = grows_on w (noted (Asked pred) w) _ (noted_grows (Asked pred) w) (choice_grows (Rules pred) r.next_tag _ (noted (Asked pred) w))
+ask_grows : (g : Game) (pred : ℕ) (args : List Value) (many : Bool) (steps : List Step) (r : Registers) (w : World) → Grows w (world_of (ask g pred args many steps r w))
+ask_grows g pred args many steps r w = grows_on w (noted (Asked pred) w) _ (noted_grows (Asked pred) w) (choice_grows (Rules pred) r.next_tag _ (noted (Asked pred) w))
 
-pub move_grows : (g : Game) (x : Goal-F Goal) (t : ℕ) (steps : List Step) (r : Registers) (w : World) → Grows w (world_of (move g x t steps r w))
-move_grows g (Text name) t steps r w = printed_grows _ w
-move_grows g (Gap kind) t steps r w = printed_grows _ w
-move_grows g (Ask pred args many) t steps r w = ask_grows g pred _ many steps r w
-move_grows g (Either lists) t steps r w = choice_grows Plain r.next_tag (list_branches t steps r lists) w
-move_grows g Stop t steps r w = stop_grows r.stoppable w
-move_grows g (Collect term goals into) t steps r w = opened_grows r.next_tag w
-move_grows g _ t steps r w = grows_same w
+goes_on_grows : (b : Bool) (steps : List Step) (r : Registers) (w v : World) → Grows w v → Grows w (world_of (goes_on_if b steps r v))
+goes_on_grows true steps r w v h = h
+goes_on_grows false steps r w v h = h
+
+unified_grows : (u : Unified) (steps : List Step) (r : Registers) (w : World) → Grows w (world_of (unified u steps r w))
+unified_grows u steps r w =
+    let r' = bound_by u (length (made_since r.bound u.subst)) r in
+    goes_on_grows u.agrees steps r' w (begun r' (2 * u.count) w) (begun_grows r' (2 * u.count) w)
+
+print_grows : (g : Game) (v : Value) (steps : List Step) (r : Registers) (w : World) → Grows w (world_of (print g v steps r w))
+print_grows g v steps r w =
+    let u = worked (whole_looks r v) w in
+    grows_on w u _ (worked_grows (whole_looks r v) w) (all_printed_grows (pieces g.program (resolved r.bound v)) u)
+
+outcome_grows : (g : Game) (x : Goal-F Goal) (env : List Value) (t : ℕ) (steps : List Step) (r : Registers) (w : World) → Grows w (world_of (outcome g x env t steps r w))
+outcome_grows g (Text name) env t steps r w = printed_grows _ w
+outcome_grows g (Print-Form a) env t steps r w = print_grows g _ steps r w
+outcome_grows g (Gap kind) env t steps r w = printed_grows _ w
+outcome_grows g (Equal a b) env t steps r w = unified_grows _ steps r w
+outcome_grows g (Ask pred args many) env t steps r w = ask_grows g pred _ many steps r w
+outcome_grows g (Either lists) env t steps r w = choice_grows Plain r.next_tag (list_branches env t steps r lists) w
+outcome_grows g Stop env t steps r w = stop_grows r.stoppable w
+outcome_grows g (Collect term goals into) env t steps r w = opened_grows r.next_tag w
+outcome_grows g (Test kind a) env t steps r w = goes_on_grows _ steps r w _ (worked_grows _ w)
+outcome_grows g _ env t steps r w = grows_same w
+
+pub move_grows : (g : Game) (x : Goal-F Goal) (env : List Value) (t : ℕ) (steps : List Step) (r : Registers) (w : World) → Grows w (world_of (move g x env t steps r w))
+move_grows g x env t steps r w =
+    let r' = behind_terms g x r in
+    let v = begun r' (writing g.program (terms_held x)) w in
+    grows_on w v _ (begun_grows r' (writing g.program (terms_held x)) w) (outcome_grows g x env t steps r' v)
 
 after_move_good : (s : Search) → IsGood s → (n : ℕ) (m : Move) → Good n (world_of m) (after_move s n m)
 after_move_good s g n (GoesOn path w) = g n path w
@@ -95,20 +124,20 @@ take_goal_good s g zero m w b = good_here zero w _
 take_goal_good s g (suc n) m w b = good_on (suc n) n w (world_of m) _ (omega arith) b (after_move_good s g n m)
 
 -- a goal that is taken is work
-taken_grows : (g : Game) (x : Goal) (t : ℕ) (steps : List Step) (r : Registers) (w : World) → Grows w (world_of (move g (out-Goal x) t steps r (worked 1 w)))
-taken_grows g x t steps r w = grows_on w (worked 1 w) _ (worked_grows 1 w) (move_grows g (out-Goal x) t steps r (worked 1 w))
+taken_grows : (g : Game) (x : Goal) (env : List Value) (t : ℕ) (steps : List Step) (r : Registers) (w : World) → Grows w (world_of (move g (out-Goal x) env t steps r (worked 1 w)))
+taken_grows g x env t steps r w = grows_on w (worked 1 w) _ (worked_grows 1 w) (move_grows g (out-Goal x) env t steps r (worked 1 w))
 
 cut_good : (t n : ℕ) (w : World) (a : Answer) → Good n w a → Good n w (cut t a)
 cut_good t n w a h = record { left = h.left; grows = h.grows }
 
 go_good : (g : Game) (s : Search) → IsGood s → (n : ℕ) (steps : List Step) (r : Registers) (w : World) → Good n w (go g s n steps r w)
 go_good g s h n [] r w = good_here n w _
-go_good g s h n (Do x t ∷ steps) r w = take_goal_good s h n _ w (taken_grows g x t steps r w)
+go_good g s h n (Do x env t ∷ steps) r w = take_goal_good s h n _ w (taken_grows g x env t steps r w)
 go_good g s h n (Answers q ∷ steps) r w = good_on n n w (noted (Answered q) w) _ (omega arith) (noted_grows (Answered q) w) (go_good g s h n steps r (noted (Answered q) w))
 go_good g s h n (Cut t ∷ steps) r w = cut_good t n w _ (go_good g s h n steps r w)
 go_good g s h n (Refuse t ∷ steps) r w = good_here n w _
 go_good g s h n (Back ∷ steps) r w = good_here n w _
-go_good g s h n (Keep t x ∷ steps) r w = good_at n w (kept t x w) _ (kept_grows t x w)
+go_good g s h n (Keep t x env ∷ steps) r w = let v = resolved r.bound (value_of g.program env x) in good_at n w (kept t v w) _ (kept_grows t v w)
 go_good g s h n (Leave t outer ∷ steps) r w = cut_good t n w _ (go_good g s h n steps (record r { stoppable = outer }) w)
 
 nowhere_good : IsGood nowhere
@@ -131,7 +160,7 @@ AgreeTo s z k = (m : ℕ) (path : Path) (w : World) → m ≤ k → s m path w �
 
 begin_same : (s z : Search) (k : ℕ) → AgreeTo s z k → (b : Branch) (n : ℕ) (w : World) → n ≤ k → begin s b n w ≡ begin z b n w
 begin_same s z k h (Enter path work) n w le = h n path (begun path.registers work w) le
-begin_same s z k h (Clash r) n w le = refl
+begin_same s z k h (Clash r work) n w le = refl
 begin_same s z k h (TakeOut t path) n w le = h n path (begun path.registers 0 (dropped t w)) le
 
 choose_same : (s z : Search) (k : ℕ) → IsGood s → AgreeTo s z k → (kind : Kind) (t : ℕ) (bs : List Branch) (n : ℕ) (w : World) → n ≤ k → choose s kind t bs n w ≡ choose z kind t bs n w
@@ -168,12 +197,12 @@ take_goal_same s z (suc n) g h m w = after_move_same s z n g (λ i path v le. h 
 
 go_same : (g : Game) (s z : Search) (n : ℕ) → IsGood s → AgreeBelow s z n → (steps : List Step) (r : Registers) (w : World) → go g s n steps r w ≡ go g z n steps r w
 go_same g s z n i h [] r w = refl
-go_same g s z n i h (Do x t ∷ steps) r w = take_goal_same s z n i h _ w
+go_same g s z n i h (Do x env t ∷ steps) r w = take_goal_same s z n i h _ w
 go_same g s z n i h (Answers q ∷ steps) r w = go_same g s z n i h steps r (noted (Answered q) w)
 go_same g s z n i h (Cut t ∷ steps) r w = ap (cut t) (go_same g s z n i h steps r w)
 go_same g s z n i h (Refuse t ∷ steps) r w = refl
 go_same g s z n i h (Back ∷ steps) r w = refl
-go_same g s z n i h (Keep t x ∷ steps) r w = refl
+go_same g s z n i h (Keep t x env ∷ steps) r w = refl
 go_same g s z n i h (Leave t outer ∷ steps) r w = ap (cut t) (go_same g s z n i h steps (record r { stoppable = outer }) w)
 
 search_to_same : (g : Game) (b c n : ℕ) (path : Path) (w : World) → n ≤ b → n ≤ c → search_to g b n path w ≡ search_to g c n path w
@@ -224,7 +253,7 @@ after_limit d Gathers t n w (End x) next stopped b e g = inr (e, record { events
 
 begin_follows : (d : ℕ) (s z : Search) → FollowsOn d s z → (b : Branch) (n k : ℕ) (w : World) → k ≡ n + d → Follows d (begin s b n w) (begin z b k w)
 begin_follows d s z f (Enter path work) n k w e = f n k path (begun path.registers work w) e
-begin_follows d s z f (Clash r) n k w e = follows_here d n k (begun r 0 w) _ e
+begin_follows d s z f (Clash r work) n k w e = follows_here d n k (begun r work w) _ e
 begin_follows d s z f (TakeOut t path) n k w e = f n k path (begun path.registers 0 (dropped t w)) e
 
 choose_follows : (d : ℕ) (s z : Search) → IsGood z → FollowsOn d s z → (kind : Kind) (t : ℕ) (bs : List Branch) (n k : ℕ) (w : World) → k ≡ n + d → Follows d (choose s kind t bs n w) (choose z kind t bs k w)
@@ -269,12 +298,12 @@ cut_follows d t a b (inr h) = inr (ap (cut_result t) h.0, h.1)
 
 go_follows : (g : Game) (d : ℕ) (s z : Search) → IsGood z → FollowsOn d s z → (n k : ℕ) (steps : List Step) (r : Registers) (w : World) → k ≡ n + d → Follows d (go g s n steps r w) (go g z k steps r w)
 go_follows g d s z i f n k [] r w e = follows_here d n k w _ e
-go_follows g d s z i f n k (Do x t ∷ steps) r w e = take_goal_follows d s z i f n k _ w (taken_grows g x t steps r w) e
+go_follows g d s z i f n k (Do x env t ∷ steps) r w e = take_goal_follows d s z i f n k _ w (taken_grows g x env t steps r w) e
 go_follows g d s z i f n k (Answers q ∷ steps) r w e = go_follows g d s z i f n k steps r (noted (Answered q) w) e
 go_follows g d s z i f n k (Cut t ∷ steps) r w e = cut_follows d t _ _ (go_follows g d s z i f n k steps r w e)
 go_follows g d s z i f n k (Refuse t ∷ steps) r w e = follows_here d n k w _ e
 go_follows g d s z i f n k (Back ∷ steps) r w e = follows_here d n k w _ e
-go_follows g d s z i f n k (Keep t x ∷ steps) r w e = follows_here d n k (kept t x w) _ e
+go_follows g d s z i f n k (Keep t x env ∷ steps) r w e = follows_here d n k (kept t (resolved r.bound (value_of g.program env x)) w) _ e
 go_follows g d s z i f n k (Leave t outer ∷ steps) r w e = cut_follows d t _ _ (go_follows g d s z i f n k steps (record r { stoppable = outer }) w e)
 
 search_to_follows : (g : Game) (d b : ℕ) → FollowsOn d (search_to g b) (search_to g b)

@@ -125,7 +125,7 @@ turn_fair n S a b s hS ha hb = turned_fair n S a b (walk S a) (walk S b) (walked
 
 -- ## Fuel
 
-turns_for_some : (k m : ℕ) → 0 < turns_for k m
+pub turns_for_some : (k m : ℕ) → 0 < turns_for k m
 turns_for_some zero m = omega arith
 turns_for_some (suc k) m = omega arith
 
@@ -144,7 +144,7 @@ weight_append : (S : Substitution) (xs ys : Equations) → weight S (xs ++ ys) �
 weight_append S [] ys = omega arith
 weight_append S (x ∷ xs) ys = omega (arith, weight_append S xs ys)
 
-top_append : (n : ℕ) (xs ys : Equations) → top_of_equations xs ≤ n → top_of_equations ys ≤ n → top_of_equations (xs ++ ys) ≤ n
+pub top_append : (n : ℕ) (xs ys : Equations) → top_of_equations xs ≤ n → top_of_equations ys ≤ n → top_of_equations (xs ++ ys) ≤ n
 top_append n [] ys hx hy = hy
 top_append n (x ∷ xs) ys hx hy = omega (arith, top_append n xs ys (omega arith) hy)
 

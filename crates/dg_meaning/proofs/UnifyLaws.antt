@@ -1,15 +1,24 @@
 -- The laws of unification.
-use Rattle.std.proofs.Common.{◌≡◌, ℕ, zero, suc, ◌+◌, ◌≤◌, List, [], ◌∷◌, ◌++◌, Bool, true, false, refl, sym, ap, ◌∙◌, arith, subst, append_assoc, append-nil, Option, Some, None}
+use Rattle.std.proofs.Common.{◌≡◌, ℕ, zero, suc, ◌+◌, ◌<◌, ◌≤◌, List, [], ◌∷◌, ◌++◌, Bool, true, false, refl, sym, ap, ◌∙◌, arith, subst, append_assoc, append-nil, Option, Some, None}
 use Rattle.std.specs.Prelude.{eqb, nat_lt, max, ◌&&◌, if◌then◌else◌}
 use Rattle.std.proofs.lemmas.Bool.{cond_both, cond-true, cond-false, eqb-true, eq-eqb}
 use Rattle.dg_meaning.specs.Values.{Label, Num, Word, Unknown, Object, Nil, Pair, Closure, Value, Var, Node, Values, NoMore, More}
 use Rattle.dg_meaning.specs.Substitutions.{Substitution, walk, replaced, resolved, all_resolved, contains, IsSubstitution}
-use Rattle.dg_meaning.specs.Unify.{same_spelling, same_label, Equations, as_many, side_by_side, Turn, Goes, Binds, Clashes, turn_of, turn, cost, Unified, agreed, clashed, counted, charged, after_turn, turns, top_of_pairs, top_of_equations, enough, solve, unify, and_then, solve_turn}
+use Rattle.dg_meaning.specs.Unify.{same_spelling, same_label, Equations, as_many, side_by_side, Turn, Goes, Binds, Clashes, turn_of, turn, cost, Unified, agreed, clashed, counted, charged, after_turn, turns, top_of_pairs, top_of_equations, enough, ended, solve, unify, and_then, solve_turn}
 use Rattle.dg_meaning.proofs.Walks.{resolved_unbound, resolved_node, Walked, walked, replaced_absent}
-use Rattle.dg_meaning.proofs.Solving.{Fair, ExtendsBy, turns_extend, turn_fair, solve_ends, solve_is, solve_extends, turns_more}
+use Rattle.dg_meaning.proofs.Solving.{turns_for_some, Fair, ExtendsBy, turns_extend, turn_fair, solve_ends, solve_is, solve_extends, turns_more}
 
 pub solve_none : (S : Substitution) → IsSubstitution S → solve S [] ≡ agreed S
 solve_none S s = solve_is 1 S [] _ s refl
+
+-- no equation is left, whatever is bound
+turns_nothing : (n : ℕ) (S : Substitution) → 0 < n → ended S (turns n S []) ≡ agreed S
+turns_nothing zero S h = absurd (omega arith)
+turns_nothing (suc n) S h = refl
+
+pub solve_nothing : (S : Substitution) → solve S [] ≡ agreed S
+unfolding solve
+solve_nothing S = turns_nothing (enough S []) S (turns_for_some (max (top_of_pairs S) 0) 0)
 
 step_from : (S : Substitution) (e : Value × Value) (es : Equations) → IsSubstitution S → (n : ℕ) (b : Unified) → after_turn (turns n) S es (turn S e.0 e.1) ≡ Some b → solve S (e ∷ es) ≡ counted (cost S e.0 e.1) b
 step_from S e es s n b is = solve_is (suc n) S (e ∷ es) (counted (cost S e.0 e.1) b) s (ap (charged (cost S e.0 e.1)) is)

@@ -4,6 +4,7 @@ use Rattle.dg_meaning.specs.World.{World, Event, Gathering, prints}
 use Rattle.dg_meaning.specs.Path.{Step, Do, Answers, Cut, Refuse, Back, Keep, Leave, Path, Result, Branch, Enter, Clash, TakeOut, Kind, Plain, Shield, Gathers}
 use Rattle.dg_meaning.specs.Search.{Search, answer, cut_result, later, after_branch, branches_cut, choose}
 use Rattle.dg_meaning.specs.Transcript.{Run, run_of}
+use Rattle.dg_meaning.specs.Bindings.{IsBound}
 
 -- ## Around a search
 
@@ -109,24 +110,25 @@ StopIn ctx (Some s) = Shielded ctx s
 -- The tags that the steps name are those of choices around.
 abbrev pub StepsIn : List Around → List Step → Type 0
 StepsIn ctx [] = Unit {0}
-StepsIn ctx (Do g t ∷ steps) = Holds ctx t × StepsIn ctx steps
+StepsIn ctx (Do g env t ∷ steps) = Holds ctx t × StepsIn ctx steps
 StepsIn ctx (Answers q ∷ steps) = StepsIn ctx steps
 StepsIn ctx (Cut t ∷ steps) = Holds ctx t × StepsIn ctx steps
 StepsIn ctx (Refuse t ∷ steps) = Holds ctx t × StepsIn ctx steps
 StepsIn ctx (Back ∷ steps) = StepsIn ctx steps
-StepsIn ctx (Keep t x ∷ steps) = StepsIn ctx steps
+StepsIn ctx (Keep t x env ∷ steps) = StepsIn ctx steps
 StepsIn ctx (Leave t outer ∷ steps) = Holds ctx t × (StopIn ctx outer × StepsIn ctx steps)
 
--- What the path names is around it, and its next choice is the newest.
+-- What the path names is around it, its next choice is the newest, and its bindings are a substitution of variables that have been made.
 pub record PathIn (ctx : List Around) (path : Path) : Type 0 where
   pub steps : StepsIn ctx path.steps
   pub stop : StopIn ctx path.registers.stoppable
   pub newer : Older path.registers.next_tag ctx
+  pub bound : IsBound path
 
 -- What a branch names is around it.
 abbrev pub BranchIn : List Around → Branch → Type 0
 BranchIn ctx (Enter path work) = PathIn ctx path
-BranchIn ctx (Clash r) = Unit {0}
+BranchIn ctx (Clash r work) = Unit {0}
 BranchIn ctx (TakeOut t path) = PathIn ctx path
 
 -- So it is for each of these branches.

@@ -4,11 +4,14 @@ use Rattle.std.specs.Prelude.{ℕ, suc, ◌+◌, ◌-◌, ◌≡◌, List, [], �
 use Rattle.dg_base.specs.declared.program.Term.{Term}
 use Rattle.dg_base.specs.declared.program.Goal.{Goal, out-Goal}
 use Rattle.dg_base.specs.declared.run.Ending.TheVariants.{Done as Done-Ending, StepLimit}
+use Rattle.dg_meaning.specs.Values.{Value, value_of}
+use Rattle.dg_meaning.specs.Substitutions.{resolved}
 use Rattle.dg_meaning.specs.World.{Game, World, Answered, noted, worked, kept, dropped}
 use Rattle.dg_meaning.specs.Path.{Step, Do, Answers, Cut, Refuse, Back, Keep, Leave, Registers, Path, Result, Failing, StopTo, End, Answer, Branch, Enter, Clash, TakeOut, Kind, Shield, Gathers, Move, GoesOn, FailsAt, EndsAt, StopsAt, Chooses}
-use Rattle.dg_meaning.specs.Moves.{path_of, move}
-use Rattle.dg_meaning.specs.Search.{Search, search, answer, later, retried, begun, choose}
+use Rattle.dg_meaning.specs.Moves.{path_of, begun, move}
+use Rattle.dg_meaning.specs.Search.{Search, search, answer, later, retried, choose}
 use Rattle.dg_meaning.specs.Transcript.{Run, run_of, run, start_world, start_path}
+use Rattle.dg_meaning.specs.Bindings.{IsBound}
 use Rattle.dg_meaning.specs.OneRun.{Grows}
 use Rattle.dg_meaning.specs.Context.{Around, InBranch, unwind, gathers, Opens, Way, ways, Live, cut_to, pushed, live, way_to, Shielded, PathIn, Sound, Silently}
 
@@ -94,7 +97,7 @@ FailsTo g n w r (c ∷ cs) = GoesBack g c cs n w r
 -- A branch begins inside these choices and ways.
 abbrev pub Began : Game → List Live → List Way → Branch → ℕ → World → Run → Type 0
 Began g cs ws (Enter path work) n w r = Stands g cs ws path n (begun path.registers work w) r
-Began g cs ws (Clash registers) n w r = Failed g cs n (begun registers 0 w) r
+Began g cs ws (Clash registers work) n w r = Failed g cs n (begun registers work w) r
 Began g cs ws (TakeOut t path) n w r = Stands g cs ws path n (begun path.registers 0 (dropped t w)) r
 
 -- How many gatherings are open outside a choice whose first branch begins in this world.
@@ -138,6 +141,8 @@ pub record Keeps : Type 0 where
   -- What has happened where a run stands, or has failed, has happened in the run.
   pub has_happened : (g : Game) (cs : List Live) (ws : List Way) (path : Path) (n : ℕ) (w : World) (run : Run) → Stands g cs ws path n w run → Grows w run.world
   pub has_happened_before : (g : Game) (cs : List Live) (n : ℕ) (w : World) (run : Run) → Failed g cs n w run → Grows w run.world
+  -- Where a run stands, the bindings of its path are a substitution, and each variable in them and in its steps has been made.
+  pub is_bound : (g : Game) (cs : List Live) (ws : List Way) (path : Path) (n : ℕ) (w : World) (run : Run) → Stands g cs ws path n w run → IsBound path
   -- That a rule was answered is noted.
   pub passes_answer : (g : Game) (cs : List Live) (ws : List Way) (q : ℕ) (steps : List Step) (r : Registers) (n : ℕ) (w : World) (run : Run) → Stands g cs ws (path_of (Answers q ∷ steps) r) n w run → Stands g cs ws (path_of steps r) n (noted (Answered q) w) run
   -- A mark that cuts to t drops the choices that are not older.
@@ -146,8 +151,8 @@ pub record Keeps : Type 0 where
   pub passes_leave : (g : Game) (cs : List Live) (ws : List Way) (t : ℕ) (outer : Option ℕ) (steps : List Step) (r : Registers) (n : ℕ) (w : World) (run : Run) → Stands g cs ws (path_of (Leave t outer ∷ steps) r) n w run → Stands g (cut_to t cs) ws (path_of steps (record r { stoppable = outer })) n w run
   -- At an answer of what is negated the choices inside it and its way on are dropped, and it fails.
   pub passes_refuse : (g : Game) (cs : List Live) (ws : List Way) (t : ℕ) (steps : List Step) (r : Registers) (n : ℕ) (w : World) (run : Run) → Stands g cs ws (path_of (Refuse t ∷ steps) r) n w run → Failed g (cut_to t cs) n w run
-  -- At an answer of what is gathered the term is kept, and it fails.
-  pub passes_keep : (g : Game) (cs : List Live) (ws : List Way) (t : ℕ) (x : Term) (steps : List Step) (r : Registers) (n : ℕ) (w : World) (run : Run) → Stands g cs ws (path_of (Keep t x ∷ steps) r) n w run → Failed g cs n (kept t x w) run
+  -- At an answer of what is gathered the value of its term is kept, and it fails.
+  pub passes_keep : (g : Game) (cs : List Live) (ws : List Way) (t : ℕ) (x : Term) (env : List Value) (steps : List Step) (r : Registers) (n : ℕ) (w : World) (run : Run) → Stands g cs ws (path_of (Keep t x env ∷ steps) r) n w run → Failed g cs n (kept t (resolved r.bound (value_of g.program env x)) w) run
   -- At an answer of what is exhausted it fails.
   pub passes_back : (g : Game) (cs : List Live) (ws : List Way) (steps : List Step) (r : Registers) (n : ℕ) (w : World) (run : Run) → Stands g cs ws (path_of (Back ∷ steps) r) n w run → Failed g cs n w run
   -- A failure goes back to the newest choice.
@@ -155,9 +160,9 @@ pub record Keeps : Type 0 where
   -- Its next branch begins, and the choice is kept while it has more.
   pub begins_next : (g : Game) (c : Live) (cs : List Live) (b : Branch) (bs : List Branch) (n : ℕ) (w : World) (run : Run) → c.others ≡ b ∷ bs → Resumed g c cs n w run → Began g (pushed bs (record c { others = bs }) cs) c.ways_on b n (retried c.kind w) run
   -- A goal is taken where the budget has one, and its move says where it goes on.
-  pub takes : (g : Game) (cs : List Live) (ws : List Way) (x : Goal) (t : ℕ) (steps : List Step) (r : Registers) (n : ℕ) (w : World) (run : Run) → Stands g cs ws (path_of (Do x t ∷ steps) r) (suc n) w run → After g cs ws n (move g (out-Goal x) t steps r (worked 1 w)) run
+  pub takes : (g : Game) (cs : List Live) (ws : List Way) (x : Goal) (env : List Value) (t : ℕ) (steps : List Step) (r : Registers) (n : ℕ) (w : World) (run : Run) → Stands g cs ws (path_of (Do x env t ∷ steps) r) (suc n) w run → After g cs ws n (move g (out-Goal x) env t steps r (worked 1 w)) run
   -- Where the budget has none the run ends at its limit.
-  pub limited : (g : Game) (cs : List Live) (ws : List Way) (x : Goal) (t : ℕ) (steps : List Step) (r : Registers) (w : World) (run : Run) → Stands g cs ws (path_of (Do x t ∷ steps) r) 0 w run → Finished 0 w (End StepLimit) run
+  pub limited : (g : Game) (cs : List Live) (ws : List Way) (x : Goal) (env : List Value) (t : ℕ) (steps : List Step) (r : Registers) (w : World) (run : Run) → Stands g cs ws (path_of (Do x env t ∷ steps) r) 0 w run → Finished 0 w (End StepLimit) run
   -- Without a step the run is done.
   pub done : (g : Game) (cs : List Live) (ws : List Way) (r : Registers) (n : ℕ) (w : World) (run : Run) → Stands g cs ws (path_of [] r) n w run → Finished n w (End Done-Ending) run
   -- A stop goes on behind the stoppable part.

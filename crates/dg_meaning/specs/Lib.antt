@@ -4,11 +4,15 @@ pub mod Unify
 pub mod Unifiers
 pub mod Spellings
 pub mod World
+pub mod Cells
+pub mod Pieces
+pub mod TypeTests
 pub mod Path
 pub mod Render
 pub mod Moves
 pub mod Search
 pub mod Transcript
+pub mod Bindings
 pub mod OneRun
 pub mod Peaks
 pub mod Shows

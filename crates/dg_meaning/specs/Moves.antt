@@ -1,13 +1,23 @@
--- What comes of one goal. Hold it against the Dialog manual, chapters "Choice points" and "Control flow".
-use Rattle.std.specs.Prelude.{ℕ, ◌+◌, ◌++◌, List, [], ◌∷◌, Option, Some, None, Bool, true, false, length, slice_get}
+-- What comes of one goal. Hold it against the Dialog manual, chapters "Choice points" and "Control flow", and docs/LANGUAGE.md, where it says what a limit counts.
+use Rattle.std.specs.Prelude.{ℕ, zero, suc, ◌+◌, ◌-◌, ◌*◌, ◌++◌, nat_lt, List, [], ◌∷◌, Option, Some, None, Bool, true, false, length, map, take, slice_get, if◌then◌else◌}
+use Rattle.std.specs.List.{zip}
 use Rattle.dg_base.specs.declared.program.Goal.{Goal, Goal-F}
 use Rattle.dg_base.specs.declared.program.Goal.TheVariants.{Forever as Forever-Goal}
-use Rattle.dg_base.specs.declared.program.Goal.TheOpen.{Text, Gap, Ask, Either, Once, Not, If, Just, Fail, Stop, Quit, Forever, Exhaust, Collect, Stoppable}
+use Rattle.dg_base.specs.declared.program.Goal.TheOpen.{Text, Print as Print-Form, Gap, Equal, Ask, Either, Once, Not, If, Just, Fail, Stop, Quit, Forever, Exhaust, Collect, Stoppable, Test}
 use Rattle.dg_base.specs.declared.program.Rule.{Rule}
 use Rattle.dg_base.specs.declared.program.Pred.{Pred}
+use Rattle.dg_base.specs.declared.program.TestKind.{TestKind}
+use Rattle.dg_base.specs.declared.program.TestKind.TheVariants.{FullyBound}
 use Rattle.dg_base.specs.declared.run.Ending.TheVariants.{Quit as Quit-Ending, Stopped}
-use Rattle.dg_meaning.specs.World.{Game, World, Print, Piece, GapOf, Prints, Asked, HasFailed, prints, noted, worked, opened}
-use Rattle.dg_meaning.specs.Path.{Step, Do, Answers, Cut, Refuse, Back, Keep, Leave, Registers, Path, Branch, Enter, TakeOut, Kind, Plain, Rules, Shield, Gathers, Move, GoesOn, FailsAt, EndsAt, StopsAt, Chooses}
+use Rattle.dg_base.specs.Goals.{terms_held}
+use Rattle.dg_meaning.specs.Values.{Value, Var, value_of}
+use Rattle.dg_meaning.specs.Substitutions.{Substitution, links, resolved}
+use Rattle.dg_meaning.specs.Unify.{Unified, looks, solve, unify}
+use Rattle.dg_meaning.specs.World.{Game, World, Print, Piece, GapOf, Prints, Asked, HasFailed, prints, noted, worked, reached, opened}
+use Rattle.dg_meaning.specs.Cells.{cells, writing}
+use Rattle.dg_meaning.specs.Pieces.{pieces}
+use Rattle.dg_meaning.specs.TypeTests.{passes}
+use Rattle.dg_meaning.specs.Path.{Step, Do, Answers, Cut, Refuse, Back, Keep, Leave, Registers, Path, Branch, Enter, Clash, TakeOut, Kind, Plain, Rules, Shield, Gathers, Move, GoesOn, FailsAt, EndsAt, StopsAt, Chooses}
 use Rattle.dg_meaning.specs.Render.{nothing_met, met_from, written, characters}
 
 -- ## The world
@@ -16,54 +26,120 @@ use Rattle.dg_meaning.specs.Render.{nothing_met, met_from, written, characters}
 abbrev pub printed : Print → World → World
 printed e w = worked (characters (written (met_from nothing_met (prints w.events)) e)) (noted (Prints e) w)
 
+-- The world in which these pieces are printed, one after another.
+abbrev pub all_printed : List (List ℕ) → World → World
+all_printed [] w = w
+all_printed (piece ∷ others) w = all_printed others (printed (Piece piece) w)
+
 -- The world in which a choice has no branch left.
 abbrev pub exhausted : Kind → World → World
 exhausted (Rules pred) w = noted (HasFailed pred) w
 exhausted k w = w
 
--- ## The branches of a choice
+-- The world in which these registers were reached, with more work done.
+abbrev pub begun : Registers → ℕ → World → World
+begun r work w = worked work (reached r.heap r.trail w)
+
+-- ## Paths
 
 -- The path of these steps and registers.
 abbrev pub path_of : List Step → Registers → Path
 path_of steps r = record { steps = steps; registers = r }
 
--- A list of goals as steps, whose (just) cuts to the tag.
-abbrev pub goals_at : ℕ → List Goal → List Step
-goals_at t [] = []
-goals_at t (g ∷ gs) = Do g t ∷ goals_at t gs
+-- A list of goals as steps, among these values of the variables of their rule, whose (just) cuts to the tag.
+abbrev pub goals_at : List Value → ℕ → List Goal → List Step
+goals_at env t [] = []
+goals_at env t (g ∷ gs) = Do g env t ∷ goals_at env t gs
+
+-- The registers with so many more heap cells.
+abbrev pub more_heap : ℕ → Registers → Registers
+more_heap heap r = record r { heap = r.heap + heap }
 
 -- The registers inside the next choice, with so many more heap cells.
 abbrev pub inside : ℕ → Registers → Registers
 inside heap r = record r { next_tag = r.next_tag + 1; heap = r.heap + heap }
 
+-- The registers with what a unification has bound, and so many bindings more on the trail.
+abbrev pub bound_by : Unified → ℕ → Registers → Registers
+bound_by u trail r = record r { bound = u.subst; trail = r.trail + trail }
+
+-- The bindings in front of an older substitution.
+abbrev pub made_since : Substitution → Substitution → Substitution
+made_since old new = take (length new - length old) new
+
+-- How many of these bindings are of variables older than x.
+abbrev pub older_bound : ℕ → Substitution → ℕ
+older_bound x [] = 0
+older_bound x (p ∷ S) = (if nat_lt p.0 x then 1 else 0) + older_bound x S
+
+-- ## The branches of a choice
+
 -- A branch of the next choice, with its heap cells and the work of beginning it.
 abbrev pub enter : ℕ → ℕ → Registers → List Step → Branch
 enter heap work r steps = Enter (path_of steps (inside heap r)) work
+
+-- A branch with this path and work, or one that has failed where it begins.
+abbrev pub enter_if : Bool → Path → ℕ → Branch
+enter_if true path work = Enter path work
+enter_if false path work = Clash path.registers work
 
 -- The heap cells of a choice with so many arguments, in a branch with these behind it: the last branch has none.
 abbrev pub choice_cells : {A : Type 0} → ℕ → List A → ℕ
 choice_cells arguments [] = 0
 choice_cells arguments (b ∷ bs) = 10 + arguments
 
+-- A branch for each of the lists between (or).
+abbrev pub list_branches : List Value → ℕ → List Step → Registers → List (List Goal) → List Branch
+list_branches env t steps r [] = []
+list_branches env t steps r (goals ∷ lists) = enter (choice_cells 0 lists) 1 r (goals_at env t goals ++ steps) ∷ list_branches env t steps r lists
+
+-- ## Rules
+
 -- A query takes the first answer alone, unless all are wanted.
 abbrev pub first_alone : Bool → ℕ → List Step → List Step
 first_alone true t steps = steps
 first_alone false t steps = Cut t ∷ steps
 
--- The steps of a rule that is entered.
-abbrev pub rule_steps : ℕ → Bool → ℕ → Rule → List Step → List Step
-rule_steps pred many t rule steps = goals_at t rule.body ++ Answers pred ∷ first_alone many t steps
+-- The steps of a rule that is entered, among these values of its variables.
+abbrev pub rule_steps : ℕ → Bool → List Value → ℕ → Rule → List Step → List Step
+rule_steps pred many env t rule steps = goals_at env t rule.body ++ Answers pred ∷ first_alone many t steps
+
+-- So many new variables, numbered from this on.
+abbrev pub new_vars : ℕ → ℕ → List Value
+new_vars zero next = []
+new_vars (suc n) next = Var next ∷ new_vars n (suc next)
+
+-- The variables of a rule that is entered.
+abbrev pub vars_of : Rule → Registers → List Value
+vars_of rule r = new_vars rule.vars r.next_var
+
+-- The registers where a rule is entered inside the next choice, before its head is matched: 6 cells, its variables and its head.
+abbrev pub entered : Game → ℕ → Rule → Registers → Registers
+entered g heap rule r = record (inside (heap + 6 + rule.vars + cells g.program rule.head) r) { next_var = r.next_var + rule.vars }
+
+-- The arguments unified with the head of a rule that is entered, from left to right; an argument or head term without one at its place is left out.
+abbrev pub match : Game → List Value → Rule → Registers → Unified
+match g args rule r = solve r.bound (zip args (map (value_of g.program (vars_of rule r)) rule.head))
+
+-- The registers behind that; a binding of one of the rule's new variables isn't put on the trail.
+abbrev pub matched : Unified → Registers → Registers → Registers
+matched u before r = bound_by u (older_bound before.next_var (made_since before.bound u.subst)) r
+
+-- The branch of a rule, with the heap cells of its choice.
+abbrev pub rule_branch : Game → ℕ → List Value → Bool → List Step → Registers → ℕ → Rule → Branch
+rule_branch g pred args many steps r heap rule =
+    let u = match g args rule r in
+    enter_if u.agrees (path_of (rule_steps pred many (vars_of rule r) r.next_tag rule steps) (matched u r (entered g heap rule r))) (1 + writing g.program rule.head + 2 * u.count)
 
 -- A branch for each rule of a predicate.
-abbrev pub rule_branches : ℕ → ℕ → Bool → List Step → Registers → List Rule → List Branch
-rule_branches pred arguments many steps r [] = []
-rule_branches pred arguments many steps r (rule ∷ rules) =
-    enter (choice_cells arguments rules + 6 + rule.vars) 1 r (rule_steps pred many r.next_tag rule steps) ∷ rule_branches pred arguments many steps r rules
+abbrev pub rule_branches : Game → ℕ → List Value → Bool → List Step → Registers → List Rule → List Branch
+rule_branches g pred args many steps r [] = []
+rule_branches g pred args many steps r (rule ∷ rules) = rule_branch g pred args many steps r (choice_cells (length args) rules) rule ∷ rule_branches g pred args many steps r rules
 
--- A branch for each of the lists between (or).
-abbrev pub list_branches : ℕ → List Step → Registers → List (List Goal) → List Branch
-list_branches t steps r [] = []
-list_branches t steps r (goals ∷ lists) = enter (choice_cells 0 lists) 1 r (goals_at t goals ++ steps) ∷ list_branches t steps r lists
+-- The rules of a predicate; none where there is no such predicate.
+abbrev pub rules_of : Option Pred → List Rule
+rules_of None = []
+rules_of (Some pred) = pred.rules
 
 -- ## Goals
 
@@ -72,39 +148,67 @@ abbrev pub choice : Kind → ℕ → List Branch → World → Move
 choice k t [] w = FailsAt (exhausted k w)
 choice k t (b ∷ bs) w = Chooses k t b bs w
 
--- The rules of a predicate; none where there is no such predicate.
-abbrev pub rules_of : Option Pred → List Rule
-rules_of None = []
-rules_of (Some pred) = pred.rules
+-- The search goes on or has failed.
+abbrev pub goes_on_if : Bool → List Step → Registers → World → Move
+goes_on_if true steps r w = GoesOn (path_of steps r) w
+goes_on_if false steps r w = FailsAt w
 
 -- A query: a choice between the rules of its predicate.
-abbrev pub ask : Game → ℕ → ℕ → Bool → List Step → Registers → World → Move
-ask g pred arguments many steps r w =
-    choice (Rules pred) r.next_tag (rule_branches pred arguments many steps r (rules_of (slice_get g.program.preds pred))) (noted (Asked pred) w)
+abbrev pub ask : Game → ℕ → List Value → Bool → List Step → Registers → World → Move
+ask g pred args many steps r w =
+    choice (Rules pred) r.next_tag (rule_branches g pred args many steps r (rules_of (slice_get g.program.preds pred))) (noted (Asked pred) w)
+
+-- The search goes on behind a unification that agrees; each binding is put on the trail, and what it looks at is work twice.
+abbrev pub unified : Unified → List Step → Registers → World → Move
+unified u steps r w = let r' = bound_by u (length (made_since r.bound u.subst)) r in goes_on_if u.agrees steps r' (begun r' (2 * u.count) w)
+
+-- The nodes and links of a whole value: a test of containment of the next variable, which is in no value, looks at all of them.
+abbrev pub whole_looks : Registers → Value → ℕ
+whole_looks r v = looks r.bound r.next_var v
+
+-- A value is printed, resolved.
+abbrev pub print : Game → Value → List Step → Registers → World → Move
+print g v steps r w = GoesOn (path_of steps r) (all_printed (pieces g.program (resolved r.bound v)) (worked (whole_looks r v) w))
+
+-- The nodes and links that a test looks at.
+abbrev pub test_looks : TestKind → Value → Registers → ℕ
+test_looks FullyBound v r = whole_looks r v
+test_looks kind v r = 1 + links r.bound v
 
 -- A stop leaves the innermost stoppable part; without one the run ends.
 abbrev pub stop : Option ℕ → World → Move
 stop None w = EndsAt Stopped w
 stop (Some s) w = StopsAt s w
 
--- What comes of a goal with the tag t that its (just) cuts to, and the steps behind it; the goals of the last line are not among those that programs may hold.
-abbrev pub move : Game → Goal-F Goal → ℕ → List Step → Registers → World → Move
-move g (Text name) t steps r w = GoesOn (path_of steps r) (printed (Piece name) w)
-move g (Gap kind) t steps r w = GoesOn (path_of steps r) (printed (GapOf kind) w)
-move g (Ask pred args many) t steps r w = ask g pred (length args) many steps r w
-move g (Either lists) t steps r w = choice Plain r.next_tag (list_branches t steps r lists) w
-move g (Once goals) t steps r w = Chooses Plain r.next_tag (enter 10 0 r (goals_at t goals ++ Cut r.next_tag ∷ steps)) [] w
-move g (Not goals) t steps r w = Chooses Plain r.next_tag (enter 10 0 r (goals_at t goals ++ Refuse r.next_tag ∷ [])) (enter 0 0 r steps ∷ []) w
-move g (If test first other) t steps r w =
-    Chooses Plain r.next_tag (enter 10 0 r (goals_at t test ++ Cut r.next_tag ∷ (goals_at t first ++ steps))) (enter 0 0 r (goals_at t other ++ steps) ∷ []) w
-move g Just t steps r w = GoesOn (path_of (Cut t ∷ steps) r) w
-move g Fail t steps r w = FailsAt w
-move g Stop t steps r w = stop r.stoppable w
-move g Quit t steps r w = EndsAt Quit-Ending w
-move g Forever t steps r w = Chooses Plain r.next_tag (enter 10 0 r steps) (enter 0 0 r (Do Forever-Goal t ∷ steps) ∷ []) w
-move g (Exhaust goals) t steps r w = Chooses Plain r.next_tag (enter 10 0 r (goals_at t goals ++ Back ∷ [])) (enter 0 0 r steps ∷ []) w
-move g (Collect term goals into) t steps r w =
-    Chooses Gathers r.next_tag (enter 10 0 r (goals_at t goals ++ Keep r.next_tag term ∷ [])) (TakeOut r.next_tag (path_of steps (inside 0 r)) ∷ []) (opened r.next_tag w)
-move g (Stoppable goals) t steps r w =
-    Chooses Shield r.next_tag (Enter (path_of (goals_at t goals ++ Leave r.next_tag r.stoppable ∷ steps) (record (inside 10 r) { stoppable = Some r.next_tag })) 0) (enter 0 0 r steps ∷ []) w
-move g _ t steps r w = FailsAt w
+-- What comes of a goal whose terms were written, among these values of the variables of its rule, with the tag t that its (just) cuts to, and the steps behind it; the goals of the last line are not among those that programs may hold.
+abbrev pub outcome : Game → Goal-F Goal → List Value → ℕ → List Step → Registers → World → Move
+outcome g (Text name) env t steps r w = GoesOn (path_of steps r) (printed (Piece name) w)
+outcome g (Print-Form a) env t steps r w = print g (value_of g.program env a) steps r w
+outcome g (Gap kind) env t steps r w = GoesOn (path_of steps r) (printed (GapOf kind) w)
+outcome g (Equal a b) env t steps r w = unified (unify r.bound (value_of g.program env a) (value_of g.program env b)) steps r w
+outcome g (Ask pred args many) env t steps r w = ask g pred (map (value_of g.program env) args) many steps r w
+outcome g (Either lists) env t steps r w = choice Plain r.next_tag (list_branches env t steps r lists) w
+outcome g (Once goals) env t steps r w = Chooses Plain r.next_tag (enter 10 0 r (goals_at env t goals ++ Cut r.next_tag ∷ steps)) [] w
+outcome g (Not goals) env t steps r w = Chooses Plain r.next_tag (enter 10 0 r (goals_at env t goals ++ Refuse r.next_tag ∷ [])) (enter 0 0 r steps ∷ []) w
+outcome g (If test first other) env t steps r w =
+    Chooses Plain r.next_tag (enter 10 0 r (goals_at env t test ++ Cut r.next_tag ∷ (goals_at env t first ++ steps))) (enter 0 0 r (goals_at env t other ++ steps) ∷ []) w
+outcome g Just env t steps r w = GoesOn (path_of (Cut t ∷ steps) r) w
+outcome g Fail env t steps r w = FailsAt w
+outcome g Stop env t steps r w = stop r.stoppable w
+outcome g Quit env t steps r w = EndsAt Quit-Ending w
+outcome g Forever env t steps r w = Chooses Plain r.next_tag (enter 10 0 r steps) (enter 0 0 r (Do Forever-Goal env t ∷ steps) ∷ []) w
+outcome g (Exhaust goals) env t steps r w = Chooses Plain r.next_tag (enter 10 0 r (goals_at env t goals ++ Back ∷ [])) (enter 0 0 r steps ∷ []) w
+outcome g (Collect term goals into) env t steps r w =
+    Chooses Gathers r.next_tag (enter 10 0 r (goals_at env t goals ++ Keep r.next_tag term env ∷ [])) (TakeOut r.next_tag (path_of steps (inside 0 r)) ∷ []) (opened r.next_tag w)
+outcome g (Stoppable goals) env t steps r w =
+    Chooses Shield r.next_tag (Enter (path_of (goals_at env t goals ++ Leave r.next_tag r.stoppable ∷ steps) (record (inside 10 r) { stoppable = Some r.next_tag })) 0) (enter 0 0 r steps ∷ []) w
+outcome g (Test kind a) env t steps r w = let v = value_of g.program env a in goes_on_if (passes r.bound kind v) steps r (worked (test_looks kind v r) w)
+outcome g _ env t steps r w = FailsAt w
+
+-- The registers behind the terms that a goal holds itself.
+abbrev pub behind_terms : Game → Goal-F Goal → Registers → Registers
+behind_terms g x r = more_heap (cells g.program (terms_held x)) r
+
+-- What comes of a goal: its terms are written first, whatever then comes of it.
+abbrev pub move : Game → Goal-F Goal → List Value → ℕ → List Step → Registers → World → Move
+move g x env t steps r w = outcome g x env t steps (behind_terms g x r) (begun (behind_terms g x r) (writing g.program (terms_held x)) w)

@@ -3,22 +3,26 @@ use Rattle.std.specs.Prelude.{ℕ, List, Option}
 use Rattle.dg_base.specs.declared.program.Term.{Term}
 use Rattle.dg_base.specs.declared.program.Goal.{Goal}
 use Rattle.dg_base.specs.declared.run.Ending.{Ending}
+use Rattle.dg_meaning.specs.Values.{Value}
+use Rattle.dg_meaning.specs.Substitutions.{Substitution}
 use Rattle.dg_meaning.specs.World.{World}
 
--- A goal with the tag of the choice that its (just) cuts to, or a mark. The marks: a rule of a predicate was answered, choices back to a tag are cut, cut and then fail, fail, gather a term and fail, leave a stoppable part with what is innermost outside it.
+-- A goal with the values of the variables of its rule and the tag of the choice that its (just) cuts to, or a mark. The marks: a rule of a predicate was answered, choices back to a tag are cut, cut and then fail, fail, gather the value of a term and fail, leave a stoppable part with what is innermost outside it.
 pub data Step : Type 0 where
-  Do : (goal : Goal) → (tag : ℕ) → Step
+  Do : (goal : Goal) → (env : List Value) → (tag : ℕ) → Step
   Answers : (pred : ℕ) → Step
   Cut : (tag : ℕ) → Step
   Refuse : (tag : ℕ) → Step
   Back : Step
-  Keep : (tag : ℕ) → (term : Term) → Step
+  Keep : (tag : ℕ) → (term : Term) → (env : List Value) → Step
   Leave : (tag : ℕ) → (outer : Option ℕ) → Step
 
--- What backtracking takes back: the tag of the next choice (an older choice has a smaller one), the innermost stoppable part, and the counts of heap and trail.
+-- What backtracking takes back: the tag of the next choice (an older choice has a smaller one), the innermost stoppable part, what variables are bound to, the number of the next variable (an older variable has a smaller one), and the counts of heap and trail.
 pub record Registers : Type 0 where
   pub next_tag : ℕ
   pub stoppable : Option ℕ
+  pub bound : Substitution
+  pub next_var : ℕ
   pub heap : ℕ
   pub trail : ℕ
 
@@ -40,10 +44,10 @@ pub record Answer : Type 0 where
   pub world : World
   pub result : Result
 
--- A branch of a choice: a path with the work of beginning it, one that has failed as soon as these registers were reached, or a path at whose beginning a gathering is taken out.
+-- A branch of a choice: a path with the work of beginning it, one that has failed, with such work, as soon as these registers were reached, or a path at whose beginning a gathering is taken out.
 pub data Branch : Type 0 where
   Enter : (path : Path) → (work : ℕ) → Branch
-  Clash : (registers : Registers) → Branch
+  Clash : (registers : Registers) → (work : ℕ) → Branch
   TakeOut : (tag : ℕ) → (path : Path) → Branch
 
 -- A choice without more, one between the rules of a predicate, one whose first branch may be stopped, and one whose first branch gathers.

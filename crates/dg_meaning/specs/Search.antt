@@ -2,9 +2,11 @@
 use Rattle.std.specs.Prelude.{ℕ, zero, suc, min, eqb, nat_lt, List, [], ◌∷◌, Option, Some, None, Bool, false, if◌then◌else◌}
 use Rattle.dg_base.specs.declared.program.Goal.{out-Goal}
 use Rattle.dg_base.specs.declared.run.Ending.TheVariants.{Done as Done-Ending, StepLimit}
-use Rattle.dg_meaning.specs.World.{Game, World, Answered, Retried, noted, worked, reached, kept, dropped}
+use Rattle.dg_meaning.specs.Values.{value_of}
+use Rattle.dg_meaning.specs.Substitutions.{resolved}
+use Rattle.dg_meaning.specs.World.{Game, World, Answered, Retried, noted, worked, kept, dropped}
 use Rattle.dg_meaning.specs.Path.{Step, Do, Answers, Cut, Refuse, Back, Keep, Leave, Registers, Path, Result, Failing, CutFail, StopTo, End, Answer, Branch, Enter, Clash, TakeOut, Kind, Plain, Rules, Shield, Gathers, Move, GoesOn, FailsAt, EndsAt, StopsAt, Chooses}
-use Rattle.dg_meaning.specs.Moves.{exhausted, move}
+use Rattle.dg_meaning.specs.Moves.{exhausted, begun, move}
 
 -- From a budget of goals, a path and a world to an answer.
 abbrev pub Search : Type 0
@@ -36,7 +38,7 @@ cut_first t (Some c) steps = if nat_lt c t then Cut c ∷ steps else steps
 -- A branch with such a cut in front of its steps.
 abbrev pub branch_cut : ℕ → Option ℕ → Branch → Branch
 branch_cut t c (Enter path work) = Enter (record path { steps = cut_first t c path.steps }) work
-branch_cut t c (Clash r) = Clash r
+branch_cut t c (Clash r work) = Clash r work
 branch_cut t c (TakeOut u path) = TakeOut u (record path { steps = cut_first t c path.steps })
 
 -- Branches with such a cut in front of the steps of each.
@@ -73,14 +75,10 @@ after_branch k t n w (CutFail u) next stopped = answer n (leave k t w) (if eqb u
 after_branch k t n w (StopTo s c) next stopped = if catches k t s then stopped c n w else answer n (leave k t w) (StopTo s c)
 after_branch k t n w (End e) next stopped = answer n (leave k t w) (End e)
 
--- The world in which these registers were reached, with more work done.
-abbrev pub begun : Registers → ℕ → World → World
-begun r work w = worked work (reached r.heap r.trail w)
-
 -- A branch begins, and s searches what it goes on with.
 abbrev pub begin : Search → Branch → ℕ → World → Answer
 begin s (Enter path work) n w = s n path (begun path.registers work w)
-begin s (Clash r) n w = answer n (begun r 0 w) Failing
+begin s (Clash r work) n w = answer n (begun r work w) Failing
 begin s (TakeOut t path) n w = s n path (begun path.registers 0 (dropped t w))
 
 -- The branches of the choice t behind its first.
@@ -112,12 +110,12 @@ take_goal s (suc n) m w = after_move s n m
 -- The steps of a path, where s searches what a goal goes on with; marks take nothing of the budget.
 abbrev pub go : Game → Search → ℕ → List Step → Registers → World → Answer
 go g s n [] r w = answer n w (End Done-Ending)
-go g s n (Do goal t ∷ steps) r w = take_goal s n (move g (out-Goal goal) t steps r (worked 1 w)) w
+go g s n (Do goal env t ∷ steps) r w = take_goal s n (move g (out-Goal goal) env t steps r (worked 1 w)) w
 go g s n (Answers pred ∷ steps) r w = go g s n steps r (noted (Answered pred) w)
 go g s n (Cut t ∷ steps) r w = cut t (go g s n steps r w)
 go g s n (Refuse t ∷ steps) r w = answer n w (CutFail t)
 go g s n (Back ∷ steps) r w = answer n w Failing
-go g s n (Keep t x ∷ steps) r w = answer n (kept t x w) Failing
+go g s n (Keep t x env ∷ steps) r w = answer n (kept t (resolved r.bound (value_of g.program env x)) w) Failing
 go g s n (Leave t outer ∷ steps) r w = cut t (go g s n steps (record r { stoppable = outer }) w)
 
 -- Where no goal may be taken.

@@ -1,8 +1,8 @@
 -- What backtracking doesn't take back. Hold it against the Dialog manual, chapters "Output" and "Beyond the program".
 use Rattle.std.specs.Prelude.{ℕ, ◌+◌, List, [], ◌∷◌, ◌++◌, max, if◌then◌else◌, eqb}
 use Rattle.dg_base.specs.declared.program.GapKind.{GapKind}
-use Rattle.dg_base.specs.declared.program.Term.{Term}
 use Rattle.dg_base.specs.declared.program.CoreProgram.{CoreProgram}
+use Rattle.dg_meaning.specs.Values.{Value}
 
 -- What stays the same through a run: the program, and the dice words, which are drawn one after another and then from the first again.
 pub record Game : Type 0 where
@@ -23,10 +23,10 @@ pub data Event : Type 0 where
   Retried : (pred : ℕ) → Event
   HasFailed : (pred : ℕ) → Event
 
--- An open gathering: the tag of its choice, and the terms that were gathered so far.
+-- An open gathering: the tag of its choice, and the values that were gathered so far.
 pub record Gathering : Type 0 where
   pub tag : ℕ
-  pub terms : List Term
+  pub values : List Value
 
 -- The greatest counts that were reached so far, and the work that was done.
 pub record Meters : Type 0 where
@@ -65,10 +65,10 @@ worked n w = record w { meters = record w.meters { work = w.meters.work + n } }
 abbrev pub reached : ℕ → ℕ → World → World
 reached heap trail w = record w { meters = record w.meters { heap = max w.meters.heap heap; trail = max w.meters.trail trail } }
 
--- The gatherings with a term added to the newest one of this tag.
-abbrev pub gathered_with : ℕ → Term → List Gathering → List Gathering
-gathered_with t x [] = []
-gathered_with t x (g ∷ gs) = if eqb g.tag t then record g { terms = g.terms ++ x ∷ [] } ∷ gs else g ∷ gathered_with t x gs
+-- The gatherings with a value added to the newest one of this tag.
+abbrev pub gathered_with : ℕ → Value → List Gathering → List Gathering
+gathered_with t v [] = []
+gathered_with t v (g ∷ gs) = if eqb g.tag t then record g { values = g.values ++ v ∷ [] } ∷ gs else g ∷ gathered_with t v gs
 
 -- The gatherings without the newest one of this tag.
 abbrev pub gathered_without : ℕ → List Gathering → List Gathering
@@ -77,11 +77,11 @@ gathered_without t (g ∷ gs) = if eqb g.tag t then gs else g ∷ gathered_witho
 
 -- The world with an empty gathering opened.
 abbrev pub opened : ℕ → World → World
-opened t w = record w { gathered = record { tag = t; terms = [] } ∷ w.gathered }
+opened t w = record w { gathered = record { tag = t; values = [] } ∷ w.gathered }
 
--- The world with a term gathered.
-abbrev pub kept : ℕ → Term → World → World
-kept t x w = record w { gathered = gathered_with t x w.gathered }
+-- The world with a value gathered.
+abbrev pub kept : ℕ → Value → World → World
+kept t v w = record w { gathered = gathered_with t v w.gathered }
 
 -- The world with a gathering dropped.
 abbrev pub dropped : ℕ → World → World

@@ -9,6 +9,7 @@ ghost use Rattle.dg_meaning.specs.Unifiers.{WalksUp, Resolves, UnifyingExtends, 
 ghost use Rattle.dg_meaning.specs.Spellings.{SpellingsUnify};
 ghost use Rattle.dg_meaning.specs.World.{Game};
 ghost use Rattle.dg_meaning.specs.Transcript.{run};
+ghost use Rattle.dg_meaning.specs.Bindings.{BindsAlong};
 ghost use Rattle.dg_meaning.specs.OneRun.{GoesOnFrom};
 ghost use Rattle.dg_meaning.specs.Peaks.{IsWithin};
 ghost use Rattle.dg_meaning.specs.Shows.{ShowsRun, Shows};
@@ -17,6 +18,11 @@ ghost use Rattle.dg_meaning.specs.Keeps.{Keeps};
 /// All runs of a game are cuts of one run.
 pub fn runs_are_cuts()
     ensures { (g : Game) → (typed : List ℕ) → (m : ℕ) → (more : ℕ) → GoesOnFrom (run g typed m) (run g typed (m + more)) more }
+{}
+
+/// Along a run's path variables are only made and bindings only added, and the bindings stay a substitution.
+pub fn bindings_only_grow()
+    ensures { BindsAlong }
 {}
 
 /// What an engine may keep of a run, and how it goes on from there.

@@ -1,0 +1,35 @@
+-- The tests of what a value is. Hold it against the chapter of the Dialog manual on built-in predicates, where it says what (number $), (list $) and their kin check.
+use Rattle.std.specs.Prelude.{Bool, true, false, ◌&&◌}
+use Rattle.dg_base.specs.declared.program.TestKind.{TestKind}
+use Rattle.dg_base.specs.declared.program.TestKind.TheVariants as test
+use Rattle.dg_meaning.specs.Values.{Num, Word, Unknown, Nil, Pair, Value, Var, Node, Values, NoMore, More}
+use Rattle.dg_meaning.specs.Substitutions.{Substitution, walk, resolved}
+
+-- No variable stands in a value, those that a closure captures included.
+abbrev mutual
+  pub is_full : Value → Bool
+  is_full (Var x) = false
+  is_full (Node f vs) = are_full vs
+
+  pub are_full : Values → Bool
+  are_full NoMore = true
+  are_full (More v vs) = is_full v && are_full vs
+
+-- A value that was looked up passes a test by what stands at its top.
+abbrev pub top_passes : TestKind → Value → Bool
+top_passes test.Number (Node (Num n) vs) = true
+top_passes test.Word (Node (Word n) vs) = true
+top_passes test.Word (Node (Unknown spelling) vs) = true
+top_passes test.UnknownWord (Node (Unknown spelling) vs) = true
+top_passes test.List (Node Nil vs) = true
+top_passes test.List (Node Pair vs) = true
+top_passes test.Empty (Node Nil vs) = true
+top_passes test.NonEmpty (Node Pair vs) = true
+top_passes test.Bound (Node f vs) = true
+top_passes test.Unbound (Var x) = true
+top_passes kind v = false
+
+-- A value passes a test.
+abbrev pub passes : Substitution → TestKind → Value → Bool
+passes S test.FullyBound v = is_full (resolved S v)
+passes S kind v = top_passes kind (walk S v)
