@@ -7,79 +7,80 @@ use Rattle.dialog_tool.specs.Command.{debug}
 use Rattle.dg_base.specs.Written.{SinkView, Wrote, BrokeOff}
 use Rattle.dg_base.specs.declared.program.CoreProgram.{CoreProgram as Core}
 use Rattle.dg_base.specs.declared.refusal.Refusal.{Refusal}
+use Rattle.dg_base.specs.declared.run.Limits.{Limits}
 use Rattle.dg_meaning.specs.Transcript.{no_memory_line}
 use Rattle.dialog_tool.specs.Source.{Compiles}
 use Rattle.dialog_tool.specs.Answers
 
 -- the line of a refusal could not be written, or the one on want of memory behind it
-pub refusal_lost : (left : Option (List ℕ)) (dice : List ℕ) (old new : SinkView) (name : List ℕ) (steps : ℕ) (source : List ℕ) (r : Refusal) → Compiles source (Err r)
-    → BrokeOff old new (Answers.refusal_line name r) ⊎ BrokeOff old new no_memory_line → Answers.SourceLostOutput left dice old new name steps source
-refusal_lost left dice old new name steps source r compiles (inl broke) = record {
+pub refusal_lost : (left : Option (List ℕ)) (dice : List ℕ) (old new : SinkView) (name : List ℕ) (limits : Limits) (source : List ℕ) (r : Refusal) → Compiles source (Err r)
+    → BrokeOff old new (Answers.refusal_line name r) ⊎ BrokeOff old new no_memory_line → Answers.SourceLostOutput left dice old new name limits source
+refusal_lost left dice old new name limits source r compiles (inl broke) = record {
   text = Answers.refusal_line name r;
   allowed = Answers.line (record { refusal = r; compiles = compiles; is = refl });
   broke = broke;
 }
-refusal_lost left dice old new name steps source r compiles (inr broke) = record { text = no_memory_line; allowed = Answers.memory refl; broke = broke }
+refusal_lost left dice old new name limits source r compiles (inr broke) = record { text = no_memory_line; allowed = Answers.memory refl; broke = broke }
 
 -- a run could not be written
-pub run_lost : (left : Option (List ℕ)) (dice : List ℕ) (old new : SinkView) (name : List ℕ) (steps : ℕ) (source : List ℕ) (p : Core) → Compiles source (Ok p)
-    → Answers.LostOutput p steps left dice old new → Answers.SourceLostOutput left dice old new name steps source
-run_lost None dice old new name steps source p compiles lost = record {
+pub run_lost : (left : Option (List ℕ)) (dice : List ℕ) (old new : SinkView) (name : List ℕ) (limits : Limits) (source : List ℕ) (p : Core) → Compiles source (Ok p)
+    → Answers.LostOutput p limits left dice old new → Answers.SourceLostOutput left dice old new name limits source
+run_lost None dice old new name limits source p compiles lost = record {
   text = lost.1.bytes;
   allowed = Answers.show (record { program = p; compiles = compiles; writes = (lost.0, lost.1.may_write) });
   broke = lost.1.broke;
 }
-run_lost (Some typed) dice old new name steps source p compiles lost = record {
+run_lost (Some typed) dice old new name limits source p compiles lost = record {
   text = lost.bytes;
   allowed = Answers.show (record { program = p; compiles = compiles; writes = lost.may_write });
   broke = lost.broke;
 }
 
 -- memory ran out in a run
-pub run_short : (left : Option (List ℕ)) (dice : List ℕ) (old new : SinkView) (name : List ℕ) (steps : ℕ) (source : List ℕ) (p : Core) → Compiles source (Ok p)
-    → Answers.LostMemory p steps left dice old new → Answers.SourceLostMemory left dice old new name steps source
-run_short None dice old new name steps source p compiles lost = record {
+pub run_short : (left : Option (List ℕ)) (dice : List ℕ) (old new : SinkView) (name : List ℕ) (limits : Limits) (source : List ℕ) (p : Core) → Compiles source (Ok p)
+    → Answers.LostMemory p limits left dice old new → Answers.SourceLostMemory left dice old new name limits source
+run_short None dice old new name limits source p compiles lost = record {
   text = lost.1.bytes;
   is = inr (record { program = p; compiles = compiles; shows = (lost.0, lost.1.shows) });
   wrote = lost.1.wrote;
 }
-run_short (Some typed) dice old new name steps source p compiles lost = record {
+run_short (Some typed) dice old new name limits source p compiles lost = record {
   text = lost.bytes;
   is = inr (record { program = p; compiles = compiles; shows = lost.shows });
   wrote = lost.wrote;
 }
 
-pub run_shown : (status : ℕ) (left behind : Option (List ℕ)) (dice : List ℕ) (old new : SinkView) (name : List ℕ) (steps : ℕ) (source : List ℕ) (p : Core) → Compiles source (Ok p)
-    → Answers.Shown status p steps left behind dice old new → Answers.IsRun status left behind dice old new name steps source
-run_shown status left behind dice old new name steps source p compiles h = record { program = p; compiles = compiles; outcome = h.outcome; shown = h.shown; is_status = h.is_status }
+pub run_shown : (status : ℕ) (left behind : Option (List ℕ)) (dice : List ℕ) (old new : SinkView) (name : List ℕ) (limits : Limits) (source : List ℕ) (p : Core) → Compiles source (Ok p)
+    → Answers.Shown status p limits left behind dice old new → Answers.IsRun status left behind dice old new name limits source
+run_shown status left behind dice old new name limits source p compiles h = record { program = p; compiles = compiles; outcome = h.outcome; shown = h.shown; is_status = h.is_status }
 
-pub input_lost : (before after : ℕ) (left behind : Option (List ℕ)) (dice : List ℕ) (old new : SinkView) (name : List ℕ) (steps : ℕ) (source : List ℕ) (p : Core) → Compiles source (Ok p)
-    → Answers.LostInput p steps before after left behind dice old new → Answers.SourceLostInput before after left behind dice old new name steps source
-input_lost before after left behind dice old new name steps source p compiles h = record { rose = h.rose; cut_off = record { program = p; compiles = compiles; lost = h.lost } }
+pub input_lost : (before after : ℕ) (left behind : Option (List ℕ)) (dice : List ℕ) (old new : SinkView) (name : List ℕ) (limits : Limits) (source : List ℕ) (p : Core) → Compiles source (Ok p)
+    → Answers.LostInput p limits before after left behind dice old new → Answers.SourceLostInput before after left behind dice old new name limits source
+input_lost before after left behind dice old new name limits source p compiles h = record { rose = h.rose; cut_off = record { program = p; compiles = compiles; lost = h.lost } }
 
 -- ## From the answers on a source to those of the call
 
-pub at_source : (told : Told) (name : List ℕ) (steps : ℕ) (source : List ℕ) (P : List ℕ → ℕ → List ℕ → Type 0) → WhereTold told (λ contents. source ≡ held (contents name)) → P name steps source → Answers.AtSource (Some (debug name steps)) told P
-at_source None name steps source P is h = tt
-at_source (Some contents) name steps source P is h = subst (λ (l : List ℕ). P name steps l) is h
+pub at_source : (told : Told) (name : List ℕ) (limits : Limits) (source : List ℕ) (P : List ℕ → Limits → List ℕ → Type 0) → WhereTold told (λ contents. source ≡ held (contents name)) → P name limits source → Answers.AtSource (Some (debug name limits)) told P
+at_source None name limits source P is h = tt
+at_source (Some contents) name limits source P is h = subst (λ (l : List ℕ). P name limits l) is h
 
-pub if_source : (told : Told) (name : List ℕ) (steps : ℕ) (source : List ℕ) (P : List ℕ → ℕ → List ℕ → Type 0) → WhereTold told (λ contents. source ≡ held (contents name)) → P name steps source → Answers.IfSource (Some (debug name steps)) told P
-if_source None name steps source P is h = tt
-if_source (Some contents) name steps source P is h = subst (λ (l : List ℕ). P name steps l) is h
+pub if_source : (told : Told) (name : List ℕ) (limits : Limits) (source : List ℕ) (P : List ℕ → Limits → List ℕ → Type 0) → WhereTold told (λ contents. source ≡ held (contents name)) → P name limits source → Answers.IfSource (Some (debug name limits)) told P
+if_source None name limits source P is h = tt
+if_source (Some contents) name limits source P is h = subst (λ (l : List ℕ). P name limits l) is h
 
-may_print : (told : Told) (left : Option (List ℕ)) (dice text name : List ℕ) (steps : ℕ) (source : List ℕ) → WhereTold told (λ contents. source ≡ held (contents name)) → Answers.MayPrintOf left dice text name steps source → Answers.MayPrint (Some (debug name steps)) told left dice text
-may_print told left dice text name steps source is (Answers.line h) = Answers.refusal (at_source told name steps source (Answers.IsRefusalLine text) is h)
-may_print told left dice text name steps source is (Answers.show h) = Answers.shown (at_source told name steps source (Answers.MayShow left dice text) is h)
-may_print told left dice text name steps source is (Answers.memory e) = Answers.no_memory e
+may_print : (told : Told) (left : Option (List ℕ)) (dice text name : List ℕ) (limits : Limits) (source : List ℕ) → WhereTold told (λ contents. source ≡ held (contents name)) → Answers.MayPrintOf left dice text name limits source → Answers.MayPrint (Some (debug name limits)) told left dice text
+may_print told left dice text name limits source is (Answers.line h) = Answers.refusal (at_source told name limits source (Answers.IsRefusalLine text) is h)
+may_print told left dice text name limits source is (Answers.show h) = Answers.shown (at_source told name limits source (Answers.MayShow left dice text) is h)
+may_print told left dice text name limits source is (Answers.memory e) = Answers.no_memory e
 
-pub source_faults : (told : Told) (sure : Bool) (a a' b b' : ℕ) (left behind : Option (List ℕ)) (dice : List ℕ) (old new : SinkView) (name : List ℕ) (steps : ℕ) (source : List ℕ) → WhereTold told (λ contents. source ≡ held (contents name))
-    → Answers.SourceLostInput b b' left behind dice old new name steps source ⊎ Answers.SourceLostOutput left dice old new name steps source
-    → Answers.ShelfFailed (Some (debug name steps)) told sure a a' old new ⊎ (Answers.InputFailed (Some (debug name steps)) told b b' left behind dice old new ⊎ Answers.OutFailed (Some (debug name steps)) told left dice old new)
-source_faults told sure a a' b b' left behind dice old new name steps source is (inl h) = inr (inl (record { rose = h.rose; cut_off = at_source told name steps source (Answers.IsCutOff left behind dice old new) is h.cut_off }))
-source_faults told sure a a' b b' left behind dice old new name steps source is (inr h) = inr (inr (record { text = h.text; allowed = may_print told left dice h.text name steps source is h.allowed; broke = h.broke }))
+pub source_faults : (told : Told) (sure : Bool) (a a' b b' : ℕ) (left behind : Option (List ℕ)) (dice : List ℕ) (old new : SinkView) (name : List ℕ) (limits : Limits) (source : List ℕ) → WhereTold told (λ contents. source ≡ held (contents name))
+    → Answers.SourceLostInput b b' left behind dice old new name limits source ⊎ Answers.SourceLostOutput left dice old new name limits source
+    → Answers.ShelfFailed (Some (debug name limits)) told sure a a' old new ⊎ (Answers.InputFailed (Some (debug name limits)) told b b' left behind dice old new ⊎ Answers.OutFailed (Some (debug name limits)) told left dice old new)
+source_faults told sure a a' b b' left behind dice old new name limits source is (inl h) = inr (inl (record { rose = h.rose; cut_off = at_source told name limits source (Answers.IsCutOff left behind dice old new) is h.cut_off }))
+source_faults told sure a a' b b' left behind dice old new name limits source is (inr h) = inr (inr (record { text = h.text; allowed = may_print told left dice h.text name limits source is h.allowed; broke = h.broke }))
 
-pub file_faults : (told : Told) (sure : Bool) (a a' b b' : ℕ) (left behind : Option (List ℕ)) (dice : List ℕ) (old new : SinkView) (name : List ℕ) (steps : ℕ) → Rose a a' → (IsTrue sure → WhereTold told (λ contents. IsSome (contents name) → ⊥))
+pub file_faults : (told : Told) (sure : Bool) (a a' b b' : ℕ) (left behind : Option (List ℕ)) (dice : List ℕ) (old new : SinkView) (name : List ℕ) (limits : Limits) → Rose a a' → (IsTrue sure → WhereTold told (λ contents. IsSome (contents name) → ⊥))
     → Wrote old new (Answers.file_fault_line name) ⊎ BrokeOff old new (Answers.file_fault_line name)
-    → Answers.ShelfFailed (Some (debug name steps)) told sure a a' old new ⊎ (Answers.InputFailed (Some (debug name steps)) told b b' left behind dice old new ⊎ Answers.OutFailed (Some (debug name steps)) told left dice old new)
-file_faults told sure a a' b b' left behind dice old new name steps rose missing (inl wrote) = inl (record { rose = rose; name = name; file = refl; missing = missing; wrote = wrote })
-file_faults told sure a a' b b' left behind dice old new name steps rose missing (inr broke) = inr (inr (record { text = Answers.file_fault_line name; allowed = Answers.file_fault name refl refl; broke = broke }))
+    → Answers.ShelfFailed (Some (debug name limits)) told sure a a' old new ⊎ (Answers.InputFailed (Some (debug name limits)) told b b' left behind dice old new ⊎ Answers.OutFailed (Some (debug name limits)) told left dice old new)
+file_faults told sure a a' b b' left behind dice old new name limits rose missing (inl wrote) = inl (record { rose = rose; name = name; file = refl; missing = missing; wrote = wrote })
+file_faults told sure a a' b b' left behind dice old new name limits rose missing (inr broke) = inr (inr (record { text = Answers.file_fault_line name; allowed = Answers.file_fault name refl refl; broke = broke }))

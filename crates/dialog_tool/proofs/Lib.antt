@@ -1,5 +1,6 @@
 pub mod DigitLemmas
 pub mod DiceLemmas
+pub mod OptionLemmas
 pub mod PlainText
 pub mod NamesLemmas
 pub mod BuiltLemmas

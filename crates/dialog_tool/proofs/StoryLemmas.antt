@@ -67,15 +67,15 @@ story_fails command told sure a a' b b' left left' handed old new name steps own
 
 -- ---- where no memory was found for the command itself
 
-pub late_source : (command : Option Command) (told : Told) (P : List ℕ → ℕ → List ℕ → Type 0) → ((name : List ℕ) (steps : ℕ) (source : List ℕ) → P name steps source) → Answers.IfSource command told P
+pub late_source : (command : Option Command) (told : Told) (P : List ℕ → Limits → List ℕ → Type 0) → ((name : List ℕ) (limits : Limits) (source : List ℕ) → P name limits source) → Answers.IfSource command told P
 late_source None told P h = tt
-late_source (Some (debug name steps)) None P h = tt
-late_source (Some (debug name steps)) (Some contents) P h = h name steps (held (contents name))
+late_source (Some (debug name limits)) None P h = tt
+late_source (Some (debug name limits)) (Some contents) P h = h name limits (held (contents name))
 late_source (Some (play name steps dice)) told P h = tt
 
 pub late_story : (command : Option Command) (told : Told) (handed : List ℕ) (P : Playing.Play → Type 0) → ((p : Playing.Play) → P p) → Playing.IfStory command told handed P
 late_story None told handed P h = tt
-late_story (Some (debug name steps)) told handed P h = tt
+late_story (Some (debug name limits)) told handed P h = tt
 late_story (Some (play name steps dice)) None handed P h = tt
 late_story (Some (play name steps dice)) (Some contents) handed P h = h (Playing.as_played name steps (Playing.thrown dice handed) (held (contents name)))
 

@@ -45,29 +45,25 @@ status_of TrailLimit = 3
 status_of AuxLimit = 3
 status_of KeepLimit = 3
 
--- the limits of a run with at most so many goals
-abbrev pub limits_of : ℕ → Limits
-limits_of steps = record { steps = steps; heap = 1000000; trail = 200000; aux = 100000; keep = 10000 }
-
 -- ---- what the answers speak of
 
 -- the file that a command reads
 abbrev pub file_of : Option Command → Option (List ℕ)
 file_of None = None
-file_of (Some (debug name steps)) = Some name
+file_of (Some (debug name limits)) = Some name
 file_of (Some (play name steps dice)) = Some name
 
--- the words run a source, and this holds of its file's name, its steps and, where they are told, the file's contents
-abbrev pub AtSource : Option Command → Told → (List ℕ → ℕ → List ℕ → Type 0) → Type 0
+-- the words run a source, and this holds of its file's name, the limits and, where they are told, the file's contents
+abbrev pub AtSource : Option Command → Told → (List ℕ → Limits → List ℕ → Type 0) → Type 0
 AtSource None told P = ⊥
-AtSource (Some (debug name steps)) told P = WhereTold told (λ contents. P name steps (held (contents name)))
+AtSource (Some (debug name limits)) told P = WhereTold told (λ contents. P name limits (held (contents name)))
 AtSource (Some (play name steps dice)) told P = ⊥
 
 -- where the words run a source and the contents of its file are told, this holds of them
-abbrev pub IfSource : Option Command → Told → (List ℕ → ℕ → List ℕ → Type 0) → Type 0
+abbrev pub IfSource : Option Command → Told → (List ℕ → Limits → List ℕ → Type 0) → Type 0
 IfSource None told P = Unit {0}
-IfSource (Some (debug name steps)) None P = Unit {0}
-IfSource (Some (debug name steps)) (Some contents) P = P name steps (held (contents name))
+IfSource (Some (debug name limits)) None P = Unit {0}
+IfSource (Some (debug name limits)) (Some contents) P = P name limits (held (contents name))
 IfSource (Some (play name steps dice)) told P = Unit {0}
 
 -- ---- the answers
@@ -78,24 +74,24 @@ pub record IsUsage (command : Option Command) (old new : SinkView) : Type 0 wher
   pub wrote : Wrote old new usage_line
 
 -- 1: the source is refused, and out took the line that says so
-pub record IsRefused (old new : SinkView) (name : List ℕ) (steps : ℕ) (source : List ℕ) : Type 0 where
+pub record IsRefused (old new : SinkView) (name : List ℕ) (limits : Limits) (source : List ℕ) : Type 0 where
   pub refusal : Refusal
   pub compiles : Compiles source (Err refusal)
   pub wrote : Wrote old new (refusal_line name refusal)
 
 -- 0 and 3: the source is a program, and out took a text that shows a run of it on the typed bytes
-pub record IsRun (status : ℕ) (left left_behind : Option (List ℕ)) (dice : List ℕ) (old new : SinkView) (name : List ℕ) (steps : ℕ) (source : List ℕ) : Type 0 where
+pub record IsRun (status : ℕ) (left left_behind : Option (List ℕ)) (dice : List ℕ) (old new : SinkView) (name : List ℕ) (limits : Limits) (source : List ℕ) : Type 0 where
   pub program : Core
   pub compiles : Compiles source (Ok program)
   pub outcome : Outcome
-  pub shown : ForTyped left (λ typed. HasShown (game program dice) typed (limits_of steps) outcome left_behind old new)
+  pub shown : ForTyped left (λ typed. HasShown (game program dice) typed (limits) outcome left_behind old new)
   pub is_status : status ≡ status_of outcome.ending
 
 -- 5: the input failed in a run, and out took the text up to there with its closing
-pub record IsCutOff (left left_behind : Option (List ℕ)) (dice : List ℕ) (old new : SinkView) (name : List ℕ) (steps : ℕ) (source : List ℕ) : Type 0 where
+pub record IsCutOff (left left_behind : Option (List ℕ)) (dice : List ℕ) (old new : SinkView) (name : List ℕ) (limits : Limits) (source : List ℕ) : Type 0 where
   pub program : Core
   pub compiles : Compiles source (Ok program)
-  pub lost : ForTyped left (λ typed. HasLostInput (game program dice) typed (limits_of steps) left_behind old new)
+  pub lost : ForTyped left (λ typed. HasLostInput (game program dice) typed (limits) left_behind old new)
 
 -- 5: the shelf failed at the command's file, and out took the line that names it; a shelf that is sure fails only where it has no such file
 pub record ShelfFailed (command : Option Command) (told : Told) (sure : Bool) (before after : ℕ) (old new : SinkView) : Type 0 where
@@ -111,13 +107,13 @@ pub record InputFailed (command : Option Command) (told : Told) (before after : 
   pub cut_off : AtSource command told (IsCutOff left left_behind dice old new)
 
 -- a program's run may write this text
-pub record MayShow (left : Option (List ℕ)) (dice text : List ℕ) (name : List ℕ) (steps : ℕ) (source : List ℕ) : Type 0 where
+pub record MayShow (left : Option (List ℕ)) (dice text : List ℕ) (name : List ℕ) (limits : Limits) (source : List ℕ) : Type 0 where
   pub program : Core
   pub compiles : Compiles source (Ok program)
-  pub writes : ForTyped left (λ typed. MayWrite (game program dice) typed (limits_of steps) text)
+  pub writes : ForTyped left (λ typed. MayWrite (game program dice) typed (limits) text)
 
 -- the source is refused with this line
-pub record IsRefusalLine (text : List ℕ) (name : List ℕ) (steps : ℕ) (source : List ℕ) : Type 0 where
+pub record IsRefusalLine (text : List ℕ) (name : List ℕ) (limits : Limits) (source : List ℕ) : Type 0 where
   pub refusal : Refusal
   pub compiles : Compiles source (Err refusal)
   pub is : text ≡ refusal_line name refusal
@@ -137,10 +133,10 @@ pub record OutFailed (command : Option Command) (told : Told) (left : Option (Li
   pub broke : BrokeOff old new text
 
 -- a run's text up to some moment, closed with the line on want of memory
-pub record ShowsSome (left : Option (List ℕ)) (dice text : List ℕ) (name : List ℕ) (steps : ℕ) (source : List ℕ) : Type 0 where
+pub record ShowsSome (left : Option (List ℕ)) (dice text : List ℕ) (name : List ℕ) (limits : Limits) (source : List ℕ) : Type 0 where
   pub program : Core
   pub compiles : Compiles source (Ok program)
-  pub shows : ForTyped left (λ typed. ShowsNoMemory (game program dice) typed (limits_of steps) text)
+  pub shows : ForTyped left (λ typed. ShowsNoMemory (game program dice) typed (limits) text)
 
 -- 6: out took the line on want of memory, behind what a run had printed where there was one
 pub record NoMemory (command : Option Command) (told : Told) (left : Option (List ℕ)) (dice : List ℕ) (old new : SinkView) : Type 0 where
@@ -151,43 +147,43 @@ pub record NoMemory (command : Option Command) (told : Told) (left : Option (Lis
 -- ---- one program and one source
 
 -- out took a text that shows a run of this program, with the status of its ending
-pub record Shown (status : ℕ) (program : Core) (steps : ℕ) (left left_behind : Option (List ℕ)) (dice : List ℕ) (old new : SinkView) : Type 0 where
+pub record Shown (status : ℕ) (program : Core) (limits : Limits) (left left_behind : Option (List ℕ)) (dice : List ℕ) (old new : SinkView) : Type 0 where
   pub outcome : Outcome
-  pub shown : ForTyped left (λ typed. HasShown (game program dice) typed (limits_of steps) outcome left_behind old new)
+  pub shown : ForTyped left (λ typed. HasShown (game program dice) typed (limits) outcome left_behind old new)
   pub is_status : status ≡ status_of outcome.ending
 
 -- the input failed in a run of this program
-pub record LostInput (program : Core) (steps : ℕ) (before after : ℕ) (left left_behind : Option (List ℕ)) (dice : List ℕ) (old new : SinkView) : Type 0 where
+pub record LostInput (program : Core) (limits : Limits) (before after : ℕ) (left left_behind : Option (List ℕ)) (dice : List ℕ) (old new : SinkView) : Type 0 where
   pub rose : Rose before after
-  pub lost : ForTyped left (λ typed. HasLostInput (game program dice) typed (limits_of steps) left_behind old new)
+  pub lost : ForTyped left (λ typed. HasLostInput (game program dice) typed (limits) left_behind old new)
 
 -- memory ran out in a run of this program
-abbrev pub LostMemory : Core → ℕ → Option (List ℕ) → List ℕ → SinkView → SinkView → Type 0
-LostMemory program steps left dice old new = ForTyped left (λ typed. HasLostMemory (game program dice) typed (limits_of steps) old new)
+abbrev pub LostMemory : Core → Limits → Option (List ℕ) → List ℕ → SinkView → SinkView → Type 0
+LostMemory program limits left dice old new = ForTyped left (λ typed. HasLostMemory (game program dice) typed (limits) old new)
 
 -- out failed in a run of this program
-abbrev pub LostOutput : Core → ℕ → Option (List ℕ) → List ℕ → SinkView → SinkView → Type 0
-LostOutput program steps left dice old new = ForTyped left (λ typed. HasLostOutput (game program dice) typed (limits_of steps) old new)
+abbrev pub LostOutput : Core → Limits → Option (List ℕ) → List ℕ → SinkView → SinkView → Type 0
+LostOutput program limits left dice old new = ForTyped left (λ typed. HasLostOutput (game program dice) typed (limits) old new)
 
 -- the input failed in a run of a source
-pub record SourceLostInput (before after : ℕ) (left left_behind : Option (List ℕ)) (dice : List ℕ) (old new : SinkView) (name : List ℕ) (steps : ℕ) (source : List ℕ) : Type 0 where
+pub record SourceLostInput (before after : ℕ) (left left_behind : Option (List ℕ)) (dice : List ℕ) (old new : SinkView) (name : List ℕ) (limits : Limits) (source : List ℕ) : Type 0 where
   pub rose : Rose before after
-  pub cut_off : IsCutOff left left_behind dice old new name steps source
+  pub cut_off : IsCutOff left left_behind dice old new name limits source
 
 -- a text that may be written once a source was fetched
-pub data MayPrintOf (left : Option (List ℕ)) (dice text name : List ℕ) (steps : ℕ) (source : List ℕ) : Type 0 where
-  line : IsRefusalLine text name steps source → MayPrintOf left dice text name steps source
-  show : MayShow left dice text name steps source → MayPrintOf left dice text name steps source
-  memory : text ≡ no_memory_line → MayPrintOf left dice text name steps source
+pub data MayPrintOf (left : Option (List ℕ)) (dice text name : List ℕ) (limits : Limits) (source : List ℕ) : Type 0 where
+  line : IsRefusalLine text name limits source → MayPrintOf left dice text name limits source
+  show : MayShow left dice text name limits source → MayPrintOf left dice text name limits source
+  memory : text ≡ no_memory_line → MayPrintOf left dice text name limits source
 
 -- out failed within such a text
-pub record SourceLostOutput (left : Option (List ℕ)) (dice : List ℕ) (old new : SinkView) (name : List ℕ) (steps : ℕ) (source : List ℕ) : Type 0 where
+pub record SourceLostOutput (left : Option (List ℕ)) (dice : List ℕ) (old new : SinkView) (name : List ℕ) (limits : Limits) (source : List ℕ) : Type 0 where
   pub text : List ℕ
-  pub allowed : MayPrintOf left dice text name steps source
+  pub allowed : MayPrintOf left dice text name limits source
   pub broke : BrokeOff old new text
 
 -- memory ran out once a source was fetched
-pub record SourceLostMemory (left : Option (List ℕ)) (dice : List ℕ) (old new : SinkView) (name : List ℕ) (steps : ℕ) (source : List ℕ) : Type 0 where
+pub record SourceLostMemory (left : Option (List ℕ)) (dice : List ℕ) (old new : SinkView) (name : List ℕ) (limits : Limits) (source : List ℕ) : Type 0 where
   pub text : List ℕ
-  pub is : (text ≡ no_memory_line) ⊎ ShowsSome left dice text name steps source
+  pub is : (text ≡ no_memory_line) ⊎ ShowsSome left dice text name limits source
   pub wrote : Wrote old new text

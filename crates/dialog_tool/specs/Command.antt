@@ -1,17 +1,18 @@
 -- The words of a command line: hold it against the synopsis of man/dialog.1.
-use Rattle.std.specs.Prelude.{ℕ, ◌+◌, ◌*◌, ◌-◌, ◌&&◌, List, [], ◌∷◌, length, Bool, true, false, not, Option, Some, None, codes, map, string_bytes, String, nat_eq, nat_le, if◌then◌else◌}
+use Rattle.std.specs.Prelude.{ℕ, ◌+◌, ◌*◌, ◌-◌, ◌&&◌, ◌||◌, List, [], ◌∷◌, length, Bool, true, false, not, Option, Some, None, codes, map, string_bytes, String, nat_eq, nat_le, if◌then◌else◌}
 use Rattle.std.specs.List.{list_all, slice_split}
-use Rattle.std.specs.Option.{option_map, option_and_then}
+use Rattle.std.specs.Option.{option_map, option_and_then, is_some}
 use Rattle.std.specs.Str.{bytes_eq}
 use Rattle.std.specs.declared.alloc.Global.{Global}
+use Rattle.dg_base.specs.declared.run.Limits.{Limits}
 
 -- the bytes of each word
 abbrev pub texts : List (String Global) → List (List ℕ)
 texts words = map string_bytes words
 
--- what is to be done: a source is run, with at most so many goals; a story is played, with at most so many instructions, and with these dice in place of those that are handed in
+-- what is to be done: a source is run within limits; a story is played, with at most so many instructions, and with these dice in place of those that are handed in
 pub data Command : Type 0 where
-  debug : (name : List ℕ) → (steps : ℕ) → Command
+  debug : (name : List ℕ) → (limits : Limits) → Command
   play : (name : List ℕ) → (steps : ℕ) → (dice : Option (List ℕ)) → Command
 
 -- a file name isn't empty and doesn't begin with two dashes
@@ -37,27 +38,62 @@ is_number least most word = nat_le 1 (length word) && (are_digits word && (nat_l
 abbrev pub number_of : ℕ → ℕ → List ℕ → Option ℕ
 number_of least most word = if is_number least most word then Some (value_behind 0 word) else None
 
--- what --steps may say: from 1 to 1,000,000,000,000
-abbrev pub steps_in : List ℕ → Option ℕ
-steps_in word = number_of 1 1000000000000 word
+-- ---- options
 
--- the names of the options
-abbrev pub is_steps : List ℕ → Bool
-is_steps option = bytes_eq option (codes "--steps")
+-- the words behind --steps, --heap, --trail and --dice, where they stand
+pub record Values : Type 0 where
+  pub steps : Option (List ℕ)
+  pub heap : Option (List ℕ)
+  pub trail : Option (List ℕ)
+  pub dice : Option (List ℕ)
 
-abbrev pub is_dice : List ℕ → Bool
-is_dice option = bytes_eq option (codes "--dice")
+-- no option
+abbrev pub no_values : Values
+no_values = record { steps = None; heap = None; trail = None; dice = None }
 
--- the goals that a run may take, where no option says it
-abbrev pub usual_steps : ℕ
-usual_steps = 100000000
+-- a word, where there was none before: no option stands twice
+abbrev pub once : Option (List ℕ) → List ℕ → Option (Option (List ℕ))
+once None word = Some (Some word)
+once (Some before) word = None
 
--- the goals that a run may take, by the options
-abbrev pub steps_of : List (List ℕ) → Option ℕ
-steps_of [] = Some usual_steps
-steps_of (option ∷ []) = None
-steps_of (option ∷ value ∷ []) = if is_steps option then steps_in value else None
-steps_of (option ∷ value ∷ more ∷ others) = None
+-- these options, and one more with its word
+abbrev pub with_option : Values → List ℕ → List ℕ → Option Values
+with_option values option word =
+    if bytes_eq option (codes "--steps") then option_map (λ w. record values { steps = w }) (once values.steps word)
+    else if bytes_eq option (codes "--heap") then option_map (λ w. record values { heap = w }) (once values.heap word)
+    else if bytes_eq option (codes "--trail") then option_map (λ w. record values { trail = w }) (once values.trail word)
+    else if bytes_eq option (codes "--dice") then option_map (λ w. record values { dice = w }) (once values.dice word)
+    else None
+
+-- these options, and those that these words are: in any order, each followed by its word
+abbrev pub values_behind : Values → List (List ℕ) → Option Values
+values_behind values [] = Some values
+values_behind values (option ∷ []) = None
+values_behind values (option ∷ word ∷ others) = option_and_then (λ more. values_behind more others) (with_option values option word)
+
+-- the options that these words are
+abbrev pub values_of : List (List ℕ) → Option Values
+values_of words = values_behind no_values words
+
+-- the number behind an option, or the usual one where the option doesn't stand
+abbrev pub number_or : ℕ → ℕ → Option (List ℕ) → Option ℕ
+number_or usual most None = Some usual
+number_or usual most (Some word) = number_of 1 most word
+
+-- ---- a source
+
+-- the limits of these goals, heap cells and bindings to be undone, where each is a number that it may be
+abbrev pub limits_from : Option ℕ → Option ℕ → Option ℕ → Option Limits
+limits_from (Some steps) (Some heap) (Some trail) = Some (record { steps = steps; heap = heap; trail = trail; aux = 100000; keep = 10000 })
+limits_from steps heap trail = None
+
+-- the limits that the options name
+abbrev pub limits_of : Values → Option Limits
+limits_of values = limits_from (number_or 100000000 1000000000000 values.steps) (number_or 1000000 16000000 values.heap) (number_or 200000 16000000 values.trail)
+
+-- a source is run as its options say; it has no dice
+abbrev pub debug_with : List ℕ → Values → Option Command
+debug_with name values = if is_some values.dice then None else option_map (debug name) (limits_of values)
 
 -- ---- dice
 
@@ -69,53 +105,18 @@ parts_of word = slice_split (λ c. nat_eq c 44) word
 abbrev pub dice_of : List ℕ → Option (List ℕ)
 dice_of word = if nat_le (length (parts_of word)) 1024 && list_all (is_number 0 65535) (parts_of word) then Some (map (value_behind 0) (parts_of word)) else None
 
--- ---- the options of a story's run
-
--- the word behind --steps and the word behind --dice, where they stand
-pub record Values : Type 0 where
-  pub steps : Option (List ℕ)
-  pub dice : Option (List ℕ)
-
--- one option and its word
-abbrev pub one_value : List ℕ → List ℕ → Option Values
-one_value option word =
-    if is_steps option then Some (record { steps = Some word; dice = None })
-    else if is_dice option then Some (record { steps = None; dice = Some word })
-    else None
-
--- two options, each followed by its word: not the same one twice
-abbrev pub two_values : List ℕ → List ℕ → List ℕ → List ℕ → Option Values
-two_values option word another behind =
-    if is_steps option && is_dice another then Some (record { steps = Some word; dice = Some behind })
-    else if is_dice option && is_steps another then Some (record { steps = Some behind; dice = Some word })
-    else None
-
--- what these words say as options, in any order, each at most once, each followed by its word
-abbrev pub values_of : List (List ℕ) → Option Values
-values_of [] = Some (record { steps = None; dice = None })
-values_of (option ∷ []) = None
-values_of (option ∷ word ∷ []) = one_value option word
-values_of (option ∷ word ∷ another ∷ []) = None
-values_of (option ∷ word ∷ another ∷ behind ∷ []) = two_values option word another behind
-values_of (option ∷ word ∷ another ∷ behind ∷ more ∷ others) = None
-
--- the instructions that a run may take, where no option says it
-abbrev pub usual_instructions : ℕ
-usual_instructions = 1000000000
-
--- the instructions that a run may take
-abbrev pub instructions_of : Option (List ℕ) → Option ℕ
-instructions_of None = Some usual_instructions
-instructions_of (Some word) = steps_in word
+-- ---- a story
 
 -- the dice in place of those that are handed in, if any
 abbrev pub own_dice : Option (List ℕ) → Option (Option (List ℕ))
 own_dice None = Some None
 own_dice (Some word) = option_map Some (dice_of word)
 
--- a story is played as its options say
+-- a story is played as its options say; it has no limits of heap and trail
 abbrev pub play_with : List ℕ → Values → Option Command
-play_with name words = option_and_then (λ steps. option_map (play name steps) (own_dice words.dice)) (instructions_of words.steps)
+play_with name values =
+    if is_some values.heap || is_some values.trail then None
+    else option_and_then (λ steps. option_map (play name steps) (own_dice values.dice)) (number_or 1000000000 1000000000000 values.steps)
 
 -- ---- the words
 
@@ -125,7 +126,7 @@ command_of [] = None
 command_of (command ∷ []) = None
 command_of (command ∷ name ∷ options) =
     if not (is_file_name name) then None
-    else if bytes_eq command (codes "debug") then option_map (debug name) (steps_of options)
+    else if bytes_eq command (codes "debug") then option_and_then (debug_with name) (values_of options)
     else if bytes_eq command (codes "play") then option_and_then (play_with name) (values_of options)
     else None
 

@@ -1,26 +1,27 @@
 // Reads the words of a command line.
-ghost use Rattle.std.specs.Prelude.{◌≡◌, IfOk, IfSome, string_bytes};
+ghost use Rattle.std.specs.Prelude.{◌≡◌, ◌≤◌, ◌<◌, ◌^◌, IfOk, IfSome, string_bytes};
 ghost use Rattle.std.specs.Option.{option_map, option_and_then};
 ghost use Rattle.dialog_tool.specs.Command as spec;
 ghost use Rattle.dialog_tool.specs.Command.{texts};
 ghost use Rattle.dialog_tool.specs.CommandView.{command_view, values_view, HasDice};
 
 use crate::numbers::{dice_of, number_of};
+use dg_base::Limits;
 use std::alloc::{AllocError, Global};
-
-const USUAL_STEPS: u64 = 100_000_000;
 
 const USUAL_INSTRUCTIONS: u64 = 1_000_000_000;
 
 const MOST_STEPS: u64 = 1_000_000_000_000;
 
+const MOST_CELLS: u64 = 16_000_000;
+
 /// What is to be done.
 #[derive(Drop)]
 pub enum Command<'a> {
-    /// Run a source, with at most so many goals.
+    /// Run a source within limits.
     Debug {
         name: &'a str,
-        steps: u64,
+        limits: Limits,
     },
     /// Play a story, with at most so many instructions, and with dice of its own in place of those that are handed in.
     Play {
@@ -30,10 +31,12 @@ pub enum Command<'a> {
     },
 }
 
-// The words behind `--steps` and `--dice`.
+// The words behind the options.
 #[derive(Clone, Copy)]
 struct Values<'a> {
     steps: Option<&'a str>,
+    heap: Option<&'a str>,
+    trail: Option<&'a str>,
     dice: Option<&'a str>,
 }
 
@@ -47,102 +50,110 @@ fn is_file_name(name: &str) -> bool
     }
 }
 
-fn is_steps(option: &String) -> bool
-    ensures { result ≡ spec.is_steps (string_bytes option.now) }
+// A word, where there was none before.
+fn once<'a>(before: Option<&'a str>, word: &'a str) -> Option<Option<&'a str>>
+    ensures { option_map (option_map (λ v. v.now)) result ≡ spec.once (option_map (λ w. w.now) before.entry) word.now }
 {
-    option.as_str() == "--steps"
-}
-
-fn is_dice(option: &String) -> bool
-    ensures { result ≡ spec.is_dice (string_bytes option.now) }
-{
-    option.as_str() == "--dice"
-}
-
-// The goals that a run may take, by the options.
-fn steps_of(options: &[String]) -> Option<u64>
-    ensures { result ≡ spec.steps_of (texts options.now) }
-{
-    match options {
-        [] => Some(USUAL_STEPS),
-        [option, value] if is_steps(option) => number_of(1, MOST_STEPS, value.as_str()),
-        _ => None,
+    match before {
+        None => Some(Some(word)),
+        Some(_) => None,
     }
 }
 
-// The options of a story's run, in any order.
-fn values_of(options: &[String]) -> Option<Values<'_>>
-    ensures { option_map values_view result ≡ spec.values_of (texts options.now) }
+// One more option with its word.
+fn with_option<'a>(values: Values<'a>, option: &String, word: &'a str) -> Option<Values<'a>>
+    ensures { option_map values_view result ≡ spec.with_option (values_view values.entry) (string_bytes option.now) word.now }
 {
-    match options {
-        [] => Some(Values {
-            steps: None,
-            dice: None,
-        }),
-        [option, word] => one_value(option, word.as_str()),
-        [option, word, another, behind] => {
-            two_values(option, word.as_str(), another, behind.as_str())
+    match option.as_str() {
+        "--steps" => {
+            let steps = once(values.steps, word)?;
+            Some(Values { steps, ..values })
+        }
+        "--heap" => {
+            let heap = once(values.heap, word)?;
+            Some(Values { heap, ..values })
+        }
+        "--trail" => {
+            let trail = once(values.trail, word)?;
+            Some(Values { trail, ..values })
+        }
+        "--dice" => {
+            let dice = once(values.dice, word)?;
+            Some(Values { dice, ..values })
         }
         _ => None,
     }
 }
 
-fn one_value<'a>(option: &String, word: &'a str) -> Option<Values<'a>>
-    ensures { option_map values_view result ≡ spec.one_value (string_bytes option.now) word.now }
+// These options and those that the words are, in any order, each followed by its word.
+fn values_behind<'a>(values: Values<'a>, options: &'a [String]) -> Option<Values<'a>>
+    ensures { option_map values_view result ≡ spec.values_behind (values_view values.entry) (texts options.now) }
 {
-    if is_steps(option) {
-        return Some(Values {
-            steps: Some(word),
-            dice: None,
-        });
+    match options {
+        [] => Some(values),
+        [option, word, others @ ..] => {
+            let more = with_option(values, option, word.as_str())?;
+            values_behind(more, others)
+        }
+        _ => None,
     }
-    if is_dice(option) {
-        return Some(Values {
-            steps: None,
-            dice: Some(word),
-        });
-    }
-    None
 }
 
-fn two_values<'a>(
-    option: &String,
-    word: &'a str,
-    another: &String,
-    behind: &'a str,
-) -> Option<Values<'a>>
-    ensures { option_map values_view result ≡ spec.two_values (string_bytes option.now) word.now (string_bytes another.now) behind.now }
+fn values_of(options: &[String]) -> Option<Values<'_>>
+    ensures { option_map values_view result ≡ spec.values_of (texts options.now) }
 {
-    if is_steps(option) && is_dice(another) {
-        return Some(Values {
-            steps: Some(word),
-            dice: Some(behind),
-        });
+    let none = Values {
+        steps: None,
+        heap: None,
+        trail: None,
+        dice: None,
+    };
+    values_behind(none, options)
+}
+
+fn number_or(usual: u64, most: u64, word: Option<&str>) -> Option<u64>
+    requires { most < 2 ^ 60 }
+    ensures { result ≡ spec.number_or usual most (option_map (λ w. w.now) word.entry) }
+{
+    match word {
+        Some(word) => number_of(1, most, word),
+        None => Some(usual),
     }
-    if is_dice(option) && is_steps(another) {
-        return Some(Values {
-            steps: Some(behind),
-            dice: Some(word),
-        });
-    }
-    None
+}
+
+fn cells_or(usual: u32, word: Option<&str>) -> Option<u32>
+    requires { usual ≤ 16000000 }
+    ensures { result ≡ spec.number_or usual 16000000 (option_map (λ w. w.now) word.entry) }
+{
+    let cells = number_or(usual as u64, MOST_CELLS, word)?;
+    Some(cells as u32)
+}
+
+fn limits_of(values: Values<'_>) -> Option<Limits>
+    ensures { result ≡ spec.limits_of (values_view values.entry) }
+{
+    let usual = Limits::debug();
+    let steps = number_or(usual.steps, MOST_STEPS, values.steps)?;
+    let heap = cells_or(usual.heap, values.heap)?;
+    let trail = cells_or(usual.trail, values.trail)?;
+    Some(Limits {
+        steps,
+        heap,
+        trail,
+        ..usual
+    })
 }
 
 fn debug<'a>(name: &'a str, options: &[String]) -> Option<Command<'a>>
-    ensures command { option_map command_view result ≡ option_map (spec.debug name.now) (spec.steps_of (texts options.now)) }
+    ensures command { option_map command_view result ≡ option_and_then (spec.debug_with name.now) (spec.values_of (texts options.now)) }
     ensures dice { IfSome result HasDice }
 {
-    let steps = steps_of(options)?;
-    Some(Command::Debug { name, steps })
-}
-
-fn instructions_of(word: Option<&str>) -> Option<u64>
-    ensures { result ≡ spec.instructions_of (option_map (λ w. w.now) word.entry) }
-{
-    match word {
-        Some(word) => number_of(1, MOST_STEPS, word),
-        None => Some(USUAL_INSTRUCTIONS),
+    let values = values_of(options)?;
+    if values.dice.is_some() {
+        return None;
     }
+    let limits = limits_of(values)?;
+    Some(Command::Debug { name, limits })
 }
 
 fn play_with<'a>(
@@ -176,13 +187,16 @@ fn play<'a>(
     ensures command { IfOk result (λ command. option_map command_view command ≡ option_and_then (spec.play_with name.now) (spec.values_of (texts options.now))) }
     ensures dice { IfOk result (λ command. IfSome command HasDice) }
 {
-    let Some(words) = values_of(options) else {
+    let Some(values) = values_of(options) else {
         return Ok(None);
     };
-    let Some(steps) = instructions_of(words.steps) else {
+    if values.heap.is_some() || values.trail.is_some() {
+        return Ok(None);
+    }
+    let Some(steps) = number_or(USUAL_INSTRUCTIONS, MOST_STEPS, values.steps) else {
         return Ok(None);
     };
-    play_with(alloc, name, steps, words.dice)
+    play_with(alloc, name, steps, values.dice)
 }
 
 /// The command that these words are.

@@ -7,7 +7,7 @@ ghost use Rattle.dialog_tool.specs.Command.{texts, command_of, debug as debug_co
 ghost use Rattle.dialog_tool.specs.Source.{Compiles};
 ghost use Rattle.dg_meaning.specs.Built.{IsBuilt};
 ghost use Rattle.dialog_tool.specs.Plain.{refusal_at};
-ghost use Rattle.dialog_tool.specs.Answers.{status_of, limits_of, Shown, LostInput, LostMemory, LostOutput, SourceLostInput, SourceLostOutput, SourceLostMemory, Comes, AtSource, IfSource, IsUsage, IsRefused, IsRun, ShelfFailed, InputFailed, OutFailed, NoMemory};
+ghost use Rattle.dialog_tool.specs.Answers.{status_of, Shown, LostInput, LostMemory, LostOutput, SourceLostInput, SourceLostOutput, SourceLostMemory, Comes, AtSource, IfSource, IsUsage, IsRefused, IsRun, ShelfFailed, InputFailed, OutFailed, NoMemory};
 ghost use Rattle.dialog_tool.specs.Playing.{status_of_end, AtStory, IfStory, WhereTyped, run_of, IsNoStory, IsPlayed, StoryInputFailed, StoryOutFailed};
 
 use crate::command::{Command, command_of};
@@ -34,20 +34,11 @@ fn status_of(ending: Ending) -> u8
     }
 }
 
-fn limits_of(steps: u64) -> Limits
-    ensures { result ≡ limits_of steps }
-{
-    Limits {
-        steps,
-        ..Limits::debug()
-    }
-}
-
 // Runs a program.
 fn run_program<S: Source, K: Sink>(
     alloc: Global,
     program: &CoreProgram,
-    steps: u64,
+    limits: Limits,
     input: &mut S,
     dice: &[u16],
     out: &mut K,
@@ -55,14 +46,14 @@ fn run_program<S: Source, K: Sink>(
     requires dice { 0 < length dice.now }
     requires built { IsBuilt program.now }
     ensures statuses { (result ≡ 0) ⊎ ((result ≡ 3) ⊎ ((result ≡ 5) ⊎ (result ≡ 6))) }
-    ensures ran { (result ≡ 0) ⊎ (result ≡ 3) → Shown result program.now steps (S.left input.old) (S.left input.new) dice.now (view (K.taken out.old) (K.room out.old) (K.faults out.old)) (view (K.taken out.new) (K.room out.new) (K.faults out.new)) }
-    ensures memory { result ≡ 6 → LostMemory program.now steps (S.left input.old) dice.now (view (K.taken out.old) (K.room out.old) (K.faults out.old)) (view (K.taken out.new) (K.room out.new) (K.faults out.new)) }
+    ensures ran { (result ≡ 0) ⊎ (result ≡ 3) → Shown result program.now limits (S.left input.old) (S.left input.new) dice.now (view (K.taken out.old) (K.room out.old) (K.faults out.old)) (view (K.taken out.new) (K.room out.new) (K.faults out.new)) }
+    ensures memory { result ≡ 6 → LostMemory program.now limits (S.left input.old) dice.now (view (K.taken out.old) (K.room out.old) (K.faults out.old)) (view (K.taken out.new) (K.room out.new) (K.faults out.new)) }
     ensures fault { result ≡ 5 →
-        LostInput program.now steps (S.faults input.old) (S.faults input.new) (S.left input.old) (S.left input.new) dice.now (view (K.taken out.old) (K.room out.old) (K.faults out.old)) (view (K.taken out.new) (K.room out.new) (K.faults out.new))
-        ⊎ LostOutput program.now steps (S.left input.old) dice.now (view (K.taken out.old) (K.room out.old) (K.faults out.old)) (view (K.taken out.new) (K.room out.new) (K.faults out.new)) }
+        LostInput program.now limits (S.faults input.old) (S.faults input.new) (S.left input.old) (S.left input.new) dice.now (view (K.taken out.old) (K.room out.old) (K.faults out.old)) (view (K.taken out.new) (K.room out.new) (K.faults out.new))
+        ⊎ LostOutput program.now limits (S.left input.old) dice.now (view (K.taken out.old) (K.room out.old) (K.faults out.old)) (view (K.taken out.new) (K.room out.new) (K.faults out.new)) }
     ensures later { S.faults input.old ≤ S.faults input.new }
 {
-    match interpret(alloc, program, &limits_of(steps), input, dice, out) {
+    match interpret(alloc, program, &limits, input, dice, out) {
         Ok(outcome) => status_of(outcome.ending),
         Err(RunFault::Read) => FAULT,
         Err(RunFault::Write) => FAULT,
@@ -74,7 +65,7 @@ fn run_program<S: Source, K: Sink>(
 fn run_source<S: Source, K: Sink>(
     alloc: Global,
     name: &str,
-    steps: u64,
+    limits: Limits,
     source: &[u8],
     input: &mut S,
     dice: &[u16],
@@ -83,18 +74,18 @@ fn run_source<S: Source, K: Sink>(
     requires dice { 0 < length dice.now }
     requires short { length source.now ≤ 12000 }
     ensures statuses { (result ≡ 0) ⊎ ((result ≡ 1) ⊎ Comes 3 result) }
-    ensures refused { result ≡ 1 → IsRefused (view (K.taken out.old) (K.room out.old) (K.faults out.old)) (view (K.taken out.new) (K.room out.new) (K.faults out.new)) name.now steps source.now }
+    ensures refused { result ≡ 1 → IsRefused (view (K.taken out.old) (K.room out.old) (K.faults out.old)) (view (K.taken out.new) (K.room out.new) (K.faults out.new)) name.now limits source.now }
     ensures refuses { (r : _) → Compiles source.now (Err r) → Comes 1 result }
-    ensures ran { (result ≡ 0) ⊎ (result ≡ 3) → IsRun result (S.left input.old) (S.left input.new) dice.now (view (K.taken out.old) (K.room out.old) (K.faults out.old)) (view (K.taken out.new) (K.room out.new) (K.faults out.new)) name.now steps source.now }
+    ensures ran { (result ≡ 0) ⊎ (result ≡ 3) → IsRun result (S.left input.old) (S.left input.new) dice.now (view (K.taken out.old) (K.room out.old) (K.faults out.old)) (view (K.taken out.new) (K.room out.new) (K.faults out.new)) name.now limits source.now }
     ensures runs { (p : _) → Compiles source.now (Ok p) → (result ≡ 0) ⊎ Comes 3 result }
-    ensures memory { result ≡ 6 → SourceLostMemory (S.left input.old) dice.now (view (K.taken out.old) (K.room out.old) (K.faults out.old)) (view (K.taken out.new) (K.room out.new) (K.faults out.new)) name.now steps source.now }
+    ensures memory { result ≡ 6 → SourceLostMemory (S.left input.old) dice.now (view (K.taken out.old) (K.room out.old) (K.faults out.old)) (view (K.taken out.new) (K.room out.new) (K.faults out.new)) name.now limits source.now }
     ensures fault { result ≡ 5 →
-        SourceLostInput (S.faults input.old) (S.faults input.new) (S.left input.old) (S.left input.new) dice.now (view (K.taken out.old) (K.room out.old) (K.faults out.old)) (view (K.taken out.new) (K.room out.new) (K.faults out.new)) name.now steps source.now
-        ⊎ SourceLostOutput (S.left input.old) dice.now (view (K.taken out.old) (K.room out.old) (K.faults out.old)) (view (K.taken out.new) (K.room out.new) (K.faults out.new)) name.now steps source.now }
+        SourceLostInput (S.faults input.old) (S.faults input.new) (S.left input.old) (S.left input.new) dice.now (view (K.taken out.old) (K.room out.old) (K.faults out.old)) (view (K.taken out.new) (K.room out.new) (K.faults out.new)) name.now limits source.now
+        ⊎ SourceLostOutput (S.left input.old) dice.now (view (K.taken out.old) (K.room out.old) (K.faults out.old)) (view (K.taken out.new) (K.room out.new) (K.faults out.new)) name.now limits source.now }
     ensures later { S.faults input.old ≤ S.faults input.new }
 {
     match compile(alloc, source) {
-        Ok(program) => run_program(alloc, &program, steps, input, dice, out),
+        Ok(program) => run_program(alloc, &program, limits, input, dice, out),
         Err(ReadFault::Refused(refusal)) => refuse(alloc, name, &refusal, out),
         Err(ReadFault::OutOfMemory) => no_memory(out),
     }
@@ -104,7 +95,7 @@ fn run_source<S: Source, K: Sink>(
 fn debug<F: Shelf, S: Source, K: Sink>(
     alloc: Global,
     name: &str,
-    steps: u64,
+    limits: Limits,
     shelf: &mut F,
     input: &mut S,
     dice: &[u16],
@@ -112,19 +103,19 @@ fn debug<F: Shelf, S: Source, K: Sink>(
 ) -> u8
     requires { 0 < length dice.now }
     ensures statuses { (result ≡ 0) ⊎ ((result ≡ 1) ⊎ Comes 3 result) }
-    ensures refused { result ≡ 1 → AtSource (Some (debug_command name.now steps)) (F.contents shelf.old) (IsRefused (view (K.taken out.old) (K.room out.old) (K.faults out.old)) (view (K.taken out.new) (K.room out.new) (K.faults out.new))) }
-    ensures refuses { IfSource (Some (debug_command name.now steps)) (F.contents shelf.old) (λ name steps source. (r : _) → Compiles source (Err r) → Comes 1 result) }
-    ensures ran { (result ≡ 0) ⊎ (result ≡ 3) → AtSource (Some (debug_command name.now steps)) (F.contents shelf.old) (IsRun result (S.left input.old) (S.left input.new) dice.now (view (K.taken out.old) (K.room out.old) (K.faults out.old)) (view (K.taken out.new) (K.room out.new) (K.faults out.new))) }
-    ensures runs { IfSource (Some (debug_command name.now steps)) (F.contents shelf.old) (λ name steps source. (p : _) → Compiles source (Ok p) → (result ≡ 0) ⊎ Comes 3 result) }
-    ensures memory { result ≡ 6 → NoMemory (Some (debug_command name.now steps)) (F.contents shelf.old) (S.left input.old) dice.now (view (K.taken out.old) (K.room out.old) (K.faults out.old)) (view (K.taken out.new) (K.room out.new) (K.faults out.new)) }
+    ensures refused { result ≡ 1 → AtSource (Some (debug_command name.now limits)) (F.contents shelf.old) (IsRefused (view (K.taken out.old) (K.room out.old) (K.faults out.old)) (view (K.taken out.new) (K.room out.new) (K.faults out.new))) }
+    ensures refuses { IfSource (Some (debug_command name.now limits)) (F.contents shelf.old) (λ name limits source. (r : _) → Compiles source (Err r) → Comes 1 result) }
+    ensures ran { (result ≡ 0) ⊎ (result ≡ 3) → AtSource (Some (debug_command name.now limits)) (F.contents shelf.old) (IsRun result (S.left input.old) (S.left input.new) dice.now (view (K.taken out.old) (K.room out.old) (K.faults out.old)) (view (K.taken out.new) (K.room out.new) (K.faults out.new))) }
+    ensures runs { IfSource (Some (debug_command name.now limits)) (F.contents shelf.old) (λ name limits source. (p : _) → Compiles source (Ok p) → (result ≡ 0) ⊎ Comes 3 result) }
+    ensures memory { result ≡ 6 → NoMemory (Some (debug_command name.now limits)) (F.contents shelf.old) (S.left input.old) dice.now (view (K.taken out.old) (K.room out.old) (K.faults out.old)) (view (K.taken out.new) (K.room out.new) (K.faults out.new)) }
     ensures fault { result ≡ 5 →
-        ShelfFailed (Some (debug_command name.now steps)) (F.contents shelf.old) (F.sure shelf.old) (F.faults shelf.old) (F.faults shelf.new) (view (K.taken out.old) (K.room out.old) (K.faults out.old)) (view (K.taken out.new) (K.room out.new) (K.faults out.new))
-        ⊎ (InputFailed (Some (debug_command name.now steps)) (F.contents shelf.old) (S.faults input.old) (S.faults input.new) (S.left input.old) (S.left input.new) dice.now (view (K.taken out.old) (K.room out.old) (K.faults out.old)) (view (K.taken out.new) (K.room out.new) (K.faults out.new))
-        ⊎ OutFailed (Some (debug_command name.now steps)) (F.contents shelf.old) (S.left input.old) dice.now (view (K.taken out.old) (K.room out.old) (K.faults out.old)) (view (K.taken out.new) (K.room out.new) (K.faults out.new))) }
+        ShelfFailed (Some (debug_command name.now limits)) (F.contents shelf.old) (F.sure shelf.old) (F.faults shelf.old) (F.faults shelf.new) (view (K.taken out.old) (K.room out.old) (K.faults out.old)) (view (K.taken out.new) (K.room out.new) (K.faults out.new))
+        ⊎ (InputFailed (Some (debug_command name.now limits)) (F.contents shelf.old) (S.faults input.old) (S.faults input.new) (S.left input.old) (S.left input.new) dice.now (view (K.taken out.old) (K.room out.old) (K.faults out.old)) (view (K.taken out.new) (K.room out.new) (K.faults out.new))
+        ⊎ OutFailed (Some (debug_command name.now limits)) (F.contents shelf.old) (S.left input.old) dice.now (view (K.taken out.old) (K.room out.old) (K.faults out.old)) (view (K.taken out.new) (K.room out.new) (K.faults out.new))) }
     ensures kept { KeepsAll (F.contents shelf.old) (F.contents shelf.new) }
 {
     match shelf.fetch(alloc, name, 12_000) {
-        Ok(source) => run_source(alloc, name, steps, &source, input, dice, out),
+        Ok(source) => run_source(alloc, name, limits, &source, input, dice, out),
         Err(ShelfFault::TooLong) => refuse(alloc, name, &too_long(), out),
         Err(ShelfFault::Failed) => file_fault(name, out),
         Err(ShelfFault::OutOfMemory) => no_memory(out),
@@ -160,11 +151,11 @@ pub fn tool<F: Shelf, S: Source, K: Sink>(
 
     // 1 comes exactly where the source is refused; 0 and 3 where it is a program.
     ensures refused { result ≡ 1 → AtSource (command_of (texts words.now)) (F.contents shelf.old) (IsRefused (view (K.taken out.old) (K.room out.old) (K.faults out.old)) (view (K.taken out.new) (K.room out.new) (K.faults out.new))) }
-    ensures refuses { IfSource (command_of (texts words.now)) (F.contents shelf.old) (λ name steps source. (r : _) → Compiles source (Err r) → Comes 1 result) }
+    ensures refuses { IfSource (command_of (texts words.now)) (F.contents shelf.old) (λ name limits source. (r : _) → Compiles source (Err r) → Comes 1 result) }
     ensures ran { (result ≡ 0) ⊎ (result ≡ 3) →
         AtSource (command_of (texts words.now)) (F.contents shelf.old) (IsRun result (S.left input.old) (S.left input.new) dice.now (view (K.taken out.old) (K.room out.old) (K.faults out.old)) (view (K.taken out.new) (K.room out.new) (K.faults out.new)))
         ⊎ AtStory (command_of (texts words.now)) (F.contents shelf.old) dice.now (IsPlayed result (S.left input.old) (S.left input.new) (view (K.taken out.old) (K.room out.old) (K.faults out.old)) (view (K.taken out.new) (K.room out.new) (K.faults out.new))) }
-    ensures runs { IfSource (command_of (texts words.now)) (F.contents shelf.old) (λ name steps source. (p : _) → Compiles source (Ok p) → (result ≡ 0) ⊎ Comes 3 result) }
+    ensures runs { IfSource (command_of (texts words.now)) (F.contents shelf.old) (λ name limits source. (p : _) → Compiles source (Ok p) → (result ≡ 0) ⊎ Comes 3 result) }
 
     // 4 comes exactly where the file is no story and where its run breaks; 0 and 3 where the run ends so.
     ensures story { result ≡ 4 → AtStory (command_of (texts words.now)) (F.contents shelf.old) dice.now (λ p. IsNoStory (view (K.taken out.old) (K.room out.old) (K.faults out.old)) (view (K.taken out.new) (K.room out.new) (K.faults out.new)) p ⊎ IsPlayed 4 (S.left input.old) (S.left input.new) (view (K.taken out.old) (K.room out.old) (K.faults out.old)) (view (K.taken out.new) (K.room out.new) (K.faults out.new)) p) }
@@ -181,8 +172,8 @@ pub fn tool<F: Shelf, S: Source, K: Sink>(
     ensures kept { KeepsAll (F.contents shelf.old) (F.contents shelf.new) }
 {
     match command_of(alloc, words) {
-        Ok(Some(Command::Debug { name, steps })) => {
-            debug(alloc, name, steps, shelf, input, dice, out)
+        Ok(Some(Command::Debug { name, limits })) => {
+            debug(alloc, name, limits, shelf, input, dice, out)
         }
         Ok(Some(Command::Play { name, steps, own })) => {
             play(alloc, name, steps, thrown(&own, dice), shelf, input, out)

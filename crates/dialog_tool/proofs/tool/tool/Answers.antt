@@ -15,10 +15,10 @@ returns-in-Ok-Some-Play-clause-fault g c = λ is.
     story_fails (command_of (texts c.args.words.now)) (g.F.Shelf.contents c.args.shelf.now) _ _ _ _ _ (g.S.Source.left c.args.input.now) _ c.args.dice.now _ _ _ _ (option_map (λ d. d.items) c.in-Ok-Some-Play.own) command (fails is)
 
 pub returns-in-Err-clause-refuses : goal.returns-in-Err-clause-refuses
-returns-in-Err-clause-refuses g c = late_source (command_of (texts c.args.words.now)) (g.F.Shelf.contents c.args.shelf.now) (λ name steps source. (r : _) → Compiles source (Err r) → Comes 1 c.no_memory.result) (λ name steps source r refused. inr c.no_memory.ensures.statuses)
+returns-in-Err-clause-refuses g c = late_source (command_of (texts c.args.words.now)) (g.F.Shelf.contents c.args.shelf.now) (λ name limits source. (r : _) → Compiles source (Err r) → Comes 1 c.no_memory.result) (λ name limits source r refused. inr c.no_memory.ensures.statuses)
 
 pub returns-in-Err-clause-runs : goal.returns-in-Err-clause-runs
-returns-in-Err-clause-runs g c = late_source (command_of (texts c.args.words.now)) (g.F.Shelf.contents c.args.shelf.now) (λ name steps source. (p : _) → Compiles source (Ok p) → (c.no_memory.result ≡ 0) ⊎ Comes 3 c.no_memory.result) (λ name steps source p accepted. inr (inr c.no_memory.ensures.statuses))
+returns-in-Err-clause-runs g c = late_source (command_of (texts c.args.words.now)) (g.F.Shelf.contents c.args.shelf.now) (λ name limits source. (p : _) → Compiles source (Ok p) → (c.no_memory.result ≡ 0) ⊎ Comes 3 c.no_memory.result) (λ name limits source p accepted. inr (inr c.no_memory.ensures.statuses))
 
 pub returns-in-Err-clause-no_story : goal.returns-in-Err-clause-no_story
 returns-in-Err-clause-no_story g c = late_story (command_of (texts c.args.words.now)) (g.F.Shelf.contents c.args.shelf.now) c.args.dice.now (λ p. (refusal : _) → refusal_of p.file ≡ Some refusal → Comes 4 c.no_memory.result) (λ p refusal refused. inr c.no_memory.ensures.statuses)
