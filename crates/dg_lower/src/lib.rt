@@ -2,5 +2,9 @@
 #![tactic(auto)]
 
 mod forms;
+mod goals;
+mod scope;
+mod terms;
+mod variables;
 
 pub use forms::{are_built, first_unbuilt};
