@@ -3,8 +3,10 @@
 
 mod forms;
 mod goals;
+mod program;
 mod scope;
 mod terms;
 mod variables;
 
 pub use forms::{are_built, first_unbuilt};
+pub use program::lower;
