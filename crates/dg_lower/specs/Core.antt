@@ -45,6 +45,7 @@ pred_of names items name = record { name = name; from_source = true; rules = fla
 
 -- ---- the program
 
+-- The name of the entry.
 abbrev pub entry_name : List ℕ
 entry_name = codes "(program entry point)"
 

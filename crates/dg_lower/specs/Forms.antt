@@ -6,10 +6,10 @@ use Rattle.dg_base.specs.Names.{keywords, prelude_names, name_among, builtin_nam
 use Rattle.dg_base.specs.Tree.{Parts, no_parts, part, part_word, part_value, Value, num, dict_word, object_name, current_topic, anonymous, variable, plain_list, tailed_list, closure, nested, word_choice, Values, no_values, value, Stmt, text, print, ask, ask_all, ask_not, group, not_group, choice, choice_else, first_answer, Stmts, no_stmts, stmt, Body, no_branches, branch, Arms, no_arms, arm, Said, topic, rule, deny, Item}
 use Rattle.dg_base.specs.declared.names.Builtin.{Builtin}
 use Rattle.dg_base.specs.declared.names.Builtin.TheVariants as built_in
-use Rattle.dg_lower.specs.declared.forms.Site.{Site}
-use Rattle.dg_lower.specs.declared.forms.Site.TheVariants.{Head, Body as InBody, Rewritten}
+use Rattle.dg_lower.specs.declared.forms.Zone.{Zone}
+use Rattle.dg_lower.specs.declared.forms.Zone.TheVariants.{Head, Body as InBody, Rewritten}
 
--- A built-in query that is built: an equation, a test of a value, or one that steers the search.
+-- A built-in query that can be lowered: an equation, a test of a value, or one that steers the search.
 abbrev pub is_built_in : Builtin → Bool
 is_built_in built_in.Equal = true
 is_built_in (built_in.Test kind) = true
@@ -33,80 +33,86 @@ abbrev pub is_headed : List ℕ → Bool
 is_headed name = not (name_among name keywords) && not (is_some (builtin_named name))
 
 -- A source has the topic and unnamed variables, and a rewritten tree hasn't.
-abbrev pub is_source : Site → Bool
+abbrev pub is_source : Zone → Bool
 is_source Rewritten = false
-is_source site = true
+is_source zone = true
 
 -- The heads of a source alone have queries and choices of words as values.
-abbrev pub is_head : Site → Bool
+abbrev pub is_head : Zone → Bool
 is_head Head = true
-is_head site = false
+is_head zone = false
 
 -- A rewritten tree alone asks a body for its first answer.
-abbrev pub is_rewritten : Site → Bool
+abbrev pub is_rewritten : Zone → Bool
 is_rewritten Rewritten = true
-is_rewritten site = false
+is_rewritten zone = false
 
 abbrev mutual
   -- Each value in these parts is built.
-  pub are_parts : Site → Parts → Bool
-  are_parts site no_parts = true
-  are_parts site (part (part_word w) ps) = are_parts site ps
-  are_parts site (part (part_value v) ps) = is_value site v && are_parts site ps
+  pub are_parts : Zone → Parts → Bool
+  are_parts zone no_parts = true
+  are_parts zone (part (part_word w) ps) = are_parts zone ps
+  are_parts zone (part (part_value v) ps) = is_value zone v && are_parts zone ps
 
-  pub is_value : Site → Value → Bool
-  is_value site (num n) = true
-  is_value site (dict_word w) = true
-  is_value site (object_name n) = true
-  is_value site current_topic = is_source site
-  is_value site anonymous = is_source site
-  is_value site (variable n) = true
-  is_value site (plain_list vs) = are_values site vs
-  is_value site (tailed_list vs v) = are_values site vs && is_value site v
-  is_value site (closure b) = false
-  is_value site (nested ps) = is_head site && (is_asked (name_of ps) (builtin_named (name_of ps)) && are_parts site ps)
-  is_value site (word_choice ws) = is_head site
+  -- A value that is built.
+  pub is_value : Zone → Value → Bool
+  is_value zone (num n) = true
+  is_value zone (dict_word w) = true
+  is_value zone (object_name n) = true
+  is_value zone current_topic = is_source zone
+  is_value zone anonymous = is_source zone
+  is_value zone (variable n) = true
+  is_value zone (plain_list vs) = are_values zone vs
+  is_value zone (tailed_list vs v) = are_values zone vs && is_value zone v
+  is_value zone (closure b) = false
+  is_value zone (nested ps) = is_head zone && (is_asked (name_of ps) (builtin_named (name_of ps)) && are_parts zone ps)
+  is_value zone (word_choice ws) = is_head zone
 
-  pub are_values : Site → Values → Bool
-  are_values site no_values = true
-  are_values site (value v vs) = is_value site v && are_values site vs
+  -- Values that are each built.
+  pub are_values : Zone → Values → Bool
+  are_values zone no_values = true
+  are_values zone (value v vs) = is_value zone v && are_values zone vs
 
 -- A query that is built.
-abbrev pub is_query : Site → Parts → Bool
-is_query site ps = is_asked (name_of ps) (builtin_named (name_of ps)) && are_parts site ps
+abbrev pub is_query : Zone → Parts → Bool
+is_query zone ps = is_asked (name_of ps) (builtin_named (name_of ps)) && are_parts zone ps
 
 abbrev mutual
-  pub is_stmt : Site → Stmt → Bool
-  is_stmt site (text w) = true
-  is_stmt site (print v) = is_value site v
-  is_stmt site (ask ps) = is_query site ps
-  is_stmt site (ask_all ps) = is_query site ps
-  is_stmt site (ask_not ps) = is_query site ps
-  is_stmt site (group b) = is_body site b
-  is_stmt site (not_group b) = is_body site b
-  is_stmt site (choice arms) = are_arms site arms
-  is_stmt site (choice_else arms b) = are_arms site arms && is_body site b
-  is_stmt site (first_answer b) = is_rewritten site && is_body site b
-  is_stmt site s = false
+  -- A statement that is built.
+  pub is_stmt : Zone → Stmt → Bool
+  is_stmt zone (text w) = true
+  is_stmt zone (print v) = is_value zone v
+  is_stmt zone (ask ps) = is_query zone ps
+  is_stmt zone (ask_all ps) = is_query zone ps
+  is_stmt zone (ask_not ps) = is_query zone ps
+  is_stmt zone (group b) = is_body zone b
+  is_stmt zone (not_group b) = is_body zone b
+  is_stmt zone (choice arms) = are_arms zone arms
+  is_stmt zone (choice_else arms b) = are_arms zone arms && is_body zone b
+  is_stmt zone (first_answer b) = is_rewritten zone && is_body zone b
+  is_stmt zone s = false
 
-  pub are_stmts : Site → Stmts → Bool
-  are_stmts site no_stmts = true
-  are_stmts site (stmt s ss) = is_stmt site s && are_stmts site ss
+  -- Statements that are each built.
+  pub are_stmts : Zone → Stmts → Bool
+  are_stmts zone no_stmts = true
+  are_stmts zone (stmt s ss) = is_stmt zone s && are_stmts zone ss
 
-  pub is_body : Site → Body → Bool
-  is_body site no_branches = true
-  is_body site (branch ss b) = are_stmts site ss && is_body site b
+  -- A body whose branches are each built.
+  pub is_body : Zone → Body → Bool
+  is_body zone no_branches = true
+  is_body zone (branch ss b) = are_stmts zone ss && is_body zone b
 
-  pub are_arms : Site → Arms → Bool
-  are_arms site no_arms = true
-  are_arms site (arm c b arms) = is_body site c && (is_body site b && are_arms site arms)
+  -- Conditions that are each built, with the body that follows.
+  pub are_arms : Zone → Arms → Bool
+  are_arms zone no_arms = true
+  are_arms zone (arm c b arms) = is_body zone c && (is_body zone b && are_arms zone arms)
 
--- A rule is built, its head standing in the first place and its body in the second.
-abbrev pub is_rule : Site → Site → Parts → Body → Bool
+-- A rule is built, its head standing in the first zone and its body in the second.
+abbrev pub is_rule : Zone → Zone → Parts → Body → Bool
 is_rule front behind ps b = is_headed (name_of ps) && (are_parts front ps && is_body behind b)
 
 -- A topic, a rule or a negated rule that is built.
-abbrev pub is_item : Site → Site → Said → Bool
+abbrev pub is_item : Zone → Zone → Said → Bool
 is_item front behind (topic n) = true
 is_item front behind (rule ps b) = is_rule front behind ps b
 is_item front behind (deny ps b) = is_rule front behind ps b

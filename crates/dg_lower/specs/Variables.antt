@@ -11,6 +11,7 @@ abbrev mutual
   in_value (tailed_list vs v) = in_values vs ++ in_value v
   in_value v = []
 
+  -- The variables of values.
   pub in_values : Values → List (List ℕ)
   in_values no_values = []
   in_values (value v vs) = in_value v ++ in_values vs
@@ -35,14 +36,17 @@ abbrev mutual
   in_stmt (first_answer b) = in_body b
   in_stmt s = []
 
+  -- The variables of statements.
   pub in_stmts : Stmts → List (List ℕ)
   in_stmts no_stmts = []
   in_stmts (stmt s ss) = in_stmt s ++ in_stmts ss
 
+  -- The variables of a body.
   pub in_body : Body → List (List ℕ)
   in_body no_branches = []
   in_body (branch ss b) = in_stmts ss ++ in_body b
 
+  -- The variables of conditions and of what follows them.
   pub in_arms : Arms → List (List ℕ)
   in_arms no_arms = []
   in_arms (arm c b arms) = in_body c ++ (in_body b ++ in_arms arms)

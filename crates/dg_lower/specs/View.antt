@@ -35,5 +35,6 @@ with_rule name rule pred = record pred { rules = pred.rules ++ (if bytes_eq name
 abbrev pub with_all : Named → List Item → Pred → Pred
 with_all names items pred = record pred { rules = pred.rules ++ flat_map (λ (i : Item). rules_in names pred.name i.said) items }
 
+-- The names of predicates.
 abbrev pub pred_names : List Pred → List (List ℕ)
 pred_names preds = map (λ (p : Pred). p.name) preds

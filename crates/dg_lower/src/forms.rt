@@ -15,28 +15,28 @@ use std::alloc::{AllocError, Global};
 
 /// Where a form stands: in the head of a source's rule, in its body, or in a rewritten tree.
 #[derive(Clone, Copy)]
-pub enum Site {
+pub enum Zone {
     Head,
     Body,
     Rewritten,
 }
 
-fn is_source(site: Site) -> bool
-    ensures { result ≡ spec.is_source site }
+fn is_source(zone: Zone) -> bool
+    ensures { result ≡ spec.is_source zone }
 {
-    !matches!(site, Site::Rewritten)
+    !matches!(zone, Zone::Rewritten)
 }
 
-fn is_head(site: Site) -> bool
-    ensures { result ≡ spec.is_head site }
+fn is_head(zone: Zone) -> bool
+    ensures { result ≡ spec.is_head zone }
 {
-    matches!(site, Site::Head)
+    matches!(zone, Zone::Head)
 }
 
-fn is_rewritten(site: Site) -> bool
-    ensures { result ≡ spec.is_rewritten site }
+fn is_rewritten(zone: Zone) -> bool
+    ensures { result ≡ spec.is_rewritten zone }
 {
-    matches!(site, Site::Rewritten)
+    matches!(zone, Zone::Rewritten)
 }
 
 fn is_built_in(builtin: Builtin) -> bool
@@ -75,31 +75,31 @@ fn is_headed(alloc: Global, head: &Head) -> Result<bool, AllocError>
 }
 
 #[cycle(values)]
-fn is_value(alloc: Global, site: Site, value: &Value) -> Result<bool, AllocError>
-    ensures { IfOk result (λ built. built ≡ spec.is_value site (value_view value.now)) }
+fn is_value(alloc: Global, zone: Zone, value: &Value) -> Result<bool, AllocError>
+    ensures { IfOk result (λ built. built ≡ spec.is_value zone (value_view value.now)) }
 {
     match value {
         Value::Num(_) | Value::Word(_) | Value::Object(_) | Value::Var(_) => Ok(true),
-        Value::Topic | Value::Any => Ok(is_source(site)),
-        Value::List(values, None) => are_values(alloc, site, values.as_slice()),
+        Value::Topic | Value::Any => Ok(is_source(zone)),
+        Value::List(values, None) => are_values(alloc, zone, values.as_slice()),
         Value::List(values, Some(tail)) => {
-            if !are_values(alloc, site, values.as_slice())? {
+            if !are_values(alloc, zone, values.as_slice())? {
                 return Ok(false);
             }
-            is_value(alloc, site, tail.get())
+            is_value(alloc, zone, tail.get())
         }
         Value::Closure(_) => Ok(false),
-        Value::Query(head) => is_nested(alloc, site, head),
-        Value::Words(_) => Ok(is_head(site)),
+        Value::Query(head) => is_nested(alloc, zone, head),
+        Value::Words(_) => Ok(is_head(zone)),
     }
 }
 
 #[cycle(values)]
-fn are_values(alloc: Global, site: Site, values: &[Value]) -> Result<bool, AllocError>
-    ensures { IfOk result (λ built. built ≡ spec.are_values site (values_of (map value_view values.now))) }
+fn are_values(alloc: Global, zone: Zone, values: &[Value]) -> Result<bool, AllocError>
+    ensures { IfOk result (λ built. built ≡ spec.are_values zone (values_of (map value_view values.now))) }
 {
     for value in values {
-        if !is_value(alloc, site, value)? {
+        if !is_value(alloc, zone, value)? {
             return Ok(false);
         }
     }
@@ -107,12 +107,12 @@ fn are_values(alloc: Global, site: Site, values: &[Value]) -> Result<bool, Alloc
 }
 
 #[cycle(values)]
-fn are_parts(alloc: Global, site: Site, parts: &[Part]) -> Result<bool, AllocError>
-    ensures { IfOk result (λ built. built ≡ spec.are_parts site (parts_of (map part_view parts.now))) }
+fn are_parts(alloc: Global, zone: Zone, parts: &[Part]) -> Result<bool, AllocError>
+    ensures { IfOk result (λ built. built ≡ spec.are_parts zone (parts_of (map part_view parts.now))) }
 {
     for part in parts {
         if let Part::Value(value) = part {
-            if !is_value(alloc, site, value)? {
+            if !is_value(alloc, zone, value)? {
                 return Ok(false);
             }
         }
@@ -121,45 +121,45 @@ fn are_parts(alloc: Global, site: Site, parts: &[Part]) -> Result<bool, AllocErr
 }
 
 #[cycle(values)]
-fn is_nested(alloc: Global, site: Site, head: &Head) -> Result<bool, AllocError>
-    ensures { IfOk result (λ built. built ≡ spec.is_value site (tree.nested (head_view head.now))) }
+fn is_nested(alloc: Global, zone: Zone, head: &Head) -> Result<bool, AllocError>
+    ensures { IfOk result (λ built. built ≡ spec.is_value zone (tree.nested (head_view head.now))) }
 {
-    if !is_head(site) || !is_asked(alloc, head)? {
+    if !is_head(zone) || !is_asked(alloc, head)? {
         return Ok(false);
     }
-    are_parts(alloc, site, head.parts.as_slice())
+    are_parts(alloc, zone, head.parts.as_slice())
 }
 
-fn is_query(alloc: Global, site: Site, head: &Head) -> Result<bool, AllocError>
-    ensures { IfOk result (λ built. built ≡ spec.is_query site (head_view head.now)) }
+fn is_query(alloc: Global, zone: Zone, head: &Head) -> Result<bool, AllocError>
+    ensures { IfOk result (λ built. built ≡ spec.is_query zone (head_view head.now)) }
 {
     if !is_asked(alloc, head)? {
         return Ok(false);
     }
-    are_parts(alloc, site, head.parts.as_slice())
+    are_parts(alloc, zone, head.parts.as_slice())
 }
 
 #[cycle(statements)]
-fn is_stmt(alloc: Global, site: Site, stmt: &Stmt) -> Result<bool, AllocError>
-    ensures { IfOk result (λ built. built ≡ spec.is_stmt site (stmt_view stmt.now)) }
+fn is_stmt(alloc: Global, zone: Zone, stmt: &Stmt) -> Result<bool, AllocError>
+    ensures { IfOk result (λ built. built ≡ spec.is_stmt zone (stmt_view stmt.now)) }
 {
     match stmt {
         Stmt::Text(_) => Ok(true),
-        Stmt::Print(value) => is_value(alloc, site, value),
-        Stmt::Ask(head) | Stmt::AskAll(head) | Stmt::AskNot(head) => is_query(alloc, site, head),
-        Stmt::Group(body) | Stmt::NotGroup(body) => is_body(alloc, site, body),
-        Stmt::If(arms, None) => are_arms(alloc, site, arms.as_slice()),
+        Stmt::Print(value) => is_value(alloc, zone, value),
+        Stmt::Ask(head) | Stmt::AskAll(head) | Stmt::AskNot(head) => is_query(alloc, zone, head),
+        Stmt::Group(body) | Stmt::NotGroup(body) => is_body(alloc, zone, body),
+        Stmt::If(arms, None) => are_arms(alloc, zone, arms.as_slice()),
         Stmt::If(arms, Some(body)) => {
-            if !are_arms(alloc, site, arms.as_slice())? {
+            if !are_arms(alloc, zone, arms.as_slice())? {
                 return Ok(false);
             }
-            is_body(alloc, site, body)
+            is_body(alloc, zone, body)
         }
         Stmt::First(body) => {
-            if !is_rewritten(site) {
+            if !is_rewritten(zone) {
                 return Ok(false);
             }
-            is_body(alloc, site, body)
+            is_body(alloc, zone, body)
         }
         Stmt::Now(_) | Stmt::Exhaust(_) | Stmt::Stoppable(_) => Ok(false),
         Stmt::Collect(_, _, _) | Stmt::Accumulate(_, _, _) | Stmt::Select(_, _) => Ok(false),
@@ -167,11 +167,11 @@ fn is_stmt(alloc: Global, site: Site, stmt: &Stmt) -> Result<bool, AllocError>
 }
 
 #[cycle(statements)]
-fn are_stmts(alloc: Global, site: Site, stmts: &[Stmt]) -> Result<bool, AllocError>
-    ensures { IfOk result (λ built. built ≡ spec.are_stmts site (stmts_of (map stmt_view stmts.now))) }
+fn are_stmts(alloc: Global, zone: Zone, stmts: &[Stmt]) -> Result<bool, AllocError>
+    ensures { IfOk result (λ built. built ≡ spec.are_stmts zone (stmts_of (map stmt_view stmts.now))) }
 {
     for stmt in stmts {
-        if !is_stmt(alloc, site, stmt)? {
+        if !is_stmt(alloc, zone, stmt)? {
             return Ok(false);
         }
     }
@@ -179,11 +179,11 @@ fn are_stmts(alloc: Global, site: Site, stmts: &[Stmt]) -> Result<bool, AllocErr
 }
 
 #[cycle(statements)]
-fn is_body(alloc: Global, site: Site, body: &Body) -> Result<bool, AllocError>
-    ensures { IfOk result (λ built. built ≡ spec.is_body site (body_view body.now)) }
+fn is_body(alloc: Global, zone: Zone, body: &Body) -> Result<bool, AllocError>
+    ensures { IfOk result (λ built. built ≡ spec.is_body zone (body_view body.now)) }
 {
     for branch in body.branches.as_slice() {
-        if !are_stmts(alloc, site, branch.as_slice())? {
+        if !are_stmts(alloc, zone, branch.as_slice())? {
             return Ok(false);
         }
     }
@@ -191,11 +191,11 @@ fn is_body(alloc: Global, site: Site, body: &Body) -> Result<bool, AllocError>
 }
 
 #[cycle(statements)]
-fn are_arms(alloc: Global, site: Site, arms: &[Arm]) -> Result<bool, AllocError>
-    ensures { IfOk result (λ built. built ≡ spec.are_arms site (arms_of (map arm_view arms.now))) }
+fn are_arms(alloc: Global, zone: Zone, arms: &[Arm]) -> Result<bool, AllocError>
+    ensures { IfOk result (λ built. built ≡ spec.are_arms zone (arms_of (map arm_view arms.now))) }
 {
     for arm in arms {
-        if !is_body(alloc, site, &arm.condition)? || !is_body(alloc, site, &arm.body)? {
+        if !is_body(alloc, zone, &arm.condition)? || !is_body(alloc, zone, &arm.body)? {
             return Ok(false);
         }
     }
@@ -204,8 +204,8 @@ fn are_arms(alloc: Global, site: Site, arms: &[Arm]) -> Result<bool, AllocError>
 
 fn is_rule(
     alloc: Global,
-    front: Site,
-    behind: Site,
+    front: Zone,
+    behind: Zone,
     head: &Head,
     body: &Body,
 ) -> Result<bool, AllocError>
@@ -217,7 +217,7 @@ fn is_rule(
     is_body(alloc, behind, body)
 }
 
-fn is_item(alloc: Global, front: Site, behind: Site, said: &ItemBody) -> Result<bool, AllocError>
+fn is_item(alloc: Global, front: Zone, behind: Zone, said: &ItemBody) -> Result<bool, AllocError>
     ensures { IfOk result (λ built. built ≡ spec.is_item front behind (said_view said.now)) }
 {
     match said {
@@ -234,7 +234,7 @@ pub fn first_unbuilt(alloc: Global, tree: &Tree) -> Result<Option<u32>, AllocErr
     ensures { IfOk result (λ line. line ≡ spec.first_unbuilt (tree_view tree.now)) }
 {
     for item in tree.items.as_slice() {
-        if !is_item(alloc, Site::Head, Site::Body, &item.body)? {
+        if !is_item(alloc, Zone::Head, Zone::Body, &item.body)? {
             return Ok(Some(item.line));
         }
     }
@@ -246,7 +246,7 @@ pub fn are_built(alloc: Global, tree: &Tree) -> Result<bool, AllocError>
     ensures { IfOk result (λ built. built ≡ spec.are_built (tree_view tree.now)) }
 {
     for item in tree.items.as_slice() {
-        if !is_item(alloc, Site::Rewritten, Site::Rewritten, &item.body)? {
+        if !is_item(alloc, Zone::Rewritten, Zone::Rewritten, &item.body)? {
             return Ok(false);
         }
     }
