@@ -1,10 +1,10 @@
 -- A name tells how many values its heads have.
-use Rattle.std.proofs.Common.{◌≡◌, ◌<◌, ◌+◌, ◌||◌, ℕ, zero, suc, List, [], ◌∷◌, ◌++◌, Bool, true, false, length, get_or, nat_eq, lit<, refl, sym, ◌∙◌, ap, append_assoc, arith}
+use Rattle.std.proofs.Common.{◌≡◌, ◌<◌, ◌||◌, ℕ, zero, suc, List, [], ◌∷◌, ◌++◌, Bool, true, false, length, get_or, nat_eq, lit<, refl, sym, ◌∙◌, ap, append_assoc, arith}
 use Rattle.std.specs.Prelude.{if◌then◌else◌}
 use Rattle.std.specs.List.{list_any}
 use Rattle.std.proofs.lemmas.List.{length-map}
 use Rattle.dg_base.specs.Heads.{is_special, escaped, parts_behind, name_of}
-use Rattle.dg_base.specs.Tree.{Parts, no_parts, part, part_word, part_value, Value}
+use Rattle.dg_base.specs.Tree.{Parts, no_parts, part, part_word, part_value}
 use Rattle.dg_lower.specs.Goals.{Scope, term_of, terms_of, values_in}
 
 abbrev mutual

@@ -1,5 +1,5 @@
 -- Rules come to the predicates of their heads.
-use Rattle.std.proofs.Common.{◌≡◌, ◌<◌, ◌≤◌, ◌+◌, ℕ, zero, suc, List, [], ◌∷◌, ◌++◌, Bool, true, false, not, Option, Some, None, Vec, Global, length, map, get_or, nat_lt, position, refl, sym, ◌∙◌, ap, subst, arith, append_assoc, drop, drop-cons, add-one}
+use Rattle.std.proofs.Common.{◌≡◌, ◌<◌, ◌≤◌, ◌+◌, ℕ, zero, suc, List, [], ◌∷◌, ◌++◌, Bool, true, false, not, Some, None, Vec, Global, length, map, get_or, nat_lt, position, refl, sym, ◌∙◌, ap, subst, arith, append_assoc, drop, drop-cons, add-one}
 use Rattle.std.specs.Prelude.{if◌then◌else◌}
 use Rattle.std.specs.List.{IsDistinct, AllByRecursion, position_or_len, flat_map}
 use Rattle.std.specs.Str.{bytes_eq}

@@ -1,4 +1,4 @@
-use Rattle.std.proofs.Common.{ℕ, List, position, sym, ◌∙◌, ap, subst}
+use Rattle.std.proofs.Common.{position, sym, ◌∙◌, ap, subst}
 use Rattle.std.specs.List.{IsDistinct}
 use Rattle.std.specs.Str.{bytes_eq}
 use Rattle.dg_base.specs.Heads.{name_of}

@@ -1,4 +1,4 @@
-use Rattle.std.proofs.Common.{◌≡◌, ◌++◌, List, [], ℕ, Vec, Global, drop, map}
+use Rattle.std.proofs.Common.{◌≡◌, ◌++◌, [], ℕ, Vec, Global, drop, map}
 use Rattle.dg_names.specs.State.{names_view}
 use Rattle.dg_lower.specs.Core.{pred_of}
 use Rattle.dg_lower.proofs.program.bare_preds.Given as goal

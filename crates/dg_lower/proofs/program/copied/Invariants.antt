@@ -1,4 +1,4 @@
-use Rattle.std.proofs.Common.{◌≡◌, ◌++◌, List, ℕ, Vec, Global, drop, map}
+use Rattle.std.proofs.Common.{◌≡◌, ◌++◌, ℕ, Vec, Global, drop, map}
 use Rattle.dg_lower.proofs.program.copied.Given as goal
 
 abbrev pub invariant-loop-name : goal.invariant-loop-name

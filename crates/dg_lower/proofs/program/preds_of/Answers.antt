@@ -1,7 +1,6 @@
 use Rattle.std.proofs.Common.{◌+◌, List, drop, map, sym, ◌∙◌, ap}
 use Rattle.std.proofs.lemmas.List.{drop_all}
 use Rattle.dg_base.specs.TreeView.{item_view}
-use Rattle.dg_base.specs.declared.program.Pred.{Pred}
 use Rattle.dg_base.specs.declared.tree.Item.{Item}
 use Rattle.dg_names.specs.State.{listed, names_view}
 use Rattle.dg_lower.specs.View.{with_all, pred_names}

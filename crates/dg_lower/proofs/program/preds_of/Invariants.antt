@@ -1,6 +1,4 @@
 use Rattle.std.proofs.Common.{◌≡◌, drop, map}
-use Rattle.std.specs.List.{IsDistinct}
-use Rattle.std.specs.Str.{bytes_eq}
 use Rattle.dg_base.specs.TreeView.{item_view}
 use Rattle.dg_names.specs.State.{names_view}
 use Rattle.dg_lower.specs.Core.{pred_of}
