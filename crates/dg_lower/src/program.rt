@@ -174,7 +174,7 @@ fn without_starts(core: CoreProgram) -> CoreProgram
     core
 }
 
-// Whether an item gives the entry a rule.
+// Whether an item gives a rule to the predicate of this name.
 fn is_rule_for(alloc: Global, name: &[u8], said: &ItemBody) -> Result<bool, AllocError>
     ensures { IfOk result (λ gives. gives ≡ spec.is_rule_for name.now (said_view said.now)) }
 {
