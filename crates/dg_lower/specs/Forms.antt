@@ -32,11 +32,6 @@ is_asked name None = is_own name
 abbrev pub is_headed : List ℕ → Bool
 is_headed name = not (name_among name keywords) && not (is_some (builtin_named name))
 
--- A source has the topic and unnamed variables, and a rewritten tree hasn't.
-abbrev pub is_source : Zone → Bool
-is_source Rewritten = false
-is_source zone = true
-
 -- The heads of a source alone have queries and choices of words as values.
 abbrev pub is_head : Zone → Bool
 is_head Head = true
@@ -54,13 +49,13 @@ abbrev mutual
   are_parts zone (part (part_word w) ps) = are_parts zone ps
   are_parts zone (part (part_value v) ps) = is_value zone v && are_parts zone ps
 
-  -- A value that is built.
+  -- A value that is built. No topic and no unnamed variable is left in a rewritten tree of a source that was read.
   pub is_value : Zone → Value → Bool
   is_value zone (num n) = true
   is_value zone (dict_word w) = true
   is_value zone (object_name n) = true
-  is_value zone current_topic = is_source zone
-  is_value zone anonymous = is_source zone
+  is_value zone current_topic = true
+  is_value zone anonymous = true
   is_value zone (variable n) = true
   is_value zone (plain_list vs) = are_values zone vs
   is_value zone (tailed_list vs v) = are_values zone vs && is_value zone v

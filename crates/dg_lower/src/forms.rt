@@ -21,12 +21,6 @@ pub enum Zone {
     Rewritten,
 }
 
-fn is_source(zone: Zone) -> bool
-    ensures { result ≡ spec.is_source zone }
-{
-    !matches!(zone, Zone::Rewritten)
-}
-
 fn is_head(zone: Zone) -> bool
     ensures { result ≡ spec.is_head zone }
 {
@@ -80,7 +74,7 @@ fn is_value(alloc: Global, zone: Zone, value: &Value) -> Result<bool, AllocError
 {
     match value {
         Value::Num(_) | Value::Word(_) | Value::Object(_) | Value::Var(_) => Ok(true),
-        Value::Topic | Value::Any => Ok(is_source(zone)),
+        Value::Topic | Value::Any => Ok(true),
         Value::List(values, None) => are_values(alloc, zone, values.as_slice()),
         Value::List(values, Some(tail)) => {
             if !are_values(alloc, zone, values.as_slice())? {
