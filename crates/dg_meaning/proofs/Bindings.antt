@@ -1,5 +1,6 @@
 -- Bindings along a path are a substitution of variables that have been made.
-use Rattle.std.proofs.Common.{◌≡◌, ℕ, zero, suc, ◌+◌, ◌≤◌, List, [], ◌∷◌, ◌++◌, Bool, true, false, Option, Some, None, refl, sym, subst, arith, length, map}
+use Rattle.std.proofs.Common.{◌≡◌, ℕ, zero, suc, ◌+◌, ◌-◌, ◌≤◌, List, [], ◌∷◌, ◌++◌, Bool, true, false, Option, Some, None, refl, sym, ap, ◌∙◌, subst, arith, length, map, take, length-append}
+use Rattle.std.proofs.Math.Seq.{take-append_seam}
 use Rattle.std.specs.Prelude.{slice_get}
 use Rattle.std.specs.List.{zip}
 use Rattle.dg_base.specs.declared.program.Term.{Term, Pair', Row_of-Term, end_of-Term, more_of-Term, out-Term}
@@ -17,7 +18,7 @@ use Rattle.dg_meaning.specs.Unify.{Equations, Turn, Goes, Binds, Clashes, turn, 
 use Rattle.dg_meaning.specs.World.{Game, World, Asked, noted}
 use Rattle.dg_meaning.specs.Cells.{cells, writing}
 use Rattle.dg_meaning.specs.Path.{Step, Do, Answers, Cut, Refuse, Back, Keep, Leave, Registers, Path, Branch, Enter, Clash, TakeOut, Kind, Plain, Rules, Move, GoesOn, FailsAt, EndsAt, StopsAt, Chooses}
-use Rattle.dg_meaning.specs.Moves.{path_of, begun, goals_at, more_heap, inside, enter, enter_if, choice_cells, list_branches, first_alone, rule_steps, new_vars, vars_of, entered, match, matched, rule_branch, rule_branches, rules_of, choice, goes_on_if, unified, stop, outcome, behind_terms, move}
+use Rattle.dg_meaning.specs.Moves.{path_of, begun, goals_at, more_heap, inside, enter, enter_if, choice_cells, list_branches, first_alone, rule_steps, new_vars, vars_of, entered, match, matched, rule_branch, rule_branches, rules_of, choice, goes_on_if, unified, stop, outcome, behind_terms, move, made_since}
 use Rattle.dg_meaning.specs.Transcript.{start_path}
 use Rattle.dg_meaning.specs.Bindings.{top_of_values, top_of_steps, IsBound, BindsOn, IsBoundBehind, BranchBinds, BranchesBind, MoveBinds, BindsAlong}
 use Rattle.dg_meaning.proofs.Solving.{Fair, turn_fair, top_append, solve_ends, solve_extends}
@@ -49,6 +50,14 @@ turns_below n (suc k) S (e ∷ es) s hS hE =
 
 pub solve_below : (n : ℕ) (S : Substitution) (es : Equations) → IsSubstitution S → top_of_pairs S ≤ n → top_of_equations es ≤ n → top_of_pairs (solve S es).subst ≤ n
 solve_below n S es s hS hE = subst (BelowBy n) (solve_ends S es s) (turns_below n (enough S es) S es s hS hE)
+
+-- ## The bindings that were made
+
+made_front : (made S : Substitution) → made_since S (made ++ S) ≡ made
+made_front made S = let e : length (made ++ S) - length S ≡ length made = omega (arith, length-append made S) in ap (λ n. take n (made ++ S)) e ∙ take-append_seam made S
+
+pub made_is : (S S' : Substitution) (h : Extends S S') → made_since S S' ≡ h.made
+made_is S S' h = ap (made_since S) h.is ∙ made_front h.made S
 
 -- ## Terms hold no other variables than those around them
 

@@ -1,4 +1,4 @@
--- The tests of what a value is. Hold it against the chapter of the Dialog manual on built-in predicates, where it says what (number $), (list $) and their kin check.
+-- The tests of what a value is. Hold it against the chapter of the Dialog manual on values, where it says what (number $), (list $) and their kin ask for.
 use Rattle.std.specs.Prelude.{Bool, true, false, ◌&&◌}
 use Rattle.dg_base.specs.declared.program.TestKind.{TestKind}
 use Rattle.dg_base.specs.declared.program.TestKind.TheVariants as test

@@ -1,0 +1,4 @@
+pub mod UnitLemmas
+pub mod PredLemmas
+pub mod HeadLemmas
+pub mod AskLemmas

@@ -1,0 +1,5 @@
+pub mod Forms
+pub mod Variables
+pub mod Goals
+pub mod Core
+pub mod View

@@ -1,0 +1,212 @@
+// From statements to goals.
+ghost use Rattle.std.specs.Prelude.{◌≡◌, ◌++◌, ◌∷◌, [], false, map, OnOk, IfOk};
+ghost use Rattle.dg_base.specs.Heads.{name_of as head_name};
+ghost use Rattle.dg_base.specs.Tree.{parts_of, stmts_of, arms_of};
+ghost use Rattle.dg_base.specs.TreeView.{part_view, stmt_view, body_view, arm_view, head_view};
+ghost use Rattle.dg_lower.specs.Goals as spec;
+ghost use Rattle.dg_lower.specs.View.{scope_view, values_view};
+
+use crate::scope::Scope;
+use crate::terms::{number_in, term_of, terms_of};
+use dg_base::{
+    Arm, Body, Builtin, Goal, Head, Items, Part, Stmt, TestKind, Value, builtin_of, name_of,
+};
+use std::alloc::{AllocError, Global};
+
+// The values of a query.
+fn values_in<'a>(alloc: Global, parts: &'a [Part]) -> Result<Vec<&'a Value>, AllocError>
+    ensures { IfOk result (λ values. values_view values.items ≡ spec.values_in (parts_of (map part_view parts.now))) }
+{
+    let mut values = Vec::new(alloc);
+    for part in parts {
+        if let Part::Value(value) = part {
+            values.push(value)?;
+        }
+    }
+    Ok(values)
+}
+
+fn equation(alloc: Global, scope: &Scope<'_>, values: &[&Value]) -> Result<Goal, AllocError>
+    ensures { IfOk result (λ goal. goal ≡ spec.equation (scope_view scope.now) (values_view values.now)) }
+{
+    match values {
+        [left, right] => Ok(Goal::Equal(
+            term_of(alloc, scope, left)?,
+            term_of(alloc, scope, right)?,
+        )),
+        _ => Ok(Goal::Fail),
+    }
+}
+
+fn test(
+    alloc: Global,
+    scope: &Scope<'_>,
+    kind: TestKind,
+    values: &[&Value],
+) -> Result<Goal, AllocError>
+    ensures { IfOk result (λ goal. goal ≡ spec.built_in_goal (scope_view scope.now) (values_view values.now) (Builtin.Test kind)) }
+{
+    match values {
+        [value] => Ok(Goal::Test(kind, term_of(alloc, scope, value)?)),
+        _ => Ok(Goal::Fail),
+    }
+}
+
+fn built_in_goal(
+    alloc: Global,
+    scope: &Scope<'_>,
+    values: &[&Value],
+    builtin: Builtin,
+) -> Result<Goal, AllocError>
+    ensures { IfOk result (λ goal. goal ≡ spec.built_in_goal (scope_view scope.now) (values_view values.now) builtin) }
+{
+    match builtin {
+        Builtin::Equal => equation(alloc, scope, values),
+        Builtin::Test(kind) => test(alloc, scope, kind, values),
+        Builtin::Just => Ok(Goal::Just),
+        Builtin::Quit => Ok(Goal::Quit),
+        Builtin::RepeatForever => Ok(Goal::Forever),
+        _ => Ok(Goal::Fail),
+    }
+}
+
+// The goal of a query, which asks for many answers or for the first.
+fn asked(alloc: Global, scope: &Scope<'_>, head: &Head, many: bool) -> Result<Goal, AllocError>
+    ensures { IfOk result (λ goal. goal ≡ spec.asked (scope_view scope.now) (head_view head.now) many) }
+{
+    let name = name_of(alloc, head)?;
+    match builtin_of(name.as_slice()) {
+        Some(builtin) => {
+            let values = values_in(alloc, head.parts.as_slice())?;
+            built_in_goal(alloc, scope, values.as_slice(), builtin)
+        }
+        None => Ok(Goal::Ask(
+            number_in(&scope.names.preds, name.as_slice()),
+            terms_of(alloc, scope, head)?,
+            many,
+        )),
+    }
+}
+
+fn single(alloc: Global, goal: Goal) -> Result<Items<Goal>, AllocError>
+    ensures { IfOk result (λ goals. goals ≡ goal ∷ []) }
+{
+    let mut goals = Items::new(alloc);
+    goals.push(goal)?;
+    Ok(goals)
+}
+
+// A query that is to have no answer.
+fn not_asked(alloc: Global, scope: &Scope<'_>, head: &Head) -> Result<Goal, AllocError>
+    ensures { IfOk result (λ goal. goal ≡ Goal.Not (spec.asked (scope_view scope.now) (head_view head.now) false ∷ [])) }
+{
+    Ok(Goal::Not(single(alloc, asked(alloc, scope, head, false)?)?))
+}
+
+// Adds the goals of a statement.
+#[cycle(goals)]
+fn add_stmt(
+    alloc: Global,
+    scope: &Scope<'_>,
+    stmt: &Stmt,
+    goals: &mut Items<Goal>,
+) -> Result<(), AllocError>
+    ensures { OnOk result (goals.new ≡ goals.old ++ spec.stmt_goals (scope_view scope.now) (stmt_view stmt.now)) }
+{
+    match stmt {
+        Stmt::Text(word) => goals.push(Goal::Text(Items::from_slice(alloc, word.as_slice())?)),
+        Stmt::Print(value) => goals.push(Goal::Print(term_of(alloc, scope, value)?)),
+        Stmt::Ask(head) => goals.push(asked(alloc, scope, head, false)?),
+        Stmt::AskAll(head) => goals.push(asked(alloc, scope, head, true)?),
+        Stmt::AskNot(head) => goals.push(not_asked(alloc, scope, head)?),
+        Stmt::Group(body) => add_body(alloc, scope, body, goals),
+        Stmt::NotGroup(body) => goals.push(Goal::Not(goals_of(alloc, scope, body)?)),
+        Stmt::If(arms, None) => {
+            let other = Items::new(alloc);
+            goals.append(choice(alloc, scope, arms.as_slice(), other)?)
+        }
+        Stmt::If(arms, Some(body)) => {
+            let other = goals_of(alloc, scope, body)?;
+            goals.append(choice(alloc, scope, arms.as_slice(), other)?)
+        }
+        Stmt::First(body) => goals.push(Goal::Once(goals_of(alloc, scope, body)?)),
+        Stmt::Now(_) | Stmt::Exhaust(_) | Stmt::Stoppable(_) => goals.push(Goal::Fail),
+        Stmt::Collect(_, _, _) | Stmt::Accumulate(_, _, _) | Stmt::Select(_, _) => {
+            goals.push(Goal::Fail)
+        }
+    }
+}
+
+#[cycle(goals)]
+fn add_stmts(
+    alloc: Global,
+    scope: &Scope<'_>,
+    stmts: &[Stmt],
+    goals: &mut Items<Goal>,
+) -> Result<(), AllocError>
+    ensures { OnOk result (goals.new ≡ goals.old ++ spec.goals_of (scope_view scope.now) (stmts_of (map stmt_view stmts.now))) }
+{
+    for stmt in stmts {
+        add_stmt(alloc, scope, stmt, goals)?;
+    }
+    Ok(())
+}
+
+/// Adds the goals of a body.
+#[cycle(goals)]
+pub fn add_body(
+    alloc: Global,
+    scope: &Scope<'_>,
+    body: &Body,
+    goals: &mut Items<Goal>,
+) -> Result<(), AllocError>
+    ensures { OnOk result (goals.new ≡ goals.old ++ spec.body_goals (scope_view scope.now) (body_view body.now)) }
+{
+    match body.branches.as_slice() {
+        [] => Ok(()),
+        [only] => add_stmts(alloc, scope, only.as_slice(), goals),
+        _ => goals.push(Goal::Either(lists_of(alloc, scope, body)?)),
+    }
+}
+
+// The list of each branch.
+#[cycle(goals)]
+fn lists_of(alloc: Global, scope: &Scope<'_>, body: &Body) -> Result<Items<Items<Goal>>, AllocError>
+    ensures { IfOk result (λ lists. lists ≡ spec.lists (scope_view scope.now) (body_view body.now)) }
+{
+    let mut lists = Items::new(alloc);
+    for branch in body.branches.as_slice() {
+        let mut goals = Items::new(alloc);
+        add_stmts(alloc, scope, branch.as_slice(), &mut goals)?;
+        lists.push(goals)?;
+    }
+    Ok(lists)
+}
+
+#[cycle(goals)]
+fn goals_of(alloc: Global, scope: &Scope<'_>, body: &Body) -> Result<Items<Goal>, AllocError>
+    ensures { IfOk result (λ goals. goals ≡ spec.body_goals (scope_view scope.now) (body_view body.now)) }
+{
+    let mut goals = Items::new(alloc);
+    add_body(alloc, scope, body, &mut goals)?;
+    Ok(goals)
+}
+
+// Conditions, each with what follows it, and what is done where none holds.
+#[cycle(goals)]
+fn choice(
+    alloc: Global,
+    scope: &Scope<'_>,
+    arms: &[Arm],
+    other: Items<Goal>,
+) -> Result<Items<Goal>, AllocError>
+    ensures { IfOk result (λ goals. goals ≡ spec.arm_goals (scope_view scope.now) (arms_of (map arm_view arms.now)) other) }
+{
+    let mut goals = other;
+    for at in (0..arms.len()).rev() {
+        let condition = goals_of(alloc, scope, &arms[at].condition)?;
+        let then = goals_of(alloc, scope, &arms[at].body)?;
+        goals = single(alloc, Goal::If(condition, then, goals))?;
+    }
+    Ok(goals)
+}

@@ -1,0 +1,14 @@
+//! From a rewritten tree to the core program.
+#![tactic(auto)]
+
+mod forms;
+mod goals;
+mod laws;
+mod program;
+mod scope;
+mod terms;
+mod variables;
+
+pub use forms::{are_built, first_unbuilt};
+pub use laws::{entry_fits, queries_fit};
+pub use program::lower;
