@@ -1,0 +1,5 @@
+pub mod Views
+pub mod Before
+pub mod PartsLemmas
+pub mod BranchLemmas
+pub mod NumberLemmas

@@ -1,0 +1,5 @@
+use Rattle.dg_access.proofs.Views.{select_seen}
+use Rattle.dg_access.proofs.plain.select_of.Goals as goal
+
+pub returns : goal.returns
+returns c = select_seen c.args.mode c.args.branches

@@ -1,0 +1,4 @@
+pub mod Plain
+pub mod Marks
+pub mod Items
+pub mod State
