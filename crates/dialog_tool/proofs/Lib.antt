@@ -1,8 +1,7 @@
 pub mod DigitLemmas
 pub mod DiceLemmas
 pub mod OptionLemmas
-pub mod PlainText
-pub mod NamesLemmas
+pub mod RewrittenLemmas
 pub mod BuiltLemmas
 pub mod SourceLemmas
 pub mod AnswerLemmas

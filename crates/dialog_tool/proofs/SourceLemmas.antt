@@ -1,77 +1,85 @@
 -- A source has one answer.
-use Rattle.std.proofs.Common.{◌≡◌, ◌≤◌, ℕ, List, map, length, Option, Some, None, false, Result, Ok, Err, refl, sym, ◌∙◌, ap, subst, arith}
-use Rattle.std.specs.Option.{option_or}
+use Rattle.std.proofs.Common.{◌≡◌, ◌⊎◌, inl, inr, ℕ, List, map, Option, Some, None, Result, Ok, Err, refl, sym, ◌∙◌, ap, subst}
 use Rattle.dg_base.specs.Tree.{Item}
-use Rattle.dg_base.specs.TreeView.{item_view}
-use Rattle.dg_base.specs.declared.tree.Item.{Item as CodeItem}
-use Rattle.dg_base.specs.declared.refusal.ReadFault.{ReadFault}
 use Rattle.dg_base.specs.Faults.{IsFault}
-use Rattle.dg_reader.proofs.FaultLemmas.{fault_map}
-use Rattle.dg_reader.proofs.ReadLemmas.{read_one}
 use Rattle.dg_base.specs.declared.program.CoreProgram.{CoreProgram as Core}
+use Rattle.dg_base.specs.declared.refusal.ReadFault.{ReadFault}
+use Rattle.dg_base.specs.declared.refusal.ReadFault.TheVariants as fault
 use Rattle.dg_base.specs.declared.refusal.Refusal.{Refusal}
-use Rattle.dg_lex.specs.Tokens.{Seen, seen, without_mark}
+use Rattle.dg_lex.specs.Bad.{refusal_of}
+use Rattle.dg_lex.specs.Tokens.{IsLexed, Seen, seen, without_mark}
 use Rattle.dg_lex.specs.declared.token.Token.{Token}
 use Rattle.dg_lex.proofs.One.{tokens_one}
-use Rattle.dialog_tool.specs.Scan.{IsScanned, plain_front, line_in, foreign_line}
-use Rattle.dialog_tool.specs.Plain.{core_of, refusal_of}
 use Rattle.dg_reader.specs.Read.{IsRead}
-use Rattle.dialog_tool.specs.Source.{Compiles, too_long, shows_more, not_read, refused, accepted}
+use Rattle.dg_reader.proofs.FaultLemmas.{fault_map}
+use Rattle.dg_reader.proofs.ReadLemmas.{read_one}
+use Rattle.dg_names.specs.Named.{Named}
+use Rattle.dg_names.specs.Counts.{IsNamed}
+use Rattle.dg_names.proofs.NameLemmas.{one_answer as named_one}
+use Rattle.dg_access.specs.Rewritten.{IsRewritten}
+use Rattle.dg_lower.specs.Forms.{first_unbuilt}
+use Rattle.dialog_tool.specs.Source.{program_of, IsProgram, not_named, not_built, not_rewritten, lowered, Compiles, not_lexed, not_read, read}
 
-scan_tokens : (source : List ℕ) (ts us : List Token) (a b : Option ℕ) → IsScanned source ts a → IsScanned source us b → map seen ts ≡ map seen us
-scan_tokens source ts us a b h k = tokens_one _ _ (without_mark (plain_front source)) ts us h.lexed k.lexed
+rewritten_one : (is : List Item) (a b : Result (List Item) Refusal) → IsRewritten is a → IsRewritten is b → a ≡ b
+rewritten_one is (Ok x) (Ok y) h k = ap Ok (h.1 ∙ sym k.1)
+rewritten_one is (Ok x) (Err s) h k = let same = sym h.0 ∙ k.1.0 in cc
+rewritten_one is (Err r) (Ok y) h k = let same = sym k.0 ∙ h.1.0 in cc
+rewritten_one is (Err r) (Err s) h k = let same = sym h.1.0 ∙ k.1.0 in let one = h.1.1 in let other = k.1.1 in cc
 
-scan_line : (source : List ℕ) (ts us : List Token) (a b : Option ℕ) → IsScanned source ts a → IsScanned source us b → a ≡ b
-scan_line source ts us a b h k = h.line ∙ ap (λ (l : List Seen). option_or (line_in false l) (foreign_line source)) (scan_tokens source ts us a b h k) ∙ sym k.line
+program_one : (is : List Item) (a b : Result Core Refusal) → IsProgram is a → IsProgram is b → a ≡ b
+program_one is a b (not_named r h e) (not_named s k f) = let same = named_one is (Err r) (Err s) h k in cc
+program_one is a b (not_named r h e) (not_built m k l u f) = let same = named_one is (Err r) (Ok m) h k in cc
+program_one is a b (not_named r h e) (not_rewritten m k u s w f) = let same = named_one is (Err r) (Ok m) h k in cc
+program_one is a b (not_named r h e) (lowered m k u p w f) = let same = named_one is (Err r) (Ok m) h k in cc
+program_one is a b (not_built n h l u e) (not_named s k f) = let same = named_one is (Ok n) (Err s) h k in cc
+program_one is a b (not_built n h l u e) (not_built m k j v f) = cc
+program_one is a b (not_built n h l u e) (not_rewritten m k v s w f) = let same = sym u ∙ v in cc
+program_one is a b (not_built n h l u e) (lowered m k v p w f) = let same = sym u ∙ v in cc
+program_one is a b (not_rewritten n h u r w e) (not_named s k f) = let same = named_one is (Ok n) (Err s) h k in cc
+program_one is a b (not_rewritten n h u r w e) (not_built m k j v f) = let same = sym u ∙ v in cc
+program_one is a b (not_rewritten n h u r w e) (not_rewritten m k v s x f) = let same = rewritten_one is (Err r) (Err s) w x in cc
+program_one is a b (not_rewritten n h u r w e) (lowered m k v p x f) = let same = rewritten_one is (Err r) (Ok p) w x in cc
+program_one is a b (lowered n h u p w e) (not_named s k f) = let same = named_one is (Ok n) (Err s) h k in cc
+program_one is a b (lowered n h u p w e) (not_built m k j v f) = let same = sym u ∙ v in cc
+program_one is a b (lowered n h u p w e) (not_rewritten m k v s x f) = let same = rewritten_one is (Ok p) (Err s) w x in cc
+program_one is a b (lowered n h u p w e) (lowered m k v q x f) =
+    let names = named_one is (Ok n) (Ok m) h k in
+    let plain = rewritten_one is (Ok p) (Ok q) w x in
+    cc
 
 -- the items that are read of a source
-items_one : (source : List ℕ) (ts us : List Token) (c d : Option ℕ) (a b : Result (List Item) Refusal) → IsScanned source ts c → IsScanned source us d → IsRead (map seen ts) a → IsRead (map seen us) b → a ≡ b
-items_one source ts us c d a b h k r s = read_one (map seen us) a b (subst (λ (l : List Seen). IsRead l a) (scan_tokens source ts us c d h k) r) s
-
--- what follows once the items are read
-later_one : (items : List Item) (a b : Result Core Refusal) (r s : Refusal) → refusal_of items ≡ Some r → refusal_of items ≡ Some s → a ≡ Err r → b ≡ Err s → a ≡ b
-later_one items a b r s h k e f = cc
+items_one : (source : List ℕ) (ts us : List Token) (a b : Result (List Item) Refusal) → IsLexed source ts → IsLexed source us → IsRead (map seen ts) a → IsRead (map seen us) b → a ≡ b
+items_one source ts us a b h k r s = read_one (map seen us) a b (subst (λ (l : List Seen). IsRead l a) (tokens_one _ _ (without_mark source) ts us h k) r) s
 
 pub one_answer : (source : List ℕ) (a b : Result Core Refusal) → Compiles source a → Compiles source b → a ≡ b
-one_answer source a b (too_long long e) (too_long long' f) = e ∙ sym f
-one_answer source a b (too_long long e) (shows_more short ts n s f) = absurd (omega arith)
-one_answer source a b (too_long long e) (not_read short ts s r k f) = absurd (omega arith)
-one_answer source a b (too_long long e) (refused short ts s is k r h f) = absurd (omega arith)
-one_answer source a b (too_long long e) (accepted short ts s is k h f) = absurd (omega arith)
-one_answer source a b (shows_more short ts n s e) (too_long long f) = absurd (omega arith)
-one_answer source a b (shows_more short ts n s e) (shows_more short' us m t f) = let same = scan_line source ts us (Some n) (Some m) s t in cc
-one_answer source a b (shows_more short ts n s e) (not_read short' us t r k f) = let same = scan_line source ts us (Some n) None s t in cc
-one_answer source a b (shows_more short ts n s e) (refused short' us t is k r h f) = let same = scan_line source ts us (Some n) None s t in cc
-one_answer source a b (shows_more short ts n s e) (accepted short' us t is k h f) = let same = scan_line source ts us (Some n) None s t in cc
-one_answer source a b (not_read short ts s r k e) (too_long long f) = absurd (omega arith)
-one_answer source a b (not_read short ts s r k e) (shows_more short' us n t f) = let same = scan_line source ts us None (Some n) s t in cc
-one_answer source a b (not_read short ts s r k e) (not_read short' us t r' k' f) = let same = items_one source ts us None None (Err r) (Err r') s t k k' in cc
-one_answer source a b (not_read short ts s r k e) (refused short' us t is k' r' h f) = let same = items_one source ts us None None (Err r) (Ok is) s t k k' in cc
-one_answer source a b (not_read short ts s r k e) (accepted short' us t is k' h f) = let same = items_one source ts us None None (Err r) (Ok is) s t k k' in cc
-one_answer source a b (refused short ts s is k r h e) (too_long long f) = absurd (omega arith)
-one_answer source a b (refused short ts s is k r h e) (shows_more short' us n t f) = let same = scan_line source ts us None (Some n) s t in cc
-one_answer source a b (refused short ts s is k r h e) (not_read short' us t r' k' f) = let same = items_one source ts us None None (Ok is) (Err r') s t k k' in cc
-one_answer source a b (refused short ts s is k r h e) (refused short' us t js k' r' h' f) = let same = items_one source ts us None None (Ok is) (Ok js) s t k k' in cc
-one_answer source a b (refused short ts s is k r h e) (accepted short' us t js k' h' f) = let same = items_one source ts us None None (Ok is) (Ok js) s t k k' in cc
-one_answer source a b (accepted short ts s is k h e) (too_long long f) = absurd (omega arith)
-one_answer source a b (accepted short ts s is k h e) (shows_more short' us n t f) = let same = scan_line source ts us None (Some n) s t in cc
-one_answer source a b (accepted short ts s is k h e) (not_read short' us t r' k' f) = let same = items_one source ts us None None (Ok is) (Err r') s t k k' in cc
-one_answer source a b (accepted short ts s is k h e) (refused short' us t js k' r' h' f) = let same = items_one source ts us None None (Ok is) (Ok js) s t k k' in cc
-one_answer source a b (accepted short ts s is k h e) (accepted short' us t js k' h' f) = let same = items_one source ts us None None (Ok is) (Ok js) s t k k' in cc
+one_answer source a b (not_lexed r h e) (not_lexed s k f) = cc
+one_answer source a b (not_lexed r h e) (not_read none us k s y f) = let same = sym h ∙ none in cc
+one_answer source a b (not_lexed r h e) (read none us k js y f) = let same = sym h ∙ none in cc
+one_answer source a b (not_read none ts h r x e) (not_lexed s k f) = let same = sym none ∙ k in cc
+one_answer source a b (not_read none ts h r x e) (not_read none' us k s y f) = let same = items_one source ts us (Err r) (Err s) h k x y in cc
+one_answer source a b (not_read none ts h r x e) (read none' us k js y f) = let same = items_one source ts us (Err r) (Ok js) h k x y in cc
+one_answer source a b (read none ts h is x e) (not_lexed s k f) = let same = sym none ∙ k in cc
+one_answer source a b (read none ts h is x e) (not_read none' us k s y f) = let same = items_one source ts us (Ok is) (Err s) h k x y in cc
+one_answer source a b (read none ts h is x e) (read none' us k js y f) =
+    let same : is ≡ js = let both = items_one source ts us (Ok is) (Ok js) h k x y in cc in
+    program_one js a b (subst (λ (l : List Item). IsProgram l a) same e) f
 
 -- ## From the calls to the answer
 
-pub not_read_of : (source : List ℕ) (tokens given : List Token) (fault : ReadFault) → length source ≤ 12000 → IsScanned source tokens None → given ≡ tokens
-    → IsFault (λ r. IsRead (map seen given) (Err r)) fault → IsFault (λ r. Compiles source (Err r)) fault
-not_read_of source tokens given fault short scanned same h =
-    fault_map _ _ (λ r k. not_read short tokens scanned r (subst (λ (l : List Token). IsRead (map seen l) (Err r)) same k) refl) fault h
+pub not_lexed_of : (source : List ℕ) (f : ReadFault) → (f ≡ fault.OutOfMemory) ⊎ ((r : Refusal) × (refusal_of source ≡ Some r) × (f ≡ fault.Refused r)) → IsFault (λ r. Compiles source (Err r)) f
+not_lexed_of source f (inl e) = rw e tt
+not_lexed_of source f (inr h) = rw h.1.1 (not_lexed h.0 h.1.0 refl)
 
-pub refused_of : (source : List ℕ) (tokens given : List Token) (items seen_items : List CodeItem) (fault : ReadFault) → length source ≤ 12000 → IsScanned source tokens None → given ≡ tokens
-    → IsRead (map seen given) (Ok (map item_view items)) → seen_items ≡ items → IsFault (λ r. refusal_of (map item_view seen_items) ≡ Some r) fault → IsFault (λ r. Compiles source (Err r)) fault
-refused_of source tokens given items seen_items fault short scanned same read is h =
-    fault_map _ _ (λ r k. refused short tokens scanned (map item_view items) (subst (λ (l : List Token). IsRead (map seen l) (Ok (map item_view items))) same read) r (subst (λ (l : List CodeItem). refusal_of (map item_view l) ≡ Some r) is k) refl) fault h
+pub not_read_of : (source : List ℕ) (tokens given : List Token) (f : ReadFault) → refusal_of source ≡ None → IsLexed source tokens → given ≡ tokens
+    → IsFault (λ r. IsRead (map seen given) (Err r)) f → IsFault (λ r. Compiles source (Err r)) f
+not_read_of source tokens given f none lexed same h =
+    fault_map _ _ (λ r k. not_read none tokens lexed r (subst (λ (l : List Token). IsRead (map seen l) (Err r)) same k) refl) f h
 
-pub accepted_of : (source : List ℕ) (tokens given : List Token) (items seen_items : List CodeItem) (program : Core) → length source ≤ 12000 → IsScanned source tokens None → given ≡ tokens
-    → IsRead (map seen given) (Ok (map item_view items)) → seen_items ≡ items → refusal_of (map item_view seen_items) ≡ None → program ≡ core_of (map item_view seen_items) → Compiles source (Ok program)
-accepted_of source tokens given items seen_items program short scanned same read is none core =
-    accepted short tokens scanned (map item_view items) (subst (λ (l : List Token). IsRead (map seen l) (Ok (map item_view items))) same read) (subst (λ (l : List CodeItem). refusal_of (map item_view l) ≡ None) is none) (ap Ok (core ∙ ap (λ (l : List CodeItem). core_of (map item_view l)) is))
+pub read_of : (source : List ℕ) (tokens given : List Token) (items : List Item) (answer : Result Core Refusal) → refusal_of source ≡ None → IsLexed source tokens → given ≡ tokens
+    → IsRead (map seen given) (Ok items) → IsProgram items answer → Compiles source answer
+read_of source tokens given items answer none lexed same is program =
+    read none tokens lexed items (subst (λ (l : List Token). IsRead (map seen l) (Ok items)) same is) program
+
+pub refused_of : (source : List ℕ) (tokens given : List Token) (items : List Item) (f : ReadFault) → refusal_of source ≡ None → IsLexed source tokens → given ≡ tokens
+    → IsRead (map seen given) (Ok items) → IsFault (λ r. IsProgram items (Err r)) f → IsFault (λ r. Compiles source (Err r)) f
+refused_of source tokens given items f none lexed same is h = fault_map _ _ (λ r k. read_of source tokens given items (Err r) none lexed same is k) f h

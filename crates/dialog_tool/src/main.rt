@@ -4,11 +4,8 @@
 mod adapters;
 mod command;
 mod lines;
-mod lowering;
 mod numbers;
-mod plain;
 mod playing;
-mod scan;
 mod source;
 mod tool;
 

@@ -1,26 +1,72 @@
 // From the bytes of a source to its core program.
-ghost use Rattle.std.specs.Prelude.{◌≡◌, ◌≤◌, ◌⊎◌, length, map, Ok, Err, IfOk, IfErr};
-ghost use Rattle.dg_base.specs.TreeView.{tree_view};
-ghost use Rattle.dg_lex.specs.Tokens.{seen};
-ghost use Rattle.dg_meaning.specs.Built.{IsBuilt};
-ghost use Rattle.dg_reader.specs.Read.{IsRead};
+ghost use Rattle.std.specs.Prelude.{◌≡◌, ◌⊎◌, List, None, Ok, Err, IfOk, IfErr};
+ghost use Rattle.dg_access.specs.Rewritten.{IsRewritten};
+ghost use Rattle.dg_base.specs.Tree.{Item};
 ghost use Rattle.dg_base.specs.Faults.{IsFault};
-ghost use Rattle.dialog_tool.specs.Source.{Compiles};
+ghost use Rattle.dg_base.specs.TreeView.{tree_view};
+ghost use Rattle.dg_meaning.specs.Built.{IsBuilt};
+ghost use Rattle.dg_names.specs.State.{names_view};
+ghost use Rattle.dg_lower.specs.Forms.{first_unbuilt};
+ghost use Rattle.dialog_tool.specs.Source.{IsProgram, Compiles, program_of, refusal_at};
 
-use crate::lowering::lower;
-use crate::scan::plain_tokens;
-use dg_base::{CoreProgram, ReadFault};
+use dg_access::rewrite;
+use dg_base::{CoreProgram, Kind, ReadFault, Refusal, Tree};
+use dg_lex::lex;
+use dg_lower::{first_unbuilt, lower};
+use dg_names::Names;
 use dg_reader::read;
 use std::alloc::Global;
 
+fn not_built(line: u32) -> ReadFault
+    ensures { result ≡ ReadFault.Refused (refusal_at Kind.NotBuiltYet line) }
+{
+    ReadFault::Refused(Refusal {
+        kind: Kind::NotBuiltYet,
+        line,
+    })
+}
+
+// The core program of a tree whose forms are all built.
+fn built_program(alloc: Global, tree: Tree, names: Names) -> Result<CoreProgram, ReadFault>
+    requires { first_unbuilt (tree_view tree) ≡ None }
+    ensures program { IfOk result (λ p. (plain : List Item) × IsRewritten (tree_view tree) (Ok plain) × (Ok p ≡ program_of (names_view names) plain)) }
+    ensures built { IfOk result IsBuilt }
+    ensures refused { IfErr result (IsFault (λ r. IsRewritten (tree_view tree) (Err r) ⊎ ((plain : List Item) × IsRewritten (tree_view tree) (Ok plain) × (Err r ≡ program_of (names_view names) plain)))) }
+{
+    let plain = match rewrite(alloc, tree, &names) {
+        Ok(plain) => plain,
+        Err(fault) => return Err(fault),
+    };
+    match lower(alloc, plain, names) {
+        Ok(program) => Ok(program),
+        Err(fault) => Err(fault),
+    }
+}
+
+// The core program of a tree, or why it is refused.
+fn program_of(alloc: Global, tree: Tree) -> Result<CoreProgram, ReadFault>
+    ensures program { IfOk result (λ p. IsProgram (tree_view tree) (Ok p)) }
+    ensures built { IfOk result IsBuilt }
+    ensures refused { IfErr result (IsFault (λ r. IsProgram (tree_view tree) (Err r))) }
+{
+    let names = match Names::of(alloc, &tree) {
+        Ok(names) => names,
+        Err(fault) => return Err(fault),
+    };
+    match first_unbuilt(alloc, &tree) {
+        Ok(None) => built_program(alloc, tree, names),
+        Ok(Some(line)) => Err(not_built(line)),
+        Err(_) => Err(ReadFault::OutOfMemory),
+    }
+}
+
 /// The core program of a source, or why the source is refused.
 pub fn compile(alloc: Global, source: &[u8]) -> Result<CoreProgram, ReadFault>
-    requires { length source.now ≤ 12000 }
-    ensures program { IfOk result (λ program. Compiles source.now (Ok program)) }
-    ensures built { IfOk result (λ program. IsBuilt program) }
-    ensures refused { IfErr result (IsFault (λ refusal. Compiles source.now (Err refusal))) }
+    ensures program { IfOk result (λ p. Compiles source.now (Ok p)) }
+    ensures built { IfOk result IsBuilt }
+    ensures refused { IfErr result (IsFault (λ r. Compiles source.now (Err r))) }
 {
-    let tokens = match plain_tokens(alloc, source) {
+    let tokens = match lex(alloc, source) {
         Ok(tokens) => tokens,
         Err(fault) => return Err(fault),
     };
@@ -28,7 +74,7 @@ pub fn compile(alloc: Global, source: &[u8]) -> Result<CoreProgram, ReadFault>
         Ok(tree) => tree,
         Err(fault) => return Err(fault),
     };
-    match lower(alloc, tree.items.as_slice()) {
+    match program_of(alloc, tree) {
         Ok(program) => Ok(program),
         Err(fault) => Err(fault),
     }

@@ -4,9 +4,8 @@ ghost use Rattle.dg_base.specs.Shelves.{KeepsAll};
 ghost use Rattle.dg_base.specs.Written.{view};
 ghost use Rattle.z_model.specs.Story.{refusal_of};
 ghost use Rattle.dialog_tool.specs.Command.{texts, command_of, debug as debug_command};
-ghost use Rattle.dialog_tool.specs.Source.{Compiles};
+ghost use Rattle.dialog_tool.specs.Source.{Compiles, refusal_at};
 ghost use Rattle.dg_meaning.specs.Built.{IsBuilt};
-ghost use Rattle.dialog_tool.specs.Plain.{refusal_at};
 ghost use Rattle.dialog_tool.specs.Answers.{status_of, Shown, LostInput, LostMemory, LostOutput, SourceLostInput, SourceLostOutput, SourceLostMemory, Comes, AtSource, IfSource, IsUsage, IsRefused, IsRun, ShelfFailed, InputFailed, OutFailed, NoMemory};
 ghost use Rattle.dialog_tool.specs.Playing.{status_of_end, AtStory, IfStory, WhereTyped, run_of, IsNoStory, IsPlayed, StoryInputFailed, StoryOutFailed};
 
@@ -20,6 +19,8 @@ use dg_base::{
 };
 use dg_interp::interpret;
 use std::alloc::Global;
+
+const MOST_BYTES: usize = 1_048_576;
 
 fn status_of(ending: Ending) -> u8
     ensures { result ≡ status_of ending }
@@ -72,7 +73,6 @@ fn run_source<S: Source, K: Sink>(
     out: &mut K,
 ) -> u8
     requires dice { 0 < length dice.now }
-    requires short { length source.now ≤ 12000 }
     ensures statuses { (result ≡ 0) ⊎ ((result ≡ 1) ⊎ Comes 3 result) }
     ensures refused { result ≡ 1 → IsRefused (view (K.taken out.old) (K.room out.old) (K.faults out.old)) (view (K.taken out.new) (K.room out.new) (K.faults out.new)) name.now limits source.now }
     ensures refuses { (r : _) → Compiles source.now (Err r) → Comes 1 result }
@@ -114,7 +114,7 @@ fn debug<F: Shelf, S: Source, K: Sink>(
         ⊎ OutFailed (Some (debug_command name.now limits)) (F.contents shelf.old) (S.left input.old) dice.now (view (K.taken out.old) (K.room out.old) (K.faults out.old)) (view (K.taken out.new) (K.room out.new) (K.faults out.new))) }
     ensures kept { KeepsAll (F.contents shelf.old) (F.contents shelf.new) }
 {
-    match shelf.fetch(alloc, name, 12_000) {
+    match shelf.fetch(alloc, name, MOST_BYTES) {
         Ok(source) => run_source(alloc, name, limits, &source, input, dice, out),
         Err(ShelfFault::TooLong) => refuse(alloc, name, &too_long(), out),
         Err(ShelfFault::Failed) => file_fault(name, out),
@@ -123,10 +123,10 @@ fn debug<F: Shelf, S: Source, K: Sink>(
 }
 
 fn too_long() -> Refusal
-    ensures { result ≡ refusal_at Kind.NotBuiltYet 1 }
+    ensures { result ≡ refusal_at Kind.SourceTooLong 1 }
 {
     Refusal {
-        kind: Kind::NotBuiltYet,
+        kind: Kind::SourceTooLong,
         line: 1,
     }
 }

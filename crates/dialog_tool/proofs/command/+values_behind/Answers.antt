@@ -7,4 +7,4 @@ pub returns-in_ok-more-in-len2-up : goal.returns-in_ok-more-in-len2-up
 returns-in_ok-more-in-len2-up t c =
     c.values_behind.ensures
     ∙ two_more (values_view c.args.values) (values_view c.in_ok-more-in-len2-up.more) c.args.options.now c.option-item.result c.word-item.result c.in-len2-up.len_at_least c.option-item.is c.word-item.is
-        (rw (sym c.as_str.ensures.value) c.in_ok-more-in-len2-up.ensures)
+    (rw (sym c.as_str.ensures.value) c.in_ok-more-in-len2-up.ensures)
