@@ -1,4 +1,5 @@
 pub mod Pieces
+pub mod TermLemmas
 pub mod Links
 pub mod Places
 pub mod Plain

@@ -1,14 +1,13 @@
 -- What the terms of a program become in a store. Hold it against docs/LANGUAGE.md, where it says what a value is and what a limit counts.
-use Rattle.std.specs.Prelude.{◌≡◌, ℕ, ◌+◌, ◌*◌, ◌<◌, ◌≤◌, ◌++◌, List, [], ◌∷◌, map, length, take, drop}
+use Rattle.std.specs.Prelude.{◌≡◌, ℕ, ◌+◌, ◌*◌, ◌<◌, ◌≤◌, ◌++◌, List, [], ◌∷◌, map, length}
 use Rattle.std.specs.List.{All}
-use Rattle.dg_base.specs.declared.program.Term.{Term, out-Term}
+use Rattle.dg_base.specs.declared.program.Term.{Term}
 use Rattle.dg_base.specs.declared.program.Term.TheOpen as term
 use Rattle.dg_base.specs.declared.program.CoreProgram.{CoreProgram}
 use Rattle.dg_meaning.specs.Values.{Value, pair, value_of}
 use Rattle.dg_meaning.specs.Cells.{cells}
-use Rattle.dg_meaning.specs.Closures.{HasNoClosure}
 use Rattle.dg_meaning.specs.Moves.{new_vars}
-use Rattle.dg_unify.specs.Store.{State, Store, told, Holds, Charged, Made}
+use Rattle.dg_unify.specs.Store.{Store, told, Holds, Charged}
 use Rattle.dg_unify.specs.declared.bindings.Ref.{Ref}
 use Rattle.dg_unify.specs.declared.bindings.Full.{Full}
 use Rattle.dg_unify.specs.declared.bindings.Full.TheVariants as full
@@ -51,12 +50,10 @@ abbrev pub listed : List Value → Value → Value
 listed [] end = end
 listed (v ∷ vs) end = pair v (listed vs end)
 
--- The elements of a term were put behind a list, and the tail behind the last of them is left.
+-- The first elements of a term were put behind a list, and the tail behind the last of these is left.
 pub record HeadsWritten (program : CoreProgram) (env : List Value) (term last : Term) (old new : Store) (before behind : List Ref) : Type 0 where
   pub count : ℕ
   pub heads : List Value
   pub written : Written count heads old new before behind
   pub value : value_of program env term ≡ listed heads (value_of program env last)
   pub cells_are : cells program (term ∷ []) ≡ count + 3 * length heads + cells program (last ∷ [])
-  pub plain : HasNoClosure last
-  pub no_pair : IsNoPair (out-Term last)

@@ -1,6 +1,6 @@
 // The values of a program's terms, written to a store.
 
-ghost use Rattle.std.specs.Prelude.{◌≡◌, ℕ, ◌+◌, ◌-◌, ◌*◌, ◌≤◌, ◌<◌, List, [], ◌∷◌, All, MatchResult, OnOk, map, length, take, drop};
+ghost use Rattle.std.specs.Prelude.{◌≡◌, ℕ, ◌+◌, ◌-◌, ◌*◌, ◌≤◌, ◌<◌, List, [], ◌∷◌, All, MatchResult, IfOk, OnOk, map, length, take, drop};
 ghost use Rattle.dg_base.specs.declared.program.Term.{out-Term};
 ghost use Rattle.dg_base.specs.declared.program.CoreProgram.{CoreProgram};
 ghost use Rattle.dg_meaning.specs.Values.{value_of, value_of_var as value_in};
@@ -58,6 +58,8 @@ fn write_heads<'t, B: Bindings>(
     ensures kept { Kept (B.meaning store.old) (B.meaning store.new) }
     ensures saved { (ms : List Saved) → B.saves store.old ms → B.saves store.new ms }
     ensures written { (program : CoreProgram) → MatchResult result (λ last. HeadsWritten program (map (told (B.meaning store.old)) env.now) term.now last.now (B.meaning store.old) (B.meaning store.new) to.old.items to.new.items) (λ e. Overflows (cells program (term.now ∷ [])) (B.meaning store.old) e) }
+    ensures plain { IfOk result (λ last. HasNoClosure last.now) }
+    ensures no_pair { IfOk result (λ last. IsNoPair (out-Term last.now)) }
 {
     let mut term = term;
     'heads: while let Term::Pair(head, tail) = term {
