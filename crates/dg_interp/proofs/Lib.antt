@@ -1,5 +1,7 @@
 pub mod Pieces
 pub mod TermLemmas
+pub mod MatchLemmas
+pub mod TestLemmas
 pub mod Links
 pub mod Places
 pub mod Plain

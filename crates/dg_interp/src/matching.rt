@@ -18,7 +18,9 @@ pub fn unify_all<B: Bindings>(store: &mut B, args: &[Ref], head: &[Ref]) -> Resu
 {
     let mut at = 0;
     'pairs: while at < args.len() && at < head.len() {
-        match unify(store, args[at], head[at]) {
+        let arg = args[at];
+        let term = head[at];
+        match unify(store, arg, term) {
             Err(e) => return Err(e),
             Ok(false) => return Ok(false),
             Ok(true) => at += 1,
