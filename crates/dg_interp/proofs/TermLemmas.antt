@@ -102,7 +102,7 @@ vars_on n m s t u xs ys zs r e k l a f is =
     let v : t.state.vars ≡ s.state.vars + n = ap (λ (x : State). x.vars) a.state in
     let later : m ≡ suc n = omega (arith, e) in
     let more : new_vars m s.state.vars ≡ new_vars n s.state.vars ++ Var (s.state.vars + n) ∷ [] =
-        ap (λ k. new_vars k s.state.vars) later ∙ new_vars_more n s.state.vars in
+    ap (λ k. new_vars k s.state.vars) later ∙ new_vars_more n s.state.vars in
     let vars : s.state.vars + n + 1 ≡ s.state.vars + m = omega (arith, e) in
     let heap : s.state.heap + n + 1 ≡ s.state.heap + m = omega (arith, e) in
     record {
@@ -236,7 +236,7 @@ heads_on program env fn term h t s u v xs ys zs r k l w is made e =
 pub heads_step : (program : CoreProgram) (env env' : List Value) (fn term h t h' t' : Term) (s u v : Store) (xs ys zs : List Ref) (r : Ref) → Kept s u → Kept u v → HeadsWritten program env fn term s u xs ys → term ≡ Pair-Term h t → h' ≡ h → t' ≡ t → env' ≡ env → Made (cells program (h' ∷ [])) u v r (value_of program env' h') → zs ≡ ys ++ r ∷ [] → HeadsWritten program env fn t' s v xs zs
 heads_step program env env' fn term h t h' t' s u v xs ys zs r k l w is eh et ee made e =
     let made' : Made (cells program (h ∷ [])) u v r (value_of program env h) =
-        subst (λ x. Made (cells program (x ∷ [])) u v r (value_of program env x)) eh (subst (λ x. Made (cells program (h' ∷ [])) u v r (value_of program x h')) ee made) in
+    subst (λ x. Made (cells program (x ∷ [])) u v r (value_of program env x)) eh (subst (λ x. Made (cells program (h' ∷ [])) u v r (value_of program x h')) ee made) in
     subst (λ x. HeadsWritten program env fn x s v xs zs) (sym et) (heads_on program env fn term h t s u v xs ys zs r k l w is made' e)
 
 -- ## A whole term

@@ -10,6 +10,9 @@ use Rattle.dg_meaning.specs.Render.{nothing_met, met_from, render_from}
 use Rattle.dg_base.specs.Written.{SinkView, Wrote, BrokeOff}
 use Rattle.dg_unify.specs.Store.{Store, told}
 use Rattle.dg_unify.specs.declared.bindings.Ref.{Ref}
+use Rattle.dg_unify.specs.declared.bindings.View.{View}
+use Rattle.dg_unify.specs.declared.bindings.View.TheVariants as view
+use Rattle.dg_base.specs.declared.cells.Simple.TheVariants as simple
 use Rattle.dg_interp.specs.Spacer.{StandsFor}
 use Rattle.dg_interp.specs.declared.spacer.Spacer.{Spacer}
 use Rattle.dg_interp.specs.declared.printing.PrintFault.{PrintFault}
@@ -43,6 +46,16 @@ AreLetters spelling bytes None = list_any (nat_lt 255) spelling ≡ true
 AreLetters spelling bytes (Some count) = (count ≤ length bytes) × (take count bytes ≡ spelling)
 
 -- ## Pieces
+
+-- The empty list is shown.
+abbrev pub shows_nil : View → Bool
+shows_nil (view.Simple simple.Nil) = true
+shows_nil other = false
+
+-- The pieces of a value that is no pair.
+abbrev pub single_pieces : CoreProgram → Value → List (List ℕ)
+single_pieces program (Node Nil vs) = codes "[" ∷ codes "]" ∷ []
+single_pieces program v = first_piece program v ∷ []
 
 -- The pieces behind the last element of a list whose tail is this.
 abbrev pub end_pieces : CoreProgram → Value → List (List ℕ)

@@ -7,7 +7,7 @@ ghost use Rattle.dg_meaning.specs.Values.{Value};
 ghost use Rattle.dg_meaning.specs.Pieces.{pieces, label_piece, first_piece};
 ghost use Rattle.dg_meaning.specs.Substitutions.{resolved};
 ghost use Rattle.dg_unify.specs.Store.{label_of, told, Holds, Shows, IsUnknownAt};
-ghost use Rattle.dg_interp.specs.Printing.{first_wide, has_wide, AreLetters, end_pieces, Printed, PrintsList};
+ghost use Rattle.dg_interp.specs.Printing.{first_wide, has_wide, AreLetters, shows_nil, single_pieces, end_pieces, Printed, PrintsList};
 
 use crate::spacer::Spacer;
 use dg_base::{CoreProgram, Name, Simple, Sink};
@@ -127,7 +127,64 @@ fn print_first<B: Bindings, K: Sink>(
     }
 }
 
-// What stands behind the last element of a list: its end, or another tail and the end.
+// Whether a value that was looked up is the empty list.
+fn is_nil(value: View) -> bool
+    ensures { result ≡ shows_nil value }
+{
+    match value {
+        View::Simple(Simple::Nil) => true,
+        _ => false,
+    }
+}
+
+// The empty list.
+fn print_nil<K: Sink>(spacer: &mut Spacer, sink: &mut K) -> Result<(), PrintFault>
+    ensures { Printed (codes "[" ∷ codes "]" ∷ []) false spacer.old spacer.new (view (K.taken sink.old) (K.room sink.old) (K.faults sink.old)) (view (K.taken sink.new) (K.room sink.new) (K.faults sink.new)) result }
+{
+    match print_piece(spacer, sink, b"[") {
+        Err(fault) => Err(fault),
+        Ok(()) => print_piece(spacer, sink, b"]"),
+    }
+}
+
+// A value that was looked up and is no pair.
+fn print_single<B: Bindings, K: Sink>(
+    store: &B,
+    program: &CoreProgram,
+    spacer: &mut Spacer,
+    sink: &mut K,
+    value: View,
+) -> Result<(), PrintFault>
+    requires { (w : Value) × Shows (B.meaning store.now) w value }
+    ensures { (w : Value) → Shows (B.meaning store.now) w value → Printed (single_pieces program.now w) (first_wide w) spacer.old spacer.new (view (K.taken sink.old) (K.room sink.old) (K.faults sink.old)) (view (K.taken sink.new) (K.room sink.new) (K.faults sink.new)) result }
+{
+    if is_nil(value) {
+        return print_nil(spacer, sink);
+    }
+    print_first(store, program, spacer, sink, value)
+}
+
+// A tail that is no list, and the end behind it.
+fn print_tail<B: Bindings, K: Sink>(
+    store: &B,
+    program: &CoreProgram,
+    spacer: &mut Spacer,
+    sink: &mut K,
+    tail: View,
+) -> Result<(), PrintFault>
+    requires { (w : Value) × Shows (B.meaning store.now) w tail }
+    ensures { (w : Value) → Shows (B.meaning store.now) w tail → Printed (codes "|" ∷ first_piece program.now w ∷ codes "]" ∷ []) (first_wide w) spacer.old spacer.new (view (K.taken sink.old) (K.room sink.old) (K.faults sink.old)) (view (K.taken sink.new) (K.room sink.new) (K.faults sink.new)) result }
+{
+    match print_piece(spacer, sink, b"|") {
+        Err(fault) => Err(fault),
+        Ok(()) => match print_first(store, program, spacer, sink, tail) {
+            Err(fault) => Err(fault),
+            Ok(()) => print_piece(spacer, sink, b"]"),
+        },
+    }
+}
+
+// What stands behind the last element of a list, whose tail is this.
 fn print_end<B: Bindings, K: Sink>(
     store: &B,
     program: &CoreProgram,
@@ -138,16 +195,10 @@ fn print_end<B: Bindings, K: Sink>(
     requires { (w : Value) × Shows (B.meaning store.now) w tail }
     ensures { (w : Value) → Shows (B.meaning store.now) w tail → Printed (end_pieces program.now w) (first_wide w) spacer.old spacer.new (view (K.taken sink.old) (K.room sink.old) (K.faults sink.old)) (view (K.taken sink.new) (K.room sink.new) (K.faults sink.new)) result }
 {
-    if let View::Simple(Simple::Nil) = tail {
+    if is_nil(tail) {
         return print_piece(spacer, sink, b"]");
     }
-    if let Err(fault) = print_piece(spacer, sink, b"|") {
-        return Err(fault);
-    }
-    if let Err(fault) = print_first(store, program, spacer, sink, tail) {
-        return Err(fault);
-    }
-    print_piece(spacer, sink, b"]")
+    print_tail(store, program, spacer, sink, tail)
 }
 
 // The elements of a list and what ends it: a recursion into the elements alone.
@@ -167,20 +218,21 @@ fn print_list<B: Bindings, K: Sink>(
     let mut head = head;
     let mut tail = tail;
     'elements: loop {
-        if let Err(fault) = print_value(store, program, spacer, sink, head) {
-            return Err(fault);
-        }
-        match store.walk(tail) {
-            View::Pair(next, others) => {
-                head = next;
-                tail = others;
-            }
-            end => return print_end(store, program, spacer, sink, end),
+        match print_value(store, program, spacer, sink, head) {
+            Err(fault) => return Err(fault),
+            Ok(()) => match store.walk(tail) {
+                View::Pair(next, others) => {
+                    head = next;
+                    tail = others;
+                }
+                end => return print_end(store, program, spacer, sink, end),
+            },
         }
     }
 }
 
-/// Prints a value, piece by piece.
+/// Prints a value, piece by piece. An unknown word with a letter that is no byte can't be printed: what stands before it
+/// is.
 #[cycle(print)]
 pub fn print_value<B: Bindings, K: Sink>(
     store: &B,
@@ -197,10 +249,6 @@ pub fn print_value<B: Bindings, K: Sink>(
             Err(fault) => Err(fault),
             Ok(()) => print_list(store, program, spacer, sink, head, tail),
         },
-        View::Simple(Simple::Nil) => match print_piece(spacer, sink, b"[") {
-            Err(fault) => Err(fault),
-            Ok(()) => print_piece(spacer, sink, b"]"),
-        },
-        other => print_first(store, program, spacer, sink, other),
+        single => print_single(store, program, spacer, sink, single),
     }
 }
