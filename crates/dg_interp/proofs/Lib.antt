@@ -11,4 +11,5 @@ pub mod Branches
 pub mod Asks
 pub mod Runs
 pub mod Whole
+pub mod PrintedWorlds
 pub mod Starts

@@ -1,12 +1,11 @@
 -- How arguments and the head of a rule go on from one pair to the next.
-use Rattle.std.proofs.Common.{◌≡◌, ℕ, ◌+◌, ◌<◌, ◌≤◌, List, [], ◌∷◌, ◌++◌, true, false, refl, sym, ap, ◌∙◌, arith, subst, length}
+use Rattle.std.proofs.Common.{◌≡◌, ℕ, ◌+◌, ◌<◌, ◌≤◌, List, [], ◌∷◌, true, false, refl, sym, ap, ◌∙◌, subst, length}
 use Rattle.std.specs.Prelude.{map, get_or, drop, Bool, Result, Ok, Err, ◌⊎◌}
 use Rattle.std.proofs.Common.{inl, inr}
 use Rattle.std.specs.List.{All, zip}
 use Rattle.std.proofs.lemmas.List.{drop_more, drop_all}
 use Rattle.std.proofs.lemmas.List.Elements.{All-get_or}
 use Rattle.std.proofs.lemmas.Bool.{cond-true, cond-false}
-use Rattle.dg_meaning.specs.Values.{Value}
 use Rattle.dg_meaning.specs.Substitutions.{Substitution, IsSubstitution}
 use Rattle.dg_meaning.specs.Unify.{Equations, Unified, agreed, counted, solve, unify, and_then}
 use Rattle.dg_meaning.proofs.Solving.{solve_extends}

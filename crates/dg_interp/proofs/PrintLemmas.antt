@@ -1,6 +1,6 @@
 -- How the pieces of a value are printed, one after another.
-use Rattle.std.proofs.Common.{◌≡◌, ℕ, ◌+◌, ◌<◌, ◌≤◌, List, [], ◌∷◌, ◌++◌, Bool, true, false, refl, sym, ap, ◌∙◌, arith, subst, append_assoc, append-nil, length, Option, Some, None, inl, inr}
-use Rattle.std.specs.Prelude.{map, codes, take, set, get_or, nat_lt, slice_get, ◌||◌, Result, Ok, Err}
+use Rattle.std.proofs.Common.{◌≡◌, ℕ, ◌+◌, ◌<◌, ◌≤◌, List, [], ◌∷◌, ◌++◌, Bool, true, false, refl, sym, ap, ◌∙◌, arith, subst, append_assoc, append-nil, length, Some, None, inl, inr}
+use Rattle.std.specs.Prelude.{codes, take, set, get_or, nat_lt, slice_get, ◌||◌, Result, Ok, Err}
 use Rattle.std.specs.List.{list_any}
 use Rattle.std.proofs.lemmas.Bool.{lt-ltb, le-ltb}
 use Rattle.std.proofs.lemmas.List.{map-append, take_more, take_more_set, take_all}
@@ -13,7 +13,7 @@ use Rattle.dg_meaning.specs.Values.{Label, Num, Word, Unknown, Object, Closure, 
 use Rattle.dg_meaning.specs.World.{Print, Piece}
 use Rattle.dg_meaning.specs.Render.{Met, nothing_met, met_from, met_behind, written, render_from}
 use Rattle.dg_meaning.specs.Pieces.{pieces, first_piece, list_pieces, tail_pieces}
-use Rattle.dg_meaning.specs.Substitutions.{Substitution, walk, resolved, all_resolved, IsSubstitution}
+use Rattle.dg_meaning.specs.Substitutions.{resolved, all_resolved, IsSubstitution}
 use Rattle.dg_meaning.specs.Unify.{size}
 use Rattle.dg_meaning.proofs.Walks.{or_false, resolved_node, resolved_unbound, walked, size_some}
 use Rattle.dg_unify.specs.Store.{Store, told, Holds, ShowsPair, Shows, label_of}
@@ -27,7 +27,7 @@ use Rattle.dg_interp.specs.declared.spacer.Spacer.{Spacer}
 use Rattle.dg_interp.specs.declared.printing.PrintFault.{PrintFault}
 use Rattle.dg_interp.specs.declared.printing.PrintFault.TheVariants as fault
 use Rattle.dg_interp.specs.Spacer.{StandsFor, Added, growth}
-use Rattle.dg_interp.specs.Printing.{is_wide, first_wide, has_wide, have_wide, AreLetters, shows_nil, single_pieces, end_pieces, as_prints, growth_of, AllAdded, AddsAll, AddsSome, Printed}
+use Rattle.dg_interp.specs.Printing.{is_wide, first_wide, has_wide, have_wide, AreLetters, shows_nil, single_pieces, end_pieces, as_prints, growth_of, AllAdded, AddsAll, Printed}
 
 -- ## Pieces behind pieces
 
@@ -35,7 +35,7 @@ met_on : (m : Met) (es fs : List Print) → met_from m (es ++ fs) ≡ met_from (
 met_on m [] fs = refl
 met_on m (e ∷ es) fs = met_on (met_behind m e) es fs
 
-render_append : (m : Met) (es fs : List Print) → render_from m (es ++ fs) ≡ render_from m es ++ render_from (met_from m es) fs
+pub render_append : (m : Met) (es fs : List Print) → render_from m (es ++ fs) ≡ render_from m es ++ render_from (met_from m es) fs
 render_append m [] fs = refl
 render_append m (e ∷ es) fs =
     ap (λ l. written m e ++ l) (render_append (met_behind m e) es fs)

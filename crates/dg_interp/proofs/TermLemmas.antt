@@ -1,5 +1,5 @@
 -- What a store takes while terms are written to it.
-use Rattle.std.proofs.Common.{◌≡◌, ℕ, zero, suc, ◌+◌, ◌*◌, ◌<◌, ◌≤◌, List, [], ◌∷◌, ◌++◌, refl, sym, ap, ◌∙◌, arith, subst, length, append_assoc, append-nil, Option, Some, None}
+use Rattle.std.proofs.Common.{◌≡◌, ℕ, zero, suc, ◌+◌, ◌*◌, ◌<◌, ◌≤◌, List, [], ◌∷◌, ◌++◌, refl, sym, ap, ◌∙◌, arith, subst, length, append_assoc, append-nil, Some}
 use Rattle.std.specs.Prelude.{map, MatchResult, OnOk, Result, Ok, Err, take, drop, get_or, ◌-◌}
 use Rattle.std.specs.List.{All, flat_map, sum_by}
 use Rattle.std.proofs.Math.Seq.{drop-append_seam, take-append_seam}
@@ -12,15 +12,15 @@ use Rattle.dg_base.specs.declared.program.Term.TheBlock.{hidden-the_row-Term-0}
 use Rattle.dg_base.specs.declared.program.Term.TheVariants.{Pair as Pair-Term, Closure as Closure-Term}
 use Rattle.dg_base.specs.declared.program.CoreProgram.{CoreProgram}
 use Rattle.dg_base.specs.Terms.{nodes}
-use Rattle.dg_meaning.specs.Values.{Value, Var, Nil, leaf, pair, value_of, value_of_var}
+use Rattle.dg_meaning.specs.Values.{Value, Var, pair, value_of}
 use Rattle.dg_meaning.specs.Cells.{node_cells, cells}
 use Rattle.dg_meaning.specs.Closures.{IsNoClosure, HasNoClosure}
 use Rattle.dg_meaning.specs.Moves.{new_vars}
-use Rattle.dg_unify.specs.Store.{State, Store, told, Holds, Kept, Charged, HeapFull, Fresh, Made, label_of}
+use Rattle.dg_unify.specs.Store.{State, Store, told, Holds, Kept, Charged, HeapFull, Fresh, Made}
 use Rattle.dg_unify.specs.declared.bindings.Ref.{Ref}
 use Rattle.dg_unify.specs.declared.bindings.Full.{Full}
 use Rattle.dg_unify.specs.declared.bindings.Full.TheVariants as full
-use Rattle.dg_unify.proofs.StoreLemmas.{told_is, holds_some, holds_told, kept_same, kept_on, kept_holds, kept_told}
+use Rattle.dg_unify.proofs.StoreLemmas.{told_is, holds_some, kept_on, kept_holds, kept_told}
 use Rattle.dg_interp.specs.Terms.{Overflows, Appended, Written, MadeVars, listed, HeadsWritten}
 
 -- ## Charges

@@ -1,5 +1,5 @@
 -- Whether a variable stands in some values of a store.
-use Rattle.std.proofs.Common.{◌≡◌, ℕ, Bool, true, false, refl, sym, ap, ◌∙◌}
+use Rattle.std.proofs.Common.{◌≡◌, Bool, true, false, refl, sym, ap, ◌∙◌}
 use Rattle.std.specs.Prelude.{◌&&◌}
 use Rattle.dg_base.specs.declared.program.TestKind.{TestKind}
 use Rattle.dg_base.specs.declared.program.TestKind.TheVariants as test

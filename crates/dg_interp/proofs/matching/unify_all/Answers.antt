@@ -1,4 +1,4 @@
-use Rattle.std.proofs.Common.{rules, ◌≡◌, true, false, inl, inr}
+use Rattle.std.proofs.Common.{inl, inr}
 use Rattle.dg_interp.proofs.MatchLemmas.{matched, match_full, match_clash, match_on}
 use Rattle.dg_interp.proofs.matching.unify_all.Goals as goal
 

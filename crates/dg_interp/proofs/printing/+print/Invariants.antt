@@ -1,4 +1,3 @@
-use Rattle.std.proofs.Common.{ℕ}
 use Rattle.dg_base.specs.Written.{view}
 use Rattle.dg_meaning.specs.Unify.{size}
 use Rattle.dg_interp.proofs.PrintLemmas.{value_at, room, Listing}

@@ -1,4 +1,4 @@
-use Rattle.std.proofs.Common.{ℕ, suc, ◌*◌, ◌+◌, ◌≤◌, List, length, map}
+use Rattle.std.proofs.Common.{suc, ◌*◌, ◌≤◌, List, length, map}
 use Rattle.dg_base.specs.Terms.{nodes}
 use Rattle.dg_base.specs.declared.program.CoreProgram.{CoreProgram}
 use Rattle.dg_meaning.specs.Closures.{HasNoClosure}

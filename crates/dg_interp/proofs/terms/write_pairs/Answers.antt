@@ -1,4 +1,4 @@
-use Rattle.std.proofs.Common.{rules, ◌≡◌, ◌≤◌, ◌∷◌, [], ◌++◌, ap, ◌∙◌, arith, length, append_assoc}
+use Rattle.std.proofs.Common.{rules, ◌≡◌, ◌≤◌, ◌∷◌, [], ◌++◌, ap, ◌∙◌, length, append_assoc}
 use Rattle.dg_unify.specs.Store.{told}
 use Rattle.dg_unify.proofs.StoreLemmas.{kept_on, kept_holds}
 use Rattle.dg_interp.proofs.TermLemmas.{popped_holds, pairs_on}

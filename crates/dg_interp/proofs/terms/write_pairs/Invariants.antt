@@ -1,4 +1,4 @@
-use Rattle.std.proofs.Common.{◌≡◌, ℕ, ◌*◌, ◌≤◌, ◌++◌, List, length, drop, map}
+use Rattle.std.proofs.Common.{◌≡◌, ◌*◌, ◌≤◌, ◌++◌, List, length, drop, map}
 use Rattle.std.specs.List.{All}
 use Rattle.dg_unify.specs.Store.{Saved, Kept, Made, told, Holds}
 use Rattle.dg_unify.specs.declared.bindings.Ref.{Ref}

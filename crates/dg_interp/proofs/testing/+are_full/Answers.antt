@@ -2,7 +2,7 @@ use Rattle.std.proofs.Common.{sym, ◌∙◌, arith, subst}
 use Rattle.dg_unify.specs.Store.{Shows}
 use Rattle.dg_unify.proofs.StoreLemmas.{walked_to}
 use Rattle.dg_unify.proofs.PartsLemmas.{shown_var, shown_node, last_smaller, first_smaller, rest_smaller}
-use Rattle.dg_interp.proofs.TestLemmas.{full_var, full_inner, full_clash, full_on}
+use Rattle.dg_interp.proofs.TestLemmas.{full_var, full_inner}
 use Rattle.dg_interp.proofs.testing.+are_full.Goals as goal
 
 pub returns-in-Some-variable_of : goal.returns-in-Some-variable_of
