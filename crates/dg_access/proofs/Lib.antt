@@ -3,3 +3,4 @@ pub mod Before
 pub mod PartsLemmas
 pub mod BranchLemmas
 pub mod NumberLemmas
+pub mod NameLemmas
