@@ -1,6 +1,14 @@
 // What the definitions of new names alone say.
-ghost use Rattle.std.specs.Prelude.{◌≡◌, ◌<◌, ◌^◌, ℕ};
+ghost use Rattle.std.specs.Prelude.{◌≡◌, ◌<◌, ◌^◌, ℕ, List, Result};
+ghost use Rattle.dg_base.specs.Tree.{Item};
+ghost use Rattle.dg_base.specs.declared.refusal.Refusal.{Refusal};
 ghost use Rattle.dg_access.specs.Plain.{unnamed_name, choice_name};
+ghost use Rattle.dg_access.specs.Rewritten.{IsRewritten};
+
+/// A tree has one answer: the rewritten tree, or the line at which it is refused.
+pub fn one_answer()
+    ensures { (is : List Item) (a b : Result (List Item) Refusal) → IsRewritten is a → IsRewritten is b → a ≡ b }
+{}
 
 /// Two anonymous variables of an item have two names.
 pub fn unnamed_variables_differ()

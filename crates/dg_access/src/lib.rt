@@ -10,5 +10,5 @@ mod puts;
 mod rules;
 mod setting;
 
-pub use laws::{choices_differ, unnamed_variables_differ};
+pub use laws::{choices_differ, one_answer, unnamed_variables_differ};
 pub use rules::plain_tree;
