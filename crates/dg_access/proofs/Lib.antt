@@ -3,3 +3,5 @@ pub mod Before
 pub mod PartsLemmas
 pub mod BranchLemmas
 pub mod NumberLemmas
+pub mod NameLemmas
+pub mod AnswerLemmas

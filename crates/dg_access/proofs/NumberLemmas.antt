@@ -1,5 +1,5 @@
 -- Numbers that are tried one after the other.
-use Rattle.std.proofs.Common.{◌≡◌, ◌+◌, ◌-◌, ◌<◌, ◌≤◌, ◌∙◌, ℕ, zero, suc, List, Bool, true, false, ap, sym, refl, arith, add-one}
+use Rattle.std.proofs.Common.{◌≡◌, ◌+◌, ◌-◌, ◌<◌, ◌≤◌, ◌∙◌, ℕ, zero, suc, List, Bool, true, false, ap, arith}
 use Rattle.std.specs.Prelude.{if◌then◌else◌}
 use Rattle.dg_access.specs.Items.{begins_one, first_free}
 use Rattle.dg_access.specs.Plain.{choice_mark}

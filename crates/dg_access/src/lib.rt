@@ -2,6 +2,7 @@
 #![tactic(auto)]
 
 mod fresh;
+mod laws;
 mod marks;
 mod numbers;
 mod plain;
@@ -9,4 +10,5 @@ mod puts;
 mod rules;
 mod setting;
 
+pub use laws::{choices_differ, one_answer, unnamed_variables_differ};
 pub use rules::plain_tree;

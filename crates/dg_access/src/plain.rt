@@ -269,27 +269,19 @@ fn plain_stmt(
         Stmt::Group(body) => Ok(Stmt::Group(plain_body(alloc, setting, at, body)?)),
         Stmt::NotGroup(body) => Ok(Stmt::NotGroup(plain_body(alloc, setting, at, body)?)),
         Stmt::First(body) => Ok(Stmt::First(plain_body(alloc, setting, at, body)?)),
-        Stmt::Now(changes) => Ok(Stmt::Now(Items::from_vec(plain_changes(
-            alloc,
-            setting,
-            at,
-            changes.as_slice(),
-        )?))),
-        Stmt::If(arms, None) => Ok(Stmt::If(
-            Items::from_vec(plain_arms(alloc, setting, at, arms.as_slice())?),
-            None,
-        )),
+        Stmt::Now(changes) => {
+            Ok(Stmt::Now(plain_changes(alloc, setting, at, changes.as_slice())?))
+        }
+        Stmt::If(arms, None) => {
+            Ok(Stmt::If(plain_arms(alloc, setting, at, arms.as_slice())?, None))
+        }
         Stmt::If(arms, Some(other)) => {
-            let arms = Items::from_vec(plain_arms(alloc, setting, at, arms.as_slice())?);
+            let arms = plain_arms(alloc, setting, at, arms.as_slice())?;
             Ok(with_other(arms, plain_body(alloc, setting, at, other)?))
         }
-        Stmt::Exhaust(inner) => {
-            let inner = plain_stmt(alloc, setting, at, inner.get())?;
-            Ok(Stmt::Exhaust(Boxed::new(alloc, inner)?))
-        }
+        Stmt::Exhaust(inner) => Ok(Stmt::Exhaust(plain_inner(alloc, setting, at, inner.get())?)),
         Stmt::Stoppable(inner) => {
-            let inner = plain_stmt(alloc, setting, at, inner.get())?;
-            Ok(Stmt::Stoppable(Boxed::new(alloc, inner)?))
+            Ok(Stmt::Stoppable(plain_inner(alloc, setting, at, inner.get())?))
         }
         Stmt::Collect(value, body, into) => {
             let value = plain_value(alloc, setting, at, value)?;
@@ -306,6 +298,19 @@ fn plain_stmt(
             Items::from_vec(plain_select(alloc, setting, at, stmt)?),
         )),
     }
+}
+
+#[cycle(plain)]
+fn plain_inner(
+    alloc: Global,
+    setting: Setting<'_>,
+    at: &mut usize,
+    stmt: &Stmt,
+) -> Result<Boxed<Stmt>, AllocError>
+    ensures stmt { IfOk result (λ new. stmt_view new ≡ spec.plain_stmt (setting_view setting.entry) at.old (stmt_view stmt.now)) }
+    ensures at { OnOk result (at.new ≡ at.old + new_in_stmt (stmt_view stmt.now)) }
+{
+    Boxed::new(alloc, plain_stmt(alloc, setting, at, stmt)?)
 }
 
 // The branches of a select.
@@ -338,8 +343,8 @@ fn plain_arms(
     setting: Setting<'_>,
     at: &mut usize,
     arms: &[Arm],
-) -> Result<Vec<Arm>, AllocError>
-    ensures arms { IfOk result (λ new. arms_of (map arm_view new.items) ≡ spec.plain_arms (setting_view setting.entry) at.old (arms_of (map arm_view arms.now))) }
+) -> Result<Items<Arm>, AllocError>
+    ensures arms { IfOk result (λ new. arms_of (map arm_view new) ≡ spec.plain_arms (setting_view setting.entry) at.old (arms_of (map arm_view arms.now))) }
     ensures at { OnOk result (at.new ≡ at.old + new_in_arms (arms_of (map arm_view arms.now))) }
 {
     let mut new = Vec::new(alloc);
@@ -348,7 +353,7 @@ fn plain_arms(
         let body = plain_body(alloc, setting, at, &arm.body)?;
         new.push(Arm { condition, body })?;
     }
-    Ok(new)
+    Ok(Items::from_vec(new))
 }
 
 #[cycle(plain)]
@@ -358,8 +363,8 @@ fn plain_changes(
     setting: Setting<'_>,
     at: &mut usize,
     changes: &[NowChange],
-) -> Result<Vec<NowChange>, AllocError>
-    ensures changes { IfOk result (λ new. changes_of (map change_view new.items) ≡ spec.plain_changes (setting_view setting.entry) at.old (changes_of (map change_view changes.now))) }
+) -> Result<Items<NowChange>, AllocError>
+    ensures changes { IfOk result (λ new. changes_of (map change_view new) ≡ spec.plain_changes (setting_view setting.entry) at.old (changes_of (map change_view changes.now))) }
     ensures at { OnOk result (at.new ≡ at.old + new_in_changes (changes_of (map change_view changes.now))) }
 {
     let mut new = Vec::new(alloc);
@@ -370,5 +375,5 @@ fn plain_changes(
             set: change.set,
         })?;
     }
-    Ok(new)
+    Ok(Items::from_vec(new))
 }

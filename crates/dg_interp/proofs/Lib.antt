@@ -1,4 +1,8 @@
 pub mod Pieces
+pub mod TermLemmas
+pub mod MatchLemmas
+pub mod TestLemmas
+pub mod PrintLemmas
 pub mod Links
 pub mod Places
 pub mod Plain
@@ -7,4 +11,5 @@ pub mod Branches
 pub mod Asks
 pub mod Runs
 pub mod Whole
+pub mod PrintedWorlds
 pub mod Starts

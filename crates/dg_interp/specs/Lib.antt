@@ -1,4 +1,6 @@
 pub mod Spacer
+pub mod Terms
+pub mod Printing
 pub mod Frames
 pub mod Engine
 pub mod Running

@@ -5,8 +5,12 @@ mod built;
 mod engine;
 mod frames;
 mod interpreter;
+mod matching;
+mod printing;
 mod run;
 mod spacer;
+mod terms;
+mod testing;
 
 pub use built::is_built;
 pub use interpreter::interpret;

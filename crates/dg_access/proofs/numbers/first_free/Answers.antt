@@ -1,4 +1,4 @@
-use Rattle.std.proofs.Common.{◌≡◌, ◌≤◌, ◌∙◌, ℕ, ap, sym, arith, length}
+use Rattle.std.proofs.Common.{◌≡◌, ◌≤◌, ◌∙◌, sym, arith, length}
 use Rattle.dg_access.specs.State.{seen}
 use Rattle.dg_access.proofs.NumberLemmas.{free_end}
 use Rattle.dg_access.proofs.numbers.first_free.Goals as goal

@@ -1,7 +1,7 @@
 use Rattle.std.proofs.Common.{◌≡◌, ◌+◌, ◌≤◌, ◌∙◌, ap, sym, arith, length, map}
 use Rattle.std.proofs.lemmas.Grind.{common_steps}
 use Rattle.dg_base.specs.Tree as tree
-use Rattle.dg_base.specs.TreeView.{branches_view, body_view, stmt_view}
+use Rattle.dg_base.specs.TreeView.{branches_view, stmt_view}
 use Rattle.dg_access.specs.Plain.{plain_body, new_in_body}
 use Rattle.dg_access.specs.State.{setting_view, selected}
 use Rattle.dg_access.proofs.BranchLemmas.{all_done, branches_done, numbers_done}

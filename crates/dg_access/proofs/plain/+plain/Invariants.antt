@@ -1,4 +1,4 @@
-use Rattle.std.proofs.Common.{◌≡◌, ◌+◌, ◌++◌, drop, map}
+use Rattle.std.proofs.Common.{◌≡◌, ◌+◌, drop, map}
 use Rattle.dg_base.specs.Tree as tree
 use Rattle.dg_base.specs.Tree.{parts_of, values_of, stmts_of, arms_of, changes_of}
 use Rattle.dg_base.specs.TreeView.{part_view, value_view, stmt_view, arm_view, change_view, branch_view, branches_view}

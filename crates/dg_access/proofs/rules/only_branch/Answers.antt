@@ -1,4 +1,4 @@
-use Rattle.std.proofs.Common.{◌≡◌, ◌∙◌, ◌++◌, ◌∷◌, [], ap, sym}
+use Rattle.std.proofs.Common.{◌∙◌, ap, sym}
 use Rattle.dg_base.specs.Tree as tree
 use Rattle.dg_access.specs.Plain.{is_single, whole_body}
 use Rattle.dg_access.proofs.BranchLemmas.{popped}
