@@ -7,8 +7,10 @@ mod marks;
 mod numbers;
 mod plain;
 mod puts;
+mod rewriting;
 mod rules;
 mod setting;
 
 pub use laws::{choices_differ, one_answer, unnamed_variables_differ};
+pub use rewriting::rewrite;
 pub use rules::plain_tree;

@@ -173,12 +173,3 @@ pub fn plain_tree(alloc: Global, tree: &Tree) -> Result<Tree, AllocError>
         items: Items::from_vec(new),
     })
 }
-
-/// STUB
-pub fn rewrite(_alloc: Global, tree: Tree, _names: &Names) -> Result<Tree, ReadFault>
-    requires { has_access (tree_view tree) ≡ false }
-    ensures rewritten { IfOk result (λ new. IsRewritten (tree_view tree) (Ok (tree_view new))) }
-    ensures refused { IfErr result (IsFault (λ r. IsRewritten (tree_view tree) (Err r))) }
-{
-    Err(ReadFault::OutOfMemory)
-}

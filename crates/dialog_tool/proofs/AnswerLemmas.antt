@@ -1,5 +1,5 @@
 -- From one program or refusal to the answers on a source.
-use Rattle.std.proofs.Common.{◌≡◌, ◌⊎◌, inl, inr, ℕ, List, Option, Some, None, Ok, Err, Bool, IsTrue, subst, refl}
+use Rattle.std.proofs.Common.{◌≡◌, ◌<◌, ◌⊎◌, inl, inr, ℕ, List, length, Option, Some, None, Ok, Err, Bool, IsTrue, subst, refl}
 use Rattle.std.specs.Prelude.{IsSome}
 use Rattle.dg_base.specs.Causes.{Rose}
 use Rattle.dg_base.specs.Shelves.{Told, held, WhereTold}
@@ -9,7 +9,9 @@ use Rattle.dg_base.specs.declared.program.CoreProgram.{CoreProgram as Core}
 use Rattle.dg_base.specs.declared.refusal.Refusal.{Refusal}
 use Rattle.dg_base.specs.declared.run.Limits.{Limits}
 use Rattle.dg_meaning.specs.Transcript.{no_memory_line}
-use Rattle.dialog_tool.specs.Source.{Compiles}
+use Rattle.dg_base.specs.declared.refusal.Kind.TheVariants.{SourceTooLong}
+use Rattle.dialog_tool.specs.Source.{Compiles, refusal_at}
+use Rattle.dialog_tool.proofs.SourceLemmas.{too_long}
 use Rattle.dialog_tool.specs.Answers
 
 -- the line of a refusal could not be written, or the one on want of memory behind it
@@ -84,3 +86,21 @@ pub file_faults : (told : Told) (sure : Bool) (a a' b b' : ℕ) (left behind : O
     → Answers.ShelfFailed (Some (debug name limits)) told sure a a' old new ⊎ (Answers.InputFailed (Some (debug name limits)) told b b' left behind dice old new ⊎ Answers.OutFailed (Some (debug name limits)) told left dice old new)
 file_faults told sure a a' b b' left behind dice old new name limits rose missing (inl wrote) = inl (record { rose = rose; name = name; file = refl; missing = missing; wrote = wrote })
 file_faults told sure a a' b b' left behind dice old new name limits rose missing (inr broke) = inr (inr (record { text = Answers.file_fault_line name; allowed = Answers.file_fault name refl refl; broke = broke }))
+
+-- ## A source that is too long
+
+pub long_refused : (told : Told) (name : List ℕ) (limits : Limits) (old new : SinkView) (r : Refusal) → r ≡ refusal_at SourceTooLong 1 → WhereTold told (λ contents. 1048576 < length (held (contents name))) → Wrote old new (Answers.refusal_line name r)
+    → Answers.AtSource (Some (debug name limits)) told (Answers.IsRefused old new)
+long_refused None name limits old new r e more wrote = tt
+long_refused (Some contents) name limits old new r e more wrote = record { refusal = r; compiles = rw e (too_long (held (contents name)) more); wrote = wrote }
+
+long_line : (told : Told) (name : List ℕ) (limits : Limits) (r : Refusal) → r ≡ refusal_at SourceTooLong 1 → WhereTold told (λ contents. 1048576 < length (held (contents name)))
+    → Answers.AtSource (Some (debug name limits)) told (Answers.IsRefusalLine (Answers.refusal_line name r))
+long_line None name limits r e more = tt
+long_line (Some contents) name limits r e more = record { refusal = r; compiles = rw e (too_long (held (contents name)) more); is = refl }
+
+pub long_faults : (told : Told) (sure : Bool) (a a' b b' : ℕ) (left behind : Option (List ℕ)) (dice : List ℕ) (old new : SinkView) (name : List ℕ) (limits : Limits) (r : Refusal) → r ≡ refusal_at SourceTooLong 1 → WhereTold told (λ contents. 1048576 < length (held (contents name)))
+    → BrokeOff old new (Answers.refusal_line name r) ⊎ BrokeOff old new no_memory_line
+    → Answers.ShelfFailed (Some (debug name limits)) told sure a a' old new ⊎ (Answers.InputFailed (Some (debug name limits)) told b b' left behind dice old new ⊎ Answers.OutFailed (Some (debug name limits)) told left dice old new)
+long_faults told sure a a' b b' left behind dice old new name limits r e more (inl broke) = inr (inr (record { text = Answers.refusal_line name r; allowed = Answers.refusal (long_line told name limits r e more); broke = broke }))
+long_faults told sure a a' b b' left behind dice old new name limits r e more (inr broke) = inr (inr (record { text = no_memory_line; allowed = Answers.no_memory refl; broke = broke }))

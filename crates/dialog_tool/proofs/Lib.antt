@@ -2,8 +2,10 @@ pub mod DigitLemmas
 pub mod DiceLemmas
 pub mod OptionLemmas
 pub mod RewrittenLemmas
-pub mod BuiltLemmas
 pub mod SourceLemmas
 pub mod AnswerLemmas
 pub mod PlayLemmas
 pub mod StoryLemmas
+pub mod NodeLemmas
+pub mod BuiltTemp
+pub mod CoreLemmas

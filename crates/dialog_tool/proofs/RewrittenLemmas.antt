@@ -1,5 +1,5 @@
 -- What is built in a source is built once its heads are plain.
-use Rattle.std.proofs.Common.{◌≡◌, ℕ, List, [], ◌∷◌, ◌++◌, ◌&&◌, ◌+◌, Bool, true, false, Option, Some, None, refl, sym, ◌∙◌, ap, subst}
+use Rattle.std.proofs.Common.{◌≡◌, ℕ, List, [], ◌∷◌, ◌++◌, ◌&&◌, ◌||◌, ◌+◌, Bool, true, false, Option, Some, None, refl, sym, ◌∙◌, ap, subst}
 use Rattle.std.specs.Prelude.{if◌then◌else◌}
 use Rattle.std.proofs.lemmas.Bool.{and_parts, and_from}
 use Rattle.dg_base.specs.Heads.{part_name, parts_behind, name_of}
@@ -8,6 +8,7 @@ use Rattle.dg_base.specs.Tree as tree
 use Rattle.dg_base.specs.Tree.{Part, Parts, Value, Values, Stmt, Stmts, Body, Arms, Said, Item}
 use Rattle.dg_access.specs.Plain.{Setting, topic_value, first_value, standing_for, choice_name, new_in_value, new_in_values, new_in_parts, new_in_part, new_in_stmt, new_in_stmts, new_in_body, new_in_arms, plain_value, plain_values, plain_parts, plain_part, plain_stmt, plain_stmts, plain_body, plain_arms, word_branches, puts_of_value, puts_of_values, puts_of_parts, puts_of_part, in_front, whole_body, put_before, rule_body}
 use Rattle.dg_access.specs.Items.{in_rule, plain_said, topic_behind, plain_items}
+use Rattle.dg_access.specs.Rewritten.{is_access, has_access}
 use Rattle.dg_lower.specs.Forms.{is_asked, are_parts, is_value, are_values, is_query, is_stmt, are_stmts, is_body, are_arms, is_rule, is_item, first_unbuilt, are_built}
 use Rattle.dg_lower.specs.declared.forms.Zone.{Zone}
 use Rattle.dg_lower.specs.declared.forms.Zone.TheVariants.{Head, Body as InBody, Rewritten}
@@ -223,3 +224,15 @@ items_built t [] h = refl
 items_built t (i ∷ is) h =
     let each = first_is_built i is h in
     both _ _ (item_built t i.said each.0) (items_built (topic_behind t i.said) is each.1)
+
+-- no access rule is built
+pub none_accesses : (is : List Item) → first_unbuilt is ≡ None → has_access is ≡ false
+none_accesses [] h = refl
+none_accesses (i ∷ is) h = let each = first_is_built i is h in here i.said each.0 (none_accesses is each.1)
+  where
+    here : (said : Said) → is_item Head InBody said ≡ true → has_access is ≡ false → (is_access said || has_access is) ≡ false
+    here (tree.topic n) k rest = rest
+    here (tree.rule ps b) k rest = rest
+    here (tree.deny ps b) k rest = rest
+    here (tree.access ps b) k rest = cc
+    here (tree.global_variable ps) k rest = rest

@@ -1,11 +1,14 @@
 -- A source has one answer.
-use Rattle.std.proofs.Common.{◌≡◌, ◌⊎◌, inl, inr, ℕ, List, map, Option, Some, None, Result, Ok, Err, refl, sym, ◌∙◌, ap, subst}
+use Rattle.std.proofs.Common.{◌≡◌, ◌<◌, ◌⊎◌, inl, inr, ℕ, List, length, map, true, Option, Some, None, Result, Ok, Err, refl, sym, ◌∙◌, ap, subst, arith}
+use Rattle.std.specs.Prelude.{nat_lt}
+use Rattle.std.proofs.lemmas.Bool.Decides.{nat_tests}
 use Rattle.dg_base.specs.Tree.{Item}
 use Rattle.dg_base.specs.Faults.{IsFault}
 use Rattle.dg_base.specs.declared.program.CoreProgram.{CoreProgram as Core}
 use Rattle.dg_base.specs.declared.refusal.ReadFault.{ReadFault}
 use Rattle.dg_base.specs.declared.refusal.ReadFault.TheVariants as fault
 use Rattle.dg_base.specs.declared.refusal.Refusal.{Refusal}
+use Rattle.dg_base.specs.declared.refusal.Kind.TheVariants.{NotBuiltYet, SourceTooLong}
 use Rattle.dg_lex.specs.Bad.{refusal_of}
 use Rattle.dg_lex.specs.Tokens.{IsLexed, Seen, seen, without_mark}
 use Rattle.dg_lex.specs.declared.token.Token.{Token}
@@ -18,13 +21,13 @@ use Rattle.dg_names.specs.Counts.{IsNamed}
 use Rattle.dg_names.proofs.NameLemmas.{one_answer as named_one}
 use Rattle.dg_access.specs.Rewritten.{IsRewritten}
 use Rattle.dg_lower.specs.Forms.{first_unbuilt}
-use Rattle.dialog_tool.specs.Source.{program_of, IsProgram, not_named, not_built, not_rewritten, lowered, Compiles, not_lexed, not_read, read}
+use Rattle.dialog_tool.specs.Source.{refusal_at, program_of, IsProgram, not_named, not_built, not_rewritten, lowered, Compiles, not_lexed, not_read, read}
 
 rewritten_one : (is : List Item) (a b : Result (List Item) Refusal) → IsRewritten is a → IsRewritten is b → a ≡ b
 rewritten_one is (Ok x) (Ok y) h k = ap Ok (h.1 ∙ sym k.1)
-rewritten_one is (Ok x) (Err s) h k = let same = sym h.0 ∙ k.1.0 in cc
-rewritten_one is (Err r) (Ok y) h k = let same = sym k.0 ∙ h.1.0 in cc
-rewritten_one is (Err r) (Err s) h k = let same = sym h.1.0 ∙ k.1.0 in let one = h.1.1 in let other = k.1.1 in cc
+rewritten_one is (Ok x) (Err s) h k = let same = sym h.0 ∙ k.1 in cc
+rewritten_one is (Err r) (Ok y) h k = let same = sym k.0 ∙ h.1 in cc
+rewritten_one is (Err r) (Err s) h k = let same = sym h.1 ∙ k.1 in let one = h.2 in let other = k.2 in cc
 
 program_one : (is : List Item) (a b : Result Core Refusal) → IsProgram is a → IsProgram is b → a ≡ b
 program_one is a b (not_named r h e) (not_named s k f) = let same = named_one is (Err r) (Err s) h k in cc
@@ -66,9 +69,29 @@ one_answer source a b (read none ts h is x e) (read none' us k js y f) =
 
 -- ## From the calls to the answer
 
+pub unnamed_of : (is : List Item) (f : ReadFault) → IsFault (λ r. IsNamed is (Err r)) f → IsFault (λ r. IsProgram is (Err r)) f
+unnamed_of is f h = fault_map _ _ (λ r k. not_named r k refl) f h
+
+pub unbuilt_of : (is : List Item) (named : Named) (line : ℕ) → IsNamed is (Ok named) → Some line ≡ first_unbuilt is → IsProgram is (Err (refusal_at NotBuiltYet line))
+unbuilt_of is named line h e = not_built named h line (sym e) refl
+
+-- what the items with plain heads come to
+abbrev pub Comes : List Item → Named → Result Core Refusal → Type 0
+Comes is named answer = (plain : List Item) × IsRewritten is (Ok plain) × (answer ≡ program_of named plain)
+
+pub built_of : (is : List Item) (named : Named) (p : Core) → IsNamed is (Ok named) → None ≡ first_unbuilt is → Comes is named (Ok p) → IsProgram is (Ok p)
+built_of is named p h e k = lowered named h (sym e) k.0 k.1 k.2
+
+pub late_of : (is : List Item) (named : Named) (f : ReadFault) → IsNamed is (Ok named) → None ≡ first_unbuilt is → IsFault (λ r. IsRewritten is (Err r) ⊎ Comes is named (Err r)) f → IsFault (λ r. IsProgram is (Err r)) f
+late_of is named f h e k = fault_map _ _ each f k
+  where
+    each : (r : Refusal) → IsRewritten is (Err r) ⊎ Comes is named (Err r) → IsProgram is (Err r)
+    each r (inl m) = not_rewritten named h (sym e) r m refl
+    each r (inr m) = lowered named h (sym e) m.0 m.1 m.2
+
 pub not_lexed_of : (source : List ℕ) (f : ReadFault) → (f ≡ fault.OutOfMemory) ⊎ ((r : Refusal) × (refusal_of source ≡ Some r) × (f ≡ fault.Refused r)) → IsFault (λ r. Compiles source (Err r)) f
 not_lexed_of source f (inl e) = rw e tt
-not_lexed_of source f (inr h) = rw h.1.1 (not_lexed h.0 h.1.0 refl)
+not_lexed_of source f (inr h) = rw h.2 (not_lexed h.0 h.1 refl)
 
 pub not_read_of : (source : List ℕ) (tokens given : List Token) (f : ReadFault) → refusal_of source ≡ None → IsLexed source tokens → given ≡ tokens
     → IsFault (λ r. IsRead (map seen given) (Err r)) f → IsFault (λ r. Compiles source (Err r)) f
@@ -83,3 +106,8 @@ read_of source tokens given items answer none lexed same is program =
 pub refused_of : (source : List ℕ) (tokens given : List Token) (items : List Item) (f : ReadFault) → refusal_of source ≡ None → IsLexed source tokens → given ≡ tokens
     → IsRead (map seen given) (Ok items) → IsFault (λ r. IsProgram items (Err r)) f → IsFault (λ r. Compiles source (Err r)) f
 refused_of source tokens given items f none lexed same is h = fault_map _ _ (λ r k. read_of source tokens given items (Err r) none lexed same is k) f h
+
+-- ## A source that is too long
+
+pub too_long : (source : List ℕ) → 1048576 < length source → Compiles source (Err (refusal_at SourceTooLong 1))
+too_long source more = let test : nat_lt 1048576 (length source) ≡ true = grind (arith, nat_tests) in not_lexed (refusal_at SourceTooLong 1) (rw test refl) refl

@@ -5,6 +5,7 @@ use Rattle.std.proofs.lemmas.Bool.Decides.{nat_tests}
 use Rattle.dg_base.specs.Causes.{Rose}
 use Rattle.dg_base.specs.Shelves.{Told, held, WhereTold}
 use Rattle.dg_base.specs.Written.{SinkView, Wrote, BrokeOff}
+use Rattle.dg_base.specs.declared.run.Limits.{Limits}
 use Rattle.dg_meaning.specs.Transcript.{no_memory_line}
 use Rattle.z_model.specs.declared.story.StoryRefusal.TheVariants.{BadLength}
 use Rattle.z_model.specs.Story.{refusal_of}

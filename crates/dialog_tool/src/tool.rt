@@ -92,6 +92,7 @@ fn run_source<S: Source, K: Sink>(
 }
 
 // Fetches, reads and runs a source.
+#[tactic(auto, using(crate::proofs::SourceLemmas::too_long))]
 fn debug<F: Shelf, S: Source, K: Sink>(
     alloc: Global,
     name: &str,

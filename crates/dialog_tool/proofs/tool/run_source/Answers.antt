@@ -19,10 +19,10 @@ returns-in-Ok-clause-fault g c = λ is. elim (c.run_program.ensures.fault is) [
 ]
 
 pub returns-in-Err-Refused-clause-refused : goal.returns-in-Err-Refused-clause-refused
-returns-in-Err-Refused-clause-refused g c = let compiles = rw c.in-Err-Refused.field-0-is at c.in-Err-Refused.ensures.refused in λ is. record { refusal = c.in-Err-Refused.refusal; compiles = compiles; wrote = c.refuse.ensures.line is }
+returns-in-Err-Refused-clause-refused g c = let compiles = rw c.in-Err-Refused.field-0-is at c.in-Err-Refused.ensures.refused in λ is. record { refusal = c.in-Err-Refused.refusal; compiles = compiles; wrote = rw c.in-Err-Refused.refusal-is at (c.refuse.ensures.line is) }
 
 pub returns-in-Err-Refused-clause-runs : goal.returns-in-Err-Refused-clause-runs
 returns-in-Err-Refused-clause-runs g c = let compiles = rw c.in-Err-Refused.field-0-is at c.in-Err-Refused.ensures.refused in λ p accepted. let same = one_answer c.args.source.now (Err c.in-Err-Refused.refusal) (Ok p) compiles accepted in cc
 
 pub returns-in-Err-Refused-clause-fault : goal.returns-in-Err-Refused-clause-fault
-returns-in-Err-Refused-clause-fault g c = let compiles = rw c.in-Err-Refused.field-0-is at c.in-Err-Refused.ensures.refused in λ is. inr (refusal_lost _ _ _ _ _ _ _ c.in-Err-Refused.refusal compiles (c.refuse.ensures.fault is))
+returns-in-Err-Refused-clause-fault g c = let compiles = rw c.in-Err-Refused.field-0-is at c.in-Err-Refused.ensures.refused in λ is. inr (refusal_lost _ _ _ _ _ _ _ c.in-Err-Refused.refusal compiles (rw c.in-Err-Refused.refusal-is at (c.refuse.ensures.fault is)))
