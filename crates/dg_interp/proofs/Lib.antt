@@ -1,10 +1,9 @@
 pub mod Pieces
 pub mod Links
 pub mod Places
-pub mod Plain
 pub mod Turns
+pub mod Stores
+pub mod Entering
+pub mod Kept
+pub mod Begins
 pub mod Branches
-pub mod Asks
-pub mod Runs
-pub mod Whole
-pub mod Starts

@@ -1,5 +1,5 @@
 pub mod Spacer
+pub mod Terms
+pub mod Rules
 pub mod Frames
 pub mod Engine
-pub mod Running
-pub mod Interpret

@@ -1,15 +1,9 @@
 //! The interpreter: it runs a core program and writes what its meaning says.
 #![tactic(auto)]
 
-mod built;
 mod engine;
 mod frames;
-mod interpreter;
-mod run;
+mod matching;
 mod spacer;
+mod terms;
 
-pub use built::is_built;
-pub use interpreter::interpret;
-
-#[cfg(test)]
-mod tests;
