@@ -1,4 +1,8 @@
 pub mod Pieces
+pub mod TermLemmas
+pub mod MatchLemmas
+pub mod TestLemmas
+pub mod PrintLemmas
 pub mod Links
 pub mod Places
 pub mod Turns

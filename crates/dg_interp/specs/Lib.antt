@@ -1,5 +1,6 @@
 pub mod Spacer
 pub mod Terms
+pub mod Printing
 pub mod Rules
 pub mod Frames
 pub mod Engine

@@ -4,6 +4,7 @@
 mod engine;
 mod frames;
 mod matching;
+mod printing;
 mod spacer;
 mod terms;
-
+mod testing;

@@ -1,12 +1,12 @@
 // Spaces between pieces, and the closing.
-ghost use Rattle.std.specs.Prelude.{◌≡◌, ◌+◌, List, [], Some, OnOk, OnErr};
+ghost use Rattle.std.specs.Prelude.{◌≡◌, ◌+◌, ◌++◌, List, [], Some, OnOk, OnErr, codes};
 ghost use Rattle.dg_meaning.specs.World.{Print, Piece as PieceOf};
 ghost use Rattle.dg_meaning.specs.Render.{opens as is_opening, closes as is_closing, separator, first_of, last_of};
 ghost use Rattle.dg_meaning.specs.Transcript.{newline_behind};
 ghost use Rattle.dg_base.specs.Written.{view, Wrote, BrokeOff};
 ghost use Rattle.dg_interp.specs.Spacer.{StandsFor, Added, growth, ending_line};
 
-use dg_base::{Sink, WriteFault, write_all};
+use dg_base::{Sink, WriteFault, write_all, write_both};
 
 /// What is known of the text so far.
 #[derive(Clone, Copy, Drop)]
@@ -92,6 +92,21 @@ impl Spacer {
             return Err(WriteFault);
         }
         self.last = last_of_piece(self.last, piece);
+        Ok(())
+    }
+
+    /// Writes the name of an object as a piece, with a `#` before it.
+    pub fn object<K: Sink>(&mut self, sink: &mut K, name: &[u8]) -> Result<(), WriteFault>
+        ensures ok { OnOk result ((es : List Print) → StandsFor self.old es → Added (PieceOf (codes "#" ++ name.now)) es (view (K.taken sink.old) (K.room sink.old) (K.faults sink.old)) (view (K.taken sink.new) (K.room sink.new) (K.faults sink.new)) self.new) }
+        ensures err { OnErr result ((es : List Print) → StandsFor self.old es → BrokeOff (view (K.taken sink.old) (K.room sink.old) (K.faults sink.old)) (view (K.taken sink.new) (K.room sink.new) (K.faults sink.new)) (growth es (PieceOf (codes "#" ++ name.now)))) }
+    {
+        if let Err(_) = write_all(sink, separator_of(self.last, b'#')) {
+            return Err(WriteFault);
+        }
+        if let Err(_) = write_both(sink, b"#", name) {
+            return Err(WriteFault);
+        }
+        self.last = last_of_piece(Some(b'#'), name);
         Ok(())
     }
 

@@ -5,6 +5,7 @@ pub mod Unifiers
 pub mod Spellings
 pub mod World
 pub mod Cells
+pub mod Closures
 pub mod Pieces
 pub mod TypeTests
 pub mod Path

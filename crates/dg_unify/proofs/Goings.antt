@@ -99,16 +99,16 @@ pub record Going (old now : Store) (p0 q0 p q : Parts) : Type 0 where
   pub same : solve old.state.subst (equations old p0 q0) ≡ counted before (solve now.state.subst (equations now p q))
   pub smaller : need now p q ≤ need old p0 q0
 
-counted_none : (u : Unified) → u ≡ counted 0 u
+pub counted_none : (u : Unified) → u ≡ counted 0 u
 counted_none u = ap (λ n. record { agrees = u.agrees; subst = u.subst; count = n }) (omega arith)
 
-counted_twice : (b c : ℕ) (u : Unified) → counted b (counted c u) ≡ counted (b + c) u
+pub counted_twice : (b c : ℕ) (u : Unified) → counted b (counted c u) ≡ counted (b + c) u
 counted_twice b c u = ap (λ n. record { agrees = u.agrees; subst = u.subst; count = n }) (omega arith)
 
 pub going_starts : (s : Store) (p q : Parts) → AreIn s p → AreIn s q → Going s s p q p q
 going_starts s p q hp hq = record { kept = kept_same s; p_in = hp; q_in = hq; binds = more_same s.state; before = 0; same = counted_none (solve s.state.subst (equations s p q)); smaller = omega arith }
 
-binds_on : (old mid new : State) → OnlyBinds old mid → OnlyBinds mid new → OnlyBinds old new
+pub binds_on : (old mid new : State) → OnlyBinds old mid → OnlyBinds mid new → OnlyBinds old new
 binds_on old mid new k l =
     let e : trail_of old.since mid.subst ≡ trail_of mid.since mid.subst = ap (λ s. trail_of s mid.subst) (sym k.since) in
     let f : trail_of old.since new.subst ≡ trail_of mid.since new.subst = ap (λ s. trail_of s new.subst) (sym k.since) in
@@ -123,7 +123,7 @@ trail_append : (since : ℕ) (xs ys : Substitution) → trail_of since (xs ++ ys
 trail_append since [] ys = omega arith
 trail_append since (x ∷ xs) ys = omega (arith, trail_append since xs ys)
 
-full_later : (old now : Store) → Kept old now → OnlyBinds old.state now.state → (part whole : Unified) → (extra : Substitution) → whole.subst ≡ extra ++ part.subst → (e : Full) → UnifyFull now part e → UnifyFull old whole e
+pub full_later : (old now : Store) → Kept old now → OnlyBinds old.state now.state → (part whole : Unified) → (extra : Substitution) → whole.subst ≡ extra ++ part.subst → (e : Full) → UnifyFull now part e → UnifyFull old whole e
 full_later old now k b part whole extra is full.Heap h = h
 full_later old now k b part whole extra is full.Trail h =
     let since = old.state.since in
@@ -173,7 +173,7 @@ none_done s sound p q h =
 then_count : (u : Unified) (next : Substitution → Unified) → u.count ≤ (and_then u next).count
 then_count u next = elim (u.agrees) as (λ t. u.count ≤ (if t then counted u.count (next u.subst) else u).count) [ true ↦ omega arith | false ↦ omega arith ]
 
-then_extends : (u : Unified) (next : Substitution → Unified) → ((S : Substitution) → S ≡ u.subst → Extends S (next S).subst) → (extra : Substitution) × ((and_then u next).subst ≡ extra ++ u.subst)
+pub then_extends : (u : Unified) (next : Substitution → Unified) → ((S : Substitution) → S ≡ u.subst → Extends S (next S).subst) → (extra : Substitution) × ((and_then u next).subst ≡ extra ++ u.subst)
 then_extends u next h =
     cond_both u.agrees (counted u.count (next u.subst)) u (λ (x : Unified). (extra : Substitution) × (x.subst ≡ extra ++ u.subst))
     (λ e. let w = h u.subst refl in (w.made, w.is))

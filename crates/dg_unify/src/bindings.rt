@@ -135,6 +135,9 @@ pub trait Bindings {
     /// What is bound is a substitution.
     ghost sound: { (s : Self) → IsSubstitution (meaning s).state.subst };
 
+    /// What was taken of the heap is within its limit.
+    ghost within: { (s : Self) → (meaning s).state.heap ≤ (meaning s).heap_limit };
+
     /// Of two variables the younger has the greater number in its Ref.
     ghost younger: { (s : Self) (r q : Ref) (m n : ℕ) → (meaning s).value r ≡ Some (Var m) → (meaning s).value q ≡ Some (Var n) → r.0 < q.0 → m < n };
 

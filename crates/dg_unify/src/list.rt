@@ -125,6 +125,8 @@ impl Bindings for ListBindings {
 
     ghost sound = { λ s. s.sound.fits.sound };
 
+    ghost within = { λ s. s.sound.heap_fits };
+
     ghost younger = { λ s. slots_younger s.slots.items (reverse (log_of s.links)) (vars_of s.links) s.sound.fits };
 
     ghost starts = { λ s. tt };

@@ -1,0 +1,75 @@
+use Rattle.std.proofs.Common.{rules, ◌≡◌, ◌≤◌, ◌∷◌, [], ◌++◌, ap, ◌∙◌, sym, subst, arith, length, map, Ok, Err}
+use Rattle.dg_base.specs.Terms.{nodes}
+use Rattle.dg_base.specs.declared.program.Term.{Term}
+use Rattle.dg_meaning.specs.Closures.{HasNoClosure}
+use Rattle.dg_unify.specs.Store.{told}
+use Rattle.dg_unify.proofs.StoreLemmas.{kept_on, holds_some}
+use Rattle.dg_interp.proofs.TermLemmas.{all_kept, map_kept, pair_nodes, pair_plain, heads_full, heads_step, no_program, appended_length, appended_hold, leaf_full, term_written, stack_back}
+use Rattle.dg_interp.proofs.terms.+write.Goals as goal
+
+pub write_heads-write_term-requires : goal.write_heads-write_term-requires
+write_heads-write_term-requires g t c κs within =
+    let old = g.B.Bindings.meaning c.args.store.now in
+    let now = g.B.Bindings.meaning c.heads.store in
+    let n = pair_nodes c.heads.term.now c.in-Pair.head c.in-Pair.tail c.in-Pair.is in
+    let h = ap (λ (x : Term). length (nodes x)) c.get.ensures in
+    (omega (arith, n, h, c.heads.invariant.smaller, c.decreases), (within, (all_kept old now c.args.env.now c.heads.invariant.kept c.requires.env, subst HasNoClosure (sym c.get.ensures) (pair_plain c.heads.term.now c.in-Pair.head c.in-Pair.tail c.in-Pair.is c.heads.invariant.plain).0)))
+
+pub write_heads-returns-in-Err-clause-written : goal.write_heads-returns-in-Err-clause-written
+write_heads-returns-in-Err-clause-written g t c = λ program.
+    let old = g.B.Bindings.meaning c.args.store.now in
+    let now = g.B.Bindings.meaning c.heads.store in
+    heads_full program (map (told old) c.args.env.now) c.args.term.now c.heads.term.now c.in-Pair.head c.in-Pair.tail c.get.result.now old now c.args.to.now.items c.heads.to.items c.heads.invariant.kept (c.heads.invariant.written program) c.in-Pair.is c.get.ensures c.in-Err.e (c.in-Err.ensures.written program)
+
+pub write_heads-heads-smaller : goal.write_heads-heads-smaller
+write_heads-heads-smaller g t c =
+    omega (arith, pair_nodes c.heads.term.now c.in-Pair.head c.in-Pair.tail c.in-Pair.is, ap (λ (x : Term). length (nodes x)) c.get-term.ensures)
+
+pub write_heads-heads-preserved : goal.write_heads-heads-preserved
+write_heads-heads-preserved g t c =
+    let old = g.B.Bindings.meaning c.args.store.now in
+    let now = g.B.Bindings.meaning c.heads.store in
+    let new = g.B.Bindings.meaning c.write_term.new.store in
+    let items : c.push.new.self.items ≡ c.heads.to.items ++ c.in-Ok.head ∷ [] = search rules in
+    record {
+      kept = kept_on old now new c.heads.invariant.kept c.in-Ok.ensures.kept;
+      saved = λ ms h. c.in-Ok.ensures.saved ms (c.heads.invariant.saved ms h);
+      written = λ program.
+          heads_step program (map (told old) c.args.env.now) (map (told now) c.args.env.now) c.args.term.now c.heads.term.now c.in-Pair.head c.in-Pair.tail c.get.result.now c.get-term.result.now old now new c.args.to.now.items c.heads.to.items c.push.new.self.items c.in-Ok.head
+          c.heads.invariant.kept c.in-Ok.ensures.kept (c.heads.invariant.written program) c.in-Pair.is c.get.ensures c.get-term.ensures (map_kept old now c.args.env.now c.heads.invariant.kept c.requires.env) (c.in-Ok.ensures.written program) items;
+      plain = subst HasNoClosure (sym c.get-term.ensures) (pair_plain c.heads.term.now c.in-Pair.head c.in-Pair.tail c.in-Pair.is c.heads.invariant.plain).1;
+      smaller = omega (arith, pair_nodes c.heads.term.now c.in-Pair.head c.in-Pair.tail c.in-Pair.is, ap (λ (x : Term). length (nodes x)) c.get-term.ensures, c.heads.invariant.smaller);
+    }
+
+pub write_term-write_pairs-requires-clause-height : goal.write_term-write_pairs-requires-clause-height
+write_term-write_pairs-requires-clause-height g t c =
+    let w = c.in-Ok.ensures.written no_program in
+    omega (arith, c.len-height.ensures, appended_length (g.B.Bindings.meaning c.write_heads.new.store) w.heads c.args.stack.now.items c.write_heads.new.to.items w.written.appended)
+
+pub write_term-write_pairs-requires-clause-heads : goal.write_term-write_pairs-requires-clause-heads
+write_term-write_pairs-requires-clause-heads g t c =
+    let w = c.in-Ok.ensures.written no_program in
+    appended_hold (g.B.Bindings.meaning c.write_heads.new.store) (g.B.Bindings.meaning c.write_leaf.new.store) w.heads c.args.stack.now.items c.write_heads.new.to.items c.len-height.result c.in-Ok-write_leaf.ensures.kept w.written.appended (search rules)
+
+pub write_term-write_pairs-requires-clause-tail : goal.write_term-write_pairs-requires-clause-tail
+write_term-write_pairs-requires-clause-tail g t c =
+    holds_some (g.B.Bindings.meaning c.write_leaf.new.store) c.in-Ok-write_leaf.tail _ (c.in-Ok-write_leaf.ensures.written no_program).value
+
+pub write_term-returns-in-Err-write_leaf-clause-written : goal.write_term-returns-in-Err-write_leaf-clause-written
+write_term-returns-in-Err-write_leaf-clause-written g t c = λ program.
+    let old = g.B.Bindings.meaning c.args.store.now in
+    let now = g.B.Bindings.meaning c.write_heads.new.store in
+    leaf_full program (map (told old) c.args.env.now) c.args.term.now c.in-Ok.last.now old now c.args.stack.now.items c.write_heads.new.to.items c.in-Ok.ensures.kept (c.in-Ok.ensures.written program) c.in-Err-write_leaf.e (c.in-Err-write_leaf.ensures.written program)
+
+pub write_term-returns-in-Ok-write_leaf-clause-written : goal.write_term-returns-in-Ok-write_leaf-clause-written
+write_term-returns-in-Ok-write_leaf-clause-written g t c = λ program.
+    let old = g.B.Bindings.meaning c.args.store.now in
+    let now = g.B.Bindings.meaning c.write_heads.new.store in
+    let later = g.B.Bindings.meaning c.write_leaf.new.store in
+    term_written program (map (told old) c.args.env.now) (map (told now) c.args.env.now) c.args.term.now c.in-Ok.last.now old now later (g.B.Bindings.meaning c.write_pairs.new.store) c.args.stack.now.items c.write_heads.new.to.items c.len-height.result c.in-Ok-write_leaf.tail c.write_pairs.result
+    c.in-Ok.ensures.kept c.in-Ok-write_leaf.ensures.kept (c.in-Ok.ensures.written program) (map_kept old now c.args.env.now c.in-Ok.ensures.kept c.requires.env) (c.in-Ok-write_leaf.ensures.written program) (search rules) c.write_pairs.ensures.written
+
+pub write_term-returns-in-Ok-write_leaf-clause-stack : goal.write_term-returns-in-Ok-write_leaf-clause-stack
+write_term-returns-in-Ok-write_leaf-clause-stack g t c =
+    let w = c.in-Ok.ensures.written no_program in
+    stack_back (g.B.Bindings.meaning c.write_heads.new.store) w.heads c.args.stack.now.items c.write_heads.new.to.items c.write_pairs.new.from.items c.len-height.result c.write_pairs.result w.written.appended (search rules) c.write_pairs.ensures.taken

@@ -1,0 +1,176 @@
+// The values of a program's terms, written to a store.
+
+ghost use Rattle.std.specs.Prelude.{◌≡◌, ℕ, ◌+◌, ◌-◌, ◌*◌, ◌≤◌, ◌<◌, List, [], ◌∷◌, All, MatchResult, IfOk, OnOk, map, length, take, drop};
+ghost use Rattle.dg_base.specs.declared.program.Term.{out-Term};
+ghost use Rattle.dg_base.specs.declared.program.CoreProgram.{CoreProgram};
+ghost use Rattle.dg_meaning.specs.Values.{value_of, value_of_var as value_in};
+ghost use Rattle.dg_meaning.specs.Cells.{cells};
+ghost use Rattle.dg_meaning.specs.Closures.{HasNoClosure};
+ghost use Rattle.dg_unify.specs.Store.{Saved, told, Holds, Kept, Made};
+ghost use Rattle.dg_interp.specs.Terms.{Overflows, Written, MadeVars, IsNoPair, listed, HeadsWritten};
+
+use dg_base::{Simple, Term};
+use dg_unify::{Bindings, Full, Ref};
+
+// The value of a variable; one without a value is the empty list.
+fn write_var<B: Bindings>(store: &mut B, env: &[Ref], var: u16) -> Result<Ref, Full>
+    requires { All (Holds (B.meaning store.old)) env.now }
+    ensures kept { Kept (B.meaning store.old) (B.meaning store.new) }
+    ensures saved { (ms : List Saved) → B.saves store.old ms → B.saves store.new ms }
+    ensures written { MatchResult result (λ r. Made 0 (B.meaning store.old) (B.meaning store.new) r (value_in (map (told (B.meaning store.old)) env.now) var)) (λ e. Overflows 0 (B.meaning store.old) e) }
+{
+    match env.get(var as usize) {
+        Some(value) => Ok(*value),
+        None => store.value(Simple::Nil),
+    }
+}
+
+// The value of a term without parts.
+fn write_leaf<B: Bindings>(store: &mut B, env: &[Ref], term: &Term) -> Result<Ref, Full>
+    requires env { All (Holds (B.meaning store.old)) env.now }
+    requires plain { HasNoClosure term.now }
+    requires no_pair { IsNoPair (out-Term term.now) }
+    ensures kept { Kept (B.meaning store.old) (B.meaning store.new) }
+    ensures saved { (ms : List Saved) → B.saves store.old ms → B.saves store.new ms }
+    ensures written { (program : CoreProgram) → MatchResult result (λ r. Made (cells program (term.now ∷ [])) (B.meaning store.old) (B.meaning store.new) r (value_of program (map (told (B.meaning store.old)) env.now) term.now)) (λ e. Overflows (cells program (term.now ∷ [])) (B.meaning store.old) e) }
+{
+    match term {
+        Term::Num(n) => store.value(Simple::Num(*n)),
+        Term::Word(n) => store.value(Simple::Word(*n)),
+        Term::Object(n) => store.value(Simple::Object(*n)),
+        Term::Nil => store.value(Simple::Nil),
+        Term::Var(var) => write_var(store, env, *var),
+        Term::Pair(_, _) => unreachable!(),
+        Term::Closure(_) => unreachable!(),
+    }
+}
+
+// Writes the elements of a term, which is a list with any tail, behind a list; what is left is the tail.
+#[cycle(write)]
+fn write_heads<'t, B: Bindings>(
+    store: &mut B,
+    env: &[Ref],
+    term: &'t Term,
+    to: &mut Vec<Ref>,
+) -> Result<&'t Term, Full>
+    requires env { All (Holds (B.meaning store.old)) env.now }
+    requires plain { HasNoClosure term.now }
+    ensures kept { Kept (B.meaning store.old) (B.meaning store.new) }
+    ensures saved { (ms : List Saved) → B.saves store.old ms → B.saves store.new ms }
+    ensures written { (program : CoreProgram) → MatchResult result (λ last. HeadsWritten program (map (told (B.meaning store.old)) env.now) term.now last.now (B.meaning store.old) (B.meaning store.new) to.old.items to.new.items) (λ e. Overflows (cells program (term.now ∷ [])) (B.meaning store.old) e) }
+    ensures plain { IfOk result (λ last. HasNoClosure last.now) }
+    ensures no_pair { IfOk result (λ last. IsNoPair (out-Term last.now)) }
+{
+    let mut term = term;
+    'heads: while let Term::Pair(head, tail) = term {
+        match write_term(store, env, head.get(), to) {
+            Err(e) => return Err(e),
+            Ok(head) => {
+                if to.push(head).is_err() {
+                    return Err(Full::OutOfMemory);
+                }
+                term = tail.get();
+            }
+        }
+    }
+    Ok(term)
+}
+
+// Makes the list of the elements from a height on, with a tail, and takes them away.
+fn write_pairs<B: Bindings>(
+    store: &mut B,
+    from: &mut Vec<Ref>,
+    height: usize,
+    tail: Ref,
+) -> Result<Ref, Full>
+    requires height { height ≤ length from.old.items }
+    requires heads { All (Holds (B.meaning store.old)) (drop height from.old.items) }
+    requires tail { Holds (B.meaning store.old) tail }
+    ensures kept { Kept (B.meaning store.old) (B.meaning store.new) }
+    ensures saved { (ms : List Saved) → B.saves store.old ms → B.saves store.new ms }
+    ensures written { MatchResult result (λ r. Made (3 * (length from.old.items - height)) (B.meaning store.old) (B.meaning store.new) r (listed (map (told (B.meaning store.old)) (drop height from.old.items)) (told (B.meaning store.old) tail))) (λ e. Overflows (3 * (length from.old.items - height)) (B.meaning store.old) e) }
+    ensures taken { OnOk result (from.new.items ≡ take height from.old.items) }
+{
+    let mut list = tail;
+    'heads: while from.len() > height {
+        let Some(head) = from.pop() else {
+            unreachable!();
+        };
+        match store.pair(head, list) {
+            Err(e) => return Err(e),
+            Ok(longer) => list = longer,
+        }
+    }
+    Ok(list)
+}
+
+/// The value of a term, among the values of the variables around it. On a stack it keeps the elements of lists
+/// meanwhile.
+#[cycle(write)]
+pub fn write_term<B: Bindings>(
+    store: &mut B,
+    env: &[Ref],
+    term: &Term,
+    stack: &mut Vec<Ref>,
+) -> Result<Ref, Full>
+    requires env { All (Holds (B.meaning store.old)) env.now }
+    requires plain { HasNoClosure term.now }
+    ensures kept { Kept (B.meaning store.old) (B.meaning store.new) }
+    ensures saved { (ms : List Saved) → B.saves store.old ms → B.saves store.new ms }
+    ensures written { (program : CoreProgram) → MatchResult result (λ r. Made (cells program (term.now ∷ [])) (B.meaning store.old) (B.meaning store.new) r (value_of program (map (told (B.meaning store.old)) env.now) term.now)) (λ e. Overflows (cells program (term.now ∷ [])) (B.meaning store.old) e) }
+    ensures stack { OnOk result (stack.new.items ≡ stack.old.items) }
+{
+    let height = stack.len();
+    match write_heads(store, env, term, stack) {
+        Err(e) => Err(e),
+        Ok(last) => match write_leaf(store, env, last) {
+            Err(e) => Err(e),
+            Ok(tail) => write_pairs(store, stack, height, tail),
+        },
+    }
+}
+
+/// Puts the values of terms behind a list, in order.
+pub fn write_terms<B: Bindings>(
+    store: &mut B,
+    env: &[Ref],
+    terms: &[Term],
+    to: &mut Vec<Ref>,
+) -> Result<(), Full>
+    requires env { All (Holds (B.meaning store.old)) env.now }
+    requires plain { All HasNoClosure terms.now }
+    ensures kept { Kept (B.meaning store.old) (B.meaning store.new) }
+    ensures saved { (ms : List Saved) → B.saves store.old ms → B.saves store.new ms }
+    ensures written { (program : CoreProgram) → MatchResult result (λ _. Written (cells program terms.now) (map (value_of program (map (told (B.meaning store.old)) env.now)) terms.now) (B.meaning store.old) (B.meaning store.new) to.old.items to.new.items) (λ e. Overflows (cells program terms.now) (B.meaning store.old) e) }
+{
+    'terms: for term in terms {
+        match write_term(store, env, term, to) {
+            Err(e) => return Err(e),
+            Ok(value) => {
+                if to.push(value).is_err() {
+                    return Err(Full::OutOfMemory);
+                }
+            }
+        }
+    }
+    Ok(())
+}
+
+/// Puts so many new variables behind a list.
+pub fn new_variables<B: Bindings>(store: &mut B, count: u16, to: &mut Vec<Ref>) -> Result<(), Full>
+    ensures kept { Kept (B.meaning store.old) (B.meaning store.new) }
+    ensures saved { (ms : List Saved) → B.saves store.old ms → B.saves store.new ms }
+    ensures made { MatchResult result (λ _. MadeVars count (B.meaning store.old) (B.meaning store.new) to.old.items to.new.items) (λ e. Overflows count (B.meaning store.old) e) }
+{
+    'variables: for _ in 0..count {
+        match store.fresh() {
+            Err(e) => return Err(e),
+            Ok(var) => {
+                if to.push(var).is_err() {
+                    return Err(Full::OutOfMemory);
+                }
+            }
+        }
+    }
+    Ok(())
+}
