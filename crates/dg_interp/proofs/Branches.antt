@@ -24,7 +24,7 @@ use Rattle.dg_interp.specs.declared.frames.Frame.{Frame}
 use Rattle.dg_interp.specs.declared.frames.Choice.{Choice}
 use Rattle.dg_interp.specs.declared.engine.Engine.{Engine}
 use Rattle.dg_interp.specs.Frames.{values_in, kind_of, branches_of, Agrees, IsChoice, AreChoices, AreFrames, IsLeft, StandOn, GoBackTo, left_in, all_left}
-use Rattle.dg_interp.specs.Engine.{store_in, KeepsPlaces, HasPlaces, HasPlace, IsPlace, Point, IsQuiet, IsSound, StandsAt, FailsAt, BeginsAt, Adds, Then, Leads, Ends, FullAt, SameLimits, WentOn, WentWrong, HasEndedSo, AtGoal, Tries, Retries, branches_left}
+use Rattle.dg_interp.specs.Engine.{store_in, KeepsPlaces, HasPlaces, HasPlace, IsPlace, Point, IsQuiet, IsSound, StandsAt, FailsAt, BeginsAt, Adds, Then, Leads, Ends, FullAt, SameLimits, WentOn, WentWrong, HasEndedSo, AtGoal, Branches, GoesBack, Tries, Retries, branches_left}
 use Rattle.dg_interp.proofs.Links.{Within, left_within, same_take, same_fewer, branches_same, frames_take, stand_same, choices_same, back_same}
 use Rattle.dg_interp.proofs.Stores.{all_hold, values_kept, take_all}
 use Rattle.dg_interp.proofs.Begins.{back_limits}
@@ -230,3 +230,8 @@ pub refused_on : (A : Point) (old mid wrong new : Engine) → WentOn A old mid �
 refused_on A old between wrong new h j k =
     let w = went_wrong A old between wrong h j in
     went_on_from A (FailsAt wrong) old wrong new w.left w.limits w.leads k
+
+-- another branch has begun behind a failure, or the run has failed
+pub goes_back_from : (A B : Point) (old mid new : Engine) → mid.left ≡ old.left → SameLimits old mid → Leads A B → (found : Bool) → GoesBack B found mid new → Branches A found old new
+goes_back_from A B old between new left limits h true k = went_on_from A B old between new left limits h k.0
+goes_back_from A B old between new left limits h false k = ended_from A B Failing old between new left h k

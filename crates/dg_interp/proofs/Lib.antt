@@ -11,3 +11,6 @@ pub mod Entering
 pub mod Kept
 pub mod Begins
 pub mod Branches
+pub mod Takes
+pub mod Asks
+pub mod Goals

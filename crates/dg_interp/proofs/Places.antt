@@ -108,7 +108,7 @@ steps_done values fs f mark none is =
 abbrev pub marked_off : Engine → Engine
 marked_off e = record e { here = record e.here { mark = Nothing } }
 
-keeps_older : (s : ListBindings) (t : ℕ) (os : List Choice) (ms : List Saved) → KeepsPlaces s ms → KeepsPlaces s (saved_older t os ms)
+pub keeps_older : (s : ListBindings) (t : ℕ) (os : List Choice) (ms : List Saved) → KeepsPlaces s ms → KeepsPlaces s (saved_older t os ms)
 keeps_older s t os ms h = keeps_cut (KeepsPlaces s) (λ m ms k. saves_drops true (fields_of s) m ms k) tt t os ms h
 
 module _ (old : Engine) (ready : IsReady old) (none : old.here.goals.now ≡ []) where

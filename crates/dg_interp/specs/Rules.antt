@@ -1,7 +1,8 @@
 -- What entering a rule does to a store. Hold it against the Dialog manual, chapter "Rules", and docs/LANGUAGE.md, where it says what a limit counts.
-use Rattle.std.specs.Prelude.{◌≡◌, ℕ, ◌+◌, ◌<◌, List, Bool, map}
+use Rattle.std.specs.Prelude.{◌≡◌, ℕ, ◌+◌, ◌<◌, List, Bool, map, length}
 use Rattle.std.specs.List.{zip}
 use Rattle.dg_base.specs.declared.program.Rule.{Rule}
+use Rattle.dg_base.specs.declared.program.Term.{Term}
 use Rattle.dg_base.specs.declared.program.CoreProgram.{CoreProgram}
 use Rattle.dg_meaning.specs.Values.{Value, value_of}
 use Rattle.dg_meaning.specs.Unify.{Unified, solve}
@@ -11,7 +12,8 @@ use Rattle.dg_unify.specs.Store.{Store, trail_of}
 use Rattle.dg_unify.specs.declared.bindings.Ref.{Ref}
 use Rattle.dg_unify.specs.declared.bindings.Full.{Full}
 use Rattle.dg_unify.specs.declared.bindings.Full.TheVariants as full
-use Rattle.dg_interp.specs.Terms.{Appended}
+use Rattle.dg_interp.specs.declared.frames.Env.{Env}
+use Rattle.dg_interp.specs.Terms.{Appended, Written}
 
 -- What a rule takes of the heap: 6 cells, its variables and its head.
 abbrev pub rule_cells : CoreProgram → Rule → ℕ
@@ -36,3 +38,11 @@ abbrev pub RuleFull : CoreProgram → Rule → List Value → Store → Full →
 RuleFull program rule args s full.Heap = s.heap_limit < s.state.heap + rule_cells program rule
 RuleFull program rule args s full.Trail = s.trail_limit + trail_of s.state.since s.state.subst < s.state.trail + trail_of s.state.since (matched_in program rule args s).subst
 RuleFull program rule args s full.OutOfMemory = Unit {0}
+
+-- ## Arguments
+
+-- The values of the arguments of a query were put behind some Refs, among these values of variables.
+pub record ArgsWritten (program : CoreProgram) (values : List Value) (terms : List Term) (old new : Store) (before behind : List Ref) (args : Env) : Type 0 where
+  pub written : Written (cells program terms) (map (value_of program values) terms) old new before behind
+  pub from : args.from ≡ length before
+  pub count : args.len ≡ length written.appended.made

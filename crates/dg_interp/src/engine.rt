@@ -6,17 +6,18 @@ ghost use Rattle.dg_meaning.specs.Built.{IsBuilt};
 ghost use Rattle.dg_interp.specs.declared.frames.Mark.TheVariants.{Nothing as NoMark};
 ghost use Rattle.dg_interp.specs.declared.frames.Left.TheVariants.{Rules, Lists, Way};
 ghost use Rattle.dg_interp.specs.Frames.{IsLeft, left_in, floor_of, stretch as the_stretch, values_in, EndsBy};
-ghost use Rattle.dg_interp.specs.Engine.{Starts, IsSound, IsReady, StandsAt, FailsAt, TakesAt, BeginsAt, HasPlace, Cuts, Passes, Settles, FrameLeft, GoesToGoal, GoesBack, Retries, Taken, Branches, Tries, FullAt, store_in, branches_left, KeepsPlaces, kept_if, cells_if};
+ghost use Rattle.dg_interp.specs.Engine.{Starts, IsSound, IsReady, StandsAt, FailsAt, TakesAt, BeginsAt, HasPlace, Cuts, Passes, Settles, FrameLeft, GoesToGoal, GoesBack, Retries, Taken, Branches, WentOn, Tries, FullAt, store_in, branches_left, KeepsPlaces, kept_if, cells_if};
 ghost use Rattle.dg_base.specs.declared.program.CoreProgram.{CoreProgram as Program};
+ghost use Rattle.dg_meaning.specs.Cells.{cells};
 ghost use Rattle.dg_meaning.specs.Closures.{HasNoClosure};
-ghost use Rattle.dg_interp.specs.Rules.{EntersRule, RuleFull};
+ghost use Rattle.dg_interp.specs.Rules.{EntersRule, RuleFull, ArgsWritten};
 ghost use Rattle.dg_interp.specs.Terms.{Overflows};
 ghost use Rattle.dg_unify.specs.Store.{Saved, Kept, Holds, Charged};
 
 use crate::frames::{Choice, Env, Frame, Left, Mark, Query};
 use crate::matching::unify_all;
 use crate::terms::{new_variables, write_terms};
-use dg_base::{CoreProgram, Ending, Goal, Rule};
+use dg_base::{CoreProgram, Ending, Goal, Rule, Term};
 use dg_unify::{Bindings, Full, ListBindings, Mark as Place, Ref};
 use std::alloc::{AllocError, Global};
 
@@ -137,6 +138,37 @@ fn enter(
     match unify_all(store, stretch(refs, args), head.as_slice()) {
         Ok(found) => Ok(found),
         Err(e) => Err(e),
+    }
+}
+
+/// Puts the values of the arguments of a query behind the Refs.
+fn write_args(
+    store: &mut ListBindings,
+    refs: &mut Vec<Ref>,
+    made: &mut Vec<Ref>,
+    env: Env,
+    terms: &[Term],
+) -> Result<Env, Full>
+    requires hold { All (Holds (store_in store.old)) refs.old.items }
+    requires env { EndsBy (length refs.old.items) env }
+    requires plain { All HasNoClosure terms.now }
+    ensures kept { Kept (store_in store.old) (store_in store.new) }
+    ensures saved { (ms : List Saved) → KeepsPlaces store.old ms → KeepsPlaces store.new ms }
+    ensures written { (program : Program) → MatchResult result (λ args. ArgsWritten program (values_in (store_in store.old) refs.old.items env) terms.now (store_in store.old) (store_in store.new) refs.old.items refs.new.items args) (λ e. Overflows (cells program terms.now) (store_in store.old) e) }
+{
+    made.clear();
+    match write_terms(store, stretch(refs, env), terms, made) {
+        Err(e) => Err(e),
+        Ok(()) => {
+            let args = Env {
+                from: refs.len(),
+                len: made.len(),
+            };
+            match refs.extend_from_slice(made.as_slice()) {
+                Err(_) => Err(Full::OutOfMemory),
+                Ok(()) => Ok(args),
+            }
+        }
     }
 }
 
@@ -368,5 +400,66 @@ impl<'p> Engine<'p> {
                 },
             }
         }
+    }
+
+    /// Asks a query, with the goals at hand behind it; false where the run has failed.
+    pub fn ask(&mut self, query: Query, terms: &[Term]) -> Result<bool, Full>
+        requires ready { IsReady self.old }
+        requires room { self.old.newest + 1 + self.old.left < 2 ^ 64 }
+        requires plain { All HasNoClosure terms.now }
+        ensures asked { IfOk result (λ found. Branches (TakesAt (Ask query.pred terms.now query.many) self.old) found self.old self.new) }
+        ensures full { IfErr result (λ e. FullAt (TakesAt (Ask query.pred terms.now query.many) self.old) (store_in self.old.store) e) }
+    {
+        match write_args(
+            &mut self.store,
+            &mut self.refs,
+            &mut self.made,
+            self.here.env,
+            terms,
+        ) {
+            Err(e) => Err(e),
+            Ok(args) => {
+                let rules = rules_of(self.program, query.pred);
+                if rules.is_empty() {
+                    return match self.back() {
+                        Err(e) => Err(e),
+                        Ok(found) => Ok(found),
+                    };
+                }
+                if let Err(_) = self.frames.push(self.here) {
+                    return Err(Full::OutOfMemory);
+                }
+                let place = self.store.mark();
+                self.newest += 1;
+                match self.begin_rule(query, args, rules, place) {
+                    Err(e) => Err(e),
+                    Ok(true) => Ok(true),
+                    Ok(false) => match self.back() {
+                        Err(e) => Err(e),
+                        Ok(found) => Ok(found),
+                    },
+                }
+            }
+        }
+    }
+
+    /// Fails: goes back.
+    pub fn fail(&mut self) -> Result<bool, Full>
+        requires ready { IsReady self.old }
+        ensures failed { IfOk result (λ found. Branches (TakesAt FailGoal self.old) found self.old self.new) }
+        ensures full { IfErr result (λ e. FullAt (TakesAt FailGoal self.old) (store_in self.old.store) e) }
+    {
+        match self.back() {
+            Err(e) => Err(e),
+            Ok(found) => Ok(found),
+        }
+    }
+
+    /// Drops the choices inside the rule at hand.
+    pub fn just(&mut self)
+        requires ready { IsReady self.old }
+        ensures cut { WentOn (TakesAt JustGoal self.old) self.old self.new }
+    {
+        cut(&mut self.choices, self.here.tag);
     }
 }
