@@ -14,3 +14,4 @@ pub mod Branches
 pub mod Takes
 pub mod Asks
 pub mod Goals
+pub mod Runs

@@ -4,3 +4,5 @@ pub mod Printing
 pub mod Rules
 pub mod Frames
 pub mod Engine
+pub mod Running
+pub mod Interpret

@@ -289,6 +289,7 @@ impl<'p> Engine<'p> {
         ensures tried { IfOk result (λ begun. Tries (BeginsAt (Rules query args rules.entry) place self.old) begun self.old self.new) }
         ensures fewer { OnOk result (branches_left self.new < branches_left self.old + length rules.now) }
         ensures full { IfErr result (λ e. FullAt (BeginsAt (Rules query args rules.entry) place self.old) (store_in self.old.store) e) }
+        ensures left { self.new.left ≡ self.old.left }
     {
         let [rule, others @ ..] = rules else {
             unreachable!();
@@ -332,6 +333,7 @@ impl<'p> Engine<'p> {
         ensures tried { IfOk result (λ begun. Tries (BeginsAt left.entry place self.old) begun self.old self.new) }
         ensures fewer { OnOk result (branches_left self.new < branches_left self.old + left_in left.entry) }
         ensures full { IfErr result (λ e. FullAt (BeginsAt left.entry place self.old) (store_in self.old.store) e) }
+        ensures left { self.new.left ≡ self.old.left }
     {
         match left {
             Left::Rules(query, args, rules) => match self.begin_rule(query, args, rules, place) {
@@ -351,6 +353,7 @@ impl<'p> Engine<'p> {
         requires sound { IsSound self.old }
         ensures retried { IfOk result (λ begun. Retries (FailsAt self.old) begun self.old self.new) }
         ensures full { IfErr result (λ e. FullAt (FailsAt self.old) (store_in self.old.store) e) }
+        ensures left { self.new.left ≡ self.old.left }
     {
         match self.choices.pop() {
             None => Ok(None),
@@ -372,6 +375,7 @@ impl<'p> Engine<'p> {
         requires sound { IsSound self.old }
         ensures back { IfOk result (λ found. GoesBack (FailsAt self.old) found self.old self.new) }
         ensures full { IfErr result (λ e. FullAt (FailsAt self.old) (store_in self.old.store) e) }
+        ensures left { self.new.left ≡ self.old.left }
     {
         'choices: loop {
             match self.retry() {
@@ -388,6 +392,7 @@ impl<'p> Engine<'p> {
         requires ready { IsReady self.old }
         ensures next { IfOk result (λ ending. GoesToGoal (StandsAt self.old) ending self.old self.new) }
         ensures full { IfErr result (λ e. FullAt (StandsAt self.old) (store_in self.old.store) e) }
+        ensures left { self.new.left ≡ self.old.left }
     {
         'answers: loop {
             match self.settle() {
@@ -409,6 +414,7 @@ impl<'p> Engine<'p> {
         requires plain { All HasNoClosure terms.now }
         ensures asked { IfOk result (λ found. Branches (TakesAt (Ask query.pred terms.now query.many) self.old) found self.old self.new) }
         ensures full { IfErr result (λ e. FullAt (TakesAt (Ask query.pred terms.now query.many) self.old) (store_in self.old.store) e) }
+        ensures left { self.new.left ≡ self.old.left }
     {
         match write_args(
             &mut self.store,
@@ -448,6 +454,7 @@ impl<'p> Engine<'p> {
         requires ready { IsReady self.old }
         ensures failed { IfOk result (λ found. Branches (TakesAt FailGoal self.old) found self.old self.new) }
         ensures full { IfErr result (λ e. FullAt (TakesAt FailGoal self.old) (store_in self.old.store) e) }
+        ensures left { self.new.left ≡ self.old.left }
     {
         match self.back() {
             Err(e) => Err(e),

@@ -5,6 +5,7 @@ mod engine;
 mod frames;
 mod matching;
 mod printing;
+mod run;
 mod spacer;
 mod terms;
 mod testing;

@@ -1,0 +1,49 @@
+-- What the interpreter promises. Hold it against the Dialog manual, chapters "Output" and "Beyond the program".
+use Rattle.std.specs.Prelude.{ℕ, List, Option, Some, None}
+use Rattle.dg_base.specs.declared.program.CoreProgram.{CoreProgram}
+use Rattle.dg_base.specs.declared.run.Limits.{Limits}
+use Rattle.dg_base.specs.declared.run.Outcome.{Outcome}
+use Rattle.dg_base.specs.declared.run.RunFault.{RunFault}
+use Rattle.dg_base.specs.declared.run.RunFault.TheVariants.{Read, Write, OutOfMemory}
+use Rattle.dg_meaning.specs.World.{Game}
+use Rattle.dg_meaning.specs.Shows.{Shows, ShowsNoMemory, ShowsInputFault, MayWrite}
+use Rattle.dg_base.specs.Written.{SinkView, Wrote, BrokeOff}
+
+-- The program with the dice words.
+abbrev pub game : CoreProgram → List ℕ → Game
+game program dice = record { program = program; dice = dice }
+
+-- This holds for the typed bytes that a source tells, or for some where it doesn't tell them.
+abbrev pub ForTyped : Option (List ℕ) → (List ℕ → Type 0) → Type 0
+ForTyped None P = (typed : List ℕ) × P typed
+ForTyped (Some typed) P = P typed
+
+-- The sink took a text that shows the game with this outcome.
+pub record HasShown (g : Game) (typed : List ℕ) (limits : Limits) (outcome : Outcome) (left : Option (List ℕ)) (old new : SinkView) : Type 0 where
+  pub bytes : List ℕ
+  pub shows : Shows g typed limits bytes outcome left
+  pub wrote : Wrote old new bytes
+
+-- The input failed, and the sink took the text up to there with its closing.
+pub record HasLostInput (g : Game) (typed : List ℕ) (limits : Limits) (left : Option (List ℕ)) (old new : SinkView) : Type 0 where
+  pub bytes : List ℕ
+  pub shows : ShowsInputFault g typed limits bytes left
+  pub wrote : Wrote old new bytes
+
+-- The sink failed within a text that may be written: its count rose, it took a front of that text, and the text is longer than a room that it told.
+pub record HasLostOutput (g : Game) (typed : List ℕ) (limits : Limits) (old new : SinkView) : Type 0 where
+  pub bytes : List ℕ
+  pub may_write : MayWrite g typed limits bytes
+  pub broke : BrokeOff old new bytes
+
+-- Memory ran out, and the sink took the text up to there with its closing.
+pub record HasLostMemory (g : Game) (typed : List ℕ) (limits : Limits) (old new : SinkView) : Type 0 where
+  pub bytes : List ℕ
+  pub shows : ShowsNoMemory g typed limits bytes
+  pub wrote : Wrote old new bytes
+
+-- What stands after each fault.
+abbrev pub HasBrokenOff : RunFault → Game → List ℕ → Limits → Option (List ℕ) → SinkView → SinkView → Type 0
+HasBrokenOff Read g typed limits left old new = HasLostInput g typed limits left old new
+HasBrokenOff Write g typed limits left old new = HasLostOutput g typed limits old new
+HasBrokenOff OutOfMemory g typed limits left old new = HasLostMemory g typed limits old new
