@@ -15,3 +15,5 @@ pub mod Takes
 pub mod Asks
 pub mod Goals
 pub mod Runs
+pub mod Rounds
+pub mod Whole

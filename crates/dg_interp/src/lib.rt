@@ -3,9 +3,12 @@
 
 mod engine;
 mod frames;
+mod interpreter;
 mod matching;
 mod printing;
 mod run;
 mod spacer;
 mod terms;
 mod testing;
+
+pub use interpreter::interpret;

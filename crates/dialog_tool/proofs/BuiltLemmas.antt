@@ -14,6 +14,7 @@ use Rattle.dg_base.specs.declared.program.Goal.TheVariants.{outs-Text, outs-Ask}
 use Rattle.dg_base.specs.declared.program.Rule.{Rule}
 use Rattle.dg_base.specs.declared.program.Pred.{Pred}
 use Rattle.dg_base.specs.declared.refusal.Refusal.{Refusal}
+use Rattle.dg_meaning.specs.Closures.{HasNoClosure}
 use Rattle.dg_meaning.specs.Built.{IsBuilt, IsBuiltGoal, IsBuiltForm, IsBuiltRule}
 use Rattle.dialog_tool.specs.Plain.{is_plain_stmt, are_plain, is_plain_body, is_plain, first_unbuilt, number_of, goal_of, goals_of, rule_of, rules_in, pred_of, pred_names, core_of, refusal_of, only_branch, not_built_or}
 
@@ -23,9 +24,12 @@ none_built P k d lt = absurd (omega arith)
 no_rules : (P : Rule → Type 0) → All P []
 no_rules P k d lt = absurd (omega arith)
 
+no_terms : All HasNoClosure []
+no_terms k d lt = absurd (omega arith)
+
 goal_built : (names : List (List ℕ)) (s : Stmt) → is_plain_stmt s ≡ true → IsBuiltGoal (goal_of names s)
-goal_built names (text w) h = subst IsBuiltForm (sym (outs-Text w)) tt
-goal_built names (ask ps) h = subst IsBuiltForm (sym (outs-Ask (number_of names (name_of ps)) [] false)) refl
+goal_built names (text w) h = subst IsBuiltForm (sym (outs-Text w)) (tt, no_terms)
+goal_built names (ask ps) h = subst IsBuiltForm (sym (outs-Ask (number_of names (name_of ps)) [] false)) (tt, no_terms)
 goal_built names s h = cc
 
 goals_built : (names : List (List ℕ)) (ss : Stmts) → are_plain ss ≡ true → All IsBuiltGoal (goals_of names ss)
@@ -40,7 +44,7 @@ body_plain (branch ss no_branches) h = h
 body_plain (branch ss (branch ts b)) h = cc
 
 rule_built : (names : List (List ℕ)) (b : Body) → is_plain_body b ≡ true → IsBuiltRule (rule_of names b)
-rule_built names b h = record { vars = refl; head = refl; body = goals_built names (only_branch b) (body_plain b h) }
+rule_built names b h = record { head = no_terms; body = goals_built names (only_branch b) (body_plain b h) }
 
 rules_built : (names : List (List ℕ)) (name : List ℕ) (said : Said) → is_plain said ≡ true → All IsBuiltRule (rules_in names name said)
 rules_built names name (topic n) h = no_rules IsBuiltRule

@@ -1,0 +1,89 @@
+// The interpreter's one call.
+ghost use Rattle.std.specs.Prelude.{◌≡◌, ◌<◌, ◌≤◌, length, List, ℕ, Option, IfOk, IfErr, IsErrOf};
+ghost use Rattle.dg_base.specs.Causes.{Rose};
+ghost use Rattle.dg_meaning.specs.Transcript.{line_of};
+ghost use Rattle.dg_meaning.specs.Built.{IsBuilt};
+ghost use Rattle.dg_meaning.specs.Shows.{IsLeft};
+ghost use Rattle.dg_base.specs.Written.{view};
+ghost use Rattle.dg_interp.specs.Engine.{Starts};
+ghost use Rattle.dg_interp.specs.Interpret.{game, ForTyped, HasShown, HasBrokenOff};
+
+use crate::engine::Engine;
+use crate::run::run;
+use crate::spacer::Spacer;
+use dg_base::{CoreProgram, Ending, Goal, Items, Limits, Outcome, RunFault, Sink, Source};
+use std::alloc::Global;
+
+fn line(ending: Ending) -> &'static [u8]
+    ensures { result.now ≡ line_of ending }
+{
+    match ending {
+        Ending::Done | Ending::Quit => b"",
+        Ending::Failed => b"[Failed]\n",
+        Ending::Stopped => b"[Stopped]\n",
+        Ending::InputEnded => b"[End of input]\n",
+        Ending::StepLimit => b"[Step limit]\n",
+        Ending::HeapLimit => b"[Heap limit]\n",
+        Ending::TrailLimit => b"[Trail limit]\n",
+        Ending::AuxLimit => b"[Aux limit]\n",
+        Ending::KeepLimit => b"[Keep limit]\n",
+    }
+}
+
+/// Does a run from its start, and writes its text and its closing.
+fn write_run<K: Sink>(
+    program: &CoreProgram,
+    limits: &Limits,
+    engine: &mut Engine<'_>,
+    sink: &mut K,
+) -> Result<Outcome, RunFault>
+    requires starts { Starts program.now limits.now.steps limits.now.heap limits.now.trail engine.old }
+    ensures shows { IfOk result (λ outcome. (dice : List ℕ) (typed : List ℕ) (told : Option (List ℕ)) → IsLeft told typed → HasShown (game program.now dice) typed limits.now outcome told (view (K.taken sink.old) (K.room sink.old) (K.faults sink.old)) (view (K.taken sink.new) (K.room sink.new) (K.faults sink.new))) }
+    ensures err { IfErr result (λ fault. (dice : List ℕ) (typed : List ℕ) (told : Option (List ℕ)) → IsLeft told typed → HasBrokenOff fault (game program.now dice) typed limits.now told (view (K.taken sink.old) (K.room sink.old) (K.faults sink.old)) (view (K.taken sink.new) (K.room sink.new) (K.faults sink.new))) }
+    ensures reads { IsErrOf result RunFault.Read → ⊥ }
+{
+    let mut spacer = Spacer::new();
+    match run(engine, &mut spacer, sink) {
+        Ok(ending) => match spacer.close(sink, line(ending)) {
+            Ok(()) => Ok(Outcome {
+                ending,
+                goals: limits.steps - engine.left,
+            }),
+            Err(_) => Err(RunFault::Write),
+        },
+        Err(RunFault::Read) => Err(RunFault::Read),
+        Err(RunFault::Write) => Err(RunFault::Write),
+        Err(RunFault::OutOfMemory) => match spacer.close(sink, b"[No memory]\n") {
+            Ok(()) => Err(RunFault::OutOfMemory),
+            Err(_) => Err(RunFault::Write),
+        },
+    }
+}
+
+/// Runs a program, and writes its transcript.
+pub fn interpret<S: Source, K: Sink>(
+    alloc: Global,
+    program: &CoreProgram,
+    limits: &Limits,
+    source: &mut S,
+    dice: &[u16],
+    sink: &mut K,
+) -> Result<Outcome, RunFault>
+    requires dice { 0 < length dice.now }
+    requires built { IsBuilt program.now }
+    ensures shows { IfOk result (λ outcome. ForTyped (S.left source.old) (λ typed. HasShown (game program.now dice.now) typed limits.now outcome (S.left source.new) (view (K.taken sink.old) (K.room sink.old) (K.faults sink.old)) (view (K.taken sink.new) (K.room sink.new) (K.faults sink.new)))) }
+    ensures err { IfErr result (λ fault. ForTyped (S.left source.old) (λ typed. HasBrokenOff fault (game program.now dice.now) typed limits.now (S.left source.new) (view (K.taken sink.old) (K.room sink.old) (K.faults sink.old)) (view (K.taken sink.new) (K.room sink.new) (K.faults sink.new)))) }
+    ensures read { IsErrOf result RunFault.Read → Rose (S.faults source.old) (S.faults source.new) }
+    ensures later { S.faults source.old ≤ S.faults source.new }
+{
+    let entry = [Goal::Ask(program.entry, Items::new(alloc), false)];
+    let mut engine = Engine::new(
+        alloc,
+        program,
+        &entry,
+        limits.steps,
+        limits.heap,
+        limits.trail,
+    );
+    write_run(program, limits, &mut engine, sink)
+}
