@@ -221,9 +221,10 @@ choices_same g xs ys fs gs h m t [] [] (c ∷ cs) refs to st k = absurd k
 choices_same g xs ys fs gs h m t [] (s ∷ ms) cs refs to st k = absurd k
 choices_same g xs ys fs gs h m t (o ∷ os) [] cs refs to st k = absurd k
 choices_same g xs ys fs gs h m t (o ∷ os) (s ∷ ms) [] refs to st k = absurd k
-choices_same g xs ys fs gs h m t (o ∷ os) (s ∷ ms) (c ∷ cs) refs to st k =
-    (choice_same g xs ys fs gs h m t o os s c refs to st k.0,
-    choices_same g xs ys fs gs o.height o.refs o.tag os ms cs (sym (take_of_take m o.refs ys st.1) ∙ ap (take o.refs) refs ∙ take_of_take m o.refs xs st.1) (same_fewer o.height h fs gs st.0 to) st.5 k.1)
+choices_same g xs ys fs gs h m t (o ∷ os) (s ∷ ms) (c ∷ cs) refs to st k = (
+  choice_same g xs ys fs gs h m t o os s c refs to st k.0,
+  choices_same g xs ys fs gs o.height o.refs o.tag os ms cs (sym (take_of_take m o.refs ys st.1) ∙ ap (take o.refs) refs ∙ take_of_take m o.refs xs st.1) (same_fewer o.height h fs gs st.0 to) st.5 k.1,
+)
 
 pub back_same : (xs ys : List Ref) (fs : List Frame) (h m t heap trail : ℕ) (os : List Choice) (ms : List Saved) → take m ys ≡ take m xs → StandOn fs h m t os → GoBackTo xs heap trail os ms → GoBackTo ys heap trail os ms
 back_same xs ys fs h m t heap trail [] [] refs st k = tt

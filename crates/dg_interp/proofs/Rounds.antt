@@ -32,18 +32,21 @@ module _ (old mid new : Engine) (s s' : Spacer) (k k' : SinkView) (some : 0 < le
   text_here w v start adds text = subst (HasText s' start k') (sym adds.prints_are) (h.writes start (prints w.events) text)
 
   next_goes_on : AtGoal (StandsAt mid) mid new → GoesOn old new s s' k k' × (old.left ≡ suc new.left)
-  next_goes_on a = (record {
-    ready = a.went_on.ready;
-    goal = a.goal;
-    limits = limits_on old mid new h.limits a.went_on.limits;
-    goals = 1;
-    left = omega (arith, h.left, a.went_on.left);
-    added = h.added ++ [];
-    leads = λ g n w run quiet st.
-        let one : 1 + n ≡ suc n = omega arith in
-        then_on h.added [] w (λ v. StandsAt mid g n v run) (λ v. StandsAt new g n v run) (h.leads g n w run quiet (subst (λ i. StandsAt old g i w run) one st)) (λ v q at. a.went_on.leads g n v run q at);
-    writes = writes_on s s' s' k k' k' h.added [] h.writes (writes_nothing s' k');
-  }, h.left ∙ ap suc (sym a.went_on.left))
+  next_goes_on a = (
+    record {
+      ready = a.went_on.ready;
+      goal = a.goal;
+      limits = limits_on old mid new h.limits a.went_on.limits;
+      goals = 1;
+      left = omega (arith, h.left, a.went_on.left);
+      added = h.added ++ [];
+      leads = λ g n w run quiet st.
+          let one : 1 + n ≡ suc n = omega arith in
+          then_on h.added [] w (λ v. StandsAt mid g n v run) (λ v. StandsAt new g n v run) (h.leads g n w run quiet (subst (λ i. StandsAt old g i w run) one st)) (λ v q at. a.went_on.leads g n v run q at);
+      writes = writes_on s s' s' k k' k' h.added [] h.writes (writes_nothing s' k');
+    },
+    h.left ∙ ap suc (sym a.went_on.left),
+  )
 
   next_ended : (result : SearchResult) (e : Ending) → e ≡ ending_of result → HasEndedSo (StandsAt mid) result mid new → Reaches old s k (HasEnded e new.left s' k')
   next_ended result e is a g w run start quiet st text =
@@ -143,6 +146,7 @@ module _ (a b : Engine) (s s' s'' : Spacer) (k k' k'' : SinkView) (h : GoesOn a 
   broken_reaches fault j g w run start quiet st text = here fault (j g t.world run start t.adds.quiet t.holds (has_text w t.world start t.adds text)) where
     t : Then h.added w (λ v. StandsAt b g b.left v run)
     t = at_here g w run quiet st
+
     here : (fault : RunFault) → IsBroken fault s'' k'' t.world run start → IsBroken fault s'' k'' w run start
     here Read x = x
     here Write x = x

@@ -303,7 +303,13 @@ impl<'p> Engine<'p> {
             refs,
             place,
         };
-        if let Err(e) = keep(&mut self.store, &mut self.choices, choice, others.len(), args.len) {
+        if let Err(e) = keep(
+            &mut self.store,
+            &mut self.choices,
+            choice,
+            others.len(),
+            args.len,
+        ) {
             return Err(e);
         }
         match enter(&mut self.store, &mut self.refs, &mut self.made, args, rule) {

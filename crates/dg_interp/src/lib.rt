@@ -1,6 +1,8 @@
 //! The interpreter: it runs a core program and writes what its meaning says.
 #![tactic(auto)]
 
+#[cfg(test)]
+mod built;
 mod engine;
 mod frames;
 mod interpreter;
@@ -12,3 +14,6 @@ mod terms;
 mod testing;
 
 pub use interpreter::interpret;
+
+#[cfg(test)]
+mod tests;
