@@ -1,8 +1,6 @@
 //! The interpreter: it runs a core program and writes what its meaning says.
 #![tactic(auto)]
 
-#[cfg(test)]
-mod built;
 mod engine;
 mod frames;
 mod interpreter;
@@ -14,6 +12,3 @@ mod terms;
 mod testing;
 
 pub use interpreter::interpret;
-
-#[cfg(test)]
-mod tests;
