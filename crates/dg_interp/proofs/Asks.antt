@@ -1,105 +1,50 @@
--- A query is asked, and a word is printed.
-use Rattle.std.proofs.Common.{◌≡◌, ℕ, zero, suc, ◌+◌, ◌^◌, ◌<◌, ◌≤◌, List, [], ◌∷◌, ◌++◌, refl, sym, ap, ◌∙◌, subst, arith, length, length-append}
+-- A query is asked.
+use Rattle.std.proofs.Common.{◌≡◌, ℕ, zero, suc, ◌+◌, ◌^◌, ◌<◌, ◌≤◌, List, [], ◌∷◌, ◌++◌, Bool, true, refl, sym, ap, ◌∙◌, subst, arith, length, length-append, map, take, Bor}
 use Rattle.std.specs.Prelude.{slice_get, reverse}
 use Rattle.std.specs.List.{All}
-use Rattle.std.proofs.lemmas.List.{append-nil}
+use Rattle.std.proofs.lemmas.List.Elements.{All-append}
 use Rattle.std.specs.declared.vec.Vec.{Vec}
 use Rattle.std.specs.declared.alloc.Global.{Global}
 use Rattle.dg_base.specs.declared.program.Goal.{Goal, Goal-F, out-Goal}
-use Rattle.dg_base.specs.declared.program.Goal.TheOpen.{Text as Text-Form, Ask as Ask-Form}
-use Rattle.dg_base.specs.Goals.{terms_held}
-use Rattle.dg_base.specs.declared.program.Goal.TheVariants.{Text, Ask, outs-Text, outs-Ask}
+use Rattle.dg_base.specs.declared.program.Goal.TheOpen.{Ask as Ask-Form}
+use Rattle.dg_base.specs.declared.program.Goal.TheVariants.{Ask, outs-Ask}
+use Rattle.dg_base.specs.declared.program.Term.{Term}
 use Rattle.dg_base.specs.declared.program.Rule.{Rule}
 use Rattle.dg_base.specs.declared.program.Pred.{Pred}
 use Rattle.dg_base.specs.declared.program.CoreProgram.{CoreProgram}
-use Rattle.dg_meaning.specs.World.{Game, World, Piece, Prints, Asked, HasFailed, prints, noted, worked}
+use Rattle.dg_base.specs.Goals.{terms_held}
+use Rattle.dg_meaning.specs.Values.{Value, value_of}
+use Rattle.dg_meaning.specs.World.{Game, World, Asked, HasFailed, noted, worked}
 use Rattle.dg_meaning.specs.Context.{Way, Live, pushed}
-use Rattle.dg_meaning.specs.Path.{Step, Registers, Rules, Move}
-use Rattle.dg_meaning.specs.Moves.{printed, begun, choice_cells, rule_branch, rule_branches, rules_of, choice, behind_terms, move}
-use Rattle.dg_meaning.specs.Cells.{writing}
+use Rattle.dg_meaning.specs.Path.{Step, Registers, Branch, Rules as RulesOf, Move}
+use Rattle.dg_meaning.specs.Moves.{begun, rule_branches, rules_of, choice, ask, behind_terms, outcome}
+use Rattle.dg_meaning.specs.Cells.{cells, writing}
 use Rattle.dg_meaning.specs.Transcript.{Run}
 use Rattle.dg_meaning.specs.Keeps.{Began, After}
-use Rattle.dg_meaning.specs.Built.{IsBuiltRule}
-use Rattle.dg_meaning.proofs.Silently.{prints_append}
-use Rattle.dg_meaning.proofs.Keeps.{takes}
+use Rattle.dg_meaning.specs.Built.{IsBuiltRule, IsForm}
+use Rattle.dg_unify.specs.Store.{Store, State, Saved, Holds, Kept, marked, told}
+use Rattle.dg_unify.specs.declared.bindings.Ref.{Ref}
+use Rattle.dg_unify.specs.Laws.{saves_drops}
+use Rattle.dg_unify.specs.Listed.{fields_of}
+use Rattle.dg_unify.specs.declared.bindings.Full.{Full}
+use Rattle.dg_unify.specs.declared.bindings.Mark.{Mark as Place}
+use Rattle.dg_unify.specs.declared.list.ListBindings.{ListBindings}
 use Rattle.dg_interp.specs.declared.frames.Query.{Query}
+use Rattle.dg_interp.specs.declared.frames.Env.{Env}
 use Rattle.dg_interp.specs.declared.frames.Frame.{Frame}
-use Rattle.dg_interp.specs.declared.frames.Left.{Left}
+use Rattle.dg_interp.specs.declared.frames.Choice.{Choice}
+use Rattle.dg_interp.specs.declared.frames.Left.TheVariants.{Rules}
 use Rattle.dg_interp.specs.declared.engine.Engine.{Engine}
-use Rattle.dg_interp.specs.Frames.{steps_behind, steps_at, AreChoices, AreFrames, StandOn}
-use Rattle.dg_interp.specs.Engine.{IsQuiet, IsSound, IsReady, StandsAt, FailsAt, TakesAt, BeginsAt, BeganWith, Adds, Then, Leads}
-use Rattle.dg_interp.proofs.Links.{same_append, behind_new, frames_append, choices_same, stand_raise}
+use Rattle.dg_interp.specs.Rules.{ArgsWritten}
+use Rattle.dg_interp.specs.Terms.{Overflows, Written}
+use Rattle.dg_interp.specs.Frames.{stretch, values_in, steps_behind, steps_at, branches_of, Agrees, AreChoices, IsFrame, AreFrames, IsLeft, StandOn, GoBackTo}
+use Rattle.dg_interp.specs.Engine.{store_in, KeepsPlaces, HasPlaces, HasPlace, IsPlace, Point, IsQuiet, IsSound, IsReady, TakesAt, FailsAt, BeginsAt, FullAt, Adds, Then, Leads, SameLimits, steps_of}
+use Rattle.dg_interp.proofs.Links.{SameBy, same_here, same_append, behind_new, behind_same, at_same, frame_raise, frames_raise, frames_append, choices_same, back_same, stand_raise, stand_same}
+use Rattle.dg_interp.proofs.Stores.{kept_here, kept_on, all_hold, all_told, values_kept, hold_front, front_same, take_all, appended_stretch}
+use Rattle.dg_interp.proofs.Begins.{back_limits}
 use Rattle.dg_interp.proofs.Places.{adds_on, adds_noted}
+use Rattle.dg_interp.proofs.Takes.{behind, taken_in, comes_of, adds_taken, terms_full}
 use Rattle.dg_interp.proofs.Turns.{all_first, all_rest}
-
--- ## What a goal does
-
--- the world in which a goal is taken
-abbrev taken_in : Game → Goal-F Goal → Registers → World → World
-taken_in g x r w = begun (behind_terms g x r) (writing g.program (terms_held x)) (worked 1 w)
-
-adds_taken : (g : Game) (x : Goal-F Goal) (r : Registers) (w : World) → IsQuiet w → Adds [] w (taken_in g x r w)
-adds_taken g x r w quiet = record { prints_are = sym (append-nil (prints w.events)); typed = refl; quiet = quiet }
-
--- a query, and the world in which it is asked
-abbrev asks_for : Query → Goal-F Goal
-asks_for query = Ask-Form query.pred [] query.many
-
-abbrev asked_in : Game → Query → Registers → World → World
-asked_in g query r w = noted (Asked query.pred) (taken_in g (asks_for query) r w)
-
-adds_asked : (g : Game) (query : Query) (r : Registers) (w : World) → IsQuiet w → Adds [] w (asked_in g query r w)
-adds_asked g query r w quiet =
-    let v = taken_in g (asks_for query) r w in
-    adds_on w v (asked_in g query r w) [] [] (adds_taken g (asks_for query) r w quiet) (adds_noted v (Asked query.pred) quiet refl)
-
--- ## A query
-
-module _ (g : Game) (query : Query) (e : Engine) (w : World) (run : Run) (quiet : IsQuiet w) (st : TakesAt g (Ask query.pred [] query.many) e w run) where
-  abbrev steps : List Step
-  steps = steps_at e.frames.items e.here
-
-  -- the registers behind its terms, of which it has none
-  abbrev r : Registers
-  r = behind_terms g (asks_for query) st.registers
-
-  abbrev asks : List Rule → Move
-  asks rules = choice (Rules query.pred) r.next_tag (rule_branches g query.pred [] query.many steps r rules) (asked_in g query st.registers w)
-
-  moves : move g (out-Goal (Ask query.pred [] query.many)) [] e.here.tag steps st.registers (worked 1 w) ≡ asks (rules_of (slice_get e.program.now.preds query.pred))
-  moves =
-      ap (λ x. move g x [] e.here.tag steps st.registers (worked 1 w)) (outs-Ask query.pred [] query.many)
-      ∙ ap (λ (p : CoreProgram). asks (rules_of (slice_get p.preds query.pred))) (sym st.program)
-
-  pub asked : (rules : List Rule) → rules ≡ rules_of (slice_get e.program.now.preds query.pred) → After g st.lives st.ways e.left (asks rules) run
-  asked rules are =
-      let m = moves ∙ ap asks (sym are) in
-      subst (λ m. After g st.lives st.ways e.left m run) m
-      (takes g st.lives st.ways (Ask query.pred [] query.many) [] e.here.tag steps st.registers e.left w run st.stands)
-
--- the first of its rules begins, and no gathering is open
-flat : (g : Game) (query : Query) (rule : Rule) (others : List Rule) (steps : List Step) (r : Registers) (lives : List Live) (ways : List Way) (n : ℕ) (w : World) (run : Run) → IsQuiet w → After g lives ways n (choice (Rules query.pred) r.next_tag (rule_branches g query.pred [] query.many steps r (rule ∷ others)) w) run → BeganWith g query rule others steps r lives ways n w run
-flat g query rule others steps r lives ways n w run quiet h =
-    let bs = rule_branches g query.pred [] query.many steps r others in
-    let b = rule_branch g query.pred [] query.many steps r (choice_cells 0 others) rule in
-    subst (λ i. Began g (pushed bs (record { kind = Rules query.pred; tag = r.next_tag; others = bs; height = i; ways_on = ways }) lives) ways b n w run) (ap length quiet) h
-
-pub nothing_in : (rules : List Rule) → length rules ≤ 0 → rules ≡ []
-nothing_in [] h = refl
-nothing_in (x ∷ rules) h = absurd (omega arith)
-
--- no rule is there
-pub asks_none : (query : Query) (e : Engine) (rules : List Rule) → rules ≡ rules_of (slice_get e.program.now.preds query.pred) → rules ≡ [] → Leads (λ g. TakesAt g (Ask query.pred [] query.many) e) (λ g. FailsAt g e)
-asks_none query e rules are none g w run quiet st = record {
-  world = noted (HasFailed query.pred) (asked_in g query st.registers w);
-  adds = let v = asked_in g query st.registers w in adds_on w v (noted (HasFailed query.pred) v) [] [] (adds_asked g query st.registers w quiet) (adds_noted v (HasFailed query.pred) quiet refl);
-  holds = record {
-    program = st.program;
-    lives = st.lives;
-    choices = st.choices;
-    failed = asked g query e w run quiet st [] (sym none ∙ are);
-  };
-}
 
 -- the rules of a built program
 pub rules_built : (preds : List Pred) (i : ℕ) → All (λ (pred : Pred). All IsBuiltRule pred.rules) preds → All IsBuiltRule (rules_of (slice_get preds i))
@@ -107,68 +52,260 @@ rules_built [] i h = λ k d lt. absurd (omega arith)
 rules_built (pred ∷ preds) zero h = all_first (λ (p : Pred). All IsBuiltRule p.rules) pred preds h
 rules_built (pred ∷ preds) (suc i) h = rules_built preds i (all_rest (λ (p : Pred). All IsBuiltRule p.rules) pred preds h)
 
-module _ (old : Engine) (frames : Vec Frame Global) (ready : IsReady old) (pushed_on : frames.items ≡ old.frames.items ++ old.here ∷ []) where
+pub nothing_in : (rules : List Rule) → length rules ≤ 0 → rules ≡ []
+nothing_in [] h = refl
+nothing_in (x ∷ rules) h = absurd (omega arith)
+
+ask_form : (pred : ℕ) (terms : List Term) (many : Bool) → IsForm (out-Goal (Ask pred terms many))
+ask_form pred terms many = subst IsForm (sym (outs-Ask pred terms many)) tt
+
+-- the heap is full where its arguments are written
+pub args_full : (query : Query) (terms : List Term) (old : Engine) (e : Full) → ((program : CoreProgram) → Overflows (cells program terms) (store_in old.store) e) → FullAt (TakesAt (Ask query.pred terms query.many) old) (store_in old.store) e
+args_full query terms old e h =
+    terms_full (Ask query.pred terms query.many) old e (ask_form query.pred terms query.many)
+    (λ g. subst (λ x. Overflows (cells g.program (terms_held x)) (store_in old.store) e) (sym (outs-Ask query.pred terms query.many)) (h g.program))
+
+module _ (old : Engine) (query : Query) (terms : List Term) (store1 : ListBindings) (refs1 made1 : Vec Ref Global) (args : Env) (ready : IsReady old) (k1 : Kept (store_in old.store) (store_in store1)) (saved1 : (ms : List Saved) → KeepsPlaces old.store ms → KeepsPlaces store1 ms)
+    (written : (program : CoreProgram) → ArgsWritten program (values_in (store_in old.store) old.refs.items old.here.env) terms (store_in old.store) (store_in store1) old.refs.items refs1.items args) where
+  abbrev s : Store
+  s = store_in old.store
+
+  abbrev s1 : Store
+  s1 = store_in store1
+
+  abbrev xs : List Ref
+  xs = old.refs.items
+
+  abbrev ys : List Ref
+  ys = refs1.items
+
   abbrev fs : List Frame
   fs = old.frames.items
 
-  abbrev gs : List Frame
-  gs = old.frames.items ++ old.here ∷ []
+  abbrev os : List Choice
+  os = reverse old.choices.items
 
-  abbrev mid : Engine
-  mid = record old { frames = frames; newest = old.newest + 1 }
+  abbrev x : Goal
+  x = Ask query.pred terms query.many
 
-  count : length gs ≡ length fs + 1
-  count = length-append fs (old.here ∷ [])
+  abbrev from : Point
+  from = TakesAt x old
 
-  pub asked_sound : old.newest + 1 + old.left < 2 ^ 64 → IsSound mid
-  asked_sound room = record {
-    program = ready.sound.program;
-    frames = subst AreFrames (sym pushed_on) (frames_append fs old.here ready.sound.frames (record { built = ready.built; older = ready.linked }));
-    choices = subst (λ (l : List Frame). StandOn (length l) (old.newest + 1) (reverse old.choices.items)) (sym pushed_on)
-        (stand_raise (length fs) (length gs) old.newest (old.newest + 1) (reverse old.choices.items) (omega (arith, count)) (omega arith) ready.sound.choices);
-    room = room;
-  }
+  abbrev there : ArgsWritten old.program.now (values_in s xs old.here.env) terms s s1 xs ys args
+  there = written old.program.now
 
-  behind : steps_behind frames.items (length frames.items) ≡ steps_at fs old.here
-  behind =
-      ap (λ (l : List Frame). steps_behind l (length l)) pushed_on
-      ∙ ap (steps_behind gs) count
-      ∙ behind_new fs old.here ready.linked
+  abbrev made : List Ref
+  made = there.written.appended.made
 
-  pub asks_some : (left : Left) → left.rules.now ≡ rules_of (slice_get old.program.now.preds left.query.pred) → Leads (λ g. TakesAt g (Ask left.query.pred [] left.query.many) old) (λ g. BeginsAt g left mid)
-  asks_some left are g w run quiet st = record {
-    world = asked_in g left.query st.registers w;
-    adds = adds_asked g left.query st.registers w quiet;
-    holds = record {
-      program = st.program;
-      lives = st.lives;
-      ways = st.ways;
-      registers = behind_terms g (asks_for left.query) st.registers;
-      choices = subst (λ l. AreChoices g l (reverse old.choices.items) st.lives) (sym pushed_on) (choices_same g fs gs (length fs) old.newest (reverse old.choices.items) st.lives (same_append fs old.here) ready.sound.choices st.choices);
-      tag = st.tag;
-      began = λ rule others split.
-          subst (λ s. BeganWith g left.query rule others s (behind_terms g (asks_for left.query) st.registers) st.lives st.ways old.left (asked_in g left.query st.registers w) run) (sym behind)
-          (flat g left.query rule others (steps_at fs old.here) (behind_terms g (asks_for left.query) st.registers) st.lives st.ways old.left (asked_in g left.query st.registers w) run quiet (asked g left.query old w run quiet st (rule ∷ others) (sym split ∙ are)));
-    };
-  }
+  front : take (length xs) ys ≡ take (length xs) xs
+  front = front_same xs made ys there.written.appended.is
 
--- ## A word
+  longer : length xs ≤ length ys
+  longer = omega (arith, ap length there.written.appended.is, length-append xs made)
 
-pub prints_word : (name : List ℕ) (e : Engine) (g : Game) (w : World) (run : Run) → IsQuiet w → TakesAt g (Text name) e w run → Then (Piece name ∷ []) w (λ v. StandsAt g e v run)
-prints_word name e g w run quiet st =
-    let v = printed (Piece name) (taken_in g (Text-Form name) st.registers w) in
-    let steps = steps_at e.frames.items e.here in
-    let m = ap (λ x. move g x [] e.here.tag steps st.registers (worked 1 w)) (outs-Text name) in
-    record {
-      world = v;
-      adds = record { prints_are = prints_append w.events (Prints (Piece name) ∷ []); typed = refl; quiet = quiet };
-      holds = record {
-        program = st.program;
-        lives = st.lives;
-        ways = st.ways;
-        registers = behind_terms g (Text-Form name) st.registers;
-        choices = st.choices;
-        tag = st.tag;
-        stands = subst (λ m. After g st.lives st.ways e.left m run) m (takes g st.lives st.ways (Text name) [] e.here.tag steps st.registers e.left w run st.stands);
+  same_values : SameBy (length xs) (values_in s xs) (values_in s1 ys)
+  same_values = values_kept (length xs) s s1 xs ys k1 (hold_front s xs ready.sound.hold) front
+
+  hold : All (Holds s1) ys
+  hold = subst (All (Holds s1)) (sym there.written.appended.is) (All-append (Holds s1) xs made (all_hold s s1 xs k1 ready.sound.hold) there.written.appended.hold)
+
+  -- the values of the arguments
+  args_are : (g : Game) → old.program.now ≡ g.program → values_in s1 ys args ≡ map (value_of g.program (values_in s xs old.here.env)) terms
+  args_are g same =
+      ap (λ i. values_in s1 ys (record { from = i; len = args.len })) there.from
+      ∙ ap (map (told s1)) (appended_stretch xs made ys args.len there.written.appended.is there.count)
+      ∙ there.written.appended.values ∙ ap (λ p. map (value_of p (values_in s xs old.here.env)) terms) same
+
+  -- the registers behind its terms
+  abbrev r_of : (g : Game) (n : ℕ) (w : World) (run : Run) → from g n w run → Registers
+  r_of g n w run st = behind x old g n w run st
+
+  abbrev asked_in : (g : Game) (n : ℕ) (w : World) (run : Run) → from g n w run → World
+  asked_in g n w run st = noted (Asked query.pred) (begun (r_of g n w run st) (writing g.program (terms_held (out-Goal x))) (worked 1 w))
+
+  adds_asked : (g : Game) (n : ℕ) (w : World) (run : Run) (st : from g n w run) → IsQuiet w → Adds [] w (asked_in g n w run st)
+  adds_asked g n w run st quiet =
+      let v = taken_in x old g n w run st in
+      adds_on w v (asked_in g n w run st) [] [] (adds_taken (r_of g n w run st) _ w quiet) (adds_noted v (Asked query.pred) quiet refl)
+
+  abbrev branches : (g : Game) (n : ℕ) (w : World) (run : Run) → from g n w run → List Rule → List Branch
+  branches g n w run st rules = rule_branches g query.pred (values_in s1 ys args) query.many (steps_of old) (r_of g n w run st) rules
+
+  asked : (rules : List Rule) → rules ≡ rules_of (slice_get old.program.now.preds query.pred) → (g : Game) (n : ℕ) (w : World) (run : Run) (st : from g n w run) →
+      After g st.lives st.ways n (choice (RulesOf query.pred) (r_of g n w run st).next_tag (branches g n w run st rules) (asked_in g n w run st)) run
+  asked rules are g n w run st =
+      let r = r_of g n w run st in
+      let values = values_in s xs old.here.env in
+      let v = taken_in x old g n w run st in
+      let as_asked = ap (λ f. outcome g f values old.here.tag (steps_of old) r v) (outs-Ask query.pred terms query.many) in
+      let on : List Rule → List Value → Move = λ rs vs. choice (RulesOf query.pred) r.next_tag (rule_branches g query.pred vs query.many (steps_of old) r rs) (noted (Asked query.pred) v) in
+      let here : rules_of (slice_get g.program.preds query.pred) ≡ rules = ap (λ (p : CoreProgram). rules_of (slice_get p.preds query.pred)) (sym st.program) ∙ sym are in
+      subst (λ m. After g st.lives st.ways n m run) (as_asked ∙ ap (λ rs. on rs (map (value_of g.program values) terms)) here ∙ ap (on rules) (sym (args_are g st.program))) (comes_of x old g n w run st)
+
+  module _ (rules : Bor (List Rule)) (are : rules.now ≡ rules_of (slice_get old.program.now.preds query.pred)) where
+    -- no rule is there
+    abbrev pub failing : Engine
+    failing = record old { store = store1; refs = refs1; made = made1 }
+
+    pub ask_limits : SameLimits old failing
+    ask_limits = record { heap = k1.heap_limit; trail = k1.trail_limit }
+
+    failing_keeps : KeepsPlaces store1 ready.sound.places.saved
+    failing_keeps = saved1 ready.sound.places.saved ready.sound.places.keeps
+
+    failing_back : GoBackTo ys s1.heap_limit s1.trail_limit os ready.sound.places.saved
+    failing_back = back_limits ys s.heap_limit s.trail_limit s1.heap_limit s1.trail_limit os ready.sound.places.saved (sym k1.heap_limit) (sym k1.trail_limit) (back_same xs ys fs (length fs) (length xs) old.newest s.heap_limit s.trail_limit os ready.sound.places.saved front ready.sound.choices ready.sound.places.back_to)
+
+    pub failing_sound : IsSound failing
+    failing_sound = record {
+      program = ready.sound.program;
+      hold = hold;
+      frames = frames_raise (length fs) (length xs) (length ys) fs longer ready.sound.frames;
+      choices = stand_raise fs (length fs) (length fs) (length xs) (length ys) old.newest old.newest os (omega arith) longer (omega arith) ready.sound.choices;
+      places = record {
+        saved = ready.sound.places.saved;
+        keeps = failing_keeps;
+        back_to = failing_back;
       };
+      room = ready.sound.room;
+    }
+
+    choices_now : (g : Game) (ms : List Saved) (cs : List Live) → AreChoices g xs fs os ms cs → AreChoices g ys fs os ms cs
+    choices_now g ms cs h = choices_same g xs ys fs fs (length fs) (length xs) old.newest os ms cs front (same_here (length fs) fs) ready.sound.choices h
+
+    pub asks_none : rules.now ≡ [] → Leads from (FailsAt failing)
+    asks_none none g n w run quiet st =
+        let v = asked_in g n w run st in
+        record {
+          world = noted (HasFailed query.pred) v;
+          adds = adds_on w v (noted (HasFailed query.pred) v) [] [] (adds_asked g n w run st quiet) (adds_noted v (HasFailed query.pred) quiet refl);
+          holds = record {
+            program = st.program;
+            lives = st.lives;
+            saved = st.saved;
+            keeps = saved1 st.saved st.keeps;
+            choices = choices_now g st.saved st.lives st.choices;
+            failed = asked [] (sym none ∙ are) g n w run st;
+          };
+        }
+
+    module _ (place : Place) (frames : Vec Frame Global) (store2 : ListBindings) (pushed_on : frames.items ≡ fs ++ old.here ∷ []) (k2 : Kept s1 (store_in store2)) (state2 : (store_in store2).state ≡ marked s1.state)
+        (saved2 : (ms : List Saved) → KeepsPlaces store1 ms → KeepsPlaces store2 (record { mark = place; store = store_in store2 } ∷ ms)) where
+      abbrev s2 : Store
+      s2 = store_in store2
+
+      abbrev gs : List Frame
+      gs = fs ++ old.here ∷ []
+
+      abbrev pub asking : Engine
+      asking = record old { store = store2; refs = refs1; made = made1; frames = frames; newest = old.newest + 1 }
+
+      count : length gs ≡ length fs + 1
+      count = length-append fs (old.here ∷ [])
+
+      frames_now : AreFrames (length gs) (length ys) gs
+      frames_now = frames_append (length ys) fs old.here failing_sound.frames (frame_raise (length fs) (length fs) (length xs) (length ys) old.here (omega arith) longer ready.here)
+
+      stand : StandOn gs (length gs) (length ys) (old.newest + 1) os
+      stand = stand_raise gs (length fs) (length gs) (length ys) (length ys) old.newest (old.newest + 1) os (omega (arith, count)) (omega arith) (omega arith) (stand_same fs gs (length fs) (length ys) old.newest os (same_append fs old.here) failing_sound.choices)
+
+      place_now : (ms : List Saved) → KeepsPlaces store1 ms → IsPlace asking place (record { mark = place; store = s2 }) ms
+      place_now ms h = record { keeps = saved2 ms h; place_is = refl; hold = all_hold s1 s2 ys k2 hold; kept = kept_here s2 }
+
+      back_now : GoBackTo ys s2.heap_limit s2.trail_limit os ready.sound.places.saved
+      back_now = back_limits ys s1.heap_limit s1.trail_limit s2.heap_limit s2.trail_limit os ready.sound.places.saved (sym k2.heap_limit) (sym k2.trail_limit) failing_back
+
+      pub asking_place : HasPlace asking place
+      asking_place = record { back = record { mark = place; store = s2 }; saved = ready.sound.places.saved; is = place_now ready.sound.places.saved failing_keeps; back_to = back_now }
+
+      pub asking_limits : SameLimits old asking
+      asking_limits = record { heap = k2.heap_limit ∙ k1.heap_limit; trail = k2.trail_limit ∙ k1.trail_limit }
+
+      pub asking_sound : old.newest + 1 + old.left < 2 ^ 64 → IsSound asking
+      asking_sound room = record {
+        program = ready.sound.program;
+        hold = all_hold s1 s2 ys k2 hold;
+        frames = subst (λ (l : List Frame). AreFrames (length l) (length ys) l) (sym pushed_on) frames_now;
+        choices = subst (λ (l : List Frame). StandOn l (length l) (length ys) (old.newest + 1) os) (sym pushed_on) stand;
+        places = record { saved = ready.sound.places.saved; keeps = saves_drops true (fields_of store2) _ _ (saved2 ready.sound.places.saved failing_keeps); back_to = back_now };
+        room = room;
+      }
+
+      pub asking_left : 0 < length rules.now → IsLeft (length frames.items) (length ys) (Rules query args rules)
+      asking_left some =
+          (some, subst (λ (l : List Rule). All IsBuiltRule l) (sym are) (rules_built old.program.now.preds query.pred ready.sound.program), omega (arith, there.from, there.count, ap length there.written.appended.is, length-append xs made))
+
+      values2 : SameBy (length ys) (values_in s1 ys) (values_in s2 ys)
+      values2 = values_kept (length ys) s1 s2 ys ys k2 (hold_front s1 ys hold) refl
+
+      steps_now : steps_behind (values_in s2 ys) frames.items (length frames.items) ≡ steps_of old
+      steps_now =
+          ap (λ (l : List Frame). steps_behind (values_in s2 ys) l (length l)) pushed_on
+          ∙ ap (steps_behind (values_in s2 ys) gs) count
+          ∙ behind_new (length ys) (values_in s2 ys) fs old.here failing_sound.frames ready.here.older
+          ∙ at_same (length xs) (values_in s xs) (values_in s2 ys) fs fs (length fs) old.here ready.here (λ env ends. values2 env (omega (arith, ends, longer)) ∙ same_values env ends) ready.sound.frames (same_here (length fs) fs)
+
+      agrees_now : (g : Game) (n : ℕ) (w : World) (run : Run) (st : from g n w run) → Agrees s2 (r_of g n w run st)
+      agrees_now g n w run st =
+          let here = (written g.program).written.charged.state in
+          let form : cells g.program (terms_held (out-Goal x)) ≡ cells g.program terms = ap (λ f. cells g.program (terms_held f)) (outs-Ask query.pred terms query.many) in
+          record {
+            bound = st.agrees.bound ∙ ap (λ (t : State). t.subst) (sym (state2 ∙ ap marked here));
+            vars = st.agrees.vars ∙ ap (λ (t : State). t.vars) (sym (state2 ∙ ap marked here));
+            heap = omega (arith, st.agrees.heap, form, ap (λ (t : State). t.heap) (state2 ∙ ap marked here));
+            trail = omega (arith, st.agrees.trail, ap (λ (t : State). t.trail) (state2 ∙ ap marked here));
+            since = omega (arith, ap (λ (t : State). t.since) state2, ap (λ (t : State). t.vars) state2);
+          }
+
+      began : (g : Game) (n : ℕ) (w : World) (run : Run) (st : from g n w run) → IsQuiet w → (b : Branch) (bs : List Branch) → branches g n w run st rules.now ≡ b ∷ bs →
+          Began g (pushed bs (record { kind = RulesOf query.pred; tag = (r_of g n w run st).next_tag; others = bs; height = 0; ways_on = st.ways }) st.lives) st.ways b n (asked_in g n w run st) run
+      began g n w run st quiet b bs split =
+          let h = subst (λ l. After g st.lives st.ways n (choice (RulesOf query.pred) (r_of g n w run st).next_tag l (asked_in g n w run st)) run) split (asked rules.now are g n w run st) in
+          subst (λ i. Began g (pushed bs (record { kind = RulesOf query.pred; tag = (r_of g n w run st).next_tag; others = bs; height = i; ways_on = st.ways }) st.lives) st.ways b n (asked_in g n w run st) run) (ap length quiet) h
+
+      pub asks_some : Leads from (BeginsAt (Rules query args rules) place asking)
+      asks_some g n w run quiet st =
+          let r = r_of g n w run st in
+          record {
+            world = asked_in g n w run st;
+            adds = adds_asked g n w run st quiet;
+            holds = record {
+              program = st.program;
+              lives = st.lives;
+              ways = st.ways;
+              registers = r;
+              saved = st.saved;
+              back = record { mark = place; store = s2 };
+              is = place_now st.saved (saved1 st.saved st.keeps);
+              agrees = agrees_now g n w run st;
+              back_agrees = agrees_now g n w run st;
+              choices = subst (λ l. AreChoices g ys l os st.saved st.lives) (sym pushed_on)
+                  (choices_same g ys ys fs gs (length fs) (length ys) old.newest os st.saved st.lives refl (same_append fs old.here) failing_sound.choices (choices_now g st.saved st.lives st.choices));
+              tag = st.tag;
+              began = λ b bs split.
+                  let same : rule_branches g query.pred (values_in s2 ys args) query.many (steps_behind (values_in s2 ys) frames.items (length frames.items)) r rules.now ≡ branches g n w run st rules.now =
+                  ap (λ l. rule_branches g query.pred (values_in s2 ys args) query.many l r rules.now) steps_now
+                  ∙ ap (λ vs. rule_branches g query.pred vs query.many (steps_of old) r rules.now) (values2 args (omega (arith, there.from, there.count, ap length there.written.appended.is, length-append xs made))) in
+                  began g n w run st quiet b bs (sym same ∙ split);
+            };
+          }
+
+-- ## Arguments
+
+pub args_written : (program : CoreProgram) (terms : List Term) (s t : Store) (refs before made behind : List Ref) (env : Env) (args : Env) (part : List Ref) → part ≡ stretch refs env → before ≡ [] → behind ≡ refs ++ made → args.from ≡ length refs → args.len ≡ length made →
+    Written (cells program terms) (map (value_of program (map (told s) part)) terms) s t before made → ArgsWritten program (values_in s refs env) terms s t refs behind args
+args_written program terms s t refs before made behind env args part is empty appended from len h =
+    let same : h.appended.made ≡ made = sym (h.appended.is ∙ ap (λ l. l ++ h.appended.made) empty) in
+    record {
+      written = record {
+        charged = h.charged;
+        appended = record {
+          made = made;
+          is = appended;
+          hold = subst (All (Holds t)) same h.appended.hold;
+          values = ap (map (told t)) (sym same) ∙ h.appended.values ∙ ap (λ l. map (value_of program (map (told s) l)) terms) is;
+        };
+      };
+      from = from;
+      count = len;
     }

@@ -1,128 +1,183 @@
--- The next branch of a choice, and the rules of a query.
-use Rattle.std.proofs.Common.{◌≡◌, ℕ, List, [], ◌∷◌, ◌++◌, Bool, true, false, refl, sym, ap, ◌∙◌, subst, arith, length, take, length-take}
-use Rattle.std.specs.Prelude.{reverse, Result, Ok, Err, IfOk, IfErr}
+-- The newest choice is tried again.
+use Rattle.std.proofs.Common.{◌≡◌, ℕ, ◌+◌, ◌<◌, ◌≤◌, List, [], ◌∷◌, ◌++◌, Bool, true, false, refl, sym, ap, ◌∙◌, subst, arith, length, take, length-take}
+use Rattle.std.specs.Prelude.{reverse}
+use Rattle.std.specs.List.{All}
 use Rattle.std.specs.declared.vec.Vec.{Vec}
 use Rattle.std.specs.declared.alloc.Global.{Global}
-use Rattle.dg_base.specs.declared.program.Rule.{Rule}
 use Rattle.dg_meaning.specs.World.{Game, World}
-use Rattle.dg_meaning.specs.Path.{Step, Registers, Rules as RulesOf, Failing}
-use Rattle.dg_meaning.specs.Moves.{choice_cells, rule_branch, rule_branches}
+use Rattle.dg_meaning.specs.Path.{Registers, Branch, Kind, Result, Failing}
 use Rattle.dg_meaning.specs.Search.{retried}
 use Rattle.dg_meaning.specs.Transcript.{Run}
 use Rattle.dg_meaning.specs.Context.{Live, pushed}
 use Rattle.dg_meaning.specs.Keeps.{Finished, FailsTo, Resumed, Began}
 use Rattle.dg_meaning.proofs.Silently.{retried_silently, quiet_later}
 use Rattle.dg_meaning.proofs.Keeps.{failed, begins_next}
-use Rattle.dg_interp.specs.declared.frames.Query.{Query}
+use Rattle.dg_unify.specs.Store.{Store, State, Saved, Holds, Kept, Back}
+use Rattle.dg_unify.specs.Laws.{saves_drops}
+use Rattle.dg_unify.specs.Listed.{fields_of}
+use Rattle.dg_unify.specs.declared.bindings.Ref.{Ref}
+use Rattle.dg_unify.specs.declared.bindings.Full.{Full}
+use Rattle.dg_unify.specs.declared.bindings.Full.TheVariants as full
+use Rattle.dg_unify.specs.declared.bindings.Mark.{Mark as Place}
+use Rattle.dg_unify.specs.declared.list.ListBindings.{ListBindings}
 use Rattle.dg_interp.specs.declared.frames.Frame.{Frame}
 use Rattle.dg_interp.specs.declared.frames.Choice.{Choice}
 use Rattle.dg_interp.specs.declared.engine.Engine.{Engine}
-use Rattle.dg_interp.specs.Frames.{steps_behind, IsLeft, IsChoice, AreChoices, AreFrames, StandOn}
-use Rattle.dg_interp.specs.Engine.{IsQuiet, IsSound, StandsAt, FailsAt, BeginsAt, BeganWith, Adds, Then, Leads, Ends, WentBack, NoneLeft, Branches}
-use Rattle.dg_interp.proofs.Links.{same_take, behind_same, frames_take, choices_same}
+use Rattle.dg_interp.specs.Frames.{values_in, kind_of, branches_of, Agrees, IsChoice, AreChoices, AreFrames, IsLeft, StandOn, GoBackTo, left_in, all_left}
+use Rattle.dg_interp.specs.Engine.{store_in, KeepsPlaces, HasPlaces, HasPlace, IsPlace, Point, IsQuiet, IsSound, StandsAt, FailsAt, BeginsAt, Adds, Then, Leads, Ends, FullAt, SameLimits, WentOn, WentWrong, HasEndedSo, AtGoal, Branches, GoesBack, Tries, Retries, branches_left}
+use Rattle.dg_interp.proofs.Links.{Within, left_within, same_take, same_fewer, branches_same, frames_take, stand_same, choices_same, back_same}
+use Rattle.dg_interp.proofs.Stores.{all_hold, values_kept, take_all}
+use Rattle.dg_interp.proofs.Begins.{back_limits}
+use Rattle.dg_interp.proofs.Places.{went_further, went_wrong, adds_nothing, adds_on, adds_silently, leads_on, limits_on}
 use Rattle.dg_interp.proofs.Turns.{reverse_pop}
-use Rattle.dg_interp.proofs.Places.{adds_nothing, adds_on, adds_silently, leads_on}
 
--- ## One after another
+-- ## The store to which a choice goes back
 
-pub went_back_from : (A B : Game → World → Run → Type 0) (old mid new : Engine) → mid.left ≡ old.left → Leads A B → WentBack B mid new → WentBack A old new
-went_back_from A B old mid new left h k = record { ready = k.ready; left = k.left ∙ left; leads = leads_on A B (λ g. StandsAt g new) h k.leads }
+-- a store that was kept at a place
+abbrev pub KeptAt : ListBindings → Place → Type 0
+KeptAt store place = (s : Store) × (ms : List Saved) × KeepsPlaces store (record { mark = place; store = s } ∷ ms)
 
-none_left_from : (A B : Game → World → Run → Type 0) (old mid new : Engine) → mid.left ≡ old.left → Leads A B → NoneLeft B mid new → NoneLeft A old new
-none_left_from A B old mid new left h k = record {
-  left = k.left ∙ left;
-  ends = subst (λ n. Ends A n Failing) left (leads_on A B (λ g v run. Finished mid.left v Failing run) h k.ends);
-}
+same_saved : (store : ListBindings) (place : Place) (m : Saved) (ms : List Saved) → m.mark ≡ place → KeepsPlaces store (m ∷ ms) → KeepsPlaces store (record { mark = place; store = m.store } ∷ ms)
+same_saved store place m ms e h = subst (λ p. KeepsPlaces store (record { mark = p; store = m.store } ∷ ms)) e h
 
-pub branches_from : (A B : Game → World → Run → Type 0) (old new : Engine) → Leads A B → (found : Bool) → Branches B found old new → Branches A found old new
-branches_from A B old new h true k = went_back_from A B old old new refl h k
-branches_from A B old new h false k = none_left_from A B old old new refl h k
+kept_at : (store : ListBindings) (xs : List Ref) (heap trail : ℕ) (o : Choice) (os : List Choice) (ms : List Saved) → GoBackTo xs heap trail (o ∷ os) ms → KeepsPlaces store ms → KeptAt store o.place
+kept_at store xs heap trail o os [] b h = absurd b
+kept_at store xs heap trail o os (m ∷ ms) b h = (m.store, ms, same_saved store o.place m ms b.0 h)
 
-pub if_ok_map : {A E : Type 0} (r : Result A E) (P Q : A → Type 0) → ((x : A) → P x → Q x) → IfOk r P → IfOk r Q
-if_ok_map (Ok x) P Q f h = f x h
-if_ok_map (Err e) P Q f h = h
-
-pub if_err_map : {A E : Type 0} (r : Result A E) (P Q : E → Type 0) → ((x : E) → P x → Q x) → IfErr r P → IfErr r Q
-if_err_map (Ok x) P Q f h = h
-if_err_map (Err e) P Q f h = f e h
-
--- ## The next branch of the newest choice
-
--- the next of a choice's rules, by what the choice is
-next_with : (g : Game) (query : Query) (rule : Rule) (others : List Rule) (steps : List Step) (r : Registers) (c : Live) (cs : List Live) (n : ℕ) (w : World) (run : Run) →
-    c.kind ≡ RulesOf query.pred → c.tag ≡ r.next_tag → c.height ≡ 0 →
-    Began g (pushed (rule_branches g query.pred [] query.many steps r others) (record c { others = rule_branches g query.pred [] query.many steps r others }) cs) c.ways_on (rule_branch g query.pred [] query.many steps r (choice_cells 0 others) rule) n w run →
-    BeganWith g query rule others steps r cs c.ways_on n w run
-next_with g query rule others steps r c cs n w run kind tag height h =
-    let bs = rule_branches g query.pred [] query.many steps r others in
-    let b = rule_branch g query.pred [] query.many steps r (choice_cells 0 others) rule in
-    subst (λ k. Began g (pushed bs (record { kind = k; tag = r.next_tag; others = bs; height = 0; ways_on = c.ways_on }) cs) c.ways_on b n w run) kind
-    (subst (λ t. Began g (pushed bs (record { kind = c.kind; tag = t; others = bs; height = 0; ways_on = c.ways_on }) cs) c.ways_on b n w run) tag
-    (subst (λ i. Began g (pushed bs (record { kind = c.kind; tag = c.tag; others = bs; height = i; ways_on = c.ways_on }) cs) c.ways_on b n w run) height h))
-
-module _ (old : Engine) (o : Choice) (frames : Vec Frame Global) (choices : Vec Choice Global) (sound : IsSound old) (popped : old.choices.items ≡ choices.items ++ o ∷ []) (cut : frames.items ≡ take o.height old.frames.items) where
+module _ (old : Engine) (o : Choice) (choices : Vec Choice Global) (sound : IsSound old) (popped : old.choices.items ≡ choices.items ++ o ∷ []) where
   abbrev fs : List Frame
   fs = old.frames.items
+
+  abbrev xs : List Ref
+  xs = old.refs.items
 
   abbrev os : List Choice
   os = reverse choices.items
 
-  abbrev mid : Engine
-  mid = record old { frames = frames; choices = choices; newest = o.tag }
-
   was : reverse old.choices.items ≡ o ∷ os
   was = reverse_pop old.choices.items choices.items o popped
 
-  stand : StandOn (length fs) old.newest (o ∷ os)
-  stand = subst (StandOn (length fs) old.newest) was sound.choices
+  back_to : GoBackTo xs (store_in old.store).heap_limit (store_in old.store).trail_limit (o ∷ os) sound.places.saved
+  back_to = subst (λ l. GoBackTo xs (store_in old.store).heap_limit (store_in old.store).trail_limit l sound.places.saved) was sound.places.back_to
 
-  count : length (take o.height fs) ≡ o.height
-  count = length-take o.height fs ∙ omega (arith, stand.0)
+  pub may_undo : KeptAt old.store o.place
+  may_undo = kept_at old.store xs _ _ o os sound.places.saved back_to sound.places.keeps
 
-  pub popped_sound : IsSound mid
-  popped_sound = record {
-    program = sound.program;
-    frames = subst AreFrames (sym cut) (frames_take fs o.height sound.frames);
-    choices = subst (λ (l : List Frame). StandOn (length l) o.tag os) (sym cut) (subst (λ n. StandOn n o.tag os) (sym count) stand.3);
-    room = omega (arith, sound.room, stand.1);
-  }
+  stand : StandOn fs (length fs) (length xs) old.newest (o ∷ os)
+  stand = subst (StandOn fs (length fs) (length xs) old.newest) was sound.choices
 
-  pub popped_left : IsLeft o.left
-  popped_left = stand.2
+  pub fewer_left : all_left (reverse old.choices.items) ≡ left_in o.left + all_left os
+  fewer_left = ap all_left was
 
-  behind : steps_behind frames.items (length frames.items) ≡ steps_behind fs o.height
-  behind =
-      ap (λ (l : List Frame). steps_behind l (length l)) cut
-      ∙ ap (steps_behind (take o.height fs)) count
-      ∙ behind_same fs (take o.height fs) o.height o.height (omega arith) (same_take fs o.height)
+  module _ (frames : Vec Frame Global) (refs : Vec Ref Global) (store : ListBindings) (cut : frames.items ≡ take o.height fs) (cut_refs : refs.items ≡ take o.refs xs)
+      (back : (s : Store) (ms : List Saved) → KeepsPlaces old.store (record { mark = o.place; store = s } ∷ ms) → Back s (store_in store))
+      (keeps : (s : Store) (ms : List Saved) → KeepsPlaces old.store (record { mark = o.place; store = s } ∷ ms) → KeepsPlaces store (record { mark = o.place; store = s } ∷ ms)) where
+    abbrev mid : Engine
+    mid = record old { frames = frames; refs = refs; store = store; choices = choices; newest = o.tag }
 
-  begins : (g : Game) (c : Live) (cs : List Live) (w v : World) (run : Run) → IsQuiet w → IsQuiet v → Adds [] w v → old.program.now ≡ g.program → IsChoice g fs o c → AreChoices g fs os cs → Resumed g c cs old.left v run → Then [] w (λ u. BeginsAt g o.left mid u run)
-  begins g c cs w v run quiet still adds program is others resumed =
-      let r = is.registers in
-      record {
-        world = retried c.kind v;
-        adds = adds_on w v (retried c.kind v) [] [] adds (adds_silently v (retried c.kind v) still (retried_silently c.kind v));
-        holds = record {
-          program = program;
-          lives = cs;
-          ways = c.ways_on;
-          registers = r;
-          choices = subst (λ l. AreChoices g l os cs) (sym cut) (choices_same g fs (take o.height fs) o.height o.tag os cs (same_take fs o.height) stand.3 others);
-          tag = is.tag_at;
-          began = λ rule more split.
-              let branches : c.others ≡ rule_branches g o.left.query.pred [] o.left.query.many (steps_behind frames.items (length frames.items)) r (rule ∷ more) =
-              is.others ∙ ap (rule_branches g o.left.query.pred [] o.left.query.many (steps_behind fs o.height) r) split
-              ∙ ap (λ s. rule_branches g o.left.query.pred [] o.left.query.many s r (rule ∷ more)) (sym behind) in
-              next_with g o.left.query rule more (steps_behind frames.items (length frames.items)) r c cs old.left (retried c.kind v) run is.kind (is.tag ∙ sym is.tag_at) is.height
-              (begins_next g c cs _ _ old.left v run branches resumed);
-        };
-      }
+    count : length frames.items ≡ o.height
+    count = ap length cut ∙ length-take o.height fs ∙ omega (arith, stand.0)
 
-  pub begins_popped : Leads (λ g. FailsAt g old) (λ g. BeginsAt g o.left mid)
-  begins_popped g w run quiet st = from st.lives (subst (λ l. AreChoices g fs l st.lives) was st.choices) (failed g st.lives old.left w run st.failed) where
-    from : (cs : List Live) → AreChoices g fs (o ∷ os) cs → FailsTo g old.left w run cs → Then [] w (λ u. BeginsAt g o.left mid u run)
-    from [] h f = absurd h
-    from (c ∷ cs) h f = begins g c cs w f.world run quiet (quiet_later w f.world quiet f.silently) (adds_silently w f.world quiet f.silently) st.program h.0 h.1 f.resumed
+    count_refs : length refs.items ≡ o.refs
+    count_refs = ap length cut_refs ∙ length-take o.refs xs ∙ omega (arith, stand.1)
+
+    front : take o.refs refs.items ≡ take o.refs xs
+    front = ap (λ n. take n refs.items) (sym count_refs) ∙ take_all refs.items ∙ cut_refs
+
+    -- what is known of a store that was kept
+    pub is_place : (m : Saved) (ms : List Saved) → m.mark ≡ o.place → All (Holds m.store) (take o.refs xs) → KeepsPlaces old.store (m ∷ ms) → IsPlace mid o.place m ms
+    is_place m ms e hold h =
+        let h' = same_saved old.store o.place m ms e h in
+        record {
+          keeps = subst (λ p. KeepsPlaces store (record { mark = p; store = m.store } ∷ ms)) (sym e) (keeps m.store ms h');
+          place_is = e;
+          hold = subst (All (Holds m.store)) (sym cut_refs) hold;
+          kept = (back m.store ms h').kept;
+        }
+
+    place_of : (ms : List Saved) → GoBackTo xs (store_in old.store).heap_limit (store_in old.store).trail_limit (o ∷ os) ms → KeepsPlaces old.store ms → HasPlace mid o.place
+    place_of [] b h = absurd b
+    place_of (m ∷ ms) b h =
+        let is = is_place m ms b.0 b.1 h in
+        record {
+          back = m;
+          saved = ms;
+          is = is;
+          back_to = back_limits refs.items (store_in old.store).heap_limit (store_in old.store).trail_limit (store_in store).heap_limit (store_in store).trail_limit os ms (sym (is.kept.heap_limit ∙ b.2)) (sym (is.kept.trail_limit ∙ b.3))
+              (back_same xs refs.items fs o.height o.refs o.tag _ _ os ms front stand.5 b.4);
+        }
+
+    pub popped_place : HasPlace mid o.place
+    popped_place = place_of sound.places.saved back_to sound.places.keeps
+
+    limits_of : (ms : List Saved) → GoBackTo xs (store_in old.store).heap_limit (store_in old.store).trail_limit (o ∷ os) ms → KeepsPlaces old.store ms → SameLimits old mid
+    limits_of [] b h = absurd b
+    limits_of (m ∷ ms) b h = let is = is_place m ms b.0 b.1 h in record { heap = is.kept.heap_limit ∙ b.2; trail = is.kept.trail_limit ∙ b.3 }
+
+    pub popped_limits : SameLimits old mid
+    popped_limits = limits_of sound.places.saved back_to sound.places.keeps
+
+    pub popped_sound : IsSound mid
+    popped_sound = record {
+      program = sound.program;
+      hold = all_hold popped_place.back.store (store_in store) refs.items popped_place.is.kept popped_place.is.hold;
+      frames = subst (λ n. AreFrames (length frames.items) n frames.items) (sym count_refs) (subst (λ (l : List Frame). AreFrames (length l) o.refs l) (sym cut) (frames_take o.refs o.height fs stand.0 stand.4));
+      choices = subst (λ n. StandOn frames.items n (length refs.items) o.tag os) (sym count)
+          (subst (λ n. StandOn frames.items o.height n o.tag os) (sym count_refs) (subst (λ l. StandOn l o.height o.refs o.tag os) (sym cut) (stand_same fs (take o.height fs) o.height o.refs o.tag os (same_take fs o.height) stand.5)));
+      places = record { saved = popped_place.saved; keeps = saves_drops true (fields_of store) popped_place.back popped_place.saved popped_place.is.keeps; back_to = popped_place.back_to };
+      room = omega (arith, sound.room, stand.2);
+    }
+
+    pub popped_left : IsLeft (length frames.items) (length refs.items) o.left
+    popped_left = subst (λ n. IsLeft n (length refs.items) o.left) (sym count) (subst (λ n. IsLeft o.height n o.left) (sym count_refs) stand.3)
+
+    begins : (g : Game) (m : Saved) (ms : List Saved) (c : Live) (cs : List Live) (n : ℕ) (w v : World) (run : Run) → IsQuiet v → Adds [] w v → old.program.now ≡ g.program → KeepsPlaces old.store (m ∷ ms) → IsChoice g xs fs o m c → AreChoices g xs fs os ms cs → Resumed g c cs n v run →
+        Then [] w (λ u. BeginsAt o.left o.place mid g n u run)
+    begins g m ms c cs n w v run still adds program kept is others resumed =
+        let r = is.registers in
+        let place = is_place m ms is.place is.hold kept in
+        let here = back m.store ms (same_saved old.store o.place m ms is.place kept) in
+        let values = values_kept o.refs m.store (store_in store) xs refs.items place.kept is.hold front in
+        let same : branches_of g (values_in (store_in store) refs.items) frames.items (length frames.items) o.left r ≡ branches_of g (values_in m.store xs) fs o.height o.left r =
+        ap (λ h. branches_of g (values_in (store_in store) refs.items) frames.items h o.left r) count
+        ∙ ap (λ l. branches_of g (values_in (store_in store) refs.items) l o.height o.left r) cut
+        ∙ branches_same g o.height o.refs (values_in m.store xs) (values_in (store_in store) refs.items) fs (take o.height fs) o.left r (left_within o.height o.refs o.left stand.3) stand.4 values (same_take fs o.height) in
+        record {
+          world = retried c.kind v;
+          adds = adds_on w v (retried c.kind v) [] [] adds (adds_silently v (retried c.kind v) still (retried_silently c.kind v));
+          holds = record {
+            program = program;
+            lives = cs;
+            ways = c.ways_on;
+            registers = r;
+            saved = ms;
+            back = m;
+            is = place;
+            agrees = record {
+              bound = is.agrees.bound ∙ ap (λ (t : State). t.subst) (sym here.state);
+              vars = is.agrees.vars ∙ ap (λ (t : State). t.vars) (sym here.state);
+              heap = is.agrees.heap ∙ ap (λ (t : State). t.heap) (sym here.state);
+              trail = omega (arith, is.agrees.trail, ap (λ (t : State). t.trail) here.state);
+              since = omega (arith, is.agrees.since, ap (λ (t : State). t.since) here.state, ap (λ (t : State). t.vars) here.state);
+            };
+            back_agrees = is.agrees;
+            choices = subst (λ l. AreChoices g refs.items l os ms cs) (sym cut) (choices_same g xs refs.items fs (take o.height fs) o.height o.refs o.tag os ms cs front (same_take fs o.height) stand.5 others);
+            tag = is.tag_at;
+            began = λ b bs split.
+                let next = begins_next g c cs b bs n v run (is.others ∙ sym same ∙ split) resumed in
+                let at : Live → Type 0 = λ l. Began g (pushed bs l cs) c.ways_on b n (retried c.kind v) run in
+                subst (λ k. at (record { kind = k; tag = r.next_tag; others = bs; height = 0; ways_on = c.ways_on })) is.kind
+                (subst (λ t. at (record { kind = c.kind; tag = t; others = bs; height = 0; ways_on = c.ways_on })) (is.tag ∙ sym is.tag_at)
+                (subst (λ i. at (record { kind = c.kind; tag = c.tag; others = bs; height = i; ways_on = c.ways_on })) is.height next));
+          };
+        }
+
+    pub begins_popped : Leads (FailsAt old) (BeginsAt o.left o.place mid)
+    begins_popped g n w run quiet st = from st.saved st.lives st.keeps (subst (λ l. AreChoices g xs fs l st.saved st.lives) was st.choices) (failed g st.lives n w run st.failed) where
+      from : (ms : List Saved) (cs : List Live) → KeepsPlaces old.store ms → AreChoices g xs fs (o ∷ os) ms cs → FailsTo g n w run cs → Then [] w (λ u. BeginsAt o.left o.place mid g n u run)
+      from [] cs k h f = absurd h
+      from (m ∷ ms) [] k h f = absurd h
+      from (m ∷ ms) (c ∷ cs) k h f = begins g m ms c cs n w f.world run (quiet_later w f.world quiet f.silently) (adds_silently w f.world quiet f.silently) st.program k h.0 h.1 f.resumed
 
 -- ## No choice is left
 
@@ -134,11 +189,49 @@ module _ (old : Engine) (choices : Vec Choice Global) (empty : length old.choice
   none : reverse old.choices.items ≡ []
   none = no_choice old.choices.items empty
 
-  pub none_popped : NoneLeft (λ g. FailsAt g old) old (record old { choices = choices })
+  pub none_popped : HasEndedSo (FailsAt old) Failing old (record old { choices = choices })
   none_popped = record {
     left = refl;
-    ends = λ g w run quiet st. from g w run quiet st.lives (subst (λ l. AreChoices g old.frames.items l st.lives) none st.choices) (failed g st.lives old.left w run st.failed);
+    ends = λ g n w run quiet st. from g n w run quiet st.saved st.lives (subst (λ l. AreChoices g old.refs.items old.frames.items l st.saved st.lives) none st.choices) (failed g st.lives n w run st.failed);
   } where
-    from : (g : Game) (w : World) (run : Run) → IsQuiet w → (cs : List Live) → AreChoices g old.frames.items [] cs → FailsTo g old.left w run cs → Then [] w (λ v. Finished old.left v Failing run)
-    from g w run quiet [] h f = record { world = w; adds = adds_nothing w quiet; holds = f }
-    from g w run quiet (c ∷ cs) h f = absurd h
+    from : (g : Game) (n : ℕ) (w : World) (run : Run) → IsQuiet w → (ms : List Saved) (cs : List Live) → AreChoices g old.refs.items old.frames.items [] ms cs → FailsTo g n w run cs → Then [] w (λ v. Finished n v Failing run)
+    from g n w run quiet [] [] h f = record { world = w; adds = adds_nothing w quiet; holds = f }
+    from g n w run quiet [] (c ∷ cs) h f = absurd h
+    from g n w run quiet (m ∷ ms) cs h f = absurd h
+
+-- ## One after another
+
+pub full_from : (A B : Point) (s t : Store) (e : Full) → t.heap_limit ≡ s.heap_limit → t.trail_limit ≡ s.trail_limit → Leads A B → FullAt B t e → FullAt A s e
+full_from A B s t full.Heap same same' h f = λ g n w run quiet a. let x = h g n w run quiet a in let y = f g n x.world run x.adds.quiet x.holds in omega (arith, y, same)
+full_from A B s t full.Trail same same' h f = λ g n w run quiet a. let x = h g n w run quiet a in let y = f g n x.world run x.adds.quiet x.holds in omega (arith, y, same')
+full_from A B s t full.OutOfMemory same same' h f = tt
+
+pub went_on_from : (A B : Point) (old mid new : Engine) → mid.left ≡ old.left → SameLimits old mid → Leads A B → WentOn B mid new → WentOn A old new
+went_on_from A B old mid new left limits h k = record { ready = k.ready; left = k.left ∙ left; limits = limits_on old mid new limits k.limits; leads = leads_on A B (StandsAt new) h k.leads }
+
+pub went_wrong_from : (A B : Point) (old mid new : Engine) → mid.left ≡ old.left → SameLimits old mid → Leads A B → WentWrong B mid new → WentWrong A old new
+went_wrong_from A B old mid new left limits h k = record { sound = k.sound; left = k.left ∙ left; limits = limits_on old mid new limits k.limits; leads = leads_on A B (FailsAt new) h k.leads }
+
+pub ended_from : (A B : Point) (result : Result) (old mid new : Engine) → mid.left ≡ old.left → Leads A B → HasEndedSo B result mid new → HasEndedSo A result old new
+ended_from A B result old between new left h k = record { left = k.left ∙ left; ends = leads_on A B (λ g n v run. Finished n v result run) h k.ends }
+
+pub tried_from : (A B : Point) (old mid new : Engine) → mid.left ≡ old.left → SameLimits old mid → Leads A B → (begun : Bool) → Tries B begun mid new → Tries A begun old new
+tried_from A B old mid new left limits h true k = went_on_from A B old mid new left limits h k
+tried_from A B old mid new left limits h false k = went_wrong_from A B old mid new left limits h k
+
+pub retried_from : (A B : Point) (old mid new : Engine) (extra : ℕ) → mid.left ≡ old.left → SameLimits old mid → Leads A B → branches_left old ≡ extra + branches_left mid → (begun : Bool) → Tries B begun mid new → branches_left new < branches_left mid + extra → Tries A begun old new × (branches_left new < branches_left old)
+retried_from A B old mid new extra left limits h count begun k less = (tried_from A B old mid new left limits h begun k, omega (arith, count, less))
+
+pub at_goal_from : (A : Point) (old mid new : Engine) → WentOn A old mid → AtGoal (StandsAt mid) mid new → AtGoal A old new
+at_goal_from A old between new h k = record { went_on = went_further A old between new h k.went_on; goal = k.goal }
+
+-- what is negated was answered, and a branch has begun behind that
+pub refused_on : (A : Point) (old mid wrong new : Engine) → WentOn A old mid → WentWrong (StandsAt mid) mid wrong → WentOn (FailsAt wrong) wrong new → WentOn A old new
+refused_on A old between wrong new h j k =
+    let w = went_wrong A old between wrong h j in
+    went_on_from A (FailsAt wrong) old wrong new w.left w.limits w.leads k
+
+-- another branch has begun behind a failure, or the run has failed
+pub goes_back_from : (A B : Point) (old mid new : Engine) → mid.left ≡ old.left → SameLimits old mid → Leads A B → (found : Bool) → GoesBack B found mid new → Branches A found old new
+goes_back_from A B old between new left limits h true k = went_on_from A B old between new left limits h k.0
+goes_back_from A B old between new left limits h false k = ended_from A B Failing old between new left h k

@@ -1,28 +1,36 @@
 -- Where an engine stands, and how it goes on from there.
 use Rattle.std.proofs.Common.{◌≡◌, ◌≢◌, ℕ, suc, ◌+◌, ◌-◌, ◌≤◌, List, [], ◌∷◌, ◌++◌, Some, Bool, true, false, refl, sym, ap, ◌∙◌, subst, arith, length, take, get_or, length-take, append_assoc}
 use Rattle.std.specs.Prelude.{not, max, slice_get, reverse}
+use Rattle.std.specs.List.{All}
 use Rattle.std.proofs.lemmas.Option.{slice_get-get_or}
-use Rattle.dg_base.specs.declared.run.Ending.TheVariants.{Done}
 use Rattle.std.proofs.lemmas.List.{append-nil}
 use Rattle.std.specs.declared.vec.Vec.{Vec}
 use Rattle.std.specs.declared.alloc.Global.{Global}
+use Rattle.dg_base.specs.declared.run.Ending.TheVariants.{Done}
 use Rattle.dg_meaning.specs.World.{Game, World, Event, Print, Answered, prints, noted}
-use Rattle.dg_meaning.specs.Path.{Step, Answers, Cut, End}
+use Rattle.dg_meaning.specs.Path.{Step, Answers, Cut, Refuse, Result, End}
 use Rattle.dg_meaning.specs.Moves.{path_of, first_alone}
 use Rattle.dg_meaning.specs.Transcript.{Run}
 use Rattle.dg_meaning.specs.Context.{Live, cut_to, Silently}
 use Rattle.dg_meaning.specs.Keeps.{Stands, Finished}
 use Rattle.dg_meaning.proofs.Silently.{prints_later, typed_later, quiet_later, noted_silently}
-use Rattle.dg_meaning.proofs.Keeps.{passes_answer, passes_cut, done}
+use Rattle.dg_meaning.proofs.Keeps.{passes_answer, passes_cut, passes_refuse, done}
+use Rattle.dg_meaning.specs.Values.{Value}
+use Rattle.dg_unify.specs.Store.{Saved}
+use Rattle.dg_unify.specs.declared.bindings.Ref.{Ref}
+use Rattle.dg_interp.specs.declared.frames.Env.{Env}
+use Rattle.dg_unify.specs.Laws.{saves_drops}
+use Rattle.dg_unify.specs.Listed.{fields_of}
+use Rattle.dg_unify.specs.declared.list.ListBindings.{ListBindings}
 use Rattle.dg_interp.specs.declared.frames.Query.{Query}
 use Rattle.dg_interp.specs.declared.frames.Mark.{Mark}
-use Rattle.dg_interp.specs.declared.frames.Mark.TheVariants.{Nothing, AnswerOf}
+use Rattle.dg_interp.specs.declared.frames.Mark.TheVariants.{Nothing, AnswerOf, CutTo, RefuseTo}
 use Rattle.dg_interp.specs.declared.frames.Frame.{Frame}
 use Rattle.dg_interp.specs.declared.frames.Choice.{Choice}
 use Rattle.dg_interp.specs.declared.engine.Engine.{Engine}
-use Rattle.dg_interp.specs.Frames.{mark_steps, frame_steps, steps_behind, steps_at, AreChoices, IsFrame, AreFrames, StandOn, floor_of}
-use Rattle.dg_interp.specs.Engine.{IsQuiet, IsReady, StandsAt, Adds, Then, Leads, Cuts, WentOn, MarkPassed, FrameLeft, AllDone}
-use Rattle.dg_interp.proofs.Links.{same_take, behind_same, behind_frame, behind_end, frames_take, choices_same, choices_cut, stand_cut, stand_floor, floor_within}
+use Rattle.dg_interp.specs.Frames.{values_in, mark_steps, frame_steps, steps_behind, steps_at, AreChoices, IsFrame, AreFrames, Agrees, StandOn, GoBackTo, floor_of, all_left}
+use Rattle.dg_interp.specs.Engine.{store_in, KeepsPlaces, HasPlaces, IsQuiet, IsSound, IsReady, Point, StandsAt, FailsAt, Adds, Then, Leads, Ends, Cuts, branches_left, SameLimits, WentOn, WentWrong, HasEndedSo, MarkPassed, Refused, FrameLeft, steps_of}
+use Rattle.dg_interp.proofs.Links.{same_take, same_values, behind_same, behind_frame, behind_end, frames_take, frames_same, choices_same, back_same, saved_older, choices_cut, back_cut, keeps_cut, stand_cut, stand_same, stand_floor, floor_within, cut_fewer}
 
 -- ## From world to world
 
@@ -48,15 +56,24 @@ then_on xs ys w P Q a f =
     let b = f a.world a.adds.quiet a.holds in
     record { world = b.world; adds = adds_on w a.world b.world xs ys a.adds b.adds; holds = b.holds }
 
-pub leads_on : (A B C : Game → World → Run → Type 0) → Leads A B → Leads B C → Leads A C
-leads_on A B C a b g w run quiet h = then_on [] [] w (λ v. B g v run) (λ v. C g v run) (a g w run quiet h) (λ v q k. b g v run q k)
+pub leads_on : (A B C : Point) → Leads A B → Leads B C → Leads A C
+leads_on A B C a b g n w run quiet h = then_on [] [] w (λ v. B g n v run) (λ v. C g n v run) (a g n w run quiet h) (λ v q k. b g n v run q k)
+
+pub leads_nowhere : (A : Point) → Leads A A
+leads_nowhere A g n w run quiet h = record { world = w; adds = adds_nothing w quiet; holds = h }
+
+pub limits_here : (e : Engine) → SameLimits e e
+limits_here e = record { heap = refl; trail = refl }
+
+pub limits_on : (a b c : Engine) → SameLimits a b → SameLimits b c → SameLimits a c
+limits_on a b c h k = record { heap = k.heap ∙ h.heap; trail = k.trail ∙ h.trail }
 
 -- ## The same place
 
-module _ (old new : Engine) (program : new.program.now ≡ old.program.now) (newest : new.newest ≡ old.newest) (left : new.left ≡ old.left) (steps : steps_at new.frames.items new.here ≡ steps_at old.frames.items old.here)
-    (choices : (g : Game) (cs : List Live) → AreChoices g old.frames.items (reverse old.choices.items) cs → AreChoices g new.frames.items (reverse new.choices.items) cs) where
-  pub same_place : Leads (λ g. StandsAt g old) (λ g. StandsAt g new)
-  same_place g w run quiet st = record {
+module _ (old new : Engine) (program : new.program.now ≡ old.program.now) (store : new.store ≡ old.store) (newest : new.newest ≡ old.newest) (steps : steps_of new ≡ steps_of old)
+    (choices : (g : Game) (ms : List Saved) (cs : List Live) → AreChoices g old.refs.items old.frames.items (reverse old.choices.items) ms cs → AreChoices g new.refs.items new.frames.items (reverse new.choices.items) ms cs) where
+  pub same_place : Leads (StandsAt old) (StandsAt new)
+  same_place g n w run quiet st = record {
     world = w;
     adds = adds_nothing w quiet;
     holds = record {
@@ -64,9 +81,12 @@ module _ (old new : Engine) (program : new.program.now ≡ old.program.now) (new
       lives = st.lives;
       ways = st.ways;
       registers = st.registers;
-      choices = choices g st.lives st.choices;
+      saved = st.saved;
+      keeps = subst (λ s. KeepsPlaces s st.saved) (sym store) st.keeps;
+      agrees = subst (λ s. Agrees (store_in s) st.registers) (sym store) st.agrees;
+      choices = choices g st.saved st.lives st.choices;
       tag = st.tag ∙ ap (λ n. n + 1) (sym newest);
-      stands = subst (λ n. Stands g st.lives st.ways (path_of (steps_at new.frames.items new.here) st.registers) n w run) (sym left) (subst (λ s. Stands g st.lives st.ways (path_of s st.registers) old.left w run) (sym steps) st.stands);
+      stands = subst (λ s. Stands g st.lives st.ways (path_of s st.registers) n w run) (sym steps) st.stands;
     };
   }
 
@@ -80,89 +100,186 @@ pub not_false : (b : Bool) → not b ≡ false → b ≡ true
 not_false true h = refl
 not_false false h = cc
 
--- the steps where the goals at hand are done
-steps_done : (fs : List Frame) (f : Frame) (mark : Mark) → f.goals.now ≡ [] → f.mark ≡ mark → steps_at fs f ≡ mark_steps mark f.tag (steps_behind fs f.behind)
-steps_done fs f mark none is =
-    ap (λ (goals : _). frame_steps goals f.tag f.mark (steps_behind fs f.behind)) none ∙ ap (λ m. mark_steps m f.tag (steps_behind fs f.behind)) is
+-- the steps of a frame whose goals are done
+steps_done : (values : Env → List Value) (fs : List Frame) (f : Frame) (mark : Mark) → f.goals.now ≡ [] → f.mark ≡ mark → steps_at values fs f ≡ mark_steps mark f.tag (steps_behind values fs f.behind)
+steps_done values fs f mark none is =
+    ap (λ (goals : _). frame_steps (values f.env) goals f.tag f.mark (steps_behind values fs f.behind)) none ∙ ap (λ m. mark_steps m f.tag (steps_behind values fs f.behind)) is
 
 abbrev pub marked_off : Engine → Engine
 marked_off e = record e { here = record e.here { mark = Nothing } }
+
+pub keeps_older : (s : ListBindings) (t : ℕ) (os : List Choice) (ms : List Saved) → KeepsPlaces s ms → KeepsPlaces s (saved_older t os ms)
+keeps_older s t os ms h = keeps_cut (KeepsPlaces s) (λ m ms k. saves_drops true (fields_of s) m ms k) tt t os ms h
 
 module _ (old : Engine) (ready : IsReady old) (none : old.here.goals.now ≡ []) where
   abbrev fs : List Frame
   fs = old.frames.items
 
+  abbrev values : Env → List Value
+  values = values_in (store_in old.store) old.refs.items
+
   abbrev rest : List Step
-  rest = steps_behind fs old.here.behind
+  rest = steps_behind values fs old.here.behind
 
-  passed : (new : Engine) → new.here.goals.now ≡ [] → new.here.mark ≡ Nothing → new.here.behind ≡ old.here.behind → WentOn old new → MarkPassed old new
-  passed new goals mark behind h = record { went_on = h; goals = goals; mark = mark; behind = behind }
+  off_ready : IsReady (marked_off old)
+  off_ready = record {
+    sound = record { program = ready.sound.program; hold = ready.sound.hold; frames = ready.sound.frames; choices = ready.sound.choices; places = record { saved = ready.sound.places.saved; keeps = ready.sound.places.keeps; back_to = ready.sound.places.back_to }; room = ready.sound.room };
+    here = record { built = ready.here.built; older = ready.here.older; env = ready.here.env };
+  }
 
-  off : steps_at fs (record old.here { mark = Nothing }) ≡ rest
-  off = steps_done fs (record old.here { mark = Nothing }) Nothing none refl
+  off : steps_of (marked_off old) ≡ rest
+  off = steps_done values fs (record old.here { mark = Nothing }) Nothing none refl
 
   pub nothing_passed : old.here.mark ≡ Nothing → MarkPassed old (marked_off old)
-  nothing_passed is = passed (marked_off old) none refl refl (record {
-    ready = record { sound = record { program = ready.sound.program; frames = ready.sound.frames; choices = ready.sound.choices; room = ready.sound.room }; linked = ready.linked; built = ready.built };
-    left = refl;
-    leads = same_place old (marked_off old) refl refl refl (off ∙ sym (steps_done fs old.here Nothing none is)) (λ g cs h. h);
-  })
+  nothing_passed is = record {
+    went_on = record {
+      ready = off_ready;
+      left = refl;
+      limits = record { heap = refl; trail = refl };
+      leads = same_place old (marked_off old) refl refl refl (off ∙ sym (steps_done values fs old.here Nothing none is)) (λ g ms cs h. h);
+    };
+    goals = none;
+    mark = refl;
+    behind = refl;
+    fewer = omega arith;
+  }
 
   pub answer_passed : (query : Query) → old.here.mark ≡ AnswerOf query → query.many ≡ true → MarkPassed old (marked_off old)
-  answer_passed query is many = passed (marked_off old) none refl refl (record {
-    ready = record { sound = record { program = ready.sound.program; frames = ready.sound.frames; choices = ready.sound.choices; room = ready.sound.room }; linked = ready.linked; built = ready.built };
-    left = refl;
-    leads = λ g w run quiet st.
-        let was : steps_at fs old.here ≡ Answers query.pred ∷ rest = steps_done fs old.here (AnswerOf query) none is ∙ ap (λ m. Answers query.pred ∷ first_alone m old.here.tag rest) many in
-        record {
-          world = noted (Answered query.pred) w;
-          adds = adds_noted w (Answered query.pred) quiet refl;
+  answer_passed query is many = record {
+    went_on = record {
+      ready = off_ready;
+      left = refl;
+      limits = record { heap = refl; trail = refl };
+      leads = λ g n w run quiet st.
+          let was : steps_of old ≡ Answers query.pred ∷ rest = steps_done values fs old.here (AnswerOf query) none is ∙ ap (λ m. Answers query.pred ∷ first_alone m old.here.tag rest) many in
+          record {
+            world = noted (Answered query.pred) w;
+            adds = adds_noted w (Answered query.pred) quiet refl;
+            holds = record {
+              program = st.program;
+              lives = st.lives;
+              ways = st.ways;
+              registers = st.registers;
+              saved = st.saved;
+              keeps = st.keeps;
+              agrees = st.agrees;
+              choices = st.choices;
+              tag = st.tag;
+              stands = subst (λ s. Stands g st.lives st.ways (path_of s st.registers) n (noted (Answered query.pred) w) run) (sym off)
+                  (passes_answer g st.lives st.ways query.pred rest st.registers n w run (subst (λ s. Stands g st.lives st.ways (path_of s st.registers) n w run) was st.stands));
+            };
+          };
+    };
+    goals = none;
+    mark = refl;
+    behind = refl;
+    fewer = omega arith;
+  }
+
+  module _ (t : ℕ) (choices : Vec Choice Global) (cuts : Cuts t old.choices.items choices.items) where
+    abbrev new : Engine
+    new = record (marked_off old) { choices = choices }
+
+    cut_sound : IsSound new
+    cut_sound = record {
+      program = ready.sound.program;
+      hold = ready.sound.hold;
+      frames = ready.sound.frames;
+      choices = subst (StandOn fs (length fs) (length old.refs.items) old.newest) (sym cuts) (stand_cut fs t (length fs) (length old.refs.items) old.newest (reverse old.choices.items) ready.sound.choices);
+      places = record {
+        saved = saved_older t (reverse old.choices.items) ready.sound.places.saved;
+        keeps = keeps_older old.store t (reverse old.choices.items) ready.sound.places.saved ready.sound.places.keeps;
+        back_to = subst (λ os. GoBackTo old.refs.items (store_in old.store).heap_limit (store_in old.store).trail_limit os (saved_older t (reverse old.choices.items) ready.sound.places.saved)) (sym cuts)
+            (back_cut t old.refs.items _ _ (reverse old.choices.items) ready.sound.places.saved ready.sound.places.back_to);
+      };
+      room = ready.sound.room;
+    }
+
+    cut_ready : IsReady new
+    cut_ready = record { sound = cut_sound; here = record { built = ready.here.built; older = ready.here.older; env = ready.here.env } }
+
+    cut_less : branches_left new ≤ branches_left old
+    cut_less = subst (λ os. all_left os ≤ branches_left old) (sym cuts) (cut_fewer t (reverse old.choices.items))
+
+    choices_older : (g : Game) (ms : List Saved) (cs : List Live) → AreChoices g old.refs.items fs (reverse old.choices.items) ms cs → AreChoices g old.refs.items fs (reverse choices.items) (saved_older t (reverse old.choices.items) ms) (cut_to t cs)
+    choices_older g ms cs h = subst (λ os. AreChoices g old.refs.items fs os (saved_older t (reverse old.choices.items) ms) (cut_to t cs)) (sym cuts) (choices_cut g t old.refs.items fs (reverse old.choices.items) ms cs h)
+
+    cut_at : (g : Game) (n : ℕ) (w v : World) (run : Run) (st : StandsAt old g n w run) → Stands g st.lives st.ways (path_of (Cut t ∷ rest) st.registers) n v run → StandsAt new g n v run
+    cut_at g n w v run st stands = record {
+      program = st.program;
+      lives = cut_to t st.lives;
+      ways = st.ways;
+      registers = st.registers;
+      saved = saved_older t (reverse old.choices.items) st.saved;
+      keeps = keeps_older old.store t (reverse old.choices.items) st.saved st.keeps;
+      agrees = st.agrees;
+      choices = choices_older g st.saved st.lives st.choices;
+      tag = st.tag;
+      stands = subst (λ s. Stands g (cut_to t st.lives) st.ways (path_of s st.registers) n v run) (sym off) (passes_cut g st.lives st.ways t rest st.registers n v run stands);
+    }
+
+    pub tag_passed : old.here.mark ≡ CutTo t → MarkPassed old new
+    tag_passed is = record {
+      went_on = record {
+        ready = cut_ready;
+        left = refl;
+        limits = record { heap = refl; trail = refl };
+        leads = λ g n w run quiet st. record {
+          world = w;
+          adds = adds_nothing w quiet;
+          holds = cut_at g n w w run st (subst (λ s. Stands g st.lives st.ways (path_of s st.registers) n w run) (steps_done values fs old.here (CutTo t) none is) st.stands);
+        };
+      };
+      goals = none;
+      mark = refl;
+      behind = refl;
+      fewer = cut_less;
+    }
+
+    pub refused : old.here.mark ≡ RefuseTo t → Refused old new
+    refused is = record {
+      wrong = record {
+        sound = cut_sound;
+        left = refl;
+        limits = record { heap = refl; trail = refl };
+        leads = λ g n w run quiet st. record {
+          world = w;
+          adds = adds_nothing w quiet;
           holds = record {
             program = st.program;
-            lives = st.lives;
-            ways = st.ways;
-            registers = st.registers;
-            choices = st.choices;
-            tag = st.tag;
-            stands = subst (λ s. Stands g st.lives st.ways (path_of s st.registers) old.left (noted (Answered query.pred) w) run) (sym off)
-                (passes_answer g st.lives st.ways query.pred rest st.registers old.left w run (subst (λ s. Stands g st.lives st.ways (path_of s st.registers) old.left w run) was st.stands));
+            lives = cut_to t st.lives;
+            saved = saved_older t (reverse old.choices.items) st.saved;
+            keeps = keeps_older old.store t (reverse old.choices.items) st.saved st.keeps;
+            choices = choices_older g st.saved st.lives st.choices;
+            failed = passes_refuse g st.lives st.ways t [] st.registers n w run (subst (λ s. Stands g st.lives st.ways (path_of s st.registers) n w run) (steps_done values fs old.here (RefuseTo t) none is) st.stands);
           };
         };
-  })
+      };
+      fewer = cut_less;
+    }
 
   pub cut_passed : (query : Query) (choices : Vec Choice Global) → old.here.mark ≡ AnswerOf query → query.many ≡ false → Cuts old.here.tag old.choices.items choices.items → MarkPassed old (record (marked_off old) { choices = choices })
   cut_passed query choices is many cuts =
       let t = old.here.tag in
-      passed (record (marked_off old) { choices = choices }) none refl refl (record {
-        ready = record {
-          sound = record {
-            program = ready.sound.program;
-            frames = ready.sound.frames;
-            choices = subst (StandOn (length fs) old.newest) (sym cuts) (stand_cut t (length fs) old.newest (reverse old.choices.items) ready.sound.choices);
-            room = ready.sound.room;
-          };
-          linked = ready.linked;
-          built = ready.built;
-        };
-        left = refl;
-        leads = λ g w run quiet st.
-            let was : steps_at fs old.here ≡ Answers query.pred ∷ Cut t ∷ rest = steps_done fs old.here (AnswerOf query) none is ∙ ap (λ m. Answers query.pred ∷ first_alone m t rest) many in
-            let v = noted (Answered query.pred) w in
-            let answered = passes_answer g st.lives st.ways query.pred (Cut t ∷ rest) st.registers old.left w run (subst (λ s. Stands g st.lives st.ways (path_of s st.registers) old.left w run) was st.stands) in
-            record {
-              world = v;
-              adds = adds_noted w (Answered query.pred) quiet refl;
-              holds = record {
-                program = st.program;
-                lives = cut_to t st.lives;
-                ways = st.ways;
-                registers = st.registers;
-                choices = subst (λ os. AreChoices g fs os (cut_to t st.lives)) (sym cuts) (choices_cut g t fs (reverse old.choices.items) st.lives st.choices);
-                tag = st.tag;
-                stands = subst (λ s. Stands g (cut_to t st.lives) st.ways (path_of s st.registers) old.left v run) (sym off) (passes_cut g st.lives st.ways t rest st.registers old.left v run answered);
+      record {
+        went_on = record {
+          ready = cut_ready t choices cuts;
+          left = refl;
+          limits = record { heap = refl; trail = refl };
+          leads = λ g n w run quiet st.
+              let was : steps_of old ≡ Answers query.pred ∷ Cut t ∷ rest = steps_done values fs old.here (AnswerOf query) none is ∙ ap (λ m. Answers query.pred ∷ first_alone m t rest) many in
+              record {
+                world = noted (Answered query.pred) w;
+                adds = adds_noted w (Answered query.pred) quiet refl;
+                holds = cut_at t choices cuts g n w (noted (Answered query.pred) w) run st
+                    (passes_answer g st.lives st.ways query.pred (Cut t ∷ rest) st.registers n w run (subst (λ s. Stands g st.lives st.ways (path_of s st.registers) n w run) was st.stands));
               };
-            };
-      })
+        };
+        goals = none;
+        mark = refl;
+        behind = refl;
+        fewer = cut_less t choices cuts;
+      }
 
 -- ## The frame behind
 
@@ -171,75 +288,99 @@ module _ (old : Engine) (frames : Vec Frame Global) (f : Frame) (needed : ℕ) (
   abbrev was : List Frame
   was = old.frames.items
 
-  abbrev new : Engine
-  new = record old { frames = frames; here = f }
+  abbrev the_refs : List Ref
+  the_refs = old.refs.items
+
+  abbrev os : List Choice
+  os = reverse old.choices.items
+
+  abbrev the_values : Env → List Value
+  the_values = values_in (store_in old.store) the_refs
+
+  abbrev left_at : Engine
+  left_at = record old { frames = frames; here = f }
 
   at : slice_get was (old.here.behind - 1) ≡ Some f
-  at = slice_get-get_or was (old.here.behind - 1) f (omega (arith, ready.linked)) ∙ ap Some (sym is)
+  at = slice_get-get_or was (old.here.behind - 1) f (omega (arith, ready.here.older)) ∙ ap Some (sym is)
 
-  frame : IsFrame (old.here.behind - 1) f
-  frame = ready.sound.frames (old.here.behind - 1) f at
+  frame : IsFrame (old.here.behind - 1) (length the_refs) f
+  frame = ready.sound.frames (old.here.behind - 1) f (omega (arith, ready.here.older)) at
 
   enough : needed ≤ length was
-  enough = omega (arith, need, floor_within (length was) old.newest (reverse old.choices.items) ready.sound.choices, frame.older, ready.linked)
+  enough = omega (arith, need, floor_within was (length was) (length the_refs) old.newest os ready.sound.choices, frame.older, ready.here.older)
 
   count : length (take needed was) ≡ needed
   count = length-take needed was ∙ omega (arith, enough)
 
-  same : steps_at frames.items f ≡ steps_at was old.here
+  same : steps_at the_values frames.items f ≡ steps_of old
   same =
       let link : suc (old.here.behind - 1) ≡ old.here.behind = omega arith in
-      ap (λ l. steps_at l f) kept
-      ∙ ap (frame_steps f.goals.now f.tag f.mark) (behind_same was (take needed was) needed f.behind (omega (arith, need)) (same_take was needed))
-      ∙ sym (behind_frame was (old.here.behind - 1) f at frame.older)
-      ∙ ap (steps_behind was) link
-      ∙ sym (steps_done was old.here Nothing none off)
+      let few : AreFrames needed (length the_refs) was = λ k h lt e. ready.sound.frames k h (omega (arith, lt, enough)) e in
+      ap (λ l. steps_at the_values l f) kept
+      ∙ ap (frame_steps (the_values f.env) f.goals.now f.tag f.mark) (behind_same (length the_refs) the_values the_values was (take needed was) needed f.behind (omega (arith, need)) (same_values (length the_refs) the_values) few (same_take was needed))
+      ∙ sym (behind_frame the_values was (old.here.behind - 1) f at frame.older)
+      ∙ ap (steps_behind the_values was) link
+      ∙ sym (steps_done the_values was old.here Nothing none off)
 
-  stand : StandOn needed old.newest (reverse old.choices.items)
-  stand = stand_floor (length was) needed old.newest (reverse old.choices.items) (omega (arith, need)) ready.sound.choices
+  stand : StandOn was needed (length the_refs) old.newest os
+  stand = stand_floor was (length was) needed (length the_refs) old.newest os (omega (arith, need)) ready.sound.choices
 
-  choices_kept : (g : Game) (cs : List Live) → AreChoices g was (reverse old.choices.items) cs → AreChoices g frames.items (reverse old.choices.items) cs
-  choices_kept g cs h = subst (λ l. AreChoices g l (reverse old.choices.items) cs) (sym kept) (choices_same g was (take needed was) needed old.newest (reverse old.choices.items) cs (same_take was needed) stand h)
+  choices_kept : (g : Game) (ms : List Saved) (cs : List Live) → AreChoices g the_refs was os ms cs → AreChoices g the_refs frames.items os ms cs
+  choices_kept g ms cs h = subst (λ l. AreChoices g the_refs l os ms cs) (sym kept) (choices_same g the_refs the_refs was (take needed was) needed (length the_refs) old.newest os ms cs refl (same_take was needed) stand h)
 
-  pub frame_left : FrameLeft old new
+  pub frame_left : FrameLeft old left_at
   frame_left = record {
     went_on = record {
       ready = record {
         sound = record {
           program = ready.sound.program;
-          frames = subst AreFrames (sym kept) (frames_take was needed ready.sound.frames);
-          choices = subst (λ (l : List Frame). StandOn (length l) old.newest (reverse old.choices.items)) (sym kept) (subst (λ n. StandOn n old.newest (reverse old.choices.items)) (sym count) stand);
+          hold = ready.sound.hold;
+          frames = subst (λ (l : List Frame). AreFrames (length l) (length the_refs) l) (sym kept) (frames_take (length the_refs) needed was enough (λ k h lt e. ready.sound.frames k h (omega (arith, lt, enough)) e));
+          choices = subst (λ (l : List Frame). StandOn l (length l) (length the_refs) old.newest os) (sym kept)
+              (subst (λ n. StandOn (take needed was) n (length the_refs) old.newest os) (sym count) (stand_same was (take needed was) needed (length the_refs) old.newest os (same_take was needed) stand));
+          places = record { saved = ready.sound.places.saved; keeps = ready.sound.places.keeps; back_to = ready.sound.places.back_to };
           room = ready.sound.room;
         };
-        linked = subst (λ (l : List Frame). f.behind ≤ length l) (sym kept) (omega (arith, need, count));
-        built = frame.built;
+        here = record { built = frame.built; older = subst (λ (l : List Frame). f.behind ≤ length l) (sym kept) (omega (arith, need, count)); env = frame.env };
       };
       left = refl;
-      leads = same_place old new refl refl refl same choices_kept;
+      limits = record { heap = refl; trail = refl };
+      leads = same_place old left_at refl refl refl same choices_kept;
     };
     older = omega (arith, frame.older);
+    fewer = omega arith;
   }
 
 -- ## On and on
 
-pub went_nowhere : (e : Engine) → IsReady e → WentOn e e
-went_nowhere e ready = record { ready = ready; left = refl; leads = λ g w run quiet st. record { world = w; adds = adds_nothing w quiet; holds = st } }
+pub went_nowhere : (e : Engine) → IsReady e → WentOn (StandsAt e) e e
+went_nowhere e ready = record { ready = ready; left = refl; limits = limits_here e; leads = leads_nowhere (StandsAt e) }
 
-pub went_further : (a b c : Engine) → WentOn a b → WentOn b c → WentOn a c
-went_further a b c h k = record {
+pub went_further : (From : Point) (a b c : Engine) → WentOn From a b → WentOn (StandsAt b) b c → WentOn From a c
+went_further From a b c h k = record {
   ready = k.ready;
   left = k.left ∙ h.left;
-  leads = leads_on (λ g. StandsAt g a) (λ g. StandsAt g b) (λ g. StandsAt g c) h.leads k.leads;
+  limits = limits_on a b c h.limits k.limits;
+  leads = leads_on From (StandsAt b) (StandsAt c) h.leads k.leads;
+}
+
+pub went_wrong : (From : Point) (a b c : Engine) → WentOn From a b → WentWrong (StandsAt b) b c → WentWrong From a c
+went_wrong From a b c h k = record {
+  sound = k.sound;
+  left = k.left ∙ h.left;
+  limits = limits_on a b c h.limits k.limits;
+  leads = leads_on From (StandsAt b) (FailsAt c) h.leads k.leads;
 }
 
 -- no frame is behind
-pub all_done : (old e : Engine) → WentOn old e → e.here.goals.now ≡ [] → e.here.mark ≡ Nothing → e.here.behind ≡ 0 → AllDone old e
-all_done old e h none off end = record {
+pub all_done : (From : Point) (old e : Engine) → WentOn From old e → e.here.goals.now ≡ [] → e.here.mark ≡ Nothing → e.here.behind ≡ 0 → HasEndedSo From (End Done) old e
+all_done From old e h none off end = record {
   left = h.left;
-  ends = λ g w run quiet st.
-      then_on [] [] w (λ v. StandsAt g e v run) (λ v. Finished old.left v (End Done) run) (h.leads g w run quiet st)
+  ends = λ g n w run quiet st.
+      then_on [] [] w (λ v. StandsAt e g n v run) (λ v. Finished n v (End Done) run) (h.leads g n w run quiet st)
       (λ v q k.
-      let steps : steps_at e.frames.items e.here ≡ [] = steps_done e.frames.items e.here Nothing none off ∙ ap (steps_behind e.frames.items) end ∙ behind_end e.frames.items in
-      let stands = subst (λ n. Stands g k.lives k.ways (path_of [] k.registers) n v run) h.left (subst (λ s. Stands g k.lives k.ways (path_of s k.registers) e.left v run) steps k.stands) in
-      record { world = v; adds = adds_nothing v q; holds = done g k.lives k.ways k.registers old.left v run stands });
+      let values = values_in (store_in e.store) e.refs.items in
+      let steps : steps_of e ≡ [] = steps_done values e.frames.items e.here Nothing none off ∙ ap (steps_behind values e.frames.items) end ∙ behind_end values e.frames.items in
+      let stands = subst (λ s. Stands g k.lives k.ways (path_of s k.registers) n v run) steps k.stands in
+      record { world = v; adds = adds_nothing v q; holds = done g k.lives k.ways k.registers n v run stands });
 }

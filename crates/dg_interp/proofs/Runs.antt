@@ -1,34 +1,36 @@
 -- How goals add up to a run.
-use Rattle.std.proofs.Common.{◌≡◌, ℕ, suc, ◌<◌, List, [], ◌∷◌, ◌++◌, Bool, refl, sym, ap, ◌∙◌, subst, arith, length, append_assoc}
+use Rattle.std.proofs.Common.{◌≡◌, ℕ, zero, suc, ◌+◌, ◌<◌, ◌≤◌, List, [], ◌∷◌, ◌++◌, Bool, true, false, Option, Some, None, refl, sym, ap, ◌∙◌, subst, arith, length, append_assoc, Ok, Err}
+use Rattle.std.specs.Prelude.{Result, IfOk, IfErr}
 use Rattle.std.proofs.lemmas.List.{append-nil}
 use Rattle.dg_base.specs.declared.program.Goal.{Goal}
-use Rattle.dg_base.specs.declared.program.Goal.TheVariants.{Text, Ask, outs-Ask}
-use Rattle.dg_base.specs.declared.program.Term.{Term}
+use Rattle.dg_base.specs.declared.program.Goal.TheVariants.{Text, Ask, Quit}
 use Rattle.dg_base.specs.declared.run.Ending.{Ending}
-use Rattle.dg_base.specs.declared.run.Ending.TheVariants.{Done, Failed, StepLimit}
+use Rattle.dg_base.specs.declared.run.Ending.TheVariants.{Done, Failed, StepLimit, HeapLimit, TrailLimit, Quit as Quit-Ending}
 use Rattle.dg_base.specs.declared.run.RunFault.{RunFault}
 use Rattle.dg_base.specs.declared.run.RunFault.TheVariants.{Read, Write, OutOfMemory}
 use Rattle.dg_meaning.specs.World.{Game, World, Event, Print, Piece, prints}
-use Rattle.dg_meaning.specs.Path.{Failing, End}
+use Rattle.dg_meaning.specs.Path.{Result as SearchResult, Failing, End}
 use Rattle.dg_meaning.specs.Moves.{path_of, goals_at}
 use Rattle.dg_meaning.specs.Render.{Met, nothing_met, met_from, met_behind, written, render, render_from}
 use Rattle.dg_meaning.specs.Transcript.{Run, ending_of, text_of}
-use Rattle.dg_meaning.specs.OneRun.{Begins}
+use Rattle.dg_meaning.specs.OneRun.{Begins, Grows}
+use Rattle.dg_meaning.specs.Peaks.{Area, Heap, Trail, greatest}
 use Rattle.dg_meaning.specs.Keeps.{Stands, Finished}
-use Rattle.dg_meaning.specs.Built.{IsBuiltForm, IsBuiltGoal}
-use Rattle.dg_meaning.proofs.Silently.{prints_append}
+use Rattle.dg_meaning.proofs.Silently.{prints_append, prints_later}
 use Rattle.dg_meaning.proofs.Keeps.{has_happened, limited}
-use Rattle.dg_interp.specs.declared.frames.Query.{Query}
+use Rattle.dg_unify.specs.Store.{Store}
+use Rattle.dg_unify.specs.declared.bindings.Full.{Full}
+use Rattle.dg_unify.specs.declared.bindings.Full.TheVariants as full
 use Rattle.dg_interp.specs.declared.spacer.Spacer.{Spacer}
 use Rattle.dg_interp.specs.declared.engine.Engine.{Engine}
 use Rattle.dg_base.specs.Written.{SinkView, Wrote, BrokeOff}
 use Rattle.dg_interp.specs.Spacer.{StandsFor, Added, growth}
-use Rattle.dg_interp.specs.Frames.{steps_behind, mark_steps}
-use Rattle.dg_interp.specs.Engine.{IsQuiet, StandsAt, TakesAt, Adds, Then, Taken, WentOn, AtGoal, AllDone, WentBack, NoneLeft}
-use Rattle.dg_interp.specs.Running.{HasText, Reaches, GoesOn, HasEnded, IsBroken, GoalDone}
+use Rattle.dg_interp.specs.Frames.{mark_steps, steps_behind, values_in}
+use Rattle.dg_interp.specs.Engine.{store_in, Point, IsQuiet, IsReady, StandsAt, FailsAt, TakesAt, Adds, Then, Leads, Ends, FullAt, SameLimits, Taken, WentOn, HasEndedSo, AtGoal, Branches, GoesToGoal}
+use Rattle.dg_interp.specs.Running.{HasText, Writes, Reaches, GoesOn, HasEnded, limit_in, MeetsLimit, Ended, HasPart, IsBroken, GoalDone, DoesGoal, Does, limit_of, outcome_of}
 use Rattle.dg_base.proofs.WrittenLemmas.{wrote_on, broke_first, broke_later}
-use Rattle.dg_interp.proofs.Places.{adds_on, adds_silently}
-use Rattle.dg_interp.proofs.Asks.{prints_word}
+use Rattle.dg_interp.proofs.Places.{adds_nothing, adds_on, adds_silently, then_on, leads_on, limits_on, limits_here}
+use Rattle.dg_interp.proofs.Goals.{prints_word, quits}
 
 -- ## Text
 
@@ -44,13 +46,13 @@ render_grows : (es : List Print) (e : Print) → render (es ++ e ∷ []) ≡ ren
 render_grows es e = render_append es (e ∷ []) ∙ ap (λ l. render es ++ l) (append-nil (growth es e))
 
 -- what was written of a run's text so far
-text_begins : (part whole : List Event) → Begins part whole → (a b : SinkView) → BrokeOff a b (text_of part) → BrokeOff a b (text_of whole)
+pub text_begins : (part whole : List Event) → Begins part whole → (a b : SinkView) → BrokeOff a b (text_of part) → BrokeOff a b (text_of whole)
 text_begins part whole h a b broke =
     let more = render_from (met_from nothing_met (prints part)) (prints h.behind) in
     let is : text_of whole ≡ text_of part ++ more = ap text_of h.is ∙ ap render (prints_append part h.behind) ∙ render_append (prints part) (prints h.behind) in
     subst (BrokeOff a b) (sym is) (broke_first a b (text_of part) more broke)
 
-text_same : (s : Spacer) (start now : SinkView) (xs ys : List Print) → ys ≡ xs ++ [] → HasText s start now xs → HasText s start now ys
+pub text_same : (s : Spacer) (start now : SinkView) (xs ys : List Print) → ys ≡ xs ++ [] → HasText s start now xs → HasText s start now ys
 text_same s start now xs ys e h = subst (HasText s start now) (sym (e ∙ append-nil xs)) h
 
 text_added : (s s' : Spacer) (start before now : SinkView) (es : List Print) (e : Print) → HasText s start before es → ((xs : List Print) → StandsFor s xs → Added e xs before now s') → HasText s' start now (es ++ e ∷ [])
@@ -58,106 +60,137 @@ text_added s s' start before now es e h f =
     let a = f es h.stands in
     record { stands = a.stands; wrote = subst (Wrote start now) (sym (render_grows es e)) (wrote_on start before now (render es) (growth es e) h.wrote a.wrote) }
 
--- ## On and on
+-- ## Nothing is written
 
-pub went_reaches : (a b : Engine) (s : Spacer) (k : SinkView) → WentOn a b → Reaches a s k (GoesOn b s k)
-went_reaches a b s k h g w run start quiet st text =
-    let t = h.leads g w run quiet st in
-    record { world = t.world; typed = t.adds.typed; quiet = t.adds.quiet; stands = t.holds; text = text_same s start k (prints w.events) (prints t.world.events) t.adds.prints_are text }
+pub writes_nothing : (s : Spacer) (k : SinkView) → Writes s s k k []
+writes_nothing s k start es h = subst (HasText s start k) (sym (append-nil es)) h
 
-pub goes_on : (a b c : Engine) (s s' s'' : Spacer) (k k' k'' : SinkView) → Reaches a s k (GoesOn b s' k') → Reaches b s' k' (GoesOn c s'' k'') → Reaches a s k (GoesOn c s'' k'')
-goes_on a b c s s' s'' k k' k'' h j g w run start quiet st text =
-    let x = h g w run start quiet st text in
-    let y = j g x.world run start x.quiet x.stands x.text in
-    record { world = y.world; typed = y.typed ∙ x.typed; quiet = y.quiet; stands = y.stands; text = y.text }
+pub writes_on : (s s' s'' : Spacer) (k k' k'' : SinkView) (xs ys : List Print) → Writes s s' k k' xs → Writes s' s'' k' k'' ys → Writes s s'' k k'' (xs ++ ys)
+writes_on s s' s'' k k' k'' xs ys a b start es h = subst (HasText s'' start k'') (append_assoc es xs ys) (b start (es ++ xs) (a start es h))
 
-pub has_ended : (a b : Engine) (s s' s'' : Spacer) (k k' k'' : SinkView) (e : Ending) (n : ℕ) → Reaches a s k (GoesOn b s' k') → Reaches b s' k' (HasEnded e n s'' k'') → Reaches a s k (HasEnded e n s'' k'')
-has_ended a b s s' s'' k k' k'' e n h j g w run start quiet st text =
-    let x = h g w run start quiet st text in
-    let y = j g x.world run start x.quiet x.stands x.text in
-    record { world = y.world; typed = y.typed ∙ x.typed; is = y.is; text = y.text }
+-- ## Endings
 
-pub is_broken : (a b : Engine) (s s' s'' : Spacer) (k k' k'' : SinkView) (fault : RunFault) → Reaches a s k (GoesOn b s' k') → Reaches b s' k' (IsBroken fault s'' k'') → Reaches a s k (IsBroken fault s'' k'')
-is_broken a b s s' s'' k k' k'' Read h j g w run start quiet st text = let x = h g w run start quiet st text in j g x.world run start x.quiet x.stands x.text
-is_broken a b s s' s'' k k' k'' Write h j g w run start quiet st text = let x = h g w run start quiet st text in j g x.world run start x.quiet x.stands x.text
-is_broken a b s s' s'' k k' k'' OutOfMemory h j g w run start quiet st text = let x = h g w run start quiet st text in j g x.world run start x.quiet x.stands x.text
-
--- a search that has finished, as a run
-ended_so : (e : Ending) (n m : ℕ) (s : Spacer) (k : SinkView) (g : Game) (w v : World) (run : Run) (start : SinkView) → Adds [] w v → HasText s start k (prints w.events) → n ≡ m → run ≡ record { left = n; world = v; ending = e } → HasEnded e m s k g w run start
-ended_so e n m s k g w v run start adds text same is = record {
-  world = v;
-  typed = adds.typed;
-  is = is ∙ ap (λ i. record { left = i; world = v; ending = e }) same;
-  text = text_same s start k (prints w.events) (prints v.events) adds.prints_are text;
-}
-
-finished_so : (r : _) (e : Ending) (n m : ℕ) (s : Spacer) (k : SinkView) (g : Game) (w : World) (run : Run) (start : SinkView) → HasText s start k (prints w.events) → n ≡ m → e ≡ ending_of r → Then [] w (λ v. Finished n v r run) → HasEnded e m s k g w run start
-finished_so r e n m s k g w run start text same is t =
+pub finished_so : (r : SearchResult) (e : Ending) (n m : ℕ) (s : Spacer) (k : SinkView) (w : World) (run : Run) (start : SinkView) → HasText s start k (prints w.events) → n ≡ m → e ≡ ending_of r → Then [] w (λ v. Finished n v r run) → HasEnded e m s k w run start
+finished_so r e n m s k w run start text same is t =
     let f = t.holds in
-    ended_so e n m s k g w f.world run start (adds_on w t.world f.world [] [] t.adds (adds_silently t.world f.world t.adds.quiet f.silently)) text same
-    (f.is ∙ ap (λ x. record { left = n; world = f.world; ending = x }) (sym is))
-
-pub run_done : (a b : Engine) (s : Spacer) (k : SinkView) → AllDone a b → Reaches a s k (HasEnded Done b.left s k)
-run_done a b s k h g w run start quiet st text = finished_so (End Done) Done a.left b.left s k g w run start text (sym h.left) refl (h.ends g w run quiet st)
+    let adds = adds_on w t.world f.world [] [] t.adds (adds_silently t.world f.world t.adds.quiet f.silently) in
+    record {
+      world = f.world;
+      typed = adds.typed;
+      is = f.is ∙ ap (λ x. record { left = n; world = f.world; ending = x }) (sym is) ∙ ap (λ i. record { left = i; world = f.world; ending = e }) same;
+      text = text_same s start k (prints w.events) (prints f.world.events) adds.prints_are text;
+    }
 
 -- a goal at hand where no goal is left
-limit_at : (e : Engine) (g : Game) (w : World) (run : Run) (st : StandsAt g e w run) (goals : List Goal) → 0 < length goals → Stands g st.lives st.ways (path_of (goals_at [] e.here.tag goals ++ mark_steps e.here.mark e.here.tag (steps_behind e.frames.items e.here.behind)) st.registers) 0 w run → Finished 0 w (End StepLimit) run
+limit_at : (e : Engine) (g : Game) (w : World) (run : Run) (st : StandsAt e g 0 w run) (goals : List Goal) → 0 < length goals →
+    Stands g st.lives st.ways (path_of (goals_at (values_in (store_in e.store) e.refs.items e.here.env) e.here.tag goals ++ mark_steps e.here.mark e.here.tag (steps_behind (values_in (store_in e.store) e.refs.items) e.frames.items e.here.behind)) st.registers) 0 w run → Finished 0 w (End StepLimit) run
 limit_at e g w run st [] some h = absurd (omega arith)
-limit_at e g w run st (x ∷ goals) some h = limited g st.lives st.ways x [] e.here.tag _ st.registers w run h
+limit_at e g w run st (x ∷ goals) some h = limited g st.lives st.ways x _ e.here.tag _ st.registers w run h
 
-pub run_limited : (a b : Engine) (s : Spacer) (k : SinkView) → AtGoal a b → b.left ≡ 0 → Reaches a s k (HasEnded StepLimit b.left s k)
-run_limited a b s k h none g w run start quiet st text =
-    let t = h.went_on.leads g w run quiet st in
-    let x = t.holds in
-    let at = subst (λ n. Stands g x.lives x.ways (path_of (goals_at [] b.here.tag b.here.goals.now ++ mark_steps b.here.mark b.here.tag (steps_behind b.frames.items b.here.behind)) x.registers) n t.world run) none x.stands in
-    finished_so (End StepLimit) StepLimit 0 b.left s k g w run start text (sym none) refl (record { world = t.world; adds = t.adds; holds = limit_at b g t.world run x b.here.goals.now h.goal at })
+pub limited_at : (e : Engine) (g : Game) (w : World) (run : Run) → 0 < length e.here.goals.now → StandsAt e g 0 w run → Finished 0 w (End StepLimit) run
+limited_at e g w run some st = limit_at e g w run st e.here.goals.now some st.stands
+
+-- with no goal left no more is printed
+pub no_more : (e : Engine) (added : List Print) (g : Game) (w : World) (run : Run) → 0 < length e.here.goals.now → StandsAt e g 0 w run → Begins (prints run.world.events) (prints w.events ++ added)
+no_more e added g w run some st =
+    let f = limited_at e g w run some st in
+    let same : prints run.world.events ≡ prints w.events = ap (λ (r : Run). prints r.world.events) f.is ∙ prints_later w f.world f.silently in
+    record { behind = added; is = ap (λ l. l ++ added) (sym same) }
+
+pub run_limited : (e : Engine) (s : Spacer) (k : SinkView) → 0 < length e.here.goals.now → e.left ≡ 0 → Reaches e s k (HasEnded StepLimit e.left s k)
+run_limited e s k some none g w run start quiet st text =
+    finished_so (End StepLimit) StepLimit 0 e.left s k w run start text (sym none) refl (record { world = w; adds = adds_nothing w quiet; holds = limited_at e g w run some (subst (λ n. StandsAt e g n w run) none st) })
+
+-- ## One goal
+
+module _ (x : Goal) (old mid : Engine) (s : Spacer) (k : SinkView) (some : 0 < length old.here.goals.now) (taken : Taken x old mid) where
+  takes_here : (g : Game) (w : World) (run : Run) → StandsAt old g old.left w run → TakesAt x mid g mid.left w run
+  takes_here g w run st = taken.takes g mid.left w run (subst (λ n. StandsAt old g n w run) taken.left st)
+
+  -- it has begun a branch, or goes on
+  pub goal_done : (new : Engine) → WentOn (TakesAt x mid) mid new → GoalDone old new s s k k
+  goal_done new h = record {
+    ready = h.ready;
+    limits = limits_on old mid new taken.limits h.limits;
+    left = taken.left ∙ ap suc (sym h.left);
+    added = [];
+    leads = λ g n w run quiet st. h.leads g n w run quiet (taken.takes g n w run st);
+    writes = writes_nothing s k;
+  }
+
+  pub goal_ended : (new : Engine) (result : SearchResult) (e : Ending) → e ≡ ending_of result → HasEndedSo (TakesAt x mid) result mid new → Reaches old s k (HasEnded e new.left s k)
+  goal_ended new result e is h g w run start quiet st text = finished_so result e mid.left new.left s k w run start text (sym h.left) is (h.ends g mid.left w run quiet (takes_here g w run st))
+
+  -- memory ran out before anything was written
+  pub goal_lost : Reaches old s k (IsBroken OutOfMemory s k)
+  goal_lost g w run start quiet st text = record { part = w.events; until = (has_happened g st.lives st.ways _ old.left w run st.stands).events; text = text }
+
+  pub goal_heap : (left : ℕ) → mid.left ≡ left → FullAt (TakesAt x mid) (store_in mid.store) full.Heap → MeetsLimit Heap left old s s k k
+  goal_heap left same h = record {
+    goals = 0;
+    left_is = omega (arith, taken.left, same);
+    added = [];
+    passed = λ g w run quiet st. omega (arith, h g 0 w run quiet (taken.takes g 0 w run st), taken.limits.heap);
+    until = λ g w run quiet st. record { world = w; adds = adds_nothing w quiet; holds = (has_happened g st.lives st.ways _ 1 w run st.stands).events };
+    since = λ g w run quiet st. no_more old [] g w run some st;
+    writes = writes_nothing s k;
+  }
+
+  pub goal_trail : (left : ℕ) → mid.left ≡ left → FullAt (TakesAt x mid) (store_in mid.store) full.Trail → MeetsLimit Trail left old s s k k
+  goal_trail left same h = record {
+    goals = 0;
+    left_is = omega (arith, taken.left, same);
+    added = [];
+    passed = λ g w run quiet st. omega (arith, h g 0 w run quiet (taken.takes g 0 w run st), taken.limits.trail);
+    until = λ g w run quiet st. record { world = w; adds = adds_nothing w quiet; holds = (has_happened g st.lives st.ways _ 1 w run st.stands).events };
+    since = λ g w run quiet st. no_more old [] g w run some st;
+    writes = writes_nothing s k;
+  }
+
+  pub goal_does : (new : Engine) → new.left ≡ mid.left → (r : Result Bool Full) (result : Result (Option Ending) RunFault) → result ≡ outcome_of r → IfOk r (λ found. Branches (TakesAt x mid) found mid new) → IfErr r (λ e. FullAt (TakesAt x mid) (store_in mid.store) e) →
+      IfOk result (λ ending. DoesGoal ending old new s s k k)
+  goal_does new left r result is ok err = subst (λ q. IfOk q (λ ending. DoesGoal ending old new s s k k)) (sym is) (here r ok err) where
+    here : (r : Result Bool Full) → IfOk r (λ found. Branches (TakesAt x mid) found mid new) → IfErr r (λ e. FullAt (TakesAt x mid) (store_in mid.store) e) → IfOk (outcome_of r) (λ ending. DoesGoal ending old new s s k k)
+    here (Ok true) ok err = goal_done new ok
+    here (Ok false) ok err = goal_ended new Failing Failed refl ok
+    here (Err full.Heap) ok err = goal_heap new.left (sym left) err
+    here (Err full.Trail) ok err = goal_trail new.left (sym left) err
+    here (Err full.OutOfMemory) ok err = tt
+
+  pub goal_breaks : (r : Result Bool Full) (result : Result (Option Ending) RunFault) → result ≡ outcome_of r → IfErr result (λ fault. Reaches old s k (IsBroken fault s k))
+  goal_breaks r result is = subst (λ q. IfErr q (λ fault. Reaches old s k (IsBroken fault s k))) (sym is) (here r) where
+    here : (r : Result Bool Full) → IfErr (outcome_of r) (λ fault. Reaches old s k (IsBroken fault s k))
+    here (Ok true) = tt
+    here (Ok false) = tt
+    here (Err full.Heap) = tt
+    here (Err full.Trail) = tt
+    here (Err full.OutOfMemory) = goal_lost
 
 -- ## A word
 
 module _ (x : Goal) (name bytes : List ℕ) (old mid : Engine) (s s' : Spacer) (k k' : SinkView) (taken : Taken x old mid) (is : x ≡ Text name) (same : bytes ≡ name) where
-  word_then : (g : Game) (w : World) (run : Run) → IsQuiet w → StandsAt g old w run → Then (Piece bytes ∷ []) w (λ v. StandsAt g mid v run)
-  word_then g w run quiet st = prints_word bytes mid g w run quiet (subst (λ y. TakesAt g y mid w run) (is ∙ ap Text (sym same)) (taken.takes g w run st))
+  word_then : (g : Game) (n : ℕ) (w : World) (run : Run) → IsQuiet w → StandsAt old g (suc n) w run → Then (Piece bytes ∷ []) w (λ v. StandsAt mid g n v run)
+  word_then g n w run quiet st = prints_word bytes mid g n w run quiet (subst (λ y. TakesAt y mid g n w run) (is ∙ ap Text (sym same)) (taken.takes g n w run st))
 
   pub word_done : ((es : List Print) → StandsFor s es → Added (Piece bytes) es k k' s') → GoalDone old mid s s' k k'
   word_done added = record {
     ready = taken.ready;
+    limits = taken.limits;
     left = taken.left;
-    reaches = λ g w run start quiet st text.
-        let t = word_then g w run quiet st in
-        record { world = t.world; typed = t.adds.typed; quiet = t.adds.quiet; stands = t.holds; text = subst (HasText s' start k') (sym t.adds.prints_are) (text_added s s' start k k' (prints w.events) (Piece bytes) text added) };
+    added = Piece bytes ∷ [];
+    leads = word_then;
+    writes = λ start es text. text_added s s' start k k' es (Piece bytes) text added;
   }
 
   pub word_lost : ((es : List Print) → StandsFor s es → BrokeOff k k' (growth es (Piece bytes))) → Reaches old s k (IsBroken Write s' k')
   word_lost broke g w run start quiet st text =
-      let t = word_then g w run quiet st in
+      let t = word_then g mid.left w run quiet (subst (λ n. StandsAt old g n w run) taken.left st) in
       let h = t.holds in
       let is : text_of t.world.events ≡ render (prints w.events) ++ growth (prints w.events) (Piece bytes) = ap render t.adds.prints_are ∙ render_grows (prints w.events) (Piece bytes) in
       text_begins t.world.events run.world.events (has_happened g h.lives h.ways _ mid.left t.world run h.stands).events start k'
       (subst (BrokeOff start k') (sym is) (broke_later start k k' (render (prints w.events)) (growth (prints w.events) (Piece bytes)) text.wrote (broke (prints w.events) text.stands)))
 
--- ## A query
-
-no_arguments : (x : Goal) (pred : ℕ) (args : List Term) (many : Bool) → x ≡ Ask pred args many → IsBuiltGoal x → x ≡ Ask pred [] many
-no_arguments x pred args many is built =
-    let none : args ≡ [] = subst IsBuiltForm (outs-Ask pred args many) (subst IsBuiltGoal is built) in
-    is ∙ ap (λ l. Ask pred l many) none
-
-module _ (x : Goal) (query : Query) (args : List Term) (old mid new : Engine) (s : Spacer) (k : SinkView) (taken : Taken x old mid) (is : x ≡ Ask query.pred args query.many) where
-  query_at : (g : Game) (w : World) (run : Run) → StandsAt g old w run → TakesAt g (Ask query.pred [] query.many) mid w run
-  query_at g w run st = subst (λ y. TakesAt g y mid w run) (no_arguments x query.pred args query.many is taken.built) (taken.takes g w run st)
-
-  pub query_done : WentBack (λ g. TakesAt g (Ask query.pred [] query.many) mid) mid new → GoalDone old new s s k k
-  query_done h = record {
-    ready = h.ready;
-    left = taken.left ∙ ap suc (sym h.left);
-    reaches = λ g w run start quiet st text.
-        let t = h.leads g w run quiet (query_at g w run st) in
-        record { world = t.world; typed = t.adds.typed; quiet = t.adds.quiet; stands = t.holds; text = text_same s start k (prints w.events) (prints t.world.events) t.adds.prints_are text };
-  }
-
-  pub query_failed : NoneLeft (λ g. TakesAt g (Ask query.pred [] query.many) mid) mid new → Reaches old s k (HasEnded Failed new.left s k)
-  query_failed h g w run start quiet st text = finished_so Failing Failed mid.left new.left s k g w run start text (sym h.left) refl (h.ends g w run quiet (query_at g w run st))
-
--- memory ran out before anything was written
-pub memory_lost : (e : Engine) (s : Spacer) (k : SinkView) → Reaches e s k (IsBroken OutOfMemory s k)
-memory_lost e s k g w run start quiet st text = record { part = w.events; until = (has_happened g st.lives st.ways _ e.left w run st.stands).events; text = text }
+pub goal_quits : (x : Goal) (old mid : Engine) (s : Spacer) (k : SinkView) → Taken x old mid → x ≡ Quit → Reaches old s k (HasEnded Quit-Ending mid.left s k)
+goal_quits x old mid s k taken is g w run start quiet st text =
+    finished_so (End Quit-Ending) Quit-Ending mid.left mid.left s k w run start text refl refl
+    (quits mid g mid.left w run quiet (subst (λ y. TakesAt y mid g mid.left w run) is (taken.takes g mid.left w run (subst (λ n. StandsAt old g n w run) taken.left st))))

@@ -1,29 +1,34 @@
--- A goal is taken, and a branch begins.
-use Rattle.std.proofs.Common.{◌≡◌, ℕ, zero, suc, ◌+◌, ◌<◌, ◌≤◌, List, [], ◌∷◌, ◌++◌, refl, sym, ap, ◌∙◌, subst, arith, length, take, drop, get_or, Bor}
-use Rattle.std.specs.Prelude.{reverse}
+-- A goal is taken, and an engine starts.
+use Rattle.std.proofs.Common.{◌≡◌, ℕ, zero, suc, ◌+◌, ◌^◌, ◌<◌, ◌≤◌, List, [], ◌∷◌, ◌++◌, Some, None, true, false, refl, sym, ap, ◌∙◌, subst, arith, length, take, drop, get_or, Bor}
+use Rattle.std.specs.Prelude.{reverse, slice_get, slice_index_or}
 use Rattle.std.specs.List.{All}
 use Rattle.std.proofs.lemmas.List.{reverse-append, append-nil}
 use Rattle.std.specs.declared.vec.Vec.{Vec}
 use Rattle.std.specs.declared.alloc.Global.{Global}
 use Rattle.dg_base.specs.declared.program.Goal.{Goal}
-use Rattle.dg_base.specs.declared.program.Rule.{Rule}
-use Rattle.dg_meaning.specs.World.{Game, World, prints}
-use Rattle.dg_meaning.specs.Path.{Do, Registers, Branch, Rules as RulesOf}
-use Rattle.dg_meaning.specs.Moves.{begun, path_of, choice_cells, rule_steps, rule_branches}
-use Rattle.dg_meaning.specs.Transcript.{Run}
-use Rattle.dg_meaning.specs.Context.{Way, Live, pushed}
+use Rattle.dg_base.specs.declared.program.Goal.TheVariants.{Ask, outs-Ask}
+use Rattle.dg_base.specs.declared.program.CoreProgram.{CoreProgram}
+use Rattle.dg_meaning.specs.Values.{Value}
+use Rattle.dg_meaning.specs.World.{Game}
+use Rattle.dg_meaning.specs.Path.{Do}
+use Rattle.dg_meaning.specs.Moves.{path_of, goals_at}
+use Rattle.dg_meaning.specs.Transcript.{run, start_world, start_path}
 use Rattle.dg_meaning.specs.Keeps.{Stands}
-use Rattle.dg_meaning.specs.Built.{IsBuiltGoal, IsBuiltRule}
-use Rattle.dg_interp.specs.declared.frames.Query.{Query}
-use Rattle.dg_interp.specs.declared.frames.Mark.TheVariants.{AnswerOf}
+use Rattle.dg_meaning.specs.Built.{IsBuilt, IsBuiltForm, IsBuiltGoal}
+use Rattle.dg_meaning.proofs.Keeps.{starts}
+use Rattle.dg_unify.specs.Slots.{store_of}
+use Rattle.dg_unify.specs.Store.{Store, Holds}
+use Rattle.dg_unify.specs.Listed.{fields_of}
+use Rattle.dg_unify.specs.declared.bindings.Ref.{Ref}
+use Rattle.dg_unify.specs.declared.list.ListBindings.{ListBindings}
+use Rattle.dg_interp.specs.declared.frames.Env.{Env}
+use Rattle.dg_interp.specs.declared.frames.Mark.TheVariants.{Nothing}
 use Rattle.dg_interp.specs.declared.frames.Frame.{Frame}
-use Rattle.dg_interp.specs.declared.frames.Left.{Left}
 use Rattle.dg_interp.specs.declared.frames.Choice.{Choice}
 use Rattle.dg_interp.specs.declared.engine.Engine.{Engine}
-use Rattle.dg_interp.specs.Frames.{frame_steps, steps_behind, steps_at, AreChoices, StandOn}
-use Rattle.dg_interp.specs.Engine.{IsQuiet, IsSound, IsReady, StandsAt, BeginsAt, BeganWith, Then, Taken, WentBack, kept_if}
-use Rattle.dg_interp.proofs.Links.{stand_raise}
-use Rattle.dg_interp.proofs.Plain.{plain_registers, plain_work, plain_begins}
+use Rattle.dg_interp.specs.Frames.{values_in, frame_steps, steps_behind, steps_at, Agrees, AreChoices, AreFrames, StandOn, GoBackTo}
+use Rattle.dg_interp.specs.Engine.{store_in, KeepsPlaces, IsReady, StandsAt, Starts, Taken}
+use Rattle.dg_interp.proofs.Links.{behind_end}
 
 -- ## Lists
 
@@ -53,114 +58,99 @@ module _ (old : Engine) (x : Goal) (goals : Bor (List Goal)) (left : ℕ) (ready
   abbrev fs : List Frame
   fs = old.frames.items
 
+  abbrev values : Env → List Value
+  values = values_in (store_in old.store) old.refs.items
+
   pub goal_taken : Taken x old (record old { here = record old.here { goals = goals }; left = left })
   goal_taken =
-      let built = subst (All IsBuiltGoal) split ready.built in
+      let built = subst (All IsBuiltGoal) split ready.here.built in
       record {
         ready = record {
-          sound = record { program = ready.sound.program; frames = ready.sound.frames; choices = ready.sound.choices; room = omega (arith, ready.sound.room) };
-          linked = ready.linked;
-          built = all_rest IsBuiltGoal x goals.now built;
+          sound = record {
+            program = ready.sound.program;
+            hold = ready.sound.hold;
+            frames = ready.sound.frames;
+            choices = ready.sound.choices;
+            places = record { saved = ready.sound.places.saved; keeps = ready.sound.places.keeps; back_to = ready.sound.places.back_to };
+            room = omega (arith, ready.sound.room);
+          };
+          here = record { built = all_rest IsBuiltGoal x goals.now built; older = ready.here.older; env = ready.here.env };
         };
         left = less;
+        limits = record { heap = refl; trail = refl };
         room = omega (arith, ready.sound.room);
         built = all_first IsBuiltGoal x goals.now built;
-        takes = λ g w run st. record {
+        takes = λ g n w run st. record {
           program = st.program;
           lives = st.lives;
           ways = st.ways;
           registers = st.registers;
+          saved = st.saved;
+          keeps = st.keeps;
+          agrees = st.agrees;
           choices = st.choices;
           tag = st.tag;
-          stands =
-              subst (λ n. Stands g st.lives st.ways (path_of (Do x [] old.here.tag ∷ steps_at fs (record old.here { goals = goals })) st.registers) n w run) less
-              (subst (λ (l : List Goal). Stands g st.lives st.ways (path_of (frame_steps l old.here.tag old.here.mark (steps_behind fs old.here.behind)) st.registers) old.left w run) split st.stands);
+          stands = subst (λ (l : List Goal). Stands g st.lives st.ways (path_of (frame_steps (values old.here.env) l old.here.tag old.here.mark (steps_behind values fs old.here.behind)) st.registers) (suc n) w run) split st.stands;
         };
       }
 
--- ## A rule begins
+-- ## The start
 
-module _ (n t : ℕ) (o : Choice) (os : List Choice) (height : o.height ≤ n) (tag : o.tag ≤ t) (built : All IsBuiltRule o.left.rules.now) where
-  kept_stand : (l : List Rule) → l ≡ o.left.rules.now → StandOn o.height o.tag os → StandOn n t (kept_if l o os)
-  kept_stand [] e s = stand_raise o.height n o.tag t os height tag s
-  kept_stand (x ∷ xs) e s = (height, tag, (subst (λ (l : List Rule). 0 < length l) e (omega arith), built), s)
+entry_built : (pred : ℕ) → All IsBuiltGoal (Ask pred [] false ∷ [])
+entry_built pred k d lt =
+    let e : k ≡ 0 = omega arith in
+    let here : IsBuiltGoal (Ask pred [] false) = subst IsBuiltForm (sym (outs-Ask pred [] false)) (tt, λ i t less. absurd (omega arith)) in
+    subst (λ i. IsBuiltGoal (slice_index_or (Ask pred [] false ∷ []) i d)) (sym e) here
 
-module _ (g : Game) (fs : List Frame) (o : Choice) (os : List Choice) (cs : List Live) (r : Registers) (ways : List Way) (tag : r.next_tag ≡ o.tag) where
-  abbrev branches : List Rule → List Branch
-  branches l = rule_branches g o.left.query.pred [] o.left.query.many (steps_behind fs o.height) r l
+-- an empty store
+abbrev pub empty : ℕ → ℕ → Store
+empty heap trail = store_of true (record { slots = []; log = []; vars = 0; since = 0; heap = 0; trail = 0; heap_limit = heap; trail_limit = trail })
 
-  abbrev kept_live : List Rule → Live
-  kept_live l = record { kind = RulesOf o.left.query.pred; tag = r.next_tag; others = branches l; height = 0; ways_on = ways }
+module _ (program : Bor CoreProgram) (entry : Bor (List Goal)) (store : ListBindings) (refs : Vec Ref Global) (frames : Vec Frame Global) (choices : Vec Choice Global) (made : Vec Ref Global) (left heap trail : ℕ) (fits : left < 2 ^ 64) (built : IsBuilt program.now) (is : entry.now ≡ Ask program.now.entry [] false ∷ []) (means : store_in store ≡ empty heap trail) (no_refs : refs.items ≡ []) (no_frames : frames.items ≡ []) (no_choices : choices.items ≡ []) where
+  abbrev e : Engine
+  e = record { program = program; store = store; refs = refs; frames = frames; choices = choices; made = made; here = record { goals = entry; env = record { from = 0; len = 0 }; tag = 0; mark = Nothing; behind = 0 }; newest = 0; left = left }
 
-  kept_choices : (l : List Rule) → l ≡ o.left.rules.now → AreChoices g fs os cs → AreChoices g fs (kept_if l o os) (pushed (branches l) (kept_live l) cs)
-  kept_choices [] e h = h
-  kept_choices (x ∷ xs) e h = (record { registers = r; tag_at = tag; kind = refl; tag = tag; others = ap (λ l. branches l) e; height = refl }, h)
+  none : reverse choices.items ≡ []
+  none = ap reverse no_choices
 
-module _ (old : Engine) (left others : Left) (rule : Rule) (choices : Vec Choice Global) (goals : Bor (List Goal)) (sound : IsSound old) (split : left.rules.now ≡ rule ∷ others.rules.now) (same : others.query ≡ left.query) (built : All IsBuiltRule left.rules.now)
-    (kept : reverse choices.items ≡ kept_if others.rules.now (record { tag = old.newest; left = others; height = length old.frames.items }) (reverse old.choices.items)) (body : goals.now ≡ rule.body) where
-  abbrev was : List Frame
-  was = old.frames.items
+  abbrev at : Env → List Value
+  at = values_in (store_in store) refs.items
 
-  abbrev o : Choice
-  o = record { tag = old.newest; left = others; height = length old.frames.items }
+  steps : steps_at at frames.items e.here ≡ Do (Ask program.now.entry [] false) [] 0 ∷ []
+  steps = ap (λ (l : List Goal). goals_at [] 0 l ++ steps_behind at frames.items 0) is ∙ ap (λ s. Do (Ask program.now.entry [] false) [] 0 ∷ s) (behind_end at frames.items)
 
-  abbrev query : Query
-  query = others.query
-
-  abbrev new : Engine
-  new = record old { choices = choices; here = record { goals = goals; tag = old.newest; mark = AnswerOf query; behind = length old.frames.items } }
-
-  built_all : All IsBuiltRule (rule ∷ others.rules.now)
-  built_all = subst (All IsBuiltRule) split built
-
-  stand : StandOn (length was) old.newest (reverse choices.items)
-  stand = subst (StandOn (length was) old.newest) (sym kept) (kept_stand (length was) old.newest o (reverse old.choices.items) (omega arith) (omega arith) (all_rest IsBuiltRule rule others.rules.now built_all) others.rules.now refl sound.choices)
-
-  steps : (r : Registers) → r.next_tag ≡ old.newest → steps_at was new.here ≡ rule_steps query.pred query.many [] r.next_tag rule (steps_behind was (length was))
-  steps r e =
-      ap (λ (l : List Goal). frame_steps l old.newest (AnswerOf query) (steps_behind was (length was))) body
-      ∙ ap (λ t. rule_steps query.pred query.many [] t rule (steps_behind was (length was))) (sym e)
-
-  begins : (g : Game) (w : World) (run : Run) → IsQuiet w → BeginsAt g left old w run → Then [] w (λ v. StandsAt g new v run)
-  begins g w run quiet st =
-      let r = st.registers in
-      let plain = all_first IsBuiltRule rule others.rules.now built_all in
-      let heap = choice_cells 0 others.rules.now in
-      let s = plain_registers g heap rule r in
-      let v = begun s (plain_work g rule) w in
-      let lives = pushed (branches g was o (reverse old.choices.items) st.lives r st.ways st.tag others.rules.now) (kept_live g was o (reverse old.choices.items) st.lives r st.ways st.tag others.rules.now) st.lives in
-      record {
-        world = v;
-        adds = record { prints_are = sym (append-nil (prints w.events)); typed = refl; quiet = quiet };
-        holds = record {
-          program = st.program;
-          lives = lives;
-          ways = st.ways;
-          registers = s;
-          choices = subst (λ l. AreChoices g was l lives) (sym kept) (kept_choices g was o (reverse old.choices.items) st.lives r st.ways st.tag others.rules.now refl st.choices);
-          tag = ap (λ n. n + 1) st.tag;
-          stands = subst (λ l. Stands g lives st.ways (path_of l s) old.left v run) (sym (steps r st.tag))
-              (plain_begins g query.pred query.many (steps_behind was (length was)) r heap rule lives st.ways old.left w run plain
-              (subst (λ q. BeganWith g q rule others.rules.now (steps_behind was (length was)) r st.lives st.ways old.left w run) (sym same) (st.began rule others.rules.now split)));
-        };
-      }
-
-  pub rules_begun : WentBack (λ g. BeginsAt g left old) old new
-  rules_begun = record {
-    ready = record {
-      sound = record { program = sound.program; frames = sound.frames; choices = stand; room = sound.room };
-      linked = omega arith;
-      built = subst (All IsBuiltGoal) (sym body) (all_first IsBuiltRule rule others.rules.now built_all).body;
-    };
-    left = refl;
-    leads = begins;
+  stands : (g : Game) (n : ℕ) (typed : List ℕ) → g.program ≡ program.now → StandsAt e g n (start_world typed) (run g typed n)
+  stands g n typed same = record {
+    program = sym same;
+    lives = [];
+    ways = [];
+    registers = (start_path g).registers;
+    saved = [];
+    keeps = tt;
+    agrees = subst (λ s. Agrees s (start_path g).registers) (sym means) (record { bound = refl; vars = refl; heap = refl; trail = omega arith; since = omega arith });
+    choices = subst (λ l. AreChoices g refs.items frames.items l [] []) (sym none) tt;
+    tag = refl;
+    stands =
+        subst (λ s. Stands g [] [] (path_of s (start_path g).registers) n (start_world typed) (run g typed n)) (sym steps)
+        (subst (λ (p : CoreProgram). Stands g [] [] (path_of (Do (Ask p.entry [] false) [] 0 ∷ []) (start_path g).registers) n (start_world typed) (run g typed n)) same (starts g typed n));
   }
 
--- the number of frames as the code counts it
-pub rules_begun_on : (old : Engine) (left others : Left) (rule : Rule) (choices : Vec Choice Global) (goals : Bor (List Goal)) (height : ℕ) → IsSound old → left.rules.now ≡ rule ∷ others.rules.now → others.query ≡ left.query → All IsBuiltRule left.rules.now →
-    reverse choices.items ≡ kept_if others.rules.now (record { tag = old.newest; left = others; height = height }) (reverse old.choices.items) → goals.now ≡ rule.body → height ≡ length old.frames.items →
-    WentBack (λ g. BeginsAt g left old) old (record old { choices = choices; here = record { goals = goals; tag = old.newest; mark = AnswerOf others.query; behind = height } })
-rules_begun_on old left others rule choices goals height sound split same built kept body e =
-    subst (λ n. WentBack (λ g. BeginsAt g left old) old (record old { choices = choices; here = record { goals = goals; tag = old.newest; mark = AnswerOf others.query; behind = n } })) (sym e)
-    (rules_begun old left others rule choices goals sound split same built
-    (subst (λ n. reverse choices.items ≡ kept_if others.rules.now (record { tag = old.newest; left = others; height = n }) (reverse old.choices.items)) e kept) body)
+  pub started : Starts program.now left heap trail e
+  started = record {
+    ready = record {
+      sound = record {
+        program = built;
+        hold = subst (All (Holds (store_in store))) (sym no_refs) (λ k d lt. absurd (omega arith));
+        frames = λ k f lt h. absurd (let q : None ≡ Some f = sym (ap (λ (l : List Frame). slice_get l k) no_frames) ∙ h in cc);
+        choices = subst (StandOn frames.items (length frames.items) (length refs.items) 0) (sym none) tt;
+        places = record { saved = []; keeps = tt; back_to = subst (λ os. GoBackTo refs.items (store_in store).heap_limit (store_in store).trail_limit os []) (sym none) tt };
+        room = omega arith;
+      };
+      here = record { built = subst (All IsBuiltGoal) (sym is) (entry_built program.now.entry); older = omega arith; env = omega arith };
+    };
+    goal = subst (λ (l : List Goal). 0 < length l) (sym is) (omega arith);
+    left = refl;
+    heap_limit = ap (λ (s : Store). s.heap_limit) means;
+    trail_limit = ap (λ (s : Store). s.trail_limit) means;
+    stands = stands;
+  }

@@ -1,20 +1,29 @@
 -- From the start of a run to its closing.
-use Rattle.std.proofs.Common.{◌≡◌, ℕ, ◌-◌, ◌≤◌, inl, List, [], ◌++◌, Option, Some, None, refl, sym, ap, ◌∙◌, subst, arith}
+use Rattle.std.proofs.Common.{◌≡◌, ℕ, suc, ◌+◌, ◌-◌, ◌<◌, ◌≤◌, inl, inr, List, [], ◌∷◌, ◌++◌, Option, Some, None, refl, sym, ap, ◌∙◌, subst, arith, length, length-append}
+use Rattle.std.proofs.lemmas.Bool.{cases_lt}
+use Rattle.std.proofs.lemmas.List.{append-nil}
+use Rattle.std.specs.Prelude.{Result, Ok, Err, IfOk, IfErr}
+use Rattle.dg_base.specs.declared.run.Ending.TheVariants.{HeapLimit, TrailLimit}
+use Rattle.dg_meaning.specs.OneRun.{Begins}
+use Rattle.dg_meaning.specs.Peaks.{Area, Heap, Trail, limit_of, limit_ending, peak}
+use Rattle.dg_meaning.proofs.OneRun.{begins_same}
+use Rattle.dg_meaning.proofs.Limits.{later_run, limit_covers}
+use Rattle.dg_meaning.proofs.Silently.{prints_append}
 use Rattle.dg_base.specs.declared.program.CoreProgram.{CoreProgram}
 use Rattle.dg_base.specs.declared.run.Ending.{Ending}
 use Rattle.dg_base.specs.declared.run.RunFault.TheVariants.{Read, Write, OutOfMemory}
 use Rattle.dg_base.specs.declared.run.Limits.{Limits}
-use Rattle.dg_meaning.specs.World.{Game, World, prints}
+use Rattle.dg_meaning.specs.World.{Game, World, Event, Print, prints}
 use Rattle.dg_meaning.specs.Render.{render}
 use Rattle.dg_meaning.specs.Transcript.{Run, run, start_world, text_of, line_of, no_memory_line, closing, closed, transcript}
-use Rattle.dg_meaning.specs.Shows.{IsLeft, ShowsNoMemory, MayWrite, whole, without_memory}
+use Rattle.dg_meaning.specs.Shows.{IsLeft, ShowsLimit, ShowsNoMemory, MayWrite, whole, without_memory}
 use Rattle.dg_meaning.proofs.Search.{run_within}
 use Rattle.dg_interp.specs.declared.spacer.Spacer.{Spacer}
 use Rattle.dg_interp.specs.declared.engine.Engine.{Engine}
 use Rattle.dg_base.specs.Written.{SinkView, Wrote, BrokeOff}
 use Rattle.dg_interp.specs.Spacer.{StandsFor, ending_line}
-use Rattle.dg_interp.specs.Engine.{Starts}
-use Rattle.dg_interp.specs.Running.{HasText, Reaches, HasEnded, HasPart, IsBroken}
+use Rattle.dg_interp.specs.Engine.{store_in, Starts}
+use Rattle.dg_interp.specs.Running.{HasText, Reaches, HasEnded, limit_in, MeetsLimit, Ended, HasPart, IsBroken}
 use Rattle.dg_interp.specs.Interpret.{game, ForTyped, HasShown, HasLostOutput, HasLostMemory}
 use Rattle.dg_base.proofs.WrittenLemmas.{wrote_nothing, wrote_on, broke_first, broke_later}
 
@@ -25,7 +34,42 @@ may_write g typed limits =
     whole (record { ending = r.ending; goals = limits.steps - r.left }) None
     (inl (record { text = refl; ending = refl; goals = omega (arith, run_within g typed limits.steps); left_is = tt }))
 
-module _ (program : CoreProgram) (limits : Limits) (e : Engine) (starts : Starts program limits.steps e) (s s' : Spacer) (k k' : SinkView) (new : StandsFor s []) (dice typed : List ℕ) where
+-- ## Of two parts of a list the longer
+
+begins_shorter : {A : Type 0} (q p w : List A) → Begins q w → Begins p w → length q ≤ length p → Begins q p
+begins_shorter [] p w h k le = record { behind = p; is = refl }
+begins_shorter (x ∷ q) [] w h k le = absurd (omega arith)
+begins_shorter (x ∷ q) (y ∷ p) [] h k le = let e : [] ≡ x ∷ (q ++ h.behind) = h.is in absurd (cc)
+begins_shorter (x ∷ q) (y ∷ p) (z ∷ w) h k le =
+    let e : z ∷ w ≡ x ∷ (q ++ h.behind) = h.is in
+    let f : z ∷ w ≡ y ∷ (p ++ k.behind) = k.is in
+    let inner = begins_shorter q p w (record { behind = h.behind; is = cc }) (record { behind = k.behind; is = cc }) (omega arith) in
+    let same : y ≡ x = cc in
+    record { behind = inner.behind; is = ap (λ a. a ∷ p) same ∙ ap (λ l. x ∷ l) inner.is }
+
+nothing_more : {A : Type 0} (xs b c : List A) → xs ≡ (xs ++ b) ++ c → b ≡ []
+nothing_more xs [] c e = refl
+nothing_more xs (x ∷ b) c e = absurd (omega (arith, ap length e, length-append (xs ++ x ∷ b) c, length-append xs (x ∷ b)))
+
+-- a part of a run, with what it prints, behind one part and up to another
+record IsPart (printed : List Print) (before after : List Event) : Type 0 where
+  part : List Event
+  prints_are : prints part ≡ printed
+  until : Begins part after
+  since : Begins before part
+
+the_part : (p q w : List Event) → Begins p w → Begins q w → Begins (prints q) (prints p) → IsPart (prints p) q w
+the_part p q w h k b =
+    elim (cases_lt (length p) (length q)) [
+      | inl lt ↦
+          let longer = begins_shorter p q w h k (omega arith) in
+          let split : prints q ≡ prints p ++ prints longer.behind = ap prints longer.is ∙ prints_append p longer.behind in
+          let none : prints longer.behind ≡ [] = nothing_more (prints p) (prints longer.behind) b.behind (b.is ∙ ap (λ l. l ++ b.behind) split) in
+          record { part = q; prints_are = split ∙ ap (λ l. prints p ++ l) none ∙ append-nil (prints p); until = k; since = begins_same q }
+      | inr ge ↦ record { part = p; prints_are = refl; until = h; since = begins_shorter q p w k h ge }
+    ]
+
+module _ (program : CoreProgram) (limits : Limits) (e : Engine) (starts : Starts program limits.steps limits.heap limits.trail e) (s s' : Spacer) (k k' : SinkView) (new : StandsFor s []) (dice typed : List ℕ) where
   abbrev g : Game
   g = game program dice
 
@@ -36,23 +80,81 @@ module _ (program : CoreProgram) (limits : Limits) (e : Engine) (starts : Starts
   unfolding render
   no_text = record { stands = new; wrote = wrote_nothing k }
 
-  reached : (P : Game → World → Run → SinkView → Type 0) → Reaches e s k P → P g (start_world typed) r k
-  reached P h = h g (start_world typed) r k refl (starts.stands g typed refl) no_text
+  reached : (P : World → Run → SinkView → Type 0) → Reaches e s k P → P (start_world typed) r k
+  reached P h = subst (λ n. P (start_world typed) (run g typed n) k) starts.left (h g (start_world typed) (run g typed e.left) k refl (starts.stands g e.left typed refl) no_text)
 
-  pub left_within : (ending : Ending) (left : ℕ) → Reaches e s k (HasEnded ending left s' k') → left ≤ limits.steps
-  left_within ending left h =
+  -- ## A limit
+
+  meets_within : (area : Area) (left : ℕ) → MeetsLimit area left e s s' k k' → left ≤ limits.steps
+  meets_within area left m = omega (arith, m.left_is, starts.left)
+
+  module _ (area : Area) (left : ℕ) (m : MeetsLimit area left e s s' k k') (same : limit_in area (store_in e.store) ≡ limit_of area limits) where
+    abbrev whole_run : Run
+    whole_run = run g typed (suc m.goals)
+
+    part_is : IsPart m.added (run g typed m.goals).world.events whole_run.world.events
+    part_is =
+        let t = m.until g (start_world typed) whole_run refl (starts.stands g (suc m.goals) typed refl) in
+        let b = m.since g (start_world typed) (run g typed m.goals) refl (starts.stands g m.goals typed refl) in
+        subst (λ l. IsPart l (run g typed m.goals).world.events whole_run.world.events) t.adds.prints_are
+        (the_part t.world.events (run g typed m.goals).world.events whole_run.world.events t.holds (later_run g typed m.goals (suc m.goals) (omega arith)).events (subst (Begins (prints (run g typed m.goals).world.events)) (sym t.adds.prints_are) b))
+
+    passed_limit : limit_of area limits < peak area g typed (suc m.goals)
+    passed_limit = subst (λ n. n < peak area g typed (suc m.goals)) same (m.passed g (start_world typed) whole_run refl (starts.stands g (suc m.goals) typed refl))
+
+    taken_goals : limits.steps - left ≡ suc m.goals
+    taken_goals = omega (arith, m.left_is, starts.left)
+
+    since_before : Begins (run g typed (suc m.goals - 1)).world.events part_is.part
+    since_before = let one : suc m.goals - 1 ≡ m.goals = omega arith in subst (λ n. Begins (run g typed n).world.events part_is.part) (sym one) part_is.since
+
+    limit_shows : ShowsLimit g typed limits (closed part_is.part (line_of (limit_ending area))) (record { ending = limit_ending area; goals = limits.steps - left })
+    limit_shows = record {
+      area = area;
+      ending = refl;
+      goals = omega arith;
+      passed = subst (λ n. limit_of area limits < peak area g typed n) (sym taken_goals) passed_limit;
+      part = part_is.part;
+      text = refl;
+      until = subst (λ n. Begins part_is.part (run g typed n).world.events) (sym taken_goals) part_is.until;
+      since = subst (λ n. Begins (run g typed (n - 1)).world.events part_is.part) (sym taken_goals) since_before;
+      none_before_the_first = λ none. absurd (omega (arith, none, taken_goals));
+      covers = λ n le within. limit_covers g typed limits area (suc m.goals) part_is.part passed_limit since_before n within;
+    }
+
+    text_is : HasText s' k k' (prints part_is.part)
+    text_is = subst (HasText s' k k') (sym part_is.prints_are) (m.writes k [] no_text)
+
+    pub limit_shown : (k'' : SinkView) (told : Option (List ℕ)) → ((es : List Print) → StandsFor s' es → Wrote k' k'' (ending_line es (line_of (limit_ending area)))) → HasShown g typed limits (record { ending = limit_ending area; goals = limits.steps - left }) told k k''
+    limit_shown k'' told close = record {
+      bytes = closed part_is.part (line_of (limit_ending area));
+      shows = inr limit_shows;
+      wrote = wrote_on k k' k'' (text_of part_is.part) (ending_line (prints part_is.part) (line_of (limit_ending area))) text_is.wrote (close (prints part_is.part) text_is.stands);
+    }
+
+    pub limit_lost : (k'' : SinkView) → ((es : List Print) → StandsFor s' es → BrokeOff k' k'' (ending_line es (line_of (limit_ending area)))) → HasLostOutput g typed limits k k''
+    limit_lost k'' close = record {
+      bytes = closed part_is.part (line_of (limit_ending area));
+      may_write = whole (record { ending = limit_ending area; goals = limits.steps - left }) None (inr limit_shows);
+      broke = broke_later k k' k'' (text_of part_is.part) (ending_line (prints part_is.part) (line_of (limit_ending area))) text_is.wrote (close (prints part_is.part) text_is.stands);
+    }
+
+  -- ## The whole run
+
+  run_left : (ending : Ending) (left : ℕ) → Reaches e s k (HasEnded ending left s' k') → left ≤ limits.steps
+  run_left ending left h =
       let x = reached (HasEnded ending left s' k') h in
       let same : r.left ≡ left = ap (λ (y : Run). y.left) x.is in
       omega (arith, run_within g typed limits.steps)
 
   -- the text of the run and its closing
-  closes : (ending : Ending) (left : ℕ) (h : HasEnded ending left s' k' g (start_world typed) r k) → transcript g typed limits.steps ≡ render (prints h.world.events) ++ ending_line (prints h.world.events) (line_of ending)
+  closes : (ending : Ending) (left : ℕ) (h : HasEnded ending left s' k' (start_world typed) r k) → transcript g typed limits.steps ≡ render (prints h.world.events) ++ ending_line (prints h.world.events) (line_of ending)
   closes ending left h = ap (λ (y : Run). closed y.world.events (line_of y.ending)) h.is
 
-  pub has_shown : (k'' : SinkView) (ending : Ending) (left : ℕ) (told : Option (List ℕ)) → Reaches e s k (HasEnded ending left s' k') → ((es : _) → StandsFor s' es → Wrote k' k'' (ending_line es (line_of ending))) → IsLeft told typed → HasShown g typed limits (record { ending = ending; goals = limits.steps - left }) told k k''
-  has_shown k'' ending left told h close is =
+  run_shown : (k'' : SinkView) (ending : Ending) (left : ℕ) (told : Option (List ℕ)) → Reaches e s k (HasEnded ending left s' k') → ((es : _) → StandsFor s' es → Wrote k' k'' (ending_line es (line_of ending))) → IsLeft told typed → HasShown g typed limits (record { ending = ending; goals = limits.steps - left }) told k k''
+  run_shown k'' ending left told h close is =
       let x = reached (HasEnded ending left s' k') h in
-      let within = left_within ending left h in
+      let within = run_left ending left h in
       let same : r.left ≡ left = ap (λ (y : Run). y.left) x.is in
       record {
         bytes = transcript g typed limits.steps;
@@ -65,14 +167,29 @@ module _ (program : CoreProgram) (limits : Limits) (e : Engine) (starts : Starts
         wrote = subst (Wrote k k'') (sym (closes ending left x)) (wrote_on k k' k'' (render (prints x.world.events)) (ending_line (prints x.world.events) (line_of ending)) x.text.wrote (close (prints x.world.events) x.text.stands));
       }
 
-  pub closing_lost : (k'' : SinkView) (ending : Ending) (left : ℕ) → Reaches e s k (HasEnded ending left s' k') → ((es : _) → StandsFor s' es → BrokeOff k' k'' (ending_line es (line_of ending))) → HasLostOutput g typed limits k k''
-  closing_lost k'' ending left h close =
+  run_lost : (k'' : SinkView) (ending : Ending) (left : ℕ) → Reaches e s k (HasEnded ending left s' k') → ((es : _) → StandsFor s' es → BrokeOff k' k'' (ending_line es (line_of ending))) → HasLostOutput g typed limits k k''
+  run_lost k'' ending left h close =
       let x = reached (HasEnded ending left s' k') h in
       record {
         bytes = transcript g typed limits.steps;
         may_write = may_write g typed limits;
         broke = subst (BrokeOff k k'') (sym (closes ending left x)) (broke_later k k' k'' (render (prints x.world.events)) (ending_line (prints x.world.events) (line_of ending)) x.text.wrote (close (prints x.world.events) x.text.stands));
       }
+
+  pub left_within : (ending : Ending) (left : ℕ) → Ended ending left e s s' k k' → left ≤ limits.steps
+  left_within HeapLimit left m = meets_within Heap left m
+  left_within TrailLimit left m = meets_within Trail left m
+  left_within ending left h = run_left ending left h
+
+  pub has_shown : (k'' : SinkView) (ending : Ending) (left : ℕ) (told : Option (List ℕ)) → Ended ending left e s s' k k' → ((es : List Print) → StandsFor s' es → Wrote k' k'' (ending_line es (line_of ending))) → IsLeft told typed → HasShown g typed limits (record { ending = ending; goals = limits.steps - left }) told k k''
+  has_shown k'' HeapLimit left told m close is = limit_shown Heap left m starts.heap_limit k'' told close
+  has_shown k'' TrailLimit left told m close is = limit_shown Trail left m starts.trail_limit k'' told close
+  has_shown k'' ending left told h close is = run_shown k'' ending left told h close is
+
+  pub closing_lost : (k'' : SinkView) (ending : Ending) (left : ℕ) → Ended ending left e s s' k k' → ((es : List Print) → StandsFor s' es → BrokeOff k' k'' (ending_line es (line_of ending))) → HasLostOutput g typed limits k k''
+  closing_lost k'' HeapLimit left m close = limit_lost Heap left m starts.heap_limit k'' close
+  closing_lost k'' TrailLimit left m close = limit_lost Trail left m starts.trail_limit k'' close
+  closing_lost k'' ending left h close = run_lost k'' ending left h close
 
   pub text_lost : Reaches e s k (IsBroken Write s' k') → HasLostOutput g typed limits k k'
   text_lost h = record {
@@ -109,3 +226,11 @@ module _ (program : CoreProgram) (limits : Limits) (e : Engine) (starts : Starts
 pub for_typed : (told : Option (List ℕ)) (P : List ℕ → Type 0) → ((typed : List ℕ) → IsLeft told typed → P typed) → ForTyped told P
 for_typed None P f = ([], f [] tt)
 for_typed (Some typed) P f = f typed refl
+
+pub if_ok_map : {A E : Type 0} (r : Result A E) (P Q : A → Type 0) → ((x : A) → P x → Q x) → IfOk r P → IfOk r Q
+if_ok_map (Ok x) P Q f h = f x h
+if_ok_map (Err e) P Q f h = h
+
+pub if_err_map : {A E : Type 0} (r : Result A E) (P Q : E → Type 0) → ((x : E) → P x → Q x) → IfErr r P → IfErr r Q
+if_err_map (Ok x) P Q f h = h
+if_err_map (Err e) P Q f h = f e h

@@ -1,38 +1,62 @@
 -- What an engine stands for, and what its parts do to that. Hold it against the Dialog manual, chapter "Choice points".
-use Rattle.std.specs.Prelude.{ℕ, suc, ◌+◌, ◌^◌, ◌≡◌, ◌<◌, ◌≤◌, ◌++◌, nat_lt, List, [], ◌∷◌, Bool, true, false, length, reverse, if◌then◌else◌}
+use Rattle.std.specs.Prelude.{ℕ, zero, suc, ◌+◌, ◌^◌, ◌≡◌, ◌<◌, ◌≤◌, ◌++◌, nat_lt, List, [], ◌∷◌, Bool, true, false, length, map, reverse, Option, Some, None, if◌then◌else◌}
 use Rattle.std.specs.List.{All}
 use Rattle.dg_base.specs.declared.program.Goal.{Goal}
-use Rattle.dg_base.specs.declared.program.Rule.{Rule}
 use Rattle.dg_base.specs.declared.program.CoreProgram.{CoreProgram}
-use Rattle.dg_base.specs.declared.run.Ending.TheVariants.{Done as Done-Ending}
+use Rattle.dg_base.specs.declared.run.Ending.{Ending}
+use Rattle.dg_base.specs.declared.run.Ending.TheVariants.{Done as Done-Ending, Failed as Failed-Ending}
 use Rattle.dg_meaning.specs.World.{Game, World, Print, prints}
-use Rattle.dg_meaning.specs.Path.{Step, Do, Registers, Rules, Result, Failing, End}
-use Rattle.dg_meaning.specs.Moves.{path_of, choice_cells, rule_branch, rule_branches}
+use Rattle.dg_meaning.specs.Path.{Step, Do, Registers, Branch, Result, Failing, End}
+use Rattle.dg_meaning.specs.Moves.{path_of}
 use Rattle.dg_meaning.specs.Transcript.{Run, run, start_world}
 use Rattle.dg_meaning.specs.Context.{Way, Live, pushed}
 use Rattle.dg_meaning.specs.Keeps.{Stands, Failed, Finished, Began}
 use Rattle.dg_meaning.specs.Built.{IsBuilt, IsBuiltGoal}
-use Rattle.dg_interp.specs.declared.frames.Query.{Query}
+use Rattle.dg_unify.specs.Store.{Store, Saved, Holds, Kept}
+use Rattle.dg_unify.specs.Slots.{store_of, Stand}
+use Rattle.dg_unify.specs.Listed.{fields_of}
+use Rattle.dg_unify.specs.declared.bindings.Full.{Full}
+use Rattle.dg_unify.specs.declared.bindings.Full.TheVariants as full
+use Rattle.dg_unify.specs.declared.bindings.Mark.{Mark as Place}
+use Rattle.dg_unify.specs.declared.list.ListBindings.{ListBindings}
 use Rattle.dg_interp.specs.declared.frames.Mark.TheVariants.{Nothing}
 use Rattle.dg_interp.specs.declared.frames.Left.{Left}
 use Rattle.dg_interp.specs.declared.frames.Choice.{Choice}
+use Rattle.dg_interp.specs.declared.frames.Frame.{Frame}
 use Rattle.dg_interp.specs.declared.engine.Engine.{Engine}
-use Rattle.dg_interp.specs.Frames.{steps_behind, steps_at, AreChoices, AreFrames, StandOn}
+use Rattle.dg_interp.specs.declared.engine.Settled.{Settled}
+use Rattle.dg_interp.specs.declared.engine.Settled.TheVariants as settled
+use Rattle.dg_interp.specs.Frames.{values_in, steps_at, kind_of, branches_of, Agrees, AreChoices, IsFrame, AreFrames, IsLeft, StandOn, GoBackTo, all_left}
 
 -- ## What holds of an engine
 
--- Its links and choices are in order, all is built, and its tags can't run out before its goals do.
+-- What a store stands for.
+abbrev pub store_in : ListBindings → Store
+store_in s = store_of true (fields_of s)
+
+-- The places of these stores are kept.
+abbrev pub KeepsPlaces : ListBindings → List Saved → Type 0
+KeepsPlaces s ms = Stand true (fields_of s) ms
+
+-- The stores to which its choices go back.
+pub record HasPlaces (e : Engine) : Type 0 where
+  pub saved : List Saved
+  pub keeps : KeepsPlaces e.store saved
+  pub back_to : GoBackTo e.refs.items (store_in e.store).heap_limit (store_in e.store).trail_limit (reverse e.choices.items) saved
+
+-- Its links and choices are in order, all is built, its Refs have values, and its tags can't run out before its goals do.
 pub record IsSound (e : Engine) : Type 0 where
   pub program : IsBuilt e.program.now
-  pub frames : AreFrames e.frames.items
-  pub choices : StandOn (length e.frames.items) e.newest (reverse e.choices.items)
+  pub hold : All (Holds (store_in e.store)) e.refs.items
+  pub frames : AreFrames (length e.frames.items) (length e.refs.items) e.frames.items
+  pub choices : StandOn e.frames.items (length e.frames.items) (length e.refs.items) e.newest (reverse e.choices.items)
+  pub places : HasPlaces e
   pub room : e.newest + e.left < 2 ^ 64
 
 -- The same, with goals at hand.
 pub record IsReady (e : Engine) : Type 0 where
   pub sound : IsSound e
-  pub linked : e.here.behind ≤ length e.frames.items
-  pub built : All IsBuiltGoal e.here.goals.now
+  pub here : IsFrame (length e.frames.items) (length e.refs.items) e.here
 
 -- ## What it stands for
 
@@ -40,22 +64,35 @@ pub record IsReady (e : Engine) : Type 0 where
 abbrev pub IsQuiet : World → Type 0
 IsQuiet w = w.gathered ≡ []
 
--- The run comes from where the engine is.
-pub record StandsAt (g : Game) (e : Engine) (w : World) (run : Run) : Type 0 where
+-- Where a run may be: the game, the goals left of its budget, its world, and all that it comes to.
+abbrev pub Point : Type 1
+Point = Game → ℕ → World → Run → Type 0
+
+-- The steps of the frame at hand.
+abbrev pub steps_of : Engine → List Step
+steps_of e = steps_at (values_in (store_in e.store) e.refs.items) e.frames.items e.here
+
+-- The run comes from where the engine is, with so many goals left of its budget.
+pub record StandsAt (e : Engine) (g : Game) (n : ℕ) (w : World) (run : Run) : Type 0 where
   pub program : e.program.now ≡ g.program
   pub lives : List Live
   pub ways : List Way
   pub registers : Registers
-  pub choices : AreChoices g e.frames.items (reverse e.choices.items) lives
+  pub saved : List Saved
+  pub keeps : KeepsPlaces e.store saved
+  pub agrees : Agrees (store_in e.store) registers
+  pub choices : AreChoices g e.refs.items e.frames.items (reverse e.choices.items) saved lives
   pub tag : registers.next_tag ≡ e.newest + 1
-  pub stands : Stands g lives ways (path_of (steps_at e.frames.items e.here) registers) e.left w run
+  pub stands : Stands g lives ways (path_of (steps_of e) registers) n w run
 
 -- The run comes from a failure where the engine is.
-pub record FailsAt (g : Game) (e : Engine) (w : World) (run : Run) : Type 0 where
+pub record FailsAt (e : Engine) (g : Game) (n : ℕ) (w : World) (run : Run) : Type 0 where
   pub program : e.program.now ≡ g.program
   pub lives : List Live
-  pub choices : AreChoices g e.frames.items (reverse e.choices.items) lives
-  pub failed : Failed g lives e.left w run
+  pub saved : List Saved
+  pub keeps : KeepsPlaces e.store saved
+  pub choices : AreChoices g e.refs.items e.frames.items (reverse e.choices.items) saved lives
+  pub failed : Failed g lives n w run
 
 -- From one world to another these things were printed, nothing was read, and no gathering is open.
 pub record Adds (es : List Print) (old new : World) : Type 0 where
@@ -69,28 +106,35 @@ pub record Then (es : List Print) (w : World) (P : World → Type 0) : Type 0 wh
   pub adds : Adds es w world
   pub holds : P world
 
--- The first of a query's rules begins, with these others left and these steps behind them.
-abbrev pub BeganWith : Game → Query → Rule → List Rule → List Step → Registers → List Live → List Way → ℕ → World → Run → Type 0
-BeganWith g query rule others steps r lives ways n w run =
-    let branches = rule_branches g query.pred [] query.many steps r others in
-    Began g (pushed branches (record { kind = Rules query.pred; tag = r.next_tag; others = branches; height = 0; ways_on = ways }) lives) ways
-    (rule_branch g query.pred [] query.many steps r (choice_cells 0 others) rule) n w run
-
 -- ## What its parts do
 
--- It stands at the start of each run of the program with this budget of goals.
-pub record Starts (program : CoreProgram) (n : ℕ) (e : Engine) : Type 0 where
+-- It stands at the start of each run of the program, and its store has these limits.
+pub record Starts (program : CoreProgram) (n heap trail : ℕ) (e : Engine) : Type 0 where
   pub ready : IsReady e
+  pub goal : 0 < length e.here.goals.now
   pub left : e.left ≡ n
-  pub stands : (g : Game) (typed : List ℕ) → g.program ≡ program → StandsAt g e (start_world typed) (run g typed n)
+  pub heap_limit : (store_in e.store).heap_limit ≡ heap
+  pub trail_limit : (store_in e.store).trail_limit ≡ trail
+  pub stands : (g : Game) (n : ℕ) (typed : List ℕ) → g.program ≡ program → StandsAt e g n (start_world typed) (run g typed n)
 
--- A run that comes from one place comes from the other.
-abbrev pub Leads : (Game → World → Run → Type 0) → (Game → World → Run → Type 0) → Type 0
-Leads From To = (g : Game) (w : World) (run : Run) → IsQuiet w → From g w run → Then [] w (λ v. To g v run)
+-- A run that comes from one point comes from the other, and nothing was printed.
+abbrev pub Leads : Point → Point → Type 0
+Leads From To = (g : Game) (n : ℕ) (w : World) (run : Run) → IsQuiet w → From g n w run → Then [] w (λ v. To g n v run)
 
 -- A run that comes from there has ended so.
-abbrev pub Ends : (Game → World → Run → Type 0) → ℕ → Result → Type 0
-Ends From n result = Leads From (λ g v run. Finished n v result run)
+abbrev pub Ends : Point → Result → Type 0
+Ends From result = Leads From (λ g n v run. Finished n v result run)
+
+-- A limit was met: each run that comes from there passes it.
+abbrev pub FullAt : Point → Store → Full → Type 0
+FullAt From s full.Heap = (g : Game) (n : ℕ) (w : World) (run : Run) → IsQuiet w → From g n w run → s.heap_limit < run.world.meters.heap
+FullAt From s full.Trail = (g : Game) (n : ℕ) (w : World) (run : Run) → IsQuiet w → From g n w run → s.trail_limit < run.world.meters.trail
+FullAt From s full.OutOfMemory = Unit {0}
+
+-- The limits are the same.
+pub record SameLimits (old new : Engine) : Type 0 where
+  pub heap : (store_in new.store).heap_limit ≡ (store_in old.store).heap_limit
+  pub trail : (store_in new.store).trail_limit ≡ (store_in old.store).trail_limit
 
 -- The choices that a cut to a tag leaves, the newest first.
 abbrev pub older_than : ℕ → List Choice → List Choice
@@ -101,88 +145,153 @@ older_than t (o ∷ os) = if nat_lt o.tag t then o ∷ os else older_than t os
 abbrev pub Cuts : ℕ → List Choice → List Choice → Type 0
 Cuts t old new = reverse new ≡ older_than t (reverse old)
 
--- It is ready, with as many goals left, and goes on from where it was.
-pub record WentOn (old new : Engine) : Type 0 where
+-- How many branches its choices have left.
+abbrev pub branches_left : Engine → ℕ
+branches_left e = all_left (reverse e.choices.items)
+
+-- A run that comes from there comes from where the engine is, which is ready, with as many goals left.
+pub record WentOn (From : Point) (old new : Engine) : Type 0 where
   pub ready : IsReady new
   pub left : new.left ≡ old.left
-  pub leads : Leads (λ g. StandsAt g old) (λ g. StandsAt g new)
+  pub limits : SameLimits old new
+  pub leads : Leads From (StandsAt new)
+
+-- The run has failed inside the choices of the engine.
+pub record WentWrong (From : Point) (old new : Engine) : Type 0 where
+  pub sound : IsSound new
+  pub left : new.left ≡ old.left
+  pub limits : SameLimits old new
+  pub leads : Leads From (FailsAt new)
+
+-- The run has ended so.
+pub record HasEndedSo (From : Point) (result : Result) (old new : Engine) : Type 0 where
+  pub left : new.left ≡ old.left
+  pub ends : Ends From result
 
 -- The goals at hand are done, and so is the mark behind them.
 pub record MarkPassed (old new : Engine) : Type 0 where
-  pub went_on : WentOn old new
+  pub went_on : WentOn (StandsAt old) old new
   pub goals : new.here.goals.now ≡ []
   pub mark : new.here.mark ≡ Nothing
   pub behind : new.here.behind ≡ old.here.behind
+  pub fewer : branches_left new ≤ branches_left old
+
+-- What is negated was answered.
+pub record Refused (old new : Engine) : Type 0 where
+  pub wrong : WentWrong (StandsAt old) old new
+  pub fewer : branches_left new ≤ branches_left old
+
+-- The mark is passed, or what is negated was answered.
+abbrev pub Passes : Bool → Engine → Engine → Type 0
+Passes true old new = MarkPassed old new
+Passes false old new = Refused old new
 
 -- The frame behind is at hand.
 pub record FrameLeft (old new : Engine) : Type 0 where
-  pub went_on : WentOn old new
+  pub went_on : WentOn (StandsAt old) old new
   pub older : new.here.behind < old.here.behind
+  pub fewer : branches_left new ≤ branches_left old
 
 -- A goal is at hand.
-pub record AtGoal (old new : Engine) : Type 0 where
-  pub went_on : WentOn old new
+pub record AtGoal (From : Point) (old new : Engine) : Type 0 where
+  pub went_on : WentOn From old new
   pub goal : 0 < length new.here.goals.now
 
--- All steps are done.
-pub record AllDone (old new : Engine) : Type 0 where
-  pub left : new.left ≡ old.left
-  pub ends : Ends (λ g. StandsAt g old) old.left (End Done-Ending)
+-- A goal is at hand, all steps are done, or what is negated was answered.
+abbrev pub Settles : Settled → Engine → Engine → Type 0
+Settles settled.Goal old new = AtGoal (StandsAt old) old new
+Settles settled.Done old new = HasEndedSo (StandsAt old) (End Done-Ending) old new
+Settles settled.Refused old new = Refused old new
 
--- A goal is at hand, or all steps are done.
-abbrev pub Settles : Bool → Engine → Engine → Type 0
-Settles true old new = AtGoal old new
-Settles false old new = AllDone old new
+-- The next goal is at hand, or the run is done or has failed.
+abbrev pub GoesToGoal : Point → Option Ending → Engine → Engine → Type 0
+GoesToGoal From None old new = AtGoal From old new
+GoesToGoal From (Some Done-Ending) old new = HasEndedSo From (End Done-Ending) old new
+GoesToGoal From (Some Failed-Ending) old new = HasEndedSo From Failing old new
+GoesToGoal From (Some other) old new = ⊥
 
 -- ## Goals
 
 -- The run comes from this goal, in front of where the engine is.
-pub record TakesAt (g : Game) (x : Goal) (e : Engine) (w : World) (run : Run) : Type 0 where
+pub record TakesAt (x : Goal) (e : Engine) (g : Game) (n : ℕ) (w : World) (run : Run) : Type 0 where
   pub program : e.program.now ≡ g.program
   pub lives : List Live
   pub ways : List Way
   pub registers : Registers
-  pub choices : AreChoices g e.frames.items (reverse e.choices.items) lives
+  pub saved : List Saved
+  pub keeps : KeepsPlaces e.store saved
+  pub agrees : Agrees (store_in e.store) registers
+  pub choices : AreChoices g e.refs.items e.frames.items (reverse e.choices.items) saved lives
   pub tag : registers.next_tag ≡ e.newest + 1
-  pub stands : Stands g lives ways (path_of (Do x [] e.here.tag ∷ steps_at e.frames.items e.here) registers) (suc e.left) w run
+  pub stands : Stands g lives ways (path_of (Do x (values_in (store_in e.store) e.refs.items e.here.env) e.here.tag ∷ steps_of e) registers) (suc n) w run
 
 -- A goal was taken, and what it does is left to do.
 pub record Taken (x : Goal) (old new : Engine) : Type 0 where
   pub ready : IsReady new
   pub left : old.left ≡ suc new.left
+  pub limits : SameLimits old new
   pub room : new.newest + 1 + new.left < 2 ^ 64
   pub built : IsBuiltGoal x
-  pub takes : (g : Game) (w : World) (run : Run) → StandsAt g old w run → TakesAt g x new w run
+  pub takes : (g : Game) (n : ℕ) (w : World) (run : Run) → StandsAt old g (suc n) w run → TakesAt x new g n w run
 
 -- ## Branches
 
--- Another branch has begun.
-pub record WentBack (From : Game → World → Run → Type 0) (old new : Engine) : Type 0 where
-  pub ready : IsReady new
-  pub left : new.left ≡ old.left
-  pub leads : Leads From (λ g. StandsAt g new)
+-- From there a branch has begun, or the run has failed.
+abbrev pub Branches : Point → Bool → Engine → Engine → Type 0
+Branches From true old new = WentOn From old new
+Branches From false old new = HasEndedSo From Failing old new
 
--- No branch is left, and the run has failed.
-pub record NoneLeft (From : Game → World → Run → Type 0) (old new : Engine) : Type 0 where
-  pub left : new.left ≡ old.left
-  pub ends : Ends From old.left Failing
+-- From there a branch has begun, or failed where it began.
+abbrev pub Tries : Point → Bool → Engine → Engine → Type 0
+Tries From true old new = WentOn From old new
+Tries From false old new = WentWrong From old new
 
--- From there another branch has begun, or the run has failed.
-abbrev pub Branches : (Game → World → Run → Type 0) → Bool → Engine → Engine → Type 0
-Branches From true old new = WentBack From old new
-Branches From false old new = NoneLeft From old new
+-- A store to which the engine may go back to this place is where it is now.
+pub record IsPlace (e : Engine) (place : Place) (back : Saved) (saved : List Saved) : Type 0 where
+  pub keeps : KeepsPlaces e.store (back ∷ saved)
+  pub place_is : back.mark ≡ place
+  pub hold : All (Holds back.store) e.refs.items
+  pub kept : Kept back.store (store_in e.store)
+
+-- There is such a store.
+pub record HasPlace (e : Engine) (place : Place) : Type 0 where
+  pub back : Saved
+  pub saved : List Saved
+  pub is : IsPlace e place back saved
+  pub back_to : GoBackTo e.refs.items (store_in e.store).heap_limit (store_in e.store).trail_limit (reverse e.choices.items) saved
 
 -- The run comes from the first of these branches, with the others left and all frames behind them.
-pub record BeginsAt (g : Game) (left : Left) (e : Engine) (w : World) (run : Run) : Type 0 where
+pub record BeginsAt (left : Left) (place : Place) (e : Engine) (g : Game) (n : ℕ) (w : World) (run : Run) : Type 0 where
   pub program : e.program.now ≡ g.program
   pub lives : List Live
   pub ways : List Way
   pub registers : Registers
-  pub choices : AreChoices g e.frames.items (reverse e.choices.items) lives
+  pub saved : List Saved
+  pub back : Saved
+  pub is : IsPlace e place back saved
+  pub agrees : Agrees (store_in e.store) registers
+  pub back_agrees : Agrees back.store registers
+  pub choices : AreChoices g e.refs.items e.frames.items (reverse e.choices.items) saved lives
   pub tag : registers.next_tag ≡ e.newest
-  pub began : (rule : Rule) (others : List Rule) → left.rules.now ≡ rule ∷ others → BeganWith g left.query rule others (steps_behind e.frames.items (length e.frames.items)) registers lives ways e.left w run
+  pub began : (b : Branch) (bs : List Branch) → branches_of g (values_in (store_in e.store) e.refs.items) e.frames.items (length e.frames.items) left registers ≡ b ∷ bs →
+      Began g (pushed bs (record { kind = kind_of left; tag = registers.next_tag; others = bs; height = 0; ways_on = ways }) lives) ways b n w run
 
--- A choice with these branches left, if any, in front of others.
-abbrev pub kept_if : {A : Type 0} → List A → Choice → List Choice → List Choice
-kept_if [] o os = os
-kept_if (x ∷ xs) o os = o ∷ os
+-- A choice with so many branches left, if any, in front of others.
+abbrev pub kept_if : ℕ → Choice → List Choice → List Choice
+kept_if zero o os = os
+kept_if (suc n) o os = o ∷ os
+
+-- What a choice with so many arguments takes of the heap where it has so many other branches.
+abbrev pub cells_if : ℕ → ℕ → ℕ
+cells_if arguments zero = 0
+cells_if arguments (suc n) = 10 + arguments
+
+-- The newest choice was tried again: none was left, or its next branch has begun, or has failed where it began.
+abbrev pub Retries : Point → Option Bool → Engine → Engine → Type 0
+Retries From None old new = HasEndedSo From Failing old new
+Retries From (Some begun) old new = Tries From begun old new × (branches_left new < branches_left old)
+
+-- Another branch has begun, of fewer, or the run has failed.
+abbrev pub GoesBack : Point → Bool → Engine → Engine → Type 0
+GoesBack From true old new = WentOn From old new × (branches_left new < branches_left old)
+GoesBack From false old new = HasEndedSo From Failing old new

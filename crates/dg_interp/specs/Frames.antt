@@ -1,17 +1,32 @@
 -- What the frames and choices of an engine are in the meaning. Hold it against the Dialog manual, chapter "Choice points".
-use Rattle.std.specs.Prelude.{ℕ, zero, suc, ◌≡◌, ◌<◌, ◌≤◌, ◌++◌, eqb, List, [], ◌∷◌, Option, Some, None, length, slice_get, if◌then◌else◌}
+use Rattle.std.specs.Prelude.{ℕ, zero, suc, ◌+◌, ◌≡◌, ◌<◌, ◌≤◌, ◌++◌, eqb, List, [], ◌∷◌, Option, Some, None, length, map, take, drop, slice_get, if◌then◌else◌}
 use Rattle.std.specs.List.{All}
 use Rattle.dg_base.specs.declared.program.Goal.{Goal}
+use Rattle.dg_meaning.specs.Values.{Value}
 use Rattle.dg_meaning.specs.World.{Game}
-use Rattle.dg_meaning.specs.Path.{Step, Answers, Registers, Branch, Kind, Rules}
-use Rattle.dg_meaning.specs.Moves.{goals_at, first_alone, rule_branches}
+use Rattle.dg_meaning.specs.Path.{Step, Answers, Cut, Refuse, Registers, Branch, Kind, Plain, Rules as RulesOf}
+use Rattle.dg_meaning.specs.Moves.{goals_at, first_alone, enter, list_branches, rule_branches}
 use Rattle.dg_meaning.specs.Context.{Live}
-use Rattle.dg_meaning.specs.Built.{IsBuiltGoal, IsBuiltRule}
+use Rattle.dg_meaning.specs.Built.{AreBuilt, IsBuiltRule}
+use Rattle.dg_unify.specs.Store.{Store, Saved, told, Holds}
+use Rattle.dg_unify.specs.declared.bindings.Ref.{Ref}
+use Rattle.dg_interp.specs.declared.frames.Env.{Env}
 use Rattle.dg_interp.specs.declared.frames.Mark.{Mark}
-use Rattle.dg_interp.specs.declared.frames.Mark.TheVariants.{Nothing, AnswerOf}
+use Rattle.dg_interp.specs.declared.frames.Mark.TheVariants.{Nothing, AnswerOf, CutTo, RefuseTo}
 use Rattle.dg_interp.specs.declared.frames.Frame.{Frame}
 use Rattle.dg_interp.specs.declared.frames.Left.{Left}
+use Rattle.dg_interp.specs.declared.frames.Left.TheVariants.{Rules, Lists, Way}
 use Rattle.dg_interp.specs.declared.frames.Choice.{Choice}
+
+-- ## Values
+
+-- The Refs of a stretch.
+abbrev pub stretch : List Ref → Env → List Ref
+stretch refs env = take env.len (drop env.from refs)
+
+-- The values of a stretch in a store.
+abbrev pub values_in : Store → List Ref → Env → List Value
+values_in s refs env = map (told s) (stretch refs env)
 
 -- ## Steps
 
@@ -19,75 +34,115 @@ use Rattle.dg_interp.specs.declared.frames.Choice.{Choice}
 abbrev pub mark_steps : Mark → ℕ → List Step → List Step
 mark_steps Nothing tag rest = rest
 mark_steps (AnswerOf query) tag rest = Answers query.pred ∷ first_alone query.many tag rest
+mark_steps (CutTo t) tag rest = Cut t ∷ rest
+mark_steps (RefuseTo t) tag rest = Refuse t ∷ []
 
--- Goals, the mark behind them, and the steps behind that.
-abbrev pub frame_steps : List Goal → ℕ → Mark → List Step → List Step
-frame_steps goals tag mark rest = goals_at [] tag goals ++ mark_steps mark tag rest
+-- Goals among these values, the mark behind them, and the steps behind that.
+abbrev pub frame_steps : List Value → List Goal → ℕ → Mark → List Step → List Step
+frame_steps values goals tag mark rest = goals_at values tag goals ++ mark_steps mark tag rest
 
 -- The steps of a frame that was found, where these stand behind each link.
-abbrev pub found_steps : Option Frame → (ℕ → List Step) → List Step
-found_steps None deeper = []
-found_steps (Some f) deeper = frame_steps f.goals.now f.tag f.mark (deeper f.behind)
+abbrev pub found_steps : (Env → List Value) → Option Frame → (ℕ → List Step) → List Step
+found_steps values None deeper = []
+found_steps values (Some f) deeper = frame_steps (values f.env) f.goals.now f.tag f.mark (deeper f.behind)
 
 -- The steps from a link on, where only the first n frames are looked at: 0 is the end, and k + 1 the frame at k.
-unfoldable pub steps_below : List Frame → ℕ → ℕ → List Step
-steps_below fs zero k = []
-steps_below fs (suc n) k = if eqb k (suc n) then found_steps (slice_get fs n) (steps_below fs n) else steps_below fs n k
+unfoldable pub steps_below : (Env → List Value) → List Frame → ℕ → ℕ → List Step
+steps_below values fs zero k = []
+steps_below values fs (suc n) k = if eqb k (suc n) then found_steps values (slice_get fs n) (steps_below values fs n) else steps_below values fs n k
 
 -- The steps from a link on.
-abbrev pub steps_behind : List Frame → ℕ → List Step
-steps_behind fs k = steps_below fs k k
+abbrev pub steps_behind : (Env → List Value) → List Frame → ℕ → List Step
+steps_behind values fs k = steps_below values fs k k
 
 -- The steps of a frame that is at hand.
-abbrev pub steps_at : List Frame → Frame → List Step
-steps_at fs f = frame_steps f.goals.now f.tag f.mark (steps_behind fs f.behind)
+abbrev pub steps_at : (Env → List Value) → List Frame → Frame → List Step
+steps_at values fs f = frame_steps (values f.env) f.goals.now f.tag f.mark (steps_behind values fs f.behind)
 
 -- ## Choices
 
 -- The kind of a choice with these branches left.
 abbrev pub kind_of : Left → Kind
-kind_of left = Rules left.query.pred
+kind_of (Rules query args rules) = RulesOf query.pred
+kind_of other = Plain
 
--- The branches that a choice has left, with these steps behind them.
-abbrev pub branches_of : Game → Left → List Step → Registers → List Branch
-branches_of g left steps registers = rule_branches g left.query.pred [] left.query.many steps registers left.rules.now
+-- The branches that a choice has left, on so many frames.
+abbrev pub branches_of : Game → (Env → List Value) → List Frame → ℕ → Left → Registers → List Branch
+branches_of g values fs height (Rules query args rules) registers = rule_branches g query.pred (values args) query.many (steps_behind values fs height) registers rules.now
+branches_of g values fs height (Lists env tag lists) registers = list_branches (values env) tag (steps_behind values fs height) registers lists.now
+branches_of g values fs height (Way frame) registers = enter 0 0 registers (steps_at values fs frame) ∷ []
 
--- An engine's choice is one of the meaning, outside gatherings.
-pub record IsChoice (g : Game) (fs : List Frame) (o : Choice) (c : Live) : Type 0 where
+-- A store is where a path is: its trail may be shorter.
+pub record Agrees (s : Store) (r : Registers) : Type 0 where
+  pub bound : r.bound ≡ s.state.subst
+  pub vars : r.next_var ≡ s.state.vars
+  pub heap : r.heap ≡ s.state.heap
+  pub trail : s.state.trail ≤ r.trail
+  pub since : s.state.since ≤ s.state.vars
+
+-- An engine's choice, which goes back to this store, is one of the meaning, outside gatherings.
+pub record IsChoice (g : Game) (refs : List Ref) (fs : List Frame) (o : Choice) (m : Saved) (c : Live) : Type 0 where
   pub registers : Registers
+  pub agrees : Agrees m.store registers
+  pub hold : All (Holds m.store) (take o.refs refs)
+  pub place : m.mark ≡ o.place
   pub tag_at : registers.next_tag ≡ o.tag
   pub kind : c.kind ≡ kind_of o.left
   pub tag : c.tag ≡ o.tag
-  pub others : c.others ≡ branches_of g o.left (steps_behind fs o.height) registers
+  pub others : c.others ≡ branches_of g (values_in m.store refs) fs o.height o.left registers
   pub height : c.height ≡ 0
 
 -- An engine's choices, the newest first, are those of the meaning.
-abbrev pub AreChoices : Game → List Frame → List Choice → List Live → Type 0
-AreChoices g fs [] [] = Unit {0}
-AreChoices g fs (o ∷ os) (c ∷ cs) = IsChoice g fs o c × AreChoices g fs os cs
-AreChoices g fs os cs = ⊥
+abbrev pub AreChoices : Game → List Ref → List Frame → List Choice → List Saved → List Live → Type 0
+AreChoices g refs fs [] [] [] = Unit {0}
+AreChoices g refs fs (o ∷ os) (m ∷ ms) (c ∷ cs) = IsChoice g refs fs o m c × AreChoices g refs fs os ms cs
+AreChoices g refs fs os ms cs = ⊥
 
 -- ## What holds of them
 
--- All goals are built, and what stands behind a frame is older.
-pub record IsFrame (k : ℕ) (f : Frame) : Type 0 where
-  pub built : All IsBuiltGoal f.goals.now
+-- A stretch ends within so many Refs.
+abbrev pub EndsBy : ℕ → Env → Type 0
+EndsBy n env = env.from + env.len ≤ n
+
+-- All goals are built, what stands behind a frame is older, and its values are among so many Refs.
+pub record IsFrame (k n : ℕ) (f : Frame) : Type 0 where
+  pub built : AreBuilt f.goals.now
   pub older : f.behind ≤ k
+  pub env : EndsBy n f.env
 
--- Each frame has built goals and an older one behind it.
-abbrev pub AreFrames : List Frame → Type 0
-AreFrames fs = (k : ℕ) (f : Frame) → slice_get fs k ≡ Some f → IsFrame k f
+-- The first so many frames have built goals, older ones behind them, and values among so many Refs.
+abbrev pub AreFrames : ℕ → ℕ → List Frame → Type 0
+AreFrames height n fs = (k : ℕ) (f : Frame) → k < height → slice_get fs k ≡ Some f → IsFrame k n f
 
--- A branch is left, and all rules that are left are built.
-abbrev pub IsLeft : Left → Type 0
-IsLeft left = (0 < length left.rules.now) × All IsBuiltRule left.rules.now
+-- A branch is left, all that are left are built, and their values are among so many Refs.
+abbrev pub IsLeft : ℕ → ℕ → Left → Type 0
+IsLeft height n (Rules query args rules) = (0 < length rules.now) × All IsBuiltRule rules.now × EndsBy n args
+IsLeft height n (Lists env tag lists) = ⊥
+IsLeft height n (Way frame) = IsFrame height n frame
 
--- Choices, the newest first, stand on at most so many frames, and their tags are at most this.
-abbrev pub StandOn : ℕ → ℕ → List Choice → Type 0
-StandOn height tag [] = Unit {0}
-StandOn height tag (o ∷ os) = (o.height ≤ height) × (o.tag ≤ tag) × IsLeft o.left × StandOn o.height o.tag os
+-- Choices, the newest first, stand on at most so many frames and Refs, and their tags are at most this.
+abbrev pub StandOn : List Frame → ℕ → ℕ → ℕ → List Choice → Type 0
+StandOn fs height refs tag [] = Unit {0}
+StandOn fs height refs tag (o ∷ os) = (o.height ≤ height) × (o.refs ≤ refs) × (o.tag ≤ tag) × IsLeft o.height o.refs o.left × AreFrames o.height o.refs fs × StandOn fs o.height o.refs o.tag os
+
+-- The stores to which choices go back hold what stands behind them, and have these limits.
+abbrev pub GoBackTo : List Ref → ℕ → ℕ → List Choice → List Saved → Type 0
+GoBackTo refs heap trail [] [] = Unit {0}
+GoBackTo refs heap trail (o ∷ os) (m ∷ ms) = (m.mark ≡ o.place) × All (Holds m.store) (take o.refs refs) × (m.store.heap_limit ≡ heap) × (m.store.trail_limit ≡ trail) × GoBackTo refs heap trail os ms
+GoBackTo refs heap trail os ms = ⊥
 
 -- How many frames the choices stand on, the newest first.
 abbrev pub floor_of : List Choice → ℕ
 floor_of [] = 0
 floor_of (o ∷ os) = o.height
+
+-- How many branches a choice has left.
+abbrev pub left_in : Left → ℕ
+left_in (Rules query args rules) = length rules.now
+left_in (Lists env tag lists) = length lists.now
+left_in (Way frame) = 1
+
+-- How many branches all choices have left.
+abbrev pub all_left : List Choice → ℕ
+all_left [] = 0
+all_left (o ∷ os) = left_in o.left + all_left os

@@ -1,6 +1,7 @@
 pub mod Spacer
 pub mod Terms
 pub mod Printing
+pub mod Rules
 pub mod Frames
 pub mod Engine
 pub mod Running

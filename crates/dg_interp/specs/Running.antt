@@ -1,41 +1,84 @@
 -- What an engine, a spacer and a sink come to together. Hold it against the Dialog manual, chapter "Output".
-use Rattle.std.specs.Prelude.{ℕ, suc, ◌≡◌, List, Option, Some, None}
+use Rattle.std.specs.Prelude.{ℕ, suc, ◌+◌, ◌≡◌, ◌<◌, ◌++◌, List, Option, Some, None, Bool, true, false, Result, Ok, Err, length}
 use Rattle.dg_base.specs.declared.run.Ending.{Ending}
+use Rattle.dg_base.specs.declared.run.Ending.TheVariants.{Failed, HeapLimit, TrailLimit}
 use Rattle.dg_base.specs.declared.run.RunFault.{RunFault}
 use Rattle.dg_base.specs.declared.run.RunFault.TheVariants.{Read, Write, OutOfMemory}
 use Rattle.dg_meaning.specs.World.{Game, World, Event, Print, prints}
 use Rattle.dg_meaning.specs.Render.{render}
 use Rattle.dg_meaning.specs.Transcript.{Run, text_of}
 use Rattle.dg_meaning.specs.OneRun.{Begins}
+use Rattle.dg_meaning.specs.Peaks.{Area, Heap, Trail, greatest}
+use Rattle.dg_unify.specs.Store.{Store}
+use Rattle.dg_unify.specs.declared.bindings.Full.{Full}
+use Rattle.dg_unify.specs.declared.bindings.Full.TheVariants as full
 use Rattle.dg_interp.specs.declared.spacer.Spacer.{Spacer}
 use Rattle.dg_interp.specs.declared.engine.Engine.{Engine}
 use Rattle.dg_base.specs.Written.{SinkView, Wrote, BrokeOff}
 use Rattle.dg_interp.specs.Spacer.{StandsFor}
-use Rattle.dg_interp.specs.Engine.{IsQuiet, IsReady, StandsAt}
+use Rattle.dg_interp.specs.Engine.{store_in, IsQuiet, IsReady, StandsAt, SameLimits, Then}
 
 -- Since the start the sink took the text of these things, and the spacer stands for them.
 pub record HasText (s : Spacer) (start now : SinkView) (es : List Print) : Type 0 where
   pub stands : StandsFor s es
   pub wrote : Wrote start now (render es)
 
--- Whatever run comes from where the engine is, with all that it printed so far written, this holds of it.
-abbrev pub Reaches : Engine → Spacer → SinkView → (Game → World → Run → SinkView → Type 0) → Type 0
-Reaches e s now P = (g : Game) (w : World) (run : Run) (start : SinkView) → IsQuiet w → StandsAt g e w run → HasText s start now (prints w.events) → P g w run start
+-- Whatever these things were added to, their text was written.
+abbrev pub Writes : Spacer → Spacer → SinkView → SinkView → List Print → Type 0
+Writes s s' before now added = (start : SinkView) (es : List Print) → HasText s start before es → HasText s' start now (es ++ added)
 
--- The run goes on from where the engine is, with all that it printed written, and nothing was read.
-pub record GoesOn (e : Engine) (s : Spacer) (now : SinkView) (g : Game) (w : World) (run : Run) (start : SinkView) : Type 0 where
-  pub world : World
-  pub typed : world.typed ≡ w.typed
-  pub quiet : IsQuiet world
-  pub stands : StandsAt g e world run
-  pub text : HasText s start now (prints world.events)
+-- Whatever run comes from where the engine is, with as much of its budget left and all that it printed so far written, this holds of it.
+abbrev pub Reaches : Engine → Spacer → SinkView → (World → Run → SinkView → Type 0) → Type 0
+Reaches e s now P = (g : Game) (w : World) (run : Run) (start : SinkView) → IsQuiet w → StandsAt e g e.left w run → HasText s start now (prints w.events) → P w run start
+
+-- A goal was taken and done, and each run goes on from where the engine is; what was added to it was written.
+pub record GoalDone (old new : Engine) (s s' : Spacer) (before now : SinkView) : Type 0 where
+  pub ready : IsReady new
+  pub limits : SameLimits old new
+  pub left : old.left ≡ suc new.left
+  pub added : List Print
+  pub leads : (g : Game) (n : ℕ) (w : World) (run : Run) → IsQuiet w → StandsAt old g (suc n) w run → Then added w (λ v. StandsAt new g n v run)
+  pub writes : Writes s s' before now added
+
+-- Some goals were taken, and each run goes on from where the engine is; what was added to it was written.
+pub record GoesOn (old new : Engine) (s s' : Spacer) (before now : SinkView) : Type 0 where
+  pub ready : IsReady new
+  pub goal : 0 < length new.here.goals.now
+  pub limits : SameLimits old new
+  pub goals : ℕ
+  pub left : old.left ≡ goals + new.left
+  pub added : List Print
+  pub leads : (g : Game) (n : ℕ) (w : World) (run : Run) → IsQuiet w → StandsAt old g (goals + n) w run → Then added w (λ v. StandsAt new g n v run)
+  pub writes : Writes s s' before now added
 
 -- The run has ended so, with this much of its budget left, all that it printed was written, and nothing was read.
-pub record HasEnded (ending : Ending) (left : ℕ) (s : Spacer) (now : SinkView) (g : Game) (w : World) (run : Run) (start : SinkView) : Type 0 where
+pub record HasEnded (ending : Ending) (left : ℕ) (s : Spacer) (now : SinkView) (w : World) (run : Run) (start : SinkView) : Type 0 where
   pub world : World
   pub typed : world.typed ≡ w.typed
   pub is : run ≡ record { left = left; world = world; ending = ending }
   pub text : HasText s start now (prints world.events)
+
+-- The limit that a store has.
+abbrev pub limit_in : Area → Store → ℕ
+limit_in Heap s = s.heap_limit
+limit_in Trail s = s.trail_limit
+limit_in other s = 0
+
+-- A limit was met behind some goals, with this much of the budget left: the run with a budget of these goals passes it, and of what was written it has printed all, and the run with a budget of one less no more.
+pub record MeetsLimit (area : Area) (left : ℕ) (old : Engine) (s s' : Spacer) (before now : SinkView) : Type 0 where
+  pub goals : ℕ
+  pub left_is : old.left ≡ suc goals + left
+  pub added : List Print
+  pub passed : (g : Game) (w : World) (run : Run) → IsQuiet w → StandsAt old g (suc goals) w run → limit_in area (store_in old.store) < greatest area run.world.meters
+  pub until : (g : Game) (w : World) (run : Run) → IsQuiet w → StandsAt old g (suc goals) w run → Then added w (λ v. Begins v.events run.world.events)
+  pub since : (g : Game) (w : World) (run : Run) → IsQuiet w → StandsAt old g goals w run → Begins (prints run.world.events) (prints w.events ++ added)
+  pub writes : Writes s s' before now added
+
+-- How a run has ended: at a limit, or as its search ends.
+abbrev pub Ended : Ending → ℕ → Engine → Spacer → Spacer → SinkView → SinkView → Type 0
+Ended HeapLimit left old s s' before now = MeetsLimit Heap left old s s' before now
+Ended TrailLimit left old s s' before now = MeetsLimit Trail left old s s' before now
+Ended ending left old s s' before now = Reaches old s before (HasEnded ending left s' now)
 
 -- What was printed up to some moment of the run was written.
 pub record HasPart (s : Spacer) (now : SinkView) (run : Run) (start : SinkView) : Type 0 where
@@ -44,18 +87,31 @@ pub record HasPart (s : Spacer) (now : SinkView) (run : Run) (start : SinkView) 
   pub text : HasText s start now (prints part)
 
 -- The run was broken off: the sink failed within its text, or memory ran out.
-abbrev pub IsBroken : RunFault → Spacer → SinkView → Game → World → Run → SinkView → Type 0
-IsBroken Read s now g w run start = ⊥
-IsBroken Write s now g w run start = BrokeOff start now (text_of run.world.events)
-IsBroken OutOfMemory s now g w run start = HasPart s now run start
+abbrev pub IsBroken : RunFault → Spacer → SinkView → World → Run → SinkView → Type 0
+IsBroken Read s now w run start = ⊥
+IsBroken Write s now w run start = BrokeOff start now (text_of run.world.events)
+IsBroken OutOfMemory s now w run start = HasPart s now run start
 
--- A goal was done, and the run goes on or has ended.
-pub record GoalDone (old new : Engine) (s s' : Spacer) (before now : SinkView) : Type 0 where
-  pub ready : IsReady new
-  pub left : old.left ≡ suc new.left
-  pub reaches : Reaches old s before (GoesOn new s' now)
+-- The goal at hand was done, or the run has ended so.
+abbrev pub DoesGoal : Option Ending → Engine → Engine → Spacer → Spacer → SinkView → SinkView → Type 0
+DoesGoal None old new s s' before now = GoalDone old new s s' before now
+DoesGoal (Some ending) old new s s' before now = Ended ending new.left old s s' before now
 
--- A goal was done, and the run goes on or has ended so.
+-- The next goal is at hand, or the run has ended so.
 abbrev pub Does : Option Ending → Engine → Engine → Spacer → Spacer → SinkView → SinkView → Type 0
-Does None old new s s' before now = GoalDone old new s s' before now
-Does (Some ending) old new s s' before now = Reaches old s before (HasEnded ending new.left s' now)
+Does None old new s s' before now = GoesOn old new s s' before now × (old.left ≡ suc new.left)
+Does (Some ending) old new s s' before now = Ended ending new.left old s s' before now
+
+-- The ending of a run that met a limit; want of memory is a fault.
+abbrev pub limit_of : Full → Result Ending RunFault
+limit_of full.Heap = Ok HeapLimit
+limit_of full.Trail = Ok TrailLimit
+limit_of full.OutOfMemory = Err OutOfMemory
+
+-- What a goal comes to whose branch has begun, or which has failed, or met a limit.
+abbrev pub outcome_of : Result Bool Full → Result (Option Ending) RunFault
+outcome_of (Ok true) = Ok None
+outcome_of (Ok false) = Ok (Some Failed)
+outcome_of (Err full.Heap) = Ok (Some HeapLimit)
+outcome_of (Err full.Trail) = Ok (Some TrailLimit)
+outcome_of (Err full.OutOfMemory) = Err OutOfMemory

@@ -1,25 +1,46 @@
 // Open choices and linked frames, in place of the search's recursion.
-ghost use Rattle.std.specs.Prelude.{◌≡◌, ◌≢◌, false, ◌+◌, ◌<◌, ◌≤◌, ◌^◌, IfOk, OnOk, [], ◌∷◌, length, reverse, slice_get};
-ghost use Rattle.dg_base.specs.declared.program.Goal.TheVariants.{Ask};
+ghost use Rattle.std.specs.Prelude.{◌≡◌, ◌≢◌, false, ◌+◌, ◌<◌, ◌≤◌, ◌^◌, IfOk, IfErr, OnOk, MatchResult, List, [], ◌∷◌, All, length, reverse, slice_get};
+ghost use Rattle.dg_base.specs.declared.program.Goal.TheVariants.{Ask, Equal as EqualGoal, Test as TestGoal, Fail as FailGoal, Just as JustGoal};
 ghost use Rattle.dg_meaning.specs.Moves.{rules_of as the_rules};
 ghost use Rattle.dg_meaning.specs.Built.{IsBuilt};
 ghost use Rattle.dg_interp.specs.declared.frames.Mark.TheVariants.{Nothing as NoMark};
-ghost use Rattle.dg_interp.specs.Frames.{IsLeft, floor_of};
-ghost use Rattle.dg_interp.specs.Engine.{Starts, IsSound, IsReady, StandsAt, FailsAt, TakesAt, BeginsAt, Cuts, Settles, MarkPassed, FrameLeft, Taken, WentBack, Branches, kept_if};
+ghost use Rattle.dg_interp.specs.declared.frames.Left.TheVariants.{Rules, Lists, Way};
+ghost use Rattle.dg_interp.specs.Frames.{IsLeft, left_in, floor_of, stretch as the_stretch, values_in, EndsBy};
+ghost use Rattle.dg_interp.specs.Engine.{Starts, IsSound, IsReady, StandsAt, FailsAt, TakesAt, BeginsAt, HasPlace, Cuts, Passes, Settles, FrameLeft, GoesToGoal, GoesBack, Retries, Taken, Branches, WentOn, Tries, FullAt, store_in, branches_left, KeepsPlaces, kept_if, cells_if};
+ghost use Rattle.dg_base.specs.declared.program.CoreProgram.{CoreProgram as Program};
+ghost use Rattle.dg_meaning.specs.Cells.{cells};
+ghost use Rattle.dg_meaning.specs.Closures.{HasNoClosure};
+ghost use Rattle.dg_interp.specs.Rules.{EntersRule, RuleFull, ArgsWritten};
+ghost use Rattle.dg_interp.specs.Terms.{Overflows};
+ghost use Rattle.dg_unify.specs.Store.{Saved, Kept, Holds, Charged};
 
-use crate::frames::{Choice, Frame, Left, Mark, Query};
-use dg_base::{CoreProgram, Goal, Rule};
+use crate::frames::{Choice, Env, Frame, Left, Mark, Query};
+use crate::matching::unify_all;
+use crate::terms::{new_variables, write_terms};
+use dg_base::{CoreProgram, Ending, Goal, Rule, Term};
+use dg_unify::{Bindings, Full, ListBindings, Mark as Place, Ref};
 use std::alloc::{AllocError, Global};
 
 /// Where a run stands.
 #[derive(Drop)]
 pub struct Engine<'p> {
     program: &'p CoreProgram,
+    store: ListBindings,
+    refs: Vec<Ref>,
     frames: Vec<Frame<'p>>,
     choices: Vec<Choice<'p>>,
+    made: Vec<Ref>,
     here: Frame<'p>,
     newest: u64,
     pub left: u64,
+}
+
+/// Where the marks behind goals lead.
+#[derive(Clone, Copy, Drop)]
+pub enum Settled {
+    Goal,
+    Done,
+    Refused,
 }
 
 /// Drops the choices that aren't older than the tag.
@@ -32,16 +53,6 @@ fn cut(choices: &mut Vec<Choice<'_>>, tag: u64)
         }
         let _ = choices.pop();
     }
-}
-
-/// Keeps a choice, if it has a branch left.
-fn keep<'p>(choices: &mut Vec<Choice<'p>>, choice: Choice<'p>) -> Result<(), AllocError>
-    ensures kept { OnOk result (reverse choices.new.items ≡ kept_if choice.entry.left.rules.now choice.entry (reverse choices.old.items)) }
-{
-    if !choice.left.rules.is_empty() {
-        choices.push(choice)?;
-    }
-    Ok(())
 }
 
 /// How many frames the choices stand on.
@@ -64,19 +75,127 @@ fn rules_of(program: &CoreProgram, pred: u16) -> &[Rule]
     }
 }
 
+/// A stretch of a list of Refs.
+fn stretch(refs: &[Ref], env: Env) -> &[Ref]
+    requires { EndsBy (length refs.now) env }
+    ensures { result.now ≡ the_stretch refs.now env }
+{
+    &refs[env.from..env.from + env.len]
+}
+
+/// Keeps a choice that has so many branches left, if any, and takes what it costs with so many arguments.
+fn keep<'p>(
+    store: &mut ListBindings,
+    choices: &mut Vec<Choice<'p>>,
+    choice: Choice<'p>,
+    others: usize,
+    arguments: usize,
+) -> Result<(), Full>
+    ensures kept { Kept (store_in store.old) (store_in store.new) }
+    ensures saved { (ms : List Saved) → KeepsPlaces store.old ms → KeepsPlaces store.new ms }
+    ensures taken { MatchResult result (λ _. Charged (cells_if arguments others) (store_in store.old) (store_in store.new)) (λ e. Overflows (cells_if arguments others) (store_in store.old) e) }
+    ensures choices { OnOk result (reverse choices.new.items ≡ kept_if others choice.entry (reverse choices.old.items)) }
+{
+    if others == 0 {
+        store.charge(0)?;
+        return Ok(());
+    }
+    let Ok(arguments) = u32::try_from(arguments) else {
+        return Err(Full::OutOfMemory);
+    };
+    let Some(cells) = arguments.checked_add(10) else {
+        return Err(Full::OutOfMemory);
+    };
+    store.charge(cells)?;
+    match choices.push(choice) {
+        Ok(()) => Ok(()),
+        Err(_) => Err(Full::OutOfMemory),
+    }
+}
+
+/// Makes the variables of a rule behind the Refs, and unifies arguments with its head.
+fn enter(
+    store: &mut ListBindings,
+    refs: &mut Vec<Ref>,
+    head: &mut Vec<Ref>,
+    args: Env,
+    rule: &Rule,
+) -> Result<bool, Full>
+    requires hold { All (Holds (store_in store.old)) refs.old.items }
+    requires args { EndsBy (length refs.old.items) args }
+    requires plain { All HasNoClosure rule.now.head }
+    ensures kept { Kept (store_in store.old) (store_in store.new) }
+    ensures saved { (ms : List Saved) → KeepsPlaces store.old ms → KeepsPlaces store.new ms }
+    ensures entered { (program : Program) → MatchResult result (λ found. EntersRule program rule.now (values_in (store_in store.old) refs.old.items args) (store_in store.old) (store_in store.new) refs.old.items refs.new.items found) (λ e. RuleFull program rule.now (values_in (store_in store.old) refs.old.items args) (store_in store.old) e) }
+{
+    store.charge(6)?;
+    let from = refs.len();
+    new_variables(store, rule.vars, refs)?;
+    head.clear();
+    if let Err(e) = write_terms(store, &refs[from..], rule.head.as_slice(), head) {
+        return Err(e);
+    }
+    match unify_all(store, stretch(refs, args), head.as_slice()) {
+        Ok(found) => Ok(found),
+        Err(e) => Err(e),
+    }
+}
+
+/// Puts the values of the arguments of a query behind the Refs.
+fn write_args(
+    store: &mut ListBindings,
+    refs: &mut Vec<Ref>,
+    made: &mut Vec<Ref>,
+    env: Env,
+    terms: &[Term],
+) -> Result<Env, Full>
+    requires hold { All (Holds (store_in store.old)) refs.old.items }
+    requires env { EndsBy (length refs.old.items) env }
+    requires plain { All HasNoClosure terms.now }
+    ensures kept { Kept (store_in store.old) (store_in store.new) }
+    ensures saved { (ms : List Saved) → KeepsPlaces store.old ms → KeepsPlaces store.new ms }
+    ensures written { (program : Program) → MatchResult result (λ args. ArgsWritten program (values_in (store_in store.old) refs.old.items env) terms.now (store_in store.old) (store_in store.new) refs.old.items refs.new.items args) (λ e. Overflows (cells program terms.now) (store_in store.old) e) }
+{
+    made.clear();
+    match write_terms(store, stretch(refs, env), terms, made) {
+        Err(e) => Err(e),
+        Ok(()) => {
+            let args = Env {
+                from: refs.len(),
+                len: made.len(),
+            };
+            match refs.extend_from_slice(made.as_slice()) {
+                Err(_) => Err(Full::OutOfMemory),
+                Ok(()) => Ok(args),
+            }
+        }
+    }
+}
+
 impl<'p> Engine<'p> {
     /// At the query of the entry point, with so many goals left.
-    pub fn new(alloc: Global, program: &'p CoreProgram, entry: &'p [Goal], left: u64) -> Engine<'p>
+    pub fn new(
+        alloc: Global,
+        program: &'p CoreProgram,
+        entry: &'p [Goal],
+        left: u64,
+        heap: u32,
+        trail: u32,
+    ) -> Engine<'p>
         requires built { IsBuilt program.now }
         requires entry { entry.now ≡ Ask program.now.entry [] false ∷ [] }
-        ensures starts { Starts program.now left result }
+        ensures starts { Starts program.now left heap trail result }
     {
         Engine {
             program,
+            store: ListBindings::new(alloc, heap, trail),
+            refs: Vec::new(alloc),
             frames: Vec::new(alloc),
             choices: Vec::new(alloc),
+            made: Vec::new(alloc),
             here: Frame {
                 goals: entry,
+                env: Env { from: 0, len: 0 },
                 tag: 0,
                 mark: Mark::Nothing,
                 behind: 0,
@@ -86,20 +205,29 @@ impl<'p> Engine<'p> {
         }
     }
 
-    /// Does the mark behind the goals at hand, of which none is left.
-    fn pass_mark(&mut self)
+    /// Does the mark behind the goals at hand, of which none is left; false where what is negated was answered.
+    fn pass_mark(&mut self) -> bool
         requires ready { IsReady self.old }
         requires done { self.old.here.goals.now ≡ [] }
-        ensures passed { MarkPassed self.old self.new }
+        ensures passed { Passes result self.old self.new }
     {
         let mark = self.here.mark;
         self.here.mark = Mark::Nothing;
         match mark {
-            Mark::Nothing => {}
+            Mark::Nothing => true,
             Mark::AnswerOf(query) => {
                 if !query.many {
                     cut(&mut self.choices, self.here.tag);
                 }
+                true
+            }
+            Mark::CutTo(tag) => {
+                cut(&mut self.choices, tag);
+                true
+            }
+            Mark::RefuseTo(tag) => {
+                cut(&mut self.choices, tag);
+                false
             }
         }
     }
@@ -117,19 +245,21 @@ impl<'p> Engine<'p> {
         self.frames.truncate(needed);
     }
 
-    /// Does the marks up to the next goal; false where no step is left.
-    pub fn settle(&mut self) -> bool
+    /// Does the marks up to the next goal, the end, or an answer of what is negated.
+    fn settle(&mut self) -> Settled
         requires ready { IsReady self.old }
         ensures settles { Settles result self.old self.new }
     {
         while self.here.goals.is_empty() {
-            self.pass_mark();
+            if !self.pass_mark() {
+                return Settled::Refused;
+            }
             if self.here.behind == 0 {
-                return false;
+                return Settled::Done;
             }
             self.leave_frame();
         }
-        true
+        Settled::Goal
     }
 
     /// Takes the goal at hand, and one of the goals left.
@@ -145,64 +275,204 @@ impl<'p> Engine<'p> {
         &goals[0]
     }
 
-    /// Begins the first of the branches left, with all frames behind it.
-    fn begin(&mut self, left: Left<'p>) -> Result<(), AllocError>
+    /// Begins the first rule of a query that is left, with all frames behind it; false where its head doesn't match.
+    fn begin_rule(
+        &mut self,
+        query: Query,
+        args: Env,
+        rules: &'p [Rule],
+        place: Place,
+    ) -> Result<bool, Full>
         requires sound { IsSound self.old }
-        requires left { IsLeft left }
-        ensures begun { OnOk result (WentBack (λ g. BeginsAt g left.entry self.old) self.old self.new) }
+        requires left { IsLeft (length self.old.frames.items) (length self.old.refs.items) (Rules query args rules) }
+        requires place { HasPlace self.old place }
+        ensures tried { IfOk result (λ begun. Tries (BeginsAt (Rules query args rules.entry) place self.old) begun self.old self.new) }
+        ensures fewer { OnOk result (branches_left self.new < branches_left self.old + length rules.now) }
+        ensures full { IfErr result (λ e. FullAt (BeginsAt (Rules query args rules.entry) place self.old) (store_in self.old.store) e) }
+        ensures left { self.new.left ≡ self.old.left }
     {
-        let [rule, others @ ..] = left.rules else {
+        let [rule, others @ ..] = rules else {
             unreachable!();
         };
-        let query = left.query;
         let height = self.frames.len();
+        let refs = self.refs.len();
         let choice = Choice {
             tag: self.newest,
-            left: Left {
-                query,
-                rules: others,
-            },
+            left: Left::Rules(query, args, others),
             height,
+            refs,
+            place,
         };
-        keep(&mut self.choices, choice)?;
-        self.here = Frame {
-            goals: rule.body.as_slice(),
-            tag: self.newest,
-            mark: Mark::AnswerOf(query),
-            behind: height,
-        };
-        Ok(())
-    }
-
-    /// Begins the next branch of the newest choice; false where there is none.
-    pub fn back(&mut self) -> Result<bool, AllocError>
-        requires sound { IsSound self.old }
-        ensures back { IfOk result (λ found. Branches (λ g. FailsAt g self.old) found self.old self.new) }
-    {
-        match self.choices.pop() {
-            None => Ok(false),
-            Some(choice) => {
-                self.frames.truncate(choice.height);
-                self.newest = choice.tag;
-                self.begin(choice.left)?;
+        if let Err(e) = keep(
+            &mut self.store,
+            &mut self.choices,
+            choice,
+            others.len(),
+            args.len,
+        ) {
+            return Err(e);
+        }
+        match enter(&mut self.store, &mut self.refs, &mut self.made, args, rule) {
+            Err(e) => Err(e),
+            Ok(false) => Ok(false),
+            Ok(true) => {
+                self.here = Frame {
+                    goals: rule.body.as_slice(),
+                    env: Env {
+                        from: refs,
+                        len: rule.vars as usize,
+                    },
+                    tag: self.newest,
+                    mark: Mark::AnswerOf(query),
+                    behind: height,
+                };
                 Ok(true)
             }
         }
     }
 
+    /// Begins the first of the branches left, with all frames behind it; false where it has failed there.
+    fn begin(&mut self, left: Left<'p>, place: Place) -> Result<bool, Full>
+        requires sound { IsSound self.old }
+        requires left { IsLeft (length self.old.frames.items) (length self.old.refs.items) left }
+        requires place { HasPlace self.old place }
+        ensures tried { IfOk result (λ begun. Tries (BeginsAt left.entry place self.old) begun self.old self.new) }
+        ensures fewer { OnOk result (branches_left self.new < branches_left self.old + left_in left.entry) }
+        ensures full { IfErr result (λ e. FullAt (BeginsAt left.entry place self.old) (store_in self.old.store) e) }
+        ensures left { self.new.left ≡ self.old.left }
+    {
+        match left {
+            Left::Rules(query, args, rules) => match self.begin_rule(query, args, rules, place) {
+                Ok(begun) => Ok(begun),
+                Err(e) => Err(e),
+            },
+            Left::Lists(_, _, _) => unreachable!(),
+            Left::Way(frame) => {
+                self.here = frame;
+                Ok(true)
+            }
+        }
+    }
+
+    /// Tries the newest choice again: begins its next branch; none where there is no choice.
+    fn retry(&mut self) -> Result<Option<bool>, Full>
+        requires sound { IsSound self.old }
+        ensures retried { IfOk result (λ begun. Retries (FailsAt self.old) begun self.old self.new) }
+        ensures full { IfErr result (λ e. FullAt (FailsAt self.old) (store_in self.old.store) e) }
+        ensures left { self.new.left ≡ self.old.left }
+    {
+        match self.choices.pop() {
+            None => Ok(None),
+            Some(choice) => {
+                self.frames.truncate(choice.height);
+                self.refs.truncate(choice.refs);
+                self.store.undo(choice.place);
+                self.newest = choice.tag;
+                match self.begin(choice.left, choice.place) {
+                    Ok(begun) => Ok(Some(begun)),
+                    Err(e) => Err(e),
+                }
+            }
+        }
+    }
+
+    /// Goes back to the newest choice with a branch that begins; false where the run has failed.
+    pub fn back(&mut self) -> Result<bool, Full>
+        requires sound { IsSound self.old }
+        ensures back { IfOk result (λ found. GoesBack (FailsAt self.old) found self.old self.new) }
+        ensures full { IfErr result (λ e. FullAt (FailsAt self.old) (store_in self.old.store) e) }
+        ensures left { self.new.left ≡ self.old.left }
+    {
+        'choices: loop {
+            match self.retry() {
+                Err(e) => return Err(e),
+                Ok(None) => return Ok(false),
+                Ok(Some(true)) => return Ok(true),
+                Ok(Some(false)) => {}
+            }
+        }
+    }
+
+    /// Goes on to the next goal; else the run has ended so.
+    pub fn next_goal(&mut self) -> Result<Option<Ending>, Full>
+        requires ready { IsReady self.old }
+        ensures next { IfOk result (λ ending. GoesToGoal (StandsAt self.old) ending self.old self.new) }
+        ensures full { IfErr result (λ e. FullAt (StandsAt self.old) (store_in self.old.store) e) }
+        ensures left { self.new.left ≡ self.old.left }
+    {
+        'answers: loop {
+            match self.settle() {
+                Settled::Goal => return Ok(None),
+                Settled::Done => return Ok(Some(Ending::Done)),
+                Settled::Refused => match self.back() {
+                    Err(e) => return Err(e),
+                    Ok(true) => {}
+                    Ok(false) => return Ok(Some(Ending::Failed)),
+                },
+            }
+        }
+    }
+
     /// Asks a query, with the goals at hand behind it; false where the run has failed.
-    pub fn ask(&mut self, query: Query) -> Result<bool, AllocError>
+    pub fn ask(&mut self, query: Query, terms: &[Term]) -> Result<bool, Full>
         requires ready { IsReady self.old }
         requires room { self.old.newest + 1 + self.old.left < 2 ^ 64 }
-        ensures asked { IfOk result (λ found. Branches (λ g. TakesAt g (Ask query.pred [] query.many) self.old) found self.old self.new) }
+        requires plain { All HasNoClosure terms.now }
+        ensures asked { IfOk result (λ found. Branches (TakesAt (Ask query.pred terms.now query.many) self.old) found self.old self.new) }
+        ensures full { IfErr result (λ e. FullAt (TakesAt (Ask query.pred terms.now query.many) self.old) (store_in self.old.store) e) }
+        ensures left { self.new.left ≡ self.old.left }
     {
-        let rules = rules_of(self.program, query.pred);
-        if rules.is_empty() {
-            return self.back();
+        match write_args(
+            &mut self.store,
+            &mut self.refs,
+            &mut self.made,
+            self.here.env,
+            terms,
+        ) {
+            Err(e) => Err(e),
+            Ok(args) => {
+                let rules = rules_of(self.program, query.pred);
+                if rules.is_empty() {
+                    return match self.back() {
+                        Err(e) => Err(e),
+                        Ok(found) => Ok(found),
+                    };
+                }
+                if let Err(_) = self.frames.push(self.here) {
+                    return Err(Full::OutOfMemory);
+                }
+                let place = self.store.mark();
+                self.newest += 1;
+                match self.begin_rule(query, args, rules, place) {
+                    Err(e) => Err(e),
+                    Ok(true) => Ok(true),
+                    Ok(false) => match self.back() {
+                        Err(e) => Err(e),
+                        Ok(found) => Ok(found),
+                    },
+                }
+            }
         }
-        self.frames.push(self.here)?;
-        self.newest += 1;
-        self.begin(Left { query, rules })?;
-        Ok(true)
+    }
+
+    /// Fails: goes back.
+    pub fn fail(&mut self) -> Result<bool, Full>
+        requires ready { IsReady self.old }
+        ensures failed { IfOk result (λ found. Branches (TakesAt FailGoal self.old) found self.old self.new) }
+        ensures full { IfErr result (λ e. FullAt (TakesAt FailGoal self.old) (store_in self.old.store) e) }
+        ensures left { self.new.left ≡ self.old.left }
+    {
+        match self.back() {
+            Err(e) => Err(e),
+            Ok(found) => Ok(found),
+        }
+    }
+
+    /// Drops the choices inside the rule at hand.
+    pub fn just(&mut self)
+        requires ready { IsReady self.old }
+        ensures cut { WentOn (TakesAt JustGoal self.old) self.old self.new }
+    {
+        cut(&mut self.choices, self.here.tag);
     }
 }

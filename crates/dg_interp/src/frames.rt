@@ -1,6 +1,7 @@
 // What stands behind goals, and what a choice has left.
 
-use dg_base::{Goal, Rule};
+use dg_base::{Goal, Items, Rule};
+use dg_unify::Mark as Place;
 
 /// A query of a predicate.
 #[derive(Clone, Copy, Drop)]
@@ -9,33 +10,48 @@ pub struct Query {
     pub many: bool,
 }
 
+/// A stretch of a list of Refs: the values of a rule's variables, or the arguments of a query.
+#[derive(Clone, Copy, Drop)]
+pub struct Env {
+    pub from: usize,
+    pub len: usize,
+}
+
 /// What is done behind goals before what stands behind them.
 #[derive(Clone, Copy, Drop)]
 pub enum Mark {
     Nothing,
     AnswerOf(Query),
+    CutTo(u64),
+    RefuseTo(u64),
 }
 
-/// Goals, the mark behind them, and the frame behind that: 0 for none, and k + 1 for the frame at k.
+/// Goals with the values of their rule's variables and the tag that their (just) cuts to, the mark behind them, and the
+/// frame behind that: 0 for none, and k + 1 for the frame at k.
 #[derive(Clone, Copy, Drop)]
 pub struct Frame<'p> {
     pub goals: &'p [Goal],
+    pub env: Env,
     pub tag: u64,
     pub mark: Mark,
     pub behind: usize,
 }
 
-/// The branches that a choice has left: the rules of a query.
+/// The branches that a choice has left: rules of a query with its arguments, lists of goals, or one way on.
 #[derive(Clone, Copy, Drop)]
-pub struct Left<'p> {
-    pub query: Query,
-    pub rules: &'p [Rule],
+pub enum Left<'p> {
+    Rules(Query, Env, &'p [Rule]),
+    Lists(Env, u64, &'p [Items<Goal>]),
+    Way(Frame<'p>),
 }
 
-/// A choice with branches left, and the number of frames that stand behind them.
+/// A choice with branches left, the numbers of frames and of Refs that stand behind them, and the place of the store to
+/// which they go back.
 #[derive(Clone, Copy, Drop)]
 pub struct Choice<'p> {
     pub tag: u64,
     pub left: Left<'p>,
     pub height: usize,
+    pub refs: usize,
+    pub place: Place,
 }

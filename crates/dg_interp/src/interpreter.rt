@@ -37,7 +37,7 @@ fn write_run<K: Sink>(
     engine: &mut Engine<'_>,
     sink: &mut K,
 ) -> Result<Outcome, RunFault>
-    requires starts { Starts program.now limits.now.steps engine.old }
+    requires starts { Starts program.now limits.now.steps limits.now.heap limits.now.trail engine.old }
     ensures shows { IfOk result (λ outcome. (dice : List ℕ) (typed : List ℕ) (told : Option (List ℕ)) → IsLeft told typed → HasShown (game program.now dice) typed limits.now outcome told (view (K.taken sink.old) (K.room sink.old) (K.faults sink.old)) (view (K.taken sink.new) (K.room sink.new) (K.faults sink.new))) }
     ensures err { IfErr result (λ fault. (dice : List ℕ) (typed : List ℕ) (told : Option (List ℕ)) → IsLeft told typed → HasBrokenOff fault (game program.now dice) typed limits.now told (view (K.taken sink.old) (K.room sink.old) (K.faults sink.old)) (view (K.taken sink.new) (K.room sink.new) (K.faults sink.new))) }
     ensures reads { IsErrOf result RunFault.Read → ⊥ }
@@ -77,6 +77,13 @@ pub fn interpret<S: Source, K: Sink>(
     ensures later { S.faults source.old ≤ S.faults source.new }
 {
     let entry = [Goal::Ask(program.entry, Items::new(alloc), false)];
-    let mut engine = Engine::new(alloc, program, &entry, limits.steps);
+    let mut engine = Engine::new(
+        alloc,
+        program,
+        &entry,
+        limits.steps,
+        limits.heap,
+        limits.trail,
+    );
     write_run(program, limits, &mut engine, sink)
 }

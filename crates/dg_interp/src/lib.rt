@@ -1,7 +1,6 @@
 //! The interpreter: it runs a core program and writes what its meaning says.
 #![tactic(auto)]
 
-mod built;
 mod engine;
 mod frames;
 mod interpreter;
@@ -12,8 +11,4 @@ mod spacer;
 mod terms;
 mod testing;
 
-pub use built::is_built;
 pub use interpreter::interpret;
-
-#[cfg(test)]
-mod tests;

@@ -1,16 +1,76 @@
 // Goals, one after another.
-ghost use Rattle.std.specs.Prelude.{◌<◌, IfOk, IfErr, length, Option, Some, None};
+ghost use Rattle.std.specs.Prelude.{◌≡◌, ◌<◌, IfOk, IfErr, length, Option, Some, None};
 ghost use Rattle.dg_base.specs.Written.{view};
 ghost use Rattle.dg_interp.specs.Engine.{IsReady};
-ghost use Rattle.dg_interp.specs.Running.{Reaches, IsBroken, HasEnded, Does};
+ghost use Rattle.dg_interp.specs.Running.{Reaches, IsBroken, Ended, DoesGoal, Does, limit_of, outcome_of};
 
 use crate::engine::Engine;
 use crate::frames::Query;
 use crate::spacer::Spacer;
 use dg_base::{Ending, Goal, RunFault, Sink};
+use dg_unify::Full;
 
-/// Does the goal at hand; answers the ending where the run is over.
+/// The ending of a run that met a limit.
+fn limit(full: Full) -> Result<Ending, RunFault>
+    ensures { result ≡ limit_of full }
+{
+    match full {
+        Full::Heap => Ok(Ending::HeapLimit),
+        Full::Trail => Ok(Ending::TrailLimit),
+        Full::OutOfMemory => Err(RunFault::OutOfMemory),
+    }
+}
+
+/// What a goal comes to whose branch has begun, or which has failed, or met a limit.
+fn outcome(done: Result<bool, Full>) -> Result<Option<Ending>, RunFault>
+    ensures { result ≡ outcome_of done }
+{
+    match done {
+        Ok(true) => Ok(None),
+        Ok(false) => Ok(Some(Ending::Failed)),
+        Err(full) => match limit(full) {
+            Ok(ending) => Ok(Some(ending)),
+            Err(fault) => Err(fault),
+        },
+    }
+}
+
+/// Takes the goal at hand and does it; the ending where the run is over.
 fn do_goal<K: Sink>(
+    engine: &mut Engine<'_>,
+    spacer: &mut Spacer,
+    sink: &mut K,
+) -> Result<Option<Ending>, RunFault>
+    requires ready { IsReady engine.old }
+    requires goal { 0 < length engine.old.here.goals.now }
+    requires left { 0 < engine.old.left }
+    ensures ok { IfOk result (λ ending. DoesGoal ending engine.old engine.new spacer.old spacer.new (view (K.taken sink.old) (K.room sink.old) (K.faults sink.old)) (view (K.taken sink.new) (K.room sink.new) (K.faults sink.new))) }
+    ensures err { IfErr result (λ fault. Reaches engine.old spacer.old (view (K.taken sink.old) (K.room sink.old) (K.faults sink.old)) (IsBroken fault spacer.new (view (K.taken sink.new) (K.room sink.new) (K.faults sink.new)))) }
+{
+    match engine.take_goal() {
+        Goal::Text(name) => match spacer.piece(sink, name.as_slice()) {
+            Ok(()) => Ok(None),
+            Err(_) => Err(RunFault::Write),
+        },
+        Goal::Ask(pred, args, many) => {
+            let query = Query {
+                pred: *pred,
+                many: *many,
+            };
+            outcome(engine.ask(query, args.as_slice()))
+        }
+        Goal::Just => {
+            engine.just();
+            Ok(None)
+        }
+        Goal::Fail => outcome(engine.fail()),
+        Goal::Quit => Ok(Some(Ending::Quit)),
+        _ => unreachable!(),
+    }
+}
+
+/// Does the goal at hand and goes on to the next; the ending where the run is over.
+fn turn<K: Sink>(
     engine: &mut Engine<'_>,
     spacer: &mut Spacer,
     sink: &mut K,
@@ -21,20 +81,16 @@ fn do_goal<K: Sink>(
     ensures ok { IfOk result (λ ending. Does ending engine.old engine.new spacer.old spacer.new (view (K.taken sink.old) (K.room sink.old) (K.faults sink.old)) (view (K.taken sink.new) (K.room sink.new) (K.faults sink.new))) }
     ensures err { IfErr result (λ fault. Reaches engine.old spacer.old (view (K.taken sink.old) (K.room sink.old) (K.faults sink.old)) (IsBroken fault spacer.new (view (K.taken sink.new) (K.room sink.new) (K.faults sink.new)))) }
 {
-    match engine.take_goal() {
-        Goal::Text(name) => match spacer.piece(sink, name.as_slice()) {
-            Ok(()) => Ok(None),
-            Err(_) => Err(RunFault::Write),
+    match do_goal(engine, spacer, sink) {
+        Err(fault) => Err(fault),
+        Ok(Some(ending)) => Ok(Some(ending)),
+        Ok(None) => match engine.next_goal() {
+            Ok(ending) => Ok(ending),
+            Err(full) => match limit(full) {
+                Ok(ending) => Ok(Some(ending)),
+                Err(fault) => Err(fault),
+            },
         },
-        Goal::Ask(pred, _, many) => match engine.ask(Query {
-            pred: *pred,
-            many: *many,
-        }) {
-            Ok(true) => Ok(None),
-            Ok(false) => Ok(Some(Ending::Failed)),
-            Err(_) => Err(RunFault::OutOfMemory),
-        },
-        _ => unreachable!(),
     }
 }
 
@@ -45,18 +101,16 @@ pub fn run<K: Sink>(
     sink: &mut K,
 ) -> Result<Ending, RunFault>
     requires ready { IsReady engine.old }
-    ensures ok { IfOk result (λ ending. Reaches engine.old spacer.old (view (K.taken sink.old) (K.room sink.old) (K.faults sink.old)) (HasEnded ending engine.new.left spacer.new (view (K.taken sink.new) (K.room sink.new) (K.faults sink.new)))) }
+    requires goal { 0 < length engine.old.here.goals.now }
+    ensures ok { IfOk result (λ ending. Ended ending engine.new.left engine.old spacer.old spacer.new (view (K.taken sink.old) (K.room sink.old) (K.faults sink.old)) (view (K.taken sink.new) (K.room sink.new) (K.faults sink.new))) }
     ensures err { IfErr result (λ fault. Reaches engine.old spacer.old (view (K.taken sink.old) (K.room sink.old) (K.faults sink.old)) (IsBroken fault spacer.new (view (K.taken sink.new) (K.room sink.new) (K.faults sink.new)))) }
 {
-    while engine.settle() {
-        if engine.left == 0 {
-            return Ok(Ending::StepLimit);
-        }
-        match do_goal(engine, spacer, sink) {
+    'goals: while engine.left > 0 {
+        match turn(engine, spacer, sink) {
             Ok(None) => {}
             Ok(Some(ending)) => return Ok(ending),
             Err(fault) => return Err(fault),
         }
     }
-    Ok(Ending::Done)
+    Ok(Ending::StepLimit)
 }

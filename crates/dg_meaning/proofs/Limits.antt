@@ -12,7 +12,7 @@ use Rattle.dg_meaning.proofs.OneRun.{begins_on}
 use Rattle.dg_meaning.proofs.Search.{run_goes_on}
 
 -- a run with a larger budget comes later
-later_run : (g : Game) (typed : List ℕ) (m n : ℕ) → m ≤ n → Grows (run g typed m).world (run g typed n).world
+pub later_run : (g : Game) (typed : List ℕ) (m n : ℕ) → m ≤ n → Grows (run g typed m).world (run g typed n).world
 later_run g typed m n le =
     let e : m + (n - m) ≡ n = omega arith in
     subst (λ k. Grows (run g typed m).world (run g typed k).world) e (run_goes_on g typed m (n - m)).grows

@@ -94,7 +94,7 @@ print_grows g v steps r w =
     let u = worked (whole_looks r v) w in
     grows_on w u _ (worked_grows (whole_looks r v) w) (all_printed_grows (pieces g.program (resolved r.bound v)) u)
 
-outcome_grows : (g : Game) (x : Goal-F Goal) (env : List Value) (t : ℕ) (steps : List Step) (r : Registers) (w : World) → Grows w (world_of (outcome g x env t steps r w))
+pub outcome_grows : (g : Game) (x : Goal-F Goal) (env : List Value) (t : ℕ) (steps : List Step) (r : Registers) (w : World) → Grows w (world_of (outcome g x env t steps r w))
 outcome_grows g (Text name) env t steps r w = printed_grows _ w
 outcome_grows g (Print-Form a) env t steps r w = print_grows g _ steps r w
 outcome_grows g (Gap kind) env t steps r w = printed_grows _ w

@@ -1,27 +1,39 @@
--- The programs that the interpreter runs: rules without parameters, of text words and queries.
-use Rattle.std.specs.Prelude.{◌≡◌, []}
+-- The programs that the interpreter runs. Hold it against docs/LANGUAGE.md, where it says what is built so far.
+use Rattle.std.specs.Prelude.{List}
 use Rattle.std.specs.List.{All}
 use Rattle.dg_base.specs.declared.program.Goal.{Goal, Goal-F, out-Goal}
-use Rattle.dg_base.specs.declared.program.Goal.TheOpen.{Text, Ask}
+use Rattle.dg_base.specs.declared.program.Goal.TheOpen.{Text, Ask, Just, Fail, Quit}
 use Rattle.dg_base.specs.declared.program.Rule.{Rule}
 use Rattle.dg_base.specs.declared.program.Pred.{Pred}
 use Rattle.dg_base.specs.declared.program.CoreProgram.{CoreProgram}
+use Rattle.dg_base.specs.Goals.{terms_held}
+use Rattle.dg_meaning.specs.Closures.{HasNoClosure}
 
--- A text word, or a query without arguments.
+-- Text, a query, a cut, a failure, and an end.
+abbrev pub IsForm : Goal-F Goal → Type 0
+IsForm (Text name) = Unit {0}
+IsForm (Ask pred args many) = Unit {0}
+IsForm Just = Unit {0}
+IsForm Fail = Unit {0}
+IsForm Quit = Unit {0}
+IsForm _ = ⊥
+
+-- One of these forms, and no closure in the terms that it holds.
 abbrev pub IsBuiltForm : Goal-F Goal → Type 0
-IsBuiltForm (Text name) = Unit {0}
-IsBuiltForm (Ask pred args many) = args ≡ []
-IsBuiltForm _ = ⊥
+IsBuiltForm x = IsForm x × All HasNoClosure (terms_held x)
 
 -- A goal of one of these forms.
 abbrev pub IsBuiltGoal : Goal → Type 0
 IsBuiltGoal g = IsBuiltForm (out-Goal g)
 
--- A rule without variables and parameters, whose goals are built.
+-- Goals that are all built.
+abbrev pub AreBuilt : List Goal → Type 0
+AreBuilt goals = All IsBuiltGoal goals
+
+-- A rule without closures in its head, whose goals are built.
 pub record IsBuiltRule (rule : Rule) : Type 0 where
-  pub vars : rule.vars ≡ 0
-  pub head : rule.head ≡ []
-  pub body : All IsBuiltGoal rule.body
+  pub head : All HasNoClosure rule.head
+  pub body : AreBuilt rule.body
 
 -- All rules of a program are built.
 abbrev pub IsBuilt : CoreProgram → Type 0

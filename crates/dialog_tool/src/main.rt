@@ -5,6 +5,7 @@ mod adapters;
 mod command;
 mod lines;
 mod numbers;
+mod plain;
 mod playing;
 mod source;
 mod tool;

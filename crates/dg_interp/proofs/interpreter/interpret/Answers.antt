@@ -1,6 +1,6 @@
 use Rattle.dg_base.specs.Written.{view}
 use Rattle.dg_interp.specs.Interpret.{game, ForTyped, HasShown, HasBrokenOff}
-use Rattle.dg_interp.proofs.Branches.{if_ok_map, if_err_map}
+use Rattle.dg_interp.proofs.Whole.{if_ok_map, if_err_map}
 use Rattle.dg_interp.proofs.Whole.{for_typed}
 use Rattle.dg_interp.proofs.interpreter.interpret.Goals as goal
 

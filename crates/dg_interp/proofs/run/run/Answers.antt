@@ -1,29 +1,26 @@
-use Rattle.dg_base.specs.declared.run.Ending.TheVariants.{Done, StepLimit}
-use Rattle.dg_interp.proofs.Runs.{went_reaches, goes_on, has_ended, is_broken, run_done, run_limited}
+use Rattle.std.proofs.Common.{arith, ◌≡◌, ◌<◌}
+use Rattle.dg_base.specs.declared.run.Ending.TheVariants.{StepLimit}
+use Rattle.dg_interp.proofs.Runs.{run_limited}
+use Rattle.dg_interp.proofs.Rounds.{goes_nowhere, goes_further, ended_reaches, broken_reaches, ended_further}
 use Rattle.dg_interp.proofs.run.run.Goals as goal
 
-pub returns-then-engine-eq0-clause-ok : goal.returns-then-engine-eq0-clause-ok
-returns-then-engine-eq0-clause-ok g c =
-    has_ended c.args.engine.now c.loop-engine.engine c.args.spacer.now c.loop-engine.spacer c.loop-engine.spacer _ _ _ StepLimit c.settle.new.self.left c.loop-engine.invariant.reaches
-    (run_limited c.loop-engine.engine c.settle.new.self c.loop-engine.spacer _ c.loop-engine-test.ensures.settles c.if-engine-eq0.true)
+pub goals-init : goal.goals-init
+goals-init g c = goes_nowhere c.args.engine.now c.args.spacer.now _ c.requires.ready c.requires.goal
 
-pub returns-clause-ok : goal.returns-clause-ok
-returns-clause-ok g c =
-    has_ended c.args.engine.now c.loop-engine.engine c.args.spacer.now c.loop-engine.spacer c.loop-engine.spacer _ _ _ Done c.settle.new.self.left c.loop-engine.invariant.reaches
-    (run_done c.loop-engine.engine c.settle.new.self c.loop-engine.spacer _ c.loop-engine-test.ensures.settles)
-
-pub loop-engine-preserved : goal.loop-engine-preserved
-loop-engine-preserved g c =
-    let done = rw c.in-Ok-None.field-0-is at c.in-Ok-None.ensures.ok in
-    let here = goes_on c.args.engine.now c.loop-engine.engine c.settle.new.self c.args.spacer.now c.loop-engine.spacer c.loop-engine.spacer _ _ _ c.loop-engine.invariant.reaches (went_reaches c.loop-engine.engine c.settle.new.self c.loop-engine.spacer _ c.loop-engine-test.ensures.settles.went_on) in
-    record { ready = done.ready; reaches = goes_on c.args.engine.now c.settle.new.self c.do_goal.new.engine c.args.spacer.now c.loop-engine.spacer c.do_goal.new.spacer _ _ _ here done.reaches }
+pub goals-preserved : goal.goals-preserved
+goals-preserved g c =
+    goes_further c.args.engine.now c.goals.engine c.args.spacer.now c.goals.spacer c.turn.new.spacer _ _ _ c.goals.invariant c.turn.new.engine (rw c.in-Ok-None.field-0-is at c.in-Ok-None.ensures.ok).0
 
 pub returns-in-Ok-Some-clause-ok : goal.returns-in-Ok-Some-clause-ok
 returns-in-Ok-Some-clause-ok g c =
-    let here = goes_on c.args.engine.now c.loop-engine.engine c.settle.new.self c.args.spacer.now c.loop-engine.spacer c.loop-engine.spacer _ _ _ c.loop-engine.invariant.reaches (went_reaches c.loop-engine.engine c.settle.new.self c.loop-engine.spacer _ c.loop-engine-test.ensures.settles.went_on) in
-    has_ended c.args.engine.now c.settle.new.self c.args.spacer.now c.loop-engine.spacer c.do_goal.new.spacer _ _ _ c.in-Ok-Some.ending c.do_goal.new.engine.left here (rw c.in-Ok-Some.field-0-is at c.in-Ok-Some.ensures.ok)
+    ended_further c.args.engine.now c.goals.engine c.args.spacer.now c.goals.spacer c.turn.new.spacer _ _ _ c.goals.invariant c.in-Ok-Some.ending c.turn.new.engine.left (rw c.in-Ok-Some.field-0-is at c.in-Ok-Some.ensures.ok)
 
 pub returns-in-Err-clause-err : goal.returns-in-Err-clause-err
-returns-in-Err-clause-err g c =
-    let here = goes_on c.args.engine.now c.loop-engine.engine c.settle.new.self c.args.spacer.now c.loop-engine.spacer c.loop-engine.spacer _ _ _ c.loop-engine.invariant.reaches (went_reaches c.loop-engine.engine c.settle.new.self c.loop-engine.spacer _ c.loop-engine-test.ensures.settles.went_on) in
-    is_broken c.args.engine.now c.settle.new.self c.args.spacer.now c.loop-engine.spacer c.do_goal.new.spacer _ _ _ c.in-Err.fault here c.in-Err.ensures.err
+returns-in-Err-clause-err g c = broken_reaches c.args.engine.now c.goals.engine c.args.spacer.now c.goals.spacer c.turn.new.spacer _ _ _ c.goals.invariant c.in-Err.fault c.in-Err.ensures.err
+
+pub returns-clause-ok : goal.returns-clause-ok
+returns-clause-ok g c =
+    ended_reaches c.args.engine.now c.goals.engine c.args.spacer.now c.goals.spacer c.goals.spacer _ _ _ c.goals.invariant StepLimit c.goals.engine.left (run_limited c.goals.engine c.goals.spacer _ c.goals.invariant.goal (omega (arith, c.goals-test.false)))
+
+pub goals-smaller : goal.goals-smaller
+goals-smaller g c = let h = (rw c.in-Ok-None.field-0-is at c.in-Ok-None.ensures.ok).1 in omega (arith, h)

@@ -1,38 +1,94 @@
-use Rattle.std.proofs.Common.{◌<◌, ◌≤◌, ◌+◌, refl, sym, subst, List, [], length, rules}
-use Rattle.std.specs.List.{All}
+use Rattle.std.proofs.Common.{◌<◌, ◌≤◌, ◌+◌, ◌≡◌, refl, sym, subst, List, [], length, rules, true, false, arith}
 use Rattle.dg_base.specs.declared.program.Goal.TheVariants.{Ask}
-use Rattle.dg_base.specs.declared.program.Rule.{Rule}
-use Rattle.dg_meaning.specs.Built.{IsBuiltRule}
-use Rattle.dg_interp.specs.declared.frames.Left.{Left}
-use Rattle.dg_interp.specs.Engine.{FailsAt, TakesAt, BeginsAt}
-use Rattle.dg_interp.proofs.Branches.{went_back_from, branches_from, if_ok_map}
-use Rattle.dg_interp.proofs.Asks.{asks_none, asks_some, asked_sound, rules_built, nothing_in}
+use Rattle.dg_meaning.specs.Path.{Failing}
+use Rattle.dg_interp.specs.declared.frames.Left.TheVariants.{Rules}
+use Rattle.dg_interp.specs.Engine.{store_in, FailsAt, TakesAt, BeginsAt}
+use Rattle.dg_interp.proofs.Places.{leads_on, limits_on}
+use Rattle.dg_interp.proofs.Branches.{went_on_from, went_wrong_from, ended_from, full_from, goes_back_from}
+use Rattle.dg_interp.proofs.Asks.{args_full, nothing_in, failing_sound, ask_limits, asks_none, asking_sound, asking_left, asking_place, asking_limits, asks_some}
 use Rattle.dg_interp.proofs.engine.Engine.ask.Goals as goal
 
-pub returns-then-is_empty : goal.returns-then-is_empty
-returns-then-is_empty c =
-    let q = c.args.query in
-    let rs = c.rules_of-rules.result.now in
-    let none : length rs ≤ 0 = search rules in
-    record {
-      asked = if_ok_map c.back.result _ _ (branches_from (λ g. TakesAt g (Ask q.pred [] q.many) c.args.self.now) (λ g. FailsAt g c.args.self.now) c.args.self.now _ (asks_none q c.args.self.now rs c.rules_of-rules.ensures (nothing_in rs none))) c.back.ensures.back;
-    }
+pub returns-in-Err-clause-full : goal.returns-in-Err-clause-full
+returns-in-Err-clause-full c = args_full c.args.query c.args.terms.now c.args.self.now c.in-Err.e c.in-Err.ensures.written
 
-pub begin-requires-clause-sound : goal.begin-requires-clause-sound
-begin-requires-clause-sound c = asked_sound c.args.self.now c.push.new.self c.requires.ready c.in_ok-push.ensures.items c.requires.room
+pub back-requires : goal.back-requires
+back-requires c = record {
+  sound = failing_sound c.args.self.now c.args.query c.args.terms.now c.write_args.new.store c.write_args.new.refs c.write_args.new.made c.in-Ok.args c.requires.ready c.write_args.ensures.kept c.write_args.ensures.saved c.in-Ok.ensures.written c.rules_of-rules.result c.rules_of-rules.ensures;
+}
 
-pub begin-requires-clause-left : goal.begin-requires-clause-left
-begin-requires-clause-left c =
-    let rs = c.rules_of-rules.result.now in
-    let some : 0 < length rs = search rules in
-    (some, subst (λ (l : List Rule). All IsBuiltRule l) (sym c.rules_of-rules.ensures) (rules_built c.args.self.now.program.now.preds c.args.query.pred c.requires.ready.sound.program))
+pub returns-in-Err-back-clause-full : goal.returns-in-Err-back-clause-full
+returns-in-Err-back-clause-full c =
+    let x = Ask c.args.query.pred c.args.terms.now c.args.query.many in
+    let e = record c.args.self.now { store = c.write_args.new.store; refs = c.write_args.new.refs; made = c.write_args.new.made } in
+    let none : length c.rules_of-rules.result.now ≤ 0 = search rules in
+    full_from (TakesAt x c.args.self.now) (FailsAt e) (store_in c.args.self.now.store) (store_in c.write_args.new.store) c.in-Err-back.e c.write_args.ensures.kept.heap_limit c.write_args.ensures.kept.trail_limit
+    (asks_none c.args.self.now c.args.query c.args.terms.now c.write_args.new.store c.write_args.new.refs c.write_args.new.made c.in-Ok.args c.requires.ready c.write_args.ensures.kept c.write_args.ensures.saved c.in-Ok.ensures.written c.rules_of-rules.result c.rules_of-rules.ensures (nothing_in c.rules_of-rules.result.now none))
+    c.in-Err-back.ensures.full
 
-pub returns : goal.returns
-returns c =
-    let q = c.args.query in
-    let left : Left = record { query = q; rules = c.rules_of-rules.result } in
-    let mid = record c.args.self.now { frames = c.push.new.self; newest = c.args.self.now.newest + 1 } in
-    record {
-      asked = went_back_from (λ g. TakesAt g (Ask q.pred [] q.many) c.args.self.now) (λ g. BeginsAt g left mid) c.args.self.now mid c.begin.new.self refl
-          (asks_some c.args.self.now c.push.new.self c.requires.ready c.in_ok-push.ensures.items left c.rules_of-rules.ensures) c.in_ok-begin.ensures.begun;
-    }
+pub returns-in-Ok-back-clause-asked : goal.returns-in-Ok-back-clause-asked
+returns-in-Ok-back-clause-asked c =
+    let x = Ask c.args.query.pred c.args.terms.now c.args.query.many in
+    let e = record c.args.self.now { store = c.write_args.new.store; refs = c.write_args.new.refs; made = c.write_args.new.made } in
+    let none : length c.rules_of-rules.result.now ≤ 0 = search rules in
+    goes_back_from (TakesAt x c.args.self.now) (FailsAt e) c.args.self.now e c.back.new.self refl
+    (ask_limits c.args.self.now c.args.query c.args.terms.now c.write_args.new.store c.write_args.new.refs c.write_args.new.made c.in-Ok.args c.requires.ready c.write_args.ensures.kept c.write_args.ensures.saved c.in-Ok.ensures.written c.rules_of-rules.result c.rules_of-rules.ensures)
+    (asks_none c.args.self.now c.args.query c.args.terms.now c.write_args.new.store c.write_args.new.refs c.write_args.new.made c.in-Ok.args c.requires.ready c.write_args.ensures.kept c.write_args.ensures.saved c.in-Ok.ensures.written c.rules_of-rules.result c.rules_of-rules.ensures (nothing_in c.rules_of-rules.result.now none))
+    c.in-Ok-back.found c.in-Ok-back.ensures.back
+
+pub begin_rule-requires-clause-sound : goal.begin_rule-requires-clause-sound
+begin_rule-requires-clause-sound c =
+    asking_sound c.args.self.now c.args.query c.args.terms.now c.write_args.new.store c.write_args.new.refs c.write_args.new.made c.in-Ok.args c.requires.ready c.write_args.ensures.kept c.write_args.ensures.saved c.in-Ok.ensures.written c.rules_of-rules.result c.rules_of-rules.ensures c.mark-place.result c.push.new.self c.mark-place.new.self
+    c.in_default.ensures.items c.mark-place.ensures.kept c.mark-place.ensures.same c.mark-place.ensures.saved c.requires.room
+
+pub begin_rule-requires-clause-left : goal.begin_rule-requires-clause-left
+begin_rule-requires-clause-left c =
+    let some : 0 < length c.rules_of-rules.result.now = search rules in
+    asking_left c.args.self.now c.args.query c.args.terms.now c.write_args.new.store c.write_args.new.refs c.write_args.new.made c.in-Ok.args c.requires.ready c.write_args.ensures.kept c.write_args.ensures.saved c.in-Ok.ensures.written c.rules_of-rules.result c.rules_of-rules.ensures c.mark-place.result c.push.new.self c.mark-place.new.self
+    c.in_default.ensures.items c.mark-place.ensures.kept c.mark-place.ensures.same c.mark-place.ensures.saved some
+
+pub begin_rule-requires-clause-place : goal.begin_rule-requires-clause-place
+begin_rule-requires-clause-place c =
+    asking_place c.args.self.now c.args.query c.args.terms.now c.write_args.new.store c.write_args.new.refs c.write_args.new.made c.in-Ok.args c.requires.ready c.write_args.ensures.kept c.write_args.ensures.saved c.in-Ok.ensures.written c.rules_of-rules.result c.rules_of-rules.ensures c.mark-place.result c.push.new.self c.mark-place.new.self
+    c.in_default.ensures.items c.mark-place.ensures.kept c.mark-place.ensures.same c.mark-place.ensures.saved
+
+pub returns-in-Err-begin_rule-clause-full : goal.returns-in-Err-begin_rule-clause-full
+returns-in-Err-begin_rule-clause-full c =
+    let x = Ask c.args.query.pred c.args.terms.now c.args.query.many in
+    let e = record c.args.self.now { store = c.mark-place.new.self; refs = c.write_args.new.refs; made = c.write_args.new.made; frames = c.push.new.self; newest = c.args.self.now.newest + 1 } in
+    let limits = asking_limits c.args.self.now c.args.query c.args.terms.now c.write_args.new.store c.write_args.new.refs c.write_args.new.made c.in-Ok.args c.requires.ready c.write_args.ensures.kept c.write_args.ensures.saved c.in-Ok.ensures.written c.rules_of-rules.result c.rules_of-rules.ensures c.mark-place.result c.push.new.self c.mark-place.new.self
+    c.in_default.ensures.items c.mark-place.ensures.kept c.mark-place.ensures.same c.mark-place.ensures.saved in
+    full_from (TakesAt x c.args.self.now) (BeginsAt (Rules c.args.query c.in-Ok.args c.rules_of-rules.result) c.mark-place.result e) (store_in c.args.self.now.store) (store_in c.mark-place.new.self) c.in-Err-begin_rule.e limits.heap limits.trail
+    (asks_some c.args.self.now c.args.query c.args.terms.now c.write_args.new.store c.write_args.new.refs c.write_args.new.made c.in-Ok.args c.requires.ready c.write_args.ensures.kept c.write_args.ensures.saved c.in-Ok.ensures.written c.rules_of-rules.result c.rules_of-rules.ensures c.mark-place.result c.push.new.self c.mark-place.new.self
+    c.in_default.ensures.items c.mark-place.ensures.kept c.mark-place.ensures.same c.mark-place.ensures.saved) c.in-Err-begin_rule.ensures.full
+
+pub returns-in-Ok-true-clause-asked : goal.returns-in-Ok-true-clause-asked
+returns-in-Ok-true-clause-asked c =
+    let x = Ask c.args.query.pred c.args.terms.now c.args.query.many in
+    let e = record c.args.self.now { store = c.mark-place.new.self; refs = c.write_args.new.refs; made = c.write_args.new.made; frames = c.push.new.self; newest = c.args.self.now.newest + 1 } in
+    let limits = asking_limits c.args.self.now c.args.query c.args.terms.now c.write_args.new.store c.write_args.new.refs c.write_args.new.made c.in-Ok.args c.requires.ready c.write_args.ensures.kept c.write_args.ensures.saved c.in-Ok.ensures.written c.rules_of-rules.result c.rules_of-rules.ensures c.mark-place.result c.push.new.self c.mark-place.new.self
+    c.in_default.ensures.items c.mark-place.ensures.kept c.mark-place.ensures.same c.mark-place.ensures.saved in
+    went_on_from (TakesAt x c.args.self.now) (BeginsAt (Rules c.args.query c.in-Ok.args c.rules_of-rules.result) c.mark-place.result e) c.args.self.now e c.begin_rule.new.self refl limits
+    (asks_some c.args.self.now c.args.query c.args.terms.now c.write_args.new.store c.write_args.new.refs c.write_args.new.made c.in-Ok.args c.requires.ready c.write_args.ensures.kept c.write_args.ensures.saved c.in-Ok.ensures.written c.rules_of-rules.result c.rules_of-rules.ensures c.mark-place.result c.push.new.self c.mark-place.new.self
+    c.in_default.ensures.items c.mark-place.ensures.kept c.mark-place.ensures.same c.mark-place.ensures.saved) (rw c.in-Ok-true.field-0-test at c.in-Ok-true.ensures.tried)
+
+pub returns-in-Err-back-2-clause-full : goal.returns-in-Err-back-2-clause-full
+returns-in-Err-back-2-clause-full c =
+    let x = Ask c.args.query.pred c.args.terms.now c.args.query.many in
+    let e = record c.args.self.now { store = c.mark-place.new.self; refs = c.write_args.new.refs; made = c.write_args.new.made; frames = c.push.new.self; newest = c.args.self.now.newest + 1 } in
+    let limits = asking_limits c.args.self.now c.args.query c.args.terms.now c.write_args.new.store c.write_args.new.refs c.write_args.new.made c.in-Ok.args c.requires.ready c.write_args.ensures.kept c.write_args.ensures.saved c.in-Ok.ensures.written c.rules_of-rules.result c.rules_of-rules.ensures c.mark-place.result c.push.new.self c.mark-place.new.self
+    c.in_default.ensures.items c.mark-place.ensures.kept c.mark-place.ensures.same c.mark-place.ensures.saved in
+    let wrong = went_wrong_from (TakesAt x c.args.self.now) (BeginsAt (Rules c.args.query c.in-Ok.args c.rules_of-rules.result) c.mark-place.result e) c.args.self.now e c.begin_rule.new.self refl limits
+    (asks_some c.args.self.now c.args.query c.args.terms.now c.write_args.new.store c.write_args.new.refs c.write_args.new.made c.in-Ok.args c.requires.ready c.write_args.ensures.kept c.write_args.ensures.saved c.in-Ok.ensures.written c.rules_of-rules.result c.rules_of-rules.ensures c.mark-place.result c.push.new.self c.mark-place.new.self
+    c.in_default.ensures.items c.mark-place.ensures.kept c.mark-place.ensures.same c.mark-place.ensures.saved) (rw c.in-Ok-false.field-0-test at c.in-Ok-false.ensures.tried) in
+    full_from (TakesAt x c.args.self.now) (FailsAt c.begin_rule.new.self) (store_in c.args.self.now.store) (store_in c.begin_rule.new.self.store) c.in-Err-back-2.e wrong.limits.heap wrong.limits.trail wrong.leads c.in-Err-back-2.ensures.full
+
+pub returns-in-Ok-back-2-clause-asked : goal.returns-in-Ok-back-2-clause-asked
+returns-in-Ok-back-2-clause-asked c =
+    let x = Ask c.args.query.pred c.args.terms.now c.args.query.many in
+    let e = record c.args.self.now { store = c.mark-place.new.self; refs = c.write_args.new.refs; made = c.write_args.new.made; frames = c.push.new.self; newest = c.args.self.now.newest + 1 } in
+    let limits = asking_limits c.args.self.now c.args.query c.args.terms.now c.write_args.new.store c.write_args.new.refs c.write_args.new.made c.in-Ok.args c.requires.ready c.write_args.ensures.kept c.write_args.ensures.saved c.in-Ok.ensures.written c.rules_of-rules.result c.rules_of-rules.ensures c.mark-place.result c.push.new.self c.mark-place.new.self
+    c.in_default.ensures.items c.mark-place.ensures.kept c.mark-place.ensures.same c.mark-place.ensures.saved in
+    let wrong = went_wrong_from (TakesAt x c.args.self.now) (BeginsAt (Rules c.args.query c.in-Ok.args c.rules_of-rules.result) c.mark-place.result e) c.args.self.now e c.begin_rule.new.self refl limits
+    (asks_some c.args.self.now c.args.query c.args.terms.now c.write_args.new.store c.write_args.new.refs c.write_args.new.made c.in-Ok.args c.requires.ready c.write_args.ensures.kept c.write_args.ensures.saved c.in-Ok.ensures.written c.rules_of-rules.result c.rules_of-rules.ensures c.mark-place.result c.push.new.self c.mark-place.new.self
+    c.in_default.ensures.items c.mark-place.ensures.kept c.mark-place.ensures.same c.mark-place.ensures.saved) (rw c.in-Ok-false.field-0-test at c.in-Ok-false.ensures.tried) in
+    goes_back_from (TakesAt x c.args.self.now) (FailsAt c.begin_rule.new.self) c.args.self.now c.begin_rule.new.self c.back-in-Ok-false.new.self wrong.left wrong.limits wrong.leads c.in-Ok-back-2.found c.in-Ok-back-2.ensures.back

@@ -1,21 +1,44 @@
-use Rattle.std.proofs.Common.{refl, arith}
-use Rattle.dg_interp.specs.Engine.{FailsAt, BeginsAt}
-use Rattle.dg_interp.proofs.Branches.{none_popped, popped_sound, popped_left, begins_popped, went_back_from}
+use Rattle.std.proofs.Common.{refl, arith, ◌≤◌, ◌<◌}
+use Rattle.dg_meaning.specs.Path.{Failing}
+use Rattle.dg_interp.specs.Engine.{FailsAt, StandsAt, WentWrong, store_in, branches_left}
+use Rattle.dg_interp.proofs.Places.{leads_nowhere, limits_here}
+use Rattle.dg_interp.proofs.Branches.{went_on_from, went_wrong_from, ended_from, full_from}
 use Rattle.dg_interp.proofs.engine.Engine.back.Goals as goal
 
-pub returns-in-None : goal.returns-in-None
-returns-in-None c = record { back = none_popped c.args.self.now c.pop.new.self (omega (arith, c.in-None.ensures.cases.0)) }
+pub choices-init : goal.choices-init
+choices-init c = record {
+  wrong = record { sound = c.requires.sound; left = refl; limits = limits_here c.args.self.now; leads = leads_nowhere (FailsAt c.args.self.now) };
+  fewer = omega arith;
+}
 
-pub begin-requires-clause-sound : goal.begin-requires-clause-sound
-begin-requires-clause-sound c = popped_sound c.args.self.now c.in-Some.choice c.truncate.new.self c.pop.new.self c.requires.sound c.in-Some.ensures.items c.truncate.ensures.items
+pub returns-in-Err-clause-full : goal.returns-in-Err-clause-full
+returns-in-Err-clause-full c =
+    let w = c.choices.invariant.wrong in
+    full_from (FailsAt c.args.self.now) (FailsAt c.choices.self) (store_in c.args.self.now.store) (store_in c.choices.self.store) c.in-Err.e w.limits.heap w.limits.trail w.leads c.in-Err.ensures.full
 
-pub begin-requires-clause-left : goal.begin-requires-clause-left
-begin-requires-clause-left c = popped_left c.args.self.now c.in-Some.choice c.truncate.new.self c.pop.new.self c.requires.sound c.in-Some.ensures.items c.truncate.ensures.items
+pub returns-in-Ok-None-clause-back : goal.returns-in-Ok-None-clause-back
+returns-in-Ok-None-clause-back c =
+    let w = c.choices.invariant.wrong in
+    ended_from (FailsAt c.args.self.now) (FailsAt c.choices.self) Failing c.args.self.now c.choices.self c.retry.new.self w.left w.leads (rw c.in-Ok-None.field-0-is at c.in-Ok-None.ensures.retried)
 
-pub returns-in_ok-begin-in-Some : goal.returns-in_ok-begin-in-Some
-returns-in_ok-begin-in-Some c =
-    let mid = record c.args.self.now { frames = c.truncate.new.self; choices = c.pop.new.self; newest = c.in-Some.choice.tag } in
+pub returns-in-Ok-Some-true-clause-back : goal.returns-in-Ok-Some-true-clause-back
+returns-in-Ok-Some-true-clause-back c =
+    let w = c.choices.invariant.wrong in
+    let before : branches_left c.choices.self ≤ branches_left c.args.self.now = c.choices.invariant.fewer in
+    let h = rw c.in-Ok-Some-true.field-0-0-test at (rw c.in-Ok-Some-true.field-0-is at c.in-Ok-Some-true.ensures.retried) in
+    (went_on_from (FailsAt c.args.self.now) (FailsAt c.choices.self) c.args.self.now c.choices.self c.retry.new.self w.left w.limits w.leads h.0, omega (arith, h.1, before))
+
+pub choices-preserved : goal.choices-preserved
+choices-preserved c =
+    let w = c.choices.invariant.wrong in
+    let before : branches_left c.choices.self ≤ branches_left c.args.self.now = c.choices.invariant.fewer in
+    let h = rw c.in-Ok-Some-false.field-0-0-test at (rw c.in-Ok-Some-false.field-0-is at c.in-Ok-Some-false.ensures.retried) in
     record {
-      back = went_back_from (λ g. FailsAt g c.args.self.now) (λ g. BeginsAt g c.in-Some.choice.left mid) c.args.self.now mid c.begin.new.self refl
-          (begins_popped c.args.self.now c.in-Some.choice c.truncate.new.self c.pop.new.self c.requires.sound c.in-Some.ensures.items c.truncate.ensures.items) c.in_ok-begin-in-Some.ensures.begun;
+      wrong = went_wrong_from (FailsAt c.args.self.now) (FailsAt c.choices.self) c.args.self.now c.choices.self c.retry.new.self w.left w.limits w.leads h.0;
+      fewer = omega (arith, h.1, before);
     }
+
+pub choices-smaller : goal.choices-smaller
+choices-smaller c =
+    let h = rw c.in-Ok-Some-false.field-0-0-test at (rw c.in-Ok-Some-false.field-0-is at c.in-Ok-Some-false.ensures.retried) in
+    h.1

@@ -1,12 +1,11 @@
-use Rattle.std.proofs.Common.{arith, length, ◌-◌, refl, rules}
-use Rattle.dg_interp.proofs.Turns.{rules_begun_on, first_and_rest}
+use Rattle.std.proofs.Common.{length, sym, subst}
+use Rattle.dg_interp.specs.Frames.{IsLeft}
+use Rattle.dg_interp.specs.Engine.{BeginsAt, WentOn}
+use Rattle.dg_interp.proofs.Begins.{way_begun}
 use Rattle.dg_interp.proofs.engine.Engine.begin.Goals as goal
 
-pub returns : goal.returns
-returns c =
-    let all = c.args.left.rules.now in
-    record {
-      begun = rules_begun_on c.args.self.now c.args.left (record { query = c.args.left.query; rules = _ }) c.rule-item.result c.keep.new.choices c.as_slice.result c.len-height.result c.requires.sound
-          (first_and_rest all c.rule-item.result (length all - 1) c.requires.left.0 c.rule-item.is (omega arith)) refl c.requires.left.1 c.in_ok-keep.ensures.kept
-          c.as_slice.ensures (search rules);
-    }
+pub begin_rule-requires-clause-left : goal.begin_rule-requires-clause-left
+begin_rule-requires-clause-left c = rw c.in-Rules.is at c.requires.left
+
+pub returns-in-Way-clause-tried : goal.returns-in-Way-clause-tried
+returns-in-Way-clause-tried c = rw c.in-Way.is (way_begun c.args.self.now c.in-Way.frame c.args.place c.requires.sound (rw c.in-Way.is at c.requires.left))

@@ -1,4 +1,4 @@
-use Rattle.dg_interp.proofs.Places.{not_true, not_false, nothing_passed, answer_passed, cut_passed}
+use Rattle.dg_interp.proofs.Places.{not_true, not_false, nothing_passed, answer_passed, cut_passed, tag_passed, refused}
 use Rattle.dg_interp.proofs.engine.Engine.pass_mark.Goals as goal
 
 pub returns-in-Nothing : goal.returns-in-Nothing
@@ -9,3 +9,9 @@ returns-then-not-query c = record { passed = cut_passed c.args.self.now c.requir
 
 pub returns-else-not-query : goal.returns-else-not-query
 returns-else-not-query c = record { passed = answer_passed c.args.self.now c.requires.ready c.requires.done c.in-AnswerOf.query c.in-AnswerOf.is (not_false _ c.if-not-query.false) }
+
+pub returns-in-CutTo : goal.returns-in-CutTo
+returns-in-CutTo c = record { passed = tag_passed c.args.self.now c.requires.ready c.requires.done c.in-CutTo.tag c.cut-in-CutTo.new.choices c.cut-in-CutTo.ensures c.in-CutTo.is }
+
+pub returns-in-RefuseTo : goal.returns-in-RefuseTo
+returns-in-RefuseTo c = record { passed = refused c.args.self.now c.requires.ready c.requires.done c.in-RefuseTo.tag c.cut-in-RefuseTo.new.choices c.cut-in-RefuseTo.ensures c.in-RefuseTo.is }

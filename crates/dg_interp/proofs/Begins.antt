@@ -1,0 +1,419 @@
+-- A rule of a query begins, or fails where it begins.
+use Rattle.std.proofs.Common.{◌≡◌, ℕ, zero, suc, ◌+◌, ◌*◌, ◌^◌, ◌<◌, ◌≤◌, List, [], ◌∷◌, ◌++◌, Bool, true, false, refl, sym, ap, ◌∙◌, subst, arith, length, length-append, map, take, Bor}
+use Rattle.std.specs.Prelude.{reverse, max}
+use Rattle.std.specs.List.{All, zip}
+use Rattle.std.proofs.lemmas.List.{append-nil, length-map}
+use Rattle.std.proofs.lemmas.List.Elements.{All-append}
+use Rattle.std.specs.declared.vec.Vec.{Vec}
+use Rattle.std.specs.declared.alloc.Global.{Global}
+use Rattle.dg_base.specs.declared.program.Goal.{Goal}
+use Rattle.dg_base.specs.declared.program.Rule.{Rule}
+use Rattle.dg_base.specs.declared.program.CoreProgram.{CoreProgram}
+use Rattle.dg_meaning.specs.Values.{Value, value_of}
+use Rattle.dg_meaning.specs.Substitutions.{Substitution, IsSubstitution, Extends}
+use Rattle.dg_meaning.specs.Unify.{Unified, solve}
+use Rattle.dg_meaning.specs.World.{Game, World, prints}
+use Rattle.dg_meaning.specs.Cells.{cells, writing}
+use Rattle.dg_meaning.specs.Path.{Step, Registers, Path, Branch, Clash, Enter, Kind, Rules as RulesOf}
+use Rattle.dg_meaning.specs.Moves.{begun, enter, inside, path_of, choice_cells, enter_if, made_since, older_bound, rule_steps, vars_of, new_vars, entered, match, matched, rule_branch, rule_branches}
+use Rattle.dg_meaning.specs.Transcript.{Run}
+use Rattle.dg_meaning.specs.Context.{Way, Live, pushed}
+use Rattle.dg_meaning.specs.Keeps.{Stands, Failed, Began}
+use Rattle.dg_meaning.specs.OneRun.{Grows}
+use Rattle.dg_meaning.specs.Built.{AreBuilt, IsBuiltRule}
+use Rattle.dg_meaning.proofs.Keeps.{has_happened, has_happened_before}
+use Rattle.dg_meaning.proofs.Solving.{solve_extends}
+use Rattle.dg_unify.specs.Store.{Store, State, Saved, Holds, Kept, Charged, told, trail_of}
+use Rattle.dg_unify.specs.Laws.{saves_drops}
+use Rattle.dg_unify.specs.Listed.{fields_of}
+use Rattle.dg_unify.specs.declared.bindings.Ref.{Ref}
+use Rattle.dg_unify.specs.declared.bindings.Full.{Full}
+use Rattle.dg_unify.specs.declared.bindings.Full.TheVariants as full
+use Rattle.dg_unify.specs.declared.bindings.Mark.{Mark as Place}
+use Rattle.dg_unify.specs.declared.list.ListBindings.{ListBindings}
+use Rattle.dg_interp.specs.declared.frames.Query.{Query}
+use Rattle.dg_interp.specs.declared.frames.Env.{Env}
+use Rattle.dg_interp.specs.declared.frames.Mark.TheVariants.{AnswerOf}
+use Rattle.dg_interp.specs.declared.frames.Frame.{Frame}
+use Rattle.dg_interp.specs.declared.frames.Left.{Left}
+use Rattle.dg_interp.specs.declared.frames.Left.TheVariants.{Rules, Way as OneWay}
+use Rattle.dg_interp.specs.declared.frames.Choice.{Choice}
+use Rattle.dg_interp.specs.declared.engine.Engine.{Engine}
+use Rattle.dg_interp.specs.Terms.{Overflows}
+use Rattle.dg_interp.specs.Rules.{rule_cells, matched_in, EntersRule, RuleFull}
+use Rattle.dg_interp.specs.Frames.{stretch, values_in, frame_steps, steps_behind, steps_at, branches_of, Agrees, AreChoices, IsFrame, AreFrames, IsLeft, EndsBy, StandOn, GoBackTo, left_in, all_left}
+use Rattle.dg_interp.specs.Engine.{store_in, KeepsPlaces, HasPlaces, HasPlace, IsPlace, Point, IsQuiet, IsSound, IsReady, StandsAt, FailsAt, BeginsAt, FullAt, Adds, Then, SameLimits, WentOn, WentWrong, branches_left, kept_if, cells_if}
+use Rattle.dg_interp.proofs.Links.{SameBy, same_here, branches_same, behind_same, choices_same, back_same, frames_raise, stand_raise}
+use Rattle.dg_interp.proofs.Stores.{kept_on, all_hold, values_kept, hold_front, front_same, take_all, appended_stretch, values_count, trail_append, trail_older, made_is}
+use Rattle.dg_interp.proofs.Kept.{saved_if, kept_places, kept_stand, kept_back, kept_choices, kept_count, cells_same}
+use Rattle.dg_interp.proofs.Places.{adds_nothing}
+use Rattle.dg_interp.proofs.Turns.{all_first, all_rest}
+
+-- ## Peaks
+
+-- where a branch begins its counts are reached
+pub began_peaks : (g : Game) (lives : List Live) (ways : List Way) (b : Bool) (path : Path) (work n : ℕ) (w : World) (run : Run) → Began g lives ways (enter_if b path work) n w run →
+    (path.registers.heap ≤ run.world.meters.heap) × (path.registers.trail ≤ run.world.meters.trail)
+began_peaks g lives ways true path work n w run h =
+    let later = (has_happened g lives ways path n (begun path.registers work w) run h).meters in (omega (arith, later.heap), omega (arith, later.trail))
+began_peaks g lives ways false path work n w run h =
+    let later = (has_happened_before g lives n (begun path.registers work w) run h).meters in (omega (arith, later.heap), omega (arith, later.trail))
+
+-- ## What a rule makes of registers
+
+-- the registers behind a matched head agree with the store
+module _ (g : Game) (rule : Rule) (args : List Value) (heap : ℕ) (s s1 s2 : Store) (r : Registers) (agrees : Agrees s r) (sub : IsSubstitution s.state.subst) (charged : Charged heap s s1) where
+  abbrev u : Unified
+  u = match g args rule r
+
+  abbrev behind : Registers
+  behind = matched u r (entered g heap rule r)
+
+  meant : matched_in g.program rule args s1 ≡ u
+  meant =
+      ap (λ (t : State). solve t.subst (zip args (map (value_of g.program (new_vars rule.vars t.vars)) rule.head))) charged.state
+      ∙ ap (λ S. solve S (zip args (map (value_of g.program (new_vars rule.vars s.state.vars)) rule.head))) (sym agrees.bound)
+      ∙ ap (λ n. solve r.bound (zip args (map (value_of g.program (new_vars rule.vars n)) rule.head))) (sym agrees.vars)
+
+  extends : Extends r.bound u.subst
+  extends = solve_extends r.bound _ (subst IsSubstitution (sym agrees.bound) sub)
+
+  -- what the head's bindings take of the trail
+  taken : (since : ℕ) → trail_of since u.subst ≡ trail_of since extends.made + trail_of since r.bound
+  taken since = ap (trail_of since) extends.is ∙ trail_append since extends.made r.bound
+
+  counted_trail : behind.trail ≡ r.trail + older_bound r.next_var extends.made
+  counted_trail = ap (λ made. r.trail + older_bound r.next_var made) (made_is extends.made r.bound u.subst extends.is)
+
+  since_is : s1.state.since ≡ s.state.since
+  since_is = ap (λ (t : State). t.since) charged.state
+
+  older : trail_of s1.state.since extends.made ≤ older_bound r.next_var extends.made
+  older = trail_older s1.state.since r.next_var extends.made (omega (arith, since_is, agrees.since, agrees.vars))
+
+  module _ (refs refs' : List Ref) (found : Bool) (enters : EntersRule g.program rule args s1 s2 refs refs' found) where
+    pub rule_found : found ≡ u.agrees
+    rule_found = enters.agrees ∙ ap (λ (v : Unified). v.agrees) meant
+
+    bound_same : s1.state.subst ≡ r.bound
+    bound_same = ap (λ (t : State). t.subst) charged.state ∙ sym agrees.bound
+
+    trail_same : s2.state.trail + trail_of s1.state.since r.bound ≡ s1.state.trail + trail_of s1.state.since u.subst
+    trail_same =
+        ap (λ S. s2.state.trail + trail_of s1.state.since S) (sym bound_same)
+        ∙ enters.trail
+        ∙ ap (λ (v : Unified). s1.state.trail + trail_of s1.state.since v.subst) meant
+
+    pub rule_agrees : Agrees s2 behind
+    rule_agrees =
+        let heap1 : s1.state.heap ≡ s.state.heap + heap = ap (λ (t : State). t.heap) charged.state in
+        let vars1 : s1.state.vars ≡ s.state.vars = ap (λ (t : State). t.vars) charged.state in
+        let trail1 : s1.state.trail ≡ s.state.trail = ap (λ (t : State). t.trail) charged.state in
+        let now = taken s1.state.since in
+        record {
+          bound = sym (enters.subst ∙ ap (λ (v : Unified). v.subst) meant);
+          vars = omega (arith, enters.vars, vars1, agrees.vars);
+          heap = omega (arith, enters.heap, heap1, agrees.heap);
+          trail = omega (arith, trail_same, now, older, counted_trail, trail1, agrees.trail);
+          since = omega (arith, enters.since, since_is, enters.vars, vars1, agrees.since);
+        }
+
+    pub rule_vars : map (told s2) enters.appended.made ≡ vars_of rule r
+    rule_vars = enters.appended.values ∙ ap (λ (t : State). new_vars rule.vars t.vars) charged.state ∙ ap (new_vars rule.vars) (sym agrees.vars)
+
+  -- a limit that is met there is below the counts behind
+  pub rule_heap : (limit : ℕ) → limit < s1.state.heap + rule_cells g.program rule → limit < behind.heap
+  rule_heap limit h = let heap1 : s1.state.heap ≡ s.state.heap + heap = ap (λ (t : State). t.heap) charged.state in omega (arith, h, heap1, agrees.heap)
+
+  pub rule_trail : (limit : ℕ) → limit + trail_of s1.state.since s1.state.subst < s1.state.trail + trail_of s1.state.since (matched_in g.program rule args s1).subst → limit < behind.trail
+  rule_trail limit h =
+      let now = taken s1.state.since in
+      let same : trail_of s1.state.since s1.state.subst ≡ trail_of s1.state.since r.bound = ap (trail_of s1.state.since) (ap (λ (t : State). t.subst) charged.state ∙ sym agrees.bound) in
+      let same' : trail_of s1.state.since (matched_in g.program rule args s1).subst ≡ trail_of s1.state.since u.subst = ap (λ (v : Unified). trail_of s1.state.since v.subst) meant in
+      let trail1 : s1.state.trail ≡ s.state.trail = ap (λ (t : State). t.trail) charged.state in
+      omega (arith, h, now, same, same', older, counted_trail, trail1, agrees.trail)
+
+-- ## The engine
+
+rules_count : (g : Game) (pred : ℕ) (args : List Value) (many : Bool) (steps : List Step) (r : Registers) (rules : List Rule) → length rules ≡ length (rule_branches g pred args many steps r rules)
+rules_count g pred args many steps r [] = refl
+rules_count g pred args many steps r (x ∷ rules) = ap suc (rules_count g pred args many steps r rules)
+
+pub back_limits : (refs : List Ref) (h t h' t' : ℕ) (os : List Choice) (ms : List Saved) → h ≡ h' → t ≡ t' → GoBackTo refs h t os ms → GoBackTo refs h' t' os ms
+back_limits refs h t h' t' os ms e e' b = subst (λ x. GoBackTo refs h' x os ms) e' (subst (λ x. GoBackTo refs x t os ms) e b)
+
+module _ (old : Engine) (query : Query) (args : Env) (rules others : Bor (List Rule)) (rule : Rule) (place : Place) (store1 : ListBindings) (choices : Vec Choice Global) (sound : IsSound old)
+    (left : IsLeft (length old.frames.items) (length old.refs.items) (Rules query args rules)) (has : HasPlace old place) (split : rules.now ≡ rule ∷ others.now)
+    (k1 : Kept (store_in old.store) (store_in store1)) (saved1 : (ms : List Saved) → KeepsPlaces old.store ms → KeepsPlaces store1 ms) where
+  abbrev s : Store
+  s = store_in old.store
+
+  abbrev s1 : Store
+  s1 = store_in store1
+
+  abbrev fs : List Frame
+  fs = old.frames.items
+
+  abbrev xs : List Ref
+  xs = old.refs.items
+
+  abbrev os : List Choice
+  os = reverse old.choices.items
+
+  abbrev count : ℕ
+  count = length others.now
+
+  abbrev heap : ℕ
+  heap = cells_if args.len count
+
+  abbrev o : Choice
+  o = record { tag = old.newest; left = Rules query args others; height = length fs; refs = length xs; place = place }
+
+  abbrev from : Point
+  from = BeginsAt (Rules query args rules) place old
+
+  abbrev the_args : List Value
+  the_args = values_in s xs args
+
+  abbrev steps : List Step
+  steps = steps_behind (values_in s xs) fs (length fs)
+
+  built_all : All IsBuiltRule (rule ∷ others.now)
+  built_all = subst (All IsBuiltRule) split left.1
+
+  pub rule_built : IsBuiltRule rule
+  rule_built = all_first IsBuiltRule rule others.now built_all
+
+  stand : StandOn fs (length fs) (length xs) old.newest (kept_if count o os)
+  stand = kept_stand count fs (length fs) (length xs) old.newest o os (omega arith) (omega arith) (omega arith) (λ some. (some, all_rest IsBuiltRule rule others.now built_all, left.2)) sound.frames sound.choices
+
+  abbrev branch : Registers → Game → Branch
+  branch r g = rule_branch g query.pred the_args query.many steps r heap rule
+
+  abbrev branches : Registers → Game → List Branch
+  branches r g = rule_branches g query.pred the_args query.many steps r others.now
+
+  abbrev lives_of : Game → Registers → List Live → List Way → List Live
+  lives_of g r lives ways = pushed (branches r g) (record { kind = RulesOf query.pred; tag = r.next_tag; others = branches r g; height = 0; ways_on = ways }) lives
+
+  same_heap : choice_cells (length the_args) others.now ≡ heap
+  same_heap = cells_same (length the_args) others.now ∙ ap (λ n. cells_if n count) (values_count s xs args left.2)
+
+  begins : (g : Game) (n : ℕ) (w : World) (run : Run) (st : from g n w run) → Began g (lives_of g st.registers st.lives st.ways) st.ways (branch st.registers g) n w run
+  begins g n w run st =
+      let r = st.registers in
+      subst (λ h. Began g (lives_of g r st.lives st.ways) st.ways (rule_branch g query.pred the_args query.many steps r h rule) n w run) same_heap
+      (st.began (rule_branch g query.pred the_args query.many steps r (choice_cells (length the_args) others.now) rule) (branches r g) (ap (rule_branches g query.pred the_args query.many steps r) split))
+
+  abbrev behind_of : Game → Registers → Registers
+  behind_of g r = matched (match g the_args rule r) r (entered g heap rule r)
+
+  sub : IsSubstitution s.state.subst
+  sub = old.store.sound.fits.sound
+
+  -- the heap is full where the choice is kept
+  pub keep_full : (e : Full) → Overflows heap s e → FullAt from s e
+  keep_full full.Heap h = λ g n w run quiet st.
+      let r = st.registers in
+      let peaks = began_peaks g _ st.ways (match g the_args rule r).agrees _ _ n w run (begins g n w run st) in
+      omega (arith, peaks.0, h, st.agrees.heap)
+  keep_full full.Trail h = absurd h
+  keep_full full.OutOfMemory h = tt
+
+  module _ (charged : Charged heap s s1) where
+    -- heap or trail is full where the rule is entered
+    pub enter_full : (e : Full) → ((program : CoreProgram) → RuleFull program rule (values_in s1 xs args) s1 e) → FullAt from s e
+    enter_full full.Heap h = λ g n w run quiet st.
+        let r = st.registers in
+        let peaks = began_peaks g _ st.ways (match g the_args rule r).agrees _ _ n w run (begins g n w run st) in
+        let less = rule_heap g rule the_args heap s s1 s1 r st.agrees sub charged s.heap_limit (omega (arith, h g.program, k1.heap_limit)) in
+        omega (arith, peaks.0, less)
+    enter_full full.Trail h = λ g n w run quiet st.
+        let r = st.registers in
+        let same : values_in s1 xs args ≡ the_args = values_kept (length xs) s s1 xs xs k1 (hold_front s xs sound.hold) refl args left.2 in
+        let here = subst (λ vs. RuleFull g.program rule vs s1 full.Trail) same (h g.program) in
+        let peaks = began_peaks g _ st.ways (match g the_args rule r).agrees _ _ n w run (begins g n w run st) in
+        let less = rule_trail g rule the_args heap s s1 s1 r st.agrees sub charged s.trail_limit (omega (arith, here, k1.trail_limit)) in
+        omega (arith, peaks.1, less)
+    enter_full full.OutOfMemory h = tt
+
+    module _ (store2 : ListBindings) (refs2 made2 : Vec Ref Global) (found : Bool) (kept : reverse choices.items ≡ kept_if count o os) (k2 : Kept s1 (store_in store2)) (saved2 : (ms : List Saved) → KeepsPlaces store1 ms → KeepsPlaces store2 ms)
+        (enters : (program : CoreProgram) → EntersRule program rule (values_in s1 xs args) s1 (store_in store2) xs refs2.items found) where
+      abbrev s2 : Store
+      s2 = store_in store2
+
+      abbrev ys : List Ref
+      ys = refs2.items
+
+      same_args : values_in s1 xs args ≡ the_args
+      same_args = values_kept (length xs) s s1 xs xs k1 (hold_front s xs sound.hold) refl args left.2
+
+      does : (g : Game) → EntersRule g.program rule the_args s1 s2 xs ys found
+      does g = subst (λ vs. EntersRule g.program rule vs s1 s2 xs ys found) same_args (enters g.program)
+
+      k12 : Kept s s2
+      k12 = kept_on s s1 s2 k1 k2
+
+      abbrev ends : EntersRule old.program.now rule (values_in s1 xs args) s1 s2 xs ys found
+      ends = enters old.program.now
+
+      front : take (length xs) ys ≡ take (length xs) xs
+      front = front_same xs ends.appended.made ys ends.appended.is
+
+      longer : length xs ≤ length ys
+      longer = omega (arith, ap length ends.appended.is, length-append xs ends.appended.made)
+
+      abbrev new : Frame → Engine
+      new here = record old { store = store2; refs = refs2; choices = choices; made = made2; here = here }
+
+      saved_places : (back : Saved) (ms : List Saved) → KeepsPlaces old.store (back ∷ ms) → KeepsPlaces store2 (saved_if count back ms)
+      saved_places back ms h = saved2 _ (saved1 _ (kept_places count old.store back ms h))
+
+      rule_sound : (here : Frame) → IsSound (new here)
+      rule_sound here = record {
+        program = sound.program;
+        hold = subst (All (Holds s2)) (sym ends.appended.is) (All-append (Holds s2) xs ends.appended.made (all_hold s s2 xs k12 sound.hold) ends.appended.hold);
+        frames = frames_raise (length fs) (length xs) (length ys) fs longer sound.frames;
+        choices = subst (StandOn fs (length fs) (length ys) old.newest) (sym kept) (stand_raise fs (length fs) (length fs) (length xs) (length ys) old.newest old.newest (kept_if count o os) (omega arith) longer (omega arith) stand);
+        places = record {
+          saved = saved_if count has.back has.saved;
+          keeps = saved_places has.back has.saved has.is.keeps;
+          back_to = subst (λ l. GoBackTo ys s2.heap_limit s2.trail_limit l (saved_if count has.back has.saved)) (sym kept)
+              (kept_back count ys s2.heap_limit s2.trail_limit o os has.back has.saved has.is.place_is (subst (All (Holds has.back.store)) (sym front) (hold_front has.back.store xs has.is.hold))
+              (sym (k12.heap_limit ∙ has.is.kept.heap_limit)) (sym (k12.trail_limit ∙ has.is.kept.trail_limit))
+              (back_limits ys s.heap_limit s.trail_limit s2.heap_limit s2.trail_limit os has.saved (sym k12.heap_limit) (sym k12.trail_limit) (back_same xs ys fs (length fs) (length xs) old.newest s.heap_limit s.trail_limit os has.saved front sound.choices has.back_to)));
+        };
+        room = sound.room;
+      }
+
+      choices_now : (g : Game) (n : ℕ) (w : World) (run : Run) (st : from g n w run) → AreChoices g ys fs (reverse choices.items) (saved_if count st.back st.saved) (lives_of g st.registers st.lives st.ways)
+      choices_now g n w run st =
+          let r = st.registers in
+          let are : branches r g ≡ branches_of g (values_in st.back.store xs) fs (length fs) (Rules query args others) r =
+          branches_same g (length fs) (length xs) (values_in st.back.store xs) (values_in s xs) fs fs (Rules query args others) r left.2 sound.frames (values_kept (length xs) st.back.store s xs xs st.is.kept (hold_front st.back.store xs st.is.hold) refl) (same_here (length fs) fs) in
+          subst (λ l. AreChoices g ys fs l (saved_if count st.back st.saved) (lives_of g r st.lives st.ways)) (sym kept)
+          (choices_same g xs ys fs fs (length fs) (length xs) old.newest (kept_if count o os) (saved_if count st.back st.saved) (lives_of g r st.lives st.ways) front (same_here (length fs) fs) stand
+          (kept_choices g xs fs o os st.back st.saved st.lives r (RulesOf query.pred) st.ways (branches r g) count (rules_count g query.pred the_args query.many steps r others.now) are refl st.tag st.back_agrees (hold_front st.back.store xs st.is.hold) st.is.place_is st.choices))
+
+      adds_begun : (r : Registers) (work : ℕ) (w : World) → IsQuiet w → Adds [] w (begun r work w)
+      adds_begun r work w quiet = record { prints_are = sym (append-nil (prints w.events)); typed = refl; quiet = quiet }
+
+      limits : (here : Frame) → SameLimits old (new here)
+      limits here = record { heap = k12.heap_limit; trail = k12.trail_limit }
+
+      -- its head doesn't match
+      pub rule_wrong : found ≡ false → WentWrong from old (new old.here)
+      rule_wrong is = record {
+        sound = rule_sound old.here;
+        left = refl;
+        limits = limits old.here;
+        leads = λ g n w run quiet st.
+            let r = st.registers in
+            let none : (match g the_args rule r).agrees ≡ false = sym (rule_found g rule the_args heap s s1 s2 r st.agrees sub charged xs ys found (does g)) ∙ is in
+            let work = 1 + writing g.program rule.head + 2 * (match g the_args rule r).count in
+            record {
+              world = begun (behind_of g r) work w;
+              adds = adds_begun (behind_of g r) work w quiet;
+              holds = record {
+                program = st.program;
+                lives = lives_of g r st.lives st.ways;
+                saved = saved_if count st.back st.saved;
+                keeps = saved_places st.back st.saved st.is.keeps;
+                choices = choices_now g n w run st;
+                failed = subst (λ b. Began g (lives_of g r st.lives st.ways) st.ways (enter_if b (path_of (rule_steps query.pred query.many (vars_of rule r) r.next_tag rule steps) (behind_of g r)) work) n w run) none (begins g n w run st);
+              };
+            };
+      }
+
+      module _ (goals : Bor (List Goal)) (body : goals.now ≡ rule.body) where
+        abbrev here : Frame
+        here = record { goals = goals; env = record { from = length xs; len = rule.vars }; tag = old.newest; mark = AnswerOf query; behind = length fs }
+
+        vars_count : (g : Game) → rule.vars ≡ length (does g).appended.made
+        vars_count g = sym (sym (length-map (does g).appended.made (told s2)) ∙ ap length (does g).appended.values ∙ made_count rule.vars s1.state.vars)
+          where
+            made_count : (n next : ℕ) → length (new_vars n next) ≡ n
+            made_count zero next = refl
+            made_count (suc n) next = ap suc (made_count n (suc next))
+
+        values_made : (g : Game) (r : Registers) → Agrees s r → values_in s2 ys here.env ≡ vars_of rule r
+        values_made g r agrees = ap (map (told s2)) (appended_stretch xs (does g).appended.made ys rule.vars (does g).appended.is (vars_count g)) ∙ rule_vars g rule the_args heap s s1 s2 r agrees sub charged xs ys found (does g)
+
+        same_steps : (g : Game) (r : Registers) → Agrees s r → r.next_tag ≡ old.newest → steps_at (values_in s2 ys) fs here ≡ rule_steps query.pred query.many (vars_of rule r) r.next_tag rule steps
+        same_steps g r agrees tag =
+            ap (λ vs. frame_steps vs goals.now old.newest (AnswerOf query) (steps_behind (values_in s2 ys) fs (length fs))) (values_made g r agrees)
+            ∙ ap (λ l. frame_steps (vars_of rule r) goals.now old.newest (AnswerOf query) l) (behind_same (length xs) (values_in s xs) (values_in s2 ys) fs fs (length fs) (length fs) (omega arith) (values_kept (length xs) s s2 xs ys k12 (hold_front s xs sound.hold) front) sound.frames (same_here (length fs) fs))
+            ∙ ap (λ (l : List Goal). frame_steps (vars_of rule r) l old.newest (AnswerOf query) steps) body
+            ∙ ap (λ t. rule_steps query.pred query.many (vars_of rule r) t rule steps) (sym tag)
+
+        -- it begins
+        pub rule_begun : found ≡ true → WentOn from old (new here)
+        rule_begun is = record {
+          ready = record {
+            sound = rule_sound here;
+            here = record {
+              built = subst AreBuilt (sym body) rule_built.body;
+              older = omega arith;
+              env = let g : Game = record { program = old.program.now; dice = [] } in omega (arith, vars_count g, ap length (does g).appended.is, length-append xs (does g).appended.made);
+            };
+          };
+          left = refl;
+          limits = limits here;
+          leads = λ g n w run quiet st.
+              let r = st.registers in
+              let yes' : (match g the_args rule r).agrees ≡ true = sym (rule_found g rule the_args heap s s1 s2 r st.agrees sub charged xs ys found (does g)) ∙ is in
+              let work = 1 + writing g.program rule.head + 2 * (match g the_args rule r).count in
+              let s' = behind_of g r in
+              record {
+                world = begun s' work w;
+                adds = adds_begun s' work w quiet;
+                holds = record {
+                  program = st.program;
+                  lives = lives_of g r st.lives st.ways;
+                  ways = st.ways;
+                  registers = s';
+                  saved = saved_if count st.back st.saved;
+                  keeps = saved_places st.back st.saved st.is.keeps;
+                  agrees = rule_agrees g rule the_args heap s s1 s2 r st.agrees sub charged xs ys found (does g);
+                  choices = choices_now g n w run st;
+                  tag = ap (λ k. k + 1) st.tag;
+                  stands = subst (λ l. Stands g (lives_of g r st.lives st.ways) st.ways (path_of l s') n (begun s' work w) run) (sym (same_steps g r st.agrees st.tag))
+                      (subst (λ b. Began g (lives_of g r st.lives st.ways) st.ways (enter_if b (path_of (rule_steps query.pred query.many (vars_of rule r) r.next_tag rule steps) s') work) n w run) yes' (begins g n w run st));
+                };
+              };
+        }
+
+-- ## A way on
+
+way_begins : (old : Engine) (frame : Frame) (place : Place) (sound : IsSound old) (g : Game) (n : ℕ) (w : World) (run : Run) → IsQuiet w → BeginsAt (OneWay frame) place old g n w run → Then [] w (λ v. StandsAt (record old { here = frame }) g n v run)
+way_begins old frame place sound g n w run quiet st =
+    let r = st.registers in
+    let steps = steps_at (values_in (store_in old.store) old.refs.items) old.frames.items frame in
+    let v = begun (inside 0 r) 0 w in
+    record {
+      world = v;
+      adds = record { prints_are = sym (append-nil (prints w.events)); typed = refl; quiet = quiet };
+      holds = record {
+        program = st.program;
+        lives = st.lives;
+        ways = st.ways;
+        registers = inside 0 r;
+        saved = st.saved;
+        keeps = saves_drops true (fields_of old.store) st.back st.saved st.is.keeps;
+        agrees = record { bound = st.agrees.bound; vars = st.agrees.vars; heap = omega (arith, st.agrees.heap); trail = st.agrees.trail; since = st.agrees.since };
+        choices = st.choices;
+        tag = ap (λ k. k + 1) st.tag;
+        stands = st.began (enter 0 0 r steps) [] refl;
+      };
+    }
+
+pub way_begun : (old : Engine) (frame : Frame) (place : Place) → IsSound old → IsFrame (length old.frames.items) (length old.refs.items) frame → WentOn (BeginsAt (OneWay frame) place old) old (record old { here = frame })
+way_begun old frame place sound is = record {
+  ready = record {
+    sound = record { program = sound.program; hold = sound.hold; frames = sound.frames; choices = sound.choices; places = record { saved = sound.places.saved; keeps = sound.places.keeps; back_to = sound.places.back_to }; room = sound.room };
+    here = is;
+  };
+  left = refl;
+  limits = record { heap = refl; trail = refl };
+  leads = λ g n w run quiet st. way_begins old frame place sound g n w run quiet st;
+}

@@ -1,0 +1,126 @@
+-- What the goals without terms come to.
+use Rattle.std.proofs.Common.{◌≡◌, ℕ, ◌+◌, ◌≤◌, List, [], ◌∷◌, ◌++◌, refl, sym, ap, ◌∙◌, subst, arith, length}
+use Rattle.std.specs.Prelude.{reverse}
+use Rattle.std.proofs.lemmas.List.{append-nil}
+use Rattle.std.specs.declared.vec.Vec.{Vec}
+use Rattle.std.specs.declared.alloc.Global.{Global}
+use Rattle.dg_base.specs.declared.program.Goal.TheVariants.{Text, Just, Fail, Quit, outs-Text, outs-Just, outs-Fail, outs-Quit}
+use Rattle.dg_base.specs.declared.run.Ending.TheVariants.{Quit as Quit-Ending}
+use Rattle.dg_meaning.specs.World.{Game, World, Print, Piece, Prints, prints}
+use Rattle.dg_meaning.specs.Path.{End}
+use Rattle.dg_meaning.specs.Moves.{printed, path_of, outcome}
+use Rattle.dg_meaning.specs.Transcript.{Run}
+use Rattle.dg_meaning.specs.Context.{cut_to}
+use Rattle.dg_meaning.specs.Keeps.{Stands, Finished, After}
+use Rattle.dg_meaning.proofs.Silently.{prints_append}
+use Rattle.dg_meaning.proofs.Keeps.{passes_cut}
+use Rattle.dg_meaning.specs.Cells.{cells}
+use Rattle.dg_base.specs.Goals.{terms_held}
+use Rattle.dg_interp.specs.declared.frames.Choice.{Choice}
+use Rattle.dg_interp.specs.declared.engine.Engine.{Engine}
+use Rattle.dg_interp.specs.Frames.{values_in, AreChoices, StandOn, GoBackTo, Agrees}
+use Rattle.dg_interp.specs.Engine.{store_in, KeepsPlaces, steps_of, IsQuiet, IsSound, IsReady, Point, TakesAt, StandsAt, FailsAt, Adds, Then, Leads, Ends, Cuts, WentOn}
+use Rattle.dg_interp.proofs.Links.{saved_older, choices_cut, back_cut, stand_cut}
+use Rattle.dg_interp.proofs.Places.{keeps_older}
+use Rattle.dg_interp.proofs.Takes.{behind, taken_in, comes_of, adds_taken}
+
+pub fails_taken : (old : Engine) → Leads (TakesAt Fail old) (FailsAt old)
+fails_taken old g n w run quiet st = record {
+  world = taken_in Fail old g n w run st;
+  adds = adds_taken (behind Fail old g n w run st) _ w quiet;
+  holds = record {
+    program = st.program;
+    lives = st.lives;
+    saved = st.saved;
+    keeps = st.keeps;
+    choices = st.choices;
+    failed = subst (λ f. After g st.lives st.ways n (outcome g f (values_in (store_in old.store) old.refs.items old.here.env) old.here.tag (steps_of old) (behind Fail old g n w run st) (taken_in Fail old g n w run st)) run) outs-Fail (comes_of Fail old g n w run st);
+  };
+}
+
+-- a goal without terms leaves the registers where they agree
+no_cells : (r heap : ℕ) → heap ≡ 0 → r + heap ≡ r
+no_cells r heap e = omega (arith, e)
+
+module _ (old : Engine) (choices : Vec Choice Global) (ready : IsReady old) (cuts : Cuts old.here.tag old.choices.items choices.items) where
+  abbrev t : ℕ
+  t = old.here.tag
+
+  abbrev os : List Choice
+  os = reverse old.choices.items
+
+  abbrev new : Engine
+  new = record old { choices = choices }
+
+  new_sound : IsSound new
+  new_sound = record {
+    program = ready.sound.program;
+    hold = ready.sound.hold;
+    frames = ready.sound.frames;
+    choices = subst (StandOn old.frames.items (length old.frames.items) (length old.refs.items) old.newest) (sym cuts) (stand_cut old.frames.items t (length old.frames.items) (length old.refs.items) old.newest os ready.sound.choices);
+    places = record {
+      saved = saved_older t os ready.sound.places.saved;
+      keeps = keeps_older old.store t os ready.sound.places.saved ready.sound.places.keeps;
+      back_to = subst (λ l. GoBackTo old.refs.items (store_in old.store).heap_limit (store_in old.store).trail_limit l (saved_older t os ready.sound.places.saved)) (sym cuts) (back_cut t old.refs.items _ _ os ready.sound.places.saved ready.sound.places.back_to);
+    };
+    room = ready.sound.room;
+  }
+
+  pub just_cut : WentOn (TakesAt Just old) old new
+  just_cut = record {
+    ready = record { sound = new_sound; here = ready.here };
+    left = refl;
+    limits = record { heap = refl; trail = refl };
+    leads = λ g n w run quiet st.
+        let r = behind Just old g n w run st in
+        let v = taken_in Just old g n w run st in
+        let heap : r.heap ≡ st.registers.heap = no_cells st.registers.heap _ (ap (λ f. cells g.program (terms_held f)) outs-Just) in
+        record {
+          world = v;
+          adds = adds_taken r _ w quiet;
+          holds = record {
+            program = st.program;
+            lives = cut_to t st.lives;
+            ways = st.ways;
+            registers = r;
+            saved = saved_older t os st.saved;
+            keeps = keeps_older old.store t os st.saved st.keeps;
+            agrees = record { bound = st.agrees.bound; vars = st.agrees.vars; heap = heap ∙ st.agrees.heap; trail = st.agrees.trail; since = st.agrees.since };
+            choices = subst (λ l. AreChoices g old.refs.items old.frames.items l (saved_older t os st.saved) (cut_to t st.lives)) (sym cuts) (choices_cut g t old.refs.items old.frames.items os st.saved st.lives st.choices);
+            tag = st.tag;
+            stands = passes_cut g st.lives st.ways t (steps_of old) r n v run
+                (subst (λ f. After g st.lives st.ways n (outcome g f (values_in (store_in old.store) old.refs.items old.here.env) t (steps_of old) r v) run) outs-Just (comes_of Just old g n w run st));
+          };
+        };
+  }
+
+-- ## A word, and the end
+
+pub prints_word : (name : List ℕ) (e : Engine) (g : Game) (n : ℕ) (w : World) (run : Run) → IsQuiet w → TakesAt (Text name) e g n w run → Then (Piece name ∷ []) w (λ v. StandsAt e g n v run)
+prints_word name e g n w run quiet st =
+    let r = behind (Text name) e g n w run st in
+    let v = taken_in (Text name) e g n w run st in
+    let heap : r.heap ≡ st.registers.heap = no_cells st.registers.heap _ (ap (λ f. cells g.program (terms_held f)) (outs-Text name)) in
+    record {
+      world = printed (Piece name) v;
+      adds = record { prints_are = prints_append w.events (Prints (Piece name) ∷ []); typed = refl; quiet = quiet };
+      holds = record {
+        program = st.program;
+        lives = st.lives;
+        ways = st.ways;
+        registers = r;
+        saved = st.saved;
+        keeps = st.keeps;
+        agrees = record { bound = st.agrees.bound; vars = st.agrees.vars; heap = heap ∙ st.agrees.heap; trail = st.agrees.trail; since = st.agrees.since };
+        choices = st.choices;
+        tag = st.tag;
+        stands = subst (λ f. After g st.lives st.ways n (outcome g f (values_in (store_in e.store) e.refs.items e.here.env) e.here.tag (steps_of e) r v) run) (outs-Text name) (comes_of (Text name) e g n w run st);
+      };
+    }
+
+pub quits : (e : Engine) → Ends (TakesAt Quit e) (End Quit-Ending)
+quits e g n w run quiet st = record {
+  world = taken_in Quit e g n w run st;
+  adds = adds_taken (behind Quit e g n w run st) _ w quiet;
+  holds = subst (λ f. After g st.lives st.ways n (outcome g f (values_in (store_in e.store) e.refs.items e.here.env) e.here.tag (steps_of e) (behind Quit e g n w run st) (taken_in Quit e g n w run st)) run) outs-Quit (comes_of Quit e g n w run st);
+}

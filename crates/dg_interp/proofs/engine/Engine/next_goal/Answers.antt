@@ -1,0 +1,32 @@
+use Rattle.std.proofs.Common.{refl, arith, ◌≤◌, ◌<◌}
+use Rattle.dg_base.specs.declared.run.Ending.TheVariants.{Done}
+use Rattle.dg_meaning.specs.Path.{Failing, End}
+use Rattle.dg_interp.specs.Engine.{FailsAt, StandsAt, store_in, branches_left}
+use Rattle.dg_interp.proofs.Places.{leads_on, limits_on, went_nowhere, went_wrong}
+use Rattle.dg_interp.proofs.Branches.{at_goal_from, refused_on, went_on_from, ended_from, full_from}
+use Rattle.dg_interp.proofs.engine.Engine.next_goal.Goals as goal
+
+pub answers-init : goal.answers-init
+answers-init c = went_nowhere c.args.self.now c.requires.ready
+
+pub returns-in-Goal-clause-next : goal.returns-in-Goal-clause-next
+returns-in-Goal-clause-next c = at_goal_from (StandsAt c.args.self.now) c.args.self.now c.answers.self c.settle.new.self c.answers.invariant c.in-Goal.ensures.settles
+
+pub returns-in-Done-clause-next : goal.returns-in-Done-clause-next
+returns-in-Done-clause-next c =
+    let w = c.answers.invariant in
+    ended_from (StandsAt c.args.self.now) (StandsAt c.answers.self) (End Done) c.args.self.now c.answers.self c.settle.new.self w.left w.leads c.in-Done.ensures.settles
+
+pub returns-in-Err-clause-full : goal.returns-in-Err-clause-full
+returns-in-Err-clause-full c =
+    let w = went_wrong (StandsAt c.args.self.now) c.args.self.now c.answers.self c.settle.new.self c.answers.invariant c.in-Refused.ensures.settles.wrong in
+    full_from (StandsAt c.args.self.now) (FailsAt c.settle.new.self) (store_in c.args.self.now.store) (store_in c.settle.new.self.store) c.in-Err.e w.limits.heap w.limits.trail w.leads c.in-Err.ensures.full
+
+pub returns-in-Ok-false-clause-next : goal.returns-in-Ok-false-clause-next
+returns-in-Ok-false-clause-next c =
+    let w = went_wrong (StandsAt c.args.self.now) c.args.self.now c.answers.self c.settle.new.self c.answers.invariant c.in-Refused.ensures.settles.wrong in
+    ended_from (StandsAt c.args.self.now) (FailsAt c.settle.new.self) Failing c.args.self.now c.settle.new.self c.back.new.self w.left w.leads (rw c.in-Ok-false.field-0-test at c.in-Ok-false.ensures.back)
+
+pub answers-preserved : goal.answers-preserved
+answers-preserved c =
+    refused_on (StandsAt c.args.self.now) c.args.self.now c.answers.self c.settle.new.self c.back.new.self c.answers.invariant c.in-Refused.ensures.settles.wrong (rw c.in-Ok-true.field-0-test at c.in-Ok-true.ensures.back).0
