@@ -18,4 +18,3 @@ pub mod Runs
 pub mod Rounds
 pub mod Whole
 pub mod PrintedWorlds
-pub mod Starts

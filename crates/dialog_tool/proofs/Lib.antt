@@ -1,11 +1,8 @@
 pub mod DigitLemmas
 pub mod DiceLemmas
 pub mod OptionLemmas
-pub mod RewrittenLemmas
+pub mod PlainLemmas
 pub mod SourceLemmas
 pub mod AnswerLemmas
 pub mod PlayLemmas
 pub mod StoryLemmas
-pub mod NodeLemmas
-pub mod BuiltTemp
-pub mod CoreLemmas
