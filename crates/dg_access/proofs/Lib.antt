@@ -4,3 +4,4 @@ pub mod PartsLemmas
 pub mod BranchLemmas
 pub mod NumberLemmas
 pub mod NameLemmas
+pub mod CountLemmas

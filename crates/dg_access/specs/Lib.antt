@@ -1,4 +1,7 @@
 pub mod Plain
 pub mod Marks
 pub mod Items
+pub mod Counts
+pub mod Rewritten
+pub mod Scopes
 pub mod State

@@ -1,14 +1,19 @@
 -- What the code keeps, as plain data. The proofs alone rest on it.
-use Rattle.std.specs.Prelude.{ℕ, List, map}
+use Rattle.std.specs.Prelude.{◌≡◌, ℕ, List, [], ◌∷◌, ◌++◌, Bool, Option, map}
 use Rattle.std.specs.Borrow.{Bor}
 use Rattle.std.specs.Option.{option_map}
 use Rattle.dg_base.specs.Tree as tree
 use Rattle.dg_base.specs.Tree.{Parts, Value, Stmt, Body}
 use Rattle.dg_access.specs.Plain as spec
 use Rattle.dg_access.specs.Marks as marks
+use Rattle.dg_access.specs.Counts.{is_node, is_query, is_select, is_opened}
+use Rattle.dg_access.specs.Scopes as scopes
 use Rattle.dg_access.specs.declared.marks.Mark.{Mark}
 use Rattle.dg_access.specs.declared.marks.Mark.TheVariants as mark
 use Rattle.dg_access.specs.declared.setting.Setting.{Setting}
+use Rattle.dg_access.specs.declared.counts.Sort.{Sort}
+use Rattle.dg_access.specs.declared.counts.Sort.TheVariants as sort
+use Rattle.dg_access.specs.declared.counts.Counts.{Counts}
 
 abbrev pub setting_view : Setting → spec.Setting
 setting_view s = record { topic = option_map (λ name. name.now) s.topic; number = s.number; declares = s.declares }
@@ -39,3 +44,13 @@ marked ms = map mark_view ms
 abbrev pub selected : Stmt → Body
 selected (tree.select mode b) = b
 selected s = tree.no_branches
+
+-- The marks of a sort.
+abbrev pub test_of : Sort → marks.Mark → Bool
+test_of sort.Node m = is_node m
+test_of sort.Query m = is_query m
+test_of sort.Select m = is_select m
+test_of sort.Closure m = is_opened m
+
+abbrev pub counts_view : Counts → scopes.Counted
+counts_view c = record { rules = c.rules; closures = c.closures; selects = c.selects; nodes = c.nodes }

@@ -1,14 +1,18 @@
 //! Items with plain heads: every variable has a name, and no choice of words and no query stands in a head.
 #![tactic(auto)]
 
+mod counts;
 mod fresh;
 mod laws;
 mod marks;
 mod numbers;
 mod plain;
 mod puts;
+mod rewriting;
 mod rules;
 mod setting;
+mod variables;
 
-pub use laws::{choices_differ, unnamed_variables_differ};
+pub use laws::{choices_differ, one_answer, unnamed_variables_differ};
+pub use rewriting::rewrite;
 pub use rules::plain_tree;
