@@ -5,3 +5,6 @@ pub mod BranchLemmas
 pub mod NumberLemmas
 pub mod NameLemmas
 pub mod CountLemmas
+pub mod EntryLemmas
+pub mod SpotLemmas
+pub mod FullLemmas

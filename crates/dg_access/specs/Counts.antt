@@ -11,7 +11,7 @@ use Rattle.dg_access.specs.Marks.{Mark, node, query, select, opened, marks_of_sa
 -- How often a name stands among these.
 abbrev pub times : List ℕ → List (List ℕ) → ℕ
 times n [] = 0
-times n (m ∷ ms) = if bytes_eq m n then times n ms + 1 else times n ms
+times n (m ∷ ms) = if bytes_eq n m then times n ms + 1 else times n ms
 
 -- Whether a name is that of an anonymous variable.
 abbrev pub is_unnamed : List ℕ → Bool
