@@ -40,10 +40,10 @@ apart n m e = apart_if n m (bytes_eq m n) refl e
 
 -- ---- one name more
 
-hit : (e : Entry) (es : List Entry) (n : List ℕ) (k : ℕ) → bytes_eq n e.name ≡ true → with_places (e ∷ es) n k ≡ entry e.name (e.places + k) ∷ es
+pub hit : (e : Entry) (es : List Entry) (n : List ℕ) (k : ℕ) → bytes_eq n e.name ≡ true → with_places (e ∷ es) n k ≡ entry e.name (e.places + k) ∷ es
 hit e es n k q = ap (λ (b : Bool). if b then entry e.name (e.places + k) ∷ es else e ∷ with_places es n k) q
 
-miss : (e : Entry) (es : List Entry) (n : List ℕ) (k : ℕ) → bytes_eq n e.name ≡ false → with_places (e ∷ es) n k ≡ e ∷ with_places es n k
+pub miss : (e : Entry) (es : List Entry) (n : List ℕ) (k : ℕ) → bytes_eq n e.name ≡ false → with_places (e ∷ es) n k ≡ e ∷ with_places es n k
 miss e es n k q = ap (λ (b : Bool). if b then entry e.name (e.places + k) ∷ es else e ∷ with_places es n k) q
 
 longer_if : (e : Entry) (es : List Entry) (n : List ℕ) (k : ℕ) (b : Bool) → length es ≤ length (with_places es n k) → length (e ∷ es) ≤ length (if b then entry e.name (e.places + k) ∷ es else e ∷ with_places es n k)

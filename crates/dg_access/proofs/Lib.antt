@@ -8,3 +8,5 @@ pub mod CountLemmas
 pub mod EntryLemmas
 pub mod SpotLemmas
 pub mod FullLemmas
+pub mod TotalLemmas
+pub mod NoteLemmas

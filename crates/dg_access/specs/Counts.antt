@@ -37,7 +37,7 @@ abbrev mutual
   names_out_of all (closure ms) = leaving all (names_out all ms)
   names_out_of all m = []
 
--- The number of variables of a rule or a closure, of all the names in its item.
+-- How many variables a rule or a closure has, of all the names in its item: each name once.
 abbrev pub variables_of : List (List ℕ) → Mentions → ℕ
 variables_of all ms = length (firsts (names_out all ms))
 
@@ -46,7 +46,7 @@ abbrev pub is_full_closure : List (List ℕ) → Mention → Bool
 is_full_closure all (closure ms) = nat_lt 64 (variables_of all ms)
 is_full_closure all m = false
 
--- A rule that has too many variables, or a closure in it that has, of all the names in the item.
+-- Whether there are too many variables here, or in a closure within, of all the names in the item.
 abbrev pub is_full_at : List (List ℕ) → Mentions → Bool
 is_full_at all ms = nat_lt 64 (variables_of all ms) || list_any (is_full_closure all) (at_depth ms)
 

@@ -92,8 +92,12 @@ fn behind(counts: Counts, said: &ItemBody, marks: &[Mark<'_>]) -> Counts
 {
     Counts {
         rules: rules_behind(counts.rules, said),
-        closures: counts.closures.saturating_add(number_of(Sort::Closure, marks)),
-        selects: counts.selects.saturating_add(number_of(Sort::Select, marks)),
+        closures: counts
+            .closures
+            .saturating_add(number_of(Sort::Closure, marks)),
+        selects: counts
+            .selects
+            .saturating_add(number_of(Sort::Select, marks)),
         nodes: counts.nodes.saturating_add(number_of(Sort::Node, marks)),
     }
 }
