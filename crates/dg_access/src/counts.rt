@@ -4,7 +4,7 @@ ghost use Rattle.std.specs.Option.{option_map};
 ghost use Rattle.dg_base.specs.TreeView.{item_view, said_view};
 ghost use Rattle.dg_names.specs.Counts as named;
 ghost use Rattle.dg_access.specs.Counts as spec;
-ghost use Rattle.dg_access.specs.Marks.{marks_of_said, names_among};
+ghost use Rattle.dg_access.specs.Marks.{marks_of_said};
 ghost use Rattle.dg_access.specs.Scopes as scopes;
 ghost use Rattle.dg_access.specs.Scopes.{more, behind, uncounted, passing};
 ghost use Rattle.dg_access.specs.State.{marked, mark_view, test_of, counts_view};

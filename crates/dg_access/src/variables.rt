@@ -1,5 +1,5 @@
 // The variables of one item.
-ghost use Rattle.std.specs.Prelude.{◌≡◌, ◌+◌, ◌<◌, ◌≤◌, ◌∷◌, [], length, IfOk, OnOk};
+ghost use Rattle.std.specs.Prelude.{◌≡◌, ◌∷◌, [], IfOk, OnOk};
 ghost use Rattle.dg_base.specs.TreeView.{said_view};
 ghost use Rattle.dg_access.specs.Counts as spec;
 ghost use Rattle.dg_access.specs.Marks as marks;

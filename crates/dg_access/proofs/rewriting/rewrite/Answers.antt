@@ -1,5 +1,5 @@
-use Rattle.std.proofs.Common.{◌≡◌, List, None, Option, Some, map, sym, ◌∙◌, ap, subst}
-use Rattle.std.specs.Prelude.{ℕ, Err}
+use Rattle.std.proofs.Common.{◌≡◌, List, None, Some, map, sym, ◌∙◌, ap, subst}
+use Rattle.std.specs.Prelude.{Err}
 use Rattle.std.specs.Option.{option_map}
 use Rattle.dg_base.specs.Tree as tree
 use Rattle.dg_base.specs.TreeView.{item_view, tree_view}

@@ -1,4 +1,4 @@
-use Rattle.std.proofs.Common.{◌≡◌, ◌<◌, ◌≤◌, ◌∙◌, List, length, get_or, sym, ap, arith}
+use Rattle.std.proofs.Common.{◌<◌, ◌≤◌, ◌∙◌, List, length, sym, ap, arith}
 use Rattle.dg_access.specs.Scopes.{place_of}
 use Rattle.dg_access.specs.State.{scope_view}
 use Rattle.dg_access.specs.declared.variables.Entry.{Entry}

@@ -1,7 +1,6 @@
 use Rattle.std.proofs.Common.{◌∙◌, ap}
 use Rattle.dg_access.specs.Scopes.{is_full, merged}
 use Rattle.dg_access.specs.State.{scope_view, total_in}
-use Rattle.dg_access.specs.declared.variables.Entry.{Entry}
 use Rattle.dg_access.proofs.NoteLemmas.{noted_closed}
 use Rattle.dg_access.proofs.variables.note_closed.Goals as goal
 

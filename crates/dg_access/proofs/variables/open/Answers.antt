@@ -1,5 +1,4 @@
-use Rattle.std.proofs.Common.{◌∷◌, List, Vec, Global, sym, ◌∙◌, ap}
-use Rattle.dg_access.specs.Scopes as spec
+use Rattle.std.proofs.Common.{◌∷◌, Vec, Global, ◌∙◌, ap}
 use Rattle.dg_access.specs.State.{scope_view, stack_of}
 use Rattle.dg_access.specs.declared.variables.Entry.{Entry}
 use Rattle.dg_access.proofs.NoteLemmas.{stack_push}
