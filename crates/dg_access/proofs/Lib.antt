@@ -4,4 +4,9 @@ pub mod PartsLemmas
 pub mod BranchLemmas
 pub mod NumberLemmas
 pub mod NameLemmas
-pub mod AnswerLemmas
+pub mod CountLemmas
+pub mod EntryLemmas
+pub mod SpotLemmas
+pub mod FullLemmas
+pub mod TotalLemmas
+pub mod NoteLemmas

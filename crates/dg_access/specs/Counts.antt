@@ -3,42 +3,56 @@ use Rattle.std.specs.Prelude.{ℕ, ◌+◌, ◌||◌, ◌&&◌, List, [], ◌∷
 use Rattle.std.specs.List.{list_any, starts_with}
 use Rattle.std.specs.Str.{bytes_eq}
 use Rattle.dg_base.specs.Tree.{Said, Item}
-use Rattle.dg_names.specs.Mentions.{Mention, variable, closure, Mentions, of_said}
+use Rattle.dg_names.specs.Mentions.{Mention, variable, closure, Mentions, nothing, mention, of_said}
 use Rattle.dg_names.specs.Named.{firsts, at_depth}
-use Rattle.dg_names.specs.Counts.{variables_in, rules_in}
-use Rattle.dg_access.specs.Marks.{Mark, node, query, select, opened, marks_of_said}
+use Rattle.dg_names.specs.Counts.{rules_in}
+use Rattle.dg_access.specs.Marks.{Mark, node, query, select, opened, marks_of_said, names_among}
 
--- How often a variable stands among these mentions.
-abbrev pub places_among : List ℕ → List Mention → ℕ
-places_among n [] = 0
-places_among n (variable m ∷ ms) = if bytes_eq m n then places_among n ms + 1 else places_among n ms
-places_among n (m ∷ ms) = places_among n ms
-
--- A closure that holds so many places of a variable.
-abbrev pub holds : List ℕ → ℕ → Mention → Bool
-holds n places (closure ms) = nat_eq (places_among n (at_depth ms)) places
-holds n places m = false
+-- How often a name stands among these.
+abbrev pub times : List ℕ → List (List ℕ) → ℕ
+times n [] = 0
+times n (m ∷ ms) = if bytes_eq n m then times n ms + 1 else times n ms
 
 -- Whether a name is that of an anonymous variable.
 abbrev pub is_unnamed : List ℕ → Bool
 is_unnamed n = starts_with nat_eq n (codes "$")
 
--- Whether an anonymous variable of an item belongs to a closure within these mentions: one there holds all its places.
-abbrev pub is_within : Mentions → Mentions → List ℕ → Bool
-is_within all ms n = is_unnamed n && list_any (holds n (places_among n (at_depth all))) (at_depth ms)
+-- Whether a variable is at home in a closure: it is anonymous, and stands as often among the names there as in the whole item.
+abbrev pub is_at_home : List (List ℕ) → List (List ℕ) → List ℕ → Bool
+is_at_home all there n = is_unnamed n && nat_eq (times n there) (times n all)
 
--- The variables of a rule or a closure of an item: those that stand in it at any depth, but for the anonymous ones of closures within.
-abbrev pub variables_of : Mentions → Mentions → ℕ
-variables_of all ms = length (firsts (filter (λ n. not (is_within all ms n)) (variables_in (at_depth ms))))
+-- The names that are left of those in a closure, once it has its own.
+abbrev pub leaving : List (List ℕ) → List (List ℕ) → List (List ℕ)
+leaving all there = filter (λ n. not (is_at_home all there n)) there
 
--- A closure of an item with too many variables.
-abbrev pub is_full_closure : Mentions → Mention → Bool
+abbrev mutual
+  -- The names that stand in some mentions, but for those that are at home in a closure within, and for a closure's parameter.
+  pub names_out : List (List ℕ) → Mentions → List (List ℕ)
+  names_out all nothing = []
+  names_out all (mention m ms) = names_out_of all m ++ names_out all ms
+
+  -- The names of one mention, in the same way.
+  pub names_out_of : List (List ℕ) → Mention → List (List ℕ)
+  names_out_of all (variable n) = if bytes_eq n (codes "_") then [] else n ∷ []
+  names_out_of all (closure ms) = leaving all (names_out all ms)
+  names_out_of all m = []
+
+-- How many variables a rule or a closure has, of all the names in its item: each name once.
+abbrev pub variables_of : List (List ℕ) → Mentions → ℕ
+variables_of all ms = length (firsts (names_out all ms))
+
+-- A closure with too many variables.
+abbrev pub is_full_closure : List (List ℕ) → Mention → Bool
 is_full_closure all (closure ms) = nat_lt 64 (variables_of all ms)
 is_full_closure all m = false
 
--- A rule or a closure with too many variables.
+-- Whether there are too many variables here, or in a closure within, of all the names in the item.
+abbrev pub is_full_at : List (List ℕ) → Mentions → Bool
+is_full_at all ms = nat_lt 64 (variables_of all ms) || list_any (is_full_closure all) (at_depth ms)
+
+-- An item with too many variables in a rule or a closure.
 abbrev pub has_many_variables : Said → Bool
-has_many_variables said = let all = of_said said in nat_lt 64 (variables_of all all) || list_any (is_full_closure all) (at_depth all)
+has_many_variables said = is_full_at (names_among (marks_of_said said)) (of_said said)
 
 abbrev pub is_node : Mark → Bool
 is_node node = true

@@ -3,4 +3,5 @@ pub mod Marks
 pub mod Items
 pub mod Counts
 pub mod Rewritten
+pub mod Scopes
 pub mod State

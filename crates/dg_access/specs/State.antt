@@ -1,14 +1,24 @@
 -- What the code keeps, as plain data. The proofs alone rest on it.
-use Rattle.std.specs.Prelude.{ℕ, List, map}
+use Rattle.std.specs.Prelude.{◌≡◌, ℕ, List, [], ◌∷◌, ◌++◌, ◌||◌, Bool, Vec, map, if◌then◌else◌}
 use Rattle.std.specs.Borrow.{Bor}
+use Rattle.std.specs.Global.{Global}
 use Rattle.std.specs.Option.{option_map}
+use Rattle.std.specs.Str.{bytes_eq}
+use Rattle.indexmap.specs.IndexMap.{IndexMap}
 use Rattle.dg_base.specs.Tree as tree
 use Rattle.dg_base.specs.Tree.{Parts, Value, Stmt, Body}
 use Rattle.dg_access.specs.Plain as spec
 use Rattle.dg_access.specs.Marks as marks
+use Rattle.dg_access.specs.Counts.{is_node, is_query, is_select, is_opened}
+use Rattle.dg_access.specs.Scopes as scopes
 use Rattle.dg_access.specs.declared.marks.Mark.{Mark}
 use Rattle.dg_access.specs.declared.marks.Mark.TheVariants as mark
 use Rattle.dg_access.specs.declared.setting.Setting.{Setting}
+use Rattle.dg_access.specs.declared.counts.Sort.{Sort}
+use Rattle.dg_access.specs.declared.counts.Sort.TheVariants as sort
+use Rattle.dg_access.specs.declared.counts.Counts.{Counts}
+use Rattle.dg_access.specs.declared.variables.Entry.{Entry}
+use Rattle.dg_access.specs.declared.variables.Scopes.{Scopes}
 
 abbrev pub setting_view : Setting → spec.Setting
 setting_view s = record { topic = option_map (λ name. name.now) s.topic; number = s.number; declares = s.declares }
@@ -39,3 +49,36 @@ marked ms = map mark_view ms
 abbrev pub selected : Stmt → Body
 selected (tree.select mode b) = b
 selected s = tree.no_branches
+
+-- The marks of a sort.
+abbrev pub test_of : Sort → marks.Mark → Bool
+test_of sort.Node m = is_node m
+test_of sort.Query m = is_query m
+test_of sort.Select m = is_select m
+test_of sort.Closure m = is_opened m
+
+abbrev pub counts_view : Counts → scopes.Counted
+counts_view c = record { rules = c.rules; closures = c.closures; selects = c.selects; nodes = c.nodes }
+
+abbrev pub total_at : List (Bor (List ℕ) × ℕ) → List ℕ → ℕ
+total_at [] n = 0
+total_at (e ∷ es) n = if bytes_eq n e.0.now then e.1 else total_at es n
+
+-- How often a name stands in the item.
+abbrev pub total_in : {S : Type 0} → IndexMap (Bor (List ℕ)) ℕ S → List ℕ → ℕ
+total_in totals n = total_at totals.entries n
+
+abbrev pub entry_view : Entry → scopes.Entry
+entry_view e = scopes.entry e.name.now e.places
+
+abbrev pub scope_view : List Entry → List scopes.Entry
+scope_view es = map entry_view es
+
+-- The scopes outside, the nearest first.
+abbrev pub stack_of : List (Vec Entry Global) → List (List scopes.Entry)
+stack_of [] = []
+stack_of (s ∷ ss) = stack_of ss ++ scope_view s.items ∷ []
+
+-- What was marked was noted, and this says whether a scope is full there.
+abbrev pub IsNoted : (List ℕ → ℕ) → marks.Mark → Scopes → Scopes → Bool → Type 0
+IsNoted total m old new over = (ms : List marks.Mark) → scopes.passes total (m ∷ ms) (scope_view old.inner.items) (stack_of old.outer.items) ≡ (over || scopes.passes total ms (scope_view new.inner.items) (stack_of new.outer.items))

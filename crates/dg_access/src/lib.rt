@@ -1,6 +1,7 @@
-//! Items with plain heads: every variable has a name, and no choice of words and no query stands in a head.
+//! Items with plain heads: every variable has a name, and no choice of words and no query stands in a head. What is then counted of them stays within its numbers.
 #![tactic(auto)]
 
+mod counts;
 mod fresh;
 mod laws;
 mod marks;
@@ -10,6 +11,8 @@ mod puts;
 mod rewriting;
 mod rules;
 mod setting;
+mod totals;
+mod variables;
 
 pub use laws::{choices_differ, one_answer, unnamed_variables_differ};
 pub use rewriting::rewrite;

@@ -1,4 +1,4 @@
-use Rattle.dg_access.proofs.AnswerLemmas.{one_answer}
+use Rattle.dg_access.proofs.CountLemmas.{one_answer}
 use Rattle.dg_access.proofs.laws.one_answer.Goals as goal
 
 pub returns : goal.returns

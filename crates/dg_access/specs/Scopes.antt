@@ -1,0 +1,102 @@
+-- Variables and numbers that are counted along the marks of an item. The proofs alone rest on it.
+use Rattle.std.specs.Prelude.{ℕ, ◌+◌, ◌||◌, ◌&&◌, List, [], ◌∷◌, ◌++◌, Bool, false, Option, Some, None, length, min, codes, nat_eq, nat_lt, if◌then◌else◌}
+use Rattle.std.specs.Str.{bytes_eq}
+use Rattle.dg_base.specs.Tree.{Said, Item}
+use Rattle.dg_names.specs.Counts.{is_rule}
+use Rattle.dg_names.specs.Mentions.{variable, closure, Mentions, nothing, mention}
+use Rattle.dg_access.specs.Marks.{Mark, named, opened, closed, marks_of_said}
+use Rattle.dg_access.specs.Counts.{is_unnamed, is_node, is_select, is_opened, number_of, has_excess}
+
+-- ---- variables
+
+-- A name, and how often it stands in a scope.
+pub record Entry : Type 0 where
+  pub name : List ℕ
+  pub places : ℕ
+
+abbrev pub entry : List ℕ → ℕ → Entry
+entry n k = record { name = n; places = k }
+
+-- A scope with so many more places of a name.
+abbrev pub with_places : List Entry → List ℕ → ℕ → List Entry
+with_places [] n k = entry n k ∷ []
+with_places (e ∷ es) n k = if bytes_eq n e.name then entry e.name (e.places + k) ∷ es else e ∷ with_places es n k
+
+-- The index of a name's entry in a scope, or the length.
+abbrev pub place_of : List Entry → List ℕ → ℕ
+place_of [] n = 0
+place_of (e ∷ es) n = if bytes_eq n e.name then 0 else place_of es n + 1
+
+abbrev pub is_full : List Entry → Bool
+is_full s = nat_lt 64 (length s)
+
+-- A scope behind a name.
+abbrev pub after : List ℕ → List Entry → List Entry
+after n s = if bytes_eq n (codes "_") then s else with_places s n 1
+
+-- Whether a variable that stands so often in a closure is left behind there, of all its places.
+abbrev pub stays : (List ℕ → ℕ) → Entry → Bool
+stays total e = is_unnamed e.name && nat_eq e.places (total e.name)
+
+-- A scope behind a closure in it.
+abbrev pub merged : (List ℕ → ℕ) → List Entry → List Entry → List Entry
+merged total o [] = o
+merged total o (e ∷ es) = merged total (if stays total e then o else with_places o e.name e.places) es
+
+-- Whether a scope is full along these marks, from this scope in those on.
+abbrev pub passes : (List ℕ → ℕ) → List Mark → List Entry → List (List Entry) → Bool
+passes total [] s outer = false
+passes total (named n ∷ ms) s outer = is_full (after n s) || passes total ms (after n s) outer
+passes total (opened ∷ ms) s outer = passes total ms [] (s ∷ outer)
+passes total (closed ∷ ms) s [] = passes total ms s []
+passes total (closed ∷ ms) s (o ∷ outer) = is_full (merged total o s) || passes total ms (merged total o s) outer
+passes total (m ∷ ms) s outer = passes total ms s outer
+
+-- What some mentions are marked with, but for what isn't of variables.
+abbrev pub walk : Mentions → List Mark
+walk nothing = []
+walk (mention (variable n) ms) = named n ∷ walk ms
+walk (mention (closure inner) ms) = opened ∷ (walk inner ++ closed ∷ walk ms)
+walk (mention m ms) = walk ms
+
+-- The marks that are of variables.
+abbrev pub spots : List Mark → List Mark
+spots [] = []
+spots (named n ∷ ms) = named n ∷ spots ms
+spots (opened ∷ ms) = opened ∷ spots ms
+spots (closed ∷ ms) = closed ∷ spots ms
+spots (m ∷ ms) = spots ms
+
+-- ---- counts in all
+
+pub record Counted : Type 0 where
+  pub rules : ℕ
+  pub closures : ℕ
+  pub selects : ℕ
+  pub nodes : ℕ
+
+-- A sum in 64 bits that stays at the last number.
+abbrev pub more : ℕ → ℕ → ℕ
+more a b = min (a + b) 18446744073709551615
+
+-- What is counted behind an item.
+abbrev pub behind : Said → Counted → Counted
+behind said c = record {
+  rules = more c.rules (if is_rule said then 1 else 0);
+  closures = more c.closures (number_of is_opened (marks_of_said said));
+  selects = more c.selects (number_of is_select (marks_of_said said));
+  nodes = more c.nodes (number_of is_node (marks_of_said said));
+}
+
+-- Nothing yet.
+abbrev pub uncounted : Counted
+uncounted = record { rules = 0; closures = 0; selects = 0; nodes = 0 }
+
+-- A count in all passes its number.
+abbrev pub has_many : Counted → Bool
+has_many c = nat_lt 16000 c.rules || (nat_lt 16000 c.closures || (nat_lt 500 c.selects || nat_lt 2000000 c.nodes))
+
+-- The first item at which a count passes, from what was counted on.
+abbrev pub passing : Counted → List Item → Option Item
+passing c [] = None
+passing c (i ∷ is) = if has_excess i.said || has_many (behind i.said c) then Some i else passing (behind i.said c) is
