@@ -17,3 +17,4 @@ pub mod Goals
 pub mod Runs
 pub mod Rounds
 pub mod Whole
+pub mod Values
