@@ -18,3 +18,4 @@ pub mod Runs
 pub mod Rounds
 pub mod Whole
 pub mod PrintedWorlds
+pub mod Values

@@ -1,19 +1,21 @@
 -- What the taking of a goal comes to.
-use Rattle.std.proofs.Common.{◌≡◌, ℕ, zero, suc, ◌+◌, ◌^◌, ◌<◌, ◌≤◌, List, [], ◌∷◌, ◌++◌, Bool, true, false, refl, sym, ap, ◌∙◌, subst, arith, length, map, drop}
+use Rattle.std.proofs.Common.{◌≡◌, ℕ, zero, suc, ◌+◌, ◌*◌, ◌^◌, ◌<◌, ◌≤◌, List, [], ◌∷◌, ◌++◌, Bool, true, false, refl, sym, ap, ◌∙◌, subst, arith, length, map, drop}
 use Rattle.std.specs.Prelude.{reverse, slice_get}
 use Rattle.std.specs.List.{All}
 use Rattle.std.proofs.lemmas.List.{append-nil}
 use Rattle.std.specs.declared.vec.Vec.{Vec}
 use Rattle.std.specs.declared.alloc.Global.{Global}
 use Rattle.dg_base.specs.declared.program.Goal.{Goal, Goal-F, out-Goal}
-use Rattle.dg_base.specs.declared.program.Goal.TheOpen.{Text, Ask, Just, Fail, Quit}
+use Rattle.dg_base.specs.declared.program.Goal.TheOpen.{Text, Ask, Just, Fail, Quit, Test}
 use Rattle.dg_base.specs.Goals.{terms_held}
 use Rattle.dg_meaning.specs.Values.{Value, value_of}
 use Rattle.dg_meaning.specs.World.{Game, World, Asked, prints, noted, worked, dropped}
 use Rattle.dg_meaning.specs.Cells.{cells, writing}
 use Rattle.dg_meaning.specs.Path.{Step, Do, Registers, Branch, Enter, Clash, TakeOut, Kind, Rules as RulesOf, Result, Move, GoesOn, FailsAt as MoveFails, EndsAt, StopsAt, Chooses}
-use Rattle.dg_meaning.specs.Moves.{begun, choice, rule_branches, rules_of, goes_on_if, behind_terms, outcome, move}
+use Rattle.dg_meaning.specs.Moves.{begun, bound_by, made_since, test_looks, choice, rule_branches, rules_of, goes_on_if, behind_terms, outcome, move}
 use Rattle.dg_meaning.specs.Transcript.{Run, run_of}
+use Rattle.dg_meaning.specs.Unify.{unify}
+use Rattle.dg_meaning.specs.TypeTests.{passes}
 use Rattle.dg_meaning.specs.OneRun.{Begins, Grows}
 use Rattle.dg_meaning.specs.Context.{Way, Live, Silently}
 use Rattle.dg_meaning.specs.Keeps.{Finished, Began, After, world_of}
@@ -75,6 +77,7 @@ choice_no_stop k t (b ∷ bs) w = tt
 
 pub no_stop : (g : Game) (x : Goal-F Goal) (env : List Value) (t : ℕ) (steps : List Step) (r : Registers) (w : World) → IsForm x → NoStop (outcome g x env t steps r w)
 no_stop g (Text name) env t steps r w is = tt
+no_stop g (Test kind a) env t steps r w is = let v = value_of g.program env a in goes_on_no_stop (passes r.bound kind v) steps r (worked (test_looks kind v r) w)
 no_stop g (Ask pred args many) env t steps r w is = choice_no_stop (RulesOf pred) r.next_tag (rule_branches g pred (map (value_of g.program env) args) many steps r (rules_of (slice_get g.program.preds pred))) (noted (Asked pred) w)
 no_stop g Just env t steps r w is = tt
 no_stop g Fail env t steps r w is = tt

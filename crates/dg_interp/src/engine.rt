@@ -16,8 +16,9 @@ ghost use Rattle.dg_unify.specs.Store.{Saved, Kept, Holds, Charged};
 
 use crate::frames::{Choice, Env, Frame, Left, Mark, Query};
 use crate::matching::unify_all;
-use crate::terms::{new_variables, write_terms};
-use dg_base::{CoreProgram, Ending, Goal, Rule, Term};
+use crate::terms::{new_variables, write_term, write_terms};
+use crate::testing::test;
+use dg_base::{CoreProgram, Ending, Goal, Rule, Term, TestKind};
 use dg_unify::{Bindings, Full, ListBindings, Mark as Place, Ref};
 use std::alloc::{AllocError, Global};
 
@@ -474,5 +475,32 @@ impl<'p> Engine<'p> {
         ensures cut { WentOn (TakesAt JustGoal self.old) self.old self.new }
     {
         cut(&mut self.choices, self.here.tag);
+    }
+
+    /// Tests what a value is; where it doesn't pass, goes back.
+    pub fn test(&mut self, kind: TestKind, term: &Term) -> Result<bool, Full>
+        requires ready { IsReady self.old }
+        requires plain { HasNoClosure term.now }
+        ensures tested { IfOk result (λ found. Branches (TakesAt (TestGoal kind term.now) self.old) found self.old self.new) }
+        ensures full { IfErr result (λ e. FullAt (TakesAt (TestGoal kind term.now) self.old) (store_in self.old.store) e) }
+        ensures left { self.new.left ≡ self.old.left }
+    {
+        match write_term(
+            &mut self.store,
+            stretch(&self.refs, self.here.env),
+            term,
+            &mut self.made,
+        ) {
+            Err(e) => Err(e),
+            Ok(value) => {
+                if test(&self.store, kind, value) {
+                    return Ok(true);
+                }
+                match self.back() {
+                    Err(e) => Err(e),
+                    Ok(found) => Ok(found),
+                }
+            }
+        }
     }
 }

@@ -65,6 +65,7 @@ fn do_goal<K: Sink>(
         }
         Goal::Fail => outcome(engine.fail()),
         Goal::Quit => Ok(Some(Ending::Quit)),
+        Goal::Test(kind, term) => outcome(engine.test(*kind, term)),
         _ => unreachable!(),
     }
 }

@@ -2,20 +2,21 @@
 use Rattle.std.specs.Prelude.{List}
 use Rattle.std.specs.List.{All}
 use Rattle.dg_base.specs.declared.program.Goal.{Goal, Goal-F, out-Goal}
-use Rattle.dg_base.specs.declared.program.Goal.TheOpen.{Text, Ask, Just, Fail, Quit}
+use Rattle.dg_base.specs.declared.program.Goal.TheOpen.{Text, Ask, Just, Fail, Quit, Test}
 use Rattle.dg_base.specs.declared.program.Rule.{Rule}
 use Rattle.dg_base.specs.declared.program.Pred.{Pred}
 use Rattle.dg_base.specs.declared.program.CoreProgram.{CoreProgram}
 use Rattle.dg_base.specs.Goals.{terms_held}
 use Rattle.dg_meaning.specs.Closures.{HasNoClosure}
 
--- Text, a query, a cut, a failure, and an end.
+-- Text, a query, a cut, a failure, an end, and a test.
 abbrev pub IsForm : Goal-F Goal → Type 0
 IsForm (Text name) = Unit {0}
 IsForm (Ask pred args many) = Unit {0}
 IsForm Just = Unit {0}
 IsForm Fail = Unit {0}
 IsForm Quit = Unit {0}
+IsForm (Test kind a) = Unit {0}
 IsForm _ = ⊥
 
 -- One of these forms, and no closure in the terms that it holds.

@@ -1,6 +1,7 @@
-use Rattle.dg_base.specs.declared.program.Goal.TheVariants.{Ask, Fail, Just}
+use Rattle.dg_base.specs.declared.program.Goal.TheVariants.{Ask, Fail, Just, Test}
 use Rattle.dg_interp.specs.Engine.{TakesAt, WentOn}
 use Rattle.dg_interp.proofs.Runs.{word_done, word_lost, goal_done, goal_does, goal_breaks, goal_quits}
+use Rattle.dg_interp.proofs.Values.{test_plain}
 use Rattle.dg_interp.proofs.run.do_goal.Goals as goal
 
 pub returns-in-Ok-clause-ok : goal.returns-in-Ok-clause-ok
@@ -29,3 +30,13 @@ returns-in-Fail-clause-err g c = goal_breaks c.take_goal.result.now c.args.engin
 
 pub returns-in-Quit-clause-ok : goal.returns-in-Quit-clause-ok
 returns-in-Quit-clause-ok g c = goal_quits c.take_goal.result.now c.args.engine.now c.take_goal.new.self c.args.spacer.now _ c.take_goal.ensures.taken c.in-Quit.is
+
+pub returns-in-Test-clause-ok : goal.returns-in-Test-clause-ok
+returns-in-Test-clause-ok g c =
+    goal_does (Test c.in-Test.kind c.in-Test.term) c.args.engine.now c.take_goal.new.self c.args.spacer.now _ c.requires.goal (rw c.in-Test.is at c.take_goal.ensures.taken) c.test.new.self c.test.ensures.left c.test.result c.outcome-in-Test.result c.outcome-in-Test.ensures c.test.ensures.tested c.test.ensures.full
+
+pub returns-in-Test-clause-err : goal.returns-in-Test-clause-err
+returns-in-Test-clause-err g c = goal_breaks c.take_goal.result.now c.args.engine.now c.take_goal.new.self c.args.spacer.now _ c.requires.goal c.take_goal.ensures.taken c.test.result c.outcome-in-Test.result c.outcome-in-Test.ensures
+
+pub test-requires-clause-plain : goal.test-requires-clause-plain
+test-requires-clause-plain g c = test_plain c.in-Test.kind c.in-Test.term (rw c.in-Test.is at c.take_goal.ensures.taken.built)

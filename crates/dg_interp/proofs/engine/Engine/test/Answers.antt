@@ -1,0 +1,46 @@
+use Rattle.std.proofs.Common.{refl, sym, ap, ◌∙◌, true, false, [], ◌∷◌, ◌≡◌}
+use Rattle.dg_base.specs.declared.program.CoreProgram.{CoreProgram}
+use Rattle.dg_base.specs.declared.program.Goal.TheVariants.{Test}
+use Rattle.dg_interp.specs.Frames.{stretch}
+use Rattle.dg_interp.specs.Engine.{store_in, FailsAt, TakesAt}
+use Rattle.dg_interp.proofs.Takes.{store_sound}
+use Rattle.dg_interp.proofs.Values.{grown, grown_limits, test_full, test_passed, test_failed, made_holds, made_among}
+use Rattle.dg_interp.proofs.Branches.{full_from, goes_back_from}
+use Rattle.dg_interp.proofs.engine.Engine.test.Goals as goal
+
+no_program : CoreProgram
+no_program = record { preds = []; closures = []; places = []; objects = []; words = []; sites = 0; entry = 0 }
+
+pub returns-in-Err-clause-full : goal.returns-in-Err-clause-full
+returns-in-Err-clause-full c = test_full c.args.kind c.args.term.now c.args.self.now c.in-Err.e c.in-Err.ensures.written
+
+pub test-requires : goal.test-requires
+test-requires c = made_holds _ (store_in c.args.self.now.store) (store_in c.write_term.new.store) c.in-Ok.value _ (c.in-Ok.ensures.written no_program)
+
+pub back-requires : goal.back-requires
+back-requires c = record { sound = store_sound c.args.self.now c.write_term.new.store c.write_term.new.stack c.write_term.ensures.kept c.write_term.ensures.saved c.requires.ready.sound }
+
+pub returns-then-test-clause-tested : goal.returns-then-test-clause-tested
+returns-then-test-clause-tested c =
+    test_passed c.args.kind c.args.term.now c.args.self.now c.write_term.new.store c.write_term.new.stack c.in-Ok.value c.requires.ready c.write_term.ensures.kept c.write_term.ensures.saved
+    (λ program. made_among program [] _ _ _ c.args.self.now.refs.items c.stretch.result.now c.args.self.now.here.env c.in-Ok.value c.args.term.now (c.stretch.ensures ∙ ap (λ l. stretch l c.args.self.now.here.env) c.deref.ensures.value) (c.in-Ok.ensures.written program))
+    (sym c.if-test.true ∙ c.test.ensures)
+
+pub returns-in-Err-back-clause-full : goal.returns-in-Err-back-clause-full
+returns-in-Err-back-clause-full c =
+    let x = Test c.args.kind c.args.term.now in
+    let e = record c.args.self.now { store = c.write_term.new.store; made = c.write_term.new.stack } in
+    full_from (TakesAt x c.args.self.now) (FailsAt e) (store_in c.args.self.now.store) (store_in c.write_term.new.store) c.in-Err-back.e c.write_term.ensures.kept.heap_limit c.write_term.ensures.kept.trail_limit
+    (test_failed c.args.kind c.args.term.now c.args.self.now c.write_term.new.store c.write_term.new.stack c.in-Ok.value c.requires.ready c.write_term.ensures.kept c.write_term.ensures.saved
+    (λ program. made_among program [] _ _ _ c.args.self.now.refs.items c.stretch.result.now c.args.self.now.here.env c.in-Ok.value c.args.term.now (c.stretch.ensures ∙ ap (λ l. stretch l c.args.self.now.here.env) c.deref.ensures.value) (c.in-Ok.ensures.written program))
+    (sym c.if-test.false ∙ c.test.ensures)) c.in-Err-back.ensures.full
+
+pub returns-in-Ok-back-clause-tested : goal.returns-in-Ok-back-clause-tested
+returns-in-Ok-back-clause-tested c =
+    let x = Test c.args.kind c.args.term.now in
+    let e = record c.args.self.now { store = c.write_term.new.store; made = c.write_term.new.stack } in
+    goes_back_from (TakesAt x c.args.self.now) (FailsAt e) c.args.self.now e c.back.new.self refl
+    (grown_limits x c.args.self.now c.write_term.new.store c.write_term.new.stack c.requires.ready c.write_term.ensures.kept c.write_term.ensures.saved)
+    (test_failed c.args.kind c.args.term.now c.args.self.now c.write_term.new.store c.write_term.new.stack c.in-Ok.value c.requires.ready c.write_term.ensures.kept c.write_term.ensures.saved
+    (λ program. made_among program [] _ _ _ c.args.self.now.refs.items c.stretch.result.now c.args.self.now.here.env c.in-Ok.value c.args.term.now (c.stretch.ensures ∙ ap (λ l. stretch l c.args.self.now.here.env) c.deref.ensures.value) (c.in-Ok.ensures.written program))
+    (sym c.if-test.false ∙ c.test.ensures)) c.in-Ok-back.found c.in-Ok-back.ensures.back
