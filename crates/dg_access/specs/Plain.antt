@@ -201,7 +201,7 @@ abbrev pub in_front : List Stmt → Stmts → Stmts
 in_front [] ss = ss
 in_front (p ∷ ps) ss = tree.stmt p (in_front ps ss)
 
--- Whether a body has one branch alone.
+-- Whether a body has one branch.
 abbrev pub is_single : Body → Bool
 is_single tree.no_branches = false
 is_single (tree.branch ss tree.no_branches) = true
@@ -212,7 +212,6 @@ abbrev pub whole_body : Body → Stmts
 whole_body (tree.branch ss tree.no_branches) = ss
 whole_body b = tree.stmt (tree.group b) tree.no_stmts
 
--- Whether there are none of these.
 abbrev pub is_none : List Stmt → Bool
 is_none [] = true
 is_none (p ∷ ps) = false
