@@ -5,8 +5,7 @@ use Rattle.std.specs.List.{All}
 use Rattle.std.proofs.lemmas.List.Elements.{All-append}
 use Rattle.std.specs.declared.vec.Vec.{Vec}
 use Rattle.std.specs.declared.alloc.Global.{Global}
-use Rattle.dg_base.specs.declared.program.Goal.{Goal, Goal-F, out-Goal}
-use Rattle.dg_base.specs.declared.program.Goal.TheOpen.{Ask as Ask-Form}
+use Rattle.dg_base.specs.declared.program.Goal.{Goal, out-Goal}
 use Rattle.dg_base.specs.declared.program.Goal.TheVariants.{Ask, outs-Ask}
 use Rattle.dg_base.specs.declared.program.Term.{Term}
 use Rattle.dg_base.specs.declared.program.Rule.{Rule}
@@ -15,9 +14,9 @@ use Rattle.dg_base.specs.declared.program.CoreProgram.{CoreProgram}
 use Rattle.dg_base.specs.Goals.{terms_held}
 use Rattle.dg_meaning.specs.Values.{Value, value_of}
 use Rattle.dg_meaning.specs.World.{Game, World, Asked, HasFailed, noted, worked}
-use Rattle.dg_meaning.specs.Context.{Way, Live, pushed}
-use Rattle.dg_meaning.specs.Path.{Step, Registers, Branch, Rules as RulesOf, Move}
-use Rattle.dg_meaning.specs.Moves.{begun, rule_branches, rules_of, choice, ask, behind_terms, outcome}
+use Rattle.dg_meaning.specs.Context.{Live, pushed}
+use Rattle.dg_meaning.specs.Path.{Registers, Branch, Rules as RulesOf, Move}
+use Rattle.dg_meaning.specs.Moves.{begun, rule_branches, rules_of, choice, outcome}
 use Rattle.dg_meaning.specs.Cells.{cells, writing}
 use Rattle.dg_meaning.specs.Transcript.{Run}
 use Rattle.dg_meaning.specs.Keeps.{Began, After}
@@ -37,10 +36,10 @@ use Rattle.dg_interp.specs.declared.frames.Left.TheVariants.{Rules}
 use Rattle.dg_interp.specs.declared.engine.Engine.{Engine}
 use Rattle.dg_interp.specs.Rules.{ArgsWritten}
 use Rattle.dg_interp.specs.Terms.{Overflows, Written}
-use Rattle.dg_interp.specs.Frames.{stretch, values_in, steps_behind, steps_at, branches_of, Agrees, AreChoices, IsFrame, AreFrames, IsLeft, StandOn, GoBackTo}
-use Rattle.dg_interp.specs.Engine.{store_in, KeepsPlaces, HasPlaces, HasPlace, IsPlace, Point, IsQuiet, IsSound, IsReady, TakesAt, FailsAt, BeginsAt, FullAt, Adds, Then, Leads, SameLimits, steps_of}
-use Rattle.dg_interp.proofs.Links.{SameBy, same_here, same_append, behind_new, behind_same, at_same, frame_raise, frames_raise, frames_append, choices_same, back_same, stand_raise, stand_same}
-use Rattle.dg_interp.proofs.Stores.{kept_here, kept_on, all_hold, all_told, values_kept, hold_front, front_same, take_all, appended_stretch}
+use Rattle.dg_interp.specs.Frames.{stretch, values_in, steps_behind, Agrees, AreChoices, AreFrames, IsLeft, StandOn, GoBackTo}
+use Rattle.dg_interp.specs.Engine.{store_in, KeepsPlaces, HasPlace, IsPlace, Point, IsQuiet, IsSound, IsReady, TakesAt, FailsAt, BeginsAt, FullAt, Adds, Leads, SameLimits, steps_of}
+use Rattle.dg_interp.proofs.Links.{SameBy, same_here, same_append, behind_new, at_same, frame_raise, frames_raise, frames_append, choices_same, back_same, stand_raise, stand_same}
+use Rattle.dg_interp.proofs.Stores.{kept_here, all_hold, values_kept, hold_front, front_same, appended_stretch}
 use Rattle.dg_interp.proofs.Begins.{back_limits}
 use Rattle.dg_interp.proofs.Places.{adds_on, adds_noted}
 use Rattle.dg_interp.proofs.Takes.{behind, taken_in, comes_of, adds_taken, terms_full}

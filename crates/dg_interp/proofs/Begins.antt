@@ -1,6 +1,6 @@
 -- A rule of a query begins, or fails where it begins.
-use Rattle.std.proofs.Common.{◌≡◌, ℕ, zero, suc, ◌+◌, ◌*◌, ◌^◌, ◌<◌, ◌≤◌, List, [], ◌∷◌, ◌++◌, Bool, true, false, refl, sym, ap, ◌∙◌, subst, arith, length, length-append, map, take, Bor}
-use Rattle.std.specs.Prelude.{reverse, max}
+use Rattle.std.proofs.Common.{◌≡◌, ℕ, zero, suc, ◌+◌, ◌*◌, ◌<◌, ◌≤◌, List, [], ◌∷◌, Bool, true, false, refl, sym, ap, ◌∙◌, subst, arith, length, length-append, map, take, Bor}
+use Rattle.std.specs.Prelude.{reverse}
 use Rattle.std.specs.List.{All, zip}
 use Rattle.std.proofs.lemmas.List.{append-nil, length-map}
 use Rattle.std.proofs.lemmas.List.Elements.{All-append}
@@ -10,16 +10,15 @@ use Rattle.dg_base.specs.declared.program.Goal.{Goal}
 use Rattle.dg_base.specs.declared.program.Rule.{Rule}
 use Rattle.dg_base.specs.declared.program.CoreProgram.{CoreProgram}
 use Rattle.dg_meaning.specs.Values.{Value, value_of}
-use Rattle.dg_meaning.specs.Substitutions.{Substitution, IsSubstitution, Extends}
+use Rattle.dg_meaning.specs.Substitutions.{IsSubstitution, Extends}
 use Rattle.dg_meaning.specs.Unify.{Unified, solve}
 use Rattle.dg_meaning.specs.World.{Game, World, prints}
-use Rattle.dg_meaning.specs.Cells.{cells, writing}
-use Rattle.dg_meaning.specs.Path.{Step, Registers, Path, Branch, Clash, Enter, Kind, Rules as RulesOf}
-use Rattle.dg_meaning.specs.Moves.{begun, enter, inside, path_of, choice_cells, enter_if, made_since, older_bound, rule_steps, vars_of, new_vars, entered, match, matched, rule_branch, rule_branches}
+use Rattle.dg_meaning.specs.Cells.{writing}
+use Rattle.dg_meaning.specs.Path.{Step, Registers, Path, Branch, Rules as RulesOf}
+use Rattle.dg_meaning.specs.Moves.{begun, enter, inside, path_of, choice_cells, enter_if, older_bound, rule_steps, vars_of, new_vars, entered, match, matched, rule_branch, rule_branches}
 use Rattle.dg_meaning.specs.Transcript.{Run}
 use Rattle.dg_meaning.specs.Context.{Way, Live, pushed}
-use Rattle.dg_meaning.specs.Keeps.{Stands, Failed, Began}
-use Rattle.dg_meaning.specs.OneRun.{Grows}
+use Rattle.dg_meaning.specs.Keeps.{Stands, Began}
 use Rattle.dg_meaning.specs.Built.{AreBuilt, IsBuiltRule}
 use Rattle.dg_meaning.proofs.Keeps.{has_happened, has_happened_before}
 use Rattle.dg_meaning.proofs.Solving.{solve_extends}
@@ -35,18 +34,16 @@ use Rattle.dg_interp.specs.declared.frames.Query.{Query}
 use Rattle.dg_interp.specs.declared.frames.Env.{Env}
 use Rattle.dg_interp.specs.declared.frames.Mark.TheVariants.{AnswerOf}
 use Rattle.dg_interp.specs.declared.frames.Frame.{Frame}
-use Rattle.dg_interp.specs.declared.frames.Left.{Left}
 use Rattle.dg_interp.specs.declared.frames.Left.TheVariants.{Rules, Way as OneWay}
 use Rattle.dg_interp.specs.declared.frames.Choice.{Choice}
 use Rattle.dg_interp.specs.declared.engine.Engine.{Engine}
 use Rattle.dg_interp.specs.Terms.{Overflows}
 use Rattle.dg_interp.specs.Rules.{rule_cells, matched_in, EntersRule, RuleFull}
-use Rattle.dg_interp.specs.Frames.{stretch, values_in, frame_steps, steps_behind, steps_at, branches_of, Agrees, AreChoices, IsFrame, AreFrames, IsLeft, EndsBy, StandOn, GoBackTo, left_in, all_left}
-use Rattle.dg_interp.specs.Engine.{store_in, KeepsPlaces, HasPlaces, HasPlace, IsPlace, Point, IsQuiet, IsSound, IsReady, StandsAt, FailsAt, BeginsAt, FullAt, Adds, Then, SameLimits, WentOn, WentWrong, branches_left, kept_if, cells_if}
-use Rattle.dg_interp.proofs.Links.{SameBy, same_here, branches_same, behind_same, choices_same, back_same, frames_raise, stand_raise}
-use Rattle.dg_interp.proofs.Stores.{kept_on, all_hold, values_kept, hold_front, front_same, take_all, appended_stretch, values_count, trail_append, trail_older, made_is}
-use Rattle.dg_interp.proofs.Kept.{saved_if, kept_places, kept_stand, kept_back, kept_choices, kept_count, cells_same}
-use Rattle.dg_interp.proofs.Places.{adds_nothing}
+use Rattle.dg_interp.specs.Frames.{values_in, frame_steps, steps_behind, steps_at, branches_of, Agrees, AreChoices, IsFrame, IsLeft, StandOn, GoBackTo}
+use Rattle.dg_interp.specs.Engine.{store_in, KeepsPlaces, HasPlace, Point, IsQuiet, IsSound, StandsAt, BeginsAt, FullAt, Adds, Then, SameLimits, WentOn, WentWrong, kept_if, cells_if}
+use Rattle.dg_interp.proofs.Links.{same_here, branches_same, behind_same, choices_same, back_same, frames_raise, stand_raise}
+use Rattle.dg_interp.proofs.Stores.{kept_on, all_hold, values_kept, hold_front, front_same, appended_stretch, values_count, trail_append, trail_older, made_is}
+use Rattle.dg_interp.proofs.Kept.{saved_if, kept_places, kept_stand, kept_back, kept_choices, cells_same}
 use Rattle.dg_interp.proofs.Turns.{all_first, all_rest}
 
 -- ## Peaks

@@ -1,18 +1,18 @@
 -- The newest choice is tried again.
-use Rattle.std.proofs.Common.{◌≡◌, ℕ, ◌+◌, ◌<◌, ◌≤◌, List, [], ◌∷◌, ◌++◌, Bool, true, false, refl, sym, ap, ◌∙◌, subst, arith, length, take, length-take}
+use Rattle.std.proofs.Common.{◌≡◌, ℕ, ◌+◌, ◌<◌, List, [], ◌∷◌, ◌++◌, Bool, true, false, refl, sym, ap, ◌∙◌, subst, arith, length, take, length-take}
 use Rattle.std.specs.Prelude.{reverse}
 use Rattle.std.specs.List.{All}
 use Rattle.std.specs.declared.vec.Vec.{Vec}
 use Rattle.std.specs.declared.alloc.Global.{Global}
 use Rattle.dg_meaning.specs.World.{Game, World}
-use Rattle.dg_meaning.specs.Path.{Registers, Branch, Kind, Result, Failing}
+use Rattle.dg_meaning.specs.Path.{Result, Failing}
 use Rattle.dg_meaning.specs.Search.{retried}
 use Rattle.dg_meaning.specs.Transcript.{Run}
 use Rattle.dg_meaning.specs.Context.{Live, pushed}
 use Rattle.dg_meaning.specs.Keeps.{Finished, FailsTo, Resumed, Began}
 use Rattle.dg_meaning.proofs.Silently.{retried_silently, quiet_later}
 use Rattle.dg_meaning.proofs.Keeps.{failed, begins_next}
-use Rattle.dg_unify.specs.Store.{Store, State, Saved, Holds, Kept, Back}
+use Rattle.dg_unify.specs.Store.{Store, State, Saved, Holds, Back}
 use Rattle.dg_unify.specs.Laws.{saves_drops}
 use Rattle.dg_unify.specs.Listed.{fields_of}
 use Rattle.dg_unify.specs.declared.bindings.Ref.{Ref}
@@ -23,9 +23,9 @@ use Rattle.dg_unify.specs.declared.list.ListBindings.{ListBindings}
 use Rattle.dg_interp.specs.declared.frames.Frame.{Frame}
 use Rattle.dg_interp.specs.declared.frames.Choice.{Choice}
 use Rattle.dg_interp.specs.declared.engine.Engine.{Engine}
-use Rattle.dg_interp.specs.Frames.{values_in, kind_of, branches_of, Agrees, IsChoice, AreChoices, AreFrames, IsLeft, StandOn, GoBackTo, left_in, all_left}
-use Rattle.dg_interp.specs.Engine.{store_in, KeepsPlaces, HasPlaces, HasPlace, IsPlace, Point, IsQuiet, IsSound, StandsAt, FailsAt, BeginsAt, Adds, Then, Leads, Ends, FullAt, SameLimits, WentOn, WentWrong, HasEndedSo, AtGoal, Branches, GoesBack, Tries, Retries, branches_left}
-use Rattle.dg_interp.proofs.Links.{Within, left_within, same_take, same_fewer, branches_same, frames_take, stand_same, choices_same, back_same}
+use Rattle.dg_interp.specs.Frames.{values_in, branches_of, IsChoice, AreChoices, AreFrames, IsLeft, StandOn, GoBackTo, left_in, all_left}
+use Rattle.dg_interp.specs.Engine.{store_in, KeepsPlaces, HasPlace, IsPlace, Point, IsQuiet, IsSound, StandsAt, FailsAt, BeginsAt, Adds, Then, Leads, FullAt, SameLimits, WentOn, WentWrong, HasEndedSo, AtGoal, Branches, GoesBack, Tries, branches_left}
+use Rattle.dg_interp.proofs.Links.{left_within, same_take, branches_same, frames_take, stand_same, choices_same, back_same}
 use Rattle.dg_interp.proofs.Stores.{all_hold, values_kept, take_all}
 use Rattle.dg_interp.proofs.Begins.{back_limits}
 use Rattle.dg_interp.proofs.Places.{went_further, went_wrong, adds_nothing, adds_on, adds_silently, leads_on, limits_on}

@@ -1,7 +1,6 @@
 -- A rule is entered in a store.
-use Rattle.std.proofs.Common.{◌≡◌, ℕ, zero, suc, ◌+◌, ◌-◌, ◌<◌, ◌≤◌, List, [], ◌∷◌, ◌++◌, Bool, refl, sym, ap, ◌∙◌, subst, arith, length, map, take, drop, length-append}
+use Rattle.std.proofs.Common.{◌≡◌, ◌+◌, ◌-◌, ◌<◌, List, [], ◌++◌, Bool, sym, ap, ◌∙◌, subst, arith, length, map, take, drop, length-append}
 use Rattle.std.specs.List.{All, zip}
-use Rattle.std.proofs.lemmas.List.{length-map}
 use Rattle.std.proofs.Math.Seq.{drop-append_seam}
 use Rattle.dg_base.specs.declared.program.Rule.{Rule}
 use Rattle.dg_base.specs.declared.program.CoreProgram.{CoreProgram}
@@ -15,8 +14,8 @@ use Rattle.dg_unify.specs.declared.bindings.Full.{Full}
 use Rattle.dg_unify.specs.declared.bindings.Full.TheVariants as full
 use Rattle.dg_interp.specs.declared.frames.Env.{Env}
 use Rattle.dg_interp.specs.Frames.{stretch, values_in, EndsBy}
-use Rattle.dg_interp.specs.Rules.{rule_cells, matched_in, EntersRule, RuleFull}
-use Rattle.dg_interp.specs.Terms.{Appended, Overflows, Written, MadeVars}
+use Rattle.dg_interp.specs.Rules.{matched_in, EntersRule, RuleFull}
+use Rattle.dg_interp.specs.Terms.{Overflows, Written, MadeVars}
 use Rattle.dg_interp.proofs.Stores.{kept_on, all_hold, all_told, stretch_holds, values_kept, take_all, hold_front, front_same}
 use Rattle.dg_interp.proofs.Links.{stretch_same}
 

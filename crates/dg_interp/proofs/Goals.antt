@@ -1,25 +1,24 @@
 -- What the goals without terms come to.
-use Rattle.std.proofs.Common.{◌≡◌, ℕ, ◌+◌, ◌≤◌, List, [], ◌∷◌, ◌++◌, refl, sym, ap, ◌∙◌, subst, arith, length}
+use Rattle.std.proofs.Common.{◌≡◌, ℕ, ◌+◌, List, [], ◌∷◌, refl, sym, ap, ◌∙◌, subst, arith, length}
 use Rattle.std.specs.Prelude.{reverse}
-use Rattle.std.proofs.lemmas.List.{append-nil}
 use Rattle.std.specs.declared.vec.Vec.{Vec}
 use Rattle.std.specs.declared.alloc.Global.{Global}
 use Rattle.dg_base.specs.declared.program.Goal.TheVariants.{Text, Just, Fail, Quit, outs-Text, outs-Just, outs-Fail, outs-Quit}
 use Rattle.dg_base.specs.declared.run.Ending.TheVariants.{Quit as Quit-Ending}
-use Rattle.dg_meaning.specs.World.{Game, World, Print, Piece, Prints, prints}
+use Rattle.dg_meaning.specs.World.{Game, World, Piece, Prints}
 use Rattle.dg_meaning.specs.Path.{End}
-use Rattle.dg_meaning.specs.Moves.{printed, path_of, outcome}
+use Rattle.dg_meaning.specs.Moves.{printed, outcome}
 use Rattle.dg_meaning.specs.Transcript.{Run}
 use Rattle.dg_meaning.specs.Context.{cut_to}
-use Rattle.dg_meaning.specs.Keeps.{Stands, Finished, After}
+use Rattle.dg_meaning.specs.Keeps.{After}
 use Rattle.dg_meaning.proofs.Silently.{prints_append}
 use Rattle.dg_meaning.proofs.Keeps.{passes_cut}
 use Rattle.dg_meaning.specs.Cells.{cells}
 use Rattle.dg_base.specs.Goals.{terms_held}
 use Rattle.dg_interp.specs.declared.frames.Choice.{Choice}
 use Rattle.dg_interp.specs.declared.engine.Engine.{Engine}
-use Rattle.dg_interp.specs.Frames.{values_in, AreChoices, StandOn, GoBackTo, Agrees}
-use Rattle.dg_interp.specs.Engine.{store_in, KeepsPlaces, steps_of, IsQuiet, IsSound, IsReady, Point, TakesAt, StandsAt, FailsAt, Adds, Then, Leads, Ends, Cuts, WentOn}
+use Rattle.dg_interp.specs.Frames.{values_in, AreChoices, StandOn, GoBackTo}
+use Rattle.dg_interp.specs.Engine.{store_in, steps_of, IsQuiet, IsSound, IsReady, TakesAt, StandsAt, FailsAt, Then, Leads, Ends, Cuts, WentOn}
 use Rattle.dg_interp.proofs.Links.{saved_older, choices_cut, back_cut, stand_cut}
 use Rattle.dg_interp.proofs.Places.{keeps_older}
 use Rattle.dg_interp.proofs.Takes.{behind, taken_in, comes_of, adds_taken}

@@ -1,5 +1,5 @@
 -- A choice is kept where it has branches left, and where a run stands behind its first.
-use Rattle.std.proofs.Common.{◌≡◌, ℕ, zero, suc, ◌+◌, ◌<◌, ◌≤◌, List, [], ◌∷◌, ◌++◌, refl, sym, ap, ◌∙◌, subst, arith, length, take, true}
+use Rattle.std.proofs.Common.{◌≡◌, ℕ, zero, suc, ◌+◌, ◌<◌, ◌≤◌, List, [], ◌∷◌, refl, arith, length, take, true}
 use Rattle.std.specs.List.{All}
 use Rattle.dg_meaning.specs.World.{Game}
 use Rattle.dg_meaning.specs.Path.{Registers, Branch, Kind}
@@ -12,7 +12,7 @@ use Rattle.dg_unify.specs.declared.bindings.Ref.{Ref}
 use Rattle.dg_unify.specs.declared.list.ListBindings.{ListBindings}
 use Rattle.dg_interp.specs.declared.frames.Frame.{Frame}
 use Rattle.dg_interp.specs.declared.frames.Choice.{Choice}
-use Rattle.dg_interp.specs.Frames.{values_in, kind_of, branches_of, Agrees, IsChoice, AreChoices, AreFrames, IsLeft, StandOn, GoBackTo, left_in, all_left}
+use Rattle.dg_interp.specs.Frames.{values_in, kind_of, branches_of, Agrees, AreChoices, AreFrames, IsLeft, StandOn, GoBackTo, left_in, all_left}
 use Rattle.dg_interp.specs.Engine.{KeepsPlaces, kept_if, cells_if}
 use Rattle.dg_interp.proofs.Links.{stand_raise}
 

@@ -1,13 +1,12 @@
 -- Laws of linked frames and open choices.
 use Rattle.std.proofs.Common.{◌≡◌, ℕ, zero, suc, ◌+◌, ◌<◌, ◌≤◌, inl, inr, List, [], ◌∷◌, ◌++◌, Option, Some, None, refl, sym, ap, ◌∙◌, subst, arith, length, map, take, drop, length-append, length-take}
 use Rattle.std.specs.List.{All}
-use Rattle.std.proofs.lemmas.Option.{slice_get_past}
 use Rattle.std.specs.Prelude.{true, false, eqb, nat_lt, slice_get, if◌then◌else◌}
 use Rattle.std.proofs.lemmas.Bool.{cond_both, cond-true, cond-false, cases_lt, eq-eqb, ne_eqb}
-use Rattle.std.proofs.lemmas.List.{take-append-le, drop-append-le, drop-take}
+use Rattle.std.proofs.lemmas.List.{drop-take}
 use Rattle.dg_meaning.specs.Values.{Value}
 use Rattle.dg_meaning.specs.World.{Game}
-use Rattle.dg_meaning.specs.Path.{Step, Registers, Branch}
+use Rattle.dg_meaning.specs.Path.{Step, Registers}
 use Rattle.dg_meaning.specs.Moves.{enter, list_branches, rule_branches}
 use Rattle.dg_meaning.specs.Context.{Live, cut_to}
 use Rattle.dg_unify.specs.Store.{Store, Saved, Holds, told}

@@ -1,14 +1,13 @@
 -- Where an engine stands, and how it goes on from there.
 use Rattle.std.proofs.Common.{◌≡◌, ◌≢◌, ℕ, suc, ◌+◌, ◌-◌, ◌≤◌, List, [], ◌∷◌, ◌++◌, Some, Bool, true, false, refl, sym, ap, ◌∙◌, subst, arith, length, take, get_or, length-take, append_assoc}
 use Rattle.std.specs.Prelude.{not, max, slice_get, reverse}
-use Rattle.std.specs.List.{All}
 use Rattle.std.proofs.lemmas.Option.{slice_get-get_or}
 use Rattle.std.proofs.lemmas.List.{append-nil}
 use Rattle.std.specs.declared.vec.Vec.{Vec}
 use Rattle.std.specs.declared.alloc.Global.{Global}
 use Rattle.dg_base.specs.declared.run.Ending.TheVariants.{Done}
 use Rattle.dg_meaning.specs.World.{Game, World, Event, Print, Answered, prints, noted}
-use Rattle.dg_meaning.specs.Path.{Step, Answers, Cut, Refuse, Result, End}
+use Rattle.dg_meaning.specs.Path.{Step, Answers, Cut, End}
 use Rattle.dg_meaning.specs.Moves.{path_of, first_alone}
 use Rattle.dg_meaning.specs.Transcript.{Run}
 use Rattle.dg_meaning.specs.Context.{Live, cut_to, Silently}
@@ -29,8 +28,8 @@ use Rattle.dg_interp.specs.declared.frames.Frame.{Frame}
 use Rattle.dg_interp.specs.declared.frames.Choice.{Choice}
 use Rattle.dg_interp.specs.declared.engine.Engine.{Engine}
 use Rattle.dg_interp.specs.Frames.{values_in, mark_steps, frame_steps, steps_behind, steps_at, AreChoices, IsFrame, AreFrames, Agrees, StandOn, GoBackTo, floor_of, all_left}
-use Rattle.dg_interp.specs.Engine.{store_in, KeepsPlaces, HasPlaces, IsQuiet, IsSound, IsReady, Point, StandsAt, FailsAt, Adds, Then, Leads, Ends, Cuts, branches_left, SameLimits, WentOn, WentWrong, HasEndedSo, MarkPassed, Refused, FrameLeft, steps_of}
-use Rattle.dg_interp.proofs.Links.{same_take, same_values, behind_same, behind_frame, behind_end, frames_take, frames_same, choices_same, back_same, saved_older, choices_cut, back_cut, keeps_cut, stand_cut, stand_same, stand_floor, floor_within, cut_fewer}
+use Rattle.dg_interp.specs.Engine.{store_in, KeepsPlaces, IsQuiet, IsSound, IsReady, Point, StandsAt, FailsAt, Adds, Then, Leads, Cuts, branches_left, SameLimits, WentOn, WentWrong, HasEndedSo, MarkPassed, Refused, FrameLeft, steps_of}
+use Rattle.dg_interp.proofs.Links.{same_take, same_values, behind_same, behind_frame, behind_end, frames_take, choices_same, saved_older, choices_cut, back_cut, keeps_cut, stand_cut, stand_same, stand_floor, floor_within, cut_fewer}
 
 -- ## From world to world
 

@@ -1,26 +1,25 @@
 -- From goal to goal up to the end of a run.
-use Rattle.std.proofs.Common.{◌≡◌, ℕ, zero, suc, ◌+◌, ◌<◌, ◌≤◌, List, [], ◌∷◌, ◌++◌, Option, Some, None, refl, sym, ap, ◌∙◌, subst, arith, length, append_assoc, Ok, Err}
+use Rattle.std.proofs.Common.{◌≡◌, ℕ, suc, ◌+◌, ◌<◌, [], ◌++◌, Option, Some, None, refl, sym, ap, ◌∙◌, subst, arith, length, append_assoc}
 use Rattle.std.specs.Prelude.{Result, IfOk, IfErr}
 use Rattle.dg_base.specs.declared.run.Ending.{Ending}
 use Rattle.dg_base.specs.declared.run.Ending.TheVariants.{Done, Failed, HeapLimit, TrailLimit}
 use Rattle.dg_base.specs.declared.run.RunFault.{RunFault}
 use Rattle.dg_base.specs.declared.run.RunFault.TheVariants.{Read, Write, OutOfMemory}
-use Rattle.dg_meaning.specs.World.{Game, World, Event, Print, prints}
+use Rattle.dg_meaning.specs.World.{Game, World, prints}
 use Rattle.dg_meaning.specs.Path.{Result as SearchResult, Failing, End}
 use Rattle.dg_meaning.specs.Transcript.{Run, ending_of}
 use Rattle.dg_meaning.specs.OneRun.{Begins}
 use Rattle.dg_meaning.specs.Peaks.{Area, Heap, Trail, Aux, Keep, greatest}
-use Rattle.dg_meaning.specs.Keeps.{Finished}
 use Rattle.dg_meaning.proofs.Keeps.{has_happened}
 use Rattle.dg_unify.specs.declared.bindings.Full.{Full}
 use Rattle.dg_unify.specs.declared.bindings.Full.TheVariants as full
 use Rattle.dg_interp.specs.declared.spacer.Spacer.{Spacer}
 use Rattle.dg_interp.specs.declared.engine.Engine.{Engine}
 use Rattle.dg_base.specs.Written.{SinkView}
-use Rattle.dg_interp.specs.Engine.{store_in, IsQuiet, IsReady, StandsAt, Adds, Then, Leads, FullAt, SameLimits, WentOn, HasEndedSo, AtGoal, GoesToGoal}
-use Rattle.dg_interp.specs.Running.{HasText, Writes, Reaches, GoesOn, HasEnded, limit_in, MeetsLimit, Ended, HasPart, IsBroken, GoalDone, Does, limit_of}
-use Rattle.dg_interp.proofs.Places.{adds_nothing, adds_on, then_on, limits_on, limits_here}
-use Rattle.dg_interp.proofs.Runs.{text_same, writes_nothing, writes_on, finished_so, no_more, run_limited}
+use Rattle.dg_interp.specs.Engine.{store_in, IsQuiet, IsReady, StandsAt, Adds, Then, FullAt, HasEndedSo, AtGoal, GoesToGoal}
+use Rattle.dg_interp.specs.Running.{HasText, Reaches, GoesOn, HasEnded, limit_in, MeetsLimit, Ended, IsBroken, GoalDone, Does, limit_of}
+use Rattle.dg_interp.proofs.Places.{adds_nothing, then_on, limits_on, limits_here}
+use Rattle.dg_interp.proofs.Runs.{writes_nothing, writes_on, finished_so, no_more}
 
 -- ## Behind a goal
 

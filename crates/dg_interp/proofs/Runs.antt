@@ -1,24 +1,23 @@
 -- How goals add up to a run.
-use Rattle.std.proofs.Common.{◌≡◌, ℕ, zero, suc, ◌+◌, ◌<◌, ◌≤◌, List, [], ◌∷◌, ◌++◌, Bool, true, false, Option, Some, None, refl, sym, ap, ◌∙◌, subst, arith, length, append_assoc, Ok, Err}
+use Rattle.std.proofs.Common.{◌≡◌, ℕ, suc, ◌<◌, List, [], ◌∷◌, ◌++◌, Bool, true, false, Option, refl, sym, ap, ◌∙◌, subst, arith, length, append_assoc, Ok, Err}
 use Rattle.std.specs.Prelude.{Result, IfOk, IfErr}
 use Rattle.std.proofs.lemmas.List.{append-nil}
 use Rattle.dg_base.specs.declared.program.Goal.{Goal}
-use Rattle.dg_base.specs.declared.program.Goal.TheVariants.{Text, Ask, Quit}
+use Rattle.dg_base.specs.declared.program.Goal.TheVariants.{Text, Quit}
 use Rattle.dg_base.specs.declared.run.Ending.{Ending}
-use Rattle.dg_base.specs.declared.run.Ending.TheVariants.{Done, Failed, StepLimit, HeapLimit, TrailLimit, Quit as Quit-Ending}
+use Rattle.dg_base.specs.declared.run.Ending.TheVariants.{Failed, StepLimit, Quit as Quit-Ending}
 use Rattle.dg_base.specs.declared.run.RunFault.{RunFault}
-use Rattle.dg_base.specs.declared.run.RunFault.TheVariants.{Read, Write, OutOfMemory}
+use Rattle.dg_base.specs.declared.run.RunFault.TheVariants.{Write, OutOfMemory}
 use Rattle.dg_meaning.specs.World.{Game, World, Event, Print, Piece, prints}
 use Rattle.dg_meaning.specs.Path.{Result as SearchResult, Failing, End}
 use Rattle.dg_meaning.specs.Moves.{path_of, goals_at}
 use Rattle.dg_meaning.specs.Render.{Met, nothing_met, met_from, met_behind, written, render, render_from}
 use Rattle.dg_meaning.specs.Transcript.{Run, ending_of, text_of}
-use Rattle.dg_meaning.specs.OneRun.{Begins, Grows}
-use Rattle.dg_meaning.specs.Peaks.{Area, Heap, Trail, greatest}
+use Rattle.dg_meaning.specs.OneRun.{Begins}
+use Rattle.dg_meaning.specs.Peaks.{Heap, Trail}
 use Rattle.dg_meaning.specs.Keeps.{Stands, Finished}
 use Rattle.dg_meaning.proofs.Silently.{prints_append, prints_later}
 use Rattle.dg_meaning.proofs.Keeps.{has_happened, limited}
-use Rattle.dg_unify.specs.Store.{Store}
 use Rattle.dg_unify.specs.declared.bindings.Full.{Full}
 use Rattle.dg_unify.specs.declared.bindings.Full.TheVariants as full
 use Rattle.dg_interp.specs.declared.spacer.Spacer.{Spacer}
@@ -26,10 +25,10 @@ use Rattle.dg_interp.specs.declared.engine.Engine.{Engine}
 use Rattle.dg_base.specs.Written.{SinkView, Wrote, BrokeOff}
 use Rattle.dg_interp.specs.Spacer.{StandsFor, Added, growth}
 use Rattle.dg_interp.specs.Frames.{mark_steps, steps_behind, values_in}
-use Rattle.dg_interp.specs.Engine.{store_in, Point, IsQuiet, IsReady, StandsAt, FailsAt, TakesAt, Adds, Then, Leads, Ends, FullAt, SameLimits, Taken, WentOn, HasEndedSo, AtGoal, Branches, GoesToGoal}
-use Rattle.dg_interp.specs.Running.{HasText, Writes, Reaches, GoesOn, HasEnded, limit_in, MeetsLimit, Ended, HasPart, IsBroken, GoalDone, DoesGoal, Does, limit_of, outcome_of}
+use Rattle.dg_interp.specs.Engine.{store_in, IsQuiet, StandsAt, TakesAt, Then, FullAt, Taken, WentOn, HasEndedSo, Branches}
+use Rattle.dg_interp.specs.Running.{HasText, Writes, Reaches, HasEnded, MeetsLimit, IsBroken, GoalDone, DoesGoal, outcome_of}
 use Rattle.dg_base.proofs.WrittenLemmas.{wrote_on, broke_first, broke_later}
-use Rattle.dg_interp.proofs.Places.{adds_nothing, adds_on, adds_silently, then_on, leads_on, limits_on, limits_here}
+use Rattle.dg_interp.proofs.Places.{adds_nothing, adds_on, adds_silently, limits_on}
 use Rattle.dg_interp.proofs.Goals.{prints_word, quits}
 
 -- ## Text

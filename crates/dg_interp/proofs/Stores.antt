@@ -1,19 +1,18 @@
 -- What stays in a store that grows.
 use Rattle.std.proofs.Common.{◌≡◌, ℕ, zero, suc, ◌+◌, ◌-◌, ◌<◌, ◌≤◌, List, [], ◌∷◌, ◌++◌, Option, Some, None, refl, sym, ap, ◌∙◌, subst, arith, length, map, take, drop, length-append, length-take, length-drop}
-use Rattle.std.specs.Prelude.{true, false, nat_lt, if◌then◌else◌}
+use Rattle.std.specs.Prelude.{nat_lt, if◌then◌else◌}
 use Rattle.std.specs.List.{All}
 use Rattle.std.proofs.lemmas.Bool.{cond_both, ltb-true, lt-ltb}
 use Rattle.std.proofs.lemmas.List.{take-append-le, length-map}
 use Rattle.std.proofs.Math.Seq.{take-append_seam, drop-append_seam}
-use Rattle.std.proofs.lemmas.List.Elements.{All-append, All-take, All-drop}
+use Rattle.std.proofs.lemmas.List.Elements.{All-take, All-drop}
 use Rattle.dg_meaning.specs.Values.{Value}
-use Rattle.dg_meaning.specs.Substitutions.{Substitution, IsSubstitution, Extends}
+use Rattle.dg_meaning.specs.Substitutions.{Substitution}
 use Rattle.dg_meaning.specs.Moves.{made_since, older_bound}
-use Rattle.dg_unify.specs.Store.{Store, Saved, told, or_nil, Holds, IsTold, Kept, trail_for, trail_of}
+use Rattle.dg_unify.specs.Store.{Store, told, or_nil, Holds, IsTold, Kept, trail_for, trail_of}
 use Rattle.dg_unify.specs.declared.bindings.Ref.{Ref}
 use Rattle.dg_interp.specs.declared.frames.Env.{Env}
 use Rattle.dg_interp.specs.Frames.{stretch, values_in, EndsBy}
-use Rattle.dg_interp.specs.Terms.{Appended}
 use Rattle.dg_interp.proofs.Links.{SameBy, stretch_same}
 use Rattle.dg_interp.proofs.Turns.{all_first, all_rest}
 

@@ -1,7 +1,6 @@
 -- What the taking of a goal comes to.
-use Rattle.std.proofs.Common.{◌≡◌, ℕ, zero, suc, ◌+◌, ◌*◌, ◌^◌, ◌<◌, ◌≤◌, List, [], ◌∷◌, ◌++◌, Bool, true, false, refl, sym, ap, ◌∙◌, subst, arith, length, map, drop}
+use Rattle.std.proofs.Common.{ℕ, List, [], ◌∷◌, Bool, true, false, refl, sym, ap, subst, arith, map}
 use Rattle.std.specs.Prelude.{reverse, slice_get}
-use Rattle.std.specs.List.{All}
 use Rattle.std.proofs.lemmas.List.{append-nil}
 use Rattle.std.specs.declared.vec.Vec.{Vec}
 use Rattle.std.specs.declared.alloc.Global.{Global}
@@ -11,26 +10,25 @@ use Rattle.dg_base.specs.Goals.{terms_held}
 use Rattle.dg_meaning.specs.Values.{Value, value_of}
 use Rattle.dg_meaning.specs.World.{Game, World, Asked, prints, noted, worked, dropped}
 use Rattle.dg_meaning.specs.Cells.{cells, writing}
-use Rattle.dg_meaning.specs.Path.{Step, Do, Registers, Branch, Enter, Clash, TakeOut, Kind, Rules as RulesOf, Result, Move, GoesOn, FailsAt as MoveFails, EndsAt, StopsAt, Chooses}
-use Rattle.dg_meaning.specs.Moves.{begun, bound_by, made_since, test_looks, choice, rule_branches, rules_of, goes_on_if, behind_terms, outcome, move}
-use Rattle.dg_meaning.specs.Transcript.{Run, run_of}
-use Rattle.dg_meaning.specs.Unify.{unify}
+use Rattle.dg_meaning.specs.Path.{Step, Registers, Branch, Enter, Clash, TakeOut, Kind, Rules as RulesOf, Result, Move, GoesOn, FailsAt as MoveFails, EndsAt, StopsAt, Chooses}
+use Rattle.dg_meaning.specs.Moves.{begun, test_looks, choice, rule_branches, rules_of, goes_on_if, behind_terms, outcome}
+use Rattle.dg_meaning.specs.Transcript.{Run}
 use Rattle.dg_meaning.specs.TypeTests.{passes}
-use Rattle.dg_meaning.specs.OneRun.{Begins, Grows}
+use Rattle.dg_meaning.specs.OneRun.{Grows}
 use Rattle.dg_meaning.specs.Context.{Way, Live, Silently}
 use Rattle.dg_meaning.specs.Keeps.{Finished, Began, After, world_of}
 use Rattle.dg_meaning.specs.Built.{IsForm}
 use Rattle.dg_meaning.proofs.Keeps.{has_happened, has_happened_before, takes}
 use Rattle.dg_meaning.proofs.Search.{outcome_grows}
 use Rattle.dg_meaning.proofs.OneRun.{grows_on, begun_grows, dropped_grows}
-use Rattle.dg_unify.specs.Store.{Store, State, Saved, Holds, Kept}
+use Rattle.dg_unify.specs.Store.{Saved, Kept}
 use Rattle.dg_unify.specs.declared.bindings.Ref.{Ref}
 use Rattle.dg_unify.specs.declared.bindings.Full.{Full}
 use Rattle.dg_unify.specs.declared.bindings.Full.TheVariants as full
 use Rattle.dg_unify.specs.declared.list.ListBindings.{ListBindings}
 use Rattle.dg_interp.specs.declared.engine.Engine.{Engine}
 use Rattle.dg_interp.specs.Terms.{Overflows}
-use Rattle.dg_interp.specs.Frames.{values_in, steps_at, Agrees, AreChoices, GoBackTo}
+use Rattle.dg_interp.specs.Frames.{values_in}
 use Rattle.dg_interp.specs.Engine.{store_in, KeepsPlaces, steps_of, IsQuiet, IsSound, IsReady, TakesAt, FullAt, Adds}
 use Rattle.dg_interp.proofs.Stores.{all_hold}
 use Rattle.dg_interp.proofs.Begins.{back_limits}

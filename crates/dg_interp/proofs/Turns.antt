@@ -2,7 +2,7 @@
 use Rattle.std.proofs.Common.{◌≡◌, ℕ, zero, suc, ◌+◌, ◌^◌, ◌<◌, ◌≤◌, List, [], ◌∷◌, ◌++◌, Some, None, true, false, refl, sym, ap, ◌∙◌, subst, arith, length, take, drop, get_or, Bor}
 use Rattle.std.specs.Prelude.{reverse, slice_get, slice_index_or}
 use Rattle.std.specs.List.{All}
-use Rattle.std.proofs.lemmas.List.{reverse-append, append-nil}
+use Rattle.std.proofs.lemmas.List.{reverse-append}
 use Rattle.std.specs.declared.vec.Vec.{Vec}
 use Rattle.std.specs.declared.alloc.Global.{Global}
 use Rattle.dg_base.specs.declared.program.Goal.{Goal}
@@ -18,7 +18,6 @@ use Rattle.dg_meaning.specs.Built.{IsBuilt, IsBuiltForm, IsBuiltGoal}
 use Rattle.dg_meaning.proofs.Keeps.{starts}
 use Rattle.dg_unify.specs.Slots.{store_of}
 use Rattle.dg_unify.specs.Store.{Store, Holds}
-use Rattle.dg_unify.specs.Listed.{fields_of}
 use Rattle.dg_unify.specs.declared.bindings.Ref.{Ref}
 use Rattle.dg_unify.specs.declared.list.ListBindings.{ListBindings}
 use Rattle.dg_interp.specs.declared.frames.Env.{Env}
@@ -26,8 +25,8 @@ use Rattle.dg_interp.specs.declared.frames.Mark.TheVariants.{Nothing}
 use Rattle.dg_interp.specs.declared.frames.Frame.{Frame}
 use Rattle.dg_interp.specs.declared.frames.Choice.{Choice}
 use Rattle.dg_interp.specs.declared.engine.Engine.{Engine}
-use Rattle.dg_interp.specs.Frames.{values_in, frame_steps, steps_behind, steps_at, Agrees, AreChoices, AreFrames, StandOn, GoBackTo}
-use Rattle.dg_interp.specs.Engine.{store_in, KeepsPlaces, IsReady, StandsAt, Starts, Taken}
+use Rattle.dg_interp.specs.Frames.{values_in, frame_steps, steps_behind, steps_at, Agrees, AreChoices, StandOn, GoBackTo}
+use Rattle.dg_interp.specs.Engine.{store_in, IsReady, StandsAt, Starts, Taken}
 use Rattle.dg_interp.proofs.Links.{behind_end}
 
 -- ## Lists

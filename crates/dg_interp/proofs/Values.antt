@@ -1,6 +1,5 @@
 -- What the goals come to that write terms and make no choice.
-use Rattle.std.proofs.Common.{◌≡◌, ℕ, ◌+◌, ◌*◌, ◌<◌, ◌≤◌, List, [], ◌∷◌, ◌++◌, Bool, true, false, refl, sym, ap, ◌∙◌, subst, arith, length, map}
-use Rattle.std.specs.Prelude.{reverse}
+use Rattle.std.proofs.Common.{◌≡◌, ℕ, List, [], ◌∷◌, Bool, true, false, refl, sym, ap, ◌∙◌, subst, arith, length, map}
 use Rattle.std.specs.List.{All}
 use Rattle.std.specs.declared.vec.Vec.{Vec}
 use Rattle.std.specs.declared.alloc.Global.{Global}
@@ -15,7 +14,7 @@ use Rattle.dg_meaning.specs.World.{Game, World, worked}
 use Rattle.dg_meaning.specs.Cells.{cells, writing}
 use Rattle.dg_meaning.specs.TypeTests.{passes}
 use Rattle.dg_meaning.specs.Path.{Registers, Move}
-use Rattle.dg_meaning.specs.Moves.{begun, goes_on_if, path_of, test_looks, outcome}
+use Rattle.dg_meaning.specs.Moves.{goes_on_if, path_of, test_looks, outcome}
 use Rattle.dg_meaning.specs.Transcript.{Run}
 use Rattle.dg_meaning.specs.Keeps.{Stands, Failed, After}
 use Rattle.dg_meaning.specs.Built.{IsForm, IsBuiltGoal}
@@ -28,11 +27,11 @@ use Rattle.dg_interp.specs.declared.frames.Env.{Env}
 use Rattle.dg_interp.specs.declared.engine.Engine.{Engine}
 use Rattle.dg_interp.specs.Terms.{Overflows}
 use Rattle.dg_interp.specs.Frames.{stretch, values_in, Agrees}
-use Rattle.dg_interp.specs.Engine.{store_in, KeepsPlaces, steps_of, Point, IsQuiet, IsReady, TakesAt, StandsAt, FailsAt, FullAt, Adds, Then, Leads, SameLimits, WentOn}
+use Rattle.dg_interp.specs.Engine.{store_in, KeepsPlaces, steps_of, IsQuiet, IsReady, TakesAt, StandsAt, FailsAt, FullAt, Adds, Leads, SameLimits, WentOn}
 use Rattle.dg_interp.proofs.Links.{same_here, at_same}
 use Rattle.dg_interp.proofs.Stores.{values_kept, hold_front}
 use Rattle.dg_interp.proofs.Turns.{all_first}
-use Rattle.dg_interp.proofs.Takes.{behind, taken_in, comes_of, adds_taken, terms_full, store_sound, store_ready}
+use Rattle.dg_interp.proofs.Takes.{behind, taken_in, comes_of, adds_taken, terms_full, store_ready}
 
 module _ (x : Goal) (old : Engine) (store : ListBindings) (made : Vec Ref Global) (ready : IsReady old) (k : Kept (store_in old.store) (store_in store)) (saved : (ms : List Saved) → KeepsPlaces old.store ms → KeepsPlaces store ms) where
   abbrev pub grown : Engine

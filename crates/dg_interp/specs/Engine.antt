@@ -1,5 +1,5 @@
 -- What an engine stands for, and what its parts do to that. Hold it against the Dialog manual, chapter "Choice points".
-use Rattle.std.specs.Prelude.{ℕ, zero, suc, ◌+◌, ◌^◌, ◌≡◌, ◌<◌, ◌≤◌, ◌++◌, nat_lt, List, [], ◌∷◌, Bool, true, false, length, map, reverse, Option, Some, None, if◌then◌else◌}
+use Rattle.std.specs.Prelude.{ℕ, zero, suc, ◌+◌, ◌^◌, ◌≡◌, ◌<◌, ◌≤◌, ◌++◌, nat_lt, List, [], ◌∷◌, Bool, true, false, length, reverse, Option, Some, None, if◌then◌else◌}
 use Rattle.std.specs.List.{All}
 use Rattle.dg_base.specs.declared.program.Goal.{Goal}
 use Rattle.dg_base.specs.declared.program.CoreProgram.{CoreProgram}
@@ -22,11 +22,10 @@ use Rattle.dg_unify.specs.declared.list.ListBindings.{ListBindings}
 use Rattle.dg_interp.specs.declared.frames.Mark.TheVariants.{Nothing}
 use Rattle.dg_interp.specs.declared.frames.Left.{Left}
 use Rattle.dg_interp.specs.declared.frames.Choice.{Choice}
-use Rattle.dg_interp.specs.declared.frames.Frame.{Frame}
 use Rattle.dg_interp.specs.declared.engine.Engine.{Engine}
 use Rattle.dg_interp.specs.declared.engine.Settled.{Settled}
 use Rattle.dg_interp.specs.declared.engine.Settled.TheVariants as settled
-use Rattle.dg_interp.specs.Frames.{values_in, steps_at, kind_of, branches_of, Agrees, AreChoices, IsFrame, AreFrames, IsLeft, StandOn, GoBackTo, all_left}
+use Rattle.dg_interp.specs.Frames.{values_in, steps_at, kind_of, branches_of, Agrees, AreChoices, IsFrame, AreFrames, StandOn, GoBackTo, all_left}
 
 -- ## What holds of an engine
 

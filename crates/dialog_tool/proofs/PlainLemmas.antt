@@ -1,5 +1,5 @@
 -- Items that run today stay as they are once heads are plain, and their core program holds only what the interpreter runs.
-use Rattle.std.proofs.Common.{◌≡◌, ℕ, List, [], ◌∷◌, ◌++◌, ◌&&◌, ◌||◌, ◌+◌, Bool, true, false, not, Option, Some, None, map, refl, sym, ◌∙◌, ap, subst, arith}
+use Rattle.std.proofs.Common.{◌≡◌, ℕ, List, [], ◌∷◌, ◌||◌, ◌+◌, Bool, true, false, not, Option, Some, None, refl, sym, ◌∙◌, ap, subst, arith}
 use Rattle.std.specs.Prelude.{if◌then◌else◌}
 use Rattle.std.specs.List.{All, flat_map}
 use Rattle.std.specs.Option.{is_some}
@@ -11,20 +11,19 @@ use Rattle.dg_base.specs.Names.{builtin_named}
 use Rattle.dg_base.specs.Tree as tree
 use Rattle.dg_base.specs.Tree.{Part, Parts, Stmt, Stmts, Body, Said, Item}
 use Rattle.dg_base.specs.declared.names.Builtin.{Builtin}
-use Rattle.dg_base.specs.declared.program.Goal.{Goal}
 use Rattle.dg_base.specs.declared.program.Goal.TheVariants as goal
 use Rattle.dg_base.specs.declared.program.Rule.{Rule}
 use Rattle.dg_base.specs.declared.program.Pred.{Pred}
 use Rattle.dg_names.specs.Named.{Named}
 use Rattle.dg_access.specs.Items.{in_rule, plain_said, topic_behind, plain_items}
-use Rattle.dg_access.specs.Plain.{Setting, new_in_part, new_in_parts, new_in_stmt, plain_part, plain_parts, plain_stmt, plain_stmts, plain_body, puts_of_part, puts_of_parts, rule_body}
+use Rattle.dg_access.specs.Plain.{Setting, new_in_parts, new_in_stmt, plain_parts, plain_stmt, plain_stmts, plain_body, puts_of_parts, rule_body}
 use Rattle.dg_access.specs.Rewritten.{is_access, has_access}
 use Rattle.dg_meaning.specs.Built.{IsBuilt, IsBuiltGoal, IsBuiltForm, IsBuiltRule, AreBuilt}
 use Rattle.dg_meaning.specs.Closures.{HasNoClosure}
 use Rattle.dg_lower.specs.Core.{scope_of, rule_of, rules_in, pred_of, core_of}
 use Rattle.dg_lower.specs.Forms.{is_own, is_headed, is_asked, are_parts, is_query, is_stmt, are_stmts, is_body, is_rule, is_item}
 use Rattle.dg_lower.specs.Forms as forms
-use Rattle.dg_lower.specs.Goals.{Scope, term_of, values_in, terms_of, query_goal, asked, stmt_goals, goals_of}
+use Rattle.dg_lower.specs.Goals.{Scope, values_in, query_goal, asked, stmt_goals, goals_of}
 use Rattle.dg_lower.specs.declared.forms.Zone.TheVariants.{Rewritten}
 use Rattle.dialog_tool.specs.Plain.{are_words, is_plain_query, is_plain_stmt, are_plain, is_plain_body, is_plain, first_unbuilt}
 

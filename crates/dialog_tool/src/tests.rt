@@ -51,16 +51,39 @@ const ORDER: &str = "(a) x (b)\n(a) y\n(b) (c)\n(program entry point) (a) z\n";
 #[test]
 fn sources_give_their_transcript(rt: HostRuntime) -> Result<(), Fail> {
     let cases = [
-        ("debug p.dg", "(program entry point) Hello, world!", 0, "Hello, world!\n"),
+        (
+            "debug p.dg",
+            "(program entry point) Hello, world!",
+            0,
+            "Hello, world!\n",
+        ),
         ("debug p.dg", ORDER, 0, "x y z\n"),
         ("debug p.dg --steps 4", ORDER, 3, "x\n[Step limit]\n"),
         ("debug p.dg --steps 6", ORDER, 3, "x y\n[Step limit]\n"),
         ("debug p.dg --steps 007", ORDER, 0, "x y z\n"),
-        ("debug p.dg", "(program entry point) \\(x\\) %% a comment", 0, "(x)\n"),
-        ("debug p.dg", "#hall\n(program entry point) (none)", 0, "[Failed]\n"),
+        (
+            "debug p.dg",
+            "(program entry point) \\(x\\) %% a comment",
+            0,
+            "(x)\n",
+        ),
+        (
+            "debug p.dg",
+            "#hall\n(program entry point) (none)",
+            0,
+            "[Failed]\n",
+        ),
     ];
     for (line, source, status, text) in cases {
-        gives(&rt, rt.alloc(), line, "p.dg", source.as_bytes(), status, text)?;
+        gives(
+            &rt,
+            rt.alloc(),
+            line,
+            "p.dg",
+            source.as_bytes(),
+            status,
+            text,
+        )?;
     }
     Ok(())
 }
@@ -68,16 +91,61 @@ fn sources_give_their_transcript(rt: HostRuntime) -> Result<(), Fail> {
 #[test]
 fn sources_and_words_are_refused(rt: HostRuntime) -> Result<(), Fail> {
     let cases = [
-        ("debug p.dg", "", 1, "p.dg:1: no rule for (program entry point)\n"),
-        ("debug p.dg", "(program entry point) (a) (b", 1, "p.dg:1: unclosed construct\n"),
-        ("debug p.dg", "%%\n%%\n%%\n(program entry point) Hello (if) (p)", 1, "p.dg:4: unclosed construct\n"),
-        ("debug p.dg", "(program entry point) a\n(b) )", 1, "p.dg:2: unexpected token\n"),
-        ("debug p.dg", "(program entry point) (p 16384)", 1, "p.dg:1: unexpected token\n"),
-        ("debug p.dg", "(program entry point) (bold) x", 1, "p.dg:1: not in this profile\n"),
+        (
+            "debug p.dg",
+            "",
+            1,
+            "p.dg:1: no rule for (program entry point)\n",
+        ),
+        (
+            "debug p.dg",
+            "(program entry point) (a) (b",
+            1,
+            "p.dg:1: unclosed construct\n",
+        ),
+        (
+            "debug p.dg",
+            "%%\n%%\n%%\n(program entry point) Hello (if) (p)",
+            1,
+            "p.dg:4: unclosed construct\n",
+        ),
+        (
+            "debug p.dg",
+            "(program entry point) a\n(b) )",
+            1,
+            "p.dg:2: unexpected token\n",
+        ),
+        (
+            "debug p.dg",
+            "(program entry point) (p 16384)",
+            1,
+            "p.dg:1: unexpected token\n",
+        ),
+        (
+            "debug p.dg",
+            "(program entry point) (bold) x",
+            1,
+            "p.dg:1: not in this profile\n",
+        ),
         ("debug p.dg", "(p *) x", 1, "p.dg:1: bad head\n"),
-        ("debug p.dg", "(a\n(program entry point) (bold)", 1, "p.dg:1: unclosed construct\n"),
-        ("debug p.dg", "(program entry point) $X", 1, "p.dg:1: not built yet\n"),
-        ("debug p.dg", "(a) b\n(c)\n  (fail)", 1, "p.dg:2: not built yet\n"),
+        (
+            "debug p.dg",
+            "(a\n(program entry point) (bold)",
+            1,
+            "p.dg:1: unclosed construct\n",
+        ),
+        (
+            "debug p.dg",
+            "(program entry point) $X",
+            1,
+            "p.dg:1: not built yet\n",
+        ),
+        (
+            "debug p.dg",
+            "(a) b\n(c)\n  (fail)",
+            1,
+            "p.dg:2: not built yet\n",
+        ),
         ("debug", "", 2, USAGE),
         ("debug p.dg --steps 0", ORDER, 2, USAGE),
         ("debug p.dg --steps 1000000000001", ORDER, 2, USAGE),
@@ -87,7 +155,15 @@ fn sources_and_words_are_refused(rt: HostRuntime) -> Result<(), Fail> {
         ("play p.dg", ORDER, 4, "p.dg: story too short\n"),
     ];
     for (line, source, status, text) in cases {
-        gives(&rt, rt.alloc(), line, "p.dg", source.as_bytes(), status, text)?;
+        gives(
+            &rt,
+            rt.alloc(),
+            line,
+            "p.dg",
+            source.as_bytes(),
+            status,
+            text,
+        )?;
     }
     Ok(())
 }

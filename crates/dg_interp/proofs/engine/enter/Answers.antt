@@ -1,4 +1,4 @@
-use Rattle.std.proofs.Common.{rules, refl, sym, ap, subst, ◌∙◌, List, [], map, ◌≡◌}
+use Rattle.std.proofs.Common.{rules, sym, ap, subst, ◌∙◌, List, []}
 use Rattle.std.specs.List.{All}
 use Rattle.dg_base.specs.declared.program.CoreProgram.{CoreProgram}
 use Rattle.dg_unify.specs.Store.{Holds}

@@ -1,4 +1,4 @@
-use Rattle.std.proofs.Common.{rules, refl, sym, ap, ◌∙◌, ◌≡◌, List, [], ◌++◌, length, map}
+use Rattle.std.proofs.Common.{rules, ap, ◌∙◌}
 use Rattle.dg_interp.specs.Engine.{store_in}
 use Rattle.dg_interp.specs.Frames.{stretch}
 use Rattle.dg_interp.proofs.Asks.{args_written}

@@ -1,5 +1,4 @@
 use Rattle.dg_base.specs.declared.program.Goal.TheVariants.{Ask, Fail, Just, Test}
-use Rattle.dg_interp.specs.Engine.{TakesAt, WentOn}
 use Rattle.dg_interp.proofs.Runs.{word_done, word_lost, goal_done, goal_does, goal_breaks, goal_quits}
 use Rattle.dg_interp.proofs.Values.{test_plain}
 use Rattle.dg_interp.proofs.run.do_goal.Goals as goal

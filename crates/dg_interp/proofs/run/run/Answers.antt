@@ -1,4 +1,4 @@
-use Rattle.std.proofs.Common.{arith, ◌≡◌, ◌<◌}
+use Rattle.std.proofs.Common.{arith}
 use Rattle.dg_base.specs.declared.run.Ending.TheVariants.{StepLimit}
 use Rattle.dg_interp.proofs.Runs.{run_limited}
 use Rattle.dg_interp.proofs.Rounds.{goes_nowhere, goes_further, ended_reaches, broken_reaches, ended_further}

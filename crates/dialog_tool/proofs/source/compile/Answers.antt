@@ -1,4 +1,4 @@
-use Rattle.std.proofs.Common.{Ok, Err}
+use Rattle.std.proofs.Common.{Ok}
 use Rattle.dg_base.specs.TreeView.{tree_view}
 use Rattle.dialog_tool.proofs.SourceLemmas.{not_lexed_of, not_read_of, read_of, refused_of}
 use Rattle.dialog_tool.proofs.source.compile.Goals as goal

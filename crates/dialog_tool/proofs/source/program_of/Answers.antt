@@ -1,4 +1,3 @@
-use Rattle.std.proofs.Common.{Ok, Err}
 use Rattle.dg_base.specs.TreeView.{tree_view}
 use Rattle.dg_names.specs.State.{names_view}
 use Rattle.dg_reader.proofs.FaultLemmas.{ok_map, err_map}

@@ -1,6 +1,3 @@
-use Rattle.std.proofs.Common.{length, sym, subst}
-use Rattle.dg_interp.specs.Frames.{IsLeft}
-use Rattle.dg_interp.specs.Engine.{BeginsAt, WentOn}
 use Rattle.dg_interp.proofs.Begins.{way_begun}
 use Rattle.dg_interp.proofs.engine.Engine.begin.Goals as goal
 

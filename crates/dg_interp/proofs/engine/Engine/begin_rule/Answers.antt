@@ -1,6 +1,6 @@
-use Rattle.std.proofs.Common.{arith, length, take, drop, ◌-◌, ◌≡◌, ◌∷◌, refl, rules, ap, ◌∙◌, sym, subst, true, false}
+use Rattle.std.proofs.Common.{arith, length, take, drop, ◌-◌, ◌≡◌, rules}
 use Rattle.dg_interp.proofs.Turns.{first_and_rest}
-use Rattle.dg_interp.proofs.Begins.{rule_built, keep_full, enter_full, rule_wrong, rule_begun}
+use Rattle.dg_interp.proofs.Begins.{keep_full, enter_full, rule_wrong, rule_begun}
 use Rattle.dg_interp.proofs.engine.Engine.begin_rule.Goals as goal
 
 pub returns-in-Err-clause-full : goal.returns-in-Err-clause-full

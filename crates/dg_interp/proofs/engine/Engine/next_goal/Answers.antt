@@ -1,9 +1,8 @@
-use Rattle.std.proofs.Common.{refl, arith, ◌≤◌, ◌<◌}
 use Rattle.dg_base.specs.declared.run.Ending.TheVariants.{Done}
 use Rattle.dg_meaning.specs.Path.{Failing, End}
-use Rattle.dg_interp.specs.Engine.{FailsAt, StandsAt, store_in, branches_left}
-use Rattle.dg_interp.proofs.Places.{leads_on, limits_on, went_nowhere, went_wrong}
-use Rattle.dg_interp.proofs.Branches.{at_goal_from, refused_on, went_on_from, ended_from, full_from}
+use Rattle.dg_interp.specs.Engine.{FailsAt, StandsAt, store_in}
+use Rattle.dg_interp.proofs.Places.{went_nowhere, went_wrong}
+use Rattle.dg_interp.proofs.Branches.{at_goal_from, refused_on, ended_from, full_from}
 use Rattle.dg_interp.proofs.engine.Engine.next_goal.Goals as goal
 
 pub answers-init : goal.answers-init
