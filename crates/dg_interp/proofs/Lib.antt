@@ -7,6 +7,7 @@ pub mod Links
 pub mod Places
 pub mod Turns
 pub mod Stores
+pub mod BothLemmas
 pub mod Entering
 pub mod Kept
 pub mod Begins
@@ -19,3 +20,4 @@ pub mod Rounds
 pub mod Whole
 pub mod PrintedWorlds
 pub mod Values
+pub mod Equals

@@ -3,7 +3,8 @@ use Rattle.std.proofs.Common.{◌≡◌, ℕ, suc, ◌<◌, List, [], ◌∷◌,
 use Rattle.std.specs.Prelude.{Result, IfOk, IfErr}
 use Rattle.std.proofs.lemmas.List.{append-nil}
 use Rattle.dg_base.specs.declared.program.Goal.{Goal}
-use Rattle.dg_base.specs.declared.program.Goal.TheVariants.{Text, Quit}
+use Rattle.dg_base.specs.declared.program.Goal.TheVariants.{Text, Print as PrintGoal, Quit}
+use Rattle.dg_base.specs.declared.program.Term.{Term}
 use Rattle.dg_base.specs.declared.run.Ending.{Ending}
 use Rattle.dg_base.specs.declared.run.Ending.TheVariants.{Failed, StepLimit, Quit as Quit-Ending}
 use Rattle.dg_base.specs.declared.run.RunFault.{RunFault}
@@ -18,14 +19,16 @@ use Rattle.dg_meaning.specs.Peaks.{Heap, Trail}
 use Rattle.dg_meaning.specs.Keeps.{Stands, Finished}
 use Rattle.dg_meaning.proofs.Silently.{prints_append, prints_later}
 use Rattle.dg_meaning.proofs.Keeps.{has_happened, limited}
+use Rattle.dg_unify.specs.declared.bindings.Ref.{Ref}
 use Rattle.dg_unify.specs.declared.bindings.Full.{Full}
 use Rattle.dg_unify.specs.declared.bindings.Full.TheVariants as full
 use Rattle.dg_interp.specs.declared.spacer.Spacer.{Spacer}
 use Rattle.dg_interp.specs.declared.engine.Engine.{Engine}
 use Rattle.dg_base.specs.Written.{SinkView, Wrote, BrokeOff}
 use Rattle.dg_interp.specs.Spacer.{StandsFor, Added, growth}
+use Rattle.dg_interp.specs.Printing.{as_prints, growth_of, AddsAll}
 use Rattle.dg_interp.specs.Frames.{mark_steps, steps_behind, values_in}
-use Rattle.dg_interp.specs.Engine.{store_in, IsQuiet, StandsAt, TakesAt, Then, FullAt, Taken, WentOn, HasEndedSo, Branches}
+use Rattle.dg_interp.specs.Engine.{store_in, pieces_at, WrotePrinted, IsQuiet, StandsAt, TakesAt, Then, FullAt, Taken, WentOn, HasEndedSo, Branches}
 use Rattle.dg_interp.specs.Running.{HasText, Writes, Reaches, HasEnded, MeetsLimit, IsBroken, GoalDone, DoesGoal, outcome_of}
 use Rattle.dg_base.proofs.WrittenLemmas.{wrote_on, broke_first, broke_later}
 use Rattle.dg_interp.proofs.Places.{adds_nothing, adds_on, adds_silently, limits_on}
@@ -188,6 +191,39 @@ module _ (x : Goal) (name bytes : List ℕ) (old mid : Engine) (s s' : Spacer) (
       let is : text_of t.world.events ≡ render (prints w.events) ++ growth (prints w.events) (Piece bytes) = ap render t.adds.prints_are ∙ render_grows (prints w.events) (Piece bytes) in
       text_begins t.world.events run.world.events (has_happened g h.lives h.ways _ mid.left t.world run h.stands).events start k'
       (subst (BrokeOff start k') (sym is) (broke_later start k k' (render (prints w.events)) (growth (prints w.events) (Piece bytes)) text.wrote (broke (prints w.events) text.stands)))
+
+-- ## A printed value
+
+pub text_grown : (ps : List (List ℕ)) (s s' : Spacer) (start before now : SinkView) (es : List Print) → HasText s start before es → AddsAll ps s s' before now → HasText s' start now (es ++ as_prints ps)
+text_grown ps s s' start before now es h f =
+    let a = f es h.stands in
+    record { stands = a.stands; wrote = subst (Wrote start now) (sym (render_append es (as_prints ps))) (wrote_on start before now (render es) (growth_of es ps) h.wrote a.wrote) }
+
+module _ (x : Goal) (term : Term) (value : Ref) (old mid new : Engine) (s s' : Spacer) (k k' : SinkView) (taken : Taken x old mid) (is : x ≡ PrintGoal term) (wrote : WrotePrinted term value mid new) where
+  abbrev ps : List (List ℕ)
+  ps = pieces_at new value
+
+  printed_then : (g : Game) (n : ℕ) (w : World) (run : Run) → IsQuiet w → StandsAt old g (suc n) w run → Then (as_prints ps) w (λ v. StandsAt new g n v run)
+  printed_then g n w run quiet st = wrote.leads g n w run quiet (subst (λ y. TakesAt y mid g n w run) is (taken.takes g n w run st))
+
+  pub value_done : AddsAll ps s s' k k' → GoalDone old new s s' k k'
+  value_done added = record {
+    ready = wrote.ready;
+    limits = limits_on old mid new taken.limits wrote.limits;
+    left = taken.left ∙ ap suc (sym wrote.left);
+    added = as_prints ps;
+    leads = printed_then;
+    writes = λ start es text. text_grown ps s s' start k k' es text added;
+  }
+
+  pub value_lost : ((es : List Print) → StandsFor s es → BrokeOff k k' (growth_of es ps)) → Reaches old s k (IsBroken Write s' k')
+  value_lost broke g w run start quiet st text =
+      let t = printed_then g mid.left w run quiet (subst (λ n. StandsAt old g n w run) taken.left st) in
+      let h = t.holds in
+      let es = prints w.events in
+      let same : text_of t.world.events ≡ render es ++ growth_of es ps = ap render t.adds.prints_are ∙ render_append es (as_prints ps) in
+      text_begins t.world.events run.world.events (has_happened g h.lives h.ways _ mid.left t.world run h.stands).events start k'
+      (subst (BrokeOff start k') (sym same) (broke_later start k k' (render es) (growth_of es ps) text.wrote (broke es text.stands)))
 
 pub goal_quits : (x : Goal) (old mid : Engine) (s : Spacer) (k : SinkView) → Taken x old mid → x ≡ Quit → Reaches old s k (HasEnded Quit-Ending mid.left s k)
 goal_quits x old mid s k taken is g w run start quiet st text =

@@ -5,7 +5,7 @@ use Rattle.std.proofs.lemmas.List.{append-nil}
 use Rattle.std.specs.declared.vec.Vec.{Vec}
 use Rattle.std.specs.declared.alloc.Global.{Global}
 use Rattle.dg_base.specs.declared.program.Goal.{Goal, Goal-F, out-Goal}
-use Rattle.dg_base.specs.declared.program.Goal.TheOpen.{Text, Ask, Just, Fail, Quit, Test}
+use Rattle.dg_base.specs.declared.program.Goal.TheOpen.{Text, Print, Equal, Ask, Just, Fail, Quit, Test}
 use Rattle.dg_base.specs.Goals.{terms_held}
 use Rattle.dg_meaning.specs.Values.{Value, value_of}
 use Rattle.dg_meaning.specs.World.{Game, World, Asked, prints, noted, worked, dropped}
@@ -14,6 +14,7 @@ use Rattle.dg_meaning.specs.Path.{Step, Registers, Branch, Enter, Clash, TakeOut
 use Rattle.dg_meaning.specs.Moves.{begun, test_looks, choice, rule_branches, rules_of, goes_on_if, behind_terms, outcome}
 use Rattle.dg_meaning.specs.Transcript.{Run}
 use Rattle.dg_meaning.specs.TypeTests.{passes}
+use Rattle.dg_meaning.specs.Unify.{unify}
 use Rattle.dg_meaning.specs.OneRun.{Grows}
 use Rattle.dg_meaning.specs.Context.{Way, Live, Silently}
 use Rattle.dg_meaning.specs.Keeps.{Finished, Began, After, world_of}
@@ -65,7 +66,7 @@ after_grows g lives ways n (EndsAt e w) run free h = finished_grows n w _ run h
 after_grows g lives ways n (StopsAt t w) run free h = absurd free
 after_grows g lives ways n (Chooses k t b bs w) run free h = began_grows g _ _ b n w run h
 
-goes_on_no_stop : (b : Bool) (steps : List Step) (r : Registers) (w : World) → NoStop (goes_on_if b steps r w)
+pub goes_on_no_stop : (b : Bool) (steps : List Step) (r : Registers) (w : World) → NoStop (goes_on_if b steps r w)
 goes_on_no_stop true steps r w = tt
 goes_on_no_stop false steps r w = tt
 
@@ -75,6 +76,8 @@ choice_no_stop k t (b ∷ bs) w = tt
 
 pub no_stop : (g : Game) (x : Goal-F Goal) (env : List Value) (t : ℕ) (steps : List Step) (r : Registers) (w : World) → IsForm x → NoStop (outcome g x env t steps r w)
 no_stop g (Text name) env t steps r w is = tt
+no_stop g (Print a) env t steps r w is = tt
+no_stop g (Equal a b) env t steps r w is = goes_on_no_stop (unify r.bound (value_of g.program env a) (value_of g.program env b)).agrees steps _ _
 no_stop g (Test kind a) env t steps r w is = let v = value_of g.program env a in goes_on_no_stop (passes r.bound kind v) steps r (worked (test_looks kind v r) w)
 no_stop g (Ask pred args many) env t steps r w is = choice_no_stop (RulesOf pred) r.next_tag (rule_branches g pred (map (value_of g.program env) args) many steps r (rules_of (slice_get g.program.preds pred))) (noted (Asked pred) w)
 no_stop g Just env t steps r w is = tt

@@ -1,25 +1,28 @@
 -- What the goals come to that write terms and make no choice.
-use Rattle.std.proofs.Common.{◌≡◌, ℕ, List, [], ◌∷◌, Bool, true, false, refl, sym, ap, ◌∙◌, subst, arith, length, map}
+use Rattle.std.proofs.Common.{◌≡◌, ℕ, List, [], ◌∷◌, ◌++◌, Bool, true, false, refl, sym, ap, ◌∙◌, subst, arith, length, map, append_assoc}
+use Rattle.std.proofs.lemmas.List.{append-nil}
 use Rattle.std.specs.List.{All}
 use Rattle.std.specs.declared.vec.Vec.{Vec}
 use Rattle.std.specs.declared.alloc.Global.{Global}
 use Rattle.dg_base.specs.declared.program.Goal.{Goal, out-Goal}
-use Rattle.dg_base.specs.declared.program.Goal.TheVariants.{Test, outs-Test}
+use Rattle.dg_base.specs.declared.program.Goal.TheVariants.{Print, Test, outs-Print, outs-Test}
 use Rattle.dg_base.specs.declared.program.Term.{Term}
 use Rattle.dg_base.specs.declared.program.TestKind.{TestKind}
 use Rattle.dg_base.specs.declared.program.CoreProgram.{CoreProgram}
 use Rattle.dg_base.specs.Goals.{terms_held}
 use Rattle.dg_meaning.specs.Values.{Value, value_of}
-use Rattle.dg_meaning.specs.World.{Game, World, worked}
+use Rattle.dg_meaning.specs.World.{Game, World, Piece, Prints, prints, worked}
 use Rattle.dg_meaning.specs.Cells.{cells, writing}
 use Rattle.dg_meaning.specs.TypeTests.{passes}
 use Rattle.dg_meaning.specs.Path.{Registers, Move}
-use Rattle.dg_meaning.specs.Moves.{goes_on_if, path_of, test_looks, outcome}
+use Rattle.dg_meaning.specs.Substitutions.{resolved}
+use Rattle.dg_meaning.specs.Pieces.{pieces}
+use Rattle.dg_meaning.specs.Moves.{printed, all_printed, goes_on_if, path_of, whole_looks, test_looks, outcome}
 use Rattle.dg_meaning.specs.Transcript.{Run}
 use Rattle.dg_meaning.specs.Keeps.{Stands, Failed, After}
 use Rattle.dg_meaning.specs.Built.{IsForm, IsBuiltGoal}
 use Rattle.dg_meaning.specs.Closures.{HasNoClosure}
-use Rattle.dg_unify.specs.Store.{Store, State, Saved, Holds, Kept, Made, told, or_nil, IsTold}
+use Rattle.dg_unify.specs.Store.{Store, State, Saved, Kept, Made, told, or_nil}
 use Rattle.dg_unify.specs.declared.bindings.Ref.{Ref}
 use Rattle.dg_unify.specs.declared.bindings.Full.{Full}
 use Rattle.dg_unify.specs.declared.list.ListBindings.{ListBindings}
@@ -27,7 +30,10 @@ use Rattle.dg_interp.specs.declared.frames.Env.{Env}
 use Rattle.dg_interp.specs.declared.engine.Engine.{Engine}
 use Rattle.dg_interp.specs.Terms.{Overflows}
 use Rattle.dg_interp.specs.Frames.{stretch, values_in, Agrees}
-use Rattle.dg_interp.specs.Engine.{store_in, KeepsPlaces, steps_of, IsQuiet, IsReady, TakesAt, StandsAt, FailsAt, FullAt, Adds, Leads, SameLimits, WentOn}
+use Rattle.dg_interp.specs.Engine.{store_in, KeepsPlaces, steps_of, IsQuiet, IsReady, TakesAt, StandsAt, FailsAt, FullAt, Adds, Then, Leads, SameLimits, WentOn, pieces_at, WrotePrinted}
+use Rattle.dg_meaning.proofs.Silently.{prints_append}
+use Rattle.dg_interp.proofs.Places.{adds_nothing}
+use Rattle.dg_interp.proofs.BothLemmas.{made_holds}
 use Rattle.dg_interp.proofs.Links.{same_here, at_same}
 use Rattle.dg_interp.proofs.Stores.{values_kept, hold_front}
 use Rattle.dg_interp.proofs.Turns.{all_first}
@@ -61,13 +67,35 @@ module _ (x : Goal) (old : Engine) (store : ListBindings) (made : Vec Ref Global
   pub fails_behind : (g : Game) (n : ℕ) (w v : World) (run : Run) (st : TakesAt x old g n w run) → Failed g st.lives n v run → FailsAt grown g n v run
   fails_behind g n w v run st h = record { program = st.program; lives = st.lives; saved = st.saved; keeps = saved st.saved st.keeps; choices = st.choices; failed = h }
 
+pub made_among : (program : CoreProgram) (terms : List Term) (n : ℕ) (s t : Store) (refs part : List Ref) (env : Env) (r : Ref) (term : Term) → part ≡ stretch refs env → Made n s t r (value_of program (map (told s) part) term) → Made n s t r (value_of program (values_in s refs env) term)
+made_among program terms n s t refs part env r term e h = subst (λ l. Made n s t r (value_of program (map (told s) l) term)) e h
+
+-- ## One term
+
+module _ (x : Goal) (term : Term) (held : terms_held (out-Goal x) ≡ term ∷ []) (old : Engine) where
+  pub term_full : IsForm (out-Goal x) → (e : Full) → ((program : CoreProgram) → Overflows (cells program (term ∷ [])) (store_in old.store) e) → FullAt (TakesAt x old) (store_in old.store) e
+  term_full form e h = terms_full x old e form (λ g. subst (λ l. Overflows (cells g.program l) (store_in old.store) e) (sym held) (h g.program))
+
+  pub agrees_behind : (store : ListBindings) (value : Ref) → ((program : CoreProgram) → Made (cells program (term ∷ [])) (store_in old.store) (store_in store) value (value_of program (values_in (store_in old.store) old.refs.items old.here.env) term)) →
+      (g : Game) (n : ℕ) (w : World) (run : Run) (st : TakesAt x old g n w run) → Agrees (store_in store) (behind x old g n w run st)
+  agrees_behind store value written g n w run st =
+      let here = (written g.program).charged.state in
+      let form : cells g.program (terms_held (out-Goal x)) ≡ cells g.program (term ∷ []) = ap (cells g.program) held in
+      record {
+        bound = st.agrees.bound ∙ ap (λ (t : State). t.subst) (sym here);
+        vars = st.agrees.vars ∙ ap (λ (t : State). t.vars) (sym here);
+        heap = omega (arith, st.agrees.heap, form, ap (λ (t : State). t.heap) here);
+        trail = omega (arith, st.agrees.trail, ap (λ (t : State). t.trail) here);
+        since = omega (arith, st.agrees.since, ap (λ (t : State). t.since) here, ap (λ (t : State). t.vars) here);
+      }
+
 -- ## A test
 
-test_form : (kind : TestKind) (term : Term) → IsForm (out-Goal (Test kind term))
-test_form kind term = subst IsForm (sym (outs-Test kind term)) tt
+test_held : (kind : TestKind) (term : Term) → terms_held (out-Goal (Test kind term)) ≡ term ∷ []
+test_held kind term = ap terms_held (outs-Test kind term)
 
 pub test_full : (kind : TestKind) (term : Term) (old : Engine) (e : Full) → ((program : CoreProgram) → Overflows (cells program (term ∷ [])) (store_in old.store) e) → FullAt (TakesAt (Test kind term) old) (store_in old.store) e
-test_full kind term old e h = terms_full (Test kind term) old e (test_form kind term) (λ g. subst (λ f. Overflows (cells g.program (terms_held f)) (store_in old.store) e) (sym (outs-Test kind term)) (h g.program))
+test_full kind term old = term_full (Test kind term) term (test_held kind term) old (subst IsForm (sym (outs-Test kind term)) tt)
 
 module _ (kind : TestKind) (term : Term) (old : Engine) (store : ListBindings) (made : Vec Ref Global) (value : Ref) (ready : IsReady old) (k : Kept (store_in old.store) (store_in store)) (saved : (ms : List Saved) → KeepsPlaces old.store ms → KeepsPlaces store ms)
     (written : (program : CoreProgram) → Made (cells program (term ∷ [])) (store_in old.store) (store_in store) value (value_of program (values_in (store_in old.store) old.refs.items old.here.env) term)) where
@@ -80,17 +108,8 @@ module _ (kind : TestKind) (term : Term) (old : Engine) (store : ListBindings) (
   abbrev env : List Value
   env = values_in (store_in old.store) old.refs.items old.here.env
 
-  agrees_behind : (g : Game) (n : ℕ) (w : World) (run : Run) (st : TakesAt x old g n w run) → Agrees s (behind x old g n w run st)
-  agrees_behind g n w run st =
-      let here = (written g.program).charged.state in
-      let form : cells g.program (terms_held (out-Goal x)) ≡ cells g.program (term ∷ []) = ap (λ f. cells g.program (terms_held f)) (outs-Test kind term) in
-      record {
-        bound = st.agrees.bound ∙ ap (λ (t : State). t.subst) (sym here);
-        vars = st.agrees.vars ∙ ap (λ (t : State). t.vars) (sym here);
-        heap = omega (arith, st.agrees.heap, form, ap (λ (t : State). t.heap) here);
-        trail = omega (arith, st.agrees.trail, ap (λ (t : State). t.trail) here);
-        since = omega (arith, st.agrees.since, ap (λ (t : State). t.since) here, ap (λ (t : State). t.vars) here);
-      }
+  agrees : (g : Game) (n : ℕ) (w : World) (run : Run) (st : TakesAt x old g n w run) → Agrees s (behind x old g n w run st)
+  agrees = agrees_behind x term (test_held kind term) old store value written
 
   looked : (g : Game) (n : ℕ) (w : World) (run : Run) (st : TakesAt x old g n w run) → World
   looked g n w run st = worked (test_looks kind (value_of g.program env term) (behind x old g n w run st)) (taken_in x old g n w run st)
@@ -102,7 +121,7 @@ module _ (kind : TestKind) (term : Term) (old : Engine) (store : ListBindings) (
       let v = taken_in x old g n w run st in
       let m : Bool → Move = λ b. goes_on_if b (steps_of old) r (looked g n w run st) in
       let same : passes s.state.subst kind (told s value) ≡ passes r.bound kind (value_of g.program env term) =
-      ap (λ S. passes S kind (told s value)) (sym (agrees_behind g n w run st).bound) ∙ ap (λ o. passes r.bound kind (or_nil o)) (written g.program).value in
+      ap (λ S. passes S kind (told s value)) (sym (agrees g n w run st).bound) ∙ ap (λ o. passes r.bound kind (or_nil o)) (written g.program).value in
       subst (λ q. After g st.lives st.ways n q run) (ap (λ f. outcome g f env old.here.tag (steps_of old) r v) (outs-Test kind term) ∙ ap m (sym (is ∙ same))) (comes_of x old g n w run st)
 
   adds_looked : (g : Game) (n : ℕ) (w : World) (run : Run) (st : TakesAt x old g n w run) → IsQuiet w → Adds [] w (looked g n w run st)
@@ -117,7 +136,7 @@ module _ (kind : TestKind) (term : Term) (old : Engine) (store : ListBindings) (
     leads = λ g n w run quiet st. record {
       world = looked g n w run st;
       adds = adds_looked g n w run st quiet;
-      holds = stands_behind x old store made ready k saved g n w (looked g n w run st) run st (behind x old g n w run st) (agrees_behind g n w run st) refl (comes_to g n w run st true is);
+      holds = stands_behind x old store made ready k saved g n w (looked g n w run st) run st (behind x old g n w run st) (agrees g n w run st) refl (comes_to g n w run st true is);
     };
   }
 
@@ -128,11 +147,75 @@ module _ (kind : TestKind) (term : Term) (old : Engine) (store : ListBindings) (
     holds = fails_behind x old store made ready k saved g n w (looked g n w run st) run st (comes_to g n w run st false is);
   }
 
-pub made_holds : (n : ℕ) (s t : Store) (r : Ref) (v : Value) → Made n s t r v → Holds t r
-made_holds n s t r v h = subst IsTold (sym h.value) tt
-
-pub made_among : (program : CoreProgram) (terms : List Term) (n : ℕ) (s t : Store) (refs part : List Ref) (env : Env) (r : Ref) (term : Term) → part ≡ stretch refs env → Made n s t r (value_of program (map (told s) part) term) → Made n s t r (value_of program (values_in s refs env) term)
-made_among program terms n s t refs part env r term e h = subst (λ l. Made n s t r (value_of program (map (told s) l) term)) e h
-
 pub test_plain : (kind : TestKind) (term : Term) → IsBuiltGoal (Test kind term) → HasNoClosure term
 test_plain kind term h = all_first HasNoClosure term [] (subst (λ f. All HasNoClosure (terms_held f)) (outs-Test kind term) h.1)
+
+-- ## A printed value
+
+print_held : (term : Term) → terms_held (out-Goal (Print term)) ≡ term ∷ []
+print_held term = ap terms_held (outs-Print term)
+
+pub print_full : (term : Term) (old : Engine) (e : Full) → ((program : CoreProgram) → Overflows (cells program (term ∷ [])) (store_in old.store) e) → FullAt (TakesAt (Print term) old) (store_in old.store) e
+print_full term old = term_full (Print term) term (print_held term) old (subst IsForm (sym (outs-Print term)) tt)
+
+pub print_plain : (term : Term) → IsBuiltGoal (Print term) → HasNoClosure term
+print_plain term h = all_first HasNoClosure term [] (subst (λ f. All HasNoClosure (terms_held f)) (outs-Print term) h.1)
+
+adds_printed : (ps : List (List ℕ)) (w : World) → IsQuiet w → Adds (map Piece ps) w (all_printed ps w)
+adds_printed [] w quiet = adds_nothing w quiet
+adds_printed (p ∷ ps) w quiet =
+    let v = printed (Piece p) w in
+    let a = adds_printed ps v quiet in
+    record {
+      prints_are = a.prints_are ∙ ap (λ l. l ++ map Piece ps) (prints_append w.events (Prints (Piece p) ∷ [])) ∙ append_assoc (prints w.events) (Piece p ∷ []) (map Piece ps);
+      typed = a.typed;
+      quiet = a.quiet;
+    }
+
+module _ (term : Term) (old : Engine) (store : ListBindings) (made : Vec Ref Global) (value : Ref) (ready : IsReady old) (k : Kept (store_in old.store) (store_in store)) (saved : (ms : List Saved) → KeepsPlaces old.store ms → KeepsPlaces store ms)
+    (written : (program : CoreProgram) → Made (cells program (term ∷ [])) (store_in old.store) (store_in store) value (value_of program (values_in (store_in old.store) old.refs.items old.here.env) term)) where
+  abbrev y : Goal
+  y = Print term
+
+  abbrev new : Engine
+  new = grown y old store made ready k saved
+
+  abbrev values : List Value
+  values = values_in (store_in old.store) old.refs.items old.here.env
+
+  shown : (g : Game) (n : ℕ) (w : World) (run : Run) (st : TakesAt y old g n w run) → World
+  shown g n w run st = worked (whole_looks (behind y old g n w run st) (value_of g.program values term)) (taken_in y old g n w run st)
+
+  same_pieces : (g : Game) (n : ℕ) (w : World) (run : Run) (st : TakesAt y old g n w run) → pieces g.program (resolved (behind y old g n w run st).bound (value_of g.program values term)) ≡ pieces_at new value
+  same_pieces g n w run st =
+      let r = behind y old g n w run st in
+      let s = store_in store in
+      ap (λ v. pieces g.program (resolved r.bound (or_nil v))) (sym (written g.program).value)
+      ∙ ap (λ S. pieces g.program (resolved S (told s value))) (agrees_behind y term (print_held term) old store value written g n w run st).bound
+      ∙ ap (λ p. pieces p (resolved s.state.subst (told s value))) (sym st.program)
+
+  prints_next : (g : Game) (n : ℕ) (w : World) (run : Run) → IsQuiet w → TakesAt y old g n w run → Then (map Piece (pieces_at new value)) w (λ v. StandsAt new g n v run)
+  prints_next g n w run quiet st =
+      let r = behind y old g n w run st in
+      let v = taken_in y old g n w run st in
+      let before = worked (whole_looks r (value_of g.program values term)) v in
+      let ps = pieces_at new value in
+      let a = adds_taken r (writing g.program (terms_held (out-Goal y))) w quiet in
+      let b = adds_printed ps before quiet in
+      let stands : Stands g st.lives st.ways (path_of (steps_of old) r) n (all_printed ps before) run =
+      subst (λ l. Stands g st.lives st.ways (path_of (steps_of old) r) n (all_printed l before) run) (same_pieces g n w run st)
+      (subst (λ f. After g st.lives st.ways n (outcome g f values old.here.tag (steps_of old) r v) run) (outs-Print term) (comes_of y old g n w run st)) in
+      record {
+        world = all_printed ps before;
+        adds = record { prints_are = b.prints_are ∙ ap (λ l. l ++ map Piece ps) (a.prints_are ∙ append-nil (prints w.events)); typed = b.typed; quiet = b.quiet };
+        holds = stands_behind y old store made ready k saved g n w (all_printed ps before) run st r (agrees_behind y term (print_held term) old store value written g n w run st) refl stands;
+      }
+
+  pub wrote_printed : WrotePrinted term value old new
+  wrote_printed = record {
+    ready = store_ready old store made k saved ready;
+    left = refl;
+    limits = grown_limits y old store made ready k saved;
+    holds = made_holds _ (store_in old.store) (store_in store) value _ (written (record { preds = []; closures = []; places = []; objects = []; words = []; sites = 0; entry = 0 }));
+    leads = prints_next;
+  }

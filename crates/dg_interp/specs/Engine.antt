@@ -1,20 +1,25 @@
 -- What an engine stands for, and what its parts do to that. Hold it against the Dialog manual, chapter "Choice points".
-use Rattle.std.specs.Prelude.{ℕ, zero, suc, ◌+◌, ◌^◌, ◌≡◌, ◌<◌, ◌≤◌, ◌++◌, nat_lt, List, [], ◌∷◌, Bool, true, false, length, reverse, Option, Some, None, if◌then◌else◌}
+use Rattle.std.specs.Prelude.{ℕ, zero, suc, ◌+◌, ◌^◌, ◌≡◌, ◌<◌, ◌≤◌, ◌++◌, nat_lt, List, [], ◌∷◌, Bool, true, false, length, map, reverse, Option, Some, None, if◌then◌else◌}
 use Rattle.std.specs.List.{All}
 use Rattle.dg_base.specs.declared.program.Goal.{Goal}
+use Rattle.dg_base.specs.declared.program.Goal.TheVariants.{Print as PrintGoal}
+use Rattle.dg_base.specs.declared.program.Term.{Term}
 use Rattle.dg_base.specs.declared.program.CoreProgram.{CoreProgram}
 use Rattle.dg_base.specs.declared.run.Ending.{Ending}
 use Rattle.dg_base.specs.declared.run.Ending.TheVariants.{Done as Done-Ending, Failed as Failed-Ending}
-use Rattle.dg_meaning.specs.World.{Game, World, Print, prints}
+use Rattle.dg_meaning.specs.World.{Game, World, Print, Piece, prints}
+use Rattle.dg_meaning.specs.Substitutions.{resolved}
+use Rattle.dg_meaning.specs.Pieces.{pieces}
 use Rattle.dg_meaning.specs.Path.{Step, Do, Registers, Branch, Result, Failing, End}
 use Rattle.dg_meaning.specs.Moves.{path_of}
 use Rattle.dg_meaning.specs.Transcript.{Run, run, start_world}
 use Rattle.dg_meaning.specs.Context.{Way, Live, pushed}
 use Rattle.dg_meaning.specs.Keeps.{Stands, Failed, Finished, Began}
 use Rattle.dg_meaning.specs.Built.{IsBuilt, IsBuiltGoal}
-use Rattle.dg_unify.specs.Store.{Store, Saved, Holds, Kept}
+use Rattle.dg_unify.specs.Store.{Store, Saved, Holds, Kept, told}
 use Rattle.dg_unify.specs.Slots.{store_of, Stand}
 use Rattle.dg_unify.specs.Listed.{fields_of}
+use Rattle.dg_unify.specs.declared.bindings.Ref.{Ref}
 use Rattle.dg_unify.specs.declared.bindings.Full.{Full}
 use Rattle.dg_unify.specs.declared.bindings.Full.TheVariants as full
 use Rattle.dg_unify.specs.declared.bindings.Mark.{Mark as Place}
@@ -232,6 +237,18 @@ pub record Taken (x : Goal) (old new : Engine) : Type 0 where
   pub room : new.newest + 1 + new.left < 2 ^ 64
   pub built : IsBuiltGoal x
   pub takes : (g : Game) (n : ℕ) (w : World) (run : Run) → StandsAt old g (suc n) w run → TakesAt x new g n w run
+
+-- The pieces of a value that stands at a Ref.
+abbrev pub pieces_at : Engine → Ref → List (List ℕ)
+pieces_at e r = let s = store_in e.store in pieces e.program.now (resolved s.state.subst (told s r))
+
+-- The value that a goal prints stands at a Ref, and a run that comes from that goal comes from where the engine is once the pieces are printed.
+pub record WrotePrinted (term : Term) (value : Ref) (old new : Engine) : Type 0 where
+  pub ready : IsReady new
+  pub left : new.left ≡ old.left
+  pub limits : SameLimits old new
+  pub holds : Holds (store_in new.store) value
+  pub leads : (g : Game) (n : ℕ) (w : World) (run : Run) → IsQuiet w → TakesAt (PrintGoal term) old g n w run → Then (map Piece (pieces_at new value)) w (λ v. StandsAt new g n v run)
 
 -- ## Branches
 

@@ -7,7 +7,7 @@ use Rattle.dg_base.specs.declared.program.CoreProgram.{CoreProgram}
 use Rattle.dg_meaning.specs.Values.{Value, pair, value_of}
 use Rattle.dg_meaning.specs.Cells.{cells}
 use Rattle.dg_meaning.specs.Moves.{new_vars}
-use Rattle.dg_unify.specs.Store.{Store, told, Holds, Charged}
+use Rattle.dg_unify.specs.Store.{Store, told, Holds, Kept, Charged}
 use Rattle.dg_unify.specs.declared.bindings.Ref.{Ref}
 use Rattle.dg_unify.specs.declared.bindings.Full.{Full}
 use Rattle.dg_unify.specs.declared.bindings.Full.TheVariants as full
@@ -17,6 +17,15 @@ abbrev pub Overflows : ℕ → Store → Full → Type 0
 Overflows n old full.Heap = old.heap_limit < old.state.heap + n
 Overflows n old full.Trail = ⊥
 Overflows n old full.OutOfMemory = Unit {0}
+
+-- Two terms were written, one after the other, with these values among those of variables.
+pub record BothMade (program : CoreProgram) (a b : Term) (env : List Value) (old new : Store) (left right : Ref) : Type 0 where
+  pub kept : Kept old new
+  pub state : new.state ≡ record old.state { heap = old.state.heap + cells program (a ∷ b ∷ []) }
+  pub left_is : told new left ≡ value_of program env a
+  pub right_is : told new right ≡ value_of program env b
+  pub left_in : Holds new left
+  pub right_in : Holds new right
 
 -- ## Lists of Refs
 

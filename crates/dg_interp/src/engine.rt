@@ -1,25 +1,29 @@
 // Open choices and linked frames, in place of the search's recursion.
 ghost use Rattle.std.specs.Prelude.{◌≡◌, ◌≢◌, false, ◌+◌, ◌<◌, ◌≤◌, ◌^◌, IfOk, IfErr, OnOk, MatchResult, List, [], ◌∷◌, All, length, reverse, slice_get};
-ghost use Rattle.dg_base.specs.declared.program.Goal.TheVariants.{Ask, Equal as EqualGoal, Test as TestGoal, Fail as FailGoal, Just as JustGoal};
+ghost use Rattle.dg_base.specs.declared.program.Goal.TheVariants.{Ask, Print as PrintGoal, Equal as EqualGoal, Test as TestGoal, Fail as FailGoal, Just as JustGoal};
 ghost use Rattle.dg_meaning.specs.Moves.{rules_of as the_rules};
 ghost use Rattle.dg_meaning.specs.Built.{IsBuilt};
 ghost use Rattle.dg_interp.specs.declared.frames.Mark.TheVariants.{Nothing as NoMark};
 ghost use Rattle.dg_interp.specs.declared.frames.Left.TheVariants.{Rules, Lists, Way};
 ghost use Rattle.dg_interp.specs.Frames.{IsLeft, left_in, floor_of, stretch as the_stretch, values_in, EndsBy};
-ghost use Rattle.dg_interp.specs.Engine.{Starts, IsSound, IsReady, StandsAt, FailsAt, TakesAt, BeginsAt, HasPlace, Cuts, Passes, Settles, FrameLeft, GoesToGoal, GoesBack, Retries, Taken, Branches, WentOn, Tries, FullAt, store_in, branches_left, KeepsPlaces, kept_if, cells_if};
+ghost use Rattle.dg_interp.specs.Engine.{Starts, IsSound, IsReady, StandsAt, FailsAt, TakesAt, BeginsAt, HasPlace, Cuts, Passes, Settles, FrameLeft, GoesToGoal, GoesBack, Retries, Taken, Branches, WentOn, Tries, FullAt, store_in, pieces_at, WrotePrinted, branches_left, KeepsPlaces, kept_if, cells_if};
 ghost use Rattle.dg_base.specs.declared.program.CoreProgram.{CoreProgram as Program};
 ghost use Rattle.dg_meaning.specs.Cells.{cells};
 ghost use Rattle.dg_meaning.specs.Closures.{HasNoClosure};
 ghost use Rattle.dg_interp.specs.Rules.{EntersRule, RuleFull, ArgsWritten};
 ghost use Rattle.dg_interp.specs.Terms.{Overflows};
+ghost use Rattle.dg_interp.specs.Printing.{Printed};
+ghost use Rattle.dg_base.specs.Written.{view};
 ghost use Rattle.dg_unify.specs.Store.{Saved, Kept, Holds, Charged};
 
 use crate::frames::{Choice, Env, Frame, Left, Mark, Query};
 use crate::matching::unify_all;
-use crate::terms::{new_variables, write_term, write_terms};
+use crate::printing::print_value;
+use crate::spacer::Spacer;
+use crate::terms::{new_variables, write_both, write_term, write_terms};
 use crate::testing::test;
-use dg_base::{CoreProgram, Ending, Goal, Rule, Term, TestKind};
-use dg_unify::{Bindings, Full, ListBindings, Mark as Place, Ref};
+use dg_base::{CoreProgram, Ending, Goal, Rule, Sink, Term, TestKind, WriteFault};
+use dg_unify::{Bindings, Full, ListBindings, Mark as Place, Ref, unify};
 use std::alloc::{AllocError, Global};
 
 /// Where a run stands.
@@ -475,6 +479,60 @@ impl<'p> Engine<'p> {
         ensures cut { WentOn (TakesAt JustGoal self.old) self.old self.new }
     {
         cut(&mut self.choices, self.here.tag);
+    }
+
+    /// Writes the value that a goal prints.
+    pub fn write_printed(&mut self, term: &Term) -> Result<Ref, Full>
+        requires ready { IsReady self.old }
+        requires plain { HasNoClosure term.now }
+        ensures written { IfOk result (λ value. WrotePrinted term.now value self.old self.new) }
+        ensures full { IfErr result (λ e. FullAt (TakesAt (PrintGoal term.now) self.old) (store_in self.old.store) e) }
+        ensures left { self.new.left ≡ self.old.left }
+    {
+        match write_term(
+            &mut self.store,
+            stretch(&self.refs, self.here.env),
+            term,
+            &mut self.made,
+        ) {
+            Err(e) => Err(e),
+            Ok(value) => Ok(value),
+        }
+    }
+
+    /// Prints the value that stands at a Ref.
+    pub fn print<K: Sink>(
+        &self,
+        spacer: &mut Spacer,
+        sink: &mut K,
+        value: Ref,
+    ) -> Result<(), WriteFault>
+        requires { Holds (store_in self.now.store) value }
+        ensures { Printed (pieces_at self.now value) spacer.old spacer.new (view (K.taken sink.old) (K.room sink.old) (K.faults sink.old)) (view (K.taken sink.new) (K.room sink.new) (K.faults sink.new)) result }
+    {
+        print_value(&self.store, self.program, spacer, sink, value)
+    }
+
+    /// Makes two values equal; where they clash, goes back.
+    pub fn equal(&mut self, a: &Term, b: &Term) -> Result<bool, Full>
+        requires ready { IsReady self.old }
+        requires plain { HasNoClosure a.now × HasNoClosure b.now }
+        ensures equal { IfOk result (λ found. Branches (TakesAt (EqualGoal a.now b.now) self.old) found self.old self.new) }
+        ensures full { IfErr result (λ e. FullAt (TakesAt (EqualGoal a.now b.now) self.old) (store_in self.old.store) e) }
+        ensures left { self.new.left ≡ self.old.left }
+    {
+        let env = stretch(&self.refs, self.here.env);
+        match write_both(&mut self.store, env, a, b, &mut self.made) {
+            Err(e) => Err(e),
+            Ok((left, right)) => match unify(&mut self.store, left, right) {
+                Err(e) => Err(e),
+                Ok(true) => Ok(true),
+                Ok(false) => match self.back() {
+                    Err(e) => Err(e),
+                    Ok(found) => Ok(found),
+                },
+            },
+        }
     }
 
     /// Tests what a value is; where it doesn't pass, goes back.

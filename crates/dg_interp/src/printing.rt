@@ -1,37 +1,23 @@
 // Printed values.
 
-ghost use Rattle.std.specs.Prelude.{◌≡◌, ◌∷◌, [], ◌++◌, ℕ, List, false, nat_lt, get_or, codes};
-ghost use Rattle.std.specs.List.{list_any};
+ghost use Rattle.std.specs.Prelude.{◌≡◌, ◌≤◌, ◌+◌, ◌∷◌, [], ◌++◌, ℕ, List, length, take, get_or, codes};
 ghost use Rattle.dg_base.specs.Written.{view};
 ghost use Rattle.dg_meaning.specs.Values.{Value};
-ghost use Rattle.dg_meaning.specs.Pieces.{pieces, label_piece, first_piece};
+ghost use Rattle.dg_meaning.specs.Pieces.{shown_letter, word_text, pieces, label_piece, first_piece};
 ghost use Rattle.dg_meaning.specs.Substitutions.{resolved};
 ghost use Rattle.dg_unify.specs.Store.{label_of, told, Holds, Shows, IsUnknownAt};
-ghost use Rattle.dg_interp.specs.Printing.{first_wide, has_wide, AreLetters, shows_nil, single_pieces, end_pieces, Printed, PrintsList};
+ghost use Rattle.dg_interp.specs.Printing.{HasText, shows_nil, single_pieces, end_pieces, Printed, PrintsList};
 
 use crate::spacer::Spacer;
-use dg_base::{CoreProgram, Name, Simple, Sink};
+use dg_base::{CoreProgram, Name, Simple, Sink, WriteFault};
 use dg_unify::{Bindings, Ref, View};
 use itoa::Buffer;
-use thiserror::Error;
-
-/// Why a value wasn't printed whole: the output failed, or a letter of an unknown word is no byte.
-#[derive(Clone, Copy, PartialEq, Eq, Debug, Error)]
-pub enum PrintFault {
-    #[error("the output failed")]
-    Write,
-    #[error("a letter is no byte")]
-    Letter,
-}
 
 // One piece.
-fn print_piece<K: Sink>(spacer: &mut Spacer, sink: &mut K, piece: &[u8]) -> Result<(), PrintFault>
-    ensures { Printed (piece.now ∷ []) false spacer.old spacer.new (view (K.taken sink.old) (K.room sink.old) (K.faults sink.old)) (view (K.taken sink.new) (K.room sink.new) (K.faults sink.new)) result }
+fn print_piece<K: Sink>(spacer: &mut Spacer, sink: &mut K, piece: &[u8]) -> Result<(), WriteFault>
+    ensures { Printed (piece.now ∷ []) spacer.old spacer.new (view (K.taken sink.old) (K.room sink.old) (K.faults sink.old)) (view (K.taken sink.new) (K.room sink.new) (K.faults sink.new)) result }
 {
-    match spacer.piece(sink, piece) {
-        Ok(()) => Ok(()),
-        Err(_) => Err(PrintFault::Write),
-    }
+    spacer.piece(sink, piece)
 }
 
 // The text of a name; where there is none, nothing.
@@ -45,13 +31,10 @@ fn name_at(names: &[Name], at: u16) -> &[u8]
 }
 
 // The name of an object.
-fn print_object<K: Sink>(spacer: &mut Spacer, sink: &mut K, name: &[u8]) -> Result<(), PrintFault>
-    ensures { Printed ((codes "#" ++ name.now) ∷ []) false spacer.old spacer.new (view (K.taken sink.old) (K.room sink.old) (K.faults sink.old)) (view (K.taken sink.new) (K.room sink.new) (K.faults sink.new)) result }
+fn print_object<K: Sink>(spacer: &mut Spacer, sink: &mut K, name: &[u8]) -> Result<(), WriteFault>
+    ensures { Printed ((codes "#" ++ name.now) ∷ []) spacer.old spacer.new (view (K.taken sink.old) (K.room sink.old) (K.faults sink.old)) (view (K.taken sink.new) (K.room sink.new) (K.faults sink.new)) result }
 {
-    match spacer.object(sink, name) {
-        Ok(()) => Ok(()),
-        Err(_) => Err(PrintFault::Write),
-    }
+    spacer.object(sink, name)
 }
 
 // A value without parts by its first piece.
@@ -60,8 +43,8 @@ fn print_simple<K: Sink>(
     spacer: &mut Spacer,
     sink: &mut K,
     value: Simple,
-) -> Result<(), PrintFault>
-    ensures { Printed (label_piece program.now (label_of value) ∷ []) false spacer.old spacer.new (view (K.taken sink.old) (K.room sink.old) (K.faults sink.old)) (view (K.taken sink.new) (K.room sink.new) (K.faults sink.new)) result }
+) -> Result<(), WriteFault>
+    ensures { Printed (label_piece program.now (label_of value) ∷ []) spacer.old spacer.new (view (K.taken sink.old) (K.room sink.old) (K.faults sink.old)) (view (K.taken sink.new) (K.room sink.new) (K.faults sink.new)) result }
 {
     match value {
         Simple::Num(n) => {
@@ -74,20 +57,37 @@ fn print_simple<K: Sink>(
     }
 }
 
-// The letters of an unknown word, at most 200; none where one of them is no byte.
-fn letters_into<B: Bindings>(store: &B, word: Ref, bytes: &mut [u8; 200]) -> Option<usize>
+// A letter as it is printed.
+fn letter_of(letter: u16) -> char
+    ensures { result ≡ shown_letter letter }
+{
+    char::from_u32(letter as u32).unwrap_or('?')
+}
+
+// Writes bytes behind so many others of a buffer.
+fn append(buffer: &mut [u8], at: usize, bytes: &[u8])
+    requires { at + length bytes.now ≤ length buffer.old }
+    ensures written { take (at + length bytes.now) buffer.new ≡ take at buffer.old ++ bytes.now }
+    ensures len { length buffer.new ≡ length buffer.old }
+{
+    buffer[at..at + bytes.len()].copy_from_slice(bytes);
+}
+
+// Writes the text of an unknown word to a buffer that has room for its letters; so many bytes.
+fn text_into<B: Bindings>(store: &B, word: Ref, buffer: &mut [u8; 800]) -> usize
     requires { (spelling : List ℕ) × IsUnknownAt (B.meaning store.now) word spelling }
-    ensures { (spelling : List ℕ) → IsUnknownAt (B.meaning store.now) word spelling → AreLetters spelling bytes.new result }
+    ensures { (spelling : List ℕ) → IsUnknownAt (B.meaning store.now) word spelling → HasText spelling buffer.new result }
 {
     let mut at: u16 = 0;
+    let mut len = 0;
     'letters: while let Some(letter) = store.letter(word, at) {
-        if letter > 255 {
-            return None;
-        }
-        bytes[at as usize] = letter as u8;
+        let mut room = [0; 4];
+        let text = letter_of(letter).encode_utf8(&mut room).as_bytes();
+        append(buffer, len, text);
+        len += text.len();
         at += 1;
     }
-    Some(at as usize)
+    len
 }
 
 // An unknown word.
@@ -96,15 +96,13 @@ fn print_unknown<B: Bindings, K: Sink>(
     spacer: &mut Spacer,
     sink: &mut K,
     word: Ref,
-) -> Result<(), PrintFault>
+) -> Result<(), WriteFault>
     requires { (spelling : List ℕ) × IsUnknownAt (B.meaning store.now) word spelling }
-    ensures { (spelling : List ℕ) → IsUnknownAt (B.meaning store.now) word spelling → Printed (spelling ∷ []) (list_any (nat_lt 255) spelling) spacer.old spacer.new (view (K.taken sink.old) (K.room sink.old) (K.faults sink.old)) (view (K.taken sink.new) (K.room sink.new) (K.faults sink.new)) result }
+    ensures { (spelling : List ℕ) → IsUnknownAt (B.meaning store.now) word spelling → Printed (word_text spelling ∷ []) spacer.old spacer.new (view (K.taken sink.old) (K.room sink.old) (K.faults sink.old)) (view (K.taken sink.new) (K.room sink.new) (K.faults sink.new)) result }
 {
-    let mut bytes = [0; 200];
-    match letters_into(store, word, &mut bytes) {
-        None => Err(PrintFault::Letter),
-        Some(count) => print_piece(spacer, sink, &bytes[..count]),
-    }
+    let mut buffer = [0; 800];
+    let len = text_into(store, word, &mut buffer);
+    print_piece(spacer, sink, &buffer[..len])
 }
 
 // A value that was looked up and is no list, or the first piece of one that is.
@@ -114,9 +112,9 @@ fn print_first<B: Bindings, K: Sink>(
     spacer: &mut Spacer,
     sink: &mut K,
     value: View,
-) -> Result<(), PrintFault>
+) -> Result<(), WriteFault>
     requires { (w : Value) × Shows (B.meaning store.now) w value }
-    ensures { (w : Value) → Shows (B.meaning store.now) w value → Printed (first_piece program.now w ∷ []) (first_wide w) spacer.old spacer.new (view (K.taken sink.old) (K.room sink.old) (K.faults sink.old)) (view (K.taken sink.new) (K.room sink.new) (K.faults sink.new)) result }
+    ensures { (w : Value) → Shows (B.meaning store.now) w value → Printed (first_piece program.now w ∷ []) spacer.old spacer.new (view (K.taken sink.old) (K.room sink.old) (K.faults sink.old)) (view (K.taken sink.new) (K.room sink.new) (K.faults sink.new)) result }
 {
     match value {
         View::Unbound(_) => print_piece(spacer, sink, b"$"),
@@ -138,8 +136,8 @@ fn is_nil(value: View) -> bool
 }
 
 // The empty list.
-fn print_nil<K: Sink>(spacer: &mut Spacer, sink: &mut K) -> Result<(), PrintFault>
-    ensures { Printed (codes "[" ∷ codes "]" ∷ []) false spacer.old spacer.new (view (K.taken sink.old) (K.room sink.old) (K.faults sink.old)) (view (K.taken sink.new) (K.room sink.new) (K.faults sink.new)) result }
+fn print_nil<K: Sink>(spacer: &mut Spacer, sink: &mut K) -> Result<(), WriteFault>
+    ensures { Printed (codes "[" ∷ codes "]" ∷ []) spacer.old spacer.new (view (K.taken sink.old) (K.room sink.old) (K.faults sink.old)) (view (K.taken sink.new) (K.room sink.new) (K.faults sink.new)) result }
 {
     match print_piece(spacer, sink, b"[") {
         Err(fault) => Err(fault),
@@ -154,9 +152,9 @@ fn print_single<B: Bindings, K: Sink>(
     spacer: &mut Spacer,
     sink: &mut K,
     value: View,
-) -> Result<(), PrintFault>
+) -> Result<(), WriteFault>
     requires { (w : Value) × Shows (B.meaning store.now) w value }
-    ensures { (w : Value) → Shows (B.meaning store.now) w value → Printed (single_pieces program.now w) (first_wide w) spacer.old spacer.new (view (K.taken sink.old) (K.room sink.old) (K.faults sink.old)) (view (K.taken sink.new) (K.room sink.new) (K.faults sink.new)) result }
+    ensures { (w : Value) → Shows (B.meaning store.now) w value → Printed (single_pieces program.now w) spacer.old spacer.new (view (K.taken sink.old) (K.room sink.old) (K.faults sink.old)) (view (K.taken sink.new) (K.room sink.new) (K.faults sink.new)) result }
 {
     if is_nil(value) {
         return print_nil(spacer, sink);
@@ -171,9 +169,9 @@ fn print_tail<B: Bindings, K: Sink>(
     spacer: &mut Spacer,
     sink: &mut K,
     tail: View,
-) -> Result<(), PrintFault>
+) -> Result<(), WriteFault>
     requires { (w : Value) × Shows (B.meaning store.now) w tail }
-    ensures { (w : Value) → Shows (B.meaning store.now) w tail → Printed (codes "|" ∷ first_piece program.now w ∷ codes "]" ∷ []) (first_wide w) spacer.old spacer.new (view (K.taken sink.old) (K.room sink.old) (K.faults sink.old)) (view (K.taken sink.new) (K.room sink.new) (K.faults sink.new)) result }
+    ensures { (w : Value) → Shows (B.meaning store.now) w tail → Printed (codes "|" ∷ first_piece program.now w ∷ codes "]" ∷ []) spacer.old spacer.new (view (K.taken sink.old) (K.room sink.old) (K.faults sink.old)) (view (K.taken sink.new) (K.room sink.new) (K.faults sink.new)) result }
 {
     match print_piece(spacer, sink, b"|") {
         Err(fault) => Err(fault),
@@ -191,9 +189,9 @@ fn print_end<B: Bindings, K: Sink>(
     spacer: &mut Spacer,
     sink: &mut K,
     tail: View,
-) -> Result<(), PrintFault>
+) -> Result<(), WriteFault>
     requires { (w : Value) × Shows (B.meaning store.now) w tail }
-    ensures { (w : Value) → Shows (B.meaning store.now) w tail → Printed (end_pieces program.now w) (first_wide w) spacer.old spacer.new (view (K.taken sink.old) (K.room sink.old) (K.faults sink.old)) (view (K.taken sink.new) (K.room sink.new) (K.faults sink.new)) result }
+    ensures { (w : Value) → Shows (B.meaning store.now) w tail → Printed (end_pieces program.now w) spacer.old spacer.new (view (K.taken sink.old) (K.room sink.old) (K.faults sink.old)) (view (K.taken sink.new) (K.room sink.new) (K.faults sink.new)) result }
 {
     if is_nil(tail) {
         return print_piece(spacer, sink, b"]");
@@ -210,7 +208,7 @@ fn print_list<B: Bindings, K: Sink>(
     sink: &mut K,
     head: Ref,
     tail: Ref,
-) -> Result<(), PrintFault>
+) -> Result<(), WriteFault>
     requires head_in { Holds (B.meaning store.now) head }
     requires tail_in { Holds (B.meaning store.now) tail }
     ensures { PrintsList (B.meaning store.now) program.now head tail spacer.old spacer.new (view (K.taken sink.old) (K.room sink.old) (K.faults sink.old)) (view (K.taken sink.new) (K.room sink.new) (K.faults sink.new)) result }
@@ -231,8 +229,7 @@ fn print_list<B: Bindings, K: Sink>(
     }
 }
 
-/// Prints a value, piece by piece. An unknown word with a letter that is no byte can't be printed: what stands before it
-/// is.
+/// Prints a value, piece by piece.
 #[cycle(print)]
 pub fn print_value<B: Bindings, K: Sink>(
     store: &B,
@@ -240,9 +237,9 @@ pub fn print_value<B: Bindings, K: Sink>(
     spacer: &mut Spacer,
     sink: &mut K,
     value: Ref,
-) -> Result<(), PrintFault>
+) -> Result<(), WriteFault>
     requires { Holds (B.meaning store.now) value }
-    ensures { Printed (pieces program.now (resolved (B.meaning store.now).state.subst (told (B.meaning store.now) value))) (has_wide (resolved (B.meaning store.now).state.subst (told (B.meaning store.now) value))) spacer.old spacer.new (view (K.taken sink.old) (K.room sink.old) (K.faults sink.old)) (view (K.taken sink.new) (K.room sink.new) (K.faults sink.new)) result }
+    ensures { Printed (pieces program.now (resolved (B.meaning store.now).state.subst (told (B.meaning store.now) value))) spacer.old spacer.new (view (K.taken sink.old) (K.room sink.old) (K.faults sink.old)) (view (K.taken sink.new) (K.room sink.new) (K.faults sink.new)) result }
 {
     match store.walk(value) {
         View::Pair(head, tail) => match print_piece(spacer, sink, b"[") {

@@ -52,6 +52,14 @@ fn do_goal<K: Sink>(
             Ok(()) => Ok(None),
             Err(_) => Err(RunFault::Write),
         },
+        Goal::Print(term) => match engine.write_printed(term) {
+            Err(full) => outcome(Err(full)),
+            Ok(value) => match engine.print(spacer, sink, value) {
+                Ok(()) => Ok(None),
+                Err(_) => Err(RunFault::Write),
+            },
+        },
+        Goal::Equal(a, b) => outcome(engine.equal(a, b)),
         Goal::Ask(pred, args, many) => {
             let query = Query {
                 pred: *pred,

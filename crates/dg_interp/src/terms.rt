@@ -7,7 +7,7 @@ ghost use Rattle.dg_meaning.specs.Values.{value_of, value_of_var as value_in};
 ghost use Rattle.dg_meaning.specs.Cells.{cells};
 ghost use Rattle.dg_meaning.specs.Closures.{HasNoClosure};
 ghost use Rattle.dg_unify.specs.Store.{Saved, told, Holds, Kept, Made};
-ghost use Rattle.dg_interp.specs.Terms.{Overflows, Written, MadeVars, IsNoPair, listed, HeadsWritten};
+ghost use Rattle.dg_interp.specs.Terms.{Overflows, BothMade, Written, MadeVars, IsNoPair, listed, HeadsWritten};
 
 use dg_base::{Simple, Term};
 use dg_unify::{Bindings, Full, Ref};
@@ -173,4 +173,27 @@ pub fn new_variables<B: Bindings>(store: &mut B, count: u16, to: &mut Vec<Ref>) 
         }
     }
     Ok(())
+}
+
+/// The values of two terms, one written after the other.
+pub fn write_both<B: Bindings>(
+    store: &mut B,
+    env: &[Ref],
+    a: &Term,
+    b: &Term,
+    stack: &mut Vec<Ref>,
+) -> Result<(Ref, Ref), Full>
+    requires env { All (Holds (B.meaning store.old)) env.now }
+    requires plain { HasNoClosure a.now × HasNoClosure b.now }
+    ensures kept { Kept (B.meaning store.old) (B.meaning store.new) }
+    ensures saved { (ms : List Saved) → B.saves store.old ms → B.saves store.new ms }
+    ensures written { (program : CoreProgram) → MatchResult result (λ both. BothMade program a.now b.now (map (told (B.meaning store.old)) env.now) (B.meaning store.old) (B.meaning store.new) both.0 both.1) (λ e. Overflows (cells program (a.now ∷ b.now ∷ [])) (B.meaning store.old) e) }
+{
+    match write_term(store, env, a, stack) {
+        Err(e) => Err(e),
+        Ok(left) => match write_term(store, env, b, stack) {
+            Err(e) => Err(e),
+            Ok(right) => Ok((left, right)),
+        },
+    }
 }

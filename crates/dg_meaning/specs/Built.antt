@@ -2,16 +2,18 @@
 use Rattle.std.specs.Prelude.{List}
 use Rattle.std.specs.List.{All}
 use Rattle.dg_base.specs.declared.program.Goal.{Goal, Goal-F, out-Goal}
-use Rattle.dg_base.specs.declared.program.Goal.TheOpen.{Text, Ask, Just, Fail, Quit, Test}
+use Rattle.dg_base.specs.declared.program.Goal.TheOpen.{Text, Print, Equal, Ask, Just, Fail, Quit, Test}
 use Rattle.dg_base.specs.declared.program.Rule.{Rule}
 use Rattle.dg_base.specs.declared.program.Pred.{Pred}
 use Rattle.dg_base.specs.declared.program.CoreProgram.{CoreProgram}
 use Rattle.dg_base.specs.Goals.{terms_held}
 use Rattle.dg_meaning.specs.Closures.{HasNoClosure}
 
--- Text, a query, a cut, a failure, an end, and a test.
+-- Text, a printed value, an equation, a query, a cut, a failure, an end, and a test.
 abbrev pub IsForm : Goal-F Goal → Type 0
 IsForm (Text name) = Unit {0}
+IsForm (Print a) = Unit {0}
+IsForm (Equal a b) = Unit {0}
 IsForm (Ask pred args many) = Unit {0}
 IsForm Just = Unit {0}
 IsForm Fail = Unit {0}

@@ -42,7 +42,7 @@ print_value-print_list-requires g t c κs within =
 pub print_value-returns-in-Err : goal.print_value-returns-in-Err
 print_value-returns-in-Err g t c =
     let s = g.B.Bindings.meaning c.args.store.now in
-    list_stops s (g.met.B.Bindings.sound c.args.store.now) c.args.program.now c.args.value c.in-Pair.head c.in-Pair.tail c.args.spacer.now _ _ _ c.in-Err.fault c.in-Pair.ensures c.in-Err.ensures
+    list_stops s (g.met.B.Bindings.sound c.args.store.now) c.args.program.now c.args.value c.in-Pair.head c.in-Pair.tail c.args.spacer.now c.print_piece.new.spacer _ _ c.in-Err.fault c.in-Pair.ensures c.in-Err.ensures
 
 pub print_value-returns-in-Ok : goal.print_value-returns-in-Ok
 print_value-returns-in-Ok g t c =

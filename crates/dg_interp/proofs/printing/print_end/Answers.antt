@@ -1,7 +1,7 @@
 use Rattle.std.proofs.Common.{rules, ◌≡◌, ◌∷◌, [], false}
 use Rattle.std.specs.Prelude.{codes}
 use Rattle.dg_meaning.specs.Pieces.{first_piece}
-use Rattle.dg_interp.specs.Printing.{first_wide, end_pieces, shows_nil}
+use Rattle.dg_interp.specs.Printing.{end_pieces, shows_nil}
 use Rattle.dg_interp.proofs.PrintLemmas.{printed_as, other_shown}
 use Rattle.dg_interp.proofs.printing.print_end.Goals as goal
 
@@ -9,4 +9,4 @@ pub returns : goal.returns
 returns g c = λ w shows.
     let program = c.args.program.now in
     let is : shows_nil c.args.tail ≡ false = search rules in
-    printed_as (codes "|" ∷ first_piece program w ∷ codes "]" ∷ []) (end_pieces program w) (first_wide w) (first_wide w) _ _ _ _ c.print_tail.result (other_shown (g.B.Bindings.meaning c.args.store.now) program w c.args.tail is shows).end (λ x. x) (c.print_tail.ensures w shows)
+    printed_as (codes "|" ∷ first_piece program w ∷ codes "]" ∷ []) (end_pieces program w) _ _ _ _ c.print_tail.result (other_shown (g.B.Bindings.meaning c.args.store.now) program w c.args.tail is shows).end (c.print_tail.ensures w shows)

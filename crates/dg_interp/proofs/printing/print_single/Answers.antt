@@ -1,6 +1,6 @@
 use Rattle.std.proofs.Common.{rules, ◌≡◌, ◌∷◌, [], false}
 use Rattle.dg_meaning.specs.Pieces.{first_piece}
-use Rattle.dg_interp.specs.Printing.{first_wide, single_pieces, shows_nil}
+use Rattle.dg_interp.specs.Printing.{single_pieces, shows_nil}
 use Rattle.dg_interp.proofs.PrintLemmas.{printed_as, other_shown}
 use Rattle.dg_interp.proofs.printing.print_single.Goals as goal
 
@@ -8,4 +8,4 @@ pub returns : goal.returns
 returns g c = λ w shows.
     let program = c.args.program.now in
     let is : shows_nil c.args.value ≡ false = search rules in
-    printed_as (first_piece program w ∷ []) (single_pieces program w) (first_wide w) (first_wide w) _ _ _ _ c.print_first.result (other_shown (g.B.Bindings.meaning c.args.store.now) program w c.args.value is shows).single (λ x. x) (c.print_first.ensures w shows)
+    printed_as (first_piece program w ∷ []) (single_pieces program w) _ _ _ _ c.print_first.result (other_shown (g.B.Bindings.meaning c.args.store.now) program w c.args.value is shows).single (c.print_first.ensures w shows)

@@ -4,7 +4,8 @@ use Rattle.dg_base.specs.declared.program.Goal.TheVariants.{Test}
 use Rattle.dg_interp.specs.Frames.{stretch}
 use Rattle.dg_interp.specs.Engine.{store_in, FailsAt, TakesAt}
 use Rattle.dg_interp.proofs.Takes.{store_sound}
-use Rattle.dg_interp.proofs.Values.{grown_limits, test_full, test_passed, test_failed, made_holds, made_among}
+use Rattle.dg_interp.proofs.Values.{grown_limits, test_full, test_passed, test_failed, made_among}
+use Rattle.dg_interp.proofs.BothLemmas.{made_holds}
 use Rattle.dg_interp.proofs.Branches.{full_from, goes_back_from}
 use Rattle.dg_interp.proofs.engine.Engine.test.Goals as goal
 

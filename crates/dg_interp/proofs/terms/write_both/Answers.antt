@@ -1,0 +1,22 @@
+use Rattle.std.proofs.Common.{map, subst, [], ◌∷◌}
+use Rattle.dg_meaning.specs.Values.{value_of}
+use Rattle.dg_meaning.specs.Cells.{cells}
+use Rattle.dg_unify.specs.Store.{Made, told}
+use Rattle.dg_interp.proofs.BothLemmas.{both_made, first_full, second_full}
+use Rattle.dg_interp.proofs.Stores.{all_told}
+use Rattle.dg_interp.proofs.terms.write_both.Goals as goal
+
+pub returns-in-Err-clause-written : goal.returns-in-Err-clause-written
+returns-in-Err-clause-written g c = λ program. first_full program c.args.a.now c.args.b.now (g.B.Bindings.meaning c.args.store.now) c.in-Err.e (c.in-Err.ensures.written program)
+
+pub returns-in-Err-write_term-clause-written : goal.returns-in-Err-write_term-clause-written
+returns-in-Err-write_term-clause-written g c = λ program.
+    second_full program c.args.a.now c.args.b.now (g.B.Bindings.meaning c.args.store.now) (g.B.Bindings.meaning c.write_term.new.store) c.in-Ok.left _ c.in-Err-write_term.e c.write_term.ensures.kept (c.in-Ok.ensures.written program) (c.in-Err-write_term.ensures.written program)
+
+pub returns-in-Ok-write_term-clause-written : goal.returns-in-Ok-write_term-clause-written
+returns-in-Ok-write_term-clause-written g c = λ program.
+    let s = g.B.Bindings.meaning c.args.store.now in
+    let mid = g.B.Bindings.meaning c.write_term.new.store in
+    let t = g.B.Bindings.meaning c.write_term-in-Ok.new.store in
+    both_made program c.args.a.now c.args.b.now (map (told s) c.args.env.now) s mid t c.in-Ok.left c.in-Ok-write_term.right c.write_term.ensures.kept c.write_term-in-Ok.ensures.kept (c.in-Ok.ensures.written program)
+    (subst (λ vs. Made (cells program (c.args.b.now ∷ [])) mid t c.in-Ok-write_term.right (value_of program vs c.args.b.now)) (all_told s mid c.args.env.now c.write_term.ensures.kept c.requires.env) (c.in-Ok-write_term.ensures.written program))
