@@ -293,7 +293,7 @@ module _ (old : Engine) (query : Query) (terms : List Term) (store1 : ListBindin
 
 pub args_written : (program : CoreProgram) (terms : List Term) (s t : Store) (refs before made behind : List Ref) (env : Env) (args : Env) (part : List Ref) → part ≡ stretch refs env → before ≡ [] → behind ≡ refs ++ made → args.from ≡ length refs → args.len ≡ length made →
     Written (cells program terms) (map (value_of program (map (told s) part)) terms) s t before made → ArgsWritten program (values_in s refs env) terms s t refs behind args
-args_written program terms s t refs before made behind env args part is empty appended from len h =
+args_written program terms s t refs before made _ env args part is empty appended from len h =
     let same : h.appended.made ≡ made = sym (h.appended.is ∙ ap (λ l. l ++ h.appended.made) empty) in
     record {
       written = record {

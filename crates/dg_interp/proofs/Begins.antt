@@ -39,8 +39,8 @@ use Rattle.dg_interp.specs.declared.frames.Choice.{Choice}
 use Rattle.dg_interp.specs.declared.engine.Engine.{Engine}
 use Rattle.dg_interp.specs.Terms.{Overflows}
 use Rattle.dg_interp.specs.Rules.{rule_cells, matched_in, EntersRule, RuleFull}
-use Rattle.dg_interp.specs.Frames.{values_in, frame_steps, steps_behind, steps_at, branches_of, Agrees, AreChoices, IsFrame, IsLeft, StandOn, GoBackTo}
-use Rattle.dg_interp.specs.Engine.{store_in, KeepsPlaces, HasPlace, Point, IsQuiet, IsSound, StandsAt, BeginsAt, FullAt, Adds, Then, SameLimits, WentOn, WentWrong, kept_if, cells_if}
+use Rattle.dg_interp.specs.Frames.{values_in, frame_steps, steps_behind, steps_at, branches_of, Agrees, AreChoices, IsFrame, IsLeft, StandOn, GoBackTo, cells_if}
+use Rattle.dg_interp.specs.Engine.{store_in, KeepsPlaces, HasPlace, Point, IsQuiet, IsSound, StandsAt, BeginsAt, FullAt, Adds, Then, SameLimits, WentOn, WentWrong, kept_if}
 use Rattle.dg_interp.proofs.Links.{same_here, branches_same, behind_same, choices_same, back_same, frames_raise, stand_raise}
 use Rattle.dg_interp.proofs.Stores.{kept_on, all_hold, values_kept, hold_front, front_same, appended_stretch, values_count, trail_append, trail_older, made_is}
 use Rattle.dg_interp.proofs.Kept.{saved_if, kept_places, kept_stand, kept_back, kept_choices, cells_same}
@@ -132,7 +132,7 @@ module _ (g : Game) (rule : Rule) (args : List Value) (heap : ℕ) (s s1 s2 : St
 
 -- ## The engine
 
-rules_count : (g : Game) (pred : ℕ) (args : List Value) (many : Bool) (steps : List Step) (r : Registers) (rules : List Rule) → length rules ≡ length (rule_branches g pred args many steps r rules)
+pub rules_count : (g : Game) (pred : ℕ) (args : List Value) (many : Bool) (steps : List Step) (r : Registers) (rules : List Rule) → length rules ≡ length (rule_branches g pred args many steps r rules)
 rules_count g pred args many steps r [] = refl
 rules_count g pred args many steps r (x ∷ rules) = ap suc (rules_count g pred args many steps r rules)
 

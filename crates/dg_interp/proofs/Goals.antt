@@ -38,7 +38,7 @@ fails_taken old g n w run quiet st = record {
 }
 
 -- a goal without terms leaves the registers where they agree
-no_cells : (r heap : ℕ) → heap ≡ 0 → r + heap ≡ r
+pub no_cells : (r heap : ℕ) → heap ≡ 0 → r + heap ≡ r
 no_cells r heap e = omega (arith, e)
 
 module _ (old : Engine) (choices : Vec Choice Global) (ready : IsReady old) (cuts : Cuts old.here.tag old.choices.items choices.items) where

@@ -12,8 +12,8 @@ use Rattle.dg_unify.specs.declared.bindings.Ref.{Ref}
 use Rattle.dg_unify.specs.declared.list.ListBindings.{ListBindings}
 use Rattle.dg_interp.specs.declared.frames.Frame.{Frame}
 use Rattle.dg_interp.specs.declared.frames.Choice.{Choice}
-use Rattle.dg_interp.specs.Frames.{values_in, kind_of, branches_of, Agrees, AreChoices, AreFrames, IsLeft, StandOn, GoBackTo, left_in, all_left}
-use Rattle.dg_interp.specs.Engine.{KeepsPlaces, kept_if, cells_if}
+use Rattle.dg_interp.specs.Frames.{values_in, kind_of, branches_of, Agrees, AreChoices, AreFrames, IsLeft, StandOn, GoBackTo, left_in, all_left, cells_if}
+use Rattle.dg_interp.specs.Engine.{KeepsPlaces, kept_if}
 use Rattle.dg_interp.proofs.Links.{stand_raise}
 
 -- the places of the choices, with that of a new one where it is kept

@@ -21,3 +21,6 @@ pub mod Whole
 pub mod PrintedWorlds
 pub mod Values
 pub mod Equals
+pub mod BeginFrames
+pub mod Opens
+pub mod Controls

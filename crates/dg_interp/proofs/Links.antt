@@ -14,7 +14,7 @@ use Rattle.dg_unify.specs.declared.bindings.Ref.{Ref}
 use Rattle.dg_interp.specs.declared.frames.Env.{Env}
 use Rattle.dg_interp.specs.declared.frames.Frame.{Frame}
 use Rattle.dg_interp.specs.declared.frames.Left.{Left}
-use Rattle.dg_interp.specs.declared.frames.Left.TheVariants.{Rules, Lists, Way}
+use Rattle.dg_interp.specs.declared.frames.Left.TheVariants.{Rules, Lists, Ways, Way}
 use Rattle.dg_interp.specs.declared.frames.Choice.{Choice}
 use Rattle.dg_interp.specs.Frames.{stretch, values_in, frame_steps, found_steps, steps_below, steps_behind, steps_at, branches_of, IsChoice, AreChoices, EndsBy, IsFrame, AreFrames, IsLeft, StandOn, GoBackTo, floor_of, left_in, all_left}
 use Rattle.dg_interp.specs.Engine.{older_than}
@@ -163,7 +163,8 @@ frames_take n height fs le h k f lt e =
 
 pub left_raise : (h k m n : ℕ) (left : Left) → h ≤ k → m ≤ n → IsLeft h m left → IsLeft k n left
 left_raise h k m n (Rules query args rules) le le' s = (s.0, s.1, omega (arith, s.2))
-left_raise h k m n (Lists env tag lists) le le' s = absurd s
+left_raise h k m n (Lists env tag lists) le le' s = (s.0, s.1, omega (arith, s.2))
+left_raise h k m n (Ways first other) le le' s = (frame_raise h k m n first le le' s.0, frame_raise h k m n other le le' s.1)
 left_raise h k m n (Way frame) le le' s = frame_raise h k m n frame le le' s
 
 pub stand_raise : (fs : List Frame) (h k m n t u : ℕ) (os : List Choice) → h ≤ k → m ≤ n → t ≤ u → StandOn fs h m t os → StandOn fs k n u os
@@ -182,11 +183,13 @@ values_same n s xs ys same env ends = ap (map (told s)) (stretch_same n xs ys en
 abbrev pub Within : ℕ → ℕ → Left → Type 0
 Within h m (Rules query args rules) = EndsBy m args
 Within h m (Lists env tag lists) = EndsBy m env
+Within h m (Ways first other) = IsFrame h m first × IsFrame h m other
 Within h m (Way frame) = IsFrame h m frame
 
 pub left_within : (h m : ℕ) (left : Left) → IsLeft h m left → Within h m left
 left_within h m (Rules query args rules) is = is.2
-left_within h m (Lists env tag lists) is = absurd is
+left_within h m (Lists env tag lists) is = is.2
+left_within h m (Ways first other) is = is
 left_within h m (Way frame) is = is
 
 pub branches_same : (g : Game) (h m : ℕ) (vs us : Env → List Value) (fs gs : List Frame) (left : Left) (r : Registers) → Within h m left → AreFrames h m fs → SameBy m vs us → SameTo h fs gs → branches_of g us gs h left r ≡ branches_of g vs fs h left r
@@ -196,6 +199,9 @@ branches_same g h m vs us fs gs (Rules query args rules) r is are same to =
 branches_same g h m vs us fs gs (Lists env tag lists) r is are same to =
     ap (λ v. list_branches v tag (steps_behind us gs h) r lists.now) (same env is)
     ∙ ap (λ s. list_branches (vs env) tag s r lists.now) (behind_same m vs us fs gs h h (omega arith) same are to)
+branches_same g h m vs us fs gs (Ways first other) r is are same to =
+    ap (λ s. enter 10 0 r s ∷ enter 0 0 r (steps_at us gs other) ∷ []) (at_same m vs us fs gs h first is.0 same are to)
+    ∙ ap (λ s. enter 10 0 r (steps_at vs fs first) ∷ enter 0 0 r s ∷ []) (at_same m vs us fs gs h other is.1 same are to)
 branches_same g h m vs us fs gs (Way frame) r is are same to = ap (λ s. enter 0 0 r s ∷ []) (at_same m vs us fs gs h frame is same are to)
 
 choice_same : (g : Game) (xs ys : List Ref) (fs gs : List Frame) (h m t : ℕ) (o : Choice) (os : List Choice) (s : Saved) (c : Live) → take m ys ≡ take m xs → SameTo h fs gs → StandOn fs h m t (o ∷ os) → IsChoice g xs fs o s c → IsChoice g ys gs o s c

@@ -5,13 +5,13 @@ use Rattle.std.proofs.lemmas.List.{append-nil}
 use Rattle.std.specs.declared.vec.Vec.{Vec}
 use Rattle.std.specs.declared.alloc.Global.{Global}
 use Rattle.dg_base.specs.declared.program.Goal.{Goal, Goal-F, out-Goal}
-use Rattle.dg_base.specs.declared.program.Goal.TheOpen.{Text, Print, Equal, Ask, Just, Fail, Quit, Test}
+use Rattle.dg_base.specs.declared.program.Goal.TheOpen.{Text, Print, Equal, Ask, Either, Once, Not, If, Just, Fail, Quit, Forever, Test}
 use Rattle.dg_base.specs.Goals.{terms_held}
 use Rattle.dg_meaning.specs.Values.{Value, value_of}
 use Rattle.dg_meaning.specs.World.{Game, World, Asked, prints, noted, worked, dropped}
 use Rattle.dg_meaning.specs.Cells.{cells, writing}
-use Rattle.dg_meaning.specs.Path.{Step, Registers, Branch, Enter, Clash, TakeOut, Kind, Rules as RulesOf, Result, Move, GoesOn, FailsAt as MoveFails, EndsAt, StopsAt, Chooses}
-use Rattle.dg_meaning.specs.Moves.{begun, test_looks, choice, rule_branches, rules_of, goes_on_if, behind_terms, outcome}
+use Rattle.dg_meaning.specs.Path.{Step, Registers, Branch, Enter, Clash, TakeOut, Kind, Plain, Rules as RulesOf, Result, Move, GoesOn, FailsAt as MoveFails, EndsAt, StopsAt, Chooses}
+use Rattle.dg_meaning.specs.Moves.{begun, test_looks, choice, list_branches, rule_branches, rules_of, goes_on_if, behind_terms, outcome}
 use Rattle.dg_meaning.specs.Transcript.{Run}
 use Rattle.dg_meaning.specs.TypeTests.{passes}
 use Rattle.dg_meaning.specs.Unify.{unify}
@@ -80,6 +80,11 @@ no_stop g (Print a) env t steps r w is = tt
 no_stop g (Equal a b) env t steps r w is = goes_on_no_stop (unify r.bound (value_of g.program env a) (value_of g.program env b)).agrees steps _ _
 no_stop g (Test kind a) env t steps r w is = let v = value_of g.program env a in goes_on_no_stop (passes r.bound kind v) steps r (worked (test_looks kind v r) w)
 no_stop g (Ask pred args many) env t steps r w is = choice_no_stop (RulesOf pred) r.next_tag (rule_branches g pred (map (value_of g.program env) args) many steps r (rules_of (slice_get g.program.preds pred))) (noted (Asked pred) w)
+no_stop g (Either lists) env t steps r w is = choice_no_stop Plain r.next_tag (list_branches env t steps r lists) w
+no_stop g (Once goals) env t steps r w is = tt
+no_stop g (Not goals) env t steps r w is = tt
+no_stop g (If test first other) env t steps r w is = tt
+no_stop g Forever env t steps r w is = tt
 no_stop g Just env t steps r w is = tt
 no_stop g Fail env t steps r w is = tt
 no_stop g Quit env t steps r w is = tt

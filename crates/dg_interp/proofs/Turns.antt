@@ -1,12 +1,13 @@
 -- A goal is taken, and an engine starts.
 use Rattle.std.proofs.Common.{◌≡◌, ℕ, zero, suc, ◌+◌, ◌^◌, ◌<◌, ◌≤◌, List, [], ◌∷◌, ◌++◌, Some, None, true, false, refl, sym, ap, ◌∙◌, subst, arith, length, take, drop, get_or, Bor}
-use Rattle.std.specs.Prelude.{reverse, slice_get, slice_index_or}
+use Rattle.std.specs.Prelude.{reverse, slice_get}
 use Rattle.std.specs.List.{All}
 use Rattle.std.proofs.lemmas.List.{reverse-append}
 use Rattle.std.specs.declared.vec.Vec.{Vec}
 use Rattle.std.specs.declared.alloc.Global.{Global}
 use Rattle.dg_base.specs.declared.program.Goal.{Goal}
 use Rattle.dg_base.specs.declared.program.Goal.TheVariants.{Ask, outs-Ask}
+use Rattle.dg_base.specs.declared.program.Goal.TheOpen.{Ask as AskForm}
 use Rattle.dg_base.specs.declared.program.CoreProgram.{CoreProgram}
 use Rattle.dg_meaning.specs.Values.{Value}
 use Rattle.dg_meaning.specs.World.{Game}
@@ -14,7 +15,9 @@ use Rattle.dg_meaning.specs.Path.{Do}
 use Rattle.dg_meaning.specs.Moves.{path_of, goals_at}
 use Rattle.dg_meaning.specs.Transcript.{run, start_world, start_path}
 use Rattle.dg_meaning.specs.Keeps.{Stands}
-use Rattle.dg_meaning.specs.Built.{IsBuilt, IsBuiltForm, IsBuiltGoal}
+use Rattle.dg_meaning.specs.Built.{IsBuilt, IsBuiltGoal, AreBuilt}
+use Rattle.dg_meaning.specs.Closures.{HasNoClosure}
+use Rattle.dg_meaning.proofs.BuiltLemmas.{all_none, built_goal, built_alone, built_rest, built_from}
 use Rattle.dg_meaning.proofs.Keeps.{starts}
 use Rattle.dg_unify.specs.Slots.{store_of}
 use Rattle.dg_unify.specs.Store.{Store, Holds}
@@ -62,7 +65,7 @@ module _ (old : Engine) (x : Goal) (goals : Bor (List Goal)) (left : ℕ) (ready
 
   pub goal_taken : Taken x old (record old { here = record old.here { goals = goals }; left = left })
   goal_taken =
-      let built = subst (All IsBuiltGoal) split ready.here.built in
+      let built = subst AreBuilt split ready.here.built in
       record {
         ready = record {
           sound = record {
@@ -73,12 +76,16 @@ module _ (old : Engine) (x : Goal) (goals : Bor (List Goal)) (left : ℕ) (ready
             places = record { saved = ready.sound.places.saved; keeps = ready.sound.places.keeps; back_to = ready.sound.places.back_to };
             room = omega (arith, ready.sound.room);
           };
-          here = record { built = all_rest IsBuiltGoal x goals.now built; older = ready.here.older; env = ready.here.env };
+          here = record { built = built_rest x goals.now built; older = ready.here.older; env = ready.here.env };
         };
         left = less;
         limits = record { heap = refl; trail = refl };
         room = omega (arith, ready.sound.room);
-        built = all_first IsBuiltGoal x goals.now built;
+        built = built_goal x goals.now built;
+        whole = built_alone x goals.now built;
+        again = ready.here;
+        goals = split;
+        rest = refl;
         takes = λ g n w run st. record {
           program = st.program;
           lives = st.lives;
@@ -95,11 +102,8 @@ module _ (old : Engine) (x : Goal) (goals : Bor (List Goal)) (left : ℕ) (ready
 
 -- ## The start
 
-entry_built : (pred : ℕ) → All IsBuiltGoal (Ask pred [] false ∷ [])
-entry_built pred k d lt =
-    let e : k ≡ 0 = omega arith in
-    let here : IsBuiltGoal (Ask pred [] false) = subst IsBuiltForm (sym (outs-Ask pred [] false)) (tt, λ i t less. absurd (omega arith)) in
-    subst (λ i. IsBuiltGoal (slice_index_or (Ask pred [] false ∷ []) i d)) (sym e) here
+entry_built : (pred : ℕ) → AreBuilt (Ask pred [] false ∷ [])
+entry_built pred = built_from (Ask pred [] false) (AskForm pred [] false) (outs-Ask pred [] false) (tt, all_none HasNoClosure) (all_none IsBuiltGoal)
 
 -- an empty store
 abbrev pub empty : ℕ → ℕ → Store
@@ -145,7 +149,7 @@ module _ (program : Bor CoreProgram) (entry : Bor (List Goal)) (store : ListBind
         places = record { saved = []; keeps = tt; back_to = subst (λ os. GoBackTo refs.items (store_in store).heap_limit (store_in store).trail_limit os []) (sym none) tt };
         room = omega arith;
       };
-      here = record { built = subst (All IsBuiltGoal) (sym is) (entry_built program.now.entry); older = omega arith; env = omega arith };
+      here = record { built = subst AreBuilt (sym is) (entry_built program.now.entry); older = omega arith; env = omega arith };
     };
     goal = subst (λ (l : List Goal). 0 < length l) (sym is) (omega arith);
     left = refl;

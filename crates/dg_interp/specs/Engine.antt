@@ -2,7 +2,7 @@
 use Rattle.std.specs.Prelude.{ℕ, zero, suc, ◌+◌, ◌^◌, ◌≡◌, ◌<◌, ◌≤◌, ◌++◌, nat_lt, List, [], ◌∷◌, Bool, true, false, length, map, reverse, Option, Some, None, if◌then◌else◌}
 use Rattle.std.specs.List.{All}
 use Rattle.dg_base.specs.declared.program.Goal.{Goal}
-use Rattle.dg_base.specs.declared.program.Goal.TheVariants.{Print as PrintGoal}
+use Rattle.dg_base.specs.declared.program.Goal.TheVariants.{Print as PrintGoal, Forever}
 use Rattle.dg_base.specs.declared.program.Term.{Term}
 use Rattle.dg_base.specs.declared.program.CoreProgram.{CoreProgram}
 use Rattle.dg_base.specs.declared.run.Ending.{Ending}
@@ -15,7 +15,7 @@ use Rattle.dg_meaning.specs.Moves.{path_of}
 use Rattle.dg_meaning.specs.Transcript.{Run, run, start_world}
 use Rattle.dg_meaning.specs.Context.{Way, Live, pushed}
 use Rattle.dg_meaning.specs.Keeps.{Stands, Failed, Finished, Began}
-use Rattle.dg_meaning.specs.Built.{IsBuilt, IsBuiltGoal}
+use Rattle.dg_meaning.specs.Built.{IsBuilt, IsBuiltGoal, AreBuilt}
 use Rattle.dg_unify.specs.Store.{Store, Saved, Holds, Kept, told}
 use Rattle.dg_unify.specs.Slots.{store_of, Stand}
 use Rattle.dg_unify.specs.Listed.{fields_of}
@@ -26,6 +26,7 @@ use Rattle.dg_unify.specs.declared.bindings.Mark.{Mark as Place}
 use Rattle.dg_unify.specs.declared.list.ListBindings.{ListBindings}
 use Rattle.dg_interp.specs.declared.frames.Mark.TheVariants.{Nothing}
 use Rattle.dg_interp.specs.declared.frames.Left.{Left}
+use Rattle.dg_interp.specs.declared.frames.Frame.{Frame}
 use Rattle.dg_interp.specs.declared.frames.Choice.{Choice}
 use Rattle.dg_interp.specs.declared.engine.Engine.{Engine}
 use Rattle.dg_interp.specs.declared.engine.Settled.{Settled}
@@ -236,6 +237,10 @@ pub record Taken (x : Goal) (old new : Engine) : Type 0 where
   pub limits : SameLimits old new
   pub room : new.newest + 1 + new.left < 2 ^ 64
   pub built : IsBuiltGoal x
+  pub whole : AreBuilt (x ∷ [])
+  pub again : IsFrame (length new.frames.items) (length new.refs.items) old.here
+  pub goals : old.here.goals.now ≡ x ∷ new.here.goals.now
+  pub rest : old.here ≡ record new.here { goals = old.here.goals }
   pub takes : (g : Game) (n : ℕ) (w : World) (run : Run) → StandsAt old g (suc n) w run → TakesAt x new g n w run
 
 -- The pieces of a value that stands at a Ref.
@@ -297,15 +302,36 @@ abbrev pub kept_if : ℕ → Choice → List Choice → List Choice
 kept_if zero o os = os
 kept_if (suc n) o os = o ∷ os
 
--- What a choice with so many arguments takes of the heap where it has so many other branches.
-abbrev pub cells_if : ℕ → ℕ → ℕ
-cells_if arguments zero = 0
-cells_if arguments (suc n) = 10 + arguments
-
 -- The newest choice was tried again: none was left, or its next branch has begun, or has failed where it began.
 abbrev pub Retries : Point → Option Bool → Engine → Engine → Type 0
 Retries From None old new = HasEndedSo From Failing old new
 Retries From (Some begun) old new = Tries From begun old new × (branches_left new < branches_left old)
+
+-- The run comes from the first of these branches, in a choice that opens where the engine is.
+pub record OpensAt (left : Left) (e : Engine) (g : Game) (n : ℕ) (w : World) (run : Run) : Type 0 where
+  pub program : e.program.now ≡ g.program
+  pub lives : List Live
+  pub ways : List Way
+  pub registers : Registers
+  pub saved : List Saved
+  pub keeps : KeepsPlaces e.store saved
+  pub agrees : Agrees (store_in e.store) registers
+  pub choices : AreChoices g e.refs.items e.frames.items (reverse e.choices.items) saved lives
+  pub tag : registers.next_tag ≡ e.newest + 1
+  pub began : (b : Branch) (bs : List Branch) → branches_of g (values_in (store_in e.store) e.refs.items) e.frames.items (length e.frames.items) left registers ≡ b ∷ bs →
+      Began g (pushed bs (record { kind = kind_of left; tag = registers.next_tag; others = bs; height = 0; ways_on = ways }) lives) ways b n w run
+
+-- A frame that goes on where the engine is, with the endless choice in front.
+pub record IsAgain (again : Frame) (e : Engine) : Type 0 where
+  pub is : IsFrame (length e.frames.items) (length e.refs.items) again
+  pub goals : again.goals.now ≡ Forever ∷ e.here.goals.now
+  pub rest : again ≡ record e.here { goals = again.goals }
+
+-- A frame was put behind the others; all else is as it was.
+pub record IsPushed (frame : Frame) (old new : Engine) : Type 0 where
+  pub ready : IsReady new
+  pub frames : new.frames.items ≡ old.frames.items ++ frame ∷ []
+  pub same : new ≡ record old { frames = new.frames }
 
 -- Another branch has begun, of fewer, or the run has failed.
 abbrev pub GoesBack : Point → Bool → Engine → Engine → Type 0

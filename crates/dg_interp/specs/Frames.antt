@@ -15,7 +15,7 @@ use Rattle.dg_interp.specs.declared.frames.Mark.{Mark}
 use Rattle.dg_interp.specs.declared.frames.Mark.TheVariants.{Nothing, AnswerOf, CutTo, RefuseTo}
 use Rattle.dg_interp.specs.declared.frames.Frame.{Frame}
 use Rattle.dg_interp.specs.declared.frames.Left.{Left}
-use Rattle.dg_interp.specs.declared.frames.Left.TheVariants.{Rules, Lists, Way}
+use Rattle.dg_interp.specs.declared.frames.Left.TheVariants.{Rules, Lists, Ways, Way}
 use Rattle.dg_interp.specs.declared.frames.Choice.{Choice}
 
 -- ## Values
@@ -70,7 +70,26 @@ kind_of other = Plain
 abbrev pub branches_of : Game → (Env → List Value) → List Frame → ℕ → Left → Registers → List Branch
 branches_of g values fs height (Rules query args rules) registers = rule_branches g query.pred (values args) query.many (steps_behind values fs height) registers rules.now
 branches_of g values fs height (Lists env tag lists) registers = list_branches (values env) tag (steps_behind values fs height) registers lists.now
+branches_of g values fs height (Ways first other) registers = enter 10 0 registers (steps_at values fs first) ∷ enter 0 0 registers (steps_at values fs other) ∷ []
 branches_of g values fs height (Way frame) registers = enter 0 0 registers (steps_at values fs frame) ∷ []
+
+-- How many branches a choice has left.
+abbrev pub left_in : Left → ℕ
+left_in (Rules query args rules) = length rules.now
+left_in (Lists env tag lists) = length lists.now
+left_in (Ways first other) = 2
+left_in (Way frame) = 1
+
+-- What a choice with so many arguments takes of the heap where it has so many other branches.
+abbrev pub cells_if : ℕ → ℕ → ℕ
+cells_if arguments zero = 0
+cells_if arguments (suc n) = 10 + arguments
+
+-- A choice on so many frames that has these branches left begins with this frame, and then has those others, of the same kind.
+pub record BeginsWith (height : ℕ) (frame : Frame) (others left : Left) : Type 0 where
+  pub kind : kind_of others ≡ kind_of left
+  pub work : ℕ
+  pub branches : (g : Game) (values : Env → List Value) (fs : List Frame) (r : Registers) → branches_of g values fs height left r ≡ enter (cells_if 0 (left_in others)) work r (steps_at values fs frame) ∷ branches_of g values fs height others r
 
 -- A store is where a path is: its trail may be shorter.
 pub record Agrees (s : Store) (r : Registers) : Type 0 where
@@ -117,8 +136,16 @@ AreFrames height n fs = (k : ℕ) (f : Frame) → k < height → slice_get fs k 
 -- A branch is left, all that are left are built, and their values are among so many Refs.
 abbrev pub IsLeft : ℕ → ℕ → Left → Type 0
 IsLeft height n (Rules query args rules) = (0 < length rules.now) × All IsBuiltRule rules.now × EndsBy n args
-IsLeft height n (Lists env tag lists) = ⊥
+IsLeft height n (Lists env tag lists) = (0 < length lists.now) × All AreBuilt lists.now × EndsBy n env
+IsLeft height n (Ways first other) = IsFrame height n first × IsFrame height n other
 IsLeft height n (Way frame) = IsFrame height n frame
+
+-- The same where none may be left.
+abbrev pub AreLeft : ℕ → ℕ → Left → Type 0
+AreLeft height n (Rules query args rules) = All IsBuiltRule rules.now × EndsBy n args
+AreLeft height n (Lists env tag lists) = All AreBuilt lists.now × EndsBy n env
+AreLeft height n (Ways first other) = IsFrame height n first × IsFrame height n other
+AreLeft height n (Way frame) = IsFrame height n frame
 
 -- Choices, the newest first, stand on at most so many frames and Refs, and their tags are at most this.
 abbrev pub StandOn : List Frame → ℕ → ℕ → ℕ → List Choice → Type 0
@@ -135,12 +162,6 @@ GoBackTo refs heap trail os ms = ⊥
 abbrev pub floor_of : List Choice → ℕ
 floor_of [] = 0
 floor_of (o ∷ os) = o.height
-
--- How many branches a choice has left.
-abbrev pub left_in : Left → ℕ
-left_in (Rules query args rules) = length rules.now
-left_in (Lists env tag lists) = length lists.now
-left_in (Way frame) = 1
 
 -- How many branches all choices have left.
 abbrev pub all_left : List Choice → ℕ

@@ -4,9 +4,11 @@ ghost use Rattle.dg_base.specs.declared.program.Goal.TheVariants.{Ask, Print as 
 ghost use Rattle.dg_meaning.specs.Moves.{rules_of as the_rules};
 ghost use Rattle.dg_meaning.specs.Built.{IsBuilt};
 ghost use Rattle.dg_interp.specs.declared.frames.Mark.TheVariants.{Nothing as NoMark};
-ghost use Rattle.dg_interp.specs.declared.frames.Left.TheVariants.{Rules, Lists, Way};
-ghost use Rattle.dg_interp.specs.Frames.{IsLeft, left_in, floor_of, stretch as the_stretch, values_in, EndsBy};
-ghost use Rattle.dg_interp.specs.Engine.{Starts, IsSound, IsReady, StandsAt, FailsAt, TakesAt, BeginsAt, HasPlace, Cuts, Passes, Settles, FrameLeft, GoesToGoal, GoesBack, Retries, Taken, Branches, WentOn, Tries, FullAt, store_in, pieces_at, WrotePrinted, branches_left, KeepsPlaces, kept_if, cells_if};
+ghost use Rattle.dg_interp.specs.declared.frames.Left.TheVariants.{Rules, Lists, Ways, Way};
+ghost use Rattle.dg_unify.specs.declared.bindings.Full.TheVariants.{OutOfMemory as WantOfMemory};
+ghost use Rattle.dg_interp.specs.declared.frames.Left.{Left as TheLeft};
+ghost use Rattle.dg_interp.specs.Frames.{IsFrame, BeginsWith, IsLeft, AreLeft, left_in, floor_of, stretch as the_stretch, values_in, EndsBy, cells_if};
+ghost use Rattle.dg_interp.specs.Engine.{Starts, IsSound, IsReady, StandsAt, FailsAt, TakesAt, BeginsAt, OpensAt, IsPushed, HasPlace, Cuts, Passes, Settles, FrameLeft, GoesToGoal, GoesBack, Retries, Taken, Branches, WentOn, Tries, FullAt, store_in, pieces_at, WrotePrinted, branches_left, KeepsPlaces, kept_if};
 ghost use Rattle.dg_base.specs.declared.program.CoreProgram.{CoreProgram as Program};
 ghost use Rattle.dg_meaning.specs.Cells.{cells};
 ghost use Rattle.dg_meaning.specs.Closures.{HasNoClosure};
@@ -16,13 +18,15 @@ ghost use Rattle.dg_interp.specs.Printing.{Printed};
 ghost use Rattle.dg_base.specs.Written.{view};
 ghost use Rattle.dg_unify.specs.Store.{Saved, Kept, Holds, Charged};
 
+mod control;
+
 use crate::frames::{Choice, Env, Frame, Left, Mark, Query};
 use crate::matching::unify_all;
 use crate::printing::print_value;
 use crate::spacer::Spacer;
 use crate::terms::{new_variables, write_both, write_term, write_terms};
 use crate::testing::test;
-use dg_base::{CoreProgram, Ending, Goal, Rule, Sink, Term, TestKind, WriteFault};
+use dg_base::{CoreProgram, Ending, Goal, Items, Rule, Sink, Term, TestKind, WriteFault};
 use dg_unify::{Bindings, Full, ListBindings, Mark as Place, Ref, unify};
 use std::alloc::{AllocError, Global};
 
@@ -267,6 +271,13 @@ impl<'p> Engine<'p> {
         Settled::Goal
     }
 
+    /// The frame at hand.
+    pub fn at_hand(&self) -> Frame<'p>
+        ensures { result ≡ self.now.here }
+    {
+        self.here
+    }
+
     /// Takes the goal at hand, and one of the goals left.
     pub fn take_goal(&mut self) -> &'p Goal
         requires ready { IsReady self.old }
@@ -336,6 +347,73 @@ impl<'p> Engine<'p> {
         }
     }
 
+    /// Begins a frame, in front of so many other branches.
+    fn begin_frame(
+        &mut self,
+        frame: Frame<'p>,
+        others: Left<'p>,
+        count: usize,
+        place: Place,
+    ) -> Result<(), Full>
+        requires sound { IsSound self.old }
+        requires frame { IsFrame (length self.old.frames.items) (length self.old.refs.items) frame }
+        requires others { AreLeft (length self.old.frames.items) (length self.old.refs.items) others }
+        requires count { count ≡ left_in others }
+        requires place { HasPlace self.old place }
+        ensures begun { OnOk result ((all : TheLeft) → BeginsWith (length self.old.frames.items) frame.entry others.entry all → WentOn (BeginsAt all place self.old) self.old self.new) }
+        ensures fewer { OnOk result (branches_left self.new ≤ branches_left self.old + count) }
+        ensures full { IfErr result (λ e. (all : TheLeft) → BeginsWith (length self.old.frames.items) frame.entry others.entry all → FullAt (BeginsAt all place self.old) (store_in self.old.store) e) }
+        ensures left { self.new.left ≡ self.old.left }
+    {
+        let height = self.frames.len();
+        let refs = self.refs.len();
+        let choice = Choice {
+            tag: self.newest,
+            left: others,
+            height,
+            refs,
+            place,
+        };
+        if let Err(e) = keep(&mut self.store, &mut self.choices, choice, count, 0) {
+            return Err(e);
+        }
+        self.here = frame;
+        Ok(())
+    }
+
+    /// Begins the first list of goals that is left.
+    fn begin_list(
+        &mut self,
+        env: Env,
+        tag: u64,
+        lists: &'p [Items<Goal>],
+        place: Place,
+    ) -> Result<(), Full>
+        requires sound { IsSound self.old }
+        requires left { IsLeft (length self.old.frames.items) (length self.old.refs.items) (Lists env tag lists) }
+        requires place { HasPlace self.old place }
+        ensures begun { OnOk result (WentOn (BeginsAt (Lists env tag lists.entry) place self.old) self.old self.new) }
+        ensures fewer { OnOk result (branches_left self.new < branches_left self.old + length lists.now) }
+        ensures full { IfErr result (λ e. FullAt (BeginsAt (Lists env tag lists.entry) place self.old) (store_in self.old.store) e) }
+        ensures left { self.new.left ≡ self.old.left }
+    {
+        let [list, others @ ..] = lists else {
+            unreachable!();
+        };
+        let frame = Frame {
+            goals: list.as_slice(),
+            env,
+            tag,
+            mark: Mark::Nothing,
+            behind: self.frames.len(),
+        };
+        let count = others.len();
+        match self.begin_frame(frame, Left::Lists(env, tag, others), count, place) {
+            Ok(()) => Ok(()),
+            Err(e) => Err(e),
+        }
+    }
+
     /// Begins the first of the branches left, with all frames behind it; false where it has failed there.
     fn begin(&mut self, left: Left<'p>, place: Place) -> Result<bool, Full>
         requires sound { IsSound self.old }
@@ -351,7 +429,14 @@ impl<'p> Engine<'p> {
                 Ok(begun) => Ok(begun),
                 Err(e) => Err(e),
             },
-            Left::Lists(_, _, _) => unreachable!(),
+            Left::Lists(env, tag, lists) => match self.begin_list(env, tag, lists, place) {
+                Ok(()) => Ok(true),
+                Err(e) => Err(e),
+            },
+            Left::Ways(first, other) => match self.begin_frame(first, Left::Way(other), 1, place) {
+                Ok(()) => Ok(true),
+                Err(e) => Err(e),
+            },
             Left::Way(frame) => {
                 self.here = frame;
                 Ok(true)
@@ -415,6 +500,41 @@ impl<'p> Engine<'p> {
                     Ok(false) => return Ok(Some(Ending::Failed)),
                 },
             }
+        }
+    }
+
+    /// Opens a choice with these branches; false where the run has failed.
+    fn open(&mut self, left: Left<'p>) -> Result<bool, Full>
+        requires ready { IsReady self.old }
+        requires left { IsLeft (length self.old.frames.items) (length self.old.refs.items) left }
+        requires room { self.old.newest + 1 + self.old.left < 2 ^ 64 }
+        ensures opened { IfOk result (λ found. Branches (OpensAt left.entry self.old) found self.old self.new) }
+        ensures full { IfErr result (λ e. FullAt (OpensAt left.entry self.old) (store_in self.old.store) e) }
+        ensures left { self.new.left ≡ self.old.left }
+    {
+        let place = self.store.mark();
+        self.newest += 1;
+        match self.begin(left, place) {
+            Err(e) => Err(e),
+            Ok(true) => Ok(true),
+            Ok(false) => match self.back() {
+                Err(e) => Err(e),
+                Ok(found) => Ok(found),
+            },
+        }
+    }
+
+    /// Puts a frame behind what comes next.
+    fn push(&mut self, frame: Frame<'p>) -> Result<(), Full>
+        requires ready { IsReady self.old }
+        requires frame { IsFrame (length self.old.frames.items) (length self.old.refs.items) frame }
+        ensures pushed { OnOk result (IsPushed frame.entry self.old self.new) }
+        ensures full { IfErr result (λ e. e ≡ WantOfMemory) }
+        ensures left { self.new.left ≡ self.old.left }
+    {
+        match self.frames.push(frame) {
+            Ok(()) => Ok(()),
+            Err(_) => Err(Full::OutOfMemory),
         }
     }
 

@@ -37,11 +37,12 @@ pub struct Frame<'p> {
     pub behind: usize,
 }
 
-/// The branches that a choice has left: rules of a query with its arguments, lists of goals, or one way on.
+/// The branches that a choice has left: rules of a query with its arguments, lists of goals, two ways on, or one.
 #[derive(Clone, Copy, Drop)]
 pub enum Left<'p> {
     Rules(Query, Env, &'p [Rule]),
     Lists(Env, u64, &'p [Items<Goal>]),
+    Ways(Frame<'p>, Frame<'p>),
     Way(Frame<'p>),
 }
 

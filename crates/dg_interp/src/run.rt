@@ -47,6 +47,7 @@ fn do_goal<K: Sink>(
     ensures ok { IfOk result (λ ending. DoesGoal ending engine.old engine.new spacer.old spacer.new (view (K.taken sink.old) (K.room sink.old) (K.faults sink.old)) (view (K.taken sink.new) (K.room sink.new) (K.faults sink.new))) }
     ensures err { IfErr result (λ fault. Reaches engine.old spacer.old (view (K.taken sink.old) (K.room sink.old) (K.faults sink.old)) (IsBroken fault spacer.new (view (K.taken sink.new) (K.room sink.new) (K.faults sink.new)))) }
 {
+    let again = engine.at_hand();
     match engine.take_goal() {
         Goal::Text(name) => match spacer.piece(sink, name.as_slice()) {
             Ok(()) => Ok(None),
@@ -67,6 +68,15 @@ fn do_goal<K: Sink>(
             };
             outcome(engine.ask(query, args.as_slice()))
         }
+        Goal::Either(lists) => outcome(engine.either(lists.as_slice())),
+        Goal::Once(goals) => outcome(engine.once(goals.as_slice())),
+        Goal::Not(goals) => outcome(engine.not(goals.as_slice())),
+        Goal::If(test, first, other) => outcome(engine.branch(
+            test.as_slice(),
+            first.as_slice(),
+            other.as_slice(),
+        )),
+        Goal::Forever => outcome(engine.forever(again)),
         Goal::Just => {
             engine.just();
             Ok(None)

@@ -15,3 +15,5 @@ pub mod Keeps
 pub mod Worked
 pub mod WorkedSearch
 pub mod Limits
+pub mod NodeLemmas
+pub mod BuiltLemmas

@@ -2,22 +2,27 @@
 use Rattle.std.specs.Prelude.{List}
 use Rattle.std.specs.List.{All}
 use Rattle.dg_base.specs.declared.program.Goal.{Goal, Goal-F, out-Goal}
-use Rattle.dg_base.specs.declared.program.Goal.TheOpen.{Text, Print, Equal, Ask, Just, Fail, Quit, Test}
+use Rattle.dg_base.specs.declared.program.Goal.TheOpen.{Text, Print, Equal, Ask, Either, Once, Not, If, Just, Fail, Quit, Forever, Test}
 use Rattle.dg_base.specs.declared.program.Rule.{Rule}
 use Rattle.dg_base.specs.declared.program.Pred.{Pred}
 use Rattle.dg_base.specs.declared.program.CoreProgram.{CoreProgram}
-use Rattle.dg_base.specs.Goals.{terms_held}
+use Rattle.dg_base.specs.Goals.{terms_held, goals_of}
 use Rattle.dg_meaning.specs.Closures.{HasNoClosure}
 
--- Text, a printed value, an equation, a query, a cut, a failure, an end, and a test.
+-- Text, a printed value, an equation, a query, a choice between goals, a first answer, a negation, a condition, a cut, a failure, an end, an endless choice, and a test.
 abbrev pub IsForm : Goal-F Goal → Type 0
 IsForm (Text name) = Unit {0}
 IsForm (Print a) = Unit {0}
 IsForm (Equal a b) = Unit {0}
 IsForm (Ask pred args many) = Unit {0}
+IsForm (Either lists) = Unit {0}
+IsForm (Once goals) = Unit {0}
+IsForm (Not goals) = Unit {0}
+IsForm (If test first other) = Unit {0}
 IsForm Just = Unit {0}
 IsForm Fail = Unit {0}
 IsForm Quit = Unit {0}
+IsForm Forever = Unit {0}
 IsForm (Test kind a) = Unit {0}
 IsForm _ = ⊥
 
@@ -29,9 +34,9 @@ IsBuiltForm x = IsForm x × All HasNoClosure (terms_held x)
 abbrev pub IsBuiltGoal : Goal → Type 0
 IsBuiltGoal g = IsBuiltForm (out-Goal g)
 
--- Goals that are all built.
+-- Goals that are all built, at every depth.
 abbrev pub AreBuilt : List Goal → Type 0
-AreBuilt goals = All IsBuiltGoal goals
+AreBuilt goals = All IsBuiltGoal (goals_of goals)
 
 -- A rule without closures in its head, whose goals are built.
 pub record IsBuiltRule (rule : Rule) : Type 0 where

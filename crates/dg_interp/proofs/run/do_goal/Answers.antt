@@ -1,8 +1,9 @@
 use Rattle.std.specs.Prelude.{Err}
-use Rattle.dg_base.specs.declared.program.Goal.TheVariants.{Print, Equal, Ask, Fail, Just, Test}
+use Rattle.dg_base.specs.declared.program.Goal.TheVariants.{Print, Equal, Ask, Either, Once, Not, If, Forever, Fail, Just, Test}
 use Rattle.dg_interp.proofs.Runs.{word_done, word_lost, value_done, value_lost, goal_done, goal_does, goal_breaks, goal_quits}
 use Rattle.dg_interp.proofs.Equals.{equal_plain}
 use Rattle.dg_interp.proofs.Values.{print_plain, test_plain}
+use Rattle.dg_interp.proofs.Controls.{either_built, once_built, not_built, if_built}
 use Rattle.dg_interp.proofs.run.do_goal.Goals as goal
 
 pub returns-in-Ok-clause-ok : goal.returns-in-Ok-clause-ok
@@ -67,3 +68,55 @@ returns-in-Test-clause-err g c = goal_breaks c.take_goal.result.now c.args.engin
 
 pub test-requires-clause-plain : goal.test-requires-clause-plain
 test-requires-clause-plain g c = test_plain c.in-Test.kind c.in-Test.term (rw c.in-Test.is at c.take_goal.ensures.taken.built)
+
+pub either-requires-clause-built : goal.either-requires-clause-built
+either-requires-clause-built g c = rw c.as_slice-in-Either.ensures (either_built c.in-Either.lists (rw c.in-Either.is at c.take_goal.ensures.taken.whole))
+
+pub returns-in-Either-clause-ok : goal.returns-in-Either-clause-ok
+returns-in-Either-clause-ok g c =
+    goal_does (Either c.in-Either.lists) c.args.engine.now c.take_goal.new.self c.args.spacer.now _ c.requires.goal (rw c.in-Either.is at c.take_goal.ensures.taken) c.either.new.self c.either.ensures.left c.either.result c.outcome-in-Either.result c.outcome-in-Either.ensures
+    (rw c.as_slice-in-Either.ensures at c.either.ensures.done) (rw c.as_slice-in-Either.ensures at c.either.ensures.full)
+
+pub returns-in-Either-clause-err : goal.returns-in-Either-clause-err
+returns-in-Either-clause-err g c = goal_breaks c.take_goal.result.now c.args.engine.now c.take_goal.new.self c.args.spacer.now _ c.requires.goal c.take_goal.ensures.taken c.either.result c.outcome-in-Either.result c.outcome-in-Either.ensures
+
+pub once-requires-clause-built : goal.once-requires-clause-built
+once-requires-clause-built g c = rw c.as_slice-in-Once.ensures (once_built c.in-Once.goals (rw c.in-Once.is at c.take_goal.ensures.taken.whole))
+
+pub returns-in-Once-clause-ok : goal.returns-in-Once-clause-ok
+returns-in-Once-clause-ok g c =
+    goal_does (Once c.in-Once.goals) c.args.engine.now c.take_goal.new.self c.args.spacer.now _ c.requires.goal (rw c.in-Once.is at c.take_goal.ensures.taken) c.once.new.self c.once.ensures.left c.once.result c.outcome-in-Once.result c.outcome-in-Once.ensures
+    (rw c.as_slice-in-Once.ensures at c.once.ensures.done) (rw c.as_slice-in-Once.ensures at c.once.ensures.full)
+
+pub returns-in-Once-clause-err : goal.returns-in-Once-clause-err
+returns-in-Once-clause-err g c = goal_breaks c.take_goal.result.now c.args.engine.now c.take_goal.new.self c.args.spacer.now _ c.requires.goal c.take_goal.ensures.taken c.once.result c.outcome-in-Once.result c.outcome-in-Once.ensures
+
+pub not-requires-clause-built : goal.not-requires-clause-built
+not-requires-clause-built g c = rw c.as_slice-in-Not.ensures (not_built c.in-Not.goals (rw c.in-Not.is at c.take_goal.ensures.taken.whole))
+
+pub returns-in-Not-clause-ok : goal.returns-in-Not-clause-ok
+returns-in-Not-clause-ok g c =
+    goal_does (Not c.in-Not.goals) c.args.engine.now c.take_goal.new.self c.args.spacer.now _ c.requires.goal (rw c.in-Not.is at c.take_goal.ensures.taken) c.not.new.self c.not.ensures.left c.not.result c.outcome-in-Not.result c.outcome-in-Not.ensures
+    (rw c.as_slice-in-Not.ensures at c.not.ensures.done) (rw c.as_slice-in-Not.ensures at c.not.ensures.full)
+
+pub returns-in-Not-clause-err : goal.returns-in-Not-clause-err
+returns-in-Not-clause-err g c = goal_breaks c.take_goal.result.now c.args.engine.now c.take_goal.new.self c.args.spacer.now _ c.requires.goal c.take_goal.ensures.taken c.not.result c.outcome-in-Not.result c.outcome-in-Not.ensures
+
+pub branch-engine-requires-clause-built : goal.branch-engine-requires-clause-built
+branch-engine-requires-clause-built g c = rw c.as_slice-in-If.ensures (rw c.as_slice-in-If-2.ensures (rw c.as_slice-in-If-3.ensures (if_built c.in-If.test c.in-If.first c.in-If.other (rw c.in-If.is at c.take_goal.ensures.taken.whole))))
+
+pub returns-in-If-clause-ok : goal.returns-in-If-clause-ok
+returns-in-If-clause-ok g c =
+    goal_does (If c.in-If.test c.in-If.first c.in-If.other) c.args.engine.now c.take_goal.new.self c.args.spacer.now _ c.requires.goal (rw c.in-If.is at c.take_goal.ensures.taken) c.branch-engine.new.self c.branch-engine.ensures.left c.branch-engine.result c.outcome-in-If.result c.outcome-in-If.ensures
+    (rw c.as_slice-in-If.ensures at rw c.as_slice-in-If-2.ensures at rw c.as_slice-in-If-3.ensures at c.branch-engine.ensures.done) (rw c.as_slice-in-If.ensures at rw c.as_slice-in-If-2.ensures at rw c.as_slice-in-If-3.ensures at c.branch-engine.ensures.full)
+
+pub returns-in-If-clause-err : goal.returns-in-If-clause-err
+returns-in-If-clause-err g c = goal_breaks c.take_goal.result.now c.args.engine.now c.take_goal.new.self c.args.spacer.now _ c.requires.goal c.take_goal.ensures.taken c.branch-engine.result c.outcome-in-If.result c.outcome-in-If.ensures
+
+pub returns-in-Forever-clause-ok : goal.returns-in-Forever-clause-ok
+returns-in-Forever-clause-ok g c =
+    goal_does Forever c.args.engine.now c.take_goal.new.self c.args.spacer.now _ c.requires.goal (rw c.in-Forever.is at c.take_goal.ensures.taken) c.forever.new.self c.forever.ensures.left c.forever.result c.outcome-in-Forever.result c.outcome-in-Forever.ensures
+    c.forever.ensures.done c.forever.ensures.full
+
+pub returns-in-Forever-clause-err : goal.returns-in-Forever-clause-err
+returns-in-Forever-clause-err g c = goal_breaks c.take_goal.result.now c.args.engine.now c.take_goal.new.self c.args.spacer.now _ c.requires.goal c.take_goal.ensures.taken c.forever.result c.outcome-in-Forever.result c.outcome-in-Forever.ensures

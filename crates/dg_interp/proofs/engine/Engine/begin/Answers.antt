@@ -1,8 +1,26 @@
+use Rattle.std.proofs.Common.{length}
+use Rattle.dg_interp.specs.declared.frames.Left.TheVariants.{Ways}
 use Rattle.dg_interp.proofs.Begins.{way_begun}
+use Rattle.dg_interp.proofs.BeginFrames.{ways_begin}
 use Rattle.dg_interp.proofs.engine.Engine.begin.Goals as goal
 
 pub begin_rule-requires-clause-left : goal.begin_rule-requires-clause-left
 begin_rule-requires-clause-left c = rw c.in-Rules.is at c.requires.left
+
+pub begin_list-requires-clause-left : goal.begin_list-requires-clause-left
+begin_list-requires-clause-left c = rw c.in-Lists.is at c.requires.left
+
+pub begin_frame-requires-clause-frame : goal.begin_frame-requires-clause-frame
+begin_frame-requires-clause-frame c = (rw c.in-Ways.is at c.requires.left).0
+
+pub begin_frame-requires-clause-others : goal.begin_frame-requires-clause-others
+begin_frame-requires-clause-others c = (rw c.in-Ways.is at c.requires.left).1
+
+pub returns-in-Ok-begin_frame-clause-tried : goal.returns-in-Ok-begin_frame-clause-tried
+returns-in-Ok-begin_frame-clause-tried c = rw c.in-Ways.is (c.in-Ok-begin_frame.ensures.begun (Ways c.in-Ways.first c.in-Ways.other) (ways_begin (length c.args.self.now.frames.items) c.in-Ways.first c.in-Ways.other))
+
+pub returns-in-Err-begin_frame-clause-full : goal.returns-in-Err-begin_frame-clause-full
+returns-in-Err-begin_frame-clause-full c = rw c.in-Ways.is (c.in-Err-begin_frame.ensures.full (Ways c.in-Ways.first c.in-Ways.other) (ways_begin (length c.args.self.now.frames.items) c.in-Ways.first c.in-Ways.other))
 
 pub returns-in-Way-clause-tried : goal.returns-in-Way-clause-tried
 returns-in-Way-clause-tried c = rw c.in-Way.is (way_begun c.args.self.now c.in-Way.frame c.args.place c.requires.sound (rw c.in-Way.is at c.requires.left))

@@ -1,0 +1,210 @@
+-- A choice opens where a goal is done.
+use Rattle.std.proofs.Common.{◌≡◌, ℕ, suc, ◌+◌, ◌^◌, ◌<◌, List, [], ◌∷◌, ◌++◌, refl, sym, ap, ◌∙◌, subst, arith, length, length-append, true}
+use Rattle.std.specs.List.{All}
+use Rattle.std.specs.Prelude.{reverse}
+use Rattle.std.specs.declared.vec.Vec.{Vec}
+use Rattle.std.specs.declared.alloc.Global.{Global}
+use Rattle.dg_base.specs.declared.program.Goal.{Goal, out-Goal}
+use Rattle.dg_base.specs.Goals.{terms_held}
+use Rattle.dg_meaning.specs.Values.{Value}
+use Rattle.dg_meaning.specs.World.{Game, World}
+use Rattle.dg_meaning.specs.Cells.{cells, writing}
+use Rattle.dg_meaning.specs.Path.{Step, Do, Registers, Plain}
+use Rattle.dg_meaning.specs.Moves.{choice, outcome, path_of}
+use Rattle.dg_meaning.specs.Transcript.{Run}
+use Rattle.dg_meaning.specs.Context.{pushed}
+use Rattle.dg_meaning.specs.Keeps.{Began, After, Stands}
+use Rattle.dg_unify.specs.Store.{Store, State, Saved, Holds, Kept, marked}
+use Rattle.dg_unify.specs.Laws.{saves_drops}
+use Rattle.dg_unify.specs.Listed.{fields_of}
+use Rattle.dg_unify.specs.declared.bindings.Ref.{Ref}
+use Rattle.dg_unify.specs.declared.bindings.Mark.{Mark as Place}
+use Rattle.dg_unify.specs.declared.list.ListBindings.{ListBindings}
+use Rattle.dg_interp.specs.declared.frames.Env.{Env}
+use Rattle.dg_interp.specs.declared.frames.Frame.{Frame}
+use Rattle.dg_interp.specs.declared.frames.Choice.{Choice}
+use Rattle.dg_interp.specs.declared.frames.Left.{Left}
+use Rattle.dg_interp.specs.declared.engine.Engine.{Engine}
+use Rattle.dg_interp.specs.Frames.{values_in, steps_behind, steps_at, kind_of, branches_of, Agrees, AreChoices, AreFrames, AreLeft, IsFrame, StandOn, GoBackTo}
+use Rattle.dg_interp.specs.Engine.{store_in, KeepsPlaces, HasPlace, IsPlace, BeginsAt, steps_of, IsSound, IsReady, TakesAt, OpensAt, IsPushed, Leads, SameLimits}
+use Rattle.dg_interp.proofs.Links.{same_here, same_append, same_values, behind_new, at_same, frame_raise, frames_append, choices_same, stand_raise, stand_same, branches_same}
+use Rattle.dg_interp.proofs.Stores.{kept_here, all_hold, values_kept, hold_front}
+use Rattle.dg_interp.proofs.Begins.{back_limits}
+use Rattle.dg_interp.proofs.BeginFrames.{within_left}
+use Rattle.dg_interp.proofs.Places.{adds_nothing}
+use Rattle.dg_interp.proofs.Goals.{no_cells}
+use Rattle.dg_interp.proofs.Takes.{behind, taken_in, comes_of, adds_taken}
+
+-- a goal without terms leaves the registers where they agree
+module _ (x : Goal) (old : Engine) (none : terms_held (out-Goal x) ≡ []) where
+  pub agrees_here : (g : Game) (n : ℕ) (w : World) (run : Run) (st : TakesAt x old g n w run) → Agrees (store_in old.store) (behind x old g n w run st)
+  agrees_here g n w run st =
+      let r = behind x old g n w run st in
+      let heap : r.heap ≡ st.registers.heap = no_cells st.registers.heap _ (ap (cells g.program) none) in
+      record { bound = st.agrees.bound; vars = st.agrees.vars; heap = heap ∙ st.agrees.heap; trail = st.agrees.trail; since = st.agrees.since }
+
+  -- what comes of it is a choice with these branches
+  abbrev pub IsChoiceOf : Left → Type 0
+  IsChoiceOf left = (g : Game) (r : Registers) (w : World) → old.program.now ≡ g.program → r.next_tag ≡ old.newest + 1 →
+      outcome g (out-Goal x) (values_in (store_in old.store) old.refs.items old.here.env) old.here.tag (steps_of old) r w ≡ choice (kind_of left) r.next_tag (branches_of g (values_in (store_in old.store) old.refs.items) old.frames.items (length old.frames.items) left r) w
+
+  pub opens : (left : Left) → kind_of left ≡ Plain → IsChoiceOf left → Leads (TakesAt x old) (OpensAt left old)
+  opens left plain is g n w run quiet st =
+      let r = behind x old g n w run st in
+      let v = taken_in x old g n w run st in
+      record {
+        world = v;
+        adds = adds_taken r (writing g.program (terms_held (out-Goal x))) w quiet;
+        holds = record {
+          program = st.program;
+          lives = st.lives;
+          ways = st.ways;
+          registers = r;
+          saved = st.saved;
+          keeps = st.keeps;
+          agrees = agrees_here g n w run st;
+          choices = st.choices;
+          tag = st.tag;
+          began = λ b bs split.
+              let here : After g st.lives st.ways n (choice Plain r.next_tag (b ∷ bs) v) run =
+              subst (λ m. After g st.lives st.ways n m run) (is g r v st.program st.tag ∙ ap (λ k. choice k r.next_tag (branches_of g (values_in (store_in old.store) old.refs.items) old.frames.items (length old.frames.items) left r) v) plain ∙ ap (λ l. choice Plain r.next_tag l v) split) (comes_of x old g n w run st) in
+              subst (λ k. Began g (pushed bs (record { kind = k; tag = r.next_tag; others = bs; height = 0; ways_on = st.ways }) st.lives) st.ways b n v run) (sym plain)
+              (subst (λ i. Began g (pushed bs (record { kind = Plain; tag = r.next_tag; others = bs; height = i; ways_on = st.ways }) st.lives) st.ways b n v run) (ap length quiet) here);
+        };
+      }
+
+-- ## A frame behind the others
+
+module _ (old : Engine) (frame : Frame) (frames : Vec Frame Global) (ready : IsReady old) (is : IsFrame (length old.frames.items) (length old.refs.items) frame) (pushed_on : frames.items ≡ old.frames.items ++ frame ∷ []) where
+  abbrev fs : List Frame
+  fs = old.frames.items
+
+  abbrev gs : List Frame
+  gs = fs ++ frame ∷ []
+
+  abbrev n : ℕ
+  n = length old.refs.items
+
+  abbrev vs : Env → List Value
+  vs = values_in (store_in old.store) old.refs.items
+
+  abbrev os : List Choice
+  os = reverse old.choices.items
+
+  abbrev new : Engine
+  new = record old { frames = frames }
+
+  count : length gs ≡ length fs + 1
+  count = length-append fs (frame ∷ [])
+
+  stand : StandOn gs (length gs) n old.newest os
+  stand = stand_raise gs (length fs) (length gs) n n old.newest old.newest os (omega (arith, count)) (omega arith) (omega arith) (stand_same fs gs (length fs) n old.newest os (same_append fs frame) ready.sound.choices)
+
+  pub frame_pushed : IsPushed frame old new
+  frame_pushed = record {
+    ready = record {
+      sound = record {
+        program = ready.sound.program;
+        hold = ready.sound.hold;
+        frames = subst (λ (l : List Frame). AreFrames (length l) n l) (sym pushed_on) (frames_append n fs frame ready.sound.frames is);
+        choices = subst (λ (l : List Frame). StandOn l (length l) n old.newest os) (sym pushed_on) stand;
+        places = record { saved = ready.sound.places.saved; keeps = ready.sound.places.keeps; back_to = ready.sound.places.back_to };
+        room = ready.sound.room;
+      };
+      here = subst (λ (l : List Frame). IsFrame (length l) n old.here) (sym pushed_on) (frame_raise (length fs) (length gs) n n old.here (omega (arith, count)) (omega arith) ready.here);
+    };
+    frames = pushed_on;
+    same = refl;
+  }
+
+  pub pushed_behind : steps_behind vs frames.items (length frames.items) ≡ steps_at vs fs frame
+  pushed_behind =
+      ap (λ (l : List Frame). steps_behind vs l (length l)) pushed_on ∙ ap (steps_behind vs gs) count
+      ∙ behind_new n vs fs frame ready.sound.frames is.older
+
+  pub pushed_same : (f : Frame) → IsFrame (length fs) n f → steps_at vs frames.items f ≡ steps_at vs fs f
+  pushed_same f h = ap (λ (l : List Frame). steps_at vs l f) pushed_on ∙ at_same n vs vs fs gs (length fs) f h (same_values n vs) ready.sound.frames (same_append fs frame)
+
+  pub pushed_takes : (x : Goal) (g : Game) (k : ℕ) (w : World) (run : Run) → TakesAt x old g k w run → TakesAt x new g k w run
+  pushed_takes x g k w run st = record {
+    program = st.program;
+    lives = st.lives;
+    ways = st.ways;
+    registers = st.registers;
+    saved = st.saved;
+    keeps = st.keeps;
+    agrees = st.agrees;
+    choices = subst (λ l. AreChoices g old.refs.items l os st.saved st.lives) (sym pushed_on) (choices_same g old.refs.items old.refs.items fs gs (length fs) n old.newest os st.saved st.lives refl (same_append fs frame) ready.sound.choices st.choices);
+    tag = st.tag;
+    stands = subst (λ (l : List Step). Stands g st.lives st.ways (path_of (Do x (vs old.here.env) old.here.tag ∷ l) st.registers) (suc k) w run) (sym (pushed_same old.here ready.here)) st.stands;
+  }
+
+-- ## A mark, and a new tag
+
+module _ (old : Engine) (left : Left) (place : Place) (store : ListBindings) (ready : IsReady old) (k : Kept (store_in old.store) (store_in store)) (state : (store_in store).state ≡ marked (store_in old.store).state)
+    (saved : (ms : List Saved) → KeepsPlaces old.store ms → KeepsPlaces store (record { mark = place; store = store_in store } ∷ ms)) where
+  abbrev opened : Engine
+  opened = record old { store = store; newest = old.newest + 1 }
+
+  abbrev t : Store
+  t = store_in store
+
+  abbrev refs : List Ref
+  refs = old.refs.items
+
+  hold : All (Holds t) refs
+  hold = all_hold (store_in old.store) t refs k ready.sound.hold
+
+  place_now : (ms : List Saved) → KeepsPlaces old.store ms → IsPlace opened place (record { mark = place; store = t }) ms
+  place_now ms h = record { keeps = saved ms h; place_is = refl; hold = hold; kept = kept_here t }
+
+  back_now : GoBackTo refs t.heap_limit t.trail_limit (reverse old.choices.items) ready.sound.places.saved
+  back_now = back_limits refs _ _ _ _ (reverse old.choices.items) ready.sound.places.saved (sym k.heap_limit) (sym k.trail_limit) ready.sound.places.back_to
+
+  pub opened_place : HasPlace opened place
+  opened_place = record { back = record { mark = place; store = t }; saved = ready.sound.places.saved; is = place_now ready.sound.places.saved ready.sound.places.keeps; back_to = back_now }
+
+  pub opened_limits : SameLimits old opened
+  opened_limits = record { heap = k.heap_limit; trail = k.trail_limit }
+
+  pub opened_sound : old.newest + 1 + old.left < 2 ^ 64 → IsSound opened
+  opened_sound room = record {
+    program = ready.sound.program;
+    hold = hold;
+    frames = ready.sound.frames;
+    choices = stand_raise old.frames.items (length old.frames.items) (length old.frames.items) (length refs) (length refs) old.newest (old.newest + 1) (reverse old.choices.items) (omega arith) (omega arith) (omega arith) ready.sound.choices;
+    places = record { saved = ready.sound.places.saved; keeps = saves_drops true (fields_of store) _ _ (saved ready.sound.places.saved ready.sound.places.keeps); back_to = back_now };
+    room = room;
+  }
+
+  agrees_now : (r : Registers) → Agrees (store_in old.store) r → Agrees t r
+  agrees_now r a = record {
+    bound = a.bound ∙ ap (λ (u : State). u.subst) (sym state);
+    vars = a.vars ∙ ap (λ (u : State). u.vars) (sym state);
+    heap = a.heap ∙ ap (λ (u : State). u.heap) (sym state);
+    trail = omega (arith, a.trail, ap (λ (u : State). u.trail) state);
+    since = omega (arith, ap (λ (u : State). u.since) state, ap (λ (u : State). u.vars) state);
+  }
+
+  pub opens_begins : AreLeft (length old.frames.items) (length refs) left → Leads (OpensAt left old) (BeginsAt left place opened)
+  opens_begins are g n w run quiet st = record {
+    world = w;
+    adds = adds_nothing w quiet;
+    holds = record {
+      program = st.program;
+      lives = st.lives;
+      ways = st.ways;
+      registers = st.registers;
+      saved = st.saved;
+      back = record { mark = place; store = t };
+      is = place_now st.saved st.keeps;
+      agrees = agrees_now st.registers st.agrees;
+      back_agrees = agrees_now st.registers st.agrees;
+      choices = st.choices;
+      tag = st.tag;
+      began = λ b bs split.
+          st.began b bs
+          (sym (branches_same g (length old.frames.items) (length refs) (values_in (store_in old.store) refs) (values_in t refs) old.frames.items old.frames.items left st.registers (within_left (length old.frames.items) (length refs) left are) ready.sound.frames
+          (values_kept (length refs) (store_in old.store) t refs refs k (hold_front (store_in old.store) refs ready.sound.hold) refl) (same_here (length old.frames.items) old.frames.items)) ∙ split);
+    };
+  }

@@ -1,0 +1,34 @@
+use Rattle.std.proofs.Common.{arith, length, take, drop, ◌-◌, ◌≡◌, ◌≤◌, rules, sym, subst}
+use Rattle.std.specs.List.{All}
+use Rattle.dg_meaning.specs.Built.{AreBuilt}
+use Rattle.dg_interp.specs.declared.frames.Left.TheVariants.{Lists}
+use Rattle.dg_interp.proofs.Turns.{all_first, all_rest, first_and_rest}
+use Rattle.dg_interp.proofs.BeginFrames.{list_begins_at}
+use Rattle.dg_interp.proofs.engine.Engine.begin_list.Goals as goal
+
+pub begin_frame-requires-clause-frame : goal.begin_frame-requires-clause-frame
+begin_frame-requires-clause-frame c =
+    let all = c.args.lists.now in
+    let split = first_and_rest all c.list-item.result (length all - 1) c.requires.left.0 c.list-item.is (omega arith) in
+    let within : c.len.result ≤ length c.args.self.now.frames.items = search rules in
+    record { built = subst AreBuilt (sym c.as_slice.ensures) (all_first AreBuilt c.list-item.result (take (length all - 1) (drop 1 all)) (subst (All AreBuilt) split c.requires.left.1)); older = within; env = c.requires.left.2 }
+
+pub begin_frame-requires-clause-others : goal.begin_frame-requires-clause-others
+begin_frame-requires-clause-others c =
+    let all = c.args.lists.now in
+    let split = first_and_rest all c.list-item.result (length all - 1) c.requires.left.0 c.list-item.is (omega arith) in
+    (all_rest AreBuilt c.list-item.result (take (length all - 1) (drop 1 all)) (subst (All AreBuilt) split c.requires.left.1), c.requires.left.2)
+
+pub returns-in-Ok-clause-begun : goal.returns-in-Ok-clause-begun
+returns-in-Ok-clause-begun c =
+    let all = c.args.lists.now in
+    let at : c.len.result ≡ length c.args.self.now.frames.items = search rules in
+    c.in-Ok.ensures.begun (Lists c.args.env c.args.tag c.args.lists)
+    (list_begins_at (length c.args.self.now.frames.items) c.len.result c.args.env c.args.tag c.args.lists _ c.as_slice.result c.list-item.result at (first_and_rest all c.list-item.result (length all - 1) c.requires.left.0 c.list-item.is (omega arith)) c.as_slice.ensures)
+
+pub returns-in-Err-clause-full : goal.returns-in-Err-clause-full
+returns-in-Err-clause-full c =
+    let all = c.args.lists.now in
+    let at : c.len.result ≡ length c.args.self.now.frames.items = search rules in
+    c.in-Err.ensures.full (Lists c.args.env c.args.tag c.args.lists)
+    (list_begins_at (length c.args.self.now.frames.items) c.len.result c.args.env c.args.tag c.args.lists _ c.as_slice.result c.list-item.result at (first_and_rest all c.list-item.result (length all - 1) c.requires.left.0 c.list-item.is (omega arith)) c.as_slice.ensures)

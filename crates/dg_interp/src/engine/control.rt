@@ -1,0 +1,143 @@
+// Choices between goals.
+ghost use Rattle.std.specs.Prelude.{◌≡◌, ◌+◌, ◌<◌, ◌^◌, IfOk, IfErr, All};
+ghost use Rattle.dg_base.specs.declared.program.Goal.TheVariants.{Either as EitherGoal, Once as OnceGoal, Not as NotGoal, If as IfGoal, Forever as ForeverGoal};
+ghost use Rattle.dg_meaning.specs.Built.{AreBuilt};
+ghost use Rattle.dg_interp.specs.Engine.{IsReady, TakesAt, Branches, FullAt, IsAgain, store_in};
+
+use super::Engine;
+use crate::frames::{Frame, Left, Mark};
+use dg_base::{Goal, Items};
+use dg_unify::{Bindings, Full};
+
+impl<'p> Engine<'p> {
+    /// Tries lists of goals, one after another; false where the run has failed.
+    pub fn either(&mut self, lists: &'p [Items<Goal>]) -> Result<bool, Full>
+        requires ready { IsReady self.old }
+        requires room { self.old.newest + 1 + self.old.left < 2 ^ 64 }
+        requires built { All AreBuilt lists.now }
+        ensures done { IfOk result (λ found. Branches (TakesAt (EitherGoal lists.entry.now) self.old) found self.old self.new) }
+        ensures full { IfErr result (λ e. FullAt (TakesAt (EitherGoal lists.entry.now) self.old) (store_in self.old.store) e) }
+        ensures left { self.new.left ≡ self.old.left }
+    {
+        if lists.is_empty() {
+            return match self.back() {
+                Err(e) => Err(e),
+                Ok(found) => Ok(found),
+            };
+        }
+        match self.push(self.here) {
+            Err(e) => Err(e),
+            Ok(()) => match self.open(Left::Lists(self.here.env, self.here.tag, lists)) {
+                Err(e) => Err(e),
+                Ok(found) => Ok(found),
+            },
+        }
+    }
+
+    /// Takes the first answer of goals.
+    pub fn once(&mut self, goals: &'p [Goal]) -> Result<bool, Full>
+        requires ready { IsReady self.old }
+        requires room { self.old.newest + 1 + self.old.left < 2 ^ 64 }
+        requires built { AreBuilt goals.now }
+        ensures done { IfOk result (λ found. Branches (TakesAt (OnceGoal goals.entry.now) self.old) found self.old self.new) }
+        ensures full { IfErr result (λ e. FullAt (TakesAt (OnceGoal goals.entry.now) self.old) (store_in self.old.store) e) }
+        ensures left { self.new.left ≡ self.old.left }
+    {
+        if let Err(e) = self.push(self.here) {
+            return Err(e);
+        }
+        if let Err(e) = self.store.charge(10) {
+            return Err(e);
+        }
+        self.newest += 1;
+        self.here = Frame {
+            goals,
+            mark: Mark::CutTo(self.newest),
+            behind: self.frames.len(),
+            ..self.here
+        };
+        Ok(true)
+    }
+
+    /// Goes on where goals have no answer; false where the run has failed.
+    pub fn not(&mut self, goals: &'p [Goal]) -> Result<bool, Full>
+        requires ready { IsReady self.old }
+        requires room { self.old.newest + 1 + self.old.left < 2 ^ 64 }
+        requires built { AreBuilt goals.now }
+        ensures done { IfOk result (λ found. Branches (TakesAt (NotGoal goals.entry.now) self.old) found self.old self.new) }
+        ensures full { IfErr result (λ e. FullAt (TakesAt (NotGoal goals.entry.now) self.old) (store_in self.old.store) e) }
+        ensures left { self.new.left ≡ self.old.left }
+    {
+        let first = Frame {
+            goals,
+            mark: Mark::RefuseTo(self.newest + 1),
+            behind: 0,
+            ..self.here
+        };
+        match self.open(Left::Ways(first, self.here)) {
+            Err(e) => Err(e),
+            Ok(found) => Ok(found),
+        }
+    }
+
+    /// Goes on with some goals where a test has an answer, and with others where it has none; false where the run has
+    /// failed.
+    pub fn branch(
+        &mut self,
+        test: &'p [Goal],
+        first: &'p [Goal],
+        other: &'p [Goal],
+    ) -> Result<bool, Full>
+        requires ready { IsReady self.old }
+        requires room { self.old.newest + 1 + self.old.left < 2 ^ 64 }
+        requires built { AreBuilt test.now × AreBuilt first.now × AreBuilt other.now }
+        ensures done { IfOk result (λ found. Branches (TakesAt (IfGoal test.entry.now first.entry.now other.entry.now) self.old) found self.old self.new) }
+        ensures full { IfErr result (λ e. FullAt (TakesAt (IfGoal test.entry.now first.entry.now other.entry.now) self.old) (store_in self.old.store) e) }
+        ensures left { self.new.left ≡ self.old.left }
+    {
+        if let Err(e) = self.push(self.here) {
+            return Err(e);
+        }
+        let behind = self.frames.len();
+        let first = Frame {
+            goals: first,
+            mark: Mark::Nothing,
+            behind,
+            ..self.here
+        };
+        if let Err(e) = self.push(first) {
+            return Err(e);
+        }
+        let test = Frame {
+            goals: test,
+            mark: Mark::CutTo(self.newest + 1),
+            behind: self.frames.len(),
+            ..self.here
+        };
+        let other = Frame {
+            goals: other,
+            mark: Mark::Nothing,
+            behind,
+            ..self.here
+        };
+        match self.open(Left::Ways(test, other)) {
+            Err(e) => Err(e),
+            Ok(found) => Ok(found),
+        }
+    }
+
+    /// Goes on, and again from this frame each time that it goes back here.
+    pub fn forever(&mut self, again: Frame<'p>) -> Result<bool, Full>
+        requires ready { IsReady self.old }
+        requires room { self.old.newest + 1 + self.old.left < 2 ^ 64 }
+        requires again { IsAgain again self.old }
+        ensures done { IfOk result (λ found. Branches (TakesAt ForeverGoal self.old) found self.old self.new) }
+        ensures full { IfErr result (λ e. FullAt (TakesAt ForeverGoal self.old) (store_in self.old.store) e) }
+        ensures left { self.new.left ≡ self.old.left }
+    {
+        match self.open(Left::Ways(self.here, again)) {
+            Err(e) => Err(e),
+            Ok(found) => Ok(found),
+        }
+    }
+}
