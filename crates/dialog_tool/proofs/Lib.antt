@@ -1,7 +1,8 @@
 pub mod DigitLemmas
 pub mod DiceLemmas
 pub mod OptionLemmas
-pub mod PlainLemmas
+pub mod RewrittenLemmas
+pub mod CoreLemmas
 pub mod SourceLemmas
 pub mod AnswerLemmas
 pub mod PlayLemmas

@@ -20,7 +20,7 @@ use Rattle.dg_names.specs.Named.{Named}
 use Rattle.dg_names.specs.Counts.{IsNamed}
 use Rattle.dg_names.proofs.NameLemmas.{one_answer as named_one}
 use Rattle.dg_access.specs.Rewritten.{IsRewritten}
-use Rattle.dialog_tool.specs.Plain.{first_unbuilt}
+use Rattle.dg_lower.specs.Forms.{first_unbuilt}
 use Rattle.dialog_tool.specs.Source.{refusal_at, program_of, IsProgram, not_named, not_built, not_rewritten, lowered, Compiles, not_lexed, not_read, read}
 
 rewritten_one : (is : List Item) (a b : Result (List Item) Refusal) → IsRewritten is a → IsRewritten is b → a ≡ b

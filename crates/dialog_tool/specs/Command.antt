@@ -1,5 +1,5 @@
 -- The words of a command line: hold it against the synopsis of man/dialog.1.
-use Rattle.std.specs.Prelude.{ℕ, ◌+◌, ◌*◌, ◌-◌, ◌&&◌, List, [], ◌∷◌, length, Bool, true, false, not, Option, Some, None, codes, map, string_bytes, String, nat_eq, nat_le, if◌then◌else◌}
+use Rattle.std.specs.Prelude.{ℕ, ◌+◌, ◌*◌, ◌-◌, ◌&&◌, ◌||◌, List, [], ◌∷◌, length, Bool, true, false, not, Option, Some, None, codes, map, string_bytes, String, nat_eq, nat_le, if◌then◌else◌}
 use Rattle.std.specs.List.{list_all, slice_split}
 use Rattle.std.specs.Option.{option_map, option_and_then, is_some}
 use Rattle.std.specs.Str.{bytes_eq}
@@ -40,14 +40,16 @@ number_of least most word = if is_number least most word then Some (value_behind
 
 -- ---- options
 
--- the words behind --steps and --dice, where they stand
+-- the words behind --steps, --heap, --trail and --dice, where they stand
 pub record Values : Type 0 where
   pub steps : Option (List ℕ)
+  pub heap : Option (List ℕ)
+  pub trail : Option (List ℕ)
   pub dice : Option (List ℕ)
 
 -- no option
 abbrev pub no_values : Values
-no_values = record { steps = None; dice = None }
+no_values = record { steps = None; heap = None; trail = None; dice = None }
 
 -- a word, where there was none before: no option stands twice
 abbrev pub once : Option (List ℕ) → List ℕ → Option (Option (List ℕ))
@@ -58,6 +60,8 @@ once (Some before) word = None
 abbrev pub with_option : Values → List ℕ → List ℕ → Option Values
 with_option values option word =
     if bytes_eq option (codes "--steps") then option_map (λ w. record values { steps = w }) (once values.steps word)
+    else if bytes_eq option (codes "--heap") then option_map (λ w. record values { heap = w }) (once values.heap word)
+    else if bytes_eq option (codes "--trail") then option_map (λ w. record values { trail = w }) (once values.trail word)
     else if bytes_eq option (codes "--dice") then option_map (λ w. record values { dice = w }) (once values.dice word)
     else None
 
@@ -78,13 +82,14 @@ number_or usual most (Some word) = number_of 1 most word
 
 -- ---- a source
 
--- the limits of a run with at most so many goals
-abbrev pub limits_with : ℕ → Limits
-limits_with steps = record { steps = steps; heap = 1000000; trail = 200000; aux = 100000; keep = 10000 }
+-- the limits of these goals, heap cells and bindings to be undone, where each is a number that it may be
+abbrev pub limits_from : Option ℕ → Option ℕ → Option ℕ → Option Limits
+limits_from (Some steps) (Some heap) (Some trail) = Some (record { steps = steps; heap = heap; trail = trail; aux = 100000; keep = 10000 })
+limits_from steps heap trail = None
 
 -- the limits that the options name
 abbrev pub limits_of : Values → Option Limits
-limits_of values = option_map limits_with (number_or 100000000 1000000000000 values.steps)
+limits_of values = limits_from (number_or 100000000 1000000000000 values.steps) (number_or 1000000 16000000 values.heap) (number_or 200000 16000000 values.trail)
 
 -- a source is run as its options say; it has no dice
 abbrev pub debug_with : List ℕ → Values → Option Command
@@ -107,9 +112,11 @@ abbrev pub own_dice : Option (List ℕ) → Option (Option (List ℕ))
 own_dice None = Some None
 own_dice (Some word) = option_map Some (dice_of word)
 
--- a story is played as its options say
+-- a story is played as its options say; it has no limits of heap and trail
 abbrev pub play_with : List ℕ → Values → Option Command
-play_with name values = option_and_then (λ steps. option_map (play name steps) (own_dice values.dice)) (number_or 1000000000 1000000000000 values.steps)
+play_with name values =
+    if is_some values.heap || is_some values.trail then None
+    else option_and_then (λ steps. option_map (play name steps) (own_dice values.dice)) (number_or 1000000000 1000000000000 values.steps)
 
 -- ---- the words
 

@@ -11,7 +11,12 @@ command_view (Debug name limits) = spec.debug name.now limits
 command_view (Play name steps own) = spec.play name.now steps (option_map (λ d. d.items) own)
 
 abbrev pub values_view : Values → spec.Values
-values_view g = record { steps = option_map (λ w. w.now) g.steps; dice = option_map (λ w. w.now) g.dice }
+values_view g = record {
+  steps = option_map (λ w. w.now) g.steps;
+  heap = option_map (λ w. w.now) g.heap;
+  trail = option_map (λ w. w.now) g.trail;
+  dice = option_map (λ w. w.now) g.dice;
+}
 
 -- Dice of its own aren't empty.
 abbrev pub HasDice : Command → Type 0

@@ -1,6 +1,5 @@
 pub mod Command
 pub mod CommandView
-pub mod Plain
 pub mod Source
 pub mod Answers
 pub mod Playing

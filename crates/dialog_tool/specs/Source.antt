@@ -13,7 +13,7 @@ use Rattle.dg_names.specs.Counts.{IsNamed}
 use Rattle.dg_names.specs.Named.{Named}
 use Rattle.dg_access.specs.Rewritten.{IsRewritten}
 use Rattle.dg_lower.specs.Core.{core_of, has_entry}
-use Rattle.dialog_tool.specs.Plain.{first_unbuilt}
+use Rattle.dg_lower.specs.Forms.{first_unbuilt}
 
 abbrev pub refusal_at : Kind → ℕ → Refusal
 refusal_at kind line = record { kind = kind; line = line }

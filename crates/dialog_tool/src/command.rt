@@ -1,5 +1,5 @@
 // Reads the words of a command line.
-ghost use Rattle.std.specs.Prelude.{◌≡◌, ◌<◌, ◌^◌, IfOk, IfSome, string_bytes};
+ghost use Rattle.std.specs.Prelude.{◌≡◌, ◌≤◌, ◌<◌, ◌^◌, IfOk, IfSome, string_bytes};
 ghost use Rattle.std.specs.Option.{option_map, option_and_then};
 ghost use Rattle.dialog_tool.specs.Command as spec;
 ghost use Rattle.dialog_tool.specs.Command.{texts};
@@ -12,6 +12,8 @@ use std::alloc::{AllocError, Global};
 const USUAL_INSTRUCTIONS: u64 = 1_000_000_000;
 
 const MOST_STEPS: u64 = 1_000_000_000_000;
+
+const MOST_CELLS: u64 = 16_000_000;
 
 /// What is to be done.
 #[derive(Drop)]
@@ -33,6 +35,8 @@ pub enum Command<'a> {
 #[derive(Clone, Copy)]
 struct Values<'a> {
     steps: Option<&'a str>,
+    heap: Option<&'a str>,
+    trail: Option<&'a str>,
     dice: Option<&'a str>,
 }
 
@@ -65,6 +69,14 @@ fn with_option<'a>(values: Values<'a>, option: &String, word: &'a str) -> Option
             let steps = once(values.steps, word)?;
             Some(Values { steps, ..values })
         }
+        "--heap" => {
+            let heap = once(values.heap, word)?;
+            Some(Values { heap, ..values })
+        }
+        "--trail" => {
+            let trail = once(values.trail, word)?;
+            Some(Values { trail, ..values })
+        }
         "--dice" => {
             let dice = once(values.dice, word)?;
             Some(Values { dice, ..values })
@@ -92,6 +104,8 @@ fn values_of(options: &[String]) -> Option<Values<'_>>
 {
     let none = Values {
         steps: None,
+        heap: None,
+        trail: None,
         dice: None,
     };
     values_behind(none, options)
@@ -107,12 +121,27 @@ fn number_or(usual: u64, most: u64, word: Option<&str>) -> Option<u64>
     }
 }
 
+fn cells_or(usual: u32, word: Option<&str>) -> Option<u32>
+    requires { usual ≤ 16000000 }
+    ensures { result ≡ spec.number_or usual 16000000 (option_map (λ w. w.now) word.entry) }
+{
+    let cells = number_or(usual as u64, MOST_CELLS, word)?;
+    Some(cells as u32)
+}
+
 fn limits_of(values: Values<'_>) -> Option<Limits>
     ensures { result ≡ spec.limits_of (values_view values.entry) }
 {
     let usual = Limits::debug();
     let steps = number_or(usual.steps, MOST_STEPS, values.steps)?;
-    Some(Limits { steps, ..usual })
+    let heap = cells_or(usual.heap, values.heap)?;
+    let trail = cells_or(usual.trail, values.trail)?;
+    Some(Limits {
+        steps,
+        heap,
+        trail,
+        ..usual
+    })
 }
 
 fn debug<'a>(name: &'a str, options: &[String]) -> Option<Command<'a>>
@@ -161,6 +190,9 @@ fn play<'a>(
     let Some(values) = values_of(options) else {
         return Ok(None);
     };
+    if values.heap.is_some() || values.trail.is_some() {
+        return Ok(None);
+    }
     let Some(steps) = number_or(USUAL_INSTRUCTIONS, MOST_STEPS, values.steps) else {
         return Ok(None);
     };

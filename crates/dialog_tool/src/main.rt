@@ -5,7 +5,6 @@ mod adapters;
 mod command;
 mod lines;
 mod numbers;
-mod plain;
 mod playing;
 mod source;
 mod tool;

@@ -4,16 +4,15 @@ ghost use Rattle.dg_access.specs.Rewritten.{IsRewritten};
 ghost use Rattle.dg_base.specs.Tree.{Item};
 ghost use Rattle.dg_base.specs.Faults.{IsFault};
 ghost use Rattle.dg_base.specs.TreeView.{tree_view};
+ghost use Rattle.dg_lower.specs.Forms.{first_unbuilt};
 ghost use Rattle.dg_meaning.specs.Built.{IsBuilt};
 ghost use Rattle.dg_names.specs.State.{names_view};
-ghost use Rattle.dialog_tool.specs.Plain.{first_unbuilt};
 ghost use Rattle.dialog_tool.specs.Source.{IsProgram, Compiles, program_of, refusal_at};
 
-use crate::plain::first_unbuilt;
 use dg_access::rewrite;
 use dg_base::{CoreProgram, Kind, ReadFault, Refusal, Tree};
 use dg_lex::lex;
-use dg_lower::lower;
+use dg_lower::{first_unbuilt, lower};
 use dg_names::Names;
 use dg_reader::read;
 use std::alloc::Global;
