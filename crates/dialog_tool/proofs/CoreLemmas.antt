@@ -1,5 +1,5 @@
 -- The core program of items whose forms are all built holds only what the interpreter runs.
-use Rattle.std.proofs.Common.{◌≡◌, ℕ, List, [], ◌∷◌, ◌++◌, ◌&&◌, Bool, true, false, Option, Some, None, map, refl, sym, ◌∙◌, ap, subst, arith}
+use Rattle.std.proofs.Common.{◌≡◌, ℕ, List, [], ◌∷◌, ◌++◌, ◌&&◌, Bool, true, false, Option, Some, None, map, refl, sym, subst, arith}
 use Rattle.std.specs.Prelude.{if◌then◌else◌}
 use Rattle.std.specs.List.{All, flat_map}
 use Rattle.std.specs.Str.{bytes_eq}
@@ -27,7 +27,7 @@ use Rattle.dg_names.specs.Named.{Named}
 use Rattle.dg_meaning.specs.Built.{IsBuilt, IsBuiltGoal, IsBuiltForm, IsBuiltRule}
 use Rattle.dg_meaning.specs.Closures.{IsNoClosure, HasNoClosure}
 use Rattle.dg_lower.specs.Core.{scope_of, rule_of, failing, rules_in, pred_of, core_of}
-use Rattle.dg_lower.specs.Forms.{is_built_in, is_asked, are_parts, is_value, are_values, is_query, is_stmt, are_stmts, is_body, are_arms, is_rule, is_item, are_built}
+use Rattle.dg_lower.specs.Forms.{is_built_in, is_asked, are_parts, is_query, is_stmt, are_stmts, is_body, are_arms, is_item, are_built}
 use Rattle.dg_lower.specs.Goals.{Scope, term_of, listed, values_in, terms_of, equation, built_in_goal, query_goal, asked, unit, stmt_goals, lists, arm_goals, body_goals}
 use Rattle.dg_lower.specs.Goals as lowered
 use Rattle.dg_lower.specs.declared.forms.Zone.TheVariants.{Rewritten}

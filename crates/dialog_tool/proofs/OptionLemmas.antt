@@ -1,5 +1,5 @@
 -- Two words more of a command line are an option and its word.
-use Rattle.std.proofs.Common.{◌≡◌, ◌≤◌, ◌-◌, ℕ, List, [], ◌∷◌, Option, Some, String, Global, length, take, drop, get_or, refl, sym, ◌∙◌, ap, arith}
+use Rattle.std.proofs.Common.{◌≡◌, ◌≤◌, ◌-◌, List, [], ◌∷◌, Some, String, Global, length, take, drop, get_or, ◌∙◌, ap, arith}
 use Rattle.std.specs.Prelude.{string_bytes}
 use Rattle.std.specs.Option.{option_and_then}
 use Rattle.dialog_tool.specs.Command.{texts, Values, with_option, values_behind}

@@ -1,12 +1,12 @@
 -- What is built in a source is built once its heads are plain.
-use Rattle.std.proofs.Common.{◌≡◌, ℕ, List, [], ◌∷◌, ◌++◌, ◌&&◌, ◌||◌, ◌+◌, Bool, true, false, Option, Some, None, refl, sym, ◌∙◌, ap, subst}
+use Rattle.std.proofs.Common.{◌≡◌, ℕ, List, [], ◌∷◌, ◌++◌, ◌&&◌, ◌||◌, ◌+◌, Bool, true, false, Option, Some, None, refl, ◌∙◌, ap}
 use Rattle.std.specs.Prelude.{if◌then◌else◌}
 use Rattle.std.proofs.lemmas.Bool.{and_parts, and_from}
 use Rattle.dg_base.specs.Heads.{part_name, parts_behind, name_of}
 use Rattle.dg_base.specs.Names.{builtin_named}
 use Rattle.dg_base.specs.Tree as tree
 use Rattle.dg_base.specs.Tree.{Part, Parts, Value, Values, Stmt, Stmts, Body, Arms, Said, Item}
-use Rattle.dg_access.specs.Plain.{Setting, topic_value, first_value, standing_for, choice_name, new_in_value, new_in_values, new_in_parts, new_in_part, new_in_stmt, new_in_stmts, new_in_body, new_in_arms, plain_value, plain_values, plain_parts, plain_part, plain_stmt, plain_stmts, plain_body, plain_arms, word_branches, puts_of_value, puts_of_values, puts_of_parts, puts_of_part, in_front, whole_body, put_before, rule_body}
+use Rattle.dg_access.specs.Plain.{Setting, topic_value, first_value, choice_name, new_in_value, new_in_values, new_in_parts, new_in_part, new_in_stmt, new_in_stmts, new_in_body, new_in_arms, plain_value, plain_values, plain_parts, plain_part, plain_stmt, plain_stmts, plain_body, plain_arms, word_branches, puts_of_value, puts_of_values, puts_of_parts, in_front, whole_body, put_before, rule_body}
 use Rattle.dg_access.specs.Items.{in_rule, plain_said, topic_behind, plain_items}
 use Rattle.dg_access.specs.Rewritten.{is_access, has_access}
 use Rattle.dg_lower.specs.Forms.{is_asked, are_parts, is_value, are_values, is_query, is_stmt, are_stmts, is_body, are_arms, is_rule, is_item, first_unbuilt, are_built}

@@ -48,6 +48,25 @@ const USAGE: &str =
 
 const ORDER: &str = "(a) x (b)\n(a) y\n(b) (c)\n(program entry point) (a) z\n";
 
+const ANSWERS: &str = "(p 1)\n(p 2)\n(program entry point) { *(p $X) $X (fail) (or) done }\n";
+
+const FIRST_ANSWER: &str = "(p 1)\n(p 2)\n(program entry point) { (p $X) $X (fail) (or) done }\n";
+
+const CUT: &str =
+    "(p) *(q $X) (just) $X (fail)\n(p) second\n(q 1)\n(q 2)\n(program entry point) (if) (p) (then) yes (else) no (endif)\n";
+
+const CUT_CONDITION: &str =
+    "(p) (if) (just) (fail) (then) a (else) b (endif)\n(p) c\n(program entry point) (if) (p) (then) y (else) n (endif)\n";
+
+const FOREVER: &str = "(program entry point) (repeat forever) x (fail)\n";
+
+const GROWING: &str = "(p $X) x (p [a | $X])\n(program entry point) (p [])\n";
+
+const CHOICE: &str =
+    "(perform [take/get $X]) took $X\n(program entry point) (perform [get lamp])\n";
+
+const NESTED: &str = "(q 1)\n(q 2)\n(p (q $X)) $X\n(program entry point) *(p 2)\n";
+
 #[test]
 fn sources_give_their_transcript(rt: HostRuntime) -> Result<(), Fail> {
     let cases = [
@@ -61,6 +80,31 @@ fn sources_give_their_transcript(rt: HostRuntime) -> Result<(), Fail> {
         ("debug p.dg --steps 4", ORDER, 3, "x\n[Step limit]\n"),
         ("debug p.dg --steps 6", ORDER, 3, "x y\n[Step limit]\n"),
         ("debug p.dg --steps 007", ORDER, 0, "x y z\n"),
+        ("debug p.dg", ANSWERS, 0, "1 2 done\n"),
+        ("debug p.dg", FIRST_ANSWER, 0, "1 done\n"),
+        ("debug p.dg", CUT, 0, "1 no\n"),
+        ("debug p.dg", CUT_CONDITION, 0, "n\n"),
+        ("debug p.dg --steps 7", FOREVER, 3, "x x\n[Step limit]\n"),
+        (
+            "debug p.dg --heap 33 --trail 5",
+            GROWING,
+            3,
+            "x x x\n[Heap limit]\n",
+        ),
+        ("debug p.dg", CHOICE, 0, "took lamp\n"),
+        ("debug p.dg", NESTED, 0, "2\n"),
+        (
+            "debug p.dg",
+            "(program entry point) (if) ($X = [a | $X]) (then) yes (else) no (endif)",
+            0,
+            "no\n",
+        ),
+        (
+            "debug p.dg",
+            "(program entry point) ([$A 2] = [1 $B]) $A $B",
+            0,
+            "1 2\n",
+        ),
         (
             "debug p.dg",
             "(program entry point) \\(x\\) %% a comment",
@@ -136,23 +180,19 @@ fn sources_and_words_are_refused(rt: HostRuntime) -> Result<(), Fail> {
         ),
         (
             "debug p.dg",
-            "(program entry point) $X",
-            1,
-            "p.dg:1: not built yet\n",
-        ),
-        (
-            "debug p.dg",
-            "(a) b\n(c)\n  (fail)",
+            "(a) b\n(c)\n  (now) (a)",
             1,
             "p.dg:2: not built yet\n",
         ),
         ("debug", "", 2, USAGE),
         ("debug p.dg --steps 0", ORDER, 2, USAGE),
         ("debug p.dg --steps 1000000000001", ORDER, 2, USAGE),
-        ("debug p.dg --steps 1 --steps 1", ORDER, 2, USAGE),
+        ("debug p.dg --heap 16000001", ORDER, 2, USAGE),
+        ("debug p.dg --heap 1 --heap 1", ORDER, 2, USAGE),
         ("debug p.dg --dice 1", ORDER, 2, USAGE),
         ("build p.dg p.z8", ORDER, 2, USAGE),
         ("play p.dg", ORDER, 4, "p.dg: story too short\n"),
+        ("play p.dg --heap 1", ORDER, 2, USAGE),
     ];
     for (line, source, status, text) in cases {
         gives(

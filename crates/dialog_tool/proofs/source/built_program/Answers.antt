@@ -15,4 +15,4 @@ lower-requires c = rw c.in-Ok.ensures.rewritten.1 (items_built None (tree_view c
 pub returns-in-Ok-lower-clause-built : goal.returns-in-Ok-lower-clause-built
 returns-in-Ok-lower-clause-built c =
     subst IsBuilt (sym c.in-Ok-lower.ensures.core)
-    (core_built (names_view c.args.names) _ (rw c.in-Ok.ensures.rewritten.1 (items_built None (tree_view c.args.tree) c.requires)))
+    (core_built (names_view c.args.names) (tree_view c.in-Ok.plain) (rw c.in-Ok.ensures.rewritten.1 (items_built None (tree_view c.args.tree) c.requires)))
