@@ -148,7 +148,7 @@ module _ (old : Engine) (frame : Frame) (others : Left) (count : ℕ) (place : P
           let hold = hold_front st.back.store old.refs.items st.is.hold in
           let are : the_others g r ≡ branches_of g (values_in st.back.store old.refs.items) fs (length fs) others r =
           branches_same g (length fs) (length old.refs.items) (values_in st.back.store old.refs.items) (values_in s old.refs.items) fs fs others r (within_left (length fs) (length old.refs.items) others left) sound.frames
-              (values_kept (length old.refs.items) st.back.store s old.refs.items old.refs.items st.is.kept hold refl) (same_here (length fs) fs) in
+          (values_kept (length old.refs.items) st.back.store s old.refs.items old.refs.items st.is.kept hold refl) (same_here (length fs) fs) in
           subst (λ l. AreChoices g old.refs.items fs l (saved_if count st.back st.saved) (lives_of g r st.lives st.ways)) (sym kept)
           (kept_choices g old.refs.items fs o os st.back st.saved st.lives r (kind_of all) st.ways (the_others g r) count (counted ∙ branches_count g (values_in s old.refs.items) fs (length fs) others r) are (sym with.kind) st.tag st.back_agrees hold st.is.place_is st.choices)
 
@@ -178,7 +178,7 @@ module _ (old : Engine) (frame : Frame) (others : Left) (count : ℕ) (place : P
             let r = st.registers in
             let v = begun (inside heap r) with.work w in
             let same = at_same (length old.refs.items) (values_in s old.refs.items) (values_in s1 old.refs.items) fs fs (length fs) frame is
-                (values_kept (length old.refs.items) s s1 old.refs.items old.refs.items k1 (hold_front s old.refs.items sound.hold) refl) sound.frames (same_here (length fs) fs) in
+            (values_kept (length old.refs.items) s s1 old.refs.items old.refs.items k1 (hold_front s old.refs.items sound.hold) refl) sound.frames (same_here (length fs) fs) in
             record {
               world = v;
               adds = record { prints_are = sym (append-nil (prints w.events)); typed = refl; quiet = quiet };

@@ -138,8 +138,8 @@ not_opens goals old =
     let t = old.here.tag in
     opens (Not goals.now) old (ap terms_held (outs-Not goals.now)) _ refl
     (λ g r w same tag.
-        ap (λ f. outcome g f env t (steps_of old) r w) (outs-Not goals.now)
-        ∙ ap (λ k. Chooses Plain r.next_tag (enter 10 0 r (goals_at env t goals.now ++ Refuse k ∷ [])) (enter 0 0 r (steps_of old) ∷ []) w) tag)
+    ap (λ f. outcome g f env t (steps_of old) r w) (outs-Not goals.now)
+    ∙ ap (λ k. Chooses Plain r.next_tag (enter 10 0 r (goals_at env t goals.now ++ Refuse k ∷ [])) (enter 0 0 r (steps_of old) ∷ []) w) tag)
 
 -- ## The endless choice
 
@@ -152,8 +152,8 @@ pub forever_opens : (again : Frame) (old : Engine) → IsAgain again old → Lea
 forever_opens again old is =
     opens Forever old (ap terms_held outs-Forever) _ refl
     (λ g r w same tag.
-        ap (λ f. outcome g f (values_of old old.here.env) old.here.tag (steps_of old) r w) outs-Forever
-        ∙ ap (λ l. Chooses Plain r.next_tag (enter 10 0 r (steps_of old)) (enter 0 0 r l ∷ []) w) (sym (again_steps again old is)))
+    ap (λ f. outcome g f (values_of old old.here.env) old.here.tag (steps_of old) r w) outs-Forever
+    ∙ ap (λ l. Chooses Plain r.next_tag (enter 10 0 r (steps_of old)) (enter 0 0 r l ∷ []) w) (sym (again_steps again old is)))
 
 -- ## A choice between lists
 
@@ -163,8 +163,8 @@ either_opens lists old is =
     let t = old.here.tag in
     opens (Either lists.now) old (ap terms_held (outs-Either lists.now)) _ refl
     (λ g r w same tag.
-        ap (λ f. outcome g f env t (steps_of old) r w) (outs-Either lists.now)
-        ∙ ap (λ l. choice Plain r.next_tag (list_branches env t l r lists.now) w) (sym is))
+    ap (λ f. outcome g f env t (steps_of old) r w) (outs-Either lists.now)
+    ∙ ap (λ l. choice Plain r.next_tag (list_branches env t l r lists.now) w) (sym is))
 
 pub no_lists : {A : Type 0} (xs : List A) → length xs ≤ 0 → xs ≡ []
 no_lists [] h = refl
@@ -200,10 +200,10 @@ if_opens test first other old k all older =
     let steps = steps_of old in
     opens (If test.now first.now other.now) old (ap terms_held (outs-If test.now first.now other.now)) _ refl
     (λ g r w same tag.
-        ap (λ f. outcome g f env t steps r w) (outs-If test.now first.now other.now)
-        ∙ ap (λ i. Chooses Plain r.next_tag (enter 10 0 r (goals_at env t test.now ++ Cut i ∷ (goals_at env t first.now ++ steps))) (enter 0 0 r (goals_at env t other.now ++ steps) ∷ []) w) tag
-        ∙ ap (λ l. Chooses Plain r.next_tag (enter 10 0 r (goals_at env t test.now ++ Cut (old.newest + 1) ∷ l)) (enter 0 0 r (goals_at env t other.now ++ steps) ∷ []) w) (sym all)
-        ∙ ap (λ l. Chooses Plain r.next_tag (enter 10 0 r (goals_at env t test.now ++ Cut (old.newest + 1) ∷ behind_all old)) (enter 0 0 r (goals_at env t other.now ++ l) ∷ []) w) (sym older))
+    ap (λ f. outcome g f env t steps r w) (outs-If test.now first.now other.now)
+    ∙ ap (λ i. Chooses Plain r.next_tag (enter 10 0 r (goals_at env t test.now ++ Cut i ∷ (goals_at env t first.now ++ steps))) (enter 0 0 r (goals_at env t other.now ++ steps) ∷ []) w) tag
+    ∙ ap (λ l. Chooses Plain r.next_tag (enter 10 0 r (goals_at env t test.now ++ Cut (old.newest + 1) ∷ l)) (enter 0 0 r (goals_at env t other.now ++ steps) ∷ []) w) (sym all)
+    ∙ ap (λ l. Chooses Plain r.next_tag (enter 10 0 r (goals_at env t test.now ++ Cut (old.newest + 1) ∷ behind_all old)) (enter 0 0 r (goals_at env t other.now ++ l) ∷ []) w) (sym older))
 
 -- the frames of a condition, where the engine goes on behind both
 abbrev pub test_frame : Bor (List Goal) → Engine → Frame

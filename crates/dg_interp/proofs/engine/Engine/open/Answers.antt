@@ -33,7 +33,7 @@ returns-in-Err-back-clause-full c =
     let e = record old { store = c.mark-place.new.self; newest = old.newest + 1 } in
     let k = c.mark-place.ensures.kept in
     let wrong = went_wrong_from (OpensAt c.args.left old) (BeginsAt c.args.left c.mark-place.result e) old e c.begin.new.self refl (opened_limits old c.args.left c.mark-place.result c.mark-place.new.self c.requires.ready k c.mark-place.ensures.same c.mark-place.ensures.saved)
-        (opens_begins old c.args.left c.mark-place.result c.mark-place.new.self c.requires.ready k c.mark-place.ensures.same c.mark-place.ensures.saved (are_left _ _ c.args.left c.requires.left)) (rw c.in-Ok-false.field-0-test at c.in-Ok-false.ensures.tried) in
+    (opens_begins old c.args.left c.mark-place.result c.mark-place.new.self c.requires.ready k c.mark-place.ensures.same c.mark-place.ensures.saved (are_left _ _ c.args.left c.requires.left)) (rw c.in-Ok-false.field-0-test at c.in-Ok-false.ensures.tried) in
     full_from (OpensAt c.args.left old) (FailsAt c.begin.new.self) (store_in old.store) (store_in c.begin.new.self.store) c.in-Err-back.e wrong.limits.heap wrong.limits.trail wrong.leads c.in-Err-back.ensures.full
 
 pub returns-in-Ok-clause-opened : goal.returns-in-Ok-clause-opened
@@ -42,5 +42,5 @@ returns-in-Ok-clause-opened c =
     let e = record old { store = c.mark-place.new.self; newest = old.newest + 1 } in
     let k = c.mark-place.ensures.kept in
     let wrong = went_wrong_from (OpensAt c.args.left old) (BeginsAt c.args.left c.mark-place.result e) old e c.begin.new.self refl (opened_limits old c.args.left c.mark-place.result c.mark-place.new.self c.requires.ready k c.mark-place.ensures.same c.mark-place.ensures.saved)
-        (opens_begins old c.args.left c.mark-place.result c.mark-place.new.self c.requires.ready k c.mark-place.ensures.same c.mark-place.ensures.saved (are_left _ _ c.args.left c.requires.left)) (rw c.in-Ok-false.field-0-test at c.in-Ok-false.ensures.tried) in
+    (opens_begins old c.args.left c.mark-place.result c.mark-place.new.self c.requires.ready k c.mark-place.ensures.same c.mark-place.ensures.saved (are_left _ _ c.args.left c.requires.left)) (rw c.in-Ok-false.field-0-test at c.in-Ok-false.ensures.tried) in
     goes_back_from (OpensAt c.args.left old) (FailsAt c.begin.new.self) old c.begin.new.self c.back.new.self wrong.left wrong.limits wrong.leads c.in-Ok.found c.in-Ok.ensures.back
