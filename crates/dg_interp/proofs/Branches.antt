@@ -1,6 +1,6 @@
 -- The newest choice is tried again.
 use Rattle.std.proofs.Common.{◌≡◌, ℕ, ◌+◌, ◌<◌, List, [], ◌∷◌, ◌++◌, Bool, true, false, refl, sym, ap, ◌∙◌, subst, arith, length, take, length-take}
-use Rattle.std.specs.Prelude.{reverse}
+use Rattle.std.specs.Prelude.{reverse, Result as Answer, Ok, Err, IfOk, IfErr, OnOk, MatchResult}
 use Rattle.std.specs.List.{All}
 use Rattle.std.specs.declared.vec.Vec.{Vec}
 use Rattle.std.specs.declared.alloc.Global.{Global}
@@ -235,3 +235,29 @@ refused_on A old between wrong new h j k =
 pub goes_back_from : (A B : Point) (old mid new : Engine) → mid.left ≡ old.left → SameLimits old mid → Leads A B → (found : Bool) → GoesBack B found mid new → Branches A found old new
 goes_back_from A B old between new left limits h true k = went_on_from A B old between new left limits h k.0
 goes_back_from A B old between new left limits h false k = ended_from A B Failing old between new left h k
+
+-- ## What a call answers
+
+pub on_ok : {T E : Type 0} {P Q : Type 0} (r : Answer T E) → (P → Q) → OnOk r P → OnOk r Q
+on_ok (Ok x) f h = f h
+on_ok (Err e) f h = tt
+
+pub on_err : {T E : Type 0} {P Q : E → Type 0} (r : Answer T E) → ((e : E) → P e → Q e) → IfErr r P → IfErr r Q
+on_err (Ok x) f h = tt
+on_err (Err e) f h = f e h
+
+pub match_ok : {A T E : Type 0} {Q : T → Type 0} (P : A → T → Type 0) (N : A → E → Type 0) (r : Answer T E) → ((x : T) → ((a : A) → P a x) → Q x) → ((a : A) → MatchResult r (P a) (N a)) → IfOk r Q
+match_ok P N (Ok x) f h = f x h
+match_ok P N (Err e) f h = tt
+
+pub match_err : {A T E : Type 0} {Q : E → Type 0} (P : A → T → Type 0) (N : A → E → Type 0) (r : Answer T E) → ((e : E) → ((a : A) → N a e) → Q e) → ((a : A) → MatchResult r (P a) (N a)) → IfErr r Q
+match_err P N (Ok x) f h = tt
+match_err P N (Err e) f h = f e h
+
+pub full_made : (A B : Point) (s t : Store) (r : Answer Bool Full) → t.heap_limit ≡ s.heap_limit → t.trail_limit ≡ s.trail_limit → Leads A B → IfErr r (λ e. FullAt B t e) → IfErr r (λ e. FullAt A s e)
+full_made A B s t (Ok found) same same' h f = tt
+full_made A B s t (Err e) same same' h f = full_from A B s t e same same' h f
+
+pub back_made : (A B : Point) (old mid new : Engine) → mid.left ≡ old.left → SameLimits old mid → Leads A B → (r : Answer Bool Full) → IfOk r (λ found. GoesBack B found mid new) → IfOk r (λ found. Branches A found old new)
+back_made A B old between new left limits h (Ok found) k = goes_back_from A B old between new left limits h found k
+back_made A B old between new left limits h (Err e) k = tt

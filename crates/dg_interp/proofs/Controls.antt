@@ -1,6 +1,6 @@
 -- What choices between goals come to.
 use Rattle.std.proofs.Common.{◌≡◌, ℕ, ◌+◌, ◌^◌, ◌<◌, ◌≤◌, List, [], ◌∷◌, ◌++◌, Bool, true, false, refl, sym, ap, ◌∙◌, subst, arith, length, length-append, Bor}
-use Rattle.std.specs.Prelude.{reverse}
+use Rattle.std.specs.Prelude.{reverse, Result as Answer, Ok, Err, IfOk}
 use Rattle.std.specs.List.{All}
 use Rattle.dg_base.specs.declared.program.Goal.{Goal, out-Goal}
 use Rattle.dg_base.specs.declared.program.Goal.TheVariants.{Either, Once, Not, If, Forever, outs-Either, outs-Once, outs-Not, outs-If, outs-Forever}
@@ -34,9 +34,10 @@ use Rattle.dg_interp.proofs.Branches.{went_on_from, ended_from}
 use Rattle.dg_interp.proofs.Opens.{agrees_here, opens, pushed_behind, pushed_same, pushed_takes}
 use Rattle.dg_interp.proofs.Stores.{values_kept, hold_front}
 
-pub branches_from : (A B : Point) (old mid new : Engine) → mid.left ≡ old.left → SameLimits old mid → Leads A B → (found : Bool) → Branches B found mid new → Branches A found old new
-branches_from A B old between new left limits h true k = went_on_from A B old between new left limits h k
-branches_from A B old between new left limits h false k = ended_from A B Failing old between new left h k
+pub branches_made : (A B : Point) (old mid new : Engine) → mid.left ≡ old.left → SameLimits old mid → Leads A B → (r : Answer Bool Full) → IfOk r (λ found. Branches B found mid new) → IfOk r (λ found. Branches A found old new)
+branches_made A B old between new left limits h (Ok true) k = went_on_from A B old between new left limits h k
+branches_made A B old between new left limits h (Ok false) k = ended_from A B Failing old between new left h k
+branches_made A B old between new left limits h (Err e) k = tt
 
 -- ## What built goals hold
 

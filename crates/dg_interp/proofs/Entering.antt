@@ -1,5 +1,6 @@
 -- A rule is entered in a store.
 use Rattle.std.proofs.Common.{◌≡◌, ◌+◌, ◌-◌, ◌<◌, List, [], ◌++◌, Bool, sym, ap, ◌∙◌, subst, arith, length, map, take, drop, length-append}
+use Rattle.std.specs.Prelude.{Result as Answer, Ok, Err, MatchResult}
 use Rattle.std.specs.List.{All, zip}
 use Rattle.std.proofs.Math.Seq.{drop-append_seam}
 use Rattle.dg_base.specs.declared.program.Rule.{Rule}
@@ -8,7 +9,7 @@ use Rattle.dg_meaning.specs.Values.{Value, value_of}
 use Rattle.dg_meaning.specs.Unify.{Unified, solve}
 use Rattle.dg_meaning.specs.Cells.{cells}
 use Rattle.dg_meaning.specs.Moves.{new_vars}
-use Rattle.dg_unify.specs.Store.{State, Store, told, Holds, Kept, Charged, Does, UnifyFull, trail_of}
+use Rattle.dg_unify.specs.Store.{State, Store, told, Holds, Kept, Charged, Does, UnifyFull, Follows, trail_of}
 use Rattle.dg_unify.specs.declared.bindings.Ref.{Ref}
 use Rattle.dg_unify.specs.declared.bindings.Full.{Full}
 use Rattle.dg_unify.specs.declared.bindings.Full.TheVariants as full
@@ -94,6 +95,10 @@ module _ (program : CoreProgram) (rule : Rule) (refs behind vars before head : L
       (subst (λ (t : State). s.trail_limit + trail_of t.since t.subst < t.trail + trail_of t.since (solve s3.state.subst (zip (map (told s3) (stretch behind env)) (map (told s3) head))).subst) state_is
       (subst (λ n. n + trail_of s3.state.since s3.state.subst < s3.state.trail + trail_of s3.state.since (solve s3.state.subst (zip (map (told s3) (stretch behind env)) (map (told s3) head))).subst) kept.trail_limit h))
   rule_full full.OutOfMemory h = tt
+
+  pub rule_does : (s4 : Store) (r : Answer Bool Full) → Kept s3 s4 → Follows s3 s4 (solve s3.state.subst (zip (map (told s3) (stretch behind env)) (map (told s3) head))) r → MatchResult r (λ found. EntersRule program rule (values_in s refs env) s s4 refs behind found) (RuleFull program rule (values_in s refs env) s)
+  rule_does s4 (Ok found) k4 h = rule_entered s4 found k4 h
+  rule_does s4 (Err e) k4 h = rule_full e h
 
 -- its head takes more than is left
 pub head_full : (program : CoreProgram) (rule : Rule) (args : List Value) (refs behind : List Ref) (s s1 s2 : Store) (e : Full) → Charged 6 s s1 → Kept s s1 → MadeVars rule.vars s1 s2 refs behind → Kept s1 s2 → Overflows (cells program rule.head) s2 e → RuleFull program rule args s e

@@ -144,10 +144,7 @@ fn enter(
     if let Err(e) = write_terms(store, &refs[from..], rule.head.as_slice(), head) {
         return Err(e);
     }
-    match unify_all(store, stretch(refs, args), head.as_slice()) {
-        Ok(found) => Ok(found),
-        Err(e) => Err(e),
-    }
+    unify_all(store, stretch(refs, args), head.as_slice())
 }
 
 /// Puts the values of the arguments of a query behind the Refs.
@@ -408,10 +405,7 @@ impl<'p> Engine<'p> {
             behind: self.frames.len(),
         };
         let count = others.len();
-        match self.begin_frame(frame, Left::Lists(env, tag, others), count, place) {
-            Ok(()) => Ok(()),
-            Err(e) => Err(e),
-        }
+        self.begin_frame(frame, Left::Lists(env, tag, others), count, place)
     }
 
     /// Begins the first of the branches left, with all frames behind it; false where it has failed there.
@@ -425,10 +419,7 @@ impl<'p> Engine<'p> {
         ensures left { self.new.left ≡ self.old.left }
     {
         match left {
-            Left::Rules(query, args, rules) => match self.begin_rule(query, args, rules, place) {
-                Ok(begun) => Ok(begun),
-                Err(e) => Err(e),
-            },
+            Left::Rules(query, args, rules) => self.begin_rule(query, args, rules, place),
             Left::Lists(env, tag, lists) => match self.begin_list(env, tag, lists, place) {
                 Ok(()) => Ok(true),
                 Err(e) => Err(e),
@@ -517,10 +508,7 @@ impl<'p> Engine<'p> {
         match self.begin(left, place) {
             Err(e) => Err(e),
             Ok(true) => Ok(true),
-            Ok(false) => match self.back() {
-                Err(e) => Err(e),
-                Ok(found) => Ok(found),
-            },
+            Ok(false) => self.back(),
         }
     }
 
@@ -558,10 +546,7 @@ impl<'p> Engine<'p> {
             Ok(args) => {
                 let rules = rules_of(self.program, query.pred);
                 if rules.is_empty() {
-                    return match self.back() {
-                        Err(e) => Err(e),
-                        Ok(found) => Ok(found),
-                    };
+                    return self.back();
                 }
                 if let Err(_) = self.frames.push(self.here) {
                     return Err(Full::OutOfMemory);
@@ -571,10 +556,7 @@ impl<'p> Engine<'p> {
                 match self.begin_rule(query, args, rules, place) {
                     Err(e) => Err(e),
                     Ok(true) => Ok(true),
-                    Ok(false) => match self.back() {
-                        Err(e) => Err(e),
-                        Ok(found) => Ok(found),
-                    },
+                    Ok(false) => self.back(),
                 }
             }
         }
@@ -587,10 +569,7 @@ impl<'p> Engine<'p> {
         ensures full { IfErr result (λ e. FullAt (TakesAt FailGoal self.old) (store_in self.old.store) e) }
         ensures left { self.new.left ≡ self.old.left }
     {
-        match self.back() {
-            Err(e) => Err(e),
-            Ok(found) => Ok(found),
-        }
+        self.back()
     }
 
     /// Drops the choices inside the rule at hand.
@@ -609,15 +588,12 @@ impl<'p> Engine<'p> {
         ensures full { IfErr result (λ e. FullAt (TakesAt (PrintGoal term.now) self.old) (store_in self.old.store) e) }
         ensures left { self.new.left ≡ self.old.left }
     {
-        match write_term(
+        write_term(
             &mut self.store,
             stretch(&self.refs, self.here.env),
             term,
             &mut self.made,
-        ) {
-            Err(e) => Err(e),
-            Ok(value) => Ok(value),
-        }
+        )
     }
 
     /// Prints the value that stands at a Ref.
@@ -647,10 +623,7 @@ impl<'p> Engine<'p> {
             Ok((left, right)) => match unify(&mut self.store, left, right) {
                 Err(e) => Err(e),
                 Ok(true) => Ok(true),
-                Ok(false) => match self.back() {
-                    Err(e) => Err(e),
-                    Ok(found) => Ok(found),
-                },
+                Ok(false) => self.back(),
             },
         }
     }
@@ -674,10 +647,7 @@ impl<'p> Engine<'p> {
                 if test(&self.store, kind, value) {
                     return Ok(true);
                 }
-                match self.back() {
-                    Err(e) => Err(e),
-                    Ok(found) => Ok(found),
-                }
+                self.back()
             }
         }
     }

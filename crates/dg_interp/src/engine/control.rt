@@ -20,17 +20,11 @@ impl<'p> Engine<'p> {
         ensures left { self.new.left ≡ self.old.left }
     {
         if lists.is_empty() {
-            return match self.back() {
-                Err(e) => Err(e),
-                Ok(found) => Ok(found),
-            };
+            return self.back();
         }
         match self.push(self.here) {
             Err(e) => Err(e),
-            Ok(()) => match self.open(Left::Lists(self.here.env, self.here.tag, lists)) {
-                Err(e) => Err(e),
-                Ok(found) => Ok(found),
-            },
+            Ok(()) => self.open(Left::Lists(self.here.env, self.here.tag, lists)),
         }
     }
 
@@ -74,10 +68,7 @@ impl<'p> Engine<'p> {
             behind: 0,
             ..self.here
         };
-        match self.open(Left::Ways(first, self.here)) {
-            Err(e) => Err(e),
-            Ok(found) => Ok(found),
-        }
+        self.open(Left::Ways(first, self.here))
     }
 
     /// Goes on with some goals where a test has an answer, and with others where it has none; false where the run has
@@ -120,10 +111,7 @@ impl<'p> Engine<'p> {
             behind,
             ..self.here
         };
-        match self.open(Left::Ways(test, other)) {
-            Err(e) => Err(e),
-            Ok(found) => Ok(found),
-        }
+        self.open(Left::Ways(test, other))
     }
 
     /// Goes on, and again from this frame each time that it goes back here.
@@ -135,9 +123,6 @@ impl<'p> Engine<'p> {
         ensures full { IfErr result (λ e. FullAt (TakesAt ForeverGoal self.old) (store_in self.old.store) e) }
         ensures left { self.new.left ≡ self.old.left }
     {
-        match self.open(Left::Ways(self.here, again)) {
-            Err(e) => Err(e),
-            Ok(found) => Ok(found),
-        }
+        self.open(Left::Ways(self.here, again))
     }
 }

@@ -2,7 +2,7 @@ use Rattle.std.proofs.Common.{◌<◌, ◌≤◌, ◌+◌, refl, length, rules}
 use Rattle.dg_base.specs.declared.program.Goal.TheVariants.{Ask}
 use Rattle.dg_interp.specs.declared.frames.Left.TheVariants.{Rules}
 use Rattle.dg_interp.specs.Engine.{store_in, FailsAt, TakesAt, BeginsAt}
-use Rattle.dg_interp.proofs.Branches.{went_on_from, went_wrong_from, full_from, goes_back_from}
+use Rattle.dg_interp.proofs.Branches.{went_on_from, went_wrong_from, full_from, full_made, back_made}
 use Rattle.dg_interp.proofs.Asks.{args_full, nothing_in, failing_sound, ask_limits, asks_none, asking_sound, asking_left, asking_place, asking_limits, asks_some}
 use Rattle.dg_interp.proofs.engine.Engine.ask.Goals as goal
 
@@ -14,24 +14,24 @@ back-requires c = record {
   sound = failing_sound c.args.self.now c.args.query c.args.terms.now c.write_args.new.store c.write_args.new.refs c.write_args.new.made c.in-Ok.args c.requires.ready c.write_args.ensures.kept c.write_args.ensures.saved c.in-Ok.ensures.written c.rules_of-rules.result c.rules_of-rules.ensures;
 }
 
-pub returns-in-Err-back-clause-full : goal.returns-in-Err-back-clause-full
-returns-in-Err-back-clause-full c =
+pub returns-then-is_empty-clause-full : goal.returns-then-is_empty-clause-full
+returns-then-is_empty-clause-full c =
     let x = Ask c.args.query.pred c.args.terms.now c.args.query.many in
     let e = record c.args.self.now { store = c.write_args.new.store; refs = c.write_args.new.refs; made = c.write_args.new.made } in
     let none : length c.rules_of-rules.result.now ≤ 0 = search rules in
-    full_from (TakesAt x c.args.self.now) (FailsAt e) (store_in c.args.self.now.store) (store_in c.write_args.new.store) c.in-Err-back.e c.write_args.ensures.kept.heap_limit c.write_args.ensures.kept.trail_limit
+    full_made (TakesAt x c.args.self.now) (FailsAt e) (store_in c.args.self.now.store) (store_in c.write_args.new.store) c.back.result c.write_args.ensures.kept.heap_limit c.write_args.ensures.kept.trail_limit
     (asks_none c.args.self.now c.args.query c.args.terms.now c.write_args.new.store c.write_args.new.refs c.write_args.new.made c.in-Ok.args c.requires.ready c.write_args.ensures.kept c.write_args.ensures.saved c.in-Ok.ensures.written c.rules_of-rules.result c.rules_of-rules.ensures (nothing_in c.rules_of-rules.result.now none))
-    c.in-Err-back.ensures.full
+    c.back.ensures.full
 
-pub returns-in-Ok-back-clause-asked : goal.returns-in-Ok-back-clause-asked
-returns-in-Ok-back-clause-asked c =
+pub returns-then-is_empty-clause-asked : goal.returns-then-is_empty-clause-asked
+returns-then-is_empty-clause-asked c =
     let x = Ask c.args.query.pred c.args.terms.now c.args.query.many in
     let e = record c.args.self.now { store = c.write_args.new.store; refs = c.write_args.new.refs; made = c.write_args.new.made } in
     let none : length c.rules_of-rules.result.now ≤ 0 = search rules in
-    goes_back_from (TakesAt x c.args.self.now) (FailsAt e) c.args.self.now e c.back.new.self refl
+    back_made (TakesAt x c.args.self.now) (FailsAt e) c.args.self.now e c.back.new.self refl
     (ask_limits c.args.self.now c.args.query c.args.terms.now c.write_args.new.store c.write_args.new.refs c.write_args.new.made c.in-Ok.args c.requires.ready c.write_args.ensures.kept c.write_args.ensures.saved c.in-Ok.ensures.written c.rules_of-rules.result c.rules_of-rules.ensures)
     (asks_none c.args.self.now c.args.query c.args.terms.now c.write_args.new.store c.write_args.new.refs c.write_args.new.made c.in-Ok.args c.requires.ready c.write_args.ensures.kept c.write_args.ensures.saved c.in-Ok.ensures.written c.rules_of-rules.result c.rules_of-rules.ensures (nothing_in c.rules_of-rules.result.now none))
-    c.in-Ok-back.found c.in-Ok-back.ensures.back
+    c.back.result c.back.ensures.back
 
 pub begin_rule-requires-clause-sound : goal.begin_rule-requires-clause-sound
 begin_rule-requires-clause-sound c =
@@ -69,8 +69,8 @@ returns-in-Ok-true-clause-asked c =
     (asks_some c.args.self.now c.args.query c.args.terms.now c.write_args.new.store c.write_args.new.refs c.write_args.new.made c.in-Ok.args c.requires.ready c.write_args.ensures.kept c.write_args.ensures.saved c.in-Ok.ensures.written c.rules_of-rules.result c.rules_of-rules.ensures c.mark-place.result c.push.new.self c.mark-place.new.self
     c.in_default.ensures.items c.mark-place.ensures.kept c.mark-place.ensures.same c.mark-place.ensures.saved) (rw c.in-Ok-true.field-0-test at c.in-Ok-true.ensures.tried)
 
-pub returns-in-Err-back-2-clause-full : goal.returns-in-Err-back-2-clause-full
-returns-in-Err-back-2-clause-full c =
+pub returns-in-Ok-false-clause-full : goal.returns-in-Ok-false-clause-full
+returns-in-Ok-false-clause-full c =
     let x = Ask c.args.query.pred c.args.terms.now c.args.query.many in
     let e = record c.args.self.now { store = c.mark-place.new.self; refs = c.write_args.new.refs; made = c.write_args.new.made; frames = c.push.new.self; newest = c.args.self.now.newest + 1 } in
     let limits = asking_limits c.args.self.now c.args.query c.args.terms.now c.write_args.new.store c.write_args.new.refs c.write_args.new.made c.in-Ok.args c.requires.ready c.write_args.ensures.kept c.write_args.ensures.saved c.in-Ok.ensures.written c.rules_of-rules.result c.rules_of-rules.ensures c.mark-place.result c.push.new.self c.mark-place.new.self
@@ -78,10 +78,10 @@ returns-in-Err-back-2-clause-full c =
     let wrong = went_wrong_from (TakesAt x c.args.self.now) (BeginsAt (Rules c.args.query c.in-Ok.args c.rules_of-rules.result) c.mark-place.result e) c.args.self.now e c.begin_rule.new.self refl limits
     (asks_some c.args.self.now c.args.query c.args.terms.now c.write_args.new.store c.write_args.new.refs c.write_args.new.made c.in-Ok.args c.requires.ready c.write_args.ensures.kept c.write_args.ensures.saved c.in-Ok.ensures.written c.rules_of-rules.result c.rules_of-rules.ensures c.mark-place.result c.push.new.self c.mark-place.new.self
     c.in_default.ensures.items c.mark-place.ensures.kept c.mark-place.ensures.same c.mark-place.ensures.saved) (rw c.in-Ok-false.field-0-test at c.in-Ok-false.ensures.tried) in
-    full_from (TakesAt x c.args.self.now) (FailsAt c.begin_rule.new.self) (store_in c.args.self.now.store) (store_in c.begin_rule.new.self.store) c.in-Err-back-2.e wrong.limits.heap wrong.limits.trail wrong.leads c.in-Err-back-2.ensures.full
+    full_made (TakesAt x c.args.self.now) (FailsAt c.begin_rule.new.self) (store_in c.args.self.now.store) (store_in c.begin_rule.new.self.store) c.back-in-Ok-false.result wrong.limits.heap wrong.limits.trail wrong.leads c.back-in-Ok-false.ensures.full
 
-pub returns-in-Ok-back-2-clause-asked : goal.returns-in-Ok-back-2-clause-asked
-returns-in-Ok-back-2-clause-asked c =
+pub returns-in-Ok-false-clause-asked : goal.returns-in-Ok-false-clause-asked
+returns-in-Ok-false-clause-asked c =
     let x = Ask c.args.query.pred c.args.terms.now c.args.query.many in
     let e = record c.args.self.now { store = c.mark-place.new.self; refs = c.write_args.new.refs; made = c.write_args.new.made; frames = c.push.new.self; newest = c.args.self.now.newest + 1 } in
     let limits = asking_limits c.args.self.now c.args.query c.args.terms.now c.write_args.new.store c.write_args.new.refs c.write_args.new.made c.in-Ok.args c.requires.ready c.write_args.ensures.kept c.write_args.ensures.saved c.in-Ok.ensures.written c.rules_of-rules.result c.rules_of-rules.ensures c.mark-place.result c.push.new.self c.mark-place.new.self
@@ -89,4 +89,4 @@ returns-in-Ok-back-2-clause-asked c =
     let wrong = went_wrong_from (TakesAt x c.args.self.now) (BeginsAt (Rules c.args.query c.in-Ok.args c.rules_of-rules.result) c.mark-place.result e) c.args.self.now e c.begin_rule.new.self refl limits
     (asks_some c.args.self.now c.args.query c.args.terms.now c.write_args.new.store c.write_args.new.refs c.write_args.new.made c.in-Ok.args c.requires.ready c.write_args.ensures.kept c.write_args.ensures.saved c.in-Ok.ensures.written c.rules_of-rules.result c.rules_of-rules.ensures c.mark-place.result c.push.new.self c.mark-place.new.self
     c.in_default.ensures.items c.mark-place.ensures.kept c.mark-place.ensures.same c.mark-place.ensures.saved) (rw c.in-Ok-false.field-0-test at c.in-Ok-false.ensures.tried) in
-    goes_back_from (TakesAt x c.args.self.now) (FailsAt c.begin_rule.new.self) c.args.self.now c.begin_rule.new.self c.back-in-Ok-false.new.self wrong.left wrong.limits wrong.leads c.in-Ok-back-2.found c.in-Ok-back-2.ensures.back
+    back_made (TakesAt x c.args.self.now) (FailsAt c.begin_rule.new.self) c.args.self.now c.begin_rule.new.self c.back-in-Ok-false.new.self wrong.left wrong.limits wrong.leads c.back-in-Ok-false.result c.back-in-Ok-false.ensures.back

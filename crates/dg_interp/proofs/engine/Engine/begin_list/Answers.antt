@@ -3,6 +3,7 @@ use Rattle.std.specs.List.{All}
 use Rattle.dg_meaning.specs.Built.{AreBuilt}
 use Rattle.dg_interp.specs.declared.frames.Left.TheVariants.{Lists}
 use Rattle.dg_interp.proofs.Turns.{all_first, all_rest, first_and_rest}
+use Rattle.dg_interp.proofs.Branches.{on_ok, on_err}
 use Rattle.dg_interp.proofs.BeginFrames.{list_begins_at}
 use Rattle.dg_interp.proofs.engine.Engine.begin_list.Goals as goal
 
@@ -19,16 +20,16 @@ begin_frame-requires-clause-others c =
     let split = first_and_rest all c.list-item.result (length all - 1) c.requires.left.0 c.list-item.is (omega arith) in
     (all_rest AreBuilt c.list-item.result (take (length all - 1) (drop 1 all)) (subst (All AreBuilt) split c.requires.left.1), c.requires.left.2)
 
-pub returns-in-Ok-clause-begun : goal.returns-in-Ok-clause-begun
-returns-in-Ok-clause-begun c =
+pub returns-clause-begun : goal.returns-clause-begun
+returns-clause-begun c =
     let all = c.args.lists.now in
     let at : c.len.result ≡ length c.args.self.now.frames.items = search rules in
-    c.in-Ok.ensures.begun (Lists c.args.env c.args.tag c.args.lists)
-    (list_begins_at (length c.args.self.now.frames.items) c.len.result c.args.env c.args.tag c.args.lists _ c.as_slice.result c.list-item.result at (first_and_rest all c.list-item.result (length all - 1) c.requires.left.0 c.list-item.is (omega arith)) c.as_slice.ensures)
+    on_ok c.begin_frame.result (λ h. h (Lists c.args.env c.args.tag c.args.lists)
+    (list_begins_at (length c.args.self.now.frames.items) c.len.result c.args.env c.args.tag c.args.lists _ c.as_slice.result c.list-item.result at (first_and_rest all c.list-item.result (length all - 1) c.requires.left.0 c.list-item.is (omega arith)) c.as_slice.ensures)) c.begin_frame.ensures.begun
 
-pub returns-in-Err-clause-full : goal.returns-in-Err-clause-full
-returns-in-Err-clause-full c =
+pub returns-clause-full : goal.returns-clause-full
+returns-clause-full c =
     let all = c.args.lists.now in
     let at : c.len.result ≡ length c.args.self.now.frames.items = search rules in
-    c.in-Err.ensures.full (Lists c.args.env c.args.tag c.args.lists)
-    (list_begins_at (length c.args.self.now.frames.items) c.len.result c.args.env c.args.tag c.args.lists _ c.as_slice.result c.list-item.result at (first_and_rest all c.list-item.result (length all - 1) c.requires.left.0 c.list-item.is (omega arith)) c.as_slice.ensures)
+    on_err c.begin_frame.result (λ e h. h (Lists c.args.env c.args.tag c.args.lists)
+    (list_begins_at (length c.args.self.now.frames.items) c.len.result c.args.env c.args.tag c.args.lists _ c.as_slice.result c.list-item.result at (first_and_rest all c.list-item.result (length all - 1) c.requires.left.0 c.list-item.is (omega arith)) c.as_slice.ensures)) c.begin_frame.ensures.full

@@ -2,8 +2,8 @@ use Rattle.std.proofs.Common.{rules, ◌≡◌, ◌∙◌, length}
 use Rattle.dg_base.specs.declared.program.Goal.TheVariants.{If}
 use Rattle.dg_interp.specs.declared.frames.Left.TheVariants.{Ways}
 use Rattle.dg_interp.specs.Engine.{store_in, TakesAt, OpensAt, IsPushed}
-use Rattle.dg_interp.proofs.Branches.{full_from}
-use Rattle.dg_interp.proofs.Controls.{branches_from, pushed_room, twice, then_frame, test_frame, other_frame, branch_opens, branch_left}
+use Rattle.dg_interp.proofs.Branches.{full_made}
+use Rattle.dg_interp.proofs.Controls.{branches_made, pushed_room, twice, then_frame, test_frame, other_frame, branch_opens, branch_left}
 use Rattle.dg_interp.proofs.engine.Engine.branch.Goals as goal
 
 pub open-requires-clause-room : goal.open-requires-clause-room
@@ -26,8 +26,8 @@ open-requires-clause-left c =
     let b = c.requires.built in
     rw h (rw h2 (branch_left c.args.test c.args.first c.args.other old between e c.requires.ready b.0 b.1 b.2 c.in_default.ensures.pushed q))
 
-pub returns-in-Err-open-clause-full : goal.returns-in-Err-open-clause-full
-returns-in-Err-open-clause-full c =
+pub returns-clause-full : goal.returns-clause-full
+returns-clause-full c =
     let old = c.args.self.now in
     let between = c.push.new.self in
     let e = c.push-2.new.self in
@@ -36,11 +36,11 @@ returns-in-Err-open-clause-full c =
     let q : IsPushed (then_frame c.args.first between) between e = rw h at c.in_default-push.ensures.pushed in
     let t = twice c.args.first old between e c.requires.ready c.requires.built.1 c.in_default.ensures.pushed q in
     let x = If c.args.test.now c.args.first.now c.args.other.now in
-    full_from (TakesAt x old) (OpensAt (Ways (test_frame c.args.test e) (other_frame c.args.other between e)) e) (store_in old.store) (store_in e.store) c.in-Err-open.e t.limits.heap t.limits.trail
-    (branch_opens c.args.test c.args.first c.args.other old between e c.requires.ready c.requires.built.1 c.in_default.ensures.pushed q) (rw h at (rw h2 at c.in-Err-open.ensures.full))
+    full_made (TakesAt x old) (OpensAt (Ways (test_frame c.args.test e) (other_frame c.args.other between e)) e) (store_in old.store) (store_in e.store) c.open.result t.limits.heap t.limits.trail
+    (branch_opens c.args.test c.args.first c.args.other old between e c.requires.ready c.requires.built.1 c.in_default.ensures.pushed q) (rw h at (rw h2 at c.open.ensures.full))
 
-pub returns-in-Ok-clause-done : goal.returns-in-Ok-clause-done
-returns-in-Ok-clause-done c =
+pub returns-clause-done : goal.returns-clause-done
+returns-clause-done c =
     let old = c.args.self.now in
     let between = c.push.new.self in
     let e = c.push-2.new.self in
@@ -49,5 +49,5 @@ returns-in-Ok-clause-done c =
     let q : IsPushed (then_frame c.args.first between) between e = rw h at c.in_default-push.ensures.pushed in
     let t = twice c.args.first old between e c.requires.ready c.requires.built.1 c.in_default.ensures.pushed q in
     let x = If c.args.test.now c.args.first.now c.args.other.now in
-    branches_from (TakesAt x old) (OpensAt (Ways (test_frame c.args.test e) (other_frame c.args.other between e)) e) old e c.open.new.self (c.push-2.ensures.left ∙ c.push.ensures.left) t.limits
-    (branch_opens c.args.test c.args.first c.args.other old between e c.requires.ready c.requires.built.1 c.in_default.ensures.pushed q) c.in-Ok.found (rw h at (rw h2 at c.in-Ok.ensures.opened))
+    branches_made (TakesAt x old) (OpensAt (Ways (test_frame c.args.test e) (other_frame c.args.other between e)) e) old e c.open.new.self (c.push-2.ensures.left ∙ c.push.ensures.left) t.limits
+    (branch_opens c.args.test c.args.first c.args.other old between e c.requires.ready c.requires.built.1 c.in_default.ensures.pushed q) c.open.result (rw h at (rw h2 at c.open.ensures.opened))

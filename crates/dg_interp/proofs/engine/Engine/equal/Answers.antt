@@ -7,7 +7,7 @@ use Rattle.dg_interp.proofs.Stores.{kept_on}
 use Rattle.dg_interp.proofs.Values.{grown_limits}
 use Rattle.dg_interp.proofs.BothLemmas.{no_program, both_among}
 use Rattle.dg_interp.proofs.Equals.{equal_full, equal_trail_full, equal_passed, equal_failed}
-use Rattle.dg_interp.proofs.Branches.{full_from, goes_back_from}
+use Rattle.dg_interp.proofs.Branches.{full_made, back_made}
 use Rattle.dg_interp.proofs.engine.Engine.equal.Goals as goal
 
 pub returns-in-Err-clause-full : goal.returns-in-Err-clause-full
@@ -37,22 +37,22 @@ back-requires c =
     let old = c.args.self.now in
     record { sound = store_sound old c.unify.new.store c.write_both.new.stack (kept_on (store_in old.store) (store_in c.write_both.new.store) (store_in c.unify.new.store) c.write_both.ensures.kept c.unify.ensures.kept) (λ ms h. c.unify.ensures.saved ms (c.write_both.ensures.saved ms h)) c.requires.ready.sound }
 
-pub returns-in-Err-back-clause-full : goal.returns-in-Err-back-clause-full
-returns-in-Err-back-clause-full c =
+pub returns-in-Ok-false-clause-full : goal.returns-in-Ok-false-clause-full
+returns-in-Ok-false-clause-full c =
     let old = c.args.self.now in
     let k = kept_on (store_in old.store) (store_in c.write_both.new.store) (store_in c.unify.new.store) c.write_both.ensures.kept c.unify.ensures.kept in
     let e = record old { store = c.unify.new.store; made = c.write_both.new.stack } in
-    full_from (TakesAt (Equal c.args.a.now c.args.b.now) old) (FailsAt e) (store_in old.store) (store_in c.unify.new.store) c.in-Err-back.e k.heap_limit k.trail_limit
+    full_made (TakesAt (Equal c.args.a.now c.args.b.now) old) (FailsAt e) (store_in old.store) (store_in c.unify.new.store) c.back.result k.heap_limit k.trail_limit
     (equal_failed c.args.a.now c.args.b.now old (store_in c.write_both.new.store) c.in-Ok.left c.in-Ok.right c.unify.new.store c.write_both.new.stack c.requires.ready old.store.sound.fits.sound k (λ ms h. c.unify.ensures.saved ms (c.write_both.ensures.saved ms h))
-    (λ program. both_among program _ _ _ _ _ _ old.refs.items c.stretch-env.result.now old.here.env (c.stretch-env.ensures ∙ ap (λ l. stretch l old.here.env) c.deref.ensures.value) (c.in-Ok.ensures.written program)) c.in-Ok-false.field-0 c.in-Ok-false.ensures.unified c.in-Ok-false.field-0-test) c.in-Err-back.ensures.full
+    (λ program. both_among program _ _ _ _ _ _ old.refs.items c.stretch-env.result.now old.here.env (c.stretch-env.ensures ∙ ap (λ l. stretch l old.here.env) c.deref.ensures.value) (c.in-Ok.ensures.written program)) c.in-Ok-false.field-0 c.in-Ok-false.ensures.unified c.in-Ok-false.field-0-test) c.back.ensures.full
 
-pub returns-in-Ok-back-clause-equal : goal.returns-in-Ok-back-clause-equal
-returns-in-Ok-back-clause-equal c =
+pub returns-in-Ok-false-clause-equal : goal.returns-in-Ok-false-clause-equal
+returns-in-Ok-false-clause-equal c =
     let old = c.args.self.now in
     let x = Equal c.args.a.now c.args.b.now in
     let k = kept_on (store_in old.store) (store_in c.write_both.new.store) (store_in c.unify.new.store) c.write_both.ensures.kept c.unify.ensures.kept in
     let e = record old { store = c.unify.new.store; made = c.write_both.new.stack } in
-    goes_back_from (TakesAt x old) (FailsAt e) old e c.back.new.self refl
+    back_made (TakesAt x old) (FailsAt e) old e c.back.new.self refl
     (grown_limits x old c.unify.new.store c.write_both.new.stack c.requires.ready k (λ ms h. c.unify.ensures.saved ms (c.write_both.ensures.saved ms h)))
     (equal_failed c.args.a.now c.args.b.now old (store_in c.write_both.new.store) c.in-Ok.left c.in-Ok.right c.unify.new.store c.write_both.new.stack c.requires.ready old.store.sound.fits.sound k (λ ms h. c.unify.ensures.saved ms (c.write_both.ensures.saved ms h))
-    (λ program. both_among program _ _ _ _ _ _ old.refs.items c.stretch-env.result.now old.here.env (c.stretch-env.ensures ∙ ap (λ l. stretch l old.here.env) c.deref.ensures.value) (c.in-Ok.ensures.written program)) c.in-Ok-false.field-0 c.in-Ok-false.ensures.unified c.in-Ok-false.field-0-test) c.in-Ok-back.found c.in-Ok-back.ensures.back
+    (λ program. both_among program _ _ _ _ _ _ old.refs.items c.stretch-env.result.now old.here.env (c.stretch-env.ensures ∙ ap (λ l. stretch l old.here.env) c.deref.ensures.value) (c.in-Ok.ensures.written program)) c.in-Ok-false.field-0 c.in-Ok-false.ensures.unified c.in-Ok-false.field-0-test) c.back.result c.back.ensures.back

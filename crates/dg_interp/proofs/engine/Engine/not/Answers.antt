@@ -1,8 +1,8 @@
 use Rattle.std.proofs.Common.{refl, arith}
 use Rattle.dg_base.specs.declared.program.Goal.TheVariants.{Not}
 use Rattle.dg_interp.specs.Engine.{store_in, TakesAt, OpensAt}
-use Rattle.dg_interp.proofs.Branches.{full_from}
-use Rattle.dg_interp.proofs.Controls.{branches_from, not_opens}
+use Rattle.dg_interp.proofs.Branches.{full_made}
+use Rattle.dg_interp.proofs.Controls.{branches_made, not_opens}
 use Rattle.dg_interp.proofs.engine.Engine.not.Goals as goal
 
 pub open-requires-clause-left : goal.open-requires-clause-left
@@ -10,12 +10,12 @@ open-requires-clause-left c =
     let here = c.requires.ready.here in
     (record { built = c.requires.built; older = omega arith; env = here.env }, here)
 
-pub returns-in-Err-clause-full : goal.returns-in-Err-clause-full
-returns-in-Err-clause-full c =
+pub returns-clause-full : goal.returns-clause-full
+returns-clause-full c =
     let old = c.args.self.now in
-    full_from (TakesAt (Not c.args.goals.now) old) (OpensAt _ old) (store_in old.store) (store_in old.store) c.in-Err.e refl refl (not_opens c.args.goals old) c.in-Err.ensures.full
+    full_made (TakesAt (Not c.args.goals.now) old) (OpensAt _ old) (store_in old.store) (store_in old.store) c.open.result refl refl (not_opens c.args.goals old) c.open.ensures.full
 
-pub returns-in-Ok-clause-done : goal.returns-in-Ok-clause-done
-returns-in-Ok-clause-done c =
+pub returns-clause-done : goal.returns-clause-done
+returns-clause-done c =
     let old = c.args.self.now in
-    branches_from (TakesAt (Not c.args.goals.now) old) (OpensAt _ old) old old c.open.new.self refl (record { heap = refl; trail = refl }) (not_opens c.args.goals old) c.in-Ok.found c.in-Ok.ensures.opened
+    branches_made (TakesAt (Not c.args.goals.now) old) (OpensAt _ old) old old c.open.new.self refl (record { heap = refl; trail = refl }) (not_opens c.args.goals old) c.open.result c.open.ensures.opened

@@ -1,7 +1,7 @@
 use Rattle.std.proofs.Common.{refl, ◌+◌}
 use Rattle.dg_interp.specs.Engine.{store_in, OpensAt, BeginsAt, FailsAt}
 use Rattle.dg_interp.proofs.BeginFrames.{are_left}
-use Rattle.dg_interp.proofs.Branches.{went_on_from, went_wrong_from, full_from, goes_back_from}
+use Rattle.dg_interp.proofs.Branches.{went_on_from, went_wrong_from, full_from, full_made, back_made}
 use Rattle.dg_interp.proofs.Opens.{opened_place, opened_limits, opened_sound, opens_begins}
 use Rattle.dg_interp.proofs.engine.Engine.open.Goals as goal
 
@@ -27,20 +27,20 @@ returns-in-Ok-true-clause-opened c =
     went_on_from (OpensAt c.args.left old) (BeginsAt c.args.left c.mark-place.result e) old e c.begin.new.self refl (opened_limits old c.args.left c.mark-place.result c.mark-place.new.self c.requires.ready k c.mark-place.ensures.same c.mark-place.ensures.saved)
     (opens_begins old c.args.left c.mark-place.result c.mark-place.new.self c.requires.ready k c.mark-place.ensures.same c.mark-place.ensures.saved (are_left _ _ c.args.left c.requires.left)) (rw c.in-Ok-true.field-0-test at c.in-Ok-true.ensures.tried)
 
-pub returns-in-Err-back-clause-full : goal.returns-in-Err-back-clause-full
-returns-in-Err-back-clause-full c =
+pub returns-in-Ok-false-clause-full : goal.returns-in-Ok-false-clause-full
+returns-in-Ok-false-clause-full c =
     let old = c.args.self.now in
     let e = record old { store = c.mark-place.new.self; newest = old.newest + 1 } in
     let k = c.mark-place.ensures.kept in
     let wrong = went_wrong_from (OpensAt c.args.left old) (BeginsAt c.args.left c.mark-place.result e) old e c.begin.new.self refl (opened_limits old c.args.left c.mark-place.result c.mark-place.new.self c.requires.ready k c.mark-place.ensures.same c.mark-place.ensures.saved)
     (opens_begins old c.args.left c.mark-place.result c.mark-place.new.self c.requires.ready k c.mark-place.ensures.same c.mark-place.ensures.saved (are_left _ _ c.args.left c.requires.left)) (rw c.in-Ok-false.field-0-test at c.in-Ok-false.ensures.tried) in
-    full_from (OpensAt c.args.left old) (FailsAt c.begin.new.self) (store_in old.store) (store_in c.begin.new.self.store) c.in-Err-back.e wrong.limits.heap wrong.limits.trail wrong.leads c.in-Err-back.ensures.full
+    full_made (OpensAt c.args.left old) (FailsAt c.begin.new.self) (store_in old.store) (store_in c.begin.new.self.store) c.back.result wrong.limits.heap wrong.limits.trail wrong.leads c.back.ensures.full
 
-pub returns-in-Ok-clause-opened : goal.returns-in-Ok-clause-opened
-returns-in-Ok-clause-opened c =
+pub returns-in-Ok-false-clause-opened : goal.returns-in-Ok-false-clause-opened
+returns-in-Ok-false-clause-opened c =
     let old = c.args.self.now in
     let e = record old { store = c.mark-place.new.self; newest = old.newest + 1 } in
     let k = c.mark-place.ensures.kept in
     let wrong = went_wrong_from (OpensAt c.args.left old) (BeginsAt c.args.left c.mark-place.result e) old e c.begin.new.self refl (opened_limits old c.args.left c.mark-place.result c.mark-place.new.self c.requires.ready k c.mark-place.ensures.same c.mark-place.ensures.saved)
     (opens_begins old c.args.left c.mark-place.result c.mark-place.new.self c.requires.ready k c.mark-place.ensures.same c.mark-place.ensures.saved (are_left _ _ c.args.left c.requires.left)) (rw c.in-Ok-false.field-0-test at c.in-Ok-false.ensures.tried) in
-    goes_back_from (OpensAt c.args.left old) (FailsAt c.begin.new.self) old c.begin.new.self c.back.new.self wrong.left wrong.limits wrong.leads c.in-Ok.found c.in-Ok.ensures.back
+    back_made (OpensAt c.args.left old) (FailsAt c.begin.new.self) old c.begin.new.self c.back.new.self wrong.left wrong.limits wrong.leads c.back.result c.back.ensures.back

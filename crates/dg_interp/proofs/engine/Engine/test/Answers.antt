@@ -6,7 +6,7 @@ use Rattle.dg_interp.specs.Engine.{store_in, FailsAt, TakesAt}
 use Rattle.dg_interp.proofs.Takes.{store_sound}
 use Rattle.dg_interp.proofs.Values.{grown_limits, test_full, test_passed, test_failed, made_among}
 use Rattle.dg_interp.proofs.BothLemmas.{made_holds}
-use Rattle.dg_interp.proofs.Branches.{full_from, goes_back_from}
+use Rattle.dg_interp.proofs.Branches.{full_made, back_made}
 use Rattle.dg_interp.proofs.engine.Engine.test.Goals as goal
 
 no_program : CoreProgram
@@ -27,21 +27,21 @@ returns-then-test-clause-tested c =
     (λ program. made_among program [] _ _ _ c.args.self.now.refs.items c.stretch.result.now c.args.self.now.here.env c.in-Ok.value c.args.term.now (c.stretch.ensures ∙ ap (λ l. stretch l c.args.self.now.here.env) c.deref.ensures.value) (c.in-Ok.ensures.written program))
     (sym c.if-test.true ∙ c.test.ensures)
 
-pub returns-in-Err-back-clause-full : goal.returns-in-Err-back-clause-full
-returns-in-Err-back-clause-full c =
+pub returns-else-test-clause-full : goal.returns-else-test-clause-full
+returns-else-test-clause-full c =
     let x = Test c.args.kind c.args.term.now in
     let e = record c.args.self.now { store = c.write_term.new.store; made = c.write_term.new.stack } in
-    full_from (TakesAt x c.args.self.now) (FailsAt e) (store_in c.args.self.now.store) (store_in c.write_term.new.store) c.in-Err-back.e c.write_term.ensures.kept.heap_limit c.write_term.ensures.kept.trail_limit
+    full_made (TakesAt x c.args.self.now) (FailsAt e) (store_in c.args.self.now.store) (store_in c.write_term.new.store) c.back.result c.write_term.ensures.kept.heap_limit c.write_term.ensures.kept.trail_limit
     (test_failed c.args.kind c.args.term.now c.args.self.now c.write_term.new.store c.write_term.new.stack c.in-Ok.value c.requires.ready c.write_term.ensures.kept c.write_term.ensures.saved
     (λ program. made_among program [] _ _ _ c.args.self.now.refs.items c.stretch.result.now c.args.self.now.here.env c.in-Ok.value c.args.term.now (c.stretch.ensures ∙ ap (λ l. stretch l c.args.self.now.here.env) c.deref.ensures.value) (c.in-Ok.ensures.written program))
-    (sym c.if-test.false ∙ c.test.ensures)) c.in-Err-back.ensures.full
+    (sym c.if-test.false ∙ c.test.ensures)) c.back.ensures.full
 
-pub returns-in-Ok-back-clause-tested : goal.returns-in-Ok-back-clause-tested
-returns-in-Ok-back-clause-tested c =
+pub returns-else-test-clause-tested : goal.returns-else-test-clause-tested
+returns-else-test-clause-tested c =
     let x = Test c.args.kind c.args.term.now in
     let e = record c.args.self.now { store = c.write_term.new.store; made = c.write_term.new.stack } in
-    goes_back_from (TakesAt x c.args.self.now) (FailsAt e) c.args.self.now e c.back.new.self refl
+    back_made (TakesAt x c.args.self.now) (FailsAt e) c.args.self.now e c.back.new.self refl
     (grown_limits x c.args.self.now c.write_term.new.store c.write_term.new.stack c.requires.ready c.write_term.ensures.kept c.write_term.ensures.saved)
     (test_failed c.args.kind c.args.term.now c.args.self.now c.write_term.new.store c.write_term.new.stack c.in-Ok.value c.requires.ready c.write_term.ensures.kept c.write_term.ensures.saved
     (λ program. made_among program [] _ _ _ c.args.self.now.refs.items c.stretch.result.now c.args.self.now.here.env c.in-Ok.value c.args.term.now (c.stretch.ensures ∙ ap (λ l. stretch l c.args.self.now.here.env) c.deref.ensures.value) (c.in-Ok.ensures.written program))
-    (sym c.if-test.false ∙ c.test.ensures)) c.in-Ok-back.found c.in-Ok-back.ensures.back
+    (sym c.if-test.false ∙ c.test.ensures)) c.back.result c.back.ensures.back
