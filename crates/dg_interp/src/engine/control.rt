@@ -22,10 +22,8 @@ impl<'p> Engine<'p> {
         if lists.is_empty() {
             return self.back();
         }
-        match self.push(self.here) {
-            Err(e) => Err(e),
-            Ok(()) => self.open(Left::Lists(self.here.env, self.here.tag, lists)),
-        }
+        self.push(self.here)?;
+        self.open(Left::Lists(self.here.env, self.here.tag, lists))
     }
 
     /// Takes the first answer of goals.
@@ -37,9 +35,7 @@ impl<'p> Engine<'p> {
         ensures full { IfErr result (λ e. FullAt (TakesAt (OnceGoal goals.entry.now) self.old) (store_in self.old.store) e) }
         ensures left { self.new.left ≡ self.old.left }
     {
-        if let Err(e) = self.push(self.here) {
-            return Err(e);
-        }
+        self.push(self.here)?;
         if let Err(e) = self.store.charge(10) {
             return Err(e);
         }
@@ -86,9 +82,7 @@ impl<'p> Engine<'p> {
         ensures full { IfErr result (λ e. FullAt (TakesAt (IfGoal test.entry.now first.entry.now other.entry.now) self.old) (store_in self.old.store) e) }
         ensures left { self.new.left ≡ self.old.left }
     {
-        if let Err(e) = self.push(self.here) {
-            return Err(e);
-        }
+        self.push(self.here)?;
         let behind = self.frames.len();
         let first = Frame {
             goals: first,
@@ -96,9 +90,7 @@ impl<'p> Engine<'p> {
             behind,
             ..self.here
         };
-        if let Err(e) = self.push(first) {
-            return Err(e);
-        }
+        self.push(first)?;
         let test = Frame {
             goals: test,
             mark: Mark::CutTo(self.newest + 1),

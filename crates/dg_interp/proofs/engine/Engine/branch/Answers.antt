@@ -12,8 +12,8 @@ open-requires-clause-room c =
     let between = c.push.new.self in
     let e = c.push-2.new.self in
     let h : c.len-behind.result ≡ length between.frames.items = search rules in
-    let q : IsPushed (then_frame c.args.first between) between e = rw h at c.in_default-push.ensures.pushed in
-    pushed_room (then_frame c.args.first between) between e q (pushed_room old.here old between c.in_default.ensures.pushed c.requires.room)
+    let q : IsPushed (then_frame c.args.first between) between e = rw h at c.in_ok-push-2.ensures.pushed in
+    pushed_room (then_frame c.args.first between) between e q (pushed_room old.here old between c.in_ok-push.ensures.pushed c.requires.room)
 
 pub open-requires-clause-left : goal.open-requires-clause-left
 open-requires-clause-left c =
@@ -22,9 +22,9 @@ open-requires-clause-left c =
     let e = c.push-2.new.self in
     let h : c.len-behind.result ≡ length between.frames.items = search rules in
     let h2 : c.len.result ≡ length e.frames.items = search rules in
-    let q : IsPushed (then_frame c.args.first between) between e = rw h at c.in_default-push.ensures.pushed in
+    let q : IsPushed (then_frame c.args.first between) between e = rw h at c.in_ok-push-2.ensures.pushed in
     let b = c.requires.built in
-    rw h (rw h2 (branch_left c.args.test c.args.first c.args.other old between e c.requires.ready b.0 b.1 b.2 c.in_default.ensures.pushed q))
+    rw h (rw h2 (branch_left c.args.test c.args.first c.args.other old between e c.requires.ready b.0 b.1 b.2 c.in_ok-push.ensures.pushed q))
 
 pub returns-clause-full : goal.returns-clause-full
 returns-clause-full c =
@@ -33,11 +33,11 @@ returns-clause-full c =
     let e = c.push-2.new.self in
     let h : c.len-behind.result ≡ length between.frames.items = search rules in
     let h2 : c.len.result ≡ length e.frames.items = search rules in
-    let q : IsPushed (then_frame c.args.first between) between e = rw h at c.in_default-push.ensures.pushed in
-    let t = twice c.args.first old between e c.requires.ready c.requires.built.1 c.in_default.ensures.pushed q in
+    let q : IsPushed (then_frame c.args.first between) between e = rw h at c.in_ok-push-2.ensures.pushed in
+    let t = twice c.args.first old between e c.requires.ready c.requires.built.1 c.in_ok-push.ensures.pushed q in
     let x = If c.args.test.now c.args.first.now c.args.other.now in
     full_made (TakesAt x old) (OpensAt (Ways (test_frame c.args.test e) (other_frame c.args.other between e)) e) (store_in old.store) (store_in e.store) c.open.result t.limits.heap t.limits.trail
-    (branch_opens c.args.test c.args.first c.args.other old between e c.requires.ready c.requires.built.1 c.in_default.ensures.pushed q) (rw h at (rw h2 at c.open.ensures.full))
+    (branch_opens c.args.test c.args.first c.args.other old between e c.requires.ready c.requires.built.1 c.in_ok-push.ensures.pushed q) (rw h at (rw h2 at c.open.ensures.full))
 
 pub returns-clause-done : goal.returns-clause-done
 returns-clause-done c =
@@ -46,8 +46,8 @@ returns-clause-done c =
     let e = c.push-2.new.self in
     let h : c.len-behind.result ≡ length between.frames.items = search rules in
     let h2 : c.len.result ≡ length e.frames.items = search rules in
-    let q : IsPushed (then_frame c.args.first between) between e = rw h at c.in_default-push.ensures.pushed in
-    let t = twice c.args.first old between e c.requires.ready c.requires.built.1 c.in_default.ensures.pushed q in
+    let q : IsPushed (then_frame c.args.first between) between e = rw h at c.in_ok-push-2.ensures.pushed in
+    let t = twice c.args.first old between e c.requires.ready c.requires.built.1 c.in_ok-push.ensures.pushed q in
     let x = If c.args.test.now c.args.first.now c.args.other.now in
     branches_made (TakesAt x old) (OpensAt (Ways (test_frame c.args.test e) (other_frame c.args.other between e)) e) old e c.open.new.self (c.push-2.ensures.left ∙ c.push.ensures.left) t.limits
-    (branch_opens c.args.test c.args.first c.args.other old between e c.requires.ready c.requires.built.1 c.in_default.ensures.pushed q) c.open.result (rw h at (rw h2 at c.open.ensures.opened))
+    (branch_opens c.args.test c.args.first c.args.other old between e c.requires.ready c.requires.built.1 c.in_ok-push.ensures.pushed q) c.open.result (rw h at (rw h2 at c.open.ensures.opened))

@@ -19,25 +19,25 @@ returns-then-is_empty-clause-done c =
 pub open-requires-clause-left : goal.open-requires-clause-left
 open-requires-clause-left c =
     let some : 0 < length c.args.lists.now = search rules in
-    (some, c.requires.built, c.in-Ok.ensures.pushed.ready.here.env)
+    (some, c.requires.built, c.in_ok-push.ensures.pushed.ready.here.env)
 
 pub open-requires-clause-room : goal.open-requires-clause-room
-open-requires-clause-room c = pushed_room c.args.self.now.here c.args.self.now c.push.new.self c.in-Ok.ensures.pushed c.requires.room
+open-requires-clause-room c = pushed_room c.args.self.now.here c.args.self.now c.push.new.self c.in_ok-push.ensures.pushed c.requires.room
 
-pub returns-in-Ok-clause-full : goal.returns-in-Ok-clause-full
-returns-in-Ok-clause-full c =
+pub returns-clause-full : goal.returns-clause-full
+returns-clause-full c =
     let old = c.args.self.now in
     let e = c.push.new.self in
-    let b = pushed_means old.here old e c.requires.ready c.requires.ready.here c.in-Ok.ensures.pushed in
+    let b = pushed_means old.here old e c.requires.ready c.requires.ready.here c.in_ok-push.ensures.pushed in
     let left = Lists e.here.env e.here.tag c.args.lists in
     full_made (TakesAt (Either c.args.lists.now) old) (OpensAt left e) (store_in old.store) (store_in e.store) c.open.result b.limits.heap b.limits.trail
-    (pushed_leads (Either c.args.lists.now) old.here old e b (OpensAt left e) (either_opens c.args.lists e (pushed_here old e c.requires.ready c.in-Ok.ensures.pushed))) c.open.ensures.full
+    (pushed_leads (Either c.args.lists.now) old.here old e b (OpensAt left e) (either_opens c.args.lists e (pushed_here old e c.requires.ready c.in_ok-push.ensures.pushed))) c.open.ensures.full
 
-pub returns-in-Ok-clause-done : goal.returns-in-Ok-clause-done
-returns-in-Ok-clause-done c =
+pub returns-clause-done : goal.returns-clause-done
+returns-clause-done c =
     let old = c.args.self.now in
     let e = c.push.new.self in
-    let b = pushed_means old.here old e c.requires.ready c.requires.ready.here c.in-Ok.ensures.pushed in
+    let b = pushed_means old.here old e c.requires.ready c.requires.ready.here c.in_ok-push.ensures.pushed in
     let left = Lists e.here.env e.here.tag c.args.lists in
     branches_made (TakesAt (Either c.args.lists.now) old) (OpensAt left e) old e c.open.new.self c.push.ensures.left b.limits
-    (pushed_leads (Either c.args.lists.now) old.here old e b (OpensAt left e) (either_opens c.args.lists e (pushed_here old e c.requires.ready c.in-Ok.ensures.pushed))) c.open.result c.open.ensures.opened
+    (pushed_leads (Either c.args.lists.now) old.here old e b (OpensAt left e) (either_opens c.args.lists e (pushed_here old e c.requires.ready c.in_ok-push.ensures.pushed))) c.open.result c.open.ensures.opened

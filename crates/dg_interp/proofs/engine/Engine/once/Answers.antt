@@ -7,24 +7,24 @@ use Rattle.dg_interp.proofs.Branches.{full_from, went_on_from}
 use Rattle.dg_interp.proofs.Controls.{pushed_means, pushed_here, pushed_leads, pushed_room, stays, once_full, once_begun}
 use Rattle.dg_interp.proofs.engine.Engine.once.Goals as goal
 
-pub returns-in-Err-charge-clause-full : goal.returns-in-Err-charge-clause-full
-returns-in-Err-charge-clause-full c =
+pub returns-in-Err-clause-full : goal.returns-in-Err-clause-full
+returns-in-Err-clause-full c =
     let old = c.args.self.now in
     let e = c.push.new.self in
     let x = Once c.args.goals.now in
-    let p = c.in_default.ensures.pushed in
+    let p = c.in_ok-push.ensures.pushed in
     let b = pushed_means old.here old e c.requires.ready c.requires.ready.here p in
-    full_from (TakesAt x old) (TakesAt x e) (store_in old.store) (store_in e.store) c.in-Err-charge.e b.limits.heap b.limits.trail
-    (pushed_leads x old.here old e b (TakesAt x e) (stays (TakesAt x e))) (once_full c.args.goals e p.ready (pushed_here old e c.requires.ready p) c.in-Err-charge.e (store_in c.charge.new.self) c.in-Err-charge.ensures.made)
+    full_from (TakesAt x old) (TakesAt x e) (store_in old.store) (store_in e.store) c.in-Err.e b.limits.heap b.limits.trail
+    (pushed_leads x old.here old e b (TakesAt x e) (stays (TakesAt x e))) (once_full c.args.goals e p.ready (pushed_here old e c.requires.ready p) c.in-Err.e (store_in c.charge.new.self) c.in-Err.ensures.made)
 
 pub returns-clause-done : goal.returns-clause-done
 returns-clause-done c =
     let old = c.args.self.now in
     let e = c.push.new.self in
     let x = Once c.args.goals.now in
-    let p = c.in_default.ensures.pushed in
+    let p = c.in_ok-push.ensures.pushed in
     let b = pushed_means old.here old e c.requires.ready c.requires.ready.here p in
-    let k = c.in_default-charge.ensures in
+    let k = c.in_default.ensures in
     let first = record e.here { goals = c.args.goals; mark = CutTo (e.newest + 1); behind = length e.frames.items } in
     let is : IsFrame (length e.frames.items) (length e.refs.items) first = record { built = c.requires.built; older = omega arith; env = p.ready.here.env } in
     let new = record e { store = c.charge.new.self; newest = e.newest + 1; here = first } in
