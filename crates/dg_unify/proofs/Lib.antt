@@ -3,6 +3,7 @@ pub mod LinksLemmas
 pub mod SlotsLemmas
 pub mod Reading
 pub mod Stores
+pub mod FenceLemmas
 pub mod StoreLemmas
 pub mod PartsLemmas
 pub mod Tops

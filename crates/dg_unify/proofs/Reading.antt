@@ -35,7 +35,7 @@ word_letters : (a : Option (List ℕ)) → IsTold (word_told a) → (cs : List �
 word_letters None k = absurd k
 word_letters (Some cs) k = (cs, refl)
 
-part_split : (a : Option Value) (b : Option Values) (vs : Values) → and_part a b ≡ Some vs → (v : Value) × (ws : Values) × (a ≡ Some v) × (b ≡ Some ws) × (vs ≡ More v ws)
+pub part_split : (a : Option Value) (b : Option Values) (vs : Values) → and_part a b ≡ Some vs → (v : Value) × (ws : Values) × (a ≡ Some v) × (b ≡ Some ws) × (vs ≡ More v ws)
 part_split None b vs h = absurd (cc h)
 part_split (Some v) None vs h = absurd (cc h)
 part_split (Some v) (Some ws) vs h = (v, ws, refl, refl, cc)
@@ -62,7 +62,7 @@ no_part i NoMore le = refl
 no_part zero (More v vs) le = absurd (omega arith)
 no_part (suc i) (More v vs) le = no_part i vs (omega arith)
 
-captured_is : (go : ℕ → Option Value) (o : Option Slot) (v : Value) → captured_slot go o ≡ Some v → (q : Ref) × (o ≡ Some (slot.Captured q)) × (go q.0 ≡ Some v)
+pub captured_is : (go : ℕ → Option Value) (o : Option Slot) (v : Value) → captured_slot go o ≡ Some v → (q : Ref) × (o ≡ Some (slot.Captured q)) × (go q.0 ≡ Some v)
 captured_is go None v h = absurd (cc h)
 captured_is go (Some (slot.Captured r)) v h = (r, refl, h)
 captured_is go (Some (slot.Var n)) v h = absurd (cc h)

@@ -4,13 +4,13 @@ use Rattle.std.specs.Prelude.{eqb, nat_lt, if◌then◌else◌, map}
 use Rattle.std.specs.List.{slice_get}
 use Rattle.std.proofs.lemmas.Bool.{cond-true, cond-false, lt-ltb, le-ltb, cases_eq, eq-eqb, ne_eqb}
 use Rattle.std.proofs.lemmas.Option.{slice_get_within, get_or_from_slice_get}
-use Rattle.dg_meaning.specs.Values.{Unknown, Closure, Value, Node, Values, leaf, pair, parts_of}
+use Rattle.dg_meaning.specs.Values.{Unknown, Closure, Value, Var, Node, Values, leaf, pair, parts_of}
 use Rattle.dg_meaning.specs.Substitutions.{is_bound, FitsFront, IsSubstitution}
 use Rattle.dg_meaning.specs.Unifiers.{binding_of}
 use Rattle.dg_meaning.proofs.LookUps.{none_unbound, unbound_none, LooksUp, looks_up}
 use Rattle.dg_unify.specs.Store.{or_nil, IsTold}
 use Rattle.dg_unify.specs.Links.{to_of}
-use Rattle.dg_unify.specs.Slots.{pair_told, and_part, and_letter, captured_slot, letter_slot, captured_in, letters_in, closure_told, word_told, slot_value, ref_value, label_at, value_at, value_in, subst_of, AreTold, IsFew, Fits, captured_slots, letter_slots}
+use Rattle.dg_unify.specs.Slots.{pair_told, and_part, and_letter, captured_slot, letter_slot, captured_in, letters_in, closure_told, word_told, slot_value, ref_value, label_at, value_at, value_in, subst_of, AreTold, IsFew, Begins, Fits, captured_slots, letter_slots}
 use Rattle.dg_unify.specs.declared.bindings.Ref.{Ref}
 use Rattle.dg_unify.specs.declared.slots.Slot.{Slot}
 use Rattle.dg_unify.specs.declared.slots.Slot.TheVariants as slot
@@ -169,6 +169,14 @@ looks_to slots ls n q s h = looks_up (subst_of slots ls) n (or_nil (value_in slo
 
 -- ## What slots, bindings and variables keep
 
+at_slot : (slots : List Slot) (n r : ℕ) (x : Slot) → slice_get slots r ≡ Some x → r < 2147483648 → value_at slots (suc n) r ≡ slot_value (value_at slots n) slots r (Some x)
+at_slot slots n r x is lt = rw (lt-ltb r 2147483648 lt, is) refl
+
+pub new_slot : (slots extra : List Slot) (x : Slot) → length slots < 2147483648 → value_in (slots ++ x ∷ extra) (length slots) ≡ slot_value (value_at (slots ++ x ∷ extra) (length slots + length extra)) (slots ++ x ∷ extra) (length slots) (Some x)
+new_slot slots extra x lt =
+    let n : length (slots ++ x ∷ extra) ≡ suc (length slots + length extra) = omega (arith, length-append slots (x ∷ extra)) in
+    ap (λ k. value_at (slots ++ x ∷ extra) k (length slots)) n ∙ at_slot (slots ++ x ∷ extra) (length slots + length extra) (length slots) x (get_behind slots extra x) lt
+
 -- a slot that is no variable, with no more behind it than it may have
 abbrev pub IsPlain : Slot → Type 0
 IsPlain (slot.Var n) = ⊥
@@ -205,16 +213,51 @@ old_var : (slots extra : List Slot) → ArePlain extra → (i n : ℕ) → slice
 old_var slots extra none i n h =
     elim (get_either slots extra i (slot.Var n) h) [ inl e ↦ e | inr e ↦ absurd (plain_at extra none e.0 (slot.Var n) e.2) ]
 
-pub fits_more : (slots extra : List Slot) (ls : List Link) (vars : ℕ) → ArePlain extra → Fits slots ls vars → length slots + length extra ≤ 2147483648 → Fits (slots ++ extra) ls vars
-fits_more slots extra ls vars none b le = record {
-  sound = rw (subst_more slots extra ls b.told) b.sound;
-  told = told_more slots extra ls b.told;
+-- a slot that is part of a value
+abbrev IsInner : Slot → Type 0
+IsInner x = Begins x → ⊥
+
+abbrev pub AreInner : List Slot → Type 0
+AreInner [] = Unit {0}
+AreInner (x ∷ xs) = IsInner x × AreInner xs
+
+inner_at : (xs : List Slot) → AreInner xs → (j : ℕ) (x : Slot) → slice_get xs j ≡ Some x → Begins x → ⊥
+inner_at [] h j x e b = cc e
+inner_at (y ∷ xs) h zero x e b = let k : y ≡ x = cc in h.0 (subst Begins (sym k) b)
+inner_at (y ∷ xs) h (suc j) x e b = inner_at xs h.1 j x e b
+
+pub inner_captured : (rs : List Ref) → AreInner (captured_slots rs)
+inner_captured [] = tt
+inner_captured (r ∷ rs) = (λ h. h, inner_captured rs)
+
+pub inner_letters : (cs : List ℕ) → AreInner (letter_slots cs)
+inner_letters [] = tt
+inner_letters (c ∷ cs) = (λ h. h, inner_letters cs)
+
+behind_told : (slots extra : List Slot) (x : Slot) (i : ℕ) (y : Slot) → AreInner extra → IsTold (value_in (slots ++ x ∷ extra) (length slots)) → Begins y → (j : ℕ) → i ≡ length slots + j → slice_get (x ∷ extra) j ≡ Some y → IsTold (value_in (slots ++ x ∷ extra) i)
+behind_told slots extra x i y inner told begins zero is k = let e : length slots ≡ i = omega (arith, is) in subst (λ n. IsTold (value_in (slots ++ x ∷ extra) n)) e told
+behind_told slots extra x i y inner told begins (suc j) is k = absurd (inner_at extra inner j y k begins)
+
+-- one value more, in a slot with its parts behind it
+whole_more : (slots extra : List Slot) (x : Slot) (ls : List Link) (vars : ℕ) → Fits slots ls vars → AreInner extra → IsTold (value_in (slots ++ x ∷ extra) (length slots)) → (i : ℕ) (y : Slot) → slice_get (slots ++ x ∷ extra) i ≡ Some y → Begins y → IsTold (value_in (slots ++ x ∷ extra) i)
+whole_more slots extra x ls vars b inner told i y h begins =
+    let all = slots ++ x ∷ extra in
+    elim (get_either slots (x ∷ extra) i y h) [
+      | inl e ↦ some_told (value_in all i) (or_nil (value_in slots i)) (in_more slots (x ∷ extra) i (or_nil (value_in slots i)) (option_told (value_in slots i) (b.whole i y e begins)))
+      | inr e ↦ behind_told slots extra x i y inner told begins e.0 e.1 e.2
+    ]
+
+pub fits_more : (slots extra : List Slot) (x : Slot) (ls : List Link) (vars : ℕ) → ArePlain (x ∷ extra) → AreInner extra → IsTold (value_in (slots ++ x ∷ extra) (length slots)) → Fits slots ls vars → length slots + length (x ∷ extra) ≤ 2147483648 → Fits (slots ++ x ∷ extra) ls vars
+fits_more slots extra x ls vars none inner is_told b le = record {
+  sound = rw (subst_more slots (x ∷ extra) ls b.told) b.sound;
+  told = told_more slots (x ∷ extra) ls b.told;
   once = b.once;
-  below = λ i n h. b.below i n (old_var slots extra none i n h);
-  few = λ i x h. elim (get_either slots extra i x h) [ inl e ↦ b.few i x e | inr e ↦ plain_few x (plain_at extra none e.0 x e.2) ];
-  rising = λ i j m n hi hj lt. b.rising i j m n (old_var slots extra none i m hi) (old_var slots extra none j n hj) lt;
-  room = omega (arith, length-append slots extra);
-  fewer = omega (arith, length-append slots extra, b.fewer);
+  below = λ i n h. b.below i n (old_var slots (x ∷ extra) none i n h);
+  few = λ i y h. elim (get_either slots (x ∷ extra) i y h) [ inl e ↦ b.few i y e | inr e ↦ plain_few y (plain_at (x ∷ extra) none e.0 y e.2) ];
+  rising = λ i j m n hi hj lt. b.rising i j m n (old_var slots (x ∷ extra) none i m hi) (old_var slots (x ∷ extra) none j n hj) lt;
+  whole = whole_more slots extra x ls vars b inner is_told;
+  room = omega (arith, length-append slots (x ∷ extra));
+  fewer = omega (arith, length-append slots (x ∷ extra), b.fewer);
 }
 
 only_var : (k j n : ℕ) → slice_get (slot.Var k ∷ []) j ≡ Some (slot.Var n) → (j ≡ 0) × (k ≡ n)
@@ -236,6 +279,7 @@ fits_var slots ls vars b lt = record {
         | inr e ↦ let k = only_var vars e.0 n e.2 in omega (arith, k.1)
       ];
   few = λ i x h. elim (get_either slots (slot.Var vars ∷ []) i x h) [ inl e ↦ b.few i x e | inr e ↦ var_few vars e.0 x e.2 ];
+  whole = whole_more slots [] (slot.Var vars) ls vars b tt (some_told (value_in (slots ++ slot.Var vars ∷ []) (length slots)) (Var vars) (new_slot slots [] (slot.Var vars) lt));
   rising = λ i j m n hi hj lt'.
       elim (get_either slots (slot.Var vars ∷ []) i (slot.Var m) hi) [
         | inl a ↦
@@ -262,19 +306,12 @@ fits_link slots ls vars l b fits told lt = record {
   below = b.below;
   rising = b.rising;
   few = b.few;
+  whole = b.whole;
   room = b.room;
   fewer = b.fewer;
 }
 
 -- ## What new slots stand for
-
-at_slot : (slots : List Slot) (n r : ℕ) (x : Slot) → slice_get slots r ≡ Some x → r < 2147483648 → value_at slots (suc n) r ≡ slot_value (value_at slots n) slots r (Some x)
-at_slot slots n r x is lt = rw (lt-ltb r 2147483648 lt, is) refl
-
-pub new_slot : (slots extra : List Slot) (x : Slot) → length slots < 2147483648 → value_in (slots ++ x ∷ extra) (length slots) ≡ slot_value (value_at (slots ++ x ∷ extra) (length slots + length extra)) (slots ++ x ∷ extra) (length slots) (Some x)
-new_slot slots extra x lt =
-    let n : length (slots ++ x ∷ extra) ≡ suc (length slots + length extra) = omega (arith, length-append slots (x ∷ extra)) in
-    ap (λ k. value_at (slots ++ x ∷ extra) k (length slots)) n ∙ at_slot (slots ++ x ∷ extra) (length slots + length extra) (length slots) x (get_behind slots extra x) lt
 
 -- all these Refs stand for values
 abbrev pub AllTold : List Slot → List Ref → Type 0

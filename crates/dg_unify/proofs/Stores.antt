@@ -16,7 +16,7 @@ use Rattle.dg_unify.specs.declared.slots.Slot.TheVariants as slot
 use Rattle.dg_unify.specs.declared.slots.Link.{Link}
 use Rattle.dg_unify.specs.Laws.{place_of_var}
 use Rattle.dg_unify.proofs.Lists.{reverse_snoc}
-use Rattle.dg_unify.proofs.SlotsLemmas.{in_more, subst_more, unbound_is_none, ArePlain, fits_more, fits_var, fits_link, read_is, new_slot, new_pair, new_closure, new_word, values_of, each_told}
+use Rattle.dg_unify.proofs.SlotsLemmas.{in_more, subst_more, unbound_is_none, some_told, ArePlain, AreInner, fits_more, fits_var, fits_link, read_is, new_slot, new_pair, new_closure, new_word, values_of, each_told}
 
 -- ## More of what it keeps
 
@@ -139,11 +139,11 @@ fresh_sound f f' sound g ev room heap et =
       trail_fits = omega (arith, et, g.trail_limit, sound.trail_fits);
     }
 
-pub value_sound : (f f' : Fields) (extra : List Slot) → AreSound f → Grown f f' extra [] → ArePlain extra → f'.vars ≡ f.vars → length f.slots + length extra ≤ 2147483648 → f'.heap ≤ f'.heap_limit → f'.trail ≡ f.trail → AreSound f'
-value_sound f f' extra sound g plain ev room heap et =
+pub value_sound : (f f' : Fields) (x : Slot) (extra : List Slot) (v : Value) → AreSound f → Grown f f' (x ∷ extra) [] → ArePlain (x ∷ extra) → AreInner extra → value_in f'.slots (length f.slots) ≡ Some v → f'.vars ≡ f.vars → length f.slots + length (x ∷ extra) ≤ 2147483648 → f'.heap ≤ f'.heap_limit → f'.trail ≡ f.trail → AreSound f'
+value_sound f f' x extra v sound g plain inner value ev room heap et =
     let e : f'.log ≡ f.log = g.log ∙ append-nil f.log in
     record {
-      fits = rw (g.slots, e, ev) (fits_more f.slots extra (reverse f.log) f.vars plain sound.fits room);
+      fits = rw (g.slots, e, ev) (fits_more f.slots extra x (reverse f.log) f.vars plain inner (some_told (value_in (f.slots ++ x ∷ extra) (length f.slots)) v (rw g.slots at value)) sound.fits room);
       heap_fits = heap;
       trail_fits = omega (arith, et, g.trail_limit, sound.trail_fits);
     }

@@ -2,6 +2,7 @@ pub mod Store
 pub mod Links
 pub mod Linked
 pub mod Slots
+pub mod Fences
 pub mod Props
 pub mod Laws
 pub mod Ends

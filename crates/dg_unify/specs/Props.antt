@@ -6,11 +6,13 @@ use Rattle.dg_meaning.specs.Values.{Value}
 use Rattle.dg_meaning.specs.Substitutions.{Substitution, FitsFront, IsSubstitution}
 use Rattle.dg_unify.specs.Store.{IsTold}
 use Rattle.dg_unify.specs.Links.{Once, Lists, AreLinked}
-use Rattle.dg_unify.specs.Slots.{value_in, AreTold, IsFew, Fits, Fields, AreSound}
+use Rattle.dg_unify.specs.Slots.{value_in, AreTold, IsFew, Begins, subst_of, Fits, Fields, AreSound}
+use Rattle.dg_unify.specs.Fences.{AreClosed, IsFenced}
 use Rattle.dg_unify.specs.declared.bindings.Ref.{Ref}
 use Rattle.dg_unify.specs.declared.slots.Slot.{Slot}
 use Rattle.dg_unify.specs.declared.slots.Slot.TheVariants as slot
 use Rattle.dg_unify.specs.declared.slots.Link.{Link}
+use Rattle.dg_unify.specs.declared.fence.Fence.{Fence}
 
 front_prop : (x : ℕ) (v : Value) (S : Substitution) → IsProp (FitsFront x v S)
 front_prop x v S = hlevel props
@@ -52,7 +54,14 @@ few_prop (slot.Unknown n) = hlevel props
 few_prop (slot.Letter c) = Unit-prop
 
 fits_prop : (slots : List Slot) (ls : List Link) (n : ℕ) → IsProp (Fits slots ls n)
-fits_prop slots ls n = hlevel (props, substitution_prop, are_told_prop, once_prop, few_prop)
+fits_prop slots ls n = hlevel (props, substitution_prop, are_told_prop, once_prop, few_prop, told_prop)
 
 pub are_sound_prop : (f : Fields) → IsProp (AreSound f)
 are_sound_prop f = hlevel (props, fits_prop)
+
+closed_prop : (n : ℕ) (S : Substitution) → IsProp (AreClosed n S)
+closed_prop n [] = Unit-prop
+closed_prop n (p ∷ S) = hlevel (props, closed_prop n S)
+
+pub is_fenced_prop : (slots : List Slot) (ls : List Link) (vars : ℕ) (fence : Fence) → IsProp (IsFenced slots ls vars fence)
+is_fenced_prop slots ls vars fence = hlevel (props, closed_prop)

@@ -111,7 +111,13 @@ IsFew (slot.Closure place n) = n ≤ 65535
 IsFew (slot.Unknown n) = n ≤ 200
 IsFew other = Unit {0}
 
--- What holds of slots, bindings and a number of variables: the bindings are a substitution, and the numbers of variables rise with their places.
+-- A slot begins a value, unless it is behind a closure or an unknown word, of which it is a part.
+abbrev pub Begins : Slot → Type 0
+Begins (slot.Captured r) = ⊥
+Begins (slot.Letter c) = ⊥
+Begins other = Unit {0}
+
+-- What holds of slots, bindings and a number of variables: the bindings are a substitution, the numbers of variables rise with their places, and where a slot begins a value, the value is there.
 pub record Fits (slots : List Slot) (ls : List Link) (vars : ℕ) : Type 0 where
   pub sound : IsSubstitution (subst_of slots ls)
   pub told : AreTold slots ls
@@ -119,6 +125,7 @@ pub record Fits (slots : List Slot) (ls : List Link) (vars : ℕ) : Type 0 where
   pub below : (i n : ℕ) → slice_get slots i ≡ Some (slot.Var n) → n < vars
   pub rising : (i j m n : ℕ) → slice_get slots i ≡ Some (slot.Var m) → slice_get slots j ≡ Some (slot.Var n) → i < j → m < n
   pub few : (i : ℕ) (x : Slot) → slice_get slots i ≡ Some x → IsFew x
+  pub whole : (i : ℕ) (x : Slot) → slice_get slots i ≡ Some x → Begins x → IsTold (value_in slots i)
   pub room : length slots ≤ 2147483648
   pub fewer : vars ≤ length slots
 

@@ -41,10 +41,10 @@ pub enum Full {
 
 /// Values with variables, and what these are bound to.
 pub trait Bindings {
-    ghost use Rattle.std.specs.Prelude.{◌≡◌, ℕ, ◌+◌, ◌*◌, ◌<◌, ◌≤◌, List, [], ◌∷◌, Option, Some, All, length, MatchResult, IfOk, IsOk};
+    ghost use Rattle.std.specs.Prelude.{◌≡◌, ℕ, ◌+◌, ◌*◌, ◌<◌, ◌≤◌, List, [], ◌∷◌, Option, Some, true, false, All, length, MatchResult, IfOk, IsOk};
     ghost use Rattle.std.specs.List.{slice_get};
     ghost use Rattle.dg_meaning.specs.Values.{Label, Unknown, Closure, Value, Var, Node, Values, leaf, pair};
-    ghost use Rattle.dg_meaning.specs.Substitutions.{walk, IsSubstitution};
+    ghost use Rattle.dg_meaning.specs.Substitutions.{walk, resolved, contains, IsSubstitution};
     ghost use Rattle.dg_unify.specs.Store.{State, Store, Saved, told, told_parts, Holds, Kept, Fresh, Made, HeapFull, Charged, label_of, Shows, part_at, IsPart, IsClosureAt, IsUnknownAt, MayBind, Bound, TrailFull, marked, Back};
     ghost use Rattle.dg_unify.specs.declared.bindings.Ref.{Ref};
 
@@ -101,6 +101,12 @@ pub trait Bindings {
     fn walk(&self, at: Ref) -> View
         requires { Holds (meaning self.now) at }
         ensures { Shows (meaning self.now) (walk (meaning self.now).state.subst (told (meaning self.now) at)) result };
+
+    /// Whether it is clear at once that an unbound variable doesn't stand in a value; false says nothing.
+    fn is_clear(&self, x: Ref, at: Ref) -> bool
+        requires x_in { (n : ℕ) × (meaning self.now).value x ≡ Some (Var n) }
+        requires at_in { Holds (meaning self.now) at }
+        ensures { (n : ℕ) → (meaning self.now).value x ≡ Some (Var n) → result ≡ true → contains n (resolved (meaning self.now).state.subst (told (meaning self.now) at)) ≡ false };
 
     /// The captured value of that number, from 0; none exactly where there is none.
     fn captured(&self, closure: Ref, at: u16) -> Option<Ref>

@@ -2,6 +2,7 @@
 #![tactic(auto)]
 
 mod bindings;
+mod fence;
 mod links;
 mod list;
 mod parts;

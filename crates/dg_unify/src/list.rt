@@ -5,11 +5,13 @@ ghost use Rattle.std.specs.List.{slice_get};
 ghost use Rattle.dg_unify.specs.Store.{trail_for};
 ghost use Rattle.dg_unify.specs.Linked.{log_of, vars_of};
 ghost use Rattle.dg_unify.specs.Slots.{captured_slots, letter_slots, AreSound, Stand, store_of};
-ghost use Rattle.dg_unify.specs.Props.{are_sound_prop};
+ghost use Rattle.dg_unify.specs.Fences.{IsFenced};
+ghost use Rattle.dg_unify.specs.Props.{are_sound_prop, is_fenced_prop};
 ghost use Rattle.dg_unify.specs.declared.bindings.Full.TheVariants as full;
 ghost use Rattle.dg_unify.specs.declared.slots.Slot.TheVariants as slot;
 
 use crate::bindings::{Bindings, Full, Mark, Ref, View};
+use crate::fence::Fence;
 use crate::links::Links;
 use crate::room::{captured_at, letter_at, place_for, push_captured, push_letters, trail_for};
 use crate::slots::{FIRST_SIMPLE, Slot, number_of, simple_at};
@@ -26,7 +28,9 @@ pub struct ListBindings {
     trail: u32,
     heap_limit: u32,
     trail_limit: u32,
+    fence: Fence,
     ghost sound: { AreSound (record { slots = slots.items; log = log_of links; vars = vars_of links; since = since; heap = heap; trail = trail; heap_limit = heap_limit; trail_limit = trail_limit }) } by { are_sound_prop (record { slots = slots.items; log = log_of links; vars = vars_of links; since = since; heap = heap; trail = trail; heap_limit = heap_limit; trail_limit = trail_limit }) },
+    ghost fenced: { IsFenced slots.items (reverse (log_of links)) (vars_of links) fence } by { is_fenced_prop slots.items (reverse (log_of links)) (vars_of links) fence },
 }
 
 impl ListBindings {
@@ -46,6 +50,17 @@ impl ListBindings {
             trail: 0,
             heap_limit: heap,
             trail_limit: trail,
+            fence: Fence { slots: 0, vars: 0 },
+        }
+    }
+
+    // The fence behind all slots and variables.
+    fn fence_now(&self) -> Fence
+        ensures { result ≡ record { slots = length self.now.slots.items; vars = vars_of self.now.links } }
+    {
+        Fence {
+            slots: self.slots.len(),
+            vars: self.links.vars(),
         }
     }
 
@@ -105,9 +120,11 @@ impl ListBindings {
         if self.trail_limit - self.trail < more {
             return Err(Full::Trail);
         }
+        let fence = self.fence.for_link(var, to, self.fence_now());
         match self.links.bind(var, to) {
             Ok(()) => {
                 self.trail += more;
+                self.fence = fence;
                 Ok(())
             }
             Err(_) => Err(Full::OutOfMemory),
@@ -137,6 +154,7 @@ impl Bindings for ListBindings {
         if self.heap == self.heap_limit {
             return Err(Full::Heap);
         }
+        let fence = self.fence.for_new(self.fence_now());
         match place_for(&mut self.slots, 1) {
             Err(e) => Err(e),
             Ok(at) => {
@@ -145,6 +163,7 @@ impl Bindings for ListBindings {
                     return Err(Full::OutOfMemory);
                 }
                 self.slots.push_reserved(Slot::Var(number as u32));
+                self.fence = fence;
                 self.heap += 1;
                 Ok(Ref(at))
             }
@@ -214,6 +233,13 @@ impl Bindings for ListBindings {
         self.view_of(end)
     }
 
+    fn is_clear(&self, x: Ref, at: Ref) -> bool {
+        match self.slots[x.0 as usize] {
+            Slot::Var(number) => self.fence.stands_between(at, number),
+            _ => false,
+        }
+    }
+
     fn captured(&self, closure: Ref, at: u16) -> Option<Ref> {
         match self.slots[closure.0 as usize] {
             Slot::Closure(_, count) => {
@@ -263,5 +289,9 @@ impl Bindings for ListBindings {
         self.heap = to.heap;
         self.trail = to.trail;
         self.since = to.vars;
+        self.fence = Fence {
+            slots: to.slots,
+            vars: to.vars,
+        };
     }
 }

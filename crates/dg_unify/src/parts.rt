@@ -104,6 +104,9 @@ pub fn occurs<B: Bindings>(store: &B, x: Ref, parts: Parts) -> bool
             None => return false,
             Some(front) => match front.rest {
                 Parts::Nothing => {
+                    if store.is_clear(x, front.first) {
+                        return false;
+                    }
                     let view = store.walk(front.first);
                     match variable_of(view) {
                         Some(y) => return x.0 == y.0,

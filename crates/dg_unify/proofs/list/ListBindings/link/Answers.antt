@@ -4,6 +4,7 @@ use Rattle.dg_unify.specs.Slots.{Fields}
 use Rattle.dg_unify.specs.Listed.{fields_of}
 use Rattle.dg_unify.specs.declared.slots.Link.{Link}
 use Rattle.dg_unify.proofs.Stores.{grown_links, kept_grown, stand_grown, link_sound, link_bound, may_unbound}
+use Rattle.dg_unify.proofs.FenceLemmas.{fence_linked}
 use Rattle.dg_unify.proofs.list.ListBindings.link.Goals as goal
 
 pub bind-requires-clause-unbound : goal.bind-requires-clause-unbound
@@ -16,7 +17,8 @@ invariant_of-self c =
     let l : Link = record { var = c.args.var; to = c.args.to } in
     let el : f'.log ≡ f.log ++ l ∷ [] = c.in-Ok.ensures.ok in
     let g = grown_links f f' (l ∷ []) refl el refl refl in
-    record { sound = link_sound f f' c.args.var c.args.to c.args.self.now.sound c.requires g c.bind.ensures.vars refl (omega (arith, c.args.self.now.sound.trail_fits)) }
+    let sound = link_sound f f' c.args.var c.args.to c.args.self.now.sound c.requires g c.bind.ensures.vars refl (omega (arith, c.args.self.now.sound.trail_fits)) in
+    record { sound = sound; fenced = fence_linked f f' c.args.self.now.fence c.fence_now.result c.for_link-fence.result l sound g c.bind.ensures.vars (rw c.bind.ensures.vars c.fence_now.ensures) c.for_link-fence.ensures c.args.self.now.fenced }
 
 pub returns-in-Ok-clause-kept : goal.returns-in-Ok-clause-kept
 returns-in-Ok-clause-kept c =

@@ -1,14 +1,15 @@
-use Rattle.std.proofs.Common.{rules, ◌≡◌, ◌+◌, arith, length, ◌∙◌, List, [], ◌∷◌, ◌++◌, refl, ap, true, append_assoc}
+use Rattle.std.proofs.Common.{rules, ◌≡◌, ◌+◌, arith, length, Some, ◌∙◌, List, [], ◌∷◌, ◌++◌, refl, ap, true, append_assoc}
 use Rattle.std.proofs.lemmas.Grind.{common_steps}
-use Rattle.dg_meaning.specs.Values.{Node, Closure}
+use Rattle.dg_meaning.specs.Values.{Value, Node, Closure}
 use Rattle.dg_unify.specs.Store.{told_parts}
 use Rattle.dg_unify.specs.Linked.{log_of, vars_of}
-use Rattle.dg_unify.specs.Slots.{Fields, store_of, captured_slots}
+use Rattle.dg_unify.specs.Slots.{value_in, Fields, store_of, captured_slots}
 use Rattle.dg_unify.specs.Listed.{fields_of}
 use Rattle.dg_unify.specs.declared.slots.Slot.{Slot}
 use Rattle.dg_unify.specs.declared.slots.Slot.TheVariants as slot
-use Rattle.dg_unify.proofs.SlotsLemmas.{plain_captured}
+use Rattle.dg_unify.proofs.SlotsLemmas.{plain_captured, inner_captured}
 use Rattle.dg_unify.proofs.Stores.{grown_slots, kept_grown, stand_grown, value_made, value_sound, closure_at, captured_length}
+use Rattle.dg_unify.proofs.FenceLemmas.{fence_kept}
 use Rattle.dg_unify.proofs.list.ListBindingsBindings.closure.Goals as goal
 
 pub invariant_of-self-in-Ok : goal.invariant_of-self-in-Ok
@@ -19,7 +20,12 @@ invariant_of-self-in-Ok c =
     let es : f'.slots ≡ f.slots ++ extra = c.push_captured.ensures ∙ (let e : c.push_reserved.new.self.items ≡ f.slots ++ slot.Closure c.args.place (length c.args.captured.now) ∷ [] = search (rules, common_steps) in ap (λ xs. xs ++ captured_slots c.args.captured.now) e ∙ append_assoc f.slots (slot.Closure c.args.place (length c.args.captured.now) ∷ []) (captured_slots c.args.captured.now)) in
     let el : f'.log ≡ f.log = refl in
     let g = grown_slots f f' extra es el refl refl in
-    record { sound = value_sound f f' extra c.args.self.now.sound g (c.requires.few, plain_captured c.args.captured.now) refl (omega (arith, c.in-Ok.ensures.within, captured_length c.args.captured.now)) (omega (arith, c.args.self.now.sound.heap_fits)) refl }
+    let v : Value = Node (Closure c.args.place) (told_parts (store_of true f) c.args.captured.now) in
+    let value : value_in f'.slots (length f.slots) ≡ Some v = closure_at f.slots f'.slots c.args.place (length c.args.captured.now) c.args.captured.now (length f.slots) es refl refl (omega (arith, c.in-Ok.ensures.within)) c.requires.captured_in in
+    record {
+      sound = value_sound f f' (slot.Closure c.args.place (length c.args.captured.now)) (captured_slots c.args.captured.now) v c.args.self.now.sound g (c.requires.few, plain_captured c.args.captured.now) (inner_captured c.args.captured.now) value refl (omega (arith, c.in-Ok.ensures.within, captured_length c.args.captured.now)) (omega (arith, c.args.self.now.sound.heap_fits)) refl;
+      fenced = fence_kept f f' extra c.args.self.now.fence c.args.self.now.sound g (omega arith) c.args.self.now.fenced;
+    }
 
 pub returns-in-Ok-clause-kept : goal.returns-in-Ok-clause-kept
 returns-in-Ok-clause-kept c =

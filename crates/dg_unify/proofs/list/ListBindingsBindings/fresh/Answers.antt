@@ -6,6 +6,7 @@ use Rattle.dg_unify.specs.Listed.{fields_of}
 use Rattle.dg_unify.specs.declared.slots.Slot.{Slot}
 use Rattle.dg_unify.specs.declared.slots.Slot.TheVariants as slot
 use Rattle.dg_unify.proofs.Stores.{grown_slots, kept_grown, stand_grown, fresh_made, fresh_sound, var_at}
+use Rattle.dg_unify.proofs.FenceLemmas.{fence_made}
 use Rattle.dg_unify.proofs.list.ListBindingsBindings.fresh.Goals as goal
 
 pub invariant_of-self-in-Ok : goal.invariant_of-self-in-Ok
@@ -17,7 +18,10 @@ invariant_of-self-in-Ok c =
     let el : f'.log ≡ f.log = c.add_var.ensures.log in
     let g = grown_slots f f' extra es el refl refl in
     let ev : f'.vars ≡ f.vars + 1 = search rules in
-    record { sound = fresh_sound f f' c.args.self.now.sound g ev (omega (arith, c.in-Ok.ensures.within)) (omega (arith, c.args.self.now.sound.heap_fits)) refl }
+    record {
+      sound = fresh_sound f f' c.args.self.now.sound g ev (omega (arith, c.in-Ok.ensures.within)) (omega (arith, c.args.self.now.sound.heap_fits)) refl;
+      fenced = fence_made f f' extra c.args.self.now.fence c.fence_now.result c.for_new-fence.result c.args.self.now.sound g (omega (arith, ev)) c.fence_now.ensures c.for_new-fence.ensures c.args.self.now.fenced;
+    }
 
 pub returns-else-is_err-clause-kept : goal.returns-else-is_err-clause-kept
 returns-else-is_err-clause-kept c =

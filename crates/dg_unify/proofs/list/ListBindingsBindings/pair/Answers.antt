@@ -1,13 +1,14 @@
-use Rattle.std.proofs.Common.{rules, ◌≡◌, ◌+◌, arith, List, [], ◌∷◌, ◌++◌, refl, true}
+use Rattle.std.proofs.Common.{rules, ◌≡◌, ◌+◌, arith, length, Some, List, [], ◌∷◌, ◌++◌, refl, true}
 use Rattle.std.proofs.lemmas.Grind.{common_steps}
 use Rattle.dg_meaning.specs.Values.{pair}
 use Rattle.dg_unify.specs.Store.{told}
 use Rattle.dg_unify.specs.Linked.{log_of, vars_of}
-use Rattle.dg_unify.specs.Slots.{Fields, store_of}
+use Rattle.dg_unify.specs.Slots.{value_in, Fields, store_of}
 use Rattle.dg_unify.specs.Listed.{fields_of}
 use Rattle.dg_unify.specs.declared.slots.Slot.{Slot}
 use Rattle.dg_unify.specs.declared.slots.Slot.TheVariants as slot
 use Rattle.dg_unify.proofs.Stores.{grown_slots, kept_grown, stand_grown, value_made, value_sound, pair_at}
+use Rattle.dg_unify.proofs.FenceLemmas.{fence_kept}
 use Rattle.dg_unify.proofs.list.ListBindingsBindings.pair.Goals as goal
 
 pub invariant_of-self-in-Ok : goal.invariant_of-self-in-Ok
@@ -18,7 +19,11 @@ invariant_of-self-in-Ok c =
     let es : f'.slots ≡ f.slots ++ extra = search (rules, common_steps) in
     let el : f'.log ≡ f.log = refl in
     let g = grown_slots f f' extra es el refl refl in
-    record { sound = value_sound f f' extra c.args.self.now.sound g (tt, tt) refl (omega (arith, c.in-Ok.ensures.within)) (omega (arith, c.args.self.now.sound.heap_fits)) refl }
+    let value : value_in f'.slots (length f.slots) ≡ Some (pair (told (store_of true f) c.args.head) (told (store_of true f) c.args.tail)) = pair_at f.slots f'.slots c.args.head c.args.tail (length f.slots) es refl (omega (arith, c.in-Ok.ensures.within)) c.requires.head_in c.requires.tail_in in
+    record {
+      sound = value_sound f f' (slot.Pair c.args.head c.args.tail) [] (pair (told (store_of true f) c.args.head) (told (store_of true f) c.args.tail)) c.args.self.now.sound g (tt, tt) tt value refl (omega (arith, c.in-Ok.ensures.within)) (omega (arith, c.args.self.now.sound.heap_fits)) refl;
+      fenced = fence_kept f f' extra c.args.self.now.fence c.args.self.now.sound g (omega arith) c.args.self.now.fenced;
+    }
 
 pub returns-in-Ok-clause-kept : goal.returns-in-Ok-clause-kept
 returns-in-Ok-clause-kept c =

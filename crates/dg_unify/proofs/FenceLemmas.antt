@@ -1,0 +1,245 @@
+-- Which values have only variables before a fence.
+use Rattle.std.proofs.Common.{◌≡◌, ℕ, zero, suc, ◌+◌, ◌-◌, ◌<◌, ◌≤◌, List, [], ◌∷◌, ◌++◌, Bool, true, false, refl, sym, ap, ◌∙◌, arith, subst, Option, Some, None, inl, inr, length, length-append, append-nil, length-take, take, reverse}
+use Rattle.std.specs.Prelude.{eqb, nat_lt, nat_le, ◌||◌, ◌&&◌, not, if◌then◌else◌}
+use Rattle.std.specs.List.{slice_get}
+use Rattle.std.proofs.lemmas.Bool.{cond_both, cases_lt, ne_eqb, ltb-true, leb-true, lt-ltb, lt-leb}
+use Rattle.dg_meaning.specs.Values.{Label, Value, Var, Node, Values, NoMore, More, Closure, Unknown, leaf, pair}
+use Rattle.dg_meaning.specs.Substitutions.{Substitution, replaced, all_replaced, resolved, contains, any_contains}
+use Rattle.dg_meaning.specs.Unify.{top, tops}
+use Rattle.dg_meaning.proofs.Walks.{or_false, replaced_absent, resolved_node}
+use Rattle.dg_unify.specs.Store.{Store, Saved, or_nil, IsTold}
+use Rattle.dg_unify.specs.Slots.{pair_told, captured_slot, captured_in, letters_in, closure_told, word_told, slot_value, label_at, value_at, value_in, subst_of, AreTold, Begins, Fits, Fields, AreSound, fields_at, Stand}
+use Rattle.dg_unify.specs.Fences.{AreClosed, IsFenced, is_before, stands_between, fence_for_new, fence_for_link}
+use Rattle.dg_unify.specs.declared.bindings.Ref.{Ref}
+use Rattle.dg_unify.specs.declared.bindings.Mark.{Mark}
+use Rattle.dg_unify.specs.declared.slots.Slot.{Slot}
+use Rattle.dg_unify.specs.declared.slots.Slot.TheVariants as slot
+use Rattle.dg_unify.specs.declared.slots.Link.{Link}
+use Rattle.dg_unify.specs.declared.fence.Fence.{Fence}
+use Rattle.dg_unify.proofs.Lists.{get_either, reverse_snoc}
+use Rattle.dg_unify.proofs.SlotsLemmas.{option_told, some_told, in_more, subst_more, simple_in, told_slot}
+use Rattle.dg_unify.proofs.Reading.{part_split, captured_is}
+use Rattle.dg_unify.proofs.Stores.{Grown}
+
+-- ## A variable that isn't before a fence stands in no value before it
+
+mutual
+  below_absent : (n : ℕ) (v : Value) → top v ≤ n → contains n v ≡ false
+  below_absent n (Var y) h = ne_eqb y n (λ e. omega (arith, e, h))
+  below_absent n (Node f vs) h = all_below_absent n vs h
+
+  all_below_absent : (n : ℕ) (vs : Values) → tops vs ≤ n → any_contains n vs ≡ false
+  all_below_absent n NoMore h = refl
+  all_below_absent n (More v vs) h = or_false (contains n v) (any_contains n vs) (below_absent n v (omega (arith, h))) (all_below_absent n vs (omega (arith, h)))
+
+mutual
+  replaced_below : (n x : ℕ) (u t : Value) → top u ≤ n → top t ≤ n → top (replaced x u t) ≤ n
+  replaced_below n x u (Var y) hu ht = cond_both (eqb y x) u (Var y) (λ (w : Value). top w ≤ n) (λ e. hu) (λ e. ht)
+  replaced_below n x u (Node f vs) hu ht = all_replaced_below n x u vs hu ht
+
+  all_replaced_below : (n x : ℕ) (u : Value) (vs : Values) → top u ≤ n → tops vs ≤ n → tops (all_replaced x u vs) ≤ n
+  all_replaced_below n x u NoMore hu ht = ht
+  all_replaced_below n x u (More v vs) hu ht = omega (arith, replaced_below n x u v hu (omega (arith, ht)), all_replaced_below n x u vs hu (omega (arith, ht)))
+
+resolved_below : (n : ℕ) (S : Substitution) → AreClosed n S → (v : Value) → top v ≤ n → top (resolved S v) ≤ n
+resolved_below n [] c v h = h
+resolved_below n (p ∷ S) c v h =
+    let w = resolved_below n S c.1 v h in
+    elim (cases_lt p.0 n) [
+      | inl lt ↦ replaced_below n p.0 (resolved S p.1) (resolved S v) (resolved_below n S c.1 p.1 (c.0 lt)) w
+      | inr ge ↦ rw (replaced_absent p.0 (resolved S p.1) (resolved S v) (below_absent p.0 (resolved S v) (omega (arith, w, ge)))) w
+    ]
+
+pub behind_absent : (n q : ℕ) (S : Substitution) → AreClosed q S → (v : Value) → top v ≤ q → q ≤ n → contains n (resolved S v) ≡ false
+behind_absent n q S c v h le = below_absent n (resolved S v) (omega (arith, resolved_below q S c v h, le))
+
+-- ## Every value of a store has only variables that are there
+
+some_value : (u v : Value) → Some u ≡ Some v → u ≡ v
+some_value u v e = cc
+
+pair_below : (n : ℕ) (a b : Option Value) → ((v : Value) → a ≡ Some v → top v ≤ n) → ((v : Value) → b ≡ Some v → top v ≤ n) → (v : Value) → pair_told a b ≡ Some v → top v ≤ n
+pair_below n None b ha hb v e = absurd (cc e)
+pair_below n (Some x) None ha hb v e = absurd (cc e)
+pair_below n (Some x) (Some y) ha hb v e = subst (λ (w : Value). top w ≤ n) (some_value (pair x y) v e) (omega (arith, ha x refl, hb y refl))
+
+closure_below : (n place : ℕ) (a : Option Values) → ((vs : Values) → a ≡ Some vs → tops vs ≤ n) → (v : Value) → closure_told place a ≡ Some v → top v ≤ n
+closure_below n place None h v e = absurd (cc e)
+closure_below n place (Some vs) h v e = subst (λ (w : Value). top w ≤ n) (some_value (Node (Closure place) vs) v e) (h vs refl)
+
+word_below : (n : ℕ) (a : Option (List ℕ)) (v : Value) → word_told a ≡ Some v → top v ≤ n
+word_below n None v e = absurd (cc e)
+word_below n (Some cs) v e = subst (λ (w : Value). top w ≤ n) (some_value (leaf (Unknown cs)) v e) (omega arith)
+
+module _ (slots : List Slot) (vars : ℕ) (below : (i n : ℕ) → slice_get slots i ≡ Some (slot.Var n) → n < vars) where
+  abbrev AllBelow : (ℕ → Option Value) → Type 0
+  AllBelow go = (r : ℕ) (v : Value) → go r ≡ Some v → top v ≤ vars
+
+  captured_below : (go : ℕ → Option Value) → AllBelow go → (at n : ℕ) (vs : Values) → captured_in go slots at n ≡ Some vs → tops vs ≤ vars
+  captured_below go h at zero vs e = let k : NoMore ≡ vs = cc in subst (λ us. tops us ≤ vars) k (omega arith)
+  captured_below go h at (suc n) vs e =
+      let p = part_split (captured_slot go (slice_get slots at)) (captured_in go slots (suc at) n) vs e in
+      let q = captured_is go (slice_get slots at) p.0 p.2 in
+      subst (λ us. tops us ≤ vars) (sym p.4) (omega (arith, h q.0.0 p.0 q.2, captured_below go h (suc at) n p.1 p.3))
+
+  slot_below : (go : ℕ → Option Value) → AllBelow go → (at : ℕ) (o : Option Slot) → slice_get slots at ≡ o → (v : Value) → slot_value go slots at o ≡ Some v → top v ≤ vars
+  slot_below go h at None is v e = absurd (cc e)
+  slot_below go h at (Some (slot.Var n)) is v e = subst (λ (w : Value). top w ≤ vars) (some_value (Var n) v e) (omega (arith, below at n is))
+  slot_below go h at (Some (slot.Pair x y)) is v e = pair_below vars (go x.0) (go y.0) (h x.0) (h y.0) v e
+  slot_below go h at (Some (slot.Closure place n)) is v e = closure_below vars place (captured_in go slots (suc at) n) (captured_below go h (suc at) n) v e
+  slot_below go h at (Some (slot.Captured r)) is v e = absurd (cc e)
+  slot_below go h at (Some (slot.Unknown n)) is v e = word_below vars (letters_in slots (suc at) n) v e
+  slot_below go h at (Some (slot.Letter c)) is v e = absurd (cc e)
+
+  value_below : (n : ℕ) → AllBelow (value_at slots n)
+  value_below zero r v e =
+      cond_both (nat_lt r 2147483648) None (Some (leaf (label_at (r - 2147483648)))) (λ (o : Option Value). o ≡ Some v → top v ≤ vars)
+      (λ _ k. absurd (cc k))
+      (λ _ k. subst (λ (w : Value). top w ≤ vars) (some_value (leaf (label_at (r - 2147483648))) v k) (omega arith)) e
+  value_below (suc n) r v e =
+      cond_both (nat_lt r 2147483648) (slot_value (value_at slots n) slots r (slice_get slots r)) (Some (leaf (label_at (r - 2147483648)))) (λ (o : Option Value). o ≡ Some v → top v ≤ vars)
+      (λ _ k. slot_below (value_at slots n) (value_below n) r (slice_get slots r) refl v k)
+      (λ _ k. subst (λ (w : Value). top w ≤ vars) (some_value (leaf (label_at (r - 2147483648))) v k) (omega arith)) e
+
+  all_closed : (ls : List Link) → AreTold slots ls → AreClosed vars (subst_of slots ls)
+  all_closed [] h = tt
+  all_closed (l ∷ ls) h = (λ lt. value_below (length slots) l.to.0 (or_nil (value_in slots l.to.0)) (option_told (value_in slots l.to.0) h.0), all_closed ls h.1)
+
+-- ## More slots say nothing new of the old ones
+
+begins_told : (go : ℕ → Option Value) (slots : List Slot) (at : ℕ) (x : Slot) (v : Value) → slot_value go slots at (Some x) ≡ Some v → Begins x
+begins_told go slots at (slot.Var n) v e = tt
+begins_told go slots at (slot.Pair x y) v e = tt
+begins_told go slots at (slot.Closure place n) v e = tt
+begins_told go slots at (slot.Captured r) v e = absurd (cc e)
+begins_told go slots at (slot.Unknown n) v e = tt
+begins_told go slots at (slot.Letter c) v e = absurd (cc e)
+
+old_value : (slots extra : List Slot) (ls : List Link) (vars : ℕ) → Fits slots ls vars → (r : ℕ) (v : Value) → r < length slots → value_in (slots ++ extra) r ≡ Some v → value_in slots r ≡ Some v
+old_value slots extra ls vars b r v lt h =
+    let all = slots ++ extra in
+    let t = told_slot all (length all) r (some_told (value_in all r) v h) (omega (arith, lt, b.room)) in
+    let begins = begins_told (value_at all t.m) all r t.x v (sym t.is ∙ h) in
+    elim (get_either slots extra r t.x t.get) [
+      | inl e ↦
+          let told = option_told (value_in slots r) (b.whole r t.x e begins) in
+          told ∙ sym (in_more slots extra r (or_nil (value_in slots r)) told) ∙ h
+      | inr e ↦ absurd (omega (arith, e.1, lt))
+    ]
+
+-- ## Where a fence may stand
+
+-- behind everything
+pub fenced_now : (slots : List Slot) (ls : List Link) (vars : ℕ) (fence : Fence) → Fits slots ls vars → fence ≡ record { slots = length slots; vars = vars } → IsFenced slots ls vars fence
+fenced_now slots ls vars fence b is = rw is (record {
+  slots_in = omega arith;
+  vars_in = omega arith;
+  values = λ r v lt h. value_below slots vars b.below (length slots) r v h;
+  closed = all_closed slots vars b.below ls b.told;
+})
+
+-- where it stood before there were more slots and variables
+pub fenced_more : (slots extra : List Slot) (ls : List Link) (vars vars' : ℕ) (fence : Fence) → Fits slots ls vars → vars ≤ vars' → IsFenced slots ls vars fence → IsFenced (slots ++ extra) ls vars' fence
+fenced_more slots extra ls vars vars' fence b le f = record {
+  slots_in = omega (arith, length-append slots extra, f.slots_in);
+  vars_in = omega (arith, f.vars_in, le);
+  values = λ r v lt h. f.values r v lt (old_value slots extra ls vars b r v (omega (arith, lt, f.slots_in)) h);
+  closed = rw (subst_more slots extra ls b.told) f.closed;
+}
+
+-- where one more variable is made
+pub fenced_new : (slots extra : List Slot) (ls : List Link) (vars vars' : ℕ) (fence now : Fence) → Fits slots ls vars → vars ≤ vars' → now ≡ record { slots = length slots; vars = vars } → IsFenced slots ls vars fence → IsFenced (slots ++ extra) ls vars' (fence_for_new fence now)
+fenced_new slots extra ls vars vars' fence now b le is f =
+    fenced_more slots extra ls vars vars' (fence_for_new fence now) b le
+    (cond_both (eqb (now.slots - fence.slots) (now.vars - fence.vars)) fence now (IsFenced slots ls vars) (λ e. f) (λ e. fenced_now slots ls vars now b is))
+
+-- a value before a fence has only variables before it
+slot_before : (fence : Fence) (at : Ref) → at.0 < 2147483648 → is_before fence at ≡ true → at.0 < fence.slots
+slot_before fence at lt is =
+    let e : nat_le 2147483648 at.0 ≡ false = lt-leb 2147483648 at.0 lt in
+    ltb-true at.0 fence.slots (sym (ap (λ b. b || nat_lt at.0 fence.slots) e) ∙ is)
+
+before_below : (slots : List Slot) (ls : List Link) (vars : ℕ) (fence : Fence) → IsFenced slots ls vars fence → (at : Ref) → IsTold (value_in slots at.0) → is_before fence at ≡ true → top (or_nil (value_in slots at.0)) ≤ fence.vars
+before_below slots ls vars fence f at told is =
+    elim (cases_lt at.0 2147483648) [
+      | inl lt ↦ f.values at.0 (or_nil (value_in slots at.0)) (slot_before fence at lt is) (option_told (value_in slots at.0) told)
+      | inr ge ↦ rw (simple_in slots at.0 (length slots) ge) (omega arith)
+    ]
+
+before_if : (a b : Bool) → a ≡ true → (a && not b) ≡ false → b ≡ true
+before_if true true e h = refl
+before_if true false e h = absurd (cc h)
+before_if false b e h = absurd (cc e)
+
+-- behind one more binding, where it stays
+fenced_stays : (slots : List Slot) (ls : List Link) (vars : ℕ) (fence : Fence) (l : Link) → IsTold (value_in slots l.to.0) → (nat_lt l.var fence.vars && not (is_before fence l.to)) ≡ false → IsFenced slots ls vars fence → IsFenced slots (l ∷ ls) vars fence
+fenced_stays slots ls vars fence l told is f = record {
+  slots_in = f.slots_in;
+  vars_in = f.vars_in;
+  values = f.values;
+  closed = (λ lt. before_below slots ls vars fence f l.to told (before_if (nat_lt l.var fence.vars) (is_before fence l.to) (lt-ltb l.var fence.vars lt) is), f.closed);
+}
+
+-- behind one more binding
+pub fenced_link : (slots : List Slot) (ls : List Link) (vars : ℕ) (fence now : Fence) (l : Link) → Fits slots (l ∷ ls) vars → now ≡ record { slots = length slots; vars = vars } → IsFenced slots ls vars fence → IsFenced slots (l ∷ ls) vars (fence_for_link fence l.var l.to now)
+fenced_link slots ls vars fence now l b is f =
+    cond_both (nat_lt l.var fence.vars && not (is_before fence l.to)) now fence (IsFenced slots (l ∷ ls) vars)
+    (λ e. fenced_now slots (l ∷ ls) vars now b is)
+    (λ e. fenced_stays slots ls vars fence l b.told.0 e f)
+
+-- ## The same, with all that a store keeps
+
+abbrev pub Stays : Fields → Fence → Type 0
+Stays f fence = IsFenced f.slots (reverse f.log) f.vars fence
+
+abbrev pub end_of : Fields → Fence
+end_of f = record { slots = length f.slots; vars = f.vars }
+
+pub fence_kept : (f f' : Fields) (extra : List Slot) (fence : Fence) → AreSound f → Grown f f' extra [] → f.vars ≤ f'.vars → Stays f fence → Stays f' fence
+fence_kept f f' extra fence sound g le h =
+    let e : f'.log ≡ f.log = g.log ∙ append-nil f.log in
+    rw (g.slots, e) (fenced_more f.slots extra (reverse f.log) f.vars f'.vars fence sound.fits le h)
+
+pub fence_made : (f f' : Fields) (extra : List Slot) (fence now next : Fence) → AreSound f → Grown f f' extra [] → f.vars ≤ f'.vars → now ≡ end_of f → next ≡ fence_for_new fence now → Stays f fence → Stays f' next
+fence_made f f' extra fence now next sound g le is chosen h =
+    let e : f'.log ≡ f.log = g.log ∙ append-nil f.log in
+    rw (g.slots, e, chosen) (fenced_new f.slots extra (reverse f.log) f.vars f'.vars fence now sound.fits le is h)
+
+pub fence_linked : (f f' : Fields) (fence now next : Fence) (l : Link) → AreSound f' → Grown f f' [] (l ∷ []) → f'.vars ≡ f.vars → now ≡ end_of f' → next ≡ fence_for_link fence l.var l.to now → Stays f fence → Stays f' next
+fence_linked f f' fence now next l sound g ev is chosen h =
+    let es : f'.slots ≡ f.slots = g.slots ∙ append-nil f.slots in
+    let el : reverse f'.log ≡ l ∷ reverse f.log = ap reverse g.log ∙ reverse_snoc f.log l in
+    let old : IsFenced f'.slots (reverse f.log) f'.vars fence = rw (es, ev) h in
+    let fits : Fits f'.slots (l ∷ reverse f.log) f'.vars = rw el at sound.fits in
+    rw (el, chosen) (fenced_link f'.slots (reverse f.log) f'.vars fence now l fits is old)
+
+pub fence_moved : (f : Fields) (fence : Fence) → AreSound f → fence ≡ end_of f → Stays f fence
+fence_moved f fence sound is = fenced_now f.slots (reverse f.log) f.vars fence sound.fits is
+
+-- behind all that was there at a mark
+pub fence_undone : (f f' : Fields) (to : Mark) (s : Store) (ms : List Saved) → f' ≡ fields_at f to → Stand true f (record { mark = to; store = s } ∷ ms) → Stays f' (record { slots = to.slots; vars = to.vars })
+fence_undone f f' to s ms e h =
+    let n : length (take to.slots f.slots) ≡ to.slots = omega (arith, length-take to.slots f.slots, h.0) in
+    let is : record { slots = to.slots; vars = to.vars } ≡ end_of (fields_at f to) = rw n refl in
+    subst (λ k. Stays k (record { slots = to.slots; vars = to.vars })) (sym e) (fence_moved (fields_at f to) (record { slots = to.slots; vars = to.vars }) h.3.sound is)
+
+-- ## What stands on either side of a fence
+
+between_parts : (a b c : Bool) → (a || (b && c)) ≡ true → (a ≡ false) → (b ≡ true) × (c ≡ true)
+between_parts true b c h e = absurd (cc e)
+between_parts false true true h e = (refl, refl)
+between_parts false true false h e = absurd (cc h)
+between_parts false false c h e = absurd (cc h)
+
+leaf_absent : (n : ℕ) (f : Label) (S : Substitution) → contains n (resolved S (leaf f)) ≡ false
+leaf_absent n f S = ap (contains n) (resolved_node S f NoMore)
+
+pub between_absent : (slots : List Slot) (ls : List Link) (vars : ℕ) (fence : Fence) → IsFenced slots ls vars fence → (n : ℕ) (at : Ref) → IsTold (value_in slots at.0) → stands_between fence at n ≡ true → contains n (resolved (subst_of slots ls) (or_nil (value_in slots at.0))) ≡ false
+between_absent slots ls vars fence f n at told is =
+    elim (cases_lt at.0 2147483648) [
+      | inl lt ↦
+          let k = between_parts (nat_le 2147483648 at.0) (nat_lt at.0 fence.slots) (nat_le fence.vars n) is (lt-leb 2147483648 at.0 lt) in
+          let v = or_nil (value_in slots at.0) in
+          behind_absent n fence.vars (subst_of slots ls) f.closed v (f.values at.0 v (ltb-true at.0 fence.slots k.0) (option_told (value_in slots at.0) told)) (leb-true fence.vars n k.1)
+      | inr ge ↦ rw (simple_in slots at.0 (length slots) ge) (leaf_absent n (label_at (at.0 - 2147483648)) (subst_of slots ls))
+    ]

@@ -1,0 +1,14 @@
+use Rattle.std.proofs.Common.{◌≡◌, true, sym, ap, ◌∙◌, reverse}
+use Rattle.dg_unify.specs.Linked.{log_of, vars_of}
+use Rattle.dg_unify.specs.Fences.{stands_between}
+use Rattle.dg_unify.specs.Listed.{fields_of}
+use Rattle.dg_unify.proofs.Stores.{bind_var}
+use Rattle.dg_unify.proofs.FenceLemmas.{between_absent}
+use Rattle.dg_unify.proofs.list.ListBindingsBindings.is_clear.Goals as goal
+
+pub returns-in-Var : goal.returns-in-Var
+returns-in-Var c = λ n hx yes.
+    let s = c.args.self.now in
+    let e : n ≡ c.in-Var.number = bind_var true (fields_of s) c.args.x n hx c.index.result.now c.index.ensures c.in-Var.number c.in-Var.is in
+    let is : stands_between s.fence c.args.at n ≡ true = ap (stands_between s.fence c.args.at) e ∙ sym c.stands_between.ensures ∙ yes in
+    between_absent s.slots.items (reverse (log_of s.links)) (vars_of s.links) s.fence s.fenced n c.args.at c.requires.at_in is

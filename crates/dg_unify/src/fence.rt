@@ -1,0 +1,55 @@
+// Which variables can't stand in which values.
+
+ghost use Rattle.std.specs.Prelude.{◌≡◌, ◌≤◌};
+ghost use Rattle.dg_unify.specs.Fences.{is_before, stands_between, fence_for_new, fence_for_link};
+
+use crate::bindings::Ref;
+use crate::slots::FIRST_SIMPLE;
+
+/// So many slots and variables stand before it: no value of these slots has a variable behind it, nor has what one of
+/// these variables is bound to.
+#[derive(Clone, Copy)]
+pub struct Fence {
+    pub slots: usize,
+    pub vars: usize,
+}
+
+impl Fence {
+    /// Whether a value stands before it. One without parts does.
+    pub fn is_before(self, at: Ref) -> bool
+        ensures { result ≡ is_before self at }
+    {
+        at.0 >= FIRST_SIMPLE || (at.0 as usize) < self.slots
+    }
+
+    /// Whether a value has no parts, or stands before it and a variable behind it.
+    pub fn stands_between(self, at: Ref, var: u32) -> bool
+        ensures { result ≡ stands_between self at var }
+    {
+        at.0 >= FIRST_SIMPLE || (at.0 as usize) < self.slots && (var as usize) >= self.vars
+    }
+
+    /// Where it stands when one more variable is made: it stays while all slots behind it are new variables.
+    pub fn for_new(self, now: Fence) -> Fence
+        requires slots_in { self.slots ≤ now.slots }
+        requires vars_in { self.vars ≤ now.vars }
+        ensures { result ≡ fence_for_new self now }
+    {
+        if now.slots - self.slots == now.vars - self.vars {
+            self
+        } else {
+            now
+        }
+    }
+
+    /// Where it stands when a variable was bound: it moves where a variable before it was bound to a value that isn't.
+    pub fn for_link(self, var: u32, to: Ref, now: Fence) -> Fence
+        ensures { result ≡ fence_for_link self var to now }
+    {
+        if (var as usize) < self.vars && !self.is_before(to) {
+            now
+        } else {
+            self
+        }
+    }
+}
