@@ -1,6 +1,6 @@
 -- Which values have only variables before a fence.
-use Rattle.std.proofs.Common.{◌≡◌, ℕ, zero, suc, ◌+◌, ◌-◌, ◌<◌, ◌≤◌, List, [], ◌∷◌, ◌++◌, Bool, true, false, refl, sym, ap, ◌∙◌, arith, subst, Option, Some, None, inl, inr, length, length-append, append-nil, length-take, take, reverse}
-use Rattle.std.specs.Prelude.{eqb, nat_lt, nat_le, ◌||◌, ◌&&◌, not, if◌then◌else◌}
+use Rattle.std.proofs.Common.{◌≡◌, ℕ, zero, suc, ◌-◌, ◌<◌, ◌≤◌, List, [], ◌∷◌, ◌++◌, Bool, true, false, refl, sym, ap, ◌∙◌, arith, subst, Option, Some, None, inl, inr, length, length-append, append-nil, length-take, take, reverse}
+use Rattle.std.specs.Prelude.{eqb, nat_lt, nat_le, ◌||◌, ◌&&◌, not}
 use Rattle.std.specs.List.{slice_get}
 use Rattle.std.proofs.lemmas.Bool.{cond_both, cases_lt, ne_eqb, ltb-true, leb-true, lt-ltb, lt-leb}
 use Rattle.dg_meaning.specs.Values.{Label, Value, Var, Node, Values, NoMore, More, Closure, Unknown, leaf, pair}

@@ -1,7 +1,7 @@
 -- The parts of values, one after another.
 use Rattle.std.proofs.Common.{◌≡◌, ℕ, zero, suc, ◌+◌, ◌*◌, ◌<◌, ◌≤◌, Bool, true, false, refl, sym, ap, ◌∙◌, arith, subst, Option, Some, None}
-use Rattle.std.specs.Prelude.{eqb, ◌||◌}
-use Rattle.dg_meaning.specs.Values.{Label, Value, Var, Node, Values, NoMore, More}
+use Rattle.std.specs.Prelude.{◌||◌}
+use Rattle.dg_meaning.specs.Values.{Label, Value, Node, Values, NoMore, More}
 use Rattle.dg_meaning.specs.Substitutions.{Substitution, resolved, all_resolved, contains, any_contains, IsSubstitution}
 use Rattle.dg_meaning.specs.Unify.{size, sizes}
 use Rattle.dg_meaning.proofs.Walks.{resolved_node, walked, size_some}
@@ -13,7 +13,7 @@ use Rattle.dg_unify.specs.declared.bindings.View.TheVariants as view
 use Rattle.dg_unify.specs.declared.parts.Parts.{Parts}
 use Rattle.dg_unify.specs.declared.parts.Parts.TheVariants as form
 use Rattle.dg_unify.specs.declared.parts.Front.{Front}
-use Rattle.dg_unify.proofs.StoreLemmas.{told_is, holds_some, Younger, walked_to, found_var}
+use Rattle.dg_unify.proofs.StoreLemmas.{told_is, holds_some, walked_to}
 
 -- ## Captured values
 
@@ -118,11 +118,8 @@ module _ (s : Store) (sound : IsSubstitution s.state.subst) (p : Parts) (front :
   left_split : left_in s p ≡ 2 * (size (resolved S v) + sizes (all_resolved S (values_of s front.rest))) + more_than_one p
   left_split = ap (λ vs. 2 * sizes (all_resolved S vs) + more_than_one p) split.values
 
-  last_stands : front.rest ≡ form.Nothing → (n : ℕ) → stands_in s n p ≡ contains n (resolved S v)
+  pub last_stands : front.rest ≡ form.Nothing → (n : ℕ) → stands_in s n p ≡ contains n (resolved S v)
   last_stands last n = stands_split n ∙ ap (λ q. contains n (resolved S v) || stands_in s n q) last ∙ or_end (contains n (resolved S v))
-
-  pub last_var : front.rest ≡ form.Nothing → Younger s → (x y : Ref) (n : ℕ) → s.value x ≡ Some (Var n) → ShowsVar s (walked_to s front.first) y → eqb x.0 y.0 ≡ stands_in s n p
-  last_var last young x y n hx shows = found_var s sound young x front.first y n hx shows ∙ sym (last_stands last n)
 
   node_resolved : (f : Label) (vs : Values) → walked_to s front.first ≡ Node f vs → resolved S v ≡ Node f (all_resolved S vs)
   node_resolved f vs is = sym (walked S sound v).same ∙ ap (resolved S) is ∙ resolved_node S f vs

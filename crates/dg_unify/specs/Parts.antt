@@ -1,6 +1,7 @@
 -- What values of a store some parts are. Hold it against dg_meaning/specs/Values.antt.
 use Rattle.std.specs.Prelude.{◌≡◌, ℕ, zero, suc, Option, Some, None}
-use Rattle.dg_meaning.specs.Values.{Value, Var, Node, Values, NoMore, More}
+use Rattle.dg_meaning.specs.Values.{Label, Value, Var, Node, Values, NoMore, More}
+use Rattle.dg_meaning.specs.Substitutions.{walk, resolved, contains}
 use Rattle.dg_unify.specs.Store.{Store, told, Holds, IsClosureAt}
 use Rattle.dg_unify.specs.declared.bindings.Ref.{Ref}
 use Rattle.dg_unify.specs.declared.bindings.View.{View}
@@ -8,6 +9,8 @@ use Rattle.dg_unify.specs.declared.bindings.View.TheVariants as view
 use Rattle.dg_unify.specs.declared.parts.Parts.{Parts}
 use Rattle.dg_unify.specs.declared.parts.Parts.TheVariants as parts
 use Rattle.dg_unify.specs.declared.parts.Front.{Front}
+use Rattle.dg_unify.specs.declared.parts.Look.{Look}
+use Rattle.dg_unify.specs.declared.parts.Look.TheVariants as looks
 
 -- The parts of a value; a variable has none.
 abbrev pub parts_in : Value → Values
@@ -73,3 +76,15 @@ pub record ShowsInner (s : Store) (vs : Values) (inner : Parts) : Type 0 where
 abbrev pub IsVariable : View → Option Ref → Type 0
 IsVariable (view.Unbound r) var = var ≡ Some r
 IsVariable other var = var ≡ None
+
+-- A walked value is no variable, and its parts are left to look at.
+pub record IsOpened (s : Store) (at : Ref) (inner : Parts) : Type 0 where
+  pub label : Label
+  pub parts : Values
+  pub is : walk s.state.subst (told s at) ≡ Node label parts
+  pub shows : ShowsInner s parts inner
+
+-- What a look for the variable n tells of a value.
+abbrev pub LooksInto : Store → ℕ → Ref → Look → Type 0
+LooksInto s n at (looks.Ends found) = found ≡ contains n (resolved s.state.subst (told s at))
+LooksInto s n at (looks.Goes inner) = IsOpened s at inner

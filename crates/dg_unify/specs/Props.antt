@@ -6,7 +6,7 @@ use Rattle.dg_meaning.specs.Values.{Value}
 use Rattle.dg_meaning.specs.Substitutions.{Substitution, FitsFront, IsSubstitution}
 use Rattle.dg_unify.specs.Store.{IsTold}
 use Rattle.dg_unify.specs.Links.{Once, Lists, AreLinked}
-use Rattle.dg_unify.specs.Slots.{value_in, AreTold, IsFew, Begins, subst_of, Fits, Fields, AreSound}
+use Rattle.dg_unify.specs.Slots.{value_in, AreTold, IsFew, Fits, Fields, AreSound}
 use Rattle.dg_unify.specs.Fences.{AreClosed, IsFenced}
 use Rattle.dg_unify.specs.declared.bindings.Ref.{Ref}
 use Rattle.dg_unify.specs.declared.slots.Slot.{Slot}

@@ -5,7 +5,7 @@ ghost use Rattle.dg_meaning.specs.Values.{Label, Value, Var, Node, Values};
 ghost use Rattle.dg_meaning.specs.Substitutions.{all_resolved, any_contains};
 ghost use Rattle.dg_unify.specs.Store.{Store, Holds, Shows, IsClosureAt};
 ghost use Rattle.dg_unify.specs.declared.parts.Parts.TheVariants as form;
-ghost use Rattle.dg_unify.specs.Parts.{AreIn, values_of, SplitsInto, IsRest, ShowsInner, IsVariable};
+ghost use Rattle.dg_unify.specs.Parts.{AreIn, values_of, SplitsInto, IsRest, ShowsInner, IsVariable, LooksInto};
 
 use crate::bindings::{Bindings, Ref, View};
 
@@ -23,6 +23,13 @@ pub enum Parts {
 pub struct Front {
     pub first: Ref,
     pub rest: Parts,
+}
+
+/// What a look at a value tells: whether a variable stands in it, or the parts that are left to look at.
+#[derive(Clone, Copy)]
+pub enum Look {
+    Ends(bool),
+    Goes(Parts),
 }
 
 // The captured values from a number on.
@@ -92,6 +99,22 @@ pub fn inner(view: View) -> Parts
     }
 }
 
+// Looks whether an unbound variable stands in a value, up to its parts.
+fn look_into<B: Bindings>(store: &B, x: Ref, at: Ref) -> Look
+    requires x_in { (n : ℕ) × (B.meaning store.now).value x ≡ Some (Var n) }
+    requires at_in { Holds (B.meaning store.now) at }
+    ensures { (n : ℕ) → (B.meaning store.now).value x ≡ Some (Var n) → LooksInto (B.meaning store.now) n at result }
+{
+    if store.is_clear(x, at) {
+        return Look::Ends(false);
+    }
+    let view = store.walk(at);
+    match variable_of(view) {
+        Some(y) => Look::Ends(x.0 == y.0),
+        None => Look::Goes(inner(view)),
+    }
+}
+
 /// Whether an unbound variable stands in some values.
 pub fn occurs<B: Bindings>(store: &B, x: Ref, parts: Parts) -> bool
     requires parts_in { AreIn (B.meaning store.now) parts }
@@ -103,16 +126,10 @@ pub fn occurs<B: Bindings>(store: &B, x: Ref, parts: Parts) -> bool
         match split(store, parts) {
             None => return false,
             Some(front) => match front.rest {
-                Parts::Nothing => {
-                    if store.is_clear(x, front.first) {
-                        return false;
-                    }
-                    let view = store.walk(front.first);
-                    match variable_of(view) {
-                        Some(y) => return x.0 == y.0,
-                        None => parts = inner(view),
-                    }
-                }
+                Parts::Nothing => match look_into(store, x, front.first) {
+                    Look::Ends(found) => return found,
+                    Look::Goes(inner) => parts = inner,
+                },
                 _ => {
                     if occurs(store, x, Parts::One(front.first)) {
                         return true;
