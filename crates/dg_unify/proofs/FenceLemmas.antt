@@ -1,15 +1,16 @@
 -- Which values have only variables before a fence.
-use Rattle.std.proofs.Common.{◌≡◌, ℕ, zero, suc, ◌-◌, ◌<◌, ◌≤◌, List, [], ◌∷◌, ◌++◌, Bool, true, false, refl, sym, ap, ◌∙◌, arith, subst, Option, Some, None, inl, inr, length, length-append, append-nil, length-take, take, reverse}
-use Rattle.std.specs.Prelude.{eqb, nat_lt, nat_le, ◌||◌, ◌&&◌, not}
+use Rattle.std.proofs.Common.{◌≡◌, ℕ, zero, suc, ◌+◌, ◌-◌, ◌<◌, ◌≤◌, List, [], ◌∷◌, ◌++◌, Bool, true, false, refl, sym, ap, ◌∙◌, arith, subst, Option, Some, None, inl, inr, length, length-append, append-nil, length-take, take, reverse, get_or}
+use Rattle.std.specs.Prelude.{eqb, max, nat_lt, nat_le, ◌||◌, ◌&&◌, if◌then◌else◌}
 use Rattle.std.specs.List.{slice_get}
-use Rattle.std.proofs.lemmas.Bool.{cond_both, cases_lt, ne_eqb, ltb-true, leb-true, lt-ltb, lt-leb}
+use Rattle.std.proofs.lemmas.Bool.{or_cases, cond_both, cases_lt, ne_eqb, ltb-true, leb-true, lt-leb}
 use Rattle.dg_meaning.specs.Values.{Label, Value, Var, Node, Values, NoMore, More, Closure, Unknown, leaf, pair}
 use Rattle.dg_meaning.specs.Substitutions.{Substitution, replaced, all_replaced, resolved, contains, any_contains}
 use Rattle.dg_meaning.specs.Unify.{top, tops}
 use Rattle.dg_meaning.proofs.Walks.{or_false, replaced_absent, resolved_node}
 use Rattle.dg_unify.specs.Store.{Store, Saved, or_nil, IsTold}
 use Rattle.dg_unify.specs.Slots.{pair_told, captured_slot, captured_in, letters_in, closure_told, word_told, slot_value, label_at, value_at, value_in, subst_of, AreTold, Begins, Fits, Fields, AreSound, fields_at, Stand}
-use Rattle.dg_unify.specs.Fences.{AreClosed, IsFenced, is_before, stands_between, fence_for_new, fence_for_link}
+use Rattle.dg_unify.specs.Ends.{TellsOf, told_in}
+use Rattle.dg_unify.specs.Fences.{AreClosed, top_of_bound, IsFenced, stands_between, fence_for_new, fence_for_link}
 use Rattle.dg_unify.specs.declared.bindings.Ref.{Ref}
 use Rattle.dg_unify.specs.declared.bindings.Mark.{Mark}
 use Rattle.dg_unify.specs.declared.slots.Slot.{Slot}
@@ -18,7 +19,7 @@ use Rattle.dg_unify.specs.declared.slots.Link.{Link}
 use Rattle.dg_unify.specs.declared.fence.Fence.{Fence}
 use Rattle.dg_unify.proofs.Lists.{get_either, reverse_snoc}
 use Rattle.dg_unify.proofs.SlotsLemmas.{option_told, some_told, in_more, subst_more, simple_in, told_slot}
-use Rattle.dg_unify.proofs.Reading.{part_split, captured_is}
+use Rattle.dg_unify.proofs.Reading.{part_split, captured_is, var_read, shows_pair}
 use Rattle.dg_unify.proofs.Stores.{Grown}
 
 -- ## A variable that isn't before a fence stands in no value before it
@@ -52,6 +53,10 @@ resolved_below n (p ∷ S) c v h =
 
 pub behind_absent : (n q : ℕ) (S : Substitution) → AreClosed q S → (v : Value) → top v ≤ q → q ≤ n → contains n (resolved S v) ≡ false
 behind_absent n q S c v h le = below_absent n (resolved S v) (omega (arith, resolved_below q S c v h, le))
+
+within_closed : (n : ℕ) (S : Substitution) → top_of_bound S ≤ n → AreClosed n S
+within_closed n [] h = tt
+within_closed n (p ∷ S) h = (λ lt. omega (arith, h), within_closed n S (omega (arith, h)))
 
 -- ## Every value of a store has only variables that are there
 
@@ -101,9 +106,9 @@ module _ (slots : List Slot) (vars : ℕ) (below : (i n : ℕ) → slice_get slo
       (λ _ k. slot_below (value_at slots n) (value_below n) r (slice_get slots r) refl v k)
       (λ _ k. subst (λ (w : Value). top w ≤ vars) (some_value (leaf (label_at (r - 2147483648))) v k) (omega arith)) e
 
-  all_closed : (ls : List Link) → AreTold slots ls → AreClosed vars (subst_of slots ls)
-  all_closed [] h = tt
-  all_closed (l ∷ ls) h = (λ lt. value_below (length slots) l.to.0 (or_nil (value_in slots l.to.0)) (option_told (value_in slots l.to.0) h.0), all_closed ls h.1)
+  bound_below : (ls : List Link) → AreTold slots ls → top_of_bound (subst_of slots ls) ≤ vars
+  bound_below [] h = omega arith
+  bound_below (l ∷ ls) h = omega (arith, value_below (length slots) l.to.0 (or_nil (value_in slots l.to.0)) (option_told (value_in slots l.to.0) h.0), bound_below ls h.1)
 
 -- ## More slots say nothing new of the old ones
 
@@ -130,13 +135,17 @@ old_value slots extra ls vars b r v lt h =
 -- ## Where a fence may stand
 
 -- behind everything
-pub fenced_now : (slots : List Slot) (ls : List Link) (vars : ℕ) (fence : Fence) → Fits slots ls vars → fence ≡ record { slots = length slots; vars = vars } → IsFenced slots ls vars fence
-fenced_now slots ls vars fence b is = rw is (record {
-  slots_in = omega arith;
-  vars_in = omega arith;
-  values = λ r v lt h. value_below slots vars b.below (length slots) r v h;
-  closed = all_closed slots vars b.below ls b.told;
-})
+pub fenced_now : (slots : List Slot) (ls : List Link) (vars : ℕ) (fence : Fence) → Fits slots ls vars → fence ≡ record { slots = length slots; vars = vars; reach = vars } → IsFenced slots ls vars fence
+fenced_now slots ls vars fence b is =
+    let within = bound_below slots vars b.below ls b.told in
+    rw is (record {
+      slots_in = omega arith;
+      vars_in = omega arith;
+      values = λ r v lt h. value_below slots vars b.below (length slots) r v h;
+      closed = within_closed vars (subst_of slots ls) within;
+      further = omega arith;
+      within = within;
+    })
 
 -- where it stood before there were more slots and variables
 pub fenced_more : (slots extra : List Slot) (ls : List Link) (vars vars' : ℕ) (fence : Fence) → Fits slots ls vars → vars ≤ vars' → IsFenced slots ls vars fence → IsFenced (slots ++ extra) ls vars' fence
@@ -145,47 +154,77 @@ fenced_more slots extra ls vars vars' fence b le f = record {
   vars_in = omega (arith, f.vars_in, le);
   values = λ r v lt h. f.values r v lt (old_value slots extra ls vars b r v (omega (arith, lt, f.slots_in)) h);
   closed = rw (subst_more slots extra ls b.told) f.closed;
+  further = f.further;
+  within = rw (subst_more slots extra ls b.told) f.within;
 }
 
 -- where one more variable is made
-pub fenced_new : (slots extra : List Slot) (ls : List Link) (vars vars' : ℕ) (fence now : Fence) → Fits slots ls vars → vars ≤ vars' → now ≡ record { slots = length slots; vars = vars } → IsFenced slots ls vars fence → IsFenced (slots ++ extra) ls vars' (fence_for_new fence now)
+pub fenced_new : (slots extra : List Slot) (ls : List Link) (vars vars' : ℕ) (fence now : Fence) → Fits slots ls vars → vars ≤ vars' → now ≡ record { slots = length slots; vars = vars; reach = vars } → IsFenced slots ls vars fence → IsFenced (slots ++ extra) ls vars' (fence_for_new fence now)
 fenced_new slots extra ls vars vars' fence now b le is f =
     fenced_more slots extra ls vars vars' (fence_for_new fence now) b le
     (cond_both (eqb (now.slots - fence.slots) (now.vars - fence.vars)) fence now (IsFenced slots ls vars) (λ e. f) (λ e. fenced_now slots ls vars now b is))
 
--- a value before a fence has only variables before it
-slot_before : (fence : Fence) (at : Ref) → at.0 < 2147483648 → is_before fence at ≡ true → at.0 < fence.slots
-slot_before fence at lt is =
-    let e : nat_le 2147483648 at.0 ≡ false = lt-leb 2147483648 at.0 lt in
-    ltb-true at.0 fence.slots (sym (ap (λ b. b || nat_lt at.0 fence.slots) e) ∙ is)
-
-before_below : (slots : List Slot) (ls : List Link) (vars : ℕ) (fence : Fence) → IsFenced slots ls vars fence → (at : Ref) → IsTold (value_in slots at.0) → is_before fence at ≡ true → top (or_nil (value_in slots at.0)) ≤ fence.vars
-before_below slots ls vars fence f at told is =
-    elim (cases_lt at.0 2147483648) [
-      | inl lt ↦ f.values at.0 (or_nil (value_in slots at.0)) (slot_before fence at lt is) (option_told (value_in slots at.0) told)
-      | inr ge ↦ rw (simple_in slots at.0 (length slots) ge) (omega arith)
-    ]
-
-before_if : (a b : Bool) → a ≡ true → (a && not b) ≡ false → b ≡ true
-before_if true true e h = refl
-before_if true false e h = absurd (cc h)
-before_if false b e h = absurd (cc e)
-
--- behind one more binding, where it stays
-fenced_stays : (slots : List Slot) (ls : List Link) (vars : ℕ) (fence : Fence) (l : Link) → IsTold (value_in slots l.to.0) → (nat_lt l.var fence.vars && not (is_before fence l.to)) ≡ false → IsFenced slots ls vars fence → IsFenced slots (l ∷ ls) vars fence
-fenced_stays slots ls vars fence l told is f = record {
+-- behind one more binding: of a variable behind it, or to a value before it
+link_kept : (slots : List Slot) (ls : List Link) (vars : ℕ) (fence : Fence) (l : Link) (t : ℕ) → top (or_nil (value_in slots l.to.0)) ≤ t → (nat_le fence.vars l.var || nat_le t fence.vars) ≡ true → IsFenced slots ls vars fence → IsFenced slots (l ∷ ls) vars (record fence { reach = max fence.reach t })
+link_kept slots ls vars fence l t le is f = record {
   slots_in = f.slots_in;
   vars_in = f.vars_in;
   values = f.values;
-  closed = (λ lt. before_below slots ls vars fence f l.to told (before_if (nat_lt l.var fence.vars) (is_before fence l.to) (lt-ltb l.var fence.vars lt) is), f.closed);
+  closed = (λ lt. elim (or_cases (nat_le fence.vars l.var) (nat_le t fence.vars) is) [ inl e ↦ absurd (omega (arith, lt, leb-true fence.vars l.var e)) | inr e ↦ omega (arith, le, leb-true t fence.vars e) ], f.closed);
+  further = omega (arith, f.further);
+  within = omega (arith, f.within, le);
 }
 
--- behind one more binding
-pub fenced_link : (slots : List Slot) (ls : List Link) (vars : ℕ) (fence now : Fence) (l : Link) → Fits slots (l ∷ ls) vars → now ≡ record { slots = length slots; vars = vars } → IsFenced slots ls vars fence → IsFenced slots (l ∷ ls) vars (fence_for_link fence l.var l.to now)
-fenced_link slots ls vars fence now l b is f =
-    cond_both (nat_lt l.var fence.vars && not (is_before fence l.to)) now fence (IsFenced slots (l ∷ ls) vars)
-    (λ e. fenced_now slots (l ∷ ls) vars now b is)
-    (λ e. fenced_stays slots ls vars fence l b.told.0 e f)
+-- behind one more binding, for which more variables come before it
+link_moved : (slots : List Slot) (ls : List Link) (vars : ℕ) (fence : Fence) (l : Link) (t : ℕ) → top (or_nil (value_in slots l.to.0)) ≤ t → max fence.reach t < vars → IsFenced slots ls vars fence → IsFenced slots (l ∷ ls) vars (record { slots = fence.slots; vars = max fence.reach t; reach = max fence.reach t })
+link_moved slots ls vars fence l t le lt f =
+    let within : top_of_bound (subst_of slots (l ∷ ls)) ≤ max fence.reach t = omega (arith, f.within, le) in
+    record {
+      slots_in = f.slots_in;
+      vars_in = omega (arith, lt);
+      values = λ r v r_in h. omega (arith, f.values r v r_in h, f.further);
+      closed = within_closed (max fence.reach t) (subst_of slots (l ∷ ls)) within;
+      further = omega arith;
+      within = within;
+    }
+
+pub fenced_link : (slots : List Slot) (ls : List Link) (vars : ℕ) (fence now : Fence) (l : Link) (t : ℕ) → Fits slots (l ∷ ls) vars → top (or_nil (value_in slots l.to.0)) ≤ t → now ≡ record { slots = length slots; vars = vars; reach = vars } → IsFenced slots ls vars fence → IsFenced slots (l ∷ ls) vars (fence_for_link fence l.var t now)
+fenced_link slots ls vars fence now l t b le is f =
+    let r = max fence.reach t in
+    let moved : Fence = record { slots = fence.slots; vars = r; reach = r } in
+    let same : now.vars ≡ vars = ap (λ (k : Fence). k.vars) is in
+    cond_both (nat_le fence.vars l.var || nat_le t fence.vars) (record fence { reach = r }) (if nat_lt r now.vars then moved else now) (IsFenced slots (l ∷ ls) vars)
+    (λ e. link_kept slots ls vars fence l t le e f)
+    (λ _. cond_both (nat_lt r now.vars) moved now (IsFenced slots (l ∷ ls) vars)
+    (λ e. link_moved slots ls vars fence l t le (omega (arith, ltb-true r now.vars e, same)) f)
+    (λ _. fenced_now slots (l ∷ ls) vars now b is))
+
+-- ## A number above each variable of a value
+
+module _ (f : Fields) (fence : Fence) (sound : AreSound f) (fenced : IsFenced f.slots (reverse f.log) f.vars fence) (at : Ref) (told : TellsOf f at) where
+  pub top_simple : 2147483648 ≤ at.0 → top (told_in f at) ≤ 0
+  top_simple ge = rw (simple_in f.slots at.0 (length f.slots) ge) (omega arith)
+
+  pub top_before : at.0 < fence.slots → top (told_in f at) ≤ fence.vars
+  top_before lt = fenced.values at.0 (told_in f at) lt (option_told (value_in f.slots at.0) told)
+
+  pub top_all : top (told_in f at) ≤ f.vars
+  top_all = value_below f.slots f.vars sound.fits.below (length f.slots) at.0 (told_in f at) (option_told (value_in f.slots at.0) told)
+
+  pub top_var : at.0 < 2147483648 → (x : Slot) → x ≡ get_or f.slots at.0 x → (n : ℕ) → x ≡ slot.Var n → top (told_in f at) ≤ n + 1
+  top_var lt x read n is = let e : told_in f at ≡ Var n = ap or_nil (var_read f sound at told lt x read n is).0 in rw e (omega arith)
+
+  pub pair_tells : at.0 < 2147483648 → (x : Slot) → x ≡ get_or f.slots at.0 x → (h t : Ref) → x ≡ slot.Pair h t → TellsOf f h × TellsOf f t
+  pair_tells lt x read h t is =
+      let p = shows_pair f sound at told lt x read h t is true in
+      (some_told (value_in f.slots h.0) p.head p.head_is, some_told (value_in f.slots t.0) p.tail p.tail_is)
+
+  pub top_pair : at.0 < 2147483648 → (x : Slot) → x ≡ get_or f.slots at.0 x → (h t : Ref) → x ≡ slot.Pair h t → (m n : ℕ) → top (told_in f h) ≤ m → top (told_in f t) ≤ n → top (told_in f at) ≤ max m n
+  top_pair lt x read h t is m n hm hn =
+      let p = shows_pair f sound at told lt x read h t is true in
+      let eh : told_in f h ≡ p.head = ap or_nil p.head_is in
+      let et : told_in f t ≡ p.tail = ap or_nil p.tail_is in
+      rw p.is (omega (arith, ap top eh, ap top et, hm, hn))
 
 -- ## The same, with all that a store keeps
 
@@ -193,7 +232,7 @@ abbrev pub Stays : Fields → Fence → Type 0
 Stays f fence = IsFenced f.slots (reverse f.log) f.vars fence
 
 abbrev pub end_of : Fields → Fence
-end_of f = record { slots = length f.slots; vars = f.vars }
+end_of f = record { slots = length f.slots; vars = f.vars; reach = f.vars }
 
 pub fence_kept : (f f' : Fields) (extra : List Slot) (fence : Fence) → AreSound f → Grown f f' extra [] → f.vars ≤ f'.vars → Stays f fence → Stays f' fence
 fence_kept f f' extra fence sound g le h =
@@ -205,23 +244,24 @@ fence_made f f' extra fence now next sound g le is chosen h =
     let e : f'.log ≡ f.log = g.log ∙ append-nil f.log in
     rw (g.slots, e, chosen) (fenced_new f.slots extra (reverse f.log) f.vars f'.vars fence now sound.fits le is h)
 
-pub fence_linked : (f f' : Fields) (fence now next : Fence) (l : Link) → AreSound f' → Grown f f' [] (l ∷ []) → f'.vars ≡ f.vars → now ≡ end_of f' → next ≡ fence_for_link fence l.var l.to now → Stays f fence → Stays f' next
-fence_linked f f' fence now next l sound g ev is chosen h =
+pub fence_linked : (f f' : Fields) (fence now next : Fence) (l : Link) (t : ℕ) → AreSound f' → Grown f f' [] (l ∷ []) → f'.vars ≡ f.vars → top (told_in f l.to) ≤ t → now ≡ end_of f' → next ≡ fence_for_link fence l.var t now → Stays f fence → Stays f' next
+fence_linked f f' fence now next l t sound g ev le is chosen h =
     let es : f'.slots ≡ f.slots = g.slots ∙ append-nil f.slots in
     let el : reverse f'.log ≡ l ∷ reverse f.log = ap reverse g.log ∙ reverse_snoc f.log l in
     let old : IsFenced f'.slots (reverse f.log) f'.vars fence = rw (es, ev) h in
     let fits : Fits f'.slots (l ∷ reverse f.log) f'.vars = rw el at sound.fits in
-    rw (el, chosen) (fenced_link f'.slots (reverse f.log) f'.vars fence now l fits is old)
+    let top_in : top (or_nil (value_in f'.slots l.to.0)) ≤ t = rw es le in
+    rw (el, chosen) (fenced_link f'.slots (reverse f.log) f'.vars fence now l t fits top_in is old)
 
 pub fence_moved : (f : Fields) (fence : Fence) → AreSound f → fence ≡ end_of f → Stays f fence
 fence_moved f fence sound is = fenced_now f.slots (reverse f.log) f.vars fence sound.fits is
 
 -- behind all that was there at a mark
-pub fence_undone : (f f' : Fields) (to : Mark) (s : Store) (ms : List Saved) → f' ≡ fields_at f to → Stand true f (record { mark = to; store = s } ∷ ms) → Stays f' (record { slots = to.slots; vars = to.vars })
+pub fence_undone : (f f' : Fields) (to : Mark) (s : Store) (ms : List Saved) → f' ≡ fields_at f to → Stand true f (record { mark = to; store = s } ∷ ms) → Stays f' (record { slots = to.slots; vars = to.vars; reach = to.vars })
 fence_undone f f' to s ms e h =
     let n : length (take to.slots f.slots) ≡ to.slots = omega (arith, length-take to.slots f.slots, h.0) in
-    let is : record { slots = to.slots; vars = to.vars } ≡ end_of (fields_at f to) = rw n refl in
-    subst (λ k. Stays k (record { slots = to.slots; vars = to.vars })) (sym e) (fence_moved (fields_at f to) (record { slots = to.slots; vars = to.vars }) h.3.sound is)
+    let is : record { slots = to.slots; vars = to.vars; reach = to.vars } ≡ end_of (fields_at f to) = rw n refl in
+    subst (λ k. Stays k (record { slots = to.slots; vars = to.vars; reach = to.vars })) (sym e) (fence_moved (fields_at f to) (record { slots = to.slots; vars = to.vars; reach = to.vars }) h.3.sound is)
 
 -- ## What stands on either side of a fence
 

@@ -1,27 +1,22 @@
 // Which variables can't stand in which values.
 
 ghost use Rattle.std.specs.Prelude.{◌≡◌, ◌≤◌};
-ghost use Rattle.dg_unify.specs.Fences.{is_before, stands_between, fence_for_new, fence_for_link};
+ghost use Rattle.dg_unify.specs.Fences.{stands_between, fence_for_new, fence_for_link};
 
 use crate::bindings::Ref;
 use crate::slots::FIRST_SIMPLE;
 
 /// So many slots and variables stand before it: no value of these slots has a variable behind it, nor has what one of
-/// these variables is bound to.
+/// these variables is bound to. And no variable at all is bound to a value with a variable whose number is `reach` or
+/// more.
 #[derive(Clone, Copy)]
 pub struct Fence {
     pub slots: usize,
     pub vars: usize,
+    pub reach: usize,
 }
 
 impl Fence {
-    /// Whether a value stands before it. One without parts does.
-    pub fn is_before(self, at: Ref) -> bool
-        ensures { result ≡ is_before self at }
-    {
-        at.0 >= FIRST_SIMPLE || (at.0 as usize) < self.slots
-    }
-
     /// Whether a value has no parts, or stands before it and a variable behind it.
     pub fn stands_between(self, at: Ref, var: u32) -> bool
         ensures { result ≡ stands_between self at var }
@@ -42,14 +37,22 @@ impl Fence {
         }
     }
 
-    /// Where it stands when a variable was bound: it moves where a variable before it was bound to a value that isn't.
-    pub fn for_link(self, var: u32, to: Ref, now: Fence) -> Fence
-        ensures { result ≡ fence_for_link self var to now }
+    /// Where it stands when a variable is bound to a value with variables below `top`: where the variable was before it
+    /// and the value isn't, more variables come before it.
+    pub fn for_link(self, var: u32, top: usize, now: Fence) -> Fence
+        ensures { result ≡ fence_for_link self var top now }
     {
-        if (var as usize) < self.vars && !self.is_before(to) {
-            now
+        let reach = self.reach.max(top);
+        if (var as usize) >= self.vars || top <= self.vars {
+            Fence { reach, ..self }
+        } else if reach < now.vars {
+            Fence {
+                slots: self.slots,
+                vars: reach,
+                reach,
+            }
         } else {
-            self
+            now
         }
     }
 }

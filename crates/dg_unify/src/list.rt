@@ -34,6 +34,7 @@ pub struct ListBindings {
 }
 
 impl ListBindings {
+    ghost use Rattle.dg_meaning.specs.Unify.{top};
     ghost use Rattle.dg_unify.specs.Store.{Saved, Kept, Shows, TrailFull, Bound};
     ghost use Rattle.dg_unify.specs.Ends.{TellsOf, told_in, IsEnd, Leads, EndsAt, MayLink};
     ghost use Rattle.dg_unify.specs.Listed.{fields_of};
@@ -50,17 +51,43 @@ impl ListBindings {
             trail: 0,
             heap_limit: heap,
             trail_limit: trail,
-            fence: Fence { slots: 0, vars: 0 },
+            fence: Fence {
+                slots: 0,
+                vars: 0,
+                reach: 0,
+            },
         }
     }
 
     // The fence behind all slots and variables.
     fn fence_now(&self) -> Fence
-        ensures { result ≡ record { slots = length self.now.slots.items; vars = vars_of self.now.links } }
+        ensures { result ≡ record { slots = length self.now.slots.items; vars = vars_of self.now.links; reach = vars_of self.now.links } }
     {
         Fence {
             slots: self.slots.len(),
             vars: self.links.vars(),
+            reach: self.links.vars(),
+        }
+    }
+
+    // A number above each variable of a value. It looks into so many pairs, each in another.
+    fn top_of(&self, at: Ref, depth: u8) -> usize
+        requires { TellsOf (fields_of self.now) at }
+        ensures { top (told_in (fields_of self.now) at) ≤ result }
+    {
+        if at.0 >= FIRST_SIMPLE {
+            return 0;
+        }
+        if (at.0 as usize) < self.fence.slots {
+            return self.fence.vars;
+        }
+        match self.slots[at.0 as usize] {
+            Slot::Var(number) => number as usize + 1,
+            Slot::Pair(head, tail) if depth > 0 => {
+                let top = self.top_of(head, depth - 1);
+                top.max(self.top_of(tail, depth - 1))
+            }
+            _ => self.links.vars(),
         }
     }
 
@@ -120,7 +147,9 @@ impl ListBindings {
         if self.trail_limit - self.trail < more {
             return Err(Full::Trail);
         }
-        let fence = self.fence.for_link(var, to, self.fence_now());
+        let fence = self
+            .fence
+            .for_link(var, self.top_of(to, 3), self.fence_now());
         match self.links.bind(var, to) {
             Ok(()) => {
                 self.trail += more;
@@ -292,6 +321,7 @@ impl Bindings for ListBindings {
         self.fence = Fence {
             slots: to.slots,
             vars: to.vars,
+            reach: to.vars,
         };
     }
 }
