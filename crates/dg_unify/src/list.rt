@@ -70,8 +70,22 @@ impl ListBindings {
         }
     }
 
-    // A number above each variable of a value. It looks into so many pairs, each in another.
-    fn top_of(&self, at: Ref, depth: u8) -> usize
+    // A number above each variable of a value.
+    fn top_of(&self, at: Ref) -> usize
+        requires { TellsOf (fields_of self.now) at }
+        ensures { top (told_in (fields_of self.now) at) ≤ result }
+    {
+        if at.0 >= FIRST_SIMPLE {
+            0
+        } else if (at.0 as usize) < self.fence.slots {
+            self.fence.vars
+        } else {
+            self.top_within(at, 3)
+        }
+    }
+
+    // The same, from a look into so many pairs, each in another.
+    fn top_within(&self, at: Ref, depth: u8) -> usize
         requires { TellsOf (fields_of self.now) at }
         ensures { top (told_in (fields_of self.now) at) ≤ result }
     {
@@ -84,8 +98,8 @@ impl ListBindings {
         match self.slots[at.0 as usize] {
             Slot::Var(number) => number as usize + 1,
             Slot::Pair(head, tail) if depth > 0 => {
-                let top = self.top_of(head, depth - 1);
-                top.max(self.top_of(tail, depth - 1))
+                let top = self.top_within(head, depth - 1);
+                top.max(self.top_within(tail, depth - 1))
             }
             _ => self.links.vars(),
         }
@@ -147,9 +161,7 @@ impl ListBindings {
         if self.trail_limit - self.trail < more {
             return Err(Full::Trail);
         }
-        let fence = self
-            .fence
-            .for_link(var, self.top_of(to, 3), self.fence_now());
+        let fence = self.fence.for_link(var, self.top_of(to), self.fence_now());
         match self.links.bind(var, to) {
             Ok(()) => {
                 self.trail += more;

@@ -1,4 +1,0 @@
-use Rattle.dg_unify.proofs.list.ListBindings.+top_of.Given as goal
-
-abbrev pub decreases-top_of : goal.decreases-top_of
-decreases-top_of l = l.depth
