@@ -47,7 +47,7 @@ pred_rules names name (i ∷ is) =
 
 -- ---- numbers
 
-place_if : (n : List ℕ) (ms : List (List ℕ)) (o : Option ℕ) → position (bytes_eq n) ms ≡ o → Contains ms n → (k : ℕ) × (position (bytes_eq n) ms ≡ Some k)
+pub place_if : (n : List ℕ) (ms : List (List ℕ)) (o : Option ℕ) → position (bytes_eq n) ms ≡ o → Contains ms n → (k : ℕ) × (position (bytes_eq n) ms ≡ Some k)
 place_if n ms (Some k) e there = (k, e)
 place_if n ms None e there =
     let apart : bytes_eq n n ≡ false = All-contains (λ (m : List ℕ). bytes_eq n m ≡ false) ms n (All-from_recursion (λ (m : List ℕ). bytes_eq n m ≡ false) ms (apart_from_none n ms e)) there in
@@ -56,7 +56,7 @@ place_if n ms None e there =
 below : (a b : ℕ) → a < b → nat_lt a b ≡ true
 below a b h = grind (arith, common_steps, h)
 
-small : (k : ℕ) → k < 65536 → in_16_bits k ≡ k
+pub small : (k : ℕ) → k < 65536 → in_16_bits k ≡ k
 small k h = ap (λ (b : Bool). if b then k else 0) (below k 65536 h)
 
 -- a name among names is the one at its number

@@ -3,3 +3,4 @@ pub mod Variables
 pub mod Goals
 pub mod Core
 pub mod View
+pub mod Given

@@ -10,5 +10,5 @@ mod terms;
 mod variables;
 
 pub use forms::{are_built, first_unbuilt};
-pub use laws::{entry_fits, queries_fit};
+pub use laws::{core_is_sound, entry_fits, queries_fit};
 pub use program::lower;

@@ -4,10 +4,12 @@ ghost use Rattle.std.specs.List.{IsDistinct};
 ghost use Rattle.std.specs.Str.{bytes_eq};
 ghost use Rattle.dg_base.specs.Faults.{IsFault};
 ghost use Rattle.dg_base.specs.Heads.{name_of as head_name};
+ghost use Rattle.dg_base.specs.Sound.{IsSound};
 ghost use Rattle.dg_base.specs.TreeView.{body_view, head_view, said_view, item_view, tree_view};
 ghost use Rattle.dg_names.specs.State.{listed, names_view};
 ghost use Rattle.dg_lower.specs.Core as spec;
 ghost use Rattle.dg_lower.specs.Forms.{are_built};
+ghost use Rattle.dg_lower.specs.Given.{IsGiven};
 ghost use Rattle.dg_lower.specs.View.{with_rule, with_rules_in, pred_names};
 
 use crate::goals::add_body;
@@ -212,6 +214,7 @@ pub fn lower(alloc: Global, tree: Tree, names: Names) -> Result<CoreProgram, Rea
     requires { are_built (tree_view tree) ≡ true }
     ensures core { IfOk result (λ core. core ≡ spec.core_of (names_view names) (tree_view tree)) }
     ensures accepted { IfOk result (λ _. spec.has_entry (tree_view tree) ≡ true) }
+    ensures sound { IsGiven (names_view names) (tree_view tree) → IfOk result IsSound }
     ensures refused { IfErr result (IsFault (λ r. (spec.has_entry (tree_view tree) ≡ false) × (r ≡ record { kind = Kind.NoEntry; line = 1 }))) }
 {
     if !has_entry(alloc, &tree)? {
