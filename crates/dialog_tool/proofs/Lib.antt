@@ -7,3 +7,5 @@ pub mod SourceLemmas
 pub mod AnswerLemmas
 pub mod PlayLemmas
 pub mod StoryLemmas
+pub mod FirstLemmas
+pub mod FewLemmas
