@@ -9,3 +9,4 @@ pub mod PlayLemmas
 pub mod StoryLemmas
 pub mod FirstLemmas
 pub mod FewLemmas
+pub mod KeptLemmas

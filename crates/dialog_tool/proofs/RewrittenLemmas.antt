@@ -212,7 +212,7 @@ item_built t (tree.access ps b) h = cc
 item_built t (tree.global_variable ps) h = cc
 
 -- each item before the end is built
-first_is_built : (i : Item) (is : List Item) → first_unbuilt (i ∷ is) ≡ None → (is_item Head InBody i.said ≡ true) × (first_unbuilt is ≡ None)
+pub first_is_built : (i : Item) (is : List Item) → first_unbuilt (i ∷ is) ≡ None → (is_item Head InBody i.said ≡ true) × (first_unbuilt is ≡ None)
 first_is_built i is h = here (is_item Head InBody i.said) refl h
   where
     here : (b : Bool) → is_item Head InBody i.said ≡ b → (if b then first_unbuilt is else Some i.line) ≡ None → (is_item Head InBody i.said ≡ true) × (first_unbuilt is ≡ None)
