@@ -10,3 +10,5 @@ pub mod StoryLemmas
 pub mod FirstLemmas
 pub mod FewLemmas
 pub mod KeptLemmas
+pub mod MentionedLemmas
+pub mod NamesLemmas
