@@ -36,7 +36,7 @@ back_holds : (P : Mention → Type 0) (a b : Mentions) → Hold P (join a b) →
 back_holds P nothing b h = h
 back_holds P (mention m ms) b h = back_holds P ms b h.1
 
-both_hold : (P : Mention → Type 0) (a b : Mentions) → Hold P a → Hold P b → Hold P (join a b)
+pub both_hold : (P : Mention → Type 0) (a b : Mentions) → Hold P a → Hold P b → Hold P (join a b)
 both_hold P nothing b h k = k
 both_hold P (mention m ms) b h k = (h.0, both_hold P ms b h.1 k)
 
@@ -48,7 +48,7 @@ pub all_front : {X : Type 0} (P : X → Type 0) (xs ys : List X) → All P (xs +
 all_front P [] ys h = All-nil P
 all_front P (x ∷ xs) ys h = All-cons P x xs (All-head P x (xs ++ ys) h) (all_front P xs ys (All-tail P x (xs ++ ys) h))
 
-holds_from_all : (P : Mention → Type 0) (ms : Mentions) → All P (at_depth ms) → Hold P ms
+pub holds_from_all : (P : Mention → Type 0) (ms : Mentions) → All P (at_depth ms) → Hold P ms
 holds_from_all P nothing h = tt
 holds_from_all P (mention m ms) h = (All-head P m (inside m ++ at_depth ms) h, holds_from_all P ms (all_behind P (inside m) (at_depth ms) (All-tail P m (inside m ++ at_depth ms) h)))
 
