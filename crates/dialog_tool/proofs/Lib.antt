@@ -12,3 +12,5 @@ pub mod FewLemmas
 pub mod KeptLemmas
 pub mod MentionedLemmas
 pub mod NamesLemmas
+pub mod TextLemmas
+pub mod ReadableLemmas
