@@ -14,3 +14,5 @@ pub mod MentionedLemmas
 pub mod NamesLemmas
 pub mod TextLemmas
 pub mod ReadableLemmas
+pub mod StretchLemmas
+pub mod LexedLemmas

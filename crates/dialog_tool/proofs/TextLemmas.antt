@@ -105,7 +105,7 @@ cut xs (c ∷ ys) small u =
 
 -- ---- escapes
 
-moved : (done : List ℕ) (c : ℕ) (cs : List ℕ) → IsUtf8 (done ++ c ∷ cs) → IsUtf8 ((done ++ c ∷ []) ++ cs)
+pub moved : (done : List ℕ) (c : ℕ) (cs : List ℕ) → IsUtf8 (done ++ c ∷ cs) → IsUtf8 ((done ++ c ∷ []) ++ cs)
 moved done c cs u = subst IsUtf8 (sym (append_assoc done (c ∷ []) cs)) u
 
 back_moved : (done : List ℕ) (c : ℕ) (cs : List ℕ) → IsUtf8 ((done ++ c ∷ []) ++ cs) → IsUtf8 (done ++ c ∷ cs)
@@ -143,7 +143,7 @@ no_text = record { utf8 = IsUtf8-nil; clean = All-nil IsClean }
 sign_text : (c : ℕ) → 32 ≤ c → c < 127 → IsText (c ∷ [])
 sign_text c from to = record { utf8 = one_utf8 c (omega arith); clean = All-cons IsClean c [] (record { from = from; no_delete = λ e. omega arith; low = omega arith }) (All-nil IsClean) }
 
-among_small : (c : ℕ) (ks : List ℕ) → list_all (λ k. nat_lt k 127) ks ≡ true → list_any (nat_eq c) ks ≡ true → c < 127
+pub among_small : (c : ℕ) (ks : List ℕ) → list_all (λ k. nat_lt k 127) ks ≡ true → list_any (nat_eq c) ks ≡ true → c < 127
 among_small c [] small e = cc
 among_small c (k ∷ ks) small e =
     let each = and_parts (nat_lt k 127) (list_all (λ j. nat_lt j 127) ks) small in
