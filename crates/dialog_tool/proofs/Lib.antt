@@ -16,3 +16,4 @@ pub mod TextLemmas
 pub mod ReadableLemmas
 pub mod StretchLemmas
 pub mod LexedLemmas
+pub mod GivenLemmas

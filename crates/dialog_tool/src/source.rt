@@ -3,6 +3,7 @@ ghost use Rattle.std.specs.Prelude.{◌≡◌, ◌⊎◌, List, None, Ok, Err, I
 ghost use Rattle.dg_access.specs.Rewritten.{IsRewritten};
 ghost use Rattle.dg_base.specs.Tree.{Item};
 ghost use Rattle.dg_base.specs.Faults.{IsFault};
+ghost use Rattle.dg_base.specs.Sound.{IsSound};
 ghost use Rattle.dg_base.specs.TreeView.{tree_view};
 ghost use Rattle.dg_lower.specs.Forms.{first_unbuilt};
 ghost use Rattle.dg_meaning.specs.Built.{IsBuilt};
@@ -64,6 +65,7 @@ fn program_of(alloc: Global, tree: Tree) -> Result<CoreProgram, ReadFault>
 pub fn compile(alloc: Global, source: &[u8]) -> Result<CoreProgram, ReadFault>
     ensures program { IfOk result (λ p. Compiles source.now (Ok p)) }
     ensures built { IfOk result IsBuilt }
+    ensures sound { IfOk result IsSound }
     ensures refused { IfErr result (IsFault (λ r. Compiles source.now (Err r))) }
 {
     let tokens = match lex(alloc, source) {

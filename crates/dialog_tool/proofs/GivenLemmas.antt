@@ -1,0 +1,78 @@
+-- The core program of a source is sound.
+use Rattle.std.proofs.Common.{◌≡◌, ℕ, List, [], map, Bool, true, false, Option, Some, None, Result, Ok, Err, refl, sym, ◌∙◌, ap, subst}
+use Rattle.std.specs.Prelude.{if◌then◌else◌}
+use Rattle.std.specs.List.{All}
+use Rattle.dg_base.specs.Sound.{IsSound}
+use Rattle.dg_base.specs.Tree.{Item}
+use Rattle.dg_base.specs.declared.program.CoreProgram.{CoreProgram as Core}
+use Rattle.dg_base.specs.declared.refusal.Refusal.{Refusal}
+use Rattle.dg_base.specs.declared.refusal.Kind.TheVariants.{NoEntry}
+use Rattle.dg_access.specs.Counts as plain
+use Rattle.dg_access.specs.Items.{plain_items}
+use Rattle.dg_access.specs.Rewritten.{IsRewritten}
+use Rattle.dg_lex.specs.Bad.{refusal_of}
+use Rattle.dg_lex.specs.Tokens.{IsLexed, seen}
+use Rattle.dg_lex.specs.declared.token.Token.{Token}
+use Rattle.dg_lower.specs.Core.{core_of, has_entry}
+use Rattle.dg_lower.specs.Forms.{first_unbuilt, are_built}
+use Rattle.dg_lower.specs.Given.{IsGiven, SaidMeets}
+use Rattle.dg_lower.proofs.SoundLemmas.{core_sound}
+use Rattle.dg_names.specs.Counts.{IsNamed, first_passing}
+use Rattle.dg_names.specs.Named.{Named, names_in, mentioned, word_in, names_of}
+use Rattle.dg_reader.specs.Read.{IsRead}
+use Rattle.dialog_tool.specs.Source.{refusal_at, program_of, IsProgram, not_named, not_built, not_rewritten, lowered, Compiles, not_lexed, not_read, read}
+use Rattle.dialog_tool.proofs.FewLemmas.{items_few}
+use Rattle.dialog_tool.proofs.FirstLemmas.{firsts_differ}
+use Rattle.dialog_tool.proofs.KeptLemmas.{items_kept}
+use Rattle.dialog_tool.proofs.LexedLemmas.{lexed_spelled}
+use Rattle.dialog_tool.proofs.MentionedLemmas.{readable, items_among}
+use Rattle.dialog_tool.proofs.NamesLemmas.{preds_named, objects_named, words_named, all_among, names_few}
+use Rattle.dialog_tool.proofs.ReadableLemmas.{items_read}
+use Rattle.dialog_tool.proofs.RewrittenLemmas.{items_built}
+
+-- ---- what is read is given
+
+abbrev AreReadable : List Item → Type 0
+AreReadable items = All (λ (i : Item). SaidMeets readable i.said) items
+
+plain_given : (items : List Item) → AreReadable items → first_unbuilt items ≡ None → first_passing [] items ≡ None → plain.first_passing [] (plain_items None items) ≡ None → IsGiven (names_of items) (plain_items None items)
+plain_given items r built few plain_few = record {
+  things = items_kept (names_of items) None items tt built (items_among (names_of items) items built r (all_among items));
+  few_variables = items_few [] (plain_items None items) (items_built None items built) plain_few;
+  preds = preds_named items built r;
+  objects = objects_named items built r;
+  words = words_named items built r;
+  words_differ = firsts_differ (names_in word_in (mentioned items));
+  few_preds = (names_few items few).preds;
+  few_objects = (names_few items few).objects;
+  few_words = (names_few items few).words;
+}
+
+items_given : (items : List Item) (named : Named) (plain : List Item) → AreReadable items → IsNamed items (Ok named) → first_unbuilt items ≡ None → IsRewritten items (Ok plain) → IsGiven named plain
+items_given items named plain r n built w =
+    subst (λ (d : Named). IsGiven d plain) (sym n.1) (subst (λ (is : List Item). IsGiven (names_of items) is) (sym w.1) (plain_given items r built n.0 w.0))
+
+-- a tree and its names are given that come from a source which is accepted
+pub source_given : (source : List ℕ) (tokens : List Token) (items : List Item) (named : Named) (plain : List Item) → refusal_of source ≡ None → IsLexed source tokens → IsRead (map seen tokens) (Ok items) → IsNamed items (Ok named) → first_unbuilt items ≡ None → IsRewritten items (Ok plain) → IsGiven named plain
+source_given source tokens items named plain accepted lexed is n built w =
+    items_given items named plain (items_read false (map seen tokens) items [] is built (lexed_spelled source tokens accepted lexed)) n built w
+
+-- ---- the program
+
+entered : (named : Named) (plain : List Item) (p : Core) (b : Bool) → has_entry plain ≡ b → Ok p ≡ (if b then Ok (core_of named plain) else Err (refusal_at NoEntry 1)) → IsGiven named plain → are_built plain ≡ true → IsSound p
+entered named plain p true q e given built = let same : core_of named plain ≡ p = cc in subst IsSound same (core_sound named plain given built q)
+entered named plain p false q e given built = cc
+
+program_sound : (source : List ℕ) (tokens : List Token) (items : List Item) (p : Core) → refusal_of source ≡ None → IsLexed source tokens → IsRead (map seen tokens) (Ok items) → IsProgram items (Ok p) → IsSound p
+program_sound source tokens items p accepted lexed is (not_named r h e) = cc
+program_sound source tokens items p accepted lexed is (not_built n h l u e) = cc
+program_sound source tokens items p accepted lexed is (not_rewritten n h u r w e) = cc
+program_sound source tokens items p accepted lexed is (lowered n h u plain w e) =
+    entered n plain p (has_entry plain) refl e (source_given source tokens items n plain accepted lexed is h u w)
+    (subst (λ (l : List Item). are_built l ≡ true) (sym w.1) (items_built None items u))
+
+-- what a source compiles to is sound
+pub compiled_sound : (source : List ℕ) (p : Core) → Compiles source (Ok p) → IsSound p
+compiled_sound source p (not_lexed r h e) = cc
+compiled_sound source p (not_read none tokens lexed r is e) = cc
+compiled_sound source p (read none tokens lexed items is program) = program_sound source tokens items p none lexed is program
