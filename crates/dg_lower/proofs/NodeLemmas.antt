@@ -1,9 +1,8 @@
 -- The goals in a goal, by what it is made of.
 use Rattle.std.proofs.Common.{◌≡◌, List, [], ◌∷◌, ◌++◌, refl, sym, ◌∙◌, ap}
 use Rattle.std.specs.List.{flat_map}
-use Rattle.dg_base.specs.declared.program.Goal.{Goal, out-Goal, out-roll-Goal, Row_of-Goal, end_of-Goal, more_of-Goal, items-the_row-Goal, items_shown-the_row-Goal-0, Row_of-Goal-Either-0-1, end_of-Goal-Either-0-1, more_of-Goal-Either-0-1, items-the_row-Goal-Either-0-1, items_shown-the_row-Goal-Either-0-1-1}
+use Rattle.dg_base.specs.declared.program.Goal.{Goal, out-Goal, Row_of-Goal, end_of-Goal, more_of-Goal, items-the_row-Goal, items_shown-the_row-Goal-0, Row_of-Goal-Either-0-1, end_of-Goal-Either-0-1, more_of-Goal-Either-0-1, items-the_row-Goal-Either-0-1, items_shown-the_row-Goal-Either-0-1-1}
 use Rattle.dg_base.specs.declared.program.Goal.{Either', Once', Not', If', Exhaust', Collect', Accumulate', Stoppable', Select'}
-use Rattle.dg_base.specs.declared.program.Goal.TheVariants as goal
 use Rattle.dg_base.specs.declared.program.Goal.TheOpen as part
 use Rattle.dg_base.specs.Goals.{goals_within, within_goals, within_lists, goals_of}
 use denote.Hole.Carrier.{out}
@@ -49,8 +48,3 @@ within_out (If' s a t b u c) =
 within_out (Either' s k) = ap (λ (l : List Goal). Either' s k ∷ l) (within_lists_row k ∙ ap (flat_map goals_of) (sym (items_shown-the_row-Goal-Either-0-1-1 s k)))
 within_out (Select' site mode s k) = ap (λ (l : List Goal). Select' site mode s k ∷ l) (within_lists_row k ∙ ap (flat_map goals_of) (sym (items_shown-the_row-Goal-Either-0-1-1 s k)))
 within_out g = refl
-
-pub either_within : (lists : List (List Goal)) → goals_within (goal.Either lists) ≡ goal.Either lists ∷ flat_map goals_of lists
-either_within lists =
-    within_out (goal.Either lists)
-    ∙ ap (λ (layer : part.Goal-F Goal). goal.Either lists ∷ inside layer) (ap out-Goal (sym (goal.rolls-Either lists)) ∙ out-roll-Goal (part.Either lists))

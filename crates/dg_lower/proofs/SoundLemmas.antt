@@ -87,8 +87,6 @@ items_sound : (names : Named) (items : List Item) (name : List ℕ) (is : List I
 items_sound names items name [] g m few h = All-nil (IsRuleOf (core_of names items))
 items_sound names items name (i ∷ is) g m few h =
     let each = and_parts (is_item Rewritten Rewritten i.said) (are_built is) h in
-    let Meets = λ (j : Item). SaidMeets (among names) j.said in
-    let Few = λ (j : Item). HasFewVariables j.said in
     All-append (IsRuleOf (core_of names items)) (rules_in names name i.said) (flat_map (λ (j : Item). rules_in names name j.said) is)
     (item_sound names items name i.said g (All-head (λ (j : Item). SaidMeets (among names) j.said) i is m) (All-head (λ (j : Item). HasFewVariables j.said) i is few) each.0)
     (items_sound names items name is g (All-tail (λ (j : Item). SaidMeets (among names) j.said) i is m) (All-tail (λ (j : Item). HasFewVariables j.said) i is few) each.1)

@@ -1,5 +1,5 @@
 -- A rewritten rule has few variables, where no count passes.
-use Rattle.std.proofs.Common.{◌≡◌, ◌≤◌, ◌⊎◌, inl, inr, ℕ, List, [], ◌∷◌, ◌++◌, ◌&&◌, ◌||◌, Bool, true, false, not, Option, Some, None, length, codes, nat_lt, refl, sym, ◌∙◌, ap, subst, arith, append_assoc}
+use Rattle.std.proofs.Common.{◌≡◌, ◌≤◌, ℕ, List, [], ◌∷◌, ◌++◌, ◌&&◌, ◌||◌, Bool, true, false, not, Some, None, length, codes, nat_lt, refl, sym, ◌∙◌, ap, subst, arith, append_assoc}
 use Rattle.std.specs.Prelude.{if◌then◌else◌, filter}
 use Rattle.std.specs.List.{All, Contains, list_any}
 use Rattle.std.specs.Str.{bytes_eq}
@@ -9,7 +9,7 @@ use Rattle.std.proofs.lemmas.Bool.Decides.{nat_tests}
 use Rattle.std.proofs.lemmas.List.Elements.{All-nil, All-cons, filter-append}
 use Rattle.dg_base.specs.Tree as tree
 use Rattle.dg_base.specs.Tree.{Parts, Value, Values, Stmt, Stmts, Body, Arms, Said, Item}
-use Rattle.dg_names.specs.Mentions.{Mentions, nothing, mention, variable, join, of_parts, of_value, of_values, of_stmt, of_stmts, of_branches, of_arms, of_head, of_body, of_said}
+use Rattle.dg_names.specs.Mentions.{Mentions, nothing, mention, join, of_parts, of_value, of_values, of_stmt, of_stmts, of_branches, of_arms, of_head, of_body, of_said}
 use Rattle.dg_names.specs.Named.{firsts, at_depth}
 use Rattle.dg_access.specs.Counts.{names_out, names_out_of, variables_of, is_full_closure, has_many_variables, has_excess, are_many, first_passing, number_of, is_query}
 use Rattle.dg_access.specs.Marks.{marks_of_said, names_among}

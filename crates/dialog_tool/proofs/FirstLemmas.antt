@@ -1,15 +1,15 @@
 -- Names in order of first appearance differ, and are the names.
 use Rattle.std.proofs.Common.{◌≡◌, ◌≤◌, ◌⊎◌, inl, inr, ℕ, List, [], ◌∷◌, Bool, true, false, not, length, refl, sym, ◌∙◌, ap, subst, arith}
 use Rattle.std.specs.Prelude.{if◌then◌else◌, filter}
-use Rattle.std.specs.List.{All, AllByRecursion, Contains, IsDistinct}
+use Rattle.std.specs.List.{Contains, IsDistinct}
 use Rattle.std.specs.Cmp.{IsEquivalence}
 use Rattle.std.specs.Str.{bytes_eq}
 use Rattle.std.specs.Cmp.Lexicographic.{bytes_decides}
-use Rattle.std.proofs.lemmas.List.Elements.{All-nil, All-cons, All-head, All-tail, recursion_from_All, All-from_recursion, filter_passes, All-filter}
+use Rattle.std.proofs.lemmas.List.Elements.{recursion_from_All, All-from_recursion, filter_passes, All-filter}
 use Rattle.std.proofs.lemmas.Map.Keys.{IsDistinct-head, IsDistinct-tail, IsDistinct-cons, IsDistinct-from_apart}
 use Rattle.std.proofs.lemmas.Map.Made.{is_member-Decides, length-le_from_is_member}
 use Rattle.dg_names.specs.Named.{firsts}
-use Rattle.dg_lower.proofs.MemberLemmas.{first_there, later_there, there_cases, nowhere}
+use Rattle.dg_lower.proofs.MemberLemmas.{first_there, later_there, there_cases}
 
 -- ---- a test leaves what is there
 
@@ -53,7 +53,6 @@ apart n m e = here (bytes_eq n m) refl
 pub firsts_differ : (ns : List (List ℕ)) → IsDistinct bytes_eq (firsts ns)
 firsts_differ [] = IsDistinct-from_apart bytes_eq [] (λ i j d below within. absurd (omega arith))
 firsts_differ (n ∷ ns) =
-    let others = filter (λ m. not (bytes_eq m n)) (firsts ns) in
     IsDistinct-cons bytes_eq n (filter (λ m. not (bytes_eq m n)) (firsts ns))
     (recursion_from_All (λ m. bytes_eq n m ≡ false) (filter (λ m. not (bytes_eq m n)) (firsts ns)) (λ k d lt. apart n _ (filter_passes (λ m. not (bytes_eq m n)) (firsts ns) k d lt)))
     (distinct_filter (λ m. not (bytes_eq m n)) (firsts ns) (firsts_differ ns))

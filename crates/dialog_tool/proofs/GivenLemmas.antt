@@ -1,11 +1,10 @@
 -- The core program of a source is sound.
-use Rattle.std.proofs.Common.{◌≡◌, ℕ, List, [], map, Bool, true, false, Option, Some, None, Result, Ok, Err, refl, sym, ◌∙◌, ap, subst}
+use Rattle.std.proofs.Common.{◌≡◌, ℕ, List, [], map, Bool, true, false, None, Ok, Err, refl, sym, subst}
 use Rattle.std.specs.Prelude.{if◌then◌else◌}
 use Rattle.std.specs.List.{All}
 use Rattle.dg_base.specs.Sound.{IsSound}
 use Rattle.dg_base.specs.Tree.{Item}
 use Rattle.dg_base.specs.declared.program.CoreProgram.{CoreProgram as Core}
-use Rattle.dg_base.specs.declared.refusal.Refusal.{Refusal}
 use Rattle.dg_base.specs.declared.refusal.Kind.TheVariants.{NoEntry}
 use Rattle.dg_access.specs.Counts as plain
 use Rattle.dg_access.specs.Items.{plain_items}
@@ -20,7 +19,7 @@ use Rattle.dg_lower.proofs.SoundLemmas.{core_sound}
 use Rattle.dg_names.specs.Counts.{IsNamed, first_passing}
 use Rattle.dg_names.specs.Named.{Named, names_in, mentioned, word_in, names_of}
 use Rattle.dg_reader.specs.Read.{IsRead}
-use Rattle.dialog_tool.specs.Source.{refusal_at, program_of, IsProgram, not_named, not_built, not_rewritten, lowered, Compiles, not_lexed, not_read, read}
+use Rattle.dialog_tool.specs.Source.{refusal_at, IsProgram, not_named, not_built, not_rewritten, lowered, Compiles, not_lexed, not_read, read}
 use Rattle.dialog_tool.proofs.FewLemmas.{items_few}
 use Rattle.dialog_tool.proofs.FirstLemmas.{firsts_differ}
 use Rattle.dialog_tool.proofs.KeptLemmas.{items_kept}

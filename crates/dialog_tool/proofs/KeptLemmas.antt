@@ -1,5 +1,5 @@
 -- The names in a source are those of its items once their heads are plain.
-use Rattle.std.proofs.Common.{◌≡◌, ℕ, List, [], ◌∷◌, ◌++◌, ◌&&◌, ◌+◌, Bool, true, false, Option, Some, None, refl, sym, ap, subst}
+use Rattle.std.proofs.Common.{◌≡◌, ℕ, List, [], ◌∷◌, ◌++◌, ◌&&◌, ◌+◌, Bool, true, false, Option, Some, None, refl, sym, subst}
 use Rattle.std.specs.Prelude.{if◌then◌else◌}
 use Rattle.std.specs.List.{All, Contains}
 use Rattle.std.proofs.lemmas.Bool.{and_parts}
@@ -9,7 +9,7 @@ use Rattle.dg_base.specs.Names.{builtin_named}
 use Rattle.dg_base.specs.Tree as tree
 use Rattle.dg_base.specs.Tree.{Parts, Value, Values, Stmt, Stmts, Body, Arms, Said, Item}
 use Rattle.dg_names.specs.Named.{Named}
-use Rattle.dg_access.specs.Plain.{Setting, topic_value, first_value, choice_name, new_in_value, new_in_values, new_in_parts, new_in_part, new_in_stmt, new_in_stmts, new_in_body, new_in_arms, plain_value, plain_values, plain_parts, plain_stmt, plain_stmts, plain_body, plain_arms, word_branches, puts_of_value, puts_of_values, puts_of_parts, in_front, whole_body, put_before, rule_body}
+use Rattle.dg_access.specs.Plain.{Setting, topic_value, first_value, choice_name, new_in_value, new_in_values, new_in_parts, new_in_stmt, new_in_stmts, new_in_body, new_in_arms, plain_value, plain_values, plain_parts, plain_stmt, plain_stmts, plain_body, plain_arms, word_branches, puts_of_value, puts_of_values, puts_of_parts, in_front, whole_body, put_before, rule_body}
 use Rattle.dg_access.specs.Items.{in_rule, plain_said, topic_behind, plain_items}
 use Rattle.dg_lower.specs.Forms.{is_asked, are_parts, is_value, are_values, is_query, is_stmt, are_stmts, is_body, are_arms, is_headed, is_rule, is_item, first_unbuilt}
 use Rattle.dg_lower.specs.Given.{among, HasPred, ValueMeets, ValuesMeet, PartsMeet, QueryMeets, StmtMeets, StmtsMeet, BodyMeets, ArmsMeet, SaidMeets}

@@ -1,21 +1,19 @@
 -- The tokens of a source that is accepted have spelled texts.
-use Rattle.std.proofs.Common.{◌≡◌, ◌≢◌, ◌<◌, ◌≤◌, ◌+◌, ◌⊎◌, inl, inr, ℕ, zero, suc, List, [], ◌∷◌, ◌++◌, ◌&&◌, ◌||◌, Bool, true, false, not, Option, Some, None, length, map, take, drop, nat_eq, nat_lt, refl, sym, ◌∙◌, ap, subst, arith}
+use Rattle.std.proofs.Common.{◌≡◌, ◌≢◌, ◌<◌, ◌≤◌, ◌+◌, ℕ, zero, suc, List, [], ◌∷◌, ◌++◌, ◌&&◌, ◌||◌, Bool, true, false, Option, Some, None, length, map, take, nat_eq, nat_lt, refl, sym, ◌∙◌, ap, subst, arith}
 use Rattle.std.specs.Prelude.{if◌then◌else◌}
 use Rattle.std.specs.Char.{encode_utf8}
-use Rattle.std.specs.List.{All}
 use Rattle.std.specs.Option.{option_or}
 use Rattle.std.specs.Str.{IsUtf8, is_utf8}
 use Rattle.std.specs.Str.Lossy.{utf8_valid_len, valid_len_up_to}
 use Rattle.std.proofs.lemmas.Bool.{and_parts, or_parts}
 use Rattle.std.proofs.lemmas.Bool.Decides.{nat_tests}
 use Rattle.std.proofs.lemmas.List.{take_all}
-use Rattle.std.proofs.lemmas.List.Elements.{All-nil, All-cons}
+use Rattle.std.proofs.lemmas.List.Elements.{All-cons}
 use Rattle.std.proofs.lemmas.Str.{IsUtf8-nil, IsUtf8-past_char, IsUtf8-from_is_utf8}
 use Rattle.dg_base.specs.declared.refusal.Kind.TheVariants.{SourceTooLong}
-use Rattle.dg_base.specs.declared.refusal.Refusal.{Refusal}
-use Rattle.dg_lex.specs.Bad.{bad_from, first_invalid, first_bad, refusal_at, refusal_of, place_behind}
+use Rattle.dg_lex.specs.Bad.{bad_from, first_invalid, first_bad, refusal_at, refusal_of}
 use Rattle.dg_lex.specs.Chars.{backslash, is_blank, is_special, begins, opens_comment}
-use Rattle.dg_lex.specs.Tokens.{gap_length, word_length, name_length, shape, named, bracket_of, name_at, shape_or, shape_at, token_of, IsNext, IsTokens, IsLexed, without_mark, Seen, seen}
+use Rattle.dg_lex.specs.Tokens.{gap_length, word_length, name_length, shape, named, bracket_of, name_at, shape_or, shape_at, token_of, IsTokens, IsLexed, without_mark, seen}
 use Rattle.dg_lex.specs.declared.bad.Place.{Place}
 use Rattle.dg_lex.specs.declared.bad.Place.TheVariants.{Outside, Escaped, Comment}
 use Rattle.dg_lex.specs.declared.token.Shape.{Shape}
@@ -26,8 +24,8 @@ use Rattle.dg_reader.specs.Read.{toks}
 use Rattle.dg_reader.specs.TokenView.{kind_view}
 use Rattle.dg_reader.specs.Tokens.{without_escapes, escapes_dropped}
 use Rattle.dialog_tool.proofs.ReadableLemmas.{IsSpelledTok, AreSpelled}
-use Rattle.dialog_tool.proofs.StretchLemmas.{IsGood, good_from, IsAllowed, allowed, clean_from, outside_behind, Stops, IsBehind, gap_fine, place_of, IsStretch, not_lone_special, word_fine, escaped_some, word_some, name_fine, name_some}
-use Rattle.dialog_tool.proofs.TextLemmas.{IsClean, IsText, IsSpelled, StartsAscii, seam, cut, dropped_text}
+use Rattle.dialog_tool.proofs.StretchLemmas.{IsGood, good_from, IsAllowed, allowed, clean_from, outside_behind, IsBehind, gap_fine, place_of, IsStretch, not_lone_special, word_fine, escaped_some, word_some, name_fine, name_some}
+use Rattle.dialog_tool.proofs.TextLemmas.{IsClean, IsText, IsSpelled, seam, cut, dropped_text}
 
 -- ---- one token
 

@@ -1,19 +1,19 @@
 -- What a source that is built mentions, and what stands in it.
-use Rattle.std.proofs.Common.{◌≡◌, ◌≤◌, ℕ, List, [], ◌∷◌, ◌++◌, ◌&&◌, Bool, true, false, not, Option, Some, None, codes, refl, sym, ◌∙◌, ap, subst}
+use Rattle.std.proofs.Common.{◌≡◌, ◌≤◌, ℕ, List, [], ◌∷◌, ◌++◌, ◌&&◌, Bool, true, false, not, Option, Some, None, codes, refl, ap}
 use Rattle.std.specs.List.{All, Contains}
 use Rattle.std.specs.Option.{is_some}
 use Rattle.std.specs.Str.{bytes_eq}
 use Rattle.std.proofs.lemmas.Bool.{and_parts, and_from}
-use Rattle.std.proofs.lemmas.List.Elements.{All-nil, All-cons, All-append, All-head, All-tail}
+use Rattle.std.proofs.lemmas.List.Elements.{All-nil, All-cons, All-head, All-tail}
 use Rattle.dg_base.specs.Heads.{name_of}
 use Rattle.dg_base.specs.Names.{keywords, prelude_names, name_among, builtin_named}
 use Rattle.dg_base.specs.Sound.{IsName}
 use Rattle.dg_base.specs.Tree as tree
 use Rattle.dg_base.specs.Tree.{Parts, Value, Values, Stmt, Stmts, Body, Arms, Said, Item}
 use Rattle.dg_base.specs.declared.names.Builtin.{Builtin}
-use Rattle.dg_names.specs.Mentions.{Mention, query, object, word, variable, unnamed, closure, branches, select, Mentions, nothing, mention, join, of_words, of_parts, of_value, of_values, of_stmt, of_stmts, of_branches, of_arms, of_head, of_body, of_said}
+use Rattle.dg_names.specs.Mentions.{Mention, query, object, word, Mentions, nothing, mention, join, of_words, of_parts, of_value, of_values, of_stmt, of_stmts, of_branches, of_arms, of_head, of_body, of_said}
 use Rattle.dg_names.specs.Named.{Named, at_depth, inside, mentioned, is_fixed, is_predicate}
-use Rattle.dg_lower.specs.Forms.{is_asked, is_own, is_headed, are_parts, is_value, are_values, is_query, is_stmt, are_stmts, is_body, are_arms, is_rule, is_item, first_unbuilt}
+use Rattle.dg_lower.specs.Forms.{is_asked, is_headed, are_parts, is_value, are_values, is_query, is_stmt, are_stmts, is_body, are_arms, is_rule, is_item, first_unbuilt}
 use Rattle.dg_lower.specs.Given.{Demands, among, HasPred, ValueMeets, ValuesMeet, PartsMeet, QueryMeets, StmtMeets, StmtsMeet, BodyMeets, ArmsMeet, SaidMeets}
 use Rattle.dg_lower.specs.declared.forms.Zone.{Zone}
 use Rattle.dg_lower.specs.declared.forms.Zone.TheVariants.{Head, Body as InBody}

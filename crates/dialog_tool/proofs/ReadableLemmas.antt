@@ -1,8 +1,7 @@
 -- What is read of tokens whose texts are spelled can be printed, and its numbers are in their range.
-use Rattle.std.proofs.Common.{◌≡◌, ◌≤◌, ◌⊎◌, inl, inr, ℕ, List, [], ◌∷◌, ◌++◌, ◌&&◌, Bool, true, false, Option, Some, None, map, codes, refl, sym, ◌∙◌, ap, subst, arith}
-use Rattle.std.specs.Prelude.{if◌then◌else◌, Ok, nat_le}
+use Rattle.std.proofs.Common.{◌≡◌, ◌≤◌, ℕ, List, [], ◌∷◌, ◌++◌, ◌&&◌, Bool, true, false, Some, None, refl, sym, subst, arith}
+use Rattle.std.specs.Prelude.{if◌then◌else◌, nat_le}
 use Rattle.std.specs.List.{All}
-use Rattle.std.specs.Str.{bytes_eq}
 use Rattle.std.proofs.lemmas.Bool.{and_parts}
 use Rattle.std.proofs.lemmas.Bool.Decides.{nat_tests}
 use Rattle.std.proofs.lemmas.List.Elements.{All-nil, All-cons}
@@ -12,10 +11,9 @@ use Rattle.dg_base.specs.Sound.{IsName}
 use Rattle.dg_base.specs.Tree as tree
 use Rattle.dg_base.specs.Tree.{Part, Parts, Value, Values, Stmt, Stmts, Body, Arms, Said, Item}
 use Rattle.dg_lex.specs.Tokens.{Seen}
-use Rattle.dg_reader.specs.Grammar.{Bare, if_word, then_word, elseif_word, else_word, endif_word, or_word, keyword_words, Follow, OneAt, TokenAt, Where, WordsAt, KeywordAt, Parenthesis, Place, of_head, of_nested, of_query, of_list, behind_bar, printed, has_choices, TakesQuery, SpellsNumber, SpellsElement, SpellsWord, SpellsChoice, IsQuery, IsPrinted, HasElement, HasArm, PartAt, PartsAt, ValueAt, ElementsAt, StmtAt, StmtsAt, BodyAt, BranchesAt, ArmsAt, Sign, plain_rule, negated, access_rule, Shape, topic_line, clause, is_declaration, head_place, SignAt, ShapeAt, IsEnd, InItem}
-use Rattle.dg_reader.specs.Read.{toks, IsFront, declared, signed, said_of, item_of, IsItemAt, ReadTo, is_topic}
-use Rattle.dg_reader.specs.TokenView.{kind_view}
-use Rattle.dg_reader.specs.Tokens.{Tok, word, dict, object, var, anon, at, hash, open_round, close_round, open_square, close_square, open_brace, close_brace, bar, star, tilde, digits_value, number_of, word_parts}
+use Rattle.dg_reader.specs.Grammar.{Bare, if_word, then_word, elseif_word, else_word, endif_word, or_word, keyword_words, Follow, OneAt, TokenAt, WordsAt, KeywordAt, Parenthesis, Place, of_head, of_nested, of_query, of_list, behind_bar, printed, has_choices, SpellsNumber, SpellsElement, SpellsWord, SpellsChoice, PartsAt, ValueAt, ElementsAt, StmtAt, StmtsAt, BodyAt, BranchesAt, ArmsAt, Sign, plain_rule, negated, access_rule, Shape, topic_line, clause, is_declaration, head_place, SignAt, ShapeAt, IsEnd}
+use Rattle.dg_reader.specs.Read.{toks, declared, signed, said_of, IsItemAt, ReadTo}
+use Rattle.dg_reader.specs.Tokens.{Tok, word, dict, object, var, anon, at, hash, open_round, close_round, open_square, close_square, open_brace, close_brace, bar, star, tilde, digits_value, number_of}
 use Rattle.dg_lower.specs.Forms.{is_asked, is_headed, are_parts, is_value, are_values, is_query, is_stmt, are_stmts, is_body, are_arms, is_rule, is_item, first_unbuilt}
 use Rattle.dg_lower.specs.Given.{ValueMeets, ValuesMeet, PartsMeet, QueryMeets, StmtMeets, StmtsMeet, BodyMeets, ArmsMeet, SaidMeets}
 use Rattle.dg_lower.specs.declared.forms.Zone.{Zone}

@@ -1,5 +1,5 @@
 -- The gaps, words and names of a text without bad characters.
-use Rattle.std.proofs.Common.{◌≡◌, ◌≢◌, ◌<◌, ◌≤◌, ◌+◌, ◌⊎◌, inl, inr, ℕ, List, [], ◌∷◌, ◌++◌, ◌&&◌, ◌||◌, Bool, true, false, not, Option, Some, None, length, nat_eq, nat_lt, refl, sym, ◌∙◌, ap, subst, arith}
+use Rattle.std.proofs.Common.{◌≡◌, ◌≢◌, ◌<◌, ◌≤◌, ◌+◌, ◌⊎◌, inl, inr, ℕ, List, [], ◌∷◌, ◌++◌, ◌&&◌, ◌||◌, Bool, true, false, not, Some, None, length, nat_eq, nat_lt, refl, sym, ◌∙◌, ap, subst, arith}
 use Rattle.std.specs.Prelude.{if◌then◌else◌, nat_le}
 use Rattle.std.specs.List.{All, list_any, list_all}
 use Rattle.std.specs.Str.{IsUtf8}
@@ -13,7 +13,7 @@ use Rattle.dg_lex.specs.Tokens.{gap_length, is_word_char, word_length, name_leng
 use Rattle.dg_lex.specs.declared.bad.Place.{Place}
 use Rattle.dg_lex.specs.declared.bad.Place.TheVariants.{Outside, Escaped, Comment}
 use Rattle.dg_reader.specs.Tokens.{escapes_dropped}
-use Rattle.dialog_tool.proofs.TextLemmas.{IsClean, StartsAscii, seam, moved, among_small}
+use Rattle.dialog_tool.proofs.TextLemmas.{IsClean, StartsAscii, seam, moved, special_small}
 
 -- ---- no bad characters
 
@@ -101,8 +101,8 @@ pub record IsBehind (rest : List ℕ) : Type 0 where
   pub stops : Stops rest
   pub utf8 : IsUtf8 rest
 
-longer : (m n : ℕ) (xs : List ℕ) (x : ℕ) → length (x ∷ xs) ≡ 1 + n → length xs ≡ n
-longer m n xs x e = omega (arith, e)
+longer : (n : ℕ) (xs : List ℕ) (x : ℕ) → length (x ∷ xs) ≡ 1 + n → length xs ≡ n
+longer n xs x e = omega (arith, e)
 
 pub gap_fine : (inside : Bool) (gap rest : List ℕ) → length gap ≡ gap_length inside (gap ++ rest) → IsGood (place_in inside) (gap ++ rest) → IsWhole inside (gap ++ rest) → IsBehind rest
 gap_fine true [] [] e g u = record { good = tt; stops = tt; utf8 = IsUtf8-nil }
@@ -118,19 +118,19 @@ gap_fine true (x ∷ gap) rest e g u = here (nat_eq x newline) refl e g.1 (λ a 
     here : (b : Bool) → nat_eq x newline ≡ b → length (x ∷ gap) ≡ 1 + gap_length (not b) (gap ++ rest) → IsGood (if b then Outside else Comment) (gap ++ rest)
         → (length gap ≡ gap_length false (gap ++ rest) → IsGood Outside (gap ++ rest) → IsUtf8 (gap ++ rest) → IsBehind rest)
         → (length gap ≡ gap_length true (gap ++ rest) → IsGood Comment (gap ++ rest) → ((done : List ℕ) × IsUtf8 (done ++ (gap ++ rest))) → IsBehind rest) → IsBehind rest
-    here true q k good ends goes = ends (longer 0 _ gap x k) good (seam u.0 x (gap ++ rest) (let small : x < 128 = grind (arith, nat_tests, q) in small) u.1).1
-    here false q k good ends goes = goes (longer 0 _ gap x k) good (u.0 ++ x ∷ [], moved u.0 x (gap ++ rest) u.1)
+    here true q k good ends goes = ends (longer _ gap x k) good (seam u.0 x (gap ++ rest) (let small : x < 128 = grind (arith, nat_tests, q) in small) u.1).1
+    here false q k good ends goes = goes (longer _ gap x k) good (u.0 ++ x ∷ [], moved u.0 x (gap ++ rest) u.1)
 gap_fine false (x ∷ gap) rest e g u = here (is_blank x) (opens_comment x (gap ++ rest)) refl refl e g.1 (λ a b c. gap_fine false gap rest a b c) (λ a b c. gap_fine true gap rest a b c)
   where
     here : (b o : Bool) → is_blank x ≡ b → opens_comment x (gap ++ rest) ≡ o → length (x ∷ gap) ≡ (if b || o then 1 + gap_length o (gap ++ rest) else 0) → IsGood (if nat_eq x backslash then Escaped else (if o then Comment else Outside)) (gap ++ rest)
         → (length gap ≡ gap_length false (gap ++ rest) → IsGood Outside (gap ++ rest) → IsUtf8 (gap ++ rest) → IsBehind rest)
         → (length gap ≡ gap_length true (gap ++ rest) → IsGood Comment (gap ++ rest) → ((done : List ℕ) × IsUtf8 (done ++ (gap ++ rest))) → IsBehind rest) → IsBehind rest
     here true false q r k good ends goes =
-        ends (longer 0 _ gap x k) (subst (λ (b : Bool). IsGood (if b then Escaped else Outside) (gap ++ rest)) (other x 92 (λ s. omega (arith, blank_small x q))) good) (seam [] x (gap ++ rest) (omega (arith, blank_small x q)) u).1
+        ends (longer _ gap x k) (subst (λ (b : Bool). IsGood (if b then Escaped else Outside) (gap ++ rest)) (other x 92 (λ s. omega (arith, blank_small x q))) good) (seam [] x (gap ++ rest) (omega (arith, blank_small x q)) u).1
     here true true q r k good ends goes =
-        goes (longer 0 _ gap x k) (subst (λ (b : Bool). IsGood (if b then Escaped else Comment) (gap ++ rest)) (other x 92 (λ s. omega (arith, opens_small x (gap ++ rest) r))) good) (x ∷ [], u)
+        goes (longer _ gap x k) (subst (λ (b : Bool). IsGood (if b then Escaped else Comment) (gap ++ rest)) (other x 92 (λ s. omega (arith, opens_small x (gap ++ rest) r))) good) (x ∷ [], u)
     here false true q r k good ends goes =
-        goes (longer 0 _ gap x k) (subst (λ (b : Bool). IsGood (if b then Escaped else Comment) (gap ++ rest)) (other x 92 (λ s. omega (arith, opens_small x (gap ++ rest) r))) good) (x ∷ [], u)
+        goes (longer _ gap x k) (subst (λ (b : Bool). IsGood (if b then Escaped else Comment) (gap ++ rest)) (other x 92 (λ s. omega (arith, opens_small x (gap ++ rest) r))) good) (x ∷ [], u)
     here false false q r k good ends goes = absurd (omega (arith, k))
 
 -- ---- words
@@ -171,12 +171,9 @@ not_true : (b : Bool) → not b ≡ true → b ≡ false
 not_true true e = cc
 not_true false e = refl
 
-special_low : (c : ℕ) → is_special c ≡ true → c < 127
-special_low c e = among_small c (35 ∷ 36 ∷ 64 ∷ 126 ∷ 42 ∷ 124 ∷ 92 ∷ 40 ∷ 41 ∷ 91 ∷ 93 ∷ 123 ∷ 125 ∷ []) refl e
-
 word_ends : (c : ℕ) (cs : List ℕ) → is_word_char c cs ≡ false → c < 128
 word_ends c cs h = elim (and_cases (not (is_blank c || is_special c)) (not (opens_comment c cs)) h) [
-  | inl a ↦ elim (either (is_blank c) (is_special c) (not_false (is_blank c || is_special c) a)) [ | inl x ↦ omega (arith, blank_small c x) | inr x ↦ omega (arith, special_low c x) ]
+  | inl a ↦ elim (either (is_blank c) (is_special c) (not_false (is_blank c || is_special c) a)) [ | inl x ↦ omega (arith, blank_small c x) | inr x ↦ omega (arith, special_small c x) ]
   | inr a ↦ omega (arith, opens_small c cs (not_false (opens_comment c cs) a))
 ]
 
@@ -192,7 +189,7 @@ word_fine false [] (c ∷ cs) n g s = here (nat_eq c backslash) (is_word_char c 
     here false false q k = record { clean = All-nil IsClean; good = g; ascii = word_ends c cs q }
 word_fine true (x ∷ w) rest n g s =
     let fine = allowed Escaped x (w ++ rest) g.0 in
-    let others = word_fine false w rest (longer 0 _ w x n) g.1 (λ e. cc) in
+    let others = word_fine false w rest (longer _ w x n) g.1 (λ e. cc) in
     record { clean = All-cons IsClean x w (special_clean x (s refl) fine.no_control fine.not_high) others.clean; good = others.good; ascii = others.ascii }
 word_fine false (x ∷ w) rest n g s = here (nat_eq x backslash) (is_word_char x (w ++ rest)) refl refl n g.1 (λ a b c. word_fine true w rest a b c) (λ a b. word_fine false w rest a b (λ e. cc))
   where
@@ -206,12 +203,12 @@ word_fine false (x ∷ w) rest n g s = here (nat_eq x backslash) (is_word_char x
     here true d q r k good escape goes =
         let same : x ≡ 92 = grind (arith, nat_tests, q) in
         with_first (record { from = omega arith; no_delete = λ e. omega arith; low = omega arith })
-        (escape (longer 0 _ w x k) good (λ e. not_lone_special (nat_eq x backslash) (begins is_special (w ++ rest)) q fine.not_lone))
+        (escape (longer _ w x k) good (λ e. not_lone_special (nat_eq x backslash) (begins is_special (w ++ rest)) q fine.not_lone))
     here false true q r k good escape goes =
         let each = and_parts (not (is_blank x || is_special x)) (not (opens_comment x (w ++ rest))) r in
         let plain = or_parts (is_blank x) (is_special x) (not_true (is_blank x || is_special x) each.0) in
         with_first (clean_from x plain.0 fine.no_control fine.not_high)
-        (goes (longer 0 _ w x k) (subst (λ (b : Bool). IsGood (if b then Comment else Outside) (w ++ rest)) (not_true (opens_comment x (w ++ rest)) each.1) good))
+        (goes (longer _ w x k) (subst (λ (b : Bool). IsGood (if b then Comment else Outside) (w ++ rest)) (not_true (opens_comment x (w ++ rest)) each.1) good))
     here false false q r k good escape goes = absurd (omega (arith, k))
 
 -- a character stands behind a backslash
@@ -225,7 +222,7 @@ word_some [] rest some n g = absurd (some refl)
 word_some (x ∷ w) rest some n g = here (nat_eq x backslash) refl n
   where
     here : (b : Bool) → nat_eq x backslash ≡ b → length (x ∷ w) ≡ (if b then 1 + word_length true (w ++ rest) else (if is_word_char x (w ++ rest) then 1 + word_length false (w ++ rest) else 0)) → (if b then escapes_dropped true w else x ∷ escapes_dropped false w) ≢ []
-    here true q k = escaped_some w rest (longer 0 _ w x k) (not_lone_special (nat_eq x backslash) (begins is_special (w ++ rest)) q (allowed Outside x (w ++ rest) g.0).not_lone)
+    here true q k = escaped_some w rest (longer _ w x k) (not_lone_special (nat_eq x backslash) (begins is_special (w ++ rest)) q (allowed Outside x (w ++ rest) g.0).not_lone)
     here false q k = λ e. cc
 
 -- ---- names
@@ -274,7 +271,7 @@ name_fine (x ∷ n) rest k g = here (is_name_char x) refl k (λ a b. name_fine n
     here true q k' goes =
         let fine = allowed Outside x (n ++ rest) g.0 in
         let char = name_char x q in
-        let others = goes (longer 0 _ n x k') (subst (λ (p : Place). IsGood p (n ++ rest)) (outside_behind x (n ++ rest) char.1 (λ e. omega (arith, char.0, e))) g.1) in
+        let others = goes (longer _ n x k') (subst (λ (p : Place). IsGood p (n ++ rest)) (outside_behind x (n ++ rest) char.1 (λ e. omega (arith, char.0, e))) g.1) in
         record { clean = All-cons IsClean x n (clean_from x (not_blank x (omega (arith, char.0))) fine.no_control fine.not_high) others.clean; good = others.good; ascii = others.ascii }
     here false q k' goes = absurd (omega (arith, k'))
 

@@ -1,5 +1,5 @@
 -- Bytes that are a name: UTF-8 without what no source may hold.
-use Rattle.std.proofs.Common.{◌≡◌, ◌≢◌, ◌<◌, ◌≤◌, ◌+◌, ◌⊎◌, inl, inr, ℕ, List, [], ◌∷◌, ◌++◌, ◌&&◌, ◌||◌, Bool, true, false, not, length, get_or, drop, take, nat_eq, nat_lt, refl, sym, ◌∙◌, ap, subst, arith, append_assoc, lit<}
+use Rattle.std.proofs.Common.{◌≡◌, ◌≢◌, ◌<◌, ◌≤◌, inl, inr, ℕ, List, [], ◌∷◌, ◌++◌, ◌&&◌, ◌||◌, Bool, true, false, not, length, get_or, nat_eq, nat_lt, refl, sym, ◌∙◌, ap, subst, arith, append_assoc, lit<}
 use Rattle.std.specs.Prelude.{if◌then◌else◌}
 use Rattle.std.specs.Char.{IsScalar, encode_utf8}
 use Rattle.std.specs.List.{All, list_any, list_all}
@@ -10,9 +10,9 @@ use Rattle.std.proofs.lemmas.List.{append-nil, take_at, drop_at, length-append}
 use Rattle.std.proofs.lemmas.List.Elements.{All-nil, All-cons, All-append, All-head, All-tail}
 use Rattle.std.proofs.lemmas.Str.{IsUtf8-append, IsUtf8-nil, IsUtf8-take, IsUtf8-drop, IsUtf8-past_char, IsUtf8-encode, IsCharBoundary-before_ascii, encode_ascii, length-encode, len_utf8_bounds}
 use lib.Utf8.{low_scalar}
-use Rattle.dg_base.specs.Heads.{is_special, escaped, part_name, parts_behind, name_of}
+use Rattle.dg_base.specs.Heads.{is_special, escaped, parts_behind, name_of}
 use Rattle.dg_base.specs.Sound.{IsPrintable, IsName}
-use Rattle.dg_base.specs.Tree.{Part, part_word, part_value, Parts, no_parts, part}
+use Rattle.dg_base.specs.Tree.{part_word, part_value, Parts, no_parts, part}
 use Rattle.dg_reader.specs.Tokens as tokens
 use Rattle.dg_reader.specs.Tokens.{slash, begins_otherwise, is_cut, word_parts, escapes_dropped, without_escapes}
 use Rattle.dialog_tool.proofs.MentionedLemmas.{all_front, all_behind}
@@ -143,7 +143,7 @@ no_text = record { utf8 = IsUtf8-nil; clean = All-nil IsClean }
 sign_text : (c : ℕ) → 32 ≤ c → c < 127 → IsText (c ∷ [])
 sign_text c from to = record { utf8 = one_utf8 c (omega arith); clean = All-cons IsClean c [] (record { from = from; no_delete = λ e. omega arith; low = omega arith }) (All-nil IsClean) }
 
-pub among_small : (c : ℕ) (ks : List ℕ) → list_all (λ k. nat_lt k 127) ks ≡ true → list_any (nat_eq c) ks ≡ true → c < 127
+among_small : (c : ℕ) (ks : List ℕ) → list_all (λ k. nat_lt k 127) ks ≡ true → list_any (nat_eq c) ks ≡ true → c < 127
 among_small c [] small e = cc
 among_small c (k ∷ ks) small e =
     let each = and_parts (nat_lt k 127) (list_all (λ j. nat_lt j 127) ks) small in
