@@ -43,8 +43,8 @@ within_out (Accumulate' x s k y) = ap (λ (l : List Goal). Accumulate' x s k y �
 within_out (If' s a t b u c) =
     ap (λ (l : List Goal). If' s a t b u c ∷ l)
     (both
-      (both (within_row a ∙ ap (flat_map goals_within) (sym (items_shown-the_row-Goal-0 s a))) (within_row b ∙ ap (flat_map goals_within) (sym (items_shown-the_row-Goal-0 t b))))
-      (within_row c ∙ ap (flat_map goals_within) (sym (items_shown-the_row-Goal-0 u c))))
+    (both (within_row a ∙ ap (flat_map goals_within) (sym (items_shown-the_row-Goal-0 s a))) (within_row b ∙ ap (flat_map goals_within) (sym (items_shown-the_row-Goal-0 t b))))
+    (within_row c ∙ ap (flat_map goals_within) (sym (items_shown-the_row-Goal-0 u c))))
 within_out (Either' s k) = ap (λ (l : List Goal). Either' s k ∷ l) (within_lists_row k ∙ ap (flat_map goals_of) (sym (items_shown-the_row-Goal-Either-0-1-1 s k)))
 within_out (Select' site mode s k) = ap (λ (l : List Goal). Select' site mode s k ∷ l) (within_lists_row k ∙ ap (flat_map goals_of) (sym (items_shown-the_row-Goal-Either-0-1-1 s k)))
 within_out g = refl

@@ -38,7 +38,6 @@ use Rattle.dg_lower.proofs.TermLemmas.{number_below, IsGround, Within, front_wit
 
 -- ---- rules
 
-
 all_vars : (n : ℕ) → n ≤ 65 → min n 65535 ≡ n
 all_vars n h = omega arith
 

@@ -109,6 +109,7 @@ dict_fine w rest kind u g e = here (nat_eq (word_length false (w ++ rest)) 0) re
   where
     at : IsSimple 64
     at = simple 64 (omega arith) (λ s. omega arith) (λ s. omega arith)
+
     here : (b : Bool) → nat_eq (word_length false (w ++ rest)) 0 ≡ b → (if b then shape At 1 else shape Dict (1 + word_length false (w ++ rest))) ≡ shape kind (length (64 ∷ w)) → IsFine kind (64 ∷ w) rest
     here true q k = sign_fine 64 w rest At kind tt at u g k
     here false q k =
@@ -125,6 +126,7 @@ object_fine w rest kind u g e = here (nat_eq (name_length (w ++ rest)) 0) refl e
   where
     sign : IsSimple 35
     sign = simple 35 (omega arith) (λ s. omega arith) (λ s. omega arith)
+
     here : (b : Bool) → nat_eq (name_length (w ++ rest)) 0 ≡ b → (if b then shape Hash 1 else shape Object (1 + name_length (w ++ rest))) ≡ shape kind (length (35 ∷ w)) → IsFine kind (35 ∷ w) rest
     here true q k = sign_fine 35 w rest Hash kind tt sign u g k
     here false q k =
@@ -141,6 +143,7 @@ variable_fine w rest kind u g e = here (nat_eq (name_length (w ++ rest)) 0) refl
   where
     sign : IsSimple 36
     sign = simple 36 (omega arith) (λ s. omega arith) (λ s. omega arith)
+
     here : (b : Bool) → nat_eq (name_length (w ++ rest)) 0 ≡ b → (if b then shape Anon 1 else shape Var (1 + name_length (w ++ rest))) ≡ shape kind (length (36 ∷ w)) → IsFine kind (36 ∷ w) rest
     here true q k = sign_fine 36 w rest Anon kind tt sign u g k
     here false q k =
@@ -156,14 +159,18 @@ word_token_fine c w rest kind u g stops e = here (nat_eq c backslash) refl g.1 e
   where
     stop : (is_blank c ≡ false) × (opens_comment c (w ++ rest) ≡ false)
     stop = or_parts (is_blank c) (opens_comment c (w ++ rest)) stops
+
     fine : IsAllowed Outside c (w ++ rest)
     fine = allowed Outside c (w ++ rest) g.0
+
     placed : (b : Bool) → IsGood (if b then Escaped else (if opens_comment c (w ++ rest) then Comment else Outside)) (w ++ rest) → IsGood (place_of b) (w ++ rest)
     placed true good = good
     placed false good = subst (λ (o : Bool). IsGood (if o then Comment else Outside) (w ++ rest)) stop.1 good
+
     left : (b : Bool) → nat_eq c backslash ≡ b → length w ≡ word_length b (w ++ rest) → (if b then escapes_dropped true w else c ∷ escapes_dropped false w) ≢ []
     left true q long = escaped_some w rest long (not_lone_special (nat_eq c backslash) (begins is_special (w ++ rest)) q fine.not_lone)
     left false q long = λ s. cc
+
     here : (b : Bool) → nat_eq c backslash ≡ b → IsGood (if b then Escaped else (if opens_comment c (w ++ rest) then Comment else Outside)) (w ++ rest) → shape Word (1 + word_length b (w ++ rest)) ≡ shape kind (length (c ∷ w)) → IsFine kind (c ∷ w) rest
     here b q good k =
         let same = kinds Word kind (1 + word_length b (w ++ rest)) (length (c ∷ w)) k in
@@ -183,11 +190,13 @@ name_token_fine c w rest kind u g stops e = first (nat_eq c 64) refl e
         let same : c ≡ 36 = grind (arith, nat_tests, q) in
         subst (λ (n : ℕ). IsFine kind (n ∷ w) rest) (sym same) (variable_fine w rest kind (subst (λ (n : ℕ). IsUtf8 (n ∷ (w ++ rest))) same u) (subst (λ (n : ℕ). IsGood Outside (n ∷ (w ++ rest))) same g) k)
     third false q k = word_token_fine c w rest kind u g stops k
+
     second : (b : Bool) → nat_eq c 35 ≡ b → (if b then named Object Hash (name_length (w ++ rest)) else (if nat_eq c 36 then named Var Anon (name_length (w ++ rest)) else shape Word (1 + word_length (nat_eq c backslash) (w ++ rest)))) ≡ shape kind (length (c ∷ w)) → IsFine kind (c ∷ w) rest
     second true q k =
         let same : c ≡ 35 = grind (arith, nat_tests, q) in
         subst (λ (n : ℕ). IsFine kind (n ∷ w) rest) (sym same) (object_fine w rest kind (subst (λ (n : ℕ). IsUtf8 (n ∷ (w ++ rest))) same u) (subst (λ (n : ℕ). IsGood Outside (n ∷ (w ++ rest))) same g) k)
     second false q k = third (nat_eq c 36) refl k
+
     first : (b : Bool) → nat_eq c 64 ≡ b → (if b then named Dict At (word_length false (w ++ rest)) else (if nat_eq c 35 then named Object Hash (name_length (w ++ rest)) else (if nat_eq c 36 then named Var Anon (name_length (w ++ rest)) else shape Word (1 + word_length (nat_eq c backslash) (w ++ rest))))) ≡ shape kind (length (c ∷ w)) → IsFine kind (c ∷ w) rest
     first true q k =
         let same : c ≡ 64 = grind (arith, nat_tests, q) in
@@ -301,6 +310,7 @@ source_accepted source h = long (nat_lt 1048576 (length source)) h
     valid : (b : Bool) → nat_lt (utf8_valid_len source) (length source) ≡ b → (if b then Some (utf8_valid_len source) else None) ≡ None → length source ≤ utf8_valid_len source
     valid true q e = cc
     valid false q e = grind (arith, nat_tests, q)
+
     none_bad : (o : Option ℕ) → bad_from Outside 0 (take (utf8_valid_len source) source) ≡ o → refusal_at source (option_or o (first_invalid source)) ≡ None → IsAccepted source
     none_bad (Some n) q e = cc
     none_bad None q e =
@@ -309,6 +319,7 @@ source_accepted source h = long (nat_lt 1048576 (length source)) h
           utf8 = valid_utf8 source whole;
           good = subst (IsGood Outside) (take_all (utf8_valid_len source) source whole) (good_from Outside 0 (take (utf8_valid_len source) source) q);
         }
+
     long : (b : Bool) → (if b then Some (record { kind = SourceTooLong; line = 1 }) else refusal_at source (first_bad source)) ≡ None → IsAccepted source
     long true e = cc
     long false e = none_bad (bad_from Outside 0 (take (utf8_valid_len source) source)) refl e

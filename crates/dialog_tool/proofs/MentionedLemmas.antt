@@ -159,10 +159,11 @@ mutual
   arms_among d z (tree.arm c b arms) h r m =
       let each = and_parts (is_body z c) (is_body z b && are_arms z arms) h in
       let rest = and_parts (is_body z b) (are_arms z arms) each.1 in
-      let behind = back_holds (IsAmong d) (of_body c) (join (of_body b) (of_arms arms)) m in
-      (body_among d z c each.0 r.0 (front_holds (IsAmong d) (of_body c) (join (of_body b) (of_arms arms)) m).1,
-       body_among d z b rest.0 r.1 (front_holds (IsAmong d) (of_body b) (of_arms arms) behind).1,
-       arms_among d z arms rest.1 r.2 (back_holds (IsAmong d) (of_body b) (of_arms arms) behind))
+      let behind = back_holds (IsAmong d) (of_body c) (join (of_body b) (of_arms arms)) m in (
+        body_among d z c each.0 r.0 (front_holds (IsAmong d) (of_body c) (join (of_body b) (of_arms arms)) m).1,
+        body_among d z b rest.0 r.1 (front_holds (IsAmong d) (of_body b) (of_arms arms) behind).1,
+        arms_among d z arms rest.1 r.2 (back_holds (IsAmong d) (of_body b) (of_arms arms) behind),
+      )
 
 rule_among : (d : Named) (ps : Parts) (b : Body) → is_rule Head InBody ps b ≡ true → QueryMeets readable ps × BodyMeets readable b → Hold (IsAmong d) (join (of_head ps) (of_body b)) → QueryMeets (among d) ps × BodyMeets (among d) b
 rule_among d ps b h r m =

@@ -48,8 +48,8 @@ either false b e = inr e
 
 pub blank_small : (c : ℕ) → is_blank c ≡ true → c < 33
 blank_small c e = elim (either (nat_eq c 32 || nat_eq c 9) (nat_eq c 10 || nat_eq c 13) e) [
-  | inl a ↦ elim (either (nat_eq c 32) (nat_eq c 9) a) [ | inl x ↦ grind (arith, nat_tests, x) | inr x ↦ grind (arith, nat_tests, x) ]
-  | inr a ↦ elim (either (nat_eq c 10) (nat_eq c 13) a) [ | inl x ↦ grind (arith, nat_tests, x) | inr x ↦ grind (arith, nat_tests, x) ]
+  | inl a ↦ elim (either (nat_eq c 32) (nat_eq c 9) a) [ inl x ↦ grind (arith, nat_tests, x) | inr x ↦ grind (arith, nat_tests, x) ]
+  | inr a ↦ elim (either (nat_eq c 10) (nat_eq c 13) a) [ inl x ↦ grind (arith, nat_tests, x) | inr x ↦ grind (arith, nat_tests, x) ]
 ]
 
 not_blank : (c : ℕ) → 33 ≤ c → is_blank c ≡ false
@@ -62,7 +62,7 @@ not_blank c h = here (is_blank c) refl
 pub clean_from : (c : ℕ) → is_blank c ≡ false → is_control c ≡ false → begins_too_high c ≡ false → IsClean c
 clean_from c blank control high =
     let each = or_parts (nat_lt c 32 && not (is_blank c)) (nat_eq c 127) control in
-    let past : nat_lt c 32 ≡ false = elim (and_cases (nat_lt c 32) (not (is_blank c)) each.0) [ | inl a ↦ a | inr a ↦ absurd (let no : true ≡ false = sym (ap not blank) ∙ a in cc) ] in
+    let past : nat_lt c 32 ≡ false = elim (and_cases (nat_lt c 32) (not (is_blank c)) each.0) [ inl a ↦ a | inr a ↦ absurd (let no : true ≡ false = sym (ap not blank) ∙ a in cc) ] in
     record { from = grind (arith, nat_tests, past); no_delete = grind (arith, nat_tests, each.1); low = grind (arith, nat_tests, high) }
 
 opens_small : (c : ℕ) (cs : List ℕ) → opens_comment c cs ≡ true → c ≡ 37
@@ -173,7 +173,7 @@ not_true false e = refl
 
 word_ends : (c : ℕ) (cs : List ℕ) → is_word_char c cs ≡ false → c < 128
 word_ends c cs h = elim (and_cases (not (is_blank c || is_special c)) (not (opens_comment c cs)) h) [
-  | inl a ↦ elim (either (is_blank c) (is_special c) (not_false (is_blank c || is_special c) a)) [ | inl x ↦ omega (arith, blank_small c x) | inr x ↦ omega (arith, special_small c x) ]
+  | inl a ↦ elim (either (is_blank c) (is_special c) (not_false (is_blank c || is_special c) a)) [ inl x ↦ omega (arith, blank_small c x) | inr x ↦ omega (arith, special_small c x) ]
   | inr a ↦ omega (arith, opens_small c cs (not_false (opens_comment c cs) a))
 ]
 
@@ -195,8 +195,10 @@ word_fine false (x ∷ w) rest n g s = here (nat_eq x backslash) (is_word_char x
   where
     fine : IsAllowed Outside x (w ++ rest)
     fine = allowed Outside x (w ++ rest) g.0
+
     with_first : IsClean x → IsStretch w rest → IsStretch (x ∷ w) rest
     with_first c others = record { clean = All-cons IsClean x w c others.clean; good = others.good; ascii = others.ascii }
+
     here : (b d : Bool) → nat_eq x backslash ≡ b → is_word_char x (w ++ rest) ≡ d → length (x ∷ w) ≡ (if b then 1 + word_length true (w ++ rest) else (if d then 1 + word_length false (w ++ rest) else 0)) → IsGood (if b then Escaped else (if opens_comment x (w ++ rest) then Comment else Outside)) (w ++ rest)
         → (length w ≡ word_length true (w ++ rest) → IsGood Escaped (w ++ rest) → (◌≡◌ {A = Bool} true true → begins is_special (w ++ rest) ≡ true) → IsStretch w rest)
         → (length w ≡ word_length false (w ++ rest) → IsGood Outside (w ++ rest) → IsStretch w rest) → IsStretch (x ∷ w) rest
@@ -236,12 +238,12 @@ stretch c a b low apart e =
     let each = and_parts (nat_le a c) (nat_le c b) e in
     let from : a ≤ c = (let x = each.0 in grind (arith, nat_tests, x)) in
     let to : c ≤ b = (let x = each.1 in grind (arith, nat_tests, x)) in
-    (omega arith, λ s. elim apart [ | inl h ↦ omega arith | inr h ↦ omega arith ])
+    (omega arith, λ s. elim apart [ inl h ↦ omega arith | inr h ↦ omega arith ])
 
 name_char : (c : ℕ) → is_name_char c ≡ true → IsOfName c
 name_char c e = elim (either (is_letter c || is_digit c) (list_any (nat_eq c) (43 ∷ 45 ∷ 95 ∷ []) || is_past_ascii c) e) [
   | inl a ↦ elim (either (is_letter c) (is_digit c) a) [
-    | inl l ↦ elim (either (nat_le 65 c && nat_le c 90) (nat_le 97 c && nat_le c 122) l) [ | inl x ↦ stretch c 65 90 (omega arith) (inr (omega arith)) x | inr x ↦ stretch c 97 122 (omega arith) (inl (omega arith)) x ]
+    | inl l ↦ elim (either (nat_le 65 c && nat_le c 90) (nat_le 97 c && nat_le c 122) l) [ inl x ↦ stretch c 65 90 (omega arith) (inr (omega arith)) x | inr x ↦ stretch c 97 122 (omega arith) (inl (omega arith)) x ]
     | inr d ↦ stretch c 48 57 (omega arith) (inr (omega arith)) d
   ]
   | inr a ↦ elim (either (list_any (nat_eq c) (43 ∷ 45 ∷ 95 ∷ [])) (is_past_ascii c) a) [
@@ -249,7 +251,7 @@ name_char c e = elim (either (is_letter c || is_digit c) (list_any (nat_eq c) (4
       | inl y ↦ (let same : c ≡ 43 = grind (arith, nat_tests, y) in (omega arith, λ s. omega arith))
       | inr z ↦ elim (either (nat_eq c 45) (nat_eq c 95 || false) z) [
         | inl y ↦ (let same : c ≡ 45 = grind (arith, nat_tests, y) in (omega arith, λ s. omega arith))
-        | inr v ↦ elim (either (nat_eq c 95) false v) [ | inl y ↦ (let same : c ≡ 95 = grind (arith, nat_tests, y) in (omega arith, λ s. omega arith)) | inr y ↦ absurd (let no : false ≡ true = y in cc) ]
+        | inr v ↦ elim (either (nat_eq c 95) false v) [ inl y ↦ (let same : c ≡ 95 = grind (arith, nat_tests, y) in (omega arith, λ s. omega arith)) | inr y ↦ absurd (let no : false ≡ true = y in cc) ]
       ]
     ]
     | inr x ↦ (let past : 128 ≤ c = grind (arith, nat_tests, x) in (omega arith, λ s. omega arith))

@@ -85,9 +85,10 @@ at_seam (x ∷ xs) ys = at_seam xs ys
 pub seam : (xs : List ℕ) (c : ℕ) (ys : List ℕ) → c < 128 → IsUtf8 (xs ++ c ∷ ys) → IsUtf8 xs × IsUtf8 ys
 seam xs c ys small u =
     let edge : IsCharBoundary (xs ++ c ∷ ys) (length xs) = IsCharBoundary-before_ascii (xs ++ c ∷ ys) (length xs) (omega (arith, length-append xs (c ∷ ys))) (omega (arith, at_seam xs (c ∷ ys))) in
-    let behind : IsUtf8 (c ∷ ys) = subst IsUtf8 (drop_at xs (c ∷ ys) (length xs) refl) (IsUtf8-drop (xs ++ c ∷ ys) (length xs) u edge) in
-    (subst IsUtf8 (take_at xs (c ∷ ys) (length xs) refl) (IsUtf8-take (xs ++ c ∷ ys) (length xs) u edge),
-     IsUtf8-past_char (c ∷ ys) ys c behind (ap (λ (l : List ℕ). l ++ ys) (sym (encode_ascii c small))))
+    let behind : IsUtf8 (c ∷ ys) = subst IsUtf8 (drop_at xs (c ∷ ys) (length xs) refl) (IsUtf8-drop (xs ++ c ∷ ys) (length xs) u edge) in (
+      subst IsUtf8 (take_at xs (c ∷ ys) (length xs) refl) (IsUtf8-take (xs ++ c ∷ ys) (length xs) u edge),
+      IsUtf8-past_char (c ∷ ys) ys c behind (ap (λ (l : List ℕ). l ++ ys) (sym (encode_ascii c small))),
+    )
 
 one_utf8 : (c : ℕ) → c < 128 → IsUtf8 (c ∷ [])
 one_utf8 c small = subst IsUtf8 (encode_ascii c small) (IsUtf8-encode c (low_scalar c (omega arith)))
