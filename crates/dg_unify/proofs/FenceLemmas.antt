@@ -1,14 +1,14 @@
 -- Which values have only variables before a fence.
 use Rattle.std.proofs.Common.{◌≡◌, ℕ, zero, suc, ◌+◌, ◌-◌, ◌<◌, ◌≤◌, List, [], ◌∷◌, ◌++◌, Bool, true, false, refl, sym, ap, ◌∙◌, arith, subst, Option, Some, None, inl, inr, length, length-append, append-nil, length-take, take, reverse, get_or}
-use Rattle.std.specs.Prelude.{eqb, max, nat_lt, nat_le, ◌||◌, ◌&&◌, if◌then◌else◌}
+use Rattle.std.specs.Prelude.{eqb, max, nat_lt, nat_le, ◌||◌, if◌then◌else◌}
 use Rattle.std.specs.List.{slice_get}
-use Rattle.std.proofs.lemmas.Bool.{or_cases, cond_both, cases_lt, ne_eqb, ltb-true, leb-true, lt-leb}
-use Rattle.dg_meaning.specs.Values.{Label, Value, Var, Node, Values, NoMore, More, Closure, Unknown, leaf, pair}
+use Rattle.std.proofs.lemmas.Bool.{lt-ltb, or_cases, and_parts, cond_both, cases_lt, ne_eqb, ltb-true, leb-true, lt-leb}
+use Rattle.dg_meaning.specs.Values.{Value, Var, Node, Values, NoMore, More, Closure, Unknown, leaf, pair}
 use Rattle.dg_meaning.specs.Substitutions.{Substitution, replaced, all_replaced, resolved, contains, any_contains}
 use Rattle.dg_meaning.specs.Unify.{top, tops}
-use Rattle.dg_meaning.proofs.Walks.{or_false, replaced_absent, resolved_node}
+use Rattle.dg_meaning.proofs.Walks.{or_false, replaced_absent}
 use Rattle.dg_unify.specs.Store.{Store, Saved, or_nil, IsTold}
-use Rattle.dg_unify.specs.Slots.{pair_told, captured_slot, captured_in, letters_in, closure_told, word_told, slot_value, label_at, value_at, value_in, subst_of, AreTold, Begins, Fits, Fields, AreSound, fields_at, Stand}
+use Rattle.dg_unify.specs.Slots.{pair_told, captured_slot, captured_in, letters_in, closure_told, word_told, slot_value, label_at, value_at, value_in, subst_of, AreTold, Begins, is_marked, is_constant, Fits, Fields, AreSound, fields_at, Stand}
 use Rattle.dg_unify.specs.Ends.{TellsOf, told_in}
 use Rattle.dg_unify.specs.Fences.{AreClosed, top_of_bound, IsFenced, stands_between, fence_for_new, fence_for_link}
 use Rattle.dg_unify.specs.declared.bindings.Ref.{Ref}
@@ -19,7 +19,7 @@ use Rattle.dg_unify.specs.declared.slots.Link.{Link}
 use Rattle.dg_unify.specs.declared.fence.Fence.{Fence}
 use Rattle.dg_unify.proofs.Lists.{get_either, reverse_snoc}
 use Rattle.dg_unify.proofs.SlotsLemmas.{option_told, some_told, in_more, subst_more, simple_in, told_slot}
-use Rattle.dg_unify.proofs.Reading.{part_split, captured_is, var_read, shows_pair}
+use Rattle.dg_unify.proofs.Reading.{part_split, captured_is, was_read, var_read, shows_pair}
 use Rattle.dg_unify.proofs.Stores.{Grown}
 
 -- ## A variable that isn't before a fence stands in no value before it
@@ -90,7 +90,7 @@ module _ (slots : List Slot) (vars : ℕ) (below : (i n : ℕ) → slice_get slo
   slot_below : (go : ℕ → Option Value) → AllBelow go → (at : ℕ) (o : Option Slot) → slice_get slots at ≡ o → (v : Value) → slot_value go slots at o ≡ Some v → top v ≤ vars
   slot_below go h at None is v e = absurd (cc e)
   slot_below go h at (Some (slot.Var n)) is v e = subst (λ (w : Value). top w ≤ vars) (some_value (Var n) v e) (omega (arith, below at n is))
-  slot_below go h at (Some (slot.Pair x y)) is v e = pair_below vars (go x.0) (go y.0) (h x.0) (h y.0) v e
+  slot_below go h at (Some (slot.Pair x y k)) is v e = pair_below vars (go x.0) (go y.0) (h x.0) (h y.0) v e
   slot_below go h at (Some (slot.Closure place n)) is v e = closure_below vars place (captured_in go slots (suc at) n) (captured_below go h (suc at) n) v e
   slot_below go h at (Some (slot.Captured r)) is v e = absurd (cc e)
   slot_below go h at (Some (slot.Unknown n)) is v e = word_below vars (letters_in slots (suc at) n) v e
@@ -114,7 +114,7 @@ module _ (slots : List Slot) (vars : ℕ) (below : (i n : ℕ) → slice_get slo
 
 begins_told : (go : ℕ → Option Value) (slots : List Slot) (at : ℕ) (x : Slot) (v : Value) → slot_value go slots at (Some x) ≡ Some v → Begins x
 begins_told go slots at (slot.Var n) v e = tt
-begins_told go slots at (slot.Pair x y) v e = tt
+begins_told go slots at (slot.Pair x y k) v e = tt
 begins_told go slots at (slot.Closure place n) v e = tt
 begins_told go slots at (slot.Captured r) v e = absurd (cc e)
 begins_told go slots at (slot.Unknown n) v e = tt
@@ -214,14 +214,14 @@ module _ (f : Fields) (fence : Fence) (sound : AreSound f) (fenced : IsFenced f.
   pub top_var : at.0 < 2147483648 → (x : Slot) → x ≡ get_or f.slots at.0 x → (n : ℕ) → x ≡ slot.Var n → top (told_in f at) ≤ n + 1
   top_var lt x read n is = let e : told_in f at ≡ Var n = ap or_nil (var_read f sound at told lt x read n is).0 in rw e (omega arith)
 
-  pub pair_tells : at.0 < 2147483648 → (x : Slot) → x ≡ get_or f.slots at.0 x → (h t : Ref) → x ≡ slot.Pair h t → TellsOf f h × TellsOf f t
-  pair_tells lt x read h t is =
-      let p = shows_pair f sound at told lt x read h t is true in
+  pub pair_tells : at.0 < 2147483648 → (x : Slot) → x ≡ get_or f.slots at.0 x → (h t : Ref) (k : Bool) → x ≡ slot.Pair h t k → TellsOf f h × TellsOf f t
+  pair_tells lt x read h t k is =
+      let p = shows_pair f sound at told lt x read h t k is true in
       (some_told (value_in f.slots h.0) p.head p.head_is, some_told (value_in f.slots t.0) p.tail p.tail_is)
 
-  pub top_pair : at.0 < 2147483648 → (x : Slot) → x ≡ get_or f.slots at.0 x → (h t : Ref) → x ≡ slot.Pair h t → (m n : ℕ) → top (told_in f h) ≤ m → top (told_in f t) ≤ n → top (told_in f at) ≤ max m n
-  top_pair lt x read h t is m n hm hn =
-      let p = shows_pair f sound at told lt x read h t is true in
+  pub top_pair : at.0 < 2147483648 → (x : Slot) → x ≡ get_or f.slots at.0 x → (h t : Ref) (k : Bool) → x ≡ slot.Pair h t k → (m n : ℕ) → top (told_in f h) ≤ m → top (told_in f t) ≤ n → top (told_in f at) ≤ max m n
+  top_pair lt x read h t k is m n hm hn =
+      let p = shows_pair f sound at told lt x read h t k is true in
       let eh : told_in f h ≡ p.head = ap or_nil p.head_is in
       let et : told_in f t ≡ p.tail = ap or_nil p.tail_is in
       rw p.is (omega (arith, ap top eh, ap top et, hm, hn))
@@ -263,23 +263,80 @@ fence_undone f f' to s ms e h =
     let is : record { slots = to.slots; vars = to.vars; reach = to.vars } ≡ end_of (fields_at f to) = rw n refl in
     subst (λ k. Stays k (record { slots = to.slots; vars = to.vars; reach = to.vars })) (sym e) (fence_moved (fields_at f to) (record { slots = to.slots; vars = to.vars; reach = to.vars }) h.3.sound is)
 
+-- ## A value without variables
+
+module _ (slots : List Slot) (marks : (i : ℕ) (h t : Ref) → slice_get slots i ≡ Some (slot.Pair h t true) → (is_constant slots h ≡ true) × (is_constant slots t ≡ true)) where
+  abbrev ConstantsBelow : (ℕ → Option Value) → Type 0
+  ConstantsBelow go = (r : Ref) (v : Value) → is_constant slots r ≡ true → go r.0 ≡ Some v → top v ≤ 0
+
+  constant_pair : (go : ℕ → Option Value) → ConstantsBelow go → (at : ℕ) (x y : Ref) (k : Bool) → k ≡ true → slice_get slots at ≡ Some (slot.Pair x y k) → (v : Value) → pair_told (go x.0) (go y.0) ≡ Some v → top v ≤ 0
+  constant_pair go h at x y k set is v e =
+      let c = marks at x y (is ∙ ap (λ b. Some (slot.Pair x y b)) set) in
+      pair_below 0 (go x.0) (go y.0) (λ u. h x u c.0) (λ u. h y u c.1) v e
+
+  constant_slot : (go : ℕ → Option Value) → ConstantsBelow go → (at : ℕ) (o : Option Slot) → slice_get slots at ≡ o → is_marked o ≡ true → (v : Value) → slot_value go slots at o ≡ Some v → top v ≤ 0
+  constant_slot go h at None is m v e = absurd (cc e)
+  constant_slot go h at (Some (slot.Var n)) is m v e = absurd (cc m)
+  constant_slot go h at (Some (slot.Pair x y k)) is m v e = constant_pair go h at x y k m is v e
+  constant_slot go h at (Some (slot.Closure place n)) is m v e = absurd (cc m)
+  constant_slot go h at (Some (slot.Captured r)) is m v e = absurd (cc m)
+  constant_slot go h at (Some (slot.Unknown n)) is m v e = absurd (cc m)
+  constant_slot go h at (Some (slot.Letter c)) is m v e = absurd (cc m)
+
+  simple_below : (n : ℕ) (r : Ref) (v : Value) → 2147483648 ≤ r.0 → value_at slots n r.0 ≡ Some v → top v ≤ 0
+  simple_below n r v ge e = subst (λ (w : Value). top w ≤ 0) (some_value (leaf (label_at (r.0 - 2147483648))) v (sym (simple_in slots r.0 n ge) ∙ e)) (omega arith)
+
+  marked_is : (r : Ref) → r.0 < 2147483648 → is_constant slots r ≡ true → is_marked (slice_get slots r.0) ≡ true
+  marked_is r lt h = sym (ap (λ b. b || is_marked (slice_get slots r.0)) (lt-leb 2147483648 r.0 lt)) ∙ h
+
+  constant_below : (n : ℕ) → ConstantsBelow (value_at slots n)
+  constant_below zero r v h e =
+      elim (cases_lt r.0 2147483648) [
+        | inl lt ↦ let k : None ≡ Some v = rw (lt-ltb r.0 2147483648 lt) at e in absurd (cc k)
+        | inr ge ↦ simple_below 0 r v ge e
+      ]
+  constant_below (suc n) r v h e =
+      elim (cases_lt r.0 2147483648) [
+        | inl lt ↦ constant_slot (value_at slots n) (constant_below n) r.0 (slice_get slots r.0) refl (marked_is r lt h) v (rw (lt-ltb r.0 2147483648 lt) at e)
+        | inr ge ↦ simple_below (suc n) r v ge e
+      ]
+
+none_closed : (S : Substitution) → AreClosed 0 S
+none_closed [] = tt
+none_closed (p ∷ S) = (λ lt. absurd (omega (arith, lt)), none_closed S)
+
+pub constant_absent : (slots : List Slot) (ls : List Link) (vars : ℕ) → Fits slots ls vars → (n : ℕ) (at : Ref) → IsTold (value_in slots at.0) → is_constant slots at ≡ true → contains n (resolved (subst_of slots ls) (or_nil (value_in slots at.0))) ≡ false
+constant_absent slots ls vars b n at told is =
+    let v = or_nil (value_in slots at.0) in
+    behind_absent n 0 (subst_of slots ls) (none_closed (subst_of slots ls)) v (constant_below slots b.constant (length slots) at v is (option_told (value_in slots at.0) told)) (omega arith)
+
+pub top_constant : (f : Fields) → AreSound f → (at : Ref) → TellsOf f at → is_constant f.slots at ≡ true → top (told_in f at) ≤ 0
+top_constant f sound at told is = constant_below f.slots sound.fits.constant (length f.slots) at (told_in f at) is (option_told (value_in f.slots at.0) told)
+
 -- ## What stands on either side of a fence
-
-between_parts : (a b c : Bool) → (a || (b && c)) ≡ true → (a ≡ false) → (b ≡ true) × (c ≡ true)
-between_parts true b c h e = absurd (cc e)
-between_parts false true true h e = (refl, refl)
-between_parts false true false h e = absurd (cc h)
-between_parts false false c h e = absurd (cc h)
-
-leaf_absent : (n : ℕ) (f : Label) (S : Substitution) → contains n (resolved S (leaf f)) ≡ false
-leaf_absent n f S = ap (contains n) (resolved_node S f NoMore)
 
 pub between_absent : (slots : List Slot) (ls : List Link) (vars : ℕ) (fence : Fence) → IsFenced slots ls vars fence → (n : ℕ) (at : Ref) → IsTold (value_in slots at.0) → stands_between fence at n ≡ true → contains n (resolved (subst_of slots ls) (or_nil (value_in slots at.0))) ≡ false
 between_absent slots ls vars fence f n at told is =
-    elim (cases_lt at.0 2147483648) [
-      | inl lt ↦
-          let k = between_parts (nat_le 2147483648 at.0) (nat_lt at.0 fence.slots) (nat_le fence.vars n) is (lt-leb 2147483648 at.0 lt) in
-          let v = or_nil (value_in slots at.0) in
-          behind_absent n fence.vars (subst_of slots ls) f.closed v (f.values at.0 v (ltb-true at.0 fence.slots k.0) (option_told (value_in slots at.0) told)) (leb-true fence.vars n k.1)
-      | inr ge ↦ rw (simple_in slots at.0 (length slots) ge) (leaf_absent n (label_at (at.0 - 2147483648)) (subst_of slots ls))
-    ]
+    let k = and_parts (nat_lt at.0 fence.slots) (nat_le fence.vars n) is in
+    let v = or_nil (value_in slots at.0) in
+    behind_absent n fence.vars (subst_of slots ls) f.closed v (f.values at.0 v (ltb-true at.0 fence.slots k.0) (option_told (value_in slots at.0) told)) (leb-true fence.vars n k.1)
+
+-- ## Whether a value is marked
+
+other_unmarked : (x : Slot) → ((h t : Ref) (k : Bool) → x ≡ slot.Pair h t k → ⊥) → is_marked (Some x) ≡ false
+other_unmarked (slot.Var n) h = refl
+other_unmarked (slot.Pair a b k) h = absurd (h a b k refl)
+other_unmarked (slot.Closure place n) h = refl
+other_unmarked (slot.Captured r) h = refl
+other_unmarked (slot.Unknown n) h = refl
+other_unmarked (slot.Letter c) h = refl
+
+module _ (f : Fields) (sound : AreSound f) (at : Ref) (told : TellsOf f at) (lt : at.0 < 2147483648) (x : Slot) (read : x ≡ get_or f.slots at.0 x) where
+  marked_read : is_constant f.slots at ≡ is_marked (Some x)
+  marked_read = ap (λ b. b || is_marked (slice_get f.slots at.0)) (lt-leb 2147483648 at.0 lt) ∙ ap is_marked (was_read f sound at told lt x read).get
+
+  pub constant_read : (h t : Ref) (k : Bool) → x ≡ slot.Pair h t k → k ≡ is_constant f.slots at
+  constant_read h t k is = sym (marked_read ∙ ap (λ y. is_marked (Some y)) is)
+
+  pub other_read : ((h t : Ref) (k : Bool) → x ≡ slot.Pair h t k → ⊥) → false ≡ is_constant f.slots at
+  other_read other = sym (marked_read ∙ other_unmarked x other)

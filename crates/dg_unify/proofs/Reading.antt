@@ -66,7 +66,7 @@ pub captured_is : (go : ℕ → Option Value) (o : Option Slot) (v : Value) → 
 captured_is go None v h = absurd (cc h)
 captured_is go (Some (slot.Captured r)) v h = (r, refl, h)
 captured_is go (Some (slot.Var n)) v h = absurd (cc h)
-captured_is go (Some (slot.Pair x y)) v h = absurd (cc h)
+captured_is go (Some (slot.Pair x y k)) v h = absurd (cc h)
 captured_is go (Some (slot.Closure p n)) v h = absurd (cc h)
 captured_is go (Some (slot.Unknown n)) v h = absurd (cc h)
 captured_is go (Some (slot.Letter c)) v h = absurd (cc h)
@@ -75,7 +75,7 @@ letter_is : (o : Option Slot) (c : ℕ) → letter_slot o ≡ Some c → o ≡ S
 letter_is None c h = absurd (cc h)
 letter_is (Some (slot.Letter d)) c h = let e : d ≡ c = cc in ap (λ k. Some (slot.Letter k)) e
 letter_is (Some (slot.Var n)) c h = absurd (cc h)
-letter_is (Some (slot.Pair x y)) c h = absurd (cc h)
+letter_is (Some (slot.Pair x y k)) c h = absurd (cc h)
 letter_is (Some (slot.Closure p n)) c h = absurd (cc h)
 letter_is (Some (slot.Unknown n)) c h = absurd (cc h)
 letter_is (Some (slot.Captured r)) c h = absurd (cc h)
@@ -155,7 +155,7 @@ word_same (Some ds) cs h = let e : leaf (Unknown ds) ≡ leaf (Unknown cs) = cc 
 
 closure_slot_is : (go : ℕ → Option Value) (slots : List Slot) (at : ℕ) (x : Slot) (place : ℕ) (vs : Values) → slot_value go slots at (Some x) ≡ Some (Node (Closure place) vs) → (n : ℕ) × (x ≡ slot.Closure place n) × (captured_in go slots (suc at) n ≡ Some vs)
 closure_slot_is go slots at (slot.Var k) place vs h = absurd (cc h)
-closure_slot_is go slots at (slot.Pair a b) place vs h = absurd (pair_no_closure (go a.0) (go b.0) place vs h)
+closure_slot_is go slots at (slot.Pair a b k) place vs h = absurd (pair_no_closure (go a.0) (go b.0) place vs h)
 closure_slot_is go slots at (slot.Closure p n) place vs h = let r = closure_same p place (captured_in go slots (suc at) n) vs h in (n, ap (λ k. slot.Closure k n) r.0, r.1)
 closure_slot_is go slots at (slot.Captured r) place vs h = absurd (cc h)
 closure_slot_is go slots at (slot.Unknown n) place vs h = absurd (word_no_closure (letters_in slots (suc at) n) place vs h)
@@ -163,7 +163,7 @@ closure_slot_is go slots at (slot.Letter c) place vs h = absurd (cc h)
 
 word_slot_is : (go : ℕ → Option Value) (slots : List Slot) (at : ℕ) (x : Slot) (cs : List ℕ) → slot_value go slots at (Some x) ≡ Some (leaf (Unknown cs)) → (n : ℕ) × (x ≡ slot.Unknown n) × (letters_in slots (suc at) n ≡ Some cs)
 word_slot_is go slots at (slot.Var k) cs h = absurd (cc h)
-word_slot_is go slots at (slot.Pair a b) cs h = absurd (pair_no_word (go a.0) (go b.0) cs h)
+word_slot_is go slots at (slot.Pair a b k) cs h = absurd (pair_no_word (go a.0) (go b.0) cs h)
 word_slot_is go slots at (slot.Closure p n) cs h = absurd (closure_no_word p (captured_in go slots (suc at) n) cs h)
 word_slot_is go slots at (slot.Captured r) cs h = absurd (cc h)
 word_slot_is go slots at (slot.Unknown n) cs h = (n, refl, word_same (letters_in slots (suc at) n) cs h)
@@ -265,8 +265,8 @@ module _ (f : Fields) (sound : AreSound f) where
         let r = var_read lt x read n is in
         record { number = n; is = ap or_nil r.0; value = r.0 }
 
-    pub shows_pair : at.0 < 2147483648 → (x : Slot) → x ≡ get_or f.slots at.0 x → (h t : Ref) → x ≡ slot.Pair h t → (grows : Bool) → ShowsPair (store_of grows f) (told_in f at) h t
-    shows_pair lt x read h t is grows =
+    pub shows_pair : at.0 < 2147483648 → (x : Slot) → x ≡ get_or f.slots at.0 x → (h t : Ref) (k : Bool) → x ≡ slot.Pair h t k → (grows : Bool) → ShowsPair (store_of grows f) (told_in f at) h t
+    shows_pair lt x read h t k is grows =
         let r = was_read lt x read in
         let e : value_in f.slots at.0 ≡ pair_told (value_at f.slots r.m h.0) (value_at f.slots r.m t.0) = r.is ∙ ap (λ y. slot_value (value_at f.slots r.m) f.slots at.0 (Some y)) is in
         let b = both_told (value_at f.slots r.m h.0) (value_at f.slots r.m t.0) (subst IsTold e told) in

@@ -1,8 +1,8 @@
 -- What slots and bindings stand for, when there are more of them.
-use Rattle.std.proofs.Common.{◌≡◌, ℕ, zero, suc, ◌+◌, ◌-◌, ◌<◌, ◌≤◌, List, [], ◌∷◌, ◌++◌, true, false, refl, sym, ap, ◌∙◌, arith, subst, Option, Some, None, inl, inr, length, length-append, append_assoc, append-nil, get_or, All}
-use Rattle.std.specs.Prelude.{eqb, nat_lt, if◌then◌else◌, map}
+use Rattle.std.proofs.Common.{◌≡◌, ℕ, zero, suc, ◌+◌, ◌-◌, ◌<◌, ◌≤◌, List, [], ◌∷◌, ◌++◌, Bool, true, false, refl, sym, ap, ◌∙◌, arith, subst, Option, Some, None, inl, inr, length, length-append, append_assoc, append-nil, get_or, All}
+use Rattle.std.specs.Prelude.{eqb, nat_lt, nat_le, ◌||◌, ◌&&◌, if◌then◌else◌, map}
 use Rattle.std.specs.List.{slice_get}
-use Rattle.std.proofs.lemmas.Bool.{cond-true, cond-false, lt-ltb, le-ltb, cases_eq, eq-eqb, ne_eqb}
+use Rattle.std.proofs.lemmas.Bool.{or_cases, and_parts, both_ways, cond-true, cond-false, lt-ltb, le-ltb, cases_eq, eq-eqb, ne_eqb}
 use Rattle.std.proofs.lemmas.Option.{slice_get_within, get_or_from_slice_get}
 use Rattle.dg_meaning.specs.Values.{Unknown, Closure, Value, Var, Node, Values, leaf, pair, parts_of}
 use Rattle.dg_meaning.specs.Substitutions.{is_bound, FitsFront, IsSubstitution}
@@ -10,7 +10,7 @@ use Rattle.dg_meaning.specs.Unifiers.{binding_of}
 use Rattle.dg_meaning.proofs.LookUps.{none_unbound, unbound_none, LooksUp, looks_up}
 use Rattle.dg_unify.specs.Store.{or_nil, IsTold}
 use Rattle.dg_unify.specs.Links.{to_of}
-use Rattle.dg_unify.specs.Slots.{pair_told, and_part, and_letter, captured_slot, letter_slot, captured_in, letters_in, closure_told, word_told, slot_value, ref_value, label_at, value_at, value_in, subst_of, AreTold, IsFew, Begins, Fits, captured_slots, letter_slots}
+use Rattle.dg_unify.specs.Slots.{pair_told, and_part, and_letter, captured_slot, letter_slot, captured_in, letters_in, closure_told, word_told, slot_value, ref_value, label_at, value_at, value_in, subst_of, AreTold, IsFew, Begins, is_marked, is_constant, Fits, captured_slots, letter_slots}
 use Rattle.dg_unify.specs.declared.bindings.Ref.{Ref}
 use Rattle.dg_unify.specs.declared.slots.Slot.{Slot}
 use Rattle.dg_unify.specs.declared.slots.Slot.TheVariants as slot
@@ -44,7 +44,7 @@ captured_slot_more : (go go' : ℕ → Option Value) → Extended go go' → (o 
 captured_slot_more go go' up None o' get v h = absurd (cc h)
 captured_slot_more go go' up (Some (slot.Captured r)) o' get v h = rw (get (slot.Captured r) refl) (up r.0 v h)
 captured_slot_more go go' up (Some (slot.Var n)) o' get v h = absurd (cc h)
-captured_slot_more go go' up (Some (slot.Pair x y)) o' get v h = absurd (cc h)
+captured_slot_more go go' up (Some (slot.Pair x y k)) o' get v h = absurd (cc h)
 captured_slot_more go go' up (Some (slot.Closure p n)) o' get v h = absurd (cc h)
 captured_slot_more go go' up (Some (slot.Unknown n)) o' get v h = absurd (cc h)
 captured_slot_more go go' up (Some (slot.Letter c)) o' get v h = absurd (cc h)
@@ -53,7 +53,7 @@ letter_slot_more : (o o' : Option Slot) → ((x : Slot) → o ≡ Some x → o' 
 letter_slot_more None o' get c h = absurd (cc h)
 letter_slot_more (Some (slot.Letter d)) o' get c h = rw (get (slot.Letter d) refl) h
 letter_slot_more (Some (slot.Var n)) o' get c h = absurd (cc h)
-letter_slot_more (Some (slot.Pair x y)) o' get c h = absurd (cc h)
+letter_slot_more (Some (slot.Pair x y k)) o' get c h = absurd (cc h)
 letter_slot_more (Some (slot.Closure p n)) o' get c h = absurd (cc h)
 letter_slot_more (Some (slot.Unknown n)) o' get c h = absurd (cc h)
 letter_slot_more (Some (slot.Captured r)) o' get c h = absurd (cc h)
@@ -93,7 +93,7 @@ word_more (Some ws) a' v ha h = rw (ha ws refl) h
 slot_more : (go go' : ℕ → Option Value) → Extended go go' → (slots slots' : List Slot) → Longer slots slots' → (at : ℕ) (o o' : Option Slot) → ((x : Slot) → o ≡ Some x → o' ≡ Some x) → (v : Value) → slot_value go slots at o ≡ Some v → slot_value go' slots' at o' ≡ Some v
 slot_more go go' up slots slots' longer at None o' get v h = absurd (cc h)
 slot_more go go' up slots slots' longer at (Some (slot.Var n)) o' get v h = rw (get (slot.Var n) refl) h
-slot_more go go' up slots slots' longer at (Some (slot.Pair x y)) o' get v h = rw (get (slot.Pair x y) refl) (pair_more (go x.0) (go y.0) (go' x.0) (go' y.0) v (up x.0) (up y.0) h)
+slot_more go go' up slots slots' longer at (Some (slot.Pair x y k)) o' get v h = rw (get (slot.Pair x y k) refl) (pair_more (go x.0) (go y.0) (go' x.0) (go' y.0) v (up x.0) (up y.0) h)
 slot_more go go' up slots slots' longer at (Some (slot.Closure p n)) o' get v h =
     rw (get (slot.Closure p n) refl) (closure_more p (captured_in go slots (suc at) n) (captured_in go' slots' (suc at) n) v (captured_more go go' up slots slots' longer (suc at) n) h)
 slot_more go go' up slots slots' longer at (Some (slot.Unknown n)) o' get v h =
@@ -195,7 +195,7 @@ plain_at (y ∷ xs) h (suc j) x e = plain_at xs h.1 j x e
 
 plain_few : (x : Slot) → IsPlain x → IsFew x
 plain_few (slot.Var n) h = absurd h
-plain_few (slot.Pair x y) h = tt
+plain_few (slot.Pair x y k) h = tt
 plain_few (slot.Closure place n) h = h
 plain_few (slot.Captured r) h = tt
 plain_few (slot.Unknown n) h = h
@@ -247,8 +247,51 @@ whole_more slots extra x ls vars b inner told i y h begins =
       | inr e ↦ behind_told slots extra x i y inner told begins e.0 e.1 e.2
     ]
 
-pub fits_more : (slots extra : List Slot) (x : Slot) (ls : List Link) (vars : ℕ) → ArePlain (x ∷ extra) → AreInner extra → IsTold (value_in (slots ++ x ∷ extra) (length slots)) → Fits slots ls vars → length slots + length (x ∷ extra) ≤ 2147483648 → Fits (slots ++ x ∷ extra) ls vars
-fits_more slots extra x ls vars none inner is_told b le = record {
+or_known : (a b : Bool) → b ≡ true → (a || b) ≡ true
+or_known true b h = refl
+or_known false b h = h
+
+marked_slot : (o : Option Slot) → is_marked o ≡ true → (y : Slot) × (o ≡ Some y)
+marked_slot None h = absurd (cc h)
+marked_slot (Some y) h = (y, refl)
+
+constant_more : (slots extra : List Slot) (r : Ref) → is_constant slots r ≡ true → is_constant (slots ++ extra) r ≡ true
+constant_more slots extra r h =
+    let a = nat_le 2147483648 r.0 in
+    elim (or_cases a (is_marked (slice_get slots r.0)) h) [
+      | inl e ↦ ap (λ b. b || is_marked (slice_get (slots ++ extra) r.0)) e
+      | inr e ↦
+          let y = marked_slot (slice_get slots r.0) e in
+          or_known a (is_marked (slice_get (slots ++ extra) r.0)) (ap is_marked (get_append slots extra r.0 y.0 y.1) ∙ sym (ap is_marked y.1) ∙ e)
+    ]
+
+-- a slot is marked as a pair without variables only where its parts are
+abbrev pub MarksRightly : List Slot → Slot → Type 0
+MarksRightly slots x = (h t : Ref) → x ≡ slot.Pair h t true → (is_constant slots h ≡ true) × (is_constant slots t ≡ true)
+
+marks_behind : (slots extra : List Slot) (x : Slot) (h t : Ref) → AreInner extra → MarksRightly slots x → (j : ℕ) → slice_get (x ∷ extra) j ≡ Some (slot.Pair h t true) → (is_constant slots h ≡ true) × (is_constant slots t ≡ true)
+marks_behind slots extra x h t inner marks zero e = marks h t cc
+marks_behind slots extra x h t inner marks (suc j) e = absurd (inner_at extra inner j (slot.Pair h t true) e tt)
+
+marks_more : (slots extra : List Slot) (x : Slot) (ls : List Link) (vars : ℕ) → Fits slots ls vars → AreInner extra → MarksRightly slots x → (i : ℕ) (h t : Ref) → slice_get (slots ++ x ∷ extra) i ≡ Some (slot.Pair h t true) → (is_constant (slots ++ x ∷ extra) h ≡ true) × (is_constant (slots ++ x ∷ extra) t ≡ true)
+marks_more slots extra x ls vars b inner marks i h t e =
+    let c : (is_constant slots h ≡ true) × (is_constant slots t ≡ true) =
+    elim (get_either slots (x ∷ extra) i (slot.Pair h t true) e) [ inl k ↦ b.constant i h t k | inr k ↦ marks_behind slots extra x h t inner marks k.0 k.2 ] in
+    (constant_more slots (x ∷ extra) h c.0, constant_more slots (x ∷ extra) t c.1)
+
+pub no_marks : (slots : List Slot) (x : Slot) → is_marked (Some x) ≡ false → MarksRightly slots x
+no_marks slots x h = λ a b e. absurd (both_ways (is_marked (Some x)) h (ap (λ y. is_marked (Some y)) e))
+
+pub pair_marks : (slots : List Slot) (a b : Ref) (k : Bool) → k ≡ (is_constant slots a && is_constant slots b) → MarksRightly slots (slot.Pair a b k)
+pair_marks slots a b k is = λ h t e.
+    let ea : a ≡ h = cc in
+    let eb : b ≡ t = cc in
+    let ek : k ≡ true = cc in
+    let c = and_parts (is_constant slots a) (is_constant slots b) (sym is ∙ ek) in
+    (ap (is_constant slots) (sym ea) ∙ c.0, ap (is_constant slots) (sym eb) ∙ c.1)
+
+pub fits_more : (slots extra : List Slot) (x : Slot) (ls : List Link) (vars : ℕ) → ArePlain (x ∷ extra) → AreInner extra → IsTold (value_in (slots ++ x ∷ extra) (length slots)) → MarksRightly slots x → Fits slots ls vars → length slots + length (x ∷ extra) ≤ 2147483648 → Fits (slots ++ x ∷ extra) ls vars
+fits_more slots extra x ls vars none inner is_told marks b le = record {
   sound = rw (subst_more slots (x ∷ extra) ls b.told) b.sound;
   told = told_more slots (x ∷ extra) ls b.told;
   once = b.once;
@@ -256,6 +299,7 @@ fits_more slots extra x ls vars none inner is_told b le = record {
   few = λ i y h. elim (get_either slots (x ∷ extra) i y h) [ inl e ↦ b.few i y e | inr e ↦ plain_few y (plain_at (x ∷ extra) none e.0 y e.2) ];
   rising = λ i j m n hi hj lt. b.rising i j m n (old_var slots (x ∷ extra) none i m hi) (old_var slots (x ∷ extra) none j n hj) lt;
   whole = whole_more slots extra x ls vars b inner is_told;
+  constant = marks_more slots extra x ls vars b inner marks;
   room = omega (arith, length-append slots (x ∷ extra));
   fewer = omega (arith, length-append slots (x ∷ extra), b.fewer);
 }
@@ -280,6 +324,7 @@ fits_var slots ls vars b lt = record {
       ];
   few = λ i x h. elim (get_either slots (slot.Var vars ∷ []) i x h) [ inl e ↦ b.few i x e | inr e ↦ var_few vars e.0 x e.2 ];
   whole = whole_more slots [] (slot.Var vars) ls vars b tt (some_told (value_in (slots ++ slot.Var vars ∷ []) (length slots)) (Var vars) (new_slot slots [] (slot.Var vars) lt));
+  constant = marks_more slots [] (slot.Var vars) ls vars b tt (no_marks slots (slot.Var vars) refl);
   rising = λ i j m n hi hj lt'.
       elim (get_either slots (slot.Var vars ∷ []) i (slot.Var m) hi) [
         | inl a ↦
@@ -307,6 +352,7 @@ fits_link slots ls vars l b fits told lt = record {
   rising = b.rising;
   few = b.few;
   whole = b.whole;
+  constant = b.constant;
   room = b.room;
   fewer = b.fewer;
 }
@@ -345,11 +391,11 @@ letters_here before (c ∷ cs) at is =
     subst (λ xs. letters_in xs (suc at) (length cs) ≡ Some cs) e (letters_here (before ++ slot.Letter c ∷ []) cs (suc at) (omega (arith, is, length-append before (slot.Letter c ∷ [])))) in
     rw (one, others) refl
 
-pub new_pair : (slots : List Slot) (h t : Ref) → length slots < 2147483648 → IsTold (value_in slots h.0) → IsTold (value_in slots t.0) → value_in (slots ++ slot.Pair h t ∷ []) (length slots) ≡ Some (pair (or_nil (value_in slots h.0)) (or_nil (value_in slots t.0)))
-new_pair slots h t lt hh ht =
-    let vh = value_more (length slots) (length slots + 0) slots (slot.Pair h t ∷ []) (omega arith) h.0 (or_nil (value_in slots h.0)) (option_told (value_in slots h.0) hh) in
-    let vt = value_more (length slots) (length slots + 0) slots (slot.Pair h t ∷ []) (omega arith) t.0 (or_nil (value_in slots t.0)) (option_told (value_in slots t.0) ht) in
-    new_slot slots [] (slot.Pair h t) lt ∙ rw (vh, vt) refl
+pub new_pair : (slots : List Slot) (h t : Ref) (k : Bool) → length slots < 2147483648 → IsTold (value_in slots h.0) → IsTold (value_in slots t.0) → value_in (slots ++ slot.Pair h t k ∷ []) (length slots) ≡ Some (pair (or_nil (value_in slots h.0)) (or_nil (value_in slots t.0)))
+new_pair slots h t k lt hh ht =
+    let vh = value_more (length slots) (length slots + 0) slots (slot.Pair h t k ∷ []) (omega arith) h.0 (or_nil (value_in slots h.0)) (option_told (value_in slots h.0) hh) in
+    let vt = value_more (length slots) (length slots + 0) slots (slot.Pair h t k ∷ []) (omega arith) t.0 (or_nil (value_in slots t.0)) (option_told (value_in slots t.0) ht) in
+    new_slot slots [] (slot.Pair h t k) lt ∙ rw (vh, vt) refl
 
 pub new_closure : (slots : List Slot) (place : ℕ) (rs : List Ref) → length slots < 2147483648 → AllTold slots rs → value_in (slots ++ slot.Closure place (length rs) ∷ captured_slots rs) (length slots) ≡ Some (Node (Closure place) (values_of slots rs))
 new_closure slots place rs lt h =

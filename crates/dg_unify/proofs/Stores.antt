@@ -16,7 +16,7 @@ use Rattle.dg_unify.specs.declared.slots.Slot.TheVariants as slot
 use Rattle.dg_unify.specs.declared.slots.Link.{Link}
 use Rattle.dg_unify.specs.Laws.{place_of_var}
 use Rattle.dg_unify.proofs.Lists.{reverse_snoc}
-use Rattle.dg_unify.proofs.SlotsLemmas.{in_more, subst_more, unbound_is_none, some_told, ArePlain, AreInner, fits_more, fits_var, fits_link, read_is, new_slot, new_pair, new_closure, new_word, values_of, each_told}
+use Rattle.dg_unify.proofs.SlotsLemmas.{in_more, subst_more, unbound_is_none, some_told, ArePlain, AreInner, MarksRightly, fits_more, fits_var, fits_link, read_is, new_slot, new_pair, new_closure, new_word, values_of, each_told}
 
 -- ## More of what it keeps
 
@@ -139,11 +139,11 @@ fresh_sound f f' sound g ev room heap et =
       trail_fits = omega (arith, et, g.trail_limit, sound.trail_fits);
     }
 
-pub value_sound : (f f' : Fields) (x : Slot) (extra : List Slot) (v : Value) → AreSound f → Grown f f' (x ∷ extra) [] → ArePlain (x ∷ extra) → AreInner extra → value_in f'.slots (length f.slots) ≡ Some v → f'.vars ≡ f.vars → length f.slots + length (x ∷ extra) ≤ 2147483648 → f'.heap ≤ f'.heap_limit → f'.trail ≡ f.trail → AreSound f'
-value_sound f f' x extra v sound g plain inner value ev room heap et =
+pub value_sound : (f f' : Fields) (x : Slot) (extra : List Slot) (v : Value) → AreSound f → Grown f f' (x ∷ extra) [] → ArePlain (x ∷ extra) → AreInner extra → value_in f'.slots (length f.slots) ≡ Some v → MarksRightly f.slots x → f'.vars ≡ f.vars → length f.slots + length (x ∷ extra) ≤ 2147483648 → f'.heap ≤ f'.heap_limit → f'.trail ≡ f.trail → AreSound f'
+value_sound f f' x extra v sound g plain inner value marks ev room heap et =
     let e : f'.log ≡ f.log = g.log ∙ append-nil f.log in
     record {
-      fits = rw (g.slots, e, ev) (fits_more f.slots extra x (reverse f.log) f.vars plain inner (some_told (value_in (f.slots ++ x ∷ extra) (length f.slots)) v (rw g.slots at value)) sound.fits room);
+      fits = rw (g.slots, e, ev) (fits_more f.slots extra x (reverse f.log) f.vars plain inner (some_told (value_in (f.slots ++ x ∷ extra) (length f.slots)) v (rw g.slots at value)) marks sound.fits room);
       heap_fits = heap;
       trail_fits = omega (arith, et, g.trail_limit, sound.trail_fits);
     }
@@ -214,8 +214,8 @@ bound_end grows f new x to end ends b =
 pub var_at : (slots slots' : List Slot) (n at : ℕ) → slots' ≡ slots ++ slot.Var n ∷ [] → at ≡ length slots → length slots < 2147483648 → value_in slots' at ≡ Some (Var n)
 var_at slots slots' n at es ea lt = rw (es, ea) (new_slot slots [] (slot.Var n) lt)
 
-pub pair_at : (slots slots' : List Slot) (h t : Ref) (at : ℕ) → slots' ≡ slots ++ slot.Pair h t ∷ [] → at ≡ length slots → length slots < 2147483648 → IsTold (value_in slots h.0) → IsTold (value_in slots t.0) → value_in slots' at ≡ Some (pair (or_nil (value_in slots h.0)) (or_nil (value_in slots t.0)))
-pair_at slots slots' h t at es ea lt hh ht = rw (es, ea) (new_pair slots h t lt hh ht)
+pub pair_at : (slots slots' : List Slot) (h t : Ref) (k : Bool) (at : ℕ) → slots' ≡ slots ++ slot.Pair h t k ∷ [] → at ≡ length slots → length slots < 2147483648 → IsTold (value_in slots h.0) → IsTold (value_in slots t.0) → value_in slots' at ≡ Some (pair (or_nil (value_in slots h.0)) (or_nil (value_in slots t.0)))
+pair_at slots slots' h t k at es ea lt hh ht = rw (es, ea) (new_pair slots h t k lt hh ht)
 
 pub closure_at : (slots slots' : List Slot) (place n : ℕ) (rs : List Ref) (at : ℕ) → slots' ≡ slots ++ slot.Closure place n ∷ captured_slots rs → n ≡ length rs → at ≡ length slots → length slots < 2147483648 → All (λ (r : Ref). IsTold (value_in slots r.0)) rs → value_in slots' at ≡ Some (Node (Closure place) (values_of slots rs))
 closure_at slots slots' place n rs at es en ea lt h = rw (es, en, ea) (new_closure slots place rs lt (each_told slots rs h))

@@ -28,9 +28,9 @@ pub record IsFenced (slots : List Slot) (ls : List Link) (vars : ℕ) (fence : F
   pub further : fence.vars ≤ fence.reach
   pub within : top_of_bound (subst_of slots ls) ≤ fence.reach
 
--- A value has no parts, or stands before the fence and a variable behind it.
+-- A value of a slot stands before the fence, and a variable behind it.
 abbrev pub stands_between : Fence → Ref → ℕ → Bool
-stands_between fence at n = nat_le 2147483648 at.0 || (nat_lt at.0 fence.slots && nat_le fence.vars n)
+stands_between fence at n = nat_lt at.0 fence.slots && nat_le fence.vars n
 
 -- Where the fence stands when one more variable is made: it stays while all slots behind it are new variables.
 abbrev pub fence_for_new : Fence → Fence → Fence

@@ -27,7 +27,7 @@ word_no_var (Some cs) x h = cc h
 var_slot : (go : ℕ → Option Value) (slots : List Slot) (at : ℕ) (o : Option Slot) (x : ℕ) → slot_value go slots at o ≡ Some (Var x) → o ≡ Some (slot.Var x)
 var_slot go slots at None x h = absurd (cc h)
 var_slot go slots at (Some (slot.Var n)) x h = let e : n ≡ x = cc in ap (λ k. Some (slot.Var k)) e
-var_slot go slots at (Some (slot.Pair h t)) x e = absurd (pair_no_var (go h.0) (go t.0) x e)
+var_slot go slots at (Some (slot.Pair h t k)) x e = absurd (pair_no_var (go h.0) (go t.0) x e)
 var_slot go slots at (Some (slot.Closure place n)) x e = absurd (closure_no_var place (captured_in go slots (suc at) n) x e)
 var_slot go slots at (Some (slot.Unknown n)) x e = absurd (word_no_var (letters_in slots (suc at) n) x e)
 var_slot go slots at (Some (slot.Captured r)) x e = absurd (cc e)

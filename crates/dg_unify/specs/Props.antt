@@ -47,7 +47,7 @@ are_linked_prop to log = hlevel (props, once_prop, lists_prop)
 
 few_prop : (x : Slot) → IsProp (IsFew x)
 few_prop (slot.Var n) = Unit-prop
-few_prop (slot.Pair h t) = Unit-prop
+few_prop (slot.Pair h t k) = Unit-prop
 few_prop (slot.Closure place n) = hlevel props
 few_prop (slot.Captured r) = Unit-prop
 few_prop (slot.Unknown n) = hlevel props

@@ -1,5 +1,5 @@
 -- What slots and bindings stand for. Hold it against dg_meaning/specs/Values.antt and Substitutions.antt.
-use Rattle.std.specs.Prelude.{◌≡◌, ℕ, zero, suc, ◌-◌, ◌<◌, ◌≤◌, nat_lt, List, [], ◌∷◌, Option, Some, None, Bool, if◌then◌else◌, length, take, reverse}
+use Rattle.std.specs.Prelude.{◌≡◌, ℕ, zero, suc, ◌-◌, ◌<◌, ◌≤◌, nat_lt, nat_le, ◌||◌, true, false, List, [], ◌∷◌, Option, Some, None, Bool, if◌then◌else◌, length, take, reverse}
 use Rattle.std.specs.List.{slice_get}
 use Rattle.dg_meaning.specs.Values.{Label, Num, Word, Unknown, Object, Nil, Closure, Value, Var, Node, Values, NoMore, More, leaf, pair}
 use Rattle.dg_meaning.specs.Substitutions.{Substitution, IsSubstitution}
@@ -74,7 +74,7 @@ word_told (Some cs) = Some (leaf (Unknown cs))
 abbrev pub slot_value : (ℕ → Option Value) → List Slot → ℕ → Option Slot → Option Value
 slot_value go slots at None = None
 slot_value go slots at (Some (slot.Var n)) = Some (Var n)
-slot_value go slots at (Some (slot.Pair h t)) = pair_told (go h.0) (go t.0)
+slot_value go slots at (Some (slot.Pair h t constant)) = pair_told (go h.0) (go t.0)
 slot_value go slots at (Some (slot.Closure place n)) = closure_told place (captured_in go slots (suc at) n)
 slot_value go slots at (Some (slot.Unknown n)) = word_told (letters_in slots (suc at) n)
 slot_value go slots at (Some (slot.Captured r)) = None
@@ -117,7 +117,16 @@ Begins (slot.Captured r) = ⊥
 Begins (slot.Letter c) = ⊥
 Begins other = Unit {0}
 
--- What holds of slots, bindings and a number of variables: the bindings are a substitution, the numbers of variables rise with their places, and where a slot begins a value, the value is there.
+-- A slot is marked as a pair without variables.
+abbrev pub is_marked : Option Slot → Bool
+is_marked (Some (slot.Pair h t constant)) = constant
+is_marked other = false
+
+-- A value has no parts, or is marked as one without variables.
+abbrev pub is_constant : List Slot → Ref → Bool
+is_constant slots r = nat_le 2147483648 r.0 || is_marked (slice_get slots r.0)
+
+-- What holds of slots, bindings and a number of variables: the bindings are a substitution, the numbers of variables rise with their places, where a slot begins a value, the value is there, and a pair is marked as one without variables only where its parts are.
 pub record Fits (slots : List Slot) (ls : List Link) (vars : ℕ) : Type 0 where
   pub sound : IsSubstitution (subst_of slots ls)
   pub told : AreTold slots ls
@@ -126,6 +135,7 @@ pub record Fits (slots : List Slot) (ls : List Link) (vars : ℕ) : Type 0 where
   pub rising : (i j m n : ℕ) → slice_get slots i ≡ Some (slot.Var m) → slice_get slots j ≡ Some (slot.Var n) → i < j → m < n
   pub few : (i : ℕ) (x : Slot) → slice_get slots i ≡ Some x → IsFew x
   pub whole : (i : ℕ) (x : Slot) → slice_get slots i ≡ Some x → Begins x → IsTold (value_in slots i)
+  pub constant : (i : ℕ) (h t : Ref) → slice_get slots i ≡ Some (slot.Pair h t true) → (is_constant slots h ≡ true) × (is_constant slots t ≡ true)
   pub room : length slots ≤ 2147483648
   pub fewer : vars ≤ length slots
 

@@ -4,7 +4,6 @@ ghost use Rattle.std.specs.Prelude.{◌≡◌, ◌≤◌};
 ghost use Rattle.dg_unify.specs.Fences.{stands_between, fence_for_new, fence_for_link};
 
 use crate::bindings::Ref;
-use crate::slots::FIRST_SIMPLE;
 
 /// So many slots and variables stand before it: no value of these slots has a variable behind it, nor has what one of
 /// these variables is bound to. And no variable at all is bound to a value with a variable whose number is `reach` or
@@ -17,11 +16,11 @@ pub struct Fence {
 }
 
 impl Fence {
-    /// Whether a value has no parts, or stands before it and a variable behind it.
+    /// Whether a value of a slot stands before it and a variable behind it.
     pub fn stands_between(self, at: Ref, var: u32) -> bool
         ensures { result ≡ stands_between self at var }
     {
-        at.0 >= FIRST_SIMPLE || (at.0 as usize) < self.slots && (var as usize) >= self.vars
+        (at.0 as usize) < self.slots && (var as usize) >= self.vars
     }
 
     /// Where it stands when one more variable is made: it stays while all slots behind it are new variables.

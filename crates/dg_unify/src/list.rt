@@ -1,6 +1,6 @@
 // A store that grows.
 
-ghost use Rattle.std.specs.Prelude.{◌≡◌, ℕ, ◌+◌, ◌-◌, ◌<◌, ◌≤◌, List, [], ◌∷◌, ◌++◌, Option, Some, None, MatchResult, IfOk, IfErr, OnOk, IsOk, length, vec_len, vec_capacity, take, reverse, true};
+ghost use Rattle.std.specs.Prelude.{◌≡◌, ℕ, ◌&&◌, ◌+◌, ◌-◌, ◌<◌, ◌≤◌, List, [], ◌∷◌, ◌++◌, Option, Some, None, MatchResult, IfOk, IfErr, OnOk, IsOk, length, vec_len, vec_capacity, take, reverse, true};
 ghost use Rattle.std.specs.List.{slice_get};
 ghost use Rattle.dg_unify.specs.Store.{trail_for};
 ghost use Rattle.dg_unify.specs.Linked.{log_of, vars_of};
@@ -38,6 +38,7 @@ impl ListBindings {
     ghost use Rattle.dg_unify.specs.Store.{Saved, Kept, Shows, TrailFull, Bound};
     ghost use Rattle.dg_unify.specs.Ends.{TellsOf, told_in, IsEnd, Leads, EndsAt, MayLink};
     ghost use Rattle.dg_unify.specs.Listed.{fields_of};
+    ghost use Rattle.dg_unify.specs.Slots.{is_constant};
 
     /// An empty store, with the limits of heap and trail.
     pub fn new(alloc: Global, heap: u32, trail: u32) -> ListBindings
@@ -75,10 +76,10 @@ impl ListBindings {
         requires { TellsOf (fields_of self.now) at }
         ensures { top (told_in (fields_of self.now) at) ≤ result }
     {
-        if at.0 >= FIRST_SIMPLE {
-            0
-        } else if (at.0 as usize) < self.fence.slots {
+        if (at.0 as usize) < self.fence.slots {
             self.fence.vars
+        } else if self.is_constant(at) {
+            0
         } else {
             self.top_within(at, 3)
         }
@@ -97,12 +98,35 @@ impl ListBindings {
         }
         match self.slots[at.0 as usize] {
             Slot::Var(number) => number as usize + 1,
-            Slot::Pair(head, tail) if depth > 0 => {
+            Slot::Pair(head, tail, _) if depth > 0 => {
                 let top = self.top_within(head, depth - 1);
                 top.max(self.top_within(tail, depth - 1))
             }
             _ => self.links.vars(),
         }
+    }
+
+    // Whether a value has no parts, or is marked as one without variables.
+    fn is_constant(&self, at: Ref) -> bool
+        requires { TellsOf (fields_of self.now) at }
+        ensures { result ≡ is_constant self.now.slots.items at }
+    {
+        if at.0 >= FIRST_SIMPLE {
+            return true;
+        }
+        match self.slots[at.0 as usize] {
+            Slot::Pair(_, _, constant) => constant,
+            _ => false,
+        }
+    }
+
+    // Whether both are.
+    fn are_constant(&self, a: Ref, b: Ref) -> bool
+        requires a_in { TellsOf (fields_of self.now) a }
+        requires b_in { TellsOf (fields_of self.now) b }
+        ensures { result ≡ (is_constant self.now.slots.items a && is_constant self.now.slots.items b) }
+    {
+        self.is_constant(a) && self.is_constant(b)
     }
 
     // Where a value leads, if it is a bound variable.
@@ -142,7 +166,7 @@ impl ListBindings {
         }
         match self.slots[at.0 as usize] {
             Slot::Var(_) => View::Unbound(at),
-            Slot::Pair(head, tail) => View::Pair(head, tail),
+            Slot::Pair(head, tail, _) => View::Pair(head, tail),
             Slot::Closure(place, _) => View::Closure(place, at),
             Slot::Unknown(_) => View::Unknown(at),
             Slot::Captured(_) => View::Simple(Simple::Nil),
@@ -219,10 +243,11 @@ impl Bindings for ListBindings {
         if self.heap_limit - self.heap < 3 {
             return Err(Full::Heap);
         }
+        let constant = self.are_constant(head, tail);
         match place_for(&mut self.slots, 1) {
             Err(e) => Err(e),
             Ok(at) => {
-                self.slots.push_reserved(Slot::Pair(head, tail));
+                self.slots.push_reserved(Slot::Pair(head, tail, constant));
                 self.heap += 3;
                 Ok(Ref(at))
             }
@@ -276,7 +301,7 @@ impl Bindings for ListBindings {
 
     fn is_clear(&self, x: Ref, at: Ref) -> bool {
         match self.slots[x.0 as usize] {
-            Slot::Var(number) => self.fence.stands_between(at, number),
+            Slot::Var(number) => self.fence.stands_between(at, number) || self.is_constant(at),
             _ => false,
         }
     }

@@ -7,12 +7,12 @@ ghost use Rattle.dg_unify.specs.Slots.{label_at};
 use crate::bindings::Ref;
 use dg_base::Simple;
 
-/// A variable, by its number; a pair; a closure, with its place and the number of its captured values, or an unknown
+/// A variable, by its number; a pair, and whether it is marked as a value without variables; a closure, with its place and the number of its captured values, or an unknown
 /// word, with the number of its letters, each of which has a slot of its own behind it.
 #[derive(Clone, Copy)]
 pub enum Slot {
     Var(u32),
-    Pair(Ref, Ref),
+    Pair(Ref, Ref, bool),
     Closure(u16, u16),
     Captured(Ref),
     Unknown(u16),

@@ -4,7 +4,7 @@ use Rattle.dg_unify.proofs.Reading.{shows_pair, shows_closure, shows_unknown, no
 use Rattle.dg_unify.proofs.list.ListBindings.view_of.Goals as goal
 
 pub returns-in-Pair : goal.returns-in-Pair
-returns-in-Pair c = shows_pair (fields_of c.args.self.now) c.args.self.now.sound c.args.at c.requires.told (omega arith) c.index.result.now c.index.ensures c.in-Pair.head c.in-Pair.tail c.in-Pair.is true
+returns-in-Pair c = shows_pair (fields_of c.args.self.now) c.args.self.now.sound c.args.at c.requires.told (omega arith) c.index.result.now c.index.ensures c.in-Pair.head c.in-Pair.tail c.in-Pair.field-2 c.in-Pair.is true
 
 pub returns-in-Closure : goal.returns-in-Closure
 returns-in-Closure c = shows_closure (fields_of c.args.self.now) c.args.self.now.sound c.args.at c.requires.told (omega arith) c.index.result.now c.index.ensures c.in-Closure.place c.in-Closure.field-1 c.in-Closure.is true

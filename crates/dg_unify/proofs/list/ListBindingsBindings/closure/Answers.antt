@@ -7,7 +7,7 @@ use Rattle.dg_unify.specs.Slots.{value_in, Fields, store_of, captured_slots}
 use Rattle.dg_unify.specs.Listed.{fields_of}
 use Rattle.dg_unify.specs.declared.slots.Slot.{Slot}
 use Rattle.dg_unify.specs.declared.slots.Slot.TheVariants as slot
-use Rattle.dg_unify.proofs.SlotsLemmas.{plain_captured, inner_captured}
+use Rattle.dg_unify.proofs.SlotsLemmas.{plain_captured, inner_captured, no_marks}
 use Rattle.dg_unify.proofs.Stores.{grown_slots, kept_grown, stand_grown, value_made, value_sound, closure_at, captured_length}
 use Rattle.dg_unify.proofs.FenceLemmas.{fence_kept}
 use Rattle.dg_unify.proofs.list.ListBindingsBindings.closure.Goals as goal
@@ -23,7 +23,7 @@ invariant_of-self-in-Ok c =
     let v : Value = Node (Closure c.args.place) (told_parts (store_of true f) c.args.captured.now) in
     let value : value_in f'.slots (length f.slots) ≡ Some v = closure_at f.slots f'.slots c.args.place (length c.args.captured.now) c.args.captured.now (length f.slots) es refl refl (omega (arith, c.in-Ok.ensures.within)) c.requires.captured_in in
     record {
-      sound = value_sound f f' (slot.Closure c.args.place (length c.args.captured.now)) (captured_slots c.args.captured.now) v c.args.self.now.sound g (c.requires.few, plain_captured c.args.captured.now) (inner_captured c.args.captured.now) value refl (omega (arith, c.in-Ok.ensures.within, captured_length c.args.captured.now)) (omega (arith, c.args.self.now.sound.heap_fits)) refl;
+      sound = value_sound f f' (slot.Closure c.args.place (length c.args.captured.now)) (captured_slots c.args.captured.now) v c.args.self.now.sound g (c.requires.few, plain_captured c.args.captured.now) (inner_captured c.args.captured.now) value (no_marks f.slots (slot.Closure c.args.place (length c.args.captured.now)) refl) refl (omega (arith, c.in-Ok.ensures.within, captured_length c.args.captured.now)) (omega (arith, c.args.self.now.sound.heap_fits)) refl;
       fenced = fence_kept f f' extra c.args.self.now.fence c.args.self.now.sound g (omega arith) c.args.self.now.fenced;
     }
 

@@ -6,7 +6,7 @@ use Rattle.dg_unify.specs.Slots.{value_in, Fields, letter_slots}
 use Rattle.dg_unify.specs.Listed.{fields_of}
 use Rattle.dg_unify.specs.declared.slots.Slot.{Slot}
 use Rattle.dg_unify.specs.declared.slots.Slot.TheVariants as slot
-use Rattle.dg_unify.proofs.SlotsLemmas.{plain_letters, inner_letters}
+use Rattle.dg_unify.proofs.SlotsLemmas.{plain_letters, inner_letters, no_marks}
 use Rattle.dg_unify.proofs.Stores.{grown_slots, kept_grown, stand_grown, value_made, value_sound, word_at, letters_length}
 use Rattle.dg_unify.proofs.FenceLemmas.{fence_kept}
 use Rattle.dg_unify.proofs.list.ListBindingsBindings.unknown.Goals as goal
@@ -21,7 +21,7 @@ invariant_of-self-in-Ok c =
     let g = grown_slots f f' extra es el refl refl in
     let value : value_in f'.slots (length f.slots) ≡ Some (leaf (Unknown c.args.spelling.now)) = word_at f.slots f'.slots (length c.args.spelling.now) c.args.spelling.now (length f.slots) es refl refl (omega (arith, c.in-Ok.ensures.within)) in
     record {
-      sound = value_sound f f' (slot.Unknown (length c.args.spelling.now)) (letter_slots c.args.spelling.now) (leaf (Unknown c.args.spelling.now)) c.args.self.now.sound g (c.requires.short, plain_letters c.args.spelling.now) (inner_letters c.args.spelling.now) value refl (omega (arith, c.in-Ok.ensures.within, letters_length c.args.spelling.now)) (omega (arith, c.args.self.now.sound.heap_fits)) refl;
+      sound = value_sound f f' (slot.Unknown (length c.args.spelling.now)) (letter_slots c.args.spelling.now) (leaf (Unknown c.args.spelling.now)) c.args.self.now.sound g (c.requires.short, plain_letters c.args.spelling.now) (inner_letters c.args.spelling.now) value (no_marks f.slots (slot.Unknown (length c.args.spelling.now)) refl) refl (omega (arith, c.in-Ok.ensures.within, letters_length c.args.spelling.now)) (omega (arith, c.args.self.now.sound.heap_fits)) refl;
       fenced = fence_kept f f' extra c.args.self.now.fence c.args.self.now.sound g (omega arith) c.args.self.now.fenced;
     }
 
