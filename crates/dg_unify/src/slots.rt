@@ -7,8 +7,9 @@ ghost use Rattle.dg_unify.specs.Slots.{label_at};
 use crate::bindings::Ref;
 use dg_base::Simple;
 
-/// A variable, by its number; a pair, and whether it is marked as a value without variables; a closure, with its place and the number of its captured values, or an unknown
-/// word, with the number of its letters, each of which has a slot of its own behind it.
+/// A variable, by its number; a pair, and whether it is marked as one without variables; a closure, with its place and
+/// the number of its captured values, or an unknown word, with the number of its letters, each of which has a slot of
+/// its own behind it.
 #[derive(Clone, Copy)]
 pub enum Slot {
     Var(u32),
