@@ -1,6 +1,6 @@
 -- What a turn of a unification leaves in a store, and how a unification goes on behind it.
 use Rattle.std.proofs.Common.{◌≡◌, ℕ, ◌+◌, ◌<◌, ◌≤◌, [], ◌∷◌, Bool, true, false, refl, sym, ap, ◌∙◌, arith, subst, Some}
-use Rattle.std.specs.Prelude.{eqb, nat_lt, ◌||◌, Result, Ok, Err}
+use Rattle.std.specs.Prelude.{eqb, nat_lt, Result, Ok, Err}
 use Rattle.std.proofs.lemmas.Bool.{lt-ltb, le-ltb, eq-eqb, ne_eqb}
 use Rattle.dg_meaning.specs.Values.{Label, Value, Var, Node, Values}
 use Rattle.dg_meaning.specs.Substitutions.{Substitution, is_bound, walk, resolved, contains, FitsFront, IsSubstitution}
@@ -112,27 +112,23 @@ tie_same s sound young x y m n hx hy e = rw (tie_same_number s young x y m n hx 
 
 -- ## A variable and a value
 
-or_end : (a : Bool) → (a || false) ≡ a
-or_end true = refl
-or_end false = refl
-
 -- the test of containment of the walked value
-walked_contains : (S : Substitution) → IsSubstitution S → (n : ℕ) (v : Value) (b : Bool) → b ≡ (contains n (resolved S v) || false) → contains n (resolved S (walk S v)) ≡ b
-walked_contains S s n v b h = ap (contains n) (walked S s v).same ∙ sym (or_end (contains n (resolved S v))) ∙ sym h
+walked_contains : (S : Substitution) → IsSubstitution S → (n : ℕ) (v : Value) (b : Bool) → b ≡ contains n (resolved S v) → contains n (resolved S (walk S v)) ≡ b
+walked_contains S s n v b h = ap (contains n) (walked S s v).same ∙ sym h
 
-pub point_clash : (s : Store) → IsSubstitution s.state.subst → (n : ℕ) (v : Value) → true ≡ (contains n (resolved s.state.subst v) || false) → FollowsTurn s s (binds s.state.subst n (walk s.state.subst v)) (Ok false)
+pub point_clash : (s : Store) → IsSubstitution s.state.subst → (n : ℕ) (v : Value) → true ≡ contains n (resolved s.state.subst v) → FollowsTurn s s (binds s.state.subst n (walk s.state.subst v)) (Ok false)
 point_clash s sound n v h = rw (walked_contains s.state.subst sound n v true h) (follows_clash s)
 
-pub point_binds : (s : Store) (x to : Ref) → (ux : IsUnbound s x) → Holds s to → false ≡ (contains ux.number (resolved s.state.subst (told s to)) || false) → MayBind s x to
+pub point_binds : (s : Store) (x to : Ref) → (ux : IsUnbound s x) → Holds s to → false ≡ contains ux.number (resolved s.state.subst (told s to)) → MayBind s x to
 point_binds s x to ux h e = record {
   x = ux.number;
   v = told s to;
   var_is = ux.value;
   to_is = holds_told s to h;
-  fits = record { unbound = ux.free; absent = sym (e ∙ or_end (contains ux.number (resolved s.state.subst (told s to)))) };
+  fits = record { unbound = ux.free; absent = sym e };
 }
 
-pub point_follows : (s new : Store) → IsSubstitution s.state.subst → (n : ℕ) (v : Value) → false ≡ (contains n (resolved s.state.subst v) || false) → (r : Result Bool Full) → FollowsTurn s new (Binds n (walk s.state.subst v)) r → FollowsTurn s new (binds s.state.subst n (walk s.state.subst v)) r
+pub point_follows : (s new : Store) → IsSubstitution s.state.subst → (n : ℕ) (v : Value) → false ≡ contains n (resolved s.state.subst v) → (r : Result Bool Full) → FollowsTurn s new (Binds n (walk s.state.subst v)) r → FollowsTurn s new (binds s.state.subst n (walk s.state.subst v)) r
 point_follows s new sound n v e r h = rw (walked_contains s.state.subst sound n v false e) h
 
 -- ## How two values met

@@ -87,7 +87,7 @@ shown_node s w (view.Unknown r) is shows = record { f = _; vs = _; is = shows.is
 
 -- ## The test of containment
 
-or_end : (a : Bool) → (a || false) ≡ a
+pub or_end : (a : Bool) → (a || false) ≡ a
 or_end true = refl
 or_end false = refl
 

@@ -2,8 +2,8 @@
 
 ghost use Rattle.std.specs.Prelude.{◌≡◌, ℕ, Some};
 ghost use Rattle.dg_meaning.specs.Values.{Label, Value, Var, Node, Values};
-ghost use Rattle.dg_meaning.specs.Substitutions.{all_resolved, any_contains};
-ghost use Rattle.dg_unify.specs.Store.{Store, Holds, Shows, IsClosureAt};
+ghost use Rattle.dg_meaning.specs.Substitutions.{resolved, all_resolved, contains, any_contains};
+ghost use Rattle.dg_unify.specs.Store.{Store, told, Holds, Shows, IsClosureAt};
 ghost use Rattle.dg_unify.specs.declared.parts.Parts.TheVariants as form;
 ghost use Rattle.dg_unify.specs.Parts.{AreIn, values_of, SplitsInto, IsRest, ShowsInner, IsVariable, LooksInto};
 
@@ -139,4 +139,16 @@ pub fn occurs<B: Bindings>(store: &B, x: Ref, parts: Parts) -> bool
             },
         }
     }
+}
+
+/// Whether an unbound variable stands in a value.
+pub fn stands_in<B: Bindings>(store: &B, x: Ref, at: Ref) -> bool
+    requires x_in { (n : ℕ) × (B.meaning store.now).value x ≡ Some (Var n) }
+    requires at_in { Holds (B.meaning store.now) at }
+    ensures { (n : ℕ) → (B.meaning store.now).value x ≡ Some (Var n) → result ≡ contains n (resolved (B.meaning store.now).state.subst (told (B.meaning store.now) at)) }
+{
+    if store.is_clear(x, at) {
+        return false;
+    }
+    occurs(store, x, Parts::One(at))
 }

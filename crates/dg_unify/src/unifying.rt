@@ -9,7 +9,7 @@ ghost use Rattle.dg_unify.specs.Parts.{AreIn, values_of};
 ghost use Rattle.dg_unify.specs.Turns.{IsUnbound, FollowsTurn, TurnsInto, IsFirstOf, Compares, is_nothing as no_parts, met_of};
 
 use crate::bindings::{Bindings, Full, Ref, View};
-use crate::parts::{Parts, inner, occurs, split, variable_of};
+use crate::parts::{Parts, inner, split, stands_in, variable_of};
 use dg_base::Simple;
 
 /// How two values met: nothing is left, or the parts of both are.
@@ -189,7 +189,7 @@ fn point<B: Bindings>(store: &mut B, x: Ref, to: Ref) -> Result<bool, Full>
     ensures saved { (ms : List Saved) → B.saves store.old ms → B.saves store.new ms }
     ensures follows { (n : ℕ) → (B.meaning store.old).value x ≡ Some (Var n) → FollowsTurn (B.meaning store.old) (B.meaning store.new) (binds (B.meaning store.old).state.subst n (walk (B.meaning store.old).state.subst (told (B.meaning store.old) to))) result }
 {
-    if occurs(store, x, Parts::One(to)) {
+    if stands_in(store, x, to) {
         return Ok(false);
     }
     link(store, x, to)
