@@ -51,7 +51,7 @@ resolved_below n (p ∷ S) c v h =
       | inr ge ↦ rw (replaced_absent p.0 (resolved S p.1) (resolved S v) (below_absent p.0 (resolved S v) (omega (arith, w, ge)))) w
     ]
 
-pub behind_absent : (n q : ℕ) (S : Substitution) → AreClosed q S → (v : Value) → top v ≤ q → q ≤ n → contains n (resolved S v) ≡ false
+behind_absent : (n q : ℕ) (S : Substitution) → AreClosed q S → (v : Value) → top v ≤ q → q ≤ n → contains n (resolved S v) ≡ false
 behind_absent n q S c v h le = below_absent n (resolved S v) (omega (arith, resolved_below q S c v h, le))
 
 within_closed : (n : ℕ) (S : Substitution) → top_of_bound S ≤ n → AreClosed n S
@@ -135,7 +135,7 @@ old_value slots extra ls vars b r v lt h =
 -- ## Where a fence may stand
 
 -- behind everything
-pub fenced_now : (slots : List Slot) (ls : List Link) (vars : ℕ) (fence : Fence) → Fits slots ls vars → fence ≡ record { slots = length slots; vars = vars; reach = vars } → IsFenced slots ls vars fence
+fenced_now : (slots : List Slot) (ls : List Link) (vars : ℕ) (fence : Fence) → Fits slots ls vars → fence ≡ record { slots = length slots; vars = vars; reach = vars } → IsFenced slots ls vars fence
 fenced_now slots ls vars fence b is =
     let within = bound_below slots vars b.below ls b.told in
     rw is (record {
@@ -148,7 +148,7 @@ fenced_now slots ls vars fence b is =
     })
 
 -- where it stood before there were more slots and variables
-pub fenced_more : (slots extra : List Slot) (ls : List Link) (vars vars' : ℕ) (fence : Fence) → Fits slots ls vars → vars ≤ vars' → IsFenced slots ls vars fence → IsFenced (slots ++ extra) ls vars' fence
+fenced_more : (slots extra : List Slot) (ls : List Link) (vars vars' : ℕ) (fence : Fence) → Fits slots ls vars → vars ≤ vars' → IsFenced slots ls vars fence → IsFenced (slots ++ extra) ls vars' fence
 fenced_more slots extra ls vars vars' fence b le f = record {
   slots_in = omega (arith, length-append slots extra, f.slots_in);
   vars_in = omega (arith, f.vars_in, le);
@@ -159,7 +159,7 @@ fenced_more slots extra ls vars vars' fence b le f = record {
 }
 
 -- where one more variable is made
-pub fenced_new : (slots extra : List Slot) (ls : List Link) (vars vars' : ℕ) (fence now : Fence) → Fits slots ls vars → vars ≤ vars' → now ≡ record { slots = length slots; vars = vars; reach = vars } → IsFenced slots ls vars fence → IsFenced (slots ++ extra) ls vars' (fence_for_new fence now)
+fenced_new : (slots extra : List Slot) (ls : List Link) (vars vars' : ℕ) (fence now : Fence) → Fits slots ls vars → vars ≤ vars' → now ≡ record { slots = length slots; vars = vars; reach = vars } → IsFenced slots ls vars fence → IsFenced (slots ++ extra) ls vars' (fence_for_new fence now)
 fenced_new slots extra ls vars vars' fence now b le is f =
     fenced_more slots extra ls vars vars' (fence_for_new fence now) b le
     (cond_both (eqb (now.slots - fence.slots) (now.vars - fence.vars)) fence now (IsFenced slots ls vars) (λ e. f) (λ e. fenced_now slots ls vars now b is))
@@ -188,7 +188,7 @@ link_moved slots ls vars fence l t le lt f =
       within = within;
     }
 
-pub fenced_link : (slots : List Slot) (ls : List Link) (vars : ℕ) (fence now : Fence) (l : Link) (t : ℕ) → Fits slots (l ∷ ls) vars → top (or_nil (value_in slots l.to.0)) ≤ t → now ≡ record { slots = length slots; vars = vars; reach = vars } → IsFenced slots ls vars fence → IsFenced slots (l ∷ ls) vars (fence_for_link fence l.var t now)
+fenced_link : (slots : List Slot) (ls : List Link) (vars : ℕ) (fence now : Fence) (l : Link) (t : ℕ) → Fits slots (l ∷ ls) vars → top (or_nil (value_in slots l.to.0)) ≤ t → now ≡ record { slots = length slots; vars = vars; reach = vars } → IsFenced slots ls vars fence → IsFenced slots (l ∷ ls) vars (fence_for_link fence l.var t now)
 fenced_link slots ls vars fence now l t b le is f =
     let r = max fence.reach t in
     let moved : Fence = record { slots = fence.slots; vars = r; reach = r } in
@@ -201,13 +201,7 @@ fenced_link slots ls vars fence now l t b le is f =
 
 -- ## A number above each variable of a value
 
-module _ (f : Fields) (fence : Fence) (sound : AreSound f) (fenced : IsFenced f.slots (reverse f.log) f.vars fence) (at : Ref) (told : TellsOf f at) where
-  pub top_simple : 2147483648 ≤ at.0 → top (told_in f at) ≤ 0
-  top_simple ge = rw (simple_in f.slots at.0 (length f.slots) ge) (omega arith)
-
-  pub top_before : at.0 < fence.slots → top (told_in f at) ≤ fence.vars
-  top_before lt = fenced.values at.0 (told_in f at) lt (option_told (value_in f.slots at.0) told)
-
+module _ (f : Fields) (sound : AreSound f) (at : Ref) (told : TellsOf f at) where
   pub top_all : top (told_in f at) ≤ f.vars
   top_all = value_below f.slots f.vars sound.fits.below (length f.slots) at.0 (told_in f at) (option_told (value_in f.slots at.0) told)
 
@@ -253,7 +247,7 @@ fence_linked f f' fence now next l t sound g ev le is chosen h =
     let top_in : top (or_nil (value_in f'.slots l.to.0)) ≤ t = rw es le in
     rw (el, chosen) (fenced_link f'.slots (reverse f.log) f'.vars fence now l t fits top_in is old)
 
-pub fence_moved : (f : Fields) (fence : Fence) → AreSound f → fence ≡ end_of f → Stays f fence
+fence_moved : (f : Fields) (fence : Fence) → AreSound f → fence ≡ end_of f → Stays f fence
 fence_moved f fence sound is = fenced_now f.slots (reverse f.log) f.vars fence sound.fits is
 
 -- behind all that was there at a mark
