@@ -7,7 +7,7 @@ use Rattle.dg_meaning.specs.Substitutions.{Substitution, IsSubstitution, Extends
 use Rattle.dg_meaning.specs.Unify.{Equations, side_by_side, cost, Unified, agreed, counted, solve, unify, and_then, solve_turn}
 use Rattle.dg_meaning.proofs.Solving.{solve_extends}
 use Rattle.dg_meaning.proofs.UnifyLaws.{solve_none, solve_step, solve_first}
-use Rattle.dg_unify.specs.Store.{State, Store, or_nil, told, Kept, trail_of, OnlyBinds, Does, UnifyFull, Follows}
+use Rattle.dg_unify.specs.Store.{State, Store, or_nil, told, Holds, Kept, trail_of, OnlyBinds, Does, UnifyFull, Follows}
 use Rattle.dg_unify.specs.Parts.{values_of, AreIn, more_than_one, IsClosure, IsSplit, dropped, parts_in}
 use Rattle.dg_unify.specs.Turns.{AreLeft, is_nothing, IsFirst}
 use Rattle.dg_unify.specs.declared.bindings.Ref.{Ref}
@@ -263,3 +263,17 @@ module _ (now : Store) (sound : IsSubstitution now.state.subst) (p q : Parts) (f
         same = same;
         smaller = omega (arith, ap (λ (x : Unified). x.count) same, one_counts, more_at_most first.p);
       }
+
+-- ## Two values
+
+abbrev alone : Ref → Ref → First
+alone a b = record { a = a; b = b; p = form.Nothing; q = form.Nothing; last = true }
+
+are_first : (s : Store) (a b : Ref) → Holds s a → Holds s b → IsFirst s (form.One a) (form.One b) (alone a b)
+are_first s a b ha hb = record { is = refl; a_in = ha; b_in = hb; p_in = tt; q_in = tt; last = λ e. refl; others = λ e. absurd (cc e) }
+
+-- two values whose parts are left are unified as those are
+pub unify_goes : (old mid new : Store) → IsSubstitution old.state.subst → (a b : Ref) → Holds old a → Holds old b → (p q : Parts) → AreLeft old mid (told old a) (told old b) p q → (r : Result Bool Full) → Follows mid new (solve mid.state.subst (equations mid p q)) r → Follows old new (unify old.state.subst (told old a) (told old b)) r
+unify_goes old between new sound a b ha hb p q left r h =
+    going_ends old between new (form.One a) (form.One b) p q
+    (going_on old old between (form.One a) (form.One b) (form.One a) (form.One b) p q (going_starts old (form.One a) (form.One b) ha hb) (last_goes old sound (form.One a) (form.One b) (alone a b) (are_first old a b ha hb) refl between p q left)) r h

@@ -298,5 +298,9 @@ pub fn unify<B: Bindings>(store: &mut B, a: Ref, b: Ref) -> Result<bool, Full>
     ensures saved { (ms : List Saved) → B.saves store.old ms → B.saves store.new ms }
     ensures unified { Follows (B.meaning store.old) (B.meaning store.new) (unified (B.meaning store.old).state.subst (told (B.meaning store.old) a) (told (B.meaning store.old) b)) result }
 {
-    solve(store, Parts::One(a), Parts::One(b))
+    match meet(store, a, b) {
+        Err(e) => Err(e),
+        Ok(Met::Done(agreed)) => Ok(agreed),
+        Ok(Met::Goes(p, q)) => solve(store, p, q),
+    }
 }
