@@ -272,8 +272,11 @@ alone a b = record { a = a; b = b; p = form.Nothing; q = form.Nothing; last = tr
 are_first : (s : Store) (a b : Ref) → Holds s a → Holds s b → IsFirst s (form.One a) (form.One b) (alone a b)
 are_first s a b ha hb = record { is = refl; a_in = ha; b_in = hb; p_in = tt; q_in = tt; last = λ e. refl; others = λ e. absurd (cc e) }
 
+pub unify_steps : (old mid : Store) → IsSubstitution old.state.subst → (a b : Ref) → Holds old a → Holds old b → (p q : Parts) → AreLeft old mid (told old a) (told old b) p q → Steps old mid (form.One a) (form.One b) p q
+unify_steps old between sound a b ha hb p q left = last_goes old sound (form.One a) (form.One b) (alone a b) (are_first old a b ha hb) refl between p q left
+
 -- two values whose parts are left are unified as those are
 pub unify_goes : (old mid new : Store) → IsSubstitution old.state.subst → (a b : Ref) → Holds old a → Holds old b → (p q : Parts) → AreLeft old mid (told old a) (told old b) p q → (r : Result Bool Full) → Follows mid new (solve mid.state.subst (equations mid p q)) r → Follows old new (unify old.state.subst (told old a) (told old b)) r
 unify_goes old between new sound a b ha hb p q left r h =
     going_ends old between new (form.One a) (form.One b) p q
-    (going_on old old between (form.One a) (form.One b) (form.One a) (form.One b) p q (going_starts old (form.One a) (form.One b) ha hb) (last_goes old sound (form.One a) (form.One b) (alone a b) (are_first old a b ha hb) refl between p q left)) r h
+    (going_on old old between (form.One a) (form.One b) (form.One a) (form.One b) p q (going_starts old (form.One a) (form.One b) ha hb) (unify_steps old between sound a b ha hb p q left)) r h

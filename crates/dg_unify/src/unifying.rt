@@ -250,6 +250,7 @@ fn first_of<B: Bindings>(store: &B, p: Parts, q: Parts) -> Option<First>
 
 // Makes each of some values equal to the one at its place among others: a recursion into all but the last, which is
 // done in the loop.
+#[cycle(unify)]
 fn solve<B: Bindings>(store: &mut B, p: Parts, q: Parts) -> Result<bool, Full>
     requires p_in { AreIn (B.meaning store.old) p }
     requires q_in { AreIn (B.meaning store.old) q }
@@ -273,7 +274,7 @@ fn solve<B: Bindings>(store: &mut B, p: Parts, q: Parts) -> Result<bool, Full>
                         }
                     }
                 } else {
-                    match solve(store, Parts::One(first.a), Parts::One(first.b)) {
+                    match unify(store, first.a, first.b) {
                         Err(e) => return Err(e),
                         Ok(agreed) => {
                             if !agreed {
@@ -291,6 +292,7 @@ fn solve<B: Bindings>(store: &mut B, p: Parts, q: Parts) -> Result<bool, Full>
 
 /// Makes two values equal by binding variables, and answers whether that can be done. After a false answer or an error
 /// what was bound stays bound.
+#[cycle(unify)]
 pub fn unify<B: Bindings>(store: &mut B, a: Ref, b: Ref) -> Result<bool, Full>
     requires a_in { Holds (B.meaning store.old) a }
     requires b_in { Holds (B.meaning store.old) b }
