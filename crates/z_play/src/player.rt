@@ -303,6 +303,7 @@ impl Player {
     pub fn load(alloc: Global, bytes: Vec<u8>) -> Result<Player, LoadFault>
         ensures refused { (refusal : StoryRefusal) → result ≡ Err (LoadFault.Refused refusal) → refusal_of bytes.items ≡ Some refusal }
         ensures loaded { IfOk result (IsLoaded bytes.items) }
+        ensures memory { result ≡ Err LoadFault.OutOfMemory → refusal_of bytes.items ≡ None }
     {
         match read_header(&bytes) {
             Ok(header) => Player::with_header(alloc, bytes, header),

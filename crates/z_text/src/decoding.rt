@@ -1,5 +1,5 @@
 // Strings, read whole.
-ghost use Rattle.std.specs.Prelude.{◌≡◌, Some, None, IfOk, IsErrOf};
+ghost use Rattle.std.specs.Prelude.{◌≡◌, ◌<◌, length, Some, None, IfOk, IsErrOf};
 ghost use Rattle.z_model.specs.Text.{string_at};
 
 use crate::walker::Walker;
@@ -18,6 +18,7 @@ pub enum TextFault {
 pub fn decode(alloc: Global, bytes: &[u8], at: usize) -> Result<(Vec<u16>, usize), TextFault>
     ensures ok { IfOk result (λ found. string_at bytes.now at ≡ record { codes = found.0.items; end = Some found.1 }) }
     ensures bad { IsErrOf result TextFault.BadString → (string_at bytes.now at).end ≡ None }
+    ensures memory { IsErrOf result TextFault.OutOfMemory → 0 < length (string_at bytes.now at).codes }
 {
     let mut codes = Vec::new(alloc);
     let mut walker = Walker::new(at);
