@@ -1,5 +1,5 @@
 // Cuts a source into its tokens.
-ghost use Rattle.std.specs.Prelude.{◌≡◌, ◌<◌, ◌≤◌, ◌+◌, ◌-◌, ◌^◌, ◌⊎◌, ◌++◌, ◌∷◌, [], Bool, ℕ, List, Option, Some, None, length, take, drop, IfOk, IfErr, IfSome, MatchOption, map, true, false};
+ghost use Rattle.std.specs.Prelude.{◌≡◌, ◌<◌, ◌≤◌, ◌+◌, ◌-◌, ◌^◌, ◌⊎◌, ◌++◌, ◌∷◌, [], Bool, ℕ, List, Option, Some, None, length, take, drop, IfOk, IfErr, IfSome, IsErrOf, MatchOption, map, true, false};
 ghost use Rattle.dg_lex.specs.Bad as bad;
 ghost use Rattle.dg_lex.specs.Tokens as spec;
 
@@ -148,6 +148,7 @@ fn tokens_of(alloc: Global, text: &[u8]) -> Result<Vec<Token<'_>>, AllocError>
 pub fn lex(alloc: Global, source: &[u8]) -> Result<Vec<Token<'_>>, ReadFault>
     ensures tokens { IfOk result (λ tokens. spec.IsLexed source.now tokens.items) }
     ensures accepted { IfOk result (λ _. bad.refusal_of source.now ≡ None) }
+    ensures memory { IsErrOf result ReadFault.OutOfMemory → bad.refusal_of source.now ≡ None }
     ensures refused { IfErr result (λ fault. (fault ≡ ReadFault.OutOfMemory) ⊎ ((r : _) × (bad.refusal_of source.now ≡ Some r) × (fault ≡ ReadFault.Refused r))) }
 {
     if let Some(refusal) = refusal_of(source) {

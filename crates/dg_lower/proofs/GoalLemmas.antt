@@ -22,7 +22,7 @@ use Rattle.dg_lower.specs.Goals.{Scope, term_of, values_in, terms_of, equation, 
 use Rattle.dg_lower.specs.Goals as lowered
 use Rattle.dg_lower.specs.Variables.{in_parts, in_stmt, in_stmts, in_body, in_arms}
 use Rattle.dg_lower.specs.declared.forms.Zone.TheVariants.{Rewritten}
-use Rattle.dg_lower.proofs.NodeLemmas.{inside, within_out}
+use Rattle.dg_base.proofs.NodeLemmas.{inside, within_out}
 use Rattle.dg_lower.proofs.TermLemmas.{IsGround, Within, front_within, back_within, term_sound, parts_sound}
 
 -- each goal of a list, at every depth, is sound

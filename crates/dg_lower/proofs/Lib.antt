@@ -2,7 +2,6 @@ pub mod UnitLemmas
 pub mod PredLemmas
 pub mod HeadLemmas
 pub mod AskLemmas
-pub mod NodeLemmas
 pub mod MemberLemmas
 pub mod TermLemmas
 pub mod GoalLemmas

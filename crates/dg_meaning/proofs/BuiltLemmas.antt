@@ -5,7 +5,7 @@ use Rattle.std.proofs.lemmas.List.Elements.{All-cons, All-append}
 use Rattle.dg_base.specs.declared.program.Goal.{Goal, Goal-F, out-Goal}
 use Rattle.dg_base.specs.Goals.{goals_within, goals_of}
 use Rattle.dg_meaning.specs.Built.{IsBuiltGoal, IsBuiltForm, AreBuilt}
-use Rattle.dg_meaning.proofs.NodeLemmas.{inside, within_out}
+use Rattle.dg_base.proofs.NodeLemmas.{inside, within_out}
 
 pub all_none : {A : Type 0} (P : A → Type 0) → All P []
 all_none P k d lt = absurd (omega arith)

@@ -15,5 +15,4 @@ pub mod Keeps
 pub mod Worked
 pub mod WorkedSearch
 pub mod Limits
-pub mod NodeLemmas
 pub mod BuiltLemmas

@@ -31,7 +31,7 @@ use Rattle.dg_lower.specs.Forms.{is_built_in, is_asked, are_parts, is_query, is_
 use Rattle.dg_lower.specs.Goals.{Scope, term_of, listed, values_in, terms_of, equation, built_in_goal, query_goal, asked, unit, stmt_goals, lists, arm_goals, body_goals}
 use Rattle.dg_lower.specs.Goals as lowered
 use Rattle.dg_lower.specs.declared.forms.Zone.TheVariants.{Rewritten}
-use Rattle.dg_meaning.proofs.NodeLemmas.{inside, within_out}
+use Rattle.dg_base.proofs.NodeLemmas.{inside, within_out}
 
 none : {A : Type 0} (P : A → Type 0) → All P []
 none P k d lt = absurd (omega arith)
