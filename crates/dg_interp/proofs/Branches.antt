@@ -1,5 +1,5 @@
 -- The newest choice is tried again.
-use Rattle.std.proofs.Common.{◌≡◌, ℕ, ◌+◌, ◌<◌, List, [], ◌∷◌, ◌++◌, Bool, true, false, refl, sym, ap, ◌∙◌, subst, arith, length, take, length-take}
+use Rattle.std.proofs.Common.{◌≡◌, ℕ, ◌+◌, ◌<◌, ◌≤◌, List, [], ◌∷◌, ◌++◌, Bool, true, false, refl, sym, ap, ◌∙◌, subst, arith, length, take, length-take}
 use Rattle.std.specs.Prelude.{reverse, Result as Answer, Ok, Err, IfOk, IfErr, OnOk, MatchResult}
 use Rattle.std.specs.List.{All}
 use Rattle.std.specs.declared.vec.Vec.{Vec}
@@ -261,3 +261,11 @@ full_made A B s t (Err e) same same' h f = full_from A B s t e same same' h f
 pub back_made : (A B : Point) (old mid new : Engine) → mid.left ≡ old.left → SameLimits old mid → Leads A B → (r : Answer Bool Full) → IfOk r (λ found. GoesBack B found mid new) → IfOk r (λ found. Branches A found old new)
 back_made A B old between new left limits h (Ok found) k = goes_back_from A B old between new left limits h found k
 back_made A B old between new left limits h (Err e) k = tt
+
+pub tries_made : (A B : Point) (old mid new : Engine) → mid.left ≡ old.left → SameLimits old mid → Leads A B → (r : Answer Bool Full) → IfOk r (λ begun. Tries B begun mid new) → IfOk r (λ begun. Tries A begun old new)
+tries_made A B old between new left limits h (Ok begun) k = tried_from A B old between new left limits h begun k
+tries_made A B old between new left limits h (Err e) k = tt
+
+pub fewer_made : (old new : Engine) (m n : ℕ) → m ≤ n → (r : Answer Bool Full) → OnOk r (branches_left new < branches_left old + m) → OnOk r (branches_left new < branches_left old + n)
+fewer_made old new m n le (Ok begun) h = omega (arith, h, le)
+fewer_made old new m n le (Err e) h = tt

@@ -12,6 +12,8 @@ pub mod Entering
 pub mod Kept
 pub mod Begins
 pub mod Branches
+pub mod PassedRules
+pub mod RoomLemmas
 pub mod Takes
 pub mod Asks
 pub mod Goals

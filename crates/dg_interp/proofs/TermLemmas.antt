@@ -283,7 +283,7 @@ stack_back s vs xs ys zs n (Err x) a e h = tt
 
 -- ## Several terms
 
-cells_taken : (program : CoreProgram) (terms : List Term) (i : ℕ) (x : Term) → x ≡ get_or terms i x → i < length terms → cells program (take (i + 1) terms) ≡ cells program (take i terms) + cells program (x ∷ [])
+pub cells_taken : (program : CoreProgram) (terms : List Term) (i : ℕ) (x : Term) → x ≡ get_or terms i x → i < length terms → cells program (take (i + 1) terms) ≡ cells program (take i terms) + cells program (x ∷ [])
 cells_taken program terms i x is le =
     ap (cells program) (take_more terms i x le)
     ∙ cells_append program (take i terms) (get_or terms i x ∷ [])

@@ -19,6 +19,7 @@ ghost use Rattle.dg_base.specs.Written.{view};
 ghost use Rattle.dg_unify.specs.Store.{Saved, Kept, Holds, Charged};
 
 mod control;
+mod passing;
 
 use crate::frames::{Choice, Env, Frame, Left, Mark, Query};
 use crate::matching::unify_all;
@@ -288,8 +289,8 @@ impl<'p> Engine<'p> {
         &goals[0]
     }
 
-    /// Begins the first rule of a query that is left, with all frames behind it; false where its head doesn't match.
-    fn begin_rule(
+    /// Enters the first rule of a query that is left, with all frames behind it; false where its head doesn't match.
+    fn enter_rule(
         &mut self,
         query: Query,
         args: Env,
@@ -342,6 +343,30 @@ impl<'p> Engine<'p> {
                 Ok(true)
             }
         }
+    }
+
+    /// Begins the first rule of a query that is left and may match, with all frames behind it; false where its head doesn't
+    /// match, or none may.
+    fn begin_rule(
+        &mut self,
+        query: Query,
+        args: Env,
+        rules: &'p [Rule],
+        place: Place,
+    ) -> Result<bool, Full>
+        requires sound { IsSound self.old }
+        requires left { IsLeft (length self.old.frames.items) (length self.old.refs.items) (Rules query args rules) }
+        requires place { HasPlace self.old place }
+        ensures tried { IfOk result (λ begun. Tries (BeginsAt (Rules query args rules.entry) place self.old) begun self.old self.new) }
+        ensures fewer { OnOk result (branches_left self.new < branches_left self.old + length rules.now) }
+        ensures full { IfErr result (λ e. FullAt (BeginsAt (Rules query args rules.entry) place self.old) (store_in self.old.store) e) }
+        ensures left { self.new.left ≡ self.old.left }
+    {
+        let rules = self.pass(args, rules);
+        if rules.is_empty() {
+            return Ok(false);
+        }
+        self.enter_rule(query, args, rules, place)
     }
 
     /// Begins a frame, in front of so many other branches.

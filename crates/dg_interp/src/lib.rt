@@ -5,6 +5,7 @@ mod engine;
 mod frames;
 mod interpreter;
 mod matching;
+mod passing;
 mod printing;
 mod run;
 mod spacer;

@@ -60,6 +60,13 @@ impl ListBindings {
         }
     }
 
+    /// How much of the heap is left.
+    pub fn room(&self) -> u32
+        ensures { (store_of true (fields_of self.now)).state.heap + result ≡ (store_of true (fields_of self.now)).heap_limit }
+    {
+        self.heap_limit - self.heap
+    }
+
     // The fence behind all slots and variables.
     fn fence_now(&self) -> Fence
         ensures { result ≡ record { slots = length self.now.slots.items; vars = vars_of self.now.links; reach = vars_of self.now.links } }

@@ -1,7 +1,7 @@
 use Rattle.std.proofs.Common.{arith, length, take, drop, ◌-◌, ◌≡◌, rules}
 use Rattle.dg_interp.proofs.Turns.{first_and_rest}
 use Rattle.dg_interp.proofs.Begins.{keep_full, enter_full, rule_wrong, rule_begun}
-use Rattle.dg_interp.proofs.engine.Engine.begin_rule.Goals as goal
+use Rattle.dg_interp.proofs.engine.Engine.enter_rule.Goals as goal
 
 pub returns-in-Err-clause-full : goal.returns-in-Err-clause-full
 returns-in-Err-clause-full c =
