@@ -38,6 +38,3 @@ pub use sqlite_items::{Boxed, Items};
 pub use traits::{Failed, Shelf, ShelfFault, Sink, Source, StoreFault};
 pub use tree::{Arm, Body, Head, Item, ItemBody, NowChange, Part, Stmt, Tree, Value};
 pub use writing::{WriteFault, write_all, write_both};
-
-#[cfg(test)]
-mod tests;

@@ -18,6 +18,3 @@ pub use token::{Token, TokenKind};
 pub fn tokens_are_one()
     ensures { (source : List ℕ) (ts us : List Token) → IsLexed source ts → IsLexed source us → map seen ts ≡ map seen us }
 {}
-
-#[cfg(test)]
-mod tests;

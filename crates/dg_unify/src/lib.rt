@@ -14,6 +14,3 @@ pub use bindings::{Bindings, Full, Mark, Ref, View};
 pub use list::ListBindings;
 pub use parts::{Front, Parts, inner, split, variable_of};
 pub use unifying::unify;
-
-#[cfg(test)]
-mod tests;

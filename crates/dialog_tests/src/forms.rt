@@ -1,5 +1,8 @@
-// Each call that takes memory gives its answer where memory is ample.
-use super::*;
+// The forms in memory of the outside: each call that takes memory gives its answer where memory is ample.
+use dg_base::{
+    Builtin, ByteSink, Failed, MapShelf, Shelf, Sink, StoreFault, SureShelf, SureSink, WriteFault,
+    builtin_of, is_keyword, is_prelude_name, is_refused_name, write_all, write_both,
+};
 use std::test::Fail;
 
 #[test]

@@ -1,6 +1,6 @@
 // What no clause says: that memory suffices, and the tokens of whole sources.
-use super::*;
 use dg_base::{Kind, ReadFault, Refusal};
+use dg_lex::{TokenKind, lex};
 use std::alloc::Global;
 use std::test::Fail;
 

@@ -1,12 +1,9 @@
 // A table of unifications, made by hand.
-
 ghost use Rattle.std.specs.Prelude.{All, IfOk};
 ghost use Rattle.dg_unify.specs.Store.{Holds, Kept};
 
-use crate::bindings::{Bindings, Full, Ref, View};
-use crate::list::ListBindings;
-use crate::unifying::unify;
 use dg_base::Simple;
+use dg_unify::{Bindings, Full, ListBindings, Ref, View, unify};
 use std::alloc::{AllocError, Global};
 use std::test::Fail;
 
@@ -93,7 +90,7 @@ const IS_ONE: View = View::Simple(Simple::Num(1));
 const IS_TWO: View = View::Simple(Simple::Num(2));
 
 #[test]
-fn values_unify_as_by_hand(rt: HostRuntime) -> Result<(), Fail> {
+fn values_without_parts_unify(rt: HostRuntime) -> Result<(), Fail> {
     let al = rt.alloc();
     assert_eq!(rt; unified(al, ONE, ONE), Ok((true, FREE, OTHER)));
     assert_eq!(rt; unified(al, ONE, TWO), Ok((false, FREE, OTHER)));
@@ -103,15 +100,17 @@ fn values_unify_as_by_hand(rt: HostRuntime) -> Result<(), Fail> {
     assert_eq!(rt; unified(al, X, Y), Ok((true, FREE, FREE)));
     assert_eq!(rt; unified(al, Y, X), Ok((true, FREE, FREE)));
     assert_eq!(rt; unified(al, X, X), Ok((true, FREE, OTHER)));
+    Ok(())
+}
+
+#[test]
+fn lists_unify(rt: HostRuntime) -> Result<(), Fail> {
+    let al = rt.alloc();
     assert_eq!(rt;
         unified(al, NIL, pair(al, TWO, NIL)?),
         Ok((false, FREE, OTHER))
     );
     assert_eq!(rt; unified(al, X, pair(al, ONE, X)?), Ok((false, FREE, OTHER)));
-    assert_eq!(rt;
-        unified(al, closure(al, 3, Y)?, Y),
-        Ok((false, FREE, OTHER))
-    );
     assert_eq!(rt;
         unified(al, pair(al, X, TWO)?, pair(al, ONE, Y)?),
         Ok((true, IS_ONE, IS_TWO))
@@ -139,6 +138,16 @@ fn values_unify_as_by_hand(rt: HostRuntime) -> Result<(), Fail> {
             pair(al, X, pair(al, Y, ONE)?)?
         ),
         Ok((false, IS_ONE, IS_TWO))
+    );
+    Ok(())
+}
+
+#[test]
+fn closures_and_unknown_words_unify(rt: HostRuntime) -> Result<(), Fail> {
+    let al = rt.alloc();
+    assert_eq!(rt;
+        unified(al, closure(al, 3, Y)?, Y),
+        Ok((false, FREE, OTHER))
     );
     assert_eq!(rt;
         unified(al, closure(al, 3, X)?, closure(al, 3, TWO)?),

@@ -65,60 +65,66 @@ const GROWING: &str = "(p $X) x (p [a | $X])\n(program entry point) (p [])\n";
 const CHOICE: &str =
     "(perform [take/get $X]) took $X\n(program entry point) (perform [get lamp])\n";
 
+const SECOND_RULE: &str = "(p 1)\n(p 2)\n(program entry point) (p 2) done\n";
+
 const NESTED: &str = "(q 1)\n(q 2)\n(p (q $X)) $X\n(program entry point) *(p 2)\n";
+
+// The words of the command, the source, the status and the transcript.
+const TRANSCRIPTS: [(&str, &str, u8, &str); 19] = [
+    (
+        "debug p.dg",
+        "(program entry point) Hello, world!",
+        0,
+        "Hello, world!\n",
+    ),
+    ("debug p.dg", ORDER, 0, "x y z\n"),
+    ("debug p.dg --steps 4", ORDER, 3, "x\n[Step limit]\n"),
+    ("debug p.dg --steps 6", ORDER, 3, "x y\n[Step limit]\n"),
+    ("debug p.dg --steps 007", ORDER, 0, "x y z\n"),
+    ("debug p.dg", ANSWERS, 0, "1 2 done\n"),
+    ("debug p.dg", FIRST_ANSWER, 0, "1 done\n"),
+    ("debug p.dg", CUT, 0, "1 no\n"),
+    ("debug p.dg", CUT_CONDITION, 0, "n\n"),
+    ("debug p.dg --steps 7", FOREVER, 3, "x x\n[Step limit]\n"),
+    (
+        "debug p.dg --heap 33 --trail 5",
+        GROWING,
+        3,
+        "x x x\n[Heap limit]\n",
+    ),
+    ("debug p.dg", CHOICE, 0, "took lamp\n"),
+    ("debug p.dg", NESTED, 0, "2\n"),
+    ("debug p.dg --heap 22", SECOND_RULE, 3, "[Heap limit]\n"),
+    ("debug p.dg --heap 23", SECOND_RULE, 0, "done\n"),
+    (
+        "debug p.dg",
+        "(program entry point) (if) ($X = [a | $X]) (then) yes (else) no (endif)",
+        0,
+        "no\n",
+    ),
+    (
+        "debug p.dg",
+        "(program entry point) ([$A 2] = [1 $B]) $A $B",
+        0,
+        "1 2\n",
+    ),
+    (
+        "debug p.dg",
+        "(program entry point) \\(x\\) %% a comment",
+        0,
+        "(x)\n",
+    ),
+    (
+        "debug p.dg",
+        "#hall\n(program entry point) (none)",
+        0,
+        "[Failed]\n",
+    ),
+];
 
 #[test]
 fn sources_give_their_transcript(rt: HostRuntime) -> Result<(), Fail> {
-    let cases = [
-        (
-            "debug p.dg",
-            "(program entry point) Hello, world!",
-            0,
-            "Hello, world!\n",
-        ),
-        ("debug p.dg", ORDER, 0, "x y z\n"),
-        ("debug p.dg --steps 4", ORDER, 3, "x\n[Step limit]\n"),
-        ("debug p.dg --steps 6", ORDER, 3, "x y\n[Step limit]\n"),
-        ("debug p.dg --steps 007", ORDER, 0, "x y z\n"),
-        ("debug p.dg", ANSWERS, 0, "1 2 done\n"),
-        ("debug p.dg", FIRST_ANSWER, 0, "1 done\n"),
-        ("debug p.dg", CUT, 0, "1 no\n"),
-        ("debug p.dg", CUT_CONDITION, 0, "n\n"),
-        ("debug p.dg --steps 7", FOREVER, 3, "x x\n[Step limit]\n"),
-        (
-            "debug p.dg --heap 33 --trail 5",
-            GROWING,
-            3,
-            "x x x\n[Heap limit]\n",
-        ),
-        ("debug p.dg", CHOICE, 0, "took lamp\n"),
-        ("debug p.dg", NESTED, 0, "2\n"),
-        (
-            "debug p.dg",
-            "(program entry point) (if) ($X = [a | $X]) (then) yes (else) no (endif)",
-            0,
-            "no\n",
-        ),
-        (
-            "debug p.dg",
-            "(program entry point) ([$A 2] = [1 $B]) $A $B",
-            0,
-            "1 2\n",
-        ),
-        (
-            "debug p.dg",
-            "(program entry point) \\(x\\) %% a comment",
-            0,
-            "(x)\n",
-        ),
-        (
-            "debug p.dg",
-            "#hall\n(program entry point) (none)",
-            0,
-            "[Failed]\n",
-        ),
-    ];
-    for (line, source, status, text) in cases {
+    for (line, source, status, text) in TRANSCRIPTS {
         gives(
             &rt,
             rt.alloc(),
@@ -132,69 +138,71 @@ fn sources_give_their_transcript(rt: HostRuntime) -> Result<(), Fail> {
     Ok(())
 }
 
+// The words of the command, the source, the status and the line.
+const REFUSALS: [(&str, &str, u8, &str); 18] = [
+    (
+        "debug p.dg",
+        "",
+        1,
+        "p.dg:1: no rule for (program entry point)\n",
+    ),
+    (
+        "debug p.dg",
+        "(program entry point) (a) (b",
+        1,
+        "p.dg:1: unclosed construct\n",
+    ),
+    (
+        "debug p.dg",
+        "%%\n%%\n%%\n(program entry point) Hello (if) (p)",
+        1,
+        "p.dg:4: unclosed construct\n",
+    ),
+    (
+        "debug p.dg",
+        "(program entry point) a\n(b) )",
+        1,
+        "p.dg:2: unexpected token\n",
+    ),
+    (
+        "debug p.dg",
+        "(program entry point) (p 16384)",
+        1,
+        "p.dg:1: unexpected token\n",
+    ),
+    (
+        "debug p.dg",
+        "(program entry point) (bold) x",
+        1,
+        "p.dg:1: not in this profile\n",
+    ),
+    ("debug p.dg", "(p *) x", 1, "p.dg:1: bad head\n"),
+    (
+        "debug p.dg",
+        "(a\n(program entry point) (bold)",
+        1,
+        "p.dg:1: unclosed construct\n",
+    ),
+    (
+        "debug p.dg",
+        "(a) b\n(c)\n  (now) (a)",
+        1,
+        "p.dg:2: not built yet\n",
+    ),
+    ("debug", "", 2, USAGE),
+    ("debug p.dg --steps 0", ORDER, 2, USAGE),
+    ("debug p.dg --steps 1000000000001", ORDER, 2, USAGE),
+    ("debug p.dg --heap 16000001", ORDER, 2, USAGE),
+    ("debug p.dg --heap 1 --heap 1", ORDER, 2, USAGE),
+    ("debug p.dg --dice 1", ORDER, 2, USAGE),
+    ("build p.dg p.z8", ORDER, 2, USAGE),
+    ("play p.dg", ORDER, 4, "p.dg: story too short\n"),
+    ("play p.dg --heap 1", ORDER, 2, USAGE),
+];
+
 #[test]
 fn sources_and_words_are_refused(rt: HostRuntime) -> Result<(), Fail> {
-    let cases = [
-        (
-            "debug p.dg",
-            "",
-            1,
-            "p.dg:1: no rule for (program entry point)\n",
-        ),
-        (
-            "debug p.dg",
-            "(program entry point) (a) (b",
-            1,
-            "p.dg:1: unclosed construct\n",
-        ),
-        (
-            "debug p.dg",
-            "%%\n%%\n%%\n(program entry point) Hello (if) (p)",
-            1,
-            "p.dg:4: unclosed construct\n",
-        ),
-        (
-            "debug p.dg",
-            "(program entry point) a\n(b) )",
-            1,
-            "p.dg:2: unexpected token\n",
-        ),
-        (
-            "debug p.dg",
-            "(program entry point) (p 16384)",
-            1,
-            "p.dg:1: unexpected token\n",
-        ),
-        (
-            "debug p.dg",
-            "(program entry point) (bold) x",
-            1,
-            "p.dg:1: not in this profile\n",
-        ),
-        ("debug p.dg", "(p *) x", 1, "p.dg:1: bad head\n"),
-        (
-            "debug p.dg",
-            "(a\n(program entry point) (bold)",
-            1,
-            "p.dg:1: unclosed construct\n",
-        ),
-        (
-            "debug p.dg",
-            "(a) b\n(c)\n  (now) (a)",
-            1,
-            "p.dg:2: not built yet\n",
-        ),
-        ("debug", "", 2, USAGE),
-        ("debug p.dg --steps 0", ORDER, 2, USAGE),
-        ("debug p.dg --steps 1000000000001", ORDER, 2, USAGE),
-        ("debug p.dg --heap 16000001", ORDER, 2, USAGE),
-        ("debug p.dg --heap 1 --heap 1", ORDER, 2, USAGE),
-        ("debug p.dg --dice 1", ORDER, 2, USAGE),
-        ("build p.dg p.z8", ORDER, 2, USAGE),
-        ("play p.dg", ORDER, 4, "p.dg: story too short\n"),
-        ("play p.dg --heap 1", ORDER, 2, USAGE),
-    ];
-    for (line, source, status, text) in cases {
+    for (line, source, status, text) in REFUSALS {
         gives(
             &rt,
             rt.alloc(),

@@ -1,0 +1,9 @@
+//! Tests of the libraries, by their public calls. A crate with tests is proved twice, so they stand here together.
+#![tactic(auto)]
+
+#[cfg(test)]
+mod forms;
+#[cfg(test)]
+mod tokens;
+#[cfg(test)]
+mod unifying;
