@@ -4,25 +4,17 @@ use Rattle.dg_base.specs.Causes.{Rose}
 use Rattle.dg_base.specs.Shelves.{Told, held, WhereTold}
 use Rattle.dg_base.specs.Written.{SinkView, Wrote, BrokeOff}
 use Rattle.z_model.specs.declared.story.StoryRefusal.{StoryRefusal}
-use Rattle.z_model.specs.declared.story.StoryRefusal.TheVariants.{TooShort, BadVersion, BadLength, BadMap}
 use Rattle.z_model.specs.declared.end.ZEnd.{ZEnd}
 use Rattle.z_model.specs.declared.end.ZEnd.TheVariants as ends
 use Rattle.z_model.specs.Run.{Run}
 use Rattle.z_model.specs.Closing.{transcript, with_end_line, input_fault_line}
-use Rattle.z_model.specs.Story.{refusal_of, story_run, world_of, start_state}
+use Rattle.z_model.specs.Story.{refusal_of, text_of_story, story_run, world_of, start_state}
 use Rattle.z_play.specs.Played.{StoppedAt}
 use Rattle.dg_meaning.specs.Transcript.{no_memory_line}
 use Rattle.dialog_tool.specs.Command.{Command, debug, play}
 use Rattle.dialog_tool.specs.Answers.{file_fault_line}
 
 -- ---- lines
-
--- why a file is no story
-abbrev pub text_of_story : StoryRefusal → List ℕ
-text_of_story TooShort = codes "story too short"
-text_of_story BadVersion = codes "story version is not 8"
-text_of_story BadLength = codes "story length is wrong"
-text_of_story BadMap = codes "story map is wrong"
 
 -- FILE: TEXT
 abbrev pub story_line : List ℕ → StoryRefusal → List ℕ

@@ -5,10 +5,10 @@ ghost use Rattle.dg_base.specs.Causes.{Rose};
 ghost use Rattle.dg_base.specs.Shelves.{KeepsAll};
 ghost use Rattle.dg_base.specs.Written.{view, Wrote, BrokeOff};
 ghost use Rattle.dg_meaning.specs.Transcript.{no_memory_line};
-ghost use Rattle.z_model.specs.Story.{refusal_of};
+ghost use Rattle.z_model.specs.Story.{refusal_of, text_of_story};
 ghost use Rattle.z_play.specs.Ready.{IsLoaded};
 ghost use Rattle.dialog_tool.specs.Answers.{Comes};
-ghost use Rattle.dialog_tool.specs.Playing.{text_of_story, story_line, status_of_end, thrown, as_played, AtFile, WhereTyped, run_of, IsNoStory, IsPlayed, IsCutOff, LosesPlay, PlayFails};
+ghost use Rattle.dialog_tool.specs.Playing.{story_line, status_of_end, thrown, as_played, AtFile, WhereTyped, run_of, IsNoStory, IsPlayed, IsCutOff, LosesPlay, PlayFails};
 
 use crate::lines::{DONE, FAULT, LIMIT, STORY, file_fault, no_memory};
 use dg_base::{Shelf, ShelfFault, Sink, Source, write_both};

@@ -1,5 +1,6 @@
 pub mod Fault
 pub mod Table
+pub mod Names
 pub mod Decode
 pub mod Spelling
 pub mod Undecoded

@@ -1,5 +1,5 @@
 -- Which files are stories, and where their runs begin (Z-Machine Standard 1.1, sections 1.1, 5.5, 6.2 and 11.1).
-use Rattle.std.specs.Prelude.{◌≡◌, ℕ, ◌+◌, ◌*◌, ◌%◌, List, [], length, take, drop, sum, Option, Some, None, Bool, nat_lt, ◌==◌, ◌||◌, not, if◌then◌else◌, slice_index}
+use Rattle.std.specs.Prelude.{◌≡◌, ℕ, ◌+◌, ◌*◌, ◌%◌, List, [], length, take, drop, sum, codes, Option, Some, None, Bool, nat_lt, ◌==◌, ◌||◌, not, if◌then◌else◌, slice_index}
 use Rattle.z_model.specs.declared.story.StoryRefusal.{StoryRefusal}
 use Rattle.z_model.specs.declared.story.StoryRefusal.TheVariants.{TooShort, BadVersion, BadLength, BadMap}
 use Rattle.z_model.specs.declared.story.Layout.{Layout}
@@ -50,6 +50,13 @@ refusal_of file =
     else if has_bad_length file then Some BadLength
     else if has_bad_map file then Some BadMap
     else None
+
+-- what is printed of a refusal: hold it against the table of docs/REFUSALS.md
+abbrev pub text_of_story : StoryRefusal → List ℕ
+text_of_story TooShort = codes "story too short"
+text_of_story BadVersion = codes "story version is not 8"
+text_of_story BadLength = codes "story length is wrong"
+text_of_story BadMap = codes "story map is wrong"
 
 -- ---- the start of a run
 

@@ -41,6 +41,3 @@ pub fn written_again()
 pub fn runs_in_pieces()
     ensures { (w : World) (s : ZState) → RunLaws w s }
 {}
-
-#[cfg(test)]
-mod tests;

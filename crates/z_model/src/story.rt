@@ -1,21 +1,33 @@
 // Which files are stories.
 ghost use Rattle.std.specs.Prelude.{◌≡◌, ◌<◌, ◌≤◌, ◌+◌, ◌%◌, length, drop, sum, Some, IfOk, IfErr};
-ghost use Rattle.z_model.specs.Story.{header_word, length_of, refusal_of, has_bad_map, layout_of, start_of, IsHeader};
+ghost use Rattle.z_model.specs.Story.{header_word, length_of, refusal_of, has_bad_map, layout_of, start_of, text_of_story, IsHeader};
 
-use thiserror::Error;
+use std::error::Error;
+use std::fmt;
 
 /// Why a file is no story.
-#[derive(Clone, Copy, Debug, PartialEq, Eq, Error)]
+#[derive(Clone, Copy, Debug, PartialEq, Eq)]
 pub enum StoryRefusal {
-    #[error("story too short")]
     TooShort,
-    #[error("story version is not 8")]
     BadVersion,
-    #[error("story length is wrong")]
     BadLength,
-    #[error("story map is wrong")]
     BadMap,
 }
+
+impl fmt::Display for StoryRefusal {
+    ghost output = { λ refusal. Some (text_of_story refusal) };
+
+    fn fmt<W: fmt::Write>(&self, f: &mut fmt::Formatter<W>) -> fmt::Result {
+        f.write_str(match self {
+            StoryRefusal::TooShort => "story too short",
+            StoryRefusal::BadVersion => "story version is not 8",
+            StoryRefusal::BadLength => "story length is wrong",
+            StoryRefusal::BadMap => "story map is wrong",
+        })
+    }
+}
+
+impl Error for StoryRefusal {}
 
 /// The parts of a story's header that an instruction needs, and whether its checksum is right.
 #[derive(Clone, Copy, Debug, PartialEq, Eq)]

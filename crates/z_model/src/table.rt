@@ -1,6 +1,7 @@
 // The instruction table.
-ghost use Rattle.std.specs.Prelude.{◌≡◌};
+ghost use Rattle.std.specs.Prelude.{◌≡◌, Some};
 ghost use Rattle.z_model.specs.Table.{row_at};
+ghost use Rattle.z_model.specs.Names.{name_of_two, name_of_one, name_of_zero, name_of_several, name_of_extended, name_of};
 
 use std::fmt;
 
@@ -83,55 +84,6 @@ pub enum Instr {
     Several(Several),
     Extended(Extended),
 }
-
-/// The names in the order of `Two`.
-pub const TWO_NAMES: [&str; 16] = [
-    "je", "jl", "jg", "inc_chk", "or", "and", "store", "loadw", "loadb", "add", "sub", "mul",
-    "div", "mod", "call_2s", "call_2n",
-];
-
-/// The names in the order of `One`.
-pub const ONE_NAMES: [&str; 9] = [
-    "jz",
-    "inc",
-    "dec",
-    "call_1s",
-    "ret",
-    "jump",
-    "print_paddr",
-    "load",
-    "call_1n",
-];
-
-/// The names in the order of `Zero`.
-pub const ZERO_NAMES: [&str; 8] = [
-    "rtrue",
-    "rfalse",
-    "print",
-    "print_ret",
-    "nop",
-    "ret_popped",
-    "quit",
-    "new_line",
-];
-
-/// The names in the order of `Several`.
-pub const SEVERAL_NAMES: [&str; 11] = [
-    "call_vs",
-    "storew",
-    "storeb",
-    "aread",
-    "print_char",
-    "print_num",
-    "random",
-    "push",
-    "pull",
-    "not",
-    "call_vn",
-];
-
-/// The names in the order of `Extended`.
-pub const EXTENDED_NAMES: [&str; 1] = ["print_unicode"];
 
 /// The kinds of instruction: with two operands, one, none, several, and the extended ones.
 #[derive(Clone, Copy, Debug, PartialEq, Eq)]
@@ -323,14 +275,120 @@ pub fn find_row(kind: Kind, number: u8) -> Option<Row>
     }
 }
 
+impl Two {
+    /// The name in the standard.
+    pub fn name(self) -> &'static str
+        ensures { result.now ≡ name_of_two self }
+    {
+        match self {
+            Two::Je => "je",
+            Two::Jl => "jl",
+            Two::Jg => "jg",
+            Two::IncChk => "inc_chk",
+            Two::Or => "or",
+            Two::And => "and",
+            Two::Store => "store",
+            Two::Loadw => "loadw",
+            Two::Loadb => "loadb",
+            Two::Add => "add",
+            Two::Sub => "sub",
+            Two::Mul => "mul",
+            Two::Div => "div",
+            Two::Mod => "mod",
+            Two::Call2s => "call_2s",
+            Two::Call2n => "call_2n",
+        }
+    }
+}
+
+impl One {
+    /// The name in the standard.
+    pub fn name(self) -> &'static str
+        ensures { result.now ≡ name_of_one self }
+    {
+        match self {
+            One::Jz => "jz",
+            One::Inc => "inc",
+            One::Dec => "dec",
+            One::Call1s => "call_1s",
+            One::Ret => "ret",
+            One::Jump => "jump",
+            One::PrintPaddr => "print_paddr",
+            One::Load => "load",
+            One::Call1n => "call_1n",
+        }
+    }
+}
+
+impl Zero {
+    /// The name in the standard.
+    pub fn name(self) -> &'static str
+        ensures { result.now ≡ name_of_zero self }
+    {
+        match self {
+            Zero::Rtrue => "rtrue",
+            Zero::Rfalse => "rfalse",
+            Zero::Print => "print",
+            Zero::PrintRet => "print_ret",
+            Zero::Nop => "nop",
+            Zero::RetPopped => "ret_popped",
+            Zero::Quit => "quit",
+            Zero::NewLine => "new_line",
+        }
+    }
+}
+
+impl Several {
+    /// The name in the standard.
+    pub fn name(self) -> &'static str
+        ensures { result.now ≡ name_of_several self }
+    {
+        match self {
+            Several::CallVs => "call_vs",
+            Several::Storew => "storew",
+            Several::Storeb => "storeb",
+            Several::Aread => "aread",
+            Several::PrintChar => "print_char",
+            Several::PrintNum => "print_num",
+            Several::Random => "random",
+            Several::Push => "push",
+            Several::Pull => "pull",
+            Several::Not => "not",
+            Several::CallVn => "call_vn",
+        }
+    }
+}
+
+impl Extended {
+    /// The name in the standard.
+    pub fn name(self) -> &'static str
+        ensures { result.now ≡ name_of_extended self }
+    {
+        match self {
+            Extended::PrintUnicode => "print_unicode",
+        }
+    }
+}
+
+impl Instr {
+    /// The name in the standard.
+    pub fn name(self) -> &'static str
+        ensures { result.now ≡ name_of self }
+    {
+        match self {
+            Instr::Two(instr) => instr.name(),
+            Instr::One(instr) => instr.name(),
+            Instr::Zero(instr) => instr.name(),
+            Instr::Several(instr) => instr.name(),
+            Instr::Extended(instr) => instr.name(),
+        }
+    }
+}
+
 impl fmt::Display for Instr {
+    ghost output = { λ instr. Some (name_of instr) };
+
     fn fmt<W: fmt::Write>(&self, f: &mut fmt::Formatter<W>) -> fmt::Result {
-        f.write_str(match self {
-            Instr::Two(instr) => TWO_NAMES[*instr as usize],
-            Instr::One(instr) => ONE_NAMES[*instr as usize],
-            Instr::Zero(instr) => ZERO_NAMES[*instr as usize],
-            Instr::Several(instr) => SEVERAL_NAMES[*instr as usize],
-            Instr::Extended(instr) => EXTENDED_NAMES[*instr as usize],
-        })
+        f.write_str(self.name())
     }
 }
