@@ -9,8 +9,10 @@ use Rattle.z_model.specs.Run.{Run, zrun}
 use Rattle.z_model.specs.Closing.{transcript, with_end_line, input_fault_line}
 use Rattle.z_model.specs.Story.{story_run, world_of, start_state}
 use Rattle.z_play.specs.Output as player
-use Rattle.z_play.specs.Played.{Plays, Shows, StoppedAt, InputFailed, InputFailedUnwritten, HasCauses}
+use Rattle.z_play.specs.Played.{Plays, Shows, StoppedAt, InputFailed, OutputFailed, HasCauses}
 use Rattle.z_play.specs.Ready.{IsLoaded}
+use Rattle.z_play.proofs.Lines.{print_cut}
+use Rattle.z_play.proofs.Written.{cut_whole}
 use Rattle.dialog_tool.specs.Answers.{Comes}
 use Rattle.dialog_tool.specs.Playing
 
@@ -71,23 +73,32 @@ cut_off name steps dice file story typed left' t t' r r' f f' h later s =
       wrote = wrote t t' r r' f f' _ later (subst (λ (x : Run). player.Wrote (player.seen t r) (player.seen t' r') (with_end_line x.state.output input_fault_line)) same s.wrote);
     }
 
--- out failed
-pub lost_run : (name : List ℕ) (steps : ℕ) (dice file story typed : List ℕ) (left' t t' : Option (List ℕ)) (r r' : Option ℕ) (f f' : ℕ) → IsLoaded file story → f ≤ f' → Rose f f'
-    → player.Cut (player.seen t r) (player.seen t' r') (transcript (zrun (world_of story dice) steps (start_state story typed))) ⊎ InputFailedUnwritten (world_of story dice) (start_state story typed) steps left' (player.seen t r) (player.seen t' r')
+-- out failed in what is written of the whole run
+lost_whole : (name : List ℕ) (steps : ℕ) (dice file story typed : List ℕ) (t t' : Option (List ℕ)) (r r' : Option ℕ) (f f' : ℕ) → IsLoaded file story → f ≤ f' → Rose f f'
+    → player.Cut (player.seen t r) (player.seen t' r') (transcript (zrun (world_of story dice) steps (start_state story typed)))
     → Playing.LosesRun (base.view t r f) (base.view t' r' f') (Playing.as_played name steps dice file) typed
-lost_run name steps dice file story typed left' t t' r r' f f' h later rose (inl s) =
+lost_whole name steps dice file story typed t t' r r' f f' h later rose s =
     let same = same_run file story h typed dice steps in
     record {
       text = transcript (story_run file typed dice steps);
       allowed = Playing.whole refl;
       broke = broke t t' r r' f f' _ later rose (subst (λ (x : Run). player.Cut (player.seen t r) (player.seen t' r') (transcript x)) same s);
     }
-lost_run name steps dice file story typed left' t t' r r' f f' h later rose (inr s) =
+
+-- out failed
+pub lost_run : (name : List ℕ) (steps : ℕ) (dice file story typed : List ℕ) (left' t t' : Option (List ℕ)) (r r' : Option ℕ) (f f' : ℕ) → IsLoaded file story → f ≤ f' → Rose f f'
+    → OutputFailed (world_of story dice) (start_state story typed) steps left' (player.seen t r) (player.seen t' r')
+    → Playing.LosesRun (base.view t r f) (base.view t' r' f') (Playing.as_played name steps dice file) typed
+lost_run name steps dice file story typed left' t t' r r' f f' h later rose (inl s) =
+    lost_whole name steps dice file story typed t t' r r' f f' h later rose (print_cut (world_of story dice) (start_state story typed) steps left' (player.seen t r) (player.seen t' r') s)
+lost_run name steps dice file story typed left' t t' r r' f f' h later rose (inr (inl s)) =
+    lost_whole name steps dice file story typed t t' r r' f f' h later rose (cut_whole (player.seen t r) (player.seen t' r') _ _ s.cut)
+lost_run name steps dice file story typed left' t t' r r' f f' h later rose (inr (inr s)) =
     let same = same_run file story h typed dice s.m in
     record {
       text = with_end_line (story_run file typed dice s.m).state.output input_fault_line;
       allowed = Playing.cut_off s.m s.rest (same_stop file story h typed dice steps s.m s.rest s.stopped) refl;
-      broke = broke t t' r r' f f' _ later rose (subst (λ (x : Run). player.Cut (player.seen t r) (player.seen t' r') (with_end_line x.state.output input_fault_line)) same s.cut);
+      broke = broke t t' r r' f f' _ later rose (subst (λ (x : Run). player.Cut (player.seen t r) (player.seen t' r') (with_end_line x.state.output input_fault_line)) same (cut_whole (player.seen t r) (player.seen t' r') _ _ s.cut));
     }
 
 -- ---- from a player's call to the answers on its file

@@ -9,20 +9,19 @@ use Rattle.z_model.specs.declared.end.ZEnd.TheVariants as ends
 use Rattle.z_model.specs.Machine.{Machine}
 use Rattle.z_model.specs.Step.{machine_step}
 use Rattle.z_model.specs.Run.{ZState, World, Run, Next, word_at, zstep, zrun, go_on, end_of}
-use Rattle.z_model.specs.Laws.{RunLaws, Begins}
 use Rattle.z_model.specs.Closing.{is_open}
 use Rattle.z_play.specs.Acts.{CanFinish}
-use Rattle.z_play.specs.Output.{Seen, Wrote, Cut}
+use Rattle.z_play.specs.Output.{Seen, Wrote, Cut, CutBehind}
 use Rattle.z_play.specs.Scene.{Scene, scene, state, next_of, IsBeyond, Came, CutOff, Unread}
 use Rattle.z_play.specs.Acting.{text_of, Finished, Unfinished}
 use Rattle.z_play.specs.Advancing.{next_from, Advances, RanTo, RanUnread, RunsOn}
-use Rattle.z_play.specs.Played.{HasCauses}
+use Rattle.z_play.specs.Played.{HasCauses, PrintUnwritten}
 use Rattle.dg_base.specs.declared.run.Fault.{Fault}
 use Rattle.dg_base.specs.declared.run.Fault.TheVariants.{Read, Write}
 use Rattle.dg_base.specs.Causes.{Rose}
 use Rattle.z_play.proofs.Finishing.{finishes}
 use Rattle.z_play.proofs.Texts.{open_both}
-use Rattle.z_play.proofs.Written.{wrote_none, wrote_both, cut_behind, cut_before}
+use Rattle.z_play.proofs.Written.{wrote_none, wrote_both, cut_after}
 
 -- ---- one instruction
 
@@ -50,12 +49,12 @@ unread_by w old new typed act mid e wrote begun f = record {
   is = λ output. rw e (f.is old.machine output);
 }
 
-cut_at : (w : World) (old new : Scene) (typed : List ℕ) (act : Act) (mid : Machine) (halt : Option Halt) (last : Machine) (left : Option (List ℕ)) (drawn : ℕ) → machine_step w.layout (word_at w old.drawn) old.machine ≡ Ok (act, mid) → Cut old.seen new.seen (text_of act mid) → Finished w act mid typed old.drawn halt last left drawn → CutOff (next_from w old typed) old new
+cut_at : (w : World) (old new : Scene) (typed : List ℕ) (act : Act) (mid : Machine) (halt : Option Halt) (last : Machine) (left : Option (List ℕ)) (drawn : ℕ) → machine_step w.layout (word_at w old.drawn) old.machine ≡ Ok (act, mid) → new.left ≡ Some typed → Cut old.seen new.seen (text_of act mid) → Finished w act mid typed old.drawn halt last left drawn → CutOff (next_from w old typed) typed old new
 unfolding zstep
-cut_at w old new typed act mid halt last left drawn e cut f = record { text = text_of act mid; cut = cut; halt = halt; last = f.last; typed = f.behind; drawn = drawn; is = λ output. rw e (f.is old.machine output) }
+cut_at w old new typed act mid halt last left drawn e told cut f = record { left = told; text = text_of act mid; cut = cut; halt = halt; last = f.last; typed = f.behind; drawn = drawn; is = λ output. rw e (f.is old.machine output) }
 
-pub cut_by : (w : World) (old new : Scene) (typed : List ℕ) (act : Act) (mid : Machine) → machine_step w.layout (word_at w old.drawn) old.machine ≡ Ok (act, mid) → CanFinish act w.layout mid → Cut old.seen new.seen (text_of act mid) → CutOff (next_from w old typed) old new
-cut_by w old new typed act mid e can cut = finishes w act mid typed old.drawn can (λ halt last left drawn f. cut_at w old new typed act mid halt last left drawn e cut f)
+pub cut_by : (w : World) (old new : Scene) (typed : List ℕ) (act : Act) (mid : Machine) → machine_step w.layout (word_at w old.drawn) old.machine ≡ Ok (act, mid) → CanFinish act w.layout mid → new.left ≡ Some typed → Cut old.seen new.seen (text_of act mid) → CutOff (next_from w old typed) typed old new
+cut_by w old new typed act mid e can told cut = finishes w act mid typed old.drawn can (λ halt last left drawn f. cut_at w old new typed act mid halt last left drawn e told cut f)
 
 -- ---- a run
 
@@ -131,18 +130,26 @@ run_limit w start n old new drawn g =
       begins = g.begins ∙ ap (λ (r : Run). is_open old.begun r.state.output) (sym all);
     }
 
--- what is printed behind an instruction
-after : (w : World) (left : ℕ) (halt : Option Halt) (s : ZState) → ((s : ZState) → RunLaws w s) → Begins s.output (go_on (zrun w left) (next_of halt s)).state.output
-after w left None s laws = (laws s).grows left
-after w left (Some halt) s laws = record { more = []; is = sym (append-nil s.output) }
+-- the state behind an instruction
+last_output : (w : World) (halt : Option Halt) (s : ZState) → (go_on (zrun w 0) (next_of halt s)).state.output ≡ s.output
+last_output w None s = ap (λ (r : Run). r.state.output) (no_step w s)
+last_output w (Some halt) s = refl
 
-pub run_cut : (w : World) (start : ZState) (n left : ℕ) (old here new : Scene) → ((s : ZState) → RunLaws w s) → (g : Going w start n (left + 1) old here) → CutOff (next_from w here g.typed) here new → Cut old.seen new.seen (zrun w n start).state.output
-run_cut w start n left old here new laws g c =
-    let text : List ℕ = g.output ++ c.text in
-    let all = over_all w start n left old here g _ (c.is g.output) in
-    let later = after w left c.halt (state c.last c.typed c.drawn text) laws in
-    let whole : (zrun w n start).state.output ≡ text ++ later.more = ap (λ (r : Run). r.state.output) all ∙ later.is in
-    subst (λ (l : List ℕ). Cut old.seen new.seen l) (sym whole) (cut_before old.seen new.seen text later.more (cut_behind old.seen here.seen new.seen g.output c.text g.wrote c.cut))
+pub run_cut : (w : World) (start : ZState) (n left : ℕ) (old here new : Scene) → (g : Going w start n (left + 1) old here) → CutOff (next_from w here g.typed) g.typed here new → PrintUnwritten w start n new.left old.seen new.seen
+run_cut w start n left old here new g c =
+    let now = here_is w start n (left + 1) old here g in
+    let typed : (zrun w g.done start).state.typed ≡ g.typed = ap (λ (r : Run). r.state.typed) now in
+    let output : (zrun w g.done start).state.output ≡ g.output = ap (λ (r : Run). r.state.output) now in
+    let one : g.done + 1 ≡ g.done + 1 + 0 = omega arith in
+    let next = ap (λ (k : ℕ). zrun w k start) one ∙ over w start n left old here g _ (c.is g.output) 0 in
+    let text : (zrun w (g.done + 1) start).state.output ≡ g.output ++ c.text = ap (λ (r : Run). r.state.output) next ∙ last_output w c.halt (state c.last c.typed c.drawn (g.output ++ c.text)) in
+    record {
+      m = g.done;
+      below = omega (arith, g.count);
+      limit = ap (λ (r : Run). r.end) now;
+      left_is = c.left ∙ ap (λ (l : List ℕ). Some l) (sym typed);
+      cut = subst (λ (l : List ℕ). CutBehind old.seen new.seen l (zrun w (g.done + 1) start).state.output) (sym output) (subst (λ (l : List ℕ). CutBehind old.seen new.seen g.output l) (sym text) (cut_after old.seen here.seen new.seen g.output c.text g.wrote c.cut));
+    }
 
 -- an instruction that takes more than was taken
 beyond_by : (w : World) (halt : Option Halt) (last : Machine) (typed rest behind : List ℕ) (drawn : ℕ) (output : List ℕ) (r : Run) → IsBeyond halt typed rest behind → r ≡ go_on (zrun w 0) (next_of halt (state last behind drawn output)) → (r.end ≡ ends.InputEnded) ⊎ ((length r.state.typed ≤ length rest) × (length r.state.typed < length typed))
@@ -175,9 +182,9 @@ run_unread w start n left old here new drawn g u =
       begins = u.begins ∙ g.begins ∙ ap (λ (l : List ℕ). is_open old.begun l) (sym output);
     }
 
-pub run_failed : (w : World) (start : ZState) (n left : ℕ) (old here new : Scene) (drawn : ℕ) (fault : Fault) → ((s : ZState) → RunLaws w s) → (g : Going w start n (left + 1) old here) → Advances (Err fault) w g.typed here new → RunsOn (Err fault) w start n old (scene new.machine drawn new.begun new.left new.seen)
-run_failed w start n left old here new drawn Read laws g a = run_unread w start n left old here new drawn g a
-run_failed w start n left old here new drawn Write laws g a = run_cut w start n left old here new laws g a
+pub run_failed : (w : World) (start : ZState) (n left : ℕ) (old here new : Scene) (drawn : ℕ) (fault : Fault) → (g : Going w start n (left + 1) old here) → Advances (Err fault) w g.typed here new → RunsOn (Err fault) w start n old (scene new.machine drawn new.begun new.left new.seen)
+run_failed w start n left old here new drawn Read g a = run_unread w start n left old here new drawn g a
+run_failed w start n left old here new drawn Write g a = run_cut w start n left old here new g a
 
 pub going_first : (w : World) (m : Machine) (n : ℕ) (typed : List ℕ) (begun : Bool) (left : Option (List ℕ)) (now : Seen) → left ≡ Some typed → Going w (state m typed 0 []) n n (scene m 0 begun left now) (scene m 0 begun left now)
 going_first w m n typed begun left now told = record {

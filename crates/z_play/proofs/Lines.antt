@@ -1,5 +1,5 @@
 -- The line behind a run.
-use Rattle.std.proofs.Common.{◌≡◌, ◌≢◌, ℕ, List, [], ◌∷◌, ◌++◌, Bool, false, Option, inl, inr, refl, sym, ◌∙◌, ap, subst}
+use Rattle.std.proofs.Common.{◌≡◌, ◌≢◌, ◌+◌, ◌-◌, ℕ, List, [], ◌∷◌, ◌++◌, Bool, false, Option, inl, inr, refl, sym, ◌∙◌, ap, subst, arith, append_assoc}
 use Rattle.std.proofs.lemmas.List.{append-nil}
 use Rattle.z_model.specs.declared.end.ZEnd.{ZEnd}
 use Rattle.z_model.specs.declared.end.ZEnd.TheVariants as ends
@@ -8,11 +8,13 @@ use Rattle.z_model.specs.Machine.{Machine}
 use Rattle.z_model.specs.Run.{World, ZState, Run, zrun}
 use Rattle.z_model.specs.Closing.{line_of, input_fault_line, is_open, newline_if, with_end_line, transcript}
 use Rattle.z_model.specs.Story.{layout_of, start_of, memory_of, first_machine, world_of, start_state}
-use Rattle.z_play.specs.Output.{Seen, Wrote, Cut}
+use Rattle.z_play.specs.Output.{Seen, Wrote, Cut, CutBehind}
 use Rattle.z_play.specs.Scene.{Scene, world, state}
 use Rattle.z_play.specs.Advancing.{RanTo, RanUnread}
-use Rattle.z_play.specs.Played.{Shows, InputFailed, OutputFailed}
-use Rattle.z_play.proofs.Written.{wrote_both, cut_behind, cut_before}
+use Rattle.z_play.specs.Played.{Shows, InputFailed, InputFailedUnwritten, PrintUnwritten, EndUnwritten, OutputFailed}
+use Rattle.z_play.proofs.Written.{wrote_both, cut_after, cut_whole, cut_before}
+use Rattle.z_model.specs.Laws.{Begins, then_more}
+use Rattle.z_model.proofs.Runs.{run_laws}
 
 -- ---- the text of a line
 
@@ -53,16 +55,13 @@ end_shows r end old new after first some ran wrote = record {
   wrote = subst (λ (l : List ℕ). Wrote old.seen after l) (text_is r end new.begun some ran.ends (ran.begins ∙ ap (λ (b : Bool). is_open b r.state.output) first)) (wrote_both old.seen new.seen after r.state.output (newline_if new.begun ++ line_of end) ran.wrote wrote);
 }
 
-pub end_cut : (w : World) (s : ZState) (n : ℕ) (end : ZEnd) (left : Option (List ℕ)) (old new : Scene) (after : Seen) → old.begun ≡ false → end ≢ ends.Quit → RanTo (zrun w n s) end old new → Cut new.seen after (newline_if new.begun ++ line_of end) → OutputFailed w s n left old.seen after
-end_cut w s n end left old new after first some ran cut =
+pub end_cut : (w : World) (s : ZState) (n : ℕ) (end : ZEnd) (old new : Scene) (after : Seen) → old.begun ≡ false → end ≢ ends.Quit → RanTo (zrun w n s) end old new → Cut new.seen after (newline_if new.begun ++ line_of end) → OutputFailed w s n new.left old.seen after
+end_cut w s n end old new after first some ran cut =
     let r : Run = zrun w n s in
-    inl (subst (λ (l : List ℕ). Cut old.seen after l) (text_is r end new.begun some ran.ends (ran.begins ∙ ap (λ (b : Bool). is_open b r.state.output) first)) (cut_behind old.seen new.seen after r.state.output (newline_if new.begun ++ line_of end) ran.wrote cut))
-
-pub run_cut_short : (w : World) (s : ZState) (n : ℕ) (left : Option (List ℕ)) (old new : Seen) → Cut old new (zrun w n s).state.output → OutputFailed w s n left old new
-run_cut_short w s n left old new cut =
-    let r : Run = zrun w n s in
-    let more = output_first r.state.output (line_of r.end) in
-    inl (subst (λ (l : List ℕ). Cut old new l) (sym more.1) (cut_before old new r.state.output more.0 cut))
+    inr (inl (record {
+      left_is = ran.left;
+      cut = subst (λ (l : List ℕ). CutBehind old.seen after r.state.output l) (text_is r end new.begun some ran.ends (ran.begins ∙ ap (λ (b : Bool). is_open b r.state.output) first)) (cut_after old.seen new.seen after r.state.output (newline_if new.begun ++ line_of end) ran.wrote cut);
+    }))
 
 -- ---- the input failed
 
@@ -83,13 +82,35 @@ fault_shows w s n old new after first ran wrote =
 pub fault_cut : (w : World) (s : ZState) (n : ℕ) (old new : Scene) (after : Seen) → old.begun ≡ false → RanUnread w s n old new → Cut new.seen after (newline_if new.begun ++ input_fault_line) → OutputFailed w s n new.left old.seen after
 fault_cut w s n old new after first ran cut =
     let output : List ℕ = (zrun w ran.m s).state.output in
-    inr (record {
+    inr (inr (record {
       m = ran.m;
       rest = ran.rest;
       left_is = ran.left;
       stopped = ran.stopped;
-      cut = subst (λ (l : List ℕ). Cut old.seen after l) (fault_text output new.begun (ran.begins ∙ ap (λ (b : Bool). is_open b output) first)) (cut_behind old.seen new.seen after output (newline_if new.begun ++ input_fault_line) ran.wrote cut);
-    })
+      cut = subst (λ (l : List ℕ). CutBehind old.seen after output l) (fault_text output new.begun (ran.begins ∙ ap (λ (b : Bool). is_open b output) first)) (cut_after old.seen new.seen after output (newline_if new.begun ++ input_fault_line) ran.wrote cut);
+    }))
+
+-- ---- the output failed
+
+piece_begins : (w : World) (j : ℕ) (end : ZEnd) (s : ZState) → Begins s.output (then_more (zrun w j) (record { end = end; state = s })).state.output
+piece_begins w j ends.StepLimit s = (run_laws w s).grows j
+piece_begins w j ends.Quit s = record { more = []; is = sym (append-nil s.output) }
+piece_begins w j ends.InputEnded s = record { more = []; is = sym (append-nil s.output) }
+piece_begins w j (ends.Broken fault at) s = record { more = []; is = sym (append-nil s.output) }
+
+-- the output of more instructions begins with that of fewer
+more_printed : (w : World) (k j : ℕ) (s : ZState) → Begins (zrun w k s).state.output (zrun w (k + j) s).state.output
+more_printed w k j s = subst (λ (r : Run). Begins (zrun w k s).state.output r.state.output) (sym ((run_laws w s).sum k j)) (piece_begins w j (zrun w k s).end (zrun w k s).state)
+
+-- where it failed in an instruction, it failed within all that is written of the run
+pub print_cut : (w : World) (s : ZState) (n : ℕ) (left : Option (List ℕ)) (old new : Seen) → PrintUnwritten w s n left old new → Cut old new (transcript (zrun w n s))
+print_cut w s n left old new h =
+    let r : Run = zrun w n s in
+    let all : h.m + 1 + (n - (h.m + 1)) ≡ n = omega (arith, h.below) in
+    let grown = subst (λ (k : ℕ). Begins (zrun w (h.m + 1) s).state.output (zrun w k s).state.output) all (more_printed w (h.m + 1) (n - (h.m + 1)) s) in
+    let more = output_first r.state.output (line_of r.end) in
+    let text : transcript r ≡ (zrun w (h.m + 1) s).state.output ++ (grown.more ++ more.0) = more.1 ∙ ap (λ (l : List ℕ). l ++ more.0) grown.is ∙ append_assoc (zrun w (h.m + 1) s).state.output grown.more more.0 in
+    subst (λ (l : List ℕ). Cut old new l) (sym text) (cut_before old new (zrun w (h.m + 1) s).state.output (grown.more ++ more.0) (cut_whole old new (zrun w h.m s).state.output (zrun w (h.m + 1) s).state.output h.cut))
 
 -- ---- the start
 

@@ -4,7 +4,7 @@ use Rattle.std.specs.Io.KnownBytes.{Appends}
 use Rattle.std.proofs.lemmas.List.{append-nil}
 use Rattle.dg_base.specs.Written as base
 use Rattle.dg_base.specs.Written.{FallsBy, IsOver}
-use Rattle.z_play.specs.Output.{Seen, seen, Wrote, Cut}
+use Rattle.z_play.specs.Output.{Seen, seen, Wrote, Cut, CutBehind}
 
 appends_both : (old mid new : Option (List ℕ)) (xs ys : List ℕ) → Appends old mid xs → Appends mid new ys → Appends old new (xs ++ ys)
 appends_both None mid new xs ys h k = tt
@@ -57,6 +57,26 @@ cut_behind old mid new xs ys w cut = record {
   is = ap (λ (l : List ℕ). xs ++ l) cut.is ∙ sym (append_assoc xs cut.front cut.rest);
   taken = appends_both old.taken mid.taken new.taken xs cut.front w.taken cut.taken;
   room = longer old.room mid.room xs ys w.room cut.room;
+}
+
+-- the same, with the text that was written told
+pub cut_after : (old mid new : Seen) (xs ys : List ℕ) → Wrote old mid xs → Cut mid new ys → CutBehind old new xs (xs ++ ys)
+cut_after old mid new xs ys w cut = record {
+  front = cut.front;
+  rest = cut.rest;
+  is = ap (λ (l : List ℕ). xs ++ l) cut.is;
+  taken = appends_both old.taken mid.taken new.taken xs cut.front w.taken cut.taken;
+  room = longer old.room mid.room xs ys w.room cut.room;
+}
+
+-- the same, with nothing told
+pub cut_whole : (old new : Seen) (xs text : List ℕ) → CutBehind old new xs text → Cut old new text
+cut_whole old new xs text cut = record {
+  front = xs ++ cut.front;
+  rest = cut.rest;
+  is = cut.is ∙ sym (append_assoc xs cut.front cut.rest);
+  taken = cut.taken;
+  room = cut.room;
 }
 
 more_too_long : (room : Option ℕ) (xs ys : List ℕ) → IsOver room (length xs) → IsOver room (length (xs ++ ys))

@@ -4,8 +4,8 @@ use Rattle.z_model.specs.declared.end.Halt.{Halt}
 use Rattle.z_model.specs.declared.end.ZEnd.{ZEnd}
 use Rattle.z_model.specs.Closing.{is_open}
 use Rattle.z_model.specs.Run.{World, ZState, Next, Run, zstep, zrun}
-use Rattle.z_play.specs.Output.{Wrote, Cut}
-use Rattle.z_play.specs.Played.{StoppedAt}
+use Rattle.z_play.specs.Output.{Wrote}
+use Rattle.z_play.specs.Played.{StoppedAt, PrintUnwritten}
 use Rattle.z_play.specs.Scene.{Scene, state, Came, CutOff, Unread}
 use Rattle.dg_base.specs.declared.run.Fault.{Fault}
 use Rattle.dg_base.specs.declared.run.Fault.TheVariants.{Read, Write}
@@ -17,7 +17,7 @@ next_from w old typed output = zstep w (state old.machine typed old.drawn output
 abbrev pub Advances : Result (Option Halt) Fault → World → List ℕ → Scene → Scene → Type 0
 Advances (Ok halt) w typed old new = Came (next_from w old typed) halt old new
 Advances (Err Read) w typed old new = Unread (next_from w old typed) typed old new
-Advances (Err Write) w typed old new = CutOff (next_from w old typed) old new
+Advances (Err Write) w typed old new = CutOff (next_from w old typed) typed old new
 
 -- The run ended, and its output was written.
 pub record RanTo (r : Run) (end : ZEnd) (old new : Scene) : Type 0 where
@@ -39,4 +39,4 @@ pub record RanUnread (w : World) (s : ZState) (n : ℕ) (old new : Scene) : Type
 abbrev pub RunsOn : Result ZEnd Fault → World → ZState → ℕ → Scene → Scene → Type 0
 RunsOn (Ok end) w s n old new = RanTo (zrun w n s) end old new
 RunsOn (Err Read) w s n old new = RanUnread w s n old new
-RunsOn (Err Write) w s n old new = Cut old.seen new.seen (zrun w n s).state.output
+RunsOn (Err Write) w s n old new = PrintUnwritten w s n new.left old.seen new.seen

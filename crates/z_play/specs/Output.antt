@@ -23,3 +23,11 @@ pub record Cut (old new : Seen) (text : List ℕ) : Type 0 where
   pub is : text ≡ front ++ rest
   pub taken : Appends old.taken new.taken front
   pub room : IsOver old.room (length text)
+
+-- A text was cut behind its beginning: the sink took that and a front of the rest, and then failed; where it told a room, the text is longer.
+pub record CutBehind (old new : Seen) (begins text : List ℕ) : Type 0 where
+  pub front : List ℕ
+  pub rest : List ℕ
+  pub is : text ≡ begins ++ (front ++ rest)
+  pub taken : Appends old.taken new.taken (begins ++ front)
+  pub room : IsOver old.room (length text)

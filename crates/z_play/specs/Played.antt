@@ -5,7 +5,7 @@ use Rattle.z_model.specs.declared.end.ZEnd.{ZEnd}
 use Rattle.z_model.specs.declared.end.ZEnd.TheVariants as ends
 use Rattle.z_model.specs.Run.{World, ZState, Run, zrun}
 use Rattle.z_model.specs.Closing.{transcript, with_end_line, input_fault_line}
-use Rattle.z_play.specs.Output.{Seen, Wrote, Cut}
+use Rattle.z_play.specs.Output.{Seen, Wrote, CutBehind}
 use Rattle.dg_base.specs.declared.run.Fault.{Fault}
 use Rattle.dg_base.specs.declared.run.Fault.TheVariants.{Read, Write}
 
@@ -30,17 +30,30 @@ pub record InputFailed (w : World) (s : ZState) (n : ℕ) (left : Option (List �
   pub stopped : StoppedAt w s n m rest
   pub wrote : Wrote old new (with_end_line (zrun w m s).state.output input_fault_line)
 
--- The output failed in that text.
+-- The output failed in what one instruction prints: the m before it don't end the run, the sink took what they print, and the typed bytes are left that they leave.
+pub record PrintUnwritten (w : World) (s : ZState) (n : ℕ) (left : Option (List ℕ)) (old new : Seen) : Type 0 where
+  pub m : ℕ
+  pub below : m < n
+  pub limit : (zrun w m s).end ≡ ends.StepLimit
+  pub left_is : left ≡ Some (zrun w m s).state.typed
+  pub cut : CutBehind old new (zrun w m s).state.output (zrun w (m + 1) s).state.output
+
+-- The output failed in the line of the run's end: the sink took the run's output, and the typed bytes are left that the run leaves.
+pub record EndUnwritten (r : Run) (left : Option (List ℕ)) (old new : Seen) : Type 0 where
+  pub left_is : left ≡ Some r.state.typed
+  pub cut : CutBehind old new r.state.output (transcript r)
+
+-- The input failed, and then the output in the line that says so: the sink took the output until then.
 pub record InputFailedUnwritten (w : World) (s : ZState) (n : ℕ) (left : Option (List ℕ)) (old new : Seen) : Type 0 where
   pub m : ℕ
   pub rest : List ℕ
   pub left_is : left ≡ Some rest
   pub stopped : StoppedAt w s n m rest
-  pub cut : Cut old new (with_end_line (zrun w m s).state.output input_fault_line)
+  pub cut : CutBehind old new (zrun w m s).state.output (with_end_line (zrun w m s).state.output input_fault_line)
 
--- The output failed in a text that the run writes.
+-- The output failed within an instruction or in a line behind the run.
 abbrev pub OutputFailed : World → ZState → ℕ → Option (List ℕ) → Seen → Seen → Type 0
-OutputFailed w s n left old new = Cut old new (transcript (zrun w n s)) ⊎ InputFailedUnwritten w s n left old new
+OutputFailed w s n left old new = PrintUnwritten w s n left old new ⊎ (EndUnwritten (zrun w n s) left old new ⊎ InputFailedUnwritten w s n left old new)
 
 -- what a run did, by its answer
 abbrev pub Plays : Result ZEnd Fault → World → ZState → ℕ → Option (List ℕ) → Seen → Seen → Type 0

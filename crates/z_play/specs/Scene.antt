@@ -44,8 +44,9 @@ pub record Came (follows : List ℕ → Next) (halt : Option Halt) (old new : Sc
   pub same : SameIfOn halt last new.machine
   pub is : (output : List ℕ) → follows output ≡ next_of halt (state last typed new.drawn (output ++ printed))
 
--- The sink failed in a text that what follows prints.
-pub record CutOff (follows : List ℕ → Next) (old new : Scene) : Type 0 where
+-- The sink failed in a text that what follows prints, before a typed byte was taken.
+pub record CutOff (follows : List ℕ → Next) (before : List ℕ) (old new : Scene) : Type 0 where
+  pub left : new.left ≡ Some before
   pub text : List ℕ
   pub cut : Cut old.seen new.seen text
   pub halt : Option Halt

@@ -186,7 +186,6 @@ fn run_steps<S: Source, K: Sink>(
     ensures told { (typed : List ℕ) → S.left source.old ≡ Some typed → (drawn : ℕ) → RunsOn result (world engine.old.layout dice.now) (state (machine engine.old) typed 0 []) steps (scene (machine engine.old) 0 begun.old (S.left source.old) (seen (K.taken sink.old) (K.room sink.old))) (scene (machine engine.new) drawn begun.new (S.left source.new) (seen (K.taken sink.new) (K.room sink.new))) }
     ensures causes { HasCauses (S.faults source.old) (S.faults source.new) (K.faults sink.old) (K.faults sink.new) result }
 {
-    z_model::runs_in_pieces();
     let mut drawn = 0;
     let mut left = steps;
     while left > 0 {

@@ -19,7 +19,7 @@ returns-in-Ok-Goes-clause-told g c = λ typed told.
     came_by (world c.args.engine.now.layout c.args.dice.now) (scene (machine c.args.engine.now) c.args.drawn.now c.args.begun.now (g.S.Source.left c.args.source.now) (seen (g.K.Sink.taken c.args.sink.now) (g.K.Sink.room c.args.sink.now))) (scene (machine c.step.new.self) c.args.drawn.now c.args.begun.now (g.S.Source.left c.args.source.now) (seen (g.K.Sink.taken c.args.sink.now) (g.K.Sink.room c.args.sink.now))) typed Goes (machine c.step.new.self) None stepped.0 (wrote_none (seen (g.K.Sink.taken c.args.sink.now) (g.K.Sink.room c.args.sink.now))) refl (plain_goes (world c.args.engine.now.layout c.args.dice.now) (machine c.step.new.self) typed c.args.drawn.now (g.S.Source.left c.args.source.now) told)
 
 pub returns-in-Err-print-clause-told : goal.returns-in-Err-print-clause-told
-returns-in-Err-print-clause-told g c = λ typed told. cut_by (world c.args.engine.now.layout c.args.dice.now) (scene (machine c.args.engine.now) c.args.drawn.now c.args.begun.now (g.S.Source.left c.args.source.now) (seen (g.K.Sink.taken c.args.sink.now) (g.K.Sink.room c.args.sink.now))) (scene (machine c.step.new.self) c.args.drawn.now c.args.begun.now (g.S.Source.left c.args.source.now) (seen (g.K.Sink.taken c.print.new.sink) (g.K.Sink.room c.print.new.sink))) typed c.in-Ok.act (machine c.step.new.self) c.in-Ok.ensures.stepped.0 c.in-Ok.ensures.stepped.1 c.in-Err-print.ensures.err
+returns-in-Err-print-clause-told g c = λ typed told. cut_by (world c.args.engine.now.layout c.args.dice.now) (scene (machine c.args.engine.now) c.args.drawn.now c.args.begun.now (g.S.Source.left c.args.source.now) (seen (g.K.Sink.taken c.args.sink.now) (g.K.Sink.room c.args.sink.now))) (scene (machine c.step.new.self) c.args.drawn.now c.args.begun.now (g.S.Source.left c.args.source.now) (seen (g.K.Sink.taken c.print.new.sink) (g.K.Sink.room c.print.new.sink))) typed c.in-Ok.act (machine c.step.new.self) c.in-Ok.ensures.stepped.0 c.in-Ok.ensures.stepped.1 told c.in-Err-print.ensures.err
 
 pub returns-in-Ok-finish-clause-told : goal.returns-in-Ok-finish-clause-told
 returns-in-Ok-finish-clause-told g c = λ typed told.

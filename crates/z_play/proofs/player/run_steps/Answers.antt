@@ -33,7 +33,7 @@ returns-in-Err-clause-told g c = λ typed told drawn.
     let more : c.loop-left.left ≡ c.loop-left.left - 1 + 1 = omega (arith, c.loop-left-test.true) in
     let here = less_left (world c.args.engine.now.layout c.args.dice.now) (state (machine c.args.engine.now) typed 0 []) c.args.steps c.loop-left.left (c.loop-left.left - 1) (scene (machine c.args.engine.now) 0 c.args.begun.now (g.S.Source.left c.args.source.now) (seen (g.K.Sink.taken c.args.sink.now) (g.K.Sink.room c.args.sink.now))) (scene (machine c.loop-left.engine) c.loop-left.drawn c.loop-left.begun (g.S.Source.left c.loop-left.source) (seen (g.K.Sink.taken c.loop-left.sink) (g.K.Sink.room c.loop-left.sink))) more (c.loop-left.invariant.going typed told) in
     let stepped = subst (λ (l : Layout). Advances (Err c.in-Err.fault) (world l c.args.dice.now) here.typed (scene (machine c.loop-left.engine) c.loop-left.drawn c.loop-left.begun (g.S.Source.left c.loop-left.source) (seen (g.K.Sink.taken c.loop-left.sink) (g.K.Sink.room c.loop-left.sink))) (scene (machine c.advance.new.engine) c.advance.new.drawn c.advance.new.begun (g.S.Source.left c.advance.new.source) (seen (g.K.Sink.taken c.advance.new.sink) (g.K.Sink.room c.advance.new.sink)))) c.loop-left.invariant.kept.layout (c.in-Err.ensures.told here.typed here.left_is) in
-    run_failed (world c.args.engine.now.layout c.args.dice.now) (state (machine c.args.engine.now) typed 0 []) c.args.steps (c.loop-left.left - 1) (scene (machine c.args.engine.now) 0 c.args.begun.now (g.S.Source.left c.args.source.now) (seen (g.K.Sink.taken c.args.sink.now) (g.K.Sink.room c.args.sink.now))) (scene (machine c.loop-left.engine) c.loop-left.drawn c.loop-left.begun (g.S.Source.left c.loop-left.source) (seen (g.K.Sink.taken c.loop-left.sink) (g.K.Sink.room c.loop-left.sink))) (scene (machine c.advance.new.engine) c.advance.new.drawn c.advance.new.begun (g.S.Source.left c.advance.new.source) (seen (g.K.Sink.taken c.advance.new.sink) (g.K.Sink.room c.advance.new.sink))) drawn c.in-Err.fault (c.runs_in_pieces.ensures (world c.args.engine.now.layout c.args.dice.now)) here stepped
+    run_failed (world c.args.engine.now.layout c.args.dice.now) (state (machine c.args.engine.now) typed 0 []) c.args.steps (c.loop-left.left - 1) (scene (machine c.args.engine.now) 0 c.args.begun.now (g.S.Source.left c.args.source.now) (seen (g.K.Sink.taken c.args.sink.now) (g.K.Sink.room c.args.sink.now))) (scene (machine c.loop-left.engine) c.loop-left.drawn c.loop-left.begun (g.S.Source.left c.loop-left.source) (seen (g.K.Sink.taken c.loop-left.sink) (g.K.Sink.room c.loop-left.sink))) (scene (machine c.advance.new.engine) c.advance.new.drawn c.advance.new.begun (g.S.Source.left c.advance.new.source) (seen (g.K.Sink.taken c.advance.new.sink) (g.K.Sink.room c.advance.new.sink))) drawn c.in-Err.fault here stepped
 
 pub returns-in-Err-clause-causes : goal.returns-in-Err-clause-causes
 returns-in-Err-clause-causes g c = causes_err (g.S.Source.faults c.args.source.now) (g.S.Source.faults c.loop-left.source) (g.S.Source.faults c.advance.new.source) (g.K.Sink.faults c.args.sink.now) (g.K.Sink.faults c.loop-left.sink) (g.K.Sink.faults c.advance.new.sink) c.in-Err.fault c.loop-left.invariant.reads c.loop-left.invariant.writes c.in-Err.ensures.causes

@@ -1,4 +1,4 @@
-use Rattle.std.proofs.Common.{rules, ◌≡◌, false, Result, Ok, Err, refl, sym, ◌∙◌, ap, subst}
+use Rattle.std.proofs.Common.{rules, ◌≡◌, false, Result, Ok, Err, inl, refl, sym, ◌∙◌, ap, subst}
 use Rattle.z_model.specs.declared.end.ZEnd.{ZEnd}
 use Rattle.z_model.specs.declared.end.ZEnd.TheVariants as ends
 use Rattle.z_model.specs.Run.{World, ZState, zrun}
@@ -10,7 +10,7 @@ use Rattle.z_play.specs.Advancing.{RunsOn}
 use Rattle.z_play.specs.Played.{Plays}
 use Rattle.dg_base.specs.declared.run.Fault.{Fault}
 use Rattle.dg_base.specs.declared.run.Fault.TheVariants.{Read, Write}
-use Rattle.z_play.proofs.Lines.{quit_shows, end_shows, end_cut, run_cut_short, fault_shows, fault_cut, start_is, world_is}
+use Rattle.z_play.proofs.Lines.{quit_shows, end_shows, end_cut, fault_shows, fault_cut, start_is, world_is}
 use Rattle.z_play.proofs.player.Player.run.Goals as goal
 use Rattle.z_play.proofs.player.Player.run.Goals.{in-Ok+in-Quit, in-Ok+in_default+in-Ok-close, in-Ok+in_default+in-Err, in-Err-Read+in-Ok-close_failed, in-Err-Read+in-Err-close_failed, in-Err-Write}
 
@@ -27,8 +27,8 @@ returns-clause-told g c = λ typed told.
     elim c.match-run_steps.branch [
       | in-Ok+in-Quit w ↦ subst (λ (r : Result ZEnd Fault). Plays r (world_of c.args.self.now c.args.dice.now) (start_state c.args.self.now typed) c.args.steps (g.S.Source.left c.run_steps.new.source) (seen (g.K.Sink.taken c.args.sink.now) (g.K.Sink.room c.args.sink.now)) (seen (g.K.Sink.taken c.match-run_steps.sink) (g.K.Sink.room c.match-run_steps.sink))) (sym w.result-is) (subst (λ (k : g.row.K.Denot). Plays (Ok ends.Quit) (world_of c.args.self.now c.args.dice.now) (start_state c.args.self.now typed) c.args.steps (g.S.Source.left c.run_steps.new.source) (seen (g.K.Sink.taken c.args.sink.now) (g.K.Sink.room c.args.sink.now)) (seen (g.K.Sink.taken k) (g.K.Sink.room k))) (sym w.sink-is) (quit_shows (zrun (world_of c.args.self.now c.args.dice.now) c.args.steps (start_state c.args.self.now typed)) (scene (machine c.reset.new.engine) 0 false (g.S.Source.left c.args.source.now) (seen (g.K.Sink.taken c.args.sink.now) (g.K.Sink.room c.args.sink.now))) (scene (machine c.run_steps.new.engine) 0 c.run_steps.new.begun (g.S.Source.left c.run_steps.new.source) (seen (g.K.Sink.taken c.run_steps.new.sink) (g.K.Sink.room c.run_steps.new.sink))) (subst (λ (r : Result ZEnd Fault). RunsOn r (world_of c.args.self.now c.args.dice.now) (start_state c.args.self.now typed) c.args.steps (scene (machine c.reset.new.engine) 0 false (g.S.Source.left c.args.source.now) (seen (g.K.Sink.taken c.args.sink.now) (g.K.Sink.room c.args.sink.now))) (scene (machine c.run_steps.new.engine) 0 c.run_steps.new.begun (g.S.Source.left c.run_steps.new.source) (seen (g.K.Sink.taken c.run_steps.new.sink) (g.K.Sink.room c.run_steps.new.sink)))) (w.in-Ok.is ∙ ap Ok w.in-Quit.is) runs)))
       | in-Ok+in_default+in-Ok-close w ↦ subst (λ (r : Result ZEnd Fault). Plays r (world_of c.args.self.now c.args.dice.now) (start_state c.args.self.now typed) c.args.steps (g.S.Source.left c.run_steps.new.source) (seen (g.K.Sink.taken c.args.sink.now) (g.K.Sink.room c.args.sink.now)) (seen (g.K.Sink.taken c.match-run_steps.sink) (g.K.Sink.room c.match-run_steps.sink))) (sym w.result-is) (subst (λ (k : g.row.K.Denot). Plays (Ok w.in-Ok.end) (world_of c.args.self.now c.args.dice.now) (start_state c.args.self.now typed) c.args.steps (g.S.Source.left c.run_steps.new.source) (seen (g.K.Sink.taken c.args.sink.now) (g.K.Sink.room c.args.sink.now)) (seen (g.K.Sink.taken k) (g.K.Sink.room k))) (sym w.sink-is) (end_shows (zrun (world_of c.args.self.now c.args.dice.now) c.args.steps (start_state c.args.self.now typed)) w.in-Ok.end (scene (machine c.reset.new.engine) 0 false (g.S.Source.left c.args.source.now) (seen (g.K.Sink.taken c.args.sink.now) (g.K.Sink.room c.args.sink.now))) (scene (machine c.run_steps.new.engine) 0 c.run_steps.new.begun (g.S.Source.left c.run_steps.new.source) (seen (g.K.Sink.taken c.run_steps.new.sink) (g.K.Sink.room c.run_steps.new.sink))) (seen (g.K.Sink.taken w.close.new.sink) (g.K.Sink.room w.close.new.sink)) refl w.in_default.not-Quit (subst (λ (r : Result ZEnd Fault). RunsOn r (world_of c.args.self.now c.args.dice.now) (start_state c.args.self.now typed) c.args.steps (scene (machine c.reset.new.engine) 0 false (g.S.Source.left c.args.source.now) (seen (g.K.Sink.taken c.args.sink.now) (g.K.Sink.room c.args.sink.now))) (scene (machine c.run_steps.new.engine) 0 c.run_steps.new.begun (g.S.Source.left c.run_steps.new.source) (seen (g.K.Sink.taken c.run_steps.new.sink) (g.K.Sink.room c.run_steps.new.sink)))) w.in-Ok.is runs) w.in-Ok-close.ensures.ok))
-      | in-Ok+in_default+in-Err w ↦ subst (λ (r : Result ZEnd Fault). Plays r (world_of c.args.self.now c.args.dice.now) (start_state c.args.self.now typed) c.args.steps (g.S.Source.left c.run_steps.new.source) (seen (g.K.Sink.taken c.args.sink.now) (g.K.Sink.room c.args.sink.now)) (seen (g.K.Sink.taken c.match-run_steps.sink) (g.K.Sink.room c.match-run_steps.sink))) (sym w.result-is) (subst (λ (k : g.row.K.Denot). Plays (Err Write) (world_of c.args.self.now c.args.dice.now) (start_state c.args.self.now typed) c.args.steps (g.S.Source.left c.run_steps.new.source) (seen (g.K.Sink.taken c.args.sink.now) (g.K.Sink.room c.args.sink.now)) (seen (g.K.Sink.taken k) (g.K.Sink.room k))) (sym w.sink-is) (end_cut (world_of c.args.self.now c.args.dice.now) (start_state c.args.self.now typed) c.args.steps w.in-Ok.end (g.S.Source.left c.run_steps.new.source) (scene (machine c.reset.new.engine) 0 false (g.S.Source.left c.args.source.now) (seen (g.K.Sink.taken c.args.sink.now) (g.K.Sink.room c.args.sink.now))) (scene (machine c.run_steps.new.engine) 0 c.run_steps.new.begun (g.S.Source.left c.run_steps.new.source) (seen (g.K.Sink.taken c.run_steps.new.sink) (g.K.Sink.room c.run_steps.new.sink))) (seen (g.K.Sink.taken w.close.new.sink) (g.K.Sink.room w.close.new.sink)) refl w.in_default.not-Quit (subst (λ (r : Result ZEnd Fault). RunsOn r (world_of c.args.self.now c.args.dice.now) (start_state c.args.self.now typed) c.args.steps (scene (machine c.reset.new.engine) 0 false (g.S.Source.left c.args.source.now) (seen (g.K.Sink.taken c.args.sink.now) (g.K.Sink.room c.args.sink.now))) (scene (machine c.run_steps.new.engine) 0 c.run_steps.new.begun (g.S.Source.left c.run_steps.new.source) (seen (g.K.Sink.taken c.run_steps.new.sink) (g.K.Sink.room c.run_steps.new.sink)))) w.in-Ok.is runs) w.in-Err.ensures.err))
+      | in-Ok+in_default+in-Err w ↦ subst (λ (r : Result ZEnd Fault). Plays r (world_of c.args.self.now c.args.dice.now) (start_state c.args.self.now typed) c.args.steps (g.S.Source.left c.run_steps.new.source) (seen (g.K.Sink.taken c.args.sink.now) (g.K.Sink.room c.args.sink.now)) (seen (g.K.Sink.taken c.match-run_steps.sink) (g.K.Sink.room c.match-run_steps.sink))) (sym w.result-is) (subst (λ (k : g.row.K.Denot). Plays (Err Write) (world_of c.args.self.now c.args.dice.now) (start_state c.args.self.now typed) c.args.steps (g.S.Source.left c.run_steps.new.source) (seen (g.K.Sink.taken c.args.sink.now) (g.K.Sink.room c.args.sink.now)) (seen (g.K.Sink.taken k) (g.K.Sink.room k))) (sym w.sink-is) (end_cut (world_of c.args.self.now c.args.dice.now) (start_state c.args.self.now typed) c.args.steps w.in-Ok.end (scene (machine c.reset.new.engine) 0 false (g.S.Source.left c.args.source.now) (seen (g.K.Sink.taken c.args.sink.now) (g.K.Sink.room c.args.sink.now))) (scene (machine c.run_steps.new.engine) 0 c.run_steps.new.begun (g.S.Source.left c.run_steps.new.source) (seen (g.K.Sink.taken c.run_steps.new.sink) (g.K.Sink.room c.run_steps.new.sink))) (seen (g.K.Sink.taken w.close.new.sink) (g.K.Sink.room w.close.new.sink)) refl w.in_default.not-Quit (subst (λ (r : Result ZEnd Fault). RunsOn r (world_of c.args.self.now c.args.dice.now) (start_state c.args.self.now typed) c.args.steps (scene (machine c.reset.new.engine) 0 false (g.S.Source.left c.args.source.now) (seen (g.K.Sink.taken c.args.sink.now) (g.K.Sink.room c.args.sink.now))) (scene (machine c.run_steps.new.engine) 0 c.run_steps.new.begun (g.S.Source.left c.run_steps.new.source) (seen (g.K.Sink.taken c.run_steps.new.sink) (g.K.Sink.room c.run_steps.new.sink)))) w.in-Ok.is runs) w.in-Err.ensures.err))
       | in-Err-Read+in-Ok-close_failed w ↦ subst (λ (r : Result ZEnd Fault). Plays r (world_of c.args.self.now c.args.dice.now) (start_state c.args.self.now typed) c.args.steps (g.S.Source.left c.run_steps.new.source) (seen (g.K.Sink.taken c.args.sink.now) (g.K.Sink.room c.args.sink.now)) (seen (g.K.Sink.taken c.match-run_steps.sink) (g.K.Sink.room c.match-run_steps.sink))) (sym w.result-is) (subst (λ (k : g.row.K.Denot). Plays (Err Read) (world_of c.args.self.now c.args.dice.now) (start_state c.args.self.now typed) c.args.steps (g.S.Source.left c.run_steps.new.source) (seen (g.K.Sink.taken c.args.sink.now) (g.K.Sink.room c.args.sink.now)) (seen (g.K.Sink.taken k) (g.K.Sink.room k))) (sym w.sink-is) (fault_shows (world_of c.args.self.now c.args.dice.now) (start_state c.args.self.now typed) c.args.steps (scene (machine c.reset.new.engine) 0 false (g.S.Source.left c.args.source.now) (seen (g.K.Sink.taken c.args.sink.now) (g.K.Sink.room c.args.sink.now))) (scene (machine c.run_steps.new.engine) 0 c.run_steps.new.begun (g.S.Source.left c.run_steps.new.source) (seen (g.K.Sink.taken c.run_steps.new.sink) (g.K.Sink.room c.run_steps.new.sink))) (seen (g.K.Sink.taken w.close_failed.new.sink) (g.K.Sink.room w.close_failed.new.sink)) refl (subst (λ (r : Result ZEnd Fault). RunsOn r (world_of c.args.self.now c.args.dice.now) (start_state c.args.self.now typed) c.args.steps (scene (machine c.reset.new.engine) 0 false (g.S.Source.left c.args.source.now) (seen (g.K.Sink.taken c.args.sink.now) (g.K.Sink.room c.args.sink.now))) (scene (machine c.run_steps.new.engine) 0 c.run_steps.new.begun (g.S.Source.left c.run_steps.new.source) (seen (g.K.Sink.taken c.run_steps.new.sink) (g.K.Sink.room c.run_steps.new.sink)))) (w.in-Err-Read.is ∙ ap Err w.in-Err-Read.field-0-is) runs) w.in-Ok-close_failed.ensures.ok))
       | in-Err-Read+in-Err-close_failed w ↦ subst (λ (r : Result ZEnd Fault). Plays r (world_of c.args.self.now c.args.dice.now) (start_state c.args.self.now typed) c.args.steps (g.S.Source.left c.run_steps.new.source) (seen (g.K.Sink.taken c.args.sink.now) (g.K.Sink.room c.args.sink.now)) (seen (g.K.Sink.taken c.match-run_steps.sink) (g.K.Sink.room c.match-run_steps.sink))) (sym w.result-is) (subst (λ (k : g.row.K.Denot). Plays (Err Write) (world_of c.args.self.now c.args.dice.now) (start_state c.args.self.now typed) c.args.steps (g.S.Source.left c.run_steps.new.source) (seen (g.K.Sink.taken c.args.sink.now) (g.K.Sink.room c.args.sink.now)) (seen (g.K.Sink.taken k) (g.K.Sink.room k))) (sym w.sink-is) (fault_cut (world_of c.args.self.now c.args.dice.now) (start_state c.args.self.now typed) c.args.steps (scene (machine c.reset.new.engine) 0 false (g.S.Source.left c.args.source.now) (seen (g.K.Sink.taken c.args.sink.now) (g.K.Sink.room c.args.sink.now))) (scene (machine c.run_steps.new.engine) 0 c.run_steps.new.begun (g.S.Source.left c.run_steps.new.source) (seen (g.K.Sink.taken c.run_steps.new.sink) (g.K.Sink.room c.run_steps.new.sink))) (seen (g.K.Sink.taken w.close_failed.new.sink) (g.K.Sink.room w.close_failed.new.sink)) refl (subst (λ (r : Result ZEnd Fault). RunsOn r (world_of c.args.self.now c.args.dice.now) (start_state c.args.self.now typed) c.args.steps (scene (machine c.reset.new.engine) 0 false (g.S.Source.left c.args.source.now) (seen (g.K.Sink.taken c.args.sink.now) (g.K.Sink.room c.args.sink.now))) (scene (machine c.run_steps.new.engine) 0 c.run_steps.new.begun (g.S.Source.left c.run_steps.new.source) (seen (g.K.Sink.taken c.run_steps.new.sink) (g.K.Sink.room c.run_steps.new.sink)))) (w.in-Err-Read.is ∙ ap Err w.in-Err-Read.field-0-is) runs) w.in-Err-close_failed.ensures.err))
-      | in-Err-Write w ↦ subst (λ (r : Result ZEnd Fault). Plays r (world_of c.args.self.now c.args.dice.now) (start_state c.args.self.now typed) c.args.steps (g.S.Source.left c.run_steps.new.source) (seen (g.K.Sink.taken c.args.sink.now) (g.K.Sink.room c.args.sink.now)) (seen (g.K.Sink.taken c.match-run_steps.sink) (g.K.Sink.room c.match-run_steps.sink))) (sym w.result-is) (subst (λ (k : g.row.K.Denot). Plays (Err Write) (world_of c.args.self.now c.args.dice.now) (start_state c.args.self.now typed) c.args.steps (g.S.Source.left c.run_steps.new.source) (seen (g.K.Sink.taken c.args.sink.now) (g.K.Sink.room c.args.sink.now)) (seen (g.K.Sink.taken k) (g.K.Sink.room k))) (sym w.sink-is) (run_cut_short (world_of c.args.self.now c.args.dice.now) (start_state c.args.self.now typed) c.args.steps (g.S.Source.left c.run_steps.new.source) (seen (g.K.Sink.taken c.args.sink.now) (g.K.Sink.room c.args.sink.now)) (seen (g.K.Sink.taken c.run_steps.new.sink) (g.K.Sink.room c.run_steps.new.sink)) (subst (λ (r : Result ZEnd Fault). RunsOn r (world_of c.args.self.now c.args.dice.now) (start_state c.args.self.now typed) c.args.steps (scene (machine c.reset.new.engine) 0 false (g.S.Source.left c.args.source.now) (seen (g.K.Sink.taken c.args.sink.now) (g.K.Sink.room c.args.sink.now))) (scene (machine c.run_steps.new.engine) 0 c.run_steps.new.begun (g.S.Source.left c.run_steps.new.source) (seen (g.K.Sink.taken c.run_steps.new.sink) (g.K.Sink.room c.run_steps.new.sink)))) (w.in-Err-Write.is ∙ ap Err w.in-Err-Write.field-0-is) runs)))
+      | in-Err-Write w ↦ subst (λ (r : Result ZEnd Fault). Plays r (world_of c.args.self.now c.args.dice.now) (start_state c.args.self.now typed) c.args.steps (g.S.Source.left c.run_steps.new.source) (seen (g.K.Sink.taken c.args.sink.now) (g.K.Sink.room c.args.sink.now)) (seen (g.K.Sink.taken c.match-run_steps.sink) (g.K.Sink.room c.match-run_steps.sink))) (sym w.result-is) (subst (λ (k : g.row.K.Denot). Plays (Err Write) (world_of c.args.self.now c.args.dice.now) (start_state c.args.self.now typed) c.args.steps (g.S.Source.left c.run_steps.new.source) (seen (g.K.Sink.taken c.args.sink.now) (g.K.Sink.room c.args.sink.now)) (seen (g.K.Sink.taken k) (g.K.Sink.room k))) (sym w.sink-is) (inl (subst (λ (r : Result ZEnd Fault). RunsOn r (world_of c.args.self.now c.args.dice.now) (start_state c.args.self.now typed) c.args.steps (scene (machine c.reset.new.engine) 0 false (g.S.Source.left c.args.source.now) (seen (g.K.Sink.taken c.args.sink.now) (g.K.Sink.room c.args.sink.now))) (scene (machine c.run_steps.new.engine) 0 c.run_steps.new.begun (g.S.Source.left c.run_steps.new.source) (seen (g.K.Sink.taken c.run_steps.new.sink) (g.K.Sink.room c.run_steps.new.sink)))) (w.in-Err-Write.is ∙ ap Err w.in-Err-Write.field-0-is) runs)))
     ]
