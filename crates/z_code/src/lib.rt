@@ -9,6 +9,3 @@ pub use decoding::{Decoded, decode, decode_op};
 pub use encoding::encode_op;
 pub use target::{LOp, Target};
 pub use z_model::{Branch, Form, Op, Operand, Operands};
-
-#[cfg(test)]
-mod tests;

@@ -16,6 +16,3 @@ pub use walker::Walker;
 pub fn strings_again()
     ensures { (codes front rest : List ℕ) → StringAgain codes front rest }
 {}
-
-#[cfg(test)]
-mod tests;

@@ -1,7 +1,7 @@
 // Encodings that the Inform 6 compiler lists.
-use super::*;
 use std::test::Fail;
-use z_model::{Extended, Instr, One, Several, Two, Zero};
+use z_code::{Decoded, decode, decode_op, encode_op};
+use z_model::{Branch, Extended, Form, Instr, One, Op, Operand, Operands, Several, Two, Zero};
 
 const NONE: Operand = Operand::Small(0);
 

@@ -1,6 +1,6 @@
 // Strings that the Inform 6 compiler writes.
-use super::*;
 use std::test::Fail;
+use z_text::{decode, encode};
 
 #[test]
 fn decodes_what_inform_writes(rt: HostRuntime) -> Result<(), Fail> {
