@@ -1,16 +1,130 @@
--- The rows of the instruction table, which are the constants of the code (Z-Machine Standard 1.1, section 14, the rows of version 8 that are listed there).
-use Rattle.std.specs.Prelude.{ℕ, List, Option, Some, None, slice_get}
+-- The rows of the instruction table (Z-Machine Standard 1.1, section 14, the rows of version 8 that are listed there; section 15 for the numbers of operands).
+use Rattle.std.specs.Prelude.{ℕ, List, [], ◌∷◌, Bool, true, false, Option, Some, None, slice_get}
 use Rattle.z_model.specs.declared.table.Kind.{Kind}
 use Rattle.z_model.specs.declared.table.Kind.TheVariants as kinds
 use Rattle.z_model.specs.declared.table.Row.{Row}
-use Rattle.z_model.specs.declared.table.TheConstants.{TWO, ONE, ZERO, SEVERAL, EXTENDED}
+use Rattle.z_model.specs.declared.table.Instr.{Instr}
+use Rattle.z_model.specs.declared.table.Instr.TheVariants as instrs
+use Rattle.z_model.specs.declared.table.Two.TheVariants as two
+use Rattle.z_model.specs.declared.table.One.TheVariants as one
+use Rattle.z_model.specs.declared.table.Zero.TheVariants as zero
+use Rattle.z_model.specs.declared.table.Several.TheVariants as several
+use Rattle.z_model.specs.declared.table.Extended.TheVariants as extended
 
+-- an instruction with so many operands at least and at most, and whether a store, a branch or a text stands behind them
+abbrev pub row : Instr → ℕ → ℕ → Bool → Bool → Bool → Option Row
+row instr fewest most store branch text = Some (record { instr = instr; fewest = fewest; most = most; store = store; branch = branch; text = text })
+
+-- nothing stands behind the operands
+abbrev pub plain : Instr → ℕ → ℕ → Option Row
+plain instr fewest most = row instr fewest most false false false
+
+-- a store stands behind them
+abbrev pub stores : Instr → ℕ → ℕ → Option Row
+stores instr fewest most = row instr fewest most true false false
+
+-- a branch stands behind them
+abbrev pub branches : Instr → ℕ → ℕ → Option Row
+branches instr fewest most = row instr fewest most false true false
+
+-- a text stands behind them
+abbrev pub tells : Instr → ℕ → ℕ → Option Row
+tells instr fewest most = row instr fewest most false false true
+
+-- the rows with two operands, from number 0 to 31
+abbrev pub two_rows : List (Option Row)
+two_rows =
+    None ∷
+    branches (instrs.Two two.Je) 2 4 ∷  -- 1
+    branches (instrs.Two two.Jl) 2 2 ∷  -- 2
+    branches (instrs.Two two.Jg) 2 2 ∷  -- 3
+    None ∷
+    branches (instrs.Two two.IncChk) 2 2 ∷  -- 5
+    None ∷ None ∷
+    stores (instrs.Two two.Or) 2 2 ∷  -- 8
+    stores (instrs.Two two.And) 2 2 ∷  -- 9
+    None ∷ None ∷ None ∷
+    plain (instrs.Two two.Store) 2 2 ∷  -- 13
+    None ∷
+    stores (instrs.Two two.Loadw) 2 2 ∷  -- 15
+    stores (instrs.Two two.Loadb) 2 2 ∷  -- 16
+    None ∷ None ∷ None ∷
+    stores (instrs.Two two.Add) 2 2 ∷  -- 20
+    stores (instrs.Two two.Sub) 2 2 ∷  -- 21
+    stores (instrs.Two two.Mul) 2 2 ∷  -- 22
+    stores (instrs.Two two.Div) 2 2 ∷  -- 23
+    stores (instrs.Two two.Mod) 2 2 ∷  -- 24
+    stores (instrs.Two two.Call2s) 2 2 ∷  -- 25
+    plain (instrs.Two two.Call2n) 2 2 ∷  -- 26
+    None ∷ None ∷ None ∷ None ∷ None ∷
+    []
+
+-- the rows with one operand, from 0 to 15
+abbrev pub one_rows : List (Option Row)
+one_rows =
+    branches (instrs.One one.Jz) 1 1 ∷  -- 0
+    None ∷ None ∷ None ∷ None ∷
+    plain (instrs.One one.Inc) 1 1 ∷  -- 5
+    plain (instrs.One one.Dec) 1 1 ∷  -- 6
+    None ∷
+    stores (instrs.One one.Call1s) 1 1 ∷  -- 8
+    None ∷ None ∷
+    plain (instrs.One one.Ret) 1 1 ∷  -- 11
+    plain (instrs.One one.Jump) 1 1 ∷  -- 12
+    plain (instrs.One one.PrintPaddr) 1 1 ∷  -- 13
+    stores (instrs.One one.Load) 1 1 ∷  -- 14
+    plain (instrs.One one.Call1n) 1 1 ∷  -- 15
+    []
+
+-- the rows without operands, from 0 to 15
+abbrev pub zero_rows : List (Option Row)
+zero_rows =
+    plain (instrs.Zero zero.Rtrue) 0 0 ∷  -- 0
+    plain (instrs.Zero zero.Rfalse) 0 0 ∷  -- 1
+    tells (instrs.Zero zero.Print) 0 0 ∷  -- 2
+    tells (instrs.Zero zero.PrintRet) 0 0 ∷  -- 3
+    plain (instrs.Zero zero.Nop) 0 0 ∷  -- 4
+    None ∷ None ∷ None ∷
+    plain (instrs.Zero zero.RetPopped) 0 0 ∷  -- 8
+    None ∷
+    plain (instrs.Zero zero.Quit) 0 0 ∷  -- 10
+    plain (instrs.Zero zero.NewLine) 0 0 ∷  -- 11
+    None ∷ None ∷ None ∷ None ∷
+    []
+
+-- the rows with several operands, from 0 to 31
+abbrev pub several_rows : List (Option Row)
+several_rows =
+    stores (instrs.Several several.CallVs) 1 4 ∷  -- 0
+    plain (instrs.Several several.Storew) 3 3 ∷  -- 1
+    plain (instrs.Several several.Storeb) 3 3 ∷  -- 2
+    None ∷
+    stores (instrs.Several several.Aread) 1 4 ∷  -- 4
+    plain (instrs.Several several.PrintChar) 1 1 ∷  -- 5
+    plain (instrs.Several several.PrintNum) 1 1 ∷  -- 6
+    stores (instrs.Several several.Random) 1 1 ∷  -- 7
+    plain (instrs.Several several.Push) 1 1 ∷  -- 8
+    plain (instrs.Several several.Pull) 1 1 ∷  -- 9
+    None ∷ None ∷ None ∷ None ∷ None ∷ None ∷ None ∷ None ∷ None ∷ None ∷ None ∷ None ∷ None ∷ None ∷
+    stores (instrs.Several several.Not) 1 1 ∷  -- 24
+    plain (instrs.Several several.CallVn) 1 4 ∷  -- 25
+    None ∷ None ∷ None ∷ None ∷ None ∷ None ∷
+    []
+
+-- the rows of the extended form, from 0 to 11
+abbrev pub extended_rows : List (Option Row)
+extended_rows =
+    None ∷ None ∷ None ∷ None ∷ None ∷ None ∷ None ∷ None ∷ None ∷ None ∷ None ∷
+    plain (instrs.Extended extended.PrintUnicode) 1 1 ∷  -- 11
+    []
+
+-- the rows of a kind
 abbrev pub rows_of : Kind → List (Option Row)
-rows_of kinds.Two = TWO
-rows_of kinds.One = ONE
-rows_of kinds.Zero = ZERO
-rows_of kinds.Several = SEVERAL
-rows_of kinds.Extended = EXTENDED
+rows_of kinds.Two = two_rows
+rows_of kinds.One = one_rows
+rows_of kinds.Zero = zero_rows
+rows_of kinds.Several = several_rows
+rows_of kinds.Extended = extended_rows
 
 -- what stands there, if anything does
 abbrev pub entry : Option (Option Row) → Option Row

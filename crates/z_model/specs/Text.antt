@@ -1,12 +1,11 @@
 -- The codes of a string (Z-Machine Standard 1.1, sections 3.1 to 3.6; abbreviations are refused).
-use Rattle.std.specs.Prelude.{ℕ, ◌+◌, ◌-◌, ◌*◌, ◌/◌, ◌%◌, List, [], ◌∷◌, drop, flat_map, is_some, Option, Some, None, Bool, true, false, nat_lt, ◌==◌, if◌then◌else◌, slice_index}
+use Rattle.std.specs.Prelude.{ℕ, ◌+◌, ◌-◌, ◌*◌, ◌/◌, ◌%◌, List, [], ◌∷◌, drop, codes, flat_map, is_some, Option, Some, None, Bool, true, false, nat_lt, ◌==◌, if◌then◌else◌, slice_index}
 use Rattle.z_model.specs.declared.fault.ZFault.{ZFault}
 use Rattle.z_model.specs.declared.fault.ZFault.TheVariants.{BadString, BadCharacter}
 use Rattle.z_model.specs.declared.text.Alphabet.{Alphabet}
 use Rattle.z_model.specs.declared.text.Alphabet.TheVariants.{Lower, Upper, Punctuation, High, Low}
 use Rattle.z_model.specs.declared.text.Reading.{Reading}
 use Rattle.z_model.specs.declared.text.Reading.TheVariants.{Gives, Turns, Refuses}
-use Rattle.z_model.specs.declared.text.TheConstants.{PUNCTUATION}
 use Rattle.z_model.specs.Decode.{text_end}
 use Rattle.z_model.specs.Zscii.{all_printed, code_bytes}
 
@@ -16,11 +15,15 @@ z_characters [] = []
 z_characters (high ∷ []) = []
 z_characters (high ∷ low ∷ bytes) = (high / 4 % 32) ∷ (high % 4 * 8 + low / 32) ∷ (low % 32) ∷ (if nat_lt high 128 then z_characters bytes else [])
 
+-- the signs of alphabet A2, from 8 on
+abbrev pub punctuation : List ℕ
+punctuation = codes "0123456789.,!?_#'\"/\\-:()"
+
 -- Z-characters from 6 on: a letter, a code of ten bits in the next two, a newline or a sign
 abbrev pub letter : Alphabet → ℕ → Reading
 letter Lower z = Gives (z + 91)
 letter Upper z = Gives (z + 59)
-letter Punctuation z = if z == 6 then Turns High else if z == 7 then Gives 13 else Gives (slice_index PUNCTUATION (z - 8))
+letter Punctuation z = if z == 6 then Turns High else if z == 7 then Gives 13 else Gives (slice_index punctuation (z - 8))
 letter High z = Turns (Low z)
 letter (Low high) z = Gives (32 * high + z)
 

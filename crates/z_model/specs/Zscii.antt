@@ -1,6 +1,14 @@
 -- The character codes of a story and what they print (Z-Machine Standard 1.1, section 3.8, with its table of extra characters).
 use Rattle.std.specs.Prelude.{ℕ, ◌-◌, List, [], ◌∷◌, Bool, true, not, nat_lt, ◌==◌, ◌&&◌, ◌||◌, if◌then◌else◌, slice_index, encode_utf8}
-use Rattle.z_model.specs.declared.text.TheConstants.{EXTRA}
+
+-- The characters of the codes from 155 on, in Unicode: äöüÄÖÜß»«ëïÿËÏáéíóúýÁÉÍÓÚÝàèìòùÀÈÌÒÙâêîôûÂÊÎÔÛåÅøØãñõÃÑÕæÆçÇþðÞÐ£œŒ¡¿
+abbrev pub extra : List ℕ
+extra =
+    0xE4 ∷ 0xF6 ∷ 0xFC ∷ 0xC4 ∷ 0xD6 ∷ 0xDC ∷ 0xDF ∷ 0xBB ∷ 0xAB ∷ 0xEB ∷ 0xEF ∷ 0xFF ∷ 0xCB ∷ 0xCF ∷ 0xE1 ∷ 0xE9 ∷
+    0xED ∷ 0xF3 ∷ 0xFA ∷ 0xFD ∷ 0xC1 ∷ 0xC9 ∷ 0xCD ∷ 0xD3 ∷ 0xDA ∷ 0xDD ∷ 0xE0 ∷ 0xE8 ∷ 0xEC ∷ 0xF2 ∷ 0xF9 ∷ 0xC0 ∷
+    0xC8 ∷ 0xCC ∷ 0xD2 ∷ 0xD9 ∷ 0xE2 ∷ 0xEA ∷ 0xEE ∷ 0xF4 ∷ 0xFB ∷ 0xC2 ∷ 0xCA ∷ 0xCE ∷ 0xD4 ∷ 0xDB ∷ 0xE5 ∷ 0xC5 ∷
+    0xF8 ∷ 0xD8 ∷ 0xE3 ∷ 0xF1 ∷ 0xF5 ∷ 0xC3 ∷ 0xD1 ∷ 0xD5 ∷ 0xE6 ∷ 0xC6 ∷ 0xE7 ∷ 0xC7 ∷ 0xFE ∷ 0xF0 ∷ 0xDE ∷ 0xD0 ∷
+    0xA3 ∷ 0x153 ∷ 0x152 ∷ 0xA1 ∷ 0xBF ∷ []
 
 -- Nothing, a newline, ASCII and the extra characters have codes.
 abbrev pub is_printed : ℕ → Bool
@@ -8,7 +16,7 @@ is_printed c = (c == 0) || ((c == 13) || ((nat_lt 31 c && nat_lt c 127) || (nat_
 
 -- the character of a code other than 0, in Unicode
 abbrev pub character_of : ℕ → ℕ
-character_of c = if c == 13 then 10 else if nat_lt c 127 then c else slice_index EXTRA (c - 155)
+character_of c = if c == 13 then 10 else if nat_lt c 127 then c else slice_index extra (c - 155)
 
 -- what a code prints, in UTF-8
 unfoldable pub code_bytes : ℕ → List ℕ

@@ -11,7 +11,7 @@ use Rattle.z_model.specs.Story.{layout_of, start_of, memory_of, first_machine, w
 use Rattle.z_play.specs.Output.{Seen, Wrote, Cut, CutBehind}
 use Rattle.z_play.specs.Scene.{Scene, world, state}
 use Rattle.z_play.specs.Advancing.{RanTo, RanUnread}
-use Rattle.z_play.specs.Played.{Shows, InputFailed, InputFailedUnwritten, PrintUnwritten, EndUnwritten, OutputFailed}
+use Rattle.z_play.specs.Played.{Shows, InputFailed, PrintUnwritten, OutputFailed}
 use Rattle.z_play.proofs.Written.{wrote_both, cut_after, cut_whole, cut_before}
 use Rattle.z_model.specs.Laws.{Begins, then_more}
 use Rattle.z_model.proofs.Runs.{run_laws}

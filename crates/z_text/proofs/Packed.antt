@@ -4,9 +4,8 @@ use Rattle.std.specs.Prelude.{if◌then◌else◌, ◌&&◌, ◌||◌}
 use Rattle.std.proofs.Math.Seq.{drop-append_seam}
 use Rattle.std.proofs.lemmas.Bool.{eqb-true, ne_eqb, lt-ltb, le-ltb, ltb-true}
 use Rattle.z_model.specs.declared.text.Alphabet.TheVariants.{Lower, Punctuation}
-use Rattle.z_model.specs.declared.text.TheConstants.{PUNCTUATION}
 use Rattle.z_model.specs.Decode.{text_end}
-use Rattle.z_model.specs.Text.{Codes, codes_of, read_character, z_characters, string_at}
+use Rattle.z_model.specs.Text.{Codes, codes_of, read_character, z_characters, string_at, punctuation}
 use Rattle.z_text.specs.Encode.{place_of, code_characters, sign_characters, word_bytes, packed, is_empty, string_of, has_code, AreSmall, StringAgain}
 use Rattle.z_text.proofs.Places.{found_at, place_within}
 
@@ -151,7 +150,7 @@ wide_read c rest =
     let same : 32 * (c / 32) + c % 32 ≡ c = omega arith in
     rw same refl
 
-place_read : (c place : ℕ) (rest : List ℕ) → get_or PUNCTUATION place 0 ≡ c → codes_of Lower (5 ∷ (place + 8) ∷ rest) ≡ with_code c (codes_of Lower rest)
+place_read : (c place : ℕ) (rest : List ℕ) → get_or punctuation place 0 ≡ c → codes_of Lower (5 ∷ (place + 8) ∷ rest) ≡ with_code c (codes_of Lower rest)
 unfolding codes_of read_character
 place_read c place rest at =
     let l = is_letter (place + 8) (omega arith) in
@@ -160,10 +159,10 @@ place_read c place rest at =
     let back : place + 8 - 8 ≡ place = omega arith in
     rw (l.zero_not, l.above, l.four_not, l.five_not, six_not, seven_not, back, at) refl
 
-sign_read : (c : ℕ) (o : Option ℕ) (rest : List ℕ) → place_of c PUNCTUATION ≡ o → codes_of Lower (sign_characters c o ++ rest) ≡ with_code c (codes_of Lower rest)
+sign_read : (c : ℕ) (o : Option ℕ) (rest : List ℕ) → place_of c punctuation ≡ o → codes_of Lower (sign_characters c o ++ rest) ≡ with_code c (codes_of Lower rest)
 sign_read c None rest e = wide_read c rest
 sign_read c (Some place) rest e =
-    let found = found_at c PUNCTUATION 0 place e in
+    let found = found_at c punctuation 0 place e in
     let back : place - 0 ≡ place = omega arith in
     place_read c place rest (rw back at found.1)
 
@@ -187,7 +186,7 @@ code_read c rest =
     (λ n. tested P (eqb c 13) _ _ (λ e. subst (λ (k : ℕ). codes_of Lower (5 ∷ 7 ∷ rest) ≡ with_code k (codes_of Lower rest)) (sym (eqb-true c 13 e)) (newline_read rest))
     (λ m. tested P (ltb 96 c && ltb c 123) _ _ (λ e. let p = both (ltb 96 c) (ltb c 123) e in lower_read c rest (ltb-true 96 c p.0) (ltb-true c 123 p.1))
     (λ k. tested P (ltb 64 c && ltb c 91) _ _ (λ e. let p = both (ltb 64 c) (ltb c 91) e in upper_read c rest (ltb-true 64 c p.0) (ltb-true c 91 p.1))
-    (λ j. sign_read c (place_of c PUNCTUATION) rest refl))))
+    (λ j. sign_read c (place_of c punctuation) rest refl))))
 
 codes_read : (codes rest : List ℕ) → codes_of Lower rest ≡ record { codes = []; whole = true } → codes_of Lower (flat_map code_characters codes ++ rest) ≡ record { codes = codes; whole = true }
 codes_read [] rest e = e
@@ -210,12 +209,12 @@ append_small : (xs ys : List ℕ) → AreSmall xs → AreSmall ys → AreSmall (
 append_small [] ys h k = k
 append_small (x ∷ xs) ys h k = small_cons x (xs ++ ys) (h 0 0 (omega arith)) (append_small xs ys (small_behind x xs h) k)
 
-sign_small : (c : ℕ) (o : Option ℕ) → c < 1024 → place_of c PUNCTUATION ≡ o → AreSmall (sign_characters c o)
+sign_small : (c : ℕ) (o : Option ℕ) → c < 1024 → place_of c punctuation ≡ o → AreSmall (sign_characters c o)
 sign_small c None lt e = small_cons 5 (6 ∷ (c / 32) ∷ (c % 32) ∷ []) (omega arith) (small_cons 6 ((c / 32) ∷ (c % 32) ∷ []) (omega arith) (small_cons (c / 32) ((c % 32) ∷ []) (omega arith) (small_cons (c % 32) [] (omega arith) none_small)))
 sign_small c (Some place) lt e = small_cons 5 ((place + 8) ∷ []) (omega arith) (small_cons (place + 8) [] (place_below place e) none_small)
   where
-    place_below : (place : ℕ) → place_of c PUNCTUATION ≡ Some place → place + 8 < 32
-    place_below place e = let b = place_within c PUNCTUATION 0 place e in omega (arith, b)
+    place_below : (place : ℕ) → place_of c punctuation ≡ Some place → place + 8 < 32
+    place_below place e = let b = place_within c punctuation 0 place e in omega (arith, b)
 
 code_small : (c : ℕ) → c < 1024 → AreSmall (code_characters c)
 unfolding code_characters
@@ -224,7 +223,7 @@ code_small c lt =
     (λ n. tested AreSmall (eqb c 13) _ _ (λ e. small_cons 5 (7 ∷ []) (omega arith) (small_cons 7 [] (omega arith) none_small))
     (λ m. tested AreSmall (ltb 96 c && ltb c 123) _ _ (λ e. let p = both (ltb 96 c) (ltb c 123) e in let above = ltb-true 96 c p.0 in let below = ltb-true c 123 p.1 in small_cons (c - 91) [] (omega arith) none_small)
     (λ k. tested AreSmall (ltb 64 c && ltb c 91) _ _ (λ e. let p = both (ltb 64 c) (ltb c 91) e in let above = ltb-true 64 c p.0 in let below = ltb-true c 91 p.1 in small_cons 4 ((c - 59) ∷ []) (omega arith) (small_cons (c - 59) [] (omega arith) none_small))
-    (λ j. sign_small c (place_of c PUNCTUATION) lt refl))))
+    (λ j. sign_small c (place_of c punctuation) lt refl))))
 
 coded_below : (c : ℕ) → IsTrue (has_code c) → c < 1024
 coded_below c h =

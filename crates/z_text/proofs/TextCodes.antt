@@ -3,8 +3,7 @@ use Rattle.std.proofs.Common.{◌≡◌, ℕ, zero, suc, ◌+◌, ◌-◌, ◌/�
 use Rattle.std.specs.Prelude.{encode_utf8, ◌&&◌, ◌||◌, slice_index}
 use lib.Utf8.{encode}
 use Rattle.std.proofs.lemmas.Bool.{eqb-true, ne_eqb, lt-ltb, le-ltb, ltb-true, ltb-false, cases_lt}
-use Rattle.z_model.specs.declared.text.TheConstants.{EXTRA}
-use Rattle.z_model.specs.Zscii.{code_bytes}
+use Rattle.z_model.specs.Zscii.{code_bytes, extra}
 use Rattle.z_text.specs.Encode.{place_of, place_from, has_code}
 use Rattle.z_text.specs.Codes.{codes_from, wide_code, wide_character, ascii_code}
 
@@ -27,7 +26,7 @@ all_below_at p (suc n) k e lt = by_test (p n) refl (λ h. λ less. all_below_at 
     by_test true is lower e = elim (cases_lt k n) [ inl less ↦ lower e less | inr more ↦ (let same : k ≡ n = omega arith in ap p same ∙ is) ]
 
 abbrev is_wide : ℕ → Bool
-is_wide k = cond (ltb (slice_index EXTRA k) 128) false (cond (ltb (slice_index EXTRA k) 2048) (is_at (place_of (slice_index EXTRA k) EXTRA) k) false)
+is_wide k = cond (ltb (slice_index extra k) 128) false (cond (ltb (slice_index extra k) 2048) (is_at (place_of (slice_index extra k) extra) k) false)
 
 all_wide : all_below is_wide 69 ≡ true
 unfolding is_at place_from
@@ -36,20 +35,20 @@ all_wide = refl
 record IsWide (k e : ℕ) : Type 0 where
   above : 128 ≤ e
   below : e < 2048
-  place : place_of e EXTRA ≡ Some k
+  place : place_of e extra ≡ Some k
 
 at_is : (o : Option ℕ) (k : ℕ) → is_at o k ≡ true → o ≡ Some k
 unfolding is_at
 at_is None k e = absurd cc
 at_is (Some j) k e = ap Some (eqb-true j k e)
 
-wide_facts : (k e : ℕ) (low high : Bool) → ltb e 128 ≡ low → ltb e 2048 ≡ high → cond low false (cond high (is_at (place_of e EXTRA) k) false) ≡ true → IsWide k e
+wide_facts : (k e : ℕ) (low high : Bool) → ltb e 128 ≡ low → ltb e 2048 ≡ high → cond low false (cond high (is_at (place_of e extra) k) false) ≡ true → IsWide k e
 wide_facts k e true high l h is = absurd cc
-wide_facts k e false true l h is = record { above = ltb-false e 128 l; below = ltb-true e 2048 h; place = at_is (place_of e EXTRA) k is }
+wide_facts k e false true l h is = record { above = ltb-false e 128 l; below = ltb-true e 2048 h; place = at_is (place_of e extra) k is }
 wide_facts k e false false l h is = absurd cc
 
-wide_at : (k : ℕ) → k < 69 → IsWide k (slice_index EXTRA k)
-wide_at k lt = wide_facts k (slice_index EXTRA k) (ltb (slice_index EXTRA k) 128) (ltb (slice_index EXTRA k) 2048) refl refl (all_below_at is_wide 69 k all_wide lt)
+wide_at : (k : ℕ) → k < 69 → IsWide k (slice_index extra k)
+wide_at k lt = wide_facts k (slice_index extra k) (ltb (slice_index extra k) 128) (ltb (slice_index extra k) 2048) refl refl (all_below_at is_wide 69 k all_wide lt)
 
 -- ---- one character
 
@@ -87,7 +86,7 @@ extra_read c rest above below =
     let wide = wide_at (c - 155) (omega arith) in
     let not_zero : eqb c 0 ≡ false = ne_eqb c 0 (λ e. absurd (omega arith)) in
     let not_line : eqb c 13 ≡ false = ne_eqb c 13 (λ e. absurd (omega arith)) in
-    rw (not_zero, not_line, le-ltb c 127 (omega arith)) (pair (slice_index EXTRA (c - 155)) wide)
+    rw (not_zero, not_line, le-ltb c 127 (omega arith)) (pair (slice_index extra (c - 155)) wide)
   where
     pair : (e : ℕ) → IsWide (c - 155) e → codes_from None (encode_utf8 e ++ rest) ≡ c ∷ codes_from None rest
     pair e wide =

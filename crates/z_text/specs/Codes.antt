@@ -1,6 +1,6 @@
 -- The codes of a text, byte by byte; a character is one byte or two.
 use Rattle.std.specs.Prelude.{ℕ, ◌+◌, ◌*◌, ◌%◌, List, [], ◌∷◌, ◌++◌, ◌≡◌, flat_map, Option, Some, None, ◌==◌, nat_lt, if◌then◌else◌}
-use Rattle.z_model.specs.declared.text.TheConstants.{EXTRA}
+use Rattle.z_model.specs.Zscii.{extra}
 use Rattle.z_text.specs.Encode.{place_of, code_characters}
 
 abbrev pub ascii_code : ℕ → ℕ
@@ -15,7 +15,7 @@ extra_code (Some place) = place + 155
 extra_code None = 63
 
 abbrev pub wide_code : ℕ → ℕ → ℕ
-wide_code lead byte = extra_code (place_of (wide_character lead byte) EXTRA)
+wide_code lead byte = extra_code (place_of (wide_character lead byte) extra)
 
 -- the codes from here on, behind the first byte of a character or not
 unfoldable pub codes_from : Option ℕ → List ℕ → List ℕ

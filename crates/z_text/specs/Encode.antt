@@ -1,8 +1,7 @@
 -- How a text is written as a string (Z-Machine Standard 1.1, sections 3.2 to 3.6, read from the text to its bytes).
 use Rattle.std.specs.Prelude.{◌≡◌, ◌<◌, ◌+◌, ◌-◌, ◌*◌, ◌/◌, ◌%◌, ℕ, List, [], ◌∷◌, ◌++◌, length, flat_map, All, Option, Some, None, Bool, true, false, ◌==◌, ◌&&◌, ◌||◌, nat_lt, IsTrue, if◌then◌else◌}
-use Rattle.z_model.specs.declared.text.TheConstants.{PUNCTUATION}
 use Rattle.z_model.specs.Zscii.{code_bytes}
-use Rattle.z_model.specs.Text.{string_at}
+use Rattle.z_model.specs.Text.{punctuation, string_at}
 
 -- the first place of a value in a table, whose entries are counted from here
 unfoldable pub place_from : ℕ → ℕ → List ℕ → Option ℕ
@@ -24,7 +23,7 @@ code_characters code =
     else if code == 13 then 5 ∷ 7 ∷ []
     else if nat_lt 96 code && nat_lt code 123 then (code - 91) ∷ []
     else if nat_lt 64 code && nat_lt code 91 then 4 ∷ (code - 59) ∷ []
-    else sign_characters code (place_of code PUNCTUATION)
+    else sign_characters code (place_of code punctuation)
 
 -- three Z-characters in two bytes, of which the first is marked if they are the last
 abbrev pub word_bytes : ℕ → ℕ → ℕ → ℕ → List ℕ

@@ -1,5 +1,6 @@
 // Texts, written as strings.
 ghost use Rattle.std.specs.Prelude.{◌≡◌, ◌<◌, ◌≤◌, ◌++◌, None, ℕ, List, length, flat_map, IfOk, IfSome, OnOk, if◌then◌else◌};
+ghost use Rattle.z_model.specs.Text.{punctuation};
 ghost use Rattle.z_text.specs.Encode.{code_characters, sign_characters, packed, word_bytes, string_of, place_of, AreSmall, IsTextOf, IsPrintable};
 ghost use Rattle.z_text.specs.Codes.{codes_from, wide_code, ascii_code, PutsByte};
 
@@ -41,7 +42,7 @@ fn wide_code(lead: u8, byte: u8) -> u16
 
 fn put_sign(out: &mut Vec<u8>, code: u16) -> Result<(), AllocError>
     requires { code < 1024 }
-    ensures characters { OnOk result (out.new.items ≡ out.old.items ++ sign_characters code (place_of code PUNCTUATION)) }
+    ensures characters { OnOk result (out.new.items ≡ out.old.items ++ sign_characters code (place_of code punctuation)) }
     ensures small { AreSmall out.old.items → OnOk result (AreSmall out.new.items) }
 {
     match find_place(&PUNCTUATION, code) {

@@ -1,8 +1,7 @@
 use Rattle.std.proofs.Common.{◌≡◌, ◌<◌, ◌-◌, ◌≤◌, ℕ, zero, suc, Bool, true, false, cond, ltb, List, [], ◌∷◌, get_or, refl, sym, arith}
 use Rattle.std.proofs.lemmas.Bool.{ltb-true, ne_eqb, le-ltb}
 use Rattle.std.proofs.lemmas.List.{get_or_past}
-use Rattle.z_model.specs.Zscii.{character_of}
-use Rattle.z_model.specs.declared.text.TheConstants.{EXTRA}
+use Rattle.z_model.specs.Zscii.{character_of, extra}
 use Rattle.z_play.proofs.output.character_of.Goals as goal
 
 abbrev all_low : List ℕ → Bool
@@ -19,10 +18,10 @@ low_at (x ∷ xs) k e = by_test (ltb x 55296) refl (λ h j. low_at xs j h) k e
     by_test true is later (suc k) e = later e k
 
 past_extra : (code : ℕ) → 127 ≤ code → 69 ≤ code - 155 → character_of code ≡ 0
-past_extra code above past = rw (ne_eqb code 13 (λ e. absurd (omega arith)), le-ltb code 127 above, get_or_past EXTRA (code - 155) 0 past) refl
+past_extra code above past = rw (ne_eqb code 13 (λ e. absurd (omega arith)), le-ltb code 127 above, get_or_past extra (code - 155) 0 past) refl
 
 pub returns-then-place-lt69-clause-below : goal.returns-then-place-lt69-clause-below
-returns-then-place-lt69-clause-below c = low_at EXTRA c.saturating_sub-place.result refl
+returns-then-place-lt69-clause-below c = low_at extra c.saturating_sub-place.result refl
 
 pub returns-else-place-lt69-clause-character : goal.returns-else-place-lt69-clause-character
 returns-else-place-lt69-clause-character c = sym (past_extra c.args.code (omega arith) (omega arith))
