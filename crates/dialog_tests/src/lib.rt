@@ -4,6 +4,12 @@
 #[cfg(test)]
 mod forms;
 #[cfg(test)]
+mod instructions;
+#[cfg(test)]
+mod stories;
+#[cfg(test)]
+mod strings;
+#[cfg(test)]
 mod tokens;
 #[cfg(test)]
 mod unifying;

@@ -2,7 +2,7 @@ use Rattle.std.proofs.Common.{◌≡◌, ◌<◌, ℕ, zero, suc, Bool, true, fa
 use lib.Utf8.{encode}
 use Rattle.z_model.specs.Zscii.{code_bytes}
 use Rattle.z_text.specs.Encode.{has_code}
-use Rattle.z_play.proofs.string_tests.encodes_as_inform_does.Goals as goal
+use Rattle.dialog_tests.proofs.strings.encodes_as_inform_does.Goals as goal
 
 all_coded : List ℕ → Bool
 all_coded [] = true

@@ -1,8 +1,8 @@
 // Small stories.
-use super::*;
 use dg_base::{Fault, SureSink, SureSource};
 use std::test::Fail;
 use z_model::{ZEnd, ZFault};
+use z_play::Player;
 
 // A story of 552 bytes with these instructions behind its memory.
 fn story(rt: &HostRuntime, code: [u8; 8]) -> Result<Player, Fail> {

@@ -1,9 +1,24 @@
 // Encodings that the Inform 6 compiler lists.
+use std::process::Abort;
 use std::test::Fail;
 use z_code::{Decoded, decode, decode_op, encode_op};
 use z_model::{Branch, Extended, Form, Instr, One, Op, Operand, Operands, Several, Two, Zero};
 
 const NONE: Operand = Operand::Small(0);
+
+const ONE: Operand = Operand::Small(1);
+
+const TWO: Operand = Operand::Small(2);
+
+const THREE: Operand = Operand::Small(3);
+
+const SP: Operand = Operand::Variable(0);
+
+const A: Operand = Operand::Variable(1);
+
+const B: Operand = Operand::Variable(2);
+
+const G1: Operand = Operand::Variable(17);
 
 fn op(form: Form, number: u8, count: u8, operands: [Operand; 4]) -> Op {
     let [first, second, third, fourth] = operands;
@@ -41,75 +56,56 @@ fn branching(op: Op, when: bool, offset: i16, short: bool) -> Op {
     }
 }
 
+// Whether these bytes are this instruction, and no more.
+fn decodes(rt: &impl Abort, bytes: &[u8], instr: Instr, op: Op) -> Result<(), Fail> {
+    let end = bytes.len();
+    assert_eq!(rt; decode(bytes, 0), Ok(Decoded { instr, op, end }));
+    assert_eq!(rt; decode_op(bytes, 0), Ok((op, end)));
+    Ok(())
+}
+
 #[test]
-fn decodes_what_inform_encodes(rt: HostRuntime) -> Result<(), Fail> {
-    let a = Operand::Variable(1);
-    let b = Operand::Variable(2);
-    let sp = Operand::Variable(0);
-    let g1 = Operand::Variable(17);
-    let one = Operand::Small(1);
-    let add = op(Form::Long, 20, 2, [a, one, NONE, NONE]);
-    let large = op(Form::Variable, 20, 2, [Operand::Large(300), g1, NONE, NONE]);
-    let sub = op(Form::Long, 21, 2, [sp, b, NONE, NONE]);
-    let je = op(
-        Form::Variable,
-        1,
-        4,
-        [a, one, Operand::Small(2), Operand::Small(3)],
-    );
-    let jg = op(Form::Long, 3, 2, [sp, sp, NONE, NONE]);
-    let jz = op(Form::Short, 0, 1, [a, NONE, NONE, NONE]);
-    let jump = op(Form::Short, 12, 1, [Operand::Large(0), NONE, NONE, NONE]);
-    let hello = Op {
-        text: 4,
-        ..op(Form::Short, 2, 0, [NONE, NONE, NONE, NONE])
-    };
-    let nop = op(Form::Short, 4, 0, [NONE, NONE, NONE, NONE]);
-    let storeb = op(Form::Variable, 34, 3, [a, b, Operand::Large(300), NONE]);
-    let read = op(Form::Variable, 36, 2, [a, NONE, NONE, NONE]);
-    let unicode = op(
-        Form::Extended,
-        11,
-        1,
-        [Operand::Small(233), NONE, NONE, NONE],
-    );
-    let call = op(
-        Form::Variable,
-        32,
-        4,
-        [
-            Operand::Large(37),
-            one,
-            Operand::Small(2),
-            Operand::Small(3),
-        ],
-    );
-    let cases: [(&[u8], Instr, Op); 13] = [
-        (
-            &[0x54, 0x01, 0x01, 0x11],
-            Instr::Two(Two::Add),
-            storing(add, 17),
-        ),
+fn two_operands_are_decoded(rt: HostRuntime) -> Result<(), Fail> {
+    let add = op(Form::Long, 20, 2, [A, ONE, NONE, NONE]);
+    let large = op(Form::Variable, 20, 2, [Operand::Large(300), G1, NONE, NONE]);
+    let sub = op(Form::Long, 21, 2, [SP, B, NONE, NONE]);
+    let je = op(Form::Variable, 1, 4, [A, ONE, TWO, THREE]);
+    let jg = op(Form::Long, 3, 2, [SP, SP, NONE, NONE]);
+    let cases: [(&[u8], Two, Op); 5] = [
+        (&[0x54, 0x01, 0x01, 0x11], Two::Add, storing(add, 17)),
         (
             &[0xD4, 0x2F, 0x01, 0x2C, 0x11, 0x00],
-            Instr::Two(Two::Add),
+            Two::Add,
             storing(large, 0),
         ),
-        (
-            &[0x75, 0x00, 0x02, 0x03],
-            Instr::Two(Two::Sub),
-            storing(sub, 3),
-        ),
+        (&[0x75, 0x00, 0x02, 0x03], Two::Sub, storing(sub, 3)),
         (
             &[0xC1, 0x95, 0x01, 0x01, 0x02, 0x03, 0x00, 0x00],
-            Instr::Two(Two::Je),
+            Two::Je,
             branching(je, false, 0, false),
         ),
         (
             &[0x63, 0x00, 0x00, 0xC0],
-            Instr::Two(Two::Jg),
+            Two::Jg,
             branching(jg, true, 0, true),
         ),
+    ];
+    for (bytes, instr, op) in cases {
+        decodes(&rt, bytes, Instr::Two(instr), op)?;
+    }
+    Ok(())
+}
+
+#[test]
+fn one_operand_and_none_are_decoded(rt: HostRuntime) -> Result<(), Fail> {
+    let jz = op(Form::Short, 0, 1, [A, NONE, NONE, NONE]);
+    let jump = op(Form::Short, 12, 1, [Operand::Large(0), NONE, NONE, NONE]);
+    let nop = op(Form::Short, 4, 0, [NONE, NONE, NONE, NONE]);
+    let hello = Op {
+        text: 4,
+        ..op(Form::Short, 2, 0, [NONE, NONE, NONE, NONE])
+    };
+    let cases: [(&[u8], Instr, Op); 4] = [
         (
             &[0xA0, 0x01, 0x80, 0x00],
             Instr::One(One::Jz),
@@ -122,6 +118,25 @@ fn decodes_what_inform_encodes(rt: HostRuntime) -> Result<(), Fail> {
             hello,
         ),
         (&[0xB4], Instr::Zero(Zero::Nop), nop),
+    ];
+    for (bytes, instr, op) in cases {
+        decodes(&rt, bytes, instr, op)?;
+    }
+    Ok(())
+}
+
+#[test]
+fn several_operands_are_decoded(rt: HostRuntime) -> Result<(), Fail> {
+    let storeb = op(Form::Variable, 34, 3, [A, B, Operand::Large(300), NONE]);
+    let read = op(Form::Variable, 36, 2, [A, NONE, NONE, NONE]);
+    let unicode = op(
+        Form::Extended,
+        11,
+        1,
+        [Operand::Small(233), NONE, NONE, NONE],
+    );
+    let call = op(Form::Variable, 32, 4, [Operand::Large(37), ONE, TWO, THREE]);
+    let cases: [(&[u8], Instr, Op); 4] = [
         (
             &[0xE2, 0xA3, 0x01, 0x02, 0x01, 0x2C],
             Instr::Several(Several::Storeb),
@@ -144,15 +159,7 @@ fn decodes_what_inform_encodes(rt: HostRuntime) -> Result<(), Fail> {
         ),
     ];
     for (bytes, instr, op) in cases {
-        assert_eq!(rt;
-            decode(bytes, 0),
-            Ok(Decoded {
-                instr,
-                op,
-                end: bytes.len()
-            })
-        );
-        assert_eq!(rt; decode_op(bytes, 0), Ok((op, bytes.len())));
+        decodes(&rt, bytes, instr, op)?;
     }
     Ok(())
 }

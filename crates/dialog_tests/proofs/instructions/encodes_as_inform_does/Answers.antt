@@ -2,7 +2,7 @@ use Rattle.std.proofs.Common.{true, false, refl, lit<}
 use Rattle.z_model.specs.declared.table.Instr.TheVariants as instrs
 use Rattle.z_model.specs.declared.table.Two.TheVariants as two
 use Rattle.z_model.specs.Decode.{counted, count_of}
-use Rattle.z_play.proofs.instruction_tests.encodes_as_inform_does.Goals as goal
+use Rattle.dialog_tests.proofs.instructions.encodes_as_inform_does.Goals as goal
 
 pub encode_op-requires : goal.encode_op-requires
 unfolding counted count_of
