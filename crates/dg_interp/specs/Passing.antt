@@ -1,12 +1,14 @@
 -- Which rules a query may pass by without beginning them. Hold it against the Dialog manual, chapter "Rules", and docs/LANGUAGE.md, where it says what a limit counts.
-use Rattle.std.specs.Prelude.{ℕ, ◌+◌, ◌≡◌, ◌≤◌, ◌⊎◌, not, List, [], ◌∷◌, Bool, true, false, Option, Some, None, length}
+use Rattle.std.specs.Prelude.{ℕ, ◌+◌, ◌≡◌, ◌≤◌, ◌⊎◌, not, List, [], ◌∷◌, Bool, true, false, Option, Some, None, length, slice_get}
 use Rattle.dg_base.specs.declared.program.CoreProgram.{CoreProgram}
 use Rattle.dg_base.specs.declared.program.Rule.{Rule}
 use Rattle.dg_base.specs.declared.program.Term.{Term}
 use Rattle.dg_base.specs.declared.program.Term.TheOpen as term
 use Rattle.dg_meaning.specs.Values.{Label, Num, Word, Object, Nil, Pair, Value}
 use Rattle.dg_meaning.specs.Unify.{same_label}
-use Rattle.dg_unify.specs.Store.{Store, label_of}
+use Rattle.dg_meaning.specs.Substitutions.{walk}
+use Rattle.dg_unify.specs.Store.{Store, told, label_of, Shows}
+use Rattle.dg_unify.specs.declared.bindings.Ref.{Ref}
 use Rattle.dg_unify.specs.declared.bindings.View.{View}
 use Rattle.dg_unify.specs.declared.bindings.View.TheVariants as view
 use Rattle.dg_interp.specs.Frames.{cells_if}
@@ -22,6 +24,12 @@ pub record MayPass (program : CoreProgram) (args : List Value) (others : ℕ) (r
 abbrev pub PassesTo : CoreProgram → List Value → Store → List Rule → List Rule → Type 0
 PassesTo program args s left [] = left ≡ []
 PassesTo program args s left (rule ∷ rules) = (left ≡ rule ∷ rules) ⊎ (MayPass program args (length rules) rule s × PassesTo program args s left rules)
+
+-- What the first of some Refs leads to is what a view shows.
+pub record IsFirst (s : Store) (refs : List Ref) (first : View) : Type 0 where
+  pub at : Ref
+  pub is : Some at ≡ slice_get refs 0
+  pub shows : Shows s (walk s.state.subst (told s at)) first
 
 -- ## Tops
 

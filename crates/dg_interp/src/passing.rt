@@ -1,17 +1,15 @@
 // A look at the first argument of a query, which tells of most rules that they can't match.
 
-ghost use Rattle.std.specs.Prelude.{◌≡◌, ◌≤◌, ◌+◌, [], ◌∷◌, List, All, IfSome, true};
+ghost use Rattle.std.specs.Prelude.{◌≡◌, ◌≤◌, ◌+◌, [], ◌∷◌, All, IfSome, true};
 ghost use Rattle.dg_base.specs.declared.program.CoreProgram.{CoreProgram};
 ghost use Rattle.dg_base.specs.declared.program.Term.{out-Term};
-ghost use Rattle.dg_meaning.specs.Values.{Value, value_of};
 ghost use Rattle.dg_meaning.specs.Cells.{cells};
 ghost use Rattle.dg_meaning.specs.Closures.{HasNoClosure};
-ghost use Rattle.dg_meaning.specs.Unify.{turn, Clashes};
-ghost use Rattle.dg_unify.specs.Store.{told, Holds, label_of};
+ghost use Rattle.dg_unify.specs.Store.{label_of};
 ghost use Rattle.dg_interp.specs.Passing.{label_at, differs_from, top_differs};
 
 use dg_base::{Simple, Term};
-use dg_unify::{Bindings, Ref, View};
+use dg_unify::View;
 
 // Whether a value without parts has another label than a term.
 fn simple_differs(simple: Simple, term: &Term) -> bool
@@ -36,8 +34,8 @@ fn simple_differs(simple: Simple, term: &Term) -> bool
     }
 }
 
-// Whether what a view shows has another label than a term.
-fn top_differs(view: View, term: &Term) -> bool
+/// Whether what a view shows has another label than a term.
+pub fn differs(view: View, term: &Term) -> bool
     ensures { result ≡ top_differs view (out-Term term.now) }
 {
     match view {
@@ -48,14 +46,6 @@ fn top_differs(view: View, term: &Term) -> bool
         ),
         _ => false,
     }
-}
-
-/// Whether a value clashes at its top with each value of a term.
-pub fn differs<B: Bindings>(store: &B, value: Ref, term: &Term) -> bool
-    requires { Holds (B.meaning store.now) value }
-    ensures { (program : CoreProgram) (env : List Value) → result ≡ true → turn (B.meaning store.now).state.subst (told (B.meaning store.now) value) (value_of program env term.now) ≡ Clashes }
-{
-    top_differs(store.walk(value), term)
 }
 
 // What is left of so much room behind a term; none where the term takes more.

@@ -3,15 +3,16 @@ ghost use Rattle.std.specs.Prelude.{◌≡◌, ◌+◌, ◌≤◌, All, length, 
 ghost use Rattle.dg_base.specs.declared.program.CoreProgram.{CoreProgram};
 ghost use Rattle.dg_meaning.specs.Built.{IsBuiltRule};
 ghost use Rattle.dg_meaning.specs.Closures.{HasNoClosure};
-ghost use Rattle.dg_interp.specs.Frames.{EndsBy, values_in, cells_if};
+ghost use Rattle.dg_interp.specs.Frames.{EndsBy, stretch as the_stretch, values_in, cells_if};
 ghost use Rattle.dg_interp.specs.Rules.{rule_cells};
 ghost use Rattle.dg_interp.specs.Engine.{IsSound, store_in};
-ghost use Rattle.dg_interp.specs.Passing.{MayPass, PassesTo};
+ghost use Rattle.dg_interp.specs.Passing.{MayPass, PassesTo, IsFirst};
 
 use super::{Engine, stretch};
 use crate::frames::Env;
 use crate::passing::{differs, have_room};
 use dg_base::Rule;
+use dg_unify::{Bindings, View};
 
 impl<'p> Engine<'p> {
     // Whether a rule of a query with so many arguments can begin within the heap's limit, with so many others behind it.
@@ -27,20 +28,18 @@ impl<'p> Engine<'p> {
         }
     }
 
-    // Whether a rule of a query may be passed by, with so many others behind it.
-    fn may_pass(&self, args: Env, rule: &Rule, others: usize) -> bool
+    // Whether a rule of a query whose first argument is this may be passed by, with so many others behind it.
+    fn may_pass(&self, first: View, args: Env, rule: &Rule, others: usize) -> bool
         requires sound { IsSound self.now }
         requires args { EndsBy (length self.now.refs.items) args }
+        requires first { IsFirst (store_in self.now.store) (the_stretch self.now.refs.items args) first }
         requires plain { All HasNoClosure rule.now.head }
         ensures { (program : CoreProgram) → result ≡ true → MayPass program (values_in (store_in self.now.store) self.now.refs.items args) others rule.now (store_in self.now.store) }
     {
-        let Some(value) = stretch(&self.refs, args).first() else {
-            return false;
-        };
         let Some(term) = rule.head.as_slice().first() else {
             return false;
         };
-        differs(&self.store, *value, term) && self.has_room(args.len, rule, others)
+        differs(first, term) && self.has_room(args.len, rule, others)
     }
 
     /// The rules of a query behind those that may be passed by.
@@ -50,9 +49,13 @@ impl<'p> Engine<'p> {
         requires built { All IsBuiltRule rules.now }
         ensures { PassesTo self.now.program.now (values_in (store_in self.now.store) self.now.refs.items args) (store_in self.now.store) result.now rules.now }
     {
+        let Some(value) = stretch(&self.refs, args).first() else {
+            return rules;
+        };
+        let first = self.store.walk(*value);
         let mut rules = rules;
         'rules: while let [rule, others @ ..] = rules {
-            if !self.may_pass(args, rule, others.len()) {
+            if !self.may_pass(first, args, rule, others.len()) {
                 return rules;
             }
             rules = others;

@@ -1,7 +1,7 @@
 use Rattle.std.proofs.Common.{◌≡◌, refl, arith, length, take, drop, ◌-◌, subst, ap, sym, ◌∙◌}
-use Rattle.std.specs.List.{All}
+use Rattle.std.specs.List.{All, slice_get}
 use Rattle.dg_meaning.specs.Built.{IsBuiltRule}
-use Rattle.dg_interp.specs.Frames.{values_in}
+use Rattle.dg_interp.specs.Frames.{stretch, values_in}
 use Rattle.dg_interp.specs.Engine.{store_in}
 use Rattle.dg_interp.specs.Passing.{PassesTo}
 use Rattle.dg_interp.proofs.Turns.{first_and_rest, all_rest}
@@ -24,3 +24,15 @@ rules-preserved c =
           (subst (λ l. PassesTo e.program.now (values_in (store_in e.store) e.refs.items c.args.args) (store_in e.store) l c.args.rules.now) split c.rules.invariant.passes) (c.if-not-may_pass.ensures e.program.now refl);
       built = all_rest IsBuiltRule c.rule-item.result (take (length all - 1) (drop 1 all)) (subst (All IsBuiltRule) split c.rules.invariant.built);
     }
+
+pub returns-in_default : goal.returns-in_default
+returns-in_default c =
+    let e = c.args.self.now in
+    passes_none e.program.now (values_in (store_in e.store) e.refs.items c.args.args) (store_in e.store) c.args.rules.now
+
+pub may_pass-requires-clause-first : goal.may_pass-requires-clause-first
+may_pass-requires-clause-first c = record {
+  at = c.in-Some.value.now;
+  is = c.in-Some.ensures.value ∙ ap (λ l. slice_get l 0) (c.stretch.ensures ∙ ap (λ xs. stretch xs c.args.args) c.deref.ensures.value);
+  shows = c.walk-first.ensures;
+}
