@@ -1,5 +1,5 @@
 // The names of a source.
-ghost use Rattle.std.specs.Prelude.{◌≡◌, ◌<◌, ◌≤◌, length, position, map, Ok, Err, IfOk, IfErr};
+ghost use Rattle.std.specs.Prelude.{◌≡◌, ◌<◌, ◌≤◌, length, position, map, Ok, Err, IfOk, IfErr, IsErrOf};
 ghost use Rattle.std.specs.Str.{bytes_eq};
 ghost use Rattle.dg_base.specs.Heads.{name_of as head_name};
 ghost use Rattle.dg_base.specs.Tree.{Item};
@@ -35,6 +35,7 @@ impl Names {
     pub fn of(alloc: Global, tree: &Tree) -> Result<Names, ReadFault>
         ensures named { IfOk result (λ names. IsNamed (tree_view tree.now) (Ok (names_view names))) }
         ensures refused { IfErr result (IsFault (λ r. IsNamed (tree_view tree.now) (Err r))) }
+        ensures memory { IsErrOf result ReadFault.OutOfMemory → 0 < length (tree_view tree.now) }
     {
         let mut tally = Tally {
             sets: Sets {
