@@ -6,3 +6,4 @@ pub mod MemberLemmas
 pub mod TermLemmas
 pub mod GoalLemmas
 pub mod SoundLemmas
+pub mod RuleLemmas

@@ -1,6 +1,6 @@
 -- The core program of a tree that is given is sound.
 use Rattle.std.proofs.Common.{◌≡◌, ◌<◌, ◌≤◌, ℕ, List, [], ◌∷◌, ◌++◌, ◌&&◌, ◌||◌, Bool, true, false, Option, Some, None, length, map, refl, sym, subst, arith}
-use Rattle.std.specs.Prelude.{if◌then◌else◌, min, not, nat_eq}
+use Rattle.std.specs.Prelude.{if◌then◌else◌, min, not, nat_eq, Result, Ok, Err, IfOk}
 use Rattle.std.specs.List.{All, Contains, flat_map}
 use Rattle.std.specs.Option.{is_some}
 use Rattle.std.specs.Str.{bytes_eq}
@@ -24,6 +24,7 @@ use Rattle.dg_base.specs.declared.program.Place.{Place}
 use Rattle.dg_base.specs.declared.program.PlaceKind.TheVariants.{Parent}
 use Rattle.dg_base.specs.declared.program.Pred.{Pred}
 use Rattle.dg_base.specs.declared.program.Rule.{Rule}
+use Rattle.dg_base.specs.declared.refusal.ReadFault.{ReadFault}
 use Rattle.dg_names.specs.Named.{Named}
 use Rattle.dg_lower.specs.Core.{scope_of, rule_of, failing, rules_in, pred_of, parents, entry_name, core_of, is_rule_for, has_entry}
 use Rattle.dg_lower.specs.Forms.{is_headed, are_parts, is_body, is_item, are_built}
@@ -189,3 +190,7 @@ core_sound names items g h e =
       few_objects = g.few_objects;
       few_words = g.few_words;
     }
+
+pub result_sound : (names : Named) (items : List Item) (r : Result Core ReadFault) → IsGiven names items → are_built items ≡ true → IfOk r (λ core. core ≡ core_of names items) → IfOk r (λ _. has_entry items ≡ true) → IfOk r IsSound
+result_sound names items (Ok core) given built is entry = subst IsSound (sym is) (core_sound names items given built entry)
+result_sound names items (Err fault) given built is entry = is

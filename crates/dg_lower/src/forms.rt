@@ -1,10 +1,11 @@
 // Which forms of a tree are built.
-ghost use Rattle.std.specs.Prelude.{◌≡◌, true, map, IfOk};
+ghost use Rattle.std.specs.Prelude.{◌≡◌, ◌<◌, true, map, IfOk, IsErr};
 ghost use Rattle.dg_base.specs.Heads.{name_of as head_name};
 ghost use Rattle.dg_base.specs.Names.{builtin_named};
 ghost use Rattle.dg_base.specs.Tree as tree;
 ghost use Rattle.dg_base.specs.Tree.{parts_of, values_of, stmts_of, arms_of};
 ghost use Rattle.dg_base.specs.TreeView.{part_view, value_view, stmt_view, body_view, arm_view, head_view, said_view, tree_view};
+ghost use Rattle.dg_names.specs.Counts as counts;
 ghost use Rattle.dg_lower.specs.Forms as spec;
 
 use dg_base::{
@@ -60,12 +61,18 @@ fn is_asked(alloc: Global, head: &Head) -> Result<bool, AllocError>
     }
 }
 
+fn is_free(name: &[u8]) -> bool
+    ensures { result ≡ spec.is_headed name.now }
+{
+    !is_keyword(name) && builtin_of(name).is_none()
+}
+
 // Whether a rule of this head is built, its values apart.
 fn is_headed(alloc: Global, head: &Head) -> Result<bool, AllocError>
     ensures { IfOk result (λ built. built ≡ spec.is_headed (head_name (head_view head.now))) }
 {
     let name = name_of(alloc, head)?;
-    Ok(!is_keyword(name.as_slice()) && builtin_of(name.as_slice()).is_none())
+    Ok(is_free(name.as_slice()))
 }
 
 #[cycle(values)]
@@ -212,7 +219,8 @@ fn is_rule(
 }
 
 fn is_item(alloc: Global, front: Zone, behind: Zone, said: &ItemBody) -> Result<bool, AllocError>
-    ensures { IfOk result (λ built. built ≡ spec.is_item front behind (said_view said.now)) }
+    ensures built { IfOk result (λ built. built ≡ spec.is_item front behind (said_view said.now)) }
+    ensures memory { IsErr result → counts.is_rule (said_view said.now) ≡ true }
 {
     match said {
         ItemBody::Topic(_) => Ok(true),
@@ -225,7 +233,8 @@ fn is_item(alloc: Global, front: Zone, behind: Zone, said: &ItemBody) -> Result<
 
 /// The line of the first item of a source that holds a form which can't be lowered yet.
 pub fn first_unbuilt(alloc: Global, tree: &Tree) -> Result<Option<u32>, AllocError>
-    ensures { IfOk result (λ line. line ≡ spec.first_unbuilt (tree_view tree.now)) }
+    ensures line { IfOk result (λ line. line ≡ spec.first_unbuilt (tree_view tree.now)) }
+    ensures memory { IsErr result → 0 < counts.rules_in (tree_view tree.now) }
 {
     for item in tree.items.as_slice() {
         if !is_item(alloc, Zone::Head, Zone::Body, &item.body)? {
@@ -237,7 +246,8 @@ pub fn first_unbuilt(alloc: Global, tree: &Tree) -> Result<Option<u32>, AllocErr
 
 /// Whether `lower` takes a rewritten tree: each form in it is built.
 pub fn are_built(alloc: Global, tree: &Tree) -> Result<bool, AllocError>
-    ensures { IfOk result (λ built. built ≡ spec.are_built (tree_view tree.now)) }
+    ensures built { IfOk result (λ built. built ≡ spec.are_built (tree_view tree.now)) }
+    ensures memory { IsErr result → 0 < counts.rules_in (tree_view tree.now) }
 {
     for item in tree.items.as_slice() {
         if !is_item(alloc, Zone::Rewritten, Zone::Rewritten, &item.body)? {

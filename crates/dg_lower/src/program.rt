@@ -1,11 +1,12 @@
 // From items to the core program.
-ghost use Rattle.std.specs.Prelude.{◌≡◌, ◌++◌, ◌∷◌, [], true, false, map, OnOk, IfOk, IfErr};
+ghost use Rattle.std.specs.Prelude.{◌≡◌, ◌<◌, ◌++◌, ◌∷◌, [], true, false, map, OnOk, IfOk, IfErr, IsErr, IsErrOf};
 ghost use Rattle.std.specs.List.{IsDistinct};
 ghost use Rattle.std.specs.Str.{bytes_eq};
 ghost use Rattle.dg_base.specs.Faults.{IsFault};
 ghost use Rattle.dg_base.specs.Heads.{name_of as head_name};
 ghost use Rattle.dg_base.specs.Sound.{IsSound};
 ghost use Rattle.dg_base.specs.TreeView.{body_view, head_view, said_view, item_view, tree_view};
+ghost use Rattle.dg_names.specs.Counts as counts;
 ghost use Rattle.dg_names.specs.State.{listed, names_view};
 ghost use Rattle.dg_lower.specs.Core as spec;
 ghost use Rattle.dg_lower.specs.Forms.{are_built};
@@ -178,7 +179,8 @@ fn without_starts(core: CoreProgram) -> CoreProgram
 
 // Whether an item gives a rule to the predicate of this name.
 fn is_rule_for(alloc: Global, name: &[u8], said: &ItemBody) -> Result<bool, AllocError>
-    ensures { IfOk result (λ gives. gives ≡ spec.is_rule_for name.now (said_view said.now)) }
+    ensures gives { IfOk result (λ gives. gives ≡ spec.is_rule_for name.now (said_view said.now)) }
+    ensures memory { IsErr result → counts.is_rule (said_view said.now) ≡ true }
 {
     match said {
         ItemBody::Rule(head, _) | ItemBody::Deny(head, _) => {
@@ -190,7 +192,8 @@ fn is_rule_for(alloc: Global, name: &[u8], said: &ItemBody) -> Result<bool, Allo
 }
 
 fn has_entry(alloc: Global, tree: &Tree) -> Result<bool, AllocError>
-    ensures { IfOk result (λ has. has ≡ spec.has_entry (tree_view tree.now)) }
+    ensures entry { IfOk result (λ has. has ≡ spec.has_entry (tree_view tree.now)) }
+    ensures memory { IsErr result → 0 < counts.rules_in (tree_view tree.now) }
 {
     for item in tree.items.as_slice() {
         if is_rule_for(alloc, ENTRY, &item.body)? {
@@ -209,6 +212,21 @@ fn no_entry() -> ReadFault
     })
 }
 
+// The core program of a tree with these names, or the refusal where no rule has the name of the entry.
+fn lowered(alloc: Global, tree: &Tree, names: &Names) -> Result<CoreProgram, ReadFault>
+    ensures core { IfOk result (λ core. core ≡ spec.core_of (names_view names.now) (tree_view tree.now)) }
+    ensures accepted { IfOk result (λ _. spec.has_entry (tree_view tree.now) ≡ true) }
+    ensures refused { IfErr result (IsFault (λ r. (spec.has_entry (tree_view tree.now) ≡ false) × (r ≡ record { kind = Kind.NoEntry; line = 1 }))) }
+    ensures memory { IsErrOf result ReadFault.OutOfMemory → 0 < counts.rules_in (tree_view tree.now) }
+{
+    if !has_entry(alloc, tree)? {
+        return Err(no_entry());
+    }
+    let core = with_rules(alloc, names, tree.items.as_slice())?;
+    let core = with_places(alloc, core)?;
+    Ok(without_starts(core))
+}
+
 /// The core program of a rewritten tree with these names. A tree is refused in which no rule has the name of the entry.
 pub fn lower(alloc: Global, tree: Tree, names: Names) -> Result<CoreProgram, ReadFault>
     requires { are_built (tree_view tree) ≡ true }
@@ -216,11 +234,7 @@ pub fn lower(alloc: Global, tree: Tree, names: Names) -> Result<CoreProgram, Rea
     ensures accepted { IfOk result (λ _. spec.has_entry (tree_view tree) ≡ true) }
     ensures sound { IsGiven (names_view names) (tree_view tree) → IfOk result IsSound }
     ensures refused { IfErr result (IsFault (λ r. (spec.has_entry (tree_view tree) ≡ false) × (r ≡ record { kind = Kind.NoEntry; line = 1 }))) }
+    ensures memory { IsErrOf result ReadFault.OutOfMemory → 0 < counts.rules_in (tree_view tree) }
 {
-    if !has_entry(alloc, &tree)? {
-        return Err(no_entry());
-    }
-    let core = with_rules(alloc, &names, tree.items.as_slice())?;
-    let core = with_places(alloc, core)?;
-    Ok(without_starts(core))
+    lowered(alloc, &tree, &names)
 }
