@@ -1,5 +1,5 @@
 // Cuts a source into its tokens.
-ghost use Rattle.std.specs.Prelude.{◌≡◌, ◌<◌, ◌≤◌, ◌+◌, ◌-◌, ◌^◌, ◌⊎◌, ◌++◌, ◌∷◌, [], Bool, ℕ, List, Option, Some, None, length, take, drop, IfOk, IfErr, IfSome, IsErrOf, MatchOption, map, true, false};
+ghost use Rattle.std.specs.Prelude.{◌≡◌, ◌<◌, ◌≤◌, ◌+◌, ◌-◌, ◌^◌, ◌⊎◌, ◌++◌, ◌∷◌, [], Bool, ℕ, List, Option, Some, None, length, take, drop, IfOk, IfErr, IfSome, IsErr, IsErrOf, MatchOption, map, true, false};
 ghost use Rattle.dg_lex.specs.Bad as bad;
 ghost use Rattle.dg_lex.specs.Tokens as spec;
 
@@ -129,7 +129,8 @@ fn without_mark(source: &[u8]) -> &[u8]
 // The tokens of a text.
 fn tokens_of(alloc: Global, text: &[u8]) -> Result<Vec<Token<'_>>, AllocError>
     requires { length text.now ≤ 1048576 }
-    ensures { IfOk result (λ tokens. spec.IsTokens true 1 text.now tokens.items) }
+    ensures tokens { IfOk result (λ tokens. spec.IsTokens true 1 text.now tokens.items) }
+    ensures memory { IsErr result → 0 < length text.now }
 {
     let mut tokens = Vec::new(alloc);
     let mut rest = text;
@@ -149,6 +150,7 @@ pub fn lex(alloc: Global, source: &[u8]) -> Result<Vec<Token<'_>>, ReadFault>
     ensures tokens { IfOk result (λ tokens. spec.IsLexed source.now tokens.items) }
     ensures accepted { IfOk result (λ _. bad.refusal_of source.now ≡ None) }
     ensures memory { IsErrOf result ReadFault.OutOfMemory → bad.refusal_of source.now ≡ None }
+    ensures some { IsErrOf result ReadFault.OutOfMemory → 0 < length source.now }
     ensures refused { IfErr result (λ fault. (fault ≡ ReadFault.OutOfMemory) ⊎ ((r : _) × (bad.refusal_of source.now ≡ Some r) × (fault ≡ ReadFault.Refused r))) }
 {
     if let Some(refusal) = refusal_of(source) {
