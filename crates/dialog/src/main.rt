@@ -1,15 +1,7 @@
-//! The command `dialog`.
+//! The program `dialog`: the commands over the words, files and streams of the system.
 #![tactic(auto)]
 
-mod adapters;
-mod command;
-mod lines;
-mod numbers;
-mod playing;
-mod source;
-mod tool;
-
-use adapters::{FileShelf, StdinSource, StdoutSink};
+use dialog_tool::{FileShelf, StdinSource, StdoutSink, tool};
 use std::io::ErrorKind;
 use std::process::ExitCode;
 use std::{env, io};
@@ -33,7 +25,7 @@ fn run(rt: &HostRuntime) -> io::Result<u8> {
     let mut shelf = FileShelf::new(rt);
     let mut input = StdinSource::new(rt.reader());
     let mut out = StdoutSink::new(io::writer(rt));
-    Ok(tool::tool(rt.alloc(), &words, &mut shelf, &mut input, &mut out, &[0]))
+    Ok(tool(rt.alloc(), &words, &mut shelf, &mut input, &mut out, &[0]))
 }
 
 fn main(rt: HostRuntime) -> ExitCode {
@@ -42,6 +34,3 @@ fn main(rt: HostRuntime) -> ExitCode {
         Err(_) => ExitCode::from(6),
     }
 }
-
-#[cfg(test)]
-mod tests;

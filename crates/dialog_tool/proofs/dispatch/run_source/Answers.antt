@@ -1,7 +1,7 @@
 use Rattle.std.proofs.Common.{inl, inr, Ok, Err}
 use Rattle.dialog_tool.proofs.AnswerLemmas.{refusal_lost, run_lost, run_short, run_shown, input_lost}
 use Rattle.dialog_tool.proofs.SourceLemmas.{one_answer}
-use Rattle.dialog_tool.proofs.tool.run_source.Goals as goal
+use Rattle.dialog_tool.proofs.dispatch.run_source.Goals as goal
 
 pub returns-in-Ok-clause-refuses : goal.returns-in-Ok-clause-refuses
 returns-in-Ok-clause-refuses g c = λ r refused. let same = one_answer c.args.source.now (Ok c.in-Ok.program) (Err r) c.in-Ok.ensures.program refused in cc

@@ -1,9 +1,8 @@
-// Whole calls, over the forms in memory. The expected texts are worked out by hand from the rules of the language.
+// Whole commands, over the forms in memory. The expected texts are worked out by hand from the rules of the language.
 ghost use Rattle.std.specs.Prelude.{◌≡◌, IfOk, length};
 
-use crate::adapters::{StdinSource, StdoutSink};
-use crate::tool::tool;
 use dg_base::{ByteSink, ByteSource, MapShelf, Sink, Source, SureShelf, SureSink, SureSource};
+use dialog_tool::{StdinSource, StdoutSink, tool};
 use std::alloc::Global;
 use std::process::Abort;
 use std::test::Fail;

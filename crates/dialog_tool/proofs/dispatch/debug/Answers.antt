@@ -3,7 +3,7 @@ use Rattle.dg_base.specs.Shelves.{WhereTold, held}
 use Rattle.dialog_tool.specs.Source.{Compiles}
 use Rattle.dialog_tool.specs.Answers.{Comes}
 use Rattle.dialog_tool.proofs.AnswerLemmas.{if_source, source_faults, file_faults, long_refused, long_faults}
-use Rattle.dialog_tool.proofs.tool.debug.Goals as goal
+use Rattle.dialog_tool.proofs.dispatch.debug.Goals as goal
 
 pub returns-in-Ok-clause-refuses : goal.returns-in-Ok-clause-refuses
 returns-in-Ok-clause-refuses g c =

@@ -6,7 +6,7 @@ use Rattle.dialog_tool.specs.Source.{Compiles}
 use Rattle.dialog_tool.specs.Answers.{Comes}
 use Rattle.dialog_tool.specs.Playing.{WhereTyped, status_of_end, run_of}
 use Rattle.dialog_tool.proofs.StoryLemmas.{story_fails, late_source, late_story, late_play}
-use Rattle.dialog_tool.proofs.tool.tool.Goals as goal
+use Rattle.dialog_tool.proofs.dispatch.tool.Goals as goal
 
 pub returns-in-Ok-Some-Play-clause-fault : goal.returns-in-Ok-Some-Play-clause-fault
 returns-in-Ok-Some-Play-clause-fault g c = λ is.

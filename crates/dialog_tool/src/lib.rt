@@ -1,0 +1,13 @@
+//! The commands of the tool, and their adapters to files and streams.
+#![tactic(auto)]
+
+mod adapters;
+mod command;
+mod dispatch;
+mod lines;
+mod numbers;
+mod playing;
+mod source;
+
+pub use adapters::{FileShelf, StdinSource, StdoutSink};
+pub use dispatch::tool;
