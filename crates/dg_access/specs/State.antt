@@ -1,5 +1,5 @@
 -- What the code keeps, as plain data. The proofs alone rest on it.
-use Rattle.std.specs.Prelude.{◌≡◌, ℕ, List, [], ◌∷◌, ◌++◌, ◌||◌, Bool, Vec, map, if◌then◌else◌}
+use Rattle.std.specs.Prelude.{◌≡◌, ℕ, List, [], ◌∷◌, ◌++◌, ◌||◌, Bool, true, false, Vec, map, if◌then◌else◌}
 use Rattle.std.specs.Borrow.{Bor}
 use Rattle.std.specs.Global.{Global}
 use Rattle.std.specs.Option.{option_map}
@@ -49,6 +49,12 @@ marked ms = map mark_view ms
 abbrev pub selected : Stmt → Body
 selected (tree.select mode b) = b
 selected s = tree.no_branches
+
+-- It gathers values.
+abbrev pub is_gathering : Stmt → Bool
+is_gathering (tree.collect v b into) = true
+is_gathering (tree.accumulate v b into) = true
+is_gathering s = false
 
 -- The marks of a sort.
 abbrev pub test_of : Sort → marks.Mark → Bool

@@ -20,7 +20,6 @@ pub enum Mark<'a> {
 }
 
 #[cycle(marks)]
-#[tactic(auto, using(std::proofs::lemmas::Grind::common_steps))]
 fn mark_value<'a>(out: &mut Vec<Mark<'a>>, value: &'a Value) -> Result<(), AllocError>
     ensures { OnOk result (marked out.new.items ≡ marked out.old.items ++ marks_of_value (value_view value.now)) }
 {
@@ -55,7 +54,6 @@ fn mark_value<'a>(out: &mut Vec<Mark<'a>>, value: &'a Value) -> Result<(), Alloc
 }
 
 #[cycle(marks)]
-#[tactic(auto, using(std::proofs::lemmas::Grind::common_steps))]
 fn mark_values<'a>(out: &mut Vec<Mark<'a>>, values: &'a [Value]) -> Result<(), AllocError>
     ensures { OnOk result (marked out.new.items ≡ marked out.old.items ++ marks_of_values (values_of (map value_view values.now))) }
 {
@@ -76,7 +74,6 @@ fn mark_part<'a>(out: &mut Vec<Mark<'a>>, part: &'a Part) -> Result<(), AllocErr
 }
 
 #[cycle(marks)]
-#[tactic(auto, using(std::proofs::lemmas::Grind::common_steps))]
 fn mark_parts<'a>(out: &mut Vec<Mark<'a>>, parts: &'a [Part]) -> Result<(), AllocError>
     ensures { OnOk result (marked out.new.items ≡ marked out.old.items ++ marks_of_parts (parts_of (map part_view parts.now))) }
 {
@@ -87,7 +84,6 @@ fn mark_parts<'a>(out: &mut Vec<Mark<'a>>, parts: &'a [Part]) -> Result<(), Allo
 }
 
 #[cycle(marks)]
-#[tactic(auto, using(std::proofs::lemmas::Grind::common_steps))]
 fn mark_stmt<'a>(out: &mut Vec<Mark<'a>>, stmt: &'a Stmt) -> Result<(), AllocError>
     ensures { OnOk result (marked out.new.items ≡ marked out.old.items ++ marks_of_stmt (stmt_view stmt.now)) }
 {
@@ -122,7 +118,6 @@ fn mark_stmt<'a>(out: &mut Vec<Mark<'a>>, stmt: &'a Stmt) -> Result<(), AllocErr
 
 // The branches of a select.
 #[cycle(marks)]
-#[tactic(auto, using(std::proofs::lemmas::Grind::common_steps))]
 fn mark_select<'a>(out: &mut Vec<Mark<'a>>, stmt: &'a Stmt) -> Result<(), AllocError>
     ensures { OnOk result (marked out.new.items ≡ marked out.old.items ++ marks_of_body (selected (stmt_view stmt.now))) }
 {
@@ -135,7 +130,6 @@ fn mark_select<'a>(out: &mut Vec<Mark<'a>>, stmt: &'a Stmt) -> Result<(), AllocE
 }
 
 #[cycle(marks)]
-#[tactic(auto, using(std::proofs::lemmas::Grind::common_steps))]
 fn mark_stmts<'a>(out: &mut Vec<Mark<'a>>, stmts: &'a [Stmt]) -> Result<(), AllocError>
     ensures { OnOk result (marked out.new.items ≡ marked out.old.items ++ marks_of_stmts (stmts_of (map stmt_view stmts.now))) }
 {
@@ -146,7 +140,6 @@ fn mark_stmts<'a>(out: &mut Vec<Mark<'a>>, stmts: &'a [Stmt]) -> Result<(), Allo
 }
 
 #[cycle(marks)]
-#[tactic(auto, using(std::proofs::lemmas::Grind::common_steps, crate::proofs::Views::body_seen))]
 fn mark_body<'a>(out: &mut Vec<Mark<'a>>, body: &'a Body) -> Result<(), AllocError>
     ensures { OnOk result (marked out.new.items ≡ marked out.old.items ++ marks_of_body (body_view body.now)) }
 {
@@ -157,7 +150,6 @@ fn mark_body<'a>(out: &mut Vec<Mark<'a>>, body: &'a Body) -> Result<(), AllocErr
 }
 
 #[cycle(marks)]
-#[tactic(auto, using(std::proofs::lemmas::Grind::common_steps, crate::proofs::Views::arm_seen))]
 fn mark_arms<'a>(out: &mut Vec<Mark<'a>>, arms: &'a [Arm]) -> Result<(), AllocError>
     ensures { OnOk result (marked out.new.items ≡ marked out.old.items ++ marks_of_arms (arms_of (map arm_view arms.now))) }
 {
@@ -169,7 +161,6 @@ fn mark_arms<'a>(out: &mut Vec<Mark<'a>>, arms: &'a [Arm]) -> Result<(), AllocEr
 }
 
 #[cycle(marks)]
-#[tactic(auto, using(std::proofs::lemmas::Grind::common_steps, crate::proofs::Views::change_seen, crate::proofs::Views::head_seen))]
 fn mark_changes<'a>(out: &mut Vec<Mark<'a>>, changes: &'a [NowChange]) -> Result<(), AllocError>
     ensures { OnOk result (marked out.new.items ≡ marked out.old.items ++ marks_of_changes (changes_of (map change_view changes.now))) }
 {

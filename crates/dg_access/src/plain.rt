@@ -1,12 +1,12 @@
 // Values and statements with new names.
-ghost use Rattle.std.specs.Prelude.{◌≡◌, ◌+◌, map, IfOk, OnOk};
+ghost use Rattle.std.specs.Prelude.{◌≡◌, ◌+◌, map, IfOk, OnOk, true};
 ghost use Rattle.std.specs.Option.{option_map};
 ghost use Rattle.dg_base.specs.Tree as tree;
 ghost use Rattle.dg_base.specs.Tree.{parts_of, values_of, stmts_of, arms_of, changes_of};
 ghost use Rattle.dg_base.specs.TreeView.{part_view, value_view, stmt_view, arm_view, body_view, head_view, change_view, branches_view, list_view, choice_view};
 ghost use Rattle.dg_access.specs.Plain as spec;
 ghost use Rattle.dg_access.specs.Plain.{new_in_value, new_in_values, new_in_part, new_in_parts, new_in_stmt, new_in_stmts, new_in_body, new_in_arms, new_in_changes};
-ghost use Rattle.dg_access.specs.State.{first_or, selected, setting_view};
+ghost use Rattle.dg_access.specs.State.{first_or, is_gathering, selected, setting_view};
 
 use crate::fresh::{choice_name, copied, take_number, unnamed_name};
 use crate::setting::Setting;
@@ -146,7 +146,6 @@ pub fn plain_value(
 }
 
 #[cycle(plain)]
-#[tactic(auto, using(std::proofs::lemmas::Grind::common_steps, crate::proofs::Before::values_end, crate::proofs::Before::values_push))]
 fn plain_values(
     alloc: Global,
     setting: Setting<'_>,
@@ -165,7 +164,6 @@ fn plain_values(
 
 /// Parts with new names.
 #[cycle(plain)]
-#[tactic(auto, using(std::proofs::lemmas::Grind::common_steps, crate::proofs::Before::parts_end, crate::proofs::Before::parts_push))]
 pub fn plain_parts(
     alloc: Global,
     setting: Setting<'_>,
@@ -214,7 +212,6 @@ pub fn plain_head(
 
 /// A body with new names.
 #[cycle(plain)]
-#[tactic(auto, using(std::proofs::lemmas::Grind::common_steps, crate::proofs::Before::branches_end, crate::proofs::Before::branches_push))]
 pub fn plain_body(
     alloc: Global,
     setting: Setting<'_>,
@@ -233,7 +230,6 @@ pub fn plain_body(
 }
 
 #[cycle(plain)]
-#[tactic(auto, using(std::proofs::lemmas::Grind::common_steps, crate::proofs::Before::stmts_end, crate::proofs::Before::stmts_push))]
 fn plain_stmts(
     alloc: Global,
     setting: Setting<'_>,
@@ -283,6 +279,29 @@ fn plain_stmt(
         Stmt::Stoppable(inner) => {
             Ok(Stmt::Stoppable(plain_inner(alloc, setting, at, inner.get())?))
         }
+        Stmt::Collect(_, _, _) | Stmt::Accumulate(_, _, _) => {
+            plain_gathering(alloc, setting, at, stmt)
+        }
+        Stmt::Select(mode, _) => Ok(select_of(
+            *mode,
+            Items::from_vec(plain_select(alloc, setting, at, stmt)?),
+        )),
+    }
+}
+
+// A gathering with new names.
+#[cycle(plain)]
+fn plain_gathering(
+    alloc: Global,
+    setting: Setting<'_>,
+    at: &mut usize,
+    stmt: &Stmt,
+) -> Result<Stmt, AllocError>
+    requires { is_gathering (stmt_view stmt.now) ≡ true }
+    ensures stmt { IfOk result (λ new. stmt_view new ≡ spec.plain_stmt (setting_view setting.entry) at.old (stmt_view stmt.now)) }
+    ensures at { OnOk result (at.new ≡ at.old + new_in_stmt (stmt_view stmt.now)) }
+{
+    match stmt {
         Stmt::Collect(value, body, into) => {
             let value = plain_value(alloc, setting, at, value)?;
             let body = plain_body(alloc, setting, at, body)?;
@@ -293,10 +312,7 @@ fn plain_stmt(
             let body = plain_body(alloc, setting, at, body)?;
             Ok(Stmt::Accumulate(value, body, plain_value(alloc, setting, at, into)?))
         }
-        Stmt::Select(mode, _) => Ok(select_of(
-            *mode,
-            Items::from_vec(plain_select(alloc, setting, at, stmt)?),
-        )),
+        _ => unreachable!(),
     }
 }
 
@@ -315,7 +331,6 @@ fn plain_inner(
 
 // The branches of a select.
 #[cycle(plain)]
-#[tactic(auto, using(std::proofs::lemmas::Grind::common_steps, crate::proofs::Before::branches_end, crate::proofs::Before::branches_push))]
 fn plain_select(
     alloc: Global,
     setting: Setting<'_>,
@@ -337,7 +352,6 @@ fn plain_select(
 }
 
 #[cycle(plain)]
-#[tactic(auto, using(std::proofs::lemmas::Grind::common_steps, crate::proofs::Before::arms_end, crate::proofs::Before::arms_push, crate::proofs::Views::arm_seen))]
 fn plain_arms(
     alloc: Global,
     setting: Setting<'_>,
@@ -357,7 +371,6 @@ fn plain_arms(
 }
 
 #[cycle(plain)]
-#[tactic(auto, using(std::proofs::lemmas::Grind::common_steps, crate::proofs::Before::changes_end, crate::proofs::Before::changes_push, crate::proofs::Views::change_seen))]
 fn plain_changes(
     alloc: Global,
     setting: Setting<'_>,

@@ -112,7 +112,6 @@ fn put_value(
 }
 
 #[cycle(puts)]
-#[tactic(auto, using(std::proofs::lemmas::Grind::common_steps))]
 fn put_values(
     alloc: Global,
     setting: Setting<'_>,
@@ -166,7 +165,6 @@ fn put_part(
 
 /// Adds what these parts of a head put before the body, from left to right.
 #[cycle(puts)]
-#[tactic(auto, using(std::proofs::lemmas::Grind::common_steps))]
 pub fn put_parts(
     alloc: Global,
     setting: Setting<'_>,

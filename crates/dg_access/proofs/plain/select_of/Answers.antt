@@ -1,4 +1,4 @@
-use Rattle.dg_access.proofs.Views.{select_seen}
+use Rattle.dg_names.proofs.Views.{select_seen}
 use Rattle.dg_access.proofs.plain.select_of.Goals as goal
 
 pub returns : goal.returns

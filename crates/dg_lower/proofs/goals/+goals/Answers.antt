@@ -1,4 +1,4 @@
-use Rattle.std.proofs.Common.{◌≡◌, ◌≤◌, ◌++◌, ◌∷◌, [], List, length, ap, subst, sym, ◌∙◌}
+use Rattle.std.proofs.Common.{◌≡◌, ◌≤◌, ◌++◌, ◌∷◌, [], List, length, ap, subst, sym, ◌∙◌, arith}
 use Rattle.std.specs.Prelude.{OnOk}
 use Rattle.dg_base.specs.TreeView.{body_view}
 use Rattle.dg_base.specs.declared.tree.Stmt.{Stmt}
@@ -8,6 +8,12 @@ use Rattle.dg_lower.specs.Goals.{body_goals}
 use Rattle.dg_lower.specs.View.{scope_view}
 use Rattle.dg_lower.proofs.UnitLemmas.{unit_of_body}
 use Rattle.dg_lower.proofs.goals.+goals.Goals as goal
+use Rattle.std.proofs.lemmas.List.{append_assoc, append-nil, map-append, drop_more, drop_all}
+use Rattle.dg_names.proofs.Views.{part_word_seen, value_seen, head_seen, body_seen, arm_seen, values_seen, stmts_seen}
+
+ruleset steps = (append_assoc, append-nil, map-append, drop_more, drop_all, part_word_seen, value_seen, body_seen, arm_seen)
+
+ruleset forms = (append_assoc, append-nil, map-append, part_word_seen, value_seen, head_seen, body_seen, values_seen, stmts_seen)
 
 pub add_body-returns-in_ok-lists_of-in_default : goal.add_body-returns-in_ok-lists_of-in_default
 add_body-returns-in_ok-lists_of-in_default t c =
@@ -16,3 +22,66 @@ add_body-returns-in_ok-lists_of-in_default t c =
     ap (λ (lists : List (List Goal)). Either lists ∷ []) c.in_ok-lists_of-in_default.ensures
     ∙ sym (unit_of_body (scope_view c.args.scope.now) c.args.body.now several) in
     subst (λ (goals : List Goal). OnOk c.push.result (c.push.new.self ≡ c.args.goals.now ++ goals)) one c.push.ensures.ok
+
+pub add_stmt-returns-in-Collect : goal.add_stmt-returns-in-Collect
+add_stmt-returns-in-Collect t c = grind (arith, forms)
+
+pub add_stmt-returns-in-Group : goal.add_stmt-returns-in-Group
+add_stmt-returns-in-Group t c = grind (arith, forms)
+
+pub add_stmt-returns-in-Now : goal.add_stmt-returns-in-Now
+add_stmt-returns-in-Now t c = grind (arith, forms)
+
+pub add_stmt-returns-in_ok-asked-in-AskAll : goal.add_stmt-returns-in_ok-asked-in-AskAll
+add_stmt-returns-in_ok-asked-in-AskAll t c = grind (arith, forms)
+
+pub add_stmt-returns-in_ok-asked-in-Ask : goal.add_stmt-returns-in_ok-asked-in-Ask
+add_stmt-returns-in_ok-asked-in-Ask t c = grind (arith, forms)
+
+pub add_stmt-returns-in_ok-from_slice-in-Text : goal.add_stmt-returns-in_ok-from_slice-in-Text
+add_stmt-returns-in_ok-from_slice-in-Text t c = grind (arith, forms)
+
+pub add_stmt-returns-in_ok-goals_of-in-First : goal.add_stmt-returns-in_ok-goals_of-in-First
+add_stmt-returns-in_ok-goals_of-in-First t c = grind (arith, forms)
+
+pub add_stmt-returns-in_ok-goals_of-in-NotGroup : goal.add_stmt-returns-in_ok-goals_of-in-NotGroup
+add_stmt-returns-in_ok-goals_of-in-NotGroup t c = grind (arith, forms)
+
+pub add_stmt-returns-in_ok-not_asked-in-AskNot : goal.add_stmt-returns-in_ok-not_asked-in-AskNot
+add_stmt-returns-in_ok-not_asked-in-AskNot t c = grind (arith, forms)
+
+pub add_stmt-returns-in_ok-term_of-in-Print : goal.add_stmt-returns-in_ok-term_of-in-Print
+add_stmt-returns-in_ok-term_of-in-Print t c = grind (arith, forms)
+
+pub add_stmts-loop-stmt-init : goal.add_stmts-loop-stmt-init
+add_stmts-loop-stmt-init t c = grind (arith, steps)
+
+pub add_stmts-loop-stmt-preserved : goal.add_stmts-loop-stmt-preserved
+add_stmts-loop-stmt-preserved t c = grind (arith, steps)
+
+pub add_stmts-returns : goal.add_stmts-returns
+add_stmts-returns t c = grind (arith, steps)
+
+pub choice-loop-at-init : goal.choice-loop-at-init
+choice-loop-at-init t c = grind (arith, steps)
+
+pub choice-loop-at-preserved : goal.choice-loop-at-preserved
+choice-loop-at-preserved t c = grind (arith, steps)
+
+pub choice-overflow_step-at : goal.choice-overflow_step-at
+choice-overflow_step-at t c = grind (arith, forms)
+
+pub choice-returns : goal.choice-returns
+choice-returns t c = grind (arith, steps)
+
+pub goals_of-returns : goal.goals_of-returns
+goals_of-returns t c = grind (arith, steps)
+
+pub lists_of-loop-branch-init : goal.lists_of-loop-branch-init
+lists_of-loop-branch-init t c = grind (arith, steps)
+
+pub lists_of-loop-branch-preserved : goal.lists_of-loop-branch-preserved
+lists_of-loop-branch-preserved t c = grind (arith, steps)
+
+pub lists_of-returns : goal.lists_of-returns
+lists_of-returns t c = grind (arith, steps)
