@@ -6,7 +6,7 @@ use Rattle.dg_meaning.specs.Substitutions.{Substitution, resolved, all_resolved,
 use Rattle.dg_meaning.specs.Unify.{size, sizes}
 use Rattle.dg_meaning.proofs.Walks.{resolved_node, walked, size_some}
 use Rattle.dg_unify.specs.Store.{Store, or_nil, IsTold, told, count_of, part_at, IsPart, IsClosureAt, ShowsVar, Shows}
-use Rattle.dg_unify.specs.Parts.{parts_in, dropped, values_of, more_than_one, IsRest, IsSplit, ShowsInner, IsVariable}
+use Rattle.dg_unify.specs.Parts.{parts_in, dropped, values_of, more_than_one, IsRest, IsSplit, ShowsInner, IsVariable, IsClear}
 use Rattle.dg_unify.specs.declared.bindings.Ref.{Ref}
 use Rattle.dg_unify.specs.declared.bindings.View.{View}
 use Rattle.dg_unify.specs.declared.bindings.View.TheVariants as view
@@ -104,6 +104,10 @@ more_at_most (form.Captured c n) = omega arith
 -- a variable stands in these
 abbrev pub stands_in : Store → ℕ → Parts → Bool
 stands_in s n p = any_contains n (all_resolved s.state.subst (values_of s p))
+
+-- a variable that isn't in one value
+pub first_clear : (s : Store) (front : Front) (n : ℕ) → false ≡ stands_in s n (form.One front.first) → IsClear s n front.first
+first_clear s front n h = sym (or_end (contains n (resolved s.state.subst (told s front.first)))) ∙ sym h
 
 module _ (s : Store) (sound : IsSubstitution s.state.subst) (p : Parts) (front : Front) (split : IsSplit s p front) where
   abbrev S : Substitution

@@ -8,4 +8,5 @@ pub mod Laws
 pub mod Ends
 pub mod Listed
 pub mod Parts
+pub mod Seen
 pub mod Turns

@@ -1,5 +1,5 @@
 -- What values of a store some parts are. Hold it against dg_meaning/specs/Values.antt.
-use Rattle.std.specs.Prelude.{◌≡◌, ℕ, zero, suc, Option, Some, None}
+use Rattle.std.specs.Prelude.{◌≡◌, ℕ, zero, suc, Option, Some, None, false}
 use Rattle.dg_meaning.specs.Values.{Label, Value, Var, Node, Values, NoMore, More}
 use Rattle.dg_meaning.specs.Substitutions.{walk, resolved, contains}
 use Rattle.dg_unify.specs.Store.{Store, told, Holds, IsClosureAt}
@@ -83,6 +83,10 @@ pub record IsOpened (s : Store) (at : Ref) (inner : Parts) : Type 0 where
   pub parts : Values
   pub is : walk s.state.subst (told s at) ≡ Node label parts
   pub shows : ShowsInner s parts inner
+
+-- The variable n doesn't stand in a value.
+abbrev pub IsClear : Store → ℕ → Ref → Type 0
+IsClear s n at = contains n (resolved s.state.subst (told s at)) ≡ false
 
 -- What a look for the variable n tells of a value.
 abbrev pub LooksInto : Store → ℕ → Ref → Look → Type 0

@@ -7,6 +7,7 @@ mod links;
 mod list;
 mod parts;
 mod room;
+mod seen;
 mod slots;
 mod unifying;
 

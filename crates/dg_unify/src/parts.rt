@@ -6,8 +6,10 @@ ghost use Rattle.dg_meaning.specs.Substitutions.{resolved, all_resolved, contain
 ghost use Rattle.dg_unify.specs.Store.{Store, told, Holds, Shows, IsClosureAt};
 ghost use Rattle.dg_unify.specs.declared.parts.Parts.TheVariants as form;
 ghost use Rattle.dg_unify.specs.Parts.{AreIn, values_of, SplitsInto, IsRest, ShowsInner, IsVariable, LooksInto};
+ghost use Rattle.dg_unify.specs.Seen.{AreClear};
 
 use crate::bindings::{Bindings, Ref, View};
+use crate::seen::Seen;
 
 /// Some values of a store: none, one, two, or the captured values of a closure from a number on.
 #[derive(Clone, Copy)]
@@ -100,12 +102,16 @@ pub fn inner(view: View) -> Parts
 }
 
 // Looks whether an unbound variable stands in a value, up to its parts.
-fn look_into<B: Bindings>(store: &B, x: Ref, at: Ref) -> Look
+fn look_into<B: Bindings>(store: &B, x: Ref, at: Ref, seen: &Seen) -> Look
     requires x_in { (n : ℕ) × (B.meaning store.now).value x ≡ Some (Var n) }
     requires at_in { Holds (B.meaning store.now) at }
+    requires seen_in { (n : ℕ) → (B.meaning store.now).value x ≡ Some (Var n) → AreClear (B.meaning store.now) n seen.now }
     ensures { (n : ℕ) → (B.meaning store.now).value x ≡ Some (Var n) → LooksInto (B.meaning store.now) n at result }
 {
     if store.is_clear(x, at) {
+        return Look::Ends(false);
+    }
+    if seen.has(at) {
         return Look::Ends(false);
     }
     let view = store.walk(at);
@@ -115,25 +121,29 @@ fn look_into<B: Bindings>(store: &B, x: Ref, at: Ref) -> Look
     }
 }
 
-/// Whether an unbound variable stands in some values.
-pub fn occurs<B: Bindings>(store: &B, x: Ref, parts: Parts) -> bool
+// Whether an unbound variable stands in some values. Those in which it doesn't are noted, and one that comes again soon
+// isn't looked through again.
+fn occurs<B: Bindings>(store: &B, x: Ref, parts: Parts, seen: &mut Seen) -> bool
     requires parts_in { AreIn (B.meaning store.now) parts }
     requires x_in { (n : ℕ) × (B.meaning store.now).value x ≡ Some (Var n) }
-    ensures { (n : ℕ) → (B.meaning store.now).value x ≡ Some (Var n) → result ≡ any_contains n (all_resolved (B.meaning store.now).state.subst (values_of (B.meaning store.now) parts)) }
+    requires seen_in { (n : ℕ) → (B.meaning store.now).value x ≡ Some (Var n) → AreClear (B.meaning store.now) n seen.old }
+    ensures found { (n : ℕ) → (B.meaning store.now).value x ≡ Some (Var n) → result ≡ any_contains n (all_resolved (B.meaning store.now).state.subst (values_of (B.meaning store.now) parts)) }
+    ensures seen { (n : ℕ) → (B.meaning store.now).value x ≡ Some (Var n) → AreClear (B.meaning store.now) n seen.new }
 {
     let mut parts = parts;
     'parts: loop {
         match split(store, parts) {
             None => return false,
             Some(front) => match front.rest {
-                Parts::Nothing => match look_into(store, x, front.first) {
+                Parts::Nothing => match look_into(store, x, front.first, seen) {
                     Look::Ends(found) => return found,
                     Look::Goes(inner) => parts = inner,
                 },
                 _ => {
-                    if occurs(store, x, Parts::One(front.first)) {
+                    if occurs(store, x, Parts::One(front.first), seen) {
                         return true;
                     }
+                    seen.note(front.first);
                     parts = front.rest;
                 }
             },
@@ -150,5 +160,5 @@ pub fn stands_in<B: Bindings>(store: &B, x: Ref, at: Ref) -> bool
     if store.is_clear(x, at) {
         return false;
     }
-    occurs(store, x, Parts::One(at))
+    occurs(store, x, Parts::One(at), &mut Seen::new())
 }

@@ -1,9 +1,9 @@
 use Rattle.std.proofs.Common.{sym, ◌∙◌, arith}
-use Rattle.dg_unify.proofs.PartsLemmas.{last_stands, last_inner, last_smaller, first_smaller, rest_smaller, first_found, first_missed}
+use Rattle.dg_unify.proofs.PartsLemmas.{last_stands, last_inner, last_smaller, first_smaller, rest_smaller, first_found, first_missed, first_clear}
 use Rattle.dg_unify.proofs.parts.+occurs.Goals as goal
 
-pub returns-in-Ends : goal.returns-in-Ends
-returns-in-Ends g t c = λ n hx.
+pub returns-in-Ends-clause-found : goal.returns-in-Ends-clause-found
+returns-in-Ends-clause-found g t c = λ n hx.
     let s = g.B.Bindings.meaning c.args.store.now in
     c.in-Ends.ensures n hx ∙ sym (last_stands s (g.met.B.Bindings.sound c.args.store.now) c.parts.parts c.in-Some.front c.in-Some.ensures c.in-Nothing.is n) ∙ sym (c.parts.invariant.same n hx)
 
@@ -21,6 +21,7 @@ parts-preserved-in-Goes g t c =
     record {
       are_in = opened.shows.are_in;
       same = λ n hx. c.parts.invariant.same n hx ∙ last_inner s sound c.parts.parts c.in-Some.front c.in-Some.ensures c.in-Nothing.is opened.label opened.parts opened.is c.in-Goes.inner opened.shows n;
+      seen = c.parts.invariant.seen;
       smaller = omega (arith, last_smaller s sound c.parts.parts c.in-Some.front c.in-Some.ensures c.in-Nothing.is opened.label opened.parts opened.is c.in-Goes.inner opened.shows, c.parts.invariant.smaller);
     }
 
@@ -31,12 +32,12 @@ parts-smaller g t c =
 pub occurs-requires : goal.occurs-requires
 occurs-requires g t c κs within =
     let s = g.B.Bindings.meaning c.args.store.now in
-    (omega (arith, first_smaller s (g.met.B.Bindings.sound c.args.store.now) c.parts.parts c.in-Some.front c.in-Some.ensures c.in_default.not-Nothing, c.parts.invariant.smaller, c.decreases), (within, (c.in-Some.ensures.first_in, c.requires.x_in)))
+    (omega (arith, first_smaller s (g.met.B.Bindings.sound c.args.store.now) c.parts.parts c.in-Some.front c.in-Some.ensures c.in_default.not-Nothing, c.parts.invariant.smaller, c.decreases), (within, (c.in-Some.ensures.first_in, (c.requires.x_in, c.parts.invariant.seen))))
 
-pub returns-then-occurs : goal.returns-then-occurs
-returns-then-occurs g t c = λ n hx.
+pub returns-then-occurs-clause-found : goal.returns-then-occurs-clause-found
+returns-then-occurs-clause-found g t c = λ n hx.
     let s = g.B.Bindings.meaning c.args.store.now in
-    first_found s (g.met.B.Bindings.sound c.args.store.now) c.parts.parts c.in-Some.front c.in-Some.ensures n (c.if-occurs.ensures n hx) ∙ sym (c.parts.invariant.same n hx)
+    first_found s (g.met.B.Bindings.sound c.args.store.now) c.parts.parts c.in-Some.front c.in-Some.ensures n (c.if-occurs.ensures.found n hx) ∙ sym (c.parts.invariant.same n hx)
 
 pub parts-preserved : goal.parts-preserved
 parts-preserved g t c =
@@ -44,6 +45,7 @@ parts-preserved g t c =
     let sound = g.met.B.Bindings.sound c.args.store.now in
     record {
       are_in = c.in-Some.ensures.rest_in;
-      same = λ n hx. c.parts.invariant.same n hx ∙ first_missed s sound c.parts.parts c.in-Some.front c.in-Some.ensures n (c.if-occurs.ensures n hx);
+      same = λ n hx. c.parts.invariant.same n hx ∙ first_missed s sound c.parts.parts c.in-Some.front c.in-Some.ensures n (c.if-occurs.ensures.found n hx);
+      seen = λ n hx. c.note.ensures s n (c.if-occurs.ensures.seen n hx) (first_clear s c.in-Some.front n (c.if-occurs.ensures.found n hx));
       smaller = omega (arith, rest_smaller s sound c.parts.parts c.in-Some.front c.in-Some.ensures c.in_default.not-Nothing, c.parts.invariant.smaller);
     }

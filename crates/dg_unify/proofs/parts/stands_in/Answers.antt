@@ -10,4 +10,4 @@ returns-then-is_clear g c = λ n hx. sym (c.if-is_clear.ensures n hx refl)
 pub returns : goal.returns
 returns g c = λ n hx.
     let s = g.B.Bindings.meaning c.args.store.now in
-    c.occurs.ensures n hx ∙ or_end (contains n (resolved s.state.subst (told s c.args.at)))
+    c.occurs.ensures.found n hx ∙ or_end (contains n (resolved s.state.subst (told s c.args.at)))
