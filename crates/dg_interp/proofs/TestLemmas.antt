@@ -1,6 +1,6 @@
 -- Whether a variable stands in some values of a store.
 use Rattle.std.proofs.Common.{◌≡◌, Bool, true, false, refl, sym, ap, ◌∙◌}
-use Rattle.std.specs.Prelude.{◌&&◌}
+use Rattle.std.specs.Prelude.{◌&&◌, not}
 use Rattle.dg_base.specs.declared.program.TestKind.{TestKind}
 use Rattle.dg_base.specs.declared.program.TestKind.TheVariants as test
 use Rattle.dg_meaning.specs.Values.{Label, Value, Var, Node, Values}
@@ -13,6 +13,7 @@ use Rattle.dg_unify.specs.declared.bindings.Ref.{Ref}
 use Rattle.dg_unify.specs.declared.parts.Parts.{Parts}
 use Rattle.dg_unify.specs.declared.parts.Parts.TheVariants as form
 use Rattle.dg_unify.specs.declared.parts.Front.{Front}
+use Rattle.dg_interp.specs.Testing.{is_open}
 use Rattle.dg_unify.proofs.StoreLemmas.{walked_to}
 
 and_end : (a : Bool) → (a && true) ≡ a
@@ -20,6 +21,10 @@ and_end true = refl
 and_end false = refl
 
 -- no variable stands in these
+not_false : (b : Bool) → not b ≡ false → b ≡ true
+not_false true h = refl
+not_false false h = absurd (cc h)
+
 abbrev pub full_in : Store → Parts → Bool
 full_in s p = are_full (all_resolved s.state.subst (values_of s p))
 
@@ -33,7 +38,7 @@ module _ (s : Store) (sound : IsSubstitution s.state.subst) (p : Parts) (front :
   full_split : full_in s p ≡ (is_full (resolved S v) && full_in s front.rest)
   full_split = ap (λ vs. are_full (all_resolved S vs)) split.values
 
-  last_full : front.rest ≡ form.Nothing → full_in s p ≡ is_full (resolved S v)
+  pub last_full : front.rest ≡ form.Nothing → full_in s p ≡ is_full (resolved S v)
   last_full last = full_split ∙ ap (λ q. is_full (resolved S v) && full_in s q) last ∙ and_end (is_full (resolved S v))
 
   pub full_var : front.rest ≡ form.Nothing → (y : Ref) → ShowsVar s (walked_to s front.first) y → full_in s p ≡ false
@@ -55,6 +60,13 @@ module _ (s : Store) (sound : IsSubstitution s.state.subst) (p : Parts) (front :
   full_on h =
       let e : is_full (resolved S v) ≡ true = sym (and_end (is_full (resolved S v))) ∙ sym h in
       full_split ∙ ap (λ b. b && full_in s front.rest) e
+
+  -- a value that is noted
+  pub last_noted : front.rest ≡ form.Nothing → is_open s front.first ≡ false → full_in s p ≡ true
+  last_noted last h = last_full last ∙ not_false (is_full (resolved S v)) h
+
+  pub first_noted : true ≡ full_in s (form.One front.first) → is_open s front.first ≡ false
+  first_noted h = ap not (sym (and_end (is_full (resolved S v))) ∙ sym h)
 
 -- ## Tests
 

@@ -6,9 +6,10 @@ ghost use Rattle.dg_meaning.specs.TypeTests.{top_passes, passes, are_full as all
 ghost use Rattle.dg_meaning.specs.Substitutions.{all_resolved};
 ghost use Rattle.dg_unify.specs.Store.{told, Holds, Shows};
 ghost use Rattle.dg_unify.specs.Parts.{AreIn, values_of};
+ghost use Rattle.dg_interp.specs.Testing.{AreFull};
 
 use dg_base::{Simple, TestKind};
-use dg_unify::{Bindings, Parts, Ref, View, inner, split, variable_of};
+use dg_unify::{Bindings, Parts, Ref, Seen, View, inner, split, variable_of};
 
 // Whether a value that was looked up passes a test by what stands at its top.
 fn view_passes(kind: TestKind, view: View) -> bool
@@ -27,10 +28,13 @@ fn view_passes(kind: TestKind, view: View) -> bool
     }
 }
 
-// Whether no unbound variable stands in some values: a recursion into all but the last, which is done in the loop.
-fn are_full<B: Bindings>(store: &B, parts: Parts) -> bool
-    requires { AreIn (B.meaning store.now) parts }
-    ensures { result ≡ all_full (all_resolved (B.meaning store.now).state.subst (values_of (B.meaning store.now) parts)) }
+// Whether no unbound variable stands in some values: a recursion into all but the last, which is done in the loop. Those
+// in which none stands are noted, and one that comes again soon isn't looked through again.
+fn are_full<B: Bindings>(store: &B, parts: Parts, seen: &mut Seen) -> bool
+    requires parts_in { AreIn (B.meaning store.now) parts }
+    requires seen_in { AreFull (B.meaning store.now) seen.old }
+    ensures full { result ≡ all_full (all_resolved (B.meaning store.now).state.subst (values_of (B.meaning store.now) parts)) }
+    ensures seen { AreFull (B.meaning store.now) seen.new }
 {
     let mut parts = parts;
     'parts: loop {
@@ -38,6 +42,9 @@ fn are_full<B: Bindings>(store: &B, parts: Parts) -> bool
             None => return true,
             Some(front) => match front.rest {
                 Parts::Nothing => {
+                    if seen.has(front.first) {
+                        return true;
+                    }
                     let view = store.walk(front.first);
                     match variable_of(view) {
                         Some(_) => return false,
@@ -45,9 +52,10 @@ fn are_full<B: Bindings>(store: &B, parts: Parts) -> bool
                     }
                 }
                 _ => {
-                    if !are_full(store, Parts::One(front.first)) {
+                    if !are_full(store, Parts::One(front.first), seen) {
                         return false;
                     }
+                    seen.note(front.first);
                     parts = front.rest;
                 }
             },
@@ -61,7 +69,7 @@ pub fn test<B: Bindings>(store: &B, kind: TestKind, value: Ref) -> bool
     ensures { result ≡ passes (B.meaning store.now).state.subst kind (told (B.meaning store.now) value) }
 {
     match kind {
-        TestKind::FullyBound => are_full(store, Parts::One(value)),
+        TestKind::FullyBound => are_full(store, Parts::One(value), &mut Seen::new()),
         _ => view_passes(kind, store.walk(value)),
     }
 }

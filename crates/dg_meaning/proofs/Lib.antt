@@ -3,6 +3,7 @@ pub mod LookUps
 pub mod Solving
 pub mod UnifyLaws
 pub mod Unifiers
+pub mod EqualValues
 pub mod Spellings
 pub mod WorkedValues
 pub mod OneRun

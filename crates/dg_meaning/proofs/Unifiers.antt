@@ -72,7 +72,7 @@ spelling_refl : (xs : List ℕ) → same_spelling xs xs ≡ true
 spelling_refl [] = refl
 spelling_refl (x ∷ xs) = rw (eq-eqb x x refl) (spelling_refl xs)
 
-label_refl : (f : Label) → same_label f f ≡ true
+pub label_refl : (f : Label) → same_label f f ≡ true
 label_refl (Num n) = eq-eqb n n refl
 label_refl (Word n) = eq-eqb n n refl
 label_refl (Unknown n) = spelling_refl n

@@ -5,7 +5,7 @@ ghost use Rattle.std.specs.Prelude.{ℕ, ◌+◌, List, Option};
 ghost use Rattle.dg_base.specs.declared.run.Limits.{Limits};
 ghost use Rattle.dg_base.specs.declared.run.Outcome.{Outcome};
 ghost use Rattle.dg_meaning.specs.Substitutions.{Substitution, IsSubstitution};
-ghost use Rattle.dg_meaning.specs.Unifiers.{WalksUp, Resolves, UnifyingExtends, UnifyingMakesEqual, UnifyingIsMostGeneral};
+ghost use Rattle.dg_meaning.specs.Unifiers.{WalksUp, Resolves, UnifyingExtends, UnifyingMakesEqual, UnifyingIsMostGeneral, EqualValuesUnify};
 ghost use Rattle.dg_meaning.specs.Spellings.{SpellingsUnify};
 ghost use Rattle.dg_meaning.specs.World.{Game};
 ghost use Rattle.dg_meaning.specs.Transcript.{run};
@@ -41,11 +41,12 @@ pub fn values_are_looked_up()
     ensures resolves { (S : Substitution) → IsSubstitution S → Resolves S }
 {}
 
-/// Unification only extends a substitution, and makes two values equal in the most general way, where anything makes them equal.
+/// Unification only extends a substitution, and makes two values equal in the most general way, where anything makes them equal. Two that are equal already bind nothing.
 pub fn unification_is_most_general()
     ensures extends { UnifyingExtends }
     ensures equal { UnifyingMakesEqual }
     ensures most_general { UnifyingIsMostGeneral }
+    ensures silent { EqualValuesUnify }
 {}
 
 /// It makes no difference to unification whether words are named by their numbers or by their spellings.

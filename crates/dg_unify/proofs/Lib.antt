@@ -9,3 +9,5 @@ pub mod PartsLemmas
 pub mod Tops
 pub mod Meets
 pub mod Goings
+pub mod SeenLemmas
+pub mod KnownLemmas

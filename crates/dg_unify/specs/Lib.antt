@@ -9,4 +9,5 @@ pub mod Ends
 pub mod Listed
 pub mod Parts
 pub mod Seen
+pub mod Known
 pub mod Turns

@@ -1,16 +1,20 @@
 -- What is known of values that were looked through. Hold it against dg_meaning/specs/Substitutions.antt.
-use Rattle.std.specs.Prelude.{ℕ, Option, Some, None}
+use Rattle.std.specs.Prelude.{◌≡◌, ℕ, Option, Some, None, Bool, false}
 use Rattle.std.specs.List.{All}
-use Rattle.dg_unify.specs.Store.{Store}
-use Rattle.dg_unify.specs.Parts.{IsClear}
+use Rattle.dg_meaning.specs.Substitutions.{resolved, contains}
+use Rattle.dg_unify.specs.Store.{Store, told}
 use Rattle.dg_unify.specs.declared.bindings.Ref.{Ref}
 use Rattle.dg_unify.specs.declared.seen.Seen.{Seen}
 
--- The variable n doesn't stand in this value, if there is one.
-abbrev pub is_clear_of : Store → ℕ → Option Ref → Type 0
-is_clear_of s n None = Unit {0}
-is_clear_of s n (Some at) = IsClear s n at
+-- Nothing is found in this value, if there is one.
+abbrev pub is_free : (Ref → Bool) → Option Ref → Type 0
+is_free finds None = Unit {0}
+is_free finds (Some at) = finds at ≡ false
 
--- The variable n stands in none of these values.
+-- Nothing is found in any value that is noted.
+abbrev pub AreFree : (Ref → Bool) → Seen → Type 0
+AreFree finds seen = All (is_free finds) seen.refs
+
+-- The variable n doesn't stand in any value that is noted.
 abbrev pub AreClear : Store → ℕ → Seen → Type 0
-AreClear s n seen = All (is_clear_of s n) seen.refs
+AreClear s n seen = AreFree (λ at. contains n (resolved s.state.subst (told s at))) seen

@@ -3,6 +3,7 @@
 
 mod bindings;
 mod fence;
+mod known;
 mod links;
 mod list;
 mod parts;
@@ -14,4 +15,5 @@ mod unifying;
 pub use bindings::{Bindings, Full, Mark, Ref, View};
 pub use list::ListBindings;
 pub use parts::{Front, Parts, inner, split, variable_of};
+pub use seen::Seen;
 pub use unifying::unify;

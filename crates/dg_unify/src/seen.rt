@@ -1,9 +1,8 @@
-// Values in which a variable was found not to stand.
+// Values that were looked through, and in which nothing was found.
 
-ghost use Rattle.std.specs.Prelude.{◌≡◌, ℕ, true};
-ghost use Rattle.dg_unify.specs.Store.{Store};
-ghost use Rattle.dg_unify.specs.Parts.{IsClear};
-ghost use Rattle.dg_unify.specs.Seen.{AreClear};
+ghost use Rattle.std.specs.Prelude.{◌≡◌, Bool, true, false};
+ghost use Rattle.dg_unify.specs.Seen.{AreFree};
+ghost use Rattle.dg_unify.specs.declared.bindings.Ref.{Ref as Number};
 
 use crate::bindings::Ref;
 
@@ -16,14 +15,14 @@ pub struct Seen {
 impl Seen {
     /// None yet.
     pub fn new() -> Seen
-        ensures { (s : Store) (n : ℕ) → AreClear s n result }
+        ensures { (finds : Number → Bool) → AreFree finds result }
     {
         Seen { refs: [None; 64] }
     }
 
     /// Whether a value is there.
     pub fn has(&self, at: Ref) -> bool
-        ensures { (s : Store) (n : ℕ) → AreClear s n self.now → result ≡ true → IsClear s n at }
+        ensures { (finds : Number → Bool) → AreFree finds self.now → result ≡ true → finds at ≡ false }
     {
         match self.refs[at.0 as usize % 64] {
             Some(known) => known.0 == at.0,
@@ -33,7 +32,7 @@ impl Seen {
 
     /// Adds a value, in the place of another.
     pub fn note(&mut self, at: Ref)
-        ensures { (s : Store) (n : ℕ) → AreClear s n self.old → IsClear s n at → AreClear s n self.new }
+        ensures { (finds : Number → Bool) → AreFree finds self.old → finds at ≡ false → AreFree finds self.new }
     {
         self.refs[at.0 as usize % 64] = Some(at);
     }

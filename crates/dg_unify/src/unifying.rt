@@ -1,14 +1,16 @@
 // The unification of two values of a store.
 
-ghost use Rattle.std.specs.Prelude.{◌≡◌, ℕ, List, ◌∷◌, [], Some, ◌&&◌};
+ghost use Rattle.std.specs.Prelude.{◌≡◌, ℕ, List, ◌∷◌, [], Some, Ok, true, ◌&&◌};
 ghost use Rattle.dg_meaning.specs.Values.{Label, Value, Var, Node, Values};
 ghost use Rattle.dg_meaning.specs.Substitutions.{walk};
 ghost use Rattle.dg_meaning.specs.Unify.{same_label, as_many, side_by_side, Binds, binds, ties, same_spelling, solve as solved, unify as unified};
 ghost use Rattle.dg_unify.specs.Store.{Store, Saved, told, Holds, Kept, label_of, Shows, IsClosureAt, IsUnknownAt, MayBind, Follows};
 ghost use Rattle.dg_unify.specs.Parts.{AreIn, values_of};
+ghost use Rattle.dg_unify.specs.Known.{AreEqual};
 ghost use Rattle.dg_unify.specs.Turns.{IsUnbound, FollowsTurn, TurnsInto, IsFirstOf, Compares, is_nothing as no_parts, met_of};
 
 use crate::bindings::{Bindings, Full, Ref, View};
+use crate::known::Known;
 use crate::parts::{Parts, inner, split, stands_in, variable_of};
 use dg_base::Simple;
 
@@ -248,15 +250,38 @@ fn first_of<B: Bindings>(store: &B, p: Parts, q: Parts) -> Option<First>
     }
 }
 
+// One turn of two values. Nothing is left of two that have parts and are known to be equal.
+fn turn<B: Bindings>(store: &mut B, a: Ref, b: Ref, known: &Known) -> Result<Met, Full>
+    requires a_in { Holds (B.meaning store.old) a }
+    requires b_in { Holds (B.meaning store.old) b }
+    requires known_in { AreEqual (B.meaning store.old) known.now }
+    ensures kept { Kept (B.meaning store.old) (B.meaning store.new) }
+    ensures saved { (ms : List Saved) → B.saves store.old ms → B.saves store.new ms }
+    ensures met { TurnsInto (B.meaning store.old) (B.meaning store.new) (told (B.meaning store.old) a) (told (B.meaning store.old) b) result }
+{
+    match meet(store, a, b) {
+        Err(e) => Err(e),
+        Ok(Met::Done(agreed)) => Ok(Met::Done(agreed)),
+        Ok(Met::Goes(p, q)) => {
+            if known.has(a, b) {
+                return Ok(Met::Done(true));
+            }
+            Ok(Met::Goes(p, q))
+        }
+    }
+}
+
 // Makes each of some values equal to the one at its place among others: a recursion into all but the last, which is
 // done in the loop.
 #[cycle(unify)]
-fn solve<B: Bindings>(store: &mut B, p: Parts, q: Parts) -> Result<bool, Full>
+fn solve<B: Bindings>(store: &mut B, p: Parts, q: Parts, known: &mut Known) -> Result<bool, Full>
     requires p_in { AreIn (B.meaning store.old) p }
     requires q_in { AreIn (B.meaning store.old) q }
+    requires known_in { AreEqual (B.meaning store.old) known.old }
     ensures kept { Kept (B.meaning store.old) (B.meaning store.new) }
     ensures saved { (ms : List Saved) → B.saves store.old ms → B.saves store.new ms }
     ensures follows { Follows (B.meaning store.old) (B.meaning store.new) (solved (B.meaning store.old).state.subst (side_by_side (values_of (B.meaning store.old) p) (values_of (B.meaning store.old) q))) result }
+    ensures known { result ≡ Ok true → AreEqual (B.meaning store.new) known.new }
 {
     let mut p = p;
     let mut q = q;
@@ -265,7 +290,7 @@ fn solve<B: Bindings>(store: &mut B, p: Parts, q: Parts) -> Result<bool, Full>
             None => return Ok(true),
             Some(first) => {
                 if first.last {
-                    match meet(store, first.a, first.b) {
+                    match turn(store, first.a, first.b, known) {
                         Err(e) => return Err(e),
                         Ok(Met::Done(agreed)) => return Ok(agreed),
                         Ok(Met::Goes(v, w)) => {
@@ -274,7 +299,7 @@ fn solve<B: Bindings>(store: &mut B, p: Parts, q: Parts) -> Result<bool, Full>
                         }
                     }
                 } else {
-                    match unify(store, first.a, first.b) {
+                    match agree(store, first.a, first.b, known) {
                         Err(e) => return Err(e),
                         Ok(agreed) => {
                             if !agreed {
@@ -290,9 +315,35 @@ fn solve<B: Bindings>(store: &mut B, p: Parts, q: Parts) -> Result<bool, Full>
     }
 }
 
+// Makes two values equal. Two that have parts are noted, so that they aren't looked through again where they stand
+// beside each other again.
+#[cycle(unify)]
+fn agree<B: Bindings>(store: &mut B, a: Ref, b: Ref, known: &mut Known) -> Result<bool, Full>
+    requires a_in { Holds (B.meaning store.old) a }
+    requires b_in { Holds (B.meaning store.old) b }
+    requires known_in { AreEqual (B.meaning store.old) known.old }
+    ensures kept { Kept (B.meaning store.old) (B.meaning store.new) }
+    ensures saved { (ms : List Saved) → B.saves store.old ms → B.saves store.new ms }
+    ensures unified { Follows (B.meaning store.old) (B.meaning store.new) (unified (B.meaning store.old).state.subst (told (B.meaning store.old) a) (told (B.meaning store.old) b)) result }
+    ensures known { result ≡ Ok true → AreEqual (B.meaning store.new) known.new }
+{
+    match turn(store, a, b, known) {
+        Err(e) => Err(e),
+        Ok(Met::Done(agreed)) => Ok(agreed),
+        Ok(Met::Goes(p, q)) => match solve(store, p, q, known) {
+            Err(e) => Err(e),
+            Ok(agreed) => {
+                if agreed {
+                    known.note(a, b);
+                }
+                Ok(agreed)
+            }
+        },
+    }
+}
+
 /// Makes two values equal by binding variables, and answers whether that can be done. After a false answer or an error
 /// what was bound stays bound.
-#[cycle(unify)]
 pub fn unify<B: Bindings>(store: &mut B, a: Ref, b: Ref) -> Result<bool, Full>
     requires a_in { Holds (B.meaning store.old) a }
     requires b_in { Holds (B.meaning store.old) b }
@@ -303,6 +354,6 @@ pub fn unify<B: Bindings>(store: &mut B, a: Ref, b: Ref) -> Result<bool, Full>
     match meet(store, a, b) {
         Err(e) => Err(e),
         Ok(Met::Done(agreed)) => Ok(agreed),
-        Ok(Met::Goes(p, q)) => solve(store, p, q),
+        Ok(Met::Goes(p, q)) => solve(store, p, q, &mut Known::new()),
     }
 }

@@ -68,8 +68,12 @@ const SECOND_RULE: &str = "(p 1)\n(p 2)\n(program entry point) (p 2) done\n";
 
 const NESTED: &str = "(q 1)\n(q 2)\n(p (q $X)) $X\n(program entry point) *(p 2)\n";
 
+// Two values that are doubled thirty times each: as trees they have a thousand million parts.
+const DOUBLED: &str =
+    "(twice [] $X $X)\n(twice [$ | $N] $X $Y) (twice $N [$X | $X] $Y)\n(value $X $Y) (twice [0 0 0 0 0 0 0 0 0 0 0 0 0 0 0 0 0 0 0 0 0 0 0 0 0 0 0 0 0 0] [$X] $Y)\n(program entry point) (value $A $X) (value $B $Y) ($X = $Y) ($A = 1) (fully bound $X) $B\n";
+
 // The words of the command, the source, the status and the transcript.
-const TRANSCRIPTS: [(&str, &str, u8, &str); 19] = [
+const TRANSCRIPTS: [(&str, &str, u8, &str); 20] = [
     (
         "debug p.dg",
         "(program entry point) Hello, world!",
@@ -93,6 +97,7 @@ const TRANSCRIPTS: [(&str, &str, u8, &str); 19] = [
     ),
     ("debug p.dg", CHOICE, 0, "took lamp\n"),
     ("debug p.dg", NESTED, 0, "2\n"),
+    ("debug p.dg", DOUBLED, 0, "1\n"),
     ("debug p.dg --heap 22", SECOND_RULE, 3, "[Heap limit]\n"),
     ("debug p.dg --heap 23", SECOND_RULE, 0, "done\n"),
     (

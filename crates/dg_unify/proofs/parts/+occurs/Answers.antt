@@ -1,4 +1,6 @@
 use Rattle.std.proofs.Common.{sym, ◌∙◌, arith}
+use Rattle.dg_meaning.specs.Substitutions.{resolved, contains}
+use Rattle.dg_unify.specs.Store.{told}
 use Rattle.dg_unify.proofs.PartsLemmas.{last_stands, last_inner, last_smaller, first_smaller, rest_smaller, first_found, first_missed, first_clear}
 use Rattle.dg_unify.proofs.parts.+occurs.Goals as goal
 
@@ -46,6 +48,6 @@ parts-preserved g t c =
     record {
       are_in = c.in-Some.ensures.rest_in;
       same = λ n hx. c.parts.invariant.same n hx ∙ first_missed s sound c.parts.parts c.in-Some.front c.in-Some.ensures n (c.if-occurs.ensures.found n hx);
-      seen = λ n hx. c.note.ensures s n (c.if-occurs.ensures.seen n hx) (first_clear s c.in-Some.front n (c.if-occurs.ensures.found n hx));
+      seen = λ n hx. c.note.ensures (λ at. contains n (resolved s.state.subst (told s at))) (c.if-occurs.ensures.seen n hx) (first_clear s c.in-Some.front n (c.if-occurs.ensures.found n hx));
       smaller = omega (arith, rest_smaller s sound c.parts.parts c.in-Some.front c.in-Some.ensures c.in_default.not-Nothing, c.parts.invariant.smaller);
     }

@@ -1,11 +1,17 @@
 use Rattle.std.proofs.Common.{refl, sym, subst}
-use Rattle.dg_unify.specs.Store.{Shows}
+use Rattle.dg_meaning.specs.Substitutions.{resolved, contains}
+use Rattle.dg_unify.specs.Store.{told, Shows}
 use Rattle.dg_unify.proofs.StoreLemmas.{walked_to, found_var}
 use Rattle.dg_unify.proofs.PartsLemmas.{shown_var, shown_node}
 use Rattle.dg_unify.proofs.parts.look_into.Goals as goal
 
 pub returns-then-is_clear : goal.returns-then-is_clear
 returns-then-is_clear g c = λ n hx. sym (c.if-is_clear.ensures n hx refl)
+
+pub returns-then-has : goal.returns-then-has
+returns-then-has g c = λ n hx.
+    let s = g.B.Bindings.meaning c.args.store.now in
+    sym (c.if-has.ensures (λ at. contains n (resolved s.state.subst (told s at))) (c.requires.seen_in n hx) refl)
 
 pub returns-in-Some : goal.returns-in-Some
 returns-in-Some g c = λ n hx.

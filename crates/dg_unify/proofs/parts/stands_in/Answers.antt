@@ -11,3 +11,8 @@ pub returns : goal.returns
 returns g c = λ n hx.
     let s = g.B.Bindings.meaning c.args.store.now in
     c.occurs.ensures.found n hx ∙ or_end (contains n (resolved s.state.subst (told s c.args.at)))
+
+pub occurs-requires-clause-seen_in : goal.occurs-requires-clause-seen_in
+occurs-requires-clause-seen_in g c = λ n hx.
+    let s = g.B.Bindings.meaning c.args.store.now in
+    c.new.ensures (λ at. contains n (resolved s.state.subst (told s at)))

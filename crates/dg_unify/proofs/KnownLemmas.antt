@@ -1,0 +1,77 @@
+-- What is known to be equal stays equal, and what was made equal is.
+use Rattle.std.proofs.Common.{◌≡◌, ℕ, List, [], ◌∷◌, ◌++◌, true, sym, ap, ◌∙◌, subst, Option, Some, None, length, slice_index_or, nat_eq, inl, inr}
+use Rattle.std.specs.List.{All}
+use Rattle.std.specs.Prelude.{Ok, Bool}
+use Rattle.std.proofs.lemmas.Bool.{cases_lt, eqb-true}
+use Rattle.std.proofs.lemmas.List.{get_or_past}
+use Rattle.std.proofs.lemmas.List.Elements.{All-weaker, All-get_or}
+use Rattle.dg_meaning.specs.Values.{Value}
+use Rattle.dg_meaning.specs.Substitutions.{Substitution, resolved, IsSubstitution}
+use Rattle.dg_meaning.specs.Unify.{unify}
+use Rattle.dg_meaning.proofs.Solving.{solve_extends}
+use Rattle.dg_meaning.proofs.UnifyLaws.{resolved_later}
+use Rattle.dg_meaning.proofs.Unifiers.{makes_equal}
+use Rattle.dg_meaning.proofs.EqualValues.{equal_values}
+use Rattle.dg_unify.specs.Store.{Store, told, Holds, Kept, Does}
+use Rattle.dg_unify.specs.Turns.{TurnsInto, AreLeft}
+use Rattle.dg_unify.specs.Known.{IsEqual, is_equal_pair, AreEqual}
+use Rattle.dg_unify.specs.declared.bindings.Ref.{Ref}
+use Rattle.dg_unify.specs.declared.known.Known.{Known}
+use Rattle.dg_unify.specs.declared.parts.Parts.{Parts}
+use Rattle.dg_unify.specs.declared.unifying.Met.TheVariants as met
+use Rattle.dg_unify.proofs.StoreLemmas.{kept_holds, kept_told}
+use Rattle.dg_unify.proofs.Meets.{more_same}
+
+module _ (old new : Store) (kept : Kept old new) (made : Substitution) (is : new.state.subst ≡ made ++ old.state.subst) where
+  equal_kept : (a b : Ref) → IsEqual old a b → IsEqual new a b
+  equal_kept a b h = record {
+    a_in = kept_holds old new a kept h.a_in;
+    b_in = kept_holds old new b kept h.b_in;
+    same = rw (is, kept_told old new a kept h.a_in, kept_told old new b kept h.b_in) (resolved_later made old.state.subst (told old a) (told old b) h.same);
+  }
+
+  pair_kept : (p : Option (Ref × Ref)) → is_equal_pair old p → is_equal_pair new p
+  pair_kept None h = tt
+  pair_kept (Some p) h = equal_kept p.0 p.1 h
+
+  pairs_kept : (ps : List (Option (Ref × Ref))) → All (is_equal_pair old) ps → All (is_equal_pair new) ps
+  pairs_kept ps h = All-weaker (is_equal_pair old) (is_equal_pair new) pair_kept ps h
+
+-- behind a unification, whether it agreed or not
+pub equal_behind : (old new : Store) → IsSubstitution old.state.subst → (known : Known) (v w : Value) (answer : Bool) → Kept old new → Does old new (unify old.state.subst v w) answer → AreEqual old known → AreEqual new known
+equal_behind old new sound known v w answer kept h =
+    let grew = solve_extends old.state.subst ((v, w) ∷ []) sound in
+    pairs_kept old new kept grew.made (h.subst ∙ grew.is) known.pairs
+
+-- what was made equal
+pub equal_made : (old new : Store) → IsSubstitution old.state.subst → (a b : Ref) → Holds old a → Holds old b → (answer : Bool) → answer ≡ true → Kept old new → Does old new (unify old.state.subst (told old a) (told old b)) answer → IsEqual new a b
+equal_made old new sound a b ha hb answer holds kept h = record {
+  a_in = kept_holds old new a kept ha;
+  b_in = kept_holds old new b kept hb;
+  same = rw (h.subst, kept_told old new a kept ha, kept_told old new b kept hb) (makes_equal old.state.subst (told old a) (told old b) sound (sym h.agrees ∙ holds));
+}
+
+-- two values that are equal already are done with
+pub equal_done : (s : Store) → IsSubstitution s.state.subst → (a b : Ref) → IsEqual s a b → Does s s (unify s.state.subst (told s a) (told s b)) true
+equal_done s sound a b h =
+    let k = equal_values s.state.subst (told s a) (told s b) sound h.same in
+    record { agrees = sym k.0; subst = sym k.1; binds = more_same s.state }
+
+pub left_done : (old new : Store) → IsSubstitution old.state.subst → (a b : Ref) (p q : Parts) → AreLeft old new (told old a) (told old b) p q → IsEqual old a b → TurnsInto old new (told old a) (told old b) (Ok (met.Done true))
+left_done old new sound a b p q left h = subst (λ (s : Store). Does old s (unify old.state.subst (told old a) (told old b)) true) (sym left.same) (equal_done old sound a b h)
+
+-- what stands at a place of the notes
+at_place : (s : Store) (ps : List (Option (Ref × Ref))) (i : ℕ) → All (is_equal_pair s) ps → is_equal_pair s (slice_index_or ps i None)
+at_place s ps i h =
+    elim (cases_lt i (length ps)) [
+      | inl lt ↦ All-get_or (is_equal_pair s) ps i None lt h
+      | inr past ↦ subst (is_equal_pair s) (sym (get_or_past ps i None past)) tt
+    ]
+
+same_ref : (a b : Ref) → a.0 ≡ b.0 → a ≡ b
+same_ref a b h = ap (λ (k : ℕ). let x : Ref = record { 0 = k } in x) h
+
+pub noted : (s : Store) (ps : List (Option (Ref × Ref))) (i : ℕ) (p : Ref × Ref) (a b : Ref) → All (is_equal_pair s) ps → slice_index_or ps i None ≡ Some p → p.0.0 ≡ a.0 → nat_eq p.1.0 b.0 ≡ true → IsEqual s a b
+noted s ps i p a b h there ea eb =
+    let here : IsEqual s p.0 p.1 = rw there at (at_place s ps i h) in
+    subst (λ (r : Ref). IsEqual s a r) (same_ref p.1 b (eqb-true p.1.0 b.0 eb)) (subst (λ (r : Ref). IsEqual s r p.1) (same_ref p.0 a ea) here)
