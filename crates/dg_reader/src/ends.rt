@@ -8,13 +8,13 @@ ghost use Rattle.dg_reader.specs.Machine as machine;
 ghost use Rattle.dg_reader.specs.Frames.{stack_view, frame_view, owner_view, wrapper_view, bare_view, keyword_view, opening_view, Moves};
 
 use crate::forms::{
-    accumulate, all_branches, body, choice, choice_else, collect, one_more_arm, select,
+    accumulated, all_branches, body, choice, choice_else, collected, one_more_arm, select,
 };
 use crate::frames::{Frame, Owner, Stop, Wrapper};
 use crate::keyword::{Bare, Keyword};
 use crate::open::new_body;
 use crate::put::{put_frame, put_stmt, refuse, refuse_body, refuse_keyword};
-use crate::release::let_go_keyword;
+use crate::release::{let_go_frame, let_go_keyword};
 use dg_base::{Items, Mode, Stmt, Value};
 use std::alloc::Global;
 
@@ -59,15 +59,30 @@ fn begin(stack: &mut Vec<Frame>, frame: Frame) -> Result<(), Stop>
     }
 }
 
+// A body stands open, and one more keyword waits in it.
+fn put_waiting(
+    stack: &mut Vec<Frame>,
+    owner: Owner,
+    branches: Items<Items<Stmt>>,
+    stmts: Items<Stmt>,
+    mut wrappers: Items<Wrapper>,
+    wrapper: Wrapper,
+) -> Result<(), Stop>
+    ensures { Moves (machine.put_opening (machine.waits (wrapper_view wrapper)) (machine.in_body (owner_view owner) (map branch_view branches) (map stmt_view stmts) (map wrapper_view wrappers) ∷ stack_view stack.old.items)) result (stack_view stack.new.items) }
+{
+    wrappers.push(wrapper)?;
+    put_frame(stack, Frame::InBody(owner, branches, stmts, wrappers))
+}
+
 fn wait(stack: &mut Vec<Frame>, wrapper: Wrapper) -> Result<(), Stop>
     ensures { Moves (machine.put_opening (machine.waits (wrapper_view wrapper)) (stack_view stack.old.items)) result (stack_view stack.new.items) }
 {
     match stack.pop() {
-        Some(Frame::InBody(owner, branches, stmts, mut wrappers)) => {
-            wrappers.push(wrapper)?;
-            put_frame(stack, Frame::InBody(owner, branches, stmts, wrappers))
+        Some(Frame::InBody(owner, branches, stmts, wrappers)) => {
+            put_waiting(stack, owner, branches, stmts, wrappers, wrapper)
         }
-        _ => Err(Stop::Unexpected),
+        Some(frame) => refuse(frame),
+        None => Err(Stop::Unexpected),
     }
 }
 
@@ -194,12 +209,10 @@ fn end_gathering(
 {
     match owner {
         Owner::Collect(value) => {
-            let inside = body(branches, stmts)?;
-            put_stmt(alloc, stack, collect(value, inside, into))
+            put_stmt(alloc, stack, collected(value, branches, stmts, into)?)
         }
         Owner::Accumulate(value) => {
-            let inside = body(branches, stmts)?;
-            put_stmt(alloc, stack, accumulate(value, inside, into))
+            put_stmt(alloc, stack, accumulated(value, branches, stmts, into)?)
         }
         other => refuse_body(other, branches, stmts),
     }
@@ -266,7 +279,11 @@ fn end(alloc: Global, stack: &mut Vec<Frame>, keyword: Keyword) -> Result<(), St
                 refuse_end(keyword, owner, branches, stmts)
             }
         }
-        _ => refuse_keyword(keyword),
+        Some(frame) => {
+            let_go_frame(frame);
+            refuse_keyword(keyword)
+        }
+        None => refuse_keyword(keyword),
     }
 }
 

@@ -157,6 +157,26 @@ fn arm(condition: Body, body: Body) -> Arm
     Arm { condition, body }
 }
 
+/// Parts with one more.
+pub fn one_more_part(mut parts: Items<Part>, part: Part) -> Result<Items<Part>, AllocError>
+    ensures { IfOk result (λ ps. map part_view ps ≡ map part_view parts ++ part_view part ∷ []) }
+{
+    parts.push(part)?;
+    Ok(parts)
+}
+
+/// Changes with one more.
+pub fn one_more_change(
+    mut changes: Items<NowChange>,
+    head: Head,
+    set: bool,
+) -> Result<Items<NowChange>, AllocError>
+    ensures { IfOk result (λ cs. map change_view cs ≡ map change_view changes ++ (head_view head, set) ∷ []) }
+{
+    changes.push(change(head, set))?;
+    Ok(changes)
+}
+
 /// These arms and one more.
 pub fn one_more_arm(
     mut arms: Items<Arm>,
@@ -179,6 +199,30 @@ pub fn accumulate(value: Value, body: Body, into: Value) -> Stmt
     ensures { stmt_view result ≡ tree.accumulate (value_view value) (body_view body) (value_view into) }
 {
     Stmt::Accumulate(value, body, into)
+}
+
+/// What a body whose branches these are collects.
+pub fn collected(
+    value: Value,
+    branches: Items<Items<Stmt>>,
+    stmts: Items<Stmt>,
+    into: Value,
+) -> Result<Stmt, AllocError>
+    ensures { IfOk result (λ s. stmt_view s ≡ tree.collect (value_view value) (machine.body_of (map branch_view branches) (map stmt_view stmts)) (value_view into)) }
+{
+    Ok(collect(value, body(branches, stmts)?, into))
+}
+
+/// What a body whose branches these are accumulates.
+pub fn accumulated(
+    value: Value,
+    branches: Items<Items<Stmt>>,
+    stmts: Items<Stmt>,
+    into: Value,
+) -> Result<Stmt, AllocError>
+    ensures { IfOk result (λ s. stmt_view s ≡ tree.accumulate (value_view value) (machine.body_of (map branch_view branches) (map stmt_view stmts)) (value_view into)) }
+{
+    Ok(accumulate(value, body(branches, stmts)?, into))
 }
 
 pub fn select(mode: Mode, branches: Items<Items<Stmt>>) -> Stmt
@@ -234,4 +278,17 @@ pub fn wrapped(
         stmt = wrap(alloc, wrapper, stmt)?;
     }
     Ok(stmt)
+}
+
+/// Statements with one more, in what waits for it.
+pub fn one_more_stmt(
+    alloc: Global,
+    mut stmts: Items<Stmt>,
+    wrappers: Items<Wrapper>,
+    stmt: Stmt,
+) -> Result<Items<Stmt>, AllocError>
+    ensures { IfOk result (λ ss. map stmt_view ss ≡ map stmt_view stmts ++ machine.wrapped (map wrapper_view wrappers) (stmt_view stmt) ∷ []) }
+{
+    stmts.push(wrapped(alloc, wrappers, stmt)?)?;
+    Ok(stmts)
 }

@@ -10,7 +10,7 @@ ghost use Rattle.dg_reader.specs.Frames.{stack_view, frame_view, owner_view, Mov
 use crate::forms::object_name;
 use crate::frames::{Asking, Frame, Owner, Sign, Stop};
 use crate::keyword::is_named;
-use crate::put::{put_frame, put_printed, put_value, refuse};
+use crate::put::{put_both, put_frame, put_printed, put_value, refuse};
 use dg_base::{Items, Name, Part, Value};
 use std::alloc::Global;
 
@@ -90,13 +90,11 @@ pub fn open_body(alloc: Global, stack: &mut Vec<Frame>) -> Result<(), Stop>
 fn body_inside(alloc: Global, stack: &mut Vec<Frame>, frame: Frame) -> Result<(), Stop>
     ensures { Moves (machine.body_inside (frame_view frame) (stack_view stack.old.items)) result (stack_view stack.new.items) }
 {
-    let owner = match &frame {
-        Frame::InBody(_, _, _, _) => Owner::Group,
-        _ if takes_value(&frame) => Owner::Closure,
-        _ => return refuse(frame),
-    };
-    put_frame(stack, frame)?;
-    put_frame(stack, new_body(alloc, owner))
+    match &frame {
+        Frame::InBody(_, _, _, _) => put_both(stack, frame, new_body(alloc, Owner::Group)),
+        _ if takes_value(&frame) => put_both(stack, frame, new_body(alloc, Owner::Closure)),
+        _ => refuse(frame),
+    }
 }
 
 /// A parenthesis begins.
@@ -122,14 +120,23 @@ pub fn open_paren(alloc: Global, stack: &mut Vec<Frame>) -> Result<(), Stop>
 fn open_inside(alloc: Global, stack: &mut Vec<Frame>, frame: Frame) -> Result<(), Stop>
     ensures { Moves (machine.open_inside (frame_view frame) (stack_view stack.old.items)) result (stack_view stack.new.items) }
 {
-    let inner = match &frame {
-        Frame::InHead(_, _) => Frame::InNested(takes_choices(&frame), Items::new(alloc)),
-        Frame::InBody(_, _, _, _) => Frame::InQuery(Asking::ForOne, Items::new(alloc)),
-        Frame::BehindNow | Frame::InChanges(_) => Frame::InChange(true, Items::new(alloc)),
-        _ => return refuse(frame),
-    };
-    put_frame(stack, frame)?;
-    put_frame(stack, inner)
+    match &frame {
+        Frame::InHead(_, _) => {
+            let inner = Frame::InNested(takes_choices(&frame), Items::new(alloc));
+            put_both(stack, frame, inner)
+        }
+        Frame::InBody(_, _, _, _) => {
+            put_both(
+                stack,
+                frame,
+                Frame::InQuery(Asking::ForOne, Items::new(alloc)),
+            )
+        }
+        Frame::BehindNow | Frame::InChanges(_) => {
+            put_both(stack, frame, Frame::InChange(true, Items::new(alloc)))
+        }
+        _ => refuse(frame),
+    }
 }
 
 /// A `|` behind the elements of a list.
@@ -172,13 +179,11 @@ pub fn put_tilde(stack: &mut Vec<Frame>) -> Result<(), Stop>
 fn tilde_inside(stack: &mut Vec<Frame>, frame: Frame) -> Result<(), Stop>
     ensures { Moves (machine.tilde_inside (frame_view frame) (stack_view stack.old.items)) result (stack_view stack.new.items) }
 {
-    let inner = match &frame {
-        Frame::InBody(_, _, _, _) => Frame::BehindTilde,
-        Frame::BehindNow | Frame::InChanges(_) => Frame::BehindClear,
-        _ => return refuse(frame),
-    };
-    put_frame(stack, frame)?;
-    put_frame(stack, inner)
+    match &frame {
+        Frame::InBody(_, _, _, _) => put_both(stack, frame, Frame::BehindTilde),
+        Frame::BehindNow | Frame::InChanges(_) => put_both(stack, frame, Frame::BehindClear),
+        _ => refuse(frame),
+    }
 }
 
 /// An `@` before a head.

@@ -1,15 +1,18 @@
 // One more part, value, statement or change of what stands open.
 ghost use Rattle.std.specs.Prelude.{◌≡◌, ◌∷◌, [], map, Some, Err};
-ghost use Rattle.dg_base.specs.TreeView.{part_view, value_view, stmt_view, head_view};
+ghost use Rattle.dg_base.specs.TreeView.{part_view, value_view, stmt_view, head_view, branch_view};
 ghost use Rattle.dg_reader.specs.Tokens.{number_of};
 ghost use Rattle.dg_reader.specs.Machine as machine;
 ghost use Rattle.dg_reader.specs.declared.frames.Stop.TheVariants.{Unexpected};
-ghost use Rattle.dg_reader.specs.Frames.{stack_view, frame_view, Moves};
+ghost use Rattle.dg_reader.specs.Frames.{stack_view, frame_view, owner_view, wrapper_view, Moves};
 
-use crate::forms::{change, dict_word, now, num, print, text, value_part, word_part, wrapped};
-use crate::frames::{Frame, Owner, Stop};
+use crate::forms::{
+    dict_word, now, num, one_more_change, one_more_part, one_more_stmt, print, text, value_part,
+    word_part,
+};
+use crate::frames::{Frame, Owner, Stop, Wrapper};
 use crate::keyword::Keyword;
-use crate::release::{let_go_body, let_go_frame, let_go_keyword};
+use crate::release::{let_go_body, let_go_frame, let_go_keyword, let_go_stmt};
 use crate::words::{element, is_number, number};
 use dg_base::{Head, Items, Name, NowChange, Part, Stmt, Value};
 use std::alloc::Global;
@@ -20,6 +23,19 @@ pub fn put_frame(stack: &mut Vec<Frame>, frame: Frame) -> Result<(), Stop>
 {
     stack.push(frame)?;
     Ok(())
+}
+
+/// Two more constructs stand open, the second inside the first.
+pub fn put_both(stack: &mut Vec<Frame>, outer: Frame, inner: Frame) -> Result<(), Stop>
+    ensures { Moves (Some (frame_view inner ∷ frame_view outer ∷ stack_view stack.old.items)) result (stack_view stack.new.items) }
+{
+    match put_frame(stack, outer) {
+        Ok(()) => put_frame(stack, inner),
+        Err(stop) => {
+            let_go_frame(inner);
+            Err(stop)
+        }
+    }
 }
 
 /// A token may not stand in this.
@@ -50,19 +66,46 @@ pub fn refuse_body(
     Err(Stop::Unexpected)
 }
 
+// One more statement in a body, in what waits for it there.
+fn put_in_body(
+    alloc: Global,
+    stack: &mut Vec<Frame>,
+    owner: Owner,
+    branches: Items<Items<Stmt>>,
+    stmts: Items<Stmt>,
+    wrappers: Items<Wrapper>,
+    stmt: Stmt,
+) -> Result<(), Stop>
+    ensures { Moves (machine.put_stmt (stmt_view stmt) (machine.in_body (owner_view owner) (map branch_view branches) (map stmt_view stmts) (map wrapper_view wrappers) ∷ stack_view stack.old.items)) result (stack_view stack.new.items) }
+{
+    let stmts = one_more_stmt(alloc, stmts, wrappers, stmt)?;
+    put_frame(
+        stack,
+        Frame::InBody(owner, branches, stmts, Items::new(alloc)),
+    )
+}
+
+// A statement may not stand there.
+fn refuse_stmt(stmt: Stmt) -> Result<(), Stop>
+    ensures { result ≡ Err Unexpected }
+{
+    let_go_stmt(stmt);
+    Err(Stop::Unexpected)
+}
+
 /// One more statement.
 pub fn put_stmt(alloc: Global, stack: &mut Vec<Frame>, stmt: Stmt) -> Result<(), Stop>
     ensures { Moves (machine.put_stmt (stmt_view stmt) (stack_view stack.old.items)) result (stack_view stack.new.items) }
 {
     match stack.pop() {
-        Some(Frame::InBody(owner, branches, mut stmts, wrappers)) => {
-            stmts.push(wrapped(alloc, wrappers, stmt)?)?;
-            put_frame(
-                stack,
-                Frame::InBody(owner, branches, stmts, Items::new(alloc)),
-            )
+        Some(Frame::InBody(owner, branches, stmts, wrappers)) => {
+            put_in_body(alloc, stack, owner, branches, stmts, wrappers, stmt)
         }
-        _ => Err(Stop::Unexpected),
+        Some(frame) => {
+            let_go_frame(frame);
+            refuse_stmt(stmt)
+        }
+        None => refuse_stmt(stmt),
     }
 }
 
@@ -71,38 +114,46 @@ pub fn put_part(stack: &mut Vec<Frame>, part: Part) -> Result<(), Stop>
     ensures { Moves (machine.put_part (part_view part) (stack_view stack.old.items)) result (stack_view stack.new.items) }
 {
     match stack.pop() {
-        Some(Frame::InHead(sign, mut parts)) => {
-            parts.push(part)?;
-            put_frame(stack, Frame::InHead(sign, parts))
+        Some(Frame::InHead(sign, parts)) => {
+            put_frame(stack, Frame::InHead(sign, one_more_part(parts, part)?))
         }
-        Some(Frame::InNested(choices, mut parts)) => {
-            parts.push(part)?;
-            put_frame(stack, Frame::InNested(choices, parts))
+        Some(Frame::InNested(choices, parts)) => {
+            put_frame(stack, Frame::InNested(choices, one_more_part(parts, part)?))
         }
-        Some(Frame::InQuery(asking, mut parts)) => {
-            parts.push(part)?;
-            put_frame(stack, Frame::InQuery(asking, parts))
+        Some(Frame::InQuery(asking, parts)) => {
+            put_frame(stack, Frame::InQuery(asking, one_more_part(parts, part)?))
         }
-        Some(Frame::InChange(set, mut parts)) => {
-            parts.push(part)?;
-            put_frame(stack, Frame::InChange(set, parts))
+        Some(Frame::InChange(set, parts)) => {
+            put_frame(stack, Frame::InChange(set, one_more_part(parts, part)?))
         }
-        _ => Err(Stop::Unexpected),
+        Some(frame) => refuse(frame),
+        None => Err(Stop::Unexpected),
     }
+}
+
+// One more value in a list.
+fn put_listed(
+    stack: &mut Vec<Frame>,
+    choices: bool,
+    mut values: Items<Value>,
+    value: Value,
+) -> Result<(), Stop>
+    ensures { Moves (machine.put_element (value_view value) (machine.in_list choices (map value_view values) ∷ stack_view stack.old.items)) result (stack_view stack.new.items) }
+{
+    values.push(value)?;
+    put_frame(stack, Frame::InList(choices, values))
 }
 
 fn put_element(stack: &mut Vec<Frame>, value: Value) -> Result<(), Stop>
     ensures { Moves (machine.put_element (value_view value) (stack_view stack.old.items)) result (stack_view stack.new.items) }
 {
     match stack.pop() {
-        Some(Frame::InList(choices, mut values)) => {
-            values.push(value)?;
-            put_frame(stack, Frame::InList(choices, values))
-        }
+        Some(Frame::InList(choices, values)) => put_listed(stack, choices, values, value),
         Some(Frame::InTail(choices, values)) => {
             put_frame(stack, Frame::InListEnd(choices, values, value))
         }
-        _ => Err(Stop::Unexpected),
+        Some(frame) => refuse(frame),
+        None => Err(Stop::Unexpected),
     }
 }
 
@@ -191,14 +242,16 @@ pub fn put_change(alloc: Global, stack: &mut Vec<Frame>, head: Head, set: bool) 
 {
     match stack.pop() {
         Some(Frame::BehindNow) => {
-            let mut changes = Items::new(alloc);
-            changes.push(change(head, set))?;
+            let changes = one_more_change(Items::new(alloc), head, set)?;
             put_stmt(alloc, stack, now(changes))
         }
-        Some(Frame::InChanges(mut changes)) => {
-            changes.push(change(head, set))?;
-            put_frame(stack, Frame::InChanges(changes))
+        Some(Frame::InChanges(changes)) => {
+            put_frame(
+                stack,
+                Frame::InChanges(one_more_change(changes, head, set)?),
+            )
         }
-        _ => Err(Stop::Unexpected),
+        Some(frame) => refuse(frame),
+        None => Err(Stop::Unexpected),
     }
 }

@@ -67,6 +67,13 @@ pub fn let_go_body(owner: Owner, branches: Items<Items<Stmt>>, stmts: Items<Stmt
     pieces.let_go();
 }
 
+/// Lets go of a statement.
+pub fn let_go_stmt(stmt: Stmt) {
+    let mut pieces = Pieces::new();
+    pieces.add_stmt(stmt);
+    pieces.let_go();
+}
+
 /// Lets go of a keyword.
 pub fn let_go_keyword(keyword: Keyword) {
     let mut pieces = Pieces::new();

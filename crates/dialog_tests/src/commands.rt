@@ -265,6 +265,9 @@ const HI: [u8; 8] = [0xB2, 0xB5, 0xC5, 0xBB, 0xBA, 0, 0, 0];
 // random 6 -> g0; print_num g0; quit
 const THROW: [u8; 8] = [0xE7, 0x7F, 0x06, 0x10, 0xE6, 0xBF, 0x10, 0xBA];
 
+// pull g0, from an empty stack
+const PULL: [u8; 8] = [0xE9, 0x7F, 0x10, 0, 0, 0, 0, 0];
+
 // print "hi"; aread 256 -> g0
 const ASK: [u8; 8] = [0xB2, 0xB5, 0xC5, 0xE4, 0x3F, 0x01, 0x00, 0x10];
 
@@ -274,6 +277,7 @@ fn stories_are_played(rt: HostRuntime) -> Result<(), Fail> {
     let cases = [
         ("play s.z8", HI, 0, "hi\n"),
         ("play s.z8", nothing, 4, "[Broken: 50 at 544]\n"),
+        ("play s.z8", PULL, 4, "[Broken: 54 at 544]\n"),
         ("play s.z8 --steps 2", HI, 3, "hi\n[Step limit]\n"),
         ("play s.z8 --steps 3", HI, 0, "hi\n"),
         ("play s.z8", THROW, 0, "1"),
@@ -319,20 +323,30 @@ fn files_that_are_no_stories_are_refused(rt: HostRuntime) -> Result<(), Fail> {
 }
 
 #[test]
-fn faults_end_a_story(rt: HostRuntime) -> Result<(), Fail> {
+fn a_failing_input_ends_a_story(rt: HostRuntime) -> Result<(), Fail> {
     let alloc = rt.alloc();
-    let play = words(alloc, "play s.z8")?;
     let mut shelf = SureShelf::new(alloc);
     shelf.add(alloc, "s.z8", &story(alloc, ASK)?)?;
     let mut input = ByteSource::new(Vec::new(alloc), vec![in alloc; 0]?);
     let mut out = SureSink::new(alloc, 99)?;
+    let play = words(alloc, "play s.z8")?;
     let status = tool(alloc, &play, &mut shelf, &mut input, &mut out, &[0]);
     assert_eq!(rt; status, 5);
     assert_eq!(rt; out.taken(), b"hi\n[Input fault]\n".as_slice());
-    let mut small = SureSink::new(alloc, 1)?;
-    let status = tool(alloc, &play, &mut shelf, &mut input, &mut small, &[0]);
+    Ok(())
+}
+
+#[test]
+fn a_failing_output_ends_a_story(rt: HostRuntime) -> Result<(), Fail> {
+    let alloc = rt.alloc();
+    let mut shelf = SureShelf::new(alloc);
+    shelf.add(alloc, "s.z8", &story(alloc, ASK)?)?;
+    let mut input = SureSource::new(Vec::new(alloc));
+    let mut out = SureSink::new(alloc, 1)?;
+    let play = words(alloc, "play s.z8")?;
+    let status = tool(alloc, &play, &mut shelf, &mut input, &mut out, &[0]);
     assert_eq!(rt; status, 5);
-    assert_eq!(rt; small.taken(), b"h".as_slice());
+    assert_eq!(rt; out.taken(), b"h".as_slice());
     Ok(())
 }
 

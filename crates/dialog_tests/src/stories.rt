@@ -1,7 +1,7 @@
-// Small stories.
+// A player that is run twice.
 use dg_base::{Fault, SureSink, SureSource};
 use std::test::Fail;
-use z_model::{ZEnd, ZFault};
+use z_model::ZEnd;
 use z_play::Player;
 
 // A story of 552 bytes with these instructions behind its memory.
@@ -19,17 +19,6 @@ fn story(rt: &HostRuntime, code: [u8; 8]) -> Result<Player, Fail> {
 }
 
 #[test]
-fn prints_and_quits(rt: HostRuntime) -> Result<(), Fail> {
-    let mut player = story(&rt, [0xB2, 0xB5, 0xC5, 0xBB, 0xBA, 0, 0, 0])?;
-    let mut source = SureSource::new(vec![in rt.alloc(); 0u8; 0]?);
-    let mut sink = SureSink::new(rt.alloc(), 100)?;
-    let end = player.run(10, &mut source, &[0], &mut sink)?;
-    assert_eq!(rt; end, ZEnd::Quit);
-    assert_eq!(rt; sink.taken(), b"hi\n".as_slice());
-    Ok(())
-}
-
-#[test]
 fn runs_again_after_a_failing_sink(rt: HostRuntime) -> Result<(), Fail> {
     let mut player = story(&rt, [0xB2, 0xB5, 0xC5, 0xBB, 0xBA, 0, 0, 0])?;
     let mut source = SureSource::new(vec![in rt.alloc(); 0u8; 0]?);
@@ -40,22 +29,5 @@ fn runs_again_after_a_failing_sink(rt: HostRuntime) -> Result<(), Fail> {
     let end = player.run(10, &mut source, &[0], &mut sink)?;
     assert_eq!(rt; end, ZEnd::Quit);
     assert_eq!(rt; sink.taken(), b"hi\n".as_slice());
-    Ok(())
-}
-
-#[test]
-fn says_how_a_run_ended(rt: HostRuntime) -> Result<(), Fail> {
-    let mut source = SureSource::new(vec![in rt.alloc(); 0u8; 0]?);
-    let mut player = story(&rt, [0xB2, 0xB5, 0xC5, 0xBB, 0xBA, 0, 0, 0])?;
-    let mut sink = SureSink::new(rt.alloc(), 100)?;
-    let end = player.run(1, &mut source, &[0], &mut sink)?;
-    assert_eq!(rt; end, ZEnd::StepLimit);
-    assert_eq!(rt; sink.taken(), b"hi\n[Step limit]\n".as_slice());
-    // pull g, from an empty stack
-    let mut broken = story(&rt, [0xE9, 0x7F, 0x10, 0, 0, 0, 0, 0])?;
-    let mut shown = SureSink::new(rt.alloc(), 100)?;
-    let end = broken.run(10, &mut source, &[0], &mut shown)?;
-    assert_eq!(rt; end, ZEnd::Broken(ZFault::StackEmpty, 544));
-    assert_eq!(rt; shown.taken(), b"[Broken: 54 at 544]\n".as_slice());
     Ok(())
 }
