@@ -243,16 +243,3 @@ pub fn first_unbuilt(alloc: Global, tree: &Tree) -> Result<Option<u32>, AllocErr
     }
     Ok(None)
 }
-
-/// Whether `lower` takes a rewritten tree: each form in it is built.
-pub fn are_built(alloc: Global, tree: &Tree) -> Result<bool, AllocError>
-    ensures built { IfOk result (λ built. built ≡ spec.are_built (tree_view tree.now)) }
-    ensures memory { IsErr result → 0 < counts.rules_in (tree_view tree.now) }
-{
-    for item in tree.items.as_slice() {
-        if !is_item(alloc, Zone::Rewritten, Zone::Rewritten, &item.body)? {
-            return Ok(false);
-        }
-    }
-    Ok(true)
-}

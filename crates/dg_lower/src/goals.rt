@@ -1,8 +1,8 @@
 // From statements to goals.
-ghost use Rattle.std.specs.Prelude.{◌≡◌, ◌++◌, ◌∷◌, [], false, map, OnOk, IfOk};
+ghost use Rattle.std.specs.Prelude.{◌≡◌, ◌++◌, ◌∷◌, [], false, map, Ok, OnOk, IfOk};
 ghost use Rattle.dg_base.specs.Heads.{name_of as head_name};
 ghost use Rattle.dg_base.specs.Tree.{parts_of, stmts_of, arms_of};
-ghost use Rattle.dg_base.specs.TreeView.{part_view, stmt_view, body_view, arm_view, head_view};
+ghost use Rattle.dg_base.specs.TreeView.{part_view, value_view, stmt_view, body_view, arm_view, head_view};
 ghost use Rattle.dg_lower.specs.Goals as spec;
 ghost use Rattle.dg_lower.specs.View.{scope_view, values_view};
 
@@ -103,6 +103,25 @@ fn not_asked(alloc: Global, scope: &Scope<'_>, head: &Head) -> Result<Goal, Allo
     Ok(Goal::Not(single(alloc, asked(alloc, scope, head, false)?)?))
 }
 
+fn text(alloc: Global, word: &[u8]) -> Result<Goal, AllocError>
+    ensures { IfOk result (λ goal. goal ≡ Goal.Text word.now) }
+{
+    Ok(Goal::Text(Items::from_slice(alloc, word)?))
+}
+
+fn printed(alloc: Global, scope: &Scope<'_>, value: &Value) -> Result<Goal, AllocError>
+    ensures { IfOk result (λ goal. goal ≡ Goal.Print (spec.term_of (scope_view scope.now) (value_view value.now))) }
+{
+    Ok(Goal::Print(term_of(alloc, scope, value)?))
+}
+
+// Adds a goal, where memory was found for it.
+fn add(goals: &mut Items<Goal>, goal: Result<Goal, AllocError>) -> Result<(), AllocError>
+    ensures { OnOk result ((g : Goal) × (goal ≡ Ok g) × (goals.new ≡ goals.old ++ g ∷ [])) }
+{
+    goals.push(goal?)
+}
+
 // Adds the goals of a statement.
 #[cycle(goals)]
 fn add_stmt(
@@ -114,11 +133,11 @@ fn add_stmt(
     ensures { OnOk result (goals.new ≡ goals.old ++ spec.stmt_goals (scope_view scope.now) (stmt_view stmt.now)) }
 {
     match stmt {
-        Stmt::Text(word) => goals.push(Goal::Text(Items::from_slice(alloc, word.as_slice())?)),
-        Stmt::Print(value) => goals.push(Goal::Print(term_of(alloc, scope, value)?)),
-        Stmt::Ask(head) => goals.push(asked(alloc, scope, head, false)?),
-        Stmt::AskAll(head) => goals.push(asked(alloc, scope, head, true)?),
-        Stmt::AskNot(head) => goals.push(not_asked(alloc, scope, head)?),
+        Stmt::Text(word) => add(goals, text(alloc, word.as_slice())),
+        Stmt::Print(value) => add(goals, printed(alloc, scope, value)),
+        Stmt::Ask(head) => add(goals, asked(alloc, scope, head, false)),
+        Stmt::AskAll(head) => add(goals, asked(alloc, scope, head, true)),
+        Stmt::AskNot(head) => add(goals, not_asked(alloc, scope, head)),
         Stmt::Group(body) => add_body(alloc, scope, body, goals),
         Stmt::NotGroup(body) => goals.push(Goal::Not(goals_of(alloc, scope, body)?)),
         Stmt::If(arms, None) => {

@@ -9,6 +9,6 @@ mod scope;
 mod terms;
 mod variables;
 
-pub use forms::{are_built, first_unbuilt};
+pub use forms::first_unbuilt;
 pub use laws::{core_is_sound, entry_fits, queries_fit};
 pub use program::lower;

@@ -32,14 +32,14 @@ add_stmt-returns-in-Group t c = grind (arith, forms)
 pub add_stmt-returns-in-Now : goal.add_stmt-returns-in-Now
 add_stmt-returns-in-Now t c = grind (arith, forms)
 
-pub add_stmt-returns-in_ok-asked-in-AskAll : goal.add_stmt-returns-in_ok-asked-in-AskAll
-add_stmt-returns-in_ok-asked-in-AskAll t c = grind (arith, forms)
+pub add_stmt-returns-in-AskAll : goal.add_stmt-returns-in-AskAll
+add_stmt-returns-in-AskAll t c = grind (arith, forms)
 
-pub add_stmt-returns-in_ok-asked-in-Ask : goal.add_stmt-returns-in_ok-asked-in-Ask
-add_stmt-returns-in_ok-asked-in-Ask t c = grind (arith, forms)
+pub add_stmt-returns-in-Ask : goal.add_stmt-returns-in-Ask
+add_stmt-returns-in-Ask t c = grind (arith, forms)
 
-pub add_stmt-returns-in_ok-from_slice-in-Text : goal.add_stmt-returns-in_ok-from_slice-in-Text
-add_stmt-returns-in_ok-from_slice-in-Text t c = grind (arith, forms)
+pub add_stmt-returns-in-Text : goal.add_stmt-returns-in-Text
+add_stmt-returns-in-Text t c = grind (arith, forms)
 
 pub add_stmt-returns-in_ok-goals_of-in-First : goal.add_stmt-returns-in_ok-goals_of-in-First
 add_stmt-returns-in_ok-goals_of-in-First t c = grind (arith, forms)
@@ -47,11 +47,11 @@ add_stmt-returns-in_ok-goals_of-in-First t c = grind (arith, forms)
 pub add_stmt-returns-in_ok-goals_of-in-NotGroup : goal.add_stmt-returns-in_ok-goals_of-in-NotGroup
 add_stmt-returns-in_ok-goals_of-in-NotGroup t c = grind (arith, forms)
 
-pub add_stmt-returns-in_ok-not_asked-in-AskNot : goal.add_stmt-returns-in_ok-not_asked-in-AskNot
-add_stmt-returns-in_ok-not_asked-in-AskNot t c = grind (arith, forms)
+pub add_stmt-returns-in-AskNot : goal.add_stmt-returns-in-AskNot
+add_stmt-returns-in-AskNot t c = grind (arith, forms)
 
-pub add_stmt-returns-in_ok-term_of-in-Print : goal.add_stmt-returns-in_ok-term_of-in-Print
-add_stmt-returns-in_ok-term_of-in-Print t c = grind (arith, forms)
+pub add_stmt-returns-in-Print : goal.add_stmt-returns-in-Print
+add_stmt-returns-in-Print t c = grind (arith, forms)
 
 pub add_stmts-loop-stmt-init : goal.add_stmts-loop-stmt-init
 add_stmts-loop-stmt-init t c = grind (arith, steps)

@@ -1,0 +1,32 @@
+use Rattle.std.proofs.Common.{arith}
+use Rattle.std.proofs.lemmas.List.{append_assoc, append-nil, map-append, drop_more, drop_all}
+use Rattle.dg_names.proofs.Views.{value_seen, values_seen}
+use Rattle.dg_lower.proofs.terms.+terms.Goals as goal
+
+ruleset steps = (append_assoc, append-nil, map-append, drop_more, drop_all)
+
+ruleset forms = (value_seen, values_seen)
+
+pub listed-loop-at-init : goal.listed-loop-at-init
+listed-loop-at-init t c = grind (arith, steps)
+
+pub listed-loop-at-preserved : goal.listed-loop-at-preserved
+listed-loop-at-preserved t c = grind (arith, steps)
+
+pub listed-returns : goal.listed-returns
+listed-returns t c = grind (arith, steps)
+
+pub term_of-returns-in-Num : goal.term_of-returns-in-Num
+term_of-returns-in-Num t c = grind (arith, forms)
+
+pub term_of-returns-in-Word : goal.term_of-returns-in-Word
+term_of-returns-in-Word t c = grind (arith, forms)
+
+pub term_of-returns-in-Object : goal.term_of-returns-in-Object
+term_of-returns-in-Object t c = grind (arith, forms)
+
+pub term_of-returns-in-Var : goal.term_of-returns-in-Var
+term_of-returns-in-Var t c = grind (arith, forms)
+
+pub term_of-returns-in-Topic : goal.term_of-returns-in-Topic
+term_of-returns-in-Topic t c = grind (arith, forms)
