@@ -84,6 +84,10 @@ tally_view t = record {
 abbrev pub untold : Told
 untold = record { preds = []; objects = []; words = []; closures = 0; selects = 0 }
 
+-- The names that were told.
+abbrev pub told_names : Told → Named
+told_names t = record { preds = t.preds; objects = t.objects; words = t.words }
+
 -- A count in all passes its number.
 abbrev pub has_many : Told → ℕ → Bool
 has_many t rules = (nat_lt 1000 (length t.objects) || (nat_lt 4000 (length t.words) || nat_lt 4000 (length t.preds))) || (nat_lt 16000 rules || (nat_lt 16000 t.closures || nat_lt 500 t.selects))

@@ -1,16 +1,16 @@
 // The names of a source.
-ghost use Rattle.std.specs.Prelude.{◌≡◌, ◌<◌, ◌≤◌, length, position, map, Ok, Err, IfOk, IfErr, IsErrOf};
+ghost use Rattle.std.specs.Prelude.{◌≡◌, ◌<◌, ◌≤◌, length, position, map, Ok, Err, IfOk, IfErr, OnOk, IsErrOf};
 ghost use Rattle.std.specs.Str.{bytes_eq};
 ghost use Rattle.dg_base.specs.Heads.{name_of as head_name};
-ghost use Rattle.dg_base.specs.Tree.{Item};
-ghost use Rattle.dg_base.specs.TreeView.{head_view, said_view, tree_view};
+ghost use Rattle.dg_base.specs.TreeView.{head_view, item_view, said_view, tree_view};
 ghost use Rattle.dg_names.specs.Counts.{IsNamed};
 ghost use Rattle.dg_base.specs.Faults.{IsFault};
-ghost use Rattle.dg_names.specs.State.{names_view, rules_behind};
+ghost use Rattle.dg_names.specs.State as spec;
+ghost use Rattle.dg_names.specs.State.{listed, names_view, rules_behind, tally_view, untold};
 
 use crate::items::{add_item, is_rule};
 use crate::state::{Names, Numbers, Sets, Tally};
-use dg_base::{Head, ItemBody, Kind, ReadFault, Refusal, Tree, name_of};
+use dg_base::{Head, Item, ItemBody, Kind, ReadFault, Refusal, Tree, name_of};
 use indexmap::IndexSet;
 use std::alloc::{AllocError, Global};
 
@@ -30,6 +30,52 @@ fn rules_behind(said: &ItemBody, rules: usize) -> usize
     if is_rule(said) { rules + 1 } else { rules }
 }
 
+// Nothing yet.
+fn untold(alloc: Global) -> Tally
+    ensures { tally_view result ≡ untold }
+{
+    Tally {
+        sets: Sets {
+            preds: IndexSet::new(alloc),
+            objects: IndexSet::new(alloc),
+            words: IndexSet::new(alloc),
+        },
+        numbers: Numbers {
+            closures: 0,
+            selects: 0,
+        },
+    }
+}
+
+fn told_names(tally: Tally) -> Names
+    requires { length (listed tally.sets.preds) ≤ 4000 }
+    ensures { names_view result ≡ spec.told_names (tally_view tally) }
+{
+    Names {
+        preds: tally.sets.preds,
+        objects: tally.sets.objects,
+        words: tally.sets.words,
+    }
+}
+
+// Adds items to nothing, up to the first at which a count passes its number.
+fn add_items(alloc: Global, tally: &mut Tally, items: &[Item]) -> Result<(), ReadFault>
+    requires { tally_view tally.old ≡ untold }
+    ensures named { OnOk result (IsNamed (map item_view items.now) (Ok (spec.told_names (tally_view tally.new)))) }
+    ensures few { OnOk result (length (listed tally.new.sets.preds) ≤ 4000) }
+    ensures refused { IfErr result (IsFault (λ r. IsNamed (map item_view items.now) (Err r))) }
+    ensures memory { IsErrOf result ReadFault.OutOfMemory → 0 < length items.now }
+{
+    let mut rules = 0;
+    for item in items {
+        rules = rules_behind(&item.body, rules);
+        if add_item(alloc, tally, rules, &item.body)? {
+            return Err(too_many(item.line));
+        }
+    }
+    Ok(())
+}
+
 impl Names {
     /// The names of a tree, in order of first appearance. It is refused at the first item at which a count passes its number.
     pub fn of(alloc: Global, tree: &Tree) -> Result<Names, ReadFault>
@@ -37,29 +83,9 @@ impl Names {
         ensures refused { IfErr result (IsFault (λ r. IsNamed (tree_view tree.now) (Err r))) }
         ensures memory { IsErrOf result ReadFault.OutOfMemory → 0 < length (tree_view tree.now) }
     {
-        let mut tally = Tally {
-            sets: Sets {
-                preds: IndexSet::new(alloc),
-                objects: IndexSet::new(alloc),
-                words: IndexSet::new(alloc),
-            },
-            numbers: Numbers {
-                closures: 0,
-                selects: 0,
-            },
-        };
-        let mut rules = 0;
-        for item in tree.items.as_slice() {
-            rules = rules_behind(&item.body, rules);
-            if add_item(alloc, &mut tally, rules, &item.body)? {
-                return Err(too_many(item.line));
-            }
-        }
-        Ok(Names {
-            preds: tally.sets.preds,
-            objects: tally.sets.objects,
-            words: tally.sets.words,
-        })
+        let mut tally = untold(alloc);
+        add_items(alloc, &mut tally, tree.items.as_slice())?;
+        Ok(told_names(tally))
     }
 
     /// The place of a head's predicate among the names, where it stands there.

@@ -6,15 +6,14 @@ use Rattle.dg_base.specs.declared.tree.Item.{Item}
 use Rattle.dg_names.specs.Named.{mentioned}
 use Rattle.dg_names.specs.State.{told, tally_view, passing}
 use Rattle.dg_names.proofs.TreeLemmas.{rules_more, few_preds, goes_on, ends_here, told_on, refused_at, all_named}
-use Rattle.dg_names.proofs.state.Names.of.Goals as goal
+use Rattle.dg_names.proofs.names.add_items.Goals as goal
 
 pub loop-item-preserved : goal.loop-item-preserved
 loop-item-preserved c =
-    let items = c.args.tree.now.items in
+    let items = c.args.items.now in
     let k = c.loop-item.item-index in
     let x = c.item-item.result in
-    let slice = c.as_slice-item-items.ensures in
-    let lt : k < length items = omega (arith, ap length slice) in
+    let lt : k < length items = omega arith in
     let is = c.item-item.is in
     let same : x ≡ get_or items k x = cc in
     let here : drop k items ≡ x ∷ drop (k + 1) items = drop_more items k x lt ∙ ap (λ (y : Item). y ∷ drop (k + 1) items) (sym same) in
@@ -29,11 +28,10 @@ loop-item-preserved c =
 
 pub returns-then-branch-clause-refused : goal.returns-then-branch-clause-refused
 returns-then-branch-clause-refused c =
-    let items = c.args.tree.now.items in
+    let items = c.args.items.now in
     let k = c.loop-item.item-index in
     let x = c.item-item.result in
-    let slice = c.as_slice-item-items.ensures in
-    let lt : k < length items = omega (arith, ap length slice) in
+    let lt : k < length items = omega arith in
     let is = c.item-item.is in
     let same : x ≡ get_or items k x = cc in
     let here : drop k items ≡ x ∷ drop (k + 1) items = drop_more items k x lt ∙ ap (λ (y : Item). y ∷ drop (k + 1) items) (sym same) in
@@ -42,8 +40,8 @@ returns-then-branch-clause-refused c =
 
 pub returns-clause-named : goal.returns-clause-named
 returns-clause-named c =
-    let items = c.args.tree.now.items in
-    let none : drop c.loop-item.item-index items ≡ [] = drop_of_length-le items (omega (arith, ap length c.as_slice-item-items.ensures)) in
+    let items = c.args.items.now in
+    let none : drop c.loop-item.item-index items ≡ [] = drop_of_length-le items (omega arith) in
     all_named (map item_view items) (tally_view c.loop-item.tally)
     (sym c.loop-item.invariant.first ∙ ap (λ (l : List Item). passing (told [] (tally_view c.loop-item.tally)) c.loop-item.rules (map item_view l)) none)
     (sym (ap (λ (l : List Item). told (mentioned (map item_view l)) (tally_view c.loop-item.tally)) none) ∙ c.loop-item.invariant.told)
