@@ -2,14 +2,12 @@
 ghost use Rattle.std.specs.Prelude.{◌≡◌, ◌++◌, [], map, OnOk, IfOk};
 ghost use Rattle.dg_base.specs.Tree.{parts_of, values_of, stmts_of, arms_of};
 ghost use Rattle.dg_base.specs.TreeView.{part_view, value_view, stmt_view, body_view, arm_view, head_view};
-ghost use Rattle.std.specs.List.{list_any};
-ghost use Rattle.std.specs.Str.{bytes_eq};
 ghost use Rattle.dg_names.specs.Named.{firsts as spec_firsts};
-ghost use Rattle.dg_names.specs.Scopes.{with_name};
 ghost use Rattle.dg_names.specs.State.{seen};
 ghost use Rattle.dg_lower.specs.Variables as spec;
 
 use dg_base::{Arm, Body, Head, Part, Stmt, Value};
+use dg_names::add_names;
 use std::alloc::{AllocError, Global};
 
 #[cycle(values)]
@@ -107,36 +105,12 @@ fn add_arms<'a>(names: &mut Vec<&'a [u8]>, arms: &'a [Arm]) -> Result<(), AllocE
     Ok(())
 }
 
-// Whether a name is among names.
-fn is_among(names: &[&[u8]], name: &[u8]) -> bool
-    ensures { result ≡ list_any (bytes_eq name.now) (seen names.now) }
-{
-    for known in names {
-        if name == *known {
-            return true;
-        }
-    }
-    false
-}
-
-// Adds a name that isn't there.
-fn add_new<'a>(names: &mut Vec<&'a [u8]>, name: &'a [u8]) -> Result<(), AllocError>
-    ensures { OnOk result (seen names.new.items ≡ with_name (seen names.old.items) name.now) }
-{
-    if !is_among(names.as_slice(), name) {
-        names.push(name)?;
-    }
-    Ok(())
-}
-
 // Names in order of first appearance.
 fn firsts<'a>(alloc: Global, names: &[&'a [u8]]) -> Result<Vec<&'a [u8]>, AllocError>
     ensures { IfOk result (λ found. seen found.items ≡ spec_firsts (seen names.now)) }
 {
     let mut found = Vec::new(alloc);
-    for name in names {
-        add_new(&mut found, *name)?;
-    }
+    add_names(&mut found, names)?;
     Ok(found)
 }
 

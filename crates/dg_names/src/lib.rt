@@ -12,3 +12,4 @@ mod work;
 
 pub use laws::one_answer;
 pub use state::Names;
+pub use variables::add_names;

@@ -44,7 +44,8 @@ fn add_name<'a>(names: &mut Vec<&'a [u8]>, name: &'a [u8]) -> Result<(), AllocEr
     Ok(())
 }
 
-fn add_names<'a>(names: &mut Vec<&'a [u8]>, more: &[&'a [u8]]) -> Result<(), AllocError>
+/// Adds to names those of others that aren't among them, in order.
+pub fn add_names<'a>(names: &mut Vec<&'a [u8]>, more: &[&'a [u8]]) -> Result<(), AllocError>
     ensures { OnOk result (seen names.new.items ≡ with_names (seen names.old.items) (seen more.now)) }
 {
     for name in more {

@@ -1,10 +1,9 @@
 -- What is known to be equal stays equal, and what was made equal is.
-use Rattle.std.proofs.Common.{◌≡◌, ℕ, List, [], ◌∷◌, ◌++◌, true, sym, ap, ◌∙◌, subst, Option, Some, None, length, slice_index_or, nat_eq, inl, inr}
+use Rattle.std.proofs.Common.{◌≡◌, ℕ, List, [], ◌∷◌, ◌++◌, true, sym, ◌∙◌, subst, Option, Some, None, slice_index_or, nat_eq}
 use Rattle.std.specs.List.{All}
 use Rattle.std.specs.Prelude.{Ok, Bool}
-use Rattle.std.proofs.lemmas.Bool.{cases_lt, eqb-true}
-use Rattle.std.proofs.lemmas.List.{get_or_past}
-use Rattle.std.proofs.lemmas.List.Elements.{All-weaker, All-get_or}
+use Rattle.std.proofs.lemmas.Bool.{eqb-true}
+use Rattle.std.proofs.lemmas.List.Elements.{All-weaker}
 use Rattle.dg_meaning.specs.Values.{Value}
 use Rattle.dg_meaning.specs.Substitutions.{Substitution, resolved, IsSubstitution}
 use Rattle.dg_meaning.specs.Unify.{unify}
@@ -21,6 +20,7 @@ use Rattle.dg_unify.specs.declared.parts.Parts.{Parts}
 use Rattle.dg_unify.specs.declared.unifying.Met.TheVariants as met
 use Rattle.dg_unify.proofs.StoreLemmas.{kept_holds, kept_told}
 use Rattle.dg_unify.proofs.Meets.{more_same}
+use Rattle.dg_unify.proofs.NoteLemmas.{at_place, same_ref}
 
 module _ (old new : Store) (kept : Kept old new) (made : Substitution) (is : new.state.subst ≡ made ++ old.state.subst) where
   equal_kept : (a b : Ref) → IsEqual old a b → IsEqual new a b
@@ -60,18 +60,7 @@ equal_done s sound a b h =
 pub left_done : (old new : Store) → IsSubstitution old.state.subst → (a b : Ref) (p q : Parts) → AreLeft old new (told old a) (told old b) p q → IsEqual old a b → TurnsInto old new (told old a) (told old b) (Ok (met.Done true))
 left_done old new sound a b p q left h = subst (λ (s : Store). Does old s (unify old.state.subst (told old a) (told old b)) true) (sym left.same) (equal_done old sound a b h)
 
--- what stands at a place of the notes
-at_place : (s : Store) (ps : List (Option (Ref × Ref))) (i : ℕ) → All (is_equal_pair s) ps → is_equal_pair s (slice_index_or ps i None)
-at_place s ps i h =
-    elim (cases_lt i (length ps)) [
-      | inl lt ↦ All-get_or (is_equal_pair s) ps i None lt h
-      | inr past ↦ subst (is_equal_pair s) (sym (get_or_past ps i None past)) tt
-    ]
-
-same_ref : (a b : Ref) → a.0 ≡ b.0 → a ≡ b
-same_ref a b h = ap (λ (k : ℕ). let x : Ref = record { 0 = k } in x) h
-
 pub noted : (s : Store) (ps : List (Option (Ref × Ref))) (i : ℕ) (p : Ref × Ref) (a b : Ref) → All (is_equal_pair s) ps → slice_index_or ps i None ≡ Some p → p.0.0 ≡ a.0 → nat_eq p.1.0 b.0 ≡ true → IsEqual s a b
 noted s ps i p a b h there ea eb =
-    let here : IsEqual s p.0 p.1 = rw there at (at_place s ps i h) in
+    let here : IsEqual s p.0 p.1 = rw there at (at_place (is_equal_pair s) ps i tt h) in
     subst (λ (r : Ref). IsEqual s a r) (same_ref p.1 b (eqb-true p.1.0 b.0 eb)) (subst (λ (r : Ref). IsEqual s r p.1) (same_ref p.0 a ea) here)

@@ -9,5 +9,6 @@ pub mod PartsLemmas
 pub mod Tops
 pub mod Meets
 pub mod Goings
+pub mod NoteLemmas
 pub mod SeenLemmas
 pub mod KnownLemmas

@@ -4,7 +4,8 @@ use Rattle.dg_names.specs.State.{seen}
 use Rattle.dg_names.proofs.FirstLemmas.{firsts_of}
 use Rattle.dg_lower.proofs.variables.firsts.Goals as goal
 
-pub loop-name-init : goal.loop-name-init
-loop-name-init c =
-    ap (λ (found : List (Bor (List ℕ))). with_names (seen found) (seen c.args.names.now)) c.new-found.ensures.items
+pub returns : goal.returns
+returns c =
+    c.in_ok-add_names.ensures
+    ∙ ap (λ (found : List (Bor (List ℕ))). with_names (seen found) (seen c.args.names.now)) c.new-found.ensures.items
     ∙ firsts_of (seen c.args.names.now)
