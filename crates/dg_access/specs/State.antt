@@ -50,12 +50,6 @@ abbrev pub selected : Stmt → Body
 selected (tree.select mode b) = b
 selected s = tree.no_branches
 
--- It gathers values.
-abbrev pub is_gathering : Stmt → Bool
-is_gathering (tree.collect v b into) = true
-is_gathering (tree.accumulate v b into) = true
-is_gathering s = false
-
 -- The marks of a sort.
 abbrev pub test_of : Sort → marks.Mark → Bool
 test_of sort.Node m = is_node m

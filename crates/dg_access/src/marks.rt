@@ -1,9 +1,9 @@
 // What is counted in an item.
-ghost use Rattle.std.specs.Prelude.{◌≡◌, ◌++◌, map, OnOk};
+ghost use Rattle.std.specs.Prelude.{◌≡◌, ◌++◌, ◌∷◌, [], map, OnOk};
 ghost use Rattle.dg_base.specs.Tree.{parts_of, values_of, stmts_of, arms_of, changes_of};
 ghost use Rattle.dg_base.specs.TreeView.{part_view, value_view, stmt_view, arm_view, body_view, head_view, change_view, said_view};
-ghost use Rattle.dg_access.specs.Marks.{marks_of_value, marks_of_values, marks_of_part, marks_of_parts, marks_of_stmt, marks_of_stmts, marks_of_body, marks_of_arms, marks_of_changes, marks_of_rule, marks_of_said};
-ghost use Rattle.dg_access.specs.State.{marked, selected};
+ghost use Rattle.dg_access.specs.Marks.{node, query, opened, closed, marks_of_value, marks_of_values, marks_of_part, marks_of_parts, marks_of_stmt, marks_of_stmts, marks_of_body, marks_of_arms, marks_of_changes, marks_of_rule, marks_of_said};
+ghost use Rattle.dg_access.specs.State.{marked, mark_view, selected};
 
 use dg_base::{Arm, Body, Head, ItemBody, NowChange, Part, Stmt, Value};
 use std::alloc::AllocError;
@@ -19,11 +19,18 @@ pub enum Mark<'a> {
     Closed,
 }
 
+fn put<'a>(out: &mut Vec<Mark<'a>>, mark: Mark<'a>) -> Result<(), AllocError>
+    ensures { OnOk result (marked out.new.items ≡ marked out.old.items ++ mark_view mark.entry ∷ []) }
+{
+    out.push(mark)?;
+    Ok(())
+}
+
 #[cycle(marks)]
 fn mark_value<'a>(out: &mut Vec<Mark<'a>>, value: &'a Value) -> Result<(), AllocError>
     ensures { OnOk result (marked out.new.items ≡ marked out.old.items ++ marks_of_value (value_view value.now)) }
 {
-    out.push(Mark::Node)?;
+    put(out, Mark::Node)?;
     match value {
         Value::Num(_)
         | Value::Word(_)
@@ -31,26 +38,40 @@ fn mark_value<'a>(out: &mut Vec<Mark<'a>>, value: &'a Value) -> Result<(), Alloc
         | Value::Topic
         | Value::Any
         | Value::Words(_) => Ok(()),
-        Value::Var(name) => {
-            out.push(Mark::Named(name.as_slice()))?;
-            Ok(())
-        }
+        Value::Var(name) => put(out, Mark::Named(name.as_slice())),
         Value::List(values, None) => mark_values(out, values.as_slice()),
         Value::List(values, Some(tail)) => {
             mark_values(out, values.as_slice())?;
             mark_value(out, tail.get())
         }
-        Value::Closure(body) => {
-            out.push(Mark::Opened)?;
-            mark_body(out, body)?;
-            out.push(Mark::Closed)?;
-            Ok(())
-        }
-        Value::Query(head) => {
-            out.push(Mark::Node)?;
-            mark_parts(out, head.parts.as_slice())
-        }
+        Value::Closure(body) => mark_closure(out, body),
+        Value::Query(head) => mark_head(out, head),
     }
+}
+
+#[cycle(marks)]
+fn mark_closure<'a>(out: &mut Vec<Mark<'a>>, body: &'a Body) -> Result<(), AllocError>
+    ensures { OnOk result (marked out.new.items ≡ marked out.old.items ++ opened ∷ (marks_of_body (body_view body.now) ++ closed ∷ [])) }
+{
+    put(out, Mark::Opened)?;
+    mark_body(out, body)?;
+    put(out, Mark::Closed)
+}
+
+#[cycle(marks)]
+fn mark_head<'a>(out: &mut Vec<Mark<'a>>, head: &'a Head) -> Result<(), AllocError>
+    ensures { OnOk result (marked out.new.items ≡ marked out.old.items ++ node ∷ marks_of_parts (head_view head.now)) }
+{
+    put(out, Mark::Node)?;
+    mark_parts(out, head.parts.as_slice())
+}
+
+#[cycle(marks)]
+fn mark_query<'a>(out: &mut Vec<Mark<'a>>, head: &'a Head) -> Result<(), AllocError>
+    ensures { OnOk result (marked out.new.items ≡ marked out.old.items ++ query ∷ node ∷ marks_of_parts (head_view head.now)) }
+{
+    put(out, Mark::Query)?;
+    mark_head(out, head)
 }
 
 #[cycle(marks)]
@@ -87,15 +108,11 @@ fn mark_parts<'a>(out: &mut Vec<Mark<'a>>, parts: &'a [Part]) -> Result<(), Allo
 fn mark_stmt<'a>(out: &mut Vec<Mark<'a>>, stmt: &'a Stmt) -> Result<(), AllocError>
     ensures { OnOk result (marked out.new.items ≡ marked out.old.items ++ marks_of_stmt (stmt_view stmt.now)) }
 {
-    out.push(Mark::Node)?;
+    put(out, Mark::Node)?;
     match stmt {
         Stmt::Text(_) => Ok(()),
         Stmt::Print(value) => mark_value(out, value),
-        Stmt::Ask(head) | Stmt::AskAll(head) | Stmt::AskNot(head) => {
-            out.push(Mark::Query)?;
-            out.push(Mark::Node)?;
-            mark_parts(out, head.parts.as_slice())
-        }
+        Stmt::Ask(head) | Stmt::AskAll(head) | Stmt::AskNot(head) => mark_query(out, head),
         Stmt::Group(body) | Stmt::NotGroup(body) | Stmt::First(body) => mark_body(out, body),
         Stmt::Now(changes) => mark_changes(out, changes.as_slice()),
         Stmt::If(arms, None) => mark_arms(out, arms.as_slice()),
@@ -110,7 +127,7 @@ fn mark_stmt<'a>(out: &mut Vec<Mark<'a>>, stmt: &'a Stmt) -> Result<(), AllocErr
             mark_value(out, into)
         }
         Stmt::Select(_, _) => {
-            out.push(Mark::Select)?;
+            put(out, Mark::Select)?;
             mark_select(out, stmt)
         }
     }
@@ -165,8 +182,7 @@ fn mark_changes<'a>(out: &mut Vec<Mark<'a>>, changes: &'a [NowChange]) -> Result
     ensures { OnOk result (marked out.new.items ≡ marked out.old.items ++ marks_of_changes (changes_of (map change_view changes.now))) }
 {
     for change in changes {
-        out.push(Mark::Node)?;
-        mark_parts(out, change.head.parts.as_slice())?;
+        mark_head(out, &change.head)?;
     }
     Ok(())
 }
@@ -175,8 +191,7 @@ fn mark_changes<'a>(out: &mut Vec<Mark<'a>>, changes: &'a [NowChange]) -> Result
 fn mark_rule<'a>(out: &mut Vec<Mark<'a>>, head: &'a Head, body: &'a Body) -> Result<(), AllocError>
     ensures { OnOk result (marked out.new.items ≡ marked out.old.items ++ marks_of_rule (head_view head.now) (body_view body.now)) }
 {
-    out.push(Mark::Node)?;
-    mark_parts(out, head.parts.as_slice())?;
+    mark_head(out, head)?;
     mark_body(out, body)
 }
 
@@ -190,9 +205,6 @@ pub fn mark_said<'a>(out: &mut Vec<Mark<'a>>, said: &'a ItemBody) -> Result<(), 
         ItemBody::Rule(head, body) | ItemBody::Deny(head, body) | ItemBody::Access(head, body) => {
             mark_rule(out, head, body)
         }
-        ItemBody::Variable(head) => {
-            out.push(Mark::Node)?;
-            mark_parts(out, head.parts.as_slice())
-        }
+        ItemBody::Variable(head) => mark_head(out, head),
     }
 }

@@ -1,12 +1,12 @@
 // Values and statements with new names.
-ghost use Rattle.std.specs.Prelude.{◌≡◌, ◌+◌, map, IfOk, OnOk, true};
+ghost use Rattle.std.specs.Prelude.{◌≡◌, ◌+◌, map, IfOk, IsOkAnd, Ok, OnOk};
 ghost use Rattle.std.specs.Option.{option_map};
 ghost use Rattle.dg_base.specs.Tree as tree;
 ghost use Rattle.dg_base.specs.Tree.{parts_of, values_of, stmts_of, arms_of, changes_of};
 ghost use Rattle.dg_base.specs.TreeView.{part_view, value_view, stmt_view, arm_view, body_view, head_view, change_view, branches_view, list_view, choice_view};
 ghost use Rattle.dg_access.specs.Plain as spec;
 ghost use Rattle.dg_access.specs.Plain.{new_in_value, new_in_values, new_in_part, new_in_parts, new_in_stmt, new_in_stmts, new_in_body, new_in_arms, new_in_changes};
-ghost use Rattle.dg_access.specs.State.{first_or, is_gathering, selected, setting_view};
+ghost use Rattle.dg_access.specs.State.{first_or, selected, setting_view};
 
 use crate::fresh::{choice_name, copied, take_number, unnamed_name};
 use crate::setting::Setting;
@@ -17,7 +17,7 @@ fn topic_value(alloc: Global, setting: Setting<'_>) -> Result<Value, AllocError>
     ensures { IfOk result (λ new. value_view new ≡ spec.topic_value (setting_view setting.entry).topic) }
 {
     match setting.topic {
-        Some(name) => Ok(Value::Object(copied(alloc, name)?)),
+        Some(name) => copied(alloc, name).map(Value::Object),
         None => Ok(Value::Topic),
     }
 }
@@ -58,37 +58,106 @@ fn plain_anonymous(alloc: Global, setting: Setting<'_>, at: &mut usize) -> Resul
     if setting.declares {
         Ok(Value::Any)
     } else {
-        Ok(Value::Var(unnamed_name(alloc, number)?))
+        unnamed_name(alloc, number).map(Value::Var)
     }
+}
+
+fn plain_choice(alloc: Global, setting: Setting<'_>, at: &mut usize) -> Result<Value, AllocError>
+    ensures value { IfOk result (λ new. value_view new ≡ tree.variable (spec.choice_name (setting_view setting.entry).number at.old)) }
+    ensures at { OnOk result (at.new ≡ at.old + 1) }
+{
+    let number = take_number(at)?;
+    choice_name(alloc, setting.number, number).map(Value::Var)
 }
 
 // What stands for a query of these parts that stands as a value.
-fn standing_for(setting: Setting<'_>, parts: Vec<Part>) -> Value
-    ensures { value_view result ≡ spec.standing_for (setting_view setting.entry) (parts_of (map part_view parts.items)) }
+fn standing_for(
+    setting: Setting<'_>,
+    parts: Result<Vec<Part>, AllocError>,
+) -> Result<Value, AllocError>
+    ensures { IfOk result (λ new. IsOkAnd parts (λ parts. value_view new ≡ spec.standing_for (setting_view setting.entry) (parts_of (map part_view parts.items)))) }
 {
-    if setting.declares {
+    let parts = parts?;
+    Ok(if setting.declares {
         Value::Query(head_of(parts))
     } else {
         first_value(parts)
-    }
+    })
 }
 
-fn with_tail(values: Items<Value>, tail: Boxed<Value>) -> Value
-    ensures { value_view result ≡ tree.tailed_list (values_of (map value_view values)) (value_view tail) }
+/// Two results, where there was memory for both.
+pub fn both<A: Drop, B: Drop>(
+    first: Result<A, AllocError>,
+    second: Result<B, AllocError>,
+) -> Result<(A, B), AllocError>
+    ensures first { IfOk result (λ new. first ≡ Ok new.0) }
+    ensures second { IfOk result (λ new. second ≡ Ok new.1) }
 {
-    Value::List(values, Some(tail))
+    let first = first?;
+    Ok((first, second?))
 }
 
-fn with_other(arms: Items<Arm>, other: Body) -> Stmt
-    ensures { stmt_view result ≡ tree.choice_else (arms_of (map arm_view arms)) (body_view other) }
+fn without_tail(values: Items<Value>) -> Value
+    ensures { value_view result ≡ tree.plain_list (values_of (map value_view values)) }
 {
+    Value::List(values, None)
+}
+
+fn with_tail(
+    alloc: Global,
+    values: Result<Items<Value>, AllocError>,
+    tail: Result<Value, AllocError>,
+) -> Result<Value, AllocError>
+    ensures { IfOk result (λ new. IsOkAnd values (λ values. IsOkAnd tail (λ tail. value_view new ≡ tree.tailed_list (values_of (map value_view values)) (value_view tail)))) }
+{
+    let (values, tail) = both(values, tail)?;
+    let tail = Boxed::new(alloc, tail)?;
+    Ok(Value::List(values, Some(tail)))
+}
+
+fn without_other(arms: Items<Arm>) -> Stmt
+    ensures { stmt_view result ≡ tree.choice (arms_of (map arm_view arms)) }
+{
+    Stmt::If(arms, None)
+}
+
+fn with_other(choice: (Items<Arm>, Body)) -> Stmt
+    ensures { stmt_view result ≡ tree.choice_else (arms_of (map arm_view choice.0)) (body_view choice.1) }
+{
+    let (arms, other) = choice;
     Stmt::If(arms, Some(other))
 }
 
-fn select_of(mode: Mode, branches: Items<Items<Stmt>>) -> Stmt
-    ensures { stmt_view result ≡ tree.select mode (branches_view (map (map stmt_view) branches)) }
+fn gathered(
+    value: Result<Value, AllocError>,
+    body: Result<Body, AllocError>,
+    into: Result<Value, AllocError>,
+) -> Result<(Value, (Body, Value)), AllocError>
+    ensures value { IfOk result (λ new. value ≡ Ok new.0) }
+    ensures body { IfOk result (λ new. body ≡ Ok new.1.0) }
+    ensures into { IfOk result (λ new. into ≡ Ok new.1.1) }
 {
-    Stmt::Select(mode, branches)
+    both(value, both(body, into))
+}
+
+fn collected(gathering: (Value, (Body, Value))) -> Stmt
+    ensures { stmt_view result ≡ tree.collect (value_view gathering.0) (body_view gathering.1.0) (value_view gathering.1.1) }
+{
+    let (value, (body, into)) = gathering;
+    Stmt::Collect(value, body, into)
+}
+
+fn accumulated(gathering: (Value, (Body, Value))) -> Stmt
+    ensures { stmt_view result ≡ tree.accumulate (value_view gathering.0) (body_view gathering.1.0) (value_view gathering.1.1) }
+{
+    let (value, (body, into)) = gathering;
+    Stmt::Accumulate(value, body, into)
+}
+
+fn select_of(mode: Mode, branches: Result<Vec<Items<Stmt>>, AllocError>) -> Result<Stmt, AllocError>
+    ensures { IfOk result (λ new. IsOkAnd branches (λ branches. stmt_view new ≡ tree.select mode (branches_view (map (map stmt_view) branches.items)))) }
+{
+    Ok(Stmt::Select(mode, Items::from_vec(branches?)))
 }
 
 /// A head of these parts.
@@ -109,6 +178,15 @@ pub fn body_of(branches: Vec<Items<Stmt>>) -> Body
     }
 }
 
+/// One statement.
+pub fn one_stmt(alloc: Global, stmt: Stmt) -> Result<Items<Stmt>, AllocError>
+    ensures { IfOk result (λ new. stmts_of (map stmt_view new) ≡ tree.stmt (stmt_view stmt) tree.no_stmts) }
+{
+    let mut stmts = Items::new(alloc);
+    stmts.push(stmt)?;
+    Ok(stmts)
+}
+
 /// A value with new names, numbered from here on.
 #[cycle(plain)]
 pub fn plain_value(
@@ -122,26 +200,26 @@ pub fn plain_value(
 {
     match value {
         Value::Num(number) => Ok(Value::Num(*number)),
-        Value::Word(word) => Ok(Value::Word(copied(alloc, word.as_slice())?)),
-        Value::Object(name) => Ok(Value::Object(copied(alloc, name.as_slice())?)),
+        Value::Word(word) => copied(alloc, word.as_slice()).map(Value::Word),
+        Value::Object(name) => copied(alloc, name.as_slice()).map(Value::Object),
         Value::Topic => topic_value(alloc, setting),
         Value::Any => plain_anonymous(alloc, setting, at),
-        Value::Var(name) => Ok(Value::Var(copied(alloc, name.as_slice())?)),
+        Value::Var(name) => copied(alloc, name.as_slice()).map(Value::Var),
         Value::List(values, None) => {
-            let values = plain_values(alloc, setting, at, values.as_slice())?;
-            Ok(Value::List(Items::from_vec(values), None))
+            plain_values(alloc, setting, at, values.as_slice()).map(without_tail)
         }
         Value::List(values, Some(tail)) => {
-            let values = plain_values(alloc, setting, at, values.as_slice())?;
-            let tail = Boxed::new(alloc, plain_value(alloc, setting, at, tail.get())?)?;
-            Ok(with_tail(Items::from_vec(values), tail))
+            let values = plain_values(alloc, setting, at, values.as_slice());
+            with_tail(alloc, values, plain_value(alloc, setting, at, tail.get()))
         }
-        Value::Closure(body) => Ok(Value::Closure(plain_body(alloc, setting, at, body)?)),
-        Value::Query(head) => Ok(standing_for(
-            setting,
-            plain_parts(alloc, setting, at, head.parts.as_slice())?,
-        )),
-        Value::Words(_) => Ok(Value::Var(choice_name(alloc, setting.number, take_number(at)?)?)),
+        Value::Closure(body) => plain_body(alloc, setting, at, body).map(Value::Closure),
+        Value::Query(head) => {
+            standing_for(
+                setting,
+                plain_parts(alloc, setting, at, head.parts.as_slice()),
+            )
+        }
+        Value::Words(_) => plain_choice(alloc, setting, at),
     }
 }
 
@@ -151,11 +229,11 @@ fn plain_values(
     setting: Setting<'_>,
     at: &mut usize,
     values: &[Value],
-) -> Result<Vec<Value>, AllocError>
-    ensures values { IfOk result (λ new. values_of (map value_view new.items) ≡ spec.plain_values (setting_view setting.entry) at.old (values_of (map value_view values.now))) }
+) -> Result<Items<Value>, AllocError>
+    ensures values { IfOk result (λ new. values_of (map value_view new) ≡ spec.plain_values (setting_view setting.entry) at.old (values_of (map value_view values.now))) }
     ensures at { OnOk result (at.new ≡ at.old + new_in_values (values_of (map value_view values.now))) }
 {
-    let mut new = Vec::new(alloc);
+    let mut new = Items::new(alloc);
     for value in values {
         new.push(plain_value(alloc, setting, at, value)?)?;
     }
@@ -191,8 +269,8 @@ fn plain_part(
     ensures at { OnOk result (at.new ≡ at.old + new_in_part (part_view part.now)) }
 {
     match part {
-        Part::Word(word) => Ok(Part::Word(copied(alloc, word.as_slice())?)),
-        Part::Value(value) => Ok(Part::Value(plain_value(alloc, setting, at, value)?)),
+        Part::Word(word) => copied(alloc, word.as_slice()).map(Part::Word),
+        Part::Value(value) => plain_value(alloc, setting, at, value).map(Part::Value),
     }
 }
 
@@ -207,7 +285,7 @@ pub fn plain_head(
     ensures head { IfOk result (λ new. head_view new ≡ spec.plain_parts (setting_view setting.entry) at.old (head_view head.now)) }
     ensures at { OnOk result (at.new ≡ at.old + new_in_parts (head_view head.now)) }
 {
-    Ok(head_of(plain_parts(alloc, setting, at, head.parts.as_slice())?))
+    plain_parts(alloc, setting, at, head.parts.as_slice()).map(head_of)
 }
 
 /// A body with new names.
@@ -223,8 +301,7 @@ pub fn plain_body(
 {
     let mut new = Vec::new(alloc);
     for stmts in body.branches.as_slice() {
-        let stmts = plain_stmts(alloc, setting, at, stmts.as_slice())?;
-        new.push(Items::from_vec(stmts))?;
+        new.push(plain_stmts(alloc, setting, at, stmts.as_slice())?)?;
     }
     Ok(body_of(new))
 }
@@ -235,11 +312,11 @@ fn plain_stmts(
     setting: Setting<'_>,
     at: &mut usize,
     stmts: &[Stmt],
-) -> Result<Vec<Stmt>, AllocError>
-    ensures stmts { IfOk result (λ new. stmts_of (map stmt_view new.items) ≡ spec.plain_stmts (setting_view setting.entry) at.old (stmts_of (map stmt_view stmts.now))) }
+) -> Result<Items<Stmt>, AllocError>
+    ensures stmts { IfOk result (λ new. stmts_of (map stmt_view new) ≡ spec.plain_stmts (setting_view setting.entry) at.old (stmts_of (map stmt_view stmts.now))) }
     ensures at { OnOk result (at.new ≡ at.old + new_in_stmts (stmts_of (map stmt_view stmts.now))) }
 {
-    let mut new = Vec::new(alloc);
+    let mut new = Items::new(alloc);
     for stmt in stmts {
         new.push(plain_stmt(alloc, setting, at, stmt)?)?;
     }
@@ -257,62 +334,41 @@ fn plain_stmt(
     ensures at { OnOk result (at.new ≡ at.old + new_in_stmt (stmt_view stmt.now)) }
 {
     match stmt {
-        Stmt::Text(word) => Ok(Stmt::Text(copied(alloc, word.as_slice())?)),
-        Stmt::Print(value) => Ok(Stmt::Print(plain_value(alloc, setting, at, value)?)),
-        Stmt::Ask(head) => Ok(Stmt::Ask(plain_head(alloc, setting, at, head)?)),
-        Stmt::AskAll(head) => Ok(Stmt::AskAll(plain_head(alloc, setting, at, head)?)),
-        Stmt::AskNot(head) => Ok(Stmt::AskNot(plain_head(alloc, setting, at, head)?)),
-        Stmt::Group(body) => Ok(Stmt::Group(plain_body(alloc, setting, at, body)?)),
-        Stmt::NotGroup(body) => Ok(Stmt::NotGroup(plain_body(alloc, setting, at, body)?)),
-        Stmt::First(body) => Ok(Stmt::First(plain_body(alloc, setting, at, body)?)),
+        Stmt::Text(word) => copied(alloc, word.as_slice()).map(Stmt::Text),
+        Stmt::Print(value) => plain_value(alloc, setting, at, value).map(Stmt::Print),
+        Stmt::Ask(head) => plain_head(alloc, setting, at, head).map(Stmt::Ask),
+        Stmt::AskAll(head) => plain_head(alloc, setting, at, head).map(Stmt::AskAll),
+        Stmt::AskNot(head) => plain_head(alloc, setting, at, head).map(Stmt::AskNot),
+        Stmt::Group(body) => plain_body(alloc, setting, at, body).map(Stmt::Group),
+        Stmt::NotGroup(body) => plain_body(alloc, setting, at, body).map(Stmt::NotGroup),
+        Stmt::First(body) => plain_body(alloc, setting, at, body).map(Stmt::First),
         Stmt::Now(changes) => {
-            Ok(Stmt::Now(plain_changes(alloc, setting, at, changes.as_slice())?))
+            plain_changes(alloc, setting, at, changes.as_slice()).map(Stmt::Now)
         }
         Stmt::If(arms, None) => {
-            Ok(Stmt::If(plain_arms(alloc, setting, at, arms.as_slice())?, None))
+            plain_arms(alloc, setting, at, arms.as_slice()).map(without_other)
         }
         Stmt::If(arms, Some(other)) => {
-            let arms = plain_arms(alloc, setting, at, arms.as_slice())?;
-            Ok(with_other(arms, plain_body(alloc, setting, at, other)?))
+            let arms = plain_arms(alloc, setting, at, arms.as_slice());
+            both(arms, plain_body(alloc, setting, at, other)).map(with_other)
         }
-        Stmt::Exhaust(inner) => Ok(Stmt::Exhaust(plain_inner(alloc, setting, at, inner.get())?)),
+        Stmt::Exhaust(inner) => plain_inner(alloc, setting, at, inner.get()).map(Stmt::Exhaust),
         Stmt::Stoppable(inner) => {
-            Ok(Stmt::Stoppable(plain_inner(alloc, setting, at, inner.get())?))
+            plain_inner(alloc, setting, at, inner.get()).map(Stmt::Stoppable)
         }
-        Stmt::Collect(_, _, _) | Stmt::Accumulate(_, _, _) => {
-            plain_gathering(alloc, setting, at, stmt)
-        }
-        Stmt::Select(mode, _) => Ok(select_of(
-            *mode,
-            Items::from_vec(plain_select(alloc, setting, at, stmt)?),
-        )),
-    }
-}
-
-// A gathering with new names.
-#[cycle(plain)]
-fn plain_gathering(
-    alloc: Global,
-    setting: Setting<'_>,
-    at: &mut usize,
-    stmt: &Stmt,
-) -> Result<Stmt, AllocError>
-    requires { is_gathering (stmt_view stmt.now) ≡ true }
-    ensures stmt { IfOk result (λ new. stmt_view new ≡ spec.plain_stmt (setting_view setting.entry) at.old (stmt_view stmt.now)) }
-    ensures at { OnOk result (at.new ≡ at.old + new_in_stmt (stmt_view stmt.now)) }
-{
-    match stmt {
-        Stmt::Collect(value, body, into) => {
-            let value = plain_value(alloc, setting, at, value)?;
-            let body = plain_body(alloc, setting, at, body)?;
-            Ok(Stmt::Collect(value, body, plain_value(alloc, setting, at, into)?))
-        }
-        Stmt::Accumulate(value, body, into) => {
-            let value = plain_value(alloc, setting, at, value)?;
-            let body = plain_body(alloc, setting, at, body)?;
-            Ok(Stmt::Accumulate(value, body, plain_value(alloc, setting, at, into)?))
-        }
-        _ => unreachable!(),
+        Stmt::Collect(value, body, into) => gathered(
+            plain_value(alloc, setting, at, value),
+            plain_body(alloc, setting, at, body),
+            plain_value(alloc, setting, at, into),
+        )
+        .map(collected),
+        Stmt::Accumulate(value, body, into) => gathered(
+            plain_value(alloc, setting, at, value),
+            plain_body(alloc, setting, at, body),
+            plain_value(alloc, setting, at, into),
+        )
+        .map(accumulated),
+        Stmt::Select(mode, _) => select_of(*mode, plain_select(alloc, setting, at, stmt)),
     }
 }
 
@@ -345,8 +401,7 @@ fn plain_select(
         return Ok(new);
     };
     for stmts in branches.as_slice() {
-        let stmts = plain_stmts(alloc, setting, at, stmts.as_slice())?;
-        new.push(Items::from_vec(stmts))?;
+        new.push(plain_stmts(alloc, setting, at, stmts.as_slice())?)?;
     }
     Ok(new)
 }
@@ -361,13 +416,13 @@ fn plain_arms(
     ensures arms { IfOk result (λ new. arms_of (map arm_view new) ≡ spec.plain_arms (setting_view setting.entry) at.old (arms_of (map arm_view arms.now))) }
     ensures at { OnOk result (at.new ≡ at.old + new_in_arms (arms_of (map arm_view arms.now))) }
 {
-    let mut new = Vec::new(alloc);
+    let mut new = Items::new(alloc);
     for arm in arms {
         let condition = plain_body(alloc, setting, at, &arm.condition)?;
         let body = plain_body(alloc, setting, at, &arm.body)?;
         new.push(Arm { condition, body })?;
     }
-    Ok(Items::from_vec(new))
+    Ok(new)
 }
 
 #[cycle(plain)]
@@ -380,7 +435,7 @@ fn plain_changes(
     ensures changes { IfOk result (λ new. changes_of (map change_view new) ≡ spec.plain_changes (setting_view setting.entry) at.old (changes_of (map change_view changes.now))) }
     ensures at { OnOk result (at.new ≡ at.old + new_in_changes (changes_of (map change_view changes.now))) }
 {
-    let mut new = Vec::new(alloc);
+    let mut new = Items::new(alloc);
     for change in changes {
         let head = plain_head(alloc, setting, at, &change.head)?;
         new.push(NowChange {
@@ -388,5 +443,5 @@ fn plain_changes(
             set: change.set,
         })?;
     }
-    Ok(Items::from_vec(new))
+    Ok(new)
 }

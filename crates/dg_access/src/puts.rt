@@ -8,7 +8,7 @@ ghost use Rattle.dg_access.specs.Plain.{new_in_value, new_in_values, new_in_part
 ghost use Rattle.dg_access.specs.State.{setting_view};
 
 use crate::fresh::{choice_name, copied, take_number};
-use crate::plain::{body_of, head_of, plain_body, plain_head};
+use crate::plain::{body_of, head_of, one_stmt, plain_body, plain_head};
 use crate::setting::Setting;
 use dg_base::{Body, Head, Items, Name, Part, Stmt, Value};
 use std::alloc::{AllocError, Global};
@@ -24,18 +24,10 @@ fn test_parts(alloc: Global, name: &[u8], word: &[u8]) -> Result<Vec<Part>, Allo
     Ok(parts)
 }
 
-fn word_test(alloc: Global, name: &[u8], word: &[u8]) -> Result<Stmt, AllocError>
-    ensures { IfOk result (λ new. stmt_view new ≡ tree.ask (spec.test_parts name.now word.now)) }
-{
-    Ok(Stmt::Ask(head_of(test_parts(alloc, name, word)?)))
-}
-
 fn word_branch(alloc: Global, name: &[u8], word: &[u8]) -> Result<Items<Stmt>, AllocError>
     ensures { IfOk result (λ new. stmts_of (map stmt_view new) ≡ tree.stmt (tree.ask (spec.test_parts name.now word.now)) tree.no_stmts) }
 {
-    let mut stmts = Items::new(alloc);
-    stmts.push(word_test(alloc, name, word)?)?;
-    Ok(stmts)
+    one_stmt(alloc, Stmt::Ask(head_of(test_parts(alloc, name, word)?)))
 }
 
 // A branch for each word.
@@ -50,6 +42,20 @@ fn word_branches(alloc: Global, name: &[u8], words: &[Name]) -> Result<Body, All
     Ok(body_of(branches))
 }
 
+fn put_stmt(out: &mut Vec<Stmt>, stmt: Stmt) -> Result<(), AllocError>
+    ensures { OnOk result (map stmt_view out.new.items ≡ map stmt_view out.old.items ++ stmt_view stmt ∷ []) }
+{
+    out.push(stmt)?;
+    Ok(())
+}
+
+// A choice between the words for a variable of this name.
+fn choice_test(alloc: Global, name: Name, words: &[Name]) -> Result<Stmt, AllocError>
+    ensures { IfOk result (λ new. stmt_view new ≡ tree.group (spec.word_branches name words.now)) }
+{
+    word_branches(alloc, name.as_slice(), words).map(Stmt::Group)
+}
+
 fn put_choice(
     alloc: Global,
     setting: Setting<'_>,
@@ -61,8 +67,7 @@ fn put_choice(
     ensures at { OnOk result (at.new ≡ at.old + 1) }
 {
     let name = choice_name(alloc, setting.number, take_number(at)?)?;
-    out.push(Stmt::Group(word_branches(alloc, name.as_slice(), words)?))?;
-    Ok(())
+    put_stmt(out, choice_test(alloc, name, words)?)
 }
 
 // Nothing of a closure is put before the body, and the numbers of its variables are passed over.
@@ -102,8 +107,7 @@ fn put_value(
         Value::List(values, None) => put_values(alloc, setting, at, values.as_slice(), out),
         Value::List(values, Some(tail)) => {
             put_values(alloc, setting, at, values.as_slice(), out)?;
-            put_value(alloc, setting, at, tail.get(), out)?;
-            Ok(())
+            put_value(alloc, setting, at, tail.get(), out)
         }
         Value::Closure(body) => pass_closure(alloc, setting, at, body),
         Value::Query(head) => put_query(alloc, setting, at, head, out),
@@ -142,8 +146,7 @@ fn put_query(
 {
     let mut inner = *at;
     put_parts(alloc, setting, &mut inner, head.parts.as_slice(), out)?;
-    out.push(Stmt::AskAll(plain_head(alloc, setting, at, head)?))?;
-    Ok(())
+    put_stmt(out, plain_head(alloc, setting, at, head).map(Stmt::AskAll)?)
 }
 
 #[cycle(puts)]

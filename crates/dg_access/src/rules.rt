@@ -10,7 +10,7 @@ ghost use Rattle.dg_access.specs.State.{setting_view};
 
 use crate::fresh::copied;
 use crate::numbers::free_number;
-use crate::plain::{body_of, plain_body, plain_head};
+use crate::plain::{body_of, both, one_stmt, plain_body, plain_head};
 use crate::puts::put_parts;
 use crate::setting::Setting;
 use dg_base::{Body, Head, Item, ItemBody, Items, Stmt, Tree};
@@ -26,14 +26,6 @@ fn is_single(body: &Body) -> bool
         [] => true,
         [_, ..] => false,
     }
-}
-
-fn grouped(alloc: Global, body: Body) -> Result<Items<Stmt>, AllocError>
-    ensures { IfOk result (λ new. stmts_of (map stmt_view new) ≡ tree.stmt (tree.group (body_view body)) tree.no_stmts) }
-{
-    let mut stmts = Items::new(alloc);
-    stmts.push(Stmt::Group(body))?;
-    Ok(stmts)
 }
 
 fn only_branch(alloc: Global, mut body: Body) -> Result<Items<Stmt>, AllocError>
@@ -54,10 +46,9 @@ fn whole_body(alloc: Global, body: Body) -> Result<Items<Stmt>, AllocError>
     if is_single(&body) {
         return only_branch(alloc, body);
     }
-    grouped(alloc, body)
+    one_stmt(alloc, Stmt::Group(body))
 }
 
-#[tactic(auto, using(std::proofs::lemmas::Grind::common_steps, crate::proofs::BranchLemmas::front_append))]
 fn in_front(puts: Vec<Stmt>, stmts: Items<Stmt>) -> Result<Items<Stmt>, AllocError>
     ensures { IfOk result (λ new. stmts_of (map stmt_view new) ≡ spec.in_front (map stmt_view puts.items) (stmts_of (map stmt_view stmts))) }
 {
@@ -106,9 +97,30 @@ fn plain_rule(
     let mut puts = Vec::new(alloc);
     put_parts(alloc, setting, &mut first, head.parts.as_slice(), &mut puts)?;
     let mut at = 0;
-    let head = plain_head(alloc, setting, &mut at, head)?;
+    let head = plain_head(alloc, setting, &mut at, head);
     let body = plain_body(alloc, setting, &mut at, body)?;
-    Ok((head, put_before(alloc, puts, body)?))
+    both(head, put_before(alloc, puts, body))
+}
+
+fn as_rule(rule: (Head, Body)) -> ItemBody
+    ensures { said_view result ≡ tree.rule (head_view rule.0) (body_view rule.1) }
+{
+    let (head, body) = rule;
+    ItemBody::Rule(head, body)
+}
+
+fn as_deny(rule: (Head, Body)) -> ItemBody
+    ensures { said_view result ≡ tree.deny (head_view rule.0) (body_view rule.1) }
+{
+    let (head, body) = rule;
+    ItemBody::Deny(head, body)
+}
+
+fn as_access(rule: (Head, Body)) -> ItemBody
+    ensures { said_view result ≡ tree.access (head_view rule.0) (body_view rule.1) }
+{
+    let (head, body) = rule;
+    ItemBody::Access(head, body)
 }
 
 fn plain_said(alloc: Global, topic: Option<&[u8]>, said: &ItemBody) -> Result<ItemBody, AllocError>
@@ -121,19 +133,10 @@ fn plain_said(alloc: Global, topic: Option<&[u8]>, said: &ItemBody) -> Result<It
         declares: false,
     };
     match said {
-        ItemBody::Topic(name) => Ok(ItemBody::Topic(copied(alloc, name.as_slice())?)),
-        ItemBody::Rule(head, body) => {
-            let (head, body) = plain_rule(alloc, rule, head, body)?;
-            Ok(ItemBody::Rule(head, body))
-        }
-        ItemBody::Deny(head, body) => {
-            let (head, body) = plain_rule(alloc, rule, head, body)?;
-            Ok(ItemBody::Deny(head, body))
-        }
-        ItemBody::Access(head, body) => {
-            let (head, body) = plain_rule(alloc, rule, head, body)?;
-            Ok(ItemBody::Access(head, body))
-        }
+        ItemBody::Topic(name) => copied(alloc, name.as_slice()).map(ItemBody::Topic),
+        ItemBody::Rule(head, body) => plain_rule(alloc, rule, head, body).map(as_rule),
+        ItemBody::Deny(head, body) => plain_rule(alloc, rule, head, body).map(as_deny),
+        ItemBody::Access(head, body) => plain_rule(alloc, rule, head, body).map(as_access),
         ItemBody::Variable(head) => {
             let declaration = Setting {
                 topic,
@@ -141,7 +144,7 @@ fn plain_said(alloc: Global, topic: Option<&[u8]>, said: &ItemBody) -> Result<It
                 declares: true,
             };
             let mut at = 0;
-            Ok(ItemBody::Variable(plain_head(alloc, declaration, &mut at, head)?))
+            plain_head(alloc, declaration, &mut at, head).map(ItemBody::Variable)
         }
     }
 }

@@ -1,20 +1,14 @@
-use Rattle.std.proofs.Common.{arith}
+use Rattle.std.proofs.Common.{◌≡◌, ◌≤◌, length, map, arith}
 use Rattle.std.proofs.lemmas.List.{append_assoc, append-nil, map-append, drop_more, drop_all}
 use Rattle.dg_names.proofs.Views.{part_word_seen, value_seen, body_seen, arm_seen, change_seen, head_seen, values_seen, stmts_seen}
+use Rattle.dg_base.specs.TreeView.{branches_view, stmt_view}
+use Rattle.dg_access.specs.State.{selected}
+use Rattle.dg_access.proofs.Views.{selected_seen}
 use Rattle.dg_access.proofs.marks.+marks.Goals as goal
 
 ruleset steps = (append_assoc, append-nil, map-append, drop_more, drop_all, body_seen, arm_seen, change_seen, head_seen)
 
 ruleset forms = (append_assoc, append-nil, map-append, part_word_seen, value_seen, head_seen, body_seen, values_seen, stmts_seen)
-
-pub mark_arms-loop-arm-init : goal.mark_arms-loop-arm-init
-mark_arms-loop-arm-init t c = grind (arith, steps)
-
-pub mark_arms-loop-arm-preserved : goal.mark_arms-loop-arm-preserved
-mark_arms-loop-arm-preserved t c = grind (arith, steps)
-
-pub mark_arms-returns : goal.mark_arms-returns
-mark_arms-returns t c = grind (arith, steps)
 
 pub mark_body-loop-stmts-init : goal.mark_body-loop-stmts-init
 mark_body-loop-stmts-init t c = grind (arith, steps)
@@ -24,6 +18,21 @@ mark_body-loop-stmts-preserved t c = grind (arith, steps)
 
 pub mark_body-returns : goal.mark_body-returns
 mark_body-returns t c = grind (arith, steps)
+
+pub mark_select-loop-stmts-init : goal.mark_select-loop-stmts-init
+mark_select-loop-stmts-init t c = grind (arith, steps)
+
+pub mark_select-loop-stmts-preserved : goal.mark_select-loop-stmts-preserved
+mark_select-loop-stmts-preserved t c = grind (arith, steps)
+
+pub mark_arms-loop-arm-init : goal.mark_arms-loop-arm-init
+mark_arms-loop-arm-init t c = grind (arith, steps)
+
+pub mark_arms-loop-arm-preserved : goal.mark_arms-loop-arm-preserved
+mark_arms-loop-arm-preserved t c = grind (arith, steps)
+
+pub mark_arms-returns : goal.mark_arms-returns
+mark_arms-returns t c = grind (arith, steps)
 
 pub mark_changes-loop-change-init : goal.mark_changes-loop-change-init
 mark_changes-loop-change-init t c = grind (arith, steps)
@@ -49,12 +58,6 @@ mark_parts-loop-part-preserved t c = grind (arith, steps)
 pub mark_parts-returns : goal.mark_parts-returns
 mark_parts-returns t c = grind (arith, steps)
 
-pub mark_select-loop-stmts-init : goal.mark_select-loop-stmts-init
-mark_select-loop-stmts-init t c = grind (arith, steps)
-
-pub mark_select-loop-stmts-preserved : goal.mark_select-loop-stmts-preserved
-mark_select-loop-stmts-preserved t c = grind (arith, steps)
-
 pub mark_stmt-returns-in-Exhaust : goal.mark_stmt-returns-in-Exhaust
 mark_stmt-returns-in-Exhaust t c = grind (arith, forms)
 
@@ -73,11 +76,11 @@ mark_stmt-returns-in-Text t c = grind (arith, forms)
 pub mark_stmt-returns-in_ok-mark_body-in-Collect : goal.mark_stmt-returns-in_ok-mark_body-in-Collect
 mark_stmt-returns-in_ok-mark_body-in-Collect t c = grind (arith, forms)
 
-pub mark_stmt-returns-in_ok-push-in-Ask-2 : goal.mark_stmt-returns-in_ok-push-in-Ask-2
-mark_stmt-returns-in_ok-push-in-Ask-2 t c = grind (arith, forms)
+pub mark_stmt-returns-in-Ask : goal.mark_stmt-returns-in-Ask
+mark_stmt-returns-in-Ask t c = grind (arith, forms)
 
-pub mark_stmt-returns-in_ok-push-in-Select : goal.mark_stmt-returns-in_ok-push-in-Select
-mark_stmt-returns-in_ok-push-in-Select t c = grind (arith, forms)
+pub mark_stmt-returns-in_ok-put-in-Select : goal.mark_stmt-returns-in_ok-put-in-Select
+mark_stmt-returns-in_ok-put-in-Select t c = grind (arith, forms)
 
 pub mark_stmts-loop-stmt-init : goal.mark_stmts-loop-stmt-init
 mark_stmts-loop-stmt-init t c = grind (arith, steps)
@@ -106,14 +109,14 @@ mark_value-returns-in-Num-6 t c = grind (arith, forms)
 pub mark_value-returns-in-Num : goal.mark_value-returns-in-Num
 mark_value-returns-in-Num t c = grind (arith, forms)
 
-pub mark_value-returns-in_ok-push-in-Closure-2 : goal.mark_value-returns-in_ok-push-in-Closure-2
-mark_value-returns-in_ok-push-in-Closure-2 t c = grind (arith, forms)
+pub mark_value-returns-in-Closure : goal.mark_value-returns-in-Closure
+mark_value-returns-in-Closure t c = grind (arith, forms)
 
-pub mark_value-returns-in_ok-push-in-Query : goal.mark_value-returns-in_ok-push-in-Query
-mark_value-returns-in_ok-push-in-Query t c = grind (arith, forms)
+pub mark_value-returns-in-Query : goal.mark_value-returns-in-Query
+mark_value-returns-in-Query t c = grind (arith, forms)
 
-pub mark_value-returns-in_ok-push-in-Var : goal.mark_value-returns-in_ok-push-in-Var
-mark_value-returns-in_ok-push-in-Var t c = grind (arith, forms)
+pub mark_value-returns-in-Var : goal.mark_value-returns-in-Var
+mark_value-returns-in-Var t c = grind (arith, forms)
 
 pub mark_values-loop-value-init : goal.mark_values-loop-value-init
 mark_values-loop-value-init t c = grind (arith, steps)
@@ -123,3 +126,19 @@ mark_values-loop-value-preserved t c = grind (arith, steps)
 
 pub mark_values-returns : goal.mark_values-returns
 mark_values-returns t c = grind (arith, steps)
+
+pub mark_closure-returns : goal.mark_closure-returns
+mark_closure-returns t c = grind (arith, forms)
+
+pub mark_head-returns : goal.mark_head-returns
+mark_head-returns t c = grind (arith, forms)
+
+pub mark_query-returns : goal.mark_query-returns
+mark_query-returns t c = grind (arith, forms)
+
+pub mark_select-returns-after-loop-stmts : goal.mark_select-returns-after-loop-stmts
+mark_select-returns-after-loop-stmts t c =
+    let branches = c.as_slice-stmts-items.result.now in
+    let le : length branches ≤ c.loop-stmts.stmts-index = omega arith in
+    let seen : branches_view (map (map stmt_view) branches) ≡ selected (stmt_view c.args.stmt.now) = grind (arith, selected_seen) in
+    grind (arith, steps)

@@ -44,6 +44,18 @@ plain_select-returns-clause-at t c =
     numbers_done branches c.loop-stmts.stmts-index c.loop-stmts.at _ le c.loop-stmts.invariant.at
     ∙ ap (λ (b : tree.Body). c.args.at.now + new_in_body b) seen
 
+pub plain_body-loop-stmts-init : goal.plain_body-loop-stmts-init
+plain_body-loop-stmts-init t c = grind (arith, steps)
+
+pub plain_body-loop-stmts-preserved : goal.plain_body-loop-stmts-preserved
+plain_body-loop-stmts-preserved t c = grind (arith, steps)
+
+pub plain_select-loop-stmts-init : goal.plain_select-loop-stmts-init
+plain_select-loop-stmts-init t c = grind (arith, steps)
+
+pub plain_select-loop-stmts-preserved : goal.plain_select-loop-stmts-preserved
+plain_select-loop-stmts-preserved t c = grind (arith, steps)
+
 pub plain_arms-loop-arm-init : goal.plain_arms-loop-arm-init
 plain_arms-loop-arm-init t c = grind (arith, steps)
 
@@ -55,12 +67,6 @@ plain_arms-returns-clause-arms t c = grind (arith, steps)
 
 pub plain_arms-returns-clause-at : goal.plain_arms-returns-clause-at
 plain_arms-returns-clause-at t c = grind (arith, steps)
-
-pub plain_body-loop-stmts-init : goal.plain_body-loop-stmts-init
-plain_body-loop-stmts-init t c = grind (arith, steps)
-
-pub plain_body-loop-stmts-preserved : goal.plain_body-loop-stmts-preserved
-plain_body-loop-stmts-preserved t c = grind (arith, steps)
 
 pub plain_changes-loop-change-init : goal.plain_changes-loop-change-init
 plain_changes-loop-change-init t c = grind (arith, steps)
@@ -86,12 +92,6 @@ plain_parts-returns-clause-at t c = grind (arith, steps)
 pub plain_parts-returns-clause-parts : goal.plain_parts-returns-clause-parts
 plain_parts-returns-clause-parts t c = grind (arith, steps)
 
-pub plain_select-loop-stmts-init : goal.plain_select-loop-stmts-init
-plain_select-loop-stmts-init t c = grind (arith, steps)
-
-pub plain_select-loop-stmts-preserved : goal.plain_select-loop-stmts-preserved
-plain_select-loop-stmts-preserved t c = grind (arith, steps)
-
 pub plain_stmts-loop-stmt-init : goal.plain_stmts-loop-stmt-init
 plain_stmts-loop-stmt-init t c = grind (arith, steps)
 
@@ -116,18 +116,6 @@ plain_values-returns-clause-at t c = grind (arith, steps)
 pub plain_values-returns-clause-values : goal.plain_values-returns-clause-values
 plain_values-returns-clause-values t c = grind (arith, steps)
 
-pub plain_gathering-returns-in_ok-plain_value-in-Accumulate-clause-at : goal.plain_gathering-returns-in_ok-plain_value-in-Accumulate-clause-at
-plain_gathering-returns-in_ok-plain_value-in-Accumulate-clause-at t c = grind (arith, forms)
-
-pub plain_gathering-returns-in_ok-plain_value-in-Accumulate-clause-stmt : goal.plain_gathering-returns-in_ok-plain_value-in-Accumulate-clause-stmt
-plain_gathering-returns-in_ok-plain_value-in-Accumulate-clause-stmt t c = grind (arith, forms)
-
-pub plain_gathering-returns-in_ok-plain_value-in-Collect-clause-at : goal.plain_gathering-returns-in_ok-plain_value-in-Collect-clause-at
-plain_gathering-returns-in_ok-plain_value-in-Collect-clause-at t c = grind (arith, forms)
-
-pub plain_gathering-returns-in_ok-plain_value-in-Collect-clause-stmt : goal.plain_gathering-returns-in_ok-plain_value-in-Collect-clause-stmt
-plain_gathering-returns-in_ok-plain_value-in-Collect-clause-stmt t c = grind (arith, forms)
-
 pub plain_head-returns-clause-at : goal.plain_head-returns-clause-at
 plain_head-returns-clause-at t c = grind (arith, forms)
 
@@ -140,17 +128,17 @@ plain_inner-returns-clause-at t c = grind (arith, forms)
 pub plain_inner-returns-clause-stmt : goal.plain_inner-returns-clause-stmt
 plain_inner-returns-clause-stmt t c = grind (arith, forms)
 
-pub plain_part-returns-in_ok-copied-in-Word-clause-at : goal.plain_part-returns-in_ok-copied-in-Word-clause-at
-plain_part-returns-in_ok-copied-in-Word-clause-at t c = grind (arith, forms)
+pub plain_part-returns-in-Word-clause-at : goal.plain_part-returns-in-Word-clause-at
+plain_part-returns-in-Word-clause-at t c = grind (arith, forms)
 
-pub plain_part-returns-in_ok-copied-in-Word-clause-part : goal.plain_part-returns-in_ok-copied-in-Word-clause-part
-plain_part-returns-in_ok-copied-in-Word-clause-part t c = grind (arith, forms)
+pub plain_part-returns-in-Word-clause-part : goal.plain_part-returns-in-Word-clause-part
+plain_part-returns-in-Word-clause-part t c = grind (arith, forms)
 
-pub plain_part-returns-in_ok-plain_value-in-Value-clause-at : goal.plain_part-returns-in_ok-plain_value-in-Value-clause-at
-plain_part-returns-in_ok-plain_value-in-Value-clause-at t c = grind (arith, forms)
+pub plain_part-returns-in-Value-clause-at : goal.plain_part-returns-in-Value-clause-at
+plain_part-returns-in-Value-clause-at t c = grind (arith, forms)
 
-pub plain_part-returns-in_ok-plain_value-in-Value-clause-part : goal.plain_part-returns-in_ok-plain_value-in-Value-clause-part
-plain_part-returns-in_ok-plain_value-in-Value-clause-part t c = grind (arith, forms)
+pub plain_part-returns-in-Value-clause-part : goal.plain_part-returns-in-Value-clause-part
+plain_part-returns-in-Value-clause-part t c = grind (arith, forms)
 
 pub plain_stmt-returns-in-Collect-clause-at : goal.plain_stmt-returns-in-Collect-clause-at
 plain_stmt-returns-in-Collect-clause-at t c = grind (arith, forms)
@@ -158,77 +146,77 @@ plain_stmt-returns-in-Collect-clause-at t c = grind (arith, forms)
 pub plain_stmt-returns-in-Collect-clause-stmt : goal.plain_stmt-returns-in-Collect-clause-stmt
 plain_stmt-returns-in-Collect-clause-stmt t c = grind (arith, forms)
 
-pub plain_stmt-returns-in_ok-copied-in-Text-clause-at : goal.plain_stmt-returns-in_ok-copied-in-Text-clause-at
-plain_stmt-returns-in_ok-copied-in-Text-clause-at t c = grind (arith, forms)
+pub plain_stmt-returns-in-Text-clause-at : goal.plain_stmt-returns-in-Text-clause-at
+plain_stmt-returns-in-Text-clause-at t c = grind (arith, forms)
 
-pub plain_stmt-returns-in_ok-copied-in-Text-clause-stmt : goal.plain_stmt-returns-in_ok-copied-in-Text-clause-stmt
-plain_stmt-returns-in_ok-copied-in-Text-clause-stmt t c = grind (arith, forms)
+pub plain_stmt-returns-in-Text-clause-stmt : goal.plain_stmt-returns-in-Text-clause-stmt
+plain_stmt-returns-in-Text-clause-stmt t c = grind (arith, forms)
 
-pub plain_stmt-returns-in_ok-plain_body-in-First-clause-at : goal.plain_stmt-returns-in_ok-plain_body-in-First-clause-at
-plain_stmt-returns-in_ok-plain_body-in-First-clause-at t c = grind (arith, forms)
+pub plain_stmt-returns-in-First-clause-at : goal.plain_stmt-returns-in-First-clause-at
+plain_stmt-returns-in-First-clause-at t c = grind (arith, forms)
 
-pub plain_stmt-returns-in_ok-plain_body-in-First-clause-stmt : goal.plain_stmt-returns-in_ok-plain_body-in-First-clause-stmt
-plain_stmt-returns-in_ok-plain_body-in-First-clause-stmt t c = grind (arith, forms)
+pub plain_stmt-returns-in-First-clause-stmt : goal.plain_stmt-returns-in-First-clause-stmt
+plain_stmt-returns-in-First-clause-stmt t c = grind (arith, forms)
 
-pub plain_stmt-returns-in_ok-plain_body-in-Group-clause-at : goal.plain_stmt-returns-in_ok-plain_body-in-Group-clause-at
-plain_stmt-returns-in_ok-plain_body-in-Group-clause-at t c = grind (arith, forms)
+pub plain_stmt-returns-in-Group-clause-at : goal.plain_stmt-returns-in-Group-clause-at
+plain_stmt-returns-in-Group-clause-at t c = grind (arith, forms)
 
-pub plain_stmt-returns-in_ok-plain_body-in-Group-clause-stmt : goal.plain_stmt-returns-in_ok-plain_body-in-Group-clause-stmt
-plain_stmt-returns-in_ok-plain_body-in-Group-clause-stmt t c = grind (arith, forms)
+pub plain_stmt-returns-in-Group-clause-stmt : goal.plain_stmt-returns-in-Group-clause-stmt
+plain_stmt-returns-in-Group-clause-stmt t c = grind (arith, forms)
 
-pub plain_stmt-returns-in_ok-plain_body-in-NotGroup-clause-at : goal.plain_stmt-returns-in_ok-plain_body-in-NotGroup-clause-at
-plain_stmt-returns-in_ok-plain_body-in-NotGroup-clause-at t c = grind (arith, forms)
+pub plain_stmt-returns-in-NotGroup-clause-at : goal.plain_stmt-returns-in-NotGroup-clause-at
+plain_stmt-returns-in-NotGroup-clause-at t c = grind (arith, forms)
 
-pub plain_stmt-returns-in_ok-plain_body-in-NotGroup-clause-stmt : goal.plain_stmt-returns-in_ok-plain_body-in-NotGroup-clause-stmt
-plain_stmt-returns-in_ok-plain_body-in-NotGroup-clause-stmt t c = grind (arith, forms)
+pub plain_stmt-returns-in-NotGroup-clause-stmt : goal.plain_stmt-returns-in-NotGroup-clause-stmt
+plain_stmt-returns-in-NotGroup-clause-stmt t c = grind (arith, forms)
 
-pub plain_stmt-returns-in_ok-plain_changes-in-Now-clause-at : goal.plain_stmt-returns-in_ok-plain_changes-in-Now-clause-at
-plain_stmt-returns-in_ok-plain_changes-in-Now-clause-at t c = grind (arith, forms)
+pub plain_stmt-returns-in-Now-clause-at : goal.plain_stmt-returns-in-Now-clause-at
+plain_stmt-returns-in-Now-clause-at t c = grind (arith, forms)
 
-pub plain_stmt-returns-in_ok-plain_changes-in-Now-clause-stmt : goal.plain_stmt-returns-in_ok-plain_changes-in-Now-clause-stmt
-plain_stmt-returns-in_ok-plain_changes-in-Now-clause-stmt t c = grind (arith, forms)
+pub plain_stmt-returns-in-Now-clause-stmt : goal.plain_stmt-returns-in-Now-clause-stmt
+plain_stmt-returns-in-Now-clause-stmt t c = grind (arith, forms)
 
-pub plain_stmt-returns-in_ok-plain_head-in-Ask-clause-at : goal.plain_stmt-returns-in_ok-plain_head-in-Ask-clause-at
-plain_stmt-returns-in_ok-plain_head-in-Ask-clause-at t c = grind (arith, forms)
+pub plain_stmt-returns-in-Ask-clause-at : goal.plain_stmt-returns-in-Ask-clause-at
+plain_stmt-returns-in-Ask-clause-at t c = grind (arith, forms)
 
-pub plain_stmt-returns-in_ok-plain_head-in-Ask-clause-stmt : goal.plain_stmt-returns-in_ok-plain_head-in-Ask-clause-stmt
-plain_stmt-returns-in_ok-plain_head-in-Ask-clause-stmt t c = grind (arith, forms)
+pub plain_stmt-returns-in-Ask-clause-stmt : goal.plain_stmt-returns-in-Ask-clause-stmt
+plain_stmt-returns-in-Ask-clause-stmt t c = grind (arith, forms)
 
-pub plain_stmt-returns-in_ok-plain_head-in-AskAll-clause-at : goal.plain_stmt-returns-in_ok-plain_head-in-AskAll-clause-at
-plain_stmt-returns-in_ok-plain_head-in-AskAll-clause-at t c = grind (arith, forms)
+pub plain_stmt-returns-in-AskAll-clause-at : goal.plain_stmt-returns-in-AskAll-clause-at
+plain_stmt-returns-in-AskAll-clause-at t c = grind (arith, forms)
 
-pub plain_stmt-returns-in_ok-plain_head-in-AskAll-clause-stmt : goal.plain_stmt-returns-in_ok-plain_head-in-AskAll-clause-stmt
-plain_stmt-returns-in_ok-plain_head-in-AskAll-clause-stmt t c = grind (arith, forms)
+pub plain_stmt-returns-in-AskAll-clause-stmt : goal.plain_stmt-returns-in-AskAll-clause-stmt
+plain_stmt-returns-in-AskAll-clause-stmt t c = grind (arith, forms)
 
-pub plain_stmt-returns-in_ok-plain_head-in-AskNot-clause-at : goal.plain_stmt-returns-in_ok-plain_head-in-AskNot-clause-at
-plain_stmt-returns-in_ok-plain_head-in-AskNot-clause-at t c = grind (arith, forms)
+pub plain_stmt-returns-in-AskNot-clause-at : goal.plain_stmt-returns-in-AskNot-clause-at
+plain_stmt-returns-in-AskNot-clause-at t c = grind (arith, forms)
 
-pub plain_stmt-returns-in_ok-plain_head-in-AskNot-clause-stmt : goal.plain_stmt-returns-in_ok-plain_head-in-AskNot-clause-stmt
-plain_stmt-returns-in_ok-plain_head-in-AskNot-clause-stmt t c = grind (arith, forms)
+pub plain_stmt-returns-in-AskNot-clause-stmt : goal.plain_stmt-returns-in-AskNot-clause-stmt
+plain_stmt-returns-in-AskNot-clause-stmt t c = grind (arith, forms)
 
-pub plain_stmt-returns-in_ok-plain_inner-in-Exhaust-clause-at : goal.plain_stmt-returns-in_ok-plain_inner-in-Exhaust-clause-at
-plain_stmt-returns-in_ok-plain_inner-in-Exhaust-clause-at t c = grind (arith, forms)
+pub plain_stmt-returns-in-Exhaust-clause-at : goal.plain_stmt-returns-in-Exhaust-clause-at
+plain_stmt-returns-in-Exhaust-clause-at t c = grind (arith, forms)
 
-pub plain_stmt-returns-in_ok-plain_inner-in-Exhaust-clause-stmt : goal.plain_stmt-returns-in_ok-plain_inner-in-Exhaust-clause-stmt
-plain_stmt-returns-in_ok-plain_inner-in-Exhaust-clause-stmt t c = grind (arith, forms)
+pub plain_stmt-returns-in-Exhaust-clause-stmt : goal.plain_stmt-returns-in-Exhaust-clause-stmt
+plain_stmt-returns-in-Exhaust-clause-stmt t c = grind (arith, forms)
 
-pub plain_stmt-returns-in_ok-plain_inner-in-Stoppable-clause-at : goal.plain_stmt-returns-in_ok-plain_inner-in-Stoppable-clause-at
-plain_stmt-returns-in_ok-plain_inner-in-Stoppable-clause-at t c = grind (arith, forms)
+pub plain_stmt-returns-in-Stoppable-clause-at : goal.plain_stmt-returns-in-Stoppable-clause-at
+plain_stmt-returns-in-Stoppable-clause-at t c = grind (arith, forms)
 
-pub plain_stmt-returns-in_ok-plain_inner-in-Stoppable-clause-stmt : goal.plain_stmt-returns-in_ok-plain_inner-in-Stoppable-clause-stmt
-plain_stmt-returns-in_ok-plain_inner-in-Stoppable-clause-stmt t c = grind (arith, forms)
+pub plain_stmt-returns-in-Stoppable-clause-stmt : goal.plain_stmt-returns-in-Stoppable-clause-stmt
+plain_stmt-returns-in-Stoppable-clause-stmt t c = grind (arith, forms)
 
-pub plain_stmt-returns-in_ok-plain_select-in-Select-clause-at : goal.plain_stmt-returns-in_ok-plain_select-in-Select-clause-at
-plain_stmt-returns-in_ok-plain_select-in-Select-clause-at t c = grind (arith, forms)
+pub plain_stmt-returns-in-Select-clause-at : goal.plain_stmt-returns-in-Select-clause-at
+plain_stmt-returns-in-Select-clause-at t c = grind (arith, forms)
 
-pub plain_stmt-returns-in_ok-plain_select-in-Select-clause-stmt : goal.plain_stmt-returns-in_ok-plain_select-in-Select-clause-stmt
-plain_stmt-returns-in_ok-plain_select-in-Select-clause-stmt t c = grind (arith, forms)
+pub plain_stmt-returns-in-Select-clause-stmt : goal.plain_stmt-returns-in-Select-clause-stmt
+plain_stmt-returns-in-Select-clause-stmt t c = grind (arith, forms)
 
-pub plain_stmt-returns-in_ok-plain_value-in-Print-clause-at : goal.plain_stmt-returns-in_ok-plain_value-in-Print-clause-at
-plain_stmt-returns-in_ok-plain_value-in-Print-clause-at t c = grind (arith, forms)
+pub plain_stmt-returns-in-Print-clause-at : goal.plain_stmt-returns-in-Print-clause-at
+plain_stmt-returns-in-Print-clause-at t c = grind (arith, forms)
 
-pub plain_stmt-returns-in_ok-plain_value-in-Print-clause-stmt : goal.plain_stmt-returns-in_ok-plain_value-in-Print-clause-stmt
-plain_stmt-returns-in_ok-plain_value-in-Print-clause-stmt t c = grind (arith, forms)
+pub plain_stmt-returns-in-Print-clause-stmt : goal.plain_stmt-returns-in-Print-clause-stmt
+plain_stmt-returns-in-Print-clause-stmt t c = grind (arith, forms)
 
 pub plain_value-returns-in-Any-clause-at : goal.plain_value-returns-in-Any-clause-at
 plain_value-returns-in-Any-clause-at t c = grind (arith, forms)
@@ -248,38 +236,44 @@ plain_value-returns-in-Topic-clause-at t c = grind (arith, forms)
 pub plain_value-returns-in-Topic-clause-value : goal.plain_value-returns-in-Topic-clause-value
 plain_value-returns-in-Topic-clause-value t c = grind (arith, forms)
 
-pub plain_value-returns-in_ok-choice_name-in-Words-clause-at : goal.plain_value-returns-in_ok-choice_name-in-Words-clause-at
-plain_value-returns-in_ok-choice_name-in-Words-clause-at t c = grind (arith, forms)
+pub plain_value-returns-in-Words-clause-at : goal.plain_value-returns-in-Words-clause-at
+plain_value-returns-in-Words-clause-at t c = grind (arith, forms)
 
-pub plain_value-returns-in_ok-choice_name-in-Words-clause-value : goal.plain_value-returns-in_ok-choice_name-in-Words-clause-value
-plain_value-returns-in_ok-choice_name-in-Words-clause-value t c = grind (arith, forms)
+pub plain_value-returns-in-Words-clause-value : goal.plain_value-returns-in-Words-clause-value
+plain_value-returns-in-Words-clause-value t c = grind (arith, forms)
 
-pub plain_value-returns-in_ok-copied-in-Object-clause-at : goal.plain_value-returns-in_ok-copied-in-Object-clause-at
-plain_value-returns-in_ok-copied-in-Object-clause-at t c = grind (arith, forms)
+pub plain_value-returns-in-Object-clause-at : goal.plain_value-returns-in-Object-clause-at
+plain_value-returns-in-Object-clause-at t c = grind (arith, forms)
 
-pub plain_value-returns-in_ok-copied-in-Object-clause-value : goal.plain_value-returns-in_ok-copied-in-Object-clause-value
-plain_value-returns-in_ok-copied-in-Object-clause-value t c = grind (arith, forms)
+pub plain_value-returns-in-Object-clause-value : goal.plain_value-returns-in-Object-clause-value
+plain_value-returns-in-Object-clause-value t c = grind (arith, forms)
 
-pub plain_value-returns-in_ok-copied-in-Var-clause-at : goal.plain_value-returns-in_ok-copied-in-Var-clause-at
-plain_value-returns-in_ok-copied-in-Var-clause-at t c = grind (arith, forms)
+pub plain_value-returns-in-Var-clause-at : goal.plain_value-returns-in-Var-clause-at
+plain_value-returns-in-Var-clause-at t c = grind (arith, forms)
 
-pub plain_value-returns-in_ok-copied-in-Var-clause-value : goal.plain_value-returns-in_ok-copied-in-Var-clause-value
-plain_value-returns-in_ok-copied-in-Var-clause-value t c = grind (arith, forms)
+pub plain_value-returns-in-Var-clause-value : goal.plain_value-returns-in-Var-clause-value
+plain_value-returns-in-Var-clause-value t c = grind (arith, forms)
 
-pub plain_value-returns-in_ok-copied-in-Word-clause-at : goal.plain_value-returns-in_ok-copied-in-Word-clause-at
-plain_value-returns-in_ok-copied-in-Word-clause-at t c = grind (arith, forms)
+pub plain_value-returns-in-Word-clause-at : goal.plain_value-returns-in-Word-clause-at
+plain_value-returns-in-Word-clause-at t c = grind (arith, forms)
 
-pub plain_value-returns-in_ok-copied-in-Word-clause-value : goal.plain_value-returns-in_ok-copied-in-Word-clause-value
-plain_value-returns-in_ok-copied-in-Word-clause-value t c = grind (arith, forms)
+pub plain_value-returns-in-Word-clause-value : goal.plain_value-returns-in-Word-clause-value
+plain_value-returns-in-Word-clause-value t c = grind (arith, forms)
 
-pub plain_value-returns-in_ok-plain_body-in-Closure-clause-at : goal.plain_value-returns-in_ok-plain_body-in-Closure-clause-at
-plain_value-returns-in_ok-plain_body-in-Closure-clause-at t c = grind (arith, forms)
+pub plain_value-returns-in-Closure-clause-at : goal.plain_value-returns-in-Closure-clause-at
+plain_value-returns-in-Closure-clause-at t c = grind (arith, forms)
 
-pub plain_value-returns-in_ok-plain_body-in-Closure-clause-value : goal.plain_value-returns-in_ok-plain_body-in-Closure-clause-value
-plain_value-returns-in_ok-plain_body-in-Closure-clause-value t c = grind (arith, forms)
+pub plain_value-returns-in-Closure-clause-value : goal.plain_value-returns-in-Closure-clause-value
+plain_value-returns-in-Closure-clause-value t c = grind (arith, forms)
 
-pub plain_value-returns-in_ok-plain_parts-in-Query-clause-at : goal.plain_value-returns-in_ok-plain_parts-in-Query-clause-at
-plain_value-returns-in_ok-plain_parts-in-Query-clause-at t c = grind (arith, forms)
+pub plain_value-returns-in-Query-clause-at : goal.plain_value-returns-in-Query-clause-at
+plain_value-returns-in-Query-clause-at t c = grind (arith, forms)
 
-pub plain_value-returns-in_ok-plain_parts-in-Query-clause-value : goal.plain_value-returns-in_ok-plain_parts-in-Query-clause-value
-plain_value-returns-in_ok-plain_parts-in-Query-clause-value t c = grind (arith, forms)
+pub plain_value-returns-in-Query-clause-value : goal.plain_value-returns-in-Query-clause-value
+plain_value-returns-in-Query-clause-value t c = grind (arith, forms)
+
+pub plain_stmt-returns-in-Accumulate-clause-at : goal.plain_stmt-returns-in-Accumulate-clause-at
+plain_stmt-returns-in-Accumulate-clause-at t c = grind (arith, forms)
+
+pub plain_stmt-returns-in-Accumulate-clause-stmt : goal.plain_stmt-returns-in-Accumulate-clause-stmt
+plain_stmt-returns-in-Accumulate-clause-stmt t c = grind (arith, forms)

@@ -10,7 +10,7 @@ use Rattle.dg_access.proofs.plain.+plain.Given as goal
 abbrev pub invariant-plain_values-loop-value : goal.invariant-plain_values-loop-value
 invariant-plain_values-loop-value l = record {
   at : l.at + new_in_values (values_of (map value_view (drop l.value-index l.values))) ≡ l.initial.at + new_in_values (values_of (map value_view l.values));
-  new : values_before (map value_view l.new.items) (plain_values (setting_view l.setting) l.at (values_of (map value_view (drop l.value-index l.values)))) ≡ plain_values (setting_view l.setting) l.initial.at (values_of (map value_view l.values));
+  new : values_before (map value_view l.new) (plain_values (setting_view l.setting) l.at (values_of (map value_view (drop l.value-index l.values)))) ≡ plain_values (setting_view l.setting) l.initial.at (values_of (map value_view l.values));
 }
 
 abbrev pub invariant-plain_parts-loop-part : goal.invariant-plain_parts-loop-part
@@ -22,7 +22,7 @@ invariant-plain_parts-loop-part l = record {
 abbrev pub invariant-plain_stmts-loop-stmt : goal.invariant-plain_stmts-loop-stmt
 invariant-plain_stmts-loop-stmt l = record {
   at : l.at + new_in_stmts (stmts_of (map stmt_view (drop l.stmt-index l.stmts))) ≡ l.initial.at + new_in_stmts (stmts_of (map stmt_view l.stmts));
-  new : stmts_before (map stmt_view l.new.items) (plain_stmts (setting_view l.setting) l.at (stmts_of (map stmt_view (drop l.stmt-index l.stmts)))) ≡ plain_stmts (setting_view l.setting) l.initial.at (stmts_of (map stmt_view l.stmts));
+  new : stmts_before (map stmt_view l.new) (plain_stmts (setting_view l.setting) l.at (stmts_of (map stmt_view (drop l.stmt-index l.stmts)))) ≡ plain_stmts (setting_view l.setting) l.initial.at (stmts_of (map stmt_view l.stmts));
 }
 
 abbrev pub invariant-plain_body-loop-stmts : goal.invariant-plain_body-loop-stmts
@@ -34,13 +34,13 @@ invariant-plain_body-loop-stmts l = record {
 abbrev pub invariant-plain_arms-loop-arm : goal.invariant-plain_arms-loop-arm
 invariant-plain_arms-loop-arm l = record {
   at : l.at + new_in_arms (arms_of (map arm_view (drop l.arm-index l.arms))) ≡ l.initial.at + new_in_arms (arms_of (map arm_view l.arms));
-  new : arms_before (map arm_view l.new.items) (plain_arms (setting_view l.setting) l.at (arms_of (map arm_view (drop l.arm-index l.arms)))) ≡ plain_arms (setting_view l.setting) l.initial.at (arms_of (map arm_view l.arms));
+  new : arms_before (map arm_view l.new) (plain_arms (setting_view l.setting) l.at (arms_of (map arm_view (drop l.arm-index l.arms)))) ≡ plain_arms (setting_view l.setting) l.initial.at (arms_of (map arm_view l.arms));
 }
 
 abbrev pub invariant-plain_changes-loop-change : goal.invariant-plain_changes-loop-change
 invariant-plain_changes-loop-change l = record {
   at : l.at + new_in_changes (changes_of (map change_view (drop l.change-index l.changes))) ≡ l.initial.at + new_in_changes (changes_of (map change_view l.changes));
-  new : changes_before (map change_view l.new.items) (plain_changes (setting_view l.setting) l.at (changes_of (map change_view (drop l.change-index l.changes)))) ≡ plain_changes (setting_view l.setting) l.initial.at (changes_of (map change_view l.changes));
+  new : changes_before (map change_view l.new) (plain_changes (setting_view l.setting) l.at (changes_of (map change_view (drop l.change-index l.changes)))) ≡ plain_changes (setting_view l.setting) l.initial.at (changes_of (map change_view l.changes));
 }
 
 abbrev pub invariant-plain_select-loop-stmts : goal.invariant-plain_select-loop-stmts

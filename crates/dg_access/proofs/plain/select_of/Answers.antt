@@ -1,5 +1,6 @@
+use Rattle.std.proofs.Common.{arith}
 use Rattle.dg_names.proofs.Views.{select_seen}
 use Rattle.dg_access.proofs.plain.select_of.Goals as goal
 
 pub returns : goal.returns
-returns c = select_seen c.args.mode c.args.branches
+returns c = grind (arith, select_seen)
