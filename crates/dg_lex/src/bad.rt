@@ -80,8 +80,8 @@ fn first_bad(source: &[u8]) -> Option<usize>
     }
 }
 
-// The newlines of a stretch.
-fn lines(text: &[u8]) -> usize
+/// The newlines of a stretch.
+pub fn lines(text: &[u8]) -> usize
     ensures lines { result ≡ spec.lines text.now }
     ensures few { result ≤ length text.now }
 {

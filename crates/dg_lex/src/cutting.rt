@@ -3,7 +3,7 @@ ghost use Rattle.std.specs.Prelude.{◌≡◌, ◌<◌, ◌≤◌, ◌+◌, ◌-
 ghost use Rattle.dg_lex.specs.Bad as bad;
 ghost use Rattle.dg_lex.specs.Tokens as spec;
 
-use crate::bad::refusal_of;
+use crate::bad::{lines, refusal_of};
 use crate::fronts::{gap_length, name_length, word_length};
 use crate::token::{Shape, Token, TokenKind};
 use dg_base::ReadFault;
@@ -76,14 +76,6 @@ fn token_of(text: &[u8]) -> Option<Shape>
         Some(kind) => Some(Shape { kind, length: 1 }),
         None => Some(name_at(*c, behind)),
     }
-}
-
-// The newlines of a gap.
-fn lines(gap: &[u8]) -> usize
-    ensures lines { result ≡ bad.lines gap.now }
-    ensures few { result ≤ length gap.now }
-{
-    gap.iter().filter(|c| **c == b'\n').count()
 }
 
 // Whether a line begins behind a gap.
