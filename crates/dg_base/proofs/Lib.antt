@@ -1,3 +1,4 @@
 pub mod WrittenLemmas
 pub mod CausesLemmas
 pub mod NodeLemmas
+mod HeadLemmas

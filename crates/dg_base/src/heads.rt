@@ -1,5 +1,7 @@
-// Writes the names of predicates.
+// Writes the names of predicates, and compares them.
 ghost use Rattle.std.specs.Prelude.{◌≡◌, ◌++◌, ◌∷◌, [], map, length, drop, OnOk, IfOk};
+ghost use Rattle.std.specs.Option.{option_map};
+ghost use Rattle.std.specs.Str.{bytes_eq};
 ghost use Rattle.dg_base.specs.Heads as spec;
 ghost use Rattle.dg_base.specs.Tree.{parts_of};
 ghost use Rattle.dg_base.specs.TreeView.{part_view, head_view};
@@ -69,4 +71,82 @@ pub fn name_of(alloc: Global, head: &Head) -> Result<Name, AllocError>
     ensures { IfOk result (λ name. name ≡ spec.name_of (head_view head.now)) }
 {
     name_of_parts(alloc, head.parts.as_slice())
+}
+
+// What stands behind this byte.
+fn behind_byte(name: &[u8], byte: u8) -> Option<&[u8]>
+    ensures { option_map (λ rest. rest.now) result ≡ spec.behind (byte ∷ []) name.now }
+{
+    match name {
+        [first, rest @ ..] if *first == byte => Some(rest),
+        _ => None,
+    }
+}
+
+// What stands behind this letter of a word, which has a backslash before it where it is special.
+fn behind_letter(name: &[u8], letter: u8) -> Option<&[u8]>
+    ensures { option_map (λ rest. rest.now) result ≡ spec.behind (spec.escaped (letter ∷ [])) name.now }
+{
+    if is_special(letter) {
+        behind_byte(behind_byte(name, b'\\')?, letter)
+    } else {
+        behind_byte(name, letter)
+    }
+}
+
+fn behind_word<'a>(name: &'a [u8], word: &[u8]) -> Option<&'a [u8]>
+    ensures { option_map (λ rest. rest.now) result ≡ spec.behind (spec.escaped word.now) name.now }
+{
+    let mut rest = name;
+    for letter in word {
+        rest = behind_letter(rest, *letter)?;
+    }
+    Some(rest)
+}
+
+fn behind_part<'a>(name: &'a [u8], part: &Part) -> Option<&'a [u8]>
+    ensures { option_map (λ rest. rest.now) result ≡ spec.behind (spec.part_name (part_view part.now)) name.now }
+{
+    match part {
+        Part::Word(word) => behind_word(name, word.as_slice()),
+        Part::Value(_) => behind_byte(name, b'$'),
+    }
+}
+
+// What stands behind parts that follow another one.
+fn behind_parts<'a>(name: &'a [u8], parts: &[Part]) -> Option<&'a [u8]>
+    ensures { option_map (λ rest. rest.now) result ≡ spec.behind (spec.parts_behind (parts_of (map part_view parts.now))) name.now }
+{
+    let mut rest = name;
+    for part in parts {
+        rest = behind_part(behind_byte(rest, b' ')?, part)?;
+    }
+    Some(rest)
+}
+
+// What stands behind the name of these parts, but for the parenthesis at its end.
+fn behind_open<'a>(name: &'a [u8], parts: &[Part]) -> Option<&'a [u8]>
+    ensures { option_map (λ rest. rest.now) result ≡ spec.behind (spec.open_name (parts_of (map part_view parts.now))) name.now }
+{
+    let inner = behind_byte(name, b'(')?;
+    match parts {
+        [] => Some(inner),
+        [first, others @ ..] => behind_parts(behind_part(inner, first)?, others),
+    }
+}
+
+fn is_close(rest: Option<&[u8]>) -> bool
+    ensures { result ≡ spec.is_close (option_map (λ rest. rest.now) rest.entry) }
+{
+    match rest {
+        Some(rest) => rest == b")".as_slice(),
+        None => false,
+    }
+}
+
+/// Whether this is the name of these parts.
+pub fn is_named(parts: &[Part], name: &[u8]) -> bool
+    ensures { result ≡ bytes_eq name.now (spec.name_of (parts_of (map part_view parts.now))) }
+{
+    is_close(behind_open(name, parts))
 }

@@ -18,7 +18,7 @@ mod tree;
 mod writing;
 
 pub use cells::{Cell, Simple};
-pub use heads::{name_of, name_of_parts};
+pub use heads::{is_named, name_of, name_of_parts};
 pub use laws::faults_last;
 pub use names::{
     BUILTINS, Builtin, KEYWORDS, PRELUDE_NAMES, REFUSED_NAMES, builtin_of, is_keyword,

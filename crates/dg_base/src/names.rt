@@ -3,9 +3,14 @@ ghost use Rattle.std.specs.Prelude.{◌≡◌, map};
 ghost use Rattle.std.specs.List.{find, list_any};
 ghost use Rattle.std.specs.Option.{option_map};
 ghost use Rattle.std.specs.Str.{bytes_eq};
+ghost use Rattle.dg_base.specs.Heads.{name_of};
+ghost use Rattle.dg_base.specs.Tree.{parts_of};
+ghost use Rattle.dg_base.specs.TreeView.{part_view};
 ghost use Rattle.dg_base.specs.Names.{keywords, refused_names, prelude_names, name_among, builtin_among, builtin_named};
 
+use crate::heads::is_named;
 use crate::program::{ArithOp, CompareOp, GapKind, TestKind};
+use crate::tree::Part;
 
 /// What a built-in query is.
 #[derive(Clone, Copy, PartialEq, Eq, Debug)]
@@ -132,53 +137,53 @@ pub const PRELUDE_NAMES: [&str; 4] = [
     "(split $ by $ into $ and $)",
 ];
 
-// Whether a name is one of these.
-fn is_among(name: &[u8], names: &[&str]) -> bool
-    ensures { result ≡ list_any (λ known. bytes_eq known.now name.now) names.now }
+// Whether the name of these parts is one of these.
+fn is_among(parts: &[Part], names: &[&str]) -> bool
+    ensures { result ≡ list_any (λ known. bytes_eq known.now (name_of (parts_of (map part_view parts.now)))) names.now }
 {
-    names.iter().any(|known| known.as_bytes() == name)
+    names.iter().any(|known| is_named(parts, known.as_bytes()))
 }
 
-/// Whether this is a keyword's name.
-pub fn is_keyword(name: &[u8]) -> bool
-    ensures { result ≡ name_among name.now keywords }
+/// Whether the name of these parts is a keyword's.
+pub fn is_keyword(parts: &[Part]) -> bool
+    ensures { result ≡ name_among (name_of (parts_of (map part_view parts.now))) keywords }
 {
-    is_among(name, &KEYWORDS)
+    is_among(parts, &KEYWORDS)
 }
 
-/// Whether this is a name that the profile refuses.
-pub fn is_refused_name(name: &[u8]) -> bool
-    ensures { result ≡ name_among name.now refused_names }
+/// Whether the profile refuses the name of these parts.
+pub fn is_refused_name(parts: &[Part]) -> bool
+    ensures { result ≡ name_among (name_of (parts_of (map part_view parts.now))) refused_names }
 {
-    is_among(name, &REFUSED_NAMES)
+    is_among(parts, &REFUSED_NAMES)
 }
 
-/// Whether this is the name of a predicate that every program has.
-pub fn is_prelude_name(name: &[u8]) -> bool
-    ensures { result ≡ name_among name.now prelude_names }
+/// Whether the name of these parts is that of a predicate that every program has.
+pub fn is_prelude_name(parts: &[Part]) -> bool
+    ensures { result ≡ name_among (name_of (parts_of (map part_view parts.now))) prelude_names }
 {
-    is_among(name, &PRELUDE_NAMES)
+    is_among(parts, &PRELUDE_NAMES)
 }
 
-// The built-in query of a name, the first among these.
-fn search_table(name: &[u8], known: &[(&str, Builtin)]) -> Option<Builtin>
-    ensures { result ≡ option_map (λ entry. entry.1) (find (λ entry. bytes_eq entry.0.now name.now) known.now) }
+// The built-in query of the name of these parts, the first among these.
+fn search_table(parts: &[Part], known: &[(&str, Builtin)]) -> Option<Builtin>
+    ensures { result ≡ option_map (λ entry. entry.1) (find (λ entry. bytes_eq entry.0.now (name_of (parts_of (map part_view parts.now)))) known.now) }
 {
     known
         .iter()
-        .find(|entry| entry.0.as_bytes() == name)
+        .find(|entry| is_named(parts, entry.0.as_bytes()))
         .map(|entry| entry.1)
 }
 
-fn first_of(name: &[u8], known: &[(&str, Builtin)]) -> Option<Builtin>
-    ensures { result ≡ builtin_among name.now (map (λ entry. (entry.0.now, entry.1)) known.now) }
+fn first_of(parts: &[Part], known: &[(&str, Builtin)]) -> Option<Builtin>
+    ensures { result ≡ builtin_among (name_of (parts_of (map part_view parts.now))) (map (λ entry. (entry.0.now, entry.1)) known.now) }
 {
-    search_table(name, known)
+    search_table(parts, known)
 }
 
-/// The built-in query of this name.
-pub fn builtin_of(name: &[u8]) -> Option<Builtin>
-    ensures { result ≡ builtin_named name.now }
+/// The built-in query that has the name of these parts.
+pub fn builtin_of(parts: &[Part]) -> Option<Builtin>
+    ensures { result ≡ builtin_named (name_of (parts_of (map part_view parts.now))) }
 {
-    first_of(name, &BUILTINS)
+    first_of(parts, &BUILTINS)
 }

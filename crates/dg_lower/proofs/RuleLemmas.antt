@@ -1,10 +1,8 @@
 -- Trees that have a rule.
-use Rattle.std.proofs.Common.{◌≡◌, ◌<◌, ◌+◌, ◌||◌, ℕ, zero, suc, List, [], ◌∷◌, Bool, true, false, length, map, get_or, refl, subst, arith}
+use Rattle.std.proofs.Common.{◌≡◌, ◌<◌, ◌+◌, ◌||◌, ℕ, List, [], ◌∷◌, Bool, true, false, refl, arith}
 use Rattle.std.specs.Prelude.{if◌then◌else◌}
 use Rattle.dg_base.specs.Tree as tree
 use Rattle.dg_base.specs.Tree.{Said, Item}
-use Rattle.dg_base.specs.TreeView.{item_view}
-use Rattle.dg_base.specs.declared.tree.Item.{Item as TreeItem}
 use Rattle.dg_names.specs.Counts.{is_rule, rules_in}
 use Rattle.dg_lower.specs.Core.{entry_name, is_rule_for, has_entry}
 
@@ -15,11 +13,6 @@ one_more false n e = absurd (let no : false ≡ true = e in cc)
 no_less : (b : Bool) (n : ℕ) → 0 < n → 0 < (if b then n + 1 else n)
 no_less true n some = omega arith
 no_less false n some = some
-
-pub rule_at : (is : List TreeItem) (k : ℕ) (i : TreeItem) → k < length is → i ≡ get_or is k i → is_rule (item_view i).said ≡ true → 0 < rules_in (map item_view is)
-rule_at [] k i below same rule = absurd (omega arith)
-rule_at (j ∷ is) zero i below same rule = one_more (is_rule (item_view j).said) (rules_in (map item_view is)) (subst (λ (x : TreeItem). is_rule (item_view x).said ≡ true) same rule)
-rule_at (j ∷ is) (suc k) i below same rule = no_less (is_rule (item_view j).said) (rules_in (map item_view is)) (rule_at is k i (omega arith) same rule)
 
 rule_for : (s : Said) → is_rule_for entry_name s ≡ true → is_rule s ≡ true
 rule_for (tree.topic n) e = cc

@@ -1,6 +1,5 @@
 // From statements to goals.
-ghost use Rattle.std.specs.Prelude.{◌≡◌, ◌++◌, ◌∷◌, [], false, map, Ok, OnOk, IfOk};
-ghost use Rattle.dg_base.specs.Heads.{name_of as head_name};
+ghost use Rattle.std.specs.Prelude.{◌≡◌, ◌++◌, ◌∷◌, [], false, None, map, OnOk, IfOk};
 ghost use Rattle.dg_base.specs.Tree.{parts_of, stmts_of, arms_of};
 ghost use Rattle.dg_base.specs.TreeView.{part_view, value_view, stmt_view, body_view, arm_view, head_view};
 ghost use Rattle.dg_lower.specs.Goals as spec;
@@ -26,14 +25,19 @@ fn values_in<'a>(alloc: Global, parts: &'a [Part]) -> Result<Vec<&'a Value>, All
     Ok(values)
 }
 
+fn equal(alloc: Global, scope: &Scope<'_>, left: &Value, right: &Value) -> Result<Goal, AllocError>
+    ensures { IfOk result (λ goal. goal ≡ Goal.Equal (spec.term_of (scope_view scope.now) (value_view left.now)) (spec.term_of (scope_view scope.now) (value_view right.now))) }
+{
+    let left = term_of(alloc, scope, left)?;
+    let right = term_of(alloc, scope, right)?;
+    Ok(Goal::Equal(left, right))
+}
+
 fn equation(alloc: Global, scope: &Scope<'_>, values: &[&Value]) -> Result<Goal, AllocError>
     ensures { IfOk result (λ goal. goal ≡ spec.equation (scope_view scope.now) (values_view values.now)) }
 {
     match values {
-        [left, right] => Ok(Goal::Equal(
-            term_of(alloc, scope, left)?,
-            term_of(alloc, scope, right)?,
-        )),
+        [left, right] => equal(alloc, scope, left, right),
         _ => Ok(Goal::Fail),
     }
 }
@@ -52,7 +56,7 @@ fn test(
     }
 }
 
-fn built_in_goal(
+fn goal_with(
     alloc: Global,
     scope: &Scope<'_>,
     values: &[&Value],
@@ -70,21 +74,39 @@ fn built_in_goal(
     }
 }
 
+fn built_in_goal(
+    alloc: Global,
+    scope: &Scope<'_>,
+    parts: &[Part],
+    builtin: Builtin,
+) -> Result<Goal, AllocError>
+    ensures { IfOk result (λ goal. goal ≡ spec.built_in_goal (scope_view scope.now) (spec.values_in (parts_of (map part_view parts.now))) builtin) }
+{
+    let values = values_in(alloc, parts)?;
+    goal_with(alloc, scope, values.as_slice(), builtin)
+}
+
+// The goal of a query of a predicate.
+fn predicate_goal(
+    alloc: Global,
+    scope: &Scope<'_>,
+    head: &Head,
+    many: bool,
+) -> Result<Goal, AllocError>
+    ensures { IfOk result (λ goal. goal ≡ spec.query_goal (scope_view scope.now) (head_view head.now) many None) }
+{
+    let name = name_of(alloc, head)?;
+    let number = number_in(&scope.names.preds, name.as_slice());
+    Ok(Goal::Ask(number, terms_of(alloc, scope, head)?, many))
+}
+
 // The goal of a query, which asks for many answers or for the first.
 fn asked(alloc: Global, scope: &Scope<'_>, head: &Head, many: bool) -> Result<Goal, AllocError>
     ensures { IfOk result (λ goal. goal ≡ spec.asked (scope_view scope.now) (head_view head.now) many) }
 {
-    let name = name_of(alloc, head)?;
-    match builtin_of(name.as_slice()) {
-        Some(builtin) => {
-            let values = values_in(alloc, head.parts.as_slice())?;
-            built_in_goal(alloc, scope, values.as_slice(), builtin)
-        }
-        None => Ok(Goal::Ask(
-            number_in(&scope.names.preds, name.as_slice()),
-            terms_of(alloc, scope, head)?,
-            many,
-        )),
+    match builtin_of(head.parts.as_slice()) {
+        Some(builtin) => built_in_goal(alloc, scope, head.parts.as_slice(), builtin),
+        None => predicate_goal(alloc, scope, head, many),
     }
 }
 
@@ -96,30 +118,49 @@ fn single(alloc: Global, goal: Goal) -> Result<Items<Goal>, AllocError>
     Ok(goals)
 }
 
-// A query that is to have no answer.
-fn not_asked(alloc: Global, scope: &Scope<'_>, head: &Head) -> Result<Goal, AllocError>
-    ensures { IfOk result (λ goal. goal ≡ Goal.Not (spec.asked (scope_view scope.now) (head_view head.now) false ∷ [])) }
+fn add_text(alloc: Global, word: &[u8], goals: &mut Items<Goal>) -> Result<(), AllocError>
+    ensures { OnOk result (goals.new ≡ goals.old ++ Goal.Text word.now ∷ []) }
 {
-    Ok(Goal::Not(single(alloc, asked(alloc, scope, head, false)?)?))
+    let text = Items::from_slice(alloc, word)?;
+    goals.push(Goal::Text(text))
 }
 
-fn text(alloc: Global, word: &[u8]) -> Result<Goal, AllocError>
-    ensures { IfOk result (λ goal. goal ≡ Goal.Text word.now) }
+fn add_printed(
+    alloc: Global,
+    scope: &Scope<'_>,
+    value: &Value,
+    goals: &mut Items<Goal>,
+) -> Result<(), AllocError>
+    ensures { OnOk result (goals.new ≡ goals.old ++ Goal.Print (spec.term_of (scope_view scope.now) (value_view value.now)) ∷ []) }
 {
-    Ok(Goal::Text(Items::from_slice(alloc, word)?))
+    let term = term_of(alloc, scope, value)?;
+    goals.push(Goal::Print(term))
 }
 
-fn printed(alloc: Global, scope: &Scope<'_>, value: &Value) -> Result<Goal, AllocError>
-    ensures { IfOk result (λ goal. goal ≡ Goal.Print (spec.term_of (scope_view scope.now) (value_view value.now))) }
+fn add_query(
+    alloc: Global,
+    scope: &Scope<'_>,
+    head: &Head,
+    many: bool,
+    goals: &mut Items<Goal>,
+) -> Result<(), AllocError>
+    ensures { OnOk result (goals.new ≡ goals.old ++ spec.asked (scope_view scope.now) (head_view head.now) many ∷ []) }
 {
-    Ok(Goal::Print(term_of(alloc, scope, value)?))
+    let goal = asked(alloc, scope, head, many)?;
+    goals.push(goal)
 }
 
-// Adds a goal, where memory was found for it.
-fn add(goals: &mut Items<Goal>, goal: Result<Goal, AllocError>) -> Result<(), AllocError>
-    ensures { OnOk result ((g : Goal) × (goal ≡ Ok g) × (goals.new ≡ goals.old ++ g ∷ [])) }
+// Adds a query that is to have no answer.
+fn add_negated_query(
+    alloc: Global,
+    scope: &Scope<'_>,
+    head: &Head,
+    goals: &mut Items<Goal>,
+) -> Result<(), AllocError>
+    ensures { OnOk result (goals.new ≡ goals.old ++ Goal.Not (spec.asked (scope_view scope.now) (head_view head.now) false ∷ []) ∷ []) }
 {
-    goals.push(goal?)
+    let query = single(alloc, asked(alloc, scope, head, false)?)?;
+    goals.push(Goal::Not(query))
 }
 
 // Adds the goals of a statement.
@@ -133,27 +174,54 @@ fn add_stmt(
     ensures { OnOk result (goals.new ≡ goals.old ++ spec.stmt_goals (scope_view scope.now) (stmt_view stmt.now)) }
 {
     match stmt {
-        Stmt::Text(word) => add(goals, text(alloc, word.as_slice())),
-        Stmt::Print(value) => add(goals, printed(alloc, scope, value)),
-        Stmt::Ask(head) => add(goals, asked(alloc, scope, head, false)),
-        Stmt::AskAll(head) => add(goals, asked(alloc, scope, head, true)),
-        Stmt::AskNot(head) => add(goals, not_asked(alloc, scope, head)),
+        Stmt::Text(word) => add_text(alloc, word.as_slice(), goals),
+        Stmt::Print(value) => add_printed(alloc, scope, value, goals),
+        Stmt::Ask(head) => add_query(alloc, scope, head, false, goals),
+        Stmt::AskAll(head) => add_query(alloc, scope, head, true, goals),
+        Stmt::AskNot(head) => add_negated_query(alloc, scope, head, goals),
         Stmt::Group(body) => add_body(alloc, scope, body, goals),
-        Stmt::NotGroup(body) => goals.push(Goal::Not(goals_of(alloc, scope, body)?)),
+        Stmt::NotGroup(body) => add_negated(alloc, scope, body, goals),
         Stmt::If(arms, None) => {
-            let other = Items::new(alloc);
-            goals.append(choice(alloc, scope, arms.as_slice(), other)?)
+            add_choice(alloc, scope, arms.as_slice(), Items::new(alloc), goals)
         }
         Stmt::If(arms, Some(body)) => {
             let other = goals_of(alloc, scope, body)?;
-            goals.append(choice(alloc, scope, arms.as_slice(), other)?)
+            add_choice(alloc, scope, arms.as_slice(), other, goals)
         }
-        Stmt::First(body) => goals.push(Goal::Once(goals_of(alloc, scope, body)?)),
+        Stmt::First(body) => add_once(alloc, scope, body, goals),
         Stmt::Now(_) | Stmt::Exhaust(_) | Stmt::Stoppable(_) => goals.push(Goal::Fail),
         Stmt::Collect(_, _, _) | Stmt::Accumulate(_, _, _) | Stmt::Select(_, _) => {
             goals.push(Goal::Fail)
         }
     }
+}
+
+// Adds a body that is to have no answer.
+#[cycle(goals)]
+fn add_negated(
+    alloc: Global,
+    scope: &Scope<'_>,
+    body: &Body,
+    goals: &mut Items<Goal>,
+) -> Result<(), AllocError>
+    ensures { OnOk result (goals.new ≡ goals.old ++ Goal.Not (spec.body_goals (scope_view scope.now) (body_view body.now)) ∷ []) }
+{
+    let inner = goals_of(alloc, scope, body)?;
+    goals.push(Goal::Not(inner))
+}
+
+// Adds a body of which the first answer is taken.
+#[cycle(goals)]
+fn add_once(
+    alloc: Global,
+    scope: &Scope<'_>,
+    body: &Body,
+    goals: &mut Items<Goal>,
+) -> Result<(), AllocError>
+    ensures { OnOk result (goals.new ≡ goals.old ++ Goal.Once (spec.body_goals (scope_view scope.now) (body_view body.now)) ∷ []) }
+{
+    let inner = goals_of(alloc, scope, body)?;
+    goals.push(Goal::Once(inner))
 }
 
 #[cycle(goals)]
@@ -211,21 +279,22 @@ fn goals_of(alloc: Global, scope: &Scope<'_>, body: &Body) -> Result<Items<Goal>
     Ok(goals)
 }
 
-// Conditions, each with what follows it, and what is done where none holds.
+// Adds conditions, each with what follows it, and what is done where none holds.
 #[cycle(goals)]
-fn choice(
+fn add_choice(
     alloc: Global,
     scope: &Scope<'_>,
     arms: &[Arm],
     other: Items<Goal>,
-) -> Result<Items<Goal>, AllocError>
-    ensures { IfOk result (λ goals. goals ≡ spec.arm_goals (scope_view scope.now) (arms_of (map arm_view arms.now)) other) }
+    goals: &mut Items<Goal>,
+) -> Result<(), AllocError>
+    ensures { OnOk result (goals.new ≡ goals.old ++ spec.arm_goals (scope_view scope.now) (arms_of (map arm_view arms.now)) other) }
 {
-    let mut goals = other;
+    let mut choice = other;
     for at in (0..arms.len()).rev() {
         let condition = goals_of(alloc, scope, &arms[at].condition)?;
         let then = goals_of(alloc, scope, &arms[at].body)?;
-        goals = single(alloc, Goal::If(condition, then, goals))?;
+        choice = single(alloc, Goal::If(condition, then, choice))?;
     }
-    Ok(goals)
+    goals.append(choice)
 }

@@ -19,7 +19,7 @@ use crate::terms::{number_in, terms_of};
 use crate::variables::variables_of;
 use dg_base::{
     Body, CoreProgram, Goal, Head, Item, ItemBody, Items, Kind, Name, Place, PlaceKind, Pred,
-    ReadFault, Refusal, Rule, Tree, name_of,
+    ReadFault, Refusal, Rule, Tree, is_named,
 };
 use dg_names::Names;
 use indexmap::IndexSet;
@@ -143,64 +143,52 @@ fn copied(alloc: Global, names: &IndexSet<Vec<u8>>) -> Result<Items<Name>, Alloc
     Ok(copies)
 }
 
-// The program with every rule, and no places yet.
-fn with_rules(alloc: Global, names: &Names, items: &[Item]) -> Result<CoreProgram, AllocError>
-    ensures { IfOk result (λ core. core ≡ spec.with_rules (names_view names.now) (map item_view items.now)) }
-{
-    Ok(CoreProgram {
-        preds: preds_of(alloc, names, items)?,
-        closures: Items::new(alloc),
-        places: Items::new(alloc),
-        objects: copied(alloc, &names.objects)?,
-        words: copied(alloc, &names.words)?,
-        sites: 0,
-        entry: number_in(&names.preds, ENTRY),
-    })
-}
-
-// A program with its places: that of parents, in which nothing starts set.
-fn with_places(alloc: Global, core: CoreProgram) -> Result<CoreProgram, AllocError>
-    ensures { IfOk result (λ placed. placed ≡ spec.with_places core) }
+// The places of a program: that of parents, in which nothing starts set.
+fn places(alloc: Global) -> Result<Items<Place>, AllocError>
+    ensures { IfOk result (λ places. places ≡ spec.parents ∷ []) }
 {
     let mut places = Items::new(alloc);
     places.push(Place {
         kind: PlaceKind::Parent,
         start: Items::new(alloc),
     })?;
-    Ok(CoreProgram { places, ..core })
+    Ok(places)
 }
 
-// A program without the rules that only say how places start. No rule says so today.
-fn without_starts(core: CoreProgram) -> CoreProgram
-    ensures { result ≡ spec.without_starts core }
+// The program of these items, in which no rule only says how a place starts.
+fn program_of(alloc: Global, names: &Names, items: &[Item]) -> Result<CoreProgram, AllocError>
+    ensures { IfOk result (λ core. core ≡ spec.core_of (names_view names.now) (map item_view items.now)) }
 {
-    core
+    Ok(CoreProgram {
+        closures: Items::new(alloc),
+        places: places(alloc)?,
+        objects: copied(alloc, &names.objects)?,
+        words: copied(alloc, &names.words)?,
+        sites: 0,
+        entry: number_in(&names.preds, ENTRY),
+        preds: preds_of(alloc, names, items)?,
+    })
 }
 
 // Whether an item gives a rule to the predicate of this name.
-fn is_rule_for(alloc: Global, name: &[u8], said: &ItemBody) -> Result<bool, AllocError>
-    ensures gives { IfOk result (λ gives. gives ≡ spec.is_rule_for name.now (said_view said.now)) }
-    ensures memory { IsErr result → counts.is_rule (said_view said.now) ≡ true }
+fn is_rule_for(name: &[u8], said: &ItemBody) -> bool
+    ensures { result ≡ spec.is_rule_for name.now (said_view said.now) }
 {
     match said {
-        ItemBody::Rule(head, _) | ItemBody::Deny(head, _) => {
-            let given = name_of(alloc, head)?;
-            Ok(given.as_slice() == name)
-        }
-        ItemBody::Topic(_) | ItemBody::Access(_, _) | ItemBody::Variable(_) => Ok(false),
+        ItemBody::Rule(head, _) | ItemBody::Deny(head, _) => is_named(head.parts.as_slice(), name),
+        ItemBody::Topic(_) | ItemBody::Access(_, _) | ItemBody::Variable(_) => false,
     }
 }
 
-fn has_entry(alloc: Global, tree: &Tree) -> Result<bool, AllocError>
-    ensures entry { IfOk result (λ has. has ≡ spec.has_entry (tree_view tree.now)) }
-    ensures memory { IsErr result → 0 < counts.rules_in (tree_view tree.now) }
+fn has_entry(tree: &Tree) -> bool
+    ensures { result ≡ spec.has_entry (tree_view tree.now) }
 {
     for item in tree.items.as_slice() {
-        if is_rule_for(alloc, ENTRY, &item.body)? {
-            return Ok(true);
+        if is_rule_for(ENTRY, &item.body) {
+            return true;
         }
     }
-    Ok(false)
+    false
 }
 
 fn no_entry() -> ReadFault
@@ -219,12 +207,10 @@ fn lowered(alloc: Global, tree: &Tree, names: &Names) -> Result<CoreProgram, Rea
     ensures refused { IfErr result (IsFault (λ r. (spec.has_entry (tree_view tree.now) ≡ false) × (r ≡ record { kind = Kind.NoEntry; line = 1 }))) }
     ensures memory { IsErrOf result ReadFault.OutOfMemory → 0 < counts.rules_in (tree_view tree.now) }
 {
-    if !has_entry(alloc, tree)? {
+    if !has_entry(tree) {
         return Err(no_entry());
     }
-    let core = with_rules(alloc, names, tree.items.as_slice())?;
-    let core = with_places(alloc, core)?;
-    Ok(without_starts(core))
+    Ok(program_of(alloc, names, tree.items.as_slice())?)
 }
 
 /// The core program of a rewritten tree with these names. A tree is refused in which no rule has the name of the entry.

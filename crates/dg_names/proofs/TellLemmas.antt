@@ -7,7 +7,7 @@ use Rattle.dg_names.specs.Mentions.{Mention, Mentions, nothing, mention, query, 
 use Rattle.dg_names.specs.Named.{at_depth, names_in, predicate_in, object_in, word_in}
 use Rattle.dg_names.specs.Counts.{variables_of, is_excess, number_of, is_closure, is_select}
 use Rattle.dg_names.specs.Walk.{Met, closed, walk}
-use Rattle.dg_names.specs.Scopes.{with_names, no_variables, is_full, grown, passes}
+use Rattle.dg_names.specs.Scopes.{Scope, with_names, no_variables, is_full, grown, passes}
 use Rattle.dg_names.specs.State.{mentions_at, flat, Told, more, told}
 use Rattle.dg_names.proofs.FirstLemmas.{with_append}
 use Rattle.dg_names.proofs.ScopeLemmas.{passes_walk, closure_full}
@@ -131,8 +131,10 @@ item_passes ms l e =
     ∙ ap (λ (b : Bool). b || list_any is_excess (at_depth ms)) (sym (closure_full ms))
 
 -- the answers of a walk through an item
-pub item_over : (r : Result Bool AllocError) (ms : Mentions) (l : List Met) → l ≡ walk ms ++ [] → IfOk r (λ (over : Bool). over ≡ passes l no_variables []) → IfOk r (λ (over : Bool). over ≡ (nat_lt 64 (variables_of ms) || list_any is_excess (at_depth ms)))
-item_over r ms l e is = subst (λ (b : Bool). IfOk r (λ (over : Bool). over ≡ b)) (item_passes ms l e) is
+pub item_over : (r : Result Bool AllocError) (ms : Mentions) (l : List Met) (s : Scope) (outer : List Scope) → l ≡ walk ms ++ [] → s ≡ no_variables → outer ≡ [] → IfOk r (λ (over : Bool). over ≡ passes l s outer) → IfOk r (λ (over : Bool). over ≡ (nat_lt 64 (variables_of ms) || list_any is_excess (at_depth ms)))
+item_over r ms l s outer e empty none is =
+    subst (λ (b : Bool). IfOk r (λ (over : Bool). over ≡ b))
+    (ap (λ (x : Scope). passes l x outer) empty ∙ ap (passes l no_variables) none ∙ item_passes ms l e) is
 
 pub item_behind : (r : Result Bool AllocError) (ms : Mentions) (l : List Met) (t t' : Told) → l ≡ walk ms ++ [] → IfOk r (λ (over : Bool). over ≡ false → told [] t' ≡ told (flat l) t) → IfOk r (λ (over : Bool). over ≡ false → told [] t' ≡ told (at_depth ms) t)
 item_behind r ms l t t' e is = subst (λ (u : Told). IfOk r (λ (over : Bool). over ≡ false → told [] t' ≡ u)) (item_told ms l t e) is

@@ -1,21 +1,30 @@
--- Walks of joined mentions, and work put on what is left.
-use Rattle.std.proofs.Common.{◌≡◌, ◌+◌, ℕ, List, [], ◌∷◌, ◌++◌, Option, Some, Bor, length, map, refl, sym, ◌∙◌, ap, subst, append_assoc, arith}
-use Rattle.std.specs.Prelude.{Result, IfOk}
+-- Walks of joined mentions, what parts of the tree come to, and work put on what is left.
+use Rattle.std.proofs.Common.{◌≡◌, ◌⊎◌, ◌+◌, ◌-◌, ◌≤◌, ℕ, Bool, false, List, [], ◌∷◌, ◌++◌, Option, Some, Bor, length, get_or, take, drop, map, refl, sym, ◌∙◌, ap, subst, inl, inr, append_assoc, arith}
+use Rattle.std.proofs.Math.Seq.{take-length}
+use Rattle.std.specs.Prelude.{Result, Ok, Err, OnOk}
 use Rattle.std.specs.Option.{option_map}
 use Rattle.std.specs.declared.alloc.AllocError.{AllocError}
 use Rattle.dg_base.specs.Tree as tree
-use Rattle.dg_base.specs.Tree.{values_of, arms_of, parts_of}
-use Rattle.dg_base.specs.TreeView.{part_view, value_view, stmt_view, arm_view, body_view, branches_view, list_view, choice_view}
+use Rattle.dg_base.specs.Tree.{parts_of, values_of, stmts_of, arms_of, changes_of}
+use Rattle.dg_base.specs.TreeView.{part_view, value_view, stmt_view, arm_view, body_view, head_view, change_view, branches_view, list_view, choice_view, said_view}
+use Rattle.dg_base.specs.declared.program.Mode.{Mode}
 use Rattle.dg_base.specs.declared.tree.Arm.{Arm}
 use Rattle.dg_base.specs.declared.tree.Body.{Body}
+use Rattle.dg_base.specs.declared.tree.Head.{Head}
+use Rattle.dg_base.specs.declared.tree.ItemBody.{ItemBody}
+use Rattle.dg_base.specs.declared.tree.NowChange.{NowChange}
+use Rattle.dg_base.specs.declared.tree.Part
 use Rattle.dg_base.specs.declared.tree.Part.{Part}
+use Rattle.dg_base.specs.declared.tree.Stmt
 use Rattle.dg_base.specs.declared.tree.Stmt.{Stmt}
 use Rattle.dg_base.specs.declared.tree.Value.{Value}
-use Rattle.dg_names.specs.Mentions.{Mention, Mentions, nothing, mention, closure, query, object, word, variable, unnamed, branches, select, join, branches_in, of_parts, of_value, of_values, of_stmt, of_body, of_branches, of_arms}
-use Rattle.dg_names.specs.Walk.{Met, opened, closed, met, walk, happened, walk_of, left_of, size_of, parts_size, value_size, values_size, stmt_size, branches_size, arms_size, total, IsPut, IsStep}
-use Rattle.dg_names.proofs.Views.{value_seen, body_seen}
+use Rattle.dg_names.specs.Mentions.{Mentions, nothing, mention, closure, query, object, word, variable, unnamed, branches, select, join, branches_in, of_parts, of_head, of_value, of_values, of_words, of_stmt, of_stmts, of_body, of_branches, of_arms, of_changes, of_said}
+use Rattle.dg_names.specs.Walk.{Met, opened, closed, met, walk, walk_of, walk_then, left_of, is_met, size_of, size_then, parts_size, value_size, values_size, words_size, stmt_size, stmts_size, branches_size, arms_size, changes_size, total, IsThen, IsLook, IsPut}
 use Rattle.dg_names.specs.declared.work.Event.{Event}
+use Rattle.dg_names.specs.declared.work.Then.{Then}
 use Rattle.dg_names.specs.declared.work.Work.{Work}
+use Rattle.dg_names.specs.declared.work.Work.TheVariants as work
+use Rattle.dg_names.proofs.Views.{part_word_seen, value_seen, head_seen, body_seen, ask_seen, ask_all_seen, ask_not_seen, group_seen, not_group_seen, first_seen, now_seen, exhaust_seen, stoppable_seen, collect_seen, accumulate_seen, select_seen}
 
 pub append_nil : (xs : List Met) → xs ++ [] ≡ xs
 append_nil [] = refl
@@ -34,71 +43,176 @@ walk_join (mention unnamed ms) b = ap (λ (l : List Met). met unnamed ∷ l) (wa
 walk_join (mention (branches n) ms) b = ap (λ (l : List Met). met (branches n) ∷ l) (walk_join ms b)
 walk_join (mention (select n) ms) b = ap (λ (l : List Met). met (select n) ∷ l) (walk_join ms b)
 
-pub left_put : (ws : List Work) (w : Work) → left_of (ws ++ w ∷ []) ≡ walk_of w ++ left_of ws
-left_put [] w = sym (append_nil (walk_of w))
-left_put (v ∷ ws) w =
-    ap (λ (l : List Met). l ++ walk_of v) (left_put ws w)
-    ∙ append_assoc (walk_of w) (left_of ws) (walk_of v)
+pub left_append : (ws vs : List Work) → left_of (ws ++ vs) ≡ left_of vs ++ left_of ws
+left_append [] vs = sym (append_nil (left_of vs))
+left_append (w ∷ ws) vs =
+    ap (λ (l : List Met). l ++ walk_of w) (left_append ws vs)
+    ∙ append_assoc (left_of vs) (left_of ws) (walk_of w)
 
-pub total_put : (ws : List Work) (w : Work) → total (ws ++ w ∷ []) ≡ size_of w + total ws
-total_put [] w = refl
-total_put (v ∷ ws) w = omega (arith, total_put ws w)
+pub total_append : (ws vs : List Work) → total (ws ++ vs) ≡ total vs + total ws
+total_append [] vs = omega arith
+total_append (w ∷ ws) vs = omega (arith, total_append ws vs)
 
--- ---- steps
-
--- The same step, said otherwise.
-pub steps_as : (r : Result (Option Event) AllocError) (old new : List Work) (m m' : List Met) (n n' : ℕ) → IfOk r (IsStep m n old new) → m ≡ m' → n ≡ n' → IfOk r (IsStep m' n' old new)
-steps_as r old new m m' n n' step meets much =
-    subst (λ (k : ℕ). IfOk r (IsStep m' k old new)) much (subst (λ (l : List Met). IfOk r (IsStep l n old new)) meets step)
-
-pub put_one : {old new : List Work} {w : Work} (e : Option Event) → IsPut w old new → IsStep (happened e ++ walk_of w) (1 + size_of w) old new e
-put_one {old = old} {new = new} {w = w} e p = record {
-  walk = ap (λ (l : List Met). happened e ++ l) p.walk ∙ sym (append_assoc (happened e) (walk_of w) (left_of old));
-  size = let size = p.size in omega (arith, size);
+put_all : (old new vs : List Work) (t : Then) → new ≡ old ++ vs → left_of vs ≡ walk_then t → total vs ≡ size_then t → IsPut t old new
+put_all old new vs t is meets much = record {
+  walk = ap left_of is ∙ left_append old vs ∙ ap (λ (l : List Met). l ++ left_of old) meets;
+  size = ap total is ∙ total_append old vs ∙ ap (λ (k : ℕ). k + total old) much;
 }
 
-pub put_two : {old mid new : List Work} {v w : Work} (e : Option Event) → IsPut v old mid → IsPut w mid new → IsStep (happened e ++ (walk_of w ++ walk_of v)) (1 + (size_of w + size_of v)) old new e
-put_two {old = old} {mid = mid} {new = new} {v = v} {w = w} e p q = record {
-  walk =
-      ap (λ (l : List Met). happened e ++ l) (q.walk ∙ ap (λ (l : List Met). walk_of w ++ l) p.walk ∙ sym (append_assoc (walk_of w) (walk_of v) (left_of old)))
-      ∙ sym (append_assoc (happened e) (walk_of w ++ walk_of v) (left_of old));
-  size = let first = p.size in let second = q.size in omega (arith, first, second);
-}
+-- What was put on what is left, the last of it first.
+pub put_then : (r : Result Unit AllocError) (old new vs : List Work) (t t' : Then) → t ≡ t' → left_of vs ≡ walk_then t' → total vs ≡ size_then t' → OnOk r (new ≡ old ++ vs) → OnOk r (IsPut t old new)
+put_then (Ok u) old new vs t t' same meets much is = subst (λ (x : Then). IsPut x old new) (sym same) (put_all old new vs t' is meets much)
+put_then (Err e) old new vs t t' same meets much is = is
 
--- ---- the steps of each kind
+-- Work that is looked at, by what it is.
+pub look : (w v : Work) (next : Then) → w ≡ v → IsThen (walk_of v) (size_of v) next → IsLook w next
+look w v next is step = subst (λ (x : Work). IsLook x next) (sym is) (record { walk = step.walk; size = λ other. step.size })
 
-pub walk_three : (a b c : Mentions) → walk a ++ (walk b ++ walk c) ≡ walk (join a (join b c))
+pub not_met : (w : Work) → ((e : Event) → w ≡ Work.Met e → ⊥) → is_met w ≡ false
+not_met (work.Met e) other = absurd (other e refl)
+not_met (work.Head h) other = refl
+not_met (work.Parts ps) other = refl
+not_met (work.Value v) other = refl
+not_met (work.Values vs) other = refl
+not_met (work.Words ws) other = refl
+not_met (work.Stmt s) other = refl
+not_met (work.Stmts ss) other = refl
+not_met (work.Body b) other = refl
+not_met (work.Branches bs) other = refl
+not_met (work.Arms arms) other = refl
+not_met (work.Changes cs) other = refl
+
+-- ---- what the first of a row comes to
+
+pub parted : {A : Type 0} (xs : List A) (x : A) → 1 ≤ length xs → x ≡ get_or xs 0 x → xs ≡ x ∷ take (length xs - 1) (drop 1 xs)
+parted [] x some is = absurd (omega arith)
+parted (y ∷ ys) x some is =
+    let rest : length (y ∷ ys) - 1 ≡ length ys = omega arith in
+    ap (λ h. h ∷ ys) (sym is) ∙ ap (λ l. x ∷ l) (sym (ap (λ (k : ℕ). take k ys) rest ∙ take-length ys))
+
+pub values_then : (vs : List Value) (v : Bor Value) (others : Bor (List Value)) → vs ≡ v.now ∷ others.now → IsThen (walk (of_values (values_of (map value_view vs)))) (values_size (values_of (map value_view vs))) (Then.Two (Work.Value v) (Work.Values others))
+values_then vs v others is =
+    subst (λ (l : List Value). IsThen (walk (of_values (values_of (map value_view l)))) (values_size (values_of (map value_view l))) (Then.Two (Work.Value v) (Work.Values others))) (sym is)
+    (record { walk = sym (walk_join (of_value (value_view v.now)) (of_values (values_of (map value_view others.now)))); size = omega arith })
+
+pub words_then : (ws : List (List ℕ)) (first : List ℕ) (w : Bor (List ℕ)) (others : Bor (List (List ℕ))) → ws ≡ first ∷ others.now → w.now ≡ first → IsThen (walk (of_words ws)) (words_size ws) (Then.Two (Work.Met (Event.Word w)) (Work.Words others))
+words_then ws first w others is same =
+    subst (λ (l : List (List ℕ)). IsThen (walk (of_words l)) (words_size l) (Then.Two (Work.Met (Event.Word w)) (Work.Words others))) (ap (λ (n : List ℕ). n ∷ others.now) same ∙ sym is)
+    (record { walk = refl; size = omega arith })
+
+pub stmts_then : (ss : List Stmt) (s : Bor Stmt) (others : Bor (List Stmt)) → ss ≡ s.now ∷ others.now → IsThen (walk (of_stmts (stmts_of (map stmt_view ss)))) (stmts_size (stmts_of (map stmt_view ss))) (Then.Two (Work.Stmt s) (Work.Stmts others))
+stmts_then ss s others is =
+    subst (λ (l : List Stmt). IsThen (walk (of_stmts (stmts_of (map stmt_view l)))) (stmts_size (stmts_of (map stmt_view l))) (Then.Two (Work.Stmt s) (Work.Stmts others))) (sym is)
+    (record { walk = sym (walk_join (of_stmt (stmt_view s.now)) (of_stmts (stmts_of (map stmt_view others.now)))); size = omega arith })
+
+pub branches_then : (bs : List (List Stmt)) (first : List Stmt) (b : Bor (List Stmt)) (others : Bor (List (List Stmt))) → bs ≡ first ∷ others.now → b.now ≡ first → IsThen (walk (of_branches (branches_view (map (map stmt_view) bs)))) (branches_size (branches_view (map (map stmt_view) bs))) (Then.Two (Work.Stmts b) (Work.Branches others))
+branches_then bs first b others is same =
+    subst (λ (l : List (List Stmt)). IsThen (walk (of_branches (branches_view (map (map stmt_view) l)))) (branches_size (branches_view (map (map stmt_view) l))) (Then.Two (Work.Stmts b) (Work.Branches others))) (ap (λ (ss : List Stmt). ss ∷ others.now) same ∙ sym is)
+    (record { walk = sym (walk_join (of_stmts (stmts_of (map stmt_view b.now))) (of_branches (branches_view (map (map stmt_view) others.now)))); size = omega arith })
+
+pub word_then : (ps : List Part) (p : Part) (w : List ℕ) (others : Bor (List Part)) → ps ≡ p ∷ others.now → p ≡ Part.Word w → IsThen (walk (of_parts (parts_of (map part_view ps)))) (parts_size (parts_of (map part_view ps))) (Then.One (Work.Parts others))
+word_then ps p w others is seen =
+    subst (λ (l : List tree.Part). IsThen (walk (of_parts (parts_of l))) (parts_size (parts_of l)) (Then.One (Work.Parts others)))
+    (sym (ap (map part_view) is ∙ ap (λ (x : tree.Part). x ∷ map part_view others.now) (ap part_view seen ∙ part_word_seen w)))
+    (record { walk = refl; size = omega arith })
+
+pub part_then : (ps : List Part) (p : Part) (v : Bor Value) (others : Bor (List Part)) → ps ≡ p ∷ others.now → p ≡ Part.Value v.now → IsThen (walk (of_parts (parts_of (map part_view ps)))) (parts_size (parts_of (map part_view ps))) (Then.Two (Work.Value v) (Work.Parts others))
+part_then ps p v others is seen =
+    subst (λ (l : List tree.Part). IsThen (walk (of_parts (parts_of l))) (parts_size (parts_of l)) (Then.Two (Work.Value v) (Work.Parts others)))
+    (sym (ap (map part_view) is ∙ ap (λ (x : tree.Part). x ∷ map part_view others.now) (ap part_view seen ∙ value_seen v.now)))
+    (record { walk = sym (walk_join (of_value (value_view v.now)) (of_parts (parts_of (map part_view others.now)))); size = omega arith })
+
+walk_three : (a b c : Mentions) → walk a ++ (walk b ++ walk c) ≡ walk (join a (join b c))
 walk_three a b c = sym (walk_join a (join b c) ∙ ap (λ (l : List Met). walk a ++ l) (walk_join b c))
 
-pub step_as : (old new : List Work) (e : Option Event) (m m' : List Met) (n n' : ℕ) → IsStep m n old new e → m ≡ m' → n ≡ n' → IsStep m' n' old new e
-step_as old new e m m' n n' step meets much =
-    subst (λ (k : ℕ). IsStep m' k old new e) much (subst (λ (l : List Met). IsStep l n old new e) meets step)
+pub arms_then : (arms : List Arm) (a : Arm) (c b : Bor Body) (others : Bor (List Arm)) → arms ≡ a ∷ others.now → arm_view a ≡ (body_view c.now, body_view b.now) → IsThen (walk (of_arms (arms_of (map arm_view arms)))) (arms_size (arms_of (map arm_view arms))) (Then.Three (Work.Body c) (Work.Body b) (Work.Arms others))
+arms_then arms a c b others is seen =
+    subst (λ (l : List (tree.Body × tree.Body)). IsThen (walk (of_arms (arms_of l))) (arms_size (arms_of l)) (Then.Three (Work.Body c) (Work.Body b) (Work.Arms others)))
+    (sym (ap (map arm_view) is ∙ ap (λ (x : tree.Body × tree.Body). x ∷ map arm_view others.now) seen))
+    (record { walk = walk_three (of_body (body_view c.now)) (of_body (body_view b.now)) (of_arms (arms_of (map arm_view others.now))); size = omega arith })
 
-pub part_step : (r : Result (Option Event) AllocError) (old new : List Work) (p : Part) (v : Value) (ps : tree.Parts) → p ≡ Part.Value v → IfOk r (IsStep (walk (of_value (value_view v)) ++ walk (of_parts ps)) (1 + (value_size (value_view v) + parts_size ps)) old new) → IfOk r (IsStep (walk (of_parts (tree.part (part_view p) ps))) (parts_size (tree.part (part_view p) ps)) old new)
-part_step r old new p v ps is step =
-    subst (λ (x : tree.Part). IfOk r (IsStep (walk (of_parts (tree.part x ps))) (parts_size (tree.part x ps)) old new)) (sym (ap part_view is ∙ value_seen v))
-    (steps_as r old new _ _ _ _ step (sym (walk_join (of_value (value_view v)) (of_parts ps))) refl)
+pub changes_then : (cs : List NowChange) (x : NowChange) (h : Bor Head) (others : Bor (List NowChange)) → cs ≡ x ∷ others.now → change_view x ≡ (head_view h.now, x.set) → IsThen (walk (of_changes (changes_of (map change_view cs)))) (changes_size (changes_of (map change_view cs))) (Then.Two (Work.Head h) (Work.Changes others))
+changes_then cs x h others is seen =
+    subst (λ (l : List (tree.Parts × Bool)). IsThen (walk (of_changes (changes_of l))) (changes_size (changes_of l)) (Then.Two (Work.Head h) (Work.Changes others)))
+    (sym (ap (map change_view) is ∙ ap (λ (y : tree.Parts × Bool). y ∷ map change_view others.now) seen))
+    (record { walk = ap (λ (l : List Met). met (query (head_view h.now)) ∷ l) (sym (walk_join (of_parts (head_view h.now)) (of_changes (changes_of (map change_view others.now))))); size = omega arith })
 
-pub list_step : (r : Result (Option Event) AllocError) (old new : List Work) (vs : List Value) (t : Option (Bor Value)) (v : Bor Value) → t ≡ Some v → IfOk r (IsStep (walk (of_values (values_of (map value_view vs))) ++ walk (of_value (value_view v.now))) (1 + (values_size (values_of (map value_view vs)) + value_size (value_view v.now))) old new) → IfOk r (IsStep (walk (of_value (list_view (map value_view vs) (option_map (λ (x : Bor Value). value_view x.now) t)))) (value_size (list_view (map value_view vs) (option_map (λ (x : Bor Value). value_view x.now) t))) old new)
-list_step r old new vs t v is step =
-    subst (λ (o : Option (Bor Value)). IfOk r (IsStep (walk (of_value (list_view (map value_view vs) (option_map (λ (x : Bor Value). value_view x.now) o)))) (value_size (list_view (map value_view vs) (option_map (λ (x : Bor Value). value_view x.now) o))) old new)) (sym is)
-    (steps_as r old new _ _ _ _ step (sym (walk_join (of_values (values_of (map value_view vs))) (of_value (value_view v.now)))) refl)
+-- ---- what a statement comes to
 
-pub choice_step : (r : Result (Option Event) AllocError) (old new : List Work) (arms : List Arm) (o : Option Body) (b : Body) → o ≡ Some b → IfOk r (IsStep (walk (of_arms (arms_of (map arm_view arms))) ++ walk (of_body (body_view b))) (1 + (arms_size (arms_of (map arm_view arms)) + (1 + branches_size (body_view b)))) old new) → IfOk r (IsStep (walk (of_stmt (choice_view (map arm_view arms) (option_map body_view o)))) (stmt_size (choice_view (map arm_view arms) (option_map body_view o))) old new)
-choice_step r old new arms o b is step =
-    subst (λ (x : Option Body). IfOk r (IsStep (walk (of_stmt (choice_view (map arm_view arms) (option_map body_view x)))) (stmt_size (choice_view (map arm_view arms) (option_map body_view x))) old new)) (sym is)
-    (steps_as r old new _ _ _ _ step (sym (walk_join (of_arms (arms_of (map arm_view arms))) (of_body (body_view b)))) (omega arith))
+-- A value seen as plain data, and a statement.
+pub value_is : (v : Value) (t : tree.Value) (next : Then) → value_view v ≡ t → IsThen (walk (of_value t)) (value_size t) next → IsThen (walk (of_value (value_view v))) (value_size (value_view v)) next
+value_is v t next same step = subst (λ (x : tree.Value). IsThen (walk (of_value x)) (value_size x) next) (sym same) step
+
+pub stmt_is : (s : Stmt) (t : tree.Stmt) (next : Then) → stmt_view s ≡ t → IsThen (walk (of_stmt t)) (stmt_size t) next → IsThen (walk (of_stmt (stmt_view s))) (stmt_size (stmt_view s)) next
+stmt_is s t next same step = subst (λ (x : tree.Stmt). IsThen (walk (of_stmt x)) (stmt_size x) next) (sym same) step
+
+pub list_then : (vs : Bor (List Value)) (tail : Option Value) (v : Bor Value) → tail ≡ Some v.now → IsThen (walk (of_value (list_view (map value_view vs.now) (option_map value_view tail)))) (value_size (list_view (map value_view vs.now) (option_map value_view tail))) (Then.Two (Work.Values vs) (Work.Value v))
+list_then vs tail v is =
+    subst (λ (o : Option Value). IsThen (walk (of_value (list_view (map value_view vs.now) (option_map value_view o)))) (value_size (list_view (map value_view vs.now) (option_map value_view o))) (Then.Two (Work.Values vs) (Work.Value v))) (sym is)
+    (record { walk = sym (walk_join (of_values (values_of (map value_view vs.now))) (of_value (value_view v.now))); size = omega arith })
+
+pub choice_then : (arms : Bor (List Arm)) (other : Option Body) (b : Bor Body) → other ≡ Some b.now → IsThen (walk (of_stmt (choice_view (map arm_view arms.now) (option_map body_view other)))) (stmt_size (choice_view (map arm_view arms.now) (option_map body_view other))) (Then.Two (Work.Arms arms) (Work.Body b))
+choice_then arms other b is =
+    subst (λ (o : Option Body). IsThen (walk (of_stmt (choice_view (map arm_view arms.now) (option_map body_view o)))) (stmt_size (choice_view (map arm_view arms.now) (option_map body_view o))) (Then.Two (Work.Arms arms) (Work.Body b))) (sym is)
+    (record { walk = sym (walk_join (of_arms (arms_of (map arm_view arms.now))) (of_body (body_view b.now))); size = omega arith })
+
+pub ask_then : (s : Stmt) (head : Bor Head) → (s ≡ Stmt.Ask head.now) ⊎ ((s ≡ Stmt.AskAll head.now) ⊎ (s ≡ Stmt.AskNot head.now)) → IsThen (walk (of_stmt (stmt_view s))) (stmt_size (stmt_view s)) (Then.One (Work.Head head))
+ask_then s head (inl is) = stmt_is s _ _ (ap stmt_view is ∙ ask_seen head.now) (record { walk = refl; size = omega arith })
+ask_then s head (inr (inl is)) = stmt_is s _ _ (ap stmt_view is ∙ ask_all_seen head.now) (record { walk = refl; size = omega arith })
+ask_then s head (inr (inr is)) = stmt_is s _ _ (ap stmt_view is ∙ ask_not_seen head.now) (record { walk = refl; size = omega arith })
+
+pub group_then : (s : Stmt) (body : Bor Body) → (s ≡ Stmt.Group body.now) ⊎ ((s ≡ Stmt.NotGroup body.now) ⊎ (s ≡ Stmt.First body.now)) → IsThen (walk (of_stmt (stmt_view s))) (stmt_size (stmt_view s)) (Then.One (Work.Body body))
+group_then s body (inl is) = stmt_is s _ _ (ap stmt_view is ∙ group_seen body.now) (record { walk = refl; size = omega arith })
+group_then s body (inr (inl is)) = stmt_is s _ _ (ap stmt_view is ∙ not_group_seen body.now) (record { walk = refl; size = omega arith })
+group_then s body (inr (inr is)) = stmt_is s _ _ (ap stmt_view is ∙ first_seen body.now) (record { walk = refl; size = omega arith })
+
+pub inner_then : (s i : Stmt) (inner : Bor Stmt) → inner.now ≡ i → (s ≡ Stmt.Exhaust i) ⊎ (s ≡ Stmt.Stoppable i) → IsThen (walk (of_stmt (stmt_view s))) (stmt_size (stmt_view s)) (Then.One (Work.Stmt inner))
+inner_then s i inner same (inl is) = stmt_is s _ _ (ap stmt_view (is ∙ ap Stmt.Exhaust (sym same)) ∙ exhaust_seen inner.now) (record { walk = refl; size = omega arith })
+inner_then s i inner same (inr is) = stmt_is s _ _ (ap stmt_view (is ∙ ap Stmt.Stoppable (sym same)) ∙ stoppable_seen inner.now) (record { walk = refl; size = omega arith })
+
+pub now_then : (s : Stmt) (cs : List NowChange) (within : Bor (List NowChange)) → s ≡ Stmt.Now cs → within.now ≡ cs → IsThen (walk (of_stmt (stmt_view s))) (stmt_size (stmt_view s)) (Then.One (Work.Changes within))
+now_then s cs within is same = stmt_is s _ _ (ap stmt_view (is ∙ ap Stmt.Now (sym same)) ∙ now_seen within.now) (record { walk = refl; size = omega arith })
+
+pub gathering_then : (s : Stmt) (v : Bor Value) (b : Bor Body) (into : Bor Value) → (s ≡ Stmt.Collect v.now b.now into.now) ⊎ (s ≡ Stmt.Accumulate v.now b.now into.now) → IsThen (walk (of_stmt (stmt_view s))) (stmt_size (stmt_view s)) (Then.Three (Work.Value v) (Work.Body b) (Work.Value into))
+gathering_then s v b into (inl is) =
+    subst (λ (x : tree.Stmt). IsThen (walk (of_stmt x)) (stmt_size x) (Then.Three (Work.Value v) (Work.Body b) (Work.Value into))) (sym (ap stmt_view is ∙ collect_seen v.now b.now into.now))
+    (record { walk = walk_three (of_value (value_view v.now)) (of_body (body_view b.now)) (of_value (value_view into.now)); size = omega arith })
+gathering_then s v b into (inr is) =
+    subst (λ (x : tree.Stmt). IsThen (walk (of_stmt x)) (stmt_size x) (Then.Three (Work.Value v) (Work.Body b) (Work.Value into))) (sym (ap stmt_view is ∙ accumulate_seen v.now b.now into.now))
+    (record { walk = walk_three (of_value (value_view v.now)) (of_body (body_view b.now)) (of_value (value_view into.now)); size = omega arith })
+
+pub head_then : (h : Bor Head) (within : Bor (List Part)) → within.now ≡ h.now.parts → IsThen (walk (of_head (head_view h.now))) (2 + parts_size (head_view h.now)) (Then.Two (Work.Met (Event.Query h)) (Work.Parts within))
+head_then h within is =
+    let same = ap (λ (l : List Part). parts_of (map part_view l)) is ∙ sym (head_seen h.now) in
+    record {
+      walk = ap (λ (ps : tree.Parts). met (query (head_view h.now)) ∷ walk (of_parts ps)) same;
+      size = let much = ap parts_size same in omega (arith, much);
+    }
+
+pub rule_walk : (s : ItemBody) (h : Head) (b : Body) → (s ≡ ItemBody.Rule h b) ⊎ ((s ≡ ItemBody.Deny h b) ⊎ (s ≡ ItemBody.Access h b)) → walk (of_head (head_view h)) ++ walk (of_body (body_view b)) ≡ walk (of_said (said_view s))
+rule_walk s h b (inl is) = sym (ap (λ (x : ItemBody). walk (of_said (said_view x))) is ∙ walk_join (of_head (head_view h)) (of_body (body_view b)))
+rule_walk s h b (inr (inl is)) = sym (ap (λ (x : ItemBody). walk (of_said (said_view x))) is ∙ walk_join (of_head (head_view h)) (of_body (body_view b)))
+rule_walk s h b (inr (inr is)) = sym (ap (λ (x : ItemBody). walk (of_said (said_view x))) is ∙ walk_join (of_head (head_view h)) (of_body (body_view b)))
 
 -- the number of branches
 pub counted : (bs : List (List Stmt)) → branches_in (branches_view (map (map stmt_view) bs)) ≡ length bs
 counted [] = refl
 counted (b ∷ bs) = omega (arith, counted bs)
 
-pub branching_step : (old new : List Work) (bs s : List (List Stmt)) (n : ℕ) (e : Option Event) (m : ℕ → Mention) → s ≡ bs → n ≡ length bs → IsStep (met (m n) ∷ walk (of_branches (branches_view (map (map stmt_view) s)))) (1 + branches_size (branches_view (map (map stmt_view) s))) old new e → IsStep (met (m (branches_in (branches_view (map (map stmt_view) bs)))) ∷ walk (of_branches (branches_view (map (map stmt_view) bs)))) (1 + branches_size (branches_view (map (map stmt_view) bs))) old new e
-branching_step old new bs s n e m same count step =
-    subst (λ (k : ℕ). IsStep (met (m k) ∷ walk (of_branches (branches_view (map (map stmt_view) bs)))) (1 + branches_size (branches_view (map (map stmt_view) bs))) old new e) (count ∙ sym (counted bs))
-    (subst (λ (l : List (List Stmt)). IsStep (met (m n) ∷ walk (of_branches (branches_view (map (map stmt_view) l)))) (1 + branches_size (branches_view (map (map stmt_view) l))) old new e) same step)
+pub select_then : (s : Stmt) (mode : Mode) (bs : List (List Stmt)) (n : ℕ) (within : Bor (List (List Stmt))) → s ≡ Stmt.Select mode bs → n ≡ length bs → within.now ≡ bs → IsThen (walk (of_stmt (stmt_view s))) (stmt_size (stmt_view s)) (Then.Two (Work.Met (Event.Selecting n)) (Work.Branches within))
+select_then s mode bs n within is count same =
+    subst (λ (x : tree.Stmt). IsThen (walk (of_stmt x)) (stmt_size x) (Then.Two (Work.Met (Event.Selecting n)) (Work.Branches within))) (sym (ap stmt_view is ∙ select_seen mode bs))
+    (subst (λ (l : List (List Stmt)). IsThen (walk (of_stmt (tree.select mode (branches_view (map (map stmt_view) l))))) (stmt_size (tree.select mode (branches_view (map (map stmt_view) l)))) (Then.Two (Work.Met (Event.Selecting n)) (Work.Branches within))) same
+    (record {
+      walk = ap (λ (k : ℕ). met (select k) ∷ walk (of_branches (branches_view (map (map stmt_view) within.now)))) (count ∙ sym (ap length same) ∙ sym (counted within.now));
+      size = omega arith;
+    }))
 
-pub body_step : (old new : List Work) (b : Body) (s : List (List Stmt)) (n : ℕ) (e : Option Event) → s ≡ b.branches → n ≡ length b.branches → IsStep (met (branches n) ∷ walk (of_branches (branches_view (map (map stmt_view) s)))) (1 + branches_size (branches_view (map (map stmt_view) s))) old new e → IsStep (walk (of_body (body_view b))) (1 + branches_size (body_view b)) old new e
-body_step old new b s n e same count step =
-    subst (λ (x : tree.Body). IsStep (walk (of_body x)) (1 + branches_size x) old new e) (sym (body_seen b)) (branching_step old new b.branches s n e branches same count step)
+pub body_then : (b : Bor Body) (n : ℕ) (within : Bor (List (List Stmt))) → n ≡ length b.now.branches → within.now ≡ b.now.branches → IsThen (walk (of_body (body_view b.now))) (2 + branches_size (body_view b.now)) (Then.Two (Work.Met (Event.Branching n)) (Work.Branches within))
+body_then b n within count is =
+    let same = ap (λ (l : List (List Stmt)). branches_view (map (map stmt_view) l)) is ∙ sym (body_seen b.now) in
+    let many = count ∙ sym (counted b.now.branches) ∙ ap branches_in (sym (body_seen b.now)) in
+    record {
+      walk = ap (λ (x : tree.Body). met (branches n) ∷ walk (of_branches x)) same ∙ ap (λ (k : ℕ). met (branches k) ∷ walk (of_branches (body_view b.now))) many;
+      size = let much = ap branches_size same in omega (arith, much);
+    }

@@ -30,7 +30,7 @@ mentioned (i ∷ is) = at_depth (of_said i.said) ++ mentioned is
 
 -- A built-in query, but for that of parents.
 abbrev pub is_fixed : List ℕ → Bool
-is_fixed name = is_some (builtin_named name) && not (bytes_eq name (codes "($ has parent $)"))
+is_fixed name = is_some (builtin_named name) && not (bytes_eq (codes "($ has parent $)") name)
 
 -- The name of a predicate: no keyword, and no such query.
 abbrev pub is_predicate : List ℕ → Bool

@@ -1,5 +1,5 @@
 -- What is left of a walk through a tree. The proofs alone rest on it.
-use Rattle.std.specs.Prelude.{◌≡◌, ℕ, ◌+◌, List, [], ◌∷◌, ◌++◌, Option, Some, None, map}
+use Rattle.std.specs.Prelude.{◌≡◌, ◌<◌, ℕ, ◌+◌, List, [], ◌∷◌, ◌++◌, Bool, true, false, Option, Some, None, map}
 use Rattle.dg_base.specs.Tree as tree
 use Rattle.dg_base.specs.Tree.{parts_of, values_of, stmts_of, branches_of, arms_of, changes_of}
 use Rattle.dg_base.specs.TreeView.{part_view, value_view, stmt_view, arm_view, body_view, head_view, change_view, branches_view}
@@ -9,6 +9,8 @@ use Rattle.dg_names.specs.declared.work.Event.{Event}
 use Rattle.dg_names.specs.declared.work.Event.TheVariants as event
 use Rattle.dg_names.specs.declared.work.Work.{Work}
 use Rattle.dg_names.specs.declared.work.Work.TheVariants as work
+use Rattle.dg_names.specs.declared.work.Then.{Then}
+use Rattle.dg_names.specs.declared.work.Then.TheVariants as then
 
 -- What a walk meets: a mention, or the beginning or the end of a closure.
 pub data Met : Type 0 where
@@ -40,7 +42,7 @@ happened (Some e) = event_view e ∷ []
 
 -- What is mentioned in what is left to be looked at.
 abbrev pub walk_of : Work → List Met
-walk_of (work.Object n) = met (spec.object n.now) ∷ []
+walk_of (work.Met e) = event_view e ∷ []
 walk_of (work.Head h) = walk (of_head (head_view h.now))
 walk_of (work.Parts ps) = walk (of_parts (parts_of (map part_view ps.now)))
 walk_of (work.Value v) = walk (of_value (value_view v.now))
@@ -52,7 +54,13 @@ walk_of (work.Body b) = walk (of_body (body_view b.now))
 walk_of (work.Branches bs) = walk (of_branches (branches_view (map (map stmt_view) bs.now)))
 walk_of (work.Arms arms) = walk (of_arms (arms_of (map arm_view arms.now)))
 walk_of (work.Changes cs) = walk (of_changes (changes_of (map change_view cs.now)))
-walk_of work.Closing = closed ∷ []
+
+-- What is mentioned in what comes next.
+abbrev pub walk_then : Then → List Met
+walk_then then.Nothing = []
+walk_then (then.One v) = walk_of v
+walk_then (then.Two v w) = walk_of v ++ walk_of w
+walk_then (then.Three u v w) = walk_of u ++ (walk_of v ++ walk_of w)
 
 -- All that is left, the last of it being looked at first.
 abbrev pub left_of : List Work → List Met
@@ -63,7 +71,7 @@ left_of (w ∷ ws) = left_of ws ++ walk_of w
 
 abbrev pub words_size : List (List ℕ) → ℕ
 words_size [] = 1
-words_size (w ∷ ws) = 1 + words_size ws
+words_size (w ∷ ws) = 2 + words_size ws
 
 abbrev mutual
   pub parts_size : tree.Parts → ℕ
@@ -73,16 +81,16 @@ abbrev mutual
 
   pub value_size : tree.Value → ℕ
   value_size (tree.num n) = 1
-  value_size (tree.dict_word w) = 1
-  value_size (tree.object_name n) = 1
+  value_size (tree.dict_word w) = 2
+  value_size (tree.object_name n) = 2
   value_size tree.current_topic = 1
-  value_size tree.anonymous = 1
-  value_size (tree.variable n) = 1
+  value_size tree.anonymous = 2
+  value_size (tree.variable n) = 2
   value_size (tree.plain_list vs) = 1 + values_size vs
   value_size (tree.tailed_list vs v) = 1 + (values_size vs + value_size v)
-  value_size (tree.closure b) = 3 + branches_size b
-  value_size (tree.nested ps) = 1 + parts_size ps
-  value_size (tree.word_choice ws) = 1 + words_size ws
+  value_size (tree.closure b) = 5 + branches_size b
+  value_size (tree.nested ps) = 3 + parts_size ps
+  value_size (tree.word_choice ws) = 2 + words_size ws
 
   pub values_size : tree.Values → ℕ
   values_size tree.no_values = 1
@@ -91,20 +99,20 @@ abbrev mutual
   pub stmt_size : tree.Stmt → ℕ
   stmt_size (tree.text w) = 1
   stmt_size (tree.print v) = 1 + value_size v
-  stmt_size (tree.ask ps) = 1 + parts_size ps
-  stmt_size (tree.ask_all ps) = 1 + parts_size ps
-  stmt_size (tree.ask_not ps) = 1 + parts_size ps
-  stmt_size (tree.group b) = 2 + branches_size b
-  stmt_size (tree.not_group b) = 2 + branches_size b
+  stmt_size (tree.ask ps) = 3 + parts_size ps
+  stmt_size (tree.ask_all ps) = 3 + parts_size ps
+  stmt_size (tree.ask_not ps) = 3 + parts_size ps
+  stmt_size (tree.group b) = 3 + branches_size b
+  stmt_size (tree.not_group b) = 3 + branches_size b
   stmt_size (tree.now cs) = 1 + changes_size cs
   stmt_size (tree.choice arms) = 1 + arms_size arms
-  stmt_size (tree.choice_else arms b) = 2 + (arms_size arms + branches_size b)
+  stmt_size (tree.choice_else arms b) = 3 + (arms_size arms + branches_size b)
   stmt_size (tree.exhaust s) = 1 + stmt_size s
   stmt_size (tree.stoppable s) = 1 + stmt_size s
-  stmt_size (tree.collect v b into) = 2 + (value_size v + (branches_size b + value_size into))
-  stmt_size (tree.accumulate v b into) = 2 + (value_size v + (branches_size b + value_size into))
-  stmt_size (tree.select mode b) = 1 + branches_size b
-  stmt_size (tree.first_answer b) = 2 + branches_size b
+  stmt_size (tree.collect v b into) = 3 + (value_size v + (branches_size b + value_size into))
+  stmt_size (tree.accumulate v b into) = 3 + (value_size v + (branches_size b + value_size into))
+  stmt_size (tree.select mode b) = 2 + branches_size b
+  stmt_size (tree.first_answer b) = 3 + branches_size b
 
   pub stmts_size : tree.Stmts → ℕ
   stmts_size tree.no_stmts = 1
@@ -116,37 +124,53 @@ abbrev mutual
 
   pub arms_size : tree.Arms → ℕ
   arms_size tree.no_arms = 1
-  arms_size (tree.arm c b arms) = 3 + (branches_size c + (branches_size b + arms_size arms))
+  arms_size (tree.arm c b arms) = 5 + (branches_size c + (branches_size b + arms_size arms))
 
   pub changes_size : tree.Changes → ℕ
   changes_size tree.no_changes = 1
-  changes_size (tree.change ps set cs) = 1 + (parts_size ps + changes_size cs)
+  changes_size (tree.change ps set cs) = 3 + (parts_size ps + changes_size cs)
 
 abbrev pub size_of : Work → ℕ
-size_of (work.Object n) = 1
-size_of (work.Head h) = 1 + parts_size (head_view h.now)
+size_of (work.Met e) = 1
+size_of (work.Head h) = 2 + parts_size (head_view h.now)
 size_of (work.Parts ps) = parts_size (parts_of (map part_view ps.now))
 size_of (work.Value v) = value_size (value_view v.now)
 size_of (work.Values vs) = values_size (values_of (map value_view vs.now))
 size_of (work.Words ws) = words_size ws.now
 size_of (work.Stmt s) = stmt_size (stmt_view s.now)
 size_of (work.Stmts ss) = stmts_size (stmts_of (map stmt_view ss.now))
-size_of (work.Body b) = 1 + branches_size (body_view b.now)
+size_of (work.Body b) = 2 + branches_size (body_view b.now)
 size_of (work.Branches bs) = branches_size (branches_view (map (map stmt_view) bs.now))
 size_of (work.Arms arms) = arms_size (arms_of (map arm_view arms.now))
 size_of (work.Changes cs) = changes_size (changes_of (map change_view cs.now))
-size_of work.Closing = 1
+
+-- How much is left in what comes next.
+abbrev pub size_then : Then → ℕ
+size_then then.Nothing = 0
+size_then (then.One v) = size_of v
+size_then (then.Two v w) = size_of v + size_of w
+size_then (then.Three u v w) = size_of u + (size_of v + size_of w)
 
 abbrev pub total : List Work → ℕ
 total [] = 0
 total (w ∷ ws) = size_of w + total ws
 
--- This work was put on what was left.
-pub record IsPut (w : Work) (old new : List Work) : Type 0 where
-  pub walk : left_of new ≡ walk_of w ++ left_of old
-  pub size : total new ≡ size_of w + total old
+-- There is nothing to look at in what is met.
+abbrev pub is_met : Work → Bool
+is_met (work.Met e) = true
+is_met w = false
 
--- What meets this and is so large was looked at for one step, in which this happened.
-pub record IsStep (meets : List Met) (much : ℕ) (old new : List Work) (e : Option Event) : Type 0 where
-  pub walk : happened e ++ left_of new ≡ meets ++ left_of old
-  pub size : total new + 1 ≡ much + total old
+-- What meets this and is so large comes to this, which is smaller.
+pub record IsThen (meets : List Met) (much : ℕ) (next : Then) : Type 0 where
+  pub walk : walk_then next ≡ meets
+  pub size : size_then next < much
+
+-- This was looked at, and comes to this, which is smaller unless it is met.
+pub record IsLook (work : Work) (next : Then) : Type 0 where
+  pub walk : walk_then next ≡ walk_of work
+  pub size : is_met work ≡ false → size_then next < size_of work
+
+-- This was put on what was left.
+pub record IsPut (next : Then) (old new : List Work) : Type 0 where
+  pub walk : left_of new ≡ walk_then next ++ left_of old
+  pub size : total new ≡ size_then next + total old

@@ -5,8 +5,8 @@ ghost use Rattle.dg_names.specs.Counts as spec;
 ghost use Rattle.dg_names.specs.Counts.{has_excess};
 ghost use Rattle.dg_names.specs.Mentions.{of_said};
 ghost use Rattle.dg_names.specs.Named.{at_depth};
-ghost use Rattle.dg_names.specs.Scopes.{no_variables, passes};
-ghost use Rattle.dg_names.specs.State.{listed, flat, told, tally_view, has_many};
+ghost use Rattle.dg_names.specs.Scopes.{is_full, passes};
+ghost use Rattle.dg_names.specs.State.{listed, scope_view, stack_of, flat, told, tally_view, has_many};
 ghost use Rattle.dg_names.specs.Walk.{left_of};
 
 use crate::state::{Numbers, Scope, Scopes, Sets, Tally};
@@ -33,20 +33,15 @@ const SELECTS: usize = 500;
 fn walk_on<'a>(
     alloc: Global,
     left: &mut Vec<Work<'a>>,
+    scopes: &mut Scopes<'a>,
     tally: &mut Tally,
 ) -> Result<bool, AllocError>
-    ensures over { IfOk result (λ over. over ≡ passes (left_of left.old.items) no_variables []) }
+    requires { is_full (scope_view scopes.old.inner) ≡ false }
+    ensures over { IfOk result (λ over. over ≡ passes (left_of left.old.items) (scope_view scopes.old.inner) (stack_of scopes.old.outer.items)) }
     ensures told { IfOk result (λ over. over ≡ false → told [] (tally_view tally.new) ≡ told (flat (left_of left.old.items)) (tally_view tally.old)) }
 {
-    let mut scopes = Scopes {
-        inner: Scope {
-            names: Vec::new(alloc),
-            unnamed: 0,
-        },
-        outer: Vec::new(alloc),
-    };
     while let Some(event) = next(left)? {
-        if note(alloc, &mut scopes, event)? {
+        if note(alloc, scopes, event)? {
             return Ok(true);
         }
         tell(alloc, tally, event)?;
@@ -60,31 +55,26 @@ fn read_item(alloc: Global, tally: &mut Tally, said: &ItemBody) -> Result<bool, 
 {
     let mut left = Vec::new(alloc);
     start(&mut left, said)?;
-    walk_on(alloc, &mut left, tally)
-}
-
-fn has_many_words(sets: &Sets) -> bool
-    ensures { result ≡ (nat_lt 4000 (length (listed sets.now.words)) || nat_lt 4000 (length (listed sets.now.preds))) }
-{
-    sets.words.len() > WORDS || sets.preds.len() > PREDICATES
+    let mut scopes = Scopes {
+        inner: Scope {
+            names: Vec::new(alloc),
+            unnamed: 0,
+        },
+        outer: Vec::new(alloc),
+    };
+    walk_on(alloc, &mut left, &mut scopes, tally)
 }
 
 fn has_many_names(sets: &Sets) -> bool
     ensures { result ≡ (nat_lt 1000 (length (listed sets.now.objects)) || (nat_lt 4000 (length (listed sets.now.words)) || nat_lt 4000 (length (listed sets.now.preds)))) }
 {
-    sets.objects.len() > OBJECTS || has_many_words(sets)
-}
-
-fn has_many_parts(numbers: &Numbers) -> bool
-    ensures { result ≡ (nat_lt 16000 numbers.now.closures || nat_lt 500 numbers.now.selects) }
-{
-    numbers.closures > CLOSURES || numbers.selects > SELECTS
+    sets.objects.len() > OBJECTS || sets.words.len() > WORDS || sets.preds.len() > PREDICATES
 }
 
 fn has_many_rules(rules: usize, numbers: &Numbers) -> bool
     ensures { result ≡ (nat_lt 16000 rules || (nat_lt 16000 numbers.now.closures || nat_lt 500 numbers.now.selects)) }
 {
-    rules > RULES || has_many_parts(numbers)
+    rules > RULES || numbers.closures > CLOSURES || numbers.selects > SELECTS
 }
 
 fn has_many(tally: &Tally, rules: usize) -> bool

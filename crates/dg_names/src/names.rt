@@ -84,8 +84,14 @@ impl Names {
         ensures memory { IsErrOf result ReadFault.OutOfMemory → 0 < length (tree_view tree.now) }
     {
         let mut tally = untold(alloc);
-        add_items(alloc, &mut tally, tree.items.as_slice())?;
-        Ok(told_names(tally))
+        match add_items(alloc, &mut tally, tree.items.as_slice()) {
+            Ok(()) => Ok(told_names(tally)),
+            Err(fault) => {
+                // In a call, so that its proof does not go through all that is dropped.
+                drop(tally);
+                Err(fault)
+            }
+        }
     }
 
     /// The place of a head's predicate among the names, where it stands there.

@@ -1,6 +1,8 @@
 // The names of a source and its counts in all.
-ghost use Rattle.std.specs.Prelude.{◌≡◌, OnOk, if◌then◌else◌};
-ghost use Rattle.dg_base.specs.TreeView.{head_view};
+ghost use Rattle.std.specs.Prelude.{◌≡◌, OnOk, map, if◌then◌else◌};
+ghost use Rattle.dg_base.specs.Heads.{name_of};
+ghost use Rattle.dg_base.specs.Tree.{parts_of};
+ghost use Rattle.dg_base.specs.TreeView.{head_view, part_view};
 ghost use Rattle.dg_names.specs.Counts.{is_closure, is_select, number_of};
 ghost use Rattle.dg_names.specs.Mentions.{query};
 ghost use Rattle.dg_names.specs.Named as spec;
@@ -11,7 +13,7 @@ ghost use Rattle.dg_names.specs.Walk.{event_view};
 
 use crate::state::{Numbers, Sets, Tally};
 use crate::work::Event;
-use dg_base::{Head, builtin_of, is_keyword, name_of};
+use dg_base::{Head, Part, builtin_of, is_keyword, is_named, name_of};
 use indexmap::IndexSet;
 use std::alloc::{AllocError, Global};
 
@@ -27,16 +29,16 @@ fn add(alloc: Global, names: &mut IndexSet<Vec<u8>>, name: &[u8]) -> Result<(), 
     Ok(())
 }
 
-fn is_fixed(name: &[u8]) -> bool
-    ensures { result ≡ spec.is_fixed name.now }
+fn is_fixed(parts: &[Part]) -> bool
+    ensures { result ≡ spec.is_fixed (name_of (parts_of (map part_view parts.now))) }
 {
-    builtin_of(name).is_some() && name != PARENTS
+    builtin_of(parts).is_some() && !is_named(parts, PARENTS)
 }
 
-fn is_predicate(name: &[u8]) -> bool
-    ensures { result ≡ spec.is_predicate name.now }
+fn is_predicate(parts: &[Part]) -> bool
+    ensures { result ≡ spec.is_predicate (name_of (parts_of (map part_view parts.now))) }
 {
-    !is_keyword(name) && !is_fixed(name)
+    !is_keyword(parts) && !is_fixed(parts)
 }
 
 fn add_predicate(
@@ -46,11 +48,11 @@ fn add_predicate(
 ) -> Result<(), AllocError>
     ensures { OnOk result (listed names.new ≡ with_names (listed names.old) (predicate_in (query (head_view head.now)))) }
 {
-    let name = name_of(alloc, head)?;
-    if is_predicate(name.as_slice()) {
-        add(alloc, names, name.as_slice())?;
+    if !is_predicate(head.parts.as_slice()) {
+        return Ok(());
     }
-    Ok(())
+    let name = name_of(alloc, head)?;
+    add(alloc, names, name.as_slice())
 }
 
 fn tell_names(alloc: Global, sets: &mut Sets, event: Event<'_>) -> Result<(), AllocError>

@@ -1,5 +1,5 @@
 // The counts of one item: variables, places and branches.
-ghost use Rattle.std.specs.Prelude.{◌≡◌, ◌+◌, ◌≤◌, ◌||◌, false, nat_lt, length, map, OnOk, IfOk, codes};
+ghost use Rattle.std.specs.Prelude.{◌≡◌, ◌+◌, ◌<◌, ◌≤◌, ◌||◌, false, nat_lt, length, map, OnOk, IfOk, IsErr, codes};
 ghost use Rattle.std.specs.List.{list_any};
 ghost use Rattle.std.specs.Str.{bytes_eq};
 ghost use Rattle.dg_base.specs.Tree.{parts_of};
@@ -46,7 +46,8 @@ fn add_name<'a>(names: &mut Vec<&'a [u8]>, name: &'a [u8]) -> Result<(), AllocEr
 
 /// Adds to names those of others that aren't among them, in order.
 pub fn add_names<'a>(names: &mut Vec<&'a [u8]>, more: &[&'a [u8]]) -> Result<(), AllocError>
-    ensures { OnOk result (seen names.new.items ≡ with_names (seen names.old.items) (seen more.now)) }
+    ensures names { OnOk result (seen names.new.items ≡ with_names (seen names.old.items) (seen more.now)) }
+    ensures memory { IsErr result → 0 < length more.now }
 {
     for name in more {
         add_name(names, *name)?;

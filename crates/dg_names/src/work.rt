@@ -17,10 +17,10 @@ pub enum Event<'a> {
     Closed,
 }
 
-/// A part of the tree that is left to be looked at. Closing is the end of a closure.
+/// What is left of a walk: a thing to be met next, or a part of the tree to be looked at.
 #[derive(Clone, Copy)]
 pub enum Work<'a> {
-    Object(&'a [u8]),
+    Met(Event<'a>),
     Head(&'a Head),
     Parts(&'a [Part]),
     Value(&'a Value),
@@ -32,5 +32,13 @@ pub enum Work<'a> {
     Branches(&'a [Items<Stmt>]),
     Arms(&'a [Arm]),
     Changes(&'a [NowChange]),
-    Closing,
+}
+
+/// What a part of the tree comes to when it is looked at, in order.
+#[derive(Clone, Copy)]
+pub enum Then<'a> {
+    Nothing,
+    One(Work<'a>),
+    Two(Work<'a>, Work<'a>),
+    Three(Work<'a>, Work<'a>, Work<'a>),
 }

@@ -14,7 +14,7 @@ use Rattle.dg_reader.specs.Weights.{has_refused, has_topic}
 
 -- A built-in query, but for that of parents, which a source may give rules to.
 abbrev pub is_fixed : List ℕ → Bool
-is_fixed name = is_some (builtin_named name) && not (bytes_eq name (codes "($ has parent $)"))
+is_fixed name = is_some (builtin_named name) && not (bytes_eq (codes "($ has parent $)") name)
 
 -- The name of a keyword, of a predicate of the prelude, or of such a query.
 abbrev pub is_reserved : List ℕ → Bool

@@ -16,23 +16,23 @@ use crate::frames::Sign;
 use crate::item::{Found, Shape};
 use crate::open::declares;
 use dg_base::{
-    Body, Head, ItemBody, Items, Kind, Part, Stmt, Value, builtin_of, is_keyword, is_prelude_name,
-    name_of,
+    Body, Head, ItemBody, Items, Kind, Part, Stmt, Value, builtin_of, is_keyword, is_named,
+    is_prelude_name,
 };
 use std::alloc::{AllocError, Global};
 
 const PARENTS: &[u8] = b"($ has parent $)";
 
-fn is_fixed(name: &[u8]) -> bool
-    ensures { result ≡ spec.is_fixed name.now }
+fn is_fixed(parts: &[Part]) -> bool
+    ensures { result ≡ spec.is_fixed (head_name (parts_of (map part_view parts.now))) }
 {
-    builtin_of(name).is_some() && name != PARENTS
+    builtin_of(parts).is_some() && !is_named(parts, PARENTS)
 }
 
-fn is_reserved(name: &[u8]) -> bool
-    ensures { result ≡ spec.is_reserved name.now }
+fn is_reserved(parts: &[Part]) -> bool
+    ensures { result ≡ spec.is_reserved (head_name (parts_of (map part_view parts.now))) }
 {
-    is_keyword(name) || is_prelude_name(name) || is_fixed(name)
+    is_keyword(parts) || is_prelude_name(parts) || is_fixed(parts)
 }
 
 fn has_value(parts: &[Part]) -> bool
@@ -240,8 +240,7 @@ fn has_one_start(alloc: Global, parts: &[Part]) -> Result<bool, AllocError>
 fn can_be_declared(alloc: Global, head: &Head) -> Result<bool, AllocError>
     ensures { IfOk result (λ can. can ≡ spec.can_be_declared (head_view head.now)) }
 {
-    let name = name_of(alloc, head)?;
-    if builtin_of(name.as_slice()).is_some() {
+    if builtin_of(head.parts.as_slice()).is_some() {
         return Ok(false);
     }
     has_one_start(alloc, head.parts.as_slice())
@@ -319,8 +318,7 @@ fn keeps_own_rules(alloc: Global, sign: Sign, head: &Head, body: &Body) -> Resul
 fn keeps_head_rules(alloc: Global, sign: Sign, head: &Head, body: &Body) -> Result<bool, AllocError>
     ensures { IfOk result (λ keeps. keeps ≡ (not (spec.is_reserved (head_name (head_view head.now))) && spec.keeps_own_rules (sign_view sign) (head_view head.now) (body_view body.now))) }
 {
-    let name = name_of(alloc, head)?;
-    if is_reserved(name.as_slice()) {
+    if is_reserved(head.parts.as_slice()) {
         return Ok(false);
     }
     keeps_own_rules(alloc, sign, head, body)

@@ -146,7 +146,7 @@ fn take(alloc: Global, reading: &mut Reading, token: &Token<'_>) -> Result<(), S
     ensures moves { Moves (machine.step (token_view token.now) (stack_view reading.old.stack.items)) result (stack_view reading.new.stack.items) }
     ensures weighed { OnOk result (Weighed reading.new) }
 {
-    let refused = adds_refused(alloc, &reading.stack, token)?;
+    let refused = adds_refused(&reading.stack, token);
     let topic = adds_topic(&reading.stack, token);
     step(alloc, &mut reading.stack, token)?;
     reading.refused |= refused;

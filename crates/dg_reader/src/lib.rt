@@ -17,7 +17,6 @@ mod frames;
 mod heads;
 mod item;
 mod keyword;
-mod names;
 mod open;
 mod put;
 mod release;

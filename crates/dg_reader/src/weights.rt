@@ -1,5 +1,5 @@
 // What a token adds to what an item may not have everywhere.
-ghost use Rattle.std.specs.Prelude.{◌≡◌, nat_lt, map, IfOk};
+ghost use Rattle.std.specs.Prelude.{◌≡◌, nat_lt, map};
 ghost use Rattle.std.specs.Option.{is_some};
 ghost use Rattle.dg_base.specs.Tree as tree;
 ghost use Rattle.dg_base.specs.TreeView.{part_view};
@@ -11,24 +11,21 @@ ghost use Rattle.dg_reader.specs.Weights.{refused_weight, no_weight};
 
 use crate::frames::Frame;
 use crate::keyword::is_keyword;
-use crate::names::refuses;
-use dg_base::Part;
+use dg_base::{Part, is_refused_name};
 use dg_lex::{Token, TokenKind};
-use std::alloc::{AllocError, Global};
 
 // Whether these parts are a query with a refused name.
-fn is_refused_query(alloc: Global, parts: &[Part]) -> Result<bool, AllocError>
-    ensures value { IfOk result (λ b. b ≡ nat_lt 0 (query_weight refused_weight (keyword_of (tree.parts_of (map part_view parts.now))) (tree.parts_of (map part_view parts.now)))) }
+fn is_refused_query(parts: &[Part]) -> bool
+    ensures { result ≡ nat_lt 0 (query_weight refused_weight (keyword_of (tree.parts_of (map part_view parts.now))) (tree.parts_of (map part_view parts.now))) }
 {
     if is_keyword(parts) {
-        return Ok(false);
+        return false;
     }
-    let refused = refuses(alloc, parts)?;
-    Ok(refused)
+    is_refused_name(parts)
 }
 
-fn closes_refused(alloc: Global, stack: &[Frame]) -> Result<bool, AllocError>
-    ensures value { IfOk result (λ b. b ≡ nat_lt 0 (closed_weight refused_weight (stack_view stack.now))) }
+fn closes_refused(stack: &[Frame]) -> bool
+    ensures { result ≡ nat_lt 0 (closed_weight refused_weight (stack_view stack.now)) }
 {
     match stack.last() {
         Some(
@@ -36,18 +33,18 @@ fn closes_refused(alloc: Global, stack: &[Frame]) -> Result<bool, AllocError>
             | Frame::InNested(_, parts)
             | Frame::InQuery(_, parts)
             | Frame::InChange(_, parts),
-        ) => is_refused_query(alloc, parts.as_slice()),
-        _ => Ok(false),
+        ) => is_refused_query(parts.as_slice()),
+        _ => false,
     }
 }
 
 /// Whether a token ends a refused name.
-pub fn adds_refused(alloc: Global, stack: &[Frame], token: &Token<'_>) -> Result<bool, AllocError>
-    ensures value { IfOk result (λ b. b ≡ nat_lt 0 (token_weight refused_weight 0 (token_view token.now) (stack_view stack.now))) }
+pub fn adds_refused(stack: &[Frame], token: &Token<'_>) -> bool
+    ensures { result ≡ nat_lt 0 (token_weight refused_weight 0 (token_view token.now) (stack_view stack.now)) }
 {
     match token.kind {
-        TokenKind::RoundClose => closes_refused(alloc, stack),
-        _ => Ok(false),
+        TokenKind::RoundClose => closes_refused(stack),
+        _ => false,
     }
 }
 

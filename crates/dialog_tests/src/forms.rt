@@ -1,8 +1,10 @@
 // The forms in memory of the outside: each call that takes memory gives its answer where memory is ample.
 use dg_base::{
-    Builtin, ByteSink, Failed, MapShelf, Shelf, Sink, StoreFault, SureShelf, SureSink, WriteFault,
-    builtin_of, is_keyword, is_prelude_name, is_refused_name, write_all, write_both,
+    Builtin, ByteSink, Failed, Items, MapShelf, Part, Shelf, Sink, StoreFault, SureShelf, SureSink,
+    Value, WriteFault, builtin_of, is_keyword, is_named, is_prelude_name, is_refused_name,
+    write_all, write_both,
 };
+use std::alloc::{AllocError, Global};
 use std::test::Fail;
 
 #[test]
@@ -54,14 +56,32 @@ fn a_sure_shelf_has_no_bytes_for_a_name_without_contents(rt: HostRuntime) -> Res
     Ok(())
 }
 
+// The parts that these words write, `$` for a value.
+fn parts_of(alloc: Global, words: &[&str]) -> Result<Vec<Part>, AllocError> {
+    let mut parts = Vec::new(alloc);
+    for word in words {
+        let part = match *word {
+            "$" => Part::Value(Value::Any),
+            _ => Part::Word(Items::from_slice(alloc, word.as_bytes())?),
+        };
+        parts.push(part)?;
+    }
+    Ok(parts)
+}
+
 #[test]
 fn names_are_found_in_the_tables(rt: HostRuntime) -> Result<(), Fail> {
-    assert!(rt; is_keyword(b"(elseif)") && !is_keyword(b"(bold)"));
-    assert!(rt; is_refused_name(b"(save undo $)") && is_prelude_name(b"($ is one of $)"));
+    let alloc = rt.alloc();
+    assert!(rt; is_keyword(parts_of(alloc, &["elseif"])?.as_slice()));
+    assert!(rt; !is_keyword(parts_of(alloc, &["bold"])?.as_slice()));
+    assert!(rt; is_refused_name(parts_of(alloc, &["save", "undo", "$"])?.as_slice()));
+    assert!(rt; is_prelude_name(parts_of(alloc, &["$", "is", "one", "of", "$"])?.as_slice()));
+    let forever = parts_of(alloc, &["repeat", "forever"])?;
     assert_eq!(rt;
-        builtin_of(b"(repeat forever)"),
+        builtin_of(forever.as_slice()),
         Some(Builtin::RepeatForever)
     );
-    assert_eq!(rt; builtin_of(b"(repeat)"), None);
+    assert_eq!(rt; builtin_of(parts_of(alloc, &["repeat"])?.as_slice()), None);
+    assert!(rt; is_named(forever.as_slice(), b"(repeat forever)"));
     Ok(())
 }

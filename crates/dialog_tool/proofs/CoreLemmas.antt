@@ -32,6 +32,7 @@ use Rattle.dg_lower.specs.Goals.{Scope, term_of, listed, values_in, terms_of, eq
 use Rattle.dg_lower.specs.Goals as lowered
 use Rattle.dg_lower.specs.declared.forms.Zone.TheVariants.{Rewritten}
 use Rattle.dg_base.proofs.NodeLemmas.{inside, within_out}
+use Rattle.dialog_tool.proofs.Never.{never}
 
 none : {A : Type 0} (P : A → Type 0) → All P []
 none P k d lt = absurd (omega arith)
@@ -114,7 +115,7 @@ built_in_whole s vs built_in.Fail h = fails
 built_in_whole s vs built_in.Just h = goal_whole goal.Just form.Just goal.outs-Just (tt, none HasNoClosure) (none IsBuiltGoal)
 built_in_whole s vs built_in.Quit h = goal_whole goal.Quit form.Quit goal.outs-Quit (tt, none HasNoClosure) (none IsBuiltGoal)
 built_in_whole s vs built_in.RepeatForever h = goal_whole goal.Forever form.Forever goal.outs-Forever (tt, none HasNoClosure) (none IsBuiltGoal)
-built_in_whole s vs b h = cc
+built_in_whole s vs b h = never h
 
 query_whole : (s : Scope) (ps : Parts) (many : Bool) (o : Option Builtin) → is_asked (name_of ps) o ≡ true → All IsBuiltGoal (goals_within (query_goal s ps many o))
 query_whole s ps many (Some b) h = built_in_whole s (values_in ps) b h
@@ -156,16 +157,16 @@ mutual
   stmt_whole s (tree.ask_not ps) h = not_whole (asked s ps false ∷ []) (alone (asked s ps false) (asked_whole s ps false h))
   stmt_whole s (tree.group b) h = unit_whole (lists s b) (lists_whole s b h)
   stmt_whole s (tree.not_group b) h = not_whole (unit (lists s b)) (unit_whole (lists s b) (lists_whole s b h))
-  stmt_whole s (tree.now cs) h = cc
+  stmt_whole s (tree.now cs) h = never h
   stmt_whole s (tree.choice arms) h = arms_whole s arms [] h (none IsBuiltGoal)
   stmt_whole s (tree.choice_else arms b) h =
       let each = and_parts (are_arms Rewritten arms) (is_body Rewritten b) h in
       arms_whole s arms (unit (lists s b)) each.0 (unit_whole (lists s b) (lists_whole s b each.1))
-  stmt_whole s (tree.exhaust x) h = cc
-  stmt_whole s (tree.stoppable x) h = cc
-  stmt_whole s (tree.collect v b into) h = cc
-  stmt_whole s (tree.accumulate v b into) h = cc
-  stmt_whole s (tree.select mode b) h = cc
+  stmt_whole s (tree.exhaust x) h = never h
+  stmt_whole s (tree.stoppable x) h = never h
+  stmt_whole s (tree.collect v b into) h = never h
+  stmt_whole s (tree.accumulate v b into) h = never h
+  stmt_whole s (tree.select mode b) h = never h
   stmt_whole s (tree.first_answer b) h =
       alone (goal.Once (unit (lists s b))) (goal_whole (goal.Once (unit (lists s b))) (form.Once (unit (lists s b))) (goal.outs-Once _) (tt, none HasNoClosure) (unit_whole (lists s b) (lists_whole s b h)))
 
@@ -213,8 +214,8 @@ item_whole : (names : Named) (name : List ℕ) (said : Said) → is_item Rewritt
 item_whole names name (tree.topic n) h = no_rules
 item_whole names name (tree.rule ps b) h = given (bytes_eq (name_of ps) name) (rule_of names ps b []) (rule_whole names ps b [] (and_parts _ _ (and_parts _ _ h).1).1 (none IsBuiltGoal))
 item_whole names name (tree.deny ps b) h = given (bytes_eq (name_of ps) name) (rule_of names ps b failing) (rule_whole names ps b failing (and_parts _ _ (and_parts _ _ h).1).1 failing_whole)
-item_whole names name (tree.access ps b) h = cc
-item_whole names name (tree.global_variable ps) h = cc
+item_whole names name (tree.access ps b) h = never h
+item_whole names name (tree.global_variable ps) h = never h
 
 items_whole : (names : Named) (name : List ℕ) (is : List Item) → are_built is ≡ true → All IsBuiltRule (flat_map (λ (i : Item). rules_in names name i.said) is)
 items_whole names name [] h = no_rules

@@ -22,6 +22,7 @@ use Rattle.dg_base.specs.Heads.{name_of}
 use Rattle.dg_base.specs.Names.{builtin_named}
 use Rattle.dg_lower.proofs.MemberLemmas.{firsts_have, filter_has, first_there, later_there}
 use Rattle.dialog_tool.proofs.FirstLemmas.{firsts_from, firsts_differ, no_more}
+use Rattle.dialog_tool.proofs.Never.{never}
 
 -- the names but for that of a closure's parameter
 abbrev counted : List (List ℕ) → List (List ℕ)
@@ -56,9 +57,9 @@ mutual
   value_out all (tree.tailed_list vs v) h =
       let each = and_parts (are_values Rewritten vs) (is_value Rewritten v) h in
       counted_join all (of_values vs) (of_value v) (in_values vs) (in_value v) (values_out all vs each.0) (value_out all v each.1)
-  value_out all (tree.closure b) h = cc
-  value_out all (tree.nested ps) h = cc
-  value_out all (tree.word_choice ws) h = cc
+  value_out all (tree.closure b) h = never h
+  value_out all (tree.nested ps) h = never h
+  value_out all (tree.word_choice ws) h = never h
 
   values_out : (all : List (List ℕ)) (vs : Values) → are_values Rewritten vs ≡ true → names_out all (of_values vs) ≡ counted (in_values vs)
   values_out all tree.no_values h = refl
@@ -85,16 +86,16 @@ mutual
   stmt_out all (tree.ask_not ps) h = query_out all ps h
   stmt_out all (tree.group b) h = body_out all b h
   stmt_out all (tree.not_group b) h = body_out all b h
-  stmt_out all (tree.now cs) h = cc
+  stmt_out all (tree.now cs) h = never h
   stmt_out all (tree.choice arms) h = arms_out all arms h
   stmt_out all (tree.choice_else arms b) h =
       let each = and_parts (are_arms Rewritten arms) (is_body Rewritten b) h in
       counted_join all (of_arms arms) (of_body b) (in_arms arms) (in_body b) (arms_out all arms each.0) (body_out all b each.1)
-  stmt_out all (tree.exhaust s) h = cc
-  stmt_out all (tree.stoppable s) h = cc
-  stmt_out all (tree.collect v b into) h = cc
-  stmt_out all (tree.accumulate v b into) h = cc
-  stmt_out all (tree.select mode b) h = cc
+  stmt_out all (tree.exhaust s) h = never h
+  stmt_out all (tree.stoppable s) h = never h
+  stmt_out all (tree.collect v b into) h = never h
+  stmt_out all (tree.accumulate v b into) h = never h
+  stmt_out all (tree.select mode b) h = never h
   stmt_out all (tree.first_answer b) h = body_out all b h
 
   stmts_out : (all : List (List ℕ)) (ss : Stmts) → are_stmts Rewritten ss ≡ true → names_out all (of_stmts ss) ≡ counted (in_stmts ss)

@@ -16,6 +16,7 @@ use Rattle.dg_lower.specs.Given.{among, HasPred, ValueMeets, ValuesMeet, PartsMe
 use Rattle.dg_lower.specs.declared.forms.Zone.{Zone}
 use Rattle.dg_lower.specs.declared.forms.Zone.TheVariants.{Head, Body as InBody}
 use Rattle.dialog_tool.proofs.RewrittenLemmas.{IsPlain, named, first_is_built}
+use Rattle.dialog_tool.proofs.Never.{never}
 
 -- a topic is among the objects
 abbrev pub HasTopic : Named → Option (List ℕ) → Type 0
@@ -34,7 +35,7 @@ first_kept d (tree.part (tree.part_word w) ps) m = first_kept d ps m
 first_kept d (tree.part (tree.part_value v) ps) m = m.0
 
 stands_kept : (d : Named) (declares : Bool) (ps : Parts) → declares ≡ false → ValueMeets (among d) (first_value ps) → ValueMeets (among d) (if declares then tree.nested ps else first_value ps)
-stands_kept d true ps e m = cc
+stands_kept d true ps e m = never (sym e)
 stands_kept d false ps e m = m
 
 anonymous_kept : (d : Named) (declares : Bool) (n : List ℕ) → ValueMeets (among d) (if declares then tree.anonymous else tree.variable n)
@@ -53,7 +54,7 @@ mutual
   value_kept d z c n (tree.tailed_list vs v) p t h m =
       let each = and_parts (are_values z vs) (is_value z v) h in
       (values_kept d z c n vs p t each.0 m.0, value_kept d z c (n + new_in_values vs) v p t each.1 m.1)
-  value_kept d z c n (tree.closure b) p t h m = cc
+  value_kept d z c n (tree.closure b) p t h m = never h
   value_kept d z c n (tree.nested ps) p t h m =
       let inner = and_parts _ _ h in
       let each = and_parts (is_asked (name_of ps) (builtin_named (name_of ps))) (are_parts z ps) inner.1 in
@@ -93,16 +94,16 @@ mutual
   stmt_kept d z c n (tree.ask_not ps) p t h m = query_kept d z c n ps p t h m
   stmt_kept d z c n (tree.group b) p t h m = body_kept d z c n b p t h m
   stmt_kept d z c n (tree.not_group b) p t h m = body_kept d z c n b p t h m
-  stmt_kept d z c n (tree.now cs) p t h m = cc
+  stmt_kept d z c n (tree.now cs) p t h m = never h
   stmt_kept d z c n (tree.choice arms) p t h m = arms_kept d z c n arms p t h m
   stmt_kept d z c n (tree.choice_else arms b) p t h m =
       let each = and_parts (are_arms z arms) (is_body z b) h in
       (arms_kept d z c n arms p t each.0 m.0, body_kept d z c (n + new_in_arms arms) b p t each.1 m.1)
-  stmt_kept d z c n (tree.exhaust s) p t h m = cc
-  stmt_kept d z c n (tree.stoppable s) p t h m = cc
-  stmt_kept d z c n (tree.collect v b into) p t h m = cc
-  stmt_kept d z c n (tree.accumulate v b into) p t h m = cc
-  stmt_kept d z c n (tree.select mode b) p t h m = cc
+  stmt_kept d z c n (tree.exhaust s) p t h m = never h
+  stmt_kept d z c n (tree.stoppable s) p t h m = never h
+  stmt_kept d z c n (tree.collect v b into) p t h m = never h
+  stmt_kept d z c n (tree.accumulate v b into) p t h m = never h
+  stmt_kept d z c n (tree.select mode b) p t h m = never h
   stmt_kept d z c n (tree.first_answer b) p t h m = body_kept d z c n b p t (and_parts _ _ h).1 m
 
   stmts_kept : (d : Named) (z : Zone) (c : Setting) (n : ℕ) (ss : Stmts) → IsPlain c → HasTopic d c.topic → are_stmts z ss ≡ true → StmtsMeet (among d) ss → StmtsMeet (among d) (plain_stmts c n ss)
@@ -196,8 +197,8 @@ item_kept : (d : Named) (t : Option (List ℕ)) (said : Said) → HasTopic d t �
 item_kept d t (tree.topic n) k h m = m
 item_kept d t (tree.rule ps b) k h m = rule_kept d Head InBody (in_rule t (tree.rule ps b)) ps b refl k h m
 item_kept d t (tree.deny ps b) k h m = rule_kept d Head InBody (in_rule t (tree.deny ps b)) ps b refl k h m
-item_kept d t (tree.access ps b) k h m = cc
-item_kept d t (tree.global_variable ps) k h m = cc
+item_kept d t (tree.access ps b) k h m = never h
+item_kept d t (tree.global_variable ps) k h m = never h
 
 behind_kept : (d : Named) (t : Option (List ℕ)) (said : Said) → HasTopic d t → SaidMeets (among d) said → HasTopic d (topic_behind t said)
 behind_kept d t (tree.topic n) k m = m

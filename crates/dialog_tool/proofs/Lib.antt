@@ -1,9 +1,11 @@
+pub mod Never
 pub mod DigitLemmas
 pub mod DiceLemmas
 pub mod OptionLemmas
 pub mod RewrittenLemmas
 pub mod CoreLemmas
 pub mod SourceLemmas
+pub mod StatusLemmas
 pub mod AnswerLemmas
 pub mod PlayLemmas
 pub mod StoryLemmas

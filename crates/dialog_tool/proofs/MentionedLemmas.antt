@@ -18,6 +18,7 @@ use Rattle.dg_lower.specs.Given.{Demands, among, HasPred, ValueMeets, ValuesMeet
 use Rattle.dg_lower.specs.declared.forms.Zone.{Zone}
 use Rattle.dg_lower.specs.declared.forms.Zone.TheVariants.{Head, Body as InBody}
 use Rattle.dialog_tool.proofs.RewrittenLemmas.{first_is_built}
+use Rattle.dialog_tool.proofs.Never.{never}
 
 -- numbers are in their range, and names and texts can be printed
 abbrev pub readable : Demands
@@ -64,7 +65,7 @@ IsAmong d m = Unit {0}
 pred_of : (d : Named) (name : List ℕ) (o : Option Builtin) → builtin_named name ≡ o → (o ≡ None → name_among name keywords ≡ false) → (is_predicate name ≡ true → Contains d.preds name) → HasPred d name o
 pred_of d name (Some b) e k m = tt
 pred_of d name None e k m =
-    m (and_from (not (name_among name keywords)) (not (is_fixed name)) (ap not (k refl)) (ap (λ (o : Option Builtin). not (is_some o && not (bytes_eq name (codes "($ has parent $)")))) e))
+    m (and_from (not (name_among name keywords)) (not (is_fixed name)) (ap not (k refl)) (ap (λ (o : Option Builtin). not (is_some o && not (bytes_eq (codes "($ has parent $)") name))) e))
 
 not_true : (b : Bool) → not b ≡ true → b ≡ false
 not_true true e = cc
@@ -96,7 +97,7 @@ mutual
   value_among d z (tree.tailed_list vs v) h r m =
       let each = and_parts (are_values z vs) (is_value z v) h in
       (values_among d z vs each.0 r.0 (front_holds (IsAmong d) (of_values vs) (of_value v) m), value_among d z v each.1 r.1 (back_holds (IsAmong d) (of_values vs) (of_value v) m))
-  value_among d z (tree.closure b) h r m = cc
+  value_among d z (tree.closure b) h r m = never h
   value_among d z (tree.nested ps) h r m =
       let inner = and_parts _ _ h in
       let each = and_parts (is_asked (name_of ps) (builtin_named (name_of ps))) (are_parts z ps) inner.1 in
@@ -130,16 +131,16 @@ mutual
   stmt_among d z (tree.ask_not ps) h r m = query_among d z ps h r m
   stmt_among d z (tree.group b) h r m = body_among d z b h r m.1
   stmt_among d z (tree.not_group b) h r m = body_among d z b h r m.1
-  stmt_among d z (tree.now cs) h r m = cc
+  stmt_among d z (tree.now cs) h r m = never h
   stmt_among d z (tree.choice arms) h r m = arms_among d z arms h r m
   stmt_among d z (tree.choice_else arms b) h r m =
       let each = and_parts (are_arms z arms) (is_body z b) h in
       (arms_among d z arms each.0 r.0 (front_holds (IsAmong d) (of_arms arms) (of_body b) m), body_among d z b each.1 r.1 (back_holds (IsAmong d) (of_arms arms) (of_body b) m).1)
-  stmt_among d z (tree.exhaust s) h r m = cc
-  stmt_among d z (tree.stoppable s) h r m = cc
-  stmt_among d z (tree.collect v b into) h r m = cc
-  stmt_among d z (tree.accumulate v b into) h r m = cc
-  stmt_among d z (tree.select mode b) h r m = cc
+  stmt_among d z (tree.exhaust s) h r m = never h
+  stmt_among d z (tree.stoppable s) h r m = never h
+  stmt_among d z (tree.collect v b into) h r m = never h
+  stmt_among d z (tree.accumulate v b into) h r m = never h
+  stmt_among d z (tree.select mode b) h r m = never h
   stmt_among d z (tree.first_answer b) h r m = body_among d z b (and_parts _ _ h).1 r m.1
 
   stmts_among : (d : Named) (z : Zone) (ss : Stmts) → are_stmts z ss ≡ true → StmtsMeet readable ss → Hold (IsAmong d) (of_stmts ss) → StmtsMeet (among d) ss
@@ -176,8 +177,8 @@ item_among : (d : Named) (said : Said) → is_item Head InBody said ≡ true →
 item_among d (tree.topic n) h r m = m.0
 item_among d (tree.rule ps b) h r m = rule_among d ps b h r m
 item_among d (tree.deny ps b) h r m = rule_among d ps b h r m
-item_among d (tree.access ps b) h r m = cc
-item_among d (tree.global_variable ps) h r m = cc
+item_among d (tree.access ps b) h r m = never h
+item_among d (tree.global_variable ps) h r m = never h
 
 pub items_among : (d : Named) (is : List Item) → first_unbuilt is ≡ None → All (λ (i : Item). SaidMeets readable i.said) is → All (IsAmong d) (mentioned is) → All (λ (i : Item). SaidMeets (among d) i.said) is
 items_among d [] h r m = All-nil (λ (i : Item). SaidMeets (among d) i.said)

@@ -22,6 +22,7 @@ use Rattle.dg_lower.specs.declared.forms.Zone.TheVariants.{Head, Body as InBody}
 use Rattle.dg_lower.proofs.MemberLemmas.{alone_there, firsts_have}
 use Rattle.dialog_tool.proofs.MentionedLemmas.{readable, Hold, both_hold, IsAmong}
 use Rattle.dialog_tool.proofs.RewrittenLemmas.{first_is_built}
+use Rattle.dialog_tool.proofs.Never.{never}
 
 -- ---- each name can be printed
 
@@ -55,7 +56,7 @@ mutual
   value_plain z (tree.tailed_list vs v) h r =
       let each = and_parts (are_values z vs) (is_value z v) h in
       both (of_values vs) (of_value v) (values_plain z vs each.0 r.0) (value_plain z v each.1 r.1)
-  value_plain z (tree.closure b) h r = cc
+  value_plain z (tree.closure b) h r = never h
   value_plain z (tree.nested ps) h r =
       let inner = and_parts _ _ h in
       let each = and_parts (is_asked (name_of ps) (builtin_named (name_of ps))) (are_parts z ps) inner.1 in
@@ -87,16 +88,16 @@ mutual
   stmt_plain z (tree.ask_not ps) h r = query_plain z ps h r
   stmt_plain z (tree.group b) h r = (tt, body_plain z b h r)
   stmt_plain z (tree.not_group b) h r = (tt, body_plain z b h r)
-  stmt_plain z (tree.now cs) h r = cc
+  stmt_plain z (tree.now cs) h r = never h
   stmt_plain z (tree.choice arms) h r = arms_plain z arms h r
   stmt_plain z (tree.choice_else arms b) h r =
       let each = and_parts (are_arms z arms) (is_body z b) h in
       both (of_arms arms) (of_body b) (arms_plain z arms each.0 r.0) (tt, body_plain z b each.1 r.1)
-  stmt_plain z (tree.exhaust s) h r = cc
-  stmt_plain z (tree.stoppable s) h r = cc
-  stmt_plain z (tree.collect v b into) h r = cc
-  stmt_plain z (tree.accumulate v b into) h r = cc
-  stmt_plain z (tree.select mode b) h r = cc
+  stmt_plain z (tree.exhaust s) h r = never h
+  stmt_plain z (tree.stoppable s) h r = never h
+  stmt_plain z (tree.collect v b into) h r = never h
+  stmt_plain z (tree.accumulate v b into) h r = never h
+  stmt_plain z (tree.select mode b) h r = never h
   stmt_plain z (tree.first_answer b) h r = (tt, body_plain z b (and_parts _ _ h).1 r)
 
   stmts_plain : (z : Zone) (ss : Stmts) → are_stmts z ss ≡ true → StmtsMeet readable ss → Plain (of_stmts ss)
@@ -128,8 +129,8 @@ item_plain : (said : Said) → is_item Head InBody said ≡ true → SaidMeets r
 item_plain (tree.topic n) h r = (r, tt)
 item_plain (tree.rule ps b) h r = rule_plain ps b h r
 item_plain (tree.deny ps b) h r = rule_plain ps b h r
-item_plain (tree.access ps b) h r = cc
-item_plain (tree.global_variable ps) h r = cc
+item_plain (tree.access ps b) h r = never h
+item_plain (tree.global_variable ps) h r = never h
 
 inside_plain : (m : Mention) → IsPlainMention m → All IsPlainMention (inside m)
 inside_plain (query ps) h = All-nil IsPlainMention

@@ -7,7 +7,9 @@ use Rattle.dg_base.specs.declared.run.Fault.TheVariants.{Read, Write}
 use Rattle.z_model.specs.declared.end.ZEnd.{ZEnd}
 use Rattle.z_model.specs.Run.{Run, zrun}
 use Rattle.z_model.specs.Closing.{transcript, with_end_line, input_fault_line}
-use Rattle.z_model.specs.Story.{story_run, world_of, start_state}
+use Rattle.dg_meaning.specs.Transcript.{no_memory_line}
+use Rattle.z_model.specs.declared.story.StoryRefusal.{StoryRefusal}
+use Rattle.z_model.specs.Story.{refusal_of, story_run, world_of, start_state}
 use Rattle.z_play.specs.Output as player
 use Rattle.z_play.specs.Played.{Plays, Shows, StoppedAt, InputFailed, OutputFailed, HasCauses}
 use Rattle.z_play.specs.Ready.{IsLoaded}
@@ -15,6 +17,9 @@ use Rattle.z_play.proofs.Lines.{print_cut}
 use Rattle.z_play.proofs.Written.{cut_whole}
 use Rattle.dialog_tool.specs.Answers.{Comes}
 use Rattle.dialog_tool.specs.Playing
+use Rattle.dialog_tool.proofs.Never.{not_some}
+use Rattle.dialog_tool.proofs.StatusLemmas.{late_isnt, late_neither, four_comes, four_isnt, four_neither, played_isnt}
+use Rattle.dialog_tool.proofs.StoryLemmas.{late_play}
 
 -- ---- what a sink took
 
@@ -138,3 +143,58 @@ comes_by result (Some typed) left' old new p (inl is) h = inl (h (inl is)).playe
 comes_by result (Some typed) left' old new p (inr (inl is)) h = inl (h (inr (inl is))).played.is_status
 comes_by result (Some typed) left' old new p (inr (inr (inl is))) h = inl (h (inr (inr is))).played.is_status
 comes_by result (Some typed) left' old new p (inr (inr (inr is))) h = inr (inl is)
+
+-- ---- what is answered
+
+-- a story was played
+pub played_answers : (b b' : ℕ) (left left' : Option (List ℕ)) (old new : base.SinkView) (p : Playing.Play) (result : ℕ) → refusal_of p.file ≡ None → (result ≡ 0) ⊎ ((result ≡ 3) ⊎ ((result ≡ 4) ⊎ (result ≡ 5)))
+    → ((result ≡ 0) ⊎ ((result ≡ 3) ⊎ (result ≡ 4)) → Playing.IsPlayed result left left' old new p)
+    → (result ≡ 5 → (Rose b b' × Playing.IsCutOff left left' old new p) ⊎ (Rose old.faults new.faults × Playing.LosesPlay left old new p)) → Playing.FileAnswers b b' left left' old new p result
+played_answers b b' left left' old new p result accepted statuses ran fault = record {
+  statuses = all statuses;
+  no_story = λ refusal refused. not_some (refusal_of p.file) refusal refused accepted;
+  story = λ is. inr (subst (λ (r : ℕ). Playing.IsPlayed r left left' old new p) is (ran (inr (inr is))));
+  ran = λ is. ran (early is);
+  plays = λ none. comes_by result left left' old new p statuses ran;
+  memory = λ is. played_isnt result 6 statuses is refl refl refl refl;
+  fault = λ is. lost (fault is);
+}
+  where
+    all : (result ≡ 0) ⊎ ((result ≡ 3) ⊎ ((result ≡ 4) ⊎ (result ≡ 5))) → (result ≡ 0) ⊎ ((result ≡ 3) ⊎ Comes 4 result)
+    all (inl e) = inl e
+    all (inr (inl e)) = inr (inl e)
+    all (inr (inr h)) = inr (inr (four_comes result h))
+
+    early : (result ≡ 0) ⊎ (result ≡ 3) → (result ≡ 0) ⊎ ((result ≡ 3) ⊎ (result ≡ 4))
+    early (inl e) = inl e
+    early (inr e) = inr (inl e)
+
+    lost : (Rose b b' × Playing.IsCutOff left left' old new p) ⊎ (Rose old.faults new.faults × Playing.LosesPlay left old new p) → (Rose b b' × Playing.IsCutOff left left' old new p) ⊎ ((Rose old.faults new.faults × Playing.LosesPlay left old new p) ⊎ base.BrokeOff old new no_memory_line)
+    lost (inl h) = inl h
+    lost (inr h) = inr (inl h)
+
+-- the file is no story
+pub refused_answers : (b b' : ℕ) (left left' : Option (List ℕ)) (old new : base.SinkView) (p : Playing.Play) (result : ℕ) (refusal : StoryRefusal) → refusal_of p.file ≡ Some refusal → (result ≡ 4) ⊎ (result ≡ 5)
+    → (result ≡ 4 → base.Wrote old new (Playing.story_line p.name refusal)) → (result ≡ 5 → base.BrokeOff old new (Playing.story_line p.name refusal)) → Playing.FileAnswers b b' left left' old new p result
+refused_answers b b' left left' old new p result refusal refused statuses line fault = record {
+  statuses = inr (inr (four_comes result statuses));
+  no_story = λ r k. four_comes result statuses;
+  story = λ is. inl (record { refusal = refusal; refused = refused; wrote = line is });
+  ran = λ is. four_neither result statuses is;
+  plays = λ none. not_some (refusal_of p.file) refusal refused none;
+  memory = λ is. four_isnt result 6 statuses is refl refl;
+  fault = λ is. let broke = fault is in inr (inl (broke.rose, Playing.in_line refusal refused broke));
+}
+
+-- no memory was found to load it
+pub unloaded_answers : (b b' : ℕ) (left left' : Option (List ℕ)) (old new : base.SinkView) (p : Playing.Play) (result : ℕ) → (result ≡ 5) ⊎ (result ≡ 6)
+    → (result ≡ 6 → base.Wrote old new no_memory_line) → (result ≡ 5 → base.BrokeOff old new no_memory_line) → Playing.FileAnswers b b' left left' old new p result
+unloaded_answers b b' left left' old new p result late memory fault = record {
+  statuses = inr (inr (inr late));
+  no_story = λ r k. inr late;
+  story = λ is. late_isnt result 4 late is refl refl;
+  ran = λ is. late_neither result late is;
+  plays = λ none. late_play left p result late;
+  memory = memory;
+  fault = λ is. inr (inr (fault is));
+}

@@ -21,6 +21,7 @@ use Rattle.dg_lower.specs.declared.forms.Zone.TheVariants.{Head, Body as InBody}
 use Rattle.dialog_tool.proofs.MentionedLemmas.{readable}
 use Rattle.dialog_tool.proofs.RewrittenLemmas.{first_is_built}
 use Rattle.dialog_tool.proofs.TextLemmas.{IsSpelled, name_from, WordsSpelled, head_named, choice_named}
+use Rattle.dialog_tool.proofs.Never.{never}
 
 -- the text of a token is spelled, but for that of a variable
 abbrev pub IsSpelledTok : Tok → Type 0
@@ -161,7 +162,7 @@ mutual
       let next = skip (λ u. u ≡ bar) (ValueAt (behind_bar (has_choices p)) v (TokenAt close_square K)) each.1.0 each.1.1.0 each.1.1.1 in
       let tail = value_read z (behind_bar (has_choices p)) v (TokenAt close_square K) next.0 built.1 next.1.0 next.1.1 in
       ((each.0, tail.0), skip (λ u. u ≡ close_square) K tail.1.0 tail.1.1.0 tail.1.1.1)
-  value_read z p (tree.closure x) K ts b s h = cc
+  value_read z p (tree.closure x) K ts b s h = never b
   value_read z p (tree.nested ps) K ts b s h =
       let inner = and_parts _ _ b in
       let built = and_parts (is_asked (name_of ps) (builtin_named (name_of ps))) (are_parts z ps) inner.1 in
@@ -222,7 +223,7 @@ mutual
       let first = skip (λ u. u ≡ open_brace) (BodyAt x (TokenAt close_brace K)) sign.0 sign.1.0 sign.1.1 in
       let inner = body_read z x (TokenAt close_brace K) first.0 b first.1.0 first.1.1 in
       (inner.0, skip (λ u. u ≡ close_brace) K inner.1.0 inner.1.1.0 inner.1.1.1)
-  stmt_read z (tree.now cs) K ts b s h = cc
+  stmt_read z (tree.now cs) K ts b s h = never b
   stmt_read z (tree.choice arms) K ts b s h =
       let each = arms_read z if_word arms (KeywordAt endif_word K) ts b s h.1 in
       (each.0, keyword_skip endif_word K each.1.0 each.1.1.0 each.1.1.1)
@@ -232,11 +233,11 @@ mutual
       let next = keyword_skip else_word (BodyAt x (KeywordAt endif_word K)) each.1.0 each.1.1.0 each.1.1.1 in
       let other = body_read z x (KeywordAt endif_word K) next.0 built.1 next.1.0 next.1.1 in
       ((each.0, other.0), keyword_skip endif_word K other.1.0 other.1.1.0 other.1.1.1)
-  stmt_read z (tree.exhaust x) K ts b s h = cc
-  stmt_read z (tree.stoppable x) K ts b s h = cc
-  stmt_read z (tree.collect v x into) K ts b s h = cc
-  stmt_read z (tree.accumulate v x into) K ts b s h = cc
-  stmt_read z (tree.select mode x) K ts b s h = cc
+  stmt_read z (tree.exhaust x) K ts b s h = never b
+  stmt_read z (tree.stoppable x) K ts b s h = never b
+  stmt_read z (tree.collect v x into) K ts b s h = never b
+  stmt_read z (tree.accumulate v x into) K ts b s h = never b
+  stmt_read z (tree.select mode x) K ts b s h = never b
   stmt_read z (tree.first_answer x) K ts b s h = absurd h
 
   stmts_read : (z : Zone) (xs : Stmts) (K : Follow) (ts : List Tok) → are_stmts z xs ≡ true → AreSpelled ts → StmtsAt xs K ts → StmtsMeet readable xs × Later K
@@ -293,14 +294,14 @@ clause_read sign ps x ts b s h =
 signed_read : (sign : Sign) (ps : Parts) (x : Body) (ts : List Tok) → is_item Head InBody (signed sign ps x) ≡ true → AreSpelled ts → ShapeAt (clause sign ps x) IsEnd ts → SaidMeets readable (signed sign ps x)
 signed_read plain_rule ps x ts b s h = clause_read plain_rule ps x ts b s h
 signed_read negated ps x ts b s h = clause_read negated ps x ts b s h
-signed_read access_rule ps x ts b s h = cc
+signed_read access_rule ps x ts b s h = never b
 
 shape_read : (shape : Shape) (ts : List Tok) → is_item Head InBody (said_of shape) ≡ true → AreSpelled ts → ShapeAt shape IsEnd ts → SaidMeets readable (said_of shape)
 shape_read (topic_line n) ts b s h = let t = one_off (λ u. u ≡ object n) IsEnd ts s h in name_from n (subst IsSpelledTok t.1.0 t.1.1)
 shape_read (clause sign ps x) ts b s h = here (is_declaration ps) b
   where
     here : (d : Bool) → is_item Head InBody (if d then declared ps else signed sign ps x) ≡ true → SaidMeets readable (if d then declared ps else signed sign ps x)
-    here true k = cc
+    here true k = never k
     here false k = signed_read sign ps x ts k s h
 
 split_spelled : (xs ys : List Seen) → AreSpelled (toks (xs ++ ys)) → AreSpelled (toks xs) × AreSpelled (toks ys)

@@ -1,5 +1,5 @@
 -- What is built in a source is built once its heads are plain.
-use Rattle.std.proofs.Common.{◌≡◌, ℕ, List, [], ◌∷◌, ◌++◌, ◌&&◌, ◌||◌, ◌+◌, Bool, true, false, Option, Some, None, refl, ◌∙◌, ap}
+use Rattle.std.proofs.Common.{◌≡◌, ℕ, List, [], ◌∷◌, ◌++◌, ◌&&◌, ◌||◌, ◌+◌, Bool, true, false, Option, Some, None, refl, sym, ◌∙◌, ap}
 use Rattle.std.specs.Prelude.{if◌then◌else◌}
 use Rattle.std.proofs.lemmas.Bool.{and_parts, and_from}
 use Rattle.dg_base.specs.Heads.{part_name, parts_behind, name_of}
@@ -12,6 +12,7 @@ use Rattle.dg_access.specs.Rewritten.{is_access, has_access}
 use Rattle.dg_lower.specs.Forms.{is_asked, are_parts, is_value, are_values, is_query, is_stmt, are_stmts, is_body, are_arms, is_rule, is_item, first_unbuilt, are_built}
 use Rattle.dg_lower.specs.declared.forms.Zone.{Zone}
 use Rattle.dg_lower.specs.declared.forms.Zone.TheVariants.{Head, Body as InBody, Rewritten}
+use Rattle.dialog_tool.proofs.Never.{never}
 
 -- a rule or a negated rule, and not a declaration
 abbrev pub IsPlain : Setting → Type 0
@@ -33,7 +34,7 @@ first_built (tree.part (tree.part_word w) ps) h = first_built ps h
 first_built (tree.part (tree.part_value v) ps) h = (and_parts (is_value Rewritten v) (are_parts Rewritten ps) h).0
 
 stands_built : (declares : Bool) (ps : Parts) → declares ≡ false → is_value Rewritten (first_value ps) ≡ true → is_value Rewritten (if declares then tree.nested ps else first_value ps) ≡ true
-stands_built true ps e h = cc
+stands_built true ps e h = never (sym e)
 stands_built false ps e h = h
 
 mutual
@@ -48,7 +49,7 @@ mutual
   value_built z c n (tree.tailed_list vs v) p h =
       let each = and_parts (are_values z vs) (is_value z v) h in
       both _ _ (values_built z c n vs p each.0) (value_built z c (n + new_in_values vs) v p each.1)
-  value_built z c n (tree.closure b) p h = cc
+  value_built z c n (tree.closure b) p h = never h
   value_built z c n (tree.nested ps) p h =
       let inner = and_parts _ _ h in
       let each = and_parts (is_asked (name_of ps) (builtin_named (name_of ps))) (are_parts z ps) inner.1 in
@@ -103,16 +104,16 @@ mutual
   stmt_built z c n (tree.ask_not ps) p h = query_built z c n ps p h
   stmt_built z c n (tree.group b) p h = body_built z c n b p h
   stmt_built z c n (tree.not_group b) p h = body_built z c n b p h
-  stmt_built z c n (tree.now cs) p h = cc
+  stmt_built z c n (tree.now cs) p h = never h
   stmt_built z c n (tree.choice arms) p h = arms_built z c n arms p h
   stmt_built z c n (tree.choice_else arms b) p h =
       let each = and_parts (are_arms z arms) (is_body z b) h in
       both _ _ (arms_built z c n arms p each.0) (body_built z c (n + new_in_arms arms) b p each.1)
-  stmt_built z c n (tree.exhaust s) p h = cc
-  stmt_built z c n (tree.stoppable s) p h = cc
-  stmt_built z c n (tree.collect v b into) p h = cc
-  stmt_built z c n (tree.accumulate v b into) p h = cc
-  stmt_built z c n (tree.select mode b) p h = cc
+  stmt_built z c n (tree.exhaust s) p h = never h
+  stmt_built z c n (tree.stoppable s) p h = never h
+  stmt_built z c n (tree.collect v b into) p h = never h
+  stmt_built z c n (tree.accumulate v b into) p h = never h
+  stmt_built z c n (tree.select mode b) p h = never h
   stmt_built z c n (tree.first_answer b) p h = body_built z c n b p (and_parts _ _ h).1
 
   stmts_built : (z : Zone) (c : Setting) (n : ℕ) (ss : Stmts) → IsPlain c → are_stmts z ss ≡ true → are_stmts Rewritten (plain_stmts c n ss) ≡ true
@@ -208,8 +209,8 @@ item_built : (t : Option (List ℕ)) (said : Said) → is_item Head InBody said 
 item_built t (tree.topic n) h = refl
 item_built t (tree.rule ps b) h = rule_built Head InBody (in_rule t (tree.rule ps b)) ps b refl h
 item_built t (tree.deny ps b) h = rule_built Head InBody (in_rule t (tree.deny ps b)) ps b refl h
-item_built t (tree.access ps b) h = cc
-item_built t (tree.global_variable ps) h = cc
+item_built t (tree.access ps b) h = never h
+item_built t (tree.global_variable ps) h = never h
 
 -- each item before the end is built
 pub first_is_built : (i : Item) (is : List Item) → first_unbuilt (i ∷ is) ≡ None → (is_item Head InBody i.said ≡ true) × (first_unbuilt is ≡ None)
@@ -234,5 +235,5 @@ none_accesses (i ∷ is) h = let each = first_is_built i is h in here i.said eac
     here (tree.topic n) k rest = rest
     here (tree.rule ps b) k rest = rest
     here (tree.deny ps b) k rest = rest
-    here (tree.access ps b) k rest = cc
+    here (tree.access ps b) k rest = never k
     here (tree.global_variable ps) k rest = rest

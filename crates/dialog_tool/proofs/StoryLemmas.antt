@@ -1,6 +1,6 @@
 -- From the answers on one file to those of the call.
 use Rattle.std.proofs.Common.{◌≡◌, ◌<◌, ◌⊎◌, inl, inr, ℕ, List, length, Option, Some, None, Bool, true, refl, subst, arith}
-use Rattle.std.specs.Prelude.{nat_lt}
+use Rattle.std.specs.Prelude.{nat_lt, IsTrue, IsSome}
 use Rattle.std.proofs.lemmas.Bool.Decides.{nat_tests}
 use Rattle.dg_base.specs.Causes.{Rose}
 use Rattle.dg_base.specs.Shelves.{Told, held, WhereTold}
@@ -27,6 +27,23 @@ too_long file more = let test : nat_lt 524288 (length file) ≡ true = grind (ar
 pub at_long : (told : Told) (name : List ℕ) (steps : ℕ) (dice : List ℕ) (P : Playing.Play → Type 0) → WhereTold told (λ contents. 524288 < length (held (contents name))) → ((file : List ℕ) → refusal_of file ≡ Some BadLength → P (Playing.as_played name steps dice file)) → Playing.AtFile told name steps dice P
 at_long None name steps dice P more h = tt
 at_long (Some contents) name steps dice P more h = h (held (contents name)) (too_long (held (contents name)) more)
+
+pub file_ends : (told : Told) (left left' : Option (List ℕ)) (old new : SinkView) (name : List ℕ) (steps : ℕ) (dice file : List ℕ) → WhereTold told (λ contents. file ≡ held (contents name))
+    → Playing.IsNoStory old new (Playing.as_played name steps dice file) ⊎ Playing.IsPlayed 4 left left' old new (Playing.as_played name steps dice file)
+    → Playing.AtFile told name steps dice (λ p. Playing.IsNoStory old new p ⊎ Playing.IsPlayed 4 left left' old new p)
+file_ends told left left' old new name steps dice file is h = at_file told name steps dice file (λ p. Playing.IsNoStory old new p ⊎ Playing.IsPlayed 4 left left' old new p) is h
+
+-- this holds of whatever is played
+pub told_of : (told : Told) (name : List ℕ) (steps : ℕ) (dice : List ℕ) (P : Playing.Play → Type 0) → ((p : Playing.Play) → P p) → Playing.AtFile told name steps dice P
+told_of None name steps dice P h = tt
+told_of (Some contents) name steps dice P h = h (Playing.as_played name steps dice (held (contents name)))
+
+-- the shelf failed, and its line may have been lost
+pub shelf_fails : (told : Told) (sure : Bool) (a a' b b' : ℕ) (left left' : Option (List ℕ)) (old new : SinkView) (name : List ℕ) (steps : ℕ) (dice : List ℕ) → Rose a a' → (IsTrue sure → WhereTold told (λ contents. IsSome (contents name) → ⊥))
+    → Wrote old new (Answers.file_fault_line name) ⊎ BrokeOff old new (Answers.file_fault_line name)
+    → Playing.PlayFails told sure a a' b b' left left' old new name steps dice
+shelf_fails told sure a a' b b' left left' old new name steps dice rose missing (inl h) = Playing.shelf rose missing h
+shelf_fails told sure a a' b b' left left' old new name steps dice rose missing (inr h) = Playing.shelf_line h
 
 pub file_fails : (told : Told) (sure : Bool) (a a' b b' : ℕ) (left left' : Option (List ℕ)) (old new : SinkView) (name : List ℕ) (steps : ℕ) (dice file : List ℕ) → WhereTold told (λ contents. file ≡ held (contents name))
     → (Rose b b' × Playing.IsCutOff left left' old new (Playing.as_played name steps dice file)) ⊎ ((Rose old.faults new.faults × Playing.LosesPlay left old new (Playing.as_played name steps dice file)) ⊎ BrokeOff old new no_memory_line)
@@ -56,6 +73,17 @@ at_story command told handed name steps own P is h = subst (λ (c : Option Comma
 
 pub if_story : (command : Option Command) (told : Told) (handed name : List ℕ) (steps : ℕ) (own : Option (List ℕ)) (P : Playing.Play → Type 0) → Some (play name steps own) ≡ command → Playing.AtFile told name steps (Playing.thrown own handed) P → Playing.IfStory command told handed P
 if_story command told handed name steps own P is h = subst (λ (c : Option Command). Playing.IfStory c told handed P) is h
+
+pub story_ends : (command : Option Command) (told : Told) (handed name : List ℕ) (steps : ℕ) (own : Option (List ℕ)) (left left' : Option (List ℕ)) (old new : SinkView) → Some (play name steps own) ≡ command
+    → Playing.AtFile told name steps (Playing.thrown own handed) (λ p. Playing.IsNoStory old new p ⊎ Playing.IsPlayed 4 left left' old new p)
+    → Playing.AtStory command told handed (λ p. Playing.IsNoStory old new p ⊎ Playing.IsPlayed 4 left left' old new p)
+story_ends command told handed name steps own left left' old new is h = at_story command told handed name steps own (λ p. Playing.IsNoStory old new p ⊎ Playing.IsPlayed 4 left left' old new p) is h
+
+pub at_debug : (command : Option Command) (told : Told) (name : List ℕ) (limits : Limits) (P : List ℕ → Limits → List ℕ → Type 0) → Some (debug name limits) ≡ command → Answers.AtSource (Some (debug name limits)) told P → Answers.AtSource command told P
+at_debug command told name limits P is h = subst (λ (c : Option Command). Answers.AtSource c told P) is h
+
+pub if_debug : (command : Option Command) (told : Told) (name : List ℕ) (limits : Limits) (P : List ℕ → Limits → List ℕ → Type 0) → Some (debug name limits) ≡ command → Answers.IfSource (Some (debug name limits)) told P → Answers.IfSource command told P
+if_debug command told name limits P is h = subst (λ (c : Option Command). Answers.IfSource c told P) is h
 
 pub story_fails : (command : Option Command) (told : Told) (sure : Bool) (a a' b b' : ℕ) (left left' : Option (List ℕ)) (handed : List ℕ) (old new : SinkView) (name : List ℕ) (steps : ℕ) (own : Option (List ℕ)) → Some (play name steps own) ≡ command
     → Playing.PlayFails told sure a a' b b' left left' old new name steps (Playing.thrown own handed)

@@ -1,5 +1,5 @@
 -- The answers of the program, one by one: hold them against the table of statuses in man/dialog.1.
-use Rattle.std.specs.Prelude.{◌≡◌, ◌⊎◌, ℕ, List, ◌++◌, Option, Some, None, Bool, IsTrue, IsSome, Ok, Err, codes, decimal}
+use Rattle.std.specs.Prelude.{◌≡◌, ◌≤◌, ◌⊎◌, ℕ, List, ◌++◌, Option, Some, None, Bool, IsTrue, IsSome, Ok, Err, codes, decimal}
 use Rattle.dg_base.specs.Causes.{Rose}
 use Rattle.dg_base.specs.Shelves.{Told, held, WhereTold}
 use Rattle.dg_base.specs.Written.{SinkView, Wrote, BrokeOff}
@@ -187,3 +187,24 @@ pub record SourceLostMemory (left : Option (List ℕ)) (dice : List ℕ) (old ne
   pub text : List ℕ
   pub is : (text ≡ no_memory_line) ⊎ ShowsSome left dice text name limits source
   pub wrote : Wrote old new text
+
+-- what is answered once a source was fetched: each status with what holds there, and which statuses a refused source and a program have
+pub record SourceAnswers (b b' : ℕ) (left left_behind : Option (List ℕ)) (dice : List ℕ) (old new : SinkView) (name : List ℕ) (limits : Limits) (source : List ℕ) (result : ℕ) : Type 0 where
+  pub statuses : (result ≡ 0) ⊎ ((result ≡ 1) ⊎ Comes 3 result)
+  pub refused : result ≡ 1 → IsRefused old new name limits source
+  pub refuses : (r : Refusal) → Compiles source (Err r) → Comes 1 result
+  pub ran : (result ≡ 0) ⊎ (result ≡ 3) → IsRun result left left_behind dice old new name limits source
+  pub runs : (p : Core) → Compiles source (Ok p) → (result ≡ 0) ⊎ Comes 3 result
+  pub memory : result ≡ 6 → SourceLostMemory left dice old new name limits source
+  pub fault : result ≡ 5 → SourceLostInput b b' left left_behind dice old new name limits source ⊎ SourceLostOutput left dice old new name limits source
+  pub later : b ≤ b'
+
+-- what is answered where the words run a source
+pub record DebugAnswers (command : Option Command) (told : Told) (sure : Bool) (a a' b b' : ℕ) (left left_behind : Option (List ℕ)) (dice : List ℕ) (old new : SinkView) (result : ℕ) : Type 0 where
+  pub statuses : (result ≡ 0) ⊎ ((result ≡ 1) ⊎ Comes 3 result)
+  pub refused : result ≡ 1 → AtSource command told (IsRefused old new)
+  pub refuses : IfSource command told (λ name limits source. (r : Refusal) → Compiles source (Err r) → Comes 1 result)
+  pub ran : (result ≡ 0) ⊎ (result ≡ 3) → AtSource command told (IsRun result left left_behind dice old new)
+  pub runs : IfSource command told (λ name limits source. (p : Core) → Compiles source (Ok p) → (result ≡ 0) ⊎ Comes 3 result)
+  pub memory : result ≡ 6 → NoMemory command told left dice old new
+  pub fault : result ≡ 5 → ShelfFailed command told sure a a' old new ⊎ (InputFailed command told b b' left left_behind dice old new ⊎ OutFailed command told left dice old new)

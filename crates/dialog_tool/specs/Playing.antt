@@ -1,5 +1,5 @@
 -- The answers of the command play: hold the statuses against man/dialog.1, the texts against docs/REFUSALS.md, and what a run is against docs/STORIES.md.
-use Rattle.std.specs.Prelude.{◌≡◌, ℕ, List, ◌++◌, Option, Some, None, Bool, IsTrue, IsSome, codes}
+use Rattle.std.specs.Prelude.{◌≡◌, ◌⊎◌, ℕ, List, ◌++◌, Option, Some, None, Bool, IsTrue, IsSome, codes}
 use Rattle.dg_base.specs.Causes.{Rose}
 use Rattle.dg_base.specs.Shelves.{Told, held, WhereTold}
 use Rattle.dg_base.specs.Written.{SinkView, Wrote, BrokeOff}
@@ -12,7 +12,7 @@ use Rattle.z_model.specs.Story.{refusal_of, text_of_story, story_run, world_of, 
 use Rattle.z_play.specs.Played.{StoppedAt}
 use Rattle.dg_meaning.specs.Transcript.{no_memory_line}
 use Rattle.dialog_tool.specs.Command.{Command, debug, play}
-use Rattle.dialog_tool.specs.Answers.{file_fault_line}
+use Rattle.dialog_tool.specs.Answers.{Comes, file_fault_line}
 
 -- ---- lines
 
@@ -138,6 +138,16 @@ pub record StoryOutFailed (command : Option Command) (told : Told) (left : Optio
   pub lost : AtStory command told handed (LosesPlay left old new)
 
 -- ---- one file
+
+-- what is answered once a file was fetched: each status with what holds there, and which statuses a file that is no story and a story have
+pub record FileAnswers (b b' : ℕ) (left left_behind : Option (List ℕ)) (old new : SinkView) (p : Play) (result : ℕ) : Type 0 where
+  pub statuses : (result ≡ 0) ⊎ ((result ≡ 3) ⊎ Comes 4 result)
+  pub no_story : (refusal : StoryRefusal) → refusal_of p.file ≡ Some refusal → Comes 4 result
+  pub story : result ≡ 4 → IsNoStory old new p ⊎ IsPlayed 4 left left_behind old new p
+  pub ran : (result ≡ 0) ⊎ (result ≡ 3) → IsPlayed result left left_behind old new p
+  pub plays : refusal_of p.file ≡ None → WhereTyped left (λ typed. Comes (status_of_end (run_of p typed p.steps).end) result)
+  pub memory : result ≡ 6 → Wrote old new no_memory_line
+  pub fault : result ≡ 5 → (Rose b b' × IsCutOff left left_behind old new p) ⊎ ((Rose old.faults new.faults × LosesPlay left old new p) ⊎ BrokeOff old new no_memory_line)
 
 -- what may have failed where a file is played: the shelf, out within a line of the tool, the input, or out within the rest
 pub data PlayFails (told : Told) (sure : Bool) (a a' b b' : ℕ) (left left_behind : Option (List ℕ)) (old new : SinkView) (name : List ℕ) (steps : ℕ) (dice : List ℕ) : Type 0 where

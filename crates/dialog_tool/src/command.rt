@@ -50,37 +50,39 @@ fn is_file_name(name: &str) -> bool
     }
 }
 
-// A word, where there was none before.
-fn once<'a>(before: Option<&'a str>, word: &'a str) -> Option<Option<&'a str>>
-    ensures { option_map (option_map (λ v. v.now)) result ≡ spec.once (option_map (λ w. w.now) before.entry) word.now }
-{
-    match before {
-        None => Some(Some(word)),
-        Some(_) => None,
-    }
-}
-
-// One more option with its word.
+// One more option with its word, where there was none before.
 fn with_option<'a>(values: Values<'a>, option: &String, word: &'a str) -> Option<Values<'a>>
     ensures { option_map values_view result ≡ spec.with_option (values_view values.entry) (string_bytes option.now) word.now }
 {
     match option.as_str() {
-        "--steps" => {
-            let steps = once(values.steps, word)?;
-            Some(Values { steps, ..values })
-        }
-        "--heap" => {
-            let heap = once(values.heap, word)?;
-            Some(Values { heap, ..values })
-        }
-        "--trail" => {
-            let trail = once(values.trail, word)?;
-            Some(Values { trail, ..values })
-        }
-        "--dice" => {
-            let dice = once(values.dice, word)?;
-            Some(Values { dice, ..values })
-        }
+        "--steps" => match values.steps {
+            None => Some(Values {
+                steps: Some(word),
+                ..values
+            }),
+            Some(_) => None,
+        },
+        "--heap" => match values.heap {
+            None => Some(Values {
+                heap: Some(word),
+                ..values
+            }),
+            Some(_) => None,
+        },
+        "--trail" => match values.trail {
+            None => Some(Values {
+                trail: Some(word),
+                ..values
+            }),
+            Some(_) => None,
+        },
+        "--dice" => match values.dice {
+            None => Some(Values {
+                dice: Some(word),
+                ..values
+            }),
+            Some(_) => None,
+        },
         _ => None,
     }
 }
@@ -91,10 +93,10 @@ fn values_behind<'a>(values: Values<'a>, options: &'a [String]) -> Option<Values
 {
     match options {
         [] => Some(values),
-        [option, word, others @ ..] => {
-            let more = with_option(values, option, word.as_str())?;
-            values_behind(more, others)
-        }
+        [option, word, others @ ..] => match with_option(values, option, word.as_str()) {
+            Some(more) => values_behind(more, others),
+            None => None,
+        },
         _ => None,
     }
 }

@@ -6,7 +6,7 @@ ghost use Rattle.z_model.specs.Story.{refusal_of};
 ghost use Rattle.dialog_tool.specs.Command.{texts, command_of, debug as debug_command};
 ghost use Rattle.dialog_tool.specs.Source.{Compiles, refusal_at};
 ghost use Rattle.dg_meaning.specs.Built.{IsBuilt};
-ghost use Rattle.dialog_tool.specs.Answers.{status_of, Shown, LostInput, LostMemory, LostOutput, SourceLostInput, SourceLostOutput, SourceLostMemory, Comes, AtSource, IfSource, IsUsage, IsRefused, IsRun, ShelfFailed, InputFailed, OutFailed, NoMemory};
+ghost use Rattle.dialog_tool.specs.Answers.{status_of, Shown, LostInput, LostMemory, LostOutput, SourceAnswers, DebugAnswers, Comes, AtSource, IfSource, IsUsage, IsRefused, IsRun, ShelfFailed, InputFailed, OutFailed, NoMemory};
 ghost use Rattle.dialog_tool.specs.Playing.{status_of_end, AtStory, IfStory, WhereTyped, run_of, IsNoStory, IsPlayed, StoryInputFailed, StoryOutFailed};
 
 use crate::command::{Command, command_of};
@@ -72,17 +72,8 @@ fn run_source<S: Source, K: Sink>(
     dice: &[u16],
     out: &mut K,
 ) -> u8
-    requires dice { 0 < length dice.now }
-    ensures statuses { (result ≡ 0) ⊎ ((result ≡ 1) ⊎ Comes 3 result) }
-    ensures refused { result ≡ 1 → IsRefused (view (K.taken out.old) (K.room out.old) (K.faults out.old)) (view (K.taken out.new) (K.room out.new) (K.faults out.new)) name.now limits source.now }
-    ensures refuses { (r : _) → Compiles source.now (Err r) → Comes 1 result }
-    ensures ran { (result ≡ 0) ⊎ (result ≡ 3) → IsRun result (S.left input.old) (S.left input.new) dice.now (view (K.taken out.old) (K.room out.old) (K.faults out.old)) (view (K.taken out.new) (K.room out.new) (K.faults out.new)) name.now limits source.now }
-    ensures runs { (p : _) → Compiles source.now (Ok p) → (result ≡ 0) ⊎ Comes 3 result }
-    ensures memory { result ≡ 6 → SourceLostMemory (S.left input.old) dice.now (view (K.taken out.old) (K.room out.old) (K.faults out.old)) (view (K.taken out.new) (K.room out.new) (K.faults out.new)) name.now limits source.now }
-    ensures fault { result ≡ 5 →
-        SourceLostInput (S.faults input.old) (S.faults input.new) (S.left input.old) (S.left input.new) dice.now (view (K.taken out.old) (K.room out.old) (K.faults out.old)) (view (K.taken out.new) (K.room out.new) (K.faults out.new)) name.now limits source.now
-        ⊎ SourceLostOutput (S.left input.old) dice.now (view (K.taken out.old) (K.room out.old) (K.faults out.old)) (view (K.taken out.new) (K.room out.new) (K.faults out.new)) name.now limits source.now }
-    ensures later { S.faults input.old ≤ S.faults input.new }
+    requires { 0 < length dice.now }
+    ensures { SourceAnswers (S.faults input.old) (S.faults input.new) (S.left input.old) (S.left input.new) dice.now (view (K.taken out.old) (K.room out.old) (K.faults out.old)) (view (K.taken out.new) (K.room out.new) (K.faults out.new)) name.now limits source.now result }
 {
     match compile(alloc, source) {
         Ok(program) => run_program(alloc, &program, limits, input, dice, out),
@@ -92,7 +83,6 @@ fn run_source<S: Source, K: Sink>(
 }
 
 // Fetches, reads and runs a source.
-#[tactic(auto, using(crate::proofs::SourceLemmas::too_long))]
 fn debug<F: Shelf, S: Source, K: Sink>(
     alloc: Global,
     name: &str,
@@ -103,16 +93,7 @@ fn debug<F: Shelf, S: Source, K: Sink>(
     out: &mut K,
 ) -> u8
     requires { 0 < length dice.now }
-    ensures statuses { (result ≡ 0) ⊎ ((result ≡ 1) ⊎ Comes 3 result) }
-    ensures refused { result ≡ 1 → AtSource (Some (debug_command name.now limits)) (F.contents shelf.old) (IsRefused (view (K.taken out.old) (K.room out.old) (K.faults out.old)) (view (K.taken out.new) (K.room out.new) (K.faults out.new))) }
-    ensures refuses { IfSource (Some (debug_command name.now limits)) (F.contents shelf.old) (λ name limits source. (r : _) → Compiles source (Err r) → Comes 1 result) }
-    ensures ran { (result ≡ 0) ⊎ (result ≡ 3) → AtSource (Some (debug_command name.now limits)) (F.contents shelf.old) (IsRun result (S.left input.old) (S.left input.new) dice.now (view (K.taken out.old) (K.room out.old) (K.faults out.old)) (view (K.taken out.new) (K.room out.new) (K.faults out.new))) }
-    ensures runs { IfSource (Some (debug_command name.now limits)) (F.contents shelf.old) (λ name limits source. (p : _) → Compiles source (Ok p) → (result ≡ 0) ⊎ Comes 3 result) }
-    ensures memory { result ≡ 6 → NoMemory (Some (debug_command name.now limits)) (F.contents shelf.old) (S.left input.old) dice.now (view (K.taken out.old) (K.room out.old) (K.faults out.old)) (view (K.taken out.new) (K.room out.new) (K.faults out.new)) }
-    ensures fault { result ≡ 5 →
-        ShelfFailed (Some (debug_command name.now limits)) (F.contents shelf.old) (F.sure shelf.old) (F.faults shelf.old) (F.faults shelf.new) (view (K.taken out.old) (K.room out.old) (K.faults out.old)) (view (K.taken out.new) (K.room out.new) (K.faults out.new))
-        ⊎ (InputFailed (Some (debug_command name.now limits)) (F.contents shelf.old) (S.faults input.old) (S.faults input.new) (S.left input.old) (S.left input.new) dice.now (view (K.taken out.old) (K.room out.old) (K.faults out.old)) (view (K.taken out.new) (K.room out.new) (K.faults out.new))
-        ⊎ OutFailed (Some (debug_command name.now limits)) (F.contents shelf.old) (S.left input.old) dice.now (view (K.taken out.old) (K.room out.old) (K.faults out.old)) (view (K.taken out.new) (K.room out.new) (K.faults out.new))) }
+    ensures answers { DebugAnswers (Some (debug_command name.now limits)) (F.contents shelf.old) (F.sure shelf.old) (F.faults shelf.old) (F.faults shelf.new) (S.faults input.old) (S.faults input.new) (S.left input.old) (S.left input.new) dice.now (view (K.taken out.old) (K.room out.old) (K.faults out.old)) (view (K.taken out.new) (K.room out.new) (K.faults out.new)) result }
     ensures kept { KeepsAll (F.contents shelf.old) (F.contents shelf.new) }
 {
     match shelf.fetch(alloc, name, MOST_BYTES) {

@@ -8,7 +8,7 @@ ghost use Rattle.dg_meaning.specs.Transcript.{no_memory_line};
 ghost use Rattle.z_model.specs.Story.{refusal_of, text_of_story};
 ghost use Rattle.z_play.specs.Ready.{IsLoaded};
 ghost use Rattle.dialog_tool.specs.Answers.{Comes};
-ghost use Rattle.dialog_tool.specs.Playing.{story_line, status_of_end, thrown, as_played, AtFile, WhereTyped, run_of, IsNoStory, IsPlayed, IsCutOff, LosesPlay, PlayFails};
+ghost use Rattle.dialog_tool.specs.Playing.{story_line, status_of_end, thrown, as_played, AtFile, WhereTyped, run_of, IsNoStory, IsPlayed, IsCutOff, LosesPlay, PlayFails, FileAnswers};
 
 use crate::lines::{DONE, FAULT, LIMIT, STORY, file_fault, no_memory};
 use dg_base::{Shelf, ShelfFault, Sink, Source, write_both};
@@ -95,18 +95,7 @@ fn play_file<S: Source, K: Sink>(
     out: &mut K,
 ) -> u8
     requires { 0 < length dice.now }
-    ensures statuses { (result ≡ 0) ⊎ ((result ≡ 3) ⊎ Comes 4 result) }
-    ensures no_story { (refusal : _) → refusal_of file.items ≡ Some refusal → Comes 4 result }
-    ensures story { result ≡ 4 →
-        IsNoStory (view (K.taken out.old) (K.room out.old) (K.faults out.old)) (view (K.taken out.new) (K.room out.new) (K.faults out.new)) (as_played name.now steps dice.now file.items)
-        ⊎ IsPlayed 4 (S.left input.old) (S.left input.new) (view (K.taken out.old) (K.room out.old) (K.faults out.old)) (view (K.taken out.new) (K.room out.new) (K.faults out.new)) (as_played name.now steps dice.now file.items) }
-    ensures ran { (result ≡ 0) ⊎ (result ≡ 3) → IsPlayed result (S.left input.old) (S.left input.new) (view (K.taken out.old) (K.room out.old) (K.faults out.old)) (view (K.taken out.new) (K.room out.new) (K.faults out.new)) (as_played name.now steps dice.now file.items) }
-    ensures plays { refusal_of file.items ≡ None → WhereTyped (S.left input.old) (λ typed. Comes (status_of_end (run_of (as_played name.now steps dice.now file.items) typed steps).end) result) }
-    ensures memory { result ≡ 6 → Wrote (view (K.taken out.old) (K.room out.old) (K.faults out.old)) (view (K.taken out.new) (K.room out.new) (K.faults out.new)) no_memory_line }
-    ensures fault { result ≡ 5 →
-        (Rose (S.faults input.old) (S.faults input.new) × IsCutOff (S.left input.old) (S.left input.new) (view (K.taken out.old) (K.room out.old) (K.faults out.old)) (view (K.taken out.new) (K.room out.new) (K.faults out.new)) (as_played name.now steps dice.now file.items))
-        ⊎ ((Rose (K.faults out.old) (K.faults out.new) × LosesPlay (S.left input.old) (view (K.taken out.old) (K.room out.old) (K.faults out.old)) (view (K.taken out.new) (K.room out.new) (K.faults out.new)) (as_played name.now steps dice.now file.items))
-        ⊎ BrokeOff (view (K.taken out.old) (K.room out.old) (K.faults out.old)) (view (K.taken out.new) (K.room out.new) (K.faults out.new)) no_memory_line) }
+    ensures { FileAnswers (S.faults input.old) (S.faults input.new) (S.left input.old) (S.left input.new) (view (K.taken out.old) (K.room out.old) (K.faults out.old)) (view (K.taken out.new) (K.room out.new) (K.faults out.new)) (as_played name.now steps dice.now file.items) result }
 {
     match Player::load(alloc, file) {
         Ok(player) => {

@@ -7,6 +7,7 @@ ghost use Rattle.dg_base.specs.Sound.{IsSound};
 ghost use Rattle.dg_base.specs.TreeView.{tree_view};
 ghost use Rattle.dg_lower.specs.Forms.{first_unbuilt};
 ghost use Rattle.dg_meaning.specs.Built.{IsBuilt};
+ghost use Rattle.dg_names.specs.Counts.{IsNamed};
 ghost use Rattle.dg_names.specs.State.{names_view};
 ghost use Rattle.dialog_tool.specs.Source.{IsProgram, Compiles, program_of, refusal_at};
 
@@ -27,6 +28,9 @@ fn not_built(line: u32) -> ReadFault
     })
 }
 
+// A function of its own, since each place that lets go of names is proved field by field.
+fn let_go(_names: Names) {}
+
 // The core program of a tree whose forms are all built.
 fn built_program(alloc: Global, tree: Tree, names: Names) -> Result<CoreProgram, ReadFault>
     requires { first_unbuilt (tree_view tree) ≡ None }
@@ -34,13 +38,31 @@ fn built_program(alloc: Global, tree: Tree, names: Names) -> Result<CoreProgram,
     ensures built { IfOk result IsBuilt }
     ensures refused { IfErr result (IsFault (λ r. IsRewritten (tree_view tree) (Err r) ⊎ ((plain : List Item) × IsRewritten (tree_view tree) (Ok plain) × (Err r ≡ program_of (names_view names) plain)))) }
 {
-    let plain = match rewrite(alloc, tree, &names) {
-        Ok(plain) => plain,
+    match rewrite(alloc, tree, &names) {
+        Ok(plain) => lower(alloc, plain, names),
+        Err(fault) => {
+            let_go(names);
+            Err(fault)
+        }
+    }
+}
+
+// The names of a tree whose forms are all built.
+fn names_of(alloc: Global, tree: &Tree) -> Result<Names, ReadFault>
+    ensures named { IfOk result (λ names. IsNamed (tree_view tree.now) (Ok (names_view names))) }
+    ensures built { IfOk result (λ _. first_unbuilt (tree_view tree.now) ≡ None) }
+    ensures refused { IfErr result (IsFault (λ r. IsProgram (tree_view tree.now) (Err r))) }
+{
+    let names = match Names::of(alloc, tree) {
+        Ok(names) => names,
         Err(fault) => return Err(fault),
     };
-    match lower(alloc, plain, names) {
-        Ok(program) => Ok(program),
-        Err(fault) => Err(fault),
+    match first_unbuilt(tree) {
+        None => Ok(names),
+        Some(line) => {
+            let_go(names);
+            Err(not_built(line))
+        }
     }
 }
 
@@ -50,14 +72,9 @@ fn program_of(alloc: Global, tree: Tree) -> Result<CoreProgram, ReadFault>
     ensures built { IfOk result IsBuilt }
     ensures refused { IfErr result (IsFault (λ r. IsProgram (tree_view tree) (Err r))) }
 {
-    let names = match Names::of(alloc, &tree) {
-        Ok(names) => names,
-        Err(fault) => return Err(fault),
-    };
-    match first_unbuilt(alloc, &tree) {
-        Ok(None) => built_program(alloc, tree, names),
-        Ok(Some(line)) => Err(not_built(line)),
-        Err(_) => Err(ReadFault::OutOfMemory),
+    match names_of(alloc, &tree) {
+        Ok(names) => built_program(alloc, tree, names),
+        Err(fault) => Err(fault),
     }
 }
 
@@ -76,8 +93,5 @@ pub fn compile(alloc: Global, source: &[u8]) -> Result<CoreProgram, ReadFault>
         Ok(tree) => tree,
         Err(fault) => return Err(fault),
     };
-    match program_of(alloc, tree) {
-        Ok(program) => Ok(program),
-        Err(fault) => Err(fault),
-    }
+    program_of(alloc, tree)
 }

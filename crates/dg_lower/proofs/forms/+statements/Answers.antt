@@ -13,9 +13,6 @@ are_arms-loop-arm-init t c = grind (arith, steps)
 pub are_arms-loop-arm-preserved : goal.are_arms-loop-arm-preserved
 are_arms-loop-arm-preserved t c = grind (arith, steps)
 
-pub are_arms-returns-then-not-branch : goal.are_arms-returns-then-not-branch
-are_arms-returns-then-not-branch t c = grind (arith, steps)
-
 pub are_arms-returns : goal.are_arms-returns
 are_arms-returns t c = grind (arith, steps)
 
@@ -24,9 +21,6 @@ are_stmts-loop-stmt-init t c = grind (arith, steps)
 
 pub are_stmts-loop-stmt-preserved : goal.are_stmts-loop-stmt-preserved
 are_stmts-loop-stmt-preserved t c = grind (arith, steps)
-
-pub are_stmts-returns-then-not-branch : goal.are_stmts-returns-then-not-branch
-are_stmts-returns-then-not-branch t c = grind (arith, steps)
 
 pub are_stmts-returns : goal.are_stmts-returns
 are_stmts-returns t c = grind (arith, steps)
@@ -37,14 +31,8 @@ is_body-loop-branch-init t c = grind (arith, steps)
 pub is_body-loop-branch-preserved : goal.is_body-loop-branch-preserved
 is_body-loop-branch-preserved t c = grind (arith, steps)
 
-pub is_body-returns-then-not-branch : goal.is_body-returns-then-not-branch
-is_body-returns-then-not-branch t c = grind (arith, steps)
-
 pub is_body-returns : goal.is_body-returns
 is_body-returns t c = grind (arith, steps)
-
-pub is_stmt-returns-else-not-is_rewritten : goal.is_stmt-returns-else-not-is_rewritten
-is_stmt-returns-else-not-is_rewritten t c = grind (arith, forms)
 
 pub is_stmt-returns-in-Ask : goal.is_stmt-returns-in-Ask
 is_stmt-returns-in-Ask t c = grind (arith, forms)
@@ -76,5 +64,20 @@ is_stmt-returns-in-Print t c = grind (arith, forms)
 pub is_stmt-returns-in-Text : goal.is_stmt-returns-in-Text
 is_stmt-returns-in-Text t c = grind (arith, forms)
 
-pub is_stmt-returns-then-not-is_rewritten : goal.is_stmt-returns-then-not-is_rewritten
-is_stmt-returns-then-not-is_rewritten t c = grind (arith, forms)
+pub are_arms-returns-then-not-is_body : goal.are_arms-returns-then-not-is_body
+are_arms-returns-then-not-is_body t c = grind (arith, steps)
+
+pub are_stmts-returns-then-not-is_stmt : goal.are_stmts-returns-then-not-is_stmt
+are_stmts-returns-then-not-is_stmt t c = grind (arith, steps)
+
+pub is_body-returns-then-not-are_stmts : goal.is_body-returns-then-not-are_stmts
+is_body-returns-then-not-are_stmts t c = grind (arith, steps)
+
+pub is_stmt-returns-then-is_rewritten : goal.is_stmt-returns-then-is_rewritten
+is_stmt-returns-then-is_rewritten t c = grind (arith, forms)
+
+pub is_stmt-returns-else-is_rewritten : goal.is_stmt-returns-else-is_rewritten
+is_stmt-returns-else-is_rewritten t c = grind (arith, forms)
+
+pub is_stmt-returns-else-are_arms : goal.is_stmt-returns-else-are_arms
+is_stmt-returns-else-are_arms t c = grind (arith, forms)

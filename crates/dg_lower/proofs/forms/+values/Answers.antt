@@ -13,9 +13,6 @@ are_parts-loop-part-init t c = grind (arith, steps)
 pub are_parts-loop-part-preserved : goal.are_parts-loop-part-preserved
 are_parts-loop-part-preserved t c = grind (arith, steps)
 
-pub are_parts-returns-then-not-branch : goal.are_parts-returns-then-not-branch
-are_parts-returns-then-not-branch t c = grind (arith, steps)
-
 pub are_parts-returns : goal.are_parts-returns
 are_parts-returns t c = grind (arith, steps)
 
@@ -25,14 +22,8 @@ are_values-loop-value-init t c = grind (arith, steps)
 pub are_values-loop-value-preserved : goal.are_values-loop-value-preserved
 are_values-loop-value-preserved t c = grind (arith, steps)
 
-pub are_values-returns-then-not-branch : goal.are_values-returns-then-not-branch
-are_values-returns-then-not-branch t c = grind (arith, steps)
-
 pub are_values-returns : goal.are_values-returns
 are_values-returns t c = grind (arith, steps)
-
-pub is_nested-returns-then-not-is_head : goal.is_nested-returns-then-not-is_head
-is_nested-returns-then-not-is_head t c = grind (arith, forms)
 
 pub is_value-returns-in-Closure : goal.is_value-returns-in-Closure
 is_value-returns-in-Closure t c = grind (arith, forms)
@@ -49,9 +40,6 @@ is_value-returns-in-Num-4 t c = grind (arith, forms)
 pub is_value-returns-in-Num : goal.is_value-returns-in-Num
 is_value-returns-in-Num t c = grind (arith, forms)
 
-pub is_value-returns-in-Query : goal.is_value-returns-in-Query
-is_value-returns-in-Query t c = grind (arith, forms)
-
 pub is_value-returns-in-Topic-2 : goal.is_value-returns-in-Topic-2
 is_value-returns-in-Topic-2 t c = grind (arith, forms)
 
@@ -60,3 +48,24 @@ is_value-returns-in-Topic t c = grind (arith, forms)
 
 pub is_value-returns-in-Words : goal.is_value-returns-in-Words
 is_value-returns-in-Words t c = grind (arith, forms)
+
+pub are_parts-returns-then-not-is_value : goal.are_parts-returns-then-not-is_value
+are_parts-returns-then-not-is_value t c = grind (arith, steps)
+
+pub are_values-returns-then-not-is_value : goal.are_values-returns-then-not-is_value
+are_values-returns-then-not-is_value t c = grind (arith, steps)
+
+pub is_value-returns-then-is_head : goal.is_value-returns-then-is_head
+is_value-returns-then-is_head t c = grind (arith, forms)
+
+pub is_value-returns-else-is_head : goal.is_value-returns-else-is_head
+is_value-returns-else-is_head t c = grind (arith, forms)
+
+pub is_query-returns-then-is_asked : goal.is_query-returns-then-is_asked
+is_query-returns-then-is_asked t c = grind (arith, forms)
+
+pub is_query-returns-else-is_asked : goal.is_query-returns-else-is_asked
+is_query-returns-else-is_asked t c = grind (arith, forms)
+
+pub is_value-returns-else-are_values : goal.is_value-returns-else-are_values
+is_value-returns-else-are_values t c = grind (arith, forms)

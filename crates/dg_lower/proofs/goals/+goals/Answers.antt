@@ -41,12 +41,6 @@ add_stmt-returns-in-Ask t c = grind (arith, forms)
 pub add_stmt-returns-in-Text : goal.add_stmt-returns-in-Text
 add_stmt-returns-in-Text t c = grind (arith, forms)
 
-pub add_stmt-returns-in_ok-goals_of-in-First : goal.add_stmt-returns-in_ok-goals_of-in-First
-add_stmt-returns-in_ok-goals_of-in-First t c = grind (arith, forms)
-
-pub add_stmt-returns-in_ok-goals_of-in-NotGroup : goal.add_stmt-returns-in_ok-goals_of-in-NotGroup
-add_stmt-returns-in_ok-goals_of-in-NotGroup t c = grind (arith, forms)
-
 pub add_stmt-returns-in-AskNot : goal.add_stmt-returns-in-AskNot
 add_stmt-returns-in-AskNot t c = grind (arith, forms)
 
@@ -62,18 +56,6 @@ add_stmts-loop-stmt-preserved t c = grind (arith, steps)
 pub add_stmts-returns : goal.add_stmts-returns
 add_stmts-returns t c = grind (arith, steps)
 
-pub choice-loop-at-init : goal.choice-loop-at-init
-choice-loop-at-init t c = grind (arith, steps)
-
-pub choice-loop-at-preserved : goal.choice-loop-at-preserved
-choice-loop-at-preserved t c = grind (arith, steps)
-
-pub choice-overflow_step-at : goal.choice-overflow_step-at
-choice-overflow_step-at t c = grind (arith, forms)
-
-pub choice-returns : goal.choice-returns
-choice-returns t c = grind (arith, steps)
-
 pub goals_of-returns : goal.goals_of-returns
 goals_of-returns t c = grind (arith, steps)
 
@@ -85,3 +67,27 @@ lists_of-loop-branch-preserved t c = grind (arith, steps)
 
 pub lists_of-returns : goal.lists_of-returns
 lists_of-returns t c = grind (arith, steps)
+
+pub add_choice-loop-at-init : goal.add_choice-loop-at-init
+add_choice-loop-at-init t c = grind (arith, steps)
+
+pub add_choice-loop-at-preserved : goal.add_choice-loop-at-preserved
+add_choice-loop-at-preserved t c = grind (arith, steps)
+
+pub add_choice-returns : goal.add_choice-returns
+add_choice-returns t c = grind (arith, steps)
+
+pub add_choice-overflow_step-at : goal.add_choice-overflow_step-at
+add_choice-overflow_step-at t c = grind (arith, forms)
+
+pub add_stmt-returns-in-NotGroup : goal.add_stmt-returns-in-NotGroup
+add_stmt-returns-in-NotGroup t c = grind (arith, forms)
+
+pub add_stmt-returns-in-First : goal.add_stmt-returns-in-First
+add_stmt-returns-in-First t c = grind (arith, forms)
+
+pub add_negated-returns : goal.add_negated-returns
+add_negated-returns t c = grind (arith, forms)
+
+pub add_once-returns : goal.add_once-returns
+add_once-returns t c = grind (arith, forms)

@@ -11,5 +11,5 @@ invariant-add_stmts-loop-stmt l = l.goals ++ spec.goals_of (scope_view l.scope) 
 abbrev pub invariant-lists_of-loop-branch : goal.invariant-lists_of-loop-branch
 invariant-lists_of-loop-branch l = l.lists ++ spec.lists (scope_view l.scope) (branches_view (map (map stmt_view) (drop l.branch-index l.branch-items))) ≡ spec.lists (scope_view l.scope) (body_view l.body)
 
-abbrev pub invariant-choice-loop-at : goal.invariant-choice-loop-at
-invariant-choice-loop-at l = l.goals ≡ spec.arm_goals (scope_view l.scope) (arms_of (map arm_view (drop l.at l.arms))) l.initial.goals
+abbrev pub invariant-add_choice-loop-at : goal.invariant-add_choice-loop-at
+invariant-add_choice-loop-at l = l.choice ≡ spec.arm_goals (scope_view l.scope) (arms_of (map arm_view (drop l.at l.arms))) l.initial.choice

@@ -6,6 +6,6 @@ use Rattle.dg_lower.proofs.variables.firsts.Goals as goal
 
 pub returns : goal.returns
 returns c =
-    c.in_ok-add_names.ensures
+    c.in_ok-add_names.ensures.names
     ∙ ap (λ (found : List (Bor (List ℕ))). with_names (seen found) (seen c.args.names.now)) c.new-found.ensures.items
     ∙ firsts_of (seen c.args.names.now)

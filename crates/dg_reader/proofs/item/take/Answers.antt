@@ -12,8 +12,9 @@ returns-clause-weighed c =
     let old = stack_view c.args.reading.now.stack.items in
     let new = stack_view c.step.new.stack.items in
     let u = token_view c.args.token.now in
+    let refused : c.adds_refused-refused.result ≡ nat_lt 0 (token_weight refused_weight 0 u (stack_view c.deref.result.now)) = c.adds_refused-refused.ensures in
     let topic : c.adds_topic-topic.result ≡ nat_lt 0 (token_weight no_weight 1 u (stack_view c.deref-2.result.now)) = c.adds_topic-topic.ensures in
     record {
-      refused = weighed_on refused_weight 0 u old (stack_view c.deref.result.now) new _ _ (ap stack_view c.deref.ensures.value) c.in_ok-step.ensures c.requires.refused c.in_ok-refused.ensures.value;
+      refused = weighed_on refused_weight 0 u old (stack_view c.deref.result.now) new _ _ (ap stack_view c.deref.ensures.value) c.in_ok-step.ensures c.requires.refused refused;
       topic = weighed_on no_weight 1 u old (stack_view c.deref-2.result.now) new _ _ (ap stack_view c.deref-2.ensures.value) c.in_ok-step.ensures c.requires.topic topic;
     }

@@ -6,6 +6,4 @@ use Rattle.dg_reader.proofs.Queries.{no_keyword}
 use Rattle.dg_reader.proofs.weights.is_refused_query.Goals as goal
 
 pub returns : goal.returns
-returns c = record {
-  value = no_keyword (keyword_of (tree.parts_of (map part_view c.args.parts.now))) (tree.parts_of (map part_view c.args.parts.now)) c.in_ok-refused.refused (sym c.if-is_keyword.false ∙ c.is_keyword.ensures) c.in_ok-refused.ensures.value;
-}
+returns c = no_keyword (keyword_of (tree.parts_of (map part_view c.args.parts.now))) (tree.parts_of (map part_view c.args.parts.now)) c.is_refused_name.result (sym c.if-is_keyword.false ∙ c.is_keyword.ensures) c.is_refused_name.ensures

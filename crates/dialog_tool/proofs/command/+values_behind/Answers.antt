@@ -3,8 +3,8 @@ use Rattle.dialog_tool.specs.CommandView.{values_view}
 use Rattle.dialog_tool.proofs.OptionLemmas.{two_more}
 use Rattle.dialog_tool.proofs.command.+values_behind.Goals as goal
 
-pub returns-in_ok-more-in-len2-up : goal.returns-in_ok-more-in-len2-up
-returns-in_ok-more-in-len2-up t c =
+pub returns-in-Some : goal.returns-in-Some
+returns-in-Some t c =
     c.values_behind.ensures
-    ∙ two_more (values_view c.args.values) (values_view c.in_ok-more-in-len2-up.more) c.args.options.now c.option-item.result c.word-item.result c.in-len2-up.len_at_least c.option-item.is c.word-item.is
-    (rw (sym c.as_str.ensures.value) c.in_ok-more-in-len2-up.ensures)
+    ∙ two_more (values_view c.args.values) (values_view c.in-Some.more) c.args.options.now c.option-item.result c.word-item.result c.in-len2-up.len_at_least c.option-item.is c.word-item.is
+    (rw (sym c.as_str.ensures.value) c.in-Some.ensures)

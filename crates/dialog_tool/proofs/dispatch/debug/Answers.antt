@@ -1,37 +1,24 @@
-use Rattle.std.proofs.Common.{◌≡◌, ◌⊎◌, List, ℕ, Ok, Err, refl, sym, subst}
+use Rattle.std.proofs.Common.{◌≡◌, List, ℕ, refl, sym, subst}
 use Rattle.dg_base.specs.Shelves.{WhereTold, held}
-use Rattle.dialog_tool.specs.Source.{Compiles}
-use Rattle.dialog_tool.specs.Answers.{Comes}
-use Rattle.dialog_tool.proofs.AnswerLemmas.{if_source, source_faults, file_faults, long_refused, long_faults}
+use Rattle.dialog_tool.proofs.AnswerLemmas.{fetched_answers, long_answers, failed_answers, unfetched_answers}
 use Rattle.dialog_tool.proofs.dispatch.debug.Goals as goal
 
-pub returns-in-Ok-clause-refuses : goal.returns-in-Ok-clause-refuses
-returns-in-Ok-clause-refuses g c =
-    if_source (g.F.Shelf.contents c.args.shelf.now) c.args.name.now c.args.limits c.deref.result.now (λ name limits source. (r : _) → Compiles source (Err r) → Comes 1 c.run_source.result)
-    (subst (λ (l : List ℕ). WhereTold (g.F.Shelf.contents c.args.shelf.now) (λ told. l ≡ held (told c.args.name.now))) (sym c.deref.ensures.value) c.in-Ok.ensures.bytes) c.run_source.ensures.refuses
+pub returns-in-Ok-clause-answers : goal.returns-in-Ok-clause-answers
+returns-in-Ok-clause-answers g c =
+    fetched_answers (g.F.Shelf.contents c.args.shelf.now) _ _ _ _ _ (g.S.Source.left c.args.input.now) _ _ _ _ c.args.name.now c.args.limits c.deref.result.now c.run_source.result
+    (subst (λ (l : List ℕ). WhereTold (g.F.Shelf.contents c.args.shelf.now) (λ told. l ≡ held (told c.args.name.now))) (sym c.deref.ensures.value) c.in-Ok.ensures.bytes) c.run_source.ensures
 
-pub returns-in-Ok-clause-runs : goal.returns-in-Ok-clause-runs
-returns-in-Ok-clause-runs g c =
-    if_source (g.F.Shelf.contents c.args.shelf.now) c.args.name.now c.args.limits c.deref.result.now (λ name limits source. (p : _) → Compiles source (Ok p) → (c.run_source.result ≡ 0) ⊎ Comes 3 c.run_source.result)
-    (subst (λ (l : List ℕ). WhereTold (g.F.Shelf.contents c.args.shelf.now) (λ told. l ≡ held (told c.args.name.now))) (sym c.deref.ensures.value) c.in-Ok.ensures.bytes) c.run_source.ensures.runs
+pub returns-in-Err-TooLong-clause-answers : goal.returns-in-Err-TooLong-clause-answers
+returns-in-Err-TooLong-clause-answers g c =
+    let long = rw c.in-Err-TooLong.field-0-is at c.in-Err-TooLong.ensures.too_long in
+    long_answers (g.F.Shelf.contents c.args.shelf.now) _ _ _ _ _ (g.S.Source.left c.args.input.now) _ _ _ _ c.args.name.now c.args.limits c.refuse.result c.too_long.result c.too_long.ensures (long refl) c.refuse.ensures.statuses c.refuse.ensures.line c.refuse.ensures.memory c.refuse.ensures.fault
 
-pub returns-in-Ok-clause-fault : goal.returns-in-Ok-clause-fault
-returns-in-Ok-clause-fault g c = λ is.
-    source_faults (g.F.Shelf.contents c.args.shelf.now) _ _ _ _ _ (g.S.Source.left c.args.input.now) _ _ _ _ c.args.name.now c.args.limits c.deref.result.now
-    (subst (λ (l : List ℕ). WhereTold (g.F.Shelf.contents c.args.shelf.now) (λ told. l ≡ held (told c.args.name.now))) (sym c.deref.ensures.value) c.in-Ok.ensures.bytes) (c.run_source.ensures.fault is)
-
-pub returns-in-Err-Failed-clause-fault : goal.returns-in-Err-Failed-clause-fault
-returns-in-Err-Failed-clause-fault g c =
+pub returns-in-Err-Failed-clause-answers : goal.returns-in-Err-Failed-clause-answers
+returns-in-Err-Failed-clause-answers g c =
     let failed = rw c.in-Err-Failed.field-0-is at c.in-Err-Failed.ensures.failed in
     let missing = rw c.in-Err-Failed.field-0-is at c.in-Err-Failed.ensures.sure in
-    λ is. file_faults (g.F.Shelf.contents c.args.shelf.now) (g.F.Shelf.sure c.args.shelf.now) _ _ _ _ _ _ _ _ _ c.args.name.now c.args.limits (failed refl) (λ sure. missing sure refl) c.file_fault.ensures.line
+    failed_answers (g.F.Shelf.contents c.args.shelf.now) (g.F.Shelf.sure c.args.shelf.now) _ _ _ _ (g.S.Source.left c.args.input.now) _ _ _ _ c.args.name.now c.args.limits c.file_fault.result c.file_fault.ensures.statuses (failed refl) (λ sure. missing sure refl) c.file_fault.ensures.line
 
-pub returns-in-Err-TooLong-clause-refused : goal.returns-in-Err-TooLong-clause-refused
-returns-in-Err-TooLong-clause-refused g c = λ is.
-    let long = rw c.in-Err-TooLong.field-0-is at c.in-Err-TooLong.ensures.too_long in
-    long_refused (g.F.Shelf.contents c.args.shelf.now) c.args.name.now c.args.limits _ _ c.too_long.result c.too_long.ensures (long refl) (c.refuse.ensures.line is)
-
-pub returns-in-Err-TooLong-clause-fault : goal.returns-in-Err-TooLong-clause-fault
-returns-in-Err-TooLong-clause-fault g c = λ is.
-    let long = rw c.in-Err-TooLong.field-0-is at c.in-Err-TooLong.ensures.too_long in
-    long_faults (g.F.Shelf.contents c.args.shelf.now) _ _ _ _ _ (g.S.Source.left c.args.input.now) _ _ _ _ c.args.name.now c.args.limits c.too_long.result c.too_long.ensures (long refl) (c.refuse.ensures.fault is)
+pub returns-in-Err-OutOfMemory-clause-answers : goal.returns-in-Err-OutOfMemory-clause-answers
+returns-in-Err-OutOfMemory-clause-answers g c =
+    unfetched_answers (g.F.Shelf.contents c.args.shelf.now) (g.F.Shelf.sure c.args.shelf.now) _ _ _ _ (g.S.Source.left c.args.input.now) _ _ _ _ c.args.name.now c.args.limits c.no_memory.result c.no_memory.ensures.statuses c.no_memory.ensures.line c.no_memory.ensures.fault
