@@ -19,3 +19,4 @@ mod DistinctLemmas
 pub mod Told
 pub mod Queries
 pub mod Stops
+pub mod Innermost

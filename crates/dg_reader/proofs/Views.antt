@@ -1,13 +1,18 @@
 -- Branches are seen one by one, and keywords wait in order.
-use Rattle.std.proofs.Common.{◌≡◌, List, [], ◌∷◌, ◌++◌, map, refl, sym, ◌∙◌, ap}
+use Rattle.std.proofs.Common.{◌≡◌, ℕ, Bool, List, [], ◌∷◌, ◌++◌, map, refl, sym, ◌∙◌, ap}
 use Rattle.std.proofs.lemmas.List.{map-append}
 use Rattle.dg_reader.specs.Machine as machine
 use Rattle.dg_reader.specs.Frames.{wrapper_view}
 use Rattle.dg_reader.specs.declared.frames.Wrapper.{Wrapper}
 use Rattle.std.proofs.lemmas.Simd.{map-map}
 use Rattle.dg_base.specs.Tree as tree
-use Rattle.dg_base.specs.TreeView.{stmt_view, branch_view}
+use Rattle.dg_base.specs.TreeView.{part_view, value_view, stmt_view, branch_view, part_step, stmt_step, value_step, arm_step, body_step, head_step, change_step}
+use Rattle.dg_base.specs.declared.tree.Part.{fold-roll-Part}
+use Rattle.dg_base.specs.declared.tree.Part.TheVariants as code_part
+use Rattle.dg_base.specs.declared.tree.Part.TheOpen.{Part-F, Value-F}
 use Rattle.dg_base.specs.declared.tree.Stmt.{Stmt}
+use Rattle.dg_base.specs.declared.tree.Value.{Value, fold-roll-Value}
+use Rattle.dg_base.specs.declared.tree.Value.TheVariants as code_value
 
 pub each_branch : (bs : List (List Stmt)) → map (λ ss. tree.stmts_of ss) (map (λ ss. map stmt_view ss) bs) ≡ map branch_view bs
 each_branch bs = simp map-map
@@ -22,3 +27,13 @@ wrapped_from xs ys w s e =
     sym (wrapped-last (map wrapper_view ys) (wrapper_view w) s)
     ∙ ap (λ (l : List machine.Wrapper). machine.wrapped l s) (sym (map-append wrapper_view ys (w ∷ [])))
     ∙ ap (λ (l : List Wrapper). machine.wrapped (map wrapper_view l) s) (sym e)
+
+-- What the tree has for a word, for a value among parts, and for the topic.
+pub word_seen : (w : List ℕ) → part_view (code_part.Word w) ≡ tree.part_word w
+word_seen w = ap part_view (sym (code_part.rolls-Word w)) ∙ fold-roll-Part tree.Part tree.Stmt tree.Value (tree.Body × tree.Body) tree.Body tree.Parts (tree.Parts × Bool) part_step stmt_step value_step arm_step body_step head_step change_step (Part-F.Part::Word w)
+
+pub value_seen : (v : Value) → part_view (code_part.Value v) ≡ tree.part_value (value_view v)
+value_seen v = ap part_view (sym (code_part.rolls-Value v)) ∙ fold-roll-Part tree.Part tree.Stmt tree.Value (tree.Body × tree.Body) tree.Body tree.Parts (tree.Parts × Bool) part_step stmt_step value_step arm_step body_step head_step change_step (Part-F.Value v)
+
+pub topic_seen : value_view code_value.Topic ≡ tree.current_topic
+topic_seen = ap value_view (sym code_value.rolls-Topic) ∙ fold-roll-Value tree.Part tree.Stmt tree.Value (tree.Body × tree.Body) tree.Body tree.Parts (tree.Parts × Bool) part_step stmt_step value_step arm_step body_step head_step change_step Value-F.Topic
