@@ -20,3 +20,4 @@ pub mod Told
 pub mod Queries
 pub mod Stops
 pub mod Innermost
+pub mod SignLemmas

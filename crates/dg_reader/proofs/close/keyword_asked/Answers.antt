@@ -1,5 +1,8 @@
-use Rattle.std.proofs.Common.{arith}
+use Rattle.std.proofs.Common.{◌≡◌}
+use Rattle.dg_reader.specs.declared.frames.Asking.TheVariants.{ForOne}
 use Rattle.dg_reader.proofs.close.keyword_asked.Goals as goal
 
 pub returns-in-ForOne : goal.returns-in-ForOne
-returns-in-ForOne c = grind arith
+returns-in-ForOne c =
+    let one : c.args.asking ≡ ForOne = cc in
+    rw one c.put_keyword.ensures
