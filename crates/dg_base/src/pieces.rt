@@ -33,13 +33,6 @@ fn last<T>(waiting: &mut Option<Items<T>>) -> Option<T> {
     }
 }
 
-fn unboxed<T>(value: Option<Boxed<T>>) -> Option<T> {
-    match value {
-        Some(value) => Some(value.into_inner()),
-        None => None,
-    }
-}
-
 impl Pieces {
     /// Nothing.
     pub fn new() -> Pieces {
@@ -79,21 +72,21 @@ impl Pieces {
 
     // A list without its elements, and then its tail, which may be one.
     pub fn add_value(&mut self, value: Value) {
-        let mut next = Some(value);
+        let mut tail = self.take_value(value);
         for _ in 0..u64::MAX {
-            match next {
-                Some(value) => next = self.take_value(value),
+            match tail {
+                Some(value) => tail = self.take_value(value.into_inner()),
                 None => return,
             }
         }
     }
 
     // Takes a value apart but for its tail.
-    fn take_value(&mut self, value: Value) -> Option<Value> {
+    fn take_value(&mut self, value: Value) -> Option<Boxed<Value>> {
         match value {
             Value::List(values, tail) => {
                 self.add_values(values);
-                return unboxed(tail);
+                return tail;
             }
             Value::Closure(body) => self.add_body(body),
             Value::Query(head) => self.add_head(head),
@@ -115,19 +108,19 @@ impl Pieces {
     }
 
     pub fn add_stmt(&mut self, stmt: Stmt) {
-        let mut next = Some(stmt);
+        let mut inner = self.take_stmt(stmt);
         for _ in 0..u64::MAX {
-            match next {
-                Some(stmt) => next = self.take_stmt(stmt),
+            match inner {
+                Some(stmt) => inner = self.take_stmt(stmt.into_inner()),
                 None => return,
             }
         }
     }
 
     // Takes a statement apart but for one that it is in front of.
-    fn take_stmt(&mut self, stmt: Stmt) -> Option<Stmt> {
+    fn take_stmt(&mut self, stmt: Stmt) -> Option<Boxed<Stmt>> {
         match stmt {
-            Stmt::Exhaust(inner) | Stmt::Stoppable(inner) => return Some(inner.into_inner()),
+            Stmt::Exhaust(inner) | Stmt::Stoppable(inner) => return Some(inner),
             Stmt::Text(_word) => {}
             Stmt::Print(value) => self.add_value(value),
             Stmt::Ask(head) | Stmt::AskAll(head) | Stmt::AskNot(head) => self.add_head(head),
