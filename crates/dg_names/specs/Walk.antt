@@ -9,8 +9,6 @@ use Rattle.dg_names.specs.declared.work.Event.{Event}
 use Rattle.dg_names.specs.declared.work.Event.TheVariants as event
 use Rattle.dg_names.specs.declared.work.Work.{Work}
 use Rattle.dg_names.specs.declared.work.Work.TheVariants as work
-use Rattle.dg_names.specs.declared.work.Then.{Then}
-use Rattle.dg_names.specs.declared.work.Then.TheVariants as then
 
 -- What a walk meets: a mention, or the beginning or the end of a closure.
 pub data Met : Type 0 where
@@ -54,13 +52,6 @@ walk_of (work.Body b) = walk (of_body (body_view b.now))
 walk_of (work.Branches bs) = walk (of_branches (branches_view (map (map stmt_view) bs.now)))
 walk_of (work.Arms arms) = walk (of_arms (arms_of (map arm_view arms.now)))
 walk_of (work.Changes cs) = walk (of_changes (changes_of (map change_view cs.now)))
-
--- What is mentioned in what comes next.
-abbrev pub walk_then : Then → List Met
-walk_then then.Nothing = []
-walk_then (then.One v) = walk_of v
-walk_then (then.Two v w) = walk_of v ++ walk_of w
-walk_then (then.Three u v w) = walk_of u ++ (walk_of v ++ walk_of w)
 
 -- All that is left, the last of it being looked at first.
 abbrev pub left_of : List Work → List Met
@@ -144,13 +135,6 @@ size_of (work.Branches bs) = branches_size (branches_view (map (map stmt_view) b
 size_of (work.Arms arms) = arms_size (arms_of (map arm_view arms.now))
 size_of (work.Changes cs) = changes_size (changes_of (map change_view cs.now))
 
--- How much is left in what comes next.
-abbrev pub size_then : Then → ℕ
-size_then then.Nothing = 0
-size_then (then.One v) = size_of v
-size_then (then.Two v w) = size_of v + size_of w
-size_then (then.Three u v w) = size_of u + (size_of v + size_of w)
-
 abbrev pub total : List Work → ℕ
 total [] = 0
 total (w ∷ ws) = size_of w + total ws
@@ -160,17 +144,12 @@ abbrev pub is_met : Work → Bool
 is_met (work.Met e) = true
 is_met w = false
 
--- What meets this and is so large comes to this, which is smaller.
-pub record IsThen (meets : List Met) (much : ℕ) (next : Then) : Type 0 where
-  pub walk : walk_then next ≡ meets
-  pub size : size_then next < much
+-- What meets this and is so large was taken apart, and put on what was left.
+pub record IsPut (meets : List Met) (much : ℕ) (old new : List Work) : Type 0 where
+  pub walk : left_of new ≡ meets ++ left_of old
+  pub size : total new < much + total old
 
--- This was looked at, and comes to this, which is smaller unless it is met.
-pub record IsLook (work : Work) (next : Then) : Type 0 where
-  pub walk : walk_then next ≡ walk_of work
-  pub size : is_met work ≡ false → size_then next < size_of work
-
--- This was put on what was left.
-pub record IsPut (next : Then) (old new : List Work) : Type 0 where
-  pub walk : left_of new ≡ walk_then next ++ left_of old
-  pub size : total new ≡ size_then next + total old
+-- This was looked at, and put on what was left: what it comes to is smaller unless it is met.
+pub record IsLook (work : Work) (old new : List Work) : Type 0 where
+  pub walk : left_of new ≡ walk_of work ++ left_of old
+  pub size : is_met work ≡ false → total new < size_of work + total old

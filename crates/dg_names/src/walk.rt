@@ -1,42 +1,74 @@
 // A walk through a tree, in the order in which its parts stand there.
-ghost use Rattle.std.specs.Prelude.{◌≡◌, ◌++◌, [], map, OnOk, IfOk, IfNone};
+ghost use Rattle.std.specs.Prelude.{◌≡◌, ◌+◌, ◌≤◌, ◌++◌, ◌∷◌, [], map, vec_len, vec_capacity, OnOk, IfOk, IfNone};
 ghost use Rattle.std.specs.Option.{option_map};
 ghost use Rattle.dg_base.specs.Tree.{parts_of, values_of, stmts_of, arms_of, changes_of};
 ghost use Rattle.dg_base.specs.TreeView.{part_view, value_view, stmt_view, arm_view, body_view, change_view, branches_view, list_view, choice_view, said_view};
 ghost use Rattle.dg_names.specs.Mentions.{of_parts, of_value, of_values, of_words, of_stmt, of_stmts, of_branches, of_arms, of_changes, of_said};
-ghost use Rattle.dg_names.specs.Walk.{walk, walk_then, left_of, happened, parts_size, value_size, values_size, words_size, stmt_size, stmts_size, branches_size, arms_size, changes_size, IsThen, IsLook, IsPut};
+ghost use Rattle.dg_names.specs.Walk.{walk, left_of, happened, parts_size, value_size, values_size, words_size, stmt_size, stmts_size, branches_size, arms_size, changes_size, IsPut, IsLook};
 
-use crate::work::{Event, Then, Work};
+use crate::work::{Event, Work};
 use dg_base::{Arm, Body, Boxed, ItemBody, Items, Name, NowChange, Part, Stmt, Value};
 use std::alloc::AllocError;
 
-fn take_parts<'a>(parts: &'a [Part]) -> Then<'a>
-    ensures { IsThen (walk (of_parts (parts_of (map part_view parts.now)))) (parts_size (parts_of (map part_view parts.now))) result }
+// How much a part of the tree comes to at most.
+const MOST: usize = 3;
+
+// Puts on what is left, which has room for it, what comes next. The last of what is left is looked at first.
+fn put_one<'a>(left: &mut Vec<Work<'a>>, next: Work<'a>)
+    requires { vec_len left.old + 3 ≤ vec_capacity left.old }
+    ensures { left.new.items ≡ left.old.items ++ next.entry ∷ [] }
+{
+    left.push_reserved(next);
+}
+
+fn put_two<'a>(left: &mut Vec<Work<'a>>, first: Work<'a>, second: Work<'a>)
+    requires { vec_len left.old + 3 ≤ vec_capacity left.old }
+    ensures { left.new.items ≡ left.old.items ++ second.entry ∷ first.entry ∷ [] }
+{
+    left.push_reserved(second);
+    left.push_reserved(first);
+}
+
+fn put_three<'a>(left: &mut Vec<Work<'a>>, first: Work<'a>, second: Work<'a>, third: Work<'a>)
+    requires { vec_len left.old + 3 ≤ vec_capacity left.old }
+    ensures { left.new.items ≡ left.old.items ++ third.entry ∷ second.entry ∷ first.entry ∷ [] }
+{
+    left.push_reserved(third);
+    left.push_reserved(second);
+    left.push_reserved(first);
+}
+
+fn take_parts<'a>(left: &mut Vec<Work<'a>>, parts: &'a [Part])
+    requires { vec_len left.old + 3 ≤ vec_capacity left.old }
+    ensures { IsPut (walk (of_parts (parts_of (map part_view parts.now)))) (parts_size (parts_of (map part_view parts.now))) left.old.items left.new.items }
 {
     match parts {
-        [] => Then::Nothing,
+        [] => {}
         [first, others @ ..] => match first {
-            Part::Word(_) => Then::One(Work::Parts(others)),
-            Part::Value(value) => Then::Two(Work::Value(value), Work::Parts(others)),
+            Part::Word(_) => put_one(left, Work::Parts(others)),
+            Part::Value(value) => put_two(left, Work::Value(value), Work::Parts(others)),
         },
     }
 }
 
-fn take_values<'a>(values: &'a [Value]) -> Then<'a>
-    ensures { IsThen (walk (of_values (values_of (map value_view values.now)))) (values_size (values_of (map value_view values.now))) result }
+fn take_values<'a>(left: &mut Vec<Work<'a>>, values: &'a [Value])
+    requires { vec_len left.old + 3 ≤ vec_capacity left.old }
+    ensures { IsPut (walk (of_values (values_of (map value_view values.now)))) (values_size (values_of (map value_view values.now))) left.old.items left.new.items }
 {
     match values {
-        [] => Then::Nothing,
-        [first, others @ ..] => Then::Two(Work::Value(first), Work::Values(others)),
+        [] => {}
+        [first, others @ ..] => put_two(left, Work::Value(first), Work::Values(others)),
     }
 }
 
-fn take_words<'a>(words: &'a [Name]) -> Then<'a>
-    ensures { IsThen (walk (of_words words.now)) (words_size words.now) result }
+fn take_words<'a>(left: &mut Vec<Work<'a>>, words: &'a [Name])
+    requires { vec_len left.old + 3 ≤ vec_capacity left.old }
+    ensures { IsPut (walk (of_words words.now)) (words_size words.now) left.old.items left.new.items }
 {
     match words {
-        [] => Then::Nothing,
-        [word, others @ ..] => Then::Two(
+        [] => {}
+        [word, others @ ..] => put_two(
+            left,
             Work::Met(Event::Word(word.as_slice())),
             Work::Words(others),
         ),
@@ -44,59 +76,74 @@ fn take_words<'a>(words: &'a [Name]) -> Then<'a>
 }
 
 // A list, its elements coming before its tail.
-fn take_list<'a>(values: &'a [Value], tail: &'a Option<Boxed<Value>>) -> Then<'a>
-    ensures { IsThen (walk (of_value (list_view (map value_view values.now) (option_map value_view tail.now)))) (value_size (list_view (map value_view values.now) (option_map value_view tail.now))) result }
+fn take_list<'a>(left: &mut Vec<Work<'a>>, values: &'a [Value], tail: &'a Option<Boxed<Value>>)
+    requires { vec_len left.old + 3 ≤ vec_capacity left.old }
+    ensures { IsPut (walk (of_value (list_view (map value_view values.now) (option_map value_view tail.now)))) (value_size (list_view (map value_view values.now) (option_map value_view tail.now))) left.old.items left.new.items }
 {
     match tail {
-        None => Then::One(Work::Values(values)),
-        Some(tail) => Then::Two(Work::Values(values), Work::Value(tail.get())),
+        None => put_one(left, Work::Values(values)),
+        Some(tail) => put_two(left, Work::Values(values), Work::Value(tail.get())),
     }
 }
 
-fn take_value<'a>(value: &'a Value) -> Then<'a>
-    ensures { IsThen (walk (of_value (value_view value.now))) (value_size (value_view value.now)) result }
+fn take_value<'a>(left: &mut Vec<Work<'a>>, value: &'a Value)
+    requires { vec_len left.old + 3 ≤ vec_capacity left.old }
+    ensures { IsPut (walk (of_value (value_view value.now))) (value_size (value_view value.now)) left.old.items left.new.items }
 {
     match value {
-        Value::Num(_) | Value::Topic => Then::Nothing,
-        Value::Word(word) => Then::One(Work::Met(Event::Word(word.as_slice()))),
-        Value::Object(name) => Then::One(Work::Met(Event::Object(name.as_slice()))),
-        Value::Any => Then::One(Work::Met(Event::Unnamed)),
-        Value::Var(name) => Then::One(Work::Met(Event::Variable(name.as_slice()))),
-        Value::List(values, tail) => take_list(values.as_slice(), tail),
-        Value::Closure(body) => Then::Three(
+        Value::Num(_) | Value::Topic => {}
+        Value::Word(word) => put_one(left, Work::Met(Event::Word(word.as_slice()))),
+        Value::Object(name) => put_one(left, Work::Met(Event::Object(name.as_slice()))),
+        Value::Any => put_one(left, Work::Met(Event::Unnamed)),
+        Value::Var(name) => put_one(left, Work::Met(Event::Variable(name.as_slice()))),
+        Value::List(values, tail) => take_list(left, values.as_slice(), tail),
+        Value::Closure(body) => put_three(
+            left,
             Work::Met(Event::Opened),
             Work::Body(body),
             Work::Met(Event::Closed),
         ),
-        Value::Query(head) => Then::One(Work::Head(head)),
-        Value::Words(words) => Then::Two(Work::Met(Event::Unnamed), Work::Words(words.as_slice())),
+        Value::Query(head) => put_one(left, Work::Head(head)),
+        Value::Words(words) => put_two(
+            left,
+            Work::Met(Event::Unnamed),
+            Work::Words(words.as_slice()),
+        ),
     }
 }
 
-fn take_stmts<'a>(stmts: &'a [Stmt]) -> Then<'a>
-    ensures { IsThen (walk (of_stmts (stmts_of (map stmt_view stmts.now)))) (stmts_size (stmts_of (map stmt_view stmts.now))) result }
+fn take_stmts<'a>(left: &mut Vec<Work<'a>>, stmts: &'a [Stmt])
+    requires { vec_len left.old + 3 ≤ vec_capacity left.old }
+    ensures { IsPut (walk (of_stmts (stmts_of (map stmt_view stmts.now)))) (stmts_size (stmts_of (map stmt_view stmts.now))) left.old.items left.new.items }
 {
     match stmts {
-        [] => Then::Nothing,
-        [first, others @ ..] => Then::Two(Work::Stmt(first), Work::Stmts(others)),
+        [] => {}
+        [first, others @ ..] => put_two(left, Work::Stmt(first), Work::Stmts(others)),
     }
 }
 
-fn take_branches<'a>(branches: &'a [Items<Stmt>]) -> Then<'a>
-    ensures { IsThen (walk (of_branches (branches_view (map (map stmt_view) branches.now)))) (branches_size (branches_view (map (map stmt_view) branches.now))) result }
+fn take_branches<'a>(left: &mut Vec<Work<'a>>, branches: &'a [Items<Stmt>])
+    requires { vec_len left.old + 3 ≤ vec_capacity left.old }
+    ensures { IsPut (walk (of_branches (branches_view (map (map stmt_view) branches.now)))) (branches_size (branches_view (map (map stmt_view) branches.now))) left.old.items left.new.items }
 {
     match branches {
-        [] => Then::Nothing,
-        [first, others @ ..] => Then::Two(Work::Stmts(first.as_slice()), Work::Branches(others)),
+        [] => {}
+        [first, others @ ..] => put_two(
+            left,
+            Work::Stmts(first.as_slice()),
+            Work::Branches(others),
+        ),
     }
 }
 
-fn take_arms<'a>(arms: &'a [Arm]) -> Then<'a>
-    ensures { IsThen (walk (of_arms (arms_of (map arm_view arms.now)))) (arms_size (arms_of (map arm_view arms.now))) result }
+fn take_arms<'a>(left: &mut Vec<Work<'a>>, arms: &'a [Arm])
+    requires { vec_len left.old + 3 ≤ vec_capacity left.old }
+    ensures { IsPut (walk (of_arms (arms_of (map arm_view arms.now)))) (arms_size (arms_of (map arm_view arms.now))) left.old.items left.new.items }
 {
     match arms {
-        [] => Then::Nothing,
-        [first, others @ ..] => Then::Three(
+        [] => {}
+        [first, others @ ..] => put_three(
+            left,
             Work::Body(&first.condition),
             Work::Body(&first.body),
             Work::Arms(others),
@@ -104,88 +151,84 @@ fn take_arms<'a>(arms: &'a [Arm]) -> Then<'a>
     }
 }
 
-fn take_changes<'a>(changes: &'a [NowChange]) -> Then<'a>
-    ensures { IsThen (walk (of_changes (changes_of (map change_view changes.now)))) (changes_size (changes_of (map change_view changes.now))) result }
+fn take_changes<'a>(left: &mut Vec<Work<'a>>, changes: &'a [NowChange])
+    requires { vec_len left.old + 3 ≤ vec_capacity left.old }
+    ensures { IsPut (walk (of_changes (changes_of (map change_view changes.now)))) (changes_size (changes_of (map change_view changes.now))) left.old.items left.new.items }
 {
     match changes {
-        [] => Then::Nothing,
-        [first, others @ ..] => Then::Two(Work::Head(&first.head), Work::Changes(others)),
+        [] => {}
+        [first, others @ ..] => put_two(left, Work::Head(&first.head), Work::Changes(others)),
     }
 }
 
-fn take_choice<'a>(arms: &'a [Arm], other: &'a Option<Body>) -> Then<'a>
-    ensures { IsThen (walk (of_stmt (choice_view (map arm_view arms.now) (option_map body_view other.now)))) (stmt_size (choice_view (map arm_view arms.now) (option_map body_view other.now))) result }
+fn take_choice<'a>(left: &mut Vec<Work<'a>>, arms: &'a [Arm], other: &'a Option<Body>)
+    requires { vec_len left.old + 3 ≤ vec_capacity left.old }
+    ensures { IsPut (walk (of_stmt (choice_view (map arm_view arms.now) (option_map body_view other.now)))) (stmt_size (choice_view (map arm_view arms.now) (option_map body_view other.now))) left.old.items left.new.items }
 {
     match other {
-        None => Then::One(Work::Arms(arms)),
-        Some(body) => Then::Two(Work::Arms(arms), Work::Body(body)),
+        None => put_one(left, Work::Arms(arms)),
+        Some(body) => put_two(left, Work::Arms(arms), Work::Body(body)),
     }
 }
 
-fn take_stmt<'a>(stmt: &'a Stmt) -> Then<'a>
-    ensures { IsThen (walk (of_stmt (stmt_view stmt.now))) (stmt_size (stmt_view stmt.now)) result }
+fn take_stmt<'a>(left: &mut Vec<Work<'a>>, stmt: &'a Stmt)
+    requires { vec_len left.old + 3 ≤ vec_capacity left.old }
+    ensures { IsPut (walk (of_stmt (stmt_view stmt.now))) (stmt_size (stmt_view stmt.now)) left.old.items left.new.items }
 {
     match stmt {
-        Stmt::Text(_) => Then::Nothing,
-        Stmt::Print(value) => Then::One(Work::Value(value)),
-        Stmt::Ask(head) | Stmt::AskAll(head) | Stmt::AskNot(head) => Then::One(Work::Head(head)),
-        Stmt::Group(body) | Stmt::NotGroup(body) | Stmt::First(body) => Then::One(Work::Body(body)),
-        Stmt::Now(changes) => Then::One(Work::Changes(changes.as_slice())),
-        Stmt::If(arms, other) => take_choice(arms.as_slice(), other),
-        Stmt::Exhaust(inner) | Stmt::Stoppable(inner) => Then::One(Work::Stmt(inner.get())),
-        Stmt::Collect(value, body, into) | Stmt::Accumulate(value, body, into) => Then::Three(
+        Stmt::Text(_) => {}
+        Stmt::Print(value) => put_one(left, Work::Value(value)),
+        Stmt::Ask(head) | Stmt::AskAll(head) | Stmt::AskNot(head) => put_one(
+            left,
+            Work::Head(head),
+        ),
+        Stmt::Group(body) | Stmt::NotGroup(body) | Stmt::First(body) => put_one(
+            left,
+            Work::Body(body),
+        ),
+        Stmt::Now(changes) => put_one(left, Work::Changes(changes.as_slice())),
+        Stmt::If(arms, other) => take_choice(left, arms.as_slice(), other),
+        Stmt::Exhaust(inner) | Stmt::Stoppable(inner) => put_one(left, Work::Stmt(inner.get())),
+        Stmt::Collect(value, body, into) | Stmt::Accumulate(value, body, into) => put_three(
+            left,
             Work::Value(value),
             Work::Body(body),
             Work::Value(into),
         ),
-        Stmt::Select(_, branches) => Then::Two(
+        Stmt::Select(_, branches) => put_two(
+            left,
             Work::Met(Event::Selecting(branches.len())),
             Work::Branches(branches.as_slice()),
         ),
     }
 }
 
-// What a part of the tree comes to. What is met stays as it is.
-fn take<'a>(work: Work<'a>) -> Then<'a>
-    ensures { IsLook work.entry result }
+// Puts on what is left what a part of the tree comes to. What is met stays as it is.
+fn take<'a>(left: &mut Vec<Work<'a>>, work: Work<'a>)
+    requires { vec_len left.old + 3 ≤ vec_capacity left.old }
+    ensures { IsLook work.entry left.old.items left.new.items }
 {
     match work {
-        Work::Met(_) => Then::One(work),
-        Work::Head(head) => Then::Two(
+        Work::Met(_) => put_one(left, work),
+        Work::Head(head) => put_two(
+            left,
             Work::Met(Event::Query(head)),
             Work::Parts(head.parts.as_slice()),
         ),
-        Work::Parts(parts) => take_parts(parts),
-        Work::Value(value) => take_value(value),
-        Work::Values(values) => take_values(values),
-        Work::Words(words) => take_words(words),
-        Work::Stmt(stmt) => take_stmt(stmt),
-        Work::Stmts(stmts) => take_stmts(stmts),
-        Work::Body(body) => Then::Two(
+        Work::Parts(parts) => take_parts(left, parts),
+        Work::Value(value) => take_value(left, value),
+        Work::Values(values) => take_values(left, values),
+        Work::Words(words) => take_words(left, words),
+        Work::Stmt(stmt) => take_stmt(left, stmt),
+        Work::Stmts(stmts) => take_stmts(left, stmts),
+        Work::Body(body) => put_two(
+            left,
             Work::Met(Event::Branching(body.branches.len())),
             Work::Branches(body.branches.as_slice()),
         ),
-        Work::Branches(branches) => take_branches(branches),
-        Work::Arms(arms) => take_arms(arms),
-        Work::Changes(changes) => take_changes(changes),
-    }
-}
-
-fn put_each<'a>(left: &mut Vec<Work<'a>>, works: &[Work<'a>]) -> Result<(), AllocError>
-    ensures { OnOk result (left.new.items ≡ left.old.items ++ works.now) }
-{
-    left.extend_from_slice(works)
-}
-
-// Puts on what is left what comes next. The last of what is left is looked at first.
-fn put<'a>(left: &mut Vec<Work<'a>>, then: &Then<'a>) -> Result<(), AllocError>
-    ensures { OnOk result (IsPut then.now left.old.items left.new.items) }
-{
-    match then {
-        Then::Nothing => Ok(()),
-        Then::One(first) => put_each(left, &[*first]),
-        Then::Two(first, second) => put_each(left, &[*second, *first]),
-        Then::Three(first, second, third) => put_each(left, &[*third, *second, *first]),
+        Work::Branches(branches) => take_branches(left, branches),
+        Work::Arms(arms) => take_arms(left, arms),
+        Work::Changes(changes) => take_changes(left, changes),
     }
 }
 
@@ -197,21 +240,25 @@ pub fn next<'a>(left: &mut Vec<Work<'a>>) -> Result<Option<Event<'a>>, AllocErro
     while let Some(work) = left.pop() {
         match work {
             Work::Met(event) => return Ok(Some(event)),
-            _ => put(left, &take(work))?,
+            _ => {
+                left.reserve(MOST)?;
+                take(left, work);
+            }
         }
     }
     Ok(None)
 }
 
-fn take_item<'a>(said: &'a ItemBody) -> Then<'a>
-    ensures { walk_then result ≡ walk (of_said (said_view said.now)) }
+fn take_item<'a>(left: &mut Vec<Work<'a>>, said: &'a ItemBody)
+    requires { vec_len left.old + 3 ≤ vec_capacity left.old }
+    ensures { left_of left.new.items ≡ walk (of_said (said_view said.now)) ++ left_of left.old.items }
 {
     match said {
-        ItemBody::Topic(name) => Then::One(Work::Met(Event::Object(name.as_slice()))),
+        ItemBody::Topic(name) => put_one(left, Work::Met(Event::Object(name.as_slice()))),
         ItemBody::Rule(head, body) | ItemBody::Deny(head, body) | ItemBody::Access(head, body) => {
-            Then::Two(Work::Head(head), Work::Body(body))
+            put_two(left, Work::Head(head), Work::Body(body))
         }
-        ItemBody::Variable(head) => Then::One(Work::Head(head)),
+        ItemBody::Variable(head) => put_one(left, Work::Head(head)),
     }
 }
 
@@ -219,5 +266,7 @@ fn take_item<'a>(said: &'a ItemBody) -> Then<'a>
 pub fn start<'a>(left: &mut Vec<Work<'a>>, said: &'a ItemBody) -> Result<(), AllocError>
     ensures { OnOk result (left_of left.new.items ≡ walk (of_said (said_view said.now)) ++ left_of left.old.items) }
 {
-    put(left, &take_item(said))
+    left.reserve(MOST)?;
+    take_item(left, said);
+    Ok(())
 }

@@ -33,12 +33,3 @@ pub enum Work<'a> {
     Arms(&'a [Arm]),
     Changes(&'a [NowChange]),
 }
-
-/// What a part of the tree comes to when it is looked at, in order.
-#[derive(Clone, Copy)]
-pub enum Then<'a> {
-    Nothing,
-    One(Work<'a>),
-    Two(Work<'a>, Work<'a>),
-    Three(Work<'a>, Work<'a>, Work<'a>),
-}
