@@ -1,9 +1,11 @@
-use Rattle.std.proofs.Common.{◌≡◌, ◌≤◌, length, map, arith}
+use Rattle.std.proofs.Common.{◌≡◌, ◌≤◌, length, map, arith, rules}
 use Rattle.std.proofs.lemmas.List.{append_assoc, append-nil, map-append, drop_more, drop_all}
+use Rattle.std.proofs.lemmas.Grind.{common_steps}
 use Rattle.dg_names.proofs.Views.{part_word_seen, value_seen, body_seen, arm_seen, change_seen, head_seen, values_seen, stmts_seen}
 use Rattle.dg_base.specs.TreeView.{branches_view, stmt_view}
 use Rattle.dg_access.specs.State.{selected}
 use Rattle.dg_access.proofs.Views.{selected_seen}
+use Rattle.dg_base.specs.declared.tree.Part.TheFolds as trees
 use Rattle.dg_access.proofs.marks.+marks.Goals as goal
 
 ruleset steps = (append_assoc, append-nil, map-append, drop_more, drop_all, body_seen, arm_seen, change_seen, head_seen)
@@ -142,3 +144,18 @@ mark_select-returns-after-loop-stmts t c =
     let le : length branches ≤ c.loop-stmts.stmts-index = omega arith in
     let seen : branches_view (map (map stmt_view) branches) ≡ selected (stmt_view c.args.stmt.now) = grind (arith, selected_seen) in
     grind (arith, steps)
+
+pub mark_stmt-returns-in-If-default-None : goal.mark_stmt-returns-in-If-default-None
+mark_stmt-returns-in-If-default-None t c = search (rules, trees.the_lemmas, common_steps)
+
+pub mark_stmt-returns-in_ok-mark_arms-in-If-default-Some : goal.mark_stmt-returns-in_ok-mark_arms-in-If-default-Some
+mark_stmt-returns-in_ok-mark_arms-in-If-default-Some t c = search (rules, trees.the_lemmas, common_steps)
+
+pub mark_value-returns-in-List-default-None : goal.mark_value-returns-in-List-default-None
+mark_value-returns-in-List-default-None t c = search (rules, trees.the_lemmas, common_steps)
+
+pub mark_value-returns-in_ok-mark_values-in-List-default-Some : goal.mark_value-returns-in_ok-mark_values-in-List-default-Some
+mark_value-returns-in_ok-mark_values-in-List-default-Some t c = search (rules, trees.the_lemmas, common_steps)
+
+pub mark_select-returns-in_default : goal.mark_select-returns-in_default
+mark_select-returns-in_default t c = search (rules, trees.the_lemmas)

@@ -1,4 +1,4 @@
-use Rattle.std.proofs.Common.{◌≡◌, ◌+◌, ◌≤◌, ◌∙◌, ap, sym, arith, length, map}
+use Rattle.std.proofs.Common.{◌≡◌, ◌+◌, ◌≤◌, ◌∙◌, ap, sym, arith, rules, length, map}
 use Rattle.std.proofs.lemmas.Grind.{common_steps}
 use Rattle.std.proofs.lemmas.List.{append_assoc, append-nil, map-append, drop_more, drop_all}
 use Rattle.dg_base.specs.Tree as tree
@@ -9,6 +9,7 @@ use Rattle.dg_access.specs.State.{setting_view, selected}
 use Rattle.dg_access.proofs.Before.{parts_end, values_end, stmts_end, branches_end, arms_end, changes_end, parts_push, values_push, stmts_push, branches_push, arms_push, changes_push}
 use Rattle.dg_access.proofs.BranchLemmas.{all_done, branches_done, numbers_done}
 use Rattle.dg_access.proofs.Views.{selected_seen}
+use Rattle.dg_base.specs.declared.tree.Part.TheFolds as trees
 use Rattle.dg_access.proofs.plain.+plain.Goals as goal
 
 ruleset steps = (append_assoc, append-nil, map-append, drop_more, drop_all, parts_end, values_end, stmts_end, branches_end, arms_end, changes_end, parts_push, values_push, stmts_push, branches_push, arms_push, changes_push, arm_seen, change_seen)
@@ -277,3 +278,27 @@ plain_stmt-returns-in-Accumulate-clause-at t c = grind (arith, forms)
 
 pub plain_stmt-returns-in-Accumulate-clause-stmt : goal.plain_stmt-returns-in-Accumulate-clause-stmt
 plain_stmt-returns-in-Accumulate-clause-stmt t c = grind (arith, forms)
+
+pub plain_stmt-returns-in-If-default-None-clause-stmt : goal.plain_stmt-returns-in-If-default-None-clause-stmt
+plain_stmt-returns-in-If-default-None-clause-stmt t c = search (rules, trees.the_lemmas, common_steps)
+
+pub plain_stmt-returns-in-If-default-Some-clause-stmt : goal.plain_stmt-returns-in-If-default-Some-clause-stmt
+plain_stmt-returns-in-If-default-Some-clause-stmt t c = search (rules, trees.the_lemmas, common_steps)
+
+pub plain_stmt-returns-in-If-default-None-clause-at : goal.plain_stmt-returns-in-If-default-None-clause-at
+plain_stmt-returns-in-If-default-None-clause-at t c = search (rules, trees.the_lemmas, common_steps)
+
+pub plain_stmt-returns-in-If-default-Some-clause-at : goal.plain_stmt-returns-in-If-default-Some-clause-at
+plain_stmt-returns-in-If-default-Some-clause-at t c = search (rules, trees.the_lemmas, common_steps)
+
+pub plain_value-returns-in-List-default-None-clause-value : goal.plain_value-returns-in-List-default-None-clause-value
+plain_value-returns-in-List-default-None-clause-value t c = search (rules, trees.the_lemmas, common_steps)
+
+pub plain_value-returns-in-List-default-Some-clause-value : goal.plain_value-returns-in-List-default-Some-clause-value
+plain_value-returns-in-List-default-Some-clause-value t c = search (rules, trees.the_lemmas, common_steps)
+
+pub plain_value-returns-in-List-default-None-clause-at : goal.plain_value-returns-in-List-default-None-clause-at
+plain_value-returns-in-List-default-None-clause-at t c = search (rules, trees.the_lemmas, common_steps)
+
+pub plain_value-returns-in-List-default-Some-clause-at : goal.plain_value-returns-in-List-default-Some-clause-at
+plain_value-returns-in-List-default-Some-clause-at t c = search (rules, trees.the_lemmas, common_steps)

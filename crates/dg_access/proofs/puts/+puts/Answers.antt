@@ -1,6 +1,8 @@
-use Rattle.std.proofs.Common.{arith}
+use Rattle.std.proofs.Common.{arith, rules}
 use Rattle.std.proofs.lemmas.List.{append_assoc, append-nil, map-append, drop_more, drop_all}
 use Rattle.dg_names.proofs.Views.{part_word_seen, value_seen, head_seen, values_seen, stmts_seen}
+use Rattle.std.proofs.lemmas.Grind.{common_steps}
+use Rattle.dg_base.specs.declared.tree.Part.TheFolds as trees
 use Rattle.dg_access.proofs.puts.+puts.Goals as goal
 
 ruleset steps = (append_assoc, append-nil, map-append, drop_more, drop_all)
@@ -102,3 +104,15 @@ put_values-returns-clause-at t c = grind (arith, steps)
 
 pub put_values-returns-clause-puts : goal.put_values-returns-clause-puts
 put_values-returns-clause-puts t c = grind (arith, steps)
+
+pub put_value-returns-in-List-default-None-clause-puts : goal.put_value-returns-in-List-default-None-clause-puts
+put_value-returns-in-List-default-None-clause-puts t c = search (rules, trees.the_lemmas, common_steps)
+
+pub put_value-returns-in-List-default-None-clause-at : goal.put_value-returns-in-List-default-None-clause-at
+put_value-returns-in-List-default-None-clause-at t c = search (rules, trees.the_lemmas, common_steps)
+
+pub put_value-returns-in_ok-put_values-in-List-default-Some-clause-puts : goal.put_value-returns-in_ok-put_values-in-List-default-Some-clause-puts
+put_value-returns-in_ok-put_values-in-List-default-Some-clause-puts t c = search (rules, trees.the_lemmas, common_steps)
+
+pub put_value-returns-in_ok-put_values-in-List-default-Some-clause-at : goal.put_value-returns-in_ok-put_values-in-List-default-Some-clause-at
+put_value-returns-in_ok-put_values-in-List-default-Some-clause-at t c = search (rules, trees.the_lemmas, common_steps)

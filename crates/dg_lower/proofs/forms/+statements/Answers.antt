@@ -1,6 +1,8 @@
-use Rattle.std.proofs.Common.{arith}
+use Rattle.std.proofs.Common.{arith, rules}
 use Rattle.std.proofs.lemmas.List.{append_assoc, append-nil, map-append, drop_more, drop_all}
 use Rattle.dg_names.proofs.Views.{part_word_seen, value_seen, head_seen, body_seen, arm_seen, values_seen, stmts_seen}
+use Rattle.std.proofs.lemmas.Grind.{common_steps}
+use Rattle.dg_base.specs.declared.tree.Part.TheFolds as trees
 use Rattle.dg_lower.proofs.forms.+statements.Goals as goal
 
 ruleset steps = (append_assoc, append-nil, map-append, drop_more, drop_all, part_word_seen, value_seen, body_seen, arm_seen)
@@ -81,3 +83,9 @@ is_stmt-returns-else-is_rewritten t c = grind (arith, forms)
 
 pub is_stmt-returns-else-are_arms : goal.is_stmt-returns-else-are_arms
 is_stmt-returns-else-are_arms t c = grind (arith, forms)
+
+pub is_stmt-returns-in-If-default-None : goal.is_stmt-returns-in-If-default-None
+is_stmt-returns-in-If-default-None t c = search (rules, trees.the_lemmas, common_steps)
+
+pub is_stmt-returns-then-are_arms : goal.is_stmt-returns-then-are_arms
+is_stmt-returns-then-are_arms t c = search (rules, trees.the_lemmas, common_steps)

@@ -1,6 +1,8 @@
-use Rattle.std.proofs.Common.{arith}
+use Rattle.std.proofs.Common.{arith, rules}
 use Rattle.std.proofs.lemmas.List.{append_assoc, append-nil, map-append, drop_more, drop_all}
 use Rattle.dg_names.proofs.Views.{part_word_seen, value_seen, head_seen, body_seen, arm_seen, values_seen, stmts_seen}
+use Rattle.std.proofs.lemmas.Grind.{common_steps}
+use Rattle.dg_base.specs.declared.tree.Part.TheFolds as trees
 use Rattle.dg_lower.proofs.forms.+values.Goals as goal
 
 ruleset steps = (append_assoc, append-nil, map-append, drop_more, drop_all, part_word_seen, value_seen, body_seen, arm_seen)
@@ -69,3 +71,9 @@ is_query-returns-else-is_asked t c = grind (arith, forms)
 
 pub is_value-returns-else-are_values : goal.is_value-returns-else-are_values
 is_value-returns-else-are_values t c = grind (arith, forms)
+
+pub is_value-returns-in-List-default-None : goal.is_value-returns-in-List-default-None
+is_value-returns-in-List-default-None t c = search (rules, trees.the_lemmas, common_steps)
+
+pub is_value-returns-then-are_values : goal.is_value-returns-then-are_values
+is_value-returns-then-are_values t c = search (rules, trees.the_lemmas, common_steps)

@@ -1,4 +1,4 @@
-use Rattle.std.proofs.Common.{◌≡◌, ◌≤◌, ◌++◌, ◌∷◌, [], List, length, ap, subst, sym, ◌∙◌, arith}
+use Rattle.std.proofs.Common.{◌≡◌, ◌≤◌, ◌++◌, ◌∷◌, [], List, length, ap, subst, sym, ◌∙◌, arith, rules}
 use Rattle.std.specs.Prelude.{OnOk}
 use Rattle.dg_base.specs.TreeView.{body_view}
 use Rattle.dg_base.specs.declared.tree.Stmt.{Stmt}
@@ -7,6 +7,8 @@ use Rattle.dg_base.specs.declared.program.Goal.TheVariants.{Either}
 use Rattle.dg_lower.specs.Goals.{body_goals}
 use Rattle.dg_lower.specs.View.{scope_view}
 use Rattle.dg_lower.proofs.UnitLemmas.{unit_of_body}
+use Rattle.std.proofs.lemmas.Grind.{common_steps}
+use Rattle.dg_base.specs.declared.tree.Part.TheFolds as trees
 use Rattle.dg_lower.proofs.goals.+goals.Goals as goal
 use Rattle.std.proofs.lemmas.List.{append_assoc, append-nil, map-append, drop_more, drop_all}
 use Rattle.dg_names.proofs.Views.{part_word_seen, value_seen, head_seen, body_seen, arm_seen, values_seen, stmts_seen}
@@ -91,3 +93,15 @@ add_negated-returns t c = grind (arith, forms)
 
 pub add_once-returns : goal.add_once-returns
 add_once-returns t c = grind (arith, forms)
+
+pub add_stmt-returns-in-If-default-None : goal.add_stmt-returns-in-If-default-None
+add_stmt-returns-in-If-default-None t c = search (rules, trees.the_lemmas, common_steps)
+
+pub add_stmt-returns-in_ok-other-in-If-default-Some : goal.add_stmt-returns-in_ok-other-in-If-default-Some
+add_stmt-returns-in_ok-other-in-If-default-Some t c = search (rules, trees.the_lemmas, common_steps)
+
+pub add_body-returns-in-empty : goal.add_body-returns-in-empty
+add_body-returns-in-empty t c = search (rules, trees.the_lemmas, common_steps)
+
+pub add_body-returns-in-len1 : goal.add_body-returns-in-len1
+add_body-returns-in-len1 t c = search (rules, trees.the_lemmas, common_steps)

@@ -1,5 +1,7 @@
-use Rattle.std.proofs.Common.{arith}
+use Rattle.std.proofs.Common.{arith, rules}
 use Rattle.std.proofs.lemmas.List.{append_assoc, append-nil, map-append, drop_more, drop_all}
+use Rattle.dg_base.specs.declared.program.Term.TheFolds as terms
+use Rattle.dg_base.specs.declared.tree.Part.TheFolds as trees
 use Rattle.dg_names.proofs.Views.{value_seen, values_seen}
 use Rattle.dg_lower.proofs.terms.+terms.Goals as goal
 
@@ -30,3 +32,9 @@ term_of-returns-in-Var t c = grind (arith, forms)
 
 pub term_of-returns-in-Topic : goal.term_of-returns-in-Topic
 term_of-returns-in-Topic t c = grind (arith, forms)
+
+pub term_of-returns-in-List-default-None : goal.term_of-returns-in-List-default-None
+term_of-returns-in-List-default-None t c = search (rules, terms.the_lemmas, trees.the_lemmas)
+
+pub term_of-returns-in_ok-tail-in-List-default-Some : goal.term_of-returns-in_ok-tail-in-List-default-Some
+term_of-returns-in_ok-tail-in-List-default-Some t c = search (rules, terms.the_lemmas, trees.the_lemmas)

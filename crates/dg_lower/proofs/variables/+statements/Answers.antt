@@ -1,6 +1,8 @@
-use Rattle.std.proofs.Common.{arith}
+use Rattle.std.proofs.Common.{arith, rules}
 use Rattle.std.proofs.lemmas.List.{append_assoc, append-nil, map-append, drop_more, drop_all}
 use Rattle.dg_names.proofs.Views.{part_word_seen, value_seen, head_seen, body_seen, arm_seen, values_seen, stmts_seen}
+use Rattle.std.proofs.lemmas.Grind.{common_steps}
+use Rattle.dg_base.specs.declared.tree.Part.TheFolds as trees
 use Rattle.dg_lower.proofs.variables.+statements.Goals as goal
 
 ruleset steps = (append_assoc, append-nil, map-append, drop_more, drop_all, part_word_seen, value_seen, body_seen, arm_seen)
@@ -63,3 +65,9 @@ add_stmts-loop-stmt-preserved t c = grind (arith, steps)
 
 pub add_stmts-returns : goal.add_stmts-returns
 add_stmts-returns t c = grind (arith, steps)
+
+pub add_stmt-returns-in-If-default-None : goal.add_stmt-returns-in-If-default-None
+add_stmt-returns-in-If-default-None t c = search (rules, trees.the_lemmas, common_steps)
+
+pub add_stmt-returns-in_ok-add_arms-in-If-default-Some : goal.add_stmt-returns-in_ok-add_arms-in-If-default-Some
+add_stmt-returns-in_ok-add_arms-in-If-default-Some t c = search (rules, trees.the_lemmas, common_steps)

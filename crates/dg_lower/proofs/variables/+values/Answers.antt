@@ -1,6 +1,8 @@
-use Rattle.std.proofs.Common.{arith}
+use Rattle.std.proofs.Common.{arith, rules}
 use Rattle.std.proofs.lemmas.List.{append_assoc, append-nil, map-append, drop_more, drop_all}
 use Rattle.dg_names.proofs.Views.{part_word_seen, value_seen, head_seen, body_seen, arm_seen, values_seen, stmts_seen}
+use Rattle.std.proofs.lemmas.Grind.{common_steps}
+use Rattle.dg_base.specs.declared.tree.Part.TheFolds as trees
 use Rattle.dg_lower.proofs.variables.+values.Goals as goal
 
 ruleset steps = (append_assoc, append-nil, map-append, drop_more, drop_all, part_word_seen, value_seen, body_seen, arm_seen)
@@ -42,3 +44,9 @@ add_values-loop-value-preserved t c = grind (arith, steps)
 
 pub add_values-returns : goal.add_values-returns
 add_values-returns t c = grind (arith, steps)
+
+pub add_value-returns-in-List-default-None : goal.add_value-returns-in-List-default-None
+add_value-returns-in-List-default-None t c = search (rules, trees.the_lemmas, common_steps)
+
+pub add_value-returns-in_ok-add_values-in-List-default-Some : goal.add_value-returns-in_ok-add_values-in-List-default-Some
+add_value-returns-in_ok-add_values-in-List-default-Some t c = search (rules, trees.the_lemmas, common_steps)
