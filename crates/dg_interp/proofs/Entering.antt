@@ -1,5 +1,5 @@
 -- A rule is entered in a store.
-use Rattle.std.proofs.Common.{◌≡◌, ◌+◌, ◌-◌, ◌<◌, List, [], ◌++◌, Bool, sym, ap, ◌∙◌, subst, arith, length, map, take, drop, length-append}
+use Rattle.std.proofs.Common.{◌≡◌, ℕ, ◌+◌, ◌-◌, ◌<◌, ◌≤◌, List, [], ◌++◌, Bool, sym, ap, ◌∙◌, subst, arith, length, map, take, drop, length-append}
 use Rattle.std.specs.Prelude.{Result as Answer, Ok, Err, MatchResult}
 use Rattle.std.specs.List.{All, zip}
 use Rattle.std.proofs.Math.Seq.{drop-append_seam}
@@ -19,6 +19,19 @@ use Rattle.dg_interp.specs.Rules.{matched_in, EntersRule, RuleFull}
 use Rattle.dg_interp.specs.Terms.{Overflows, Written, MadeVars}
 use Rattle.dg_interp.proofs.Stores.{kept_on, all_hold, all_told, stretch_holds, values_kept, take_all, hold_front, front_same}
 use Rattle.dg_interp.proofs.Links.{stretch_same}
+
+-- Refs of new variables were put behind some others
+vars_are_made : (n : ℕ) (refs behind vars : List Ref) (s t : Store) → (made : MadeVars n s t refs behind) → vars ≡ take (length behind - length refs) (drop (length refs) behind) → vars ≡ made.appended.made
+vars_are_made n refs behind vars s t made e =
+    let m : length behind - length refs ≡ length made.appended.made = omega (arith, ap length made.appended.is ∙ length-append refs made.appended.made) in
+    e ∙ ap (λ k. take k (drop (length refs) behind)) m ∙ ap (λ l. take (length made.appended.made) (drop (length refs) l)) made.appended.is
+    ∙ ap (take (length made.appended.made)) (drop-append_seam refs made.appended.made) ∙ take_all made.appended.made
+
+pub vars_hold : (n : ℕ) (refs behind vars : List Ref) (s t : Store) → MadeVars n s t refs behind → vars ≡ take (length behind - length refs) (drop (length refs) behind) → All (Holds t) vars
+vars_hold n refs behind vars s t made e = subst (All (Holds t)) (sym (vars_are_made n refs behind vars s t made e)) made.appended.hold
+
+pub vars_more : (n : ℕ) (refs behind : List Ref) (s t : Store) → MadeVars n s t refs behind → length refs ≤ length behind
+vars_more n refs behind s t made = omega (arith, ap length made.appended.is ∙ length-append refs made.appended.made)
 
 module _ (program : CoreProgram) (rule : Rule) (refs behind vars before head : List Ref) (env : Env) (s s1 s2 s3 : Store) (hold : All (Holds s) refs) (ends : EndsBy (length refs) env)
     (charged : Charged 6 s s1) (k1 : Kept s s1) (made : MadeVars rule.vars s1 s2 refs behind) (k2 : Kept s1 s2) (vars_are : vars ≡ take (length behind - length refs) (drop (length refs) behind))
@@ -50,10 +63,7 @@ module _ (program : CoreProgram) (rule : Rule) (refs behind vars before head : L
   args_are = values_kept (length refs) s s3 refs behind kept (hold_front s refs hold) front env ends
 
   made_are : vars ≡ made.appended.made
-  made_are =
-      let n : length behind - length refs ≡ length made.appended.made = omega (arith, ap length made.appended.is ∙ length-append refs made.appended.made) in
-      vars_are ∙ ap (λ k. take k (drop (length refs) behind)) n ∙ ap (λ l. take (length made.appended.made) (drop (length refs) l)) made.appended.is
-      ∙ ap (take (length made.appended.made)) (drop-append_seam refs made.appended.made) ∙ take_all made.appended.made
+  made_are = vars_are_made rule.vars refs behind vars s1 s2 made vars_are
 
   vars_told : map (told s2) vars ≡ new_vars rule.vars s.state.vars
   vars_told = ap (map (told s2)) made_are ∙ made.appended.values ∙ ap (λ (t : State). new_vars rule.vars t.vars) charged.state

@@ -1,10 +1,10 @@
-use Rattle.std.proofs.Common.{rules, ◌≡◌, ◌∷◌, [], ◌++◌, ap, sym, subst, arith, length, map}
+use Rattle.std.proofs.Common.{rules, ◌≡◌, ◌∷◌, [], ◌++◌, ap, sym, subst, arith, length, map, refl}
 use Rattle.dg_base.specs.Terms.{nodes}
 use Rattle.dg_base.specs.declared.program.Term.{Term}
 use Rattle.dg_meaning.specs.Closures.{HasNoClosure}
 use Rattle.dg_unify.specs.Store.{told}
-use Rattle.dg_unify.proofs.StoreLemmas.{kept_on, holds_some}
-use Rattle.dg_interp.proofs.TermLemmas.{all_kept, map_kept, pair_nodes, pair_plain, heads_full, heads_step, no_program, appended_length, appended_hold, leaf_full, term_written, stack_back}
+use Rattle.dg_unify.proofs.StoreLemmas.{kept_on, holds_some, kept_same}
+use Rattle.dg_interp.proofs.TermLemmas.{all_kept, map_kept, pair_nodes, pair_plain, heads_full, heads_step, no_program, appended_length, appended_hold, leaf_full, term_written, stack_back, charged_none, appended_none}
 use Rattle.dg_interp.proofs.terms.+write.Goals as goal
 
 pub write_heads-write_term-requires : goal.write_heads-write_term-requires
@@ -73,3 +73,57 @@ pub write_term-returns-in-Ok-write_leaf-clause-stack : goal.write_term-returns-i
 write_term-returns-in-Ok-write_leaf-clause-stack g t c =
     let w = c.in-Ok.ensures.written no_program in
     stack_back (g.B.Bindings.meaning c.write_heads.new.store) w.heads c.args.stack.now.items c.write_heads.new.to.items c.write_pairs.new.from.items c.len-height.result c.write_pairs.result w.written.appended (search rules) c.write_pairs.ensures.taken
+
+pub write_heads-heads-init : goal.write_heads-heads-init
+write_heads-heads-init g t c = record {
+  kept = kept_same (g.B.Bindings.meaning c.args.store.now);
+  saved = λ ms h. h;
+  written = λ program. record {
+    count = 0;
+    heads = [];
+    written = record {
+      charged = charged_none (g.B.Bindings.meaning c.args.store.now) (g.B.Bindings.meaning c.args.store.now) (g.met.B.Bindings.within c.args.store.now) refl;
+      appended = appended_none (g.B.Bindings.meaning c.args.store.now) c.args.to.now.items;
+    };
+    value = refl;
+    cells_are = omega arith;
+  };
+  plain = c.requires.plain;
+  smaller = omega arith;
+}
+
+pub write_heads-returns-in-Err-clause-kept : goal.write_heads-returns-in-Err-clause-kept
+write_heads-returns-in-Err-clause-kept g t c = kept_on (g.B.Bindings.meaning c.args.store.now) (g.B.Bindings.meaning c.heads.store) (g.B.Bindings.meaning c.write_term.new.store) c.heads.invariant.kept c.in-Err.ensures.kept
+
+pub write_heads-returns-in-Err-clause-saved : goal.write_heads-returns-in-Err-clause-saved
+write_heads-returns-in-Err-clause-saved g t c = λ ms h. c.in-Err.ensures.saved ms (c.heads.invariant.saved ms h)
+
+pub write_heads-returns-then-is_err-clause-kept : goal.write_heads-returns-then-is_err-clause-kept
+write_heads-returns-then-is_err-clause-kept g t c = kept_on (g.B.Bindings.meaning c.args.store.now) (g.B.Bindings.meaning c.heads.store) (g.B.Bindings.meaning c.write_term.new.store) c.heads.invariant.kept c.in-Ok.ensures.kept
+
+pub write_heads-returns-then-is_err-clause-saved : goal.write_heads-returns-then-is_err-clause-saved
+write_heads-returns-then-is_err-clause-saved g t c = λ ms h. c.in-Ok.ensures.saved ms (c.heads.invariant.saved ms h)
+
+pub write_heads-returns-then-is_err-clause-written : goal.write_heads-returns-then-is_err-clause-written
+write_heads-returns-then-is_err-clause-written g t c = λ program. tt
+
+pub write_term-write_leaf-requires-clause-env : goal.write_term-write_leaf-requires-clause-env
+write_term-write_leaf-requires-clause-env g t c = all_kept (g.B.Bindings.meaning c.args.store.now) (g.B.Bindings.meaning c.write_heads.new.store) c.args.env.now c.in-Ok.ensures.kept c.requires.env
+
+pub write_term-returns-in-Err-clause-written : goal.write_term-returns-in-Err-clause-written
+write_term-returns-in-Err-clause-written g t c = λ program. c.in-Err.ensures.written program
+
+pub write_term-returns-in-Err-write_leaf-clause-kept : goal.write_term-returns-in-Err-write_leaf-clause-kept
+write_term-returns-in-Err-write_leaf-clause-kept g t c = kept_on (g.B.Bindings.meaning c.args.store.now) (g.B.Bindings.meaning c.write_heads.new.store) (g.B.Bindings.meaning c.write_leaf.new.store) c.in-Ok.ensures.kept c.in-Err-write_leaf.ensures.kept
+
+pub write_term-returns-in-Err-write_leaf-clause-saved : goal.write_term-returns-in-Err-write_leaf-clause-saved
+write_term-returns-in-Err-write_leaf-clause-saved g t c = λ ms h. c.in-Err-write_leaf.ensures.saved ms (c.in-Ok.ensures.saved ms h)
+
+pub write_term-returns-in-Ok-write_leaf-clause-kept : goal.write_term-returns-in-Ok-write_leaf-clause-kept
+write_term-returns-in-Ok-write_leaf-clause-kept g t c =
+    kept_on (g.B.Bindings.meaning c.args.store.now) (g.B.Bindings.meaning c.write_leaf.new.store) (g.B.Bindings.meaning c.write_pairs.new.store)
+    (kept_on (g.B.Bindings.meaning c.args.store.now) (g.B.Bindings.meaning c.write_heads.new.store) (g.B.Bindings.meaning c.write_leaf.new.store) c.in-Ok.ensures.kept c.in-Ok-write_leaf.ensures.kept)
+    c.write_pairs.ensures.kept
+
+pub write_term-returns-in-Ok-write_leaf-clause-saved : goal.write_term-returns-in-Ok-write_leaf-clause-saved
+write_term-returns-in-Ok-write_leaf-clause-saved g t c = λ ms h. c.write_pairs.ensures.saved ms (c.in-Ok-write_leaf.ensures.saved ms (c.in-Ok.ensures.saved ms h))
