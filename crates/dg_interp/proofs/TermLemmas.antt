@@ -200,6 +200,18 @@ pairs_on s t u rest head list longer end k h a b = record {
 pub pairs_full : (s t u : Store) (n k : ℕ) (list : Ref) (v : Value) → n + 3 ≤ k → Kept s t → Made n s t list v → (e : Full) → HeapFull 3 t u e → Overflows k s e
 pairs_full s t u n k list v le kept a e h = overflows_later n 3 k s t le kept a.charged e (overflows_heap 3 t u e h)
 
+pub pairs_left : (xs ys zs rest : List Ref) (r : Ref) (n : ℕ) → xs ≡ ys ++ rest → ys ≡ zs ++ r ∷ [] → n ≤ length zs → 3 * length rest + 3 ≤ 3 * (length xs - n)
+pairs_left xs ys zs rest r n is last le = omega (arith, ap length is ∙ length-append ys rest, ap length last ∙ length-append zs (r ∷ []), le)
+
+pub pairs_end : (s t : Store) (xs ys rest : List Ref) (n : ℕ) (list : Ref) (end : Value) → xs ≡ ys ++ rest → n ≡ length ys → Made (3 * length rest) s t list (listed (map (told s) rest) end) → Made (3 * (length xs - n)) s t list (listed (map (told s) (drop n xs)) end)
+pairs_end s t xs ys rest n list end is e made =
+    let behind : drop n xs ≡ rest = ap (drop n) is ∙ ap (λ k. drop k (ys ++ rest)) e ∙ drop-append_seam ys rest in
+    let count : length rest ≡ length xs - n = omega (arith, ap length is ∙ length-append ys rest, e) in
+    subst (λ rs. Made (3 * (length xs - n)) s t list (listed (map (told s) rs) end)) (sym behind) (subst (λ k. Made (3 * k) s t list (listed (map (told s) rest) end)) count made)
+
+pub taken_end : (xs ys rest : List Ref) (n : ℕ) → xs ≡ ys ++ rest → n ≡ length ys → ys ≡ take n xs
+taken_end xs ys rest n is e = sym (ap (take n) is ∙ ap (λ k. take k (ys ++ rest)) e ∙ take-append_seam ys rest)
+
 -- ## The elements of a term
 
 pub plain_closure : (n : ℕ) (t : Term) → t ≡ Closure-Term n → HasNoClosure t → ⊥

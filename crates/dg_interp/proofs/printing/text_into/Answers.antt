@@ -1,4 +1,4 @@
-use Rattle.std.proofs.Common.{rules, ap, ◌∙◌}
+use Rattle.std.proofs.Common.{arith, rules, ap, ◌∙◌}
 use Rattle.std.specs.Prelude.{encode_utf8}
 use Rattle.dg_interp.proofs.PrintLemmas.{letter_more, letters_end}
 use Rattle.dg_interp.proofs.printing.text_into.Goals as goal
@@ -13,3 +13,30 @@ letters-preserved g c = record {
 
 pub returns : goal.returns
 returns g c = λ spelling at. letters_end spelling c.letters.buffer c.letters.at c.letters.len (c.letters.invariant.text spelling at) (search rules) at.short c.letters.invariant.room
+
+pub letters-init : goal.letters-init
+letters-init g c = search rules
+
+pub letter-requires : goal.letter-requires
+letter-requires g c = search rules
+
+pub letter_of-requires : goal.letter_of-requires
+letter_of-requires g c = search rules
+
+pub slice_bounds-encode_utf8-end : goal.slice_bounds-encode_utf8-end
+slice_bounds-encode_utf8-end g c = search rules
+
+pub encode_utf8-requires : goal.encode_utf8-requires
+encode_utf8-requires g c = search rules
+
+pub as_bytes-text-requires : goal.as_bytes-text-requires
+as_bytes-text-requires g c = search rules
+
+pub overflow_add-len : goal.overflow_add-len
+overflow_add-len g c = search rules
+
+pub overflow_add-at : goal.overflow_add-at
+overflow_add-at g c = search rules
+
+pub letters-smaller : goal.letters-smaller
+letters-smaller g c = search rules

@@ -1,7 +1,7 @@
-use Rattle.std.proofs.Common.{rules, ◌≡◌, ◌≤◌, ◌∷◌, [], ◌++◌, ap, ◌∙◌, length, append_assoc}
+use Rattle.std.proofs.Common.{arith, rules, ◌≡◌, ◌≤◌, ◌∷◌, [], ◌++◌, ap, ◌∙◌, length, append_assoc, ◌+◌, ◌*◌, ◌-◌}
 use Rattle.dg_unify.specs.Store.{told}
 use Rattle.dg_unify.proofs.StoreLemmas.{kept_on, kept_holds}
-use Rattle.dg_interp.proofs.TermLemmas.{popped_holds, pairs_on}
+use Rattle.dg_interp.proofs.TermLemmas.{popped_holds, pairs_on, pairs_left, pairs_full, pairs_end, taken_end}
 use Rattle.dg_interp.proofs.terms.write_pairs.Goals as goal
 
 pub pair-requires-clause-head_in : goal.pair-requires-clause-head_in
@@ -29,3 +29,46 @@ heads-preserved g c =
       hold = holds.0;
       made = pairs_on old now new c.heads.invariant.rest c.in-Some.head c.heads.list c.in-Ok.longer (told old c.args.tail) c.heads.invariant.kept holds.1 c.heads.invariant.made c.in-Ok.ensures.made;
     }
+
+pub heads-init : goal.heads-init
+heads-init g c = search rules
+
+pub pair-requires-clause-tail_in : goal.pair-requires-clause-tail_in
+pair-requires-clause-tail_in g c = search rules
+
+pub returns-in-Err-clause-kept : goal.returns-in-Err-clause-kept
+returns-in-Err-clause-kept g c = search rules
+
+pub returns-in-Err-clause-saved : goal.returns-in-Err-clause-saved
+returns-in-Err-clause-saved g c = search rules
+
+pub returns-in-Err-clause-written : goal.returns-in-Err-clause-written
+returns-in-Err-clause-written g c =
+    let old = g.B.Bindings.meaning c.args.store.now in
+    let now = g.B.Bindings.meaning c.heads.store in
+    let items : c.heads.from.items ≡ c.pop.new.self.items ++ c.in-Some.head ∷ [] = search rules in
+    let le : c.args.height ≤ length c.pop.new.self.items = search rules in
+    let more : 3 * length c.heads.invariant.rest + 3 ≤ 3 * (length c.args.from.now.items - c.args.height) = pairs_left c.args.from.now.items c.heads.from.items c.pop.new.self.items c.heads.invariant.rest c.in-Some.head c.args.height c.heads.invariant.is items le in
+    pairs_full old now (g.B.Bindings.meaning c.pair.new.self) (3 * length c.heads.invariant.rest) (3 * (length c.args.from.now.items - c.args.height)) c.heads.list _ more c.heads.invariant.kept c.heads.invariant.made c.in-Err.e c.in-Err.ensures.made
+
+pub returns-in-Err-clause-taken : goal.returns-in-Err-clause-taken
+returns-in-Err-clause-taken g c = search rules
+
+pub heads-smaller : goal.heads-smaller
+heads-smaller g c = search rules
+
+pub returns-clause-kept : goal.returns-clause-kept
+returns-clause-kept g c = search rules
+
+pub returns-clause-saved : goal.returns-clause-saved
+returns-clause-saved g c = search rules
+
+pub returns-clause-written : goal.returns-clause-written
+returns-clause-written g c =
+    let e : c.args.height ≡ length c.heads.from.items = omega arith in
+    pairs_end (g.B.Bindings.meaning c.args.store.now) (g.B.Bindings.meaning c.heads.store) c.args.from.now.items c.heads.from.items c.heads.invariant.rest c.args.height c.heads.list _ c.heads.invariant.is e c.heads.invariant.made
+
+pub returns-clause-taken : goal.returns-clause-taken
+returns-clause-taken g c =
+    let e : c.args.height ≡ length c.heads.from.items = omega arith in
+    taken_end c.args.from.now.items c.heads.from.items c.heads.invariant.rest c.args.height c.heads.invariant.is e
