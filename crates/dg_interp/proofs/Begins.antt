@@ -1,5 +1,5 @@
 -- A rule of a query begins, or fails where it begins.
-use Rattle.std.proofs.Common.{◌≡◌, ℕ, zero, suc, ◌+◌, ◌*◌, ◌<◌, ◌≤◌, List, [], ◌∷◌, Bool, true, false, refl, sym, ap, ◌∙◌, subst, arith, length, length-append, map, take, Bor}
+use Rattle.std.proofs.Common.{◌≡◌, ℕ, zero, suc, ◌+◌, ◌*◌, ◌<◌, ◌≤◌, List, [], ◌∷◌, ◌++◌, Bool, true, false, refl, sym, ap, ◌∙◌, subst, arith, length, length-append, map, take, Bor}
 use Rattle.std.specs.Prelude.{reverse}
 use Rattle.std.specs.List.{All, zip}
 use Rattle.std.proofs.lemmas.List.{append-nil, length-map}
@@ -44,7 +44,7 @@ use Rattle.dg_interp.specs.Engine.{store_in, KeepsPlaces, HasPlace, Point, IsQui
 use Rattle.dg_interp.proofs.Links.{same_here, branches_same, behind_same, choices_same, back_same, frames_raise, stand_raise}
 use Rattle.dg_interp.proofs.Stores.{kept_on, all_hold, values_kept, hold_front, front_same, appended_stretch, values_count, trail_append, trail_older, made_is}
 use Rattle.dg_interp.proofs.Kept.{saved_if, kept_places, kept_stand, kept_back, kept_choices, cells_same}
-use Rattle.dg_interp.proofs.Turns.{all_first, all_rest}
+use Rattle.dg_interp.proofs.Turns.{all_first, all_rest, reverse_pop}
 
 -- ## Peaks
 
@@ -135,6 +135,10 @@ module _ (g : Game) (rule : Rule) (args : List Value) (heap : ℕ) (s s1 s2 : St
 pub rules_count : (g : Game) (pred : ℕ) (args : List Value) (many : Bool) (steps : List Step) (r : Registers) (rules : List Rule) → length rules ≡ length (rule_branches g pred args many steps r rules)
 rules_count g pred args many steps r [] = refl
 rules_count g pred args many steps r (x ∷ rules) = ap suc (rules_count g pred args many steps r rules)
+
+pub kept_more : (n : ℕ) (o : Choice) (xs ys : List Choice) → 0 < n → ys ≡ xs ++ o ∷ [] → reverse ys ≡ kept_if n o (reverse xs)
+kept_more zero o xs ys h e = absurd (omega (arith, h))
+kept_more (suc n) o xs ys h e = reverse_pop ys xs o e
 
 pub back_limits : (refs : List Ref) (h t h' t' : ℕ) (os : List Choice) (ms : List Saved) → h ≡ h' → t ≡ t' → GoBackTo refs h t os ms → GoBackTo refs h' t' os ms
 back_limits refs h t h' t' os ms e e' b = subst (λ x. GoBackTo refs h' x os ms) e' (subst (λ x. GoBackTo refs x t os ms) e b)

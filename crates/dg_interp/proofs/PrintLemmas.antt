@@ -105,6 +105,11 @@ letter_more spelling bytes bytes' text n len x t h is short now =
       few = omega (arith, t.few, short);
     }
 
+pub room_left : (spelling bytes : List ℕ) (n len x k : ℕ) → TextTo spelling bytes n len → slice_get spelling n ≡ Some x → length spelling ≤ 200 → length bytes ≡ 800 → k ≤ 4 → len + k ≤ length bytes
+room_left spelling bytes n len x k t h short size few =
+    let inside : n < length spelling = slice_get_within spelling n x h in
+    omega (arith, inside, t.few, short, size, few)
+
 pub letters_end : (spelling bytes : List ℕ) (n len : ℕ) → TextTo spelling bytes n len → slice_get spelling n ≡ None → length spelling ≤ 200 → length bytes ≡ 800 → HasText spelling bytes len
 letters_end spelling bytes n len t h short size =
     let le : length spelling ≤ n = elim (slice_get_cases spelling n).1 as (λ z. length spelling ≤ n) [ inl p ↦ absurd (cc (h, p.2)) | inr p ↦ p.0 ] in

@@ -34,47 +34,22 @@ pub returns-in-Err-close-clause-err : goal.returns-in-Err-close-clause-err
 returns-in-Err-close-clause-err g c = λ dice typed told is.
     memory_closing_lost c.args.program.now c.args.limits.now c.args.engine.now c.requires.starts c.new-spacer.result c.run.new.spacer _ _ c.new-spacer.ensures dice typed _ (rw c.in-Err-OutOfMemory.field-0-is at c.in-Err-OutOfMemory.ensures.err) c.in-Err-close.ensures.err
 
-pub new-spacer-requires : goal.new-spacer-requires
-new-spacer-requires g c = search rules
-
-pub run-requires-clause-ready : goal.run-requires-clause-ready
-run-requires-clause-ready g c = search rules
-
-pub run-requires-clause-goal : goal.run-requires-clause-goal
-run-requires-clause-goal g c = search rules
-
-pub line-requires : goal.line-requires
-line-requires g c = search rules
-
-pub returns-in-Ok-close-clause-err : goal.returns-in-Ok-close-clause-err
-returns-in-Ok-close-clause-err g c = search rules
-
 pub returns-in-Ok-close-clause-reads : goal.returns-in-Ok-close-clause-reads
 returns-in-Ok-close-clause-reads g c = search rules
 
-pub returns-in-Err-clause-shows : goal.returns-in-Err-clause-shows
-returns-in-Err-clause-shows g c = search rules
 
 pub returns-in-Err-clause-reads : goal.returns-in-Err-clause-reads
 returns-in-Err-clause-reads g c = search rules
 
-pub returns-in-Err-Read-clause-shows : goal.returns-in-Err-Read-clause-shows
-returns-in-Err-Read-clause-shows g c = search rules
 
-pub returns-in-Err-Write-clause-shows : goal.returns-in-Err-Write-clause-shows
-returns-in-Err-Write-clause-shows g c = search rules
 
 pub returns-in-Err-Write-clause-reads : goal.returns-in-Err-Write-clause-reads
 returns-in-Err-Write-clause-reads g c = search rules
 
-pub returns-in-Ok-close-2-clause-shows : goal.returns-in-Ok-close-2-clause-shows
-returns-in-Ok-close-2-clause-shows g c = search rules
 
 pub returns-in-Ok-close-2-clause-reads : goal.returns-in-Ok-close-2-clause-reads
 returns-in-Ok-close-2-clause-reads g c = search rules
 
-pub returns-in-Err-close-clause-shows : goal.returns-in-Err-close-clause-shows
-returns-in-Err-close-clause-shows g c = search rules
 
 pub returns-in-Err-close-clause-reads : goal.returns-in-Err-close-clause-reads
 returns-in-Err-close-clause-reads g c = search rules

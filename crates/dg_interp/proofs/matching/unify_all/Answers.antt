@@ -1,4 +1,4 @@
-use Rattle.std.proofs.Common.{rules, inl, inr}
+use Rattle.std.proofs.Common.{inl, inr}
 use Rattle.dg_interp.proofs.MatchLemmas.{matched, match_full, match_clash, match_on}
 use Rattle.dg_interp.proofs.matching.unify_all.Goals as goal
 
@@ -27,54 +27,3 @@ returns-else-at-head-clause-unified g c =
 pub returns-after-pairs-clause-unified : goal.returns-after-pairs-clause-unified
 returns-after-pairs-clause-unified g c =
     matched (g.B.Bindings.meaning c.args.store.now) (g.B.Bindings.meaning c.pairs.store) c.args.args.now c.args.head.now c.pairs.at (g.met.B.Bindings.sound c.pairs.store) c.pairs.invariant.matching (inl c.pairs-test.false)
-
-pub pairs-init : goal.pairs-init
-pairs-init g c = search rules
-
-pub offset_bounds-args-at : goal.offset_bounds-args-at
-offset_bounds-args-at g c = search rules
-
-pub bounds-args-at : goal.bounds-args-at
-bounds-args-at g c = search rules
-
-pub offset_bounds-head-at : goal.offset_bounds-head-at
-offset_bounds-head-at g c = search rules
-
-pub bounds-head-at : goal.bounds-head-at
-bounds-head-at g c = search rules
-
-pub unify-requires-clause-a_in : goal.unify-requires-clause-a_in
-unify-requires-clause-a_in g c = search rules
-
-pub unify-requires-clause-b_in : goal.unify-requires-clause-b_in
-unify-requires-clause-b_in g c = search rules
-
-pub returns-in-Err-clause-kept : goal.returns-in-Err-clause-kept
-returns-in-Err-clause-kept g c = search rules
-
-pub returns-in-Err-clause-saved : goal.returns-in-Err-clause-saved
-returns-in-Err-clause-saved g c = search rules
-
-pub overflow_add-at : goal.overflow_add-at
-overflow_add-at g c = search rules
-
-pub pairs-smaller : goal.pairs-smaller
-pairs-smaller g c = search rules
-
-pub returns-in-Ok-false-clause-kept : goal.returns-in-Ok-false-clause-kept
-returns-in-Ok-false-clause-kept g c = search rules
-
-pub returns-in-Ok-false-clause-saved : goal.returns-in-Ok-false-clause-saved
-returns-in-Ok-false-clause-saved g c = search rules
-
-pub returns-else-at-head-clause-kept : goal.returns-else-at-head-clause-kept
-returns-else-at-head-clause-kept g c = search rules
-
-pub returns-else-at-head-clause-saved : goal.returns-else-at-head-clause-saved
-returns-else-at-head-clause-saved g c = search rules
-
-pub returns-after-pairs-clause-kept : goal.returns-after-pairs-clause-kept
-returns-after-pairs-clause-kept g c = search rules
-
-pub returns-after-pairs-clause-saved : goal.returns-after-pairs-clause-saved
-returns-after-pairs-clause-saved g c = search rules

@@ -1,6 +1,6 @@
 use Rattle.std.proofs.Common.{arith, rules, ap, ◌∙◌}
 use Rattle.std.specs.Prelude.{encode_utf8}
-use Rattle.dg_interp.proofs.PrintLemmas.{letter_more, letters_end}
+use Rattle.dg_interp.proofs.PrintLemmas.{letter_more, letters_end, room_left}
 use Rattle.dg_interp.proofs.printing.text_into.Goals as goal
 
 pub letters-preserved : goal.letters-preserved
@@ -14,14 +14,6 @@ letters-preserved g c = record {
 pub returns : goal.returns
 returns g c = λ spelling at. letters_end spelling c.letters.buffer c.letters.at c.letters.len (c.letters.invariant.text spelling at) (search rules) at.short c.letters.invariant.room
 
-pub letters-init : goal.letters-init
-letters-init g c = search rules
-
-pub letter-requires : goal.letter-requires
-letter-requires g c = search rules
-
-pub letter_of-requires : goal.letter_of-requires
-letter_of-requires g c = search rules
 
 pub slice_bounds-encode_utf8-end : goal.slice_bounds-encode_utf8-end
 slice_bounds-encode_utf8-end g c = search rules
@@ -32,11 +24,7 @@ encode_utf8-requires g c = search rules
 pub as_bytes-text-requires : goal.as_bytes-text-requires
 as_bytes-text-requires g c = search rules
 
-pub overflow_add-len : goal.overflow_add-len
-overflow_add-len g c = search rules
-
-pub overflow_add-at : goal.overflow_add-at
-overflow_add-at g c = search rules
-
-pub letters-smaller : goal.letters-smaller
-letters-smaller g c = search rules
+pub append-requires : goal.append-requires
+append-requires g c =
+    let spelling = c.requires.0 in
+    room_left spelling c.letters.buffer c.letters.at c.letters.len c.in-Some.letter _ (c.letters.invariant.text spelling c.requires.1) (search rules) c.requires.1.short c.letters.invariant.room (search rules)

@@ -36,11 +36,7 @@ heads-init g c = search rules
 pub pair-requires-clause-tail_in : goal.pair-requires-clause-tail_in
 pair-requires-clause-tail_in g c = search rules
 
-pub returns-in-Err-clause-kept : goal.returns-in-Err-clause-kept
-returns-in-Err-clause-kept g c = search rules
 
-pub returns-in-Err-clause-saved : goal.returns-in-Err-clause-saved
-returns-in-Err-clause-saved g c = search rules
 
 pub returns-in-Err-clause-written : goal.returns-in-Err-clause-written
 returns-in-Err-clause-written g c =
@@ -57,11 +53,7 @@ returns-in-Err-clause-taken g c = search rules
 pub heads-smaller : goal.heads-smaller
 heads-smaller g c = search rules
 
-pub returns-clause-kept : goal.returns-clause-kept
-returns-clause-kept g c = search rules
 
-pub returns-clause-saved : goal.returns-clause-saved
-returns-clause-saved g c = search rules
 
 pub returns-clause-written : goal.returns-clause-written
 returns-clause-written g c =

@@ -103,17 +103,8 @@ write_args-requires-clause-plain c = search rules
 pub rules_of-rules-requires : goal.rules_of-rules-requires
 rules_of-rules-requires c = search rules
 
-pub returns-then-is_empty-clause-left : goal.returns-then-is_empty-clause-left
-returns-then-is_empty-clause-left c = search rules
 
-pub returns-in-Err-push-clause-asked : goal.returns-in-Err-push-clause-asked
-returns-in-Err-push-clause-asked c = search rules
 
-pub returns-in-Err-push-clause-full : goal.returns-in-Err-push-clause-full
-returns-in-Err-push-clause-full c = search rules
-
-pub returns-in-Err-push-clause-left : goal.returns-in-Err-push-clause-left
-returns-in-Err-push-clause-left c = search rules
 
 pub mark-place-requires : goal.mark-place-requires
 mark-place-requires c = search rules
@@ -124,23 +115,7 @@ overflow_add-self c = search rules
 pub back-requires-in-Ok-false : goal.back-requires-in-Ok-false
 back-requires-in-Ok-false c = search rules
 
-pub returns-in-Err-clause-asked : goal.returns-in-Err-clause-asked
-returns-in-Err-clause-asked c = search rules
 
-pub returns-in-Err-clause-left : goal.returns-in-Err-clause-left
-returns-in-Err-clause-left c = search rules
 
-pub returns-in-Err-begin_rule-clause-asked : goal.returns-in-Err-begin_rule-clause-asked
-returns-in-Err-begin_rule-clause-asked c = search rules
 
-pub returns-in-Err-begin_rule-clause-left : goal.returns-in-Err-begin_rule-clause-left
-returns-in-Err-begin_rule-clause-left c = search rules
 
-pub returns-in-Ok-true-clause-full : goal.returns-in-Ok-true-clause-full
-returns-in-Ok-true-clause-full c = search rules
-
-pub returns-in-Ok-true-clause-left : goal.returns-in-Ok-true-clause-left
-returns-in-Ok-true-clause-left c = search rules
-
-pub returns-in-Ok-false-clause-left : goal.returns-in-Ok-false-clause-left
-returns-in-Ok-false-clause-left c = search rules

@@ -46,65 +46,18 @@ begin_frame-requires-clause-count c = search rules
 pub begin_frame-requires-clause-place : goal.begin_frame-requires-clause-place
 begin_frame-requires-clause-place c = search rules
 
-pub returns-in-Rules-clause-tried : goal.returns-in-Rules-clause-tried
-returns-in-Rules-clause-tried c = search rules
 
-pub returns-in-Rules-clause-fewer : goal.returns-in-Rules-clause-fewer
-returns-in-Rules-clause-fewer c = search rules
 
-pub returns-in-Rules-clause-full : goal.returns-in-Rules-clause-full
-returns-in-Rules-clause-full c = search rules
 
-pub returns-in-Rules-clause-left : goal.returns-in-Rules-clause-left
-returns-in-Rules-clause-left c = search rules
 
-pub returns-in-Ok-clause-tried : goal.returns-in-Ok-clause-tried
-returns-in-Ok-clause-tried c = search rules
 
-pub returns-in-Ok-clause-fewer : goal.returns-in-Ok-clause-fewer
-returns-in-Ok-clause-fewer c = search rules
 
-pub returns-in-Ok-clause-full : goal.returns-in-Ok-clause-full
-returns-in-Ok-clause-full c = search rules
 
-pub returns-in-Ok-clause-left : goal.returns-in-Ok-clause-left
-returns-in-Ok-clause-left c = search rules
 
-pub returns-in-Err-clause-tried : goal.returns-in-Err-clause-tried
-returns-in-Err-clause-tried c = search rules
 
-pub returns-in-Err-clause-fewer : goal.returns-in-Err-clause-fewer
-returns-in-Err-clause-fewer c = search rules
 
-pub returns-in-Err-clause-full : goal.returns-in-Err-clause-full
-returns-in-Err-clause-full c = search rules
 
-pub returns-in-Err-clause-left : goal.returns-in-Err-clause-left
-returns-in-Err-clause-left c = search rules
 
-pub returns-in-Ok-begin_frame-clause-fewer : goal.returns-in-Ok-begin_frame-clause-fewer
-returns-in-Ok-begin_frame-clause-fewer c = search rules
 
-pub returns-in-Ok-begin_frame-clause-full : goal.returns-in-Ok-begin_frame-clause-full
-returns-in-Ok-begin_frame-clause-full c = search rules
 
-pub returns-in-Ok-begin_frame-clause-left : goal.returns-in-Ok-begin_frame-clause-left
-returns-in-Ok-begin_frame-clause-left c = search rules
 
-pub returns-in-Err-begin_frame-clause-tried : goal.returns-in-Err-begin_frame-clause-tried
-returns-in-Err-begin_frame-clause-tried c = search rules
-
-pub returns-in-Err-begin_frame-clause-fewer : goal.returns-in-Err-begin_frame-clause-fewer
-returns-in-Err-begin_frame-clause-fewer c = search rules
-
-pub returns-in-Err-begin_frame-clause-left : goal.returns-in-Err-begin_frame-clause-left
-returns-in-Err-begin_frame-clause-left c = search rules
-
-pub returns-in-Way-clause-fewer : goal.returns-in-Way-clause-fewer
-returns-in-Way-clause-fewer c = search rules
-
-pub returns-in-Way-clause-full : goal.returns-in-Way-clause-full
-returns-in-Way-clause-full c = search rules
-
-pub returns-in-Way-clause-left : goal.returns-in-Way-clause-left
-returns-in-Way-clause-left c = search rules

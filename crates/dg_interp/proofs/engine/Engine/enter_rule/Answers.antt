@@ -35,29 +35,14 @@ returns-in-Ok-true-clause-tried c =
     (first_and_rest all c.rule-item.result (length all - 1) c.requires.left.0 c.rule-item.is (omega arith)) c.keep.ensures.kept c.keep.ensures.saved c.in_default-keep.ensures.taken c.enter.new.store c.enter.new.refs c.enter.new.head c.in-Ok-true.field-0
     (rw h at (rw r at c.in_default-keep.ensures.choices)) c.enter.ensures.kept c.enter.ensures.saved c.in-Ok-true.ensures.entered c.as_slice.result c.as_slice.ensures c.in-Ok-true.field-0-test))
 
-pub slice_bounds-others-count : goal.slice_bounds-others-count
-slice_bounds-others-count c = search rules
 
-pub bounds-rules-0 : goal.bounds-rules-0
-bounds-rules-0 c = search rules
 
-pub slice_bounds-others-start : goal.slice_bounds-others-start
-slice_bounds-others-start c = search rules
-
-pub slice_bounds-others-end : goal.slice_bounds-others-end
-slice_bounds-others-end c = search rules
 
 pub keep-requires : goal.keep-requires
 keep-requires c = search rules
 
-pub returns-in-Err-clause-tried : goal.returns-in-Err-clause-tried
-returns-in-Err-clause-tried c = search rules
 
-pub returns-in-Err-clause-fewer : goal.returns-in-Err-clause-fewer
-returns-in-Err-clause-fewer c = search rules
 
-pub returns-in-Err-clause-left : goal.returns-in-Err-clause-left
-returns-in-Err-clause-left c = search rules
 
 pub enter-requires-clause-hold : goal.enter-requires-clause-hold
 enter-requires-clause-hold c = search rules
@@ -68,29 +53,9 @@ enter-requires-clause-args c = search rules
 pub enter-requires-clause-plain : goal.enter-requires-clause-plain
 enter-requires-clause-plain c = search rules
 
-pub returns-in-Err-enter-clause-tried : goal.returns-in-Err-enter-clause-tried
-returns-in-Err-enter-clause-tried c = search rules
 
-pub returns-in-Err-enter-clause-fewer : goal.returns-in-Err-enter-clause-fewer
-returns-in-Err-enter-clause-fewer c = search rules
 
-pub returns-in-Err-enter-clause-left : goal.returns-in-Err-enter-clause-left
-returns-in-Err-enter-clause-left c = search rules
 
-pub returns-in-Ok-true-clause-fewer : goal.returns-in-Ok-true-clause-fewer
-returns-in-Ok-true-clause-fewer c = search rules
 
-pub returns-in-Ok-true-clause-full : goal.returns-in-Ok-true-clause-full
-returns-in-Ok-true-clause-full c = search rules
 
-pub returns-in-Ok-true-clause-left : goal.returns-in-Ok-true-clause-left
-returns-in-Ok-true-clause-left c = search rules
 
-pub returns-in-Ok-false-clause-fewer : goal.returns-in-Ok-false-clause-fewer
-returns-in-Ok-false-clause-fewer c = search rules
-
-pub returns-in-Ok-false-clause-full : goal.returns-in-Ok-false-clause-full
-returns-in-Ok-false-clause-full c = search rules
-
-pub returns-in-Ok-false-clause-left : goal.returns-in-Ok-false-clause-left
-returns-in-Ok-false-clause-left c = search rules

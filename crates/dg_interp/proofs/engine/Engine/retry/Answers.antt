@@ -1,7 +1,7 @@
 use Rattle.std.proofs.Common.{rules, refl, arith}
 use Rattle.dg_interp.specs.Frames.{left_in}
 use Rattle.dg_interp.specs.Engine.{FailsAt, BeginsAt, store_in}
-use Rattle.dg_interp.proofs.Branches.{none_popped, popped_sound, popped_place, popped_limits, begins_popped, fewer_left, retried_from, full_from, popped_left}
+use Rattle.dg_interp.proofs.Branches.{none_popped, popped_sound, popped_place, popped_limits, begins_popped, fewer_left, retried_from, full_from, popped_left, may_undo}
 use Rattle.dg_interp.proofs.engine.Engine.retry.Goals as goal
 
 pub begin-requires-clause-sound : goal.begin-requires-clause-sound
@@ -51,3 +51,6 @@ returns-in-Err-clause-retried c = tt
 
 pub returns-in-Err-clause-left : goal.returns-in-Err-clause-left
 returns-in-Err-clause-left c = search rules
+
+pub undo-requires : goal.undo-requires
+undo-requires c = may_undo c.args.self.now c.in-Some.choice c.pop.new.self c.requires.sound c.in-Some.ensures.items
