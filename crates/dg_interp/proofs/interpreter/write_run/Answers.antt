@@ -1,4 +1,4 @@
-use Rattle.std.proofs.Common.{rules, []}
+use Rattle.std.proofs.Common.{[]}
 use Rattle.dg_base.specs.Written.{view}
 use Rattle.dg_interp.proofs.Whole.{left_within, has_shown, closing_lost, text_lost, nothing_read, memory_shown, memory_closing_lost}
 use Rattle.dg_interp.proofs.interpreter.write_run.Goals as goal
@@ -33,23 +33,3 @@ returns-in-Ok-close-2-clause-err g c = λ dice typed told is.
 pub returns-in-Err-close-clause-err : goal.returns-in-Err-close-clause-err
 returns-in-Err-close-clause-err g c = λ dice typed told is.
     memory_closing_lost c.args.program.now c.args.limits.now c.args.engine.now c.requires.starts c.new-spacer.result c.run.new.spacer _ _ c.new-spacer.ensures dice typed _ (rw c.in-Err-OutOfMemory.field-0-is at c.in-Err-OutOfMemory.ensures.err) c.in-Err-close.ensures.err
-
-pub returns-in-Ok-close-clause-reads : goal.returns-in-Ok-close-clause-reads
-returns-in-Ok-close-clause-reads g c = search rules
-
-
-pub returns-in-Err-clause-reads : goal.returns-in-Err-clause-reads
-returns-in-Err-clause-reads g c = search rules
-
-
-
-pub returns-in-Err-Write-clause-reads : goal.returns-in-Err-Write-clause-reads
-returns-in-Err-Write-clause-reads g c = search rules
-
-
-pub returns-in-Ok-close-2-clause-reads : goal.returns-in-Ok-close-2-clause-reads
-returns-in-Ok-close-2-clause-reads g c = search rules
-
-
-pub returns-in-Err-close-clause-reads : goal.returns-in-Err-close-clause-reads
-returns-in-Err-close-clause-reads g c = search rules

@@ -1,4 +1,4 @@
-use Rattle.std.proofs.Common.{arith, rules, ap, ◌∙◌}
+use Rattle.std.proofs.Common.{rules, ap, ◌∙◌}
 use Rattle.std.specs.Prelude.{encode_utf8}
 use Rattle.dg_interp.proofs.PrintLemmas.{letter_more, letters_end, room_left}
 use Rattle.dg_interp.proofs.printing.text_into.Goals as goal
@@ -13,16 +13,6 @@ letters-preserved g c = record {
 
 pub returns : goal.returns
 returns g c = λ spelling at. letters_end spelling c.letters.buffer c.letters.at c.letters.len (c.letters.invariant.text spelling at) (search rules) at.short c.letters.invariant.room
-
-
-pub slice_bounds-encode_utf8-end : goal.slice_bounds-encode_utf8-end
-slice_bounds-encode_utf8-end g c = search rules
-
-pub encode_utf8-requires : goal.encode_utf8-requires
-encode_utf8-requires g c = search rules
-
-pub as_bytes-text-requires : goal.as_bytes-text-requires
-as_bytes-text-requires g c = search rules
 
 pub append-requires : goal.append-requires
 append-requires g c =

@@ -30,14 +30,6 @@ heads-preserved g c =
       made = pairs_on old now new c.heads.invariant.rest c.in-Some.head c.heads.list c.in-Ok.longer (told old c.args.tail) c.heads.invariant.kept holds.1 c.heads.invariant.made c.in-Ok.ensures.made;
     }
 
-pub heads-init : goal.heads-init
-heads-init g c = search rules
-
-pub pair-requires-clause-tail_in : goal.pair-requires-clause-tail_in
-pair-requires-clause-tail_in g c = search rules
-
-
-
 pub returns-in-Err-clause-written : goal.returns-in-Err-clause-written
 returns-in-Err-clause-written g c =
     let old = g.B.Bindings.meaning c.args.store.now in
@@ -46,14 +38,6 @@ returns-in-Err-clause-written g c =
     let le : c.args.height ≤ length c.pop.new.self.items = search rules in
     let more : 3 * length c.heads.invariant.rest + 3 ≤ 3 * (length c.args.from.now.items - c.args.height) = pairs_left c.args.from.now.items c.heads.from.items c.pop.new.self.items c.heads.invariant.rest c.in-Some.head c.args.height c.heads.invariant.is items le in
     pairs_full old now (g.B.Bindings.meaning c.pair.new.self) (3 * length c.heads.invariant.rest) (3 * (length c.args.from.now.items - c.args.height)) c.heads.list _ more c.heads.invariant.kept c.heads.invariant.made c.in-Err.e c.in-Err.ensures.made
-
-pub returns-in-Err-clause-taken : goal.returns-in-Err-clause-taken
-returns-in-Err-clause-taken g c = search rules
-
-pub heads-smaller : goal.heads-smaller
-heads-smaller g c = search rules
-
-
 
 pub returns-clause-written : goal.returns-clause-written
 returns-clause-written g c =

@@ -1,4 +1,4 @@
-use Rattle.std.proofs.Common.{rules, length}
+use Rattle.std.proofs.Common.{length}
 use Rattle.dg_interp.specs.declared.frames.Left.TheVariants.{Ways}
 use Rattle.dg_interp.proofs.Begins.{way_begun}
 use Rattle.dg_interp.proofs.BeginFrames.{ways_begin}
@@ -24,40 +24,3 @@ returns-in-Err-begin_frame-clause-full c = rw c.in-Ways.is (c.in-Err-begin_frame
 
 pub returns-in-Way-clause-tried : goal.returns-in-Way-clause-tried
 returns-in-Way-clause-tried c = rw c.in-Way.is (way_begun c.args.self.now c.in-Way.frame c.args.place c.requires.sound (rw c.in-Way.is at c.requires.left))
-
-pub begin_rule-requires-clause-sound : goal.begin_rule-requires-clause-sound
-begin_rule-requires-clause-sound c = search rules
-
-pub begin_rule-requires-clause-place : goal.begin_rule-requires-clause-place
-begin_rule-requires-clause-place c = search rules
-
-pub begin_list-requires-clause-sound : goal.begin_list-requires-clause-sound
-begin_list-requires-clause-sound c = search rules
-
-pub begin_list-requires-clause-place : goal.begin_list-requires-clause-place
-begin_list-requires-clause-place c = search rules
-
-pub begin_frame-requires-clause-sound : goal.begin_frame-requires-clause-sound
-begin_frame-requires-clause-sound c = search rules
-
-pub begin_frame-requires-clause-count : goal.begin_frame-requires-clause-count
-begin_frame-requires-clause-count c = search rules
-
-pub begin_frame-requires-clause-place : goal.begin_frame-requires-clause-place
-begin_frame-requires-clause-place c = search rules
-
-
-
-
-
-
-
-
-
-
-
-
-
-
-
-

@@ -1,4 +1,4 @@
-use Rattle.std.proofs.Common.{arith, rules, ◌∷◌}
+use Rattle.std.proofs.Common.{◌∷◌}
 use Rattle.dg_interp.proofs.Pieces.{piece_added, piece_broke, separator_broke}
 use Rattle.dg_interp.proofs.spacer.Spacer.object.Goals as goal
 
