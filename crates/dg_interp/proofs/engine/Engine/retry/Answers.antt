@@ -1,4 +1,4 @@
-use Rattle.std.proofs.Common.{rules, refl, arith}
+use Rattle.std.proofs.Common.{refl, arith}
 use Rattle.dg_interp.specs.Frames.{left_in}
 use Rattle.dg_interp.specs.Engine.{FailsAt, BeginsAt, store_in}
 use Rattle.dg_interp.proofs.Branches.{none_popped, popped_sound, popped_place, popped_limits, begins_popped, fewer_left, retried_from, full_from, popped_left, may_undo}
@@ -33,24 +33,6 @@ returns-in-Err-clause-full c =
 
 pub begin-requires-clause-left : goal.begin-requires-clause-left
 begin-requires-clause-left c = popped_left c.args.self.now c.in-Some.choice c.pop.new.self c.requires.sound c.in-Some.ensures.items c.truncate.new.self c.truncate-in-Some.new.self c.undo.new.self c.truncate.ensures.items c.truncate-in-Some.ensures.items c.undo.ensures.back c.undo.ensures.saved
-
-pub returns-in-None-clause-full : goal.returns-in-None-clause-full
-returns-in-None-clause-full c = tt
-
-pub returns-in-None-clause-left : goal.returns-in-None-clause-left
-returns-in-None-clause-left c = search rules
-
-pub returns-in-Ok-clause-full : goal.returns-in-Ok-clause-full
-returns-in-Ok-clause-full c = tt
-
-pub returns-in-Ok-clause-left : goal.returns-in-Ok-clause-left
-returns-in-Ok-clause-left c = search rules
-
-pub returns-in-Err-clause-retried : goal.returns-in-Err-clause-retried
-returns-in-Err-clause-retried c = tt
-
-pub returns-in-Err-clause-left : goal.returns-in-Err-clause-left
-returns-in-Err-clause-left c = search rules
 
 pub undo-requires : goal.undo-requires
 undo-requires c = may_undo c.args.self.now c.in-Some.choice c.pop.new.self c.requires.sound c.in-Some.ensures.items
