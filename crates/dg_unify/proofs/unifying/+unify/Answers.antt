@@ -3,7 +3,7 @@ use Rattle.dg_meaning.specs.Unify.{unify as unified}
 use Rattle.dg_unify.specs.Store.{told, Does}
 use Rattle.dg_unify.specs.Turns.{AreLeft}
 use Rattle.dg_unify.proofs.StoreLemmas.{kept_on}
-use Rattle.dg_unify.proofs.Goings.{going_ends, going_on, none_done, last_goes, first_need, first_full, first_clash, first_goes, unify_steps, unify_goes}
+use Rattle.dg_unify.proofs.Goings.{going_ends, going_on, none_done, last_goes, first_need, first_full, first_clash, first_goes, unify_steps, unify_goes, going_starts, last_ends}
 use Rattle.dg_unify.specs.Known.{AreEqual}
 use Rattle.dg_unify.proofs.KnownLemmas.{equal_behind, equal_made}
 use Rattle.dg_unify.proofs.unifying.+unify.Goals as goal
@@ -124,3 +124,80 @@ solve-returns-in-Ok-Done-clause-known g t c = λ e.
     let new = g.B.Bindings.meaning c.turn.new.store in
     let h : Does now new (unified now.state.subst (told now c.in-Some.first.a) (told now c.in-Some.first.b)) c.in-Ok-Done.agreed = rw c.in-Ok-Done.field-0-is at c.in-Ok-Done.ensures.met in
     equal_behind now new (g.met.B.Bindings.sound c.turns.store) c.turns.known (told now c.in-Some.first.a) (told now c.in-Some.first.b) c.in-Ok-Done.agreed c.in-Ok-Done.ensures.kept h c.turns.invariant.known
+
+pub solve-turns-init : goal.solve-turns-init
+solve-turns-init g t c = record { going = going_starts (g.B.Bindings.meaning c.args.store.now) c.args.p c.args.q c.requires.p_in c.requires.q_in; saved = λ ms k. k; known = c.requires.known_in }
+
+pub solve-returns-in-Err-clause-follows : goal.solve-returns-in-Err-clause-follows
+solve-returns-in-Err-clause-follows g t c =
+    let old = g.B.Bindings.meaning c.args.store.now in
+    let now = g.B.Bindings.meaning c.turns.store in
+    let new = g.B.Bindings.meaning c.turn.new.store in
+    going_ends old now new c.args.p c.args.q c.turns.p c.turns.q c.turns.invariant.going (Err c.in-Err.e)
+    (last_ends now (g.met.B.Bindings.sound c.turns.store) c.turns.p c.turns.q c.in-Some.first c.in-Some.ensures (search rules) new (Err c.in-Err.e) c.in-Err.ensures.met)
+
+pub solve-returns-in-Ok-Done-clause-follows : goal.solve-returns-in-Ok-Done-clause-follows
+solve-returns-in-Ok-Done-clause-follows g t c =
+    let old = g.B.Bindings.meaning c.args.store.now in
+    let now = g.B.Bindings.meaning c.turns.store in
+    let new = g.B.Bindings.meaning c.turn.new.store in
+    let h : Does now new (unified now.state.subst (told now c.in-Some.first.a) (told now c.in-Some.first.b)) c.in-Ok-Done.agreed = rw c.in-Ok-Done.field-0-is at c.in-Ok-Done.ensures.met in
+    going_ends old now new c.args.p c.args.q c.turns.p c.turns.q c.turns.invariant.going (Ok c.in-Ok-Done.agreed)
+    (last_ends now (g.met.B.Bindings.sound c.turns.store) c.turns.p c.turns.q c.in-Some.first c.in-Some.ensures (search rules) new (Ok c.in-Ok-Done.agreed) h)
+
+pub solve-returns-in-Err-clause-kept : goal.solve-returns-in-Err-clause-kept
+solve-returns-in-Err-clause-kept g t c = kept_on (g.B.Bindings.meaning c.args.store.now) (g.B.Bindings.meaning c.turns.store) (g.B.Bindings.meaning c.turn.new.store) c.turns.invariant.going.kept c.turn.ensures.kept
+
+pub solve-returns-in-Err-clause-saved : goal.solve-returns-in-Err-clause-saved
+solve-returns-in-Err-clause-saved g t c = λ ms k. c.turn.ensures.saved ms (c.turns.invariant.saved ms k)
+
+pub solve-returns-in-Ok-Done-clause-kept : goal.solve-returns-in-Ok-Done-clause-kept
+solve-returns-in-Ok-Done-clause-kept g t c = kept_on (g.B.Bindings.meaning c.args.store.now) (g.B.Bindings.meaning c.turns.store) (g.B.Bindings.meaning c.turn.new.store) c.turns.invariant.going.kept c.turn.ensures.kept
+
+pub solve-returns-in-Ok-Done-clause-saved : goal.solve-returns-in-Ok-Done-clause-saved
+solve-returns-in-Ok-Done-clause-saved g t c = λ ms k. c.turn.ensures.saved ms (c.turns.invariant.saved ms k)
+
+pub solve-returns-in-Err-agree-clause-kept : goal.solve-returns-in-Err-agree-clause-kept
+solve-returns-in-Err-agree-clause-kept g t c = kept_on (g.B.Bindings.meaning c.args.store.now) (g.B.Bindings.meaning c.turns.store) (g.B.Bindings.meaning c.agree.new.store) c.turns.invariant.going.kept c.agree.ensures.kept
+
+pub solve-returns-in-Err-agree-clause-saved : goal.solve-returns-in-Err-agree-clause-saved
+solve-returns-in-Err-agree-clause-saved g t c = λ ms k. c.agree.ensures.saved ms (c.turns.invariant.saved ms k)
+
+pub solve-returns-then-not-agreed-clause-kept : goal.solve-returns-then-not-agreed-clause-kept
+solve-returns-then-not-agreed-clause-kept g t c = kept_on (g.B.Bindings.meaning c.args.store.now) (g.B.Bindings.meaning c.turns.store) (g.B.Bindings.meaning c.agree.new.store) c.turns.invariant.going.kept c.agree.ensures.kept
+
+pub solve-returns-then-not-agreed-clause-saved : goal.solve-returns-then-not-agreed-clause-saved
+solve-returns-then-not-agreed-clause-saved g t c = λ ms k. c.agree.ensures.saved ms (c.turns.invariant.saved ms k)
+
+pub agree-returns-in-Err-solve-clause-kept : goal.agree-returns-in-Err-solve-clause-kept
+agree-returns-in-Err-solve-clause-kept g t c = kept_on (g.B.Bindings.meaning c.args.store.now) (g.B.Bindings.meaning c.turn.new.store) (g.B.Bindings.meaning c.solve.new.store) c.turn.ensures.kept c.solve.ensures.kept
+
+pub agree-returns-in-Err-solve-clause-saved : goal.agree-returns-in-Err-solve-clause-saved
+agree-returns-in-Err-solve-clause-saved g t c = λ ms k. c.solve.ensures.saved ms (c.turn.ensures.saved ms k)
+
+pub agree-returns-then-agreed-clause-kept : goal.agree-returns-then-agreed-clause-kept
+agree-returns-then-agreed-clause-kept g t c = kept_on (g.B.Bindings.meaning c.args.store.now) (g.B.Bindings.meaning c.turn.new.store) (g.B.Bindings.meaning c.solve.new.store) c.turn.ensures.kept c.solve.ensures.kept
+
+pub agree-returns-then-agreed-clause-saved : goal.agree-returns-then-agreed-clause-saved
+agree-returns-then-agreed-clause-saved g t c = λ ms k. c.solve.ensures.saved ms (c.turn.ensures.saved ms k)
+
+pub agree-returns-else-agreed-clause-kept : goal.agree-returns-else-agreed-clause-kept
+agree-returns-else-agreed-clause-kept g t c = kept_on (g.B.Bindings.meaning c.args.store.now) (g.B.Bindings.meaning c.turn.new.store) (g.B.Bindings.meaning c.solve.new.store) c.turn.ensures.kept c.solve.ensures.kept
+
+pub agree-returns-else-agreed-clause-saved : goal.agree-returns-else-agreed-clause-saved
+agree-returns-else-agreed-clause-saved g t c = λ ms k. c.solve.ensures.saved ms (c.turn.ensures.saved ms k)
+
+pub solve-returns-in-None-clause-kept : goal.solve-returns-in-None-clause-kept
+solve-returns-in-None-clause-kept g t c = c.turns.invariant.going.kept
+
+pub solve-returns-in-None-clause-saved : goal.solve-returns-in-None-clause-saved
+solve-returns-in-None-clause-saved g t c = c.turns.invariant.saved
+
+pub solve-returns-in-None-clause-known : goal.solve-returns-in-None-clause-known
+solve-returns-in-None-clause-known g t c = λ e. c.turns.invariant.known
+
+pub agree-returns-in-Err-clause-unified : goal.agree-returns-in-Err-clause-unified
+agree-returns-in-Err-clause-unified g t c = c.in-Err.ensures.met
+
+pub agree-returns-in-Ok-Done-clause-unified : goal.agree-returns-in-Ok-Done-clause-unified
+agree-returns-in-Ok-Done-clause-unified g t c = rw c.in-Ok-Done.field-0-is at c.in-Ok-Done.ensures.met

@@ -1,6 +1,6 @@
 use Rattle.std.proofs.Common.{arith, true}
 use Rattle.dg_unify.specs.Listed.{fields_of}
-use Rattle.dg_unify.proofs.Reading.{shows_pair, shows_closure, shows_unknown, no_captured, no_letter}
+use Rattle.dg_unify.proofs.Reading.{shows_pair, shows_closure, shows_unknown, no_captured, no_letter, shows_var}
 use Rattle.dg_unify.proofs.list.ListBindings.view_of.Goals as goal
 
 pub returns-in-Pair : goal.returns-in-Pair
@@ -17,3 +17,6 @@ returns-in-Captured c = absurd (no_captured (fields_of c.args.self.now) c.args.s
 
 pub returns-in-Letter : goal.returns-in-Letter
 returns-in-Letter c = absurd (no_letter (fields_of c.args.self.now) c.args.self.now.sound c.args.at c.requires.told (omega arith) c.index.result.now c.index.ensures c.in-Letter.field-0 c.in-Letter.is)
+
+pub returns-in-Var : goal.returns-in-Var
+returns-in-Var c = shows_var (fields_of c.args.self.now) c.args.self.now.sound c.args.at c.requires.told (omega arith) c.index.result.now c.index.ensures c.in-Var.field-0 c.in-Var.is true

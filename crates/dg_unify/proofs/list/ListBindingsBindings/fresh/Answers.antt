@@ -1,4 +1,4 @@
-use Rattle.std.proofs.Common.{rules, ◌≡◌, ◌+◌, arith, List, [], ◌∷◌, ◌++◌, refl, true}
+use Rattle.std.proofs.Common.{rules, ◌≡◌, ◌+◌, ◌≤◌, arith, List, [], ◌∷◌, ◌++◌, refl, true}
 use Rattle.std.proofs.lemmas.Grind.{common_steps}
 use Rattle.dg_unify.specs.Linked.{log_of, vars_of}
 use Rattle.dg_unify.specs.Slots.{Fields}
@@ -54,3 +54,18 @@ returns-else-is_err-clause-made c =
     let g = grown_slots f f' extra es el refl refl in
     let ev : f'.vars ≡ f.vars + 1 = search rules in
     fresh_made true f f' (record { 0 = c.in-Ok.at }) c.args.self.now.sound g ev refl refl refl (omega (arith, c.args.self.now.sound.heap_fits)) (var_at f.slots f'.slots f.vars c.in-Ok.at es (omega (arith, c.in-Ok.ensures.place)) (omega (arith, c.in-Ok.ensures.within)))
+
+pub returns-then-is_err-clause-made : goal.returns-then-is_err-clause-made
+returns-then-is_err-clause-made c =
+    let room : c.args.self.now.heap + 1 ≤ c.args.self.now.heap_limit = omega (arith, c.args.self.now.sound.heap_fits) in
+    search rules
+
+pub overflow_add-self : goal.overflow_add-self
+overflow_add-self c =
+    let room : c.args.self.now.heap + 1 ≤ c.args.self.now.heap_limit = omega (arith, c.args.self.now.sound.heap_fits) in
+    search rules
+
+pub returns-in-Err-clause-made : goal.returns-in-Err-clause-made
+returns-in-Err-clause-made c =
+    let room : c.args.self.now.heap + 1 ≤ c.args.self.now.heap_limit = omega (arith, c.args.self.now.sound.heap_fits) in
+    search rules
