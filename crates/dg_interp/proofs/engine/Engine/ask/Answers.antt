@@ -90,3 +90,6 @@ returns-in-Ok-false-clause-asked c =
     (asks_some c.args.self.now c.args.query c.args.terms.now c.write_args.new.store c.write_args.new.refs c.write_args.new.made c.in-Ok.args c.requires.ready c.write_args.ensures.kept c.write_args.ensures.saved c.in-Ok.ensures.written c.rules_of-rules.result c.rules_of-rules.ensures c.mark-place.result c.push.new.self c.mark-place.new.self
     c.in_default.ensures.items c.mark-place.ensures.kept c.mark-place.ensures.same c.mark-place.ensures.saved) (rw c.in-Ok-false.field-0-test at c.in-Ok-false.ensures.tried) in
     back_made (TakesAt x c.args.self.now) (FailsAt c.begin_rule.new.self) c.args.self.now c.begin_rule.new.self c.back-in-Ok-false.new.self wrong.left wrong.limits wrong.leads c.back-in-Ok-false.result c.back-in-Ok-false.ensures.back
+
+pub back-requires-in-Ok-false : goal.back-requires-in-Ok-false
+back-requires-in-Ok-false c = search rules

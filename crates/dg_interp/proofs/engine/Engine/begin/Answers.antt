@@ -24,3 +24,21 @@ returns-in-Err-begin_frame-clause-full c = rw c.in-Ways.is (c.in-Err-begin_frame
 
 pub returns-in-Way-clause-tried : goal.returns-in-Way-clause-tried
 returns-in-Way-clause-tried c = rw c.in-Way.is (way_begun c.args.self.now c.in-Way.frame c.args.place c.requires.sound (rw c.in-Way.is at c.requires.left))
+
+pub begin_rule-requires-clause-sound : goal.begin_rule-requires-clause-sound
+begin_rule-requires-clause-sound c = c.requires.sound
+
+pub begin_rule-requires-clause-place : goal.begin_rule-requires-clause-place
+begin_rule-requires-clause-place c = c.requires.place
+
+pub begin_list-requires-clause-sound : goal.begin_list-requires-clause-sound
+begin_list-requires-clause-sound c = c.requires.sound
+
+pub begin_list-requires-clause-place : goal.begin_list-requires-clause-place
+begin_list-requires-clause-place c = c.requires.place
+
+pub begin_frame-requires-clause-sound : goal.begin_frame-requires-clause-sound
+begin_frame-requires-clause-sound c = c.requires.sound
+
+pub begin_frame-requires-clause-place : goal.begin_frame-requires-clause-place
+begin_frame-requires-clause-place c = c.requires.place
