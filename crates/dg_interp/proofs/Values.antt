@@ -5,7 +5,7 @@ use Rattle.std.specs.List.{All}
 use Rattle.std.specs.declared.vec.Vec.{Vec}
 use Rattle.std.specs.declared.alloc.Global.{Global}
 use Rattle.dg_base.specs.declared.program.Goal.{Goal, out-Goal}
-use Rattle.dg_base.specs.declared.program.Goal.TheVariants.{Print, Test, outs-Print, outs-Test}
+use Rattle.dg_base.specs.declared.program.Goal.TheVariants.{Print, Test, outs-Print, outs-Test, Ask, outs-Ask}
 use Rattle.dg_base.specs.declared.program.Term.{Term}
 use Rattle.dg_base.specs.declared.program.TestKind.{TestKind}
 use Rattle.dg_base.specs.declared.program.CoreProgram.{CoreProgram}
@@ -149,6 +149,9 @@ module _ (kind : TestKind) (term : Term) (old : Engine) (store : ListBindings) (
 
 pub test_plain : (kind : TestKind) (term : Term) → IsBuiltGoal (Test kind term) → HasNoClosure term
 test_plain kind term h = all_first HasNoClosure term [] (subst (λ f. All HasNoClosure (terms_held f)) (outs-Test kind term) h.1)
+
+pub ask_plain : (pred : ℕ) (terms : List Term) (many : Bool) → IsBuiltGoal (Ask pred terms many) → All HasNoClosure terms
+ask_plain pred terms many h = subst (λ f. All HasNoClosure (terms_held f)) (outs-Ask pred terms many) h.1
 
 -- ## A printed value
 

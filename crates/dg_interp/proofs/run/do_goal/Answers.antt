@@ -2,7 +2,7 @@ use Rattle.std.specs.Prelude.{Err}
 use Rattle.dg_base.specs.declared.program.Goal.TheVariants.{Print, Equal, Ask, Either, Once, Not, If, Forever, Fail, Just, Test}
 use Rattle.dg_interp.proofs.Runs.{word_done, word_lost, value_done, value_lost, goal_done, goal_does, goal_breaks, goal_quits}
 use Rattle.dg_interp.proofs.Equals.{equal_plain}
-use Rattle.dg_interp.proofs.Values.{print_plain, test_plain}
+use Rattle.dg_interp.proofs.Values.{print_plain, test_plain, ask_plain}
 use Rattle.dg_interp.proofs.Controls.{either_built, once_built, not_built, if_built}
 use Rattle.dg_interp.proofs.run.do_goal.Goals as goal
 
@@ -120,3 +120,6 @@ returns-in-Forever-clause-ok g c =
 
 pub returns-in-Forever-clause-err : goal.returns-in-Forever-clause-err
 returns-in-Forever-clause-err g c = goal_breaks c.take_goal.result.now c.args.engine.now c.take_goal.new.self c.args.spacer.now _ c.requires.goal c.take_goal.ensures.taken c.forever.result c.outcome-in-Forever.result c.outcome-in-Forever.ensures
+
+pub ask-requires-clause-plain : goal.ask-requires-clause-plain
+ask-requires-clause-plain g c = rw c.as_slice-in-Ask.ensures (ask_plain c.in-Ask.pred c.in-Ask.args c.in-Ask.many (rw c.in-Ask.is at c.take_goal.ensures.taken.built))
