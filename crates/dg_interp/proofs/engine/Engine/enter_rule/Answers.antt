@@ -34,3 +34,6 @@ returns-in-Ok-true-clause-tried c =
     (rule_begun c.args.self.now c.args.query c.args.args c.args.rules _ c.rule-item.result c.args.place c.keep.new.store c.keep.new.choices c.requires.sound c.requires.left c.requires.place
     (first_and_rest all c.rule-item.result (length all - 1) c.requires.left.0 c.rule-item.is (omega arith)) c.keep.ensures.kept c.keep.ensures.saved c.in_default-keep.ensures.taken c.enter.new.store c.enter.new.refs c.enter.new.head c.in-Ok-true.field-0
     (rw h at (rw r at c.in_default-keep.ensures.choices)) c.enter.ensures.kept c.enter.ensures.saved c.in-Ok-true.ensures.entered c.as_slice.result c.as_slice.ensures c.in-Ok-true.field-0-test))
+
+pub enter-requires-clause-plain : goal.enter-requires-clause-plain
+enter-requires-clause-plain c = search rules
