@@ -10,3 +10,4 @@ pub mod Finishing
 pub mod Going
 pub mod Loading
 pub mod Lines
+pub mod Signs
