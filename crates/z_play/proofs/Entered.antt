@@ -10,7 +10,7 @@ use Rattle.z_model.specs.Machine.{words}
 use Rattle.z_model.specs.Step.{entered, local_count, locals_from}
 use Rattle.z_play.specs.declared.engine.Called.{Called}
 use Rattle.z_play.specs.declared.engine.Engine.{Engine}
-use Rattle.z_play.specs.View.{callers_view, view_of, callers_of, stack_of, machine, Sound}
+use Rattle.z_play.specs.View.{callers_view, view_of, callers_of, stack_of, machine, Nested, Sound}
 use Rattle.z_play.proofs.Views.{view_words}
 
 views_long : (fs : List Called) (stack : List ℕ) → length (callers_view fs stack) ≡ length fs
@@ -32,6 +32,12 @@ module _ (e : Engine) (sound : Sound e) (end : ℕ) (store : Option ℕ) (a : Ar
     deep_enough : ltb (length (machine e).callers + 1) 8192 ≡ true
     deep_enough = lt-ltb (length (machine e).callers + 1) 8192 (omega (arith, callers_long e sound))
 
+    frames_are : reverse (take (e.depth + 1) (set e.frames.items e.depth e.here)) ≡ e.here ∷ callers_of e
+    frames_are = ap reverse (take_more_set e.frames.items e.depth e.here (omega (arith, sound.room))) ∙ reverse-append (take e.depth e.frames.items) (e.here ∷ [])
+
+    pub frames_nested : Nested (reverse (take (e.depth + 1) (set e.frames.items e.depth e.here))) e.top
+    frames_nested = rw frames_are (sound.here, sound.nested)
+
     pub bad_call : (fault : ZFault) → local_count e.memory.items (8 * a.first) ≡ Err fault → entered (machine e) end store a ≡ Err fault
     unfolding entered
     bad_call fault bad = rw (deep_enough, bad) refl
@@ -51,5 +57,4 @@ module _ (e : Engine) (sound : Sound e) (end : ℕ) (store : Option ℕ) (a : Ar
         let size : length new ≡ n = omega (arith, length-take n (a.second ∷ a.third ∷ a.fourth ∷ 0 ∷ 0 ∷ 0 ∷ 0 ∷ 0 ∷ 0 ∷ 0 ∷ 0 ∷ 0 ∷ 0 ∷ 0 ∷ 0 ∷ [])) in
         let all : take n new ≡ new = take_all n new (omega arith) in
         let none : drop n new ≡ [] = subst (λ (k : ℕ). drop k new ≡ []) size (drop-length new) in
-        let frames : reverse (take (e.depth + 1) (set e.frames.items e.depth e.here)) ≡ e.here ∷ callers_of e = ap reverse (take_more_set e.frames.items e.depth e.here (omega (arith, sound.room))) ∙ reverse-append (take e.depth e.frames.items) (e.here ∷ []) in
-        rw (deep_enough, good, le-ltb 65536 (words (machine e) + n) (omega (arith, words_are e sound)), is, front, rest, all, none, frames) refl
+        rw (deep_enough, good, le-ltb 65536 (words (machine e) + n) (omega (arith, words_are e sound)), is, front, rest, all, none, frames_are) refl
