@@ -1,5 +1,5 @@
 -- The row of an instruction that was read is the one by which it was read.
-use Rattle.std.proofs.Common.{◌≡◌, ◌≢◌, ℕ, Bool, true, false, eqb, ltb, cond, Option, Some, None, Result, Ok, Err, IfOk, refl, sym, ap, ◌∙◌}
+use Rattle.std.proofs.Common.{◌≡◌, ◌≢◌, ℕ, ◌-◌, Bool, true, false, eqb, ltb, cond, Option, Some, None, Result, Ok, Err, IfOk, refl, sym, ap, ◌∙◌}
 use Rattle.std.specs.Prelude.{if◌then◌else◌}
 use Rattle.std.specs.Option.{option_map}
 use Rattle.z_model.specs.declared.fault.ZFault.{ZFault}
@@ -13,7 +13,7 @@ use Rattle.z_model.specs.declared.table.Kind.TheVariants as kinds
 use Rattle.z_model.specs.declared.table.Row.{Row}
 use Rattle.z_model.specs.declared.table.Instr.{Instr}
 use Rattle.z_model.specs.Table.{row_at}
-use Rattle.z_model.specs.Decode.{or_fault, known, counted, count_of, one_type, short_kind}
+use Rattle.z_model.specs.Decode.{or_fault, known, counted, count_of, one_type, short_kind, variable_row}
 use Rattle.z_model.specs.Step.{row_for}
 use Rattle.z_code.specs.declared.decoding.Decoded.{Decoded}
 use Rattle.z_code.specs.Decoded.{IsOfRow, instr_of}
@@ -64,3 +64,13 @@ short_row number Omitted row d is of = named d.op d.instr row (short_is d.op num
 short_row number Large row d is of = named d.op d.instr row (short_is d.op number 1 of.form_is of.number_is (sym (one_operand row Large d.op.operands.count (λ e. cc) of.count)) ∙ or_ok BadOpcode (row_at kinds.One number) row is) of.instr
 short_row number Small row d is of = named d.op d.instr row (short_is d.op number 1 of.form_is of.number_is (sym (one_operand row Small d.op.operands.count (λ e. cc) of.count)) ∙ or_ok BadOpcode (row_at kinds.One number) row is) of.instr
 short_row number Variable row d is of = named d.op d.instr row (short_is d.op number 1 of.form_is of.number_is (sym (one_operand row Variable d.op.operands.count (λ e. cc) of.count)) ∙ or_ok BadOpcode (row_at kinds.One number) row is) of.instr
+
+variable_is : (op : Op) (number : ℕ) → op.form ≡ forms.Variable → op.number ≡ number → row_for op ≡ (if ltb number 32 then row_at kinds.Two number else row_at kinds.Several (number - 32))
+variable_is op number f n = rw (f, n) refl
+
+pub variable_named : (number : ℕ) (row : Row) (types : OperandTypes) (d : Decoded) → variable_row number ≡ Ok row → IsOfRow forms.Variable number row types d → instr_of d.op ≡ Some d.instr
+variable_named number row types d is of = named d.op d.instr row (variable_is d.op number of.form_is of.number_is ∙ by_test (ltb number 32) is) of.instr
+  where
+    by_test : (t : Bool) → cond t (known kinds.Two number) (known kinds.Several (number - 32)) ≡ Ok row → cond t (row_at kinds.Two number) (row_at kinds.Several (number - 32)) ≡ Some row
+    by_test true is = or_ok BadOpcode (row_at kinds.Two number) row is
+    by_test false is = or_ok BadOpcode (row_at kinds.Several (number - 32)) row is
