@@ -1,5 +1,5 @@
 -- Returns and branches.
-use Rattle.std.proofs.Common.{◌≡◌, ℕ, zero, suc, List, [], ◌∷◌, Option, Some, None, Result, Ok, Err, IsOk, refl}
+use Rattle.std.proofs.Common.{◌≡◌, ℕ, zero, suc, List, [], ◌∷◌, Some, None, Result, Ok, Err, IsOk, refl}
 use Rattle.std.specs.Prelude.{pos}
 use lib.IntN.{ℤ, negsuc}
 use Rattle.z_model.specs.declared.fault.ZFault.{ZFault}

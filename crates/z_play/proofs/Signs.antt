@@ -1,12 +1,11 @@
 -- Words with a sign, as the code widens and divides them.
-use Rattle.std.proofs.Common.{◌≡◌, ℕ, zero, suc, ◌<◌, ◌≤◌, ◌/◌, FitsSigned, w16, w32, ℤ, pos, to_z, of_z, Result, Ok, refl, sym, ap, subst, ◌∙◌, arith}
+use Rattle.std.proofs.Common.{◌≡◌, ℕ, zero, suc, ◌<◌, ◌≤◌, ◌/◌, FitsSigned, w16, w32, ℤ, pos, to_z, of_z, Ok, refl, sym, ap, subst, ◌∙◌, arith}
 use Rattle.std.specs.Int.RustNames.{int_div, int_rem}
 use Rattle.std.proofs.lemmas.Int.{ints, to_z-of_z}
 use Rattle.std.proofs.lemmas.Bool.{ne_eqb}
 use native.Mathlib.Nat.{div-le_self}
 use lib.IntN.{negsuc, neg_ℤ}
 use lib.Signed.{mag, mag_rem}
-use Rattle.z_model.specs.declared.fault.ZFault.{ZFault}
 use Rattle.z_model.specs.Step.{signed_16, word_from, quotient, remainder}
 
 fits_16 : (z : ℤ) → mag z < 32768 → FitsSigned w16 z
