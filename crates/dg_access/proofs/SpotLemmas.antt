@@ -1,10 +1,10 @@
 -- What an item is marked with, of variables, is what it mentions of them.
 use Rattle.std.proofs.Common.{◌≡◌, ◌∙◌, ◌||◌, List, [], ◌∷◌, ◌++◌, ℕ, Bool, refl, sym, ap, append_assoc}
 use Rattle.dg_base.specs.Tree as tree
-use Rattle.dg_base.specs.Tree.{Part, Parts, Value, Values, Stmt, Stmts, Body, Arms, Changes, Said}
+use Rattle.dg_base.specs.Tree.{Parts, Value, Values, Stmt, Stmts, Body, Arms, Changes, Said}
 use Rattle.dg_names.specs.Mentions.{Mentions, nothing, mention, query, object, word, variable, unnamed, closure, branches, select, join, of_words, of_parts, of_value, of_values, of_stmt, of_stmts, of_branches, of_body, of_arms, of_changes, of_head, of_said}
 use Rattle.dg_access.specs.Marks as marks
-use Rattle.dg_access.specs.Marks.{Mark, marks_of_value, marks_of_values, marks_of_part, marks_of_parts, marks_of_stmt, marks_of_stmts, marks_of_body, marks_of_arms, marks_of_changes, marks_of_rule, marks_of_said}
+use Rattle.dg_access.specs.Marks.{Mark, marks_of_value, marks_of_values, marks_of_parts, marks_of_stmt, marks_of_stmts, marks_of_body, marks_of_arms, marks_of_changes, marks_of_rule, marks_of_said}
 use Rattle.dg_access.specs.Scopes.{Entry, after, is_full, merged, passes, walk, spots}
 
 spots_append : (a b : List Mark) → spots (a ++ b) ≡ spots a ++ spots b

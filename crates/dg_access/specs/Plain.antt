@@ -1,7 +1,7 @@
 -- Items with plain heads: hold them against docs/LANGUAGE.md, "Plain heads", and the chapter of the Dialog manual on rules.
 use Rattle.std.specs.Prelude.{ℕ, ◌+◌, List, [], ◌∷◌, ◌++◌, Bool, true, false, Option, Some, None, codes, decimal, if◌then◌else◌}
 use Rattle.dg_base.specs.Tree as tree
-use Rattle.dg_base.specs.Tree.{Part, Parts, Value, Values, Stmt, Stmts, Body, Arms, Changes, Said}
+use Rattle.dg_base.specs.Tree.{Part, Parts, Value, Values, Stmt, Stmts, Body, Arms, Changes}
 
 -- What an item is rewritten with: the name of the topic, the number with which the names of its choices begin, and whether it is a declaration.
 pub record Setting : Type 0 where

@@ -1,5 +1,5 @@
 // New names.
-ghost use Rattle.std.specs.Prelude.{◌≡◌, ◌+◌, IfOk, OnOk, codes};
+ghost use Rattle.std.specs.Prelude.{◌≡◌, ◌+◌, IfOk, OnOk};
 ghost use Rattle.dg_access.specs.Plain as spec;
 
 use dg_base::{Items, Name};

@@ -1,7 +1,7 @@
 // The number with which the names of an item's choices begin.
-ghost use Rattle.std.specs.Prelude.{◌≡◌, ◌++◌, ◌∷◌, [], map, length, IfOk, OnOk};
+ghost use Rattle.std.specs.Prelude.{◌≡◌, ◌++◌, ◌∷◌, [], length, IfOk, OnOk};
 ghost use Rattle.dg_base.specs.TreeView.{said_view};
-ghost use Rattle.dg_access.specs.Marks.{marks_of_said, names_among};
+ghost use Rattle.dg_access.specs.Marks.{names_among};
 ghost use Rattle.dg_access.specs.Items as spec;
 ghost use Rattle.dg_access.specs.Plain.{choice_mark};
 ghost use Rattle.dg_access.specs.State.{marked, seen};

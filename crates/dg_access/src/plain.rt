@@ -1,9 +1,8 @@
 // Values and statements with new names.
 ghost use Rattle.std.specs.Prelude.{◌≡◌, ◌+◌, map, IfOk, IsOkAnd, Ok, OnOk};
-ghost use Rattle.std.specs.Option.{option_map};
 ghost use Rattle.dg_base.specs.Tree as tree;
 ghost use Rattle.dg_base.specs.Tree.{parts_of, values_of, stmts_of, arms_of, changes_of};
-ghost use Rattle.dg_base.specs.TreeView.{part_view, value_view, stmt_view, arm_view, body_view, head_view, change_view, branches_view, list_view, choice_view};
+ghost use Rattle.dg_base.specs.TreeView.{part_view, value_view, stmt_view, arm_view, body_view, head_view, change_view, branches_view};
 ghost use Rattle.dg_access.specs.Plain as spec;
 ghost use Rattle.dg_access.specs.Plain.{new_in_value, new_in_values, new_in_part, new_in_parts, new_in_stmt, new_in_stmts, new_in_body, new_in_arms, new_in_changes};
 ghost use Rattle.dg_access.specs.State.{first_or, selected, setting_view};

@@ -1,5 +1,5 @@
 // Rules with plain heads.
-ghost use Rattle.std.specs.Prelude.{◌≡◌, ◌++◌, true, map, IfOk, Option};
+ghost use Rattle.std.specs.Prelude.{◌≡◌, true, map, IfOk, Option};
 ghost use Rattle.std.specs.Option.{option_map};
 ghost use Rattle.dg_base.specs.Tree as tree;
 ghost use Rattle.dg_base.specs.Tree.{stmts_of};

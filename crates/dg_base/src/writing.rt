@@ -1,5 +1,5 @@
 // Writes whole texts to a sink, which may take a piece in several puts.
-ghost use Rattle.std.specs.Prelude.{◌≤◌, ◌++◌, OnOk, OnErr};
+ghost use Rattle.std.specs.Prelude.{◌++◌, OnOk, OnErr};
 ghost use Rattle.dg_base.specs.Written.{view, Wrote, BrokeOff};
 
 use crate::traits::Sink;

@@ -1,6 +1,6 @@
 -- Rules that a query passes by.
-use Rattle.std.proofs.Common.{◌≡◌, ℕ, zero, suc, ◌+◌, ◌<◌, ◌≤◌, List, [], ◌∷◌, Bool, true, false, Option, Some, None, inl, inr, refl, sym, ap, ◌∙◌, subst, arith, length, map, Bor}
-use Rattle.std.specs.Prelude.{not, ◌*◌, slice_get, drop, Result as Answer, Ok, Err, IfOk}
+use Rattle.std.proofs.Common.{◌≡◌, ℕ, ◌+◌, ◌<◌, ◌≤◌, List, [], ◌∷◌, Bool, true, false, Option, Some, None, inl, inr, refl, sym, ap, ◌∙◌, subst, arith, length, map, Bor}
+use Rattle.std.specs.Prelude.{not, ◌*◌, slice_get, drop}
 use Rattle.std.specs.List.{All, zip}
 use Rattle.std.proofs.lemmas.List.{append-nil}
 use Rattle.dg_base.specs.declared.program.Rule.{Rule}
@@ -12,12 +12,12 @@ use Rattle.dg_meaning.specs.Substitutions.{Substitution, walk, IsSubstitution}
 use Rattle.dg_meaning.specs.Unify.{same_label, Equations, Clashes, turn_of, turn, cost, Unified, clashed, counted, charged, after_turn, turns, solve}
 use Rattle.dg_meaning.specs.World.{Game, World, prints}
 use Rattle.dg_meaning.specs.Cells.{writing}
-use Rattle.dg_meaning.specs.Path.{Step, Registers, Branch, Failing, Rules as RulesOf}
+use Rattle.dg_meaning.specs.Path.{Step, Registers, Branch, Rules as RulesOf}
 use Rattle.dg_meaning.specs.Moves.{begun, path_of, choice_cells, enter_if, rule_steps, vars_of, new_vars, entered, match, matched, rule_branch, rule_branches}
 use Rattle.dg_meaning.specs.Search.{retried}
 use Rattle.dg_meaning.specs.Transcript.{Run}
-use Rattle.dg_meaning.specs.Context.{Way, Live, pushed}
-use Rattle.dg_meaning.specs.Keeps.{Failed, FailsTo, Began}
+use Rattle.dg_meaning.specs.Context.{Live, pushed}
+use Rattle.dg_meaning.specs.Keeps.{Failed, Began}
 use Rattle.dg_meaning.specs.Built.{IsBuiltRule}
 use Rattle.dg_meaning.proofs.LookUps.{walk_node}
 use Rattle.dg_meaning.proofs.Solving.{solve_is}
@@ -27,7 +27,6 @@ use Rattle.dg_unify.specs.Store.{Store, told, label_of, Shows}
 use Rattle.dg_unify.specs.Laws.{saves_drops}
 use Rattle.dg_unify.specs.Listed.{fields_of}
 use Rattle.dg_unify.specs.declared.bindings.Ref.{Ref}
-use Rattle.dg_unify.specs.declared.bindings.Full.{Full}
 use Rattle.dg_unify.specs.declared.bindings.Mark.{Mark as Place}
 use Rattle.dg_unify.specs.declared.bindings.View.{View}
 use Rattle.dg_unify.specs.declared.bindings.View.TheVariants as view
@@ -36,13 +35,12 @@ use Rattle.dg_interp.specs.declared.frames.Env.{Env}
 use Rattle.dg_interp.specs.declared.frames.Left.TheVariants.{Rules}
 use Rattle.dg_interp.specs.declared.engine.Engine.{Engine}
 use Rattle.dg_interp.specs.Rules.{rule_cells, matched_in}
-use Rattle.dg_interp.specs.Frames.{stretch, values_in, steps_behind, branches_of, EndsBy, IsLeft, cells_if}
-use Rattle.dg_interp.specs.Engine.{store_in, Point, IsQuiet, IsSound, FailsAt, BeginsAt, FullAt, Adds, Then, Leads, WentOn, WentWrong, Tries, branches_left}
+use Rattle.dg_interp.specs.Frames.{stretch, values_in, steps_behind, EndsBy, IsLeft, cells_if}
+use Rattle.dg_interp.specs.Engine.{store_in, Point, IsQuiet, IsSound, FailsAt, BeginsAt, Adds, Leads, WentWrong}
 use Rattle.dg_interp.specs.Passing.{MayPass, PassesTo, label_at, differs_from, top_differs}
 use Rattle.dg_interp.proofs.Stores.{values_count}
 use Rattle.dg_interp.proofs.Places.{adds_nothing, adds_on, adds_silently, leads_on, leads_nowhere, limits_here}
 use Rattle.dg_interp.proofs.Turns.{all_rest}
-use Rattle.dg_interp.proofs.Branches.{tried_from}
 
 -- ## Tops
 

@@ -1,5 +1,5 @@
 -- What the pairs of terms take.
-use Rattle.std.proofs.Common.{◌≡◌, ℕ, ◌+◌, [], ◌∷◌, refl, sym, ap, ◌∙◌}
+use Rattle.std.proofs.Common.{◌≡◌, ◌+◌, [], ◌∷◌, refl, sym, ap, ◌∙◌}
 use Rattle.dg_base.specs.declared.program.Term.{Term, out-Term, Pair'}
 use Rattle.dg_base.specs.declared.program.Term as place
 use Rattle.dg_base.specs.declared.program.Term.TheVariants.{Pair as Pair-Term}

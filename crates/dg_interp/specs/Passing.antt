@@ -1,5 +1,5 @@
 -- Which rules a query may pass by without beginning them. Hold it against the Dialog manual, chapter "Rules", and docs/LANGUAGE.md, where it says what a limit counts.
-use Rattle.std.specs.Prelude.{ℕ, ◌+◌, ◌≡◌, ◌≤◌, ◌⊎◌, not, List, [], ◌∷◌, Bool, true, false, Option, Some, None, length, slice_get}
+use Rattle.std.specs.Prelude.{ℕ, ◌+◌, ◌≡◌, ◌≤◌, ◌⊎◌, not, List, [], ◌∷◌, Bool, false, Option, Some, None, length, slice_get}
 use Rattle.dg_base.specs.declared.program.CoreProgram.{CoreProgram}
 use Rattle.dg_base.specs.declared.program.Rule.{Rule}
 use Rattle.dg_base.specs.declared.program.Term.{Term}

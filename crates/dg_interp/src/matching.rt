@@ -1,6 +1,6 @@
 // Arguments against the head of a rule.
 
-ghost use Rattle.std.specs.Prelude.{◌≡◌, List, All, map};
+ghost use Rattle.std.specs.Prelude.{List, All, map};
 ghost use Rattle.std.specs.List.{zip};
 ghost use Rattle.dg_meaning.specs.Unify.{solve};
 ghost use Rattle.dg_unify.specs.Store.{Saved, told, Holds, Kept, Follows};

@@ -1,6 +1,6 @@
 // The values of a program's terms, written to a store.
 
-ghost use Rattle.std.specs.Prelude.{◌≡◌, ℕ, ◌+◌, ◌-◌, ◌*◌, ◌≤◌, ◌<◌, List, [], ◌∷◌, All, MatchResult, IfOk, OnOk, map, length, take, drop};
+ghost use Rattle.std.specs.Prelude.{◌≡◌, ◌-◌, ◌*◌, ◌≤◌, ◌<◌, List, [], ◌∷◌, All, MatchResult, IfOk, OnOk, map, length, take, drop};
 ghost use Rattle.dg_base.specs.declared.program.Term.{out-Term};
 ghost use Rattle.dg_base.specs.declared.program.CoreProgram.{CoreProgram};
 ghost use Rattle.dg_meaning.specs.Values.{value_of, value_of_var as value_in};

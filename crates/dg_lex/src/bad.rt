@@ -1,5 +1,5 @@
 // The first character that no source may hold.
-ghost use Rattle.std.specs.Prelude.{◌≡◌, ◌+◌, ◌<◌, ◌≤◌, ◌^◌, length, IfSome, IfErr, IsNone, Some};
+ghost use Rattle.std.specs.Prelude.{◌≡◌, ◌+◌, ◌<◌, ◌≤◌, length, IfSome, IsNone, Some};
 ghost use Rattle.std.specs.Str.Lossy.{utf8_valid_len};
 ghost use Rattle.dg_lex.specs.Bad as spec;
 ghost use Rattle.dg_lex.specs.declared.bad.Place.TheVariants.{Outside};

@@ -1,5 +1,5 @@
 // Cuts a source into its tokens.
-ghost use Rattle.std.specs.Prelude.{◌≡◌, ◌<◌, ◌≤◌, ◌+◌, ◌-◌, ◌^◌, ◌⊎◌, ◌++◌, ◌∷◌, [], Bool, ℕ, List, Option, Some, None, length, take, drop, IfOk, IfErr, IfSome, IsErr, IsErrOf, MatchOption, map, true, false};
+ghost use Rattle.std.specs.Prelude.{◌≡◌, ◌<◌, ◌≤◌, ◌+◌, ◌-◌, ◌^◌, ◌⊎◌, [], Option, Some, None, length, IfOk, IfErr, IfSome, IsErr, IsErrOf, MatchOption, true, false};
 ghost use Rattle.dg_lex.specs.Bad as bad;
 ghost use Rattle.dg_lex.specs.Tokens as spec;
 

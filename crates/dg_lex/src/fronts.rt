@@ -1,6 +1,5 @@
 // How far blanks, words and names go at the front of a text.
-ghost use Rattle.std.specs.Prelude.{◌≡◌, ◌≤◌, length, take, false};
-ghost use Rattle.dg_lex.specs.Bad.{lines};
+ghost use Rattle.std.specs.Prelude.{◌≡◌, ◌≤◌, length, false};
 ghost use Rattle.dg_lex.specs.Tokens as spec;
 
 use crate::chars::{is_blank, is_name_char, is_special, opens_comment};

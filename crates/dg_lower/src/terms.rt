@@ -1,5 +1,5 @@
 // From values to terms.
-ghost use Rattle.std.specs.Prelude.{◌≡◌, ◌++◌, [], length, map, position, OnOk, IfOk};
+ghost use Rattle.std.specs.Prelude.{◌≡◌, map, position, IfOk};
 ghost use Rattle.std.specs.Str.{bytes_eq};
 ghost use Rattle.dg_base.specs.Tree.{parts_of, values_of};
 ghost use Rattle.dg_base.specs.TreeView.{part_view, value_view, head_view};

@@ -1,5 +1,5 @@
 // The variables of a rule.
-ghost use Rattle.std.specs.Prelude.{◌≡◌, ◌++◌, [], map, OnOk, IfOk};
+ghost use Rattle.std.specs.Prelude.{◌≡◌, ◌++◌, map, OnOk, IfOk};
 ghost use Rattle.dg_base.specs.Tree.{parts_of, values_of, stmts_of, arms_of};
 ghost use Rattle.dg_base.specs.TreeView.{part_view, value_view, stmt_view, body_view, arm_view, head_view};
 ghost use Rattle.dg_names.specs.Named.{firsts as spec_firsts};

@@ -1,7 +1,7 @@
 -- What is left of a walk through a tree. The proofs alone rest on it.
 use Rattle.std.specs.Prelude.{◌≡◌, ◌<◌, ℕ, ◌+◌, List, [], ◌∷◌, ◌++◌, Bool, true, false, Option, Some, None, map}
 use Rattle.dg_base.specs.Tree as tree
-use Rattle.dg_base.specs.Tree.{parts_of, values_of, stmts_of, branches_of, arms_of, changes_of}
+use Rattle.dg_base.specs.Tree.{parts_of, values_of, stmts_of, arms_of, changes_of}
 use Rattle.dg_base.specs.TreeView.{part_view, value_view, stmt_view, arm_view, body_view, head_view, change_view, branches_view}
 use Rattle.dg_names.specs.Mentions as spec
 use Rattle.dg_names.specs.Mentions.{Mention, Mentions, nothing, mention, closure, of_parts, of_head, of_value, of_values, of_words, of_stmt, of_stmts, of_body, of_branches, of_arms, of_changes}

@@ -1,13 +1,13 @@
 // The counts of one item: variables, places and branches.
-ghost use Rattle.std.specs.Prelude.{◌≡◌, ◌+◌, ◌<◌, ◌≤◌, ◌||◌, false, nat_lt, length, map, OnOk, IfOk, IsErr, codes};
+ghost use Rattle.std.specs.Prelude.{◌≡◌, ◌+◌, ◌<◌, ◌||◌, false, length, map, OnOk, IfOk, IsErr};
 ghost use Rattle.std.specs.List.{list_any};
 ghost use Rattle.std.specs.Str.{bytes_eq};
 ghost use Rattle.dg_base.specs.Tree.{parts_of};
 ghost use Rattle.dg_base.specs.TreeView.{part_view, head_view};
 ghost use Rattle.dg_names.specs.Counts.{places_in, is_excess};
-ghost use Rattle.dg_names.specs.Mentions.{query, variable, unnamed, branches, select};
+ghost use Rattle.dg_names.specs.Mentions.{query, variable, unnamed};
 ghost use Rattle.dg_names.specs.Walk.{met, opened, closed, event_view};
-ghost use Rattle.dg_names.specs.Scopes.{with_name, with_names, is_full, merged};
+ghost use Rattle.dg_names.specs.Scopes.{with_name, with_names, is_full};
 ghost use Rattle.dg_names.specs.State.{seen, scope_view, IsNoted};
 
 use crate::state::{Scope, Scopes};

@@ -6,7 +6,7 @@ use Rattle.std.specs.declared.alloc.AllocError.{AllocError}
 use Rattle.std.proofs.lemmas.List.{take_all}
 use Rattle.std.proofs.Common.{length-drop}
 use Rattle.dg_base.specs.Tree as tree
-use Rattle.dg_base.specs.Tree.{Values, Parts, parts_of, values_of, stmts_of}
+use Rattle.dg_base.specs.Tree.{Values, Parts, parts_of, values_of}
 use Rattle.dg_base.specs.TreeView.{part_view, value_view, head_view}
 use Rattle.dg_base.specs.declared.tree.Head.{Head}
 use Rattle.dg_base.specs.declared.tree.Part.{Part}

@@ -1,5 +1,5 @@
 -- What holds of signs that are told apart.
-use Rattle.std.proofs.Common.{◌≡◌, ◌&&◌, List, Bool, true, false, map, sym, ◌∙◌, ap}
+use Rattle.std.proofs.Common.{◌≡◌, ◌&&◌, List, Bool, true, map, sym, ◌∙◌, ap}
 use Rattle.std.specs.Prelude.{Result, Ok, Err, IfOk}
 use Rattle.std.specs.declared.alloc.AllocError.{AllocError}
 use denote.Enum.Bare.{sameb}

@@ -1,5 +1,5 @@
 // Keywords in a body.
-ghost use Rattle.std.specs.Prelude.{◌≡◌, ◌∷◌, ◌++◌, [], map, Err};
+ghost use Rattle.std.specs.Prelude.{◌≡◌, ◌∷◌, map, Err};
 ghost use Rattle.dg_reader.specs.declared.frames.Stop.TheVariants.{Unexpected};
 ghost use Rattle.dg_base.specs.Tree as tree;
 ghost use Rattle.dg_base.specs.TreeView.{value_view, stmt_view, branch_view};

@@ -1,7 +1,6 @@
 // Keywords: parentheses that are no queries.
 ghost use Rattle.std.specs.Prelude.{◌≡◌, ◌∷◌, [], Some, map};
 ghost use Rattle.std.specs.Option.{option_map, is_some};
-ghost use Rattle.std.specs.Str.{bytes_eq};
 ghost use Rattle.dg_base.specs.Tree as tree;
 ghost use Rattle.dg_base.specs.TreeView.{part_view, value_view};
 ghost use Rattle.dg_reader.specs.Grammar as grammar;

@@ -1,9 +1,8 @@
 // What a bracket opens, and what a sign begins.
-ghost use Rattle.std.specs.Prelude.{◌≡◌, ◌∷◌, map};
+ghost use Rattle.std.specs.Prelude.{◌≡◌, map};
 ghost use Rattle.dg_base.specs.Tree as tree;
 ghost use Rattle.dg_base.specs.TreeView.{part_view};
 ghost use Rattle.dg_reader.specs.Grammar.{is_declaration};
-ghost use Rattle.dg_reader.specs.Keywords.{is_word};
 ghost use Rattle.dg_reader.specs.Machine as machine;
 ghost use Rattle.dg_reader.specs.Frames.{stack_view, frame_view, owner_view, Moves};
 

@@ -1,5 +1,5 @@
 // One more part, value, statement or change of what stands open.
-ghost use Rattle.std.specs.Prelude.{◌≡◌, ◌∷◌, [], map, Some, Err};
+ghost use Rattle.std.specs.Prelude.{◌≡◌, ◌∷◌, map, Some, Err};
 ghost use Rattle.dg_base.specs.TreeView.{part_view, value_view, stmt_view, head_view, branch_view};
 ghost use Rattle.dg_reader.specs.Tokens.{number_of};
 ghost use Rattle.dg_reader.specs.Machine as machine;

@@ -1,10 +1,9 @@
 // What a token adds to what an item may not have everywhere.
 ghost use Rattle.std.specs.Prelude.{◌≡◌, nat_lt, map};
-ghost use Rattle.std.specs.Option.{is_some};
 ghost use Rattle.dg_base.specs.Tree as tree;
 ghost use Rattle.dg_base.specs.TreeView.{part_view};
 ghost use Rattle.dg_reader.specs.Grammar.{keyword_of};
-ghost use Rattle.dg_reader.specs.Frames.{frame_view, stack_view};
+ghost use Rattle.dg_reader.specs.Frames.{stack_view};
 ghost use Rattle.dg_reader.specs.TokenView.{token_view};
 ghost use Rattle.dg_reader.specs.StackSums.{query_weight, closed_weight, token_weight};
 ghost use Rattle.dg_reader.specs.Weights.{refused_weight, no_weight};

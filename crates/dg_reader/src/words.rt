@@ -1,5 +1,5 @@
 // Names, numbers and choices of words.
-ghost use Rattle.std.specs.Prelude.{◌≡◌, ◌∷◌, [], drop, IfOk};
+ghost use Rattle.std.specs.Prelude.{◌≡◌, IfOk};
 ghost use Rattle.std.specs.Str.{bytes_eq};
 ghost use Rattle.dg_base.specs.TreeView.{value_view};
 ghost use Rattle.dg_reader.specs.Tokens.{are_digits, number_of, is_cut, word_parts, without_escapes};

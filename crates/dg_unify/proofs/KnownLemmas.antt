@@ -5,7 +5,7 @@ use Rattle.std.specs.Prelude.{Ok, Bool}
 use Rattle.std.proofs.lemmas.Bool.{eqb-true}
 use Rattle.std.proofs.lemmas.List.Elements.{All-weaker}
 use Rattle.dg_meaning.specs.Values.{Value}
-use Rattle.dg_meaning.specs.Substitutions.{Substitution, resolved, IsSubstitution}
+use Rattle.dg_meaning.specs.Substitutions.{Substitution, IsSubstitution}
 use Rattle.dg_meaning.specs.Unify.{unify}
 use Rattle.dg_meaning.proofs.Solving.{solve_extends}
 use Rattle.dg_meaning.proofs.UnifyLaws.{resolved_later}

@@ -1,6 +1,6 @@
 // Which variables are bound, and in which order they were bound.
 
-ghost use Rattle.std.specs.Prelude.{◌≡◌, ℕ, ◌+◌, ◌<◌, ◌≤◌, List, [], ◌∷◌, ◌++◌, None, OnOk, OnErr, length, take, reverse, vec_len, vec_capacity};
+ghost use Rattle.std.specs.Prelude.{◌≡◌, ◌+◌, ◌<◌, ◌≤◌, [], ◌∷◌, ◌++◌, None, OnOk, OnErr, length, take, reverse};
 ghost use Rattle.dg_unify.specs.Links.{to_of, Once, AreLinked};
 ghost use Rattle.dg_unify.specs.Props.{are_linked_prop};
 

@@ -1,10 +1,9 @@
 // A store that grows.
 
-ghost use Rattle.std.specs.Prelude.{◌≡◌, ℕ, ◌&&◌, ◌+◌, ◌-◌, ◌<◌, ◌≤◌, List, [], ◌∷◌, ◌++◌, Option, Some, None, MatchResult, IfOk, IfErr, OnOk, IsOk, length, vec_len, vec_capacity, take, reverse, true};
-ghost use Rattle.std.specs.List.{slice_get};
+ghost use Rattle.std.specs.Prelude.{◌≡◌, ◌&&◌, ◌+◌, ◌-◌, ◌<◌, ◌≤◌, List, [], Option, Some, None, MatchResult, length, reverse, true};
 ghost use Rattle.dg_unify.specs.Store.{trail_for};
 ghost use Rattle.dg_unify.specs.Linked.{log_of, vars_of};
-ghost use Rattle.dg_unify.specs.Slots.{captured_slots, letter_slots, AreSound, Stand, store_of};
+ghost use Rattle.dg_unify.specs.Slots.{AreSound, Stand, store_of};
 ghost use Rattle.dg_unify.specs.Fences.{IsFenced};
 ghost use Rattle.dg_unify.specs.Props.{are_sound_prop, is_fenced_prop};
 ghost use Rattle.dg_unify.specs.declared.bindings.Full.TheVariants as full;

@@ -1,7 +1,7 @@
 // The parts of values, one after another, and whether a variable stands in some.
 
 ghost use Rattle.std.specs.Prelude.{◌≡◌, ℕ, Some};
-ghost use Rattle.dg_meaning.specs.Values.{Label, Value, Var, Node, Values};
+ghost use Rattle.dg_meaning.specs.Values.{Label, Var, Node, Values};
 ghost use Rattle.dg_meaning.specs.Substitutions.{resolved, all_resolved, contains, any_contains};
 ghost use Rattle.dg_unify.specs.Store.{Store, told, Holds, Shows, IsClosureAt};
 ghost use Rattle.dg_unify.specs.declared.parts.Parts.TheVariants as form;

@@ -1,6 +1,6 @@
 // Room for slots, what is written there, and what a binding takes of the trail.
 
-ghost use Rattle.std.specs.Prelude.{◌≡◌, ℕ, ◌+◌, ◌<◌, ◌≤◌, ◌⊎◌, ◌++◌, OnOk, OnErr, IfOk, IfErr, length, vec_len, vec_capacity};
+ghost use Rattle.std.specs.Prelude.{◌≡◌, ◌+◌, ◌<◌, ◌≤◌, ◌⊎◌, ◌++◌, OnOk, OnErr, IfOk, IfErr, length, vec_len, vec_capacity};
 ghost use Rattle.dg_unify.specs.Store.{trail_for as taken_for};
 ghost use Rattle.std.specs.List.{slice_get};
 ghost use Rattle.dg_unify.specs.Slots.{captured_slots, letter_slots, captured_of, letter_slot};

@@ -1,10 +1,10 @@
 // The unification of two values of a store.
 
-ghost use Rattle.std.specs.Prelude.{◌≡◌, ℕ, List, ◌∷◌, [], Some, Ok, true, ◌&&◌};
-ghost use Rattle.dg_meaning.specs.Values.{Label, Value, Var, Node, Values};
+ghost use Rattle.std.specs.Prelude.{◌≡◌, ℕ, List, Some, Ok, true, ◌&&◌};
+ghost use Rattle.dg_meaning.specs.Values.{Label, Var, Node, Values};
 ghost use Rattle.dg_meaning.specs.Substitutions.{walk};
 ghost use Rattle.dg_meaning.specs.Unify.{same_label, as_many, side_by_side, Binds, binds, ties, same_spelling, solve as solved, unify as unified};
-ghost use Rattle.dg_unify.specs.Store.{Store, Saved, told, Holds, Kept, label_of, Shows, IsClosureAt, IsUnknownAt, MayBind, Follows};
+ghost use Rattle.dg_unify.specs.Store.{Saved, told, Holds, Kept, label_of, Shows, IsClosureAt, IsUnknownAt, MayBind, Follows};
 ghost use Rattle.dg_unify.specs.Parts.{AreIn, values_of};
 ghost use Rattle.dg_unify.specs.Known.{AreEqual};
 ghost use Rattle.dg_unify.specs.Turns.{IsUnbound, FollowsTurn, TurnsInto, IsFirstOf, Compares, is_nothing as no_parts, met_of};

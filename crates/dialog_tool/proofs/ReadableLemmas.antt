@@ -9,7 +9,7 @@ use Rattle.dg_base.specs.Heads.{name_of}
 use Rattle.dg_base.specs.Names.{builtin_named}
 use Rattle.dg_base.specs.Sound.{IsName}
 use Rattle.dg_base.specs.Tree as tree
-use Rattle.dg_base.specs.Tree.{Part, Parts, Value, Values, Stmt, Stmts, Body, Arms, Said, Item}
+use Rattle.dg_base.specs.Tree.{Parts, Value, Values, Stmt, Stmts, Body, Arms, Item}
 use Rattle.dg_lex.specs.Tokens.{Seen}
 use Rattle.dg_reader.specs.Grammar.{Bare, if_word, then_word, elseif_word, else_word, endif_word, or_word, keyword_words, Follow, OneAt, TokenAt, WordsAt, KeywordAt, Parenthesis, Place, of_head, of_nested, of_query, of_list, behind_bar, printed, has_choices, SpellsNumber, SpellsElement, SpellsWord, SpellsChoice, PartsAt, ValueAt, ElementsAt, StmtAt, StmtsAt, BodyAt, BranchesAt, ArmsAt, Sign, plain_rule, negated, access_rule, Shape, topic_line, clause, is_declaration, head_place, SignAt, ShapeAt, IsEnd}
 use Rattle.dg_reader.specs.Read.{toks, declared, signed, said_of, IsItemAt, ReadTo}

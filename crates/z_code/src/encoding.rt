@@ -1,5 +1,5 @@
 // Instructions, written as bytes.
-ghost use Rattle.std.specs.Prelude.{◌≡◌, ◌<◌, ◌≤◌, ◌+◌, ◌++◌, true, false, length, IfSome, OnOk, OnErr};
+ghost use Rattle.std.specs.Prelude.{◌≡◌, ◌<◌, ◌+◌, ◌++◌, false, length, IfSome, OnOk, OnErr};
 ghost use Rattle.z_model.specs.Spelling.{type_if, types_in, type_byte, code, long_bit, head_bytes, operand_bytes, store_bytes, all_operand_bytes, branch_bytes, offset_bytes, unsigned_14, bit, spelling, FitsForm, FitsOffset, IsOfTable};
 ghost use Rattle.z_code.specs.Appended.{HasRoom, Appended};
 

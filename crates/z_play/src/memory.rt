@@ -1,5 +1,5 @@
 // The bytes and words of a story: each is read and written here.
-ghost use Rattle.std.specs.Prelude.{◌≡◌, ◌<◌, ◌≤◌, ◌%◌, ◌+◌, length, IfOk, slice_set};
+ghost use Rattle.std.specs.Prelude.{◌≡◌, ◌<◌, ◌≤◌, ◌%◌, ◌+◌, length};
 ghost use Rattle.z_model.specs.Machine.{byte_in, with_byte, word_in, with_word, may_write, may_write_all, with_bytes};
 ghost use Rattle.z_model.specs.Run.{with_line};
 ghost use Rattle.z_play.specs.View.{Sets};

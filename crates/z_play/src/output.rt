@@ -1,5 +1,5 @@
 // What is written, in UTF-8. Each call says whether a line is begun behind it.
-ghost use Rattle.std.specs.Prelude.{◌≡◌, ◌≤◌, ◌<◌, ◌⊎◌, OnOk, OnErr, IfOk, length, encode_utf8, ◌++◌, ◌∷◌, []};
+ghost use Rattle.std.specs.Prelude.{◌≡◌, ◌≤◌, ◌<◌, ◌⊎◌, OnOk, OnErr, IfOk, encode_utf8, ◌++◌, ◌∷◌, []};
 ghost use Rattle.std.specs.Fmt.{signed_decimal};
 ghost use Rattle.z_model.specs.Zscii.{code_bytes, character_of};
 ghost use Rattle.z_model.specs.Text.{string_at, text_bytes};

@@ -1,6 +1,5 @@
 // Stories, loaded and run.
-ghost use Rattle.std.specs.Prelude.{◌≡◌, ◌<◌, ◌≤◌, ◌++◌, ℕ, List, Some, Err, IfOk, IfErr, OnOk, OnErr, length, []};
-ghost use Rattle.z_model.specs.Machine.{Machine};
+ghost use Rattle.std.specs.Prelude.{◌≡◌, ◌<◌, ◌++◌, ℕ, List, Some, Err, IfOk, IfErr, OnOk, OnErr, length, []};
 ghost use Rattle.z_model.specs.Run.{end_of};
 ghost use Rattle.z_model.specs.Closing.{is_open, line_of, newline_if, input_fault_line};
 ghost use Rattle.z_model.specs.Story.{refusal_of, first_machine, world_of, start_state, IsHeader};

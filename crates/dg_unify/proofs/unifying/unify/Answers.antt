@@ -1,4 +1,3 @@
-use Rattle.std.proofs.Common.{subst, sym}
 use Rattle.dg_unify.specs.Store.{told}
 use Rattle.dg_unify.specs.Turns.{AreLeft}
 use Rattle.dg_unify.proofs.Goings.{unify_goes}

@@ -1,4 +1,4 @@
-use Rattle.std.proofs.Common.{◌<◌, ◌≤◌, refl, arith, length, rules}
+use Rattle.std.proofs.Common.{◌<◌, ◌≤◌, refl, length, rules}
 use Rattle.dg_interp.specs.declared.frames.Left.TheVariants.{Rules}
 use Rattle.dg_interp.specs.Engine.{store_in, BeginsAt}
 use Rattle.dg_interp.proofs.Asks.{nothing_in}

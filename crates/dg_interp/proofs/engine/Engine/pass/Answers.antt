@@ -1,4 +1,4 @@
-use Rattle.std.proofs.Common.{◌≡◌, refl, arith, length, take, drop, ◌-◌, subst, ap, sym, ◌∙◌}
+use Rattle.std.proofs.Common.{refl, arith, length, take, drop, ◌-◌, subst, ap, ◌∙◌}
 use Rattle.std.specs.List.{All, slice_get}
 use Rattle.dg_meaning.specs.Built.{IsBuiltRule}
 use Rattle.dg_interp.specs.Frames.{stretch, values_in}
