@@ -5,13 +5,13 @@ use Rattle.dg_base.specs.Written as base
 use Rattle.dg_base.specs.declared.run.Fault.{Fault}
 use Rattle.dg_base.specs.declared.run.Fault.TheVariants.{Read, Write}
 use Rattle.z_model.specs.declared.end.ZEnd.{ZEnd}
-use Rattle.z_model.specs.Run.{Run, zrun}
-use Rattle.z_model.specs.Closing.{transcript, with_end_line, input_fault_line}
+use Rattle.z_model.specs.Run.{ZRun, zrun}
+use Rattle.z_model.specs.Closing.{played_text, with_end_line, unread_line}
 use Rattle.dg_meaning.specs.Transcript.{no_memory_line}
 use Rattle.z_model.specs.declared.story.StoryRefusal.{StoryRefusal}
-use Rattle.z_model.specs.Story.{refusal_of, story_run, world_of, start_state}
+use Rattle.z_model.specs.Story.{refusal_of, story_run, given_of, start_state}
 use Rattle.z_play.specs.Output as player
-use Rattle.z_play.specs.Played.{Plays, Shows, StoppedAt, InputFailed, OutputFailed, HasCauses}
+use Rattle.z_play.specs.Played.{Plays, Played, StoppedAt, InputFailed, OutputFailed, HasCauses}
 use Rattle.z_play.specs.Ready.{IsLoaded}
 use Rattle.z_play.proofs.Lines.{print_cut}
 use Rattle.z_play.proofs.Written.{cut_whole}
@@ -31,15 +31,15 @@ broke t t' r r' f f' text later rose h = record { later = later; rose = rose; pa
 
 -- ---- runs of a loaded story
 
-same_run : (file story : List ℕ) → IsLoaded file story → (typed dice : List ℕ) (n : ℕ) → zrun (world_of story dice) n (start_state story typed) ≡ story_run file typed dice n
+same_run : (file story : List ℕ) → IsLoaded file story → (typed dice : List ℕ) (n : ℕ) → zrun (given_of story dice) n (start_state story typed) ≡ story_run file typed dice n
 unfolding story_run
 same_run file story h typed dice n = h.runs typed dice n
 
-same_zrun : (file story : List ℕ) → IsLoaded file story → (typed dice : List ℕ) (n : ℕ) → zrun (world_of story dice) n (start_state story typed) ≡ zrun (world_of file dice) n (start_state file typed)
+same_zrun : (file story : List ℕ) → IsLoaded file story → (typed dice : List ℕ) (n : ℕ) → zrun (given_of story dice) n (start_state story typed) ≡ zrun (given_of file dice) n (start_state file typed)
 unfolding story_run
 same_zrun file story h typed dice n = h.runs typed dice n
 
-same_stop : (file story : List ℕ) → IsLoaded file story → (typed dice : List ℕ) (n m : ℕ) (rest : List ℕ) → StoppedAt (world_of story dice) (start_state story typed) n m rest → StoppedAt (world_of file dice) (start_state file typed) n m rest
+same_stop : (file story : List ℕ) → IsLoaded file story → (typed dice : List ℕ) (n m : ℕ) (rest : List ℕ) → StoppedAt (given_of story dice) (start_state story typed) n m rest → StoppedAt (given_of file dice) (start_state file typed) n m rest
 same_stop file story h typed dice n m rest s =
     let now = same_zrun file story h typed dice m in
     let next = same_zrun file story h typed dice (m + 1) in
@@ -54,19 +54,19 @@ same_stop file story h typed dice n m rest s =
 
 -- the run ended
 pub ended : (name : List ℕ) (steps : ℕ) (dice file story typed : List ℕ) (end : ZEnd) (left' t t' : Option (List ℕ)) (r r' : Option ℕ) (f f' : ℕ) → IsLoaded file story → f ≤ f'
-    → Shows (zrun (world_of story dice) steps (start_state story typed)) end left' (player.seen t r) (player.seen t' r')
+    → Played (zrun (given_of story dice) steps (start_state story typed)) end left' (player.seen t r) (player.seen t' r')
     → Playing.HasPlayed (Playing.status_of_end end) left' (base.view t r f) (base.view t' r' f') (Playing.run_of (Playing.as_played name steps dice file) typed steps)
 ended name steps dice file story typed end left' t t' r r' f f' h later s =
     let same = same_run file story h typed dice steps in
     record {
-      is_status = ap Playing.status_of_end (s.ends ∙ ap (λ (x : Run). x.end) same);
-      left_is = s.left_is ∙ ap (λ (x : Run). Some x.state.typed) same;
-      wrote = wrote t t' r r' f f' _ later (subst (λ (x : Run). player.Wrote (player.seen t r) (player.seen t' r') (transcript x)) same s.wrote);
+      is_status = ap Playing.status_of_end (s.ends ∙ ap (λ (x : ZRun). x.end) same);
+      left_is = s.left_is ∙ ap (λ (x : ZRun). Some x.state.typed) same;
+      wrote = wrote t t' r r' f f' _ later (subst (λ (x : ZRun). player.Wrote (player.seen t r) (player.seen t' r') (played_text x)) same s.wrote);
     }
 
 -- the input failed
 pub cut_off : (name : List ℕ) (steps : ℕ) (dice file story typed : List ℕ) (left' t t' : Option (List ℕ)) (r r' : Option ℕ) (f f' : ℕ) → IsLoaded file story → f ≤ f'
-    → InputFailed (world_of story dice) (start_state story typed) steps left' (player.seen t r) (player.seen t' r')
+    → InputFailed (given_of story dice) (start_state story typed) steps left' (player.seen t r) (player.seen t' r')
     → Playing.HasCutOff left' (base.view t r f) (base.view t' r' f') (Playing.as_played name steps dice file) typed
 cut_off name steps dice file story typed left' t t' r r' f f' h later s =
     let same = same_run file story h typed dice s.m in
@@ -75,62 +75,62 @@ cut_off name steps dice file story typed left' t t' r r' f f' h later s =
       rest = s.rest;
       left_is = s.left_is;
       stopped = same_stop file story h typed dice steps s.m s.rest s.stopped;
-      wrote = wrote t t' r r' f f' _ later (subst (λ (x : Run). player.Wrote (player.seen t r) (player.seen t' r') (with_end_line x.state.output input_fault_line)) same s.wrote);
+      wrote = wrote t t' r r' f f' _ later (subst (λ (x : ZRun). player.Wrote (player.seen t r) (player.seen t' r') (with_end_line x.state.output unread_line)) same s.wrote);
     }
 
 -- out failed in what is written of the whole run
 lost_whole : (name : List ℕ) (steps : ℕ) (dice file story typed : List ℕ) (t t' : Option (List ℕ)) (r r' : Option ℕ) (f f' : ℕ) → IsLoaded file story → f ≤ f' → Rose f f'
-    → player.Cut (player.seen t r) (player.seen t' r') (transcript (zrun (world_of story dice) steps (start_state story typed)))
+    → player.Cut (player.seen t r) (player.seen t' r') (played_text (zrun (given_of story dice) steps (start_state story typed)))
     → Playing.LosesRun (base.view t r f) (base.view t' r' f') (Playing.as_played name steps dice file) typed
 lost_whole name steps dice file story typed t t' r r' f f' h later rose s =
     let same = same_run file story h typed dice steps in
     record {
-      text = transcript (story_run file typed dice steps);
+      text = played_text (story_run file typed dice steps);
       allowed = Playing.whole refl;
-      broke = broke t t' r r' f f' _ later rose (subst (λ (x : Run). player.Cut (player.seen t r) (player.seen t' r') (transcript x)) same s);
+      broke = broke t t' r r' f f' _ later rose (subst (λ (x : ZRun). player.Cut (player.seen t r) (player.seen t' r') (played_text x)) same s);
     }
 
 -- out failed
 pub lost_run : (name : List ℕ) (steps : ℕ) (dice file story typed : List ℕ) (left' t t' : Option (List ℕ)) (r r' : Option ℕ) (f f' : ℕ) → IsLoaded file story → f ≤ f' → Rose f f'
-    → OutputFailed (world_of story dice) (start_state story typed) steps left' (player.seen t r) (player.seen t' r')
+    → OutputFailed (given_of story dice) (start_state story typed) steps left' (player.seen t r) (player.seen t' r')
     → Playing.LosesRun (base.view t r f) (base.view t' r' f') (Playing.as_played name steps dice file) typed
 lost_run name steps dice file story typed left' t t' r r' f f' h later rose (inl s) =
-    lost_whole name steps dice file story typed t t' r r' f f' h later rose (print_cut (world_of story dice) (start_state story typed) steps left' (player.seen t r) (player.seen t' r') s)
+    lost_whole name steps dice file story typed t t' r r' f f' h later rose (print_cut (given_of story dice) (start_state story typed) steps left' (player.seen t r) (player.seen t' r') s)
 lost_run name steps dice file story typed left' t t' r r' f f' h later rose (inr (inl s)) =
     lost_whole name steps dice file story typed t t' r r' f f' h later rose (cut_whole (player.seen t r) (player.seen t' r') _ _ s.cut)
 lost_run name steps dice file story typed left' t t' r r' f f' h later rose (inr (inr s)) =
     let same = same_run file story h typed dice s.m in
     record {
-      text = with_end_line (story_run file typed dice s.m).state.output input_fault_line;
+      text = with_end_line (story_run file typed dice s.m).state.output unread_line;
       allowed = Playing.cut_off s.m s.rest (same_stop file story h typed dice steps s.m s.rest s.stopped) refl;
-      broke = broke t t' r r' f f' _ later rose (subst (λ (x : Run). player.Cut (player.seen t r) (player.seen t' r') (with_end_line x.state.output input_fault_line)) same (cut_whole (player.seen t r) (player.seen t' r') _ _ s.cut));
+      broke = broke t t' r r' f f' _ later rose (subst (λ (x : ZRun). player.Cut (player.seen t r) (player.seen t' r') (with_end_line x.state.output unread_line)) same (cut_whole (player.seen t r) (player.seen t' r') _ _ s.cut));
     }
 
 -- ---- from a player's call to the answers on its file
 
 pub run_ended : (name : List ℕ) (steps : ℕ) (dice file story : List ℕ) (end : ZEnd) (left left' t t' : Option (List ℕ)) (r r' : Option ℕ) (f f' : ℕ) → IsLoaded file story → f ≤ f'
-    → ((typed : List ℕ) → left ≡ Some typed → Plays (Ok end) (world_of story dice) (start_state story typed) steps left' (player.seen t r) (player.seen t' r'))
+    → ((typed : List ℕ) → left ≡ Some typed → Plays (Ok end) (given_of story dice) (start_state story typed) steps left' (player.seen t r) (player.seen t' r'))
     → Playing.IsPlayed (Playing.status_of_end end) left left' (base.view t r f) (base.view t' r' f') (Playing.as_played name steps dice file)
 run_ended name steps dice file story end None left' t t' r r' f f' h later told = record { accepted = h.accepted; played = tt }
 run_ended name steps dice file story end (Some typed) left' t t' r r' f f' h later told =
     record { accepted = h.accepted; played = ended name steps dice file story typed end left' t t' r r' f f' h later (told typed refl) }
 
 read_failed : (name : List ℕ) (steps : ℕ) (dice file story : List ℕ) (left left' t t' : Option (List ℕ)) (r r' : Option ℕ) (f f' : ℕ) → IsLoaded file story → f ≤ f'
-    → ((typed : List ℕ) → left ≡ Some typed → Plays (Err Read) (world_of story dice) (start_state story typed) steps left' (player.seen t r) (player.seen t' r'))
+    → ((typed : List ℕ) → left ≡ Some typed → Plays (Err Read) (given_of story dice) (start_state story typed) steps left' (player.seen t r) (player.seen t' r'))
     → Playing.IsCutOff left left' (base.view t r f) (base.view t' r' f') (Playing.as_played name steps dice file)
 read_failed name steps dice file story None left' t t' r r' f f' h later told = record { accepted = h.accepted; cut_off = tt }
 read_failed name steps dice file story (Some typed) left' t t' r r' f f' h later told =
     record { accepted = h.accepted; cut_off = cut_off name steps dice file story typed left' t t' r r' f f' h later (told typed refl) }
 
 write_failed : (name : List ℕ) (steps : ℕ) (dice file story : List ℕ) (left left' t t' : Option (List ℕ)) (r r' : Option ℕ) (f f' : ℕ) → IsLoaded file story → f ≤ f' → Rose f f'
-    → ((typed : List ℕ) → left ≡ Some typed → Plays (Err Write) (world_of story dice) (start_state story typed) steps left' (player.seen t r) (player.seen t' r'))
+    → ((typed : List ℕ) → left ≡ Some typed → Plays (Err Write) (given_of story dice) (start_state story typed) steps left' (player.seen t r) (player.seen t' r'))
     → Playing.LosesPlay left (base.view t r f) (base.view t' r' f') (Playing.as_played name steps dice file)
 write_failed name steps dice file story None left' t t' r r' f f' h later rose told = Playing.in_run h.accepted tt
 write_failed name steps dice file story (Some typed) left' t t' r r' f f' h later rose told =
     Playing.in_run h.accepted (lost_run name steps dice file story typed left' t t' r r' f f' h later rose (told typed refl))
 
 pub run_failed : (name : List ℕ) (steps : ℕ) (dice file story : List ℕ) (fault : Fault) (left left' t t' : Option (List ℕ)) (r r' : Option ℕ) (i i' f f' : ℕ) → IsLoaded file story → HasCauses {T = ZEnd} i i' f f' (Err fault)
-    → ((typed : List ℕ) → left ≡ Some typed → Plays (Err fault) (world_of story dice) (start_state story typed) steps left' (player.seen t r) (player.seen t' r'))
+    → ((typed : List ℕ) → left ≡ Some typed → Plays (Err fault) (given_of story dice) (start_state story typed) steps left' (player.seen t r) (player.seen t' r'))
     → (Rose i i' × Playing.IsCutOff left left' (base.view t r f) (base.view t' r' f') (Playing.as_played name steps dice file)) ⊎ (Rose f f' × Playing.LosesPlay left (base.view t r f) (base.view t' r' f') (Playing.as_played name steps dice file))
 run_failed name steps dice file story Read left left' t t' r r' i i' f f' h causes told = inl (causes.read_failed refl, read_failed name steps dice file story left left' t t' r r' f f' h causes.writes told)
 run_failed name steps dice file story Write left left' t t' r r' i i' f f' h causes told = inr (causes.write_failed refl, write_failed name steps dice file story left left' t t' r r' f f' h causes.writes (causes.write_failed refl) told)

@@ -6,9 +6,9 @@ use Rattle.dg_base.specs.Written.{SinkView, Wrote, BrokeOff}
 use Rattle.z_model.specs.declared.story.StoryRefusal.{StoryRefusal}
 use Rattle.z_model.specs.declared.end.ZEnd.{ZEnd}
 use Rattle.z_model.specs.declared.end.ZEnd.TheVariants as ends
-use Rattle.z_model.specs.Run.{Run}
-use Rattle.z_model.specs.Closing.{transcript, with_end_line, input_fault_line}
-use Rattle.z_model.specs.Story.{refusal_of, text_of_story, story_run, world_of, start_state}
+use Rattle.z_model.specs.Run.{ZRun}
+use Rattle.z_model.specs.Closing.{played_text, with_end_line, unread_line}
+use Rattle.z_model.specs.Story.{refusal_of, text_of_story, story_run, given_of, start_state}
 use Rattle.z_play.specs.Played.{StoppedAt}
 use Rattle.dg_meaning.specs.Transcript.{no_memory_line}
 use Rattle.dialog_tool.specs.Command.{Command, debug, play}
@@ -39,7 +39,7 @@ pub record Play : Type 0 where
   pub file : List ℕ
 
 -- its run on typed bytes, of at most n instructions
-abbrev pub run_of : Play → List ℕ → ℕ → Run
+abbrev pub run_of : Play → List ℕ → ℕ → ZRun
 run_of p typed n = story_run p.file typed p.dice n
 
 abbrev pub as_played : List ℕ → ℕ → List ℕ → List ℕ → Play
@@ -80,10 +80,10 @@ pub record IsNoStory (old new : SinkView) (p : Play) : Type 0 where
   pub wrote : Wrote old new (story_line p.name refusal)
 
 -- this is the status of the run's end, out took the run's output with the line of its end, and the input has left what the run leaves
-pub record HasPlayed (status : ℕ) (left_behind : Option (List ℕ)) (old new : SinkView) (r : Run) : Type 0 where
+pub record HasPlayed (status : ℕ) (left_behind : Option (List ℕ)) (old new : SinkView) (r : ZRun) : Type 0 where
   pub is_status : status ≡ status_of_end r.end
   pub left_is : left_behind ≡ Some r.state.typed
-  pub wrote : Wrote old new (transcript r)
+  pub wrote : Wrote old new (played_text r)
 
 -- 0, 3 and 4: the file is a story, and so it was played
 pub record IsPlayed (status : ℕ) (left left_behind : Option (List ℕ)) (old new : SinkView) (p : Play) : Type 0 where
@@ -92,11 +92,11 @@ pub record IsPlayed (status : ℕ) (left left_behind : Option (List ℕ)) (old n
 
 -- so many typed bytes were left when the input failed behind m instructions
 abbrev pub StopsAt : Play → List ℕ → ℕ → List ℕ → Type 0
-StopsAt p typed m rest = StoppedAt (world_of p.file p.dice) (start_state p.file typed) p.steps m rest
+StopsAt p typed m rest = StoppedAt (given_of p.file p.dice) (start_state p.file typed) p.steps m rest
 
 -- what is written of a run whose input failed behind m instructions
 abbrev pub cut_text : Play → List ℕ → ℕ → List ℕ
-cut_text p typed m = with_end_line (run_of p typed m).state.output input_fault_line
+cut_text p typed m = with_end_line (run_of p typed m).state.output unread_line
 
 -- the input failed behind some instruction, and out took the output up to there with the line that says so
 pub record HasCutOff (left_behind : Option (List ℕ)) (old new : SinkView) (p : Play) (typed : List ℕ) : Type 0 where
@@ -118,7 +118,7 @@ pub record StoryInputFailed (command : Option Command) (told : Told) (before aft
 
 -- the texts that a run may be writing
 pub data MayTell (p : Play) (typed text : List ℕ) : Type 0 where
-  whole : text ≡ transcript (run_of p typed p.steps) → MayTell p typed text
+  whole : text ≡ played_text (run_of p typed p.steps) → MayTell p typed text
   cut_off : (m : ℕ) → (rest : List ℕ) → StopsAt p typed m rest → text ≡ cut_text p typed m → MayTell p typed text
 
 -- out failed within such a text, of which it took a front; where it told a room, the text is longer

@@ -1,6 +1,7 @@
 // Instructions, read from bytes.
 ghost use Rattle.std.specs.Prelude.{◌≡◌, ◌↔◌, ◌⊎◌, ◌<◌, ◌≤◌, ◌%◌, ℕ, length, drop, Some, Ok, Err, IfSome, IfOk, IfErr};
-ghost use Rattle.z_code.specs.Decoded.{Decodes, IsOfRow, instr_of};
+ghost use Rattle.z_model.specs.Table.{rows_of};
+ghost use Rattle.z_code.specs.Decoded.{op_and_end};
 ghost use Rattle.z_model.specs.declared.fault.ZFault.TheVariants.{BadOpcode, OffEnd};
 ghost use Rattle.z_model.specs.declared.op.Op.{Op};
 ghost use Rattle.z_model.specs.Spelling.{IsInstruction};
@@ -8,17 +9,9 @@ ghost use Rattle.z_model.specs.Undecoded.{PassesEnd, NoneBegins};
 ghost use Rattle.z_model.specs.Decode.{byte_at, known, counted, count_of, operand_at, store_at, branch_at, text_at, body_at, long_at, short_at, variable_at, variable_row, extended_at, op_at, type_of, long_type, long_types, one_type, types_of, short_kind, present, text_end};
 
 use z_model::{
-    Branch, Form, Instr, Kind, Op, Operand, OperandType, OperandTypes, Operands, Row, ZFault,
+    Branch, Form, Found, Kind, Op, Operand, OperandType, OperandTypes, Operands, Row, ZFault,
     find_row,
 };
-
-/// An instruction that was read, its name in the table, and the place behind it.
-#[derive(Clone, Copy, Debug, PartialEq, Eq)]
-pub struct Decoded {
-    pub instr: Instr,
-    pub op: Op,
-    pub end: usize,
-}
 
 #[inline(always)]
 fn read(bytes: &[u8], at: usize) -> Result<u8, ZFault>
@@ -33,7 +26,7 @@ fn read(bytes: &[u8], at: usize) -> Result<u8, ZFault>
 
 #[inline(always)]
 fn known_row(kind: Kind, number: u8) -> Result<Row, ZFault>
-    ensures { result ≡ known kind number }
+    ensures { result ≡ known rows_of kind number }
 {
     match find_row(kind, number) {
         Some(row) => Ok(row),
@@ -248,11 +241,10 @@ fn body(
     row: Row,
     types: OperandTypes,
     at: usize,
-) -> Result<Decoded, ZFault>
+) -> Result<Found, ZFault>
     requires { at ≤ length bytes.now }
-    ensures body { Decodes result (body_at bytes.now form number row types at) }
-    ensures row { IfOk result (IsOfRow form number row types) }
-    ensures within { IfOk result (λ d. d.end ≤ length bytes.now) }
+    ensures body { result ≡ body_at bytes.now form number row types at }
+    ensures within { IfOk result (λ found. found.end ≤ length bytes.now) }
 {
     let count = count_operands(row, types)?;
     let (first, at) = operand(bytes, types.first, at)?;
@@ -277,20 +269,15 @@ fn body(
         branch,
         text,
     };
-    Ok(Decoded {
-        instr: row.instr,
-        op,
-        end,
-    })
+    Ok(Found { row, op, end })
 }
 
 #[tactic(auto, unfolding(z_model::specs::Decode::long_at))]
 #[inline(always)]
-fn long(bytes: &[u8], at: usize, first: u8) -> Result<Decoded, ZFault>
+fn long(bytes: &[u8], at: usize, first: u8) -> Result<Found, ZFault>
     requires { at < length bytes.now }
-    ensures long { Decodes result (long_at bytes.now at first) }
-    ensures instr { IfOk result (λ d. instr_of d.op ≡ Some d.instr) }
-    ensures within { IfOk result (λ d. d.end ≤ length bytes.now) }
+    ensures long { result ≡ long_at rows_of bytes.now at first }
+    ensures within { IfOk result (λ found. found.end ≤ length bytes.now) }
 {
     let number = first % 32;
     let row = known_row(Kind::Two, number)?;
@@ -321,11 +308,10 @@ fn one_type(kind: OperandType) -> OperandTypes
 
 #[tactic(auto, unfolding(z_model::specs::Decode::short_at))]
 #[inline(always)]
-fn short(bytes: &[u8], at: usize, first: u8) -> Result<Decoded, ZFault>
+fn short(bytes: &[u8], at: usize, first: u8) -> Result<Found, ZFault>
     requires { at < length bytes.now }
-    ensures short { Decodes result (short_at bytes.now at first) }
-    ensures instr { IfOk result (λ d. instr_of d.op ≡ Some d.instr) }
-    ensures within { IfOk result (λ d. d.end ≤ length bytes.now) }
+    ensures short { result ≡ short_at rows_of bytes.now at first }
+    ensures within { IfOk result (λ found. found.end ≤ length bytes.now) }
 {
     let number = first % 16;
     let kind = type_of(first / 16 % 4);
@@ -335,7 +321,7 @@ fn short(bytes: &[u8], at: usize, first: u8) -> Result<Decoded, ZFault>
 
 #[inline(always)]
 fn row_of_variable(number: u8) -> Result<Row, ZFault>
-    ensures { result ≡ variable_row number }
+    ensures { result ≡ variable_row rows_of number }
 {
     if number < 32 {
         known_row(Kind::Two, number)
@@ -346,11 +332,10 @@ fn row_of_variable(number: u8) -> Result<Row, ZFault>
 
 #[tactic(auto, unfolding(z_model::specs::Decode::variable_at))]
 #[inline(always)]
-fn variable(bytes: &[u8], at: usize, first: u8) -> Result<Decoded, ZFault>
+fn variable(bytes: &[u8], at: usize, first: u8) -> Result<Found, ZFault>
     requires { at < length bytes.now }
-    ensures variable { Decodes result (variable_at bytes.now at first) }
-    ensures instr { IfOk result (λ d. instr_of d.op ≡ Some d.instr) }
-    ensures within { IfOk result (λ d. d.end ≤ length bytes.now) }
+    ensures variable { result ≡ variable_at rows_of bytes.now at first }
+    ensures within { IfOk result (λ found. found.end ≤ length bytes.now) }
 {
     let number = first % 64;
     let row = row_of_variable(number)?;
@@ -360,11 +345,10 @@ fn variable(bytes: &[u8], at: usize, first: u8) -> Result<Decoded, ZFault>
 
 #[tactic(auto, unfolding(z_model::specs::Decode::extended_at))]
 #[inline(always)]
-fn extended(bytes: &[u8], at: usize) -> Result<Decoded, ZFault>
+fn extended(bytes: &[u8], at: usize) -> Result<Found, ZFault>
     requires { at < length bytes.now }
-    ensures extended { Decodes result (extended_at bytes.now at) }
-    ensures instr { IfOk result (λ d. instr_of d.op ≡ Some d.instr) }
-    ensures within { IfOk result (λ d. d.end ≤ length bytes.now) }
+    ensures extended { result ≡ extended_at rows_of bytes.now at }
+    ensures within { IfOk result (λ found. found.end ≤ length bytes.now) }
 {
     let number = read(bytes, at + 1)?;
     let row = known_row(Kind::Extended, number)?;
@@ -372,13 +356,12 @@ fn extended(bytes: &[u8], at: usize) -> Result<Decoded, ZFault>
     body(bytes, Form::Extended, number, row, types, at + 3)
 }
 
-/// The instruction at a place with its name in the table, or the first fault, byte by byte.
+/// The instruction at a place with its row of the table, or the first fault, byte by byte.
 #[tactic(auto, unfolding(z_model::specs::Decode::op_at))]
 #[inline(always)]
-pub fn decode(bytes: &[u8], at: usize) -> Result<Decoded, ZFault>
-    ensures op { Decodes result (op_at bytes.now at) }
-    ensures instr { IfOk result (λ d. instr_of d.op ≡ Some d.instr) }
-    ensures within { IfOk result (λ d. d.end ≤ length bytes.now) }
+pub fn decode(bytes: &[u8], at: usize) -> Result<Found, ZFault>
+    ensures op { result ≡ op_at rows_of bytes.now at }
+    ensures within { IfOk result (λ found. found.end ≤ length bytes.now) }
 {
     let first = read(bytes, at)?;
     if first < 128 {
@@ -393,7 +376,7 @@ pub fn decode(bytes: &[u8], at: usize) -> Result<Decoded, ZFault>
 }
 
 fn op_and_end(bytes: &[u8], at: usize) -> Result<(Op, usize), ZFault>
-    ensures op { result ≡ op_at bytes.now at }
+    ensures op { result ≡ op_and_end (op_at rows_of bytes.now at) }
     ensures within { IfOk result (λ x. x.1 ≤ length bytes.now) }
 {
     let found = decode(bytes, at)?;
@@ -403,10 +386,10 @@ fn op_and_end(bytes: &[u8], at: usize) -> Result<(Op, usize), ZFault>
 /// The instruction at a place and the place behind it; `OffEnd` exactly where one passes the end of
 /// the bytes, and `BadOpcode` exactly where none begins.
 pub fn decode_op(bytes: &[u8], at: usize) -> Result<(Op, usize), ZFault>
-    ensures op { result ≡ op_at bytes.now at }
-    ensures found { (op : Op) (end : ℕ) → (result ≡ Ok (op, end)) ↔ IsInstruction bytes.now at op end }
-    ensures off_end { (result ≡ Err OffEnd) ↔ PassesEnd bytes.now at }
-    ensures bad_opcode { (result ≡ Err BadOpcode) ↔ NoneBegins bytes.now at }
+    ensures op { result ≡ op_and_end (op_at rows_of bytes.now at) }
+    ensures found { (op : Op) (end : ℕ) → (result ≡ Ok (op, end)) ↔ IsInstruction rows_of bytes.now at op end }
+    ensures off_end { (result ≡ Err OffEnd) ↔ PassesEnd rows_of bytes.now at }
+    ensures bad_opcode { (result ≡ Err BadOpcode) ↔ NoneBegins rows_of bytes.now at }
     ensures faults { IfErr result (λ fault. (fault ≡ OffEnd) ⊎ (fault ≡ BadOpcode)) }
     ensures within { IfOk result (λ x. x.1 ≤ length bytes.now) }
 {

@@ -1,5 +1,6 @@
 // Instructions, written as bytes.
 ghost use Rattle.std.specs.Prelude.{◌≡◌, ◌<◌, ◌+◌, ◌++◌, false, length, IfSome, OnOk, OnErr};
+ghost use Rattle.z_model.specs.Table.{rows_of};
 ghost use Rattle.z_model.specs.Spelling.{type_if, types_in, type_byte, code, long_bit, head_bytes, operand_bytes, store_bytes, all_operand_bytes, branch_bytes, offset_bytes, unsigned_14, bit, spelling, FitsForm, FitsOffset, IsOfTable};
 ghost use Rattle.z_code.specs.Appended.{HasRoom, Appended};
 
@@ -157,7 +158,7 @@ fn put_operands(out: &mut Vec<u8>, types: OperandTypes, operands: &Operands)
 
 /// Writes an op of the table at the end, but for its literal text.
 pub fn encode_op(op: &Op, out: &mut Vec<u8>) -> Result<(), AllocError>
-    requires { IsOfTable op.now }
+    requires { IsOfTable rows_of op.now }
     ensures ok { OnOk result (out.new.items ≡ out.old.items ++ spelling op.now) }
     ensures err { OnErr result (out.new.items ≡ out.old.items) }
 {

@@ -5,7 +5,7 @@ mod decoding;
 mod encoding;
 mod target;
 
-pub use decoding::{Decoded, decode, decode_op};
+pub use decoding::{decode, decode_op};
 pub use encoding::encode_op;
 pub use target::{LOp, Target};
-pub use z_model::{Branch, Form, Op, Operand, Operands};
+pub use z_model::{Branch, Form, Found, Op, Operand, Operands};

@@ -4,6 +4,7 @@ use Rattle.std.specs.Prelude.{slice_get, pos}
 use lib.IntN.{ℤ, negsuc}
 use Rattle.std.proofs.lemmas.Bool.{le-ltb, lt-ltb, ne_eqb}
 use Rattle.std.proofs.lemmas.Int.{ints}
+use Rattle.z_model.specs.Table.{Rows}
 use Rattle.z_model.specs.declared.op.Form.{Form}
 use Rattle.z_model.specs.declared.op.Form.TheVariants as forms
 use Rattle.z_model.specs.declared.op.Operand.{Operand}
@@ -15,7 +16,7 @@ use Rattle.z_model.specs.declared.table.Row.{Row}
 use Rattle.z_model.specs.declared.op.OperandType.{OperandType}
 use Rattle.z_model.specs.declared.op.OperandType.TheVariants.{Large, Small, Variable, Omitted}
 use Rattle.z_model.specs.declared.op.OperandTypes.{OperandTypes}
-use Rattle.z_model.specs.Decode.{byte_at, known, variable_row, short_kind, text_at, operand_at, store_at, branch_at, body_at, long_at, short_at, variable_at, extended_at, op_at, type_of, long_type, long_types, one_type, types_of, on_true, signed_14}
+use Rattle.z_model.specs.Decode.{byte_at, known, variable_row, short_kind, text_at, operand_at, store_at, branch_at, body_at, found, long_at, short_at, variable_at, extended_at, op_at, type_of, long_type, long_types, one_type, types_of, on_true, signed_14}
 use Rattle.z_model.specs.Spelling.{types_in, code, type_byte, long_bit, head_bytes, operand_bytes, store_bytes, branch_bytes, bit, row_of, IsByteType, FitsForm, FitsType, FitsStore, FitsBranch, FitsOffset, unsigned_14, offset_bytes, IsOp, Stands, IsInstruction}
 
 -- ---- lists that stand at a place
@@ -124,9 +125,9 @@ branch_again bytes at true (Some b) fits h = by_length b.short b.when b.offset f
 abbrev tail_bytes : Op → List ℕ
 tail_bytes op = let s = types_in op.operands in operand_bytes s.first op.operands.first ++ (operand_bytes s.second op.operands.second ++ (operand_bytes s.third op.operands.third ++ (operand_bytes s.fourth op.operands.fourth ++ (store_bytes op.store ++ branch_bytes op.branch))))
 
-body_again : (bytes : List ℕ) (at : ℕ) (row : Row) (op : Op) (end : ℕ) → IsOp row op → Stands bytes at (tail_bytes op) → text_at bytes row.text (at + length (tail_bytes op)) ≡ Ok (op.text, end) → body_at bytes op.form op.number row (types_in op.operands) at ≡ Ok (op, end)
+body_again : (rows : Rows) (bytes : List ℕ) (at : ℕ) (row : Row) (op : Op) (end : ℕ) → IsOp rows row op → Stands bytes at (tail_bytes op) → text_at bytes row.text (at + length (tail_bytes op)) ≡ Ok (op.text, end) → body_at bytes op.form op.number row (types_in op.operands) at ≡ Ok (found row op end)
 unfolding body_at
-body_again bytes at row op end is h text =
+body_again rows bytes at row op end is h text =
     let s = types_in op.operands in
     let o = op.operands in
     let a : List ℕ = operand_bytes s.first o.first in
@@ -222,24 +223,24 @@ not_below n m h = le-ltb n m h
 not_190 : (n : ℕ) → n ≢ 190 → eqb n 190 ≡ false
 not_190 n h = ne_eqb n 190 h
 
-by_form : (form : Form) (bytes : List ℕ) (at : ℕ) (row : Row) (op : Op) (end : ℕ) → op.form ≡ form → IsOp row op → Stands bytes at (head_bytes form op.number (types_in op.operands)) → Stands bytes (at + length (head_bytes form op.number (types_in op.operands))) (tail_bytes op) → text_after bytes row op (at + length (head_bytes form op.number (types_in op.operands))) end → op_at bytes at ≡ Ok (op, end)
+by_form : (rows : Rows) (form : Form) (bytes : List ℕ) (at : ℕ) (row : Row) (op : Op) (end : ℕ) → op.form ≡ form → IsOp rows row op → Stands bytes at (head_bytes form op.number (types_in op.operands)) → Stands bytes (at + length (head_bytes form op.number (types_in op.operands))) (tail_bytes op) → text_after bytes row op (at + length (head_bytes form op.number (types_in op.operands))) end → op_at rows bytes at ≡ Ok (found row op end)
 unfolding op_at long_at short_at variable_at extended_at
-by_form forms.Long bytes at row op end e is head tail text =
+by_form rows forms.Long bytes at row op end e is head tail text =
     let s = types_in op.operands in
     let fits : FitsForm forms.Long op.number s = subst (λ (f : Form). FitsForm f op.number s) e is.form in
-    let known' : known kinds.Two op.number ≡ Ok row = subst (λ (f : Form). row_of f op.number s ≡ Ok row) e is.known in
+    let known' : known rows kinds.Two op.number ≡ Ok row = subst (λ (f : Form). row_of rows f op.number s ≡ Ok row) e is.known in
     let a = long_bit_below s.first in
     let b = long_bit_below s.second in
     let lt : op.number < 32 = fits.0 in
     let small : ltb (64 * long_bit s.first + 32 * long_bit s.second + op.number) 128 ≡ true = below_128 _ (omega arith) in
     let number : (64 * long_bit s.first + 32 * long_bit s.second + op.number) % 32 ≡ op.number = omega arith in
     let types = long_types_again s op.number fits in
-    let body : body_at bytes forms.Long op.number row s (at + 1) ≡ Ok (op, end) = subst (λ (f : Form). body_at bytes f op.number row s (at + 1) ≡ Ok (op, end)) e (body_again bytes (at + 1) row op end is tail text) in
+    let body : body_at bytes forms.Long op.number row s (at + 1) ≡ Ok (found row op end) = subst (λ (f : Form). body_at bytes f op.number row s (at + 1) ≡ Ok (found row op end)) e (body_again rows bytes (at + 1) row op end is tail text) in
     rw (head.0, small, number, known', types, body) refl
-by_form forms.Short bytes at row op end e is head tail text =
+by_form rows forms.Short bytes at row op end e is head tail text =
     let s = types_in op.operands in
     let fits : FitsForm forms.Short op.number s = subst (λ (f : Form). FitsForm f op.number s) e is.form in
-    let known' : known (short_kind s.first) op.number ≡ Ok row = subst (λ (f : Form). row_of f op.number s ≡ Ok row) e is.known in
+    let known' : known rows (short_kind s.first) op.number ≡ Ok row = subst (λ (f : Form). row_of rows f op.number s ≡ Ok row) e is.known in
     let a = code_below s.first in
     let lt : op.number < 16 = fits.0 in
     let big : ltb (128 + 16 * code s.first + op.number) 128 ≡ false = not_below _ _ (omega arith) in
@@ -248,30 +249,30 @@ by_form forms.Short bytes at row op end e is head tail text =
     let number : (128 + 16 * code s.first + op.number) % 16 ≡ op.number = omega arith in
     let bits : (128 + 16 * code s.first + op.number) / 16 % 4 ≡ code s.first = omega arith in
     let types = one_type_again s op.number fits in
-    let body : body_at bytes forms.Short op.number row s (at + 1) ≡ Ok (op, end) = subst (λ (f : Form). body_at bytes f op.number row s (at + 1) ≡ Ok (op, end)) e (body_again bytes (at + 1) row op end is tail text) in
+    let body : body_at bytes forms.Short op.number row s (at + 1) ≡ Ok (found row op end) = subst (λ (f : Form). body_at bytes f op.number row s (at + 1) ≡ Ok (found row op end)) e (body_again rows bytes (at + 1) row op end is tail text) in
     rw (head.0, big, other, small, number, bits, code_again s.first, known', types, body) refl
-by_form forms.Variable bytes at row op end e is head tail text =
+by_form rows forms.Variable bytes at row op end e is head tail text =
     let s = types_in op.operands in
     let lt : op.number < 64 = subst (λ (f : Form). FitsForm f op.number s) e is.form in
-    let known' : variable_row op.number ≡ Ok row = subst (λ (f : Form). row_of f op.number s ≡ Ok row) e is.known in
+    let known' : variable_row rows op.number ≡ Ok row = subst (λ (f : Form). row_of rows f op.number s ≡ Ok row) e is.known in
     let big : ltb (192 + op.number) 128 ≡ false = not_below _ _ (omega arith) in
     let other : eqb (192 + op.number) 190 ≡ false = not_190 _ (omega arith) in
     let large : ltb (192 + op.number) 192 ≡ false = not_below _ _ (omega arith) in
     let number : (192 + op.number) % 64 ≡ op.number = omega arith in
-    let body : body_at bytes forms.Variable op.number row s (at + 2) ≡ Ok (op, end) = subst (λ (f : Form). body_at bytes f op.number row s (at + 2) ≡ Ok (op, end)) e (body_again bytes (at + 2) row op end is tail text) in
+    let body : body_at bytes forms.Variable op.number row s (at + 2) ≡ Ok (found row op end) = subst (λ (f : Form). body_at bytes f op.number row s (at + 2) ≡ Ok (found row op end)) e (body_again rows bytes (at + 2) row op end is tail text) in
     rw (head.0, big, other, large, number, known', head.1.0, types_again s, body) refl
-by_form forms.Extended bytes at row op end e is head tail text =
+by_form rows forms.Extended bytes at row op end e is head tail text =
     let s = types_in op.operands in
-    let known' : known kinds.Extended op.number ≡ Ok row = subst (λ (f : Form). row_of f op.number s ≡ Ok row) e is.known in
+    let known' : known rows kinds.Extended op.number ≡ Ok row = subst (λ (f : Form). row_of rows f op.number s ≡ Ok row) e is.known in
     let two : at + 1 + 1 ≡ at + 2 = omega arith in
     let third : slice_get bytes (at + 2) ≡ Some (type_byte s) = subst (λ (k : ℕ). slice_get bytes k ≡ Some (type_byte s)) two head.1.1.0 in
-    let body : body_at bytes forms.Extended op.number row s (at + 3) ≡ Ok (op, end) = subst (λ (f : Form). body_at bytes f op.number row s (at + 3) ≡ Ok (op, end)) e (body_again bytes (at + 3) row op end is tail text) in
+    let body : body_at bytes forms.Extended op.number row s (at + 3) ≡ Ok (found row op end) = subst (λ (f : Form). body_at bytes f op.number row s (at + 3) ≡ Ok (found row op end)) e (body_again rows bytes (at + 3) row op end is tail text) in
     rw (head.0, head.1.0, known', third, types_again s, body) refl
 
 -- An instruction that stands at a place is what is decoded there.
-pub instruction_again : (bytes : List ℕ) (at : ℕ) (op : Op) (end : ℕ) → IsInstruction bytes at op end → op_at bytes at ≡ Ok (op, end)
-instruction_again bytes at op end i =
+pub instruction_again : (rows : Rows) (bytes : List ℕ) (at : ℕ) (op : Op) (end : ℕ) → (i : IsInstruction rows bytes at op end) → op_at rows bytes at ≡ Ok (found i.row op end)
+instruction_again rows bytes at op end i =
     let head : List ℕ = head_bytes op.form op.number (types_in op.operands) in
     let long : at + length (head ++ tail_bytes op) ≡ at + length head + length (tail_bytes op) = simp length-append (omega arith) in
     let text : text_after bytes i.row op (at + length head) end = subst (λ (k : ℕ). text_at bytes i.row.text k ≡ Ok (op.text, end)) long i.text in
-    by_form op.form bytes at i.row op end refl i.is (front_stands bytes at head (tail_bytes op) i.stands) (rest_stands bytes at head (tail_bytes op) i.stands) text
+    by_form rows op.form bytes at i.row op end refl i.is (front_stands bytes at head (tail_bytes op) i.stands) (rest_stands bytes at head (tail_bytes op) i.stands) text

@@ -6,7 +6,7 @@ use Rattle.z_model.specs.declared.fault.ZFault.TheVariants.{OffEnd}
 use Rattle.z_model.specs.declared.op.Form.{Form}
 use Rattle.z_model.specs.declared.op.Operand.{Operand}
 use Rattle.z_model.specs.declared.op.Branch.{Branch}
-use Rattle.z_model.specs.declared.op.Op.{Op}
+use Rattle.z_model.specs.declared.op.Found.{Found}
 use Rattle.z_model.specs.declared.table.Row.{Row}
 use Rattle.z_model.specs.declared.op.OperandType.{OperandType}
 use Rattle.z_model.specs.declared.op.OperandType.TheVariants.{Large, Small, Variable, Omitted}
@@ -88,7 +88,7 @@ text_whole front true at room =
 
 -- ---- what stands behind the types
 
-pub body_whole : (front : List ℕ) (form : Form) (number : ℕ) (row : Row) (s : OperandTypes) (at : ℕ) → at + length ample ≤ length front → Gives (counted row s) AnyNumber → Gives (body_at (front ++ marked) form number row s at) (Done (Op × ℕ))
+pub body_whole : (front : List ℕ) (form : Form) (number : ℕ) (row : Row) (s : OperandTypes) (at : ℕ) → at + length ample ≤ length front → Gives (counted row s) AnyNumber → Gives (body_at (front ++ marked) form number row s at) (Done Found)
 unfolding body_at
 body_whole front form number row s at room count =
     let bytes : List ℕ = front ++ marked in

@@ -3,6 +3,7 @@ use Rattle.std.proofs.Common.{◌≡◌, ℕ, zero, suc, ◌+◌, ◌-◌, ◌<�
 use Rattle.std.specs.Prelude.{slice_get}
 use Rattle.std.proofs.lemmas.List.{drop-append-le}
 use Rattle.std.proofs.lemmas.Option.{slice_get_within}
+use Rattle.z_model.specs.Table.{Rows}
 use Rattle.z_model.specs.declared.fault.ZFault.{ZFault}
 use Rattle.z_model.specs.declared.fault.ZFault.TheVariants.{OffEnd}
 use Rattle.z_model.specs.declared.op.Form.{Form}
@@ -11,7 +12,7 @@ use Rattle.z_model.specs.declared.op.Op.{Op}
 use Rattle.z_model.specs.declared.op.OperandTypes.{OperandTypes}
 use Rattle.z_model.specs.Decode.{or_fault, text_end, text_at}
 use Rattle.z_model.specs.Spelling.{spelling, head_bytes, types_in, Stands, IsInstruction}
-use Rattle.z_model.proofs.Found.{bind_ok, or_ok}
+use Rattle.z_model.proofs.Sought.{bind_ok, or_ok}
 
 -- ---- bytes that stand at a place
 
@@ -104,11 +105,11 @@ text_at_front bytes more true at n end le within e =
 
 -- ---- instructions
 
-pub ends_within : (bytes : List ℕ) (at : ℕ) (op : Op) (end : ℕ) → IsInstruction bytes at op end → end ≤ length bytes
-ends_within bytes at op end i = (text_ends bytes i.row.text (at + length (spelling op)) op.text end i.text).within (stands_within bytes at (spelling op) (spelling_some op) i.stands)
+pub ends_within : (rows : Rows) (bytes : List ℕ) (at : ℕ) (op : Op) (end : ℕ) → IsInstruction rows bytes at op end → end ≤ length bytes
+ends_within rows bytes at op end i = (text_ends bytes i.row.text (at + length (spelling op)) op.text end i.text).within (stands_within bytes at (spelling op) (spelling_some op) i.stands)
 
-pub stands_in_front : (bytes more : List ℕ) (at : ℕ) (op : Op) (end : ℕ) → end ≤ length bytes → IsInstruction (bytes ++ more) at op end → IsInstruction bytes at op end
-stands_in_front bytes more at op end le i =
+pub stands_in_front : (rows : Rows) (bytes more : List ℕ) (at : ℕ) (op : Op) (end : ℕ) → end ≤ length bytes → IsInstruction rows (bytes ++ more) at op end → IsInstruction rows bytes at op end
+stands_in_front rows bytes more at op end le i =
     let begins = (text_ends (bytes ++ more) i.row.text (at + length (spelling op)) op.text end i.text).begins in
     let room : at + length (spelling op) ≤ length bytes = omega arith in
     record {

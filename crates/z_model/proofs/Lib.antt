@@ -1,6 +1,6 @@
 pub mod Again
-pub mod Found
-pub mod FoundForms
+pub mod Sought
+pub mod SoughtForms
 pub mod Stays
 pub mod InstrLaws
 pub mod Runs
@@ -9,3 +9,4 @@ pub mod Completed
 pub mod CompletedForms
 pub mod Ends
 pub mod NoInstruction
+pub mod Places

@@ -4,11 +4,13 @@ use Rattle.std.proofs.lemmas.List.{append-nil}
 use Rattle.z_model.specs.declared.fault.ZFault.{ZFault}
 use Rattle.z_model.specs.declared.end.Halt.{Halt}
 use Rattle.z_model.specs.declared.end.Halt.TheVariants.{AtQuit, AtInput, AtFault}
-use Rattle.z_model.specs.declared.end.Act.{Act}
-use Rattle.z_model.specs.declared.end.Act.TheVariants.{Goes, PrintsCode, PrintsUnicode, PrintsNumber, PrintsText, PrintsLine, Draws, Reads, Quits}
+use Rattle.z_model.specs.declared.end.Effect.{Effect}
+use Rattle.z_model.specs.declared.end.Effect.TheVariants.{Goes, PrintsCode, PrintsUnicode, PrintsNumber, PrintsText, PrintsLine, Draws, Reads, Quits}
 use Rattle.z_model.specs.Machine.{Machine}
-use Rattle.z_model.specs.Step.{machine_step, returned, signed_16}
-use Rattle.z_model.specs.Run.{ZState, World, Next, On, Ended, end_of, Run, go_on, zstep, zrun, next_by, shown, act_on, on_unless, line_taken, line_read, word_at}
+use Rattle.z_model.specs.Numbers.{signed_16}
+use Rattle.z_model.specs.Flow.{returned}
+use Rattle.z_model.specs.Step.{machine_step}
+use Rattle.z_model.specs.Run.{ZState, ZGiven, Next, On, Ended, end_of, ZRun, go_on, zstep, zrun, next_by, shown, effect_on, on_unless, line_taken, line_read, word_at}
 use Rattle.z_model.specs.Typed.{typed_line, typed_left}
 use Rattle.z_model.specs.Text.{string_at, text_bytes}
 use Rattle.z_model.specs.Zscii.{code_bytes}
@@ -16,16 +18,16 @@ use Rattle.std.specs.Prelude.{encode_utf8}
 use Rattle.std.specs.Fmt.{signed_decimal}
 use Rattle.z_model.specs.Laws.{then_more, Begins, RunLaws}
 
-halted : (more : ZState → Run) (halt : Halt) (s : ZState) → then_more more (record { end = end_of halt; state = s }) ≡ record { end = end_of halt; state = s }
+halted : (more : ZState → ZRun) (halt : Halt) (s : ZState) → then_more more (record { end = end_of halt; state = s }) ≡ record { end = end_of halt; state = s }
 halted more AtQuit s = refl
 halted more AtInput s = refl
 halted more (AtFault fault at) s = refl
 
-sum_next : (w : World) (k j : ℕ) → ((s : ZState) → zrun w (k + j) s ≡ then_more (zrun w j) (zrun w k s)) → (next : Next) → go_on (zrun w (k + j)) next ≡ then_more (zrun w j) (go_on (zrun w k) next)
+sum_next : (w : ZGiven) (k j : ℕ) → ((s : ZState) → zrun w (k + j) s ≡ then_more (zrun w j) (zrun w k s)) → (next : Next) → go_on (zrun w (k + j)) next ≡ then_more (zrun w j) (go_on (zrun w k) next)
 sum_next w k j same (On s) = same s
 sum_next w k j same (Ended halt s) = sym (halted (zrun w j) halt s)
 
-sum_law : (w : World) (k j : ℕ) (s : ZState) → zrun w (k + j) s ≡ then_more (zrun w j) (zrun w k s)
+sum_law : (w : ZGiven) (k j : ℕ) (s : ZState) → zrun w (k + j) s ≡ then_more (zrun w j) (zrun w k s)
 unfolding zrun
 sum_law w zero j s = let e : zero + j ≡ j = omega arith in ap (λ (n : ℕ). zrun w n s) e
 sum_law w (suc k) j s =
@@ -48,30 +50,30 @@ unless_grows : (s after : ZState) (r : Result Machine ZFault) → Begins s.outpu
 unless_grows s after (Ok m) more = more
 unless_grows s after (Err fault) more = same_begins s.output
 
-line_grows : (w : World) (s : ZState) (m : Machine) (buffer most : ℕ) (store : Option ℕ) (typed : List ℕ) → Begins s.output (state_of (line_taken w s m buffer most store typed)).output
+line_grows : (w : ZGiven) (s : ZState) (m : Machine) (buffer most : ℕ) (store : Option ℕ) (typed : List ℕ) → Begins s.output (state_of (line_taken w s m buffer most store typed)).output
 line_grows w s m buffer most store [] = same_begins s.output
 line_grows w s m buffer most store (byte ∷ typed) = unless_grows s (record s { typed = typed_left (byte ∷ typed) }) (line_read w.layout m buffer store (typed_line most (byte ∷ typed))) (same_begins s.output)
 
-act_grows : (w : World) (s : ZState) (act : Act) (m : Machine) → Begins s.output (state_of (act_on w s act m)).output
-act_grows w s Goes m = same_begins s.output
-act_grows w s (PrintsCode c) m = record { more = code_bytes c; is = refl }
-act_grows w s (PrintsUnicode c) m = record { more = encode_utf8 c; is = refl }
-act_grows w s (PrintsNumber x) m = record { more = signed_decimal (signed_16 x); is = refl }
-act_grows w s (PrintsText at) m = record { more = text_bytes (string_at m.memory at); is = refl }
-act_grows w s (PrintsLine at) m = unless_grows s (shown s m (text_bytes (string_at m.memory at) ++ 10 ∷ [])) (returned w.layout m 1) (record { more = text_bytes (string_at m.memory at) ++ 10 ∷ []; is = refl })
-act_grows w s Draws m = same_begins s.output
-act_grows w s (Reads buffer most store) m = line_grows w s m buffer most store s.typed
-act_grows w s Quits m = same_begins s.output
+effect_grows : (w : ZGiven) (s : ZState) (effect : Effect) (m : Machine) → Begins s.output (state_of (effect_on w s effect m)).output
+effect_grows w s Goes m = same_begins s.output
+effect_grows w s (PrintsCode c) m = record { more = code_bytes c; is = refl }
+effect_grows w s (PrintsUnicode c) m = record { more = encode_utf8 c; is = refl }
+effect_grows w s (PrintsNumber x) m = record { more = signed_decimal (signed_16 x); is = refl }
+effect_grows w s (PrintsText at) m = record { more = text_bytes (string_at m.memory at); is = refl }
+effect_grows w s (PrintsLine at) m = unless_grows s (shown s m (text_bytes (string_at m.memory at) ++ 10 ∷ [])) (returned w.layout m 1) (record { more = text_bytes (string_at m.memory at) ++ 10 ∷ []; is = refl })
+effect_grows w s Draws m = same_begins s.output
+effect_grows w s (Reads buffer most store) m = line_grows w s m buffer most store s.typed
+effect_grows w s Quits m = same_begins s.output
 
-step_grows : (w : World) (s : ZState) (r : Result (Act × Machine) ZFault) → Begins s.output (state_of (next_by w s r)).output
-step_grows w s (Ok am) = act_grows w s am.0 am.1
+step_grows : (w : ZGiven) (s : ZState) (r : Result (Effect × Machine) ZFault) → Begins s.output (state_of (next_by w s r)).output
+step_grows w s (Ok am) = effect_grows w s am.0 am.1
 step_grows w s (Err fault) = same_begins s.output
 
-zstep_grows : (w : World) (s : ZState) → Begins s.output (state_of (zstep w s)).output
+zstep_grows : (w : ZGiven) (s : ZState) → Begins s.output (state_of (zstep w s)).output
 unfolding zstep
-zstep_grows w s = step_grows w s (machine_step w.layout (word_at w s.drawn) s.machine)
+zstep_grows w s = step_grows w s (machine_step w.rows w.layout (word_at w s.drawn) s.machine)
 
-run_grows : (w : World) (k : ℕ) (s : ZState) → Begins s.output (zrun w k s).state.output
+run_grows : (w : ZGiven) (k : ℕ) (s : ZState) → Begins s.output (zrun w k s).state.output
 unfolding zrun
 run_grows w zero s = same_begins s.output
 run_grows w (suc k) s = by_next (zstep w s) (zstep_grows w s) (λ s'. run_grows w k s')
@@ -80,5 +82,5 @@ run_grows w (suc k) s = by_next (zstep w s) (zstep_grows w s) (λ s'. run_grows 
     by_next (On s') first later = begins_then s.output s'.output (zrun w k s').state.output first (later s')
     by_next (Ended halt s') first later = first
 
-pub run_laws : (w : World) (s : ZState) → RunLaws w s
+pub run_laws : (w : ZGiven) (s : ZState) → RunLaws w s
 run_laws w s = record { sum = λ k j. sum_law w k j s; grows = λ k. run_grows w k s }

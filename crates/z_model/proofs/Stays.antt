@@ -1,5 +1,6 @@
 -- What is decoded stays, whatever bytes come behind, unless the bytes ended.
 use Rattle.std.proofs.Common.{◌≡◌, ℕ, zero, suc, ◌+◌, ◌/◌, ◌%◌, Bool, true, false, cond, ltb, eqb, List, [], ◌∷◌, ◌++◌, drop, Some, None, Result, Ok, Err, refl, ◌∙◌, inl, inr, ◌⊎◌}
+use Rattle.z_model.specs.Table.{Rows}
 use Rattle.z_model.specs.declared.fault.ZFault.{ZFault}
 use Rattle.z_model.specs.declared.fault.ZFault.TheVariants.{BadOpcode, OffEnd}
 use Rattle.z_model.specs.declared.op.Form.{Form}
@@ -9,7 +10,7 @@ use Rattle.z_model.specs.declared.table.Row.{Row}
 use Rattle.z_model.specs.declared.op.OperandType.{OperandType}
 use Rattle.z_model.specs.declared.op.OperandType.TheVariants.{Large, Small, Variable, Omitted}
 use Rattle.z_model.specs.declared.op.OperandTypes.{OperandTypes}
-use Rattle.z_model.specs.Decode.{◌>>=◌, or_fault, byte_at, known, counted, text_at, text_end, operand_at, store_at, branch_at, short_branch, long_branch, body_at, long_at, short_at, variable_at, variable_row, extended_at, op_at, short_kind, type_of, types_of, one_type, long_types}
+use Rattle.z_model.specs.Decode.{◌>>=◌, or_fault, byte_at, known, counted, text_at, text_end, operand_at, store_at, branch_at, short_branch, long_branch, body_at, found, long_at, short_at, variable_at, variable_row, extended_at, op_at, short_kind, type_of, types_of, one_type, long_types}
 use Rattle.z_model.specs.declared.table.Kind.TheVariants as kinds
 use Rattle.z_model.specs.Spelling.{IsInstruction}
 use Rattle.z_model.proofs.Again.{instruction_again}
@@ -78,28 +79,29 @@ module _ (more : List ℕ) where
   body_stays bytes form number row s at =
       bind_same (counted row s) _ _ (λ n. bind_stays _ _ _ _ (operand_stays bytes s.first at) (λ a. bind_stays _ _ _ _ (operand_stays bytes s.second a.1) (λ b. bind_stays _ _ _ _ (operand_stays bytes s.third b.1) (λ c. bind_stays _ _ _ _ (operand_stays bytes s.fourth c.1) (λ d. bind_stays _ _ _ _ (store_stays bytes row.store d.1) (λ f. bind_stays _ _ _ _ (branch_stays bytes row.branch f.1) (λ g. bind_stays _ _ _ _ (text_stays bytes row.text g.1) (λ t. inr refl))))))))
 
-  long_stays : (bytes : List ℕ) (at b : ℕ) → Stays (long_at bytes at b) (long_at (bytes ++ more) at b)
+module _ (rows : Rows) (more : List ℕ) where
+  long_stays : (bytes : List ℕ) (at b : ℕ) → Stays (long_at rows bytes at b) (long_at rows (bytes ++ more) at b)
   unfolding long_at
-  long_stays bytes at b = bind_same (known kinds.Two (b % 32)) _ _ (λ r. body_stays bytes forms.Long (b % 32) r (long_types b) (at + 1))
+  long_stays bytes at b = bind_same (known rows kinds.Two (b % 32)) _ _ (λ r. body_stays more bytes forms.Long (b % 32) r (long_types b) (at + 1))
 
-  short_stays : (bytes : List ℕ) (at b : ℕ) → Stays (short_at bytes at b) (short_at (bytes ++ more) at b)
+  short_stays : (bytes : List ℕ) (at b : ℕ) → Stays (short_at rows bytes at b) (short_at rows (bytes ++ more) at b)
   unfolding short_at
-  short_stays bytes at b = bind_same (known (short_kind (type_of (b / 16 % 4))) (b % 16)) _ _ (λ r. body_stays bytes forms.Short (b % 16) r (one_type (type_of (b / 16 % 4))) (at + 1))
+  short_stays bytes at b = bind_same (known rows (short_kind (type_of (b / 16 % 4))) (b % 16)) _ _ (λ r. body_stays more bytes forms.Short (b % 16) r (one_type (type_of (b / 16 % 4))) (at + 1))
 
-  variable_stays : (bytes : List ℕ) (at b : ℕ) → Stays (variable_at bytes at b) (variable_at (bytes ++ more) at b)
+  variable_stays : (bytes : List ℕ) (at b : ℕ) → Stays (variable_at rows bytes at b) (variable_at rows (bytes ++ more) at b)
   unfolding variable_at
-  variable_stays bytes at b = bind_same (variable_row (b % 64)) _ _ (λ r. bind_stays _ _ _ _ (byte_stays bytes (at + 1)) (λ t. body_stays bytes forms.Variable (b % 64) r (types_of t) (at + 2)))
+  variable_stays bytes at b = bind_same (variable_row rows (b % 64)) _ _ (λ r. bind_stays _ _ _ _ (byte_stays more bytes (at + 1)) (λ t. body_stays more bytes forms.Variable (b % 64) r (types_of t) (at + 2)))
 
-  extended_stays : (bytes : List ℕ) (at : ℕ) → Stays (extended_at bytes at) (extended_at (bytes ++ more) at)
+  extended_stays : (bytes : List ℕ) (at : ℕ) → Stays (extended_at rows bytes at) (extended_at rows (bytes ++ more) at)
   unfolding extended_at
-  extended_stays bytes at = bind_stays _ _ _ _ (byte_stays bytes (at + 1)) (λ n. bind_same (known kinds.Extended n) _ _ (λ r. bind_stays _ _ _ _ (byte_stays bytes (at + 2)) (λ t. body_stays bytes forms.Extended n r (types_of t) (at + 3))))
+  extended_stays bytes at = bind_stays _ _ _ _ (byte_stays more bytes (at + 1)) (λ n. bind_same (known rows kinds.Extended n) _ _ (λ r. bind_stays _ _ _ _ (byte_stays more bytes (at + 2)) (λ t. body_stays more bytes forms.Extended n r (types_of t) (at + 3))))
 
-  pub op_stays : (bytes : List ℕ) (at : ℕ) → Stays (op_at bytes at) (op_at (bytes ++ more) at)
+  pub op_stays : (bytes : List ℕ) (at : ℕ) → Stays (op_at rows bytes at) (op_at rows (bytes ++ more) at)
   unfolding op_at
   op_stays bytes at =
-      bind_stays _ _ _ _ (byte_stays bytes at) (λ b. cond_stays (ltb b 128) (long_at bytes at b) (long_at (bytes ++ more) at b) _ _ (long_stays bytes at b)
-      (cond_stays (eqb b 190) (extended_at bytes at) (extended_at (bytes ++ more) at) _ _ (extended_stays bytes at)
-      (cond_stays (ltb b 192) (short_at bytes at b) (short_at (bytes ++ more) at b) (variable_at bytes at b) (variable_at (bytes ++ more) at b) (short_stays bytes at b) (variable_stays bytes at b))))
+      bind_stays _ _ _ _ (byte_stays more bytes at) (λ b. cond_stays (ltb b 128) (long_at rows bytes at b) (long_at rows (bytes ++ more) at b) _ _ (long_stays bytes at b)
+      (cond_stays (eqb b 190) (extended_at rows bytes at) (extended_at rows (bytes ++ more) at) _ _ (extended_stays bytes at)
+      (cond_stays (ltb b 192) (short_at rows bytes at b) (short_at rows (bytes ++ more) at b) (variable_at rows bytes at b) (variable_at rows (bytes ++ more) at b) (short_stays bytes at b) (variable_stays bytes at b))))
 
 still_bad : {A : Type 0} (r r' : Result A ZFault) → Stays r r' → r ≡ Err BadOpcode → r' ≡ Err BadOpcode
 still_bad r r' (inl e) h = absurd cc
@@ -109,5 +111,5 @@ not_both : {A : Type 0} (r : Result A ZFault) (x : A) → r ≡ Err BadOpcode �
 not_both r x p q = cc
 
 -- where the bytes show that no instruction stands there, none does, whatever comes behind
-pub bad_opcode : (bytes : List ℕ) (at : ℕ) → op_at bytes at ≡ Err BadOpcode → (more : List ℕ) (op : Op) (end : ℕ) → IsInstruction (bytes ++ more) at op end → ⊥
-bad_opcode bytes at bad more op end i = not_both (op_at (bytes ++ more) at) (op, end) (still_bad (op_at bytes at) (op_at (bytes ++ more) at) (op_stays more bytes at) bad) (instruction_again (bytes ++ more) at op end i)
+pub bad_opcode : (rows : Rows) (bytes : List ℕ) (at : ℕ) → op_at rows bytes at ≡ Err BadOpcode → (more : List ℕ) (op : Op) (end : ℕ) → IsInstruction rows (bytes ++ more) at op end → ⊥
+bad_opcode rows bytes at bad more op end i = not_both (op_at rows (bytes ++ more) at) (found i.row op end) (still_bad (op_at rows bytes at) (op_at rows (bytes ++ more) at) (op_stays rows more bytes at) bad) (instruction_again rows (bytes ++ more) at op end i)

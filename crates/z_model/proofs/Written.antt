@@ -1,6 +1,7 @@
 -- An op that is written between other bytes stands there.
 use Rattle.std.proofs.Common.{◌≡◌, ℕ, suc, ◌+◌, ◌-◌, Bool, true, false, ltb, cond, List, [], ◌∷◌, ◌++◌, length, Some, None, Ok, refl, ap, subst, ◌∙◌, arith, add-one, add-zero, append_assoc, length-append, ◌⊎◌, inl, inr}
 use Rattle.std.proofs.Math.Seq.{drop-append_seam}
+use Rattle.z_model.specs.Table.{Rows}
 use Rattle.z_model.specs.declared.op.Op.{Op}
 use Rattle.z_model.specs.Decode.{text_end, text_at}
 use Rattle.z_model.specs.Spelling.{spelling, Stands, IsOfTable, IsText, IsInstruction, Written}
@@ -55,10 +56,10 @@ text_between front text rest true n is =
     let end : n + length front ≡ length front + length text = omega (arith, is.0) in
     rw (drop-append_seam front (text ++ rest), here, long, end) refl
 
-pub op_written : (op : Op) (front text rest : List ℕ) → Written op front text rest
-op_written op front text rest = record { written = λ is of. instruction_again (front ++ (spelling op ++ (text ++ rest))) (length front) op (length front + length (spelling op) + length text) (there is of) }
+pub op_written : (rows : Rows) (op : Op) (front text rest : List ℕ) → Written rows op front text rest
+op_written rows op front text rest = record { written = λ is of. instruction_again rows (front ++ (spelling op ++ (text ++ rest))) (length front) op (length front + length (spelling op) + length text) (there is of) }
   where
-    there : (is : IsOfTable op) → IsText is.row.text op.text text → IsInstruction (front ++ (spelling op ++ (text ++ rest))) (length front) op (length front + length (spelling op) + length text)
+    there : (is : IsOfTable rows op) → IsText is.row.text op.text text → IsInstruction rows (front ++ (spelling op ++ (text ++ rest))) (length front) op (length front + length (spelling op) + length text)
     there is of =
         let long : length (front ++ spelling op) ≡ length front + length (spelling op) = length-append front (spelling op) in
         let group : (front ++ spelling op) ++ (text ++ rest) ≡ front ++ (spelling op ++ (text ++ rest)) = append_assoc front (spelling op) (text ++ rest) in

@@ -3,18 +3,18 @@ use Rattle.std.specs.Prelude.{ℕ, List, [], ◌∷◌, ◌++◌, Bool, true, fa
 use Rattle.z_model.specs.declared.end.ZEnd.{ZEnd}
 use Rattle.z_model.specs.declared.end.ZEnd.TheVariants as ends
 use Rattle.z_model.specs.Fault.{number_of}
-use Rattle.z_model.specs.Run.{Run}
+use Rattle.z_model.specs.Run.{ZRun}
 
 -- the line of an end, with its newline; a story that quits has none
-abbrev pub line_of : ZEnd → List ℕ
-line_of ends.Quit = []
-line_of ends.InputEnded = codes "[End of input]\n"
-line_of ends.StepLimit = codes "[Step limit]\n"
-line_of (ends.Broken fault at) = codes "[Broken: " ++ decimal (number_of fault) ++ codes " at " ++ decimal at ++ codes "]\n"
+abbrev pub end_line : ZEnd → List ℕ
+end_line ends.Quit = []
+end_line ends.InputEnded = codes "[End of input]\n"
+end_line ends.StepLimit = codes "[Step limit]\n"
+end_line (ends.Broken fault at) = codes "[Broken: " ++ decimal (number_of fault) ++ codes " at " ++ decimal at ++ codes "]\n"
 
 -- the line where a byte can't be read from the input
-abbrev pub input_fault_line : List ℕ
-input_fault_line = codes "[Input fault]\n"
+abbrev pub unread_line : List ℕ
+unread_line = codes "[Input fault]\n"
 
 -- Whether a line is open behind a text, where it was before it: the last byte isn't a newline.
 abbrev pub is_open : Bool → List ℕ → Bool
@@ -32,5 +32,5 @@ with_end_line output [] = output
 with_end_line output (byte ∷ line) = output ++ (newline_if (is_open false output) ++ byte ∷ line)
 
 -- all that is written of a run
-abbrev pub transcript : Run → List ℕ
-transcript r = with_end_line r.state.output (line_of r.end)
+abbrev pub played_text : ZRun → List ℕ
+played_text r = with_end_line r.state.output (end_line r.end)

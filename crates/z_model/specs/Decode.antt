@@ -12,10 +12,11 @@ use Rattle.z_model.specs.declared.op.Operand.{Operand}
 use Rattle.z_model.specs.declared.op.Operand.TheVariants as operands
 use Rattle.z_model.specs.declared.op.Branch.{Branch}
 use Rattle.z_model.specs.declared.op.Op.{Op}
+use Rattle.z_model.specs.declared.op.Found.{Found}
 use Rattle.z_model.specs.declared.table.Kind.{Kind}
 use Rattle.z_model.specs.declared.table.Kind.TheVariants as kinds
 use Rattle.z_model.specs.declared.table.Row.{Row}
-use Rattle.z_model.specs.Table.{row_at}
+use Rattle.z_model.specs.Table.{Rows, row_at}
 
 infixl 10 ◌>>=◌
 abbrev pub ◌>>=◌ : {A B : Type 0} → Result A ZFault → (A → Result B ZFault) → Result B ZFault
@@ -31,8 +32,8 @@ abbrev pub byte_at : List ℕ → ℕ → Result ℕ ZFault
 byte_at bytes at = or_fault OffEnd (slice_get bytes at)
 
 -- the row, where the table has one
-abbrev pub known : Kind → ℕ → Result Row ZFault
-known kind number = or_fault BadOpcode (row_at kind number)
+abbrev pub known : Rows → Kind → ℕ → Result Row ZFault
+known rows kind number = or_fault BadOpcode (row_at rows kind number)
 
 -- two bits of a type byte
 abbrev pub type_of : ℕ → OperandType
@@ -130,8 +131,12 @@ text_at bytes true at = do
   end ← or_fault OffEnd (text_end (drop at bytes) at)
   Ok (end - at, end)
 
--- what stands behind the types, and the place behind the instruction
-unfoldable pub body_at : List ℕ → Form → ℕ → Row → OperandTypes → ℕ → Result (Op × ℕ) ZFault
+-- an op of a row, and the place behind it
+abbrev pub found : Row → Op → ℕ → Found
+found row op end = record { row = row; op = op; end = end }
+
+-- the instruction of a row, once what stands behind the types is read
+unfoldable pub body_at : List ℕ → Form → ℕ → Row → OperandTypes → ℕ → Result Found ZFault
 body_at bytes form number row types at = do
   count ← counted row types
   first ← operand_at bytes types.first at
@@ -141,13 +146,14 @@ body_at bytes form number row types at = do
   store ← store_at bytes row.store fourth.1
   branch ← branch_at bytes row.branch store.1
   text ← text_at bytes row.text branch.1
-  Ok (record { form = form; number = number; operands = record { count = count; first = first.0; second = second.0; third = third.0; fourth = fourth.0 }; store = store.0; branch = branch.0; text = text.0 }, text.1)
-
--- an instruction of the long form, whose first byte this is
-unfoldable pub long_at : List ℕ → ℕ → ℕ → Result (Op × ℕ) ZFault
-long_at bytes at first = do
-  row ← known kinds.Two (first % 32)
-  body_at bytes forms.Long (first % 32) row (long_types first) (at + 1)
+  Ok (found row (record {
+    form = form;
+    number = number;
+    store = store.0;
+    branch = branch.0;
+    text = text.0;
+    operands = record { count = count; first = first.0; second = second.0; third = third.0; fourth = fourth.0 };
+  }) text.1)
 
 abbrev pub short_kind : OperandType → Kind
 short_kind Large = kinds.One
@@ -155,30 +161,41 @@ short_kind Small = kinds.One
 short_kind Variable = kinds.One
 short_kind Omitted = kinds.Zero
 
-unfoldable pub short_at : List ℕ → ℕ → ℕ → Result (Op × ℕ) ZFault
-short_at bytes at first = do
-  row ← known (short_kind (type_of (first / 16 % 4))) (first % 16)
-  body_at bytes forms.Short (first % 16) row (one_type (type_of (first / 16 % 4))) (at + 1)
+-- The instructions of a table.
+module _ (rows : Rows) where
+  -- an instruction of the long form, whose first byte this is
+  unfoldable pub long_at : List ℕ → ℕ → ℕ → Result Found ZFault
+  long_at bytes at first = do
+    row ← known rows kinds.Two (first % 32)
+    body_at bytes forms.Long (first % 32) row (long_types first) (at + 1)
 
--- those with two operands, and from 32 on those with several
-abbrev pub variable_row : ℕ → Result Row ZFault
-variable_row number = if nat_lt number 32 then known kinds.Two number else known kinds.Several (number - 32)
+  unfoldable pub short_at : List ℕ → ℕ → ℕ → Result Found ZFault
+  short_at bytes at first = do
+    row ← known rows (short_kind (type_of (first / 16 % 4))) (first % 16)
+    body_at bytes forms.Short (first % 16) row (one_type (type_of (first / 16 % 4))) (at + 1)
 
-unfoldable pub variable_at : List ℕ → ℕ → ℕ → Result (Op × ℕ) ZFault
-variable_at bytes at first = do
-  row ← variable_row (first % 64)
-  types ← byte_at bytes (at + 1)
-  body_at bytes forms.Variable (first % 64) row (types_of types) (at + 2)
+  -- those with two operands, and from 32 on those with several
+  abbrev pub variable_row : ℕ → Result Row ZFault
+  variable_row number = if nat_lt number 32 then known rows kinds.Two number else known rows kinds.Several (number - 32)
 
-unfoldable pub extended_at : List ℕ → ℕ → Result (Op × ℕ) ZFault
-extended_at bytes at = do
-  number ← byte_at bytes (at + 1)
-  row ← known kinds.Extended number
-  types ← byte_at bytes (at + 2)
-  body_at bytes forms.Extended number row (types_of types) (at + 3)
+  unfoldable pub variable_at : List ℕ → ℕ → ℕ → Result Found ZFault
+  variable_at bytes at first = do
+    row ← variable_row (first % 64)
+    types ← byte_at bytes (at + 1)
+    body_at bytes forms.Variable (first % 64) row (types_of types) (at + 2)
 
--- the instruction at a place, and the place behind it
-unfoldable pub op_at : List ℕ → ℕ → Result (Op × ℕ) ZFault
-op_at bytes at = do
-  first ← byte_at bytes at
-  if nat_lt first 128 then long_at bytes at first else if first == 190 then extended_at bytes at else if nat_lt first 192 then short_at bytes at first else variable_at bytes at first
+  unfoldable pub extended_at : List ℕ → ℕ → Result Found ZFault
+  extended_at bytes at = do
+    number ← byte_at bytes (at + 1)
+    row ← known rows kinds.Extended number
+    types ← byte_at bytes (at + 2)
+    body_at bytes forms.Extended number row (types_of types) (at + 3)
+
+  -- the instruction at a place
+  unfoldable pub op_at : List ℕ → ℕ → Result Found ZFault
+  op_at bytes at = do
+    first ← byte_at bytes at
+    if nat_lt first 128 then long_at bytes at first
+        else if first == 190 then extended_at bytes at
+        else if nat_lt first 192 then short_at bytes at first
+        else variable_at bytes at first

@@ -1,4 +1,4 @@
--- The numbers of the faults, which are this project's own; the standard leaves an error's report to the interpreter (Z-Machine Standard 1.1, remarks on section 2 and on section 4).
+-- The numbers and texts of the faults, which are this project's own; the standard leaves an error's report to the interpreter.
 use Rattle.std.specs.Prelude.{ℕ}
 use Rattle.z_model.specs.declared.fault.ZFault.{ZFault}
 use Rattle.z_model.specs.declared.fault.ZFault.TheVariants.{BadOpcode, OffEnd, BadAddress, BadWrite, StackEmpty, StackFull, BadLocal, DivideByZero, BadCall, BadString, BadCharacter, BadReturn, Unsupported}

@@ -2,13 +2,13 @@
 use Rattle.std.specs.Prelude.{◌≡◌, ℕ, ◌+◌, List, ◌++◌}
 use Rattle.z_model.specs.declared.end.ZEnd.{ZEnd}
 use Rattle.z_model.specs.declared.end.ZEnd.TheVariants as ends
-use Rattle.z_model.specs.Run.{World, ZState, Run, zrun}
+use Rattle.z_model.specs.Run.{ZGiven, ZState, ZRun, zrun}
 
 -- goes on where the steps were used up
-abbrev pub then_more : (ZState → Run) → Run → Run
+abbrev pub then_more : (ZState → ZRun) → ZRun → ZRun
 then_more more r = by_end r.end
   where
-    by_end : ZEnd → Run
+    by_end : ZEnd → ZRun
     by_end ends.StepLimit = more r.state
     by_end ends.Quit = r
     by_end ends.InputEnded = r
@@ -20,6 +20,6 @@ pub record Begins (old new : List ℕ) : Type 0 where
   pub is : new ≡ old ++ more
 
 -- A run of k + j steps is one of k and then one of j, and what was printed stays.
-pub record RunLaws (w : World) (s : ZState) : Type 0 where
+pub record RunLaws (w : ZGiven) (s : ZState) : Type 0 where
   pub sum : (k j : ℕ) → zrun w (k + j) s ≡ then_more (zrun w j) (zrun w k s)
   pub grows : (k : ℕ) → Begins s.output (zrun w k s).state.output

@@ -7,7 +7,11 @@ pub mod Undecoded
 pub mod Zscii
 pub mod Text
 pub mod Typed
+pub mod Memory
 pub mod Machine
+pub mod Numbers
+pub mod Flow
+pub mod Effects
 pub mod Step
 pub mod Run
 pub mod Laws

@@ -1,13 +1,14 @@
--- The machine: its memory, its frames and its variables (Z-Machine Standard 1.1, sections 1.1, 4.2, 6.1 to 6.4 and 7.1).
+-- The machine: its frames and its variables (Z-Machine Standard 1.1, sections 4.2, 6.1 to 6.4 and 7.1).
 use Rattle.std.specs.Prelude.{ℕ, zero, suc, ◌+◌, ◌-◌, ◌*◌, ◌/◌, ◌%◌, List, [], ◌∷◌, ◌++◌, length, take, Option, Some, None, Result, Ok, Err, Bool, true, false, nat_lt, ◌==◌, if◌then◌else◌, slice_get, slice_index, slice_set}
 use Rattle.z_model.specs.declared.fault.ZFault.{ZFault}
-use Rattle.z_model.specs.declared.fault.ZFault.TheVariants.{BadOpcode, BadAddress, BadWrite, StackEmpty, StackFull, BadLocal}
+use Rattle.z_model.specs.declared.fault.ZFault.TheVariants.{BadOpcode, StackEmpty, StackFull, BadLocal}
 use Rattle.z_model.specs.declared.op.Operand.{Operand}
 use Rattle.z_model.specs.declared.op.Operand.TheVariants as operands
 use Rattle.z_model.specs.declared.op.Operands.{Operands}
 use Rattle.z_model.specs.declared.end.Args.{Args}
 use Rattle.z_model.specs.declared.story.Layout.{Layout}
 use Rattle.z_model.specs.Decode.{◌>>=◌, or_fault}
+use Rattle.z_model.specs.Memory.{word_of}
 
 -- A routine that was called: where its caller goes on, which variable takes its answer, how many arguments it was given, its locals, and its stack with the top last.
 pub record Frame : Type 0 where
@@ -29,46 +30,6 @@ pub record Machine : Type 0 where
   pub here : Frame
   pub callers : List Frame
   pub tables : List OpenTable
-
--- ---- bytes and words of the memory
-
--- A byte may be read below the length; an address is below 65,536.
-abbrev pub may_read : List ℕ → ℕ → Bool
-may_read memory a = nat_lt a (length memory)
-
--- A byte may be written in the flags at 16 and 17 and from 64 up to the static base.
-abbrev pub may_write : Layout → ℕ → Bool
-may_write layout a = if a == 16 then true else if a == 17 then true else if nat_lt a 64 then false else nat_lt a layout.base
-
-unfoldable pub byte_in : List ℕ → ℕ → Result ℕ ZFault
-byte_in memory a = if may_read memory a then Ok (slice_index memory a) else Err BadAddress
-
-unfoldable pub with_byte : Layout → List ℕ → ℕ → ℕ → Result (List ℕ) ZFault
-with_byte layout memory a b = if may_write layout a then Ok (slice_set memory a b) else Err BadWrite
-
-abbrev pub word_of : ℕ → ℕ → ℕ
-word_of high low = 256 * high + low
-
-unfoldable pub word_in : List ℕ → ℕ → Result ℕ ZFault
-word_in memory a = do
-  high ← byte_in memory a
-  low ← byte_in memory ((a + 1) % 65536)
-  Ok (word_of high low)
-
-unfoldable pub with_word : Layout → List ℕ → ℕ → ℕ → Result (List ℕ) ZFault
-with_word layout memory a x = do
-  first ← with_byte layout memory a (x / 256)
-  with_byte layout first ((a + 1) % 65536) (x % 256)
-
--- bytes from an address on
-unfoldable pub with_bytes : Layout → List ℕ → ℕ → List ℕ → Result (List ℕ) ZFault
-with_bytes layout memory a [] = Ok memory
-with_bytes layout memory a (b ∷ bs) = with_byte layout memory a b >>= λ first. with_bytes layout first ((a + 1) % 65536) bs
-
--- So many bytes from an address on may be written.
-unfoldable pub may_write_all : Layout → ℕ → ℕ → Bool
-may_write_all layout a zero = true
-may_write_all layout a (suc n) = if may_write layout a then may_write_all layout ((a + 1) % 65536) n else false
 
 -- ---- words on the stacks
 

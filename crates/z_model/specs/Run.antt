@@ -7,17 +7,22 @@ use Rattle.z_model.specs.declared.end.Halt.{Halt}
 use Rattle.z_model.specs.declared.end.Halt.TheVariants.{AtQuit, AtInput, AtFault}
 use Rattle.z_model.specs.declared.end.ZEnd.{ZEnd}
 use Rattle.z_model.specs.declared.end.ZEnd.TheVariants as ends
-use Rattle.z_model.specs.declared.end.Act.{Act}
-use Rattle.z_model.specs.declared.end.Act.TheVariants.{Goes, PrintsCode, PrintsUnicode, PrintsNumber, PrintsText, PrintsLine, Draws, Reads, Quits}
+use Rattle.z_model.specs.declared.end.Effect.{Effect}
+use Rattle.z_model.specs.declared.end.Effect.TheVariants.{Goes, PrintsCode, PrintsUnicode, PrintsNumber, PrintsText, PrintsLine, Draws, Reads, Quits}
+use Rattle.z_model.specs.Table.{Rows}
 use Rattle.z_model.specs.Decode.{◌>>=◌}
 use Rattle.z_model.specs.Zscii.{code_bytes}
 use Rattle.z_model.specs.Text.{string_at, text_bytes}
 use Rattle.z_model.specs.Typed.{typed_line, typed_left}
-use Rattle.z_model.specs.Machine.{Machine, with_byte, with_bytes, stored_if}
-use Rattle.z_model.specs.Step.{machine_step, returned, signed_16}
+use Rattle.z_model.specs.Memory.{Memory, guarded, with_byte, with_bytes}
+use Rattle.z_model.specs.Machine.{Machine, stored_if}
+use Rattle.z_model.specs.Numbers.{signed_16}
+use Rattle.z_model.specs.Flow.{returned}
+use Rattle.z_model.specs.Step.{machine_step}
 
--- What a run is given: the story's layout, and the dice words, which are used in order and again from the first.
-pub record World : Type 0 where
+-- What a run is given: the instruction table, the story's layout, and the dice words, which are used in order and again from the first.
+pub record ZGiven : Type 0 where
+  pub rows : Rows
   pub layout : Layout
   pub dice : List ℕ
 
@@ -34,10 +39,10 @@ pub data Next : Type 0 where
   Ended : (halt : Halt) → (s : ZState) → Next
 
 -- the dice word at a place
-abbrev pub word_at : World → ℕ → ℕ
+abbrev pub word_at : ZGiven → ℕ → ℕ
 word_at w drawn = slice_index w.dice drawn
 
-abbrev pub next_drawn : World → ℕ → ℕ
+abbrev pub next_drawn : ZGiven → ℕ → ℕ
 next_drawn w drawn = (drawn + 1) % length w.dice
 
 -- the address is that of the instruction
@@ -53,44 +58,45 @@ on_unless s after (Ok m) = On (record after { machine = m })
 on_unless s after (Err fault) = broken_at s fault
 
 -- a typed line in its buffer: the characters from byte 2 on, their number in byte 1
-unfoldable pub with_line : Layout → List ℕ → ℕ → List ℕ → Result (List ℕ) ZFault
-with_line layout memory buffer line = do
-  first ← with_bytes layout memory ((buffer + 2) % 65536) line
-  with_byte layout first ((buffer + 1) % 65536) (length line)
+unfoldable pub with_line : Memory → ℕ → List ℕ → Result Memory ZFault
+with_line mem buffer line = do
+  first ← with_bytes mem ((buffer + 2) % 65536) line
+  with_byte first ((buffer + 1) % 65536) (length line)
 
 -- and 13 stored behind it
 unfoldable pub line_read : Layout → Machine → ℕ → Option ℕ → List ℕ → Result Machine ZFault
 line_read layout m buffer store line = do
-  memory ← with_line layout m.memory buffer line
-  stored_if layout (record m { memory = memory }) store 13
+  memory ← with_line (guarded layout m.memory) buffer line
+  stored_if layout (record m { memory = memory.bytes }) store 13
 
 -- a typed line is taken, where a typed byte is left
-abbrev pub line_taken : World → ZState → Machine → ℕ → ℕ → Option ℕ → List ℕ → Next
+abbrev pub line_taken : ZGiven → ZState → Machine → ℕ → ℕ → Option ℕ → List ℕ → Next
 line_taken w s m buffer most store [] = Ended AtInput (record s { machine = m })
-line_taken w s m buffer most store (byte ∷ typed) = on_unless s (record s { typed = typed_left (byte ∷ typed) }) (line_read w.layout m buffer store (typed_line most (byte ∷ typed)))
+line_taken w s m buffer most store (byte ∷ typed) =
+    on_unless s (record s { typed = typed_left (byte ∷ typed) }) (line_read w.layout m buffer store (typed_line most (byte ∷ typed)))
 
 -- the outside's part of an instruction, behind which the machine is m
-abbrev pub act_on : World → ZState → Act → Machine → Next
-act_on w s Goes m = On (record s { machine = m })
-act_on w s (PrintsCode c) m = On (shown s m (code_bytes c))
-act_on w s (PrintsUnicode c) m = On (shown s m (encode_utf8 c))
-act_on w s (PrintsNumber x) m = On (shown s m (signed_decimal (signed_16 x)))
-act_on w s (PrintsText at) m = On (shown s m (text_bytes (string_at m.memory at)))
-act_on w s (PrintsLine at) m = on_unless s (shown s m (text_bytes (string_at m.memory at) ++ 10 ∷ [])) (returned w.layout m 1)
-act_on w s Draws m = On (record s { machine = m; drawn = next_drawn w s.drawn })
-act_on w s (Reads buffer most store) m = line_taken w s m buffer most store s.typed
-act_on w s Quits m = Ended AtQuit (record s { machine = m })
+abbrev pub effect_on : ZGiven → ZState → Effect → Machine → Next
+effect_on w s Goes m = On (record s { machine = m })
+effect_on w s (PrintsCode c) m = On (shown s m (code_bytes c))
+effect_on w s (PrintsUnicode c) m = On (shown s m (encode_utf8 c))
+effect_on w s (PrintsNumber x) m = On (shown s m (signed_decimal (signed_16 x)))
+effect_on w s (PrintsText at) m = On (shown s m (text_bytes (string_at m.memory at)))
+effect_on w s (PrintsLine at) m = on_unless s (shown s m (text_bytes (string_at m.memory at) ++ 10 ∷ [])) (returned w.layout m 1)
+effect_on w s Draws m = On (record s { machine = m; drawn = next_drawn w s.drawn })
+effect_on w s (Reads buffer most store) m = line_taken w s m buffer most store s.typed
+effect_on w s Quits m = Ended AtQuit (record s { machine = m })
 
-abbrev pub next_by : World → ZState → Result (Act × Machine) ZFault → Next
+abbrev pub next_by : ZGiven → ZState → Result (Effect × Machine) ZFault → Next
 next_by w s (Err fault) = broken_at s fault
-next_by w s (Ok am) = act_on w s am.0 am.1
+next_by w s (Ok am) = effect_on w s am.0 am.1
 
 -- one instruction
-unfoldable pub zstep : World → ZState → Next
-zstep w s = next_by w s (machine_step w.layout (word_at w s.drawn) s.machine)
+unfoldable pub zstep : ZGiven → ZState → Next
+zstep w s = next_by w s (machine_step w.rows w.layout (word_at w s.drawn) s.machine)
 
 -- how a run ended, and its last state
-pub record Run : Type 0 where
+pub record ZRun : Type 0 where
   pub end : ZEnd
   pub state : ZState
 
@@ -99,11 +105,11 @@ end_of AtQuit = ends.Quit
 end_of AtInput = ends.InputEnded
 end_of (AtFault fault at) = ends.Broken fault at
 
-abbrev pub go_on : (ZState → Run) → Next → Run
+abbrev pub go_on : (ZState → ZRun) → Next → ZRun
 go_on more (On s) = more s
 go_on more (Ended halt s) = record { end = end_of halt; state = s }
 
 -- at most n instructions
-unfoldable pub zrun : World → ℕ → ZState → Run
+unfoldable pub zrun : ZGiven → ℕ → ZState → ZRun
 zrun w zero s = record { end = ends.StepLimit; state = s }
 zrun w (suc n) s = go_on (zrun w n) (zstep w s)

@@ -14,7 +14,8 @@ use Rattle.z_model.specs.declared.table.Row.{Row}
 use Rattle.z_model.specs.declared.op.OperandType.{OperandType}
 use Rattle.z_model.specs.declared.op.OperandType.TheVariants.{Large, Small, Variable, Omitted}
 use Rattle.z_model.specs.declared.op.OperandTypes.{OperandTypes}
-use Rattle.z_model.specs.Decode.{known, variable_row, short_kind, counted, text_at, text_end, op_at}
+use Rattle.z_model.specs.Table.{Rows}
+use Rattle.z_model.specs.Decode.{known, found, variable_row, short_kind, counted, text_at, text_end, op_at}
 
 abbrev pub type_of_operand : Operand → OperandType
 type_of_operand (operands.Large w) = Large
@@ -94,11 +95,11 @@ spelling op = let s = types_in op.operands in
 
 -- ---- what has a spelling
 
-abbrev pub row_of : Form → ℕ → OperandTypes → Result Row ZFault
-row_of forms.Long number s = known kinds.Two number
-row_of forms.Short number s = known (short_kind s.first) number
-row_of forms.Variable number s = variable_row number
-row_of forms.Extended number s = known kinds.Extended number
+abbrev pub row_of : Rows → Form → ℕ → OperandTypes → Result Row ZFault
+row_of rows forms.Long number s = known rows kinds.Two number
+row_of rows forms.Short number s = known rows (short_kind s.first) number
+row_of rows forms.Variable number s = variable_row rows number
+row_of rows forms.Extended number s = known rows kinds.Extended number
 
 abbrev pub IsByteType : OperandType → Type 0
 IsByteType Large = ⊥
@@ -147,8 +148,8 @@ FitsBranch false (Some b) = ⊥
 FitsBranch false None = Unit {0}
 
 -- an op of the table, but for its literal text
-pub record IsOp (row : Row) (op : Op) : Type 0 where
-  pub known : row_of op.form op.number (types_in op.operands) ≡ Ok row
+pub record IsOp (rows : Rows) (row : Row) (op : Op) : Type 0 where
+  pub known : row_of rows op.form op.number (types_in op.operands) ≡ Ok row
   pub form : FitsForm op.form op.number (types_in op.operands)
   pub count : counted row (types_in op.operands) ≡ Ok op.operands.count
   pub first : FitsType (types_in op.operands).first op.operands.first
@@ -164,9 +165,9 @@ Stands bytes at [] = Unit {0}
 Stands bytes at (b ∷ bs) = (slice_get bytes at ≡ Some b) × Stands bytes (at + 1) bs
 
 -- An instruction of the table stands at a place, and ends there.
-pub record IsInstruction (bytes : List ℕ) (at : ℕ) (op : Op) (end : ℕ) : Type 0 where
+pub record IsInstruction (rows : Rows) (bytes : List ℕ) (at : ℕ) (op : Op) (end : ℕ) : Type 0 where
   pub row : Row
-  pub is : IsOp row op
+  pub is : IsOp rows row op
   pub stands : Stands bytes at (spelling op)
   pub text : text_at bytes row.text (at + length (spelling op)) ≡ Ok (op.text, end)
 
@@ -176,9 +177,9 @@ FitsText true n = (2 ≤ n) × (n % 2 ≡ 0)
 FitsText false n = n ≡ 0
 
 -- an op of the table
-pub record IsOfTable (op : Op) : Type 0 where
+pub record IsOfTable (rows : Rows) (op : Op) : Type 0 where
   pub row : Row
-  pub is : IsOp row op
+  pub is : IsOp rows row op
   pub text : FitsText row.text op.text
 
 -- a literal text of so many bytes: words of which the last alone is marked
@@ -190,11 +191,12 @@ abbrev pub AreBytes : List ℕ → Type 0
 AreBytes bytes = (i b : ℕ) → slice_get bytes i ≡ Some b → b < 256
 
 -- What is written for an op, and its literal text behind it, is decoded as that op, whatever stands before and behind.
-pub record Written (op : Op) (front text rest : List ℕ) : Type 0 where
-  pub written : (is : IsOfTable op) → IsText is.row.text op.text text → op_at (front ++ (spelling op ++ (text ++ rest))) (length front) ≡ Ok (op, length front + length (spelling op) + length text)
+pub record Written (rows : Rows) (op : Op) (front text rest : List ℕ) : Type 0 where
+  pub written : (is : IsOfTable rows op) → IsText is.row.text op.text text →
+      op_at rows (front ++ (spelling op ++ (text ++ rest))) (length front) ≡ Ok (found is.row op (length front + length (spelling op) + length text))
 
 -- What is written so is decoded again, and no bytes are two instructions.
-pub record Again (bytes : List ℕ) (at : ℕ) : Type 0 where
-  pub again : (op : Op) (end : ℕ) → IsInstruction bytes at op end → op_at bytes at ≡ Ok (op, end)
-  pub one : (op op' : Op) (end end' : ℕ) → IsInstruction bytes at op end → IsInstruction bytes at op' end' → (op ≡ op') × (end ≡ end')
-  pub found : AreBytes bytes → (op : Op) (end : ℕ) → op_at bytes at ≡ Ok (op, end) → IsInstruction bytes at op end
+pub record Again (rows : Rows) (bytes : List ℕ) (at : ℕ) : Type 0 where
+  pub again : (op : Op) (end : ℕ) (i : IsInstruction rows bytes at op end) → op_at rows bytes at ≡ Ok (found i.row op end)
+  pub one : (op op' : Op) (end end' : ℕ) → IsInstruction rows bytes at op end → IsInstruction rows bytes at op' end' → (op ≡ op') × (end ≡ end')
+  pub there : AreBytes bytes → (row : Row) (op : Op) (end : ℕ) → op_at rows bytes at ≡ Ok (found row op end) → IsInstruction rows bytes at op end

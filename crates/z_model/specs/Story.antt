@@ -4,8 +4,10 @@ use Rattle.z_model.specs.declared.story.StoryRefusal.{StoryRefusal}
 use Rattle.z_model.specs.declared.story.StoryRefusal.TheVariants.{TooShort, BadVersion, BadLength, BadMap}
 use Rattle.z_model.specs.declared.story.Layout.{Layout}
 use Rattle.z_model.specs.declared.story.Header.{Header}
-use Rattle.z_model.specs.Machine.{Machine, word_of}
-use Rattle.z_model.specs.Run.{World, ZState, Run, zrun}
+use Rattle.z_model.specs.Table.{rows_of}
+use Rattle.z_model.specs.Memory.{word_of}
+use Rattle.z_model.specs.Machine.{Machine}
+use Rattle.z_model.specs.Run.{ZGiven, ZState, ZRun, zrun}
 
 -- a word of the header
 abbrev pub header_word : List ℕ → ℕ → ℕ
@@ -82,12 +84,12 @@ pub record IsHeader (file : List ℕ) (h : Header) : Type 0 where
 abbrev pub first_machine : List ℕ → ℕ → Machine
 first_machine memory start = record { memory = memory; pc = start; here = record { back = 0; store = None; args = 0; locals = []; stack = [] }; callers = []; tables = [] }
 
-abbrev pub world_of : List ℕ → List ℕ → World
-world_of file dice = record { layout = layout_of file; dice = dice }
+abbrev pub given_of : List ℕ → List ℕ → ZGiven
+given_of file dice = record { rows = rows_of; layout = layout_of file; dice = dice }
 
 abbrev pub start_state : List ℕ → List ℕ → ZState
 start_state file typed = record { machine = first_machine (memory_of file) (start_of file); typed = typed; drawn = 0; output = [] }
 
 -- The run of a story on typed bytes and dice words, of at most so many instructions.
-unfoldable pub story_run : List ℕ → List ℕ → List ℕ → ℕ → Run
-story_run file typed dice n = zrun (world_of file dice) n (start_state file typed)
+unfoldable pub story_run : List ℕ → List ℕ → List ℕ → ℕ → ZRun
+story_run file typed dice n = zrun (given_of file dice) n (start_state file typed)

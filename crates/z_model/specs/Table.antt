@@ -27,9 +27,17 @@ stores instr fewest most = row instr fewest most true false false
 abbrev pub branches : Instr → ℕ → ℕ → Option Row
 branches instr fewest most = row instr fewest most false true false
 
+-- a store and a branch stand behind them
+abbrev pub stores_and_branches : Instr → ℕ → ℕ → Option Row
+stores_and_branches instr fewest most = row instr fewest most true true false
+
 -- a text stands behind them
 abbrev pub tells : Instr → ℕ → ℕ → Option Row
 tells instr fewest most = row instr fewest most false false true
+
+-- A table: the rows of each kind, in the order of their numbers.
+abbrev pub Rows : Type 0
+Rows = Kind → List (Option Row)
 
 -- the rows with two operands, from number 0 to 31
 abbrev pub two_rows : List (Option Row)
@@ -118,8 +126,8 @@ extended_rows =
     plain (instrs.Extended extended.PrintUnicode) 1 1 ∷  -- 11
     []
 
--- the rows of a kind
-abbrev pub rows_of : Kind → List (Option Row)
+-- the rows of a kind in the table of the player
+abbrev pub rows_of : Rows
 rows_of kinds.Two = two_rows
 rows_of kinds.One = one_rows
 rows_of kinds.Zero = zero_rows
@@ -132,5 +140,5 @@ entry None = None
 entry (Some row) = row
 
 -- the row of a kind and a number
-abbrev pub row_at : Kind → ℕ → Option Row
-row_at kind number = entry (slice_get (rows_of kind) number)
+abbrev pub row_at : Rows → Kind → ℕ → Option Row
+row_at rows kind number = entry (slice_get (rows kind) number)

@@ -3,24 +3,25 @@ use Rattle.std.specs.Prelude.{◌≡◌, ◌⊎◌, ◌↔◌, ◌<◌, ℕ, Lis
 use Rattle.z_model.specs.declared.fault.ZFault.{ZFault}
 use Rattle.z_model.specs.declared.fault.ZFault.TheVariants.{BadOpcode, OffEnd}
 use Rattle.z_model.specs.declared.op.Op.{Op}
+use Rattle.z_model.specs.Table.{Rows}
 use Rattle.z_model.specs.Decode.{op_at}
 use Rattle.z_model.specs.Spelling.{IsInstruction, AreBytes}
 
 -- An instruction of the table begins at a place and passes the end of the bytes: with these behind them it stands there.
-pub record PassesEnd (bytes : List ℕ) (at : ℕ) : Type 0 where
+pub record PassesEnd (rows : Rows) (bytes : List ℕ) (at : ℕ) : Type 0 where
   pub more : List ℕ
   pub are_bytes : AreBytes more
   pub op : Op
   pub end : ℕ
-  pub there : IsInstruction (bytes ++ more) at op end
+  pub there : IsInstruction rows (bytes ++ more) at op end
   pub passes : length bytes < end
 
 -- No instruction of the table begins at a place, whatever bytes come behind these.
-abbrev pub NoneBegins : List ℕ → ℕ → Type 0
-NoneBegins bytes at = (more : List ℕ) → AreBytes more → (op : Op) (end : ℕ) → IsInstruction (bytes ++ more) at op end → ⊥
+abbrev pub NoneBegins : Rows → List ℕ → ℕ → Type 0
+NoneBegins rows bytes at = (more : List ℕ) → AreBytes more → (op : Op) (end : ℕ) → IsInstruction rows (bytes ++ more) at op end → ⊥
 
 -- Decoding fails by the end exactly where an instruction passes it, and by a bad instruction exactly where none begins.
-pub record Undecoded (bytes : List ℕ) (at : ℕ) : Type 0 where
-  pub off_end : (op_at bytes at ≡ Err OffEnd) ↔ PassesEnd bytes at
-  pub bad_opcode : (op_at bytes at ≡ Err BadOpcode) ↔ NoneBegins bytes at
-  pub other : (fault : ZFault) → op_at bytes at ≡ Err fault → (fault ≡ OffEnd) ⊎ (fault ≡ BadOpcode)
+pub record Undecoded (rows : Rows) (bytes : List ℕ) (at : ℕ) : Type 0 where
+  pub off_end : (op_at rows bytes at ≡ Err OffEnd) ↔ PassesEnd rows bytes at
+  pub bad_opcode : (op_at rows bytes at ≡ Err BadOpcode) ↔ NoneBegins rows bytes at
+  pub other : (fault : ZFault) → op_at rows bytes at ≡ Err fault → (fault ≡ OffEnd) ⊎ (fault ≡ BadOpcode)

@@ -1,5 +1,6 @@
 -- The character codes of a story and what they print (Z-Machine Standard 1.1, section 3.8, with its table of extra characters).
-use Rattle.std.specs.Prelude.{ℕ, ◌-◌, List, [], ◌∷◌, Bool, true, not, nat_lt, ◌==◌, ◌&&◌, ◌||◌, if◌then◌else◌, slice_index, encode_utf8}
+use Rattle.std.specs.Option.{option_map}
+use Rattle.std.specs.Prelude.{ℕ, ◌+◌, ◌-◌, List, [], ◌∷◌, Option, Some, None, Bool, true, not, nat_lt, ◌==◌, ◌&&◌, ◌||◌, if◌then◌else◌, slice_index, encode_utf8}
 
 -- The characters of the codes from 155 on, in Unicode: äöüÄÖÜß»«ëïÿËÏáéíóúýÁÉÍÓÚÝàèìòùÀÈÌÒÙâêîôûÂÊÎÔÛåÅøØãñõÃÑÕæÆçÇþðÞÐ£œŒ¡¿
 abbrev pub extra : List ℕ
@@ -30,3 +31,15 @@ is_character c = nat_lt 31 c && (not (c == 127) && not (nat_lt 0xD7FF c && nat_l
 unfoldable pub all_printed : List ℕ → Bool
 all_printed [] = true
 all_printed (c ∷ cs) = is_printed c && all_printed cs
+
+-- the first place of a value in a table, whose entries are counted from here
+unfoldable pub place_from : ℕ → ℕ → List ℕ → Option ℕ
+place_from value here [] = None
+place_from value here (entry ∷ table) = if entry == value then Some here else place_from value (here + 1) table
+
+abbrev pub place_of : ℕ → List ℕ → Option ℕ
+place_of value table = place_from value 0 table
+
+-- the code of a character, where it is of ASCII's printed part or one of the extra characters
+abbrev pub code_of : ℕ → Option ℕ
+code_of c = if nat_lt 31 c && nat_lt c 127 then Some c else option_map (λ place. place + 155) (place_of c extra)

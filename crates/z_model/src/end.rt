@@ -30,7 +30,7 @@ pub struct Args {
 
 /// What an instruction asks of the outside, once it has changed the machine.
 #[derive(Clone, Copy, Debug, PartialEq, Eq)]
-pub enum Act {
+pub enum Effect {
     Goes,
     /// The character with this code.
     PrintsCode(u16),

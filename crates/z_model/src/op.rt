@@ -1,4 +1,5 @@
-// An instruction as it is written.
+// An instruction as it is written, and as it is found.
+use crate::table::Row;
 
 /// How an instruction begins.
 #[derive(Clone, Copy, Debug, PartialEq, Eq)]
@@ -63,4 +64,12 @@ pub struct Op {
     pub store: Option<u8>,
     pub branch: Option<Branch>,
     pub text: usize,
+}
+
+/// An instruction that stands in bytes: its row of the table, the op, and the place behind it.
+#[derive(Clone, Copy, Debug, PartialEq, Eq)]
+pub struct Found {
+    pub row: Row,
+    pub op: Op,
+    pub end: usize,
 }

@@ -1,4 +1,6 @@
-// The characters of strings.
+// The characters of strings, and their codes.
+ghost use Rattle.std.specs.Prelude.{◌≡◌, ◌<◌, length, IfSome};
+ghost use Rattle.z_model.specs.Zscii.{place_of, code_of};
 
 /// What the next Z-character of a string is taken from: an alphabet, or a half of a code of ten bits.
 #[derive(Clone, Copy, Debug, PartialEq, Eq)]
@@ -34,3 +36,26 @@ pub const EXTRA: [u16; 69] = [
     0xF8, 0xD8, 0xE3, 0xF1, 0xF5, 0xC3, 0xD1, 0xD5, 0xE6, 0xC6, 0xE7, 0xC7, 0xFE, 0xF0, 0xDE, 0xD0,
     0xA3, 0x153, 0x152, 0xA1, 0xBF,
 ];
+
+/// The first place of a value in a table.
+pub fn find_place(table: &[u16], value: u16) -> Option<usize>
+    ensures place { result ≡ place_of value table.now }
+    ensures within { IfSome result (λ place. place < length table.now) }
+{
+    for (place, entry) in table.iter().enumerate() {
+        if *entry == value {
+            return Some(place);
+        }
+    }
+    None
+}
+
+/// The code of a character, where it is of ASCII's printed part or one of the extra characters.
+pub fn code_of(c: u16) -> Option<u8>
+    ensures { result ≡ code_of c }
+{
+    if 31 < c && c < 127 {
+        return Some(c as u8);
+    }
+    find_place(&EXTRA, c).map(|place| place as u8 + 155)
+}

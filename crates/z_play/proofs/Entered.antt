@@ -7,7 +7,7 @@ use Rattle.z_model.specs.declared.fault.ZFault.{ZFault}
 use Rattle.z_model.specs.declared.fault.ZFault.TheVariants.{StackFull}
 use Rattle.z_model.specs.declared.end.Args.{Args}
 use Rattle.z_model.specs.Machine.{words}
-use Rattle.z_model.specs.Step.{entered, local_count, locals_from}
+use Rattle.z_model.specs.Flow.{entered, local_count, locals_from}
 use Rattle.z_play.specs.declared.engine.Called.{Called}
 use Rattle.z_play.specs.declared.engine.Engine.{Engine}
 use Rattle.z_play.specs.View.{callers_view, view_of, callers_of, stack_of, machine, Nested, Sound}
@@ -46,7 +46,7 @@ module _ (e : Engine) (sound : Sound e) (end : ℕ) (store : Option ℕ) (a : Ar
     unfolding entered
     too_many n good big = rw (deep_enough, good, lt-ltb 65536 (words (machine e) + n) (omega (arith, words_are e sound))) refl
 
-    pub is_entered : (n : ℕ) → n ≤ 15 → local_count e.memory.items (8 * a.first) ≡ Ok n → e.top + n ≤ 65536 → (stack : List ℕ) → take (e.top + n) stack ≡ stack_of e ++ locals_from n a → entered (machine e) end store a ≡ Ok (view_of e.memory.items (8 * a.first + 1) (record { back = end; store = store; args = a.count - 1; base = e.top; locals = n }) (reverse (take (e.depth + 1) (set e.frames.items e.depth e.here))) (take (e.top + n) stack))
+    pub is_entered : (n : ℕ) → n ≤ 15 → local_count e.memory.items (8 * a.first) ≡ Ok n → e.top + n ≤ 65536 → (stack : List ℕ) → take (e.top + n) stack ≡ stack_of e ++ locals_from n a → entered (machine e) end store a ≡ Ok (view_of e.memory.items (8 * a.first + 1) (record { back = end; store = store; args = a.count - 1; base = e.top; locals = n }) (reverse (take (e.depth + 1) (set e.frames.items e.depth e.here))) (take (e.top + n) stack) [])
     unfolding entered
     is_entered n few good fits stack is =
         let old : List ℕ = stack_of e in

@@ -1,18 +1,20 @@
--- The rest of each act.
+-- The rest of each effect.
 use Rattle.std.proofs.Common.{◌≡◌, ◌≢◌, ℕ, zero, suc, ◌+◌, ◌-◌, ◌%◌, ◌<◌, ◌≤◌, Bool, true, false, cond, eqb, ltb, List, [], ◌∷◌, length, map, Option, Some, None, Result, Ok, Err, IsOk, refl, subst, arith}
 use Rattle.std.proofs.lemmas.List.{append-nil, length-take}
 use Rattle.z_model.specs.declared.fault.ZFault.{ZFault}
 use Rattle.z_model.specs.declared.story.Layout.{Layout}
 use Rattle.z_model.specs.declared.end.Halt.{Halt}
 use Rattle.z_model.specs.declared.end.Halt.TheVariants.{AtQuit, AtInput}
-use Rattle.z_model.specs.declared.end.Act.{Act}
-use Rattle.z_model.specs.declared.end.Act.TheVariants.{Goes, PrintsCode, PrintsUnicode, PrintsNumber, PrintsText, PrintsLine, Draws, Reads, Quits}
+use Rattle.z_model.specs.declared.end.Effect.{Effect}
+use Rattle.z_model.specs.declared.end.Effect.TheVariants.{Goes, PrintsCode, PrintsUnicode, PrintsNumber, PrintsText, PrintsLine, Draws, Reads, Quits}
 use Rattle.z_model.specs.Decode.{◌>>=◌}
-use Rattle.z_model.specs.Machine.{Machine, may_write, may_write_all, with_byte, with_bytes, pushed, local_set, global_set, stored, stored_if, words}
-use Rattle.z_model.specs.Step.{returned}
+use Rattle.z_model.specs.Machine.{Machine, pushed, local_set, global_set, stored, stored_if, words}
+use Rattle.std.proofs.Math.ListN.{set}
+use Rattle.z_model.specs.Memory.{Memory, guarded, is_writable, have_right, with_byte, with_bytes}
+use Rattle.z_model.specs.Flow.{returned}
 use Rattle.z_model.specs.Typed.{typed_code, typed_line, typed_left, line_within, left_within, line_limit, without_return}
-use Rattle.z_model.specs.Run.{World, line_read, with_line, next_drawn}
-use Rattle.z_play.specs.Acts.{CanFinish}
+use Rattle.z_model.specs.Run.{ZGiven, line_read, with_line, next_drawn}
+use Rattle.z_play.specs.Effects.{CanFinish}
 use Rattle.z_play.specs.View.{Sets}
 use Rattle.z_play.specs.Lines.{StopsWithin}
 use Rattle.z_play.specs.Acting.{Finished, Unfinished}
@@ -20,15 +22,11 @@ use Rattle.z_play.proofs.Reading.{left_shorter}
 
 -- ---- a line that fits its buffer is read
 
-byte_ok : (layout : Layout) (memory : List ℕ) (a b : ℕ) → may_write layout a ≡ true → IsOk (with_byte layout memory a b)
-unfolding with_byte
-byte_ok layout memory a b may = rw may refl
-
-all_first : (layout : Layout) (a n : ℕ) → may_write_all layout a (suc n) ≡ true → (may_write layout a ≡ true) × (may_write_all layout ((a + 1) % 65536) n ≡ true)
-unfolding may_write_all
-all_first layout a n e = by_test (may_write layout a) refl e
+all_first : (may : ℕ → Bool) (a n : ℕ) → have_right may a (suc n) ≡ true → (may a ≡ true) × (have_right may ((a + 1) % 65536) n ≡ true)
+unfolding have_right
+all_first may a n e = by_test (may a) refl e
   where
-    by_test : (t : Bool) → may_write layout a ≡ t → cond t (may_write_all layout ((a + 1) % 65536) n) false ≡ true → (may_write layout a ≡ true) × (may_write_all layout ((a + 1) % 65536) n ≡ true)
+    by_test : (t : Bool) → may a ≡ t → cond t (have_right may ((a + 1) % 65536) n) false ≡ true → (may a ≡ true) × (have_right may ((a + 1) % 65536) n ≡ true)
     by_test true is e = (is, e)
     by_test false is e = absurd cc
 
@@ -36,21 +34,29 @@ bind_ok : {A B : Type 0} (r : Result A ZFault) (f : A → Result B ZFault) → I
 bind_ok (Ok x) f h k = k x
 bind_ok (Err e) f h k = h
 
-bytes_ok : (layout : Layout) (memory : List ℕ) (a n : ℕ) (bytes : List ℕ) → may_write_all layout a n ≡ true → length bytes ≤ n → IsOk (with_bytes layout memory a bytes)
-unfolding with_bytes
-bytes_ok layout memory a n [] may few = refl
-bytes_ok layout memory a zero (b ∷ bytes) may few = absurd (omega arith)
-bytes_ok layout memory a (suc n) (b ∷ bytes) may few =
-    let first = all_first layout a n may in
-    bind_ok (with_byte layout memory a b) (λ m. with_bytes layout m ((a + 1) % 65536) bytes) (byte_ok layout memory a b first.0) (λ m. bytes_ok layout m ((a + 1) % 65536) n bytes first.1 (omega arith))
+-- the bytes are written, and the rights stay
+record BytesWritten (mem : Memory) (r : Result Memory ZFault) : Type 0 where
+  after : Memory
+  is : r ≡ Ok after
+  rights : after.may_write ≡ mem.may_write
 
-line_ok : (layout : Layout) (memory : List ℕ) (buffer most : ℕ) (line : List ℕ) → may_write_all layout ((buffer + 1) % 65536) (most + 1) ≡ true → length line ≤ most → IsOk (with_line layout memory buffer line)
-unfolding with_line
-line_ok layout memory buffer most line may few =
+bytes_ok : (mem : Memory) (a n : ℕ) (bytes : List ℕ) → have_right mem.may_write a n ≡ true → length bytes ≤ n → BytesWritten mem (with_bytes mem a bytes)
+unfolding with_bytes with_byte
+bytes_ok mem a n [] may few = record { after = mem; is = refl; rights = refl }
+bytes_ok mem a zero (b ∷ bytes) may few = absurd (omega arith)
+bytes_ok mem a (suc n) (b ∷ bytes) may few =
+    let first = all_first mem.may_write a n may in
+    let rest = bytes_ok (record mem { bytes = set mem.bytes a b }) ((a + 1) % 65536) n bytes first.1 (omega arith) in
+    record { after = rest.after; is = rw first.0 rest.is; rights = rest.rights }
+
+line_ok : (mem : Memory) (buffer most : ℕ) (line : List ℕ) → have_right mem.may_write ((buffer + 1) % 65536) (most + 1) ≡ true → length line ≤ most → IsOk (with_line mem buffer line)
+unfolding with_line with_byte
+line_ok mem buffer most line may few =
     let one : most + 1 ≡ suc most = omega arith in
-    let first = all_first layout ((buffer + 1) % 65536) most (subst (λ (n : ℕ). may_write_all layout ((buffer + 1) % 65536) n ≡ true) one may) in
+    let first = all_first mem.may_write ((buffer + 1) % 65536) most (subst (λ (n : ℕ). have_right mem.may_write ((buffer + 1) % 65536) n ≡ true) one may) in
     let two : ((buffer + 1) % 65536 + 1) % 65536 ≡ (buffer + 2) % 65536 = omega arith in
-    bind_ok (with_bytes layout memory ((buffer + 2) % 65536) line) _ (bytes_ok layout memory ((buffer + 2) % 65536) most line (subst (λ (a : ℕ). may_write_all layout a most ≡ true) two first.1) few) (λ m. byte_ok layout m ((buffer + 1) % 65536) (length line) first.0)
+    let there = bytes_ok mem ((buffer + 2) % 65536) most line (subst (λ (a : ℕ). have_right mem.may_write a most ≡ true) two first.1) few in
+    rw (there.is, there.rights, first.0) refl
 
 -- a store doesn't fail for the memory
 store_ok : (layout : Layout) (m : Machine) (memory : List ℕ) (store : Option ℕ) (x : ℕ) → IsOk (stored_if layout m store x) → IsOk (stored_if layout (record m { memory = memory }) store x)
@@ -67,25 +73,25 @@ store_ok layout m memory (Some v) x h = by_tests (eqb v 0) (ltb v 16) h
     by_tests false true h = by_test (ltb (v - 1) (length m.here.locals)) _ _ _ h
     by_tests false false h = refl
 
-pub read_ok : (layout : Layout) (m : Machine) (buffer most : ℕ) (store : Option ℕ) (line : List ℕ) → may_write_all layout ((buffer + 1) % 65536) (most + 1) ≡ true → IsOk (stored_if layout m store 13) → length line ≤ most → IsOk (line_read layout m buffer store line)
+pub read_ok : (layout : Layout) (m : Machine) (buffer most : ℕ) (store : Option ℕ) (line : List ℕ) → have_right (is_writable layout) ((buffer + 1) % 65536) (most + 1) ≡ true → IsOk (stored_if layout m store 13) → length line ≤ most → IsOk (line_read layout m buffer store line)
 unfolding line_read
-read_ok layout m buffer most store line may can few = bind_ok (with_line layout m.memory buffer line) _ (line_ok layout m.memory buffer most line may few) (λ memory. store_ok layout m memory store 13 can)
+read_ok layout m buffer most store line may can few = bind_ok (with_line (guarded layout m.memory) buffer line) _ (line_ok (guarded layout m.memory) buffer most line may few) (λ memory. store_ok layout m memory.bytes store 13 can)
 
--- ---- the acts
+-- ---- the effects
 
-pub plain_goes : (w : World) (m : Machine) (typed : List ℕ) (drawn : ℕ) (left : Option (List ℕ)) → left ≡ Some typed → Finished w Goes m typed drawn None m left drawn
+pub plain_goes : (w : ZGiven) (m : Machine) (typed : List ℕ) (drawn : ℕ) (left : Option (List ℕ)) → left ≡ Some typed → Finished w Goes m typed drawn None m left drawn
 plain_goes w m typed drawn left told = record { behind = typed; left_is = told; last = m; same = refl; is = λ before output. rw (append-nil output) refl }
 
-pub finish_draws : (w : World) (m : Machine) (typed : List ℕ) (drawn : ℕ) (left : Option (List ℕ)) → left ≡ Some typed → Finished w Draws m typed drawn None m left (next_drawn w drawn)
+pub finish_draws : (w : ZGiven) (m : Machine) (typed : List ℕ) (drawn : ℕ) (left : Option (List ℕ)) → left ≡ Some typed → Finished w Draws m typed drawn None m left (next_drawn w drawn)
 finish_draws w m typed drawn left told = record { behind = typed; left_is = told; last = m; same = refl; is = λ before output. rw (append-nil output) refl }
 
-pub finish_quits : (w : World) (m : Machine) (typed : List ℕ) (drawn : ℕ) (left : Option (List ℕ)) → left ≡ Some typed → Finished w Quits m typed drawn (Some AtQuit) m left drawn
+pub finish_quits : (w : ZGiven) (m : Machine) (typed : List ℕ) (drawn : ℕ) (left : Option (List ℕ)) → left ≡ Some typed → Finished w Quits m typed drawn (Some AtQuit) m left drawn
 finish_quits w m typed drawn left told = record { behind = typed; left_is = told; last = m; same = tt; is = λ before output. rw (append-nil output) refl }
 
-pub finish_line : (w : World) (m m' : Machine) (at : ℕ) (typed : List ℕ) (drawn : ℕ) (left : Option (List ℕ)) → left ≡ Some typed → returned w.layout m 1 ≡ Ok m' → Finished w (PrintsLine at) m typed drawn None m' left drawn
+pub finish_line : (w : ZGiven) (m m' : Machine) (at : ℕ) (typed : List ℕ) (drawn : ℕ) (left : Option (List ℕ)) → left ≡ Some typed → returned w.layout m 1 ≡ Ok m' → Finished w (PrintsLine at) m typed drawn None m' left drawn
 finish_line w m m' at typed drawn left told e = record { behind = typed; left_is = told; last = m'; same = refl; is = λ before output. rw e refl }
 
-abbrev pub IsPlain : Act → Type 0
+abbrev pub IsPlain : Effect → Type 0
 IsPlain Goes = Unit {0}
 IsPlain (PrintsCode c) = Unit {0}
 IsPlain (PrintsUnicode c) = Unit {0}
@@ -96,7 +102,7 @@ IsPlain Draws = ⊥
 IsPlain (Reads buffer most store) = ⊥
 IsPlain Quits = ⊥
 
-pub finish_plain : (w : World) (act : Act) (m : Machine) (typed : List ℕ) (drawn : ℕ) (left : Option (List ℕ)) → IsPlain act → left ≡ Some typed → Finished w act m typed drawn None m left drawn
+pub finish_plain : (w : ZGiven) (effect : Effect) (m : Machine) (typed : List ℕ) (drawn : ℕ) (left : Option (List ℕ)) → IsPlain effect → left ≡ Some typed → Finished w effect m typed drawn None m left drawn
 finish_plain w Goes m typed drawn left p told = plain_goes w m typed drawn left told
 finish_plain w (PrintsCode c) m typed drawn left p told = record { behind = typed; left_is = told; last = m; same = refl; is = λ before output. refl }
 finish_plain w (PrintsUnicode c) m typed drawn left p told = record { behind = typed; left_is = told; last = m; same = refl; is = λ before output. refl }
@@ -109,11 +115,11 @@ finish_plain w Quits m typed drawn left p told = absurd p
 
 -- ---- a reading
 
-pub finish_input : (w : World) (m new : Machine) (buffer most : ℕ) (store : Option ℕ) (typed : List ℕ) (drawn : ℕ) (left : Option (List ℕ)) → typed ≡ [] → left ≡ Some [] → Finished w (Reads buffer most store) m typed drawn (Some AtInput) new left drawn
+pub finish_input : (w : ZGiven) (m new : Machine) (buffer most : ℕ) (store : Option ℕ) (typed : List ℕ) (drawn : ℕ) (left : Option (List ℕ)) → typed ≡ [] → left ≡ Some [] → Finished w (Reads buffer most store) m typed drawn (Some AtInput) new left drawn
 finish_input w m new buffer most store [] drawn left none told = record { behind = []; left_is = told; last = m; same = tt; is = λ before output. rw (append-nil output) refl }
 finish_input w m new buffer most store (b ∷ typed) drawn left none told = absurd cc
 
-pub finish_reading : (w : World) (m m' : Machine) (buffer most : ℕ) (store : Option ℕ) (typed : List ℕ) (drawn : ℕ) (left : Option (List ℕ)) → typed ≢ [] → left ≡ Some (typed_left typed) → line_read w.layout m buffer store (typed_line most typed) ≡ Ok m' → Finished w (Reads buffer most store) m typed drawn None m' left drawn
+pub finish_reading : (w : ZGiven) (m m' : Machine) (buffer most : ℕ) (store : Option ℕ) (typed : List ℕ) (drawn : ℕ) (left : Option (List ℕ)) → typed ≢ [] → left ≡ Some (typed_left typed) → line_read w.layout m buffer store (typed_line most typed) ≡ Ok m' → Finished w (Reads buffer most store) m typed drawn None m' left drawn
 finish_reading w m m' buffer most store [] drawn left some told e = absurd (some refl)
 finish_reading w m m' buffer most store (b ∷ typed) drawn left some told e = record { behind = typed_left (b ∷ typed); left_is = told; last = m'; same = refl; is = λ before output. rw (e, append-nil output) refl }
 
@@ -133,7 +139,7 @@ ok_is : {A : Type 0} (r : Result A ZFault) → IsOk r → (x : A) × (r ≡ Ok x
 ok_is (Ok x) h = (x, refl)
 ok_is (Err e) h = absurd cc
 
-pub unfinished_reading : (w : World) (m : Machine) (buffer most : ℕ) (store : Option ℕ) (typed : List ℕ) (drawn : ℕ) (left : Option (List ℕ)) → may_write_all w.layout ((buffer + 1) % 65536) (most + 1) ≡ true → IsOk (stored_if w.layout m store 13) → StopsWithin (typed_left typed) typed left → Unfinished w (Reads buffer most store) m typed drawn left
+pub unfinished_reading : (w : ZGiven) (m : Machine) (buffer most : ℕ) (store : Option ℕ) (typed : List ℕ) (drawn : ℕ) (left : Option (List ℕ)) → have_right (is_writable w.layout) ((buffer + 1) % 65536) (most + 1) ≡ true → IsOk (stored_if w.layout m store 13) → StopsWithin (typed_left typed) typed left → Unfinished w (Reads buffer most store) m typed drawn left
 unfinished_reading w m buffer most store [] drawn left may can stops = record { prints_none = refl; rest = stops.rest; left_is = stops.is; most = stops.most; halt = Some AtInput; last = m; behind = []; beyond = tt; is = λ before output. refl }
 unfinished_reading w m buffer most store (b ∷ typed) drawn left may can stops =
     let read = ok_is (line_read w.layout m buffer store (typed_line most (b ∷ typed))) (read_ok w.layout m buffer most store (typed_line most (b ∷ typed)) may can (line_short most (b ∷ typed))) in
@@ -142,9 +148,9 @@ unfinished_reading w m buffer most store (b ∷ typed) drawn left may can stops 
     by_read : (x : Machine) → line_read w.layout m buffer store (typed_line most (b ∷ typed)) ≡ Ok x → Unfinished w (Reads buffer most store) m (b ∷ typed) drawn left
     by_read x e = record { prints_none = refl; rest = stops.rest; left_is = stops.is; most = stops.most; halt = None; last = x; behind = typed_left (b ∷ typed); beyond = (stops.least, left_less b typed); is = λ before output. rw e refl }
 
--- ---- every act leads on
+-- ---- every effect leads on
 
-pub finishes : {R : Type 0} (w : World) (act : Act) (m : Machine) (typed : List ℕ) (drawn : ℕ) → CanFinish act w.layout m → ((halt : Option Halt) (new : Machine) (left : Option (List ℕ)) (drawn' : ℕ) → Finished w act m typed drawn halt new left drawn' → R) → R
+pub finishes : {R : Type 0} (w : ZGiven) (effect : Effect) (m : Machine) (typed : List ℕ) (drawn : ℕ) → CanFinish effect w.layout m → ((halt : Option Halt) (new : Machine) (left : Option (List ℕ)) (drawn' : ℕ) → Finished w effect m typed drawn halt new left drawn' → R) → R
 finishes w Goes m typed drawn can k = k _ _ _ _ (finish_plain w Goes m typed drawn (Some typed) tt refl)
 finishes w (PrintsCode c) m typed drawn can k = k _ _ _ _ (finish_plain w (PrintsCode c) m typed drawn (Some typed) tt refl)
 finishes w (PrintsUnicode c) m typed drawn can k = k _ _ _ _ (finish_plain w (PrintsUnicode c) m typed drawn (Some typed) tt refl)

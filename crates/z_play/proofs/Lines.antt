@@ -5,27 +5,27 @@ use Rattle.z_model.specs.declared.end.ZEnd.{ZEnd}
 use Rattle.z_model.specs.declared.end.ZEnd.TheVariants as ends
 use Rattle.z_model.specs.declared.story.Layout.{Layout}
 use Rattle.z_model.specs.Machine.{Machine}
-use Rattle.z_model.specs.Run.{World, ZState, Run, zrun}
-use Rattle.z_model.specs.Closing.{line_of, input_fault_line, is_open, newline_if, with_end_line, transcript}
-use Rattle.z_model.specs.Story.{layout_of, start_of, memory_of, first_machine, world_of, start_state}
+use Rattle.z_model.specs.Run.{ZGiven, ZState, ZRun, zrun}
+use Rattle.z_model.specs.Closing.{end_line, unread_line, is_open, newline_if, with_end_line, played_text}
+use Rattle.z_model.specs.Story.{layout_of, start_of, memory_of, first_machine, given_of, start_state}
 use Rattle.z_play.specs.Output.{Seen, Wrote, Cut, CutBehind}
-use Rattle.z_play.specs.Scene.{Scene, world, state}
+use Rattle.z_play.specs.Scene.{Scene, given_by, state}
 use Rattle.z_play.specs.Advancing.{RanTo, RanUnread}
-use Rattle.z_play.specs.Played.{Shows, InputFailed, PrintUnwritten, OutputFailed}
+use Rattle.z_play.specs.Played.{Played, InputFailed, PrintUnwritten, OutputFailed}
 use Rattle.z_play.proofs.Written.{wrote_both, cut_after, cut_whole, cut_before}
 use Rattle.z_model.specs.Laws.{Begins, then_more}
 use Rattle.z_model.proofs.Runs.{run_laws}
 
 -- ---- the text of a line
 
-line_behind : (end : ZEnd) → end ≢ ends.Quit → (output : List ℕ) → with_end_line output (line_of end) ≡ output ++ (newline_if (is_open false output) ++ line_of end)
+line_behind : (end : ZEnd) → end ≢ ends.Quit → (output : List ℕ) → with_end_line output (end_line end) ≡ output ++ (newline_if (is_open false output) ++ end_line end)
 unfolding with_end_line
 line_behind ends.Quit some output = absurd (some refl)
 line_behind ends.InputEnded some output = refl
 line_behind ends.StepLimit some output = refl
 line_behind (ends.Broken fault at) some output = refl
 
-input_line_behind : (output : List ℕ) → with_end_line output input_fault_line ≡ output ++ (newline_if (is_open false output) ++ input_fault_line)
+input_line_behind : (output : List ℕ) → with_end_line output unread_line ≡ output ++ (newline_if (is_open false output) ++ unread_line)
 unfolding with_end_line
 input_line_behind output = refl
 
@@ -37,38 +37,38 @@ output_first output (b ∷ line) = (newline_if (is_open false output) ++ b ∷ l
 
 -- ---- the ends
 
-pub quit_shows : (r : Run) (old new : Scene) → RanTo r ends.Quit old new → Shows r ends.Quit new.left old.seen new.seen
+pub quit_shows : (r : ZRun) (old new : Scene) → RanTo r ends.Quit old new → Played r ends.Quit new.left old.seen new.seen
 unfolding with_end_line
-quit_shows r old new ran = record { ends = ran.ends; left_is = ran.left; wrote = subst (λ (end : ZEnd). Wrote old.seen new.seen (with_end_line r.state.output (line_of end))) ran.ends ran.wrote }
+quit_shows r old new ran = record { ends = ran.ends; left_is = ran.left; wrote = subst (λ (end : ZEnd). Wrote old.seen new.seen (with_end_line r.state.output (end_line end))) ran.ends ran.wrote }
 
 -- what is written of a run that ended so
-text_is : (r : Run) (end : ZEnd) (begun : Bool) → end ≢ ends.Quit → end ≡ r.end → begun ≡ is_open false r.state.output → r.state.output ++ (newline_if begun ++ line_of end) ≡ transcript r
+text_is : (r : ZRun) (end : ZEnd) (begun : Bool) → end ≢ ends.Quit → end ≡ r.end → begun ≡ is_open false r.state.output → r.state.output ++ (newline_if begun ++ end_line end) ≡ played_text r
 text_is r end begun some ended begins =
-    ap (λ (b : Bool). r.state.output ++ (newline_if b ++ line_of end)) begins
+    ap (λ (b : Bool). r.state.output ++ (newline_if b ++ end_line end)) begins
     ∙ sym (line_behind end some r.state.output)
-    ∙ ap (λ (e : ZEnd). with_end_line r.state.output (line_of e)) ended
+    ∙ ap (λ (e : ZEnd). with_end_line r.state.output (end_line e)) ended
 
-pub end_shows : (r : Run) (end : ZEnd) (old new : Scene) (after : Seen) → old.begun ≡ false → end ≢ ends.Quit → RanTo r end old new → Wrote new.seen after (newline_if new.begun ++ line_of end) → Shows r end new.left old.seen after
+pub end_shows : (r : ZRun) (end : ZEnd) (old new : Scene) (after : Seen) → old.begun ≡ false → end ≢ ends.Quit → RanTo r end old new → Wrote new.seen after (newline_if new.begun ++ end_line end) → Played r end new.left old.seen after
 end_shows r end old new after first some ran wrote = record {
   ends = ran.ends;
   left_is = ran.left;
-  wrote = subst (λ (l : List ℕ). Wrote old.seen after l) (text_is r end new.begun some ran.ends (ran.begins ∙ ap (λ (b : Bool). is_open b r.state.output) first)) (wrote_both old.seen new.seen after r.state.output (newline_if new.begun ++ line_of end) ran.wrote wrote);
+  wrote = subst (λ (l : List ℕ). Wrote old.seen after l) (text_is r end new.begun some ran.ends (ran.begins ∙ ap (λ (b : Bool). is_open b r.state.output) first)) (wrote_both old.seen new.seen after r.state.output (newline_if new.begun ++ end_line end) ran.wrote wrote);
 }
 
-pub end_cut : (w : World) (s : ZState) (n : ℕ) (end : ZEnd) (old new : Scene) (after : Seen) → old.begun ≡ false → end ≢ ends.Quit → RanTo (zrun w n s) end old new → Cut new.seen after (newline_if new.begun ++ line_of end) → OutputFailed w s n new.left old.seen after
+pub end_cut : (w : ZGiven) (s : ZState) (n : ℕ) (end : ZEnd) (old new : Scene) (after : Seen) → old.begun ≡ false → end ≢ ends.Quit → RanTo (zrun w n s) end old new → Cut new.seen after (newline_if new.begun ++ end_line end) → OutputFailed w s n new.left old.seen after
 end_cut w s n end old new after first some ran cut =
-    let r : Run = zrun w n s in
+    let r : ZRun = zrun w n s in
     inr (inl (record {
       left_is = ran.left;
-      cut = subst (λ (l : List ℕ). CutBehind old.seen after r.state.output l) (text_is r end new.begun some ran.ends (ran.begins ∙ ap (λ (b : Bool). is_open b r.state.output) first)) (cut_after old.seen new.seen after r.state.output (newline_if new.begun ++ line_of end) ran.wrote cut);
+      cut = subst (λ (l : List ℕ). CutBehind old.seen after r.state.output l) (text_is r end new.begun some ran.ends (ran.begins ∙ ap (λ (b : Bool). is_open b r.state.output) first)) (cut_after old.seen new.seen after r.state.output (newline_if new.begun ++ end_line end) ran.wrote cut);
     }))
 
 -- ---- the input failed
 
-fault_text : (output : List ℕ) (begun : Bool) → begun ≡ is_open false output → output ++ (newline_if begun ++ input_fault_line) ≡ with_end_line output input_fault_line
-fault_text output begun begins = ap (λ (b : Bool). output ++ (newline_if b ++ input_fault_line)) begins ∙ sym (input_line_behind output)
+fault_text : (output : List ℕ) (begun : Bool) → begun ≡ is_open false output → output ++ (newline_if begun ++ unread_line) ≡ with_end_line output unread_line
+fault_text output begun begins = ap (λ (b : Bool). output ++ (newline_if b ++ unread_line)) begins ∙ sym (input_line_behind output)
 
-pub fault_shows : (w : World) (s : ZState) (n : ℕ) (old new : Scene) (after : Seen) → old.begun ≡ false → RanUnread w s n old new → Wrote new.seen after (newline_if new.begun ++ input_fault_line) → InputFailed w s n new.left old.seen after
+pub fault_shows : (w : ZGiven) (s : ZState) (n : ℕ) (old new : Scene) (after : Seen) → old.begun ≡ false → RanUnread w s n old new → Wrote new.seen after (newline_if new.begun ++ unread_line) → InputFailed w s n new.left old.seen after
 fault_shows w s n old new after first ran wrote =
     let output : List ℕ = (zrun w ran.m s).state.output in
     record {
@@ -76,10 +76,10 @@ fault_shows w s n old new after first ran wrote =
       rest = ran.rest;
       left_is = ran.left;
       stopped = ran.stopped;
-      wrote = subst (λ (l : List ℕ). Wrote old.seen after l) (fault_text output new.begun (ran.begins ∙ ap (λ (b : Bool). is_open b output) first)) (wrote_both old.seen new.seen after output (newline_if new.begun ++ input_fault_line) ran.wrote wrote);
+      wrote = subst (λ (l : List ℕ). Wrote old.seen after l) (fault_text output new.begun (ran.begins ∙ ap (λ (b : Bool). is_open b output) first)) (wrote_both old.seen new.seen after output (newline_if new.begun ++ unread_line) ran.wrote wrote);
     }
 
-pub fault_cut : (w : World) (s : ZState) (n : ℕ) (old new : Scene) (after : Seen) → old.begun ≡ false → RanUnread w s n old new → Cut new.seen after (newline_if new.begun ++ input_fault_line) → OutputFailed w s n new.left old.seen after
+pub fault_cut : (w : ZGiven) (s : ZState) (n : ℕ) (old new : Scene) (after : Seen) → old.begun ≡ false → RanUnread w s n old new → Cut new.seen after (newline_if new.begun ++ unread_line) → OutputFailed w s n new.left old.seen after
 fault_cut w s n old new after first ran cut =
     let output : List ℕ = (zrun w ran.m s).state.output in
     inr (inr (record {
@@ -87,29 +87,29 @@ fault_cut w s n old new after first ran cut =
       rest = ran.rest;
       left_is = ran.left;
       stopped = ran.stopped;
-      cut = subst (λ (l : List ℕ). CutBehind old.seen after output l) (fault_text output new.begun (ran.begins ∙ ap (λ (b : Bool). is_open b output) first)) (cut_after old.seen new.seen after output (newline_if new.begun ++ input_fault_line) ran.wrote cut);
+      cut = subst (λ (l : List ℕ). CutBehind old.seen after output l) (fault_text output new.begun (ran.begins ∙ ap (λ (b : Bool). is_open b output) first)) (cut_after old.seen new.seen after output (newline_if new.begun ++ unread_line) ran.wrote cut);
     }))
 
 -- ---- the output failed
 
-piece_begins : (w : World) (j : ℕ) (end : ZEnd) (s : ZState) → Begins s.output (then_more (zrun w j) (record { end = end; state = s })).state.output
+piece_begins : (w : ZGiven) (j : ℕ) (end : ZEnd) (s : ZState) → Begins s.output (then_more (zrun w j) (record { end = end; state = s })).state.output
 piece_begins w j ends.StepLimit s = (run_laws w s).grows j
 piece_begins w j ends.Quit s = record { more = []; is = sym (append-nil s.output) }
 piece_begins w j ends.InputEnded s = record { more = []; is = sym (append-nil s.output) }
 piece_begins w j (ends.Broken fault at) s = record { more = []; is = sym (append-nil s.output) }
 
 -- the output of more instructions begins with that of fewer
-more_printed : (w : World) (k j : ℕ) (s : ZState) → Begins (zrun w k s).state.output (zrun w (k + j) s).state.output
-more_printed w k j s = subst (λ (r : Run). Begins (zrun w k s).state.output r.state.output) (sym ((run_laws w s).sum k j)) (piece_begins w j (zrun w k s).end (zrun w k s).state)
+more_printed : (w : ZGiven) (k j : ℕ) (s : ZState) → Begins (zrun w k s).state.output (zrun w (k + j) s).state.output
+more_printed w k j s = subst (λ (r : ZRun). Begins (zrun w k s).state.output r.state.output) (sym ((run_laws w s).sum k j)) (piece_begins w j (zrun w k s).end (zrun w k s).state)
 
 -- where it failed in an instruction, it failed within all that is written of the run
-pub print_cut : (w : World) (s : ZState) (n : ℕ) (left : Option (List ℕ)) (old new : Seen) → PrintUnwritten w s n left old new → Cut old new (transcript (zrun w n s))
+pub print_cut : (w : ZGiven) (s : ZState) (n : ℕ) (left : Option (List ℕ)) (old new : Seen) → PrintUnwritten w s n left old new → Cut old new (played_text (zrun w n s))
 print_cut w s n left old new h =
-    let r : Run = zrun w n s in
+    let r : ZRun = zrun w n s in
     let all : h.m + 1 + (n - (h.m + 1)) ≡ n = omega (arith, h.below) in
     let grown = subst (λ (k : ℕ). Begins (zrun w (h.m + 1) s).state.output (zrun w k s).state.output) all (more_printed w (h.m + 1) (n - (h.m + 1)) s) in
-    let more = output_first r.state.output (line_of r.end) in
-    let text : transcript r ≡ (zrun w (h.m + 1) s).state.output ++ (grown.more ++ more.0) = more.1 ∙ ap (λ (l : List ℕ). l ++ more.0) grown.is ∙ append_assoc (zrun w (h.m + 1) s).state.output grown.more more.0 in
+    let more = output_first r.state.output (end_line r.end) in
+    let text : played_text r ≡ (zrun w (h.m + 1) s).state.output ++ (grown.more ++ more.0) = more.1 ∙ ap (λ (l : List ℕ). l ++ more.0) grown.is ∙ append_assoc (zrun w (h.m + 1) s).state.output grown.more more.0 in
     subst (λ (l : List ℕ). Cut old new l) (sym text) (cut_before old new (zrun w (h.m + 1) s).state.output (grown.more ++ more.0) (cut_whole old new (zrun w h.m s).state.output (zrun w (h.m + 1) s).state.output h.cut))
 
 -- ---- the start
@@ -118,5 +118,5 @@ pub start_is : (story typed : List ℕ) (start : ℕ) (m : Machine) → memory_o
 start_is story typed start m whole at first =
     ap (λ (k : Machine). state k typed 0 []) (first ∙ ap (λ (s : ℕ). first_machine story s) at ∙ ap (λ (l : List ℕ). first_machine l (start_of story)) (sym whole))
 
-pub world_is : (story dice : List ℕ) (l : Layout) → l ≡ layout_of story → world l dice ≡ world_of story dice
-world_is story dice l e = ap (λ (k : Layout). world k dice) e
+pub world_is : (story dice : List ℕ) (l : Layout) → l ≡ layout_of story → given_by l dice ≡ given_of story dice
+world_is story dice l e = ap (λ (k : Layout). given_by k dice) e

@@ -7,7 +7,8 @@ use Rattle.z_model.specs.declared.story.StoryRefusal.{StoryRefusal}
 use Rattle.z_model.specs.declared.story.Layout.{Layout}
 use Rattle.z_model.specs.declared.story.Header.{Header}
 use Rattle.z_model.specs.Run.{ZState, zrun}
-use Rattle.z_model.specs.Story.{header_word, start_of, globals_of, base_of, length_of, memory_of, layout_of, first_machine, world_of, start_state, story_run, refusal_of, has_bad_length, has_bad_map, IsHeader}
+use Rattle.z_model.specs.Story.{header_word, start_of, globals_of, base_of, length_of, memory_of, layout_of, first_machine, given_of, start_state, story_run, refusal_of, has_bad_length, has_bad_map, IsHeader}
+use Rattle.z_play.specs.Scene.{given_by}
 use Rattle.z_play.specs.Ready.{IsStory, IsLoaded}
 
 -- ---- what isn't refused
@@ -110,7 +111,7 @@ loaded_of file h is =
       accepted = is.accepted;
       is = refl;
       runs = λ typed dice n.
-          ap (λ (l : Layout). zrun (record { layout = l; dice = dice }) n (start_state (memory_of file) typed)) (layout_same file b)
-          ∙ ap (λ (m : List ℕ). zrun (world_of file dice) n (from_start typed m (start_of (memory_of file)))) (whole file b)
-          ∙ ap (λ (s : ℕ). zrun (world_of file dice) n (from_start typed (memory_of file) s)) (start_same file b);
+          ap (λ (l : Layout). zrun (given_by l dice) n (start_state (memory_of file) typed)) (layout_same file b)
+          ∙ ap (λ (m : List ℕ). zrun (given_of file dice) n (from_start typed m (start_of (memory_of file)))) (whole file b)
+          ∙ ap (λ (s : ℕ). zrun (given_of file dice) n (from_start typed (memory_of file) s)) (start_same file b);
     }

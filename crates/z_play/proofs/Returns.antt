@@ -4,11 +4,12 @@ use Rattle.std.specs.Prelude.{pos}
 use lib.IntN.{ℤ, negsuc}
 use Rattle.z_model.specs.declared.fault.ZFault.{ZFault}
 use Rattle.z_model.specs.declared.fault.ZFault.TheVariants.{BadReturn}
-use Rattle.z_model.specs.declared.end.Act.{Act}
-use Rattle.z_model.specs.declared.end.Act.TheVariants.{PrintsLine}
+use Rattle.z_model.specs.declared.end.Effect.{Effect}
+use Rattle.z_model.specs.declared.end.Effect.TheVariants.{PrintsLine}
 use Rattle.z_model.specs.declared.story.Layout.{Layout}
 use Rattle.z_model.specs.Machine.{Frame, Machine, stored_if}
-use Rattle.z_model.specs.Step.{returned, return_to, branch_taken, jumped, prints_line}
+use Rattle.z_model.specs.Flow.{returned, return_to, branch_taken, jumped}
+use Rattle.z_model.specs.Effects.{printed, prints_line}
 use Rattle.z_model.specs.Decode.{◌>>=◌}
 use Rattle.z_model.specs.Text.{string_at, print_fault}
 use Rattle.z_play.specs.Faults.{fault_of}
@@ -46,23 +47,23 @@ branch_far layout m end (negsuc n) p q = refl
 
 -- ---- a text that a newline and a return follow
 
-tried : (r : Result Machine ZFault) (p : Act × Machine) (fault : ZFault) → fault_of r ≡ Some fault → (r >>= λ after. Ok p) ≡ Err fault
+tried : (r : Result Machine ZFault) (p : Effect × Machine) (fault : ZFault) → fault_of r ≡ Some fault → (r >>= λ after. Ok p) ≡ Err fault
 tried (Ok after) p fault bad = absurd cc
 tried (Err other) p fault bad = cc
 
-tried_well : (r : Result Machine ZFault) (p : Act × Machine) → fault_of r ≡ None → ((r >>= λ after. Ok p) ≡ Ok p) × IsOk r
+tried_well : (r : Result Machine ZFault) (p : Effect × Machine) → fault_of r ≡ None → ((r >>= λ after. Ok p) ≡ Ok p) × IsOk r
 tried_well (Ok after) p may = (refl, refl)
 tried_well (Err fault) p may = absurd cc
 
 module _ (layout : Layout) (m : Machine) (at : ℕ) where
   pub line_refused : (fault : ZFault) → print_fault (string_at m.memory at) ≡ Some fault → prints_line layout m at ≡ Err fault
-  unfolding prints_line
+  unfolding prints_line printed
   line_refused fault bad = rw bad refl
 
   pub line_kept : (fault : ZFault) → print_fault (string_at m.memory at) ≡ None → fault_of (returned layout m 1) ≡ Some fault → prints_line layout m at ≡ Err fault
-  unfolding prints_line
+  unfolding prints_line printed
   line_kept fault good bad = rw good (tried (returned layout m 1) (PrintsLine at, m) fault bad)
 
   pub line_prints : print_fault (string_at m.memory at) ≡ None → fault_of (returned layout m 1) ≡ None → (prints_line layout m at ≡ Ok (PrintsLine at, m)) × IsOk (returned layout m 1)
-  unfolding prints_line
+  unfolding prints_line printed
   line_prints good may = rw good (tried_well (returned layout m 1) (PrintsLine at, m) may)

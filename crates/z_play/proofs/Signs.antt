@@ -6,7 +6,7 @@ use Rattle.std.proofs.lemmas.Bool.{ne_eqb}
 use native.Mathlib.Nat.{div-le_self}
 use lib.IntN.{negsuc, neg_ℤ}
 use lib.Signed.{mag, mag_rem}
-use Rattle.z_model.specs.Step.{signed_16, word_from, quotient, remainder}
+use Rattle.z_model.specs.Numbers.{signed_16, word_from, quotient, remainder}
 
 fits_16 : (z : ℤ) → mag z < 32768 → FitsSigned w16 z
 fits_16 z small = record { sfits = small }

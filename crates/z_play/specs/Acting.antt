@@ -1,20 +1,20 @@
--- What an act prints, and how the rest of it leads on.
+-- What an effect prints, and how the rest of it leads on.
 use Rattle.std.specs.Prelude.{◌≡◌, ℕ, List, [], ◌∷◌, ◌++◌, encode_utf8, Option, Some, Result, Ok, Err}
 use Rattle.std.specs.Fmt.{signed_decimal}
 use Rattle.dg_base.specs.declared.traits.Failed.{Failed}
 use Rattle.z_model.specs.declared.end.Halt.{Halt}
-use Rattle.z_model.specs.declared.end.Act.{Act}
-use Rattle.z_model.specs.declared.end.Act.TheVariants.{Goes, PrintsCode, PrintsUnicode, PrintsNumber, PrintsText, PrintsLine, Draws, Reads, Quits}
+use Rattle.z_model.specs.declared.end.Effect.{Effect}
+use Rattle.z_model.specs.declared.end.Effect.TheVariants.{Goes, PrintsCode, PrintsUnicode, PrintsNumber, PrintsText, PrintsLine, Draws, Reads, Quits}
 use Rattle.z_model.specs.Zscii.{code_bytes}
 use Rattle.z_model.specs.Text.{string_at, text_bytes}
-use Rattle.z_model.specs.Step.{signed_16}
+use Rattle.z_model.specs.Numbers.{signed_16}
 use Rattle.z_model.specs.Machine.{Machine}
-use Rattle.z_model.specs.Run.{World, act_on}
+use Rattle.z_model.specs.Run.{ZGiven, effect_on}
 use Rattle.z_play.specs.Scene.{state, next_of, SameIfOn, IsBeyond}
 use Rattle.std.specs.Prelude.{◌≤◌, length}
 
--- what an act prints
-abbrev pub text_of : Act → Machine → List ℕ
+-- what an effect prints
+abbrev pub text_of : Effect → Machine → List ℕ
 text_of Goes m = []
 text_of (PrintsCode c) m = code_bytes c
 text_of (PrintsUnicode c) m = encode_utf8 c
@@ -25,17 +25,17 @@ text_of Draws m = []
 text_of (Reads buffer most store) m = []
 text_of Quits m = []
 
--- The rest of an act was done.
-pub record Finished (w : World) (act : Act) (old : Machine) (typed : List ℕ) (drawn : ℕ) (halt : Option Halt) (new : Machine) (left : Option (List ℕ)) (drawn' : ℕ) : Type 0 where
+-- The rest of an effect was done.
+pub record Finished (w : ZGiven) (effect : Effect) (old : Machine) (typed : List ℕ) (drawn : ℕ) (halt : Option Halt) (new : Machine) (left : Option (List ℕ)) (drawn' : ℕ) : Type 0 where
   pub behind : List ℕ
   pub left_is : left ≡ Some behind
   pub last : Machine
   pub same : SameIfOn halt last new
-  pub is : (before : Machine) (output : List ℕ) → act_on w (state before typed drawn output) act old ≡ next_of halt (state last behind drawn' (output ++ text_of act old))
+  pub is : (before : Machine) (output : List ℕ) → effect_on w (state before typed drawn output) effect old ≡ next_of halt (state last behind drawn' (output ++ text_of effect old))
 
--- The source failed in the line that an act takes.
-pub record Unfinished (w : World) (act : Act) (old : Machine) (typed : List ℕ) (drawn : ℕ) (left : Option (List ℕ)) : Type 0 where
-  pub prints_none : text_of act old ≡ []
+-- The source failed in the line that an effect takes.
+pub record Unfinished (w : ZGiven) (effect : Effect) (old : Machine) (typed : List ℕ) (drawn : ℕ) (left : Option (List ℕ)) : Type 0 where
+  pub prints_none : text_of effect old ≡ []
   pub rest : List ℕ
   pub left_is : left ≡ Some rest
   pub most : length rest ≤ length typed
@@ -43,8 +43,8 @@ pub record Unfinished (w : World) (act : Act) (old : Machine) (typed : List ℕ)
   pub last : Machine
   pub behind : List ℕ
   pub beyond : IsBeyond halt typed rest behind
-  pub is : (before : Machine) (output : List ℕ) → act_on w (state before typed drawn output) act old ≡ next_of halt (state last behind drawn output)
+  pub is : (before : Machine) (output : List ℕ) → effect_on w (state before typed drawn output) effect old ≡ next_of halt (state last behind drawn output)
 
-abbrev pub Finishes : Result (Option Halt) Failed → World → Act → Machine → List ℕ → ℕ → Machine → Option (List ℕ) → ℕ → Type 0
-Finishes (Ok halt) w act old typed drawn new left drawn' = Finished w act old typed drawn halt new left drawn'
-Finishes (Err failed) w act old typed drawn new left drawn' = Unfinished w act old typed drawn left
+abbrev pub Finishes : Result (Option Halt) Failed → ZGiven → Effect → Machine → List ℕ → ℕ → Machine → Option (List ℕ) → ℕ → Type 0
+Finishes (Ok halt) w effect old typed drawn new left drawn' = Finished w effect old typed drawn halt new left drawn'
+Finishes (Err failed) w effect old typed drawn new left drawn' = Unfinished w effect old typed drawn left

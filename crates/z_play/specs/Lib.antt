@@ -1,7 +1,7 @@
 pub mod View
 pub mod Top
 pub mod Faults
-pub mod Acts
+pub mod Effects
 pub mod Output
 pub mod Lines
 pub mod Scene

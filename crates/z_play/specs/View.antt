@@ -1,7 +1,7 @@
 -- The arrays of an engine as the machine of the instruction table.
 use Rattle.std.specs.Prelude.{◌≡◌, ℕ, ◌+◌, ◌≤◌, List, [], ◌∷◌, length, take, drop, reverse, Result, Ok, Err}
 use Rattle.z_model.specs.declared.fault.ZFault.{ZFault}
-use Rattle.z_model.specs.Machine.{Frame, Machine}
+use Rattle.z_model.specs.Machine.{Frame, OpenTable, Machine}
 use Rattle.z_play.specs.declared.engine.Called.{Called}
 use Rattle.z_play.specs.declared.engine.Engine.{Engine}
 
@@ -14,8 +14,14 @@ abbrev pub callers_view : List Called → List ℕ → List Frame
 callers_view [] stack = []
 callers_view (f ∷ fs) stack = frame_view f (drop f.base stack) ∷ callers_view fs (take f.base stack)
 
-abbrev pub view_of : List ℕ → ℕ → Called → List Called → List ℕ → Machine
-view_of memory pc here fs stack = record { memory = memory; pc = pc; here = frame_view here (drop here.base stack); callers = callers_view fs (take here.base stack); tables = [] }
+abbrev pub view_of : List ℕ → ℕ → Called → List Called → List ℕ → List OpenTable → Machine
+view_of memory pc here fs stack tables = record {
+  memory = memory;
+  pc = pc;
+  here = frame_view here (drop here.base stack);
+  callers = callers_view fs (take here.base stack);
+  tables = tables;
+}
 
 -- the callers, the newest first
 abbrev pub callers_of : Engine → List Called
@@ -24,9 +30,13 @@ callers_of e = reverse (take e.depth e.frames.items)
 abbrev pub stack_of : Engine → List ℕ
 stack_of e = take e.top e.stack.items
 
+-- the open tables; no instruction opens one yet
+abbrev pub tables_of : Engine → List OpenTable
+tables_of e = []
+
 -- what an engine is
 abbrev pub machine : Engine → Machine
-machine e = view_of e.memory.items e.pc e.here (callers_of e) (stack_of e)
+machine e = view_of e.memory.items e.pc e.here (callers_of e) (stack_of e) (tables_of e)
 
 -- each frame lies below the one that it called
 abbrev pub Nested : List Called → ℕ → Type 0

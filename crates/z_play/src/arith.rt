@@ -1,6 +1,6 @@
 // Words as numbers with a sign.
 ghost use Rattle.std.specs.Prelude.{◌≡◌, int_lt};
-ghost use Rattle.z_model.specs.Step.{signed_16, quotient, remainder, equals_one, word_from};
+ghost use Rattle.z_model.specs.Numbers.{signed_16, quotient, remainder, equals_one, word_from};
 
 use z_model::{Args, ZFault};
 
@@ -29,7 +29,7 @@ fn word_from(number: i32) -> u16
     number.rem_euclid(65536) as u16
 }
 
-#[tactic(auto, unfolding(z_model::specs::Step::quotient))]
+#[tactic(auto, unfolding(z_model::specs::Numbers::quotient))]
 pub fn divide(a: u16, b: u16) -> Result<u16, ZFault>
     ensures { result ≡ quotient a b }
 {
@@ -39,7 +39,7 @@ pub fn divide(a: u16, b: u16) -> Result<u16, ZFault>
     Ok(word_from(signed(a) as i32 / signed(b) as i32))
 }
 
-#[tactic(auto, unfolding(z_model::specs::Step::remainder))]
+#[tactic(auto, unfolding(z_model::specs::Numbers::remainder))]
 pub fn modulo(a: u16, b: u16) -> Result<u16, ZFault>
     ensures { result ≡ remainder a b }
 {

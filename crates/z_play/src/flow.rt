@@ -1,13 +1,13 @@
 // Where the machine goes on: jumps, branches, calls and returns.
 ghost use Rattle.std.specs.Prelude.{◌≡◌, ◌<◌, ◌≤◌, ◌+◌, ◌*◌, ◌++◌, take, IfOk, length, ℕ};
-ghost use Rattle.z_model.specs.Step.{jumped, returned, branched, branch_taken, agrees, local_count, locals_from, entered, called};
+ghost use Rattle.z_model.specs.Flow.{jumped, returned, branched, branch_taken, agrees, local_count, locals_from, entered, called};
 ghost use Rattle.z_play.specs.View.{machine, Sound, Sets, Kept, Left, SameArrays};
 ghost use Rattle.z_play.specs.Faults.{fault_of};
 
 use crate::engine::{Called, Engine};
 use z_model::{Args, Branch, ZFault};
 
-#[tactic(auto, unfolding(z_model::specs::Step::local_count))]
+#[tactic(auto, unfolding(z_model::specs::Flow::local_count))]
 fn count_locals(memory: &[u8], at: usize) -> Result<usize, ZFault>
     ensures count { result ≡ local_count memory.now at }
     ensures below { IfOk result (λ n. n ≤ 15) }
@@ -45,7 +45,7 @@ fn holds(when: bool, test: bool) -> bool
 
 impl Engine {
     // Goes on at an address, which may not be below 0.
-    #[tactic(auto, unfolding(z_model::specs::Step::jumped))]
+    #[tactic(auto, unfolding(z_model::specs::Flow::jumped))]
     #[inline]
     pub fn jump(&mut self, end: u32, offset: i16) -> Result<(), ZFault>
         requires sound { Sound self.old }
@@ -113,7 +113,7 @@ impl Engine {
         fault
     }
 
-    #[tactic(auto, unfolding(z_model::specs::Step::branched))]
+    #[tactic(auto, unfolding(z_model::specs::Flow::branched))]
     #[inline(always)]
     pub fn branch(&mut self, end: u32, branch: Option<Branch>, test: bool) -> Result<(), ZFault>
         requires sound { Sound self.old }
@@ -145,7 +145,7 @@ impl Engine {
         self.jump(end, offset)
     }
 
-    #[tactic(auto, unfolding(z_model::specs::Step::entered))]
+    #[tactic(auto, unfolding(z_model::specs::Flow::entered))]
     fn enter(&mut self, end: u32, store: Option<u8>, a: &Args) -> Result<(), ZFault>
         requires sound { Sound self.old }
         ensures kept { Kept self.old self.new }
@@ -178,7 +178,7 @@ impl Engine {
         Ok(())
     }
 
-    #[tactic(auto, unfolding(z_model::specs::Step::called))]
+    #[tactic(auto, unfolding(z_model::specs::Flow::called))]
     pub fn call(&mut self, end: u32, store: Option<u8>, a: &Args) -> Result<(), ZFault>
         requires { Sound self.old }
         ensures kept { Kept self.old self.new }

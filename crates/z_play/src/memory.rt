@@ -1,14 +1,15 @@
 // The bytes and words of a story: each is read and written here.
 ghost use Rattle.std.specs.Prelude.{◌≡◌, ◌<◌, ◌≤◌, ◌%◌, ◌+◌, length};
-ghost use Rattle.z_model.specs.Machine.{byte_in, with_byte, word_in, with_word, may_write, may_write_all, with_bytes};
+ghost use Rattle.z_model.specs.Memory.{guarded, is_writable, byte_in, with_byte, word_in, with_word, with_bytes, have_right};
+ghost use Rattle.z_model.specs.declared.story.Layout.{Layout};
 ghost use Rattle.z_model.specs.Run.{with_line};
 ghost use Rattle.z_play.specs.View.{Sets};
 
 use z_model::{Layout, ZFault};
 
-#[tactic(auto, unfolding(z_model::specs::Machine::byte_in))]
+#[tactic(auto, unfolding(z_model::specs::Memory::byte_in))]
 pub fn read_byte(memory: &[u8], at: u16) -> Result<u8, ZFault>
-    ensures { result ≡ byte_in memory.now at }
+    ensures { (layout : Layout) → result ≡ byte_in (guarded layout memory.now) at }
 {
     if (at as usize) < memory.len() {
         Ok(memory[at as usize])
@@ -17,65 +18,55 @@ pub fn read_byte(memory: &[u8], at: u16) -> Result<u8, ZFault>
     }
 }
 
-#[tactic(auto, unfolding(z_model::specs::Machine::word_in))]
+#[tactic(auto, unfolding(z_model::specs::Memory::word_in))]
 pub fn read_word(memory: &[u8], at: u16) -> Result<u16, ZFault>
-    ensures { result ≡ word_in memory.now at }
+    ensures { (layout : Layout) → result ≡ word_in (guarded layout memory.now) at }
 {
     let high = read_byte(memory, at)?;
     let low = read_byte(memory, at.wrapping_add(1))?;
     Ok(256 * high as u16 + low as u16)
 }
 
-#[tactic(auto, unfolding(z_model::specs::Machine::with_byte))]
+#[inline]
+fn is_writable(layout: Layout, at: u16) -> bool
+    ensures { result ≡ is_writable layout at }
+{
+    at == 16 || at == 17 || !(at < 64) && at < layout.base
+}
+
+#[tactic(auto, unfolding(z_model::specs::Memory::with_byte))]
 pub fn write_byte(memory: &mut [u8], layout: Layout, at: u16, byte: u8) -> Result<(), ZFault>
     requires base { layout.base ≤ length memory.old }
     requires room { 64 ≤ length memory.old }
-    ensures { Sets result memory.new (with_byte layout memory.old at byte) }
+    ensures { Sets result (guarded layout memory.new) (with_byte (guarded layout memory.old) at byte) }
 {
-    if at == 16 {
-        memory[16] = byte;
-        return Ok(());
-    }
-    if at == 17 {
-        memory[17] = byte;
-        return Ok(());
-    }
-    if at < 64 {
+    if !is_writable(layout, at) {
         return Err(ZFault::BadWrite);
     }
-    if at < layout.base {
-        memory[at as usize] = byte;
-        return Ok(());
-    }
-    Err(ZFault::BadWrite)
+    memory[at as usize] = byte;
+    Ok(())
 }
 
-#[tactic(auto, unfolding(z_model::specs::Machine::with_word))]
+#[tactic(auto, unfolding(z_model::specs::Memory::with_word))]
 pub fn write_word(memory: &mut [u8], layout: Layout, at: u16, word: u16) -> Result<(), ZFault>
     requires base { layout.base ≤ length memory.old }
     requires room { 64 ≤ length memory.old }
-    ensures { Sets result memory.new (with_word layout memory.old at word) }
+    ensures { Sets result (guarded layout memory.new) (with_word (guarded layout memory.old) at word) }
 {
     write_byte(memory, layout, at, (word / 256) as u8)?;
     write_byte(memory, layout, at.wrapping_add(1), (word % 256) as u8)?;
     Ok(())
 }
 
-fn may_write(layout: Layout, at: u16) -> bool
-    ensures { result ≡ may_write layout at }
-{
-    at == 16 || at == 17 || !(at < 64) && at < layout.base
-}
-
 /// Whether so many bytes from an address on may be written.
-#[tactic(auto, unfolding(z_model::specs::Machine::may_write_all))]
+#[tactic(auto, unfolding(z_model::specs::Memory::have_right))]
 pub fn may_write_all(layout: Layout, from: u16, count: u16) -> bool
-    ensures { result ≡ may_write_all layout from count }
+    ensures { result ≡ have_right (is_writable layout) from count }
 {
     let mut at = from;
     let mut left = count;
     while left > 0 {
-        if !may_write(layout, at) {
+        if !is_writable(layout, at) {
             return false;
         }
         at = at.wrapping_add(1);
@@ -88,7 +79,7 @@ pub fn may_write_all(layout: Layout, from: u16, count: u16) -> bool
 pub fn write_bytes(memory: &mut [u8], layout: Layout, from: u16, bytes: &[u8]) -> Result<(), ZFault>
     requires base { layout.base ≤ length memory.old }
     requires room { 64 ≤ length memory.old }
-    ensures { Sets result memory.new (with_bytes layout memory.old from bytes.now) }
+    ensures { Sets result (guarded layout memory.new) (with_bytes (guarded layout memory.old) from bytes.now) }
 {
     let mut at = from;
     for byte in bytes {
@@ -111,7 +102,7 @@ pub fn write_typed(
     requires base { layout.base ≤ length memory.old }
     requires room { 64 ≤ length memory.old }
     requires few { length line.now ≤ 255 }
-    ensures { Sets result memory.new (with_line layout memory.old buffer line.now) }
+    ensures { Sets result (guarded layout memory.new) (with_line (guarded layout memory.old) buffer line.now) }
 {
     write_bytes(memory, layout, buffer.wrapping_add(2), line)?;
     write_byte(memory, layout, buffer.wrapping_add(1), line.len() as u8)

@@ -3,7 +3,7 @@ ghost use Rattle.std.specs.Prelude.{◌≡◌, ◌≤◌, ◌<◌, ◌⊎◌, On
 ghost use Rattle.std.specs.Fmt.{signed_decimal};
 ghost use Rattle.z_model.specs.Zscii.{code_bytes, character_of};
 ghost use Rattle.z_model.specs.Text.{string_at, text_bytes};
-ghost use Rattle.z_model.specs.Step.{signed_16};
+ghost use Rattle.z_model.specs.Numbers.{signed_16};
 ghost use Rattle.z_model.specs.Closing.{is_open};
 ghost use Rattle.z_play.specs.Output.{seen, Wrote, Cut};
 ghost use Rattle.dg_base.specs.Causes.{HasCause};

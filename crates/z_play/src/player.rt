@@ -1,12 +1,12 @@
 // Stories, loaded and run.
 ghost use Rattle.std.specs.Prelude.{◌≡◌, ◌<◌, ◌++◌, ℕ, List, Some, Err, IfOk, IfErr, OnOk, OnErr, length, []};
 ghost use Rattle.z_model.specs.Run.{end_of};
-ghost use Rattle.z_model.specs.Closing.{is_open, line_of, newline_if, input_fault_line};
-ghost use Rattle.z_model.specs.Story.{refusal_of, first_machine, world_of, start_state, IsHeader};
+ghost use Rattle.z_model.specs.Closing.{is_open, end_line, newline_if, unread_line};
+ghost use Rattle.z_model.specs.Story.{refusal_of, first_machine, given_of, start_state, IsHeader};
 ghost use Rattle.z_play.specs.View.{machine, Sound, Kept};
-ghost use Rattle.z_play.specs.Acts.{CanFinish};
+ghost use Rattle.z_play.specs.Effects.{CanFinish};
 ghost use Rattle.z_play.specs.Output.{seen, Wrote, Cut};
-ghost use Rattle.z_play.specs.Scene.{scene, world, state};
+ghost use Rattle.z_play.specs.Scene.{scene, given_by, state};
 ghost use Rattle.z_play.specs.Acting.{text_of, Finishes};
 ghost use Rattle.z_play.specs.Advancing.{Advances, RunsOn};
 ghost use Rattle.z_play.specs.Played.{Plays, HasCauses};
@@ -21,7 +21,7 @@ use itoa::Buffer;
 use std::alloc::{AllocError, Global};
 use std::marker::Model;
 use thiserror::Error;
-use z_model::{Act, Halt, Header, Layout, StoryRefusal, ZEnd, ZFault, read_header};
+use z_model::{Effect, Halt, Header, Layout, StoryRefusal, ZEnd, ZFault, read_header};
 
 /// Why a story isn't loaded.
 #[derive(Clone, Copy, Debug, PartialEq, Eq, Error)]
@@ -49,20 +49,25 @@ const OPENING: Called = Called {
 };
 
 // Writes what an instruction prints.
-fn print<K: Sink>(engine: &Engine, act: Act, begun: bool, sink: &mut K) -> Result<bool, Failed>
-    requires { CanFinish act engine.now.layout (machine engine.now) }
-    ensures ok { OnOk result (Wrote (seen (K.taken sink.old) (K.room sink.old)) (seen (K.taken sink.new) (K.room sink.new)) (text_of act (machine engine.now))) }
-    ensures begun { IfOk result (λ now. now ≡ is_open begun (text_of act (machine engine.now))) }
-    ensures err { OnErr result (Cut (seen (K.taken sink.old) (K.room sink.old)) (seen (K.taken sink.new) (K.room sink.new)) (text_of act (machine engine.now))) }
+fn print<K: Sink>(
+    engine: &Engine,
+    effect: Effect,
+    begun: bool,
+    sink: &mut K,
+) -> Result<bool, Failed>
+    requires { CanFinish effect engine.now.layout (machine engine.now) }
+    ensures ok { OnOk result (Wrote (seen (K.taken sink.old) (K.room sink.old)) (seen (K.taken sink.new) (K.room sink.new)) (text_of effect (machine engine.now))) }
+    ensures begun { IfOk result (λ now. now ≡ is_open begun (text_of effect (machine engine.now))) }
+    ensures err { OnErr result (Cut (seen (K.taken sink.old) (K.room sink.old)) (seen (K.taken sink.new) (K.room sink.new)) (text_of effect (machine engine.now))) }
     ensures cause { HasCause (K.faults sink.old) (K.faults sink.new) result }
 {
-    match act {
-        Act::PrintsCode(code) => write_code(sink, begun, code),
-        Act::PrintsUnicode(character) => write_unicode(sink, begun, character),
-        Act::PrintsNumber(word) => write_number(sink, begun, word),
-        Act::PrintsText(at) => write_text(sink, begun, &engine.memory, at),
-        Act::PrintsLine(at) => write_line(sink, begun, &engine.memory, at),
-        Act::Goes | Act::Draws | Act::Reads(_, _, _) | Act::Quits => Ok(begun),
+    match effect {
+        Effect::PrintsCode(code) => write_code(sink, begun, code),
+        Effect::PrintsUnicode(character) => write_unicode(sink, begun, character),
+        Effect::PrintsNumber(word) => write_number(sink, begun, word),
+        Effect::PrintsText(at) => write_text(sink, begun, &engine.memory, at),
+        Effect::PrintsLine(at) => write_line(sink, begun, &engine.memory, at),
+        Effect::Goes | Effect::Draws | Effect::Reads(_, _, _) | Effect::Quits => Ok(begun),
     }
 }
 
@@ -75,9 +80,9 @@ fn read_line<S: Source>(
     source: &mut S,
 ) -> Result<Option<Halt>, Failed>
     requires sound { Sound engine.old }
-    requires can { CanFinish (Act.Reads buffer most store) engine.old.layout (machine engine.old) }
+    requires can { CanFinish (Effect.Reads buffer most store) engine.old.layout (machine engine.old) }
     ensures kept { Kept engine.old engine.new }
-    ensures told { (dice typed : List ℕ) (drawn : ℕ) → S.left source.old ≡ Some typed → Finishes result (world engine.old.layout dice) (Act.Reads buffer most store) (machine engine.old) typed drawn (machine engine.new) (S.left source.new) drawn }
+    ensures told { (dice typed : List ℕ) (drawn : ℕ) → S.left source.old ≡ Some typed → Finishes result (given_by engine.old.layout dice) (Effect.Reads buffer most store) (machine engine.old) typed drawn (machine engine.new) (S.left source.new) drawn }
     ensures cause { HasCause (S.faults source.old) (S.faults source.new) result }
 {
     let mut room = [0; 255];
@@ -95,35 +100,35 @@ fn read_line<S: Source>(
 // Does what is left of an instruction.
 fn finish<S: Source>(
     engine: &mut Engine,
-    act: Act,
+    effect: Effect,
     drawn: &mut usize,
     dice: &[u16],
     source: &mut S,
 ) -> Result<Option<Halt>, Failed>
     requires sound { Sound engine.old }
-    requires can { CanFinish act engine.old.layout (machine engine.old) }
+    requires can { CanFinish effect engine.old.layout (machine engine.old) }
     requires drawn { drawn.old < length dice.now }
     ensures kept { Kept engine.old engine.new }
     ensures drawn { drawn.new < length dice.now }
-    ensures told { (typed : List ℕ) → S.left source.old ≡ Some typed → Finishes result (world engine.old.layout dice.now) act (machine engine.old) typed drawn.old (machine engine.new) (S.left source.new) drawn.new }
+    ensures told { (typed : List ℕ) → S.left source.old ≡ Some typed → Finishes result (given_by engine.old.layout dice.now) effect (machine engine.old) typed drawn.old (machine engine.new) (S.left source.new) drawn.new }
     ensures cause { HasCause (S.faults source.old) (S.faults source.new) result }
 {
-    match act {
-        Act::PrintsLine(_) => {
+    match effect {
+        Effect::PrintsLine(_) => {
             engine.give_back(1).unwrap();
             Ok(None)
         }
-        Act::Draws => {
+        Effect::Draws => {
             *drawn = (*drawn + 1) % dice.len();
             Ok(None)
         }
-        Act::Reads(buffer, most, store) => read_line(engine, buffer, most, store, source),
-        Act::Quits => Ok(Some(Halt::AtQuit)),
-        Act::Goes
-        | Act::PrintsCode(_)
-        | Act::PrintsUnicode(_)
-        | Act::PrintsNumber(_)
-        | Act::PrintsText(_) => Ok(None),
+        Effect::Reads(buffer, most, store) => read_line(engine, buffer, most, store, source),
+        Effect::Quits => Ok(Some(Halt::AtQuit)),
+        Effect::Goes
+        | Effect::PrintsCode(_)
+        | Effect::PrintsUnicode(_)
+        | Effect::PrintsNumber(_)
+        | Effect::PrintsText(_) => Ok(None),
     }
 }
 
@@ -140,18 +145,18 @@ fn advance<S: Source, K: Sink>(
     requires drawn { drawn.old < length dice.now }
     ensures kept { Kept engine.old engine.new }
     ensures drawn { drawn.new < length dice.now }
-    ensures told { (typed : List ℕ) → S.left source.old ≡ Some typed → Advances result (world engine.old.layout dice.now) typed (scene (machine engine.old) drawn.old begun.old (S.left source.old) (seen (K.taken sink.old) (K.room sink.old))) (scene (machine engine.new) drawn.new begun.new (S.left source.new) (seen (K.taken sink.new) (K.room sink.new))) }
+    ensures told { (typed : List ℕ) → S.left source.old ≡ Some typed → Advances result (given_by engine.old.layout dice.now) typed (scene (machine engine.old) drawn.old begun.old (S.left source.old) (seen (K.taken sink.old) (K.room sink.old))) (scene (machine engine.new) drawn.new begun.new (S.left source.new) (seen (K.taken sink.new) (K.room sink.new))) }
     ensures causes { HasCauses (S.faults source.old) (S.faults source.new) (K.faults sink.old) (K.faults sink.new) result }
 {
     let at = engine.pc;
     match engine.step(dice[*drawn]) {
         Err(fault) => Ok(Some(Halt::AtFault(fault, at))),
-        Ok(Act::Goes) => Ok(None),
-        Ok(act) => match print(engine, act, *begun, sink) {
+        Ok(Effect::Goes) => Ok(None),
+        Ok(effect) => match print(engine, effect, *begun, sink) {
             Err(_) => Err(Fault::Write),
             Ok(now) => {
                 *begun = now;
-                match finish(engine, act, drawn, dice, source) {
+                match finish(engine, effect, drawn, dice, source) {
                     Ok(halt) => Ok(halt),
                     Err(_) => Err(Fault::Read),
                 }
@@ -182,7 +187,7 @@ fn run_steps<S: Source, K: Sink>(
     requires sound { Sound engine.old }
     requires dice { 0 < length dice.now }
     ensures kept { Kept engine.old engine.new }
-    ensures told { (typed : List ℕ) → S.left source.old ≡ Some typed → (drawn : ℕ) → RunsOn result (world engine.old.layout dice.now) (state (machine engine.old) typed 0 []) steps (scene (machine engine.old) 0 begun.old (S.left source.old) (seen (K.taken sink.old) (K.room sink.old))) (scene (machine engine.new) drawn begun.new (S.left source.new) (seen (K.taken sink.new) (K.room sink.new))) }
+    ensures told { (typed : List ℕ) → S.left source.old ≡ Some typed → (drawn : ℕ) → RunsOn result (given_by engine.old.layout dice.now) (state (machine engine.old) typed 0 []) steps (scene (machine engine.old) 0 begun.old (S.left source.old) (seen (K.taken sink.old) (K.room sink.old))) (scene (machine engine.new) drawn begun.new (S.left source.new) (seen (K.taken sink.new) (K.room sink.new))) }
     ensures causes { HasCauses (S.faults source.old) (S.faults source.new) (K.faults sink.old) (K.faults sink.new) result }
 {
     let mut drawn = 0;
@@ -200,8 +205,8 @@ fn run_steps<S: Source, K: Sink>(
 }
 
 fn write_broken<K: Sink>(sink: &mut K, fault: ZFault, at: u32) -> Result<(), Failed>
-    ensures ok { OnOk result (Wrote (seen (K.taken sink.old) (K.room sink.old)) (seen (K.taken sink.new) (K.room sink.new)) (line_of (ZEnd.Broken fault at))) }
-    ensures err { OnErr result (Cut (seen (K.taken sink.old) (K.room sink.old)) (seen (K.taken sink.new) (K.room sink.new)) (line_of (ZEnd.Broken fault at))) }
+    ensures ok { OnOk result (Wrote (seen (K.taken sink.old) (K.room sink.old)) (seen (K.taken sink.new) (K.room sink.new)) (end_line (ZEnd.Broken fault at))) }
+    ensures err { OnErr result (Cut (seen (K.taken sink.old) (K.room sink.old)) (seen (K.taken sink.new) (K.room sink.new)) (end_line (ZEnd.Broken fault at))) }
     ensures cause { HasCause (K.faults sink.old) (K.faults sink.new) result }
 {
     let mut number = Buffer::new();
@@ -223,8 +228,8 @@ fn write_broken<K: Sink>(sink: &mut K, fault: ZFault, at: u32) -> Result<(), Fai
 
 // Writes the line of an end.
 fn write_end<K: Sink>(sink: &mut K, end: ZEnd) -> Result<(), Failed>
-    ensures ok { OnOk result (Wrote (seen (K.taken sink.old) (K.room sink.old)) (seen (K.taken sink.new) (K.room sink.new)) (line_of end)) }
-    ensures err { OnErr result (Cut (seen (K.taken sink.old) (K.room sink.old)) (seen (K.taken sink.new) (K.room sink.new)) (line_of end)) }
+    ensures ok { OnOk result (Wrote (seen (K.taken sink.old) (K.room sink.old)) (seen (K.taken sink.new) (K.room sink.new)) (end_line end)) }
+    ensures err { OnErr result (Cut (seen (K.taken sink.old) (K.room sink.old)) (seen (K.taken sink.new) (K.room sink.new)) (end_line end)) }
     ensures cause { HasCause (K.faults sink.old) (K.faults sink.new) result }
 {
     match end {
@@ -249,8 +254,8 @@ fn write_newline<K: Sink>(sink: &mut K, begun: bool) -> Result<(), Failed>
 
 // Writes the line of an end on a line of its own.
 fn close<K: Sink>(sink: &mut K, begun: bool, end: ZEnd) -> Result<(), Failed>
-    ensures ok { OnOk result (Wrote (seen (K.taken sink.old) (K.room sink.old)) (seen (K.taken sink.new) (K.room sink.new)) (newline_if begun ++ line_of end)) }
-    ensures err { OnErr result (Cut (seen (K.taken sink.old) (K.room sink.old)) (seen (K.taken sink.new) (K.room sink.new)) (newline_if begun ++ line_of end)) }
+    ensures ok { OnOk result (Wrote (seen (K.taken sink.old) (K.room sink.old)) (seen (K.taken sink.new) (K.room sink.new)) (newline_if begun ++ end_line end)) }
+    ensures err { OnErr result (Cut (seen (K.taken sink.old) (K.room sink.old)) (seen (K.taken sink.new) (K.room sink.new)) (newline_if begun ++ end_line end)) }
     ensures cause { HasCause (K.faults sink.old) (K.faults sink.new) result }
 {
     match write_newline(sink, begun) {
@@ -261,8 +266,8 @@ fn close<K: Sink>(sink: &mut K, begun: bool, end: ZEnd) -> Result<(), Failed>
 
 // Says on a line of its own that the input failed.
 fn close_failed<K: Sink>(sink: &mut K, begun: bool) -> Result<(), Failed>
-    ensures ok { OnOk result (Wrote (seen (K.taken sink.old) (K.room sink.old)) (seen (K.taken sink.new) (K.room sink.new)) (newline_if begun ++ input_fault_line)) }
-    ensures err { OnErr result (Cut (seen (K.taken sink.old) (K.room sink.old)) (seen (K.taken sink.new) (K.room sink.new)) (newline_if begun ++ input_fault_line)) }
+    ensures ok { OnOk result (Wrote (seen (K.taken sink.old) (K.room sink.old)) (seen (K.taken sink.new) (K.room sink.new)) (newline_if begun ++ unread_line)) }
+    ensures err { OnErr result (Cut (seen (K.taken sink.old) (K.room sink.old)) (seen (K.taken sink.new) (K.room sink.new)) (newline_if begun ++ unread_line)) }
     ensures cause { HasCause (K.faults sink.old) (K.faults sink.new) result }
 {
     match write_newline(sink, begun) {
@@ -361,7 +366,7 @@ impl Player {
     ) -> Result<ZEnd, Fault>
         requires { 0 < length dice.now }
         ensures kept { self.new ≡ self.old }
-        ensures told { (typed : List ℕ) → S.left source.old ≡ Some typed → Plays result (world_of self.old dice.now) (start_state self.old typed) steps (S.left source.new) (seen (K.taken sink.old) (K.room sink.old)) (seen (K.taken sink.new) (K.room sink.new)) }
+        ensures told { (typed : List ℕ) → S.left source.old ≡ Some typed → Plays result (given_of self.old dice.now) (start_state self.old typed) steps (S.left source.new) (seen (K.taken sink.old) (K.room sink.old)) (seen (K.taken sink.new) (K.room sink.new)) }
         ensures causes { HasCauses (S.faults source.old) (S.faults source.new) (K.faults sink.old) (K.faults sink.new) result }
     {
         reset(&mut self.engine, &self.story, self.start);

@@ -1,20 +1,22 @@
 // One instruction.
-ghost use Rattle.std.specs.Prelude.{◌≡◌, ◌<◌, ◌≤◌, ◌+◌, ◌-◌, ◌*◌, ◌%◌, IfOk, IsTrue, length, true};
-ghost use Rattle.z_model.specs.Machine.{with_byte, with_word, may_write_all};
-ghost use Rattle.z_model.specs.Step.{goes, answers, answers_or, written, prints, prints_line, prints_if, adds, adds_and_tests, pulls, returns_popped, most_typed, reads, random_of, branched, called, returned, jumped, at_pc, do_two, do_one, do_zero, do_several, do_extended, do_instr, machine_step};
-ghost use Rattle.z_play.specs.View.{machine, Sound, Sets, Kept};
-ghost use Rattle.z_model.specs.Run.{line_read};
-ghost use Rattle.z_play.specs.Acts.{CanFinish, GivesAct};
+ghost use Rattle.std.specs.Prelude.{◌≡◌, ◌<◌, ◌≤◌, ◌+◌, ◌-◌, ◌*◌, ◌%◌, IfOk, None, length, true};
 ghost use Rattle.z_model.specs.declared.story.Layout.{Layout};
-ghost use Rattle.z_model.specs.Machine.{Machine};
-ghost use Rattle.z_model.specs.Machine.{pushed, placed};
+ghost use Rattle.z_model.specs.Table.{rows_of};
+ghost use Rattle.z_model.specs.Memory.{guarded, is_writable, with_byte, with_word, have_right};
+ghost use Rattle.z_model.specs.Machine.{Machine, pushed, placed};
+ghost use Rattle.z_model.specs.Flow.{branched, called, returned, jumped, at_pc};
+ghost use Rattle.z_model.specs.Effects.{goes, answers, answers_or, written, fault_in, printed, prints_line, adds, adds_and_tests, pulls, returns_popped, most_typed, reads, random_of};
+ghost use Rattle.z_model.specs.Step.{do_two, do_one, do_zero, do_several, do_extended, do_instr, machine_step};
+ghost use Rattle.z_model.specs.Run.{line_read};
+ghost use Rattle.z_play.specs.View.{machine, Sound, Sets, Kept};
+ghost use Rattle.z_play.specs.Effects.{CanFinish, GivesEffect};
 
 use crate::arith::{divide, equals_one, is_less, modulo, signed};
 use crate::engine::Engine;
 use crate::memory::{may_write_all, read_byte, read_word, write_byte, write_typed, write_word};
 use crate::text::{find_fault, is_character, is_printed};
 use z_code::decode;
-use z_model::{Act, Args, Branch, Extended, Instr, One, Op, Several, Two, ZFault, Zero};
+use z_model::{Args, Branch, Effect, Extended, Instr, One, Op, Several, Two, ZFault, Zero};
 
 // The address of a word in an array.
 #[inline]
@@ -29,14 +31,14 @@ fn word_place(array: u16, index: u16) -> u16
 impl Engine {
     // Stores an answer, and goes on.
     #[inline]
-    fn answer(&mut self, end: u32, store: Option<u8>, x: u16) -> Result<Act, ZFault>
+    fn answer(&mut self, end: u32, store: Option<u8>, x: u16) -> Result<Effect, ZFault>
         requires { Sound self.old }
         ensures kept { Kept self.old self.new }
-        ensures answered { GivesAct result self.old.layout (machine self.new) (answers self.old.layout (machine self.old) end store x) }
+        ensures answered { GivesEffect result self.old.layout (machine self.new) (answers self.old.layout (machine self.old) end store x) }
     {
         self.pc = end;
         self.store_if(store, x)?;
-        Ok(Act::Goes)
+        Ok(Effect::Goes)
     }
 
     #[inline]
@@ -45,10 +47,10 @@ impl Engine {
         end: u32,
         store: Option<u8>,
         x: Result<u16, ZFault>,
-    ) -> Result<Act, ZFault>
+    ) -> Result<Effect, ZFault>
         requires { Sound self.old }
         ensures kept { Kept self.old self.new }
-        ensures answered { GivesAct result self.old.layout (machine self.new) (answers_or self.old.layout (machine self.old) end store x) }
+        ensures answered { GivesEffect result self.old.layout (machine self.new) (answers_or self.old.layout (machine self.old) end store x) }
     {
         match x {
             Ok(x) => self.answer(end, store, x),
@@ -57,98 +59,98 @@ impl Engine {
     }
 
     #[inline(always)]
-    fn test(&mut self, end: u32, branch: Option<Branch>, test: bool) -> Result<Act, ZFault>
+    fn test(&mut self, end: u32, branch: Option<Branch>, test: bool) -> Result<Effect, ZFault>
         requires sound { Sound self.old }
         requires near { end ≤ 524288 }
         ensures kept { Kept self.old self.new }
-        ensures branched { GivesAct result self.old.layout (machine self.new) (goes (branched self.old.layout (machine self.old) end branch test)) }
+        ensures branched { GivesEffect result self.old.layout (machine self.new) (goes (branched self.old.layout (machine self.old) end branch test)) }
     {
         self.branch(end, branch, test)?;
-        Ok(Act::Goes)
+        Ok(Effect::Goes)
     }
 
     #[inline(always)]
-    fn do_call(&mut self, end: u32, store: Option<u8>, a: &Args) -> Result<Act, ZFault>
+    fn do_call(&mut self, end: u32, store: Option<u8>, a: &Args) -> Result<Effect, ZFault>
         requires { Sound self.old }
         ensures kept { Kept self.old self.new }
-        ensures called { GivesAct result self.old.layout (machine self.new) (goes (called self.old.layout (machine self.old) end store a.now)) }
+        ensures called { GivesEffect result self.old.layout (machine self.new) (goes (called self.old.layout (machine self.old) end store a.now)) }
     {
         // A copy, so that the values need no place in memory where nothing is called.
         let args = *a;
         self.call(end, store, &args)?;
-        Ok(Act::Goes)
+        Ok(Effect::Goes)
     }
 
     #[inline]
-    fn do_return(&mut self, x: u16) -> Result<Act, ZFault>
+    fn do_return(&mut self, x: u16) -> Result<Effect, ZFault>
         requires { Sound self.old }
         ensures kept { Kept self.old self.new }
-        ensures returned { GivesAct result self.old.layout (machine self.new) (goes (returned self.old.layout (machine self.old) x)) }
+        ensures returned { GivesEffect result self.old.layout (machine self.new) (goes (returned self.old.layout (machine self.old) x)) }
     {
         self.give_back(x)?;
-        Ok(Act::Goes)
+        Ok(Effect::Goes)
     }
 
-    fn do_jump(&mut self, end: u32, offset: i16) -> Result<Act, ZFault>
+    fn do_jump(&mut self, end: u32, offset: i16) -> Result<Effect, ZFault>
         requires sound { Sound self.old }
         requires near { end ≤ 524288 }
         ensures kept { Kept self.old self.new }
-        ensures jumped { GivesAct result self.old.layout (machine self.new) (goes (jumped (machine self.old) end offset)) }
+        ensures jumped { GivesEffect result self.old.layout (machine self.new) (goes (jumped (machine self.old) end offset)) }
     {
         self.jump(end, offset)?;
-        Ok(Act::Goes)
+        Ok(Effect::Goes)
     }
 
-    fn do_place(&mut self, end: u32, v: u16, x: u16) -> Result<Act, ZFault>
+    fn do_place(&mut self, end: u32, v: u16, x: u16) -> Result<Effect, ZFault>
         requires { Sound self.old }
         ensures kept { Kept self.old self.new }
-        ensures placed { GivesAct result self.old.layout (machine self.new) (goes (placed self.old.layout (at_pc (machine self.old) end) v x)) }
+        ensures placed { GivesEffect result self.old.layout (machine self.new) (goes (placed self.old.layout (at_pc (machine self.old) end) v x)) }
     {
         self.pc = end;
         self.place(v, x)?;
-        Ok(Act::Goes)
+        Ok(Effect::Goes)
     }
 
-    fn do_push(&mut self, end: u32, x: u16) -> Result<Act, ZFault>
+    fn do_push(&mut self, end: u32, x: u16) -> Result<Effect, ZFault>
         requires { Sound self.old }
         ensures kept { Kept self.old self.new }
-        ensures pushed { GivesAct result self.old.layout (machine self.new) (goes (pushed (at_pc (machine self.old) end) x)) }
+        ensures pushed { GivesEffect result self.old.layout (machine self.new) (goes (pushed (at_pc (machine self.old) end) x)) }
     {
         self.pc = end;
         self.push(x)?;
-        Ok(Act::Goes)
+        Ok(Effect::Goes)
     }
 
-    fn do_pull(&mut self, end: u32, v: u16) -> Result<Act, ZFault>
+    fn do_pull(&mut self, end: u32, v: u16) -> Result<Effect, ZFault>
         requires { Sound self.old }
         ensures kept { Kept self.old self.new }
-        ensures pulled { GivesAct result self.old.layout (machine self.new) (pulls self.old.layout (machine self.old) end v) }
+        ensures pulled { GivesEffect result self.old.layout (machine self.new) (pulls self.old.layout (machine self.old) end v) }
     {
         self.pc = end;
         let x = self.pop()?;
         self.place(v, x)?;
-        Ok(Act::Goes)
+        Ok(Effect::Goes)
     }
 
-    fn return_popped(&mut self) -> Result<Act, ZFault>
+    fn return_popped(&mut self) -> Result<Effect, ZFault>
         requires { Sound self.old }
         ensures kept { Kept self.old self.new }
-        ensures returned { GivesAct result self.old.layout (machine self.new) (returns_popped self.old.layout (machine self.old)) }
+        ensures returned { GivesEffect result self.old.layout (machine self.new) (returns_popped self.old.layout (machine self.old)) }
     {
         let x = self.pop()?;
         self.do_return(x)
     }
 
     // Adds to a variable that an operand names.
-    fn add_in_place(&mut self, end: u32, v: u16, by: u16) -> Result<Act, ZFault>
+    fn add_in_place(&mut self, end: u32, v: u16, by: u16) -> Result<Effect, ZFault>
         requires { Sound self.old }
         ensures kept { Kept self.old self.new }
-        ensures added { GivesAct result self.old.layout (machine self.new) (adds self.old.layout (machine self.old) end v by) }
+        ensures added { GivesEffect result self.old.layout (machine self.new) (adds self.old.layout (machine self.old) end v by) }
     {
         self.pc = end;
         let x = self.held(v)?;
         self.place(v, x.wrapping_add(by))?;
-        Ok(Act::Goes)
+        Ok(Effect::Goes)
     }
 
     fn add_and_test(
@@ -157,11 +159,11 @@ impl Engine {
         branch: Option<Branch>,
         v: u16,
         limit: u16,
-    ) -> Result<Act, ZFault>
+    ) -> Result<Effect, ZFault>
         requires sound { Sound self.old }
         requires near { end ≤ 524288 }
         ensures kept { Kept self.old self.new }
-        ensures tested { GivesAct result self.old.layout (machine self.new) (adds_and_tests self.old.layout (machine self.old) end branch v limit) }
+        ensures tested { GivesEffect result self.old.layout (machine self.new) (adds_and_tests self.old.layout (machine self.old) end branch v limit) }
     {
         let x = self.held(v)?;
         let more = x.wrapping_add(1);
@@ -169,89 +171,110 @@ impl Engine {
         self.test(end, branch, is_less(limit, more))
     }
 
-    fn store_word(&mut self, end: u32, at: u16, word: u16) -> Result<Act, ZFault>
+    fn store_word(&mut self, end: u32, at: u16, word: u16) -> Result<Effect, ZFault>
         requires { Sound self.old }
         ensures kept { Kept self.old self.new }
-        ensures written { GivesAct result self.old.layout (machine self.new) (written (machine self.old) end (with_word self.old.layout (machine self.old).memory at word)) }
+        ensures written { GivesEffect result self.old.layout (machine self.new) (written (machine self.old) end (with_word (guarded self.old.layout (machine self.old).memory) at word)) }
     {
         write_word(&mut self.memory, self.layout, at, word)?;
         self.pc = end;
-        Ok(Act::Goes)
+        Ok(Effect::Goes)
     }
 
-    fn store_byte(&mut self, end: u32, at: u16, byte: u8) -> Result<Act, ZFault>
+    fn store_byte(&mut self, end: u32, at: u16, byte: u8) -> Result<Effect, ZFault>
         requires { Sound self.old }
         ensures kept { Kept self.old self.new }
-        ensures written { GivesAct result self.old.layout (machine self.new) (written (machine self.old) end (with_byte self.old.layout (machine self.old).memory at byte)) }
+        ensures written { GivesEffect result self.old.layout (machine self.new) (written (machine self.old) end (with_byte (guarded self.old.layout (machine self.old).memory) at byte)) }
     {
         write_byte(&mut self.memory, self.layout, at, byte)?;
         self.pc = end;
-        Ok(Act::Goes)
+        Ok(Effect::Goes)
     }
 
-    // An act, where it may be done.
-    fn act_if(&mut self, end: u32, may: bool, act: Act) -> Result<Act, ZFault>
-        requires sound { Sound self.old }
-        requires plain { IsTrue may → (layout : Layout) (m : Machine) → CanFinish act layout m }
-        ensures kept { Kept self.old self.new }
-        ensures acts { GivesAct result self.old.layout (machine self.new) (prints_if may act (at_pc (machine self.old) end)) }
+    // Why what an effect prints may not be printed, if it may not.
+    #[inline]
+    fn print_fault(&self, effect: Effect) -> Option<ZFault>
+        ensures { result ≡ fault_in effect (machine self.now) }
     {
-        if !may {
-            return Err(ZFault::BadCharacter);
+        let may = match effect {
+            Effect::PrintsCode(code) => is_printed(code),
+            Effect::PrintsUnicode(character) => is_character(character),
+            Effect::PrintsText(at) | Effect::PrintsLine(at) => {
+                return find_fault(&self.memory, at);
+            }
+            Effect::Goes
+            | Effect::PrintsNumber(_)
+            | Effect::Draws
+            | Effect::Reads(_, _, _)
+            | Effect::Quits => true,
+        };
+        if may {
+            None
+        } else {
+            Some(ZFault::BadCharacter)
         }
-        self.pc = end;
-        Ok(act)
     }
 
-    fn print_text(&mut self, end: u32, at: usize) -> Result<Act, ZFault>
-        requires { Sound self.old }
+    // Prints, where what is printed may be, and goes on.
+    #[tactic(auto, unfolding(z_model::specs::Effects::printed))]
+    #[inline]
+    fn print(&mut self, end: u32, effect: Effect) -> Result<Effect, ZFault>
+        requires sound { Sound self.old }
+        requires plain { (layout : Layout) (m : Machine) → fault_in effect m ≡ None → CanFinish effect layout m }
         ensures kept { Kept self.old self.new }
-        ensures prints { GivesAct result self.old.layout (machine self.new) (prints (machine self.old) at end) }
+        ensures printed { GivesEffect result self.old.layout (machine self.new) (printed effect (at_pc (machine self.old) end)) }
     {
-        match find_fault(&self.memory, at) {
+        match self.print_fault(effect) {
             Some(fault) => Err(fault),
             None => {
                 self.pc = end;
-                Ok(Act::PrintsText(at))
+                Ok(effect)
             }
         }
     }
 
-    #[tactic(auto, unfolding(z_model::specs::Step::prints_line))]
-    fn print_line(&mut self, at: usize) -> Result<Act, ZFault>
+    #[tactic(auto, unfolding(z_model::specs::Effects::prints_line, z_model::specs::Effects::printed))]
+    fn print_line(&mut self, at: usize) -> Result<Effect, ZFault>
         requires { Sound self.old }
         ensures kept { Kept self.old self.new }
-        ensures prints { GivesAct result self.old.layout (machine self.new) (prints_line self.old.layout (machine self.old) at) }
+        ensures prints { GivesEffect result self.old.layout (machine self.new) (prints_line self.old.layout (machine self.old) at) }
     {
-        if let Some(fault) = find_fault(&self.memory, at) {
+        let effect = Effect::PrintsLine(at);
+        if let Some(fault) = self.print_fault(effect) {
             return Err(fault);
         }
         match self.return_fault() {
             Some(fault) => Err(fault),
-            None => Ok(Act::PrintsLine(at)),
+            None => Ok(effect),
         }
     }
 
-    #[tactic(auto, unfolding(z_model::specs::Step::random_of))]
-    fn random(&mut self, word: u16, end: u32, store: Option<u8>, range: u16) -> Result<Act, ZFault>
+    #[tactic(auto, unfolding(z_model::specs::Effects::random_of))]
+    fn random(
+        &mut self,
+        word: u16,
+        end: u32,
+        store: Option<u8>,
+        range: u16,
+    ) -> Result<Effect, ZFault>
         requires { Sound self.old }
         ensures kept { Kept self.old self.new }
-        ensures drawn { GivesAct result self.old.layout (machine self.new) (random_of self.old.layout word (machine self.old) end store range) }
+        ensures drawn { GivesEffect result self.old.layout (machine self.new) (random_of self.old.layout word (machine self.old) end store range) }
     {
         if range == 0 || 32767 < range {
             return self.answer(end, store, 0);
         }
         self.pc = end;
         self.store_if(store, 1 + word % range)?;
-        Ok(Act::Draws)
+        Ok(Effect::Draws)
     }
 
     // How many characters a reading keeps, where its buffer allows it.
-    #[tactic(auto, unfolding(z_model::specs::Step::most_typed))]
+    #[tactic(auto, unfolding(z_model::specs::Effects::most_typed))]
     fn most_typed(&self, a: &Args) -> Result<u8, ZFault>
         requires { Sound self.now }
         ensures most { result ≡ most_typed self.now.layout (machine self.now) a.now }
-        ensures may { IfOk result (λ most. may_write_all self.now.layout ((a.now.first + 1) % 65536) (most + 1) ≡ true) }
+        ensures may { IfOk result (λ most. have_right (is_writable self.now.layout) ((a.now.first + 1) % 65536) (most + 1) ≡ true) }
     {
         if 0 < a.second {
             return Err(ZFault::Unsupported);
@@ -264,17 +287,17 @@ impl Engine {
         }
     }
 
-    #[tactic(auto, unfolding(z_model::specs::Step::reads))]
-    fn read(&mut self, end: u32, store: Option<u8>, a: &Args) -> Result<Act, ZFault>
+    #[tactic(auto, unfolding(z_model::specs::Effects::reads))]
+    fn read(&mut self, end: u32, store: Option<u8>, a: &Args) -> Result<Effect, ZFault>
         requires { Sound self.old }
         ensures kept { Kept self.old self.new }
-        ensures reads { GivesAct result self.old.layout (machine self.new) (reads self.old.layout (machine self.old) end store a.now) }
+        ensures reads { GivesEffect result self.old.layout (machine self.new) (reads self.old.layout (machine self.old) end store a.now) }
     {
         let most = self.most_typed(a)?;
         self.pc = end;
         match self.store_fault(store) {
             Some(fault) => Err(fault),
-            None => Ok(Act::Reads(a.first, most, store)),
+            None => Ok(Effect::Reads(a.first, most, store)),
         }
     }
 }
@@ -297,11 +320,11 @@ impl Engine {
 
 impl Engine {
     #[tactic(auto, unfolding(z_model::specs::Step::do_two))]
-    fn do_two(&mut self, instr: Two, op: &Op, end: u32, a: &Args) -> Result<Act, ZFault>
+    fn do_two(&mut self, instr: Two, op: &Op, end: u32, a: &Args) -> Result<Effect, ZFault>
         requires sound { Sound self.old }
         requires near { end ≤ 524288 }
         ensures kept { Kept self.old self.new }
-        ensures done { GivesAct result self.old.layout (machine self.new) (do_two self.old.layout instr op.now end a.now (machine self.old)) }
+        ensures done { GivesEffect result self.old.layout (machine self.new) (do_two self.old.layout instr op.now end a.now (machine self.old)) }
     {
         let x = a.first;
         let y = a.second;
@@ -331,11 +354,11 @@ impl Engine {
     }
 
     #[tactic(auto, unfolding(z_model::specs::Step::do_one))]
-    fn do_one(&mut self, instr: One, op: &Op, end: u32, a: &Args) -> Result<Act, ZFault>
+    fn do_one(&mut self, instr: One, op: &Op, end: u32, a: &Args) -> Result<Effect, ZFault>
         requires sound { Sound self.old }
         requires near { end ≤ 524288 }
         ensures kept { Kept self.old self.new }
-        ensures done { GivesAct result self.old.layout (machine self.new) (do_one self.old.layout instr op.now end a.now (machine self.old)) }
+        ensures done { GivesEffect result self.old.layout (machine self.new) (do_one self.old.layout instr op.now end a.now (machine self.old)) }
     {
         let x = a.first;
         match instr {
@@ -345,7 +368,7 @@ impl Engine {
             One::Call1s | One::Call1n => self.do_call(end, op.store, a),
             One::Ret => self.do_return(x),
             One::Jump => self.do_jump(end, signed(x)),
-            One::PrintPaddr => self.print_text(end, 8 * x as usize),
+            One::PrintPaddr => self.print(end, Effect::PrintsText(8 * x as usize)),
             One::Load => {
                 let held = self.held(x);
                 self.answer_or(end, op.store, held)
@@ -354,32 +377,32 @@ impl Engine {
     }
 
     #[tactic(auto, unfolding(z_model::specs::Step::do_zero))]
-    fn do_zero(&mut self, instr: Zero, op: &Op, end: u32, a: &Args) -> Result<Act, ZFault>
+    fn do_zero(&mut self, instr: Zero, op: &Op, end: u32, a: &Args) -> Result<Effect, ZFault>
         requires sound { Sound self.old }
         ensures kept { Kept self.old self.new }
-        ensures done { GivesAct result self.old.layout (machine self.new) (do_zero self.old.layout instr op.now end a.now (machine self.old)) }
+        ensures done { GivesEffect result self.old.layout (machine self.new) (do_zero self.old.layout instr op.now end a.now (machine self.old)) }
     {
         let text = (end as usize).saturating_sub(op.text);
         match instr {
             Zero::Rtrue => self.do_return(1),
             Zero::Rfalse => self.do_return(0),
-            Zero::Print => self.print_text(end, text),
+            Zero::Print => self.print(end, Effect::PrintsText(text)),
             Zero::PrintRet => self.print_line(text),
-            Zero::Nop => self.goes_on(end, Act::Goes),
+            Zero::Nop => self.goes_on(end, Effect::Goes),
             Zero::RetPopped => self.return_popped(),
-            Zero::Quit => self.goes_on(end, Act::Quits),
-            Zero::NewLine => self.goes_on(end, Act::PrintsCode(13)),
+            Zero::Quit => self.goes_on(end, Effect::Quits),
+            Zero::NewLine => self.print(end, Effect::PrintsCode(13)),
         }
     }
 
-    fn goes_on(&mut self, end: u32, act: Act) -> Result<Act, ZFault>
+    fn goes_on(&mut self, end: u32, effect: Effect) -> Result<Effect, ZFault>
         requires sound { Sound self.old }
-        requires plain { (layout : Layout) (m : Machine) → CanFinish act layout m }
+        requires plain { (layout : Layout) (m : Machine) → CanFinish effect layout m }
         ensures kept { Kept self.old self.new }
-        ensures goes { GivesAct result self.old.layout (machine self.new) (Ok (act, at_pc (machine self.old) end)) }
+        ensures goes { GivesEffect result self.old.layout (machine self.new) (Ok (effect, at_pc (machine self.old) end)) }
     {
         self.pc = end;
-        Ok(act)
+        Ok(effect)
     }
 
     #[tactic(auto, unfolding(z_model::specs::Step::do_several))]
@@ -390,10 +413,10 @@ impl Engine {
         op: &Op,
         end: u32,
         a: &Args,
-    ) -> Result<Act, ZFault>
+    ) -> Result<Effect, ZFault>
         requires { Sound self.old }
         ensures kept { Kept self.old self.new }
-        ensures done { GivesAct result self.old.layout (machine self.new) (do_several self.old.layout word instr op.now end a.now (machine self.old)) }
+        ensures done { GivesEffect result self.old.layout (machine self.new) (do_several self.old.layout word instr op.now end a.now (machine self.old)) }
     {
         let x = a.first;
         match instr {
@@ -403,8 +426,8 @@ impl Engine {
                 self.store_byte(end, x.wrapping_add(a.second), (a.third % 256) as u8)
             }
             Several::Aread => self.read(end, op.store, a),
-            Several::PrintChar => self.act_if(end, is_printed(x), Act::PrintsCode(x)),
-            Several::PrintNum => self.goes_on(end, Act::PrintsNumber(x)),
+            Several::PrintChar => self.print(end, Effect::PrintsCode(x)),
+            Several::PrintNum => self.print(end, Effect::PrintsNumber(x)),
             Several::Random => self.random(word, end, op.store, x),
             Several::Push => self.do_push(end, x),
             Several::Pull => self.do_pull(end, x),
@@ -413,15 +436,19 @@ impl Engine {
     }
 
     #[tactic(auto, unfolding(z_model::specs::Step::do_extended))]
-    fn do_extended(&mut self, instr: Extended, op: &Op, end: u32, a: &Args) -> Result<Act, ZFault>
+    fn do_extended(
+        &mut self,
+        instr: Extended,
+        op: &Op,
+        end: u32,
+        a: &Args,
+    ) -> Result<Effect, ZFault>
         requires { Sound self.old }
         ensures kept { Kept self.old self.new }
-        ensures done { GivesAct result self.old.layout (machine self.new) (do_extended self.old.layout instr op.now end a.now (machine self.old)) }
+        ensures done { GivesEffect result self.old.layout (machine self.new) (do_extended self.old.layout instr op.now end a.now (machine self.old)) }
     {
         match instr {
-            Extended::PrintUnicode => {
-                self.act_if(end, is_character(a.first), Act::PrintsUnicode(a.first))
-            }
+            Extended::PrintUnicode => self.print(end, Effect::PrintsUnicode(a.first)),
         }
     }
 
@@ -433,11 +460,11 @@ impl Engine {
         op: &Op,
         end: u32,
         a: &Args,
-    ) -> Result<Act, ZFault>
+    ) -> Result<Effect, ZFault>
         requires sound { Sound self.old }
         requires near { end ≤ 524288 }
         ensures kept { Kept self.old self.new }
-        ensures done { GivesAct result self.old.layout (machine self.new) (do_instr self.old.layout word instr op.now end a.now (machine self.old)) }
+        ensures done { GivesEffect result self.old.layout (machine self.new) (do_instr self.old.layout word instr op.now end a.now (machine self.old)) }
     {
         match instr {
             Instr::Two(instr) => self.do_two(instr, op, end, a),
@@ -450,13 +477,13 @@ impl Engine {
 
     /// One instruction; a word is the next of the dice.
     #[tactic(auto, unfolding(z_model::specs::Step::machine_step))]
-    pub fn step(&mut self, word: u16) -> Result<Act, ZFault>
+    pub fn step(&mut self, word: u16) -> Result<Effect, ZFault>
         requires { Sound self.old }
         ensures kept { Kept self.old self.new }
-        ensures stepped { GivesAct result self.old.layout (machine self.new) (machine_step self.old.layout word (machine self.old)) }
+        ensures stepped { GivesEffect result self.old.layout (machine self.new) (machine_step rows_of self.old.layout word (machine self.old)) }
     {
         let found = decode(&self.memory, self.pc as usize)?;
         let args = self.values(&found.op.operands)?;
-        self.do_instr(word, found.instr, &found.op, found.end as u32, &args)
+        self.do_instr(word, found.row.instr, &found.op, found.end as u32, &args)
     }
 }

@@ -1,15 +1,7 @@
 -- How a text is written as a string (Z-Machine Standard 1.1, sections 3.2 to 3.6, read from the text to its bytes).
 use Rattle.std.specs.Prelude.{◌≡◌, ◌<◌, ◌+◌, ◌-◌, ◌*◌, ◌/◌, ◌%◌, ℕ, List, [], ◌∷◌, ◌++◌, length, flat_map, All, Option, Some, None, Bool, true, false, ◌==◌, ◌&&◌, ◌||◌, nat_lt, IsTrue, if◌then◌else◌}
-use Rattle.z_model.specs.Zscii.{code_bytes}
+use Rattle.z_model.specs.Zscii.{code_bytes, place_of}
 use Rattle.z_model.specs.Text.{punctuation, string_at}
-
--- the first place of a value in a table, whose entries are counted from here
-unfoldable pub place_from : ℕ → ℕ → List ℕ → Option ℕ
-place_from value here [] = None
-place_from value here (entry ∷ table) = if entry == value then Some here else place_from value (here + 1) table
-
-abbrev pub place_of : ℕ → List ℕ → Option ℕ
-place_of value table = place_from value 0 table
 
 -- a code in two Z-characters behind a shift: one of A2, or the two halves of a code of ten bits
 abbrev pub sign_characters : ℕ → Option ℕ → List ℕ

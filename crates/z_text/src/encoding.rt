@@ -1,11 +1,12 @@
 // Texts, written as strings.
 ghost use Rattle.std.specs.Prelude.{◌≡◌, ◌<◌, ◌≤◌, ◌++◌, None, ℕ, List, length, flat_map, IfOk, IfSome, OnOk, if◌then◌else◌};
 ghost use Rattle.z_model.specs.Text.{punctuation};
-ghost use Rattle.z_text.specs.Encode.{code_characters, sign_characters, packed, word_bytes, string_of, place_of, AreSmall, IsTextOf, IsPrintable};
+ghost use Rattle.z_text.specs.Encode.{code_characters, sign_characters, packed, word_bytes, string_of, AreSmall, IsTextOf, IsPrintable};
+ghost use Rattle.z_model.specs.Zscii.{place_of};
 ghost use Rattle.z_text.specs.Codes.{codes_from, wide_code, ascii_code, PutsByte};
 
 use std::alloc::{AllocError, Global};
-use z_model::{EXTRA, PUNCTUATION};
+use z_model::{EXTRA, PUNCTUATION, find_place};
 
 fn ascii_code(byte: u8) -> u16
     ensures code { result ≡ ascii_code byte }
@@ -15,18 +16,6 @@ fn ascii_code(byte: u8) -> u16
         b'\n' => 13,
         _ => byte as u16,
     }
-}
-
-fn find_place(table: &[u16], value: u16) -> Option<usize>
-    ensures place { result ≡ place_of value table.now }
-    ensures within { IfSome result (λ place. place < length table.now) }
-{
-    for (place, entry) in table.iter().enumerate() {
-        if *entry == value {
-            return Some(place);
-        }
-    }
-    None
 }
 
 fn wide_code(lead: u8, byte: u8) -> u16

@@ -1,5 +1,5 @@
 use Rattle.std.proofs.Common.{rules}
-use Rattle.z_model.specs.Step.{quotient}
+use Rattle.z_model.specs.Numbers.{quotient}
 use Rattle.z_play.proofs.Signs.{fits_widened, divides, quotient_is}
 use Rattle.z_play.proofs.arith.divide.Goals as goal
 

@@ -1,5 +1,5 @@
 use Rattle.std.proofs.Common.{rules}
-use Rattle.z_model.specs.Step.{remainder}
+use Rattle.z_model.specs.Numbers.{remainder}
 use Rattle.z_play.proofs.Signs.{fits_widened, divides, remainder_is}
 use Rattle.z_play.proofs.arith.modulo.Goals as goal
 

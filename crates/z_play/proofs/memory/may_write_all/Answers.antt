@@ -1,14 +1,14 @@
 use Rattle.std.proofs.Common.{◌≡◌, ◌+◌, ◌-◌, ◌%◌, ◌<◌, ℕ, zero, suc, true, refl, sym, ◌∙◌, arith}
 use Rattle.z_model.specs.declared.story.Layout.{Layout}
-use Rattle.z_model.specs.Machine.{may_write, may_write_all}
+use Rattle.z_model.specs.Memory.{is_writable, have_right}
 use Rattle.z_play.proofs.memory.may_write_all.Goals as goal
 
-one_more : (layout : Layout) (a n : ℕ) → 0 < n → may_write layout a ≡ true → may_write_all layout a n ≡ may_write_all layout ((a + 1) % 65536) (n - 1)
-unfolding may_write_all
+one_more : (layout : Layout) (a n : ℕ) → 0 < n → is_writable layout a ≡ true → have_right (is_writable layout) a n ≡ have_right (is_writable layout) ((a + 1) % 65536) (n - 1)
+unfolding have_right
 one_more layout a zero some may = absurd (omega arith)
 one_more layout a (suc n) some may =
     let less : suc n - 1 ≡ n = omega arith in
     rw (may, less) refl
 
 pub loop-left-preserved : goal.loop-left-preserved
-loop-left-preserved c = sym (one_more c.args.layout c.loop-left.at c.loop-left.left c.loop-left-test.true (sym c.may_write.ensures ∙ c.if-not-may_write.false)) ∙ c.loop-left.invariant
+loop-left-preserved c = sym (one_more c.args.layout c.loop-left.at c.loop-left.left c.loop-left-test.true (sym c.is_writable.ensures ∙ c.if-not-is_writable.false)) ∙ c.loop-left.invariant

@@ -5,10 +5,10 @@ use Rattle.z_play.specs.Output.{seen, Wrote, Cut}
 use Rattle.z_play.proofs.Written.{wrote_both, cut_behind, cut_before, on_ok, on_err}
 use Rattle.z_model.specs.declared.fault.ZFault.{ZFault}
 use Rattle.z_model.specs.declared.end.ZEnd.TheVariants as ends
-use Rattle.z_model.specs.Closing.{line_of}
+use Rattle.z_model.specs.Closing.{end_line}
 use Rattle.z_play.proofs.player.write_broken.Goals as goal
 
-broken_line : (fault : ZFault) (at : ℕ) → (codes "[Broken: " ++ (decimal (number_of fault) ++ (codes " at " ++ (decimal at ++ codes "]\n")))) ≡ line_of (ends.Broken fault at)
+broken_line : (fault : ZFault) (at : ℕ) → (codes "[Broken: " ++ (decimal (number_of fault) ++ (codes " at " ++ (decimal at ++ codes "]\n")))) ≡ end_line (ends.Broken fault at)
 broken_line fault at = sym (append_assoc (codes "[Broken: " ++ decimal (number_of fault) ++ codes " at ") (decimal at) (codes "]\n") ∙ append_assoc (codes "[Broken: " ++ decimal (number_of fault)) (codes " at ") (decimal at ++ codes "]\n") ∙ append_assoc (codes "[Broken: ") (decimal (number_of fault)) (codes " at " ++ (decimal at ++ codes "]\n")))
 
 pub returns-in-Err-clause-err : goal.returns-in-Err-clause-err

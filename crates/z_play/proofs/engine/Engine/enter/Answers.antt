@@ -1,5 +1,5 @@
 use Rattle.std.proofs.Common.{◌≡◌, ◌∙◌, ◌+◌, ◌++◌, take, drop, length, length-set, refl, sym, arith}
-use Rattle.z_model.specs.Step.{locals_from}
+use Rattle.z_model.specs.Flow.{locals_from}
 use Rattle.z_play.specs.View.{stack_of}
 use Rattle.std.proofs.lemmas.List.{with_items_is}
 use Rattle.z_play.proofs.Entered.{too_deep, bad_call, too_many, is_entered, frames_nested}

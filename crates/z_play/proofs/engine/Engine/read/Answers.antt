@@ -1,5 +1,5 @@
 use Rattle.std.proofs.Common.{rules}
-use Rattle.z_model.specs.Step.{reads}
+use Rattle.z_model.specs.Effects.{reads}
 use Rattle.z_play.proofs.engine.Engine.read.Goals as goal
 
 pub returns-in-Some-clause-reads : goal.returns-in-Some-clause-reads

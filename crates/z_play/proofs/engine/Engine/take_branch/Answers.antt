@@ -4,7 +4,7 @@ use Rattle.std.proofs.lemmas.Int.{ints}
 use lib.IntN.{ℤ}
 use mir.Val.{to_z, of_z}
 use mir.Syntax.{w16}
-use Rattle.z_model.specs.Step.{jumped}
+use Rattle.z_model.specs.Flow.{jumped}
 use Rattle.z_model.specs.Machine.{Machine}
 use Rattle.z_model.specs.declared.fault.ZFault.{ZFault}
 use Rattle.z_play.specs.View.{machine, Sets}

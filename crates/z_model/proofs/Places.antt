@@ -1,7 +1,7 @@
 -- Places in a table.
 use Rattle.std.proofs.Common.{◌≡◌, ℕ, suc, ◌+◌, ◌-◌, ◌<◌, ◌≤◌, ◌≢◌, Bool, true, false, cond, eqb, List, [], ◌∷◌, length, get_or, drop, Some, None, refl, arith, drop-cons}
 use Rattle.std.proofs.lemmas.Bool.{eqb-true, ne_eqb, eq-eqb}
-use Rattle.z_text.specs.Encode.{place_from}
+use Rattle.z_model.specs.Zscii.{place_from}
 
 pub place_here : (value : ℕ) (table : List ℕ) (i : ℕ) → i < length table → get_or table i 0 ≡ value → place_from value i (drop i table) ≡ Some i
 unfolding place_from

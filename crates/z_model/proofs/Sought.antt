@@ -11,11 +11,12 @@ use Rattle.z_model.specs.declared.op.Operand.{Operand}
 use Rattle.z_model.specs.declared.op.Operand.TheVariants as operands
 use Rattle.z_model.specs.declared.op.Branch.{Branch}
 use Rattle.z_model.specs.declared.op.Op.{Op}
+use Rattle.z_model.specs.declared.op.Found.{Found}
 use Rattle.z_model.specs.declared.table.Row.{Row}
 use Rattle.z_model.specs.declared.op.OperandType.{OperandType}
 use Rattle.z_model.specs.declared.op.OperandType.TheVariants.{Large, Small, Variable, Omitted}
 use Rattle.z_model.specs.declared.op.OperandTypes.{OperandTypes}
-use Rattle.z_model.specs.Decode.{◌>>=◌, or_fault, byte_at, present, count_of, counted, text_at, operand_at, store_at, branch_at, body_at, short_branch, long_branch, on_true, signed_14}
+use Rattle.z_model.specs.Decode.{◌>>=◌, or_fault, byte_at, present, count_of, counted, text_at, operand_at, store_at, branch_at, body_at, found, short_branch, long_branch, on_true, signed_14}
 use Rattle.z_model.specs.Spelling.{type_if, type_of_operand, types_in, operand_bytes, store_bytes, branch_bytes, FitsType, FitsStore, FitsBranch, FitsOffset, unsigned_14, bit, Stands, AreBytes}
 
 pub bind_ok : {A B : Type 0} (r : Result A ZFault) (f : A → Result B ZFault) (y : B) → (r >>= f) ≡ Ok y → (x : A) × (r ≡ Ok x) × (f x ≡ Ok y)
@@ -198,19 +199,20 @@ stands_both bytes at at' (x ∷ xs) ys e h k = (h.0, stands_both bytes (at + 1) 
 six_long : (k1 k2 k3 k4 k5 k6 : List ℕ) (at a b c d f g : ℕ) → a ≡ at + length k1 → b ≡ a + length k2 → c ≡ b + length k3 → d ≡ c + length k4 → f ≡ d + length k5 → g ≡ f + length k6 → g ≡ at + length (k1 ++ (k2 ++ (k3 ++ (k4 ++ (k5 ++ k6)))))
 six_long k1 k2 k3 k4 k5 k6 at a b c d f g p q r t u v = simp length-append (omega arith)
 
-pub record BodyFound (bytes : List ℕ) (at : ℕ) (f : Form) (n : ℕ) (row : Row) (s : OperandTypes) (x : Op × ℕ) : Type 0 where
-  pub form : x.0.form ≡ f
-  pub number : x.0.number ≡ n
-  pub types : types_in x.0.operands ≡ s
-  pub count : counted row s ≡ Ok x.0.operands.count
-  pub first : FitsType s.first x.0.operands.first
-  pub second : FitsType s.second x.0.operands.second
-  pub third : FitsType s.third x.0.operands.third
-  pub fourth : FitsType s.fourth x.0.operands.fourth
-  pub store : FitsStore row.store x.0.store
-  pub branch : FitsBranch row.branch x.0.branch
-  pub stands : Stands bytes at (tail_of s x.0)
-  pub text : text_at bytes row.text (at + length (tail_of s x.0)) ≡ Ok (x.0.text, x.1)
+pub record BodyFound (bytes : List ℕ) (at : ℕ) (f : Form) (n : ℕ) (row : Row) (s : OperandTypes) (x : Found) : Type 0 where
+  pub row_is : x.row ≡ row
+  pub form : x.op.form ≡ f
+  pub number : x.op.number ≡ n
+  pub types : types_in x.op.operands ≡ s
+  pub count : counted row s ≡ Ok x.op.operands.count
+  pub first : FitsType s.first x.op.operands.first
+  pub second : FitsType s.second x.op.operands.second
+  pub third : FitsType s.third x.op.operands.third
+  pub fourth : FitsType s.fourth x.op.operands.fourth
+  pub store : FitsStore row.store x.op.store
+  pub branch : FitsBranch row.branch x.op.branch
+  pub stands : Stands bytes at (tail_of s x.op)
+  pub text : text_at bytes row.text (at + length (tail_of s x.op)) ≡ Ok (x.op.text, x.end)
 
 four_same : (s t : OperandTypes) → s.first ≡ t.first → s.second ≡ t.second → s.third ≡ t.third → s.fourth ≡ t.fourth → s ≡ t
 four_same s t p q r u = rebuilt t s.first s.second s.third s.fourth p q r u
@@ -218,7 +220,7 @@ four_same s t p q r u = rebuilt t s.first s.second s.third s.fourth p q r u
     rebuilt : (t : OperandTypes) (a b c d : OperandType) → a ≡ t.first → b ≡ t.second → c ≡ t.third → d ≡ t.fourth → record { first = a; second = b; third = c; fourth = d } ≡ t
     rebuilt t a b c d p q r u = rw (p, q, r, u) refl
 
-pub body_found : (bytes : List ℕ) (at : ℕ) (form : Form) (number : ℕ) (row : Row) (s : OperandTypes) (x : Op × ℕ) → AreBytes bytes → body_at bytes form number row s at ≡ Ok x → BodyFound bytes at form number row s x
+pub body_found : (bytes : List ℕ) (at : ℕ) (form : Form) (number : ℕ) (row : Row) (s : OperandTypes) (x : Found) → AreBytes bytes → body_at bytes form number row s at ≡ Ok x → BodyFound bytes at form number row s x
 unfolding body_at
 body_found bytes at form number row s x fits e =
     let n = bind_ok (counted row s) _ x e in
@@ -245,7 +247,7 @@ body_found bytes at form number row s x fits e =
     let s3 : type_if (ltb 2 n.0) c.0.0 ≡ s.third = type_back s.third c.0.0 2 n.0 (λ p. omega arith) (λ p. omega arith) rc.kind in
     let s4 : type_if (ltb 3 n.0) d.0.0 ≡ s.fourth = type_back s.fourth d.0.0 3 n.0 (λ p. omega arith) (λ p. omega arith) rd.kind in
     let op : Op = record { form = form; number = number; operands = record { count = n.0; first = a.0.0; second = b.0.0; third = c.0.0; fourth = d.0.0 }; store = f.0.0; branch = g.0.0; text = h.0.0 } in
-    let made : Op × ℕ = (op, h.0.1) in
+    let made : Found = found row op h.0.1 in
     let k6 : List ℕ = branch_bytes g.0.0 in
     let k5 : List ℕ = store_bytes f.0.0 in
     let k4 : List ℕ = operand_bytes s.fourth d.0.0 in
@@ -259,7 +261,8 @@ body_found bytes at form number row s x fits e =
     let st1 = stands_both bytes at a.0.1 k1 (k2 ++ (k3 ++ (k4 ++ (k5 ++ k6)))) ra.ends ra.stands st2 in
     let long : g.0.1 ≡ at + length (k1 ++ (k2 ++ (k3 ++ (k4 ++ (k5 ++ k6))))) = six_long k1 k2 k3 k4 k5 k6 at a.0.1 b.0.1 c.0.1 d.0.1 f.0.1 g.0.1 ra.ends rb.ends rc.ends rd.ends rf.ends rg.ends in
     let text : text_at bytes row.text (at + length (k1 ++ (k2 ++ (k3 ++ (k4 ++ (k5 ++ k6)))))) ≡ Ok (h.0.0, h.0.1) = subst (λ (p : ℕ). text_at bytes row.text p ≡ Ok (h.0.0, h.0.1)) long h.1 in
-    subst (λ (y : Op × ℕ). BodyFound bytes at form number row s y) (ok_is made x h.2) (record {
+    subst (λ (y : Found). BodyFound bytes at form number row s y) (ok_is made x h.2) (record {
+      row_is = refl;
       form = refl;
       number = refl;
       types = four_same (types_in op.operands) s s1 s2 s3 s4;

@@ -1,0 +1,27 @@
+-- What is left to do of an instruction once the outside has done its part, and that it can't fail.
+use Rattle.std.specs.Prelude.{◌≡◌, ◌+◌, ◌%◌, IsOk, true, Result, Ok, Err}
+use Rattle.z_model.specs.declared.fault.ZFault.{ZFault}
+use Rattle.z_model.specs.declared.story.Layout.{Layout}
+use Rattle.z_model.specs.declared.end.Effect.{Effect}
+use Rattle.z_model.specs.declared.end.Effect.TheVariants.{Goes, PrintsCode, PrintsUnicode, PrintsNumber, PrintsText, PrintsLine, Draws, Reads, Quits}
+use Rattle.z_model.specs.Machine.{Machine, stored_if}
+use Rattle.z_model.specs.Memory.{is_writable, have_right}
+use Rattle.z_model.specs.Flow.{returned}
+use Rattle.z_model.specs.Zscii.{is_character}
+
+-- A return and a store were tried, and a character has a number in Unicode that is printed.
+abbrev pub CanFinish : Effect → Layout → Machine → Type 0
+CanFinish Goes layout m = Unit {0}
+CanFinish (PrintsCode c) layout m = Unit {0}
+CanFinish (PrintsUnicode c) layout m = is_character c ≡ true
+CanFinish (PrintsNumber x) layout m = Unit {0}
+CanFinish (PrintsText at) layout m = Unit {0}
+CanFinish (PrintsLine at) layout m = IsOk (returned layout m 1)
+CanFinish Draws layout m = Unit {0}
+CanFinish (Reads buffer most store) layout m = (have_right (is_writable layout) ((buffer + 1) % 65536) (most + 1) ≡ true) × IsOk (stored_if layout m store 13)
+CanFinish Quits layout m = Unit {0}
+
+-- what the table gives, where a function answers with an effect and leaves the machine
+abbrev pub GivesEffect : Result Effect ZFault → Layout → Machine → Result (Effect × Machine) ZFault → Type 0
+GivesEffect (Ok effect) layout m given = (given ≡ Ok (effect, m)) × CanFinish effect layout m
+GivesEffect (Err fault) layout m given = given ≡ Err fault
