@@ -5,7 +5,7 @@ use Rattle.std.specs.Io.KnownBytes.{Keeps, Appends}
 use Rattle.std.proofs.lemmas.List.{take-append-drop, append-nil}
 use Rattle.dg_base.specs.Causes.{Rose}
 use Rattle.dg_base.specs.Streams.{RoomFalls, TakesWithinRoom}
-use Rattle.dg_base.specs.Written.{SinkView, FallsBy, IsOver, Wrote, BrokeOff}
+use Rattle.dg_base.specs.Written.{SinkView, FallsBy, IsOver, Wrote, BrokeOff, joined}
 
 -- ## What is told
 
@@ -129,3 +129,29 @@ pub put_failed : {E : Type 0} (a b c : SinkView) (bytes : List ℕ) (at : ℕ) (
 put_failed a b c bytes at e le h t r m f =
     let here : BrokeOff b c (rest_at bytes at) = record { later = m; rose = f; part = []; rest = rest_at bytes at; is = refl; taken = appends_none b.taken c.taken t; over = over_refused b.room (rest_at bytes at) e r } in
     subst (BrokeOff a c) (ap (λ l. take at bytes ++ l) (rest_is bytes at) ∙ take-append-drop at bytes) (broke_later a b c (take at bytes) (rest_at bytes at) h here)
+
+-- ## One piece of many
+
+-- a front of the pieces was written, and these are left
+pub record WroteFront (old new : SinkView) (pieces rest : List (List ℕ)) : Type 0 where
+  pub front : List ℕ
+  pub is : joined pieces ≡ front ++ joined rest
+  pub wrote : Wrote old new front
+
+pub front_starts : (a : SinkView) (pieces : List (List ℕ)) → WroteFront a a pieces pieces
+front_starts a pieces = record { front = []; is = refl; wrote = wrote_nothing a }
+
+pub front_goes : (a b c : SinkView) (pieces rest more : List (List ℕ)) (piece : List ℕ) → rest ≡ piece ∷ more → WroteFront a b pieces rest → Wrote b c piece → WroteFront a c pieces more
+front_goes a b c pieces rest more piece e w h = record {
+  front = w.front ++ piece;
+  is = w.is ∙ ap (λ l. w.front ++ joined l) e ∙ sym (append_assoc w.front piece (joined more));
+  wrote = wrote_on a b c w.front piece w.wrote h;
+}
+
+pub front_ends : (a b : SinkView) (pieces rest : List (List ℕ)) → rest ≡ [] → WroteFront a b pieces rest → Wrote a b (joined pieces)
+front_ends a b pieces rest e w = subst (Wrote a b) (sym (w.is ∙ ap (λ l. w.front ++ joined l) e ∙ append-nil w.front)) w.wrote
+
+pub front_broke : (a b c : SinkView) (pieces rest more : List (List ℕ)) (piece : List ℕ) → rest ≡ piece ∷ more → WroteFront a b pieces rest → BrokeOff b c piece → BrokeOff a c (joined pieces)
+front_broke a b c pieces rest more piece e w h =
+    let all = w.is ∙ ap (λ l. w.front ++ joined l) e in
+    subst (BrokeOff a c) (sym all) (broke_later a b c w.front (piece ++ joined more) w.wrote (broke_first b c piece (joined more) h))

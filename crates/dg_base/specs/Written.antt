@@ -1,5 +1,6 @@
 -- What a sink took of a text, whole or up to a failure.
-use Rattle.std.specs.Prelude.{ℕ, ◌+◌, ◌<◌, ◌≤◌, ◌≡◌, List, ◌++◌, length, Option, Some, None}
+use Rattle.std.specs.Prelude.{ℕ, ◌+◌, ◌<◌, ◌≤◌, ◌≡◌, List, [], ◌∷◌, ◌++◌, length, map, Option, Some, None}
+use Rattle.std.specs.Borrow.{Bor}
 use Rattle.std.specs.Io.KnownBytes.{Appends}
 use Rattle.dg_base.specs.Causes.{Rose}
 
@@ -8,9 +9,6 @@ pub record SinkView : Type 0 where
   pub taken : Option (List ℕ)
   pub room : Option ℕ
   pub faults : ℕ
-
-abbrev pub view : Option (List ℕ) → Option ℕ → ℕ → SinkView
-view taken room faults = record { taken = taken; room = room; faults = faults }
 
 -- A room that is told falls by so much.
 abbrev pub FallsBy : Option ℕ → Option ℕ → ℕ → Type 0
@@ -38,3 +36,12 @@ pub record BrokeOff (old new : SinkView) (bytes : List ℕ) : Type 0 where
   pub is : bytes ≡ part ++ rest
   pub taken : Appends old.taken new.taken part
   pub over : IsOver old.room (length bytes)
+
+-- texts one behind the other
+abbrev pub joined : List (List ℕ) → List ℕ
+joined [] = []
+joined (text ∷ others) = text ++ joined others
+
+-- what these slices hold
+abbrev pub texts : List (Bor (List ℕ)) → List (List ℕ)
+texts pieces = map (λ (p : Bor (List ℕ)). p.now) pieces

@@ -37,4 +37,4 @@ pub use sources::{ByteSource, SureSource};
 pub use sqlite_items::{Boxed, Items};
 pub use traits::{Failed, Shelf, ShelfFault, Sink, Source, StoreFault};
 pub use tree::{Arm, Body, Head, Item, ItemBody, NowChange, Part, Stmt, Tree, Value};
-pub use writing::{WriteFault, write_all, write_both};
+pub use writing::{WriteFault, write_all, write_both, write_pieces};

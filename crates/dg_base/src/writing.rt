@@ -1,6 +1,6 @@
 // Writes whole texts to a sink, which may take a piece in several puts.
 ghost use Rattle.std.specs.Prelude.{◌++◌, OnOk, OnErr};
-ghost use Rattle.dg_base.specs.Written.{view, Wrote, BrokeOff};
+ghost use Rattle.dg_base.specs.Written.{texts, joined, Wrote, BrokeOff};
 
 use crate::traits::Sink;
 use thiserror::Error;
@@ -12,8 +12,8 @@ pub struct WriteFault;
 
 /// Writes a whole text.
 pub fn write_all<K: Sink>(sink: &mut K, text: &[u8]) -> Result<(), WriteFault>
-    ensures ok { OnOk result (Wrote (view (K.taken sink.old) (K.room sink.old) (K.faults sink.old)) (view (K.taken sink.new) (K.room sink.new) (K.faults sink.new)) text.now) }
-    ensures err { OnErr result (BrokeOff (view (K.taken sink.old) (K.room sink.old) (K.faults sink.old)) (view (K.taken sink.new) (K.room sink.new) (K.faults sink.new)) text.now) }
+    ensures ok { OnOk result (Wrote (K.view sink.old) (K.view sink.new) text.now) }
+    ensures err { OnErr result (BrokeOff (K.view sink.old) (K.view sink.new) text.now) }
 {
     let mut at = 0;
     while at < text.len() {
@@ -25,18 +25,24 @@ pub fn write_all<K: Sink>(sink: &mut K, text: &[u8]) -> Result<(), WriteFault>
     Ok(())
 }
 
-/// Writes two texts, one behind the other.
-#[tactic(auto, using(crate::proofs::WrittenLemmas::wrote_on, crate::proofs::WrittenLemmas::broke_first))]
-pub fn write_both<K: Sink>(sink: &mut K, first: &[u8], second: &[u8]) -> Result<(), WriteFault>
-    ensures ok { OnOk result (Wrote (view (K.taken sink.old) (K.room sink.old) (K.faults sink.old)) (view (K.taken sink.new) (K.room sink.new) (K.faults sink.new)) (first.now ++ second.now)) }
-    ensures err { OnErr result (BrokeOff (view (K.taken sink.old) (K.room sink.old) (K.faults sink.old)) (view (K.taken sink.new) (K.room sink.new) (K.faults sink.new)) (first.now ++ second.now)) }
+/// Writes texts, one behind the other.
+pub fn write_pieces<K: Sink>(sink: &mut K, pieces: &[&[u8]]) -> Result<(), WriteFault>
+    ensures ok { OnOk result (Wrote (K.view sink.old) (K.view sink.new) (joined (texts pieces.now))) }
+    ensures err { OnErr result (BrokeOff (K.view sink.old) (K.view sink.new) (joined (texts pieces.now))) }
 {
-    match write_all(sink, first) {
-        Ok(()) => {}
-        Err(fault) => return Err(fault),
+    for piece in pieces {
+        match write_all(sink, piece) {
+            Ok(()) => {}
+            Err(fault) => return Err(fault),
+        }
     }
-    match write_all(sink, second) {
-        Ok(()) => Ok(()),
-        Err(fault) => Err(fault),
-    }
+    Ok(())
+}
+
+/// Writes two texts, one behind the other.
+pub fn write_both<K: Sink>(sink: &mut K, first: &[u8], second: &[u8]) -> Result<(), WriteFault>
+    ensures ok { OnOk result (Wrote (K.view sink.old) (K.view sink.new) (first.now ++ second.now)) }
+    ensures err { OnErr result (BrokeOff (K.view sink.old) (K.view sink.new) (first.now ++ second.now)) }
+{
+    write_pieces(sink, &[first, second])
 }

@@ -15,7 +15,6 @@ ghost use Rattle.dg_meaning.specs.Closures.{HasNoClosure};
 ghost use Rattle.dg_interp.specs.Rules.{EntersRule, RuleFull, ArgsWritten};
 ghost use Rattle.dg_interp.specs.Terms.{Overflows};
 ghost use Rattle.dg_interp.specs.Printing.{Printed};
-ghost use Rattle.dg_base.specs.Written.{view};
 ghost use Rattle.dg_unify.specs.Store.{Saved, Kept, Holds, Charged};
 
 mod control;
@@ -629,7 +628,7 @@ impl<'p> Engine<'p> {
         value: Ref,
     ) -> Result<(), WriteFault>
         requires { Holds (store_in self.now.store) value }
-        ensures { Printed (pieces_at self.now value) spacer.old spacer.new (view (K.taken sink.old) (K.room sink.old) (K.faults sink.old)) (view (K.taken sink.new) (K.room sink.new) (K.faults sink.new)) result }
+        ensures { Printed (pieces_at self.now value) spacer.old spacer.new (K.view sink.old) (K.view sink.new) result }
     {
         print_value(&self.store, self.program, spacer, sink, value)
     }

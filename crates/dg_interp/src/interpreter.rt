@@ -4,7 +4,6 @@ ghost use Rattle.dg_base.specs.Causes.{Rose};
 ghost use Rattle.dg_meaning.specs.Transcript.{line_of};
 ghost use Rattle.dg_meaning.specs.Built.{IsBuilt};
 ghost use Rattle.dg_meaning.specs.Shows.{IsLeft};
-ghost use Rattle.dg_base.specs.Written.{view};
 ghost use Rattle.dg_interp.specs.Engine.{Starts};
 ghost use Rattle.dg_interp.specs.Interpret.{game, ForTyped, HasShown, HasBrokenOff};
 
@@ -38,8 +37,8 @@ fn write_run<K: Sink>(
     sink: &mut K,
 ) -> Result<Outcome, RunFault>
     requires starts { Starts program.now limits.now.steps limits.now.heap limits.now.trail engine.old }
-    ensures shows { IfOk result (λ outcome. (dice : List ℕ) (typed : List ℕ) (told : Option (List ℕ)) → IsLeft told typed → HasShown (game program.now dice) typed limits.now outcome told (view (K.taken sink.old) (K.room sink.old) (K.faults sink.old)) (view (K.taken sink.new) (K.room sink.new) (K.faults sink.new))) }
-    ensures err { IfErr result (λ fault. (dice : List ℕ) (typed : List ℕ) (told : Option (List ℕ)) → IsLeft told typed → HasBrokenOff fault (game program.now dice) typed limits.now told (view (K.taken sink.old) (K.room sink.old) (K.faults sink.old)) (view (K.taken sink.new) (K.room sink.new) (K.faults sink.new))) }
+    ensures shows { IfOk result (λ outcome. (dice : List ℕ) (typed : List ℕ) (told : Option (List ℕ)) → IsLeft told typed → HasShown (game program.now dice) typed limits.now outcome told (K.view sink.old) (K.view sink.new)) }
+    ensures err { IfErr result (λ fault. (dice : List ℕ) (typed : List ℕ) (told : Option (List ℕ)) → IsLeft told typed → HasBrokenOff fault (game program.now dice) typed limits.now told (K.view sink.old) (K.view sink.new)) }
     ensures reads { IsErrOf result RunFault.Read → ⊥ }
 {
     let mut spacer = Spacer::new();
@@ -71,10 +70,10 @@ pub fn interpret<S: Source, K: Sink>(
 ) -> Result<Outcome, RunFault>
     requires dice { 0 < length dice.now }
     requires built { IsBuilt program.now }
-    ensures shows { IfOk result (λ outcome. ForTyped (S.left source.old) (λ typed. HasShown (game program.now dice.now) typed limits.now outcome (S.left source.new) (view (K.taken sink.old) (K.room sink.old) (K.faults sink.old)) (view (K.taken sink.new) (K.room sink.new) (K.faults sink.new)))) }
-    ensures err { IfErr result (λ fault. ForTyped (S.left source.old) (λ typed. HasBrokenOff fault (game program.now dice.now) typed limits.now (S.left source.new) (view (K.taken sink.old) (K.room sink.old) (K.faults sink.old)) (view (K.taken sink.new) (K.room sink.new) (K.faults sink.new)))) }
-    ensures read { IsErrOf result RunFault.Read → Rose (S.faults source.old) (S.faults source.new) }
-    ensures later { S.faults source.old ≤ S.faults source.new }
+    ensures shows { IfOk result (λ outcome. ForTyped (S.view source.old).left (λ typed. HasShown (game program.now dice.now) typed limits.now outcome (S.view source.new).left (K.view sink.old) (K.view sink.new))) }
+    ensures err { IfErr result (λ fault. ForTyped (S.view source.old).left (λ typed. HasBrokenOff fault (game program.now dice.now) typed limits.now (S.view source.new).left (K.view sink.old) (K.view sink.new))) }
+    ensures read { IsErrOf result RunFault.Read → Rose (S.view source.old).faults (S.view source.new).faults }
+    ensures later { (S.view source.old).faults ≤ (S.view source.new).faults }
 {
     let entry = [Goal::Ask(program.entry, Items::new(alloc), false)];
     let mut engine = Engine::new(

@@ -1,7 +1,6 @@
 // Printed values.
 
 ghost use Rattle.std.specs.Prelude.{◌≡◌, ◌≤◌, ◌+◌, ◌∷◌, [], ◌++◌, ℕ, List, length, take, get_or, codes};
-ghost use Rattle.dg_base.specs.Written.{view};
 ghost use Rattle.dg_meaning.specs.Values.{Value};
 ghost use Rattle.dg_meaning.specs.Pieces.{shown_letter, word_text, pieces, label_piece, first_piece};
 ghost use Rattle.dg_meaning.specs.Substitutions.{resolved};
@@ -15,7 +14,7 @@ use itoa::Buffer;
 
 // One piece.
 fn print_piece<K: Sink>(spacer: &mut Spacer, sink: &mut K, piece: &[u8]) -> Result<(), WriteFault>
-    ensures { Printed (piece.now ∷ []) spacer.old spacer.new (view (K.taken sink.old) (K.room sink.old) (K.faults sink.old)) (view (K.taken sink.new) (K.room sink.new) (K.faults sink.new)) result }
+    ensures { Printed (piece.now ∷ []) spacer.old spacer.new (K.view sink.old) (K.view sink.new) result }
 {
     spacer.piece(sink, piece)
 }
@@ -32,7 +31,7 @@ fn name_at(names: &[Name], at: u16) -> &[u8]
 
 // The name of an object.
 fn print_object<K: Sink>(spacer: &mut Spacer, sink: &mut K, name: &[u8]) -> Result<(), WriteFault>
-    ensures { Printed ((codes "#" ++ name.now) ∷ []) spacer.old spacer.new (view (K.taken sink.old) (K.room sink.old) (K.faults sink.old)) (view (K.taken sink.new) (K.room sink.new) (K.faults sink.new)) result }
+    ensures { Printed ((codes "#" ++ name.now) ∷ []) spacer.old spacer.new (K.view sink.old) (K.view sink.new) result }
 {
     spacer.object(sink, name)
 }
@@ -44,7 +43,7 @@ fn print_simple<K: Sink>(
     sink: &mut K,
     value: Simple,
 ) -> Result<(), WriteFault>
-    ensures { Printed (label_piece program.now (label_of value) ∷ []) spacer.old spacer.new (view (K.taken sink.old) (K.room sink.old) (K.faults sink.old)) (view (K.taken sink.new) (K.room sink.new) (K.faults sink.new)) result }
+    ensures { Printed (label_piece program.now (label_of value) ∷ []) spacer.old spacer.new (K.view sink.old) (K.view sink.new) result }
 {
     match value {
         Simple::Num(n) => {
@@ -98,7 +97,7 @@ fn print_unknown<B: Bindings, K: Sink>(
     word: Ref,
 ) -> Result<(), WriteFault>
     requires { (spelling : List ℕ) × IsUnknownAt (B.meaning store.now) word spelling }
-    ensures { (spelling : List ℕ) → IsUnknownAt (B.meaning store.now) word spelling → Printed (word_text spelling ∷ []) spacer.old spacer.new (view (K.taken sink.old) (K.room sink.old) (K.faults sink.old)) (view (K.taken sink.new) (K.room sink.new) (K.faults sink.new)) result }
+    ensures { (spelling : List ℕ) → IsUnknownAt (B.meaning store.now) word spelling → Printed (word_text spelling ∷ []) spacer.old spacer.new (K.view sink.old) (K.view sink.new) result }
 {
     let mut buffer = [0; 800];
     let len = text_into(store, word, &mut buffer);
@@ -114,7 +113,7 @@ fn print_first<B: Bindings, K: Sink>(
     value: View,
 ) -> Result<(), WriteFault>
     requires { (w : Value) × Shows (B.meaning store.now) w value }
-    ensures { (w : Value) → Shows (B.meaning store.now) w value → Printed (first_piece program.now w ∷ []) spacer.old spacer.new (view (K.taken sink.old) (K.room sink.old) (K.faults sink.old)) (view (K.taken sink.new) (K.room sink.new) (K.faults sink.new)) result }
+    ensures { (w : Value) → Shows (B.meaning store.now) w value → Printed (first_piece program.now w ∷ []) spacer.old spacer.new (K.view sink.old) (K.view sink.new) result }
 {
     match value {
         View::Unbound(_) => print_piece(spacer, sink, b"$"),
@@ -137,7 +136,7 @@ fn is_nil(value: View) -> bool
 
 // The empty list.
 fn print_nil<K: Sink>(spacer: &mut Spacer, sink: &mut K) -> Result<(), WriteFault>
-    ensures { Printed (codes "[" ∷ codes "]" ∷ []) spacer.old spacer.new (view (K.taken sink.old) (K.room sink.old) (K.faults sink.old)) (view (K.taken sink.new) (K.room sink.new) (K.faults sink.new)) result }
+    ensures { Printed (codes "[" ∷ codes "]" ∷ []) spacer.old spacer.new (K.view sink.old) (K.view sink.new) result }
 {
     match print_piece(spacer, sink, b"[") {
         Err(fault) => Err(fault),
@@ -154,7 +153,7 @@ fn print_single<B: Bindings, K: Sink>(
     value: View,
 ) -> Result<(), WriteFault>
     requires { (w : Value) × Shows (B.meaning store.now) w value }
-    ensures { (w : Value) → Shows (B.meaning store.now) w value → Printed (single_pieces program.now w) spacer.old spacer.new (view (K.taken sink.old) (K.room sink.old) (K.faults sink.old)) (view (K.taken sink.new) (K.room sink.new) (K.faults sink.new)) result }
+    ensures { (w : Value) → Shows (B.meaning store.now) w value → Printed (single_pieces program.now w) spacer.old spacer.new (K.view sink.old) (K.view sink.new) result }
 {
     if is_nil(value) {
         return print_nil(spacer, sink);
@@ -171,7 +170,7 @@ fn print_tail<B: Bindings, K: Sink>(
     tail: View,
 ) -> Result<(), WriteFault>
     requires { (w : Value) × Shows (B.meaning store.now) w tail }
-    ensures { (w : Value) → Shows (B.meaning store.now) w tail → Printed (codes "|" ∷ first_piece program.now w ∷ codes "]" ∷ []) spacer.old spacer.new (view (K.taken sink.old) (K.room sink.old) (K.faults sink.old)) (view (K.taken sink.new) (K.room sink.new) (K.faults sink.new)) result }
+    ensures { (w : Value) → Shows (B.meaning store.now) w tail → Printed (codes "|" ∷ first_piece program.now w ∷ codes "]" ∷ []) spacer.old spacer.new (K.view sink.old) (K.view sink.new) result }
 {
     match print_piece(spacer, sink, b"|") {
         Err(fault) => Err(fault),
@@ -191,7 +190,7 @@ fn print_end<B: Bindings, K: Sink>(
     tail: View,
 ) -> Result<(), WriteFault>
     requires { (w : Value) × Shows (B.meaning store.now) w tail }
-    ensures { (w : Value) → Shows (B.meaning store.now) w tail → Printed (end_pieces program.now w) spacer.old spacer.new (view (K.taken sink.old) (K.room sink.old) (K.faults sink.old)) (view (K.taken sink.new) (K.room sink.new) (K.faults sink.new)) result }
+    ensures { (w : Value) → Shows (B.meaning store.now) w tail → Printed (end_pieces program.now w) spacer.old spacer.new (K.view sink.old) (K.view sink.new) result }
 {
     if is_nil(tail) {
         return print_piece(spacer, sink, b"]");
@@ -211,7 +210,7 @@ fn print_list<B: Bindings, K: Sink>(
 ) -> Result<(), WriteFault>
     requires head_in { Holds (B.meaning store.now) head }
     requires tail_in { Holds (B.meaning store.now) tail }
-    ensures { PrintsList (B.meaning store.now) program.now head tail spacer.old spacer.new (view (K.taken sink.old) (K.room sink.old) (K.faults sink.old)) (view (K.taken sink.new) (K.room sink.new) (K.faults sink.new)) result }
+    ensures { PrintsList (B.meaning store.now) program.now head tail spacer.old spacer.new (K.view sink.old) (K.view sink.new) result }
 {
     let mut head = head;
     let mut tail = tail;
@@ -239,7 +238,7 @@ pub fn print_value<B: Bindings, K: Sink>(
     value: Ref,
 ) -> Result<(), WriteFault>
     requires { Holds (B.meaning store.now) value }
-    ensures { Printed (pieces program.now (resolved (B.meaning store.now).state.subst (told (B.meaning store.now) value))) spacer.old spacer.new (view (K.taken sink.old) (K.room sink.old) (K.faults sink.old)) (view (K.taken sink.new) (K.room sink.new) (K.faults sink.new)) result }
+    ensures { Printed (pieces program.now (resolved (B.meaning store.now).state.subst (told (B.meaning store.now) value))) spacer.old spacer.new (K.view sink.old) (K.view sink.new) result }
 {
     match store.walk(value) {
         View::Pair(head, tail) => match print_piece(spacer, sink, b"[") {

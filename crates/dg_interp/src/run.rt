@@ -1,6 +1,5 @@
 // Goals, one after another.
 ghost use Rattle.std.specs.Prelude.{◌≡◌, ◌<◌, IfOk, IfErr, length, Option, Some, None};
-ghost use Rattle.dg_base.specs.Written.{view};
 ghost use Rattle.dg_interp.specs.Engine.{IsReady};
 ghost use Rattle.dg_interp.specs.Running.{Reaches, IsBroken, Ended, DoesGoal, Does, limit_of, outcome_of};
 
@@ -44,8 +43,8 @@ fn do_goal<K: Sink>(
     requires ready { IsReady engine.old }
     requires goal { 0 < length engine.old.here.goals.now }
     requires left { 0 < engine.old.left }
-    ensures ok { IfOk result (λ ending. DoesGoal ending engine.old engine.new spacer.old spacer.new (view (K.taken sink.old) (K.room sink.old) (K.faults sink.old)) (view (K.taken sink.new) (K.room sink.new) (K.faults sink.new))) }
-    ensures err { IfErr result (λ fault. Reaches engine.old spacer.old (view (K.taken sink.old) (K.room sink.old) (K.faults sink.old)) (IsBroken fault spacer.new (view (K.taken sink.new) (K.room sink.new) (K.faults sink.new)))) }
+    ensures ok { IfOk result (λ ending. DoesGoal ending engine.old engine.new spacer.old spacer.new (K.view sink.old) (K.view sink.new)) }
+    ensures err { IfErr result (λ fault. Reaches engine.old spacer.old (K.view sink.old) (IsBroken fault spacer.new (K.view sink.new))) }
 {
     let again = engine.at_hand();
     match engine.take_goal() {
@@ -97,8 +96,8 @@ fn turn<K: Sink>(
     requires ready { IsReady engine.old }
     requires goal { 0 < length engine.old.here.goals.now }
     requires left { 0 < engine.old.left }
-    ensures ok { IfOk result (λ ending. Does ending engine.old engine.new spacer.old spacer.new (view (K.taken sink.old) (K.room sink.old) (K.faults sink.old)) (view (K.taken sink.new) (K.room sink.new) (K.faults sink.new))) }
-    ensures err { IfErr result (λ fault. Reaches engine.old spacer.old (view (K.taken sink.old) (K.room sink.old) (K.faults sink.old)) (IsBroken fault spacer.new (view (K.taken sink.new) (K.room sink.new) (K.faults sink.new)))) }
+    ensures ok { IfOk result (λ ending. Does ending engine.old engine.new spacer.old spacer.new (K.view sink.old) (K.view sink.new)) }
+    ensures err { IfErr result (λ fault. Reaches engine.old spacer.old (K.view sink.old) (IsBroken fault spacer.new (K.view sink.new))) }
 {
     match do_goal(engine, spacer, sink) {
         Err(fault) => Err(fault),
@@ -121,8 +120,8 @@ pub fn run<K: Sink>(
 ) -> Result<Ending, RunFault>
     requires ready { IsReady engine.old }
     requires goal { 0 < length engine.old.here.goals.now }
-    ensures ok { IfOk result (λ ending. Ended ending engine.new.left engine.old spacer.old spacer.new (view (K.taken sink.old) (K.room sink.old) (K.faults sink.old)) (view (K.taken sink.new) (K.room sink.new) (K.faults sink.new))) }
-    ensures err { IfErr result (λ fault. Reaches engine.old spacer.old (view (K.taken sink.old) (K.room sink.old) (K.faults sink.old)) (IsBroken fault spacer.new (view (K.taken sink.new) (K.room sink.new) (K.faults sink.new)))) }
+    ensures ok { IfOk result (λ ending. Ended ending engine.new.left engine.old spacer.old spacer.new (K.view sink.old) (K.view sink.new)) }
+    ensures err { IfErr result (λ fault. Reaches engine.old spacer.old (K.view sink.old) (IsBroken fault spacer.new (K.view sink.new))) }
 {
     'goals: while engine.left > 0 {
         match turn(engine, spacer, sink) {

@@ -3,7 +3,7 @@ ghost use Rattle.std.specs.Prelude.{◌≡◌, ◌+◌, ◌++◌, List, [], Some
 ghost use Rattle.dg_meaning.specs.World.{Print, Piece as PieceOf};
 ghost use Rattle.dg_meaning.specs.Render.{opens as is_opening, closes as is_closing, separator, first_of, last_of};
 ghost use Rattle.dg_meaning.specs.Transcript.{newline_behind};
-ghost use Rattle.dg_base.specs.Written.{view, Wrote, BrokeOff};
+ghost use Rattle.dg_base.specs.Written.{Wrote, BrokeOff};
 ghost use Rattle.dg_interp.specs.Spacer.{StandsFor, Added, growth, ending_line};
 
 use dg_base::{Sink, WriteFault, write_all, write_both};
@@ -82,8 +82,8 @@ impl Spacer {
 
     /// Writes a piece, with what separates it from the text before.
     pub fn piece<K: Sink>(&mut self, sink: &mut K, piece: &[u8]) -> Result<(), WriteFault>
-        ensures ok { OnOk result ((es : List Print) → StandsFor self.old es → Added (PieceOf piece.now) es (view (K.taken sink.old) (K.room sink.old) (K.faults sink.old)) (view (K.taken sink.new) (K.room sink.new) (K.faults sink.new)) self.new) }
-        ensures err { OnErr result ((es : List Print) → StandsFor self.old es → BrokeOff (view (K.taken sink.old) (K.room sink.old) (K.faults sink.old)) (view (K.taken sink.new) (K.room sink.new) (K.faults sink.new)) (growth es (PieceOf piece.now))) }
+        ensures ok { OnOk result ((es : List Print) → StandsFor self.old es → Added (PieceOf piece.now) es (K.view sink.old) (K.view sink.new) self.new) }
+        ensures err { OnErr result ((es : List Print) → StandsFor self.old es → BrokeOff (K.view sink.old) (K.view sink.new) (growth es (PieceOf piece.now))) }
     {
         if let Err(_) = write_all(sink, separator_of(self.last, first_of_piece(piece))) {
             return Err(WriteFault);
@@ -97,8 +97,8 @@ impl Spacer {
 
     /// Writes the name of an object as a piece, with a `#` before it.
     pub fn object<K: Sink>(&mut self, sink: &mut K, name: &[u8]) -> Result<(), WriteFault>
-        ensures ok { OnOk result ((es : List Print) → StandsFor self.old es → Added (PieceOf (codes "#" ++ name.now)) es (view (K.taken sink.old) (K.room sink.old) (K.faults sink.old)) (view (K.taken sink.new) (K.room sink.new) (K.faults sink.new)) self.new) }
-        ensures err { OnErr result ((es : List Print) → StandsFor self.old es → BrokeOff (view (K.taken sink.old) (K.room sink.old) (K.faults sink.old)) (view (K.taken sink.new) (K.room sink.new) (K.faults sink.new)) (growth es (PieceOf (codes "#" ++ name.now)))) }
+        ensures ok { OnOk result ((es : List Print) → StandsFor self.old es → Added (PieceOf (codes "#" ++ name.now)) es (K.view sink.old) (K.view sink.new) self.new) }
+        ensures err { OnErr result ((es : List Print) → StandsFor self.old es → BrokeOff (K.view sink.old) (K.view sink.new) (growth es (PieceOf (codes "#" ++ name.now)))) }
     {
         if let Err(_) = write_all(sink, separator_of(self.last, b'#')) {
             return Err(WriteFault);
@@ -112,8 +112,8 @@ impl Spacer {
 
     /// Writes a newline where a piece was printed, and then a line.
     pub fn close<K: Sink>(&mut self, sink: &mut K, line: &[u8]) -> Result<(), WriteFault>
-        ensures ok { OnOk result ((es : List Print) → StandsFor self.old es → Wrote (view (K.taken sink.old) (K.room sink.old) (K.faults sink.old)) (view (K.taken sink.new) (K.room sink.new) (K.faults sink.new)) (ending_line es line.now)) }
-        ensures err { OnErr result ((es : List Print) → StandsFor self.old es → BrokeOff (view (K.taken sink.old) (K.room sink.old) (K.faults sink.old)) (view (K.taken sink.new) (K.room sink.new) (K.faults sink.new)) (ending_line es line.now)) }
+        ensures ok { OnOk result ((es : List Print) → StandsFor self.old es → Wrote (K.view sink.old) (K.view sink.new) (ending_line es line.now)) }
+        ensures err { OnErr result ((es : List Print) → StandsFor self.old es → BrokeOff (K.view sink.old) (K.view sink.new) (ending_line es line.now)) }
     {
         if let Err(_) = write_all(sink, newline(self.last)) {
             return Err(WriteFault);

@@ -1,6 +1,7 @@
 -- From the answers of a player on a loaded story to those on its file.
-use Rattle.std.proofs.Common.{◌≡◌, ◌≤◌, ◌+◌, ◌⊎◌, inl, inr, ℕ, List, Option, Some, None, Ok, Err, refl, ◌∙◌, ap, subst}
+use Rattle.std.proofs.Common.{◌≡◌, ◌+◌, ◌⊎◌, inl, inr, ℕ, List, Option, Some, None, Ok, Err, refl, ◌∙◌, ap, subst}
 use Rattle.dg_base.specs.Causes.{Rose}
+use Rattle.dg_base.specs.Streams.{SourceView}
 use Rattle.dg_base.specs.Written as base
 use Rattle.dg_base.specs.declared.run.Fault.{Fault}
 use Rattle.dg_base.specs.declared.run.Fault.TheVariants.{Read, Write}
@@ -10,24 +11,15 @@ use Rattle.z_model.specs.Closing.{played_text, with_end_line, unread_line}
 use Rattle.dg_meaning.specs.Transcript.{no_memory_line}
 use Rattle.z_model.specs.declared.story.StoryRefusal.{StoryRefusal}
 use Rattle.z_model.specs.Story.{refusal_of, story_run, given_of, start_state}
-use Rattle.z_play.specs.Output as player
 use Rattle.z_play.specs.Played.{Plays, Played, StoppedAt, InputFailed, OutputFailed, HasCauses}
 use Rattle.z_play.specs.Ready.{IsLoaded}
 use Rattle.z_play.proofs.Lines.{print_cut}
-use Rattle.z_play.proofs.Written.{cut_whole}
+use Rattle.z_play.proofs.Written.{broke_whole}
 use Rattle.dialog_tool.specs.Answers.{Comes}
 use Rattle.dialog_tool.specs.Playing
 use Rattle.dialog_tool.proofs.Never.{not_some}
 use Rattle.dialog_tool.proofs.StatusLemmas.{late_isnt, late_neither, four_comes, four_isnt, four_neither, played_isnt}
 use Rattle.dialog_tool.proofs.StoryLemmas.{late_play}
-
--- ---- what a sink took
-
-wrote : (t t' : Option (List ℕ)) (r r' : Option ℕ) (f f' : ℕ) (text : List ℕ) → f ≤ f' → player.Wrote (player.seen t r) (player.seen t' r') text → base.Wrote (base.view t r f) (base.view t' r' f') text
-wrote t t' r r' f f' text later h = record { taken = h.taken; room = h.room; later = later }
-
-broke : (t t' : Option (List ℕ)) (r r' : Option ℕ) (f f' : ℕ) (text : List ℕ) → f ≤ f' → Rose f f' → player.Cut (player.seen t r) (player.seen t' r') text → base.BrokeOff (base.view t r f) (base.view t' r' f') text
-broke t t' r r' f f' text later rose h = record { later = later; rose = rose; part = h.front; rest = h.rest; is = h.is; taken = h.taken; over = h.room }
 
 -- ---- runs of a loaded story
 
@@ -53,87 +45,87 @@ same_stop file story h typed dice n m rest s =
 -- ---- answers
 
 -- the run ended
-pub ended : (name : List ℕ) (steps : ℕ) (dice file story typed : List ℕ) (end : ZEnd) (left' t t' : Option (List ℕ)) (r r' : Option ℕ) (f f' : ℕ) → IsLoaded file story → f ≤ f'
-    → Played (zrun (given_of story dice) steps (start_state story typed)) end left' (player.seen t r) (player.seen t' r')
-    → Playing.HasPlayed (Playing.status_of_end end) left' (base.view t r f) (base.view t' r' f') (Playing.run_of (Playing.as_played name steps dice file) typed steps)
-ended name steps dice file story typed end left' t t' r r' f f' h later s =
+pub ended : (name : List ℕ) (steps : ℕ) (dice file story typed : List ℕ) (end : ZEnd) (left' : Option (List ℕ)) (old new : base.SinkView) → IsLoaded file story
+    → Played (zrun (given_of story dice) steps (start_state story typed)) end left' old new
+    → Playing.HasPlayed (Playing.status_of_end end) left' old new (Playing.run_of (Playing.as_played name steps dice file) typed steps)
+ended name steps dice file story typed end left' old new h s =
     let same = same_run file story h typed dice steps in
     record {
       is_status = ap Playing.status_of_end (s.ends ∙ ap (λ (x : ZRun). x.end) same);
       left_is = s.left_is ∙ ap (λ (x : ZRun). Some x.state.typed) same;
-      wrote = wrote t t' r r' f f' _ later (subst (λ (x : ZRun). player.Wrote (player.seen t r) (player.seen t' r') (played_text x)) same s.wrote);
+      wrote = subst (λ (x : ZRun). base.Wrote old new (played_text x)) same s.wrote;
     }
 
 -- the input failed
-pub cut_off : (name : List ℕ) (steps : ℕ) (dice file story typed : List ℕ) (left' t t' : Option (List ℕ)) (r r' : Option ℕ) (f f' : ℕ) → IsLoaded file story → f ≤ f'
-    → InputFailed (given_of story dice) (start_state story typed) steps left' (player.seen t r) (player.seen t' r')
-    → Playing.HasCutOff left' (base.view t r f) (base.view t' r' f') (Playing.as_played name steps dice file) typed
-cut_off name steps dice file story typed left' t t' r r' f f' h later s =
+pub cut_off : (name : List ℕ) (steps : ℕ) (dice file story typed : List ℕ) (left' : Option (List ℕ)) (old new : base.SinkView) → IsLoaded file story
+    → InputFailed (given_of story dice) (start_state story typed) steps left' old new
+    → Playing.HasCutOff left' old new (Playing.as_played name steps dice file) typed
+cut_off name steps dice file story typed left' old new h s =
     let same = same_run file story h typed dice s.m in
     record {
       m = s.m;
       rest = s.rest;
       left_is = s.left_is;
       stopped = same_stop file story h typed dice steps s.m s.rest s.stopped;
-      wrote = wrote t t' r r' f f' _ later (subst (λ (x : ZRun). player.Wrote (player.seen t r) (player.seen t' r') (with_end_line x.state.output unread_line)) same s.wrote);
+      wrote = subst (λ (x : ZRun). base.Wrote old new (with_end_line x.state.output unread_line)) same s.wrote;
     }
 
 -- out failed in what is written of the whole run
-lost_whole : (name : List ℕ) (steps : ℕ) (dice file story typed : List ℕ) (t t' : Option (List ℕ)) (r r' : Option ℕ) (f f' : ℕ) → IsLoaded file story → f ≤ f' → Rose f f'
-    → player.Cut (player.seen t r) (player.seen t' r') (played_text (zrun (given_of story dice) steps (start_state story typed)))
-    → Playing.LosesRun (base.view t r f) (base.view t' r' f') (Playing.as_played name steps dice file) typed
-lost_whole name steps dice file story typed t t' r r' f f' h later rose s =
+lost_whole : (name : List ℕ) (steps : ℕ) (dice file story typed : List ℕ) (old new : base.SinkView) → IsLoaded file story
+    → base.BrokeOff old new (played_text (zrun (given_of story dice) steps (start_state story typed)))
+    → Playing.LosesRun old new (Playing.as_played name steps dice file) typed
+lost_whole name steps dice file story typed old new h s =
     let same = same_run file story h typed dice steps in
     record {
       text = played_text (story_run file typed dice steps);
       allowed = Playing.whole refl;
-      broke = broke t t' r r' f f' _ later rose (subst (λ (x : ZRun). player.Cut (player.seen t r) (player.seen t' r') (played_text x)) same s);
+      broke = subst (λ (x : ZRun). base.BrokeOff old new (played_text x)) same s;
     }
 
 -- out failed
-pub lost_run : (name : List ℕ) (steps : ℕ) (dice file story typed : List ℕ) (left' t t' : Option (List ℕ)) (r r' : Option ℕ) (f f' : ℕ) → IsLoaded file story → f ≤ f' → Rose f f'
-    → OutputFailed (given_of story dice) (start_state story typed) steps left' (player.seen t r) (player.seen t' r')
-    → Playing.LosesRun (base.view t r f) (base.view t' r' f') (Playing.as_played name steps dice file) typed
-lost_run name steps dice file story typed left' t t' r r' f f' h later rose (inl s) =
-    lost_whole name steps dice file story typed t t' r r' f f' h later rose (print_cut (given_of story dice) (start_state story typed) steps left' (player.seen t r) (player.seen t' r') s)
-lost_run name steps dice file story typed left' t t' r r' f f' h later rose (inr (inl s)) =
-    lost_whole name steps dice file story typed t t' r r' f f' h later rose (cut_whole (player.seen t r) (player.seen t' r') _ _ s.cut)
-lost_run name steps dice file story typed left' t t' r r' f f' h later rose (inr (inr s)) =
+pub lost_run : (name : List ℕ) (steps : ℕ) (dice file story typed : List ℕ) (left' : Option (List ℕ)) (old new : base.SinkView) → IsLoaded file story
+    → OutputFailed (given_of story dice) (start_state story typed) steps left' old new
+    → Playing.LosesRun old new (Playing.as_played name steps dice file) typed
+lost_run name steps dice file story typed left' old new h (inl s) =
+    lost_whole name steps dice file story typed old new h (print_cut (given_of story dice) (start_state story typed) steps left' old new s)
+lost_run name steps dice file story typed left' old new h (inr (inl s)) =
+    lost_whole name steps dice file story typed old new h (broke_whole old new _ _ s.cut)
+lost_run name steps dice file story typed left' old new h (inr (inr s)) =
     let same = same_run file story h typed dice s.m in
     record {
       text = with_end_line (story_run file typed dice s.m).state.output unread_line;
       allowed = Playing.cut_off s.m s.rest (same_stop file story h typed dice steps s.m s.rest s.stopped) refl;
-      broke = broke t t' r r' f f' _ later rose (subst (λ (x : ZRun). player.Cut (player.seen t r) (player.seen t' r') (with_end_line x.state.output unread_line)) same (cut_whole (player.seen t r) (player.seen t' r') _ _ s.cut));
+      broke = subst (λ (x : ZRun). base.BrokeOff old new (with_end_line x.state.output unread_line)) same (broke_whole old new _ _ s.cut);
     }
 
 -- ---- from a player's call to the answers on its file
 
-pub run_ended : (name : List ℕ) (steps : ℕ) (dice file story : List ℕ) (end : ZEnd) (left left' t t' : Option (List ℕ)) (r r' : Option ℕ) (f f' : ℕ) → IsLoaded file story → f ≤ f'
-    → ((typed : List ℕ) → left ≡ Some typed → Plays (Ok end) (given_of story dice) (start_state story typed) steps left' (player.seen t r) (player.seen t' r'))
-    → Playing.IsPlayed (Playing.status_of_end end) left left' (base.view t r f) (base.view t' r' f') (Playing.as_played name steps dice file)
-run_ended name steps dice file story end None left' t t' r r' f f' h later told = record { accepted = h.accepted; played = tt }
-run_ended name steps dice file story end (Some typed) left' t t' r r' f f' h later told =
-    record { accepted = h.accepted; played = ended name steps dice file story typed end left' t t' r r' f f' h later (told typed refl) }
+pub run_ended : (name : List ℕ) (steps : ℕ) (dice file story : List ℕ) (end : ZEnd) (left left' : Option (List ℕ)) (old new : base.SinkView) → IsLoaded file story
+    → ((typed : List ℕ) → left ≡ Some typed → Plays (Ok end) (given_of story dice) (start_state story typed) steps left' old new)
+    → Playing.IsPlayed (Playing.status_of_end end) left left' old new (Playing.as_played name steps dice file)
+run_ended name steps dice file story end None left' old new h told = record { accepted = h.accepted; played = tt }
+run_ended name steps dice file story end (Some typed) left' old new h told =
+    record { accepted = h.accepted; played = ended name steps dice file story typed end left' old new h (told typed refl) }
 
-read_failed : (name : List ℕ) (steps : ℕ) (dice file story : List ℕ) (left left' t t' : Option (List ℕ)) (r r' : Option ℕ) (f f' : ℕ) → IsLoaded file story → f ≤ f'
-    → ((typed : List ℕ) → left ≡ Some typed → Plays (Err Read) (given_of story dice) (start_state story typed) steps left' (player.seen t r) (player.seen t' r'))
-    → Playing.IsCutOff left left' (base.view t r f) (base.view t' r' f') (Playing.as_played name steps dice file)
-read_failed name steps dice file story None left' t t' r r' f f' h later told = record { accepted = h.accepted; cut_off = tt }
-read_failed name steps dice file story (Some typed) left' t t' r r' f f' h later told =
-    record { accepted = h.accepted; cut_off = cut_off name steps dice file story typed left' t t' r r' f f' h later (told typed refl) }
+read_failed : (name : List ℕ) (steps : ℕ) (dice file story : List ℕ) (left left' : Option (List ℕ)) (old new : base.SinkView) → IsLoaded file story
+    → ((typed : List ℕ) → left ≡ Some typed → Plays (Err Read) (given_of story dice) (start_state story typed) steps left' old new)
+    → Playing.IsCutOff left left' old new (Playing.as_played name steps dice file)
+read_failed name steps dice file story None left' old new h told = record { accepted = h.accepted; cut_off = tt }
+read_failed name steps dice file story (Some typed) left' old new h told =
+    record { accepted = h.accepted; cut_off = cut_off name steps dice file story typed left' old new h (told typed refl) }
 
-write_failed : (name : List ℕ) (steps : ℕ) (dice file story : List ℕ) (left left' t t' : Option (List ℕ)) (r r' : Option ℕ) (f f' : ℕ) → IsLoaded file story → f ≤ f' → Rose f f'
-    → ((typed : List ℕ) → left ≡ Some typed → Plays (Err Write) (given_of story dice) (start_state story typed) steps left' (player.seen t r) (player.seen t' r'))
-    → Playing.LosesPlay left (base.view t r f) (base.view t' r' f') (Playing.as_played name steps dice file)
-write_failed name steps dice file story None left' t t' r r' f f' h later rose told = Playing.in_run h.accepted tt
-write_failed name steps dice file story (Some typed) left' t t' r r' f f' h later rose told =
-    Playing.in_run h.accepted (lost_run name steps dice file story typed left' t t' r r' f f' h later rose (told typed refl))
+write_failed : (name : List ℕ) (steps : ℕ) (dice file story : List ℕ) (left left' : Option (List ℕ)) (old new : base.SinkView) → IsLoaded file story
+    → ((typed : List ℕ) → left ≡ Some typed → Plays (Err Write) (given_of story dice) (start_state story typed) steps left' old new)
+    → Playing.LosesPlay left old new (Playing.as_played name steps dice file)
+write_failed name steps dice file story None left' old new h told = Playing.in_run h.accepted tt
+write_failed name steps dice file story (Some typed) left' old new h told =
+    Playing.in_run h.accepted (lost_run name steps dice file story typed left' old new h (told typed refl))
 
-pub run_failed : (name : List ℕ) (steps : ℕ) (dice file story : List ℕ) (fault : Fault) (left left' t t' : Option (List ℕ)) (r r' : Option ℕ) (i i' f f' : ℕ) → IsLoaded file story → HasCauses {T = ZEnd} i i' f f' (Err fault)
-    → ((typed : List ℕ) → left ≡ Some typed → Plays (Err fault) (given_of story dice) (start_state story typed) steps left' (player.seen t r) (player.seen t' r'))
-    → (Rose i i' × Playing.IsCutOff left left' (base.view t r f) (base.view t' r' f') (Playing.as_played name steps dice file)) ⊎ (Rose f f' × Playing.LosesPlay left (base.view t r f) (base.view t' r' f') (Playing.as_played name steps dice file))
-run_failed name steps dice file story Read left left' t t' r r' i i' f f' h causes told = inl (causes.read_failed refl, read_failed name steps dice file story left left' t t' r r' f f' h causes.writes told)
-run_failed name steps dice file story Write left left' t t' r r' i i' f f' h causes told = inr (causes.write_failed refl, write_failed name steps dice file story left left' t t' r r' f f' h causes.writes (causes.write_failed refl) told)
+pub run_failed : (name : List ℕ) (steps : ℕ) (dice file story : List ℕ) (fault : Fault) (left left' : Option (List ℕ)) (input input' : SourceView) (old new : base.SinkView) → IsLoaded file story → HasCauses {T = ZEnd} input input' old new (Err fault)
+    → ((typed : List ℕ) → left ≡ Some typed → Plays (Err fault) (given_of story dice) (start_state story typed) steps left' old new)
+    → (Rose input.faults input'.faults × Playing.IsCutOff left left' old new (Playing.as_played name steps dice file)) ⊎ (Rose old.faults new.faults × Playing.LosesPlay left old new (Playing.as_played name steps dice file))
+run_failed name steps dice file story Read left left' input input' old new h causes told = inl (causes.read_failed refl, read_failed name steps dice file story left left' old new h told)
+run_failed name steps dice file story Write left left' input input' old new h causes told = inr (causes.write_failed refl, write_failed name steps dice file story left left' old new h told)
 
 -- the status is that of the run's end, but for a fault
 pub comes_by : (result : ℕ) (left left' : Option (List ℕ)) (old new : base.SinkView) (p : Playing.Play) → (result ≡ 0) ⊎ ((result ≡ 3) ⊎ ((result ≡ 4) ⊎ (result ≡ 5))) → ((result ≡ 0) ⊎ ((result ≡ 3) ⊎ (result ≡ 4)) → Playing.IsPlayed result left left' old new p)

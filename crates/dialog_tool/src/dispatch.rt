@@ -1,7 +1,6 @@
 // The top call: what the words of a command line ask for is done, and the exit status says how it went.
 ghost use Rattle.std.specs.Prelude.{◌≡◌, ◌⊎◌, ◌<◌, ◌≤◌, length, None, Some, Ok, Err};
 ghost use Rattle.dg_base.specs.Shelves.{KeepsAll};
-ghost use Rattle.dg_base.specs.Written.{view};
 ghost use Rattle.z_model.specs.Story.{refusal_of};
 ghost use Rattle.dialog_tool.specs.Command.{texts, command_of, debug as debug_command};
 ghost use Rattle.dialog_tool.specs.Source.{Compiles, refusal_at};
@@ -47,12 +46,12 @@ fn run_program<S: Source, K: Sink>(
     requires dice { 0 < length dice.now }
     requires built { IsBuilt program.now }
     ensures statuses { (result ≡ 0) ⊎ ((result ≡ 3) ⊎ ((result ≡ 5) ⊎ (result ≡ 6))) }
-    ensures ran { (result ≡ 0) ⊎ (result ≡ 3) → Shown result program.now limits (S.left input.old) (S.left input.new) dice.now (view (K.taken out.old) (K.room out.old) (K.faults out.old)) (view (K.taken out.new) (K.room out.new) (K.faults out.new)) }
-    ensures memory { result ≡ 6 → LostMemory program.now limits (S.left input.old) dice.now (view (K.taken out.old) (K.room out.old) (K.faults out.old)) (view (K.taken out.new) (K.room out.new) (K.faults out.new)) }
+    ensures ran { (result ≡ 0) ⊎ (result ≡ 3) → Shown result program.now limits (S.view input.old).left (S.view input.new).left dice.now (K.view out.old) (K.view out.new) }
+    ensures memory { result ≡ 6 → LostMemory program.now limits (S.view input.old).left dice.now (K.view out.old) (K.view out.new) }
     ensures fault { result ≡ 5 →
-        LostInput program.now limits (S.faults input.old) (S.faults input.new) (S.left input.old) (S.left input.new) dice.now (view (K.taken out.old) (K.room out.old) (K.faults out.old)) (view (K.taken out.new) (K.room out.new) (K.faults out.new))
-        ⊎ LostOutput program.now limits (S.left input.old) dice.now (view (K.taken out.old) (K.room out.old) (K.faults out.old)) (view (K.taken out.new) (K.room out.new) (K.faults out.new)) }
-    ensures later { S.faults input.old ≤ S.faults input.new }
+        LostInput program.now limits (S.view input.old).faults (S.view input.new).faults (S.view input.old).left (S.view input.new).left dice.now (K.view out.old) (K.view out.new)
+        ⊎ LostOutput program.now limits (S.view input.old).left dice.now (K.view out.old) (K.view out.new) }
+    ensures later { (S.view input.old).faults ≤ (S.view input.new).faults }
 {
     match interpret(alloc, program, &limits, input, dice, out) {
         Ok(outcome) => status_of(outcome.ending),
@@ -73,7 +72,7 @@ fn run_source<S: Source, K: Sink>(
     out: &mut K,
 ) -> u8
     requires { 0 < length dice.now }
-    ensures { SourceAnswers (S.faults input.old) (S.faults input.new) (S.left input.old) (S.left input.new) dice.now (view (K.taken out.old) (K.room out.old) (K.faults out.old)) (view (K.taken out.new) (K.room out.new) (K.faults out.new)) name.now limits source.now result }
+    ensures { SourceAnswers (S.view input.old).faults (S.view input.new).faults (S.view input.old).left (S.view input.new).left dice.now (K.view out.old) (K.view out.new) name.now limits source.now result }
 {
     match compile(alloc, source) {
         Ok(program) => run_program(alloc, &program, limits, input, dice, out),
@@ -93,8 +92,8 @@ fn debug<F: Shelf, S: Source, K: Sink>(
     out: &mut K,
 ) -> u8
     requires { 0 < length dice.now }
-    ensures answers { DebugAnswers (Some (debug_command name.now limits)) (F.contents shelf.old) (F.sure shelf.old) (F.faults shelf.old) (F.faults shelf.new) (S.faults input.old) (S.faults input.new) (S.left input.old) (S.left input.new) dice.now (view (K.taken out.old) (K.room out.old) (K.faults out.old)) (view (K.taken out.new) (K.room out.new) (K.faults out.new)) result }
-    ensures kept { KeepsAll (F.contents shelf.old) (F.contents shelf.new) }
+    ensures answers { DebugAnswers (Some (debug_command name.now limits)) (F.view shelf.old).contents (F.view shelf.old).sure (F.view shelf.old).faults (F.view shelf.new).faults (S.view input.old).faults (S.view input.new).faults (S.view input.old).left (S.view input.new).left dice.now (K.view out.old) (K.view out.new) result }
+    ensures kept { KeepsAll (F.view shelf.old).contents (F.view shelf.new).contents }
 {
     match shelf.fetch(alloc, name, MOST_BYTES) {
         Ok(source) => run_source(alloc, name, limits, &source, input, dice, out),
@@ -128,30 +127,30 @@ pub fn tool<F: Shelf, S: Source, K: Sink>(
     ensures statuses { (result ≡ 0) ⊎ ((result ≡ 1) ⊎ ((result ≡ 2) ⊎ ((result ≡ 3) ⊎ Comes 4 result))) }
 
     // 2 comes exactly where the words are no command.
-    ensures usage { result ≡ 2 → IsUsage (command_of (texts words.now)) (view (K.taken out.old) (K.room out.old) (K.faults out.old)) (view (K.taken out.new) (K.room out.new) (K.faults out.new)) }
+    ensures usage { result ≡ 2 → IsUsage (command_of (texts words.now)) (K.view out.old) (K.view out.new) }
     ensures no_command { command_of (texts words.now) ≡ None → Comes 2 result }
 
     // 1 comes exactly where the source is refused; 0 and 3 where it is a program.
-    ensures refused { result ≡ 1 → AtSource (command_of (texts words.now)) (F.contents shelf.old) (IsRefused (view (K.taken out.old) (K.room out.old) (K.faults out.old)) (view (K.taken out.new) (K.room out.new) (K.faults out.new))) }
-    ensures refuses { IfSource (command_of (texts words.now)) (F.contents shelf.old) (λ name limits source. (r : _) → Compiles source (Err r) → Comes 1 result) }
+    ensures refused { result ≡ 1 → AtSource (command_of (texts words.now)) (F.view shelf.old).contents (IsRefused (K.view out.old) (K.view out.new)) }
+    ensures refuses { IfSource (command_of (texts words.now)) (F.view shelf.old).contents (λ name limits source. (r : _) → Compiles source (Err r) → Comes 1 result) }
     ensures ran { (result ≡ 0) ⊎ (result ≡ 3) →
-        AtSource (command_of (texts words.now)) (F.contents shelf.old) (IsRun result (S.left input.old) (S.left input.new) dice.now (view (K.taken out.old) (K.room out.old) (K.faults out.old)) (view (K.taken out.new) (K.room out.new) (K.faults out.new)))
-        ⊎ AtStory (command_of (texts words.now)) (F.contents shelf.old) dice.now (IsPlayed result (S.left input.old) (S.left input.new) (view (K.taken out.old) (K.room out.old) (K.faults out.old)) (view (K.taken out.new) (K.room out.new) (K.faults out.new))) }
-    ensures runs { IfSource (command_of (texts words.now)) (F.contents shelf.old) (λ name limits source. (p : _) → Compiles source (Ok p) → (result ≡ 0) ⊎ Comes 3 result) }
+        AtSource (command_of (texts words.now)) (F.view shelf.old).contents (IsRun result (S.view input.old).left (S.view input.new).left dice.now (K.view out.old) (K.view out.new))
+        ⊎ AtStory (command_of (texts words.now)) (F.view shelf.old).contents dice.now (IsPlayed result (S.view input.old).left (S.view input.new).left (K.view out.old) (K.view out.new)) }
+    ensures runs { IfSource (command_of (texts words.now)) (F.view shelf.old).contents (λ name limits source. (p : _) → Compiles source (Ok p) → (result ≡ 0) ⊎ Comes 3 result) }
 
     // 4 comes exactly where the file is no story and where its run breaks; 0 and 3 where the run ends so.
-    ensures story { result ≡ 4 → AtStory (command_of (texts words.now)) (F.contents shelf.old) dice.now (λ p. IsNoStory (view (K.taken out.old) (K.room out.old) (K.faults out.old)) (view (K.taken out.new) (K.room out.new) (K.faults out.new)) p ⊎ IsPlayed 4 (S.left input.old) (S.left input.new) (view (K.taken out.old) (K.room out.old) (K.faults out.old)) (view (K.taken out.new) (K.room out.new) (K.faults out.new)) p) }
-    ensures no_story { IfStory (command_of (texts words.now)) (F.contents shelf.old) dice.now (λ p. (refusal : _) → refusal_of p.file ≡ Some refusal → Comes 4 result) }
-    ensures plays { IfStory (command_of (texts words.now)) (F.contents shelf.old) dice.now (λ p. refusal_of p.file ≡ None → WhereTyped (S.left input.old) (λ typed. Comes (status_of_end (run_of p typed p.steps).end) result)) }
+    ensures story { result ≡ 4 → AtStory (command_of (texts words.now)) (F.view shelf.old).contents dice.now (λ p. IsNoStory (K.view out.old) (K.view out.new) p ⊎ IsPlayed 4 (S.view input.old).left (S.view input.new).left (K.view out.old) (K.view out.new) p) }
+    ensures no_story { IfStory (command_of (texts words.now)) (F.view shelf.old).contents dice.now (λ p. (refusal : _) → refusal_of p.file ≡ Some refusal → Comes 4 result) }
+    ensures plays { IfStory (command_of (texts words.now)) (F.view shelf.old).contents dice.now (λ p. refusal_of p.file ≡ None → WhereTyped (S.view input.old).left (λ typed. Comes (status_of_end (run_of p typed p.steps).end) result)) }
 
-    ensures memory { result ≡ 6 → NoMemory (command_of (texts words.now)) (F.contents shelf.old) (S.left input.old) dice.now (view (K.taken out.old) (K.room out.old) (K.faults out.old)) (view (K.taken out.new) (K.room out.new) (K.faults out.new)) }
+    ensures memory { result ≡ 6 → NoMemory (command_of (texts words.now)) (F.view shelf.old).contents (S.view input.old).left dice.now (K.view out.old) (K.view out.new) }
     ensures fault { result ≡ 5 →
-        ShelfFailed (command_of (texts words.now)) (F.contents shelf.old) (F.sure shelf.old) (F.faults shelf.old) (F.faults shelf.new) (view (K.taken out.old) (K.room out.old) (K.faults out.old)) (view (K.taken out.new) (K.room out.new) (K.faults out.new))
-        ⊎ (InputFailed (command_of (texts words.now)) (F.contents shelf.old) (S.faults input.old) (S.faults input.new) (S.left input.old) (S.left input.new) dice.now (view (K.taken out.old) (K.room out.old) (K.faults out.old)) (view (K.taken out.new) (K.room out.new) (K.faults out.new))
-        ⊎ (OutFailed (command_of (texts words.now)) (F.contents shelf.old) (S.left input.old) dice.now (view (K.taken out.old) (K.room out.old) (K.faults out.old)) (view (K.taken out.new) (K.room out.new) (K.faults out.new))
-        ⊎ (StoryInputFailed (command_of (texts words.now)) (F.contents shelf.old) (S.faults input.old) (S.faults input.new) (S.left input.old) (S.left input.new) dice.now (view (K.taken out.old) (K.room out.old) (K.faults out.old)) (view (K.taken out.new) (K.room out.new) (K.faults out.new))
-        ⊎ StoryOutFailed (command_of (texts words.now)) (F.contents shelf.old) (S.left input.old) dice.now (view (K.taken out.old) (K.room out.old) (K.faults out.old)) (view (K.taken out.new) (K.room out.new) (K.faults out.new))))) }
-    ensures kept { KeepsAll (F.contents shelf.old) (F.contents shelf.new) }
+        ShelfFailed (command_of (texts words.now)) (F.view shelf.old).contents (F.view shelf.old).sure (F.view shelf.old).faults (F.view shelf.new).faults (K.view out.old) (K.view out.new)
+        ⊎ (InputFailed (command_of (texts words.now)) (F.view shelf.old).contents (S.view input.old).faults (S.view input.new).faults (S.view input.old).left (S.view input.new).left dice.now (K.view out.old) (K.view out.new)
+        ⊎ (OutFailed (command_of (texts words.now)) (F.view shelf.old).contents (S.view input.old).left dice.now (K.view out.old) (K.view out.new)
+        ⊎ (StoryInputFailed (command_of (texts words.now)) (F.view shelf.old).contents (S.view input.old).faults (S.view input.new).faults (S.view input.old).left (S.view input.new).left dice.now (K.view out.old) (K.view out.new)
+        ⊎ StoryOutFailed (command_of (texts words.now)) (F.view shelf.old).contents (S.view input.old).left dice.now (K.view out.old) (K.view out.new)))) }
+    ensures kept { KeepsAll (F.view shelf.old).contents (F.view shelf.new).contents }
 {
     match command_of(alloc, words) {
         Ok(Some(Command::Debug { name, limits })) => {

@@ -1,6 +1,6 @@
 // The lines of the tool itself, and its statuses.
 ghost use Rattle.std.specs.Prelude.{◌≡◌, ◌⊎◌, IfOk, string_bytes};
-ghost use Rattle.dg_base.specs.Written.{view, Wrote, BrokeOff};
+ghost use Rattle.dg_base.specs.Written.{Wrote, BrokeOff};
 ghost use Rattle.dg_meaning.specs.Transcript.{no_memory_line};
 ghost use Rattle.dialog_tool.specs.Command.{usage_line};
 ghost use Rattle.dialog_tool.specs.Answers.{refusal_line, file_fault_line, Comes};
@@ -36,8 +36,8 @@ fn refusal_text(alloc: Global, name: &str, refusal: &Refusal) -> Result<String, 
 /// Writes the line on want of memory.
 pub fn no_memory<K: Sink>(out: &mut K) -> u8
     ensures statuses { (result ≡ 5) ⊎ (result ≡ 6) }
-    ensures line { result ≡ 6 → Wrote (view (K.taken out.old) (K.room out.old) (K.faults out.old)) (view (K.taken out.new) (K.room out.new) (K.faults out.new)) no_memory_line }
-    ensures fault { result ≡ 5 → BrokeOff (view (K.taken out.old) (K.room out.old) (K.faults out.old)) (view (K.taken out.new) (K.room out.new) (K.faults out.new)) no_memory_line }
+    ensures line { result ≡ 6 → Wrote (K.view out.old) (K.view out.new) no_memory_line }
+    ensures fault { result ≡ 5 → BrokeOff (K.view out.old) (K.view out.new) no_memory_line }
 {
     match write_all(out, b"[No memory]\n") {
         Ok(()) => NO_MEMORY,
@@ -48,11 +48,11 @@ pub fn no_memory<K: Sink>(out: &mut K) -> u8
 /// Writes the line of a refusal.
 pub fn refuse<K: Sink>(alloc: Global, name: &str, refusal: &Refusal, out: &mut K) -> u8
     ensures statuses { Comes 1 result }
-    ensures line { result ≡ 1 → Wrote (view (K.taken out.old) (K.room out.old) (K.faults out.old)) (view (K.taken out.new) (K.room out.new) (K.faults out.new)) (refusal_line name.now refusal.now) }
-    ensures memory { result ≡ 6 → Wrote (view (K.taken out.old) (K.room out.old) (K.faults out.old)) (view (K.taken out.new) (K.room out.new) (K.faults out.new)) no_memory_line }
+    ensures line { result ≡ 1 → Wrote (K.view out.old) (K.view out.new) (refusal_line name.now refusal.now) }
+    ensures memory { result ≡ 6 → Wrote (K.view out.old) (K.view out.new) no_memory_line }
     ensures fault { result ≡ 5 →
-        BrokeOff (view (K.taken out.old) (K.room out.old) (K.faults out.old)) (view (K.taken out.new) (K.room out.new) (K.faults out.new)) (refusal_line name.now refusal.now)
-        ⊎ BrokeOff (view (K.taken out.old) (K.room out.old) (K.faults out.old)) (view (K.taken out.new) (K.room out.new) (K.faults out.new)) no_memory_line }
+        BrokeOff (K.view out.old) (K.view out.new) (refusal_line name.now refusal.now)
+        ⊎ BrokeOff (K.view out.old) (K.view out.new) no_memory_line }
 {
     match refusal_text(alloc, name, refusal) {
         Ok(line) => match write_all(out, line.as_bytes()) {
@@ -66,8 +66,8 @@ pub fn refuse<K: Sink>(alloc: Global, name: &str, refusal: &Refusal, out: &mut K
 /// Writes the line of a file that failed.
 pub fn file_fault<K: Sink>(name: &str, out: &mut K) -> u8
     ensures statuses { result ≡ 5 }
-    ensures line { Wrote (view (K.taken out.old) (K.room out.old) (K.faults out.old)) (view (K.taken out.new) (K.room out.new) (K.faults out.new)) (file_fault_line name.now)
-        ⊎ BrokeOff (view (K.taken out.old) (K.room out.old) (K.faults out.old)) (view (K.taken out.new) (K.room out.new) (K.faults out.new)) (file_fault_line name.now) }
+    ensures line { Wrote (K.view out.old) (K.view out.new) (file_fault_line name.now)
+        ⊎ BrokeOff (K.view out.old) (K.view out.new) (file_fault_line name.now) }
 {
     match write_both(out, name.as_bytes(), b": file fault\n") {
         Ok(()) => FAULT,
@@ -78,8 +78,8 @@ pub fn file_fault<K: Sink>(name: &str, out: &mut K) -> u8
 /// Writes the line on words that are no command.
 pub fn usage<K: Sink>(out: &mut K) -> u8
     ensures statuses { (result ≡ 2) ⊎ (result ≡ 5) }
-    ensures line { result ≡ 2 → Wrote (view (K.taken out.old) (K.room out.old) (K.faults out.old)) (view (K.taken out.new) (K.room out.new) (K.faults out.new)) usage_line }
-    ensures fault { result ≡ 5 → BrokeOff (view (K.taken out.old) (K.room out.old) (K.faults out.old)) (view (K.taken out.new) (K.room out.new) (K.faults out.new)) usage_line }
+    ensures line { result ≡ 2 → Wrote (K.view out.old) (K.view out.new) usage_line }
+    ensures fault { result ≡ 5 → BrokeOff (K.view out.old) (K.view out.new) usage_line }
 {
     match write_all(out, USAGE_LINE) {
         Ok(()) => USAGE,

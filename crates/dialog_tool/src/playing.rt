@@ -3,7 +3,7 @@ ghost use Rattle.std.specs.Prelude.{◌≡◌, ◌⊎◌, ◌<◌, ◌++◌, ℕ
 ghost use Rattle.std.specs.Option.{option_map};
 ghost use Rattle.dg_base.specs.Causes.{Rose};
 ghost use Rattle.dg_base.specs.Shelves.{KeepsAll};
-ghost use Rattle.dg_base.specs.Written.{view, Wrote, BrokeOff};
+ghost use Rattle.dg_base.specs.Written.{Wrote, BrokeOff};
 ghost use Rattle.dg_meaning.specs.Transcript.{no_memory_line};
 ghost use Rattle.z_model.specs.Story.{refusal_of, text_of_story};
 ghost use Rattle.z_play.specs.Ready.{IsLoaded};
@@ -44,8 +44,8 @@ fn why(refusal: StoryRefusal) -> &'static [u8]
 // Writes the line of a file that is no story.
 fn refuse_story<K: Sink>(name: &str, refusal: StoryRefusal, out: &mut K) -> u8
     ensures statuses { (result ≡ 4) ⊎ (result ≡ 5) }
-    ensures line { result ≡ 4 → Wrote (view (K.taken out.old) (K.room out.old) (K.faults out.old)) (view (K.taken out.new) (K.room out.new) (K.faults out.new)) (story_line name.now refusal) }
-    ensures fault { result ≡ 5 → BrokeOff (view (K.taken out.old) (K.room out.old) (K.faults out.old)) (view (K.taken out.new) (K.room out.new) (K.faults out.new)) (story_line name.now refusal) }
+    ensures line { result ≡ 4 → Wrote (K.view out.old) (K.view out.new) (story_line name.now refusal) }
+    ensures fault { result ≡ 5 → BrokeOff (K.view out.old) (K.view out.new) (story_line name.now refusal) }
 {
     match write_both(out, name.as_bytes(), why(refusal)) {
         Ok(()) => STORY,
@@ -73,10 +73,10 @@ fn run_story<S: Source, K: Sink>(
 ) -> u8
     requires { 0 < length dice.now }
     ensures statuses { (result ≡ 0) ⊎ ((result ≡ 3) ⊎ ((result ≡ 4) ⊎ (result ≡ 5))) }
-    ensures ran { (name file : List ℕ) → IsLoaded file player.old → (result ≡ 0) ⊎ ((result ≡ 3) ⊎ (result ≡ 4)) → IsPlayed result (S.left input.old) (S.left input.new) (view (K.taken out.old) (K.room out.old) (K.faults out.old)) (view (K.taken out.new) (K.room out.new) (K.faults out.new)) (as_played name steps dice.now file) }
+    ensures ran { (name file : List ℕ) → IsLoaded file player.old → (result ≡ 0) ⊎ ((result ≡ 3) ⊎ (result ≡ 4)) → IsPlayed result (S.view input.old).left (S.view input.new).left (K.view out.old) (K.view out.new) (as_played name steps dice.now file) }
     ensures fault { (name file : List ℕ) → IsLoaded file player.old → result ≡ 5 →
-        (Rose (S.faults input.old) (S.faults input.new) × IsCutOff (S.left input.old) (S.left input.new) (view (K.taken out.old) (K.room out.old) (K.faults out.old)) (view (K.taken out.new) (K.room out.new) (K.faults out.new)) (as_played name steps dice.now file))
-        ⊎ (Rose (K.faults out.old) (K.faults out.new) × LosesPlay (S.left input.old) (view (K.taken out.old) (K.room out.old) (K.faults out.old)) (view (K.taken out.new) (K.room out.new) (K.faults out.new)) (as_played name steps dice.now file)) }
+        (Rose (S.view input.old).faults (S.view input.new).faults × IsCutOff (S.view input.old).left (S.view input.new).left (K.view out.old) (K.view out.new) (as_played name steps dice.now file))
+        ⊎ (Rose (K.view out.old).faults (K.view out.new).faults × LosesPlay (S.view input.old).left (K.view out.old) (K.view out.new) (as_played name steps dice.now file)) }
 {
     match player.run(steps, input, dice, out) {
         Ok(end) => status_of_end(end),
@@ -95,7 +95,7 @@ fn play_file<S: Source, K: Sink>(
     out: &mut K,
 ) -> u8
     requires { 0 < length dice.now }
-    ensures { FileAnswers (S.faults input.old) (S.faults input.new) (S.left input.old) (S.left input.new) (view (K.taken out.old) (K.room out.old) (K.faults out.old)) (view (K.taken out.new) (K.room out.new) (K.faults out.new)) (as_played name.now steps dice.now file.items) result }
+    ensures { FileAnswers (S.view input.old).faults (S.view input.new).faults (S.view input.old).left (S.view input.new).left (K.view out.old) (K.view out.new) (as_played name.now steps dice.now file.items) result }
 {
     match Player::load(alloc, file) {
         Ok(player) => {
@@ -121,13 +121,13 @@ pub fn play<F: Shelf, S: Source, K: Sink>(
     ensures statuses { (result ≡ 0) ⊎ ((result ≡ 3) ⊎ Comes 4 result) }
 
     // 4 comes exactly where the file is no story, and where its run breaks; 0 and 3 where it ends so.
-    ensures no_story { AtFile (F.contents shelf.old) name.now steps dice.now (λ p. (refusal : _) → refusal_of p.file ≡ Some refusal → Comes 4 result) }
-    ensures story { result ≡ 4 → AtFile (F.contents shelf.old) name.now steps dice.now (λ p. IsNoStory (view (K.taken out.old) (K.room out.old) (K.faults out.old)) (view (K.taken out.new) (K.room out.new) (K.faults out.new)) p ⊎ IsPlayed 4 (S.left input.old) (S.left input.new) (view (K.taken out.old) (K.room out.old) (K.faults out.old)) (view (K.taken out.new) (K.room out.new) (K.faults out.new)) p) }
-    ensures ran { (result ≡ 0) ⊎ (result ≡ 3) → AtFile (F.contents shelf.old) name.now steps dice.now (IsPlayed result (S.left input.old) (S.left input.new) (view (K.taken out.old) (K.room out.old) (K.faults out.old)) (view (K.taken out.new) (K.room out.new) (K.faults out.new))) }
-    ensures plays { AtFile (F.contents shelf.old) name.now steps dice.now (λ p. refusal_of p.file ≡ None → WhereTyped (S.left input.old) (λ typed. Comes (status_of_end (run_of p typed p.steps).end) result)) }
-    ensures memory { result ≡ 6 → Wrote (view (K.taken out.old) (K.room out.old) (K.faults out.old)) (view (K.taken out.new) (K.room out.new) (K.faults out.new)) no_memory_line }
-    ensures fault { result ≡ 5 → PlayFails (F.contents shelf.old) (F.sure shelf.old) (F.faults shelf.old) (F.faults shelf.new) (S.faults input.old) (S.faults input.new) (S.left input.old) (S.left input.new) (view (K.taken out.old) (K.room out.old) (K.faults out.old)) (view (K.taken out.new) (K.room out.new) (K.faults out.new)) name.now steps dice.now }
-    ensures kept { KeepsAll (F.contents shelf.old) (F.contents shelf.new) }
+    ensures no_story { AtFile (F.view shelf.old).contents name.now steps dice.now (λ p. (refusal : _) → refusal_of p.file ≡ Some refusal → Comes 4 result) }
+    ensures story { result ≡ 4 → AtFile (F.view shelf.old).contents name.now steps dice.now (λ p. IsNoStory (K.view out.old) (K.view out.new) p ⊎ IsPlayed 4 (S.view input.old).left (S.view input.new).left (K.view out.old) (K.view out.new) p) }
+    ensures ran { (result ≡ 0) ⊎ (result ≡ 3) → AtFile (F.view shelf.old).contents name.now steps dice.now (IsPlayed result (S.view input.old).left (S.view input.new).left (K.view out.old) (K.view out.new)) }
+    ensures plays { AtFile (F.view shelf.old).contents name.now steps dice.now (λ p. refusal_of p.file ≡ None → WhereTyped (S.view input.old).left (λ typed. Comes (status_of_end (run_of p typed p.steps).end) result)) }
+    ensures memory { result ≡ 6 → Wrote (K.view out.old) (K.view out.new) no_memory_line }
+    ensures fault { result ≡ 5 → PlayFails (F.view shelf.old).contents (F.view shelf.old).sure (F.view shelf.old).faults (F.view shelf.new).faults (S.view input.old).faults (S.view input.new).faults (S.view input.old).left (S.view input.new).left (K.view out.old) (K.view out.new) name.now steps dice.now }
+    ensures kept { KeepsAll (F.view shelf.old).contents (F.view shelf.new).contents }
 {
     match shelf.fetch(alloc, name, 524_288) {
         Ok(file) => play_file(alloc, name, steps, dice, file, input, out),

@@ -11,7 +11,8 @@ use Rattle.z_model.specs.Step.{machine_step}
 use Rattle.z_model.specs.Run.{ZState, ZGiven, ZRun, Next, word_at, zstep, zrun, go_on, end_of}
 use Rattle.z_model.specs.Closing.{is_open}
 use Rattle.z_play.specs.Effects.{CanFinish}
-use Rattle.z_play.specs.Output.{Seen, Wrote, Cut, CutBehind}
+use Rattle.dg_base.specs.Written.{SinkView, Wrote, BrokeOff}
+use Rattle.z_play.specs.Output.{BrokeBehind}
 use Rattle.z_play.specs.Scene.{Scene, scene, state, next_of, IsBeyond, Came, CutOff, Unread}
 use Rattle.z_play.specs.Acting.{text_of, Finished, Unfinished}
 use Rattle.z_play.specs.Advancing.{next_from, Advances, RanTo, RanUnread, RunsOn}
@@ -19,9 +20,11 @@ use Rattle.z_play.specs.Played.{HasCauses, PrintUnwritten}
 use Rattle.dg_base.specs.declared.run.Fault.{Fault}
 use Rattle.dg_base.specs.declared.run.Fault.TheVariants.{Read, Write}
 use Rattle.dg_base.specs.Causes.{Rose}
+use Rattle.dg_base.specs.Streams.{SourceView}
 use Rattle.z_play.proofs.Finishing.{finishes}
 use Rattle.z_play.proofs.Texts.{open_both}
-use Rattle.z_play.proofs.Written.{wrote_none, wrote_both, cut_after}
+use Rattle.dg_base.proofs.WrittenLemmas.{wrote_nothing, wrote_on}
+use Rattle.z_play.proofs.Written.{broke_after}
 
 -- ---- one instruction
 
@@ -49,11 +52,11 @@ unread_by w old new typed effect mid e wrote begun f = record {
   is = λ output. rw e (f.is old.machine output);
 }
 
-cut_at : (w : ZGiven) (old new : Scene) (typed : List ℕ) (effect : Effect) (mid : Machine) (halt : Option Halt) (last : Machine) (left : Option (List ℕ)) (drawn : ℕ) → machine_step w.rows w.layout (word_at w old.drawn) old.machine ≡ Ok (effect, mid) → new.left ≡ Some typed → Cut old.seen new.seen (text_of effect mid) → Finished w effect mid typed old.drawn halt last left drawn → CutOff (next_from w old typed) typed old new
+cut_at : (w : ZGiven) (old new : Scene) (typed : List ℕ) (effect : Effect) (mid : Machine) (halt : Option Halt) (last : Machine) (left : Option (List ℕ)) (drawn : ℕ) → machine_step w.rows w.layout (word_at w old.drawn) old.machine ≡ Ok (effect, mid) → new.left ≡ Some typed → BrokeOff old.seen new.seen (text_of effect mid) → Finished w effect mid typed old.drawn halt last left drawn → CutOff (next_from w old typed) typed old new
 unfolding zstep
 cut_at w old new typed effect mid halt last left drawn e told cut f = record { left = told; text = text_of effect mid; cut = cut; halt = halt; last = f.last; typed = f.behind; drawn = drawn; is = λ output. rw e (f.is old.machine output) }
 
-pub cut_by : (w : ZGiven) (old new : Scene) (typed : List ℕ) (effect : Effect) (mid : Machine) → machine_step w.rows w.layout (word_at w old.drawn) old.machine ≡ Ok (effect, mid) → CanFinish effect w.layout mid → new.left ≡ Some typed → Cut old.seen new.seen (text_of effect mid) → CutOff (next_from w old typed) typed old new
+pub cut_by : (w : ZGiven) (old new : Scene) (typed : List ℕ) (effect : Effect) (mid : Machine) → machine_step w.rows w.layout (word_at w old.drawn) old.machine ≡ Ok (effect, mid) → CanFinish effect w.layout mid → new.left ≡ Some typed → BrokeOff old.seen new.seen (text_of effect mid) → CutOff (next_from w old typed) typed old new
 cut_by w old new typed effect mid e can told cut = finishes w effect mid typed old.drawn can (λ halt last left drawn f. cut_at w old new typed effect mid halt last left drawn e told cut f)
 
 -- ---- a run
@@ -100,7 +103,7 @@ going_on w start n left old here new g c = record {
   output = g.output ++ c.printed;
   left_is = c.left;
   is = λ j. over w start n left old here g _ (c.is g.output) j ∙ ap (λ (k : Machine). zrun w j (state k c.typed new.drawn (g.output ++ c.printed))) c.same;
-  wrote = wrote_both old.seen here.seen new.seen g.output c.printed g.wrote c.wrote;
+  wrote = wrote_on old.seen here.seen new.seen g.output c.printed g.wrote c.wrote;
   begins = opens old here new g.output c.printed g.begins c.begins;
 }
 
@@ -110,7 +113,7 @@ run_ended w start n left old here new drawn halt g c =
     record {
       ends = sym (ap (λ (r : ZRun). r.end) all);
       left = c.left ∙ ap (λ (r : ZRun). Some r.state.typed) (sym all);
-      wrote = subst (λ (r : ZRun). Wrote old.seen new.seen r.state.output) (sym all) (wrote_both old.seen here.seen new.seen g.output c.printed g.wrote c.wrote);
+      wrote = subst (λ (r : ZRun). Wrote old.seen new.seen r.state.output) (sym all) (wrote_on old.seen here.seen new.seen g.output c.printed g.wrote c.wrote);
       begins = opens old here new g.output c.printed g.begins c.begins ∙ ap (λ (r : ZRun). is_open old.begun r.state.output) (sym all);
     }
 
@@ -148,7 +151,7 @@ run_cut w start n left old here new g c =
       below = omega (arith, g.count);
       limit = ap (λ (r : ZRun). r.end) now;
       left_is = c.left ∙ ap (λ (l : List ℕ). Some l) (sym typed);
-      cut = subst (λ (l : List ℕ). CutBehind old.seen new.seen l (zrun w (g.done + 1) start).state.output) (sym output) (subst (λ (l : List ℕ). CutBehind old.seen new.seen g.output l) (sym text) (cut_after old.seen here.seen new.seen g.output c.text g.wrote c.cut));
+      cut = subst (λ (l : List ℕ). BrokeBehind old.seen new.seen l (zrun w (g.done + 1) start).state.output) (sym output) (subst (λ (l : List ℕ). BrokeBehind old.seen new.seen g.output l) (sym text) (broke_after old.seen here.seen new.seen g.output c.text g.wrote c.cut));
     }
 
 -- an instruction that takes more than was taken
@@ -178,7 +181,7 @@ run_unread w start n left old here new drawn g u =
         within = rw typed u.most;
         beyond = rw typed (beyond_by w u.halt u.last g.typed u.rest u.behind u.drawn g.output (zrun w (g.done + 1) start) u.beyond next);
       };
-      wrote = subst (λ (l : List ℕ). Wrote old.seen new.seen l) (nothing ∙ sym output) (wrote_both old.seen here.seen new.seen g.output [] g.wrote u.wrote);
+      wrote = subst (λ (l : List ℕ). Wrote old.seen new.seen l) (nothing ∙ sym output) (wrote_on old.seen here.seen new.seen g.output [] g.wrote u.wrote);
       begins = u.begins ∙ g.begins ∙ ap (λ (l : List ℕ). is_open old.begun l) (sym output);
     }
 
@@ -186,7 +189,7 @@ pub run_failed : (w : ZGiven) (start : ZState) (n left : ℕ) (old here new : Sc
 run_failed w start n left old here new drawn Read g a = run_unread w start n left old here new drawn g a
 run_failed w start n left old here new drawn Write g a = run_cut w start n left old here new g a
 
-pub going_first : (w : ZGiven) (m : Machine) (n : ℕ) (typed : List ℕ) (begun : Bool) (left : Option (List ℕ)) (now : Seen) → left ≡ Some typed → Going w (state m typed 0 []) n n (scene m 0 begun left now) (scene m 0 begun left now)
+pub going_first : (w : ZGiven) (m : Machine) (n : ℕ) (typed : List ℕ) (begun : Bool) (left : Option (List ℕ)) (now : SinkView) → left ≡ Some typed → Going w (state m typed 0 []) n n (scene m 0 begun left now) (scene m 0 begun left now)
 going_first w m n typed begun left now told = record {
   done = 0;
   count = omega arith;
@@ -194,7 +197,7 @@ going_first w m n typed begun left now told = record {
   output = [];
   left_is = told;
   is = λ j. let none : 0 + j ≡ j = omega arith in ap (λ (k : ℕ). zrun w k (state m typed 0 [])) none;
-  wrote = wrote_none now;
+  wrote = wrote_nothing now;
   begins = refl;
 }
 
@@ -206,9 +209,9 @@ less_left w start n left less old here e g = subst (λ (k : ℕ). Going w start 
 rose_later : (a b c : ℕ) → a ≤ b → Rose b c → Rose a c
 rose_later a b c le rose = omega arith
 
-pub causes_ok : {T U : Type 0} (a b c d e f : ℕ) (x : T) (y : U) → a ≤ b → d ≤ e → HasCauses b c e f (Ok x) → HasCauses a c d f (Ok y)
+pub causes_ok : {T U : Type 0} (a b c : SourceView) (d e f : SinkView) (x : T) (y : U) → a.faults ≤ b.faults → d.faults ≤ e.faults → HasCauses b c e f (Ok x) → HasCauses a c d f (Ok y)
 causes_ok a b c d e f x y reads writes h = record { reads = omega (arith, h.reads); writes = omega (arith, h.writes); read_failed = λ e. absurd cc; write_failed = λ e. absurd cc }
 
-pub causes_err : {T U : Type 0} (a b c d e f : ℕ) (fault : Fault) → a ≤ b → d ≤ e → HasCauses {T = T} b c e f (Err fault) → HasCauses {T = U} a c d f (Err fault)
-causes_err a b c d e f Read reads writes h = record { reads = omega (arith, h.reads); writes = omega (arith, h.writes); read_failed = λ i. rose_later a b c reads (h.read_failed refl); write_failed = λ i. absurd cc }
-causes_err a b c d e f Write reads writes h = record { reads = omega (arith, h.reads); writes = omega (arith, h.writes); read_failed = λ i. absurd cc; write_failed = λ i. rose_later d e f writes (h.write_failed refl) }
+pub causes_err : {T U : Type 0} (a b c : SourceView) (d e f : SinkView) (fault : Fault) → a.faults ≤ b.faults → d.faults ≤ e.faults → HasCauses {T = T} b c e f (Err fault) → HasCauses {T = U} a c d f (Err fault)
+causes_err a b c d e f Read reads writes h = record { reads = omega (arith, h.reads); writes = omega (arith, h.writes); read_failed = λ i. rose_later a.faults b.faults c.faults reads (h.read_failed refl); write_failed = λ i. absurd cc }
+causes_err a b c d e f Write reads writes h = record { reads = omega (arith, h.reads); writes = omega (arith, h.writes); read_failed = λ i. absurd cc; write_failed = λ i. rose_later d.faults e.faults f.faults writes (h.write_failed refl) }

@@ -8,11 +8,13 @@ use Rattle.z_model.specs.Machine.{Machine}
 use Rattle.z_model.specs.Run.{ZGiven, ZState, ZRun, zrun}
 use Rattle.z_model.specs.Closing.{end_line, unread_line, is_open, newline_if, with_end_line, played_text}
 use Rattle.z_model.specs.Story.{layout_of, start_of, memory_of, first_machine, given_of, start_state}
-use Rattle.z_play.specs.Output.{Seen, Wrote, Cut, CutBehind}
+use Rattle.dg_base.specs.Written.{SinkView, Wrote, BrokeOff}
+use Rattle.z_play.specs.Output.{BrokeBehind}
 use Rattle.z_play.specs.Scene.{Scene, given_by, state}
 use Rattle.z_play.specs.Advancing.{RanTo, RanUnread}
 use Rattle.z_play.specs.Played.{Played, InputFailed, PrintUnwritten, OutputFailed}
-use Rattle.z_play.proofs.Written.{wrote_both, cut_after, cut_whole, cut_before}
+use Rattle.dg_base.proofs.WrittenLemmas.{wrote_on, broke_first}
+use Rattle.z_play.proofs.Written.{broke_after, broke_whole}
 use Rattle.z_model.specs.Laws.{Begins, then_more}
 use Rattle.z_model.proofs.Runs.{run_laws}
 
@@ -48,19 +50,19 @@ text_is r end begun some ended begins =
     ∙ sym (line_behind end some r.state.output)
     ∙ ap (λ (e : ZEnd). with_end_line r.state.output (end_line e)) ended
 
-pub end_shows : (r : ZRun) (end : ZEnd) (old new : Scene) (after : Seen) → old.begun ≡ false → end ≢ ends.Quit → RanTo r end old new → Wrote new.seen after (newline_if new.begun ++ end_line end) → Played r end new.left old.seen after
+pub end_shows : (r : ZRun) (end : ZEnd) (old new : Scene) (after : SinkView) → old.begun ≡ false → end ≢ ends.Quit → RanTo r end old new → Wrote new.seen after (newline_if new.begun ++ end_line end) → Played r end new.left old.seen after
 end_shows r end old new after first some ran wrote = record {
   ends = ran.ends;
   left_is = ran.left;
-  wrote = subst (λ (l : List ℕ). Wrote old.seen after l) (text_is r end new.begun some ran.ends (ran.begins ∙ ap (λ (b : Bool). is_open b r.state.output) first)) (wrote_both old.seen new.seen after r.state.output (newline_if new.begun ++ end_line end) ran.wrote wrote);
+  wrote = subst (λ (l : List ℕ). Wrote old.seen after l) (text_is r end new.begun some ran.ends (ran.begins ∙ ap (λ (b : Bool). is_open b r.state.output) first)) (wrote_on old.seen new.seen after r.state.output (newline_if new.begun ++ end_line end) ran.wrote wrote);
 }
 
-pub end_cut : (w : ZGiven) (s : ZState) (n : ℕ) (end : ZEnd) (old new : Scene) (after : Seen) → old.begun ≡ false → end ≢ ends.Quit → RanTo (zrun w n s) end old new → Cut new.seen after (newline_if new.begun ++ end_line end) → OutputFailed w s n new.left old.seen after
+pub end_cut : (w : ZGiven) (s : ZState) (n : ℕ) (end : ZEnd) (old new : Scene) (after : SinkView) → old.begun ≡ false → end ≢ ends.Quit → RanTo (zrun w n s) end old new → BrokeOff new.seen after (newline_if new.begun ++ end_line end) → OutputFailed w s n new.left old.seen after
 end_cut w s n end old new after first some ran cut =
     let r : ZRun = zrun w n s in
     inr (inl (record {
       left_is = ran.left;
-      cut = subst (λ (l : List ℕ). CutBehind old.seen after r.state.output l) (text_is r end new.begun some ran.ends (ran.begins ∙ ap (λ (b : Bool). is_open b r.state.output) first)) (cut_after old.seen new.seen after r.state.output (newline_if new.begun ++ end_line end) ran.wrote cut);
+      cut = subst (λ (l : List ℕ). BrokeBehind old.seen after r.state.output l) (text_is r end new.begun some ran.ends (ran.begins ∙ ap (λ (b : Bool). is_open b r.state.output) first)) (broke_after old.seen new.seen after r.state.output (newline_if new.begun ++ end_line end) ran.wrote cut);
     }))
 
 -- ---- the input failed
@@ -68,7 +70,7 @@ end_cut w s n end old new after first some ran cut =
 fault_text : (output : List ℕ) (begun : Bool) → begun ≡ is_open false output → output ++ (newline_if begun ++ unread_line) ≡ with_end_line output unread_line
 fault_text output begun begins = ap (λ (b : Bool). output ++ (newline_if b ++ unread_line)) begins ∙ sym (input_line_behind output)
 
-pub fault_shows : (w : ZGiven) (s : ZState) (n : ℕ) (old new : Scene) (after : Seen) → old.begun ≡ false → RanUnread w s n old new → Wrote new.seen after (newline_if new.begun ++ unread_line) → InputFailed w s n new.left old.seen after
+pub fault_shows : (w : ZGiven) (s : ZState) (n : ℕ) (old new : Scene) (after : SinkView) → old.begun ≡ false → RanUnread w s n old new → Wrote new.seen after (newline_if new.begun ++ unread_line) → InputFailed w s n new.left old.seen after
 fault_shows w s n old new after first ran wrote =
     let output : List ℕ = (zrun w ran.m s).state.output in
     record {
@@ -76,10 +78,10 @@ fault_shows w s n old new after first ran wrote =
       rest = ran.rest;
       left_is = ran.left;
       stopped = ran.stopped;
-      wrote = subst (λ (l : List ℕ). Wrote old.seen after l) (fault_text output new.begun (ran.begins ∙ ap (λ (b : Bool). is_open b output) first)) (wrote_both old.seen new.seen after output (newline_if new.begun ++ unread_line) ran.wrote wrote);
+      wrote = subst (λ (l : List ℕ). Wrote old.seen after l) (fault_text output new.begun (ran.begins ∙ ap (λ (b : Bool). is_open b output) first)) (wrote_on old.seen new.seen after output (newline_if new.begun ++ unread_line) ran.wrote wrote);
     }
 
-pub fault_cut : (w : ZGiven) (s : ZState) (n : ℕ) (old new : Scene) (after : Seen) → old.begun ≡ false → RanUnread w s n old new → Cut new.seen after (newline_if new.begun ++ unread_line) → OutputFailed w s n new.left old.seen after
+pub fault_cut : (w : ZGiven) (s : ZState) (n : ℕ) (old new : Scene) (after : SinkView) → old.begun ≡ false → RanUnread w s n old new → BrokeOff new.seen after (newline_if new.begun ++ unread_line) → OutputFailed w s n new.left old.seen after
 fault_cut w s n old new after first ran cut =
     let output : List ℕ = (zrun w ran.m s).state.output in
     inr (inr (record {
@@ -87,7 +89,7 @@ fault_cut w s n old new after first ran cut =
       rest = ran.rest;
       left_is = ran.left;
       stopped = ran.stopped;
-      cut = subst (λ (l : List ℕ). CutBehind old.seen after output l) (fault_text output new.begun (ran.begins ∙ ap (λ (b : Bool). is_open b output) first)) (cut_after old.seen new.seen after output (newline_if new.begun ++ unread_line) ran.wrote cut);
+      cut = subst (λ (l : List ℕ). BrokeBehind old.seen after output l) (fault_text output new.begun (ran.begins ∙ ap (λ (b : Bool). is_open b output) first)) (broke_after old.seen new.seen after output (newline_if new.begun ++ unread_line) ran.wrote cut);
     }))
 
 -- ---- the output failed
@@ -103,14 +105,14 @@ more_printed : (w : ZGiven) (k j : ℕ) (s : ZState) → Begins (zrun w k s).sta
 more_printed w k j s = subst (λ (r : ZRun). Begins (zrun w k s).state.output r.state.output) (sym ((run_laws w s).sum k j)) (piece_begins w j (zrun w k s).end (zrun w k s).state)
 
 -- where it failed in an instruction, it failed within all that is written of the run
-pub print_cut : (w : ZGiven) (s : ZState) (n : ℕ) (left : Option (List ℕ)) (old new : Seen) → PrintUnwritten w s n left old new → Cut old new (played_text (zrun w n s))
+pub print_cut : (w : ZGiven) (s : ZState) (n : ℕ) (left : Option (List ℕ)) (old new : SinkView) → PrintUnwritten w s n left old new → BrokeOff old new (played_text (zrun w n s))
 print_cut w s n left old new h =
     let r : ZRun = zrun w n s in
     let all : h.m + 1 + (n - (h.m + 1)) ≡ n = omega (arith, h.below) in
     let grown = subst (λ (k : ℕ). Begins (zrun w (h.m + 1) s).state.output (zrun w k s).state.output) all (more_printed w (h.m + 1) (n - (h.m + 1)) s) in
     let more = output_first r.state.output (end_line r.end) in
     let text : played_text r ≡ (zrun w (h.m + 1) s).state.output ++ (grown.more ++ more.0) = more.1 ∙ ap (λ (l : List ℕ). l ++ more.0) grown.is ∙ append_assoc (zrun w (h.m + 1) s).state.output grown.more more.0 in
-    subst (λ (l : List ℕ). Cut old new l) (sym text) (cut_before old new (zrun w (h.m + 1) s).state.output (grown.more ++ more.0) (cut_whole old new (zrun w h.m s).state.output (zrun w (h.m + 1) s).state.output h.cut))
+    subst (λ (l : List ℕ). BrokeOff old new l) (sym text) (broke_first old new (zrun w (h.m + 1) s).state.output (grown.more ++ more.0) (broke_whole old new (zrun w h.m s).state.output (zrun w (h.m + 1) s).state.output h.cut))
 
 -- ---- the start
 

@@ -1,16 +1,18 @@
 -- What a whole run did: the story's run as z_model gives it, with the line of its end.
 use Rattle.std.specs.Prelude.{◌≡◌, ◌<◌, ◌≤◌, ◌+◌, ◌⊎◌, ℕ, List, length, Option, Some, Result, Ok, Err}
 use Rattle.dg_base.specs.Causes.{Rose}
+use Rattle.dg_base.specs.Streams.{SourceView}
 use Rattle.z_model.specs.declared.end.ZEnd.{ZEnd}
 use Rattle.z_model.specs.declared.end.ZEnd.TheVariants as ends
 use Rattle.z_model.specs.Run.{ZGiven, ZState, ZRun, zrun}
 use Rattle.z_model.specs.Closing.{played_text, with_end_line, unread_line}
-use Rattle.z_play.specs.Output.{Seen, Wrote, CutBehind}
+use Rattle.dg_base.specs.Written.{SinkView, Wrote}
+use Rattle.z_play.specs.Output.{BrokeBehind}
 use Rattle.dg_base.specs.declared.run.Fault.{Fault}
 use Rattle.dg_base.specs.declared.run.Fault.TheVariants.{Read, Write}
 
 -- The run ended so; the sink took its output and the line of its end, and the typed bytes are left that it leaves.
-pub record Played (r : ZRun) (end : ZEnd) (left : Option (List ℕ)) (old new : Seen) : Type 0 where
+pub record Played (r : ZRun) (end : ZEnd) (left : Option (List ℕ)) (old new : SinkView) : Type 0 where
   pub ends : end ≡ r.end
   pub left_is : left ≡ Some r.state.typed
   pub wrote : Wrote old new (played_text r)
@@ -23,7 +25,7 @@ pub record StoppedAt (w : ZGiven) (s : ZState) (n m : ℕ) (rest : List ℕ) : T
   pub beyond : ((zrun w (m + 1) s).end ≡ ends.InputEnded) ⊎ ((length (zrun w (m + 1) s).state.typed ≤ length rest) × (length (zrun w (m + 1) s).state.typed < length (zrun w m s).state.typed))
 
 -- The input failed; the sink took the output until then, and the line that says so.
-pub record InputFailed (w : ZGiven) (s : ZState) (n : ℕ) (left : Option (List ℕ)) (old new : Seen) : Type 0 where
+pub record InputFailed (w : ZGiven) (s : ZState) (n : ℕ) (left : Option (List ℕ)) (old new : SinkView) : Type 0 where
   pub m : ℕ
   pub rest : List ℕ
   pub left_is : left ≡ Some rest
@@ -31,39 +33,39 @@ pub record InputFailed (w : ZGiven) (s : ZState) (n : ℕ) (left : Option (List 
   pub wrote : Wrote old new (with_end_line (zrun w m s).state.output unread_line)
 
 -- The output failed in what one instruction prints: the m before it don't end the run, the sink took what they print, and the typed bytes are left that they leave.
-pub record PrintUnwritten (w : ZGiven) (s : ZState) (n : ℕ) (left : Option (List ℕ)) (old new : Seen) : Type 0 where
+pub record PrintUnwritten (w : ZGiven) (s : ZState) (n : ℕ) (left : Option (List ℕ)) (old new : SinkView) : Type 0 where
   pub m : ℕ
   pub below : m < n
   pub limit : (zrun w m s).end ≡ ends.StepLimit
   pub left_is : left ≡ Some (zrun w m s).state.typed
-  pub cut : CutBehind old new (zrun w m s).state.output (zrun w (m + 1) s).state.output
+  pub cut : BrokeBehind old new (zrun w m s).state.output (zrun w (m + 1) s).state.output
 
 -- The output failed in the line of the run's end: the sink took the run's output, and the typed bytes are left that the run leaves.
-pub record EndUnwritten (r : ZRun) (left : Option (List ℕ)) (old new : Seen) : Type 0 where
+pub record EndUnwritten (r : ZRun) (left : Option (List ℕ)) (old new : SinkView) : Type 0 where
   pub left_is : left ≡ Some r.state.typed
-  pub cut : CutBehind old new r.state.output (played_text r)
+  pub cut : BrokeBehind old new r.state.output (played_text r)
 
 -- The input failed, and then the output in the line that says so: the sink took the output until then.
-pub record InputFailedUnwritten (w : ZGiven) (s : ZState) (n : ℕ) (left : Option (List ℕ)) (old new : Seen) : Type 0 where
+pub record InputFailedUnwritten (w : ZGiven) (s : ZState) (n : ℕ) (left : Option (List ℕ)) (old new : SinkView) : Type 0 where
   pub m : ℕ
   pub rest : List ℕ
   pub left_is : left ≡ Some rest
   pub stopped : StoppedAt w s n m rest
-  pub cut : CutBehind old new (zrun w m s).state.output (with_end_line (zrun w m s).state.output unread_line)
+  pub cut : BrokeBehind old new (zrun w m s).state.output (with_end_line (zrun w m s).state.output unread_line)
 
 -- The output failed within an instruction or in a line behind the run.
-abbrev pub OutputFailed : ZGiven → ZState → ℕ → Option (List ℕ) → Seen → Seen → Type 0
+abbrev pub OutputFailed : ZGiven → ZState → ℕ → Option (List ℕ) → SinkView → SinkView → Type 0
 OutputFailed w s n left old new = PrintUnwritten w s n left old new ⊎ (EndUnwritten (zrun w n s) left old new ⊎ InputFailedUnwritten w s n left old new)
 
 -- what a run did, by its answer
-abbrev pub Plays : Result ZEnd Fault → ZGiven → ZState → ℕ → Option (List ℕ) → Seen → Seen → Type 0
+abbrev pub Plays : Result ZEnd Fault → ZGiven → ZState → ℕ → Option (List ℕ) → SinkView → SinkView → Type 0
 Plays (Ok end) w s n left old new = Played (zrun w n s) end left old new
 Plays (Err Read) w s n left old new = InputFailed w s n left old new
 Plays (Err Write) w s n left old new = OutputFailed w s n left old new
 
 -- Each fault has its cause, and no count falls.
-pub record HasCauses {T : Type 0} (read read' write write' : ℕ) (result : Result T Fault) : Type 0 where
-  pub reads : read ≤ read'
-  pub writes : write ≤ write'
-  pub read_failed : result ≡ Err Read → Rose read read'
-  pub write_failed : result ≡ Err Write → Rose write write'
+pub record HasCauses {T : Type 0} (input input' : SourceView) (out out' : SinkView) (result : Result T Fault) : Type 0 where
+  pub reads : input.faults ≤ input'.faults
+  pub writes : out.faults ≤ out'.faults
+  pub read_failed : result ≡ Err Read → Rose input.faults input'.faults
+  pub write_failed : result ≡ Err Write → Rose out.faults out'.faults

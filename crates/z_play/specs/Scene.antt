@@ -7,7 +7,7 @@ use Rattle.z_model.specs.Table.{rows_of}
 use Rattle.z_model.specs.Machine.{Machine}
 use Rattle.z_model.specs.Run.{ZGiven, ZState, Next, On, Ended}
 use Rattle.z_model.specs.Closing.{is_open}
-use Rattle.z_play.specs.Output.{Seen, Wrote, Cut}
+use Rattle.dg_base.specs.Written.{SinkView, Wrote, BrokeOff}
 
 -- The machine, the place in the dice, whether a line is begun, the typed bytes left, and what the sink tells.
 pub record Scene : Type 0 where
@@ -15,9 +15,9 @@ pub record Scene : Type 0 where
   pub drawn : ℕ
   pub begun : Bool
   pub left : Option (List ℕ)
-  pub seen : Seen
+  pub seen : SinkView
 
-abbrev pub scene : Machine → ℕ → Bool → Option (List ℕ) → Seen → Scene
+abbrev pub scene : Machine → ℕ → Bool → Option (List ℕ) → SinkView → Scene
 scene m drawn begun left seen = record { machine = m; drawn = drawn; begun = begun; left = left; seen = seen }
 
 -- the player's table, with a layout and dice words
@@ -50,7 +50,7 @@ pub record Came (follows : List ℕ → Next) (halt : Option Halt) (old new : Sc
 pub record CutOff (follows : List ℕ → Next) (before : List ℕ) (old new : Scene) : Type 0 where
   pub left : new.left ≡ Some before
   pub text : List ℕ
-  pub cut : Cut old.seen new.seen text
+  pub cut : BrokeOff old.seen new.seen text
   pub halt : Option Halt
   pub last : Machine
   pub typed : List ℕ

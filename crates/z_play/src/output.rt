@@ -5,26 +5,13 @@ ghost use Rattle.z_model.specs.Zscii.{code_bytes, character_of};
 ghost use Rattle.z_model.specs.Text.{string_at, text_bytes};
 ghost use Rattle.z_model.specs.Numbers.{signed_16};
 ghost use Rattle.z_model.specs.Closing.{is_open};
-ghost use Rattle.z_play.specs.Output.{seen, Wrote, Cut};
-ghost use Rattle.dg_base.specs.Causes.{HasCause};
+ghost use Rattle.dg_base.specs.Written.{Wrote, BrokeOff};
 
 use crate::arith::signed;
-use dg_base::{Failed, Sink};
+use dg_base::{Sink, WriteFault, write_all};
 use itoa::Buffer;
 use z_model::EXTRA;
 use z_text::Walker;
-
-/// Writes a whole text.
-pub fn write_all<K: Sink>(sink: &mut K, text: &[u8]) -> Result<(), Failed>
-    ensures ok { OnOk result (Wrote (seen (K.taken sink.old) (K.room sink.old)) (seen (K.taken sink.new) (K.room sink.new)) text.now) }
-    ensures err { OnErr result (Cut (seen (K.taken sink.old) (K.room sink.old)) (seen (K.taken sink.new) (K.room sink.new)) text.now) }
-    ensures cause { HasCause (K.faults sink.old) (K.faults sink.new) result }
-{
-    match dg_base::write_all(sink, text) {
-        Ok(()) => Ok(()),
-        Err(_) => Err(Failed),
-    }
-}
 
 /// Whether a line is begun behind a text.
 pub fn begins(before: bool, text: &[u8]) -> bool
@@ -37,11 +24,10 @@ pub fn begins(before: bool, text: &[u8]) -> bool
     begun
 }
 
-fn write<K: Sink>(sink: &mut K, begun: bool, text: &[u8]) -> Result<bool, Failed>
-    ensures ok { OnOk result (Wrote (seen (K.taken sink.old) (K.room sink.old)) (seen (K.taken sink.new) (K.room sink.new)) text.now) }
+fn write<K: Sink>(sink: &mut K, begun: bool, text: &[u8]) -> Result<bool, WriteFault>
+    ensures ok { OnOk result (Wrote (K.view sink.old) (K.view sink.new) text.now) }
     ensures begun { IfOk result (λ now. now ≡ is_open begun text.now) }
-    ensures err { OnErr result (Cut (seen (K.taken sink.old) (K.room sink.old)) (seen (K.taken sink.new) (K.room sink.new)) text.now) }
-    ensures cause { HasCause (K.faults sink.old) (K.faults sink.new) result }
+    ensures err { OnErr result (BrokeOff (K.view sink.old) (K.view sink.new) text.now) }
 {
     match write_all(sink, text) {
         Ok(()) => Ok(begins(begun, text)),
@@ -50,12 +36,11 @@ fn write<K: Sink>(sink: &mut K, begun: bool, text: &[u8]) -> Result<bool, Failed
 }
 
 /// Writes a character.
-pub fn write_unicode<K: Sink>(sink: &mut K, begun: bool, character: u16) -> Result<bool, Failed>
+pub fn write_unicode<K: Sink>(sink: &mut K, begun: bool, character: u16) -> Result<bool, WriteFault>
     requires { (character < 0xD800) ⊎ ((0xE000 ≤ character) × (character < 65536)) }
-    ensures ok { OnOk result (Wrote (seen (K.taken sink.old) (K.room sink.old)) (seen (K.taken sink.new) (K.room sink.new)) (encode_utf8 character)) }
+    ensures ok { OnOk result (Wrote (K.view sink.old) (K.view sink.new) (encode_utf8 character)) }
     ensures begun { IfOk result (λ now. now ≡ is_open begun (encode_utf8 character)) }
-    ensures err { OnErr result (Cut (seen (K.taken sink.old) (K.room sink.old)) (seen (K.taken sink.new) (K.room sink.new)) (encode_utf8 character)) }
-    ensures cause { HasCause (K.faults sink.old) (K.faults sink.new) result }
+    ensures err { OnErr result (BrokeOff (K.view sink.old) (K.view sink.new) (encode_utf8 character)) }
 {
     let character = char::from_u32(character as u32).unwrap();
     let mut buffer = [0; 4];
@@ -78,11 +63,10 @@ fn character_of(code: u16) -> u16
 
 /// Writes the character of a code.
 #[tactic(auto, unfolding(z_model::specs::Zscii::code_bytes))]
-pub fn write_code<K: Sink>(sink: &mut K, begun: bool, code: u16) -> Result<bool, Failed>
-    ensures ok { OnOk result (Wrote (seen (K.taken sink.old) (K.room sink.old)) (seen (K.taken sink.new) (K.room sink.new)) (code_bytes code)) }
+pub fn write_code<K: Sink>(sink: &mut K, begun: bool, code: u16) -> Result<bool, WriteFault>
+    ensures ok { OnOk result (Wrote (K.view sink.old) (K.view sink.new) (code_bytes code)) }
     ensures begun { IfOk result (λ now. now ≡ is_open begun (code_bytes code)) }
-    ensures err { OnErr result (Cut (seen (K.taken sink.old) (K.room sink.old)) (seen (K.taken sink.new) (K.room sink.new)) (code_bytes code)) }
-    ensures cause { HasCause (K.faults sink.old) (K.faults sink.new) result }
+    ensures err { OnErr result (BrokeOff (K.view sink.old) (K.view sink.new) (code_bytes code)) }
 {
     if code == 0 {
         return write(sink, begun, &[]);
@@ -91,11 +75,10 @@ pub fn write_code<K: Sink>(sink: &mut K, begun: bool, code: u16) -> Result<bool,
 }
 
 /// Writes a word as a signed number.
-pub fn write_number<K: Sink>(sink: &mut K, begun: bool, word: u16) -> Result<bool, Failed>
-    ensures ok { OnOk result (Wrote (seen (K.taken sink.old) (K.room sink.old)) (seen (K.taken sink.new) (K.room sink.new)) (signed_decimal (signed_16 word))) }
+pub fn write_number<K: Sink>(sink: &mut K, begun: bool, word: u16) -> Result<bool, WriteFault>
+    ensures ok { OnOk result (Wrote (K.view sink.old) (K.view sink.new) (signed_decimal (signed_16 word))) }
     ensures begun { IfOk result (λ now. now ≡ is_open begun (signed_decimal (signed_16 word))) }
-    ensures err { OnErr result (Cut (seen (K.taken sink.old) (K.room sink.old)) (seen (K.taken sink.new) (K.room sink.new)) (signed_decimal (signed_16 word))) }
-    ensures cause { HasCause (K.faults sink.old) (K.faults sink.new) result }
+    ensures err { OnErr result (BrokeOff (K.view sink.old) (K.view sink.new) (signed_decimal (signed_16 word))) }
 {
     let mut buffer = Buffer::new();
     write(sink, begun, buffer.format(signed(word)).as_bytes())
@@ -107,11 +90,10 @@ pub fn write_text<K: Sink>(
     begun: bool,
     memory: &[u8],
     at: usize,
-) -> Result<bool, Failed>
-    ensures ok { OnOk result (Wrote (seen (K.taken sink.old) (K.room sink.old)) (seen (K.taken sink.new) (K.room sink.new)) (text_bytes (string_at memory.now at))) }
+) -> Result<bool, WriteFault>
+    ensures ok { OnOk result (Wrote (K.view sink.old) (K.view sink.new) (text_bytes (string_at memory.now at))) }
     ensures begun { IfOk result (λ now. now ≡ is_open begun (text_bytes (string_at memory.now at))) }
-    ensures err { OnErr result (Cut (seen (K.taken sink.old) (K.room sink.old)) (seen (K.taken sink.new) (K.room sink.new)) (text_bytes (string_at memory.now at))) }
-    ensures cause { HasCause (K.faults sink.old) (K.faults sink.new) result }
+    ensures err { OnErr result (BrokeOff (K.view sink.old) (K.view sink.new) (text_bytes (string_at memory.now at))) }
 {
     let mut walker = Walker::new(at);
     let mut now = begun;
@@ -133,11 +115,10 @@ pub fn write_line<K: Sink>(
     begun: bool,
     memory: &[u8],
     at: usize,
-) -> Result<bool, Failed>
-    ensures ok { OnOk result (Wrote (seen (K.taken sink.old) (K.room sink.old)) (seen (K.taken sink.new) (K.room sink.new)) (text_bytes (string_at memory.now at) ++ 10 ∷ [])) }
+) -> Result<bool, WriteFault>
+    ensures ok { OnOk result (Wrote (K.view sink.old) (K.view sink.new) (text_bytes (string_at memory.now at) ++ 10 ∷ [])) }
     ensures begun { IfOk result (λ now. now ≡ is_open begun (text_bytes (string_at memory.now at) ++ 10 ∷ [])) }
-    ensures err { OnErr result (Cut (seen (K.taken sink.old) (K.room sink.old)) (seen (K.taken sink.new) (K.room sink.new)) (text_bytes (string_at memory.now at) ++ 10 ∷ [])) }
-    ensures cause { HasCause (K.faults sink.old) (K.faults sink.new) result }
+    ensures err { OnErr result (BrokeOff (K.view sink.old) (K.view sink.new) (text_bytes (string_at memory.now at) ++ 10 ∷ [])) }
 {
     match write_text(sink, begun, memory, at) {
         Ok(now) => write(sink, now, b"\n"),

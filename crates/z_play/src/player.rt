@@ -5,7 +5,7 @@ ghost use Rattle.z_model.specs.Closing.{is_open, end_line, newline_if, unread_li
 ghost use Rattle.z_model.specs.Story.{refusal_of, first_machine, given_of, start_state, IsHeader};
 ghost use Rattle.z_play.specs.View.{machine, Sound, Kept};
 ghost use Rattle.z_play.specs.Effects.{CanFinish};
-ghost use Rattle.z_play.specs.Output.{seen, Wrote, Cut};
+ghost use Rattle.dg_base.specs.Written.{Wrote, BrokeOff};
 ghost use Rattle.z_play.specs.Scene.{scene, given_by, state};
 ghost use Rattle.z_play.specs.Acting.{text_of, Finishes};
 ghost use Rattle.z_play.specs.Advancing.{Advances, RunsOn};
@@ -14,9 +14,9 @@ ghost use Rattle.z_play.specs.Ready.{IsStory, IsLoaded};
 ghost use Rattle.dg_base.specs.Causes.{HasCause};
 
 use crate::engine::{Called, Engine};
-use crate::output::{write_all, write_code, write_line, write_number, write_text, write_unicode};
+use crate::output::{write_code, write_line, write_number, write_text, write_unicode};
 use crate::typed::take_line;
-use dg_base::{Failed, Fault, Sink, Source};
+use dg_base::{Failed, Fault, Sink, Source, WriteFault, write_all, write_pieces};
 use itoa::Buffer;
 use std::alloc::{AllocError, Global};
 use std::marker::Model;
@@ -49,17 +49,11 @@ const OPENING: Called = Called {
 };
 
 // Writes what an instruction prints.
-fn print<K: Sink>(
-    engine: &Engine,
-    effect: Effect,
-    begun: bool,
-    sink: &mut K,
-) -> Result<bool, Failed>
+fn print<K: Sink>(engine: &Engine, effect: Effect, begun: bool, sink: &mut K) -> Result<bool, WriteFault>
     requires { CanFinish effect engine.now.layout (machine engine.now) }
-    ensures ok { OnOk result (Wrote (seen (K.taken sink.old) (K.room sink.old)) (seen (K.taken sink.new) (K.room sink.new)) (text_of effect (machine engine.now))) }
+    ensures ok { OnOk result (Wrote (K.view sink.old) (K.view sink.new) (text_of effect (machine engine.now))) }
     ensures begun { IfOk result (λ now. now ≡ is_open begun (text_of effect (machine engine.now))) }
-    ensures err { OnErr result (Cut (seen (K.taken sink.old) (K.room sink.old)) (seen (K.taken sink.new) (K.room sink.new)) (text_of effect (machine engine.now))) }
-    ensures cause { HasCause (K.faults sink.old) (K.faults sink.new) result }
+    ensures err { OnErr result (BrokeOff (K.view sink.old) (K.view sink.new) (text_of effect (machine engine.now))) }
 {
     match effect {
         Effect::PrintsCode(code) => write_code(sink, begun, code),
@@ -82,8 +76,8 @@ fn read_line<S: Source>(
     requires sound { Sound engine.old }
     requires can { CanFinish (Effect.Reads buffer most store) engine.old.layout (machine engine.old) }
     ensures kept { Kept engine.old engine.new }
-    ensures told { (dice typed : List ℕ) (drawn : ℕ) → S.left source.old ≡ Some typed → Finishes result (given_by engine.old.layout dice) (Effect.Reads buffer most store) (machine engine.old) typed drawn (machine engine.new) (S.left source.new) drawn }
-    ensures cause { HasCause (S.faults source.old) (S.faults source.new) result }
+    ensures told { (dice typed : List ℕ) (drawn : ℕ) → (S.view source.old).left ≡ Some typed → Finishes result (given_by engine.old.layout dice) (Effect.Reads buffer most store) (machine engine.old) typed drawn (machine engine.new) (S.view source.new).left drawn }
+    ensures cause { HasCause (S.view source.old).faults (S.view source.new).faults result }
 {
     let mut room = [0; 255];
     let line = &mut room[..most as usize];
@@ -110,8 +104,8 @@ fn finish<S: Source>(
     requires drawn { drawn.old < length dice.now }
     ensures kept { Kept engine.old engine.new }
     ensures drawn { drawn.new < length dice.now }
-    ensures told { (typed : List ℕ) → S.left source.old ≡ Some typed → Finishes result (given_by engine.old.layout dice.now) effect (machine engine.old) typed drawn.old (machine engine.new) (S.left source.new) drawn.new }
-    ensures cause { HasCause (S.faults source.old) (S.faults source.new) result }
+    ensures told { (typed : List ℕ) → (S.view source.old).left ≡ Some typed → Finishes result (given_by engine.old.layout dice.now) effect (machine engine.old) typed drawn.old (machine engine.new) (S.view source.new).left drawn.new }
+    ensures cause { HasCause (S.view source.old).faults (S.view source.new).faults result }
 {
     match effect {
         Effect::PrintsLine(_) => {
@@ -145,8 +139,8 @@ fn advance<S: Source, K: Sink>(
     requires drawn { drawn.old < length dice.now }
     ensures kept { Kept engine.old engine.new }
     ensures drawn { drawn.new < length dice.now }
-    ensures told { (typed : List ℕ) → S.left source.old ≡ Some typed → Advances result (given_by engine.old.layout dice.now) typed (scene (machine engine.old) drawn.old begun.old (S.left source.old) (seen (K.taken sink.old) (K.room sink.old))) (scene (machine engine.new) drawn.new begun.new (S.left source.new) (seen (K.taken sink.new) (K.room sink.new))) }
-    ensures causes { HasCauses (S.faults source.old) (S.faults source.new) (K.faults sink.old) (K.faults sink.new) result }
+    ensures told { (typed : List ℕ) → (S.view source.old).left ≡ Some typed → Advances result (given_by engine.old.layout dice.now) typed (scene (machine engine.old) drawn.old begun.old (S.view source.old).left (K.view sink.old)) (scene (machine engine.new) drawn.new begun.new (S.view source.new).left (K.view sink.new)) }
+    ensures causes { HasCauses (S.view source.old) (S.view source.new) (K.view sink.old) (K.view sink.new) result }
 {
     let at = engine.pc;
     match engine.step(dice[*drawn]) {
@@ -187,8 +181,8 @@ fn run_steps<S: Source, K: Sink>(
     requires sound { Sound engine.old }
     requires dice { 0 < length dice.now }
     ensures kept { Kept engine.old engine.new }
-    ensures told { (typed : List ℕ) → S.left source.old ≡ Some typed → (drawn : ℕ) → RunsOn result (given_by engine.old.layout dice.now) (state (machine engine.old) typed 0 []) steps (scene (machine engine.old) 0 begun.old (S.left source.old) (seen (K.taken sink.old) (K.room sink.old))) (scene (machine engine.new) drawn begun.new (S.left source.new) (seen (K.taken sink.new) (K.room sink.new))) }
-    ensures causes { HasCauses (S.faults source.old) (S.faults source.new) (K.faults sink.old) (K.faults sink.new) result }
+    ensures told { (typed : List ℕ) → (S.view source.old).left ≡ Some typed → (drawn : ℕ) → RunsOn result (given_by engine.old.layout dice.now) (state (machine engine.old) typed 0 []) steps (scene (machine engine.old) 0 begun.old (S.view source.old).left (K.view sink.old)) (scene (machine engine.new) drawn begun.new (S.view source.new).left (K.view sink.new)) }
+    ensures causes { HasCauses (S.view source.old) (S.view source.new) (K.view sink.old) (K.view sink.new) result }
 {
     let mut drawn = 0;
     let mut left = steps;
@@ -204,33 +198,21 @@ fn run_steps<S: Source, K: Sink>(
     Ok(ZEnd::StepLimit)
 }
 
-fn write_broken<K: Sink>(sink: &mut K, fault: ZFault, at: u32) -> Result<(), Failed>
-    ensures ok { OnOk result (Wrote (seen (K.taken sink.old) (K.room sink.old)) (seen (K.taken sink.new) (K.room sink.new)) (end_line (ZEnd.Broken fault at))) }
-    ensures err { OnErr result (Cut (seen (K.taken sink.old) (K.room sink.old)) (seen (K.taken sink.new) (K.room sink.new)) (end_line (ZEnd.Broken fault at))) }
-    ensures cause { HasCause (K.faults sink.old) (K.faults sink.new) result }
+fn write_broken<K: Sink>(sink: &mut K, fault: ZFault, at: u32) -> Result<(), WriteFault>
+    ensures ok { OnOk result (Wrote (K.view sink.old) (K.view sink.new) (end_line (ZEnd.Broken fault at))) }
+    ensures err { OnErr result (BrokeOff (K.view sink.old) (K.view sink.new) (end_line (ZEnd.Broken fault at))) }
 {
     let mut number = Buffer::new();
     let mut place = Buffer::new();
-    if let Err(failed) = write_all(sink, b"[Broken: ") {
-        return Err(failed);
-    }
-    if let Err(failed) = write_all(sink, number.format(fault.number()).as_bytes()) {
-        return Err(failed);
-    }
-    if let Err(failed) = write_all(sink, b" at ") {
-        return Err(failed);
-    }
-    if let Err(failed) = write_all(sink, place.format(at).as_bytes()) {
-        return Err(failed);
-    }
-    write_all(sink, b"]\n")
+    let number = number.format(fault.number()).as_bytes();
+    let place = place.format(at).as_bytes();
+    write_pieces(sink, &[b"[Broken: ", number, b" at ", place, b"]\n"])
 }
 
 // Writes the line of an end.
-fn write_end<K: Sink>(sink: &mut K, end: ZEnd) -> Result<(), Failed>
-    ensures ok { OnOk result (Wrote (seen (K.taken sink.old) (K.room sink.old)) (seen (K.taken sink.new) (K.room sink.new)) (end_line end)) }
-    ensures err { OnErr result (Cut (seen (K.taken sink.old) (K.room sink.old)) (seen (K.taken sink.new) (K.room sink.new)) (end_line end)) }
-    ensures cause { HasCause (K.faults sink.old) (K.faults sink.new) result }
+fn write_end<K: Sink>(sink: &mut K, end: ZEnd) -> Result<(), WriteFault>
+    ensures ok { OnOk result (Wrote (K.view sink.old) (K.view sink.new) (end_line end)) }
+    ensures err { OnErr result (BrokeOff (K.view sink.old) (K.view sink.new) (end_line end)) }
 {
     match end {
         ZEnd::Quit => Ok(()),
@@ -240,10 +222,9 @@ fn write_end<K: Sink>(sink: &mut K, end: ZEnd) -> Result<(), Failed>
     }
 }
 
-fn write_newline<K: Sink>(sink: &mut K, begun: bool) -> Result<(), Failed>
-    ensures ok { OnOk result (Wrote (seen (K.taken sink.old) (K.room sink.old)) (seen (K.taken sink.new) (K.room sink.new)) (newline_if begun)) }
-    ensures err { OnErr result (Cut (seen (K.taken sink.old) (K.room sink.old)) (seen (K.taken sink.new) (K.room sink.new)) (newline_if begun)) }
-    ensures cause { HasCause (K.faults sink.old) (K.faults sink.new) result }
+fn write_newline<K: Sink>(sink: &mut K, begun: bool) -> Result<(), WriteFault>
+    ensures ok { OnOk result (Wrote (K.view sink.old) (K.view sink.new) (newline_if begun)) }
+    ensures err { OnErr result (BrokeOff (K.view sink.old) (K.view sink.new) (newline_if begun)) }
 {
     if begun {
         write_all(sink, b"\n")
@@ -253,10 +234,9 @@ fn write_newline<K: Sink>(sink: &mut K, begun: bool) -> Result<(), Failed>
 }
 
 // Writes the line of an end on a line of its own.
-fn close<K: Sink>(sink: &mut K, begun: bool, end: ZEnd) -> Result<(), Failed>
-    ensures ok { OnOk result (Wrote (seen (K.taken sink.old) (K.room sink.old)) (seen (K.taken sink.new) (K.room sink.new)) (newline_if begun ++ end_line end)) }
-    ensures err { OnErr result (Cut (seen (K.taken sink.old) (K.room sink.old)) (seen (K.taken sink.new) (K.room sink.new)) (newline_if begun ++ end_line end)) }
-    ensures cause { HasCause (K.faults sink.old) (K.faults sink.new) result }
+fn close<K: Sink>(sink: &mut K, begun: bool, end: ZEnd) -> Result<(), WriteFault>
+    ensures ok { OnOk result (Wrote (K.view sink.old) (K.view sink.new) (newline_if begun ++ end_line end)) }
+    ensures err { OnErr result (BrokeOff (K.view sink.old) (K.view sink.new) (newline_if begun ++ end_line end)) }
 {
     match write_newline(sink, begun) {
         Ok(()) => write_end(sink, end),
@@ -265,10 +245,9 @@ fn close<K: Sink>(sink: &mut K, begun: bool, end: ZEnd) -> Result<(), Failed>
 }
 
 // Says on a line of its own that the input failed.
-fn close_failed<K: Sink>(sink: &mut K, begun: bool) -> Result<(), Failed>
-    ensures ok { OnOk result (Wrote (seen (K.taken sink.old) (K.room sink.old)) (seen (K.taken sink.new) (K.room sink.new)) (newline_if begun ++ unread_line)) }
-    ensures err { OnErr result (Cut (seen (K.taken sink.old) (K.room sink.old)) (seen (K.taken sink.new) (K.room sink.new)) (newline_if begun ++ unread_line)) }
-    ensures cause { HasCause (K.faults sink.old) (K.faults sink.new) result }
+fn close_failed<K: Sink>(sink: &mut K, begun: bool) -> Result<(), WriteFault>
+    ensures ok { OnOk result (Wrote (K.view sink.old) (K.view sink.new) (newline_if begun ++ unread_line)) }
+    ensures err { OnErr result (BrokeOff (K.view sink.old) (K.view sink.new) (newline_if begun ++ unread_line)) }
 {
     match write_newline(sink, begun) {
         Ok(()) => write_all(sink, b"[Input fault]\n"),
@@ -366,8 +345,8 @@ impl Player {
     ) -> Result<ZEnd, Fault>
         requires { 0 < length dice.now }
         ensures kept { self.new ≡ self.old }
-        ensures told { (typed : List ℕ) → S.left source.old ≡ Some typed → Plays result (given_of self.old dice.now) (start_state self.old typed) steps (S.left source.new) (seen (K.taken sink.old) (K.room sink.old)) (seen (K.taken sink.new) (K.room sink.new)) }
-        ensures causes { HasCauses (S.faults source.old) (S.faults source.new) (K.faults sink.old) (K.faults sink.new) result }
+        ensures told { (typed : List ℕ) → (S.view source.old).left ≡ Some typed → Plays result (given_of self.old dice.now) (start_state self.old typed) steps (S.view source.new).left (K.view sink.old) (K.view sink.new) }
+        ensures causes { HasCauses (S.view source.old) (S.view source.new) (K.view sink.old) (K.view sink.new) result }
     {
         reset(&mut self.engine, &self.story, self.start);
         let mut begun = false;

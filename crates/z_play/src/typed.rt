@@ -34,9 +34,9 @@ fn keep(line: &mut [u8], kept: usize, byte: u8) -> usize
 
 // The next byte of a line, which may have so many more; none at its end.
 fn next_byte<S: Source>(source: &mut S, room: u32) -> Result<Option<u8>, Failed>
-    ensures told { (typed : List ℕ) → S.left source.old ≡ Some typed → TakesNext result room typed (S.left source.new) }
+    ensures told { (typed : List ℕ) → (S.view source.old).left ≡ Some typed → TakesNext result room typed (S.view source.new).left }
     ensures room { IfOk result (λ byte. IfSome byte (λ b. 0 < room)) }
-    ensures cause { HasCause (S.faults source.old) (S.faults source.new) result }
+    ensures cause { HasCause (S.view source.old).faults (S.view source.new).faults result }
 {
     if room == 0 {
         return Ok(None);
@@ -55,8 +55,8 @@ fn next_byte<S: Source>(source: &mut S, room: u32) -> Result<Option<u8>, Failed>
 // The rest of a line behind its first byte, of which as many codes are kept as there is room for.
 fn take_rest<S: Source>(source: &mut S, line: &mut [u8], first: u8) -> Result<usize, Failed>
     ensures within { IfOk result (λ kept. kept ≤ length line.new) }
-    ensures told { (typed : List ℕ) → S.left source.old ≡ Some typed → TakesRest result first typed line.new (S.left source.new) }
-    ensures cause { HasCause (S.faults source.old) (S.faults source.new) result }
+    ensures told { (typed : List ℕ) → (S.view source.old).left ≡ Some typed → TakesRest result first typed line.new (S.view source.new).left }
+    ensures cause { HasCause (S.view source.old).faults (S.view source.new).faults result }
 {
     let mut kept = 0;
     let mut held = first;
@@ -90,8 +90,8 @@ fn keep_last(line: &mut [u8], kept: usize, held: u8) -> usize
 /// Takes a typed line, of which as many codes are kept as there is room for; none where no byte is left.
 pub fn take_line<S: Source>(source: &mut S, line: &mut [u8]) -> Result<Option<usize>, Failed>
     ensures within { IfOk result (λ kept. IfSome kept (λ n. n ≤ length line.new)) }
-    ensures told { (typed : List ℕ) → S.left source.old ≡ Some typed → TakesLine result typed line.new (S.left source.new) }
-    ensures cause { HasCause (S.faults source.old) (S.faults source.new) result }
+    ensures told { (typed : List ℕ) → (S.view source.old).left ≡ Some typed → TakesLine result typed line.new (S.view source.new).left }
+    ensures cause { HasCause (S.view source.old).faults (S.view source.new).faults result }
 {
     let first = match source.next() {
         Err(failed) => return Err(failed),

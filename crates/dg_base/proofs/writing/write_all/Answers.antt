@@ -1,5 +1,4 @@
 use Rattle.std.proofs.Common.{arith}
-use Rattle.dg_base.specs.Written.{view}
 use Rattle.dg_base.proofs.WrittenLemmas.{rest_length, wrote_more, put_failed, falls}
 use Rattle.dg_base.proofs.writing.write_all.Goals as goal
 
@@ -10,13 +9,13 @@ loop-at-preserved g c =
     record {
       within = omega (arith, put.part.0, rest_length c.args.text.now c.loop-at.at, inv.within, c.loop-at-test.true);
       wrote =
-          wrote_more (view (g.K.Sink.taken c.args.sink.now) (g.K.Sink.room c.args.sink.now) (g.K.Sink.faults c.args.sink.now)) (view (g.K.Sink.taken c.loop-at.sink) (g.K.Sink.room c.loop-at.sink) (g.K.Sink.faults c.loop-at.sink))
-          (view (g.K.Sink.taken c.put.new.self) (g.K.Sink.room c.put.new.self) (g.K.Sink.faults c.put.new.self)) c.args.text.now c.loop-at.at c.in-Ok.count put.part.0 inv.wrote put.taken (falls _ (g.K.Sink.room c.loop-at.sink) (g.K.Sink.room c.put.new.self) c.in-Ok.count put.room) put.cause.later;
+          wrote_more (g.K.Sink.view c.args.sink.now) (g.K.Sink.view c.loop-at.sink)
+          (g.K.Sink.view c.put.new.self) c.args.text.now c.loop-at.at c.in-Ok.count put.part.0 inv.wrote put.taken (falls _ (g.K.Sink.view c.loop-at.sink).room (g.K.Sink.view c.put.new.self).room c.in-Ok.count put.room) put.cause.later;
     }
 
 pub returns-in-Err-clause-err : goal.returns-in-Err-clause-err
 returns-in-Err-clause-err g c =
     let inv = c.loop-at.invariant in
     let put = c.in-Err.ensures in
-    put_failed (view (g.K.Sink.taken c.args.sink.now) (g.K.Sink.room c.args.sink.now) (g.K.Sink.faults c.args.sink.now)) (view (g.K.Sink.taken c.loop-at.sink) (g.K.Sink.room c.loop-at.sink) (g.K.Sink.faults c.loop-at.sink))
-    (view (g.K.Sink.taken c.put.new.self) (g.K.Sink.room c.put.new.self) (g.K.Sink.faults c.put.new.self)) c.args.text.now c.loop-at.at _ inv.within inv.wrote put.taken put.fits put.cause.later put.cause.failed
+    put_failed (g.K.Sink.view c.args.sink.now) (g.K.Sink.view c.loop-at.sink)
+    (g.K.Sink.view c.put.new.self) c.args.text.now c.loop-at.at _ inv.within inv.wrote put.taken put.fits put.cause.later put.cause.failed

@@ -1,11 +1,11 @@
 use Rattle.std.proofs.Common.{length, take, ◌-◌, ◌≤◌}
-use Rattle.dg_base.specs.Written.{view, Wrote}
+use Rattle.dg_base.specs.Written.{Wrote}
 use Rattle.dg_base.proofs.writing.write_all.Given as goal
 
 abbrev pub invariant-loop-at : goal.invariant-loop-at
 invariant-loop-at g l = record {
   within : l.at ≤ length l.text;
-  wrote : Wrote (view (g.K.Sink.taken l.initial.sink) (g.K.Sink.room l.initial.sink) (g.K.Sink.faults l.initial.sink)) (view (g.K.Sink.taken l.sink) (g.K.Sink.room l.sink) (g.K.Sink.faults l.sink)) (take l.at l.text);
+  wrote : Wrote (g.K.Sink.view l.initial.sink) (g.K.Sink.view l.sink) (take l.at l.text);
 }
 
 abbrev pub decreases-loop-at : goal.decreases-loop-at

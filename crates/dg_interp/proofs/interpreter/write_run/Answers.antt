@@ -1,5 +1,4 @@
 use Rattle.std.proofs.Common.{[]}
-use Rattle.dg_base.specs.Written.{view}
 use Rattle.dg_interp.proofs.Whole.{left_within, has_shown, closing_lost, text_lost, nothing_read, memory_shown, memory_closing_lost}
 use Rattle.dg_interp.proofs.interpreter.write_run.Goals as goal
 
@@ -16,11 +15,11 @@ returns-in-Err-clause-err g c = λ dice typed told is.
 
 pub returns-in-Err-Read-clause-err : goal.returns-in-Err-Read-clause-err
 returns-in-Err-Read-clause-err g c = λ dice typed told is.
-    absurd (nothing_read c.args.program.now c.args.limits.now c.args.engine.now c.requires.starts c.new-spacer.result c.run.new.spacer (view (g.K.Sink.taken c.args.sink.now) (g.K.Sink.room c.args.sink.now) (g.K.Sink.faults c.args.sink.now)) (view (g.K.Sink.taken c.run.new.sink) (g.K.Sink.room c.run.new.sink) (g.K.Sink.faults c.run.new.sink)) c.new-spacer.ensures dice typed (rw c.in-Err-Read.field-0-is at c.in-Err-Read.ensures.err))
+    absurd (nothing_read c.args.program.now c.args.limits.now c.args.engine.now c.requires.starts c.new-spacer.result c.run.new.spacer (g.K.Sink.view c.args.sink.now) (g.K.Sink.view c.run.new.sink) c.new-spacer.ensures dice typed (rw c.in-Err-Read.field-0-is at c.in-Err-Read.ensures.err))
 
 pub returns-in-Err-Read-clause-reads : goal.returns-in-Err-Read-clause-reads
 returns-in-Err-Read-clause-reads g c = λ _.
-    nothing_read c.args.program.now c.args.limits.now c.args.engine.now c.requires.starts c.new-spacer.result c.run.new.spacer (view (g.K.Sink.taken c.args.sink.now) (g.K.Sink.room c.args.sink.now) (g.K.Sink.faults c.args.sink.now)) (view (g.K.Sink.taken c.run.new.sink) (g.K.Sink.room c.run.new.sink) (g.K.Sink.faults c.run.new.sink)) c.new-spacer.ensures [] [] (rw c.in-Err-Read.field-0-is at c.in-Err-Read.ensures.err)
+    nothing_read c.args.program.now c.args.limits.now c.args.engine.now c.requires.starts c.new-spacer.result c.run.new.spacer (g.K.Sink.view c.args.sink.now) (g.K.Sink.view c.run.new.sink) c.new-spacer.ensures [] [] (rw c.in-Err-Read.field-0-is at c.in-Err-Read.ensures.err)
 
 pub returns-in-Err-Write-clause-err : goal.returns-in-Err-Write-clause-err
 returns-in-Err-Write-clause-err g c = λ dice typed told is.

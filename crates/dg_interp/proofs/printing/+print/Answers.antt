@@ -1,5 +1,4 @@
 use Rattle.std.proofs.Common.{arith}
-use Rattle.dg_base.specs.Written.{view}
 use Rattle.dg_unify.proofs.StoreLemmas.{walked_to, holds_some}
 use Rattle.dg_interp.proofs.PrintLemmas.{pair_size, listing_starts, element_stops, element_on, list_ends, single_at, list_stops, list_follows, single_printed}
 use Rattle.dg_interp.proofs.printing.+print.Goals as goal
@@ -19,18 +18,18 @@ print_list-elements-smaller g t c =
 pub print_list-elements-preserved : goal.print_list-elements-preserved
 print_list-elements-preserved g t c =
     let s = g.B.Bindings.meaning c.args.store.now in
-    let start = view (g.K.Sink.taken c.args.sink.now) (g.K.Sink.room c.args.sink.now) (g.K.Sink.faults c.args.sink.now) in
-    let before = view (g.K.Sink.taken c.elements.sink) (g.K.Sink.room c.elements.sink) (g.K.Sink.faults c.elements.sink) in
-    let now = view (g.K.Sink.taken c.print_value.new.sink) (g.K.Sink.room c.print_value.new.sink) (g.K.Sink.faults c.print_value.new.sink) in
+    let start = g.K.Sink.view c.args.sink.now in
+    let before = g.K.Sink.view c.elements.sink in
+    let now = g.K.Sink.view c.print_value.new.sink in
     record { listing = element_on s (g.met.B.Bindings.sound c.args.store.now) c.args.program.now c.args.head c.args.tail c.elements.head c.elements.tail c.in-Pair.next c.in-Pair.others c.args.spacer.now c.elements.spacer c.print_value.new.spacer start before now c.elements.invariant.listing c.in-Ok.ensures c.in-Pair.ensures }
 
 pub print_list-returns-in_default : goal.print_list-returns-in_default
 print_list-returns-in_default g t c =
     let s = g.B.Bindings.meaning c.args.store.now in
-    let start = view (g.K.Sink.taken c.args.sink.now) (g.K.Sink.room c.args.sink.now) (g.K.Sink.faults c.args.sink.now) in
-    let before = view (g.K.Sink.taken c.elements.sink) (g.K.Sink.room c.elements.sink) (g.K.Sink.faults c.elements.sink) in
-    let now = view (g.K.Sink.taken c.print_value.new.sink) (g.K.Sink.room c.print_value.new.sink) (g.K.Sink.faults c.print_value.new.sink) in
-    let later = view (g.K.Sink.taken c.print_end.new.sink) (g.K.Sink.room c.print_end.new.sink) (g.K.Sink.faults c.print_end.new.sink) in
+    let start = g.K.Sink.view c.args.sink.now in
+    let before = g.K.Sink.view c.elements.sink in
+    let now = g.K.Sink.view c.print_value.new.sink in
+    let later = g.K.Sink.view c.print_end.new.sink in
     let single = single_at s (g.met.B.Bindings.sound c.args.store.now) c.args.program.now c.elements.tail c.walk.result c.in_default.not-Pair c.walk.ensures in
     list_ends s c.args.program.now c.args.head c.args.tail c.elements.head c.elements.tail c.args.spacer.now c.elements.spacer c.print_value.new.spacer c.print_end.new.spacer start before now later c.print_end.result c.elements.invariant.listing c.in-Ok.ensures single (c.print_end.ensures (walked_to s c.elements.tail) c.walk.ensures)
 

@@ -1,4 +1,3 @@
-use Rattle.dg_base.specs.Written.{view}
 use Rattle.dg_meaning.specs.Unify.{size}
 use Rattle.dg_interp.proofs.PrintLemmas.{value_at, room, Listing}
 use Rattle.dg_interp.proofs.printing.+print.Given as goal
@@ -11,7 +10,7 @@ decreases-print_value g l = size (value_at (g.B.Bindings.meaning l.store.now) l.
 
 abbrev pub invariant-print_list-elements : goal.invariant-print_list-elements
 invariant-print_list-elements g l = record {
-  listing : Listing (g.B.Bindings.meaning l.store) l.program l.fn.head l.fn.tail l.head l.tail l.fn.spacer l.spacer (view (g.K.Sink.taken l.fn.sink) (g.K.Sink.room l.fn.sink) (g.K.Sink.faults l.fn.sink)) (view (g.K.Sink.taken l.sink) (g.K.Sink.room l.sink) (g.K.Sink.faults l.sink));
+  listing : Listing (g.B.Bindings.meaning l.store) l.program l.fn.head l.fn.tail l.head l.tail l.fn.spacer l.spacer (g.K.Sink.view l.fn.sink) (g.K.Sink.view l.sink);
 }
 
 abbrev pub decreases-print_list-elements : goal.decreases-print_list-elements

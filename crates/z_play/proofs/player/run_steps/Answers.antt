@@ -4,7 +4,6 @@ use Rattle.z_model.specs.declared.end.Halt.{Halt}
 use Rattle.z_model.specs.declared.end.ZEnd.{ZEnd}
 use Rattle.z_model.specs.Run.{zrun}
 use Rattle.z_play.specs.View.{machine}
-use Rattle.z_play.specs.Output.{seen}
 use Rattle.z_play.specs.Scene.{scene, given_by, state}
 use Rattle.z_play.specs.Advancing.{Advances, RanTo}
 use Rattle.z_play.proofs.Going.{Going, going_first, less_left, going_on, run_ended, run_limit, run_failed, causes_ok, causes_err}
@@ -16,7 +15,7 @@ loop-left-init g c = record {
   drawn = c.requires.dice;
   reads = omega arith;
   writes = omega arith;
-  going = λ typed told. going_first (given_by c.args.engine.now.layout c.args.dice.now) (machine c.args.engine.now) c.args.steps typed c.args.begun.now (g.S.Source.left c.args.source.now) (seen (g.K.Sink.taken c.args.sink.now) (g.K.Sink.room c.args.sink.now)) told;
+  going = λ typed told. going_first (given_by c.args.engine.now.layout c.args.dice.now) (machine c.args.engine.now) c.args.steps typed c.args.begun.now (g.S.Source.view c.args.source.now).left (g.K.Sink.view c.args.sink.now) told;
 }
 
 pub advance-requires-clause-sound : goal.advance-requires-clause-sound
@@ -31,12 +30,12 @@ returns-in-Err-clause-kept g c = record { sound = c.in-Err.ensures.kept.sound; l
 pub returns-in-Err-clause-told : goal.returns-in-Err-clause-told
 returns-in-Err-clause-told g c = λ typed told drawn.
     let more : c.loop-left.left ≡ c.loop-left.left - 1 + 1 = omega (arith, c.loop-left-test.true) in
-    let here = less_left (given_by c.args.engine.now.layout c.args.dice.now) (state (machine c.args.engine.now) typed 0 []) c.args.steps c.loop-left.left (c.loop-left.left - 1) (scene (machine c.args.engine.now) 0 c.args.begun.now (g.S.Source.left c.args.source.now) (seen (g.K.Sink.taken c.args.sink.now) (g.K.Sink.room c.args.sink.now))) (scene (machine c.loop-left.engine) c.loop-left.drawn c.loop-left.begun (g.S.Source.left c.loop-left.source) (seen (g.K.Sink.taken c.loop-left.sink) (g.K.Sink.room c.loop-left.sink))) more (c.loop-left.invariant.going typed told) in
-    let stepped = subst (λ (l : Layout). Advances (Err c.in-Err.fault) (given_by l c.args.dice.now) here.typed (scene (machine c.loop-left.engine) c.loop-left.drawn c.loop-left.begun (g.S.Source.left c.loop-left.source) (seen (g.K.Sink.taken c.loop-left.sink) (g.K.Sink.room c.loop-left.sink))) (scene (machine c.advance.new.engine) c.advance.new.drawn c.advance.new.begun (g.S.Source.left c.advance.new.source) (seen (g.K.Sink.taken c.advance.new.sink) (g.K.Sink.room c.advance.new.sink)))) c.loop-left.invariant.kept.layout (c.in-Err.ensures.told here.typed here.left_is) in
-    run_failed (given_by c.args.engine.now.layout c.args.dice.now) (state (machine c.args.engine.now) typed 0 []) c.args.steps (c.loop-left.left - 1) (scene (machine c.args.engine.now) 0 c.args.begun.now (g.S.Source.left c.args.source.now) (seen (g.K.Sink.taken c.args.sink.now) (g.K.Sink.room c.args.sink.now))) (scene (machine c.loop-left.engine) c.loop-left.drawn c.loop-left.begun (g.S.Source.left c.loop-left.source) (seen (g.K.Sink.taken c.loop-left.sink) (g.K.Sink.room c.loop-left.sink))) (scene (machine c.advance.new.engine) c.advance.new.drawn c.advance.new.begun (g.S.Source.left c.advance.new.source) (seen (g.K.Sink.taken c.advance.new.sink) (g.K.Sink.room c.advance.new.sink))) drawn c.in-Err.fault here stepped
+    let here = less_left (given_by c.args.engine.now.layout c.args.dice.now) (state (machine c.args.engine.now) typed 0 []) c.args.steps c.loop-left.left (c.loop-left.left - 1) (scene (machine c.args.engine.now) 0 c.args.begun.now (g.S.Source.view c.args.source.now).left (g.K.Sink.view c.args.sink.now)) (scene (machine c.loop-left.engine) c.loop-left.drawn c.loop-left.begun (g.S.Source.view c.loop-left.source).left (g.K.Sink.view c.loop-left.sink)) more (c.loop-left.invariant.going typed told) in
+    let stepped = subst (λ (l : Layout). Advances (Err c.in-Err.fault) (given_by l c.args.dice.now) here.typed (scene (machine c.loop-left.engine) c.loop-left.drawn c.loop-left.begun (g.S.Source.view c.loop-left.source).left (g.K.Sink.view c.loop-left.sink)) (scene (machine c.advance.new.engine) c.advance.new.drawn c.advance.new.begun (g.S.Source.view c.advance.new.source).left (g.K.Sink.view c.advance.new.sink))) c.loop-left.invariant.kept.layout (c.in-Err.ensures.told here.typed here.left_is) in
+    run_failed (given_by c.args.engine.now.layout c.args.dice.now) (state (machine c.args.engine.now) typed 0 []) c.args.steps (c.loop-left.left - 1) (scene (machine c.args.engine.now) 0 c.args.begun.now (g.S.Source.view c.args.source.now).left (g.K.Sink.view c.args.sink.now)) (scene (machine c.loop-left.engine) c.loop-left.drawn c.loop-left.begun (g.S.Source.view c.loop-left.source).left (g.K.Sink.view c.loop-left.sink)) (scene (machine c.advance.new.engine) c.advance.new.drawn c.advance.new.begun (g.S.Source.view c.advance.new.source).left (g.K.Sink.view c.advance.new.sink)) drawn c.in-Err.fault here stepped
 
 pub returns-in-Err-clause-causes : goal.returns-in-Err-clause-causes
-returns-in-Err-clause-causes g c = causes_err (g.S.Source.faults c.args.source.now) (g.S.Source.faults c.loop-left.source) (g.S.Source.faults c.advance.new.source) (g.K.Sink.faults c.args.sink.now) (g.K.Sink.faults c.loop-left.sink) (g.K.Sink.faults c.advance.new.sink) c.in-Err.fault c.loop-left.invariant.reads c.loop-left.invariant.writes c.in-Err.ensures.causes
+returns-in-Err-clause-causes g c = causes_err (g.S.Source.view c.args.source.now) (g.S.Source.view c.loop-left.source) (g.S.Source.view c.advance.new.source) (g.K.Sink.view c.args.sink.now) (g.K.Sink.view c.loop-left.sink) (g.K.Sink.view c.advance.new.sink) c.in-Err.fault c.loop-left.invariant.reads c.loop-left.invariant.writes c.in-Err.ensures.causes
 
 pub returns-in-Some-clause-kept : goal.returns-in-Some-clause-kept
 returns-in-Some-clause-kept g c = record { sound = c.in-Ok.ensures.kept.sound; layout = c.in-Ok.ensures.kept.layout ∙ c.loop-left.invariant.kept.layout; memory = c.in-Ok.ensures.kept.memory ∙ c.loop-left.invariant.kept.memory }
@@ -44,13 +43,13 @@ returns-in-Some-clause-kept g c = record { sound = c.in-Ok.ensures.kept.sound; l
 pub returns-in-Some-clause-told : goal.returns-in-Some-clause-told
 returns-in-Some-clause-told g c = λ typed told drawn.
     let more : c.loop-left.left ≡ c.loop-left.left - 1 + 1 = omega (arith, c.loop-left-test.true) in
-    let here = less_left (given_by c.args.engine.now.layout c.args.dice.now) (state (machine c.args.engine.now) typed 0 []) c.args.steps c.loop-left.left (c.loop-left.left - 1) (scene (machine c.args.engine.now) 0 c.args.begun.now (g.S.Source.left c.args.source.now) (seen (g.K.Sink.taken c.args.sink.now) (g.K.Sink.room c.args.sink.now))) (scene (machine c.loop-left.engine) c.loop-left.drawn c.loop-left.begun (g.S.Source.left c.loop-left.source) (seen (g.K.Sink.taken c.loop-left.sink) (g.K.Sink.room c.loop-left.sink))) more (c.loop-left.invariant.going typed told) in
-    let stepped = subst (λ (l : Layout). Advances (Ok c.in-Ok.halt) (given_by l c.args.dice.now) here.typed (scene (machine c.loop-left.engine) c.loop-left.drawn c.loop-left.begun (g.S.Source.left c.loop-left.source) (seen (g.K.Sink.taken c.loop-left.sink) (g.K.Sink.room c.loop-left.sink))) (scene (machine c.advance.new.engine) c.advance.new.drawn c.advance.new.begun (g.S.Source.left c.advance.new.source) (seen (g.K.Sink.taken c.advance.new.sink) (g.K.Sink.room c.advance.new.sink)))) c.loop-left.invariant.kept.layout (c.in-Ok.ensures.told here.typed here.left_is) in
-    let ended = subst (λ (h : Option Halt). Advances (Ok h) (given_by c.args.engine.now.layout c.args.dice.now) here.typed (scene (machine c.loop-left.engine) c.loop-left.drawn c.loop-left.begun (g.S.Source.left c.loop-left.source) (seen (g.K.Sink.taken c.loop-left.sink) (g.K.Sink.room c.loop-left.sink))) (scene (machine c.advance.new.engine) c.advance.new.drawn c.advance.new.begun (g.S.Source.left c.advance.new.source) (seen (g.K.Sink.taken c.advance.new.sink) (g.K.Sink.room c.advance.new.sink)))) c.in-Some.is stepped in
-    subst (λ (end : ZEnd). RanTo (zrun (given_by c.args.engine.now.layout c.args.dice.now) c.args.steps (state (machine c.args.engine.now) typed 0 [])) end (scene (machine c.args.engine.now) 0 c.args.begun.now (g.S.Source.left c.args.source.now) (seen (g.K.Sink.taken c.args.sink.now) (g.K.Sink.room c.args.sink.now))) (scene (machine c.advance.new.engine) drawn c.advance.new.begun (g.S.Source.left c.advance.new.source) (seen (g.K.Sink.taken c.advance.new.sink) (g.K.Sink.room c.advance.new.sink)))) (sym c.end_as.ensures) (run_ended (given_by c.args.engine.now.layout c.args.dice.now) (state (machine c.args.engine.now) typed 0 []) c.args.steps (c.loop-left.left - 1) (scene (machine c.args.engine.now) 0 c.args.begun.now (g.S.Source.left c.args.source.now) (seen (g.K.Sink.taken c.args.sink.now) (g.K.Sink.room c.args.sink.now))) (scene (machine c.loop-left.engine) c.loop-left.drawn c.loop-left.begun (g.S.Source.left c.loop-left.source) (seen (g.K.Sink.taken c.loop-left.sink) (g.K.Sink.room c.loop-left.sink))) (scene (machine c.advance.new.engine) c.advance.new.drawn c.advance.new.begun (g.S.Source.left c.advance.new.source) (seen (g.K.Sink.taken c.advance.new.sink) (g.K.Sink.room c.advance.new.sink))) drawn c.in-Some.halt here ended)
+    let here = less_left (given_by c.args.engine.now.layout c.args.dice.now) (state (machine c.args.engine.now) typed 0 []) c.args.steps c.loop-left.left (c.loop-left.left - 1) (scene (machine c.args.engine.now) 0 c.args.begun.now (g.S.Source.view c.args.source.now).left (g.K.Sink.view c.args.sink.now)) (scene (machine c.loop-left.engine) c.loop-left.drawn c.loop-left.begun (g.S.Source.view c.loop-left.source).left (g.K.Sink.view c.loop-left.sink)) more (c.loop-left.invariant.going typed told) in
+    let stepped = subst (λ (l : Layout). Advances (Ok c.in-Ok.halt) (given_by l c.args.dice.now) here.typed (scene (machine c.loop-left.engine) c.loop-left.drawn c.loop-left.begun (g.S.Source.view c.loop-left.source).left (g.K.Sink.view c.loop-left.sink)) (scene (machine c.advance.new.engine) c.advance.new.drawn c.advance.new.begun (g.S.Source.view c.advance.new.source).left (g.K.Sink.view c.advance.new.sink))) c.loop-left.invariant.kept.layout (c.in-Ok.ensures.told here.typed here.left_is) in
+    let ended = subst (λ (h : Option Halt). Advances (Ok h) (given_by c.args.engine.now.layout c.args.dice.now) here.typed (scene (machine c.loop-left.engine) c.loop-left.drawn c.loop-left.begun (g.S.Source.view c.loop-left.source).left (g.K.Sink.view c.loop-left.sink)) (scene (machine c.advance.new.engine) c.advance.new.drawn c.advance.new.begun (g.S.Source.view c.advance.new.source).left (g.K.Sink.view c.advance.new.sink))) c.in-Some.is stepped in
+    subst (λ (end : ZEnd). RanTo (zrun (given_by c.args.engine.now.layout c.args.dice.now) c.args.steps (state (machine c.args.engine.now) typed 0 [])) end (scene (machine c.args.engine.now) 0 c.args.begun.now (g.S.Source.view c.args.source.now).left (g.K.Sink.view c.args.sink.now)) (scene (machine c.advance.new.engine) drawn c.advance.new.begun (g.S.Source.view c.advance.new.source).left (g.K.Sink.view c.advance.new.sink))) (sym c.end_as.ensures) (run_ended (given_by c.args.engine.now.layout c.args.dice.now) (state (machine c.args.engine.now) typed 0 []) c.args.steps (c.loop-left.left - 1) (scene (machine c.args.engine.now) 0 c.args.begun.now (g.S.Source.view c.args.source.now).left (g.K.Sink.view c.args.sink.now)) (scene (machine c.loop-left.engine) c.loop-left.drawn c.loop-left.begun (g.S.Source.view c.loop-left.source).left (g.K.Sink.view c.loop-left.sink)) (scene (machine c.advance.new.engine) c.advance.new.drawn c.advance.new.begun (g.S.Source.view c.advance.new.source).left (g.K.Sink.view c.advance.new.sink)) drawn c.in-Some.halt here ended)
 
 pub returns-in-Some-clause-causes : goal.returns-in-Some-clause-causes
-returns-in-Some-clause-causes g c = causes_ok (g.S.Source.faults c.args.source.now) (g.S.Source.faults c.loop-left.source) (g.S.Source.faults c.advance.new.source) (g.K.Sink.faults c.args.sink.now) (g.K.Sink.faults c.loop-left.sink) (g.K.Sink.faults c.advance.new.sink) c.in-Ok.halt c.end_as.result c.loop-left.invariant.reads c.loop-left.invariant.writes c.in-Ok.ensures.causes
+returns-in-Some-clause-causes g c = causes_ok (g.S.Source.view c.args.source.now) (g.S.Source.view c.loop-left.source) (g.S.Source.view c.advance.new.source) (g.K.Sink.view c.args.sink.now) (g.K.Sink.view c.loop-left.sink) (g.K.Sink.view c.advance.new.sink) c.in-Ok.halt c.end_as.result c.loop-left.invariant.reads c.loop-left.invariant.writes c.in-Ok.ensures.causes
 
 pub loop-left-preserved : goal.loop-left-preserved
 loop-left-preserved g c = record {
@@ -60,10 +59,10 @@ loop-left-preserved g c = record {
   writes = omega (arith, c.loop-left.invariant.writes, c.in-Ok.ensures.causes.writes);
   going = λ typed told.
       let more : c.loop-left.left ≡ c.loop-left.left - 1 + 1 = omega (arith, c.loop-left-test.true) in
-      let here = less_left (given_by c.args.engine.now.layout c.args.dice.now) (state (machine c.args.engine.now) typed 0 []) c.args.steps c.loop-left.left (c.loop-left.left - 1) (scene (machine c.args.engine.now) 0 c.args.begun.now (g.S.Source.left c.args.source.now) (seen (g.K.Sink.taken c.args.sink.now) (g.K.Sink.room c.args.sink.now))) (scene (machine c.loop-left.engine) c.loop-left.drawn c.loop-left.begun (g.S.Source.left c.loop-left.source) (seen (g.K.Sink.taken c.loop-left.sink) (g.K.Sink.room c.loop-left.sink))) more (c.loop-left.invariant.going typed told) in
-      let stepped = subst (λ (l : Layout). Advances (Ok c.in-Ok.halt) (given_by l c.args.dice.now) here.typed (scene (machine c.loop-left.engine) c.loop-left.drawn c.loop-left.begun (g.S.Source.left c.loop-left.source) (seen (g.K.Sink.taken c.loop-left.sink) (g.K.Sink.room c.loop-left.sink))) (scene (machine c.advance.new.engine) c.advance.new.drawn c.advance.new.begun (g.S.Source.left c.advance.new.source) (seen (g.K.Sink.taken c.advance.new.sink) (g.K.Sink.room c.advance.new.sink)))) c.loop-left.invariant.kept.layout (c.in-Ok.ensures.told here.typed here.left_is) in
-      let on = subst (λ (h : Option Halt). Advances (Ok h) (given_by c.args.engine.now.layout c.args.dice.now) here.typed (scene (machine c.loop-left.engine) c.loop-left.drawn c.loop-left.begun (g.S.Source.left c.loop-left.source) (seen (g.K.Sink.taken c.loop-left.sink) (g.K.Sink.room c.loop-left.sink))) (scene (machine c.advance.new.engine) c.advance.new.drawn c.advance.new.begun (g.S.Source.left c.advance.new.source) (seen (g.K.Sink.taken c.advance.new.sink) (g.K.Sink.room c.advance.new.sink)))) c.in-None.is stepped in
-      going_on (given_by c.args.engine.now.layout c.args.dice.now) (state (machine c.args.engine.now) typed 0 []) c.args.steps (c.loop-left.left - 1) (scene (machine c.args.engine.now) 0 c.args.begun.now (g.S.Source.left c.args.source.now) (seen (g.K.Sink.taken c.args.sink.now) (g.K.Sink.room c.args.sink.now))) (scene (machine c.loop-left.engine) c.loop-left.drawn c.loop-left.begun (g.S.Source.left c.loop-left.source) (seen (g.K.Sink.taken c.loop-left.sink) (g.K.Sink.room c.loop-left.sink))) (scene (machine c.advance.new.engine) c.advance.new.drawn c.advance.new.begun (g.S.Source.left c.advance.new.source) (seen (g.K.Sink.taken c.advance.new.sink) (g.K.Sink.room c.advance.new.sink))) here on;
+      let here = less_left (given_by c.args.engine.now.layout c.args.dice.now) (state (machine c.args.engine.now) typed 0 []) c.args.steps c.loop-left.left (c.loop-left.left - 1) (scene (machine c.args.engine.now) 0 c.args.begun.now (g.S.Source.view c.args.source.now).left (g.K.Sink.view c.args.sink.now)) (scene (machine c.loop-left.engine) c.loop-left.drawn c.loop-left.begun (g.S.Source.view c.loop-left.source).left (g.K.Sink.view c.loop-left.sink)) more (c.loop-left.invariant.going typed told) in
+      let stepped = subst (λ (l : Layout). Advances (Ok c.in-Ok.halt) (given_by l c.args.dice.now) here.typed (scene (machine c.loop-left.engine) c.loop-left.drawn c.loop-left.begun (g.S.Source.view c.loop-left.source).left (g.K.Sink.view c.loop-left.sink)) (scene (machine c.advance.new.engine) c.advance.new.drawn c.advance.new.begun (g.S.Source.view c.advance.new.source).left (g.K.Sink.view c.advance.new.sink))) c.loop-left.invariant.kept.layout (c.in-Ok.ensures.told here.typed here.left_is) in
+      let on = subst (λ (h : Option Halt). Advances (Ok h) (given_by c.args.engine.now.layout c.args.dice.now) here.typed (scene (machine c.loop-left.engine) c.loop-left.drawn c.loop-left.begun (g.S.Source.view c.loop-left.source).left (g.K.Sink.view c.loop-left.sink)) (scene (machine c.advance.new.engine) c.advance.new.drawn c.advance.new.begun (g.S.Source.view c.advance.new.source).left (g.K.Sink.view c.advance.new.sink))) c.in-None.is stepped in
+      going_on (given_by c.args.engine.now.layout c.args.dice.now) (state (machine c.args.engine.now) typed 0 []) c.args.steps (c.loop-left.left - 1) (scene (machine c.args.engine.now) 0 c.args.begun.now (g.S.Source.view c.args.source.now).left (g.K.Sink.view c.args.sink.now)) (scene (machine c.loop-left.engine) c.loop-left.drawn c.loop-left.begun (g.S.Source.view c.loop-left.source).left (g.K.Sink.view c.loop-left.sink)) (scene (machine c.advance.new.engine) c.advance.new.drawn c.advance.new.begun (g.S.Source.view c.advance.new.source).left (g.K.Sink.view c.advance.new.sink)) here on;
 }
 
 pub returns-clause-kept : goal.returns-clause-kept
@@ -72,7 +71,7 @@ returns-clause-kept g c = c.loop-left.invariant.kept
 pub returns-clause-told : goal.returns-clause-told
 returns-clause-told g c = λ typed told drawn.
     let none : c.loop-left.left ≡ 0 = omega (arith, c.loop-left-test.false) in
-    run_limit (given_by c.args.engine.now.layout c.args.dice.now) (state (machine c.args.engine.now) typed 0 []) c.args.steps (scene (machine c.args.engine.now) 0 c.args.begun.now (g.S.Source.left c.args.source.now) (seen (g.K.Sink.taken c.args.sink.now) (g.K.Sink.room c.args.sink.now))) (scene (machine c.loop-left.engine) c.loop-left.drawn c.loop-left.begun (g.S.Source.left c.loop-left.source) (seen (g.K.Sink.taken c.loop-left.sink) (g.K.Sink.room c.loop-left.sink))) drawn (subst (λ (k : ℕ). Going (given_by c.args.engine.now.layout c.args.dice.now) (state (machine c.args.engine.now) typed 0 []) c.args.steps k (scene (machine c.args.engine.now) 0 c.args.begun.now (g.S.Source.left c.args.source.now) (seen (g.K.Sink.taken c.args.sink.now) (g.K.Sink.room c.args.sink.now))) (scene (machine c.loop-left.engine) c.loop-left.drawn c.loop-left.begun (g.S.Source.left c.loop-left.source) (seen (g.K.Sink.taken c.loop-left.sink) (g.K.Sink.room c.loop-left.sink)))) none (c.loop-left.invariant.going typed told))
+    run_limit (given_by c.args.engine.now.layout c.args.dice.now) (state (machine c.args.engine.now) typed 0 []) c.args.steps (scene (machine c.args.engine.now) 0 c.args.begun.now (g.S.Source.view c.args.source.now).left (g.K.Sink.view c.args.sink.now)) (scene (machine c.loop-left.engine) c.loop-left.drawn c.loop-left.begun (g.S.Source.view c.loop-left.source).left (g.K.Sink.view c.loop-left.sink)) drawn (subst (λ (k : ℕ). Going (given_by c.args.engine.now.layout c.args.dice.now) (state (machine c.args.engine.now) typed 0 []) c.args.steps k (scene (machine c.args.engine.now) 0 c.args.begun.now (g.S.Source.view c.args.source.now).left (g.K.Sink.view c.args.sink.now)) (scene (machine c.loop-left.engine) c.loop-left.drawn c.loop-left.begun (g.S.Source.view c.loop-left.source).left (g.K.Sink.view c.loop-left.sink))) none (c.loop-left.invariant.going typed told))
 
 pub returns-clause-causes : goal.returns-clause-causes
 returns-clause-causes g c = record { reads = c.loop-left.invariant.reads; writes = c.loop-left.invariant.writes; read_failed = λ e. absurd cc; write_failed = λ e. absurd cc }

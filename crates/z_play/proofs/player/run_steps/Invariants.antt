@@ -1,6 +1,5 @@
 use Rattle.std.proofs.Common.{◌≡◌, ◌<◌, ◌≤◌, ℕ, List, [], length, Some}
 use Rattle.z_play.specs.View.{machine, Kept}
-use Rattle.z_play.specs.Output.{seen}
 use Rattle.z_play.specs.Scene.{scene, given_by, state}
 use Rattle.z_play.proofs.Going.{Going}
 use Rattle.z_play.proofs.player.run_steps.Given as goal
@@ -9,9 +8,9 @@ abbrev pub invariant-loop-left : goal.invariant-loop-left
 invariant-loop-left g l = record {
   kept : Kept l.fn.engine l.engine;
   drawn : l.drawn < length l.dice;
-  reads : g.S.Source.faults l.fn.source ≤ g.S.Source.faults l.source;
-  writes : g.K.Sink.faults l.fn.sink ≤ g.K.Sink.faults l.sink;
-  going : (typed : List ℕ) → g.S.Source.left l.fn.source ≡ Some typed → Going (given_by l.fn.engine.layout l.dice) (state (machine l.fn.engine) typed 0 []) l.steps l.left (scene (machine l.fn.engine) 0 l.fn.begun (g.S.Source.left l.fn.source) (seen (g.K.Sink.taken l.fn.sink) (g.K.Sink.room l.fn.sink))) (scene (machine l.engine) l.drawn l.begun (g.S.Source.left l.source) (seen (g.K.Sink.taken l.sink) (g.K.Sink.room l.sink)));
+  reads : (g.S.Source.view l.fn.source).faults ≤ (g.S.Source.view l.source).faults;
+  writes : (g.K.Sink.view l.fn.sink).faults ≤ (g.K.Sink.view l.sink).faults;
+  going : (typed : List ℕ) → (g.S.Source.view l.fn.source).left ≡ Some typed → Going (given_by l.fn.engine.layout l.dice) (state (machine l.fn.engine) typed 0 []) l.steps l.left (scene (machine l.fn.engine) 0 l.fn.begun (g.S.Source.view l.fn.source).left (g.K.Sink.view l.fn.sink)) (scene (machine l.engine) l.drawn l.begun (g.S.Source.view l.source).left (g.K.Sink.view l.sink));
 }
 
 abbrev pub decreases-loop-left : goal.decreases-loop-left
