@@ -1,5 +1,5 @@
 -- A query is asked.
-use Rattle.std.proofs.Common.{◌≡◌, ℕ, zero, suc, ◌+◌, ◌^◌, ◌<◌, ◌≤◌, List, [], ◌∷◌, ◌++◌, Bool, true, refl, sym, ap, ◌∙◌, subst, arith, length, length-append, map, take, Bor}
+use Rattle.std.proofs.Common.{◌≡◌, ℕ, zero, suc, ◌+◌, ◌^◌, ◌<◌, ◌≤◌, List, [], ◌∷◌, ◌++◌, true, refl, sym, ap, ◌∙◌, subst, arith, length, length-append, map, take, Bor}
 use Rattle.std.specs.Prelude.{slice_get, reverse}
 use Rattle.std.specs.List.{All}
 use Rattle.std.proofs.lemmas.List.Elements.{All-append}
@@ -14,13 +14,13 @@ use Rattle.dg_base.specs.declared.program.CoreProgram.{CoreProgram}
 use Rattle.dg_base.specs.Goals.{terms_held}
 use Rattle.dg_meaning.specs.Values.{Value, value_of}
 use Rattle.dg_meaning.specs.World.{Game, World, Asked, HasFailed, noted, worked}
-use Rattle.dg_meaning.specs.Context.{Live, pushed}
-use Rattle.dg_meaning.specs.Path.{Registers, Branch, Rules as RulesOf, Move}
-use Rattle.dg_meaning.specs.Moves.{begun, rule_branches, rules_of, choice, outcome}
+use Rattle.dg_meaning.specs.Context.{Way, Live}
+use Rattle.dg_meaning.specs.Path.{Registers, Branch, Rules as RulesOf, Outcome}
+use Rattle.dg_meaning.specs.Moves.{first_looks, rule_branches, rules_of, choice, outcome}
 use Rattle.dg_meaning.specs.Cells.{cells, writing}
 use Rattle.dg_meaning.specs.Transcript.{Run}
-use Rattle.dg_meaning.specs.Keeps.{Began, After}
-use Rattle.dg_meaning.specs.Built.{IsBuiltRule, IsForm}
+use Rattle.dg_meaning.specs.Keeps.{After, Tried}
+use Rattle.dg_meaning.specs.Built.{IsBuiltRule}
 use Rattle.dg_unify.specs.Store.{Store, State, Saved, Holds, Kept, marked, told}
 use Rattle.dg_unify.specs.declared.bindings.Ref.{Ref}
 use Rattle.dg_unify.specs.Laws.{saves_drops}
@@ -55,14 +55,16 @@ pub nothing_in : (rules : List Rule) → length rules ≤ 0 → rules ≡ []
 nothing_in [] h = refl
 nothing_in (x ∷ rules) h = absurd (omega arith)
 
-ask_form : (pred : ℕ) (terms : List Term) (many : Bool) → IsForm (out-Goal (Ask pred terms many))
-ask_form pred terms many = subst IsForm (sym (outs-Ask pred terms many)) tt
-
 -- the heap is full where its arguments are written
 pub args_full : (query : Query) (terms : List Term) (old : Engine) (e : Full) → ((program : CoreProgram) → Overflows (cells program terms) (store_in old.store) e) → FullAt (TakesAt (Ask query.pred terms query.many) old) (store_in old.store) e
 args_full query terms old e h =
-    terms_full (Ask query.pred terms query.many) old e (ask_form query.pred terms query.many)
+    terms_full (Ask query.pred terms query.many) old e
     (λ g. subst (λ x. Overflows (cells g.program (terms_held x)) (store_in old.store) e) (sym (outs-Ask query.pred terms query.many)) (h g.program))
+
+-- a query is tried
+chosen_rules : (g : Game) (lives : List Live) (ways : List Way) (n : ℕ) (run : Run) (q t : ℕ) (bs : List Branch) (w : World) → After g lives ways n (choice (RulesOf q) t bs w) run → Tried g (RulesOf q) t (length w.gathered) ways lives bs n w run
+chosen_rules g lives ways n run q t [] w h = h
+chosen_rules g lives ways n run q t (b ∷ bs) w h = h
 
 module _ (old : Engine) (query : Query) (terms : List Term) (store1 : ListBindings) (refs1 made1 : Vec Ref Global) (args : Env) (ready : IsReady old) (k1 : Kept (store_in old.store) (store_in store1)) (saved1 : (ms : List Saved) → KeepsPlaces old.store ms → KeepsPlaces store1 ms)
     (written : (program : CoreProgram) → ArgsWritten program (values_in (store_in old.store) old.refs.items old.here.env) terms (store_in old.store) (store_in store1) old.refs.items refs1.items args) where
@@ -119,13 +121,17 @@ module _ (old : Engine) (query : Query) (terms : List Term) (store1 : ListBindin
   abbrev r_of : (g : Game) (n : ℕ) (w : World) (run : Run) → from g n w run → Registers
   r_of g n w run st = behind x old g n w run st
 
+  abbrev looked_in : (g : Game) (n : ℕ) (w : World) (run : Run) → from g n w run → World
+  looked_in g n w run st = worked (first_looks (r_of g n w run st) (values_in s1 ys args)) (taken_in x old g n w run st)
+
   abbrev asked_in : (g : Game) (n : ℕ) (w : World) (run : Run) → from g n w run → World
-  asked_in g n w run st = noted (Asked query.pred) (begun (r_of g n w run st) (writing g.program (terms_held (out-Goal x))) (worked 1 w))
+  asked_in g n w run st = noted (Asked query.pred) (looked_in g n w run st)
 
   adds_asked : (g : Game) (n : ℕ) (w : World) (run : Run) (st : from g n w run) → IsQuiet w → Adds [] w (asked_in g n w run st)
   adds_asked g n w run st quiet =
-      let v = taken_in x old g n w run st in
-      adds_on w v (asked_in g n w run st) [] [] (adds_taken (r_of g n w run st) _ w quiet) (adds_noted v (Asked query.pred) quiet refl)
+      let v = looked_in g n w run st in
+      let a = adds_taken (r_of g n w run st) (writing (terms_held (out-Goal x))) w quiet in
+      adds_on w v (asked_in g n w run st) [] [] (record { prints_are = a.prints_are; typed = refl; quiet = quiet }) (adds_noted v (Asked query.pred) quiet refl)
 
   abbrev branches : (g : Game) (n : ℕ) (w : World) (run : Run) → from g n w run → List Rule → List Branch
   branches g n w run st rules = rule_branches g query.pred (values_in s1 ys args) query.many (steps_of old) (r_of g n w run st) rules
@@ -137,7 +143,7 @@ module _ (old : Engine) (query : Query) (terms : List Term) (store1 : ListBindin
       let values = values_in s xs old.here.env in
       let v = taken_in x old g n w run st in
       let as_asked = ap (λ f. outcome g f values old.here.tag (steps_of old) r v) (outs-Ask query.pred terms query.many) in
-      let on : List Rule → List Value → Move = λ rs vs. choice (RulesOf query.pred) r.next_tag (rule_branches g query.pred vs query.many (steps_of old) r rs) (noted (Asked query.pred) v) in
+      let on : List Rule → List Value → Outcome = λ rs vs. choice (RulesOf query.pred) r.next_tag (rule_branches g query.pred vs query.many (steps_of old) r rs) (noted (Asked query.pred) (worked (first_looks r vs) v)) in
       let here : rules_of (slice_get g.program.preds query.pred) ≡ rules = ap (λ (p : CoreProgram). rules_of (slice_get p.preds query.pred)) (sym st.program) ∙ sym are in
       subst (λ m. After g st.lives st.ways n m run) (as_asked ∙ ap (λ rs. on rs (map (value_of g.program values) terms)) here ∙ ap (on rules) (sym (args_are g st.program))) (comes_of x old g n w run st)
 
@@ -230,9 +236,9 @@ module _ (old : Engine) (query : Query) (terms : List Term) (store1 : ListBindin
         room = room;
       }
 
-      pub asking_left : 0 < length rules.now → IsLeft (length frames.items) (length ys) (Rules query args rules)
-      asking_left some =
-          (some, subst (λ (l : List Rule). All IsBuiltRule l) (sym are) (rules_built old.program.now.preds query.pred ready.sound.program), omega (arith, there.from, there.count, ap length there.written.appended.is, length-append xs made))
+      pub asking_left : IsLeft (length frames.items) (length ys) (Rules query args rules)
+      asking_left =
+          (subst (λ (l : List Rule). All IsBuiltRule l) (sym are) (rules_built old.program.now.preds query.pred ready.sound.program), omega (arith, there.from, there.count, ap length there.written.appended.is, length-append xs made))
 
       values2 : SameBy (length ys) (values_in s1 ys) (values_in s2 ys)
       values2 = values_kept (length ys) s1 s2 ys ys k2 (hold_front s1 ys hold) refl
@@ -256,12 +262,6 @@ module _ (old : Engine) (query : Query) (terms : List Term) (store1 : ListBindin
             since = omega (arith, ap (λ (t : State). t.since) state2, ap (λ (t : State). t.vars) state2);
           }
 
-      began : (g : Game) (n : ℕ) (w : World) (run : Run) (st : from g n w run) → IsQuiet w → (b : Branch) (bs : List Branch) → branches g n w run st rules.now ≡ b ∷ bs →
-          Began g (pushed bs (record { kind = RulesOf query.pred; tag = (r_of g n w run st).next_tag; others = bs; height = 0; ways_on = st.ways }) st.lives) st.ways b n (asked_in g n w run st) run
-      began g n w run st quiet b bs split =
-          let h = subst (λ l. After g st.lives st.ways n (choice (RulesOf query.pred) (r_of g n w run st).next_tag l (asked_in g n w run st)) run) split (asked rules.now are g n w run st) in
-          subst (λ i. Began g (pushed bs (record { kind = RulesOf query.pred; tag = (r_of g n w run st).next_tag; others = bs; height = i; ways_on = st.ways }) st.lives) st.ways b n (asked_in g n w run st) run) (ap length quiet) h
-
       pub asks_some : Leads from (BeginsAt (Rules query args rules) place asking)
       asks_some g n w run quiet st =
           let r = r_of g n w run st in
@@ -281,11 +281,13 @@ module _ (old : Engine) (query : Query) (terms : List Term) (store1 : ListBindin
               choices = subst (λ l. AreChoices g ys l os st.saved st.lives) (sym pushed_on)
                   (choices_same g ys ys fs gs (length fs) (length ys) old.newest os st.saved st.lives refl (same_append fs old.here) failing_sound.choices (choices_now g st.saved st.lives st.choices));
               tag = st.tag;
-              began = λ b bs split.
+              tried =
                   let same : rule_branches g query.pred (values_in s2 ys args) query.many (steps_behind (values_in s2 ys) frames.items (length frames.items)) r rules.now ≡ branches g n w run st rules.now =
                   ap (λ l. rule_branches g query.pred (values_in s2 ys args) query.many l r rules.now) steps_now
                   ∙ ap (λ vs. rule_branches g query.pred vs query.many (steps_of old) r rules.now) (values2 args (omega (arith, there.from, there.count, ap length there.written.appended.is, length-append xs made))) in
-                  began g n w run st quiet b bs (sym same ∙ split);
+                  subst (λ l. Tried g (RulesOf query.pred) r.next_tag 0 st.ways st.lives l n (asked_in g n w run st) run) (sym same)
+                  (subst (λ i. Tried g (RulesOf query.pred) r.next_tag i st.ways st.lives (branches g n w run st rules.now) n (asked_in g n w run st) run) (ap length quiet)
+                  (chosen_rules g st.lives st.ways n run query.pred r.next_tag (branches g n w run st rules.now) (asked_in g n w run st) (asked rules.now are g n w run st)));
             };
           }
 

@@ -1,17 +1,16 @@
 -- A frame begins, in front of the branches that are left.
-use Rattle.std.proofs.Common.{◌≡◌, ℕ, suc, ◌+◌, ◌<◌, List, [], ◌∷◌, ◌++◌, refl, sym, ap, ◌∙◌, subst, arith, length, Bor}
+use Rattle.std.proofs.Common.{◌≡◌, ℕ, ◌+◌, List, ◌∷◌, ◌++◌, refl, sym, ap, ◌∙◌, subst, arith, length, Bool, Bor}
 use Rattle.std.specs.Prelude.{reverse}
 use Rattle.std.proofs.lemmas.List.{append-nil}
 use Rattle.std.specs.declared.vec.Vec.{Vec}
 use Rattle.std.specs.declared.alloc.Global.{Global}
 use Rattle.dg_base.specs.declared.program.Goal.{Goal}
-use Rattle.dg_meaning.specs.Values.{Value}
 use Rattle.dg_meaning.specs.World.{Game, World, prints}
-use Rattle.dg_meaning.specs.Path.{Step, Registers, Branch}
+use Rattle.dg_meaning.specs.Path.{Registers, Branch, Moves, GoesOn}
 use Rattle.dg_meaning.specs.Moves.{begun, inside, enter, path_of, goals_at, list_branches}
 use Rattle.dg_meaning.specs.Transcript.{Run}
-use Rattle.dg_meaning.specs.Context.{Live, Way, pushed}
-use Rattle.dg_meaning.specs.Keeps.{Stands}
+use Rattle.dg_meaning.specs.Context.{Live, Way, stays, pushed}
+use Rattle.dg_meaning.specs.Keeps.{Stands, Tried}
 use Rattle.dg_meaning.proofs.Keeps.{has_happened}
 use Rattle.dg_unify.specs.Store.{State, Store, Saved, Kept, Charged}
 use Rattle.dg_unify.specs.declared.bindings.Full.{Full}
@@ -23,43 +22,15 @@ use Rattle.dg_interp.specs.declared.frames.Frame.{Frame}
 use Rattle.dg_interp.specs.declared.frames.Choice.{Choice}
 use Rattle.dg_interp.specs.declared.frames.Mark.TheVariants.{Nothing}
 use Rattle.dg_interp.specs.declared.frames.Left.{Left}
-use Rattle.dg_interp.specs.declared.frames.Left.TheVariants.{Rules, Lists, Ways, Way as OneWay}
+use Rattle.dg_interp.specs.declared.frames.Left.TheVariants.{Lists, Ways, Way as OneWay}
 use Rattle.dg_interp.specs.declared.engine.Engine.{Engine}
 use Rattle.dg_interp.specs.Terms.{Overflows}
-use Rattle.dg_interp.specs.Frames.{values_in, steps_behind, steps_at, kind_of, branches_of, Agrees, AreChoices, IsFrame, AreLeft, IsLeft, StandOn, GoBackTo, BeginsWith, left_in, cells_if}
+use Rattle.dg_interp.specs.Frames.{values_in, steps_behind, steps_at, kind_of, branches_of, Agrees, AreChoices, IsFrame, IsLeft, StandOn, GoBackTo, BeginsWith, has_some, stays_with, cells_if}
 use Rattle.dg_interp.specs.Engine.{store_in, KeepsPlaces, HasPlace, Point, IsSound, BeginsAt, FullAt, WentOn, kept_if}
-use Rattle.dg_interp.proofs.Links.{Within, same_here, at_same, branches_same}
+use Rattle.dg_interp.proofs.Links.{same_here, at_same, branches_same}
 use Rattle.dg_interp.proofs.Stores.{all_hold, values_kept, hold_front}
-use Rattle.dg_interp.proofs.Kept.{cells_same, saved_if, kept_places, kept_stand, kept_back, kept_choices}
-use Rattle.dg_interp.proofs.Begins.{back_limits, rules_count}
-
-pub left_from : (h n : ℕ) (left : Left) → AreLeft h n left → 0 < left_in left → IsLeft h n left
-left_from h n (Rules query args rules) are some = (some, are.0, are.1)
-left_from h n (Lists env tag lists) are some = (some, are.0, are.1)
-left_from h n (Ways first other) are some = are
-left_from h n (OneWay frame) are some = are
-
-pub are_left : (h n : ℕ) (left : Left) → IsLeft h n left → AreLeft h n left
-are_left h n (Rules query args rules) is = (is.1, is.2)
-are_left h n (Lists env tag lists) is = (is.1, is.2)
-are_left h n (Ways first other) is = is
-are_left h n (OneWay frame) is = is
-
-pub within_left : (h n : ℕ) (left : Left) → AreLeft h n left → Within h n left
-within_left h n (Rules query args rules) are = are.1
-within_left h n (Lists env tag lists) are = are.1
-within_left h n (Ways first other) are = are
-within_left h n (OneWay frame) are = are
-
-lists_count : (env : List Value) (tag : ℕ) (steps : List Step) (r : Registers) (lists : List (List Goal)) → length lists ≡ length (list_branches env tag steps r lists)
-lists_count env tag steps r [] = refl
-lists_count env tag steps r (x ∷ lists) = ap suc (lists_count env tag steps r lists)
-
-branches_count : (g : Game) (values : Env → List Value) (fs : List Frame) (height : ℕ) (left : Left) (r : Registers) → left_in left ≡ length (branches_of g values fs height left r)
-branches_count g values fs height (Rules query args rules) r = rules_count g query.pred (values args) query.many _ r rules.now
-branches_count g values fs height (Lists env tag lists) r = lists_count (values env) tag _ r lists.now
-branches_count g values fs height (Ways first other) r = refl
-branches_count g values fs height (OneWay frame) r = refl
+use Rattle.dg_interp.proofs.Kept.{cells_same, branches_stay, saved_if, kept_places, kept_stand, kept_back, kept_choices}
+use Rattle.dg_interp.proofs.Begins.{back_limits}
 
 -- ## The branches that are left begin with a frame
 
@@ -73,16 +44,16 @@ list_begins height env tag lists others goals list split is = record {
   branches = λ g values fs r.
       let steps = steps_behind values fs height in
       ap (list_branches (values env) tag steps r) split
-      ∙ ap (λ n. enter n 1 r (goals_at (values env) tag list ++ steps) ∷ list_branches (values env) tag steps r others.now) (cells_same 0 others.now)
-      ∙ ap (λ l. enter (cells_if 0 (length others.now)) 1 r (goals_at (values env) tag l ++ steps) ∷ list_branches (values env) tag steps r others.now) (sym is);
+      ∙ ap (λ n. enter n 1 r (goals_at (values env) tag list ++ steps) ∷ list_branches (values env) tag steps r others.now) (cells_same others.now)
+      ∙ ap (λ l. enter (cells_if (has_some others.now)) 1 r (goals_at (values env) tag l ++ steps) ∷ list_branches (values env) tag steps r others.now) (sym is);
 }
 
 pub list_begins_at : (height behind : ℕ) (env : Env) (tag : ℕ) (lists others : Bor (List (List Goal))) (goals : Bor (List Goal)) (list : List Goal) → behind ≡ height → lists.now ≡ list ∷ others.now → goals.now ≡ list → BeginsWith height (record { goals = goals; env = env; tag = tag; mark = Nothing; behind = behind }) (Lists env tag others) (Lists env tag lists)
 list_begins_at height behind env tag lists others goals list at split is =
     subst (λ b. BeginsWith height (record { goals = goals; env = env; tag = tag; mark = Nothing; behind = b }) (Lists env tag others) (Lists env tag lists)) (sym at) (list_begins height env tag lists others goals list split is)
 
-module _ (old : Engine) (frame : Frame) (others : Left) (count : ℕ) (place : Place) (store1 : ListBindings) (choices : Vec Choice Global) (sound : IsSound old) (is : IsFrame (length old.frames.items) (length old.refs.items) frame)
-    (left : AreLeft (length old.frames.items) (length old.refs.items) others) (counted : count ≡ left_in others) (has : HasPlace old place) (k1 : Kept (store_in old.store) (store_in store1)) (saved1 : (ms : List Saved) → KeepsPlaces old.store ms → KeepsPlaces store1 ms) where
+module _ (old : Engine) (frame : Frame) (others : Left) (b : Bool) (place : Place) (store1 : ListBindings) (choices : Vec Choice Global) (sound : IsSound old) (is : IsFrame (length old.frames.items) (length old.refs.items) frame)
+    (left : IsLeft (length old.frames.items) (length old.refs.items) others) (same_b : b ≡ stays_with others) (has : HasPlace old place) (k1 : Kept (store_in old.store) (store_in store1)) (saved1 : (ms : List Saved) → KeepsPlaces old.store ms → KeepsPlaces store1 ms) where
   abbrev s : Store
   s = store_in old.store
 
@@ -96,13 +67,13 @@ module _ (old : Engine) (frame : Frame) (others : Left) (count : ℕ) (place : P
   os = reverse old.choices.items
 
   abbrev heap : ℕ
-  heap = cells_if 0 count
+  heap = cells_if b
 
   abbrev o : Choice
   o = record { tag = old.newest; left = others; height = length fs; refs = length old.refs.items; place = place }
 
-  stand : StandOn fs (length fs) (length old.refs.items) old.newest (kept_if count o os)
-  stand = kept_stand count fs (length fs) (length old.refs.items) old.newest o os (omega arith) (omega arith) (omega arith) (λ some. left_from (length fs) (length old.refs.items) others left (omega (arith, some, counted))) sound.frames sound.choices
+  stand : StandOn fs (length fs) (length old.refs.items) old.newest (kept_if b o os)
+  stand = kept_stand b fs (length fs) (length old.refs.items) old.newest o os (omega arith) (omega arith) (omega arith) left same_b sound.frames sound.choices
 
   abbrev the_others : Game → Registers → List Branch
   the_others g r = branches_of g (values_in s old.refs.items) fs (length fs) others r
@@ -112,22 +83,23 @@ module _ (old : Engine) (frame : Frame) (others : Left) (count : ℕ) (place : P
     from = BeginsAt all place old
 
     abbrev lives_of : Game → Registers → List Live → List Way → List Live
-    lives_of g r lives ways = pushed (the_others g r) (record { kind = kind_of all; tag = r.next_tag; others = the_others g r; height = 0; ways_on = ways }) lives
+    lives_of g r lives ways = pushed (record { kind = kind_of all; tag = r.next_tag; others = the_others g r; height = 0; ways_on = ways }) lives
 
     stands : (g : Game) (n : ℕ) (w : World) (run : Run) (st : from g n w run) → Stands g (lives_of g st.registers st.lives st.ways) st.ways (path_of (steps_at (values_in s old.refs.items) fs frame) (inside heap st.registers)) n (begun (inside heap st.registers) with.work w) run
     stands g n w run st =
         let r = st.registers in
-        subst (λ h. Stands g (lives_of g r st.lives st.ways) st.ways (path_of (steps_at (values_in s old.refs.items) fs frame) (inside h r)) n (begun (inside h r) with.work w) run) (ap (cells_if 0) (sym counted))
-        (st.began (enter (cells_if 0 (left_in others)) with.work r (steps_at (values_in s old.refs.items) fs frame)) (the_others g r) (with.branches g (values_in s old.refs.items) fs r))
+        subst (λ h. Stands g (lives_of g r st.lives st.ways) st.ways (path_of (steps_at (values_in s old.refs.items) fs frame) (inside h r)) n (begun (inside h r) with.work w) run) (ap cells_if (sym same_b))
+        (subst (λ l. Tried g (kind_of all) r.next_tag 0 st.ways st.lives l n w run) (with.branches g (values_in s old.refs.items) fs r) st.tried)
 
     pub frame_full : (e : Full) → Overflows heap s e → FullAt from s e
     frame_full full.Heap h = λ g n w run quiet st.
-        let later = (has_happened g _ st.ways _ n _ run (stands g n w run st)).meters in
+        let path = path_of (steps_at (values_in s old.refs.items) fs frame) (inside heap st.registers) in
+        let later = (has_happened g _ st.ways n (Moves (GoesOn path (begun (inside heap st.registers) with.work w))) run (stands g n w run st)).meters in
         omega (arith, later.heap, h, st.agrees.heap)
     frame_full full.Trail h = absurd h
     frame_full full.OutOfMemory h = tt
 
-    module _ (charged : Charged heap s s1) (kept : reverse choices.items ≡ kept_if count o os) where
+    module _ (charged : Charged heap s s1) (kept : reverse choices.items ≡ kept_if b o os) where
       abbrev new : Engine
       new = record old { store = store1; choices = choices; here = frame }
 
@@ -142,15 +114,15 @@ module _ (old : Engine) (frame : Frame) (others : Left) (count : ℕ) (place : P
             since = omega (arith, a.since, ap (λ (t : State). t.since) now, ap (λ (t : State). t.vars) now);
           }
 
-      choices_now : (g : Game) (n : ℕ) (w : World) (run : Run) (st : from g n w run) → AreChoices g old.refs.items fs (reverse choices.items) (saved_if count st.back st.saved) (lives_of g st.registers st.lives st.ways)
+      choices_now : (g : Game) (n : ℕ) (w : World) (run : Run) (st : from g n w run) → AreChoices g old.refs.items fs (reverse choices.items) (saved_if b st.back st.saved) (lives_of g st.registers st.lives st.ways)
       choices_now g n w run st =
           let r = st.registers in
           let hold = hold_front st.back.store old.refs.items st.is.hold in
           let are : the_others g r ≡ branches_of g (values_in st.back.store old.refs.items) fs (length fs) others r =
-          branches_same g (length fs) (length old.refs.items) (values_in st.back.store old.refs.items) (values_in s old.refs.items) fs fs others r (within_left (length fs) (length old.refs.items) others left) sound.frames
+          branches_same g (length fs) (length old.refs.items) (values_in st.back.store old.refs.items) (values_in s old.refs.items) fs fs others r left sound.frames
           (values_kept (length old.refs.items) st.back.store s old.refs.items old.refs.items st.is.kept hold refl) (same_here (length fs) fs) in
-          subst (λ l. AreChoices g old.refs.items fs l (saved_if count st.back st.saved) (lives_of g r st.lives st.ways)) (sym kept)
-          (kept_choices g old.refs.items fs o os st.back st.saved st.lives r (kind_of all) st.ways (the_others g r) count (counted ∙ branches_count g (values_in s old.refs.items) fs (length fs) others r) are (sym with.kind) st.tag st.back_agrees hold st.is.place_is st.choices)
+          subst (λ l. AreChoices g old.refs.items fs l (saved_if b st.back st.saved) (lives_of g r st.lives st.ways)) (sym kept)
+          (kept_choices g old.refs.items fs o os st.back st.saved st.lives r (kind_of all) st.ways (the_others g r) b (same_b ∙ sym (branches_stay g (values_in s old.refs.items) fs (length fs) others r) ∙ ap (λ k. stays k (the_others g r)) with.kind) are (sym with.kind) st.tag st.back_agrees hold st.is.place_is st.choices)
 
       new_sound : IsSound new
       new_sound = record {
@@ -159,10 +131,10 @@ module _ (old : Engine) (frame : Frame) (others : Left) (count : ℕ) (place : P
         frames = sound.frames;
         choices = subst (StandOn fs (length fs) (length old.refs.items) old.newest) (sym kept) stand;
         places = record {
-          saved = saved_if count has.back has.saved;
-          keeps = saved1 _ (kept_places count old.store has.back has.saved has.is.keeps);
-          back_to = subst (λ l. GoBackTo old.refs.items s1.heap_limit s1.trail_limit l (saved_if count has.back has.saved)) (sym kept)
-              (kept_back count old.refs.items s1.heap_limit s1.trail_limit o os has.back has.saved has.is.place_is (hold_front has.back.store old.refs.items has.is.hold)
+          saved = saved_if b has.back has.saved;
+          keeps = saved1 _ (kept_places b old.store has.back has.saved has.is.keeps);
+          back_to = subst (λ l. GoBackTo old.refs.items s1.heap_limit s1.trail_limit l (saved_if b has.back has.saved)) (sym kept)
+              (kept_back b old.refs.items s1.heap_limit s1.trail_limit o os has.back has.saved has.is.place_is (hold_front has.back.store old.refs.items has.is.hold)
               (sym (k1.heap_limit ∙ has.is.kept.heap_limit)) (sym (k1.trail_limit ∙ has.is.kept.trail_limit))
               (back_limits old.refs.items s.heap_limit s.trail_limit s1.heap_limit s1.trail_limit os has.saved (sym k1.heap_limit) (sym k1.trail_limit) has.back_to));
         };
@@ -187,8 +159,8 @@ module _ (old : Engine) (frame : Frame) (others : Left) (count : ℕ) (place : P
                 lives = lives_of g r st.lives st.ways;
                 ways = st.ways;
                 registers = inside heap r;
-                saved = saved_if count st.back st.saved;
-                keeps = saved1 _ (kept_places count old.store st.back st.saved st.is.keeps);
+                saved = saved_if b st.back st.saved;
+                keeps = saved1 _ (kept_places b old.store st.back st.saved st.is.keeps);
                 agrees = agrees_now r st.agrees;
                 choices = choices_now g n w run st;
                 tag = ap (λ k. k + 1) st.tag;

@@ -1,5 +1,5 @@
 -- A rule of a query begins, or fails where it begins.
-use Rattle.std.proofs.Common.{◌≡◌, ℕ, zero, suc, ◌+◌, ◌*◌, ◌<◌, ◌≤◌, List, [], ◌∷◌, ◌++◌, Bool, true, false, refl, sym, ap, ◌∙◌, subst, arith, length, length-append, map, take, Bor}
+use Rattle.std.proofs.Common.{◌≡◌, ℕ, zero, suc, ◌+◌, ◌<◌, ◌≤◌, List, [], ◌∷◌, ◌++◌, Bool, true, false, Option, refl, sym, ap, ◌∙◌, subst, arith, length, length-append, map, take, Bor}
 use Rattle.std.specs.Prelude.{reverse}
 use Rattle.std.specs.List.{All, zip}
 use Rattle.std.proofs.lemmas.List.{append-nil, length-map}
@@ -13,14 +13,13 @@ use Rattle.dg_meaning.specs.Values.{Value, value_of}
 use Rattle.dg_meaning.specs.Substitutions.{IsSubstitution, Extends}
 use Rattle.dg_meaning.specs.Unify.{Unified, solve}
 use Rattle.dg_meaning.specs.World.{Game, World, prints}
-use Rattle.dg_meaning.specs.Cells.{writing}
-use Rattle.dg_meaning.specs.Path.{Step, Registers, Path, Branch, Rules as RulesOf}
-use Rattle.dg_meaning.specs.Moves.{begun, enter, inside, path_of, choice_cells, enter_if, older_bound, rule_steps, vars_of, new_vars, entered, match, matched, rule_branch, rule_branches}
+use Rattle.dg_meaning.specs.Path.{Step, Registers, Path, Branch, Enter, Clash, Rules as RulesOf, Moves}
+use Rattle.dg_meaning.specs.Moves.{begun, inside, path_of, choice_cells, begins as the_begins, enter_if, is_excluded, call_cells, unless_excluded, entering, older_bound, rule_steps, vars_of, new_vars, entered, match, matched, rule_branch, rule_branches}
 use Rattle.dg_meaning.specs.Transcript.{Run}
-use Rattle.dg_meaning.specs.Context.{Way, Live, pushed}
-use Rattle.dg_meaning.specs.Keeps.{Stands, Began}
+use Rattle.dg_meaning.specs.Context.{Way, Live}
+use Rattle.dg_meaning.specs.Keeps.{Stands, Began, Tried}
 use Rattle.dg_meaning.specs.Built.{AreBuilt, IsBuiltRule}
-use Rattle.dg_meaning.proofs.Keeps.{has_happened, has_happened_before}
+use Rattle.dg_meaning.proofs.Keeps.{has_happened}
 use Rattle.dg_meaning.proofs.Solving.{solve_extends}
 use Rattle.dg_unify.specs.Store.{Store, State, Saved, Holds, Kept, Charged, told, trail_of}
 use Rattle.dg_unify.specs.Laws.{saves_drops}
@@ -29,6 +28,7 @@ use Rattle.dg_unify.specs.declared.bindings.Ref.{Ref}
 use Rattle.dg_unify.specs.declared.bindings.Full.{Full}
 use Rattle.dg_unify.specs.declared.bindings.Full.TheVariants as full
 use Rattle.dg_unify.specs.declared.bindings.Mark.{Mark as Place}
+use Rattle.dg_unify.specs.declared.bindings.View.{View}
 use Rattle.dg_unify.specs.declared.list.ListBindings.{ListBindings}
 use Rattle.dg_interp.specs.declared.frames.Query.{Query}
 use Rattle.dg_interp.specs.declared.frames.Env.{Env}
@@ -38,12 +38,15 @@ use Rattle.dg_interp.specs.declared.frames.Left.TheVariants.{Rules, Way as OneWa
 use Rattle.dg_interp.specs.declared.frames.Choice.{Choice}
 use Rattle.dg_interp.specs.declared.engine.Engine.{Engine}
 use Rattle.dg_interp.specs.Terms.{Overflows}
+use Rattle.dg_interp.specs.Passing.{rules_from, IsFirst, IsCandidate}
+use Rattle.dg_interp.proofs.PassedRules.{rules_from_candidate}
+use Rattle.dg_meaning.specs.Selection.{first_excludes, from_candidate}
 use Rattle.dg_interp.specs.Rules.{rule_cells, matched_in, EntersRule, RuleFull}
-use Rattle.dg_interp.specs.Frames.{values_in, frame_steps, steps_behind, steps_at, branches_of, Agrees, AreChoices, IsFrame, IsLeft, StandOn, GoBackTo, cells_if}
+use Rattle.dg_interp.specs.Frames.{values_in, frame_steps, steps_behind, steps_at, branches_of, Agrees, AreChoices, IsFrame, IsLeft, StandOn, GoBackTo}
 use Rattle.dg_interp.specs.Engine.{store_in, KeepsPlaces, HasPlace, Point, IsQuiet, IsSound, StandsAt, BeginsAt, FullAt, Adds, Then, SameLimits, WentOn, WentWrong, kept_if}
 use Rattle.dg_interp.proofs.Links.{same_here, branches_same, behind_same, choices_same, back_same, frames_raise, stand_raise}
 use Rattle.dg_interp.proofs.Stores.{kept_on, all_hold, values_kept, hold_front, front_same, appended_stretch, values_count, trail_append, trail_older, made_is}
-use Rattle.dg_interp.proofs.Kept.{saved_if, kept_places, kept_stand, kept_back, kept_choices, cells_same}
+use Rattle.dg_interp.proofs.Kept.{saved_if, kept_back, kept_choices}
 use Rattle.dg_interp.proofs.Turns.{all_first, all_rest, reverse_pop}
 
 -- ## Peaks
@@ -52,9 +55,9 @@ use Rattle.dg_interp.proofs.Turns.{all_first, all_rest, reverse_pop}
 pub began_peaks : (g : Game) (lives : List Live) (ways : List Way) (b : Bool) (path : Path) (work n : ℕ) (w : World) (run : Run) → Began g lives ways (enter_if b path work) n w run →
     (path.registers.heap ≤ run.world.meters.heap) × (path.registers.trail ≤ run.world.meters.trail)
 began_peaks g lives ways true path work n w run h =
-    let later = (has_happened g lives ways path n (begun path.registers work w) run h).meters in (omega (arith, later.heap), omega (arith, later.trail))
+    let later = (has_happened g lives ways n (Moves (the_begins (Enter path work) w)) run h).meters in (omega (arith, later.heap), omega (arith, later.trail))
 began_peaks g lives ways false path work n w run h =
-    let later = (has_happened_before g lives n (begun path.registers work w) run h).meters in (omega (arith, later.heap), omega (arith, later.trail))
+    let later = (has_happened g lives ways n (Moves (the_begins (Clash path.registers work) w)) run h).meters in (omega (arith, later.heap), omega (arith, later.trail))
 
 -- ## What a rule makes of registers
 
@@ -132,19 +135,14 @@ module _ (g : Game) (rule : Rule) (args : List Value) (heap : ℕ) (s s1 s2 : St
 
 -- ## The engine
 
-pub rules_count : (g : Game) (pred : ℕ) (args : List Value) (many : Bool) (steps : List Step) (r : Registers) (rules : List Rule) → length rules ≡ length (rule_branches g pred args many steps r rules)
-rules_count g pred args many steps r [] = refl
-rules_count g pred args many steps r (x ∷ rules) = ap suc (rules_count g pred args many steps r rules)
-
-pub kept_more : (n : ℕ) (o : Choice) (xs ys : List Choice) → 0 < n → ys ≡ xs ++ o ∷ [] → reverse ys ≡ kept_if n o (reverse xs)
-kept_more zero o xs ys h e = absurd (omega (arith, h))
-kept_more (suc n) o xs ys h e = reverse_pop ys xs o e
+pub kept_more : (b : Bool) (o : Choice) (xs ys : List Choice) → b ≡ true → ys ≡ xs ++ o ∷ [] → reverse ys ≡ kept_if b o (reverse xs)
+kept_more b o xs ys h e = reverse_pop ys xs o e ∙ ap (λ x. kept_if x o (reverse xs)) (sym h)
 
 pub back_limits : (refs : List Ref) (h t h' t' : ℕ) (os : List Choice) (ms : List Saved) → h ≡ h' → t ≡ t' → GoBackTo refs h t os ms → GoBackTo refs h' t' os ms
 back_limits refs h t h' t' os ms e e' b = subst (λ x. GoBackTo refs h' x os ms) e' (subst (λ x. GoBackTo refs x t os ms) e b)
 
 module _ (old : Engine) (query : Query) (args : Env) (rules others : Bor (List Rule)) (rule : Rule) (place : Place) (store1 : ListBindings) (choices : Vec Choice Global) (sound : IsSound old)
-    (left : IsLeft (length old.frames.items) (length old.refs.items) (Rules query args rules)) (has : HasPlace old place) (split : rules.now ≡ rule ∷ others.now)
+    (left : IsLeft (length old.frames.items) (length old.refs.items) (Rules query args rules)) (has : HasPlace old place) (split : rules.now ≡ rule ∷ others.now) (first : Option View) (is_first : IsFirst (store_in old.store) (values_in (store_in old.store) old.refs.items args) first) (candidate : IsCandidate (store_in old.store) (values_in (store_in old.store) old.refs.items args) rules.now)
     (k1 : Kept (store_in old.store) (store_in store1)) (saved1 : (ms : List Saved) → KeepsPlaces old.store ms → KeepsPlaces store1 ms) where
   abbrev s : Store
   s = store_in old.store
@@ -161,11 +159,8 @@ module _ (old : Engine) (query : Query) (args : Env) (rules others : Bor (List R
   abbrev os : List Choice
   os = reverse old.choices.items
 
-  abbrev count : ℕ
-  count = length others.now
-
   abbrev heap : ℕ
-  heap = cells_if args.len count
+  heap = choice_cells args.len (rules_from first others.now)
 
   abbrev o : Choice
   o = record { tag = old.newest; left = Rules query args others; height = length fs; refs = length xs; place = place }
@@ -180,34 +175,46 @@ module _ (old : Engine) (query : Query) (args : Env) (rules others : Bor (List R
   steps = steps_behind (values_in s xs) fs (length fs)
 
   built_all : All IsBuiltRule (rule ∷ others.now)
-  built_all = subst (All IsBuiltRule) split left.1
+  built_all = subst (All IsBuiltRule) split left.0
 
   pub rule_built : IsBuiltRule rule
   rule_built = all_first IsBuiltRule rule others.now built_all
 
-  stand : StandOn fs (length fs) (length xs) old.newest (kept_if count o os)
-  stand = kept_stand count fs (length fs) (length xs) old.newest o os (omega arith) (omega arith) (omega arith) (λ some. (some, all_rest IsBuiltRule rule others.now built_all, left.2)) sound.frames sound.choices
-
-  abbrev branch : Registers → Game → Branch
-  branch r g = rule_branch g query.pred the_args query.many steps r heap rule
+  stand : StandOn fs (length fs) (length xs) old.newest (o ∷ os)
+  stand = (omega arith, omega arith, omega arith, ((all_rest IsBuiltRule rule others.now built_all, left.1), refl), sound.frames, sound.choices)
 
   abbrev branches : Registers → Game → List Branch
   branches r g = rule_branches g query.pred the_args query.many steps r others.now
 
   abbrev lives_of : Game → Registers → List Live → List Way → List Live
-  lives_of g r lives ways = pushed (branches r g) (record { kind = RulesOf query.pred; tag = r.next_tag; others = branches r g; height = 0; ways_on = ways }) lives
+  lives_of g r lives ways = record { kind = RulesOf query.pred; tag = r.next_tag; others = branches r g; height = 0; ways_on = ways } ∷ lives
 
-  same_heap : choice_cells (length the_args) others.now ≡ heap
-  same_heap = cells_same (length the_args) others.now ∙ ap (λ n. cells_if n count) (values_count s xs args left.2)
+  abbrev behind_of : Game → Registers → Registers
+  behind_of g r = matched (match g the_args rule r) r (entered g heap rule r)
+
+  -- the branch of the rule, which isn't excluded
+  abbrev branch : Registers → Game → Branch
+  branch r g = enter_if (match g the_args rule r).agrees (path_of (rule_steps query.pred query.many (vars_of rule r) r.next_tag rule steps) (behind_of g r)) (entering g the_args rule r)
+
+  same_heap : (r : Registers) → Agrees s r → call_cells the_args r others.now ≡ heap
+  same_heap r agrees =
+      ap (λ S. choice_cells (length the_args) (from_candidate S the_args others.now)) agrees.bound
+      ∙ ap (choice_cells (length the_args)) (sym (rules_from_candidate s the_args first is_first others.now))
+      ∙ ap (λ n. choice_cells n (rules_from first others.now)) (values_count s xs args left.1)
+
+  not_excluded : (r : Registers) → Agrees s r → is_excluded the_args r rule ≡ false
+  not_excluded r agrees = ap (λ S. first_excludes S the_args rule.head) agrees.bound ∙ subst (IsCandidate s the_args) split candidate
+
+  branch_is : (g : Game) (r : Registers) → Agrees s r → rule_branch g query.pred the_args query.many steps r (call_cells the_args r others.now) rule ≡ branch r g
+  branch_is g r agrees =
+      ap (λ h. rule_branch g query.pred the_args query.many steps r h rule) (same_heap r agrees)
+      ∙ ap (λ b. unless_excluded b r (entering g the_args rule r) (branch r g)) (not_excluded r agrees)
 
   begins : (g : Game) (n : ℕ) (w : World) (run : Run) (st : from g n w run) → Began g (lives_of g st.registers st.lives st.ways) st.ways (branch st.registers g) n w run
   begins g n w run st =
       let r = st.registers in
-      subst (λ h. Began g (lives_of g r st.lives st.ways) st.ways (rule_branch g query.pred the_args query.many steps r h rule) n w run) same_heap
-      (st.began (rule_branch g query.pred the_args query.many steps r (choice_cells (length the_args) others.now) rule) (branches r g) (ap (rule_branches g query.pred the_args query.many steps r) split))
-
-  abbrev behind_of : Game → Registers → Registers
-  behind_of g r = matched (match g the_args rule r) r (entered g heap rule r)
+      subst (λ b. Began g (lives_of g r st.lives st.ways) st.ways b n w run) (branch_is g r st.agrees)
+      (subst (λ l. Tried g (RulesOf query.pred) r.next_tag 0 st.ways st.lives (rule_branches g query.pred the_args query.many steps r l) n w run) split st.tried)
 
   sub : IsSubstitution s.state.subst
   sub = old.store.sound.fits.sound
@@ -231,14 +238,14 @@ module _ (old : Engine) (query : Query) (args : Env) (rules others : Bor (List R
         omega (arith, peaks.0, less)
     enter_full full.Trail h = λ g n w run quiet st.
         let r = st.registers in
-        let same : values_in s1 xs args ≡ the_args = values_kept (length xs) s s1 xs xs k1 (hold_front s xs sound.hold) refl args left.2 in
+        let same : values_in s1 xs args ≡ the_args = values_kept (length xs) s s1 xs xs k1 (hold_front s xs sound.hold) refl args left.1 in
         let here = subst (λ vs. RuleFull g.program rule vs s1 full.Trail) same (h g.program) in
         let peaks = began_peaks g _ st.ways (match g the_args rule r).agrees _ _ n w run (begins g n w run st) in
         let less = rule_trail g rule the_args heap s s1 s1 r st.agrees sub charged s.trail_limit (omega (arith, here, k1.trail_limit)) in
         omega (arith, peaks.1, less)
     enter_full full.OutOfMemory h = tt
 
-    module _ (store2 : ListBindings) (refs2 made2 : Vec Ref Global) (found : Bool) (kept : reverse choices.items ≡ kept_if count o os) (k2 : Kept s1 (store_in store2)) (saved2 : (ms : List Saved) → KeepsPlaces store1 ms → KeepsPlaces store2 ms)
+    module _ (store2 : ListBindings) (refs2 made2 : Vec Ref Global) (found : Bool) (kept : reverse choices.items ≡ kept_if true o os) (k2 : Kept s1 (store_in store2)) (saved2 : (ms : List Saved) → KeepsPlaces store1 ms → KeepsPlaces store2 ms)
         (enters : (program : CoreProgram) → EntersRule program rule (values_in s1 xs args) s1 (store_in store2) xs refs2.items found) where
       abbrev s2 : Store
       s2 = store_in store2
@@ -247,7 +254,7 @@ module _ (old : Engine) (query : Query) (args : Env) (rules others : Bor (List R
       ys = refs2.items
 
       same_args : values_in s1 xs args ≡ the_args
-      same_args = values_kept (length xs) s s1 xs xs k1 (hold_front s xs sound.hold) refl args left.2
+      same_args = values_kept (length xs) s s1 xs xs k1 (hold_front s xs sound.hold) refl args left.1
 
       does : (g : Game) → EntersRule g.program rule the_args s1 s2 xs ys found
       does g = subst (λ vs. EntersRule g.program rule vs s1 s2 xs ys found) same_args (enters g.program)
@@ -267,34 +274,34 @@ module _ (old : Engine) (query : Query) (args : Env) (rules others : Bor (List R
       abbrev new : Frame → Engine
       new here = record old { store = store2; refs = refs2; choices = choices; made = made2; here = here }
 
-      saved_places : (back : Saved) (ms : List Saved) → KeepsPlaces old.store (back ∷ ms) → KeepsPlaces store2 (saved_if count back ms)
-      saved_places back ms h = saved2 _ (saved1 _ (kept_places count old.store back ms h))
+      saved_places : (back : Saved) (ms : List Saved) → KeepsPlaces old.store (back ∷ ms) → KeepsPlaces store2 (saved_if true back ms)
+      saved_places back ms h = saved2 (back ∷ ms) (saved1 (back ∷ ms) h)
 
       rule_sound : (here : Frame) → IsSound (new here)
       rule_sound here = record {
         program = sound.program;
         hold = subst (All (Holds s2)) (sym ends.appended.is) (All-append (Holds s2) xs ends.appended.made (all_hold s s2 xs k12 sound.hold) ends.appended.hold);
         frames = frames_raise (length fs) (length xs) (length ys) fs longer sound.frames;
-        choices = subst (StandOn fs (length fs) (length ys) old.newest) (sym kept) (stand_raise fs (length fs) (length fs) (length xs) (length ys) old.newest old.newest (kept_if count o os) (omega arith) longer (omega arith) stand);
+        choices = subst (StandOn fs (length fs) (length ys) old.newest) (sym kept) (stand_raise fs (length fs) (length fs) (length xs) (length ys) old.newest old.newest (kept_if true o os) (omega arith) longer (omega arith) stand);
         places = record {
-          saved = saved_if count has.back has.saved;
+          saved = saved_if true has.back has.saved;
           keeps = saved_places has.back has.saved has.is.keeps;
-          back_to = subst (λ l. GoBackTo ys s2.heap_limit s2.trail_limit l (saved_if count has.back has.saved)) (sym kept)
-              (kept_back count ys s2.heap_limit s2.trail_limit o os has.back has.saved has.is.place_is (subst (All (Holds has.back.store)) (sym front) (hold_front has.back.store xs has.is.hold))
+          back_to = subst (λ l. GoBackTo ys s2.heap_limit s2.trail_limit l (saved_if true has.back has.saved)) (sym kept)
+              (kept_back true ys s2.heap_limit s2.trail_limit o os has.back has.saved has.is.place_is (subst (All (Holds has.back.store)) (sym front) (hold_front has.back.store xs has.is.hold))
               (sym (k12.heap_limit ∙ has.is.kept.heap_limit)) (sym (k12.trail_limit ∙ has.is.kept.trail_limit))
               (back_limits ys s.heap_limit s.trail_limit s2.heap_limit s2.trail_limit os has.saved (sym k12.heap_limit) (sym k12.trail_limit) (back_same xs ys fs (length fs) (length xs) old.newest s.heap_limit s.trail_limit os has.saved front sound.choices has.back_to)));
         };
         room = sound.room;
       }
 
-      choices_now : (g : Game) (n : ℕ) (w : World) (run : Run) (st : from g n w run) → AreChoices g ys fs (reverse choices.items) (saved_if count st.back st.saved) (lives_of g st.registers st.lives st.ways)
+      choices_now : (g : Game) (n : ℕ) (w : World) (run : Run) (st : from g n w run) → AreChoices g ys fs (reverse choices.items) (saved_if true st.back st.saved) (lives_of g st.registers st.lives st.ways)
       choices_now g n w run st =
           let r = st.registers in
           let are : branches r g ≡ branches_of g (values_in st.back.store xs) fs (length fs) (Rules query args others) r =
-          branches_same g (length fs) (length xs) (values_in st.back.store xs) (values_in s xs) fs fs (Rules query args others) r left.2 sound.frames (values_kept (length xs) st.back.store s xs xs st.is.kept (hold_front st.back.store xs st.is.hold) refl) (same_here (length fs) fs) in
-          subst (λ l. AreChoices g ys fs l (saved_if count st.back st.saved) (lives_of g r st.lives st.ways)) (sym kept)
-          (choices_same g xs ys fs fs (length fs) (length xs) old.newest (kept_if count o os) (saved_if count st.back st.saved) (lives_of g r st.lives st.ways) front (same_here (length fs) fs) stand
-          (kept_choices g xs fs o os st.back st.saved st.lives r (RulesOf query.pred) st.ways (branches r g) count (rules_count g query.pred the_args query.many steps r others.now) are refl st.tag st.back_agrees (hold_front st.back.store xs st.is.hold) st.is.place_is st.choices))
+          branches_same g (length fs) (length xs) (values_in st.back.store xs) (values_in s xs) fs fs (Rules query args others) r (all_rest IsBuiltRule rule others.now built_all, left.1) sound.frames (values_kept (length xs) st.back.store s xs xs st.is.kept (hold_front st.back.store xs st.is.hold) refl) (same_here (length fs) fs) in
+          subst (λ l. AreChoices g ys fs l (saved_if true st.back st.saved) (lives_of g r st.lives st.ways)) (sym kept)
+          (choices_same g xs ys fs fs (length fs) (length xs) old.newest (kept_if true o os) (saved_if true st.back st.saved) (lives_of g r st.lives st.ways) front (same_here (length fs) fs) stand
+          (kept_choices g xs fs o os st.back st.saved st.lives r (RulesOf query.pred) st.ways (branches r g) true refl are refl st.tag st.back_agrees (hold_front st.back.store xs st.is.hold) st.is.place_is st.choices))
 
       adds_begun : (r : Registers) (work : ℕ) (w : World) → IsQuiet w → Adds [] w (begun r work w)
       adds_begun r work w quiet = record { prints_are = sym (append-nil (prints w.events)); typed = refl; quiet = quiet }
@@ -311,14 +318,14 @@ module _ (old : Engine) (query : Query) (args : Env) (rules others : Bor (List R
         leads = λ g n w run quiet st.
             let r = st.registers in
             let none : (match g the_args rule r).agrees ≡ false = sym (rule_found g rule the_args heap s s1 s2 r st.agrees sub charged xs ys found (does g)) ∙ is in
-            let work = 1 + writing g.program rule.head + 2 * (match g the_args rule r).count in
+            let work = entering g the_args rule r in
             record {
               world = begun (behind_of g r) work w;
               adds = adds_begun (behind_of g r) work w quiet;
               holds = record {
                 program = st.program;
                 lives = lives_of g r st.lives st.ways;
-                saved = saved_if count st.back st.saved;
+                saved = saved_if true st.back st.saved;
                 keeps = saved_places st.back st.saved st.is.keeps;
                 choices = choices_now g n w run st;
                 failed = subst (λ b. Began g (lives_of g r st.lives st.ways) st.ways (enter_if b (path_of (rule_steps query.pred query.many (vars_of rule r) r.next_tag rule steps) (behind_of g r)) work) n w run) none (begins g n w run st);
@@ -363,7 +370,7 @@ module _ (old : Engine) (query : Query) (args : Env) (rules others : Bor (List R
           leads = λ g n w run quiet st.
               let r = st.registers in
               let yes' : (match g the_args rule r).agrees ≡ true = sym (rule_found g rule the_args heap s s1 s2 r st.agrees sub charged xs ys found (does g)) ∙ is in
-              let work = 1 + writing g.program rule.head + 2 * (match g the_args rule r).count in
+              let work = entering g the_args rule r in
               let s' = behind_of g r in
               record {
                 world = begun s' work w;
@@ -373,7 +380,7 @@ module _ (old : Engine) (query : Query) (args : Env) (rules others : Bor (List R
                   lives = lives_of g r st.lives st.ways;
                   ways = st.ways;
                   registers = s';
-                  saved = saved_if count st.back st.saved;
+                  saved = saved_if true st.back st.saved;
                   keeps = saved_places st.back st.saved st.is.keeps;
                   agrees = rule_agrees g rule the_args heap s s1 s2 r st.agrees sub charged xs ys found (does g);
                   choices = choices_now g n w run st;
@@ -404,7 +411,7 @@ way_begins old frame place sound g n w run quiet st =
         agrees = record { bound = st.agrees.bound; vars = st.agrees.vars; heap = omega (arith, st.agrees.heap); trail = st.agrees.trail; since = st.agrees.since };
         choices = st.choices;
         tag = ap (λ k. k + 1) st.tag;
-        stands = st.began (enter 0 0 r steps) [] refl;
+        stands = st.tried;
       };
     }
 

@@ -6,12 +6,10 @@ use Rattle.std.specs.declared.vec.Vec.{Vec}
 use Rattle.std.specs.declared.alloc.Global.{Global}
 use Rattle.dg_meaning.specs.World.{Game, World}
 use Rattle.dg_meaning.specs.Path.{Result, Failing}
-use Rattle.dg_meaning.specs.Search.{retried}
 use Rattle.dg_meaning.specs.Transcript.{Run}
-use Rattle.dg_meaning.specs.Context.{Live, pushed}
-use Rattle.dg_meaning.specs.Keeps.{Finished, FailsTo, Resumed, Began}
-use Rattle.dg_meaning.proofs.Silently.{retried_silently, quiet_later}
-use Rattle.dg_meaning.proofs.Keeps.{failed, begins_next}
+use Rattle.dg_meaning.specs.Context.{Live}
+use Rattle.dg_meaning.specs.Keeps.{Finished, FailsTo, Resumed, Tried, tried_in}
+use Rattle.dg_meaning.proofs.Keeps.{failed, tries}
 use Rattle.dg_unify.specs.Store.{Store, State, Saved, Holds, Back}
 use Rattle.dg_unify.specs.Laws.{saves_drops}
 use Rattle.dg_unify.specs.Listed.{fields_of}
@@ -23,12 +21,12 @@ use Rattle.dg_unify.specs.declared.list.ListBindings.{ListBindings}
 use Rattle.dg_interp.specs.declared.frames.Frame.{Frame}
 use Rattle.dg_interp.specs.declared.frames.Choice.{Choice}
 use Rattle.dg_interp.specs.declared.engine.Engine.{Engine}
-use Rattle.dg_interp.specs.Frames.{values_in, branches_of, IsChoice, AreChoices, AreFrames, IsLeft, StandOn, GoBackTo, left_in, all_left}
+use Rattle.dg_interp.specs.Frames.{values_in, kind_of, branches_of, IsChoice, AreChoices, AreFrames, IsLeft, StandOn, GoBackTo, left_in, stays_with, all_left}
 use Rattle.dg_interp.specs.Engine.{store_in, KeepsPlaces, HasPlace, IsPlace, Point, IsQuiet, IsSound, StandsAt, FailsAt, BeginsAt, Adds, Then, Leads, FullAt, SameLimits, WentOn, WentWrong, HasEndedSo, AtGoal, Branches, GoesBack, Tries, branches_left}
-use Rattle.dg_interp.proofs.Links.{left_within, same_take, branches_same, frames_take, stand_same, choices_same, back_same}
+use Rattle.dg_interp.proofs.Links.{same_take, branches_same, frames_take, stand_same, choices_same, back_same}
 use Rattle.dg_interp.proofs.Stores.{all_hold, values_kept, take_all}
 use Rattle.dg_interp.proofs.Begins.{back_limits}
-use Rattle.dg_interp.proofs.Places.{went_further, went_wrong, adds_nothing, adds_on, adds_silently, leads_on, limits_on}
+use Rattle.dg_interp.proofs.Places.{went_further, went_wrong, adds_nothing, adds_on, adds_drops, adds_tried, leads_on, limits_on}
 use Rattle.dg_interp.proofs.Turns.{reverse_pop}
 
 -- ## The store to which a choice goes back
@@ -66,7 +64,7 @@ module _ (old : Engine) (o : Choice) (choices : Vec Choice Global) (sound : IsSo
   stand : StandOn fs (length fs) (length xs) old.newest (o ∷ os)
   stand = subst (StandOn fs (length fs) (length xs) old.newest) was sound.choices
 
-  pub fewer_left : all_left (reverse old.choices.items) ≡ left_in o.left + all_left os
+  pub fewer_left : all_left (reverse old.choices.items) ≡ 1 + left_in o.left + all_left os
   fewer_left = ap all_left was
 
   module _ (frames : Vec Frame Global) (refs : Vec Ref Global) (store : ListBindings) (cut : frames.items ≡ take o.height fs) (cut_refs : refs.items ≡ take o.refs xs)
@@ -129,7 +127,10 @@ module _ (old : Engine) (o : Choice) (choices : Vec Choice Global) (sound : IsSo
     }
 
     pub popped_left : IsLeft (length frames.items) (length refs.items) o.left
-    popped_left = subst (λ n. IsLeft n (length refs.items) o.left) (sym count) (subst (λ n. IsLeft o.height n o.left) (sym count_refs) stand.3)
+    popped_left = subst (λ n. IsLeft n (length refs.items) o.left) (sym count) (subst (λ n. IsLeft o.height n o.left) (sym count_refs) stand.3.0)
+
+    pub popped_stays : stays_with o.left ≡ true
+    popped_stays = stand.3.1
 
     begins : (g : Game) (m : Saved) (ms : List Saved) (c : Live) (cs : List Live) (n : ℕ) (w v : World) (run : Run) → IsQuiet v → Adds [] w v → old.program.now ≡ g.program → KeepsPlaces old.store (m ∷ ms) → IsChoice g xs fs o m c → AreChoices g xs fs os ms cs → Resumed g c cs n v run →
         Then [] w (λ u. BeginsAt o.left o.place mid g n u run)
@@ -141,10 +142,10 @@ module _ (old : Engine) (o : Choice) (choices : Vec Choice Global) (sound : IsSo
         let same : branches_of g (values_in (store_in store) refs.items) frames.items (length frames.items) o.left r ≡ branches_of g (values_in m.store xs) fs o.height o.left r =
         ap (λ h. branches_of g (values_in (store_in store) refs.items) frames.items h o.left r) count
         ∙ ap (λ l. branches_of g (values_in (store_in store) refs.items) l o.height o.left r) cut
-        ∙ branches_same g o.height o.refs (values_in m.store xs) (values_in (store_in store) refs.items) fs (take o.height fs) o.left r (left_within o.height o.refs o.left stand.3) stand.4 values (same_take fs o.height) in
+        ∙ branches_same g o.height o.refs (values_in m.store xs) (values_in (store_in store) refs.items) fs (take o.height fs) o.left r stand.3.0 stand.4 values (same_take fs o.height) in
         record {
-          world = retried c.kind v;
-          adds = adds_on w v (retried c.kind v) [] [] adds (adds_silently v (retried c.kind v) still (retried_silently c.kind v));
+          world = tried_in c.kind c.others v;
+          adds = adds_on w v (tried_in c.kind c.others v) [] [] adds (adds_tried c.kind c.others v still);
           holds = record {
             program = program;
             lives = cs;
@@ -163,12 +164,12 @@ module _ (old : Engine) (o : Choice) (choices : Vec Choice Global) (sound : IsSo
             back_agrees = is.agrees;
             choices = subst (λ l. AreChoices g refs.items l os ms cs) (sym cut) (choices_same g xs refs.items fs (take o.height fs) o.height o.refs o.tag os ms cs front (same_take fs o.height) stand.5 others);
             tag = is.tag_at;
-            began = λ b bs split.
-                let next = begins_next g c cs b bs n v run (is.others ∙ sym same ∙ split) resumed in
-                let at : Live → Type 0 = λ l. Began g (pushed bs l cs) c.ways_on b n (retried c.kind v) run in
-                subst (λ k. at (record { kind = k; tag = r.next_tag; others = bs; height = 0; ways_on = c.ways_on })) is.kind
-                (subst (λ t. at (record { kind = c.kind; tag = t; others = bs; height = 0; ways_on = c.ways_on })) (is.tag ∙ sym is.tag_at)
-                (subst (λ i. at (record { kind = c.kind; tag = c.tag; others = bs; height = i; ways_on = c.ways_on })) is.height next));
+            tried =
+                let u = tried_in c.kind c.others v in
+                subst (λ l. Tried g (kind_of o.left) r.next_tag 0 c.ways_on cs l n u run) (is.others ∙ sym same)
+                (subst (λ k. Tried g k r.next_tag 0 c.ways_on cs c.others n u run) is.kind
+                (subst (λ t. Tried g c.kind t 0 c.ways_on cs c.others n u run) (is.tag ∙ sym is.tag_at)
+                (subst (λ i. Tried g c.kind c.tag i c.ways_on cs c.others n u run) is.height (tries g c cs n v run resumed))));
           };
         }
 
@@ -177,7 +178,7 @@ module _ (old : Engine) (o : Choice) (choices : Vec Choice Global) (sound : IsSo
       from : (ms : List Saved) (cs : List Live) → KeepsPlaces old.store ms → AreChoices g xs fs (o ∷ os) ms cs → FailsTo g n w run cs → Then [] w (λ u. BeginsAt o.left o.place mid g n u run)
       from [] cs k h f = absurd h
       from (m ∷ ms) [] k h f = absurd h
-      from (m ∷ ms) (c ∷ cs) k h f = begins g m ms c cs n w f.world run (quiet_later w f.world quiet f.silently) (adds_silently w f.world quiet f.silently) st.program k h.0 h.1 f.resumed
+      from (m ∷ ms) (c ∷ cs) k h f = begins g m ms c cs n w f.world run (adds_drops w f.world quiet f.drops).quiet (adds_drops w f.world quiet f.drops) st.program k h.0 h.1 f.resumed
 
 -- ## No choice is left
 
@@ -219,7 +220,7 @@ pub tried_from : (A B : Point) (old mid new : Engine) → mid.left ≡ old.left 
 tried_from A B old mid new left limits h true k = went_on_from A B old mid new left limits h k
 tried_from A B old mid new left limits h false k = went_wrong_from A B old mid new left limits h k
 
-pub retried_from : (A B : Point) (old mid new : Engine) (extra : ℕ) → mid.left ≡ old.left → SameLimits old mid → Leads A B → branches_left old ≡ extra + branches_left mid → (begun : Bool) → Tries B begun mid new → branches_left new < branches_left mid + extra → Tries A begun old new × (branches_left new < branches_left old)
+pub retried_from : (A B : Point) (old mid new : Engine) (extra : ℕ) → mid.left ≡ old.left → SameLimits old mid → Leads A B → branches_left old ≡ 1 + extra + branches_left mid → (begun : Bool) → Tries B begun mid new → branches_left new ≤ branches_left mid + extra → Tries A begun old new × (branches_left new < branches_left old)
 retried_from A B old mid new extra left limits h count begun k less = (tried_from A B old mid new left limits h begun k, omega (arith, count, less))
 
 pub at_goal_from : (A : Point) (old mid new : Engine) → WentOn A old mid → AtGoal (StandsAt mid) mid new → AtGoal A old new
@@ -266,6 +267,6 @@ pub tries_made : (A B : Point) (old mid new : Engine) → mid.left ≡ old.left 
 tries_made A B old between new left limits h (Ok begun) k = tried_from A B old between new left limits h begun k
 tries_made A B old between new left limits h (Err e) k = tt
 
-pub fewer_made : (old new : Engine) (m n : ℕ) → m ≤ n → (r : Answer Bool Full) → OnOk r (branches_left new < branches_left old + m) → OnOk r (branches_left new < branches_left old + n)
+pub fewer_made : (old new : Engine) (m n : ℕ) → m ≤ n → (r : Answer Bool Full) → OnOk r (branches_left new ≤ branches_left old + m) → OnOk r (branches_left new ≤ branches_left old + n)
 fewer_made old new m n le (Ok begun) h = omega (arith, h, le)
 fewer_made old new m n le (Err e) h = tt

@@ -14,7 +14,7 @@ use Rattle.dg_meaning.specs.Moves.{begun, inside, enter, choice, goals_at, list_
 use Rattle.dg_meaning.specs.Transcript.{Run}
 use Rattle.dg_meaning.specs.Built.{AreBuilt}
 use Rattle.dg_meaning.specs.Keeps.{After, Stands}
-use Rattle.dg_meaning.proofs.Keeps.{has_happened}
+use Rattle.dg_meaning.proofs.Keeps.{stands_happened}
 use Rattle.dg_meaning.proofs.BuiltLemmas.{built_inside, lists_built, three_built}
 use Rattle.dg_unify.specs.Store.{Store, State, Saved, Kept, Charged, HeapFull}
 use Rattle.dg_unify.specs.declared.bindings.Full.{Full}
@@ -179,7 +179,7 @@ either_fails lists old none g n w run quiet st =
     let env = values_of old old.here.env in
     record {
       world = v;
-      adds = adds_taken r (writing g.program (terms_held (out-Goal x))) w quiet;
+      adds = adds_taken r (writing (terms_held (out-Goal x))) w quiet;
       holds = record {
         program = st.program;
         lives = st.lives;
@@ -244,7 +244,7 @@ module _ (goals : Bor (List Goal)) (old : Engine) (ready : IsReady old) (all : b
 
   pub once_full : (e : Full) (t : Store) → HeapFull 10 (store_in old.store) t e → FullAt (TakesAt x old) (store_in old.store) e
   once_full full.Heap t h = λ g n w run quiet st.
-      let later = (has_happened g st.lives st.ways _ n _ run (once_stands g n w run st)).meters in
+      let later = (stands_happened g st.lives st.ways _ n _ run (once_stands g n w run st)).meters in
       let a = agrees_here x old held_none g n w run st in
       omega (arith, later.heap, h.0, a.heap)
   once_full full.Trail t h = absurd h
@@ -297,7 +297,7 @@ module _ (goals : Bor (List Goal)) (old : Engine) (ready : IsReady old) (all : b
       leads = λ g n w run quiet st.
           let r = behind x old g n w run st in
           let v = taken_in x old g n w run st in
-          let a = adds_taken r (writing g.program (terms_held (out-Goal x))) w quiet in
+          let a = adds_taken r (writing (terms_held (out-Goal x))) w quiet in
           record {
             world = begun (inside 10 r) 0 v;
             adds = record { prints_are = a.prints_are; typed = refl; quiet = quiet };

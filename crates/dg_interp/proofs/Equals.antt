@@ -1,5 +1,5 @@
 -- What an equation comes to.
-use Rattle.std.proofs.Common.{◌≡◌, ℕ, ◌+◌, ◌*◌, ◌<◌, List, [], ◌∷◌, Bool, true, false, refl, sym, ap, ◌∙◌, subst, arith, length}
+use Rattle.std.proofs.Common.{◌≡◌, ℕ, ◌+◌, ◌<◌, List, [], ◌∷◌, Bool, true, false, refl, sym, ap, ◌∙◌, subst, arith, length}
 use Rattle.std.specs.List.{All}
 use Rattle.std.specs.declared.vec.Vec.{Vec}
 use Rattle.std.specs.declared.alloc.Global.{Global}
@@ -14,11 +14,13 @@ use Rattle.dg_meaning.specs.Substitutions.{IsSubstitution, Extends}
 use Rattle.dg_meaning.specs.Unify.{Unified, unify}
 use Rattle.dg_meaning.specs.Cells.{cells, writing}
 use Rattle.dg_meaning.specs.Path.{Registers}
-use Rattle.dg_meaning.specs.Moves.{begun, made_since, bound_by, goes_on_if, outcome}
+use Rattle.dg_meaning.specs.Moves.{begun, made_since, bound_by, goes_on_if, outcome, unifying}
 use Rattle.dg_meaning.specs.Transcript.{Run}
 use Rattle.dg_meaning.specs.OneRun.{Grows}
-use Rattle.dg_meaning.specs.Keeps.{After, world_of}
-use Rattle.dg_meaning.specs.Built.{IsForm, IsBuiltGoal}
+use Rattle.dg_meaning.specs.Keeps.{After, Went, world_at}
+use Rattle.dg_meaning.proofs.Keeps.{has_happened}
+use Rattle.dg_meaning.specs.Path.{Moves}
+use Rattle.dg_meaning.specs.Built.{IsBuiltGoal}
 use Rattle.dg_meaning.specs.Closures.{HasNoClosure}
 use Rattle.dg_meaning.proofs.Solving.{solve_extends}
 use Rattle.dg_unify.specs.Store.{Store, State, Saved, Kept, told, trail_of, Does, UnifyFull}
@@ -32,7 +34,7 @@ use Rattle.dg_interp.specs.Frames.{values_in, Agrees}
 use Rattle.dg_interp.specs.Engine.{store_in, KeepsPlaces, steps_of, IsQuiet, IsReady, TakesAt, FailsAt, FullAt, Adds, Leads, WentOn}
 use Rattle.dg_interp.proofs.Stores.{trail_append, trail_within, made_is}
 use Rattle.dg_interp.proofs.Turns.{all_first, all_rest}
-use Rattle.dg_interp.proofs.Takes.{behind, taken_in, comes_of, adds_taken, terms_full, store_ready, after_grows, goes_on_no_stop}
+use Rattle.dg_interp.proofs.Takes.{behind, taken_in, comes_of, adds_taken, terms_full, store_ready}
 use Rattle.dg_interp.proofs.Values.{grown, grown_limits, stands_behind, fails_behind}
 
 -- ## Two terms
@@ -46,7 +48,7 @@ equal_plain a b h =
     (all_first HasNoClosure a (b ∷ []) both, all_first HasNoClosure b [] (all_rest HasNoClosure a (b ∷ []) both))
 
 pub equal_full : (a b : Term) (old : Engine) (e : Full) → ((program : CoreProgram) → Overflows (cells program (a ∷ b ∷ [])) (store_in old.store) e) → FullAt (TakesAt (Equal a b) old) (store_in old.store) e
-equal_full a b old e h = terms_full (Equal a b) old e (subst IsForm (sym (outs-Equal a b)) tt) (λ g. subst (λ l. Overflows (cells g.program l) (store_in old.store) e) (sym (held a b)) (h g.program))
+equal_full a b old e h = terms_full (Equal a b) old e (λ g. subst (λ l. Overflows (cells g.program l) (store_in old.store) e) (sym (held a b)) (h g.program))
 
 -- ## What is bound
 
@@ -71,7 +73,7 @@ module _ (a b : Term) (old : Engine) (mid : Store) (ra rb : Ref) (sound : IsSubs
   after = bound_by u (length (made_since r.bound u.subst)) r
 
   abbrev bound_in : World
-  bound_in = begun after (2 * u.count) (taken_in x old g n w run st)
+  bound_in = begun after (unifying r.bound ((value_of g.program env a, value_of g.program env b) ∷ [])) (taken_in x old g n w run st)
 
   form : cells g.program (terms_held (out-Goal x)) ≡ cells g.program (a ∷ b ∷ [])
   form = ap (cells g.program) (held a b)
@@ -112,13 +114,13 @@ module _ (a b : Term) (old : Engine) (mid : Store) (ra rb : Ref) (sound : IsSubs
         since = omega (arith, does.binds.since, since, does.binds.vars, vars, st.agrees.since);
       }
 
-  comes : After g st.lives st.ways n (goes_on_if u.agrees (steps_of old) after bound_in) run
+  comes : Went g st.lives st.ways n (goes_on_if u.agrees (steps_of old) after bound_in) run
   comes = subst (λ f. After g st.lives st.ways n (outcome g f env old.here.tag (steps_of old) r (taken_in x old g n w run st)) run) (outs-Equal a b) (comes_of x old g n w run st)
 
-  pub equal_comes : (found : Bool) → found ≡ (unify mid.state.subst (told mid ra) (told mid rb)).agrees → After g st.lives st.ways n (goes_on_if found (steps_of old) after bound_in) run
-  equal_comes found is = subst (λ o. After g st.lives st.ways n (goes_on_if o (steps_of old) after bound_in) run) (sym (is ∙ ap (λ (v : Unified). v.agrees) meant)) comes
+  pub equal_comes : (found : Bool) → found ≡ (unify mid.state.subst (told mid ra) (told mid rb)).agrees → Went g st.lives st.ways n (goes_on_if found (steps_of old) after bound_in) run
+  equal_comes found is = subst (λ o. Went g st.lives st.ways n (goes_on_if o (steps_of old) after bound_in) run) (sym (is ∙ ap (λ (v : Unified). v.agrees) meant)) comes
 
-  world_is : (o : Bool) → world_of (goes_on_if o (steps_of old) after bound_in) ≡ bound_in
+  world_is : (o : Bool) → world_at (goes_on_if o (steps_of old) after bound_in) ≡ bound_in
   world_is true = refl
   world_is false = refl
 
@@ -130,7 +132,7 @@ module _ (a b : Term) (old : Engine) (mid : Store) (ra rb : Ref) (sound : IsSubs
       let few = trail_within mid.state.since extends.made in
       let before : trail_of mid.state.since mid.state.subst ≡ trail_of mid.state.since r.bound = ap (λ (y : State). trail_of mid.state.since y.subst) m.state ∙ ap (trail_of mid.state.since) (sym st.agrees.bound) in
       let behind : trail_of mid.state.since (unify mid.state.subst (told mid ra) (told mid rb)).subst ≡ trail_of mid.state.since u.subst = ap (λ (v : Unified). trail_of mid.state.since v.subst) meant in
-      let grows : Grows bound_in run.world = subst (λ v. Grows v run.world) (world_is u.agrees) (after_grows g st.lives st.ways n (goes_on_if u.agrees (steps_of old) after bound_in) run (goes_on_no_stop u.agrees (steps_of old) after bound_in) comes) in
+      let grows : Grows bound_in run.world = subst (λ v. Grows v run.world) (world_is u.agrees) (has_happened g st.lives st.ways n (Moves (goes_on_if u.agrees (steps_of old) after bound_in)) run comes) in
       omega (arith, h, before, behind, now, few, counted_trail, trail, st.agrees.trail, grows.meters.trail)
 
 pub equal_trail_full : (a b : Term) (old : Engine) (mid : Store) (ra rb : Ref) → IsSubstitution (store_in old.store).state.subst → ((program : CoreProgram) → BothMade program a b (values_in (store_in old.store) old.refs.items old.here.env) (store_in old.store) mid ra rb) → (e : Full) → UnifyFull mid (unify mid.state.subst (told mid ra) (told mid rb)) e → FullAt (TakesAt (Equal a b) old) (store_in old.store) e
@@ -146,7 +148,7 @@ module _ (a b : Term) (old : Engine) (mid : Store) (ra rb : Ref) (store : ListBi
   y = Equal a b
 
   adds_bound : (g : Game) (n : ℕ) (w : World) (run : Run) (st : TakesAt y old g n w run) → IsQuiet w → Adds [] w (bound_in a b old mid ra rb sound made g n w run st)
-  adds_bound g n w run st quiet = let t = adds_taken (behind y old g n w run st) (writing g.program (terms_held (out-Goal y))) w quiet in record { prints_are = t.prints_are; typed = refl; quiet = quiet }
+  adds_bound g n w run st quiet = let t = adds_taken (behind y old g n w run st) (writing (terms_held (out-Goal y))) w quiet in record { prints_are = t.prints_are; typed = refl; quiet = quiet }
 
   pub equal_passed : found ≡ true → WentOn (TakesAt y old) old (grown y old store stack ready k saved)
   equal_passed is = record {
@@ -160,7 +162,7 @@ module _ (a b : Term) (old : Engine) (mid : Store) (ra rb : Ref) (store : ListBi
           world = v;
           adds = adds_bound g n w run st quiet;
           holds = stands_behind y old store stack ready k saved g n w v run st r (equal_agrees a b old mid ra rb sound made g n w run st (store_in store) found does) refl
-              (subst (λ o. After g st.lives st.ways n (goes_on_if o (steps_of old) r v) run) is (equal_comes a b old mid ra rb sound made g n w run st found does.agrees));
+              (subst (λ o. Went g st.lives st.ways n (goes_on_if o (steps_of old) r v) run) is (equal_comes a b old mid ra rb sound made g n w run st found does.agrees));
         };
   }
 
@@ -171,5 +173,5 @@ module _ (a b : Term) (old : Engine) (mid : Store) (ra rb : Ref) (store : ListBi
       record {
         world = v;
         adds = adds_bound g n w run st quiet;
-        holds = fails_behind y old store stack ready k saved g n w v run st (subst (λ o. After g st.lives st.ways n (goes_on_if o (steps_of old) r v) run) is (equal_comes a b old mid ra rb sound made g n w run st found does.agrees));
+        holds = fails_behind y old store stack ready k saved g n w v run st (subst (λ o. Went g st.lives st.ways n (goes_on_if o (steps_of old) r v) run) is (equal_comes a b old mid ra rb sound made g n w run st found does.agrees));
       }

@@ -11,7 +11,7 @@ use Rattle.dg_meaning.specs.Moves.{printed, outcome}
 use Rattle.dg_meaning.specs.Transcript.{Run}
 use Rattle.dg_meaning.specs.Context.{cut_to}
 use Rattle.dg_meaning.specs.Keeps.{After}
-use Rattle.dg_meaning.proofs.Silently.{prints_append}
+use Rattle.dg_meaning.proofs.Dropping.{prints_append}
 use Rattle.dg_meaning.proofs.Keeps.{passes_cut}
 use Rattle.dg_meaning.specs.Cells.{cells}
 use Rattle.dg_base.specs.Goals.{terms_held}

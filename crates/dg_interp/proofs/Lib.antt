@@ -13,7 +13,7 @@ pub mod Kept
 pub mod Begins
 pub mod Branches
 pub mod PassedRules
-pub mod RoomLemmas
+pub mod Passes
 pub mod Takes
 pub mod Asks
 pub mod Goals

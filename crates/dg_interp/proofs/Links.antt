@@ -162,8 +162,8 @@ frames_take n height fs le h k f lt e =
 -- ## Choices
 
 pub left_raise : (h k m n : ℕ) (left : Left) → h ≤ k → m ≤ n → IsLeft h m left → IsLeft k n left
-left_raise h k m n (Rules query args rules) le le' s = (s.0, s.1, omega (arith, s.2))
-left_raise h k m n (Lists env tag lists) le le' s = (s.0, s.1, omega (arith, s.2))
+left_raise h k m n (Rules query args rules) le le' s = (s.0, omega (arith, s.1))
+left_raise h k m n (Lists env tag lists) le le' s = (s.0, omega (arith, s.1))
 left_raise h k m n (Ways first other) le le' s = (frame_raise h k m n first le le' s.0, frame_raise h k m n other le le' s.1)
 left_raise h k m n (Way frame) le le' s = frame_raise h k m n frame le le' s
 
@@ -179,25 +179,12 @@ stand_same fs gs h m t (o ∷ os) same s =
 pub values_same : (n : ℕ) (s : Store) (xs ys : List Ref) → take n ys ≡ take n xs → SameBy n (values_in s xs) (values_in s ys)
 values_same n s xs ys same env ends = ap (map (told s)) (stretch_same n xs ys env ends same)
 
--- the values of branches are among so many Refs
-abbrev pub Within : ℕ → ℕ → Left → Type 0
-Within h m (Rules query args rules) = EndsBy m args
-Within h m (Lists env tag lists) = EndsBy m env
-Within h m (Ways first other) = IsFrame h m first × IsFrame h m other
-Within h m (Way frame) = IsFrame h m frame
-
-pub left_within : (h m : ℕ) (left : Left) → IsLeft h m left → Within h m left
-left_within h m (Rules query args rules) is = is.2
-left_within h m (Lists env tag lists) is = is.2
-left_within h m (Ways first other) is = is
-left_within h m (Way frame) is = is
-
-pub branches_same : (g : Game) (h m : ℕ) (vs us : Env → List Value) (fs gs : List Frame) (left : Left) (r : Registers) → Within h m left → AreFrames h m fs → SameBy m vs us → SameTo h fs gs → branches_of g us gs h left r ≡ branches_of g vs fs h left r
+pub branches_same : (g : Game) (h m : ℕ) (vs us : Env → List Value) (fs gs : List Frame) (left : Left) (r : Registers) → IsLeft h m left → AreFrames h m fs → SameBy m vs us → SameTo h fs gs → branches_of g us gs h left r ≡ branches_of g vs fs h left r
 branches_same g h m vs us fs gs (Rules query args rules) r is are same to =
-    ap (λ v. rule_branches g query.pred v query.many (steps_behind us gs h) r rules.now) (same args is)
+    ap (λ v. rule_branches g query.pred v query.many (steps_behind us gs h) r rules.now) (same args is.1)
     ∙ ap (λ s. rule_branches g query.pred (vs args) query.many s r rules.now) (behind_same m vs us fs gs h h (omega arith) same are to)
 branches_same g h m vs us fs gs (Lists env tag lists) r is are same to =
-    ap (λ v. list_branches v tag (steps_behind us gs h) r lists.now) (same env is)
+    ap (λ v. list_branches v tag (steps_behind us gs h) r lists.now) (same env is.1)
     ∙ ap (λ s. list_branches (vs env) tag s r lists.now) (behind_same m vs us fs gs h h (omega arith) same are to)
 branches_same g h m vs us fs gs (Ways first other) r is are same to =
     ap (λ s. enter 10 0 r s ∷ enter 0 0 r (steps_at us gs other) ∷ []) (at_same m vs us fs gs h first is.0 same are to)
@@ -215,7 +202,7 @@ choice_same g xs ys fs gs h m t o os s c refs to st k =
       tag_at = k.tag_at;
       kind = k.kind;
       tag = k.tag;
-      others = k.others ∙ sym (branches_same g o.height o.refs (values_in s.store xs) (values_in s.store ys) fs gs o.left k.registers (left_within o.height o.refs o.left st.3) st.4 (values_same o.refs s.store xs ys few) (same_fewer o.height h fs gs st.0 to));
+      others = k.others ∙ sym (branches_same g o.height o.refs (values_in s.store xs) (values_in s.store ys) fs gs o.left k.registers st.3.0 st.4 (values_same o.refs s.store xs ys few) (same_fewer o.height h fs gs st.0 to));
       height = k.height;
     }
 
@@ -277,7 +264,7 @@ stand_cut fs t h m u (o ∷ os) s =
 
 pub cut_fewer : (t : ℕ) (os : List Choice) → all_left (older_than t os) ≤ all_left os
 cut_fewer t [] = omega arith
-cut_fewer t (o ∷ os) = cond_both (nat_lt o.tag t) (o ∷ os) (older_than t os) (λ l. all_left l ≤ left_in o.left + all_left os) (λ e. omega arith) (λ e. omega (arith, cut_fewer t os))
+cut_fewer t (o ∷ os) = cond_both (nat_lt o.tag t) (o ∷ os) (older_than t os) (λ l. all_left l ≤ 1 + left_in o.left + all_left os) (λ e. omega arith) (λ e. omega (arith, cut_fewer t os))
 
 pub stand_floor : (fs : List Frame) (h k m t : ℕ) (os : List Choice) → floor_of os ≤ k → StandOn fs h m t os → StandOn fs k m t os
 stand_floor fs h k m t [] le s = tt

@@ -9,11 +9,11 @@ use Rattle.dg_base.specs.Goals.{terms_held}
 use Rattle.dg_meaning.specs.Values.{Value}
 use Rattle.dg_meaning.specs.World.{Game, World}
 use Rattle.dg_meaning.specs.Cells.{cells, writing}
-use Rattle.dg_meaning.specs.Path.{Step, Do, Registers, Plain}
+use Rattle.dg_meaning.specs.Path.{Step, Do, Registers, Branch, Plain}
 use Rattle.dg_meaning.specs.Moves.{choice, outcome, path_of}
 use Rattle.dg_meaning.specs.Transcript.{Run}
-use Rattle.dg_meaning.specs.Context.{pushed}
-use Rattle.dg_meaning.specs.Keeps.{Began, After, Stands}
+use Rattle.dg_meaning.specs.Context.{Way, Live}
+use Rattle.dg_meaning.specs.Keeps.{After, Stands, Tried}
 use Rattle.dg_unify.specs.Store.{Store, State, Saved, Holds, Kept, marked}
 use Rattle.dg_unify.specs.Laws.{saves_drops}
 use Rattle.dg_unify.specs.Listed.{fields_of}
@@ -25,15 +25,19 @@ use Rattle.dg_interp.specs.declared.frames.Frame.{Frame}
 use Rattle.dg_interp.specs.declared.frames.Choice.{Choice}
 use Rattle.dg_interp.specs.declared.frames.Left.{Left}
 use Rattle.dg_interp.specs.declared.engine.Engine.{Engine}
-use Rattle.dg_interp.specs.Frames.{values_in, steps_behind, steps_at, kind_of, branches_of, Agrees, AreChoices, AreFrames, AreLeft, IsFrame, StandOn, GoBackTo}
+use Rattle.dg_interp.specs.Frames.{values_in, steps_behind, steps_at, kind_of, branches_of, Agrees, AreChoices, AreFrames, IsLeft, IsFrame, StandOn, GoBackTo}
 use Rattle.dg_interp.specs.Engine.{store_in, KeepsPlaces, HasPlace, IsPlace, BeginsAt, steps_of, IsSound, IsReady, TakesAt, OpensAt, IsPushed, Leads, SameLimits}
 use Rattle.dg_interp.proofs.Links.{same_here, same_append, same_values, behind_new, at_same, frame_raise, frames_append, choices_same, stand_raise, stand_same, branches_same}
 use Rattle.dg_interp.proofs.Stores.{kept_here, all_hold, values_kept, hold_front}
 use Rattle.dg_interp.proofs.Begins.{back_limits}
-use Rattle.dg_interp.proofs.BeginFrames.{within_left}
 use Rattle.dg_interp.proofs.Places.{adds_nothing}
 use Rattle.dg_interp.proofs.Goals.{no_cells}
 use Rattle.dg_interp.proofs.Takes.{behind, taken_in, comes_of, adds_taken}
+
+-- a choice between goals is tried
+chosen : (g : Game) (lives : List Live) (ways : List Way) (n : ℕ) (run : Run) (t : ℕ) (bs : List Branch) (w : World) → After g lives ways n (choice Plain t bs w) run → Tried g Plain t (length w.gathered) ways lives bs n w run
+chosen g lives ways n run t [] w h = h
+chosen g lives ways n run t (b ∷ bs) w h = h
 
 -- a goal without terms leaves the registers where they agree
 module _ (x : Goal) (old : Engine) (none : terms_held (out-Goal x) ≡ []) where
@@ -54,7 +58,7 @@ module _ (x : Goal) (old : Engine) (none : terms_held (out-Goal x) ≡ []) where
       let v = taken_in x old g n w run st in
       record {
         world = v;
-        adds = adds_taken r (writing g.program (terms_held (out-Goal x))) w quiet;
+        adds = adds_taken r (writing (terms_held (out-Goal x))) w quiet;
         holds = record {
           program = st.program;
           lives = st.lives;
@@ -65,11 +69,12 @@ module _ (x : Goal) (old : Engine) (none : terms_held (out-Goal x) ≡ []) where
           agrees = agrees_here g n w run st;
           choices = st.choices;
           tag = st.tag;
-          began = λ b bs split.
-              let here : After g st.lives st.ways n (choice Plain r.next_tag (b ∷ bs) v) run =
-              subst (λ m. After g st.lives st.ways n m run) (is g r v st.program st.tag ∙ ap (λ k. choice k r.next_tag (branches_of g (values_in (store_in old.store) old.refs.items) old.frames.items (length old.frames.items) left r) v) plain ∙ ap (λ l. choice Plain r.next_tag l v) split) (comes_of x old g n w run st) in
-              subst (λ k. Began g (pushed bs (record { kind = k; tag = r.next_tag; others = bs; height = 0; ways_on = st.ways }) st.lives) st.ways b n v run) (sym plain)
-              (subst (λ i. Began g (pushed bs (record { kind = Plain; tag = r.next_tag; others = bs; height = i; ways_on = st.ways }) st.lives) st.ways b n v run) (ap length quiet) here);
+          tried =
+              let bs = branches_of g (values_in (store_in old.store) old.refs.items) old.frames.items (length old.frames.items) left r in
+              let here : After g st.lives st.ways n (choice Plain r.next_tag bs v) run =
+              subst (λ m. After g st.lives st.ways n m run) (is g r v st.program st.tag ∙ ap (λ k. choice k r.next_tag bs v) plain) (comes_of x old g n w run st) in
+              subst (λ k. Tried g k r.next_tag 0 st.ways st.lives bs n v run) (sym plain)
+              (subst (λ i. Tried g Plain r.next_tag i st.ways st.lives bs n v run) (ap length quiet) (chosen g st.lives st.ways n run r.next_tag bs v here));
         };
       }
 
@@ -186,8 +191,8 @@ module _ (old : Engine) (left : Left) (place : Place) (store : ListBindings) (re
     since = omega (arith, ap (λ (u : State). u.since) state, ap (λ (u : State). u.vars) state);
   }
 
-  pub opens_begins : AreLeft (length old.frames.items) (length refs) left → Leads (OpensAt left old) (BeginsAt left place opened)
-  opens_begins are g n w run quiet st = record {
+  pub opens_begins : IsLeft (length old.frames.items) (length refs) left → Leads (OpensAt left old) (BeginsAt left place opened)
+  opens_begins is g n w run quiet st = record {
     world = w;
     adds = adds_nothing w quiet;
     holds = record {
@@ -202,9 +207,9 @@ module _ (old : Engine) (left : Left) (place : Place) (store : ListBindings) (re
       back_agrees = agrees_now st.registers st.agrees;
       choices = st.choices;
       tag = st.tag;
-      began = λ b bs split.
-          st.began b bs
-          (sym (branches_same g (length old.frames.items) (length refs) (values_in (store_in old.store) refs) (values_in t refs) old.frames.items old.frames.items left st.registers (within_left (length old.frames.items) (length refs) left are) ready.sound.frames
-          (values_kept (length refs) (store_in old.store) t refs refs k (hold_front (store_in old.store) refs ready.sound.hold) refl) (same_here (length old.frames.items) old.frames.items)) ∙ split);
+      tried =
+          subst (λ l. Tried g (kind_of left) st.registers.next_tag 0 st.ways st.lives l n w run)
+          (sym (branches_same g (length old.frames.items) (length refs) (values_in (store_in old.store) refs) (values_in t refs) old.frames.items old.frames.items left st.registers is ready.sound.frames
+          (values_kept (length refs) (store_in old.store) t refs refs k (hold_front (store_in old.store) refs ready.sound.hold) refl) (same_here (length old.frames.items) old.frames.items))) st.tried;
     };
   }

@@ -6,13 +6,13 @@ use Rattle.std.proofs.lemmas.List.{append-nil}
 use Rattle.std.specs.declared.vec.Vec.{Vec}
 use Rattle.std.specs.declared.alloc.Global.{Global}
 use Rattle.dg_base.specs.declared.run.Ending.TheVariants.{Done}
-use Rattle.dg_meaning.specs.World.{Game, World, Event, Print, Answered, prints, noted}
-use Rattle.dg_meaning.specs.Path.{Step, Answers, Cut, End}
+use Rattle.dg_meaning.specs.World.{Game, World, Event, Print, Answered, Retried, HasFailed, prints, noted}
+use Rattle.dg_meaning.specs.Path.{Step, Answers, Cut, End, Branch, Kind, Plain, Rules, Shield, Gathers}
 use Rattle.dg_meaning.specs.Moves.{path_of, first_alone}
 use Rattle.dg_meaning.specs.Transcript.{Run}
-use Rattle.dg_meaning.specs.Context.{Live, cut_to, Silently}
-use Rattle.dg_meaning.specs.Keeps.{Stands, Finished}
-use Rattle.dg_meaning.proofs.Silently.{prints_later, typed_later, quiet_later, noted_silently}
+use Rattle.dg_meaning.specs.Context.{Live, cut_to, Drops}
+use Rattle.dg_meaning.specs.Keeps.{Stands, Finished, tried_in}
+use Rattle.dg_meaning.proofs.Dropping.{prints_append, quiet_same}
 use Rattle.dg_meaning.proofs.Keeps.{passes_answer, passes_cut, passes_refuse, done}
 use Rattle.dg_meaning.specs.Values.{Value}
 use Rattle.dg_unify.specs.Store.{Saved}
@@ -43,12 +43,23 @@ adds_on w v u xs ys a b = record {
   quiet = b.quiet;
 }
 
-pub adds_silently : (w v : World) → IsQuiet w → Silently w v → Adds [] w v
-adds_silently w v quiet s = record { prints_are = prints_later w v s ∙ sym (append-nil (prints w.events)); typed = typed_later w v s; quiet = quiet_later w v quiet s }
+pub adds_drops : (w v : World) → IsQuiet w → Drops w v → Adds [] w v
+adds_drops w v quiet d = subst (Adds [] w) (sym (quiet_same w v quiet d)) (adds_nothing w quiet)
 
 -- a call is noted
 pub adds_noted : (w : World) (e : Event) → IsQuiet w → prints (e ∷ []) ≡ [] → Adds [] w (noted e w)
-adds_noted w e quiet h = adds_silently w (noted e w) quiet (noted_silently e w h)
+adds_noted w e quiet h = record { prints_are = prints_append w.events (e ∷ []) ∙ ap (λ l. prints w.events ++ l) h; typed = refl; quiet = quiet }
+
+pub adds_failed : (q : ℕ) (w : World) → IsQuiet w → Adds [] w (noted (HasFailed q) w)
+adds_failed q w quiet = adds_noted w (HasFailed q) quiet refl
+
+-- a choice is tried again
+pub adds_tried : (k : Kind) (bs : List Branch) (w : World) → IsQuiet w → Adds [] w (tried_in k bs w)
+adds_tried k [] w quiet = adds_nothing w quiet
+adds_tried (Rules q) (b ∷ bs) w quiet = adds_noted w (Retried q) quiet refl
+adds_tried Plain (b ∷ bs) w quiet = adds_nothing w quiet
+adds_tried Shield (b ∷ bs) w quiet = adds_nothing w quiet
+adds_tried Gathers (b ∷ bs) w quiet = adds_nothing w quiet
 
 pub then_on : (xs ys : List Print) (w : World) (P Q : World → Type 0) → Then xs w P → ((v : World) → IsQuiet v → P v → Then ys v Q) → Then (xs ++ ys) w Q
 then_on xs ys w P Q a f =

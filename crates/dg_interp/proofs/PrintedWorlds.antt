@@ -6,7 +6,7 @@ use Rattle.dg_meaning.specs.World.{World, Print, Piece, Prints, prints}
 use Rattle.dg_meaning.specs.Moves.{printed, all_printed}
 use Rattle.dg_meaning.specs.Render.{nothing_met, render}
 use Rattle.dg_meaning.specs.OneRun.{Begins}
-use Rattle.dg_meaning.proofs.Silently.{prints_append}
+use Rattle.dg_meaning.proofs.Dropping.{prints_append}
 use Rattle.dg_interp.specs.declared.spacer.Spacer.{Spacer}
 use Rattle.dg_interp.specs.Spacer.{StandsFor}
 use Rattle.dg_interp.specs.Printing.{as_prints, growth_of, AddsAll}

@@ -10,7 +10,7 @@ use Rattle.dg_meaning.specs.Path.{Result as SearchResult, Failing, End}
 use Rattle.dg_meaning.specs.Transcript.{Run, ending_of}
 use Rattle.dg_meaning.specs.OneRun.{Begins}
 use Rattle.dg_meaning.specs.Peaks.{Area, Heap, Trail, Aux, Keep, greatest}
-use Rattle.dg_meaning.proofs.Keeps.{has_happened}
+use Rattle.dg_meaning.proofs.Keeps.{stands_happened}
 use Rattle.dg_unify.specs.declared.bindings.Full.{Full}
 use Rattle.dg_unify.specs.declared.bindings.Full.TheVariants as full
 use Rattle.dg_interp.specs.declared.spacer.Spacer.{Spacer}
@@ -62,7 +62,7 @@ module _ (old mid new : Engine) (s s' : Spacer) (k k' : SinkView) (some : 0 < le
   next_lost : Reaches old s k (IsBroken OutOfMemory s' k')
   next_lost g w run start quiet st text =
       let t = leads_here g w run quiet st in
-      record { part = t.world.events; until = (has_happened g t.holds.lives t.holds.ways _ mid.left t.world run t.holds.stands).events; text = text_here w t.world start t.adds text }
+      record { part = t.world.events; until = (stands_happened g t.holds.lives t.holds.ways _ mid.left t.world run t.holds.stands).events; text = text_here w t.world start t.adds text }
 
   next_heap : (left : ℕ) → mid.left ≡ left → FullAt (StandsAt mid) (store_in mid.store) full.Heap → MeetsLimit Heap left old s s' k k'
   next_heap left same f = record {
@@ -70,7 +70,7 @@ module _ (old mid new : Engine) (s s' : Spacer) (k k' : SinkView) (some : 0 < le
     left_is = omega (arith, h.left, same);
     added = h.added;
     passed = λ g w run quiet st. let t = h.leads g 0 w run quiet st in omega (arith, f g 0 t.world run t.adds.quiet t.holds, h.limits.heap);
-    until = λ g w run quiet st. let t = h.leads g 0 w run quiet st in record { world = t.world; adds = t.adds; holds = (has_happened g t.holds.lives t.holds.ways _ 0 t.world run t.holds.stands).events };
+    until = λ g w run quiet st. let t = h.leads g 0 w run quiet st in record { world = t.world; adds = t.adds; holds = (stands_happened g t.holds.lives t.holds.ways _ 0 t.world run t.holds.stands).events };
     since = λ g w run quiet st. no_more old h.added g w run some st;
     writes = h.writes;
   }
@@ -81,7 +81,7 @@ module _ (old mid new : Engine) (s s' : Spacer) (k k' : SinkView) (some : 0 < le
     left_is = omega (arith, h.left, same);
     added = h.added;
     passed = λ g w run quiet st. let t = h.leads g 0 w run quiet st in omega (arith, f g 0 t.world run t.adds.quiet t.holds, h.limits.trail);
-    until = λ g w run quiet st. let t = h.leads g 0 w run quiet st in record { world = t.world; adds = t.adds; holds = (has_happened g t.holds.lives t.holds.ways _ 0 t.world run t.holds.stands).events };
+    until = λ g w run quiet st. let t = h.leads g 0 w run quiet st in record { world = t.world; adds = t.adds; holds = (stands_happened g t.holds.lives t.holds.ways _ 0 t.world run t.holds.stands).events };
     since = λ g w run quiet st. no_more old h.added g w run some st;
     writes = h.writes;
   }

@@ -17,8 +17,8 @@ use Rattle.dg_meaning.specs.Transcript.{Run, ending_of, text_of}
 use Rattle.dg_meaning.specs.OneRun.{Begins}
 use Rattle.dg_meaning.specs.Peaks.{Heap, Trail}
 use Rattle.dg_meaning.specs.Keeps.{Stands, Finished}
-use Rattle.dg_meaning.proofs.Silently.{prints_append, prints_later}
-use Rattle.dg_meaning.proofs.Keeps.{has_happened, limited}
+use Rattle.dg_meaning.proofs.Dropping.{prints_append}
+use Rattle.dg_meaning.proofs.Keeps.{stands_happened, limited}
 use Rattle.dg_unify.specs.declared.bindings.Ref.{Ref}
 use Rattle.dg_unify.specs.declared.bindings.Full.{Full}
 use Rattle.dg_unify.specs.declared.bindings.Full.TheVariants as full
@@ -31,7 +31,7 @@ use Rattle.dg_interp.specs.Frames.{mark_steps, steps_behind, values_in}
 use Rattle.dg_interp.specs.Engine.{store_in, pieces_at, WrotePrinted, IsQuiet, StandsAt, TakesAt, Then, FullAt, Taken, WentOn, HasEndedSo, Branches}
 use Rattle.dg_interp.specs.Running.{HasText, Writes, Reaches, HasEnded, MeetsLimit, IsBroken, GoalDone, DoesGoal, outcome_of}
 use Rattle.dg_base.proofs.WrittenLemmas.{wrote_on, broke_first, broke_later}
-use Rattle.dg_interp.proofs.Places.{adds_nothing, adds_on, adds_silently, limits_on}
+use Rattle.dg_interp.proofs.Places.{adds_nothing, adds_on, adds_drops, limits_on}
 use Rattle.dg_interp.proofs.Goals.{prints_word, quits}
 
 -- ## Text
@@ -75,7 +75,7 @@ writes_on s s' s'' k k' k'' xs ys a b start es h = subst (HasText s'' start k'')
 pub finished_so : (r : SearchResult) (e : Ending) (n m : ℕ) (s : Spacer) (k : SinkView) (w : World) (run : Run) (start : SinkView) → HasText s start k (prints w.events) → n ≡ m → e ≡ ending_of r → Then [] w (λ v. Finished n v r run) → HasEnded e m s k w run start
 finished_so r e n m s k w run start text same is t =
     let f = t.holds in
-    let adds = adds_on w t.world f.world [] [] t.adds (adds_silently t.world f.world t.adds.quiet f.silently) in
+    let adds = adds_on w t.world f.world [] [] t.adds (adds_drops t.world f.world t.adds.quiet f.drops) in
     record {
       world = f.world;
       typed = adds.typed;
@@ -96,7 +96,7 @@ limited_at e g w run some st = limit_at e g w run st e.here.goals.now some st.st
 pub no_more : (e : Engine) (added : List Print) (g : Game) (w : World) (run : Run) → 0 < length e.here.goals.now → StandsAt e g 0 w run → Begins (prints run.world.events) (prints w.events ++ added)
 no_more e added g w run some st =
     let f = limited_at e g w run some st in
-    let same : prints run.world.events ≡ prints w.events = ap (λ (r : Run). prints r.world.events) f.is ∙ prints_later w f.world f.silently in
+    let same : prints run.world.events ≡ prints w.events = ap (λ (r : Run). prints r.world.events) f.is ∙ ap (λ (v : World). prints v.events) f.drops.is in
     record { behind = added; is = ap (λ l. l ++ added) (sym same) }
 
 pub run_limited : (e : Engine) (s : Spacer) (k : SinkView) → 0 < length e.here.goals.now → e.left ≡ 0 → Reaches e s k (HasEnded StepLimit e.left s k)
@@ -125,7 +125,7 @@ module _ (x : Goal) (old mid : Engine) (s : Spacer) (k : SinkView) (some : 0 < l
 
   -- memory ran out before anything was written
   pub goal_lost : Reaches old s k (IsBroken OutOfMemory s k)
-  goal_lost g w run start quiet st text = record { part = w.events; until = (has_happened g st.lives st.ways _ old.left w run st.stands).events; text = text }
+  goal_lost g w run start quiet st text = record { part = w.events; until = (stands_happened g st.lives st.ways _ old.left w run st.stands).events; text = text }
 
   pub goal_heap : (left : ℕ) → mid.left ≡ left → FullAt (TakesAt x mid) (store_in mid.store) full.Heap → MeetsLimit Heap left old s s k k
   goal_heap left same h = record {
@@ -133,7 +133,7 @@ module _ (x : Goal) (old mid : Engine) (s : Spacer) (k : SinkView) (some : 0 < l
     left_is = omega (arith, taken.left, same);
     added = [];
     passed = λ g w run quiet st. omega (arith, h g 0 w run quiet (taken.takes g 0 w run st), taken.limits.heap);
-    until = λ g w run quiet st. record { world = w; adds = adds_nothing w quiet; holds = (has_happened g st.lives st.ways _ 1 w run st.stands).events };
+    until = λ g w run quiet st. record { world = w; adds = adds_nothing w quiet; holds = (stands_happened g st.lives st.ways _ 1 w run st.stands).events };
     since = λ g w run quiet st. no_more old [] g w run some st;
     writes = writes_nothing s k;
   }
@@ -144,7 +144,7 @@ module _ (x : Goal) (old mid : Engine) (s : Spacer) (k : SinkView) (some : 0 < l
     left_is = omega (arith, taken.left, same);
     added = [];
     passed = λ g w run quiet st. omega (arith, h g 0 w run quiet (taken.takes g 0 w run st), taken.limits.trail);
-    until = λ g w run quiet st. record { world = w; adds = adds_nothing w quiet; holds = (has_happened g st.lives st.ways _ 1 w run st.stands).events };
+    until = λ g w run quiet st. record { world = w; adds = adds_nothing w quiet; holds = (stands_happened g st.lives st.ways _ 1 w run st.stands).events };
     since = λ g w run quiet st. no_more old [] g w run some st;
     writes = writes_nothing s k;
   }
@@ -189,7 +189,7 @@ module _ (x : Goal) (name bytes : List ℕ) (old mid : Engine) (s s' : Spacer) (
       let t = word_then g mid.left w run quiet (subst (λ n. StandsAt old g n w run) taken.left st) in
       let h = t.holds in
       let is : text_of t.world.events ≡ render (prints w.events) ++ growth (prints w.events) (Piece bytes) = ap render t.adds.prints_are ∙ render_grows (prints w.events) (Piece bytes) in
-      text_begins t.world.events run.world.events (has_happened g h.lives h.ways _ mid.left t.world run h.stands).events start k'
+      text_begins t.world.events run.world.events (stands_happened g h.lives h.ways _ mid.left t.world run h.stands).events start k'
       (subst (BrokeOff start k') (sym is) (broke_later start k k' (render (prints w.events)) (growth (prints w.events) (Piece bytes)) text.wrote (broke (prints w.events) text.stands)))
 
 -- ## A printed value
@@ -222,7 +222,7 @@ module _ (x : Goal) (term : Term) (value : Ref) (old mid new : Engine) (s s' : S
       let h = t.holds in
       let es = prints w.events in
       let same : text_of t.world.events ≡ render es ++ growth_of es ps = ap render t.adds.prints_are ∙ render_append es (as_prints ps) in
-      text_begins t.world.events run.world.events (has_happened g h.lives h.ways _ mid.left t.world run h.stands).events start k'
+      text_begins t.world.events run.world.events (stands_happened g h.lives h.ways _ mid.left t.world run h.stands).events start k'
       (subst (BrokeOff start k') (sym same) (broke_later start k k' (render es) (growth_of es ps) text.wrote (broke es text.stands)))
 
 pub goal_quits : (x : Goal) (old mid : Engine) (s : Spacer) (k : SinkView) → Taken x old mid → x ≡ Quit → Reaches old s k (HasEnded Quit-Ending mid.left s k)

@@ -122,7 +122,7 @@ module _ (program : Bor CoreProgram) (entry : Bor (List Goal)) (store : ListBind
   steps : steps_at at frames.items e.here ≡ Do (Ask program.now.entry [] false) [] 0 ∷ []
   steps = ap (λ (l : List Goal). goals_at [] 0 l ++ steps_behind at frames.items 0) is ∙ ap (λ s. Do (Ask program.now.entry [] false) [] 0 ∷ s) (behind_end at frames.items)
 
-  stands : (g : Game) (n : ℕ) (typed : List ℕ) → g.program ≡ program.now → StandsAt e g n (start_world typed) (run g typed n)
+  stands : (g : Game) (n : ℕ) (typed : List ℕ) → g.program ≡ program.now → StandsAt e g n (start_world g typed) (run g typed n)
   stands g n typed same = record {
     program = sym same;
     lives = [];
@@ -134,8 +134,8 @@ module _ (program : Bor CoreProgram) (entry : Bor (List Goal)) (store : ListBind
     choices = subst (λ l. AreChoices g refs.items frames.items l [] []) (sym none) tt;
     tag = refl;
     stands =
-        subst (λ s. Stands g [] [] (path_of s (start_path g).registers) n (start_world typed) (run g typed n)) (sym steps)
-        (subst (λ (p : CoreProgram). Stands g [] [] (path_of (Do (Ask p.entry [] false) [] 0 ∷ []) (start_path g).registers) n (start_world typed) (run g typed n)) same (starts g typed n));
+        subst (λ s. Stands g [] [] (path_of s (start_path g).registers) n (start_world g typed) (run g typed n)) (sym steps)
+        (subst (λ (p : CoreProgram). Stands g [] [] (path_of (Do (Ask p.entry [] false) [] 0 ∷ []) (start_path g).registers) n (start_world g typed) (run g typed n)) same (starts g typed n));
   }
 
   pub started : Starts program.now left heap trail e

@@ -14,13 +14,13 @@ use Rattle.dg_meaning.specs.Values.{Value, value_of}
 use Rattle.dg_meaning.specs.World.{Game, World, Piece, Prints, prints, worked}
 use Rattle.dg_meaning.specs.Cells.{cells, writing}
 use Rattle.dg_meaning.specs.TypeTests.{passes}
-use Rattle.dg_meaning.specs.Path.{Registers, Move}
+use Rattle.dg_meaning.specs.Path.{Registers, Outcome, Moves}
 use Rattle.dg_meaning.specs.Substitutions.{resolved}
 use Rattle.dg_meaning.specs.Pieces.{pieces}
 use Rattle.dg_meaning.specs.Moves.{printed, all_printed, goes_on_if, path_of, whole_looks, test_looks, outcome}
 use Rattle.dg_meaning.specs.Transcript.{Run}
-use Rattle.dg_meaning.specs.Keeps.{Stands, Failed, After}
-use Rattle.dg_meaning.specs.Built.{IsForm, IsBuiltGoal}
+use Rattle.dg_meaning.specs.Keeps.{Stands, Failed, After, Went}
+use Rattle.dg_meaning.specs.Built.{IsBuiltGoal}
 use Rattle.dg_meaning.specs.Closures.{HasNoClosure}
 use Rattle.dg_unify.specs.Store.{Store, State, Saved, Kept, Made, told, or_nil}
 use Rattle.dg_unify.specs.declared.bindings.Ref.{Ref}
@@ -31,7 +31,7 @@ use Rattle.dg_interp.specs.declared.engine.Engine.{Engine}
 use Rattle.dg_interp.specs.Terms.{Overflows}
 use Rattle.dg_interp.specs.Frames.{stretch, values_in, Agrees}
 use Rattle.dg_interp.specs.Engine.{store_in, KeepsPlaces, steps_of, IsQuiet, IsReady, TakesAt, StandsAt, FailsAt, FullAt, Adds, Then, Leads, SameLimits, WentOn, pieces_at, WrotePrinted}
-use Rattle.dg_meaning.proofs.Silently.{prints_append}
+use Rattle.dg_meaning.proofs.Dropping.{prints_append}
 use Rattle.dg_interp.proofs.Places.{adds_nothing}
 use Rattle.dg_interp.proofs.BothLemmas.{made_holds}
 use Rattle.dg_interp.proofs.Links.{same_here, at_same}
@@ -73,8 +73,8 @@ made_among program terms n s t refs part env r term e h = subst (λ l. Made n s 
 -- ## One term
 
 module _ (x : Goal) (term : Term) (held : terms_held (out-Goal x) ≡ term ∷ []) (old : Engine) where
-  pub term_full : IsForm (out-Goal x) → (e : Full) → ((program : CoreProgram) → Overflows (cells program (term ∷ [])) (store_in old.store) e) → FullAt (TakesAt x old) (store_in old.store) e
-  term_full form e h = terms_full x old e form (λ g. subst (λ l. Overflows (cells g.program l) (store_in old.store) e) (sym held) (h g.program))
+  pub term_full : (e : Full) → ((program : CoreProgram) → Overflows (cells program (term ∷ [])) (store_in old.store) e) → FullAt (TakesAt x old) (store_in old.store) e
+  term_full e h = terms_full x old e (λ g. subst (λ l. Overflows (cells g.program l) (store_in old.store) e) (sym held) (h g.program))
 
   pub agrees_behind : (store : ListBindings) (value : Ref) → ((program : CoreProgram) → Made (cells program (term ∷ [])) (store_in old.store) (store_in store) value (value_of program (values_in (store_in old.store) old.refs.items old.here.env) term)) →
       (g : Game) (n : ℕ) (w : World) (run : Run) (st : TakesAt x old g n w run) → Agrees (store_in store) (behind x old g n w run st)
@@ -95,7 +95,7 @@ test_held : (kind : TestKind) (term : Term) → terms_held (out-Goal (Test kind 
 test_held kind term = ap terms_held (outs-Test kind term)
 
 pub test_full : (kind : TestKind) (term : Term) (old : Engine) (e : Full) → ((program : CoreProgram) → Overflows (cells program (term ∷ [])) (store_in old.store) e) → FullAt (TakesAt (Test kind term) old) (store_in old.store) e
-test_full kind term old = term_full (Test kind term) term (test_held kind term) old (subst IsForm (sym (outs-Test kind term)) tt)
+test_full kind term old = term_full (Test kind term) term (test_held kind term) old
 
 module _ (kind : TestKind) (term : Term) (old : Engine) (store : ListBindings) (made : Vec Ref Global) (value : Ref) (ready : IsReady old) (k : Kept (store_in old.store) (store_in store)) (saved : (ms : List Saved) → KeepsPlaces old.store ms → KeepsPlaces store ms)
     (written : (program : CoreProgram) → Made (cells program (term ∷ [])) (store_in old.store) (store_in store) value (value_of program (values_in (store_in old.store) old.refs.items old.here.env) term)) where
@@ -114,19 +114,19 @@ module _ (kind : TestKind) (term : Term) (old : Engine) (store : ListBindings) (
   looked : (g : Game) (n : ℕ) (w : World) (run : Run) (st : TakesAt x old g n w run) → World
   looked g n w run st = worked (test_looks kind (value_of g.program env term) (behind x old g n w run st)) (taken_in x old g n w run st)
 
-  comes_to : (g : Game) (n : ℕ) (w : World) (run : Run) (st : TakesAt x old g n w run) (found : Bool) → found ≡ passes s.state.subst kind (told s value) → After g st.lives st.ways n (goes_on_if found (steps_of old) (behind x old g n w run st) (looked g n w run st)) run
+  comes_to : (g : Game) (n : ℕ) (w : World) (run : Run) (st : TakesAt x old g n w run) (found : Bool) → found ≡ passes s.state.subst kind (told s value) → Went g st.lives st.ways n (goes_on_if found (steps_of old) (behind x old g n w run st) (looked g n w run st)) run
   unfolding looked
   comes_to g n w run st found is =
       let r = behind x old g n w run st in
       let v = taken_in x old g n w run st in
-      let m : Bool → Move = λ b. goes_on_if b (steps_of old) r (looked g n w run st) in
+      let m : Bool → Outcome = λ b. Moves (goes_on_if b (steps_of old) r (looked g n w run st)) in
       let same : passes s.state.subst kind (told s value) ≡ passes r.bound kind (value_of g.program env term) =
       ap (λ S. passes S kind (told s value)) (sym (agrees g n w run st).bound) ∙ ap (λ o. passes r.bound kind (or_nil o)) (written g.program).value in
       subst (λ q. After g st.lives st.ways n q run) (ap (λ f. outcome g f env old.here.tag (steps_of old) r v) (outs-Test kind term) ∙ ap m (sym (is ∙ same))) (comes_of x old g n w run st)
 
   adds_looked : (g : Game) (n : ℕ) (w : World) (run : Run) (st : TakesAt x old g n w run) → IsQuiet w → Adds [] w (looked g n w run st)
   unfolding looked
-  adds_looked g n w run st quiet = let a = adds_taken (behind x old g n w run st) (writing g.program (terms_held (out-Goal x))) w quiet in record { prints_are = a.prints_are; typed = refl; quiet = quiet }
+  adds_looked g n w run st quiet = let a = adds_taken (behind x old g n w run st) (writing (terms_held (out-Goal x))) w quiet in record { prints_are = a.prints_are; typed = refl; quiet = quiet }
 
   pub test_passed : true ≡ passes s.state.subst kind (told s value) → WentOn (TakesAt x old) old (grown x old store made ready k saved)
   test_passed is = record {
@@ -159,7 +159,7 @@ print_held : (term : Term) → terms_held (out-Goal (Print term)) ≡ term ∷ [
 print_held term = ap terms_held (outs-Print term)
 
 pub print_full : (term : Term) (old : Engine) (e : Full) → ((program : CoreProgram) → Overflows (cells program (term ∷ [])) (store_in old.store) e) → FullAt (TakesAt (Print term) old) (store_in old.store) e
-print_full term old = term_full (Print term) term (print_held term) old (subst IsForm (sym (outs-Print term)) tt)
+print_full term old = term_full (Print term) term (print_held term) old
 
 pub print_plain : (term : Term) → IsBuiltGoal (Print term) → HasNoClosure term
 print_plain term h = all_first HasNoClosure term [] (subst (λ f. All HasNoClosure (terms_held f)) (outs-Print term) h.1)
@@ -203,7 +203,7 @@ module _ (term : Term) (old : Engine) (store : ListBindings) (made : Vec Ref Glo
       let v = taken_in y old g n w run st in
       let before = worked (whole_looks r (value_of g.program values term)) v in
       let ps = pieces_at new value in
-      let a = adds_taken r (writing g.program (terms_held (out-Goal y))) w quiet in
+      let a = adds_taken r (writing (terms_held (out-Goal y))) w quiet in
       let b = adds_printed ps before quiet in
       let stands : Stands g st.lives st.ways (path_of (steps_of old) r) n (all_printed ps before) run =
       subst (λ l. Stands g st.lives st.ways (path_of (steps_of old) r) n (all_printed l before) run) (same_pieces g n w run st)

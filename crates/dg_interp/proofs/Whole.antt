@@ -8,7 +8,7 @@ use Rattle.dg_meaning.specs.OneRun.{Begins}
 use Rattle.dg_meaning.specs.Peaks.{Area, Heap, Trail, limit_of, limit_ending, peak}
 use Rattle.dg_meaning.proofs.OneRun.{begins_same}
 use Rattle.dg_meaning.proofs.Limits.{later_run, limit_covers}
-use Rattle.dg_meaning.proofs.Silently.{prints_append}
+use Rattle.dg_meaning.proofs.Dropping.{prints_append}
 use Rattle.dg_base.specs.declared.program.CoreProgram.{CoreProgram}
 use Rattle.dg_base.specs.declared.run.Ending.{Ending}
 use Rattle.dg_base.specs.declared.run.RunFault.TheVariants.{Read, Write, OutOfMemory}
@@ -80,8 +80,8 @@ module _ (program : CoreProgram) (limits : Limits) (e : Engine) (starts : Starts
   unfolding render
   no_text = record { stands = new; wrote = wrote_nothing k }
 
-  reached : (P : World → Run → SinkView → Type 0) → Reaches e s k P → P (start_world typed) r k
-  reached P h = subst (λ n. P (start_world typed) (run g typed n) k) starts.left (h g (start_world typed) (run g typed e.left) k refl (starts.stands g e.left typed refl) no_text)
+  reached : (P : World → Run → SinkView → Type 0) → Reaches e s k P → P (start_world g typed) r k
+  reached P h = subst (λ n. P (start_world g typed) (run g typed n) k) starts.left (h g (start_world g typed) (run g typed e.left) k refl (starts.stands g e.left typed refl) no_text)
 
   -- ## A limit
 
@@ -94,13 +94,13 @@ module _ (program : CoreProgram) (limits : Limits) (e : Engine) (starts : Starts
 
     part_is : IsPart m.added (run g typed m.goals).world.events whole_run.world.events
     part_is =
-        let t = m.until g (start_world typed) whole_run refl (starts.stands g (suc m.goals) typed refl) in
-        let b = m.since g (start_world typed) (run g typed m.goals) refl (starts.stands g m.goals typed refl) in
+        let t = m.until g (start_world g typed) whole_run refl (starts.stands g (suc m.goals) typed refl) in
+        let b = m.since g (start_world g typed) (run g typed m.goals) refl (starts.stands g m.goals typed refl) in
         subst (λ l. IsPart l (run g typed m.goals).world.events whole_run.world.events) t.adds.prints_are
         (the_part t.world.events (run g typed m.goals).world.events whole_run.world.events t.holds (later_run g typed m.goals (suc m.goals) (omega arith)).events (subst (Begins (prints (run g typed m.goals).world.events)) (sym t.adds.prints_are) b))
 
     passed_limit : limit_of area limits < peak area g typed (suc m.goals)
-    passed_limit = subst (λ n. n < peak area g typed (suc m.goals)) same (m.passed g (start_world typed) whole_run refl (starts.stands g (suc m.goals) typed refl))
+    passed_limit = subst (λ n. n < peak area g typed (suc m.goals)) same (m.passed g (start_world g typed) whole_run refl (starts.stands g (suc m.goals) typed refl))
 
     taken_goals : limits.steps - left ≡ suc m.goals
     taken_goals = omega (arith, m.left_is, starts.left)
@@ -148,7 +148,7 @@ module _ (program : CoreProgram) (limits : Limits) (e : Engine) (starts : Starts
       omega (arith, run_within g typed limits.steps)
 
   -- the text of the run and its closing
-  closes : (ending : Ending) (left : ℕ) (h : HasEnded ending left s' k' (start_world typed) r k) → transcript g typed limits.steps ≡ render (prints h.world.events) ++ ending_line (prints h.world.events) (line_of ending)
+  closes : (ending : Ending) (left : ℕ) (h : HasEnded ending left s' k' (start_world g typed) r k) → transcript g typed limits.steps ≡ render (prints h.world.events) ++ ending_line (prints h.world.events) (line_of ending)
   closes ending left h = ap (λ (y : Run). closed y.world.events (line_of y.ending)) h.is
 
   run_shown : (k'' : SinkView) (ending : Ending) (left : ℕ) (told : Option (List ℕ)) → Reaches e s k (HasEnded ending left s' k') → ((es : _) → StandsFor s' es → Wrote k' k'' (ending_line es (line_of ending))) → IsLeft told typed → HasShown g typed limits (record { ending = ending; goals = limits.steps - left }) told k k''

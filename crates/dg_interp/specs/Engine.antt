@@ -1,5 +1,5 @@
 -- What an engine stands for, and what its parts do to that. Hold it against the Dialog manual, chapter "Choice points".
-use Rattle.std.specs.Prelude.{ℕ, zero, suc, ◌+◌, ◌^◌, ◌≡◌, ◌<◌, ◌≤◌, ◌++◌, nat_lt, List, [], ◌∷◌, Bool, true, false, length, map, reverse, Option, Some, None, if◌then◌else◌}
+use Rattle.std.specs.Prelude.{ℕ, suc, ◌+◌, ◌^◌, ◌≡◌, ◌<◌, ◌≤◌, ◌++◌, nat_lt, List, [], ◌∷◌, Bool, true, false, length, map, reverse, Option, Some, None, if◌then◌else◌}
 use Rattle.std.specs.List.{All}
 use Rattle.dg_base.specs.declared.program.Goal.{Goal}
 use Rattle.dg_base.specs.declared.program.Goal.TheVariants.{Print as PrintGoal, Forever}
@@ -10,11 +10,11 @@ use Rattle.dg_base.specs.declared.run.Ending.TheVariants.{Done as Done-Ending, F
 use Rattle.dg_meaning.specs.World.{Game, World, Print, Piece, prints}
 use Rattle.dg_meaning.specs.Substitutions.{resolved}
 use Rattle.dg_meaning.specs.Pieces.{pieces}
-use Rattle.dg_meaning.specs.Path.{Step, Do, Registers, Branch, Result, Failing, End}
+use Rattle.dg_meaning.specs.Path.{Step, Do, Registers, Result, Failing, End}
 use Rattle.dg_meaning.specs.Moves.{path_of}
 use Rattle.dg_meaning.specs.Transcript.{Run, run, start_world}
-use Rattle.dg_meaning.specs.Context.{Way, Live, pushed}
-use Rattle.dg_meaning.specs.Keeps.{Stands, Failed, Finished, Began}
+use Rattle.dg_meaning.specs.Context.{Way, Live}
+use Rattle.dg_meaning.specs.Keeps.{Stands, Failed, Finished, Tried}
 use Rattle.dg_meaning.specs.Built.{IsBuilt, IsBuiltGoal, AreBuilt}
 use Rattle.dg_unify.specs.Store.{Store, Saved, Holds, Kept, told}
 use Rattle.dg_unify.specs.Slots.{store_of, Stand}
@@ -120,7 +120,7 @@ pub record Starts (program : CoreProgram) (n heap trail : ℕ) (e : Engine) : Ty
   pub left : e.left ≡ n
   pub heap_limit : (store_in e.store).heap_limit ≡ heap
   pub trail_limit : (store_in e.store).trail_limit ≡ trail
-  pub stands : (g : Game) (n : ℕ) (typed : List ℕ) → g.program ≡ program → StandsAt e g n (start_world typed) (run g typed n)
+  pub stands : (g : Game) (n : ℕ) (typed : List ℕ) → g.program ≡ program → StandsAt e g n (start_world g typed) (run g typed n)
 
 -- A run that comes from one point comes from the other, and nothing was printed.
 abbrev pub Leads : Point → Point → Type 0
@@ -150,7 +150,7 @@ older_than t (o ∷ os) = if nat_lt o.tag t then o ∷ os else older_than t os
 abbrev pub Cuts : ℕ → List Choice → List Choice → Type 0
 Cuts t old new = reverse new ≡ older_than t (reverse old)
 
--- How many branches its choices have left.
+-- How many choices it has, and branches that they have left.
 abbrev pub branches_left : Engine → ℕ
 branches_left e = all_left (reverse e.choices.items)
 
@@ -281,7 +281,7 @@ pub record HasPlace (e : Engine) (place : Place) : Type 0 where
   pub is : IsPlace e place back saved
   pub back_to : GoBackTo e.refs.items (store_in e.store).heap_limit (store_in e.store).trail_limit (reverse e.choices.items) saved
 
--- The run comes from the first of these branches, with the others left and all frames behind them.
+-- The run comes from these branches, of which the first is to begin, with all frames behind them.
 pub record BeginsAt (left : Left) (place : Place) (e : Engine) (g : Game) (n : ℕ) (w : World) (run : Run) : Type 0 where
   pub program : e.program.now ≡ g.program
   pub lives : List Live
@@ -294,13 +294,12 @@ pub record BeginsAt (left : Left) (place : Place) (e : Engine) (g : Game) (n : �
   pub back_agrees : Agrees back.store registers
   pub choices : AreChoices g e.refs.items e.frames.items (reverse e.choices.items) saved lives
   pub tag : registers.next_tag ≡ e.newest
-  pub began : (b : Branch) (bs : List Branch) → branches_of g (values_in (store_in e.store) e.refs.items) e.frames.items (length e.frames.items) left registers ≡ b ∷ bs →
-      Began g (pushed bs (record { kind = kind_of left; tag = registers.next_tag; others = bs; height = 0; ways_on = ways }) lives) ways b n w run
+  pub tried : Tried g (kind_of left) registers.next_tag 0 ways lives (branches_of g (values_in (store_in e.store) e.refs.items) e.frames.items (length e.frames.items) left registers) n w run
 
--- A choice with so many branches left, if any, in front of others.
-abbrev pub kept_if : ℕ → Choice → List Choice → List Choice
-kept_if zero o os = os
-kept_if (suc n) o os = o ∷ os
+-- A choice, where it stays, in front of others.
+abbrev pub kept_if : Bool → Choice → List Choice → List Choice
+kept_if false o os = os
+kept_if true o os = o ∷ os
 
 -- The newest choice was tried again: none was left, or its next branch has begun, or has failed where it began.
 abbrev pub Retries : Point → Option Bool → Engine → Engine → Type 0
@@ -318,8 +317,7 @@ pub record OpensAt (left : Left) (e : Engine) (g : Game) (n : ℕ) (w : World) (
   pub agrees : Agrees (store_in e.store) registers
   pub choices : AreChoices g e.refs.items e.frames.items (reverse e.choices.items) saved lives
   pub tag : registers.next_tag ≡ e.newest + 1
-  pub began : (b : Branch) (bs : List Branch) → branches_of g (values_in (store_in e.store) e.refs.items) e.frames.items (length e.frames.items) left registers ≡ b ∷ bs →
-      Began g (pushed bs (record { kind = kind_of left; tag = registers.next_tag; others = bs; height = 0; ways_on = ways }) lives) ways b n w run
+  pub tried : Tried g (kind_of left) registers.next_tag 0 ways lives (branches_of g (values_in (store_in e.store) e.refs.items) e.frames.items (length e.frames.items) left registers) n w run
 
 -- A frame that goes on where the engine is, with the endless choice in front.
 pub record IsAgain (again : Frame) (e : Engine) : Type 0 where

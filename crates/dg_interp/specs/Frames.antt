@@ -1,5 +1,5 @@
 -- What the frames and choices of an engine are in the meaning. Hold it against the Dialog manual, chapter "Choice points".
-use Rattle.std.specs.Prelude.{ℕ, zero, suc, ◌+◌, ◌≡◌, ◌<◌, ◌≤◌, ◌++◌, eqb, List, [], ◌∷◌, Option, Some, None, length, map, take, drop, slice_get, if◌then◌else◌}
+use Rattle.std.specs.Prelude.{ℕ, zero, suc, ◌+◌, ◌≡◌, ◌<◌, ◌≤◌, ◌++◌, eqb, List, [], ◌∷◌, Option, Some, None, Bool, true, false, length, map, take, drop, slice_get, if◌then◌else◌}
 use Rattle.std.specs.List.{All}
 use Rattle.dg_base.specs.declared.program.Goal.{Goal}
 use Rattle.dg_meaning.specs.Values.{Value}
@@ -80,16 +80,26 @@ left_in (Lists env tag lists) = length lists.now
 left_in (Ways first other) = 2
 left_in (Way frame) = 1
 
--- What a choice with so many arguments takes of the heap where it has so many other branches.
-abbrev pub cells_if : ℕ → ℕ → ℕ
-cells_if arguments zero = 0
-cells_if arguments (suc n) = 10 + arguments
+-- There is something in a list.
+abbrev pub has_some : {A : Type 0} → List A → Bool
+has_some [] = false
+has_some (x ∷ xs) = true
+
+-- A choice between rules stays as long as it isn't cut, and any other as long as it has a branch left.
+abbrev pub stays_with : Left → Bool
+stays_with (Lists env tag lists) = has_some lists.now
+stays_with other = true
+
+-- What a choice between goals takes of the heap, where it stays.
+abbrev pub cells_if : Bool → ℕ
+cells_if true = 10
+cells_if false = 0
 
 -- A choice on so many frames that has these branches left begins with this frame, and then has those others, of the same kind.
 pub record BeginsWith (height : ℕ) (frame : Frame) (others left : Left) : Type 0 where
   pub kind : kind_of others ≡ kind_of left
   pub work : ℕ
-  pub branches : (g : Game) (values : Env → List Value) (fs : List Frame) (r : Registers) → branches_of g values fs height left r ≡ enter (cells_if 0 (left_in others)) work r (steps_at values fs frame) ∷ branches_of g values fs height others r
+  pub branches : (g : Game) (values : Env → List Value) (fs : List Frame) (r : Registers) → branches_of g values fs height left r ≡ enter (cells_if (stays_with others)) work r (steps_at values fs frame) ∷ branches_of g values fs height others r
 
 -- A store is where a path is: its trail may be shorter.
 pub record Agrees (s : Store) (r : Registers) : Type 0 where
@@ -133,24 +143,17 @@ pub record IsFrame (k n : ℕ) (f : Frame) : Type 0 where
 abbrev pub AreFrames : ℕ → ℕ → List Frame → Type 0
 AreFrames height n fs = (k : ℕ) (f : Frame) → k < height → slice_get fs k ≡ Some f → IsFrame k n f
 
--- A branch is left, all that are left are built, and their values are among so many Refs.
+-- All branches that are left are built, and their values are among so many Refs.
 abbrev pub IsLeft : ℕ → ℕ → Left → Type 0
-IsLeft height n (Rules query args rules) = (0 < length rules.now) × All IsBuiltRule rules.now × EndsBy n args
-IsLeft height n (Lists env tag lists) = (0 < length lists.now) × All AreBuilt lists.now × EndsBy n env
+IsLeft height n (Rules query args rules) = All IsBuiltRule rules.now × EndsBy n args
+IsLeft height n (Lists env tag lists) = All AreBuilt lists.now × EndsBy n env
 IsLeft height n (Ways first other) = IsFrame height n first × IsFrame height n other
 IsLeft height n (Way frame) = IsFrame height n frame
-
--- The same where none may be left.
-abbrev pub AreLeft : ℕ → ℕ → Left → Type 0
-AreLeft height n (Rules query args rules) = All IsBuiltRule rules.now × EndsBy n args
-AreLeft height n (Lists env tag lists) = All AreBuilt lists.now × EndsBy n env
-AreLeft height n (Ways first other) = IsFrame height n first × IsFrame height n other
-AreLeft height n (Way frame) = IsFrame height n frame
 
 -- Choices, the newest first, stand on at most so many frames and Refs, and their tags are at most this.
 abbrev pub StandOn : List Frame → ℕ → ℕ → ℕ → List Choice → Type 0
 StandOn fs height refs tag [] = Unit {0}
-StandOn fs height refs tag (o ∷ os) = (o.height ≤ height) × (o.refs ≤ refs) × (o.tag ≤ tag) × IsLeft o.height o.refs o.left × AreFrames o.height o.refs fs × StandOn fs o.height o.refs o.tag os
+StandOn fs height refs tag (o ∷ os) = (o.height ≤ height) × (o.refs ≤ refs) × (o.tag ≤ tag) × (IsLeft o.height o.refs o.left × (stays_with o.left ≡ true)) × AreFrames o.height o.refs fs × StandOn fs o.height o.refs o.tag os
 
 -- The stores to which choices go back hold what stands behind them, and have these limits.
 abbrev pub GoBackTo : List Ref → ℕ → ℕ → List Choice → List Saved → Type 0
@@ -163,7 +166,7 @@ abbrev pub floor_of : List Choice → ℕ
 floor_of [] = 0
 floor_of (o ∷ os) = o.height
 
--- How many branches all choices have left.
+-- How many choices there are, and branches that they have left.
 abbrev pub all_left : List Choice → ℕ
 all_left [] = 0
-all_left (o ∷ os) = left_in o.left + all_left os
+all_left (o ∷ os) = 1 + left_in o.left + all_left os

@@ -1,5 +1,5 @@
 // Open choices and linked frames, in place of the search's recursion.
-ghost use Rattle.std.specs.Prelude.{◌≡◌, ◌≢◌, false, ◌+◌, ◌<◌, ◌≤◌, ◌^◌, IfOk, IfErr, OnOk, MatchResult, List, [], ◌∷◌, All, length, reverse, slice_get};
+ghost use Rattle.std.specs.Prelude.{◌≡◌, ◌≢◌, true, false, ◌+◌, ◌<◌, ◌≤◌, ◌^◌, IfOk, IfErr, OnOk, MatchResult, List, [], ◌∷◌, All, length, reverse, slice_get};
 ghost use Rattle.dg_base.specs.declared.program.Goal.TheVariants.{Ask, Print as PrintGoal, Equal as EqualGoal, Test as TestGoal, Fail as FailGoal, Just as JustGoal};
 ghost use Rattle.dg_meaning.specs.Moves.{rules_of as the_rules};
 ghost use Rattle.dg_meaning.specs.Built.{IsBuilt};
@@ -7,13 +7,14 @@ ghost use Rattle.dg_interp.specs.declared.frames.Mark.TheVariants.{Nothing as No
 ghost use Rattle.dg_interp.specs.declared.frames.Left.TheVariants.{Rules, Lists, Ways, Way};
 ghost use Rattle.dg_unify.specs.declared.bindings.Full.TheVariants.{OutOfMemory as WantOfMemory};
 ghost use Rattle.dg_interp.specs.declared.frames.Left.{Left as TheLeft};
-ghost use Rattle.dg_interp.specs.Frames.{IsFrame, BeginsWith, IsLeft, AreLeft, left_in, floor_of, stretch as the_stretch, values_in, EndsBy, cells_if};
+ghost use Rattle.dg_interp.specs.Frames.{IsFrame, BeginsWith, IsLeft, stays_with, left_in, floor_of, stretch as the_stretch, values_in, EndsBy, cells_if};
 ghost use Rattle.dg_interp.specs.Engine.{Starts, IsSound, IsReady, StandsAt, FailsAt, TakesAt, BeginsAt, OpensAt, IsPushed, HasPlace, Cuts, Passes, Settles, FrameLeft, GoesToGoal, GoesBack, Retries, Taken, Branches, WentOn, Tries, FullAt, store_in, pieces_at, WrotePrinted, branches_left, KeepsPlaces, kept_if};
 ghost use Rattle.dg_base.specs.declared.program.CoreProgram.{CoreProgram as Program};
 ghost use Rattle.dg_meaning.specs.Cells.{cells};
 ghost use Rattle.dg_meaning.specs.Closures.{HasNoClosure};
 ghost use Rattle.dg_interp.specs.Rules.{EntersRule, RuleFull, ArgsWritten};
 ghost use Rattle.dg_interp.specs.Terms.{Overflows};
+ghost use Rattle.dg_interp.specs.Passing.{IsFirst, IsCandidate};
 ghost use Rattle.dg_interp.specs.Printing.{Printed};
 ghost use Rattle.dg_unify.specs.Store.{Saved, Kept, Holds, Charged};
 
@@ -22,12 +23,13 @@ mod passing;
 
 use crate::frames::{Choice, Env, Frame, Left, Mark, Query};
 use crate::matching::unify_all;
+use crate::passing::{choice_cells, pass};
 use crate::printing::print_value;
 use crate::spacer::Spacer;
 use crate::terms::{new_variables, write_both, write_term, write_terms};
 use crate::testing::test;
 use dg_base::{CoreProgram, Ending, Goal, Items, Rule, Sink, Term, TestKind, WriteFault};
-use dg_unify::{Bindings, Full, ListBindings, Mark as Place, Ref, unify};
+use dg_unify::{Bindings, Full, ListBindings, Mark as Place, Ref, View, unify};
 use std::alloc::{AllocError, Global};
 
 /// Where a run stands.
@@ -92,34 +94,37 @@ fn stretch(refs: &[Ref], env: Env) -> &[Ref]
     &refs[env.from..env.from + env.len]
 }
 
-/// Keeps a choice that has so many branches left, if any, and takes what it costs with so many arguments.
+/// Keeps a choice, where it stays, and takes its cells.
 fn keep<'p>(
     store: &mut ListBindings,
     choices: &mut Vec<Choice<'p>>,
     choice: Choice<'p>,
-    others: usize,
-    arguments: usize,
+    stays: bool,
+    cells: usize,
 ) -> Result<(), Full>
     ensures kept { Kept (store_in store.old) (store_in store.new) }
     ensures saved { (ms : List Saved) → KeepsPlaces store.old ms → KeepsPlaces store.new ms }
-    ensures taken { MatchResult result (λ _. Charged (cells_if arguments others) (store_in store.old) (store_in store.new)) (λ e. Overflows (cells_if arguments others) (store_in store.old) e) }
-    ensures choices { OnOk result (reverse choices.new.items ≡ kept_if others choice.entry (reverse choices.old.items)) }
+    ensures taken { MatchResult result (λ _. Charged cells (store_in store.old) (store_in store.new)) (λ e. Overflows cells (store_in store.old) e) }
+    ensures choices { OnOk result (reverse choices.new.items ≡ kept_if stays choice.entry (reverse choices.old.items)) }
 {
-    if others == 0 {
-        store.charge(0)?;
-        return Ok(());
-    }
-    let Ok(arguments) = u32::try_from(arguments) else {
-        return Err(Full::OutOfMemory);
-    };
-    let Some(cells) = arguments.checked_add(10) else {
+    let Ok(cells) = u32::try_from(cells) else {
         return Err(Full::OutOfMemory);
     };
     store.charge(cells)?;
+    if !stays {
+        return Ok(());
+    }
     match choices.push(choice) {
         Ok(()) => Ok(()),
         Err(_) => Err(Full::OutOfMemory),
     }
+}
+
+/// The cells of a choice between goals.
+fn frame_cells(stays: bool) -> usize
+    ensures { result ≡ cells_if stays }
+{
+    if stays { 10 } else { 0 }
 }
 
 /// Makes the variables of a rule behind the Refs, and unifies arguments with its head.
@@ -288,19 +293,24 @@ impl<'p> Engine<'p> {
         &goals[0]
     }
 
-    /// Enters the first rule of a query that is left, with all frames behind it; false where its head doesn't match.
+    /// Enters the first of some rules of a query, which its first argument doesn't exclude, with all frames behind it; false
+    /// where its head doesn't match.
     fn enter_rule(
         &mut self,
         query: Query,
         args: Env,
+        first: Option<View>,
         rules: &'p [Rule],
         place: Place,
     ) -> Result<bool, Full>
         requires sound { IsSound self.old }
         requires left { IsLeft (length self.old.frames.items) (length self.old.refs.items) (Rules query args rules) }
+        requires first { IsFirst (store_in self.old.store) (values_in (store_in self.old.store) self.old.refs.items args) first }
+        requires some { 0 < length rules.now }
+        requires candidate { IsCandidate (store_in self.old.store) (values_in (store_in self.old.store) self.old.refs.items args) rules.now }
         requires place { HasPlace self.old place }
         ensures tried { IfOk result (λ begun. Tries (BeginsAt (Rules query args rules.entry) place self.old) begun self.old self.new) }
-        ensures fewer { OnOk result (branches_left self.new < branches_left self.old + length rules.now) }
+        ensures fewer { OnOk result (branches_left self.new ≤ branches_left self.old + length rules.now) }
         ensures full { IfErr result (λ e. FullAt (BeginsAt (Rules query args rules.entry) place self.old) (store_in self.old.store) e) }
         ensures left { self.new.left ≡ self.old.left }
     {
@@ -316,13 +326,8 @@ impl<'p> Engine<'p> {
             refs,
             place,
         };
-        if let Err(e) = keep(
-            &mut self.store,
-            &mut self.choices,
-            choice,
-            others.len(),
-            args.len,
-        ) {
+        let cells = choice_cells(pass(first, others), args.len);
+        if let Err(e) = keep(&mut self.store, &mut self.choices, choice, true, cells) {
             return Err(e);
         }
         match enter(&mut self.store, &mut self.refs, &mut self.made, args, rule) {
@@ -344,8 +349,8 @@ impl<'p> Engine<'p> {
         }
     }
 
-    /// Begins the first rule of a query that is left and may match, with all frames behind it; false where its head doesn't
-    /// match, or none may.
+    /// Begins the first rule of a query that is left and isn't excluded, with all frames behind it; false where its head
+    /// doesn't match, or all are excluded.
     fn begin_rule(
         &mut self,
         query: Query,
@@ -357,32 +362,33 @@ impl<'p> Engine<'p> {
         requires left { IsLeft (length self.old.frames.items) (length self.old.refs.items) (Rules query args rules) }
         requires place { HasPlace self.old place }
         ensures tried { IfOk result (λ begun. Tries (BeginsAt (Rules query args rules.entry) place self.old) begun self.old self.new) }
-        ensures fewer { OnOk result (branches_left self.new < branches_left self.old + length rules.now) }
+        ensures fewer { OnOk result (branches_left self.new ≤ branches_left self.old + length rules.now) }
         ensures full { IfErr result (λ e. FullAt (BeginsAt (Rules query args rules.entry) place self.old) (store_in self.old.store) e) }
         ensures left { self.new.left ≡ self.old.left }
     {
-        let rules = self.pass(args, rules);
+        let first = self.first_of(args);
+        let rules = pass(first, rules);
         if rules.is_empty() {
             return Ok(false);
         }
-        self.enter_rule(query, args, rules, place)
+        self.enter_rule(query, args, first, rules, place)
     }
 
-    /// Begins a frame, in front of so many other branches.
+    /// Begins a frame, in front of other branches, with which the choice stays or not.
     fn begin_frame(
         &mut self,
         frame: Frame<'p>,
         others: Left<'p>,
-        count: usize,
+        stays: bool,
         place: Place,
     ) -> Result<(), Full>
         requires sound { IsSound self.old }
         requires frame { IsFrame (length self.old.frames.items) (length self.old.refs.items) frame }
-        requires others { AreLeft (length self.old.frames.items) (length self.old.refs.items) others }
-        requires count { count ≡ left_in others }
+        requires others { IsLeft (length self.old.frames.items) (length self.old.refs.items) others }
+        requires stays { stays ≡ stays_with others }
         requires place { HasPlace self.old place }
         ensures begun { OnOk result ((all : TheLeft) → BeginsWith (length self.old.frames.items) frame.entry others.entry all → WentOn (BeginsAt all place self.old) self.old self.new) }
-        ensures fewer { OnOk result (branches_left self.new ≤ branches_left self.old + count) }
+        ensures fewer { OnOk result (branches_left self.new ≤ branches_left self.old + 1 + left_in others.entry) }
         ensures full { IfErr result (λ e. (all : TheLeft) → BeginsWith (length self.old.frames.items) frame.entry others.entry all → FullAt (BeginsAt all place self.old) (store_in self.old.store) e) }
         ensures left { self.new.left ≡ self.old.left }
     {
@@ -395,7 +401,8 @@ impl<'p> Engine<'p> {
             refs,
             place,
         };
-        if let Err(e) = keep(&mut self.store, &mut self.choices, choice, count, 0) {
+        let cells = frame_cells(stays);
+        if let Err(e) = keep(&mut self.store, &mut self.choices, choice, stays, cells) {
             return Err(e);
         }
         self.here = frame;
@@ -412,9 +419,10 @@ impl<'p> Engine<'p> {
     ) -> Result<(), Full>
         requires sound { IsSound self.old }
         requires left { IsLeft (length self.old.frames.items) (length self.old.refs.items) (Lists env tag lists) }
+        requires some { 0 < length lists.now }
         requires place { HasPlace self.old place }
         ensures begun { OnOk result (WentOn (BeginsAt (Lists env tag lists.entry) place self.old) self.old self.new) }
-        ensures fewer { OnOk result (branches_left self.new < branches_left self.old + length lists.now) }
+        ensures fewer { OnOk result (branches_left self.new ≤ branches_left self.old + length lists.now) }
         ensures full { IfErr result (λ e. FullAt (BeginsAt (Lists env tag lists.entry) place self.old) (store_in self.old.store) e) }
         ensures left { self.new.left ≡ self.old.left }
     {
@@ -428,17 +436,18 @@ impl<'p> Engine<'p> {
             mark: Mark::Nothing,
             behind: self.frames.len(),
         };
-        let count = others.len();
-        self.begin_frame(frame, Left::Lists(env, tag, others), count, place)
+        let stays = !others.is_empty();
+        self.begin_frame(frame, Left::Lists(env, tag, others), stays, place)
     }
 
     /// Begins the first of the branches left, with all frames behind it; false where it has failed there.
     fn begin(&mut self, left: Left<'p>, place: Place) -> Result<bool, Full>
         requires sound { IsSound self.old }
         requires left { IsLeft (length self.old.frames.items) (length self.old.refs.items) left }
+        requires some { stays_with left ≡ true }
         requires place { HasPlace self.old place }
         ensures tried { IfOk result (λ begun. Tries (BeginsAt left.entry place self.old) begun self.old self.new) }
-        ensures fewer { OnOk result (branches_left self.new < branches_left self.old + left_in left.entry) }
+        ensures fewer { OnOk result (branches_left self.new ≤ branches_left self.old + left_in left.entry) }
         ensures full { IfErr result (λ e. FullAt (BeginsAt left.entry place self.old) (store_in self.old.store) e) }
         ensures left { self.new.left ≡ self.old.left }
     {
@@ -448,7 +457,12 @@ impl<'p> Engine<'p> {
                 Ok(()) => Ok(true),
                 Err(e) => Err(e),
             },
-            Left::Ways(first, other) => match self.begin_frame(first, Left::Way(other), 1, place) {
+            Left::Ways(first, other) => match self.begin_frame(
+                first,
+                Left::Way(other),
+                true,
+                place,
+            ) {
                 Ok(()) => Ok(true),
                 Err(e) => Err(e),
             },
@@ -522,6 +536,7 @@ impl<'p> Engine<'p> {
     fn open(&mut self, left: Left<'p>) -> Result<bool, Full>
         requires ready { IsReady self.old }
         requires left { IsLeft (length self.old.frames.items) (length self.old.refs.items) left }
+        requires some { stays_with left ≡ true }
         requires room { self.old.newest + 1 + self.old.left < 2 ^ 64 }
         ensures opened { IfOk result (λ found. Branches (OpensAt left.entry self.old) found self.old self.new) }
         ensures full { IfErr result (λ e. FullAt (OpensAt left.entry self.old) (store_in self.old.store) e) }

@@ -1,14 +1,14 @@
-// A look at the first argument of a query, which tells of most rules that they can't match.
+// Rules that the first argument of a query excludes.
 
-ghost use Rattle.std.specs.Prelude.{◌≡◌, ◌≤◌, ◌+◌, [], ◌∷◌, All, IfSome, true};
-ghost use Rattle.dg_base.specs.declared.program.CoreProgram.{CoreProgram};
+ghost use Rattle.std.specs.Prelude.{◌≡◌, ◌+◌, ◌<◌, ◌^◌};
 ghost use Rattle.dg_base.specs.declared.program.Term.{out-Term};
-ghost use Rattle.dg_meaning.specs.Cells.{cells};
-ghost use Rattle.dg_meaning.specs.Closures.{HasNoClosure};
+ghost use Rattle.dg_meaning.specs.Values.{Closure};
+ghost use Rattle.dg_meaning.specs.Selection.{label_at, differs_from};
+ghost use Rattle.dg_meaning.specs.Moves.{choice_cells as the_cells};
 ghost use Rattle.dg_unify.specs.Store.{label_of};
-ghost use Rattle.dg_interp.specs.Passing.{label_at, differs_from, top_differs};
+ghost use Rattle.dg_interp.specs.Passing.{top_differs, view_excludes, rules_from};
 
-use dg_base::{Simple, Term};
+use dg_base::{Rule, Simple, Term};
 use dg_unify::View;
 
 // Whether a value without parts has another label than a term.
@@ -29,58 +29,66 @@ fn simple_differs(simple: Simple, term: &Term) -> bool
             _ => true,
         },
         Term::Nil => !matches!(simple, Simple::Nil),
-        Term::Pair(_, _) => true,
-        Term::Var(_) | Term::Closure(_) => false,
+        Term::Pair(_, _) | Term::Closure(_) => true,
+        Term::Var(_) => false,
     }
 }
 
-/// Whether what a view shows has another label than a term.
-pub fn differs(view: View, term: &Term) -> bool
+// Whether the closure of a place is another than a term.
+fn closure_differs(place: u16, term: &Term) -> bool
+    ensures { result ≡ differs_from (Closure place) (label_at (out-Term term.now)) }
+{
+    match term {
+        Term::Closure(other) => place != *other,
+        Term::Var(_) => false,
+        _ => true,
+    }
+}
+
+// Whether what a view shows has another label than a term.
+fn differs(view: View, term: &Term) -> bool
     ensures { result ≡ top_differs view (out-Term term.now) }
 {
     match view {
+        View::Unbound(_) => false,
         View::Simple(simple) => simple_differs(simple, term),
-        View::Pair(_, _) => matches!(
-            term,
-            Term::Num(_) | Term::Word(_) | Term::Object(_) | Term::Nil
-        ),
-        _ => false,
+        View::Pair(_, _) => !matches!(term, Term::Pair(_, _) | Term::Var(_)),
+        View::Closure(place, _) => closure_differs(place, term),
+        View::Unknown(_) => !matches!(term, Term::Var(_)),
     }
 }
 
-// What is left of so much room behind a term; none where the term takes more.
-fn room_behind(term: &Term, room: usize) -> Option<usize>
-    requires plain { HasNoClosure term.now }
-    ensures { (program : CoreProgram) → IfSome result (λ left. cells program (term.now ∷ []) + left ≡ room) }
+// Whether the first argument of a query, where there is one, excludes a rule.
+fn excludes(first: Option<View>, rule: &Rule) -> bool
+    ensures { result ≡ view_excludes first rule.now.head }
 {
-    let mut term = term;
-    let mut room = room;
-    'heads: while let Term::Pair(head, tail) = term {
-        let Some(less) = room.checked_sub(3) else {
-            return None;
-        };
-        match room_behind(head.get(), less) {
-            None => return None,
-            Some(left) => {
-                room = left;
-                term = tail.get();
-            }
-        }
+    let Some(view) = first else {
+        return false;
+    };
+    match rule.head.as_slice().first() {
+        None => false,
+        Some(term) => differs(view, term),
     }
-    Some(room)
 }
 
-/// Whether terms take no more than so much room.
-pub fn have_room(terms: &[Term], room: usize) -> bool
-    requires plain { All HasNoClosure terms.now }
-    ensures { (program : CoreProgram) → result ≡ true → cells program terms.now ≤ room }
+/// Rules from the first on that isn't excluded.
+pub fn pass<'r>(first: Option<View>, rules: &'r [Rule]) -> &'r [Rule]
+    ensures { result.now ≡ rules_from first rules.now }
 {
-    let mut room = room;
-    'terms: for term in terms {
-        match room_behind(term, room) {
-            None => return false,
-            Some(left) => room = left,
+    let mut rules = rules;
+    'rules: while let [rule, others @ ..] = rules {
+        if !excludes(first, rule) {
+            return rules;
         }
+        rules = others;
     }
-    true
+    rules
+}
+
+/// The cells of the choice of a query with so many arguments, in front of these rules.
+pub fn choice_cells(others: &[Rule], arguments: usize) -> usize
+    requires { arguments < 2 ^ 63 }
+    ensures { result ≡ the_cells arguments others.now }
+{
+    if others.is_empty() { 0 } else { 10 + arguments }
 }

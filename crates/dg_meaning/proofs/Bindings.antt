@@ -9,18 +9,18 @@ use Rattle.dg_base.specs.declared.program.ClosureBody.{ClosureBody}
 use Rattle.dg_base.specs.declared.program.CoreProgram.{CoreProgram}
 use Rattle.dg_base.specs.declared.program.Rule.{Rule}
 use Rattle.dg_base.specs.declared.program.Goal.{Goal, Goal-F, out-Goal}
-use Rattle.dg_base.specs.declared.program.Goal.TheOpen.{Text, Print as Print-Form, Gap, Equal, Ask, Either, Once, Not, If, Just, Stop, Forever, Exhaust, Collect, Stoppable, Test}
+use Rattle.dg_base.specs.declared.program.Goal.TheOpen.{Text, Print as Print-Form, Gap, Equal, Ask, Either, Once, Not, If, Just, Forever, Exhaust, Collect, Stoppable}
 use Rattle.dg_base.specs.declared.program.Goal.TheVariants.{Forever as Forever-Goal}
 use Rattle.dg_base.specs.Goals.{terms_held}
 use Rattle.dg_meaning.specs.Values.{Value, parts_of, value_of_var, captured_by, value_of_leaf, value_of, value_of_row}
 use Rattle.dg_meaning.specs.Substitutions.{Substitution, IsSubstitution, Extends}
 use Rattle.dg_meaning.specs.Unify.{Equations, Turn, Goes, Binds, Clashes, turn, cost, Unified, charged, after_turn, turns, top, tops, top_of_pairs, top_of_equations, enough, solve, unify}
-use Rattle.dg_meaning.specs.World.{Game, World, Asked, noted}
+use Rattle.dg_meaning.specs.World.{Game, World}
 use Rattle.dg_meaning.specs.Cells.{cells, writing}
-use Rattle.dg_meaning.specs.Path.{Step, Do, Answers, Cut, Refuse, Back, Keep, Leave, Registers, Path, Branch, Enter, Clash, TakeOut, Kind, Plain, Rules, Move, GoesOn, FailsAt, EndsAt, StopsAt, Chooses}
-use Rattle.dg_meaning.specs.Moves.{path_of, begun, goals_at, more_heap, inside, enter, enter_if, choice_cells, list_branches, first_alone, rule_steps, new_vars, vars_of, entered, match, matched, rule_branch, rule_branches, rules_of, choice, goes_on_if, unified, stop, outcome, behind_terms, move, made_since}
+use Rattle.dg_meaning.specs.Path.{Step, Do, Answers, Cut, Refuse, Back, Keep, Leave, Registers, Path, Branch, Enter, Clash, TakeOut, Kind, Move, GoesOn, Outcome, Moves, Chooses, Act, Goes, Tests, Unifies, Ends, Fails, Stops, Effect, Acts, Offers}
+use Rattle.dg_meaning.specs.Moves.{path_of, begun, goals_at, more_heap, inside, enter, enter_if, choice_cells, is_excluded, call_cells, unless_excluded, list_branches, first_alone, rule_steps, new_vars, vars_of, entered, match, matched, rule_branch, rule_branches, rules_of, choice, goes_on_if, stop, move_of, effect, outcome_of, behind_terms, move, made_since}
 use Rattle.dg_meaning.specs.Transcript.{start_path}
-use Rattle.dg_meaning.specs.Bindings.{top_of_values, top_of_steps, IsBound, BindsOn, IsBoundBehind, BranchBinds, BranchesBind, MoveBinds, BindsAlong}
+use Rattle.dg_meaning.specs.Bindings.{top_of_values, top_of_steps, IsBound, BindsOn, IsBoundBehind, BranchBinds, BranchesBind, MoveBinds, OutcomeBinds, BindsAlong}
 use Rattle.dg_meaning.proofs.Solving.{Fair, turn_fair, top_append, solve_ends, solve_extends}
 
 -- ## Unification binds no variable that isn't there
@@ -124,17 +124,31 @@ branch_if : (r : Registers) (b : Bool) (path : Path) (work : ℕ) → IsBoundBeh
 branch_if r true path work h = h
 branch_if r false path work h = h.binds
 
+unless_binds : (r : Registers) (b : Bool) (work : ℕ) (x : Branch) → BindsOn r (inside 0 r) → BranchBinds r x → BranchBinds r (unless_excluded b r work x)
+unless_binds r true work x on h = on
+unless_binds r false work x on h = h
+
 move_if : (r s : Registers) (b : Bool) (steps : List Step) (w : World) → IsBoundBehind r (path_of steps s) → MoveBinds r (goes_on_if b steps s w)
 move_if r s true steps w h = h
 move_if r s false steps w h = tt
 
-choice_binds : (r : Registers) (k : Kind) (t : ℕ) (bs : List Branch) (w : World) → BranchesBind r bs → MoveBinds r (choice k t bs w)
+choice_binds : (r : Registers) (k : Kind) (t : ℕ) (bs : List Branch) (w : World) → BranchesBind r bs → OutcomeBinds r (choice k t bs w)
 choice_binds r k t [] w h = tt
 choice_binds r k t (b ∷ bs) w h = h
 
 stop_binds : (r : Registers) (o : Option ℕ) (w : World) → MoveBinds r (stop o w)
 stop_binds r None w = tt
 stop_binds r (Some s) w = tt
+
+-- what is done at once names variables that were made, and what is unified stands behind registers that have gone on
+abbrev ActBinds : Registers → Act → Type 0
+ActBinds r (Goes steps w) = top_of_steps steps ≤ r.next_var
+ActBinds r (Unifies made a b w) = (made.bound ≡ r.bound) × (r.next_var ≤ made.next_var) × (top a ≤ made.next_var) × (top b ≤ made.next_var)
+ActBinds r act = Unit {0}
+
+abbrev EffectBinds : Registers → Effect → Type 0
+EffectBinds r (Acts a) = ActBinds r a
+EffectBinds r (Offers k bs w) = BranchesBind r bs
 
 module _ (g : Game) (env : List Value) (t : ℕ) (steps : List Step) (r : Registers) (sound : IsSubstitution r.bound) (bindings : top_of_pairs r.bound ≤ r.next_var) (here : top_of_values env ≤ r.next_var) (rest : top_of_steps steps ≤ r.next_var) where
   -- registers with the same bindings and variables
@@ -169,41 +183,49 @@ module _ (g : Game) (env : List Value) (t : ℕ) (steps : List Step) (r : Regist
       let vars : top_of_values (vars_of rule r) ≤ n = new_below rule.vars r.next_var in
       let u = match g args rule r in
       let head = map (value_of g.program (vars_of rule r)) rule.head in
-      branch_if r u.agrees _ _ (more (matched u r (entered g heap rule r)) (rule_steps pred many (vars_of rule r) r.next_tag rule steps) (zip args head) refl (omega arith)
+      let path : Path = path_of (rule_steps pred many (vars_of rule r) r.next_tag rule steps) (matched u r (entered g heap rule r)) in
+      unless_binds r (is_excluded args r rule) _ (enter_if u.agrees path _) (record { bindings = record { made = []; is = refl; sound = sound }; variables = omega arith })
+      (branch_if r u.agrees path _ (more (matched u r (entered g heap rule r)) (rule_steps pred many (vars_of rule r) r.next_tag rule steps) (zip args head) refl (omega arith)
       (zip_below n args head (omega (arith, h)) (terms_below n g.program (vars_of rule r) rule.head vars))
-      (steps_below n (goals_at (vars_of rule r) r.next_tag rule.body) (Answers pred ∷ first_alone many r.next_tag steps) (goals_below n (vars_of rule r) r.next_tag rule.body vars) (omega (arith, first_below n many r.next_tag steps (omega (arith, rest))))))
+      (steps_below n (goals_at (vars_of rule r) r.next_tag rule.body) (Answers pred ∷ first_alone many r.next_tag steps) (goals_below n (vars_of rule r) r.next_tag rule.body vars) (omega (arith, first_below n many r.next_tag steps (omega (arith, rest)))))))
 
   rules_bind : (pred : ℕ) (args : List Value) (many : Bool) (rules : List Rule) → top_of_values args ≤ r.next_var → BranchesBind r (rule_branches g pred args many steps r rules)
   rules_bind pred args many [] h = tt
-  rules_bind pred args many (rule ∷ rules) h = (rule_binds pred args many (choice_cells (length args) rules) rule h, rules_bind pred args many rules h)
+  rules_bind pred args many (rule ∷ rules) h = (rule_binds pred args many (call_cells args r rules) rule h, rules_bind pred args many rules h)
 
   lists_bind : (lists : List (List Goal)) → BranchesBind r (list_branches env t steps r lists)
   lists_bind [] = tt
   lists_bind (gs ∷ lists) = (one (choice_cells 0 lists) 1 _ (goals gs steps rest), lists_bind lists)
 
-  equal_binds : (a b : Value) (w : World) → top a ≤ r.next_var → top b ≤ r.next_var → MoveBinds r (unified (unify r.bound a b) steps r w)
-  equal_binds a b w ha hb = move_if r _ _ steps _ (more _ steps ((a, b) ∷ []) refl (omega arith) (omega arith) rest)
+  act_binds : (a : Act) → ActBinds r a → MoveBinds r (move_of steps r a)
+  act_binds (Goes next w) h = same r next refl refl h
+  act_binds (Tests passed w) h = move_if r r passed steps w (same r steps refl refl rest)
+  act_binds (Unifies made a b w) h = move_if r _ _ steps _ (more _ steps ((a, b) ∷ []) (ap (λ S. (unify S a b).subst) h.0) h.1 (omega (arith, h.2, h.3)) (omega (arith, rest, h.1)))
+  act_binds (Ends e w) h = tt
+  act_binds (Fails w) h = tt
+  act_binds (Stops w) h = stop_binds r r.stoppable w
 
-  outcome_binds : (x : Goal-F Goal) (w : World) → MoveBinds r (outcome g x env t steps r w)
-  outcome_binds (Text name) w = same r steps refl refl rest
-  outcome_binds (Print-Form a) w = same r steps refl refl rest
-  outcome_binds (Gap kind) w = same r steps refl refl rest
-  outcome_binds (Equal a b) w = equal_binds _ _ w (term_below r.next_var g.program env a here) (term_below r.next_var g.program env b here)
-  outcome_binds (Ask pred args many) w =
-      choice_binds r (Rules pred) r.next_tag _ (noted (Asked pred) w) (rules_bind pred (map (value_of g.program env) args) many (rules_of (slice_get g.program.preds pred)) (terms_below r.next_var g.program env args here))
-  outcome_binds (Either lists) w = choice_binds r Plain r.next_tag (list_branches env t steps r lists) w (lists_bind lists)
-  outcome_binds (Once gs) w = (one 10 0 _ (goals gs (Cut r.next_tag ∷ steps) (omega (arith, rest))), tt)
-  outcome_binds (Not gs) w = (one 10 0 _ (goals gs (Refuse r.next_tag ∷ []) (omega arith)), (one 0 0 steps rest, tt))
-  outcome_binds (If test first other) w = (one 10 0 _ (goals test (Cut r.next_tag ∷ (goals_at env t first ++ steps)) (omega (arith, goals first steps rest))), (one 0 0 _ (goals other steps rest), tt))
-  outcome_binds Just w = same r (Cut t ∷ steps) refl refl (omega (arith, rest))
-  outcome_binds Stop w = stop_binds r r.stoppable w
-  outcome_binds Forever w = (one 10 0 steps rest, (one 0 0 (Do Forever-Goal env t ∷ steps) (omega (arith, here, rest)), tt))
-  outcome_binds (Exhaust gs) w = (one 10 0 _ (goals gs (Back ∷ []) (omega arith)), (one 0 0 steps rest, tt))
-  outcome_binds (Collect x gs into) w = (one 10 0 _ (goals gs (Keep r.next_tag x env ∷ []) (omega (arith, here))), (same (inside 0 r) steps refl refl rest, tt))
-  outcome_binds (Stoppable gs) w =
+  outcome_binds : (e : Effect) → EffectBinds r e → OutcomeBinds r (outcome_of steps r e)
+  outcome_binds (Acts a) h = act_binds a h
+  outcome_binds (Offers k bs w) h = choice_binds r k r.next_tag bs w h
+
+  effect_binds : (x : Goal-F Goal) (w : World) → EffectBinds r (effect g x env t steps r w)
+  effect_binds (Text name) w = rest
+  effect_binds (Print-Form a) w = rest
+  effect_binds (Gap kind) w = rest
+  effect_binds (Equal a b) w = (refl, omega arith, term_below r.next_var g.program env a here, term_below r.next_var g.program env b here)
+  effect_binds (Ask pred args many) w = rules_bind pred (map (value_of g.program env) args) many (rules_of (slice_get g.program.preds pred)) (terms_below r.next_var g.program env args here)
+  effect_binds (Either lists) w = lists_bind lists
+  effect_binds (Once gs) w = (one 10 0 _ (goals gs (Cut r.next_tag ∷ steps) (omega (arith, rest))), tt)
+  effect_binds (Not gs) w = (one 10 0 _ (goals gs (Refuse r.next_tag ∷ []) (omega arith)), (one 0 0 steps rest, tt))
+  effect_binds (If test first other) w = (one 10 0 _ (goals test (Cut r.next_tag ∷ (goals_at env t first ++ steps)) (omega (arith, goals first steps rest))), (one 0 0 _ (goals other steps rest), tt))
+  effect_binds Just w = omega (arith, rest)
+  effect_binds Forever w = (one 10 0 steps rest, (one 0 0 (Do Forever-Goal env t ∷ steps) (omega (arith, here, rest)), tt))
+  effect_binds (Exhaust gs) w = (one 10 0 _ (goals gs (Back ∷ []) (omega arith)), (one 0 0 steps rest, tt))
+  effect_binds (Collect x gs into) w = (one 10 0 _ (goals gs (Keep r.next_tag x env ∷ []) (omega (arith, here))), (same (inside 0 r) steps refl refl rest, tt))
+  effect_binds (Stoppable gs) w =
       (same (record (inside 10 r) { stoppable = Some r.next_tag }) _ refl refl (goals gs (Leave r.next_tag r.stoppable ∷ steps) (omega (arith, rest))), (one 0 0 steps rest, tt))
-  outcome_binds (Test kind a) w = move_if r r _ steps _ (same r steps refl refl rest)
-  outcome_binds _ w = tt
+  effect_binds _ w = tt
 
 -- ## The terms of a goal bind nothing
 
@@ -222,16 +244,19 @@ module _ (r : Registers) (heap : ℕ) where
 
   move_from : (m : Move) → MoveBinds (more_heap heap r) m → MoveBinds r m
   move_from (GoesOn path w) h = record { binds = binds_from path.registers h.binds; is = h.is }
-  move_from (FailsAt w) h = tt
-  move_from (EndsAt e w) h = tt
-  move_from (StopsAt t w) h = tt
-  move_from (Chooses k t b bs w) h = (branch_from b h.0, branches_from bs h.1)
+  move_from m h = tt
 
-takes : (g : Game) (x : Goal) (env : List Value) (t : ℕ) (steps : List Step) (r : Registers) (w : World) → IsBound (path_of (Do x env t ∷ steps) r) → MoveBinds r (move g (out-Goal x) env t steps r w)
+  outcome_from : (m : Outcome) → OutcomeBinds (more_heap heap r) m → OutcomeBinds r m
+  outcome_from (Moves m) h = move_from m h
+  outcome_from (Chooses k t b bs w) h = (branch_from b h.0, branches_from bs h.1)
+
+takes : (g : Game) (x : Goal) (env : List Value) (t : ℕ) (steps : List Step) (r : Registers) (w : World) → IsBound (path_of (Do x env t ∷ steps) r) → OutcomeBinds r (move g (out-Goal x) env t steps r w)
 takes g x env t steps r w h =
     let s = behind_terms g (out-Goal x) r in
-    move_from r (cells g.program (terms_held (out-Goal x))) (move g (out-Goal x) env t steps r w)
-    (outcome_binds g env t steps s h.sound h.bindings (omega (arith, h.steps)) (omega (arith, h.steps)) (out-Goal x) (begun s (writing g.program (terms_held (out-Goal x))) w))
+    let v = begun s (writing (terms_held (out-Goal x))) w in
+    outcome_from r (cells g.program (terms_held (out-Goal x))) (move g (out-Goal x) env t steps r w)
+    (outcome_binds g env t steps s h.sound h.bindings (omega (arith, h.steps)) (omega (arith, h.steps)) (effect g (out-Goal x) env t steps s v)
+    (effect_binds g env t steps s h.sound h.bindings (omega (arith, h.steps)) (omega (arith, h.steps)) (out-Goal x) v))
 
 passes : (s : Step) (steps : List Step) (r : Registers) (outer : Option ℕ) → IsBound (path_of (s ∷ steps) r) → IsBound (path_of steps (record r { stoppable = outer }))
 passes s steps r outer h = record { sound = h.sound; bindings = h.bindings; steps = omega (arith, h.steps) }

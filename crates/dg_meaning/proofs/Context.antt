@@ -2,15 +2,14 @@
 use Rattle.std.proofs.Common.{◌≡◌, ℕ, zero, suc, ◌<◌, ◌≤◌, inl, inr, List, [], ◌∷◌, Option, Some, None, refl, sym, ap, ◌∙◌, subst, arith, length, drop, ◌++◌, ◌⊎◌}
 use Rattle.std.specs.Prelude.{min, eqb, nat_lt, if◌then◌else◌}
 use Rattle.std.proofs.lemmas.Bool.{cond_both, cond-true, cond-false, lt-ltb, le-ltb, cases_lt, cases_eq, eq-eqb, ne_eqb}
-use Rattle.std.proofs.lemmas.List.{append-nil}
 use Rattle.dg_meaning.specs.Values.{Value}
-use Rattle.dg_meaning.specs.World.{World, Event, Gathering, gathered_with, gathered_without}
+use Rattle.dg_meaning.specs.World.{World, Gathering, gathered_with, gathered_without}
 use Rattle.dg_meaning.specs.Path.{Result, Failing, CutFail, StopTo, End, Answer, Branch, Kind, Plain, Rules, Shield, Gathers}
 use Rattle.dg_meaning.specs.Moves.{exhausted}
 use Rattle.dg_meaning.specs.Search.{Search, answer, later, retried, leave, after_branch, begin, branches_cut, choose}
 use Rattle.dg_meaning.specs.Transcript.{run_of}
-use Rattle.dg_meaning.specs.Context.{Around, InBranch, InCut, unwind, gathers, tags_of, Opens, Live, cut_to, live, Holds, Older, TakesOut, Sound, Shielded, pushed, Way, ways, way_to, Silently}
-use Rattle.dg_meaning.proofs.Silently.{silently_here, silently_on, exhausted_silently}
+use Rattle.dg_meaning.specs.Context.{Around, InBranch, InCut, unwind, gathers, tags_of, Opens, Live, cut_to, stays, live, Holds, Older, TakesOut, Sound, Shielded, pushed, Way, ways, way_to, Drops}
+use Rattle.dg_meaning.proofs.Dropping.{drops_nothing, drops_on}
 
 -- ## Cuts of choices
 
@@ -34,10 +33,14 @@ cut_below : (t u : ℕ) (cs : List Live) → AllBelow t cs → AllBelow t (cut_t
 cut_below t u [] h = tt
 cut_below t u (c ∷ cs) h = cond_both (nat_lt c.tag u) (c ∷ cs) (cut_to u cs) (AllBelow t) (λ e. h) (λ e. cut_below t u cs h.1)
 
+-- what is kept of a choice around
+abbrev pub live_of : Kind → ℕ → List Branch → List Around → Live
+live_of k t bs ctx = record { kind = later k; tag = t; others = bs; height = length (gathers ctx); ways_on = ways ctx }
+
 live_below : (t : ℕ) (ctx : List Around) → Older t ctx → AllBelow t (live ctx)
 live_below t [] h = tt
-live_below t (InBranch k u [] ∷ ctx) h = live_below t ctx h.1
-live_below t (InBranch k u (b ∷ bs) ∷ ctx) h = (h.0, live_below t ctx h.1)
+live_below t (InBranch k u others ∷ ctx) h =
+    cond_both (stays (later k) others) (live_of k u others ctx ∷ live ctx) (live ctx) (AllBelow t) (λ e. (h.0, live_below t ctx h.1)) (λ e. live_below t ctx h.1)
 live_below t (InCut u ∷ ctx) h = cut_below t u (live ctx) (live_below t ctx h)
 
 cut_none : (t : ℕ) (cs : List Live) → AllBelow t cs → cut_to t cs ≡ cs
@@ -45,13 +48,9 @@ cut_none t [] h = refl
 cut_none t (c ∷ cs) h = cond-true (nat_lt c.tag t) (c ∷ cs) (cut_to t cs) (lt-ltb c.tag t h.0)
 
 -- a choice that isn't older is cut
-cut_pushed : (t : ℕ) (o : List Branch) (c : Live) (cs : List Live) → t ≤ c.tag → cut_to t (pushed o c cs) ≡ cut_to t cs
-cut_pushed t [] c cs le = refl
-cut_pushed t (b ∷ bs) c cs le = cond-false (nat_lt c.tag t) (c ∷ cs) (cut_to t cs) (le-ltb c.tag t le)
-
--- what is kept of a choice around
-abbrev pub live_of : Kind → ℕ → List Branch → List Around → Live
-live_of k t bs ctx = record { kind = later k; tag = t; others = bs; height = length (gathers ctx); ways_on = ways ctx }
+cut_pushed : (t : ℕ) (c : Live) (cs : List Live) → t ≤ c.tag → cut_to t (pushed c cs) ≡ cut_to t cs
+cut_pushed t c cs le =
+    cond_both (stays c.kind c.others) (c ∷ cs) cs (λ l. cut_to t l ≡ cut_to t cs) (λ e. cond-false (nat_lt c.tag t) (c ∷ cs) (cut_to t cs) (le-ltb c.tag t le)) (λ e. refl)
 
 holds_older : (t u : ℕ) (ctx : List Around) → Older u ctx → Holds ctx t → t < u
 holds_older t u [] o h = absurd h
@@ -87,22 +86,17 @@ length_tags [] = refl
 length_tags (g ∷ gs) = ap suc (length_tags gs)
 
 pub record Left (k : Kind) (t : ℕ) (w : World) (ctx : List Around) : Type 0 where
-  pub silently : Silently w (leave k t w)
+  pub drops : Drops w (leave k t w)
   pub opens : Opens (leave k t w) ctx
 
 pub leaving : (k : Kind) (t : ℕ) (others : List Branch) (w : World) (ctx : List Around) → Opens w (InBranch k t others ∷ ctx) → Left k t w ctx
-leaving Plain t others w ctx o = record { silently = silently_here w; opens = o }
-leaving (Rules q) t others w ctx o = record { silently = silently_here w; opens = o }
-leaving Shield t others w ctx o = record { silently = silently_here w; opens = o }
+leaving Plain t others w ctx o = record { drops = drops_nothing w; opens = o }
+leaving (Rules q) t others w ctx o = record { drops = drops_nothing w; opens = o }
+leaving Shield t others w ctx o = record { drops = drops_nothing w; opens = o }
 leaving Gathers t others w ctx o =
     let h = without_head t w.gathered (gathers ctx) o in
     record {
-      silently = record {
-        calls = [];
-        silent = refl;
-        count = 1;
-        is = ap (λ (l : List Gathering). record w { gathered = l }) h.0 ∙ ap (λ (l : List Event). record w { events = l; gathered = drop 1 w.gathered }) (sym (append-nil w.events));
-      };
+      drops = record { count = 1; is = ap (λ (l : List Gathering). record w { gathered = l }) h.0 };
       opens = h.1;
     }
 
@@ -117,13 +111,13 @@ pub record FailsIn (s : Search) (ctx : List Around) (n : ℕ) (w : World) (r : R
   pub sound : Sound at
   pub opens : Opens world at
   pub shorter : length at ≤ length ctx
-  pub silently : Silently w world
+  pub drops : Drops w world
 
 pub cut_fails : (s : Search) (ctx : List Around) (n : ℕ) (w : World) (t : ℕ) → Sound ctx → Opens w ctx → Holds ctx t → FailsIn s ctx n w (CutFail t) (cut_to t (live ctx))
 cut_fails s [] n w t sound o h = absurd h
 cut_fails s (InCut u ∷ ctx) n w t sound o h =
     let inner = cut_fails s ctx n w (min t u) sound.1 o (min_holds t u ctx h sound.0) in
-    record { at = inner.at; world = inner.world; same = inner.same; choices_are = inner.choices_are ∙ sym (cut_min t u (live ctx)); sound = inner.sound; opens = inner.opens; shorter = omega (arith, inner.shorter); silently = inner.silently }
+    record { at = inner.at; world = inner.world; same = inner.same; choices_are = inner.choices_are ∙ sym (cut_min t u (live ctx)); sound = inner.sound; opens = inner.opens; shorter = omega (arith, inner.shorter); drops = inner.drops }
 cut_fails s (InBranch k u others ∷ ctx) n w t sound o h =
     let v = leave k u w in
     let left = leaving k u others w ctx o in
@@ -134,11 +128,11 @@ cut_fails s (InBranch k u others ∷ ctx) n w t sound o h =
         same = ap (unwind s ctx n v) (cond-true (eqb t u) Failing (CutFail t) (eq-eqb t u e));
         choices_are =
             sym (cut_none t (live ctx) (live_below t ctx (subst (λ x. Older x ctx) (sym e) sound.0)))
-            ∙ sym (cut_pushed t others (live_of k u others ctx) (live ctx) (omega arith));
+            ∙ sym (cut_pushed t (live_of k u others ctx) (live ctx) (omega arith));
         sound = sound.1;
         opens = left.opens;
         shorter = omega arith;
-        silently = left.silently;
+        drops = left.drops;
       }
       | inr ne ↦
           let inside : Holds ctx t = elim h [ inl e ↦ absurd (ne e) | inr x ↦ x ] in
@@ -148,11 +142,11 @@ cut_fails s (InBranch k u others ∷ ctx) n w t sound o h =
             at = inner.at;
             world = inner.world;
             same = ap (unwind s ctx n v) (cond-false (eqb t u) Failing (CutFail t) (ne_eqb t u ne)) ∙ inner.same;
-            choices_are = inner.choices_are ∙ sym (cut_pushed t others (live_of k u others ctx) (live ctx) (omega arith));
+            choices_are = inner.choices_are ∙ sym (cut_pushed t (live_of k u others ctx) (live ctx) (omega arith));
             sound = inner.sound;
             opens = inner.opens;
             shorter = omega (arith, inner.shorter);
-            silently = silently_on w v inner.world left.silently inner.silently;
+            drops = drops_on w v inner.world left.drops inner.drops;
           }
     ]
 
@@ -181,18 +175,18 @@ others_begin s ctx k t b bs n w =
     ap (λ (x : Answer). unwind s ctx x.left x.world x.result) (later_branch k t a.left a.world a.result (choose s (later k) t bs) (λ c. choose s (later k) t bs) (λ c. choose s (later k) t (branches_cut t c bs)))
     ∙ ap (λ j. let x = after_branch (later k) t a.left a.world a.result (choose s j t bs) (λ c. choose s j t (branches_cut t c bs)) in unwind s ctx x.left x.world x.result) (sym (later_twice k))
 
--- a failure goes to the newest choice that was not cut and has a branch left, or is the run's
+-- a failure goes to the newest choice that is kept, or is the run's
 pub data Fails (s : Search) (ctx : List Around) (n : ℕ) (w : World) : List Live → Type 0 where
-  run_fails : (v : World) → Silently w v → unwind s ctx n w Failing ≡ run_of (answer n v Failing) → Fails s ctx n w []
-  resumes : (k : Kind) → (t : ℕ) → (b : Branch) → (bs : List Branch) → (at : List Around) → (v : World) → Silently w v →
-      unwind s ctx n w Failing ≡ (let a = choose s (later k) t (b ∷ bs) n v in unwind s at a.left a.world a.result) → Sound (InBranch k t (b ∷ bs) ∷ at) → Opens v (InBranch k t (b ∷ bs) ∷ at) → Fails s ctx n w (live (InBranch k t (b ∷ bs) ∷ at))
+  run_fails : (v : World) → Drops w v → unwind s ctx n w Failing ≡ run_of (answer n v Failing) → Fails s ctx n w []
+  resumes : (k : Kind) → (t : ℕ) → (others : List Branch) → (at : List Around) → (v : World) → Drops w v →
+      unwind s ctx n w Failing ≡ (let a = choose s (later k) t others n v in unwind s at a.left a.world a.result) → Sound (InBranch k t others ∷ at) → Opens v (InBranch k t others ∷ at) → Fails s ctx n w (live_of k t others at ∷ live at)
 
-fails_in : (s : Search) (ctx at : List Around) (n : ℕ) (w v : World) → Silently w v → unwind s ctx n w Failing ≡ unwind s at n v Failing → (cs : List Live) → Fails s at n v cs → Fails s ctx n w cs
-fails_in s ctx at n w v e same cs (run_fails u f g) = run_fails u (silently_on w v u e f) (same ∙ g)
-fails_in s ctx at n w v e same cs (resumes k t b bs a u f g sound o) = resumes k t b bs a u (silently_on w v u e f) (same ∙ g) sound o
+fails_in : (s : Search) (ctx at : List Around) (n : ℕ) (w v : World) → Drops w v → unwind s ctx n w Failing ≡ unwind s at n v Failing → (cs : List Live) → Fails s at n v cs → Fails s ctx n w cs
+fails_in s ctx at n w v e same cs (run_fails u f g) = run_fails u (drops_on w v u e f) (same ∙ g)
+fails_in s ctx at n w v e same cs (resumes k t others a u f g sound o) = resumes k t others a u (drops_on w v u e f) (same ∙ g) sound o
 
 -- no first branch that gathers is without a branch behind it
-opens_outside : (k : Kind) (t : ℕ) (ctx : List Around) (w : World) → TakesOut k t [] → Opens w (InBranch k t [] ∷ ctx) → Opens w ctx
+pub opens_outside : (k : Kind) (t : ℕ) (ctx : List Around) (w : World) → TakesOut k t [] → Opens w (InBranch k t [] ∷ ctx) → Opens w ctx
 opens_outside Plain t ctx w h o = o
 opens_outside (Rules q) t ctx w h o = o
 opens_outside Shield t ctx w h o = o
@@ -205,18 +199,19 @@ opens_exhausted Shield ctx w o = o
 opens_exhausted Gathers ctx w o = o
 
 fails_within : (s : Search) (m : ℕ) (ctx : List Around) (n : ℕ) (w : World) → length ctx ≤ m → Sound ctx → Opens w ctx → Fails s ctx n w (live ctx)
-fails_within s m [] n w le sound o = run_fails w (silently_here w) refl
-fails_within s m (InBranch k t (b ∷ bs) ∷ ctx) n w le sound o = resumes k t b bs ctx w (silently_here w) refl sound o
+fails_within s m [] n w le sound o = run_fails w (drops_nothing w) refl
+fails_within s m (InBranch (Rules q) t others ∷ ctx) n w le sound o = resumes (Rules q) t others ctx w (drops_nothing w) refl sound o
+fails_within s m (InBranch Plain t (b ∷ bs) ∷ ctx) n w le sound o = resumes Plain t (b ∷ bs) ctx w (drops_nothing w) refl sound o
+fails_within s m (InBranch Shield t (b ∷ bs) ∷ ctx) n w le sound o = resumes Shield t (b ∷ bs) ctx w (drops_nothing w) refl sound o
+fails_within s m (InBranch Gathers t (b ∷ bs) ∷ ctx) n w le sound o = resumes Gathers t (b ∷ bs) ctx w (drops_nothing w) refl sound o
 fails_within s zero (InBranch k t [] ∷ ctx) n w le sound o = absurd (omega arith)
 fails_within s zero (InCut t ∷ ctx) n w le sound o = absurd (omega arith)
-fails_within s (suc m) (InBranch k t [] ∷ ctx) n w le sound o =
-    let v = exhausted (later k) w in
-    let silently = exhausted_silently (later k) w in
-    fails_in s (InBranch k t [] ∷ ctx) ctx n w v silently refl (live ctx)
-    (fails_within s m ctx n v (omega arith) sound.1 (opens_exhausted (later k) ctx w (opens_outside k t ctx w sound.3 o)))
+fails_within s (suc m) (InBranch Plain t [] ∷ ctx) n w le sound o = fails_in s (InBranch Plain t [] ∷ ctx) ctx n w w (drops_nothing w) refl (live ctx) (fails_within s m ctx n w (omega arith) sound.1 o)
+fails_within s (suc m) (InBranch Shield t [] ∷ ctx) n w le sound o = fails_in s (InBranch Shield t [] ∷ ctx) ctx n w w (drops_nothing w) refl (live ctx) (fails_within s m ctx n w (omega arith) sound.1 o)
+fails_within s (suc m) (InBranch Gathers t [] ∷ ctx) n w le sound o = absurd sound.3
 fails_within s (suc m) (InCut t ∷ ctx) n w le sound o =
     let f = cut_fails s ctx n w t sound.1 o sound.0 in
-    fails_in s (InCut t ∷ ctx) f.at n w f.world f.silently f.same (cut_to t (live ctx))
+    fails_in s (InCut t ∷ ctx) f.at n w f.world f.drops f.same (cut_to t (live ctx))
     (subst (Fails s f.at n f.world) f.choices_are (fails_within s m f.at n f.world (omega (arith, f.shorter)) f.sound f.opens))
 
 pub fails : (s : Search) (ctx : List Around) (n : ℕ) (w : World) → Sound ctx → Opens w ctx → Fails s ctx n w (live ctx)
@@ -275,14 +270,14 @@ pub record Stops (s : Search) (ctx : List Around) (n : ℕ) (w : World) (t : ℕ
   pub sound : Sound (InBranch Shield t others ∷ at)
   pub opens : Opens world at
   pub held : Held (InBranch Plain t [] ∷ at) t cut
-  pub silently : Silently w world
+  pub drops : Drops w world
   pub way : way_to t (ways ctx) ≡ Some (record { tag = t; others = others; height = length (gathers at) }, ways at)
   pub choices : cut_to t (cut_opt c (live ctx)) ≡ resumed_at t cut (live at)
 
 -- a choice that isn't older is cut by a stop
-passes : (t : ℕ) (c : Option ℕ) (o : List Branch) (x : Live) (cs : List Live) → t ≤ x.tag → cut_to t (cut_opt c (pushed o x cs)) ≡ cut_to t (cut_opt c cs)
-passes t None o x cs le = cut_pushed t o x cs le
-passes t (Some c) o x cs le = cut_min t c (pushed o x cs) ∙ cut_pushed (min t c) o x cs (omega arith) ∙ sym (cut_min t c cs)
+passes : (t : ℕ) (c : Option ℕ) (x : Live) (cs : List Live) → t ≤ x.tag → cut_to t (cut_opt c (pushed x cs)) ≡ cut_to t (cut_opt c cs)
+passes t None x cs le = cut_pushed t x cs le
+passes t (Some c) x cs le = cut_min t c (pushed x cs) ∙ cut_pushed (min t c) x cs (omega arith) ∙ sym (cut_min t c cs)
 
 itself : (t : ℕ) (c : Option ℕ) (at : List Around) → Older t at → cut_to t (cut_opt c (live at)) ≡ resumed_at t c (live at)
 itself t None at older = cut_none t (live at) (live_below t at older)
@@ -308,8 +303,8 @@ way_passes t u others ctx lt =
     cond-false (eqb u t) (Some (x, ways ctx)) (way_to t (ways ctx)) (ne_eqb u t (λ e. omega arith))
 
 -- the stop passes a branch that isn't the part's
-stops_past : (s : Search) (k : Kind) (u : ℕ) (others : List Branch) (ctx : List Around) (n : ℕ) (w v : World) (t : ℕ) (c : Option ℕ) → Older u ctx → Shielded ctx t → Silently w v → unwind s (InBranch k u others ∷ ctx) n w (StopTo t c) ≡ unwind s ctx n v (StopTo t c) → way_to t (ways (InBranch k u others ∷ ctx)) ≡ way_to t (ways ctx) → Stops s ctx n v t c → Stops s (InBranch k u others ∷ ctx) n w t c
-stops_past s k u others ctx n w v t c older h silently same way i =
+stops_past : (s : Search) (k : Kind) (u : ℕ) (others : List Branch) (ctx : List Around) (n : ℕ) (w v : World) (t : ℕ) (c : Option ℕ) → Older u ctx → Shielded ctx t → Drops w v → unwind s (InBranch k u others ∷ ctx) n w (StopTo t c) ≡ unwind s ctx n v (StopTo t c) → way_to t (ways (InBranch k u others ∷ ctx)) ≡ way_to t (ways ctx) → Stops s ctx n v t c → Stops s (InBranch k u others ∷ ctx) n w t c
+stops_past s k u others ctx n w v t c older h drops same way i =
     let lt = shield_older t u ctx older h in
     record {
       others = i.others;
@@ -320,9 +315,9 @@ stops_past s k u others ctx n w v t c older h silently same way i =
       sound = i.sound;
       opens = i.opens;
       held = i.held;
-      silently = silently_on w v i.world silently i.silently;
+      drops = drops_on w v i.world drops i.drops;
       way = way ∙ i.way;
-      choices = passes t c others (live_of k u others ctx) (live ctx) (omega arith) ∙ i.choices;
+      choices = passes t c (live_of k u others ctx) (live ctx) (omega arith) ∙ i.choices;
     }
 
 -- and a mark
@@ -336,7 +331,7 @@ stops_marked s u ctx n w t c d same cuts i = record {
   sound = i.sound;
   opens = i.opens;
   held = i.held;
-  silently = i.silently;
+  drops = i.drops;
   way = i.way;
   choices = ap (cut_to t) cuts ∙ i.choices;
 }
@@ -346,12 +341,12 @@ stops s [] n w t c sound o h held = absurd h
 stops s (InCut u ∷ ctx) n w t None sound o h held = stops_marked s u ctx n w t None (Some u) refl refl (stops s ctx n w t (Some u) sound.1 o h (inr sound.0))
 stops s (InCut u ∷ ctx) n w t (Some c) sound o h held = stops_marked s u ctx n w t (Some c) (Some (min c u)) refl (cut_min c u (live ctx)) (stops s ctx n w t (Some (min c u)) sound.1 o h (held_min ctx t c u sound.0 held))
 stops s (InBranch Plain u others ∷ ctx) n w t c sound o h held =
-    stops_past s Plain u others ctx n w w t c sound.0 h (silently_here w) refl refl (stops s ctx n w t c sound.1 o h (held_outside Plain u others ctx t c (shield_older t u ctx sound.0 h) held))
+    stops_past s Plain u others ctx n w w t c sound.0 h (drops_nothing w) refl refl (stops s ctx n w t c sound.1 o h (held_outside Plain u others ctx t c (shield_older t u ctx sound.0 h) held))
 stops s (InBranch (Rules q) u others ∷ ctx) n w t c sound o h held =
-    stops_past s (Rules q) u others ctx n w w t c sound.0 h (silently_here w) refl refl (stops s ctx n w t c sound.1 o h (held_outside (Rules q) u others ctx t c (shield_older t u ctx sound.0 h) held))
+    stops_past s (Rules q) u others ctx n w w t c sound.0 h (drops_nothing w) refl refl (stops s ctx n w t c sound.1 o h (held_outside (Rules q) u others ctx t c (shield_older t u ctx sound.0 h) held))
 stops s (InBranch Gathers u others ∷ ctx) n w t c sound o h held =
     let left = leaving Gathers u others w ctx o in
-    stops_past s Gathers u others ctx n w (leave Gathers u w) t c sound.0 h left.silently refl refl (stops s ctx n (leave Gathers u w) t c sound.1 left.opens h (held_outside Gathers u others ctx t c (shield_older t u ctx sound.0 h) held))
+    stops_past s Gathers u others ctx n w (leave Gathers u w) t c sound.0 h left.drops refl refl (stops s ctx n (leave Gathers u w) t c sound.1 left.opens h (held_outside Gathers u others ctx t c (shield_older t u ctx sound.0 h) held))
 stops s (InBranch Shield u others ∷ ctx) n w t c sound o (inl e) held =
     let back = sym e in
     let older = subst (λ v. Older v ctx) back sound.0 in
@@ -364,10 +359,10 @@ stops s (InBranch Shield u others ∷ ctx) n w t c sound o (inl e) held =
       sound = subst (λ v. Sound (InBranch Shield v others ∷ ctx)) back sound;
       opens = o;
       held = subst (λ v. Held (InBranch Plain v [] ∷ ctx) t c) back (held_plain u others ctx t c held);
-      silently = silently_here w;
+      drops = drops_nothing w;
       way = let x : Way = record { tag = t; others = others; height = length (gathers ctx) } in cond-true (eqb t t) (Some (x, ways ctx)) (way_to t (ways ctx)) (eq-eqb t t refl);
-      choices = passes t c others (live_of Shield t others ctx) (live ctx) (omega arith) ∙ itself t c ctx older;
+      choices = passes t c (live_of Shield t others ctx) (live ctx) (omega arith) ∙ itself t c ctx older;
     })
 stops s (InBranch Shield u others ∷ ctx) n w t c sound o (inr h) held =
     let lt = shield_older t u ctx sound.0 h in
-    stops_past s Shield u others ctx n w w t c sound.0 h (silently_here w) (not_caught s u others ctx n w t c (λ e. omega arith)) (way_passes t u others ctx lt) (stops s ctx n w t c sound.1 o h (held_outside Shield u others ctx t c lt held))
+    stops_past s Shield u others ctx n w w t c sound.0 h (drops_nothing w) (not_caught s u others ctx n w t c (λ e. omega arith)) (way_passes t u others ctx lt) (stops s ctx n w t c sound.1 o h (held_outside Shield u others ctx t c lt held))

@@ -3,28 +3,28 @@ use Rattle.std.proofs.Common.{◌≡◌, ℕ, suc, inl, inr, List, [], ◌∷◌
 use Rattle.std.specs.Prelude.{eqb, nat_lt, if◌then◌else◌}
 use Rattle.std.proofs.lemmas.Bool.{cond_both, cond-true, cond-false, ltb-true}
 use Rattle.dg_base.specs.declared.program.Goal.{Goal, Goal-F, out-Goal}
-use Rattle.dg_base.specs.declared.program.Goal.TheOpen.{Print as Print-Form, Equal, Ask, Either, Stop, Collect, Test}
+use Rattle.dg_base.specs.declared.program.Goal.TheOpen.{Print as Print-Form, Collect}
 use Rattle.dg_base.specs.declared.run.Ending.TheVariants.{Done as Done-Ending, StepLimit}
 use Rattle.dg_base.specs.declared.program.Term.{Term}
 use Rattle.dg_base.specs.Goals.{terms_held}
 use Rattle.dg_meaning.specs.Values.{Value, value_of}
 use Rattle.dg_meaning.specs.Substitutions.{resolved}
-use Rattle.dg_meaning.specs.World.{Game, World, Piece, Answered, Asked, noted, worked, kept}
-use Rattle.dg_meaning.specs.Path.{Step, Do, Answers, Cut, Refuse, Back, Keep, Leave, Registers, Path, Result, Failing, CutFail, StopTo, End, Branch, Enter, Clash, TakeOut, Kind, Plain, Rules, Shield, Gathers, Move, GoesOn, FailsAt, EndsAt, StopsAt, Chooses}
+use Rattle.dg_meaning.specs.World.{Game, World, Piece, Answered, noted, worked, kept}
+use Rattle.dg_meaning.specs.Path.{Step, Do, Answers, Cut, Refuse, Back, Keep, Leave, Registers, Path, Result, Failing, CutFail, StopTo, End, Branch, Enter, Clash, TakeOut, Kind, Plain, Rules, Shield, Gathers, Move, GoesOn, FailsAt, EndsAt, StopsAt, Outcome, Moves, Chooses, Act, Goes, Tests, Unifies, Ends, Fails, Stops, Effect, Acts, Offers}
 use Rattle.dg_meaning.specs.Cells.{writing}
 use Rattle.dg_meaning.specs.Pieces.{pieces}
-use Rattle.dg_meaning.specs.Moves.{path_of, begun, printed, all_printed, choice, goes_on_if, whole_looks, stop, list_branches, outcome, behind_terms, move}
-use Rattle.dg_meaning.specs.Search.{Search, search, answer, later, retried, leave, begin, cut, cut_first, cut_result, after_branch, choose, branches_cut, after_move}
+use Rattle.dg_meaning.specs.Moves.{path_of, exhausted, begun, printed, all_printed, begins, choice, goes_on_if, move_of, whole_looks, keeping, stop, effect, outcome_of, behind_terms, move}
+use Rattle.dg_meaning.specs.Search.{Search, search, answer, later, retried, leave, begin, cut, cut_first, cut_result, after_branch, choose, branches_cut, after_move, after_goal}
 use Rattle.dg_meaning.specs.Transcript.{Run, run_of, run, start_world, start_path}
-use Rattle.dg_meaning.specs.Context.{Around, InBranch, InCut, unwind, gathers, Opens, Way, ways, Live, cut_to, pushed, live, way_to, Older, StepsIn, PathIn, KeepsGathering, TakesOut, Sound, BranchIn, BranchesIn}
-use Rattle.dg_meaning.specs.Keeps.{world_of, unwound, Stands, Failed, Stopping, Resumed, Finished, open_at, FailsTo, Began, open_outside, new_ways, After, WentOn, Keeps}
-use Rattle.dg_meaning.proofs.Silently.{silently_here, silently_on}
+use Rattle.dg_meaning.specs.Context.{Around, InBranch, InCut, unwind, gathers, tags_of, Opens, Way, ways, Live, cut_to, pushed, live, way_to, Older, StepsIn, PathIn, KeepsGathering, KeepGatherings, TakesOut, Sound, BranchIn, BranchesIn}
+use Rattle.dg_meaning.specs.Keeps.{world_at, world_of, unwound, Stands, Failed, Stopping, Resumed, Finished, open_at, FailsTo, Went, Began, Tried, tried_in, open_outside, new_choices, new_ways, After, WentOn, Keeps}
+use Rattle.dg_meaning.proofs.Dropping.{drops_nothing, drops_on, drops_grow}
 use Rattle.dg_meaning.specs.Bindings.{IsBound}
 use Rattle.dg_meaning.specs.OneRun.{Grows}
 use Rattle.dg_meaning.proofs.OneRun.{grows_same, grows_on}
-use Rattle.dg_meaning.proofs.Search.{IsGood, after_branch_good, choose_good, search_good, search_steps}
-use Rattle.dg_meaning.proofs.Context.{without_head, tags_kept, length_tags, later_twice, others_begin, Fails, run_fails, resumes, fails, leaving, resumed_at, Held, Stops, stops}
-use Rattle.dg_meaning.proofs.Tags.{stop_mark, steps_mark, others_in, MoveIn, move_in}
+use Rattle.dg_meaning.proofs.Search.{IsGood, world_in, beginning_grows, after_branch_good, choose_good, search_good, search_steps}
+use Rattle.dg_meaning.proofs.Context.{without_head, tags_kept, length_tags, later_twice, others_begin, opens_outside, opens_exhausted, Fails as FailsIn, run_fails, resumes, fails, leaving, resumed_at, Held, Stops as StopsIn, stops}
+use Rattle.dg_meaning.proofs.Tags.{stop_mark, steps_mark, others_in, MoveIn, OutcomeIn, move_in}
 use Rattle.dg_meaning.proofs.Bindings.{binds_along}
 
 -- ## What has happened
@@ -37,13 +37,29 @@ unwind_grows s h (InBranch k t bs ∷ ctx) n w r =
     let good = after_branch_good k t n w r (choose s (later k) t bs) (λ c. choose s (later k) t (branches_cut t c bs)) (λ m v. choose_good s h (later k) t bs m v) (λ c m v. choose_good s h (later k) t (branches_cut t c bs) m v) in
     grows_on w a.world _ good.grows (unwind_grows s h ctx a.left a.world a.result)
 
-pub has_happened : (g : Game) (cs : List Live) (ws : List Way) (path : Path) (n : ℕ) (w : World) (run : Run) → Stands g cs ws path n w run → Grows w run.world
-has_happened g cs ws path n w run st =
+pub stands_happened : (g : Game) (cs : List Live) (ws : List Way) (path : Path) (n : ℕ) (w : World) (run : Run) → Stands g cs ws path n w run → Grows w run.world
+stands_happened g cs ws path n w run st =
     let a = search g n path w in
     subst (λ (x : Run). Grows w x.world) (sym st.is) (grows_on w a.world _ (search_good g n path w).grows (unwind_grows (search g) (search_good g) st.ctx a.left a.world a.result))
 
-pub has_happened_before : (g : Game) (cs : List Live) (n : ℕ) (w : World) (run : Run) → Failed g cs n w run → Grows w run.world
-has_happened_before g cs n w run st = subst (λ (x : Run). Grows w x.world) (sym st.is) (unwind_grows (search g) (search_good g) st.ctx n w Failing)
+failed_happened : (g : Game) (cs : List Live) (n : ℕ) (w : World) (run : Run) → Failed g cs n w run → Grows w run.world
+failed_happened g cs n w run st = subst (λ (x : Run). Grows w x.world) (sym st.is) (unwind_grows (search g) (search_good g) st.ctx n w Failing)
+
+stopping_happened : (g : Game) (cs : List Live) (ws : List Way) (t n : ℕ) (w : World) (run : Run) → Stopping g cs ws t n w run → Grows w run.world
+stopping_happened g cs ws t n w run st = subst (λ (x : Run). Grows w x.world) (sym st.is) (unwind_grows (search g) (search_good g) st.ctx n w (StopTo t None))
+
+finished_happened : (n : ℕ) (w : World) (result : Result) (run : Run) → Finished n w result run → Grows w run.world
+finished_happened n w result run f = subst (Grows w) (sym (ap (λ (r : Run). r.world) f.is)) (drops_grow w f.world f.drops)
+
+went_happened : (g : Game) (cs : List Live) (ws : List Way) (n : ℕ) (m : Move) (run : Run) → Went g cs ws n m run → Grows (world_at m) run.world
+went_happened g cs ws n (GoesOn path w) run h = stands_happened g cs ws path n w run h
+went_happened g cs ws n (FailsAt w) run h = failed_happened g cs n w run h
+went_happened g cs ws n (EndsAt e w) run h = finished_happened n w (End e) run h
+went_happened g cs ws n (StopsAt t w) run h = stopping_happened g cs ws t n w run h
+
+pub has_happened : (g : Game) (cs : List Live) (ws : List Way) (n : ℕ) (m : Outcome) (run : Run) → After g cs ws n m run → Grows (world_of m) run.world
+has_happened g cs ws n (Moves m) run h = went_happened g cs ws n m run h
+has_happened g cs ws n (Chooses k t b bs w) run h = grows_on w _ run.world (beginning_grows b w) (went_happened g (new_choices k t bs w ws cs) (new_ways k t bs w ws) n (begins b w) run h)
 
 -- ## Marks
 
@@ -98,7 +114,7 @@ passes_back g cs ws steps r n w run st = record {
   choices = st.choices;
 }
 
-pub passes_keep : (g : Game) (cs : List Live) (ws : List Way) (t : ℕ) (x : Term) (env : List Value) (steps : List Step) (r : Registers) (n : ℕ) (w : World) (run : Run) → Stands g cs ws (path_of (Keep t x env ∷ steps) r) n w run → Failed g cs n (kept t (resolved r.bound (value_of g.program env x)) w) run
+pub passes_keep : (g : Game) (cs : List Live) (ws : List Way) (t : ℕ) (x : Term) (env : List Value) (steps : List Step) (r : Registers) (n : ℕ) (w : World) (run : Run) → Stands g cs ws (path_of (Keep t x env ∷ steps) r) n w run → Failed g cs n (kept t (resolved r.bound (value_of g.program env x)) (worked (keeping r (value_of g.program env x)) w)) run
 passes_keep g cs ws t x env steps r n w run st = record {
   ctx = st.ctx;
   is = st.is ∙ ap (unwound (search g) st.ctx) (search_steps g n (path_of (Keep t x env ∷ steps) r) w);
@@ -113,27 +129,28 @@ passes_keep g cs ws t x env steps r n w run st = record {
 open_count : (w : World) (ctx : List Around) → Opens w ctx → length w.gathered ≡ length (gathers ctx)
 open_count w ctx o = sym (length_tags w.gathered) ∙ ap length o
 
-open_is : (k : Kind) (t : ℕ) (b : Branch) (bs : List Branch) (ctx : List Around) (w : World) → Opens w (InBranch k t (b ∷ bs) ∷ ctx) → TakesOut k t (b ∷ bs) → length w.gathered ≡ open_at (b ∷ bs) (length (gathers ctx))
-open_is Gathers t (Enter path work) bs ctx w o h = absurd h
-open_is Gathers t (Clash r work) bs ctx w o h = absurd h
-open_is Gathers t (TakeOut u path) [] ctx w o h = let n = sym (length_tags w.gathered) ∙ ap length o in omega (arith, n)
-open_is Gathers t (TakeOut u path) (b ∷ bs) ctx w o h = absurd h
-open_is Plain t (Enter path work) bs ctx w o h = open_count w ctx o
-open_is Plain t (Clash r work) bs ctx w o h = open_count w ctx o
-open_is Plain t (TakeOut u path) bs ctx w o h = absurd h.0
-open_is (Rules q) t (Enter path work) bs ctx w o h = open_count w ctx o
-open_is (Rules q) t (Clash r work) bs ctx w o h = open_count w ctx o
-open_is (Rules q) t (TakeOut u path) bs ctx w o h = absurd h.0
-open_is Shield t (Enter path work) bs ctx w o h = open_count w ctx o
-open_is Shield t (Clash r work) bs ctx w o h = open_count w ctx o
-open_is Shield t (TakeOut u path) bs ctx w o h = absurd h.0
+kept_open : (others : List Branch) (ctx : List Around) (w : World) → Opens w ctx → KeepGatherings others → length w.gathered ≡ open_at others (length (gathers ctx))
+kept_open [] ctx w o h = open_count w ctx o
+kept_open (Enter path work ∷ bs) ctx w o h = open_count w ctx o
+kept_open (Clash r work ∷ bs) ctx w o h = open_count w ctx o
+kept_open (TakeOut u path ∷ bs) ctx w o h = absurd h.0
 
-fails_to : (g : Game) (ctx : List Around) (n : ℕ) (w : World) (run : Run) → run ≡ unwind (search g) ctx n w Failing → (l : List Live) → Fails (search g) ctx n w l → FailsTo g n w run l
-fails_to g ctx n w run is [] (run_fails v e same) = record { world = v; silently = e; is = is ∙ same }
-fails_to g ctx n w run is (c ∷ cs) (resumes k t b bs at v e same sound o) = record {
+open_is : (k : Kind) (t : ℕ) (others : List Branch) (ctx : List Around) (w : World) → Opens w (InBranch k t others ∷ ctx) → TakesOut k t others → length w.gathered ≡ open_at others (length (gathers ctx))
+open_is Gathers t [] ctx w o h = absurd h
+open_is Gathers t (Enter path work ∷ bs) ctx w o h = absurd h
+open_is Gathers t (Clash r work ∷ bs) ctx w o h = absurd h
+open_is Gathers t (TakeOut u path ∷ []) ctx w o h = let n = sym (length_tags w.gathered) ∙ ap length o in omega (arith, n)
+open_is Gathers t (TakeOut u path ∷ b ∷ bs) ctx w o h = absurd h
+open_is Plain t others ctx w o h = kept_open others ctx w o h
+open_is (Rules q) t others ctx w o h = kept_open others ctx w o h
+open_is Shield t others ctx w o h = kept_open others ctx w o h
+
+fails_to : (g : Game) (ctx : List Around) (n : ℕ) (w : World) (run : Run) → run ≡ unwind (search g) ctx n w Failing → (l : List Live) → FailsIn (search g) ctx n w l → FailsTo g n w run l
+fails_to g ctx n w run is [] (run_fails v e same) = record { world = v; drops = e; is = is ∙ same }
+fails_to g ctx n w run is (c ∷ cs) (resumes k t others at v e same sound o) = record {
   world = v;
-  silently = e;
-  gatherings = open_is k t b bs at v o sound.3;
+  drops = e;
+  gatherings = open_is k t others at v o sound.3;
   resumed = record { kind = k; kind_is = refl; ctx = at; is = is ∙ same; sound = sound; opens = o; height = refl; choices = refl; ways_are = refl };
 }
 
@@ -149,29 +166,29 @@ began g cs ws ctx (TakeOut t path) n w run k is sound o h l e = absurd k
 
 -- what is kept of a choice around
 kept_as : (ctx : List Around) (t height : ℕ) (ways_on : List Way) (cs : List Live) (k : Kind) (bs : List Branch) → length (gathers ctx) ≡ height → ways ctx ≡ ways_on → live ctx ≡ cs →
-    pushed bs (record { kind = k; tag = t; others = bs; height = length (gathers ctx); ways_on = ways ctx }) (live ctx) ≡ pushed bs (record { kind = k; tag = t; others = bs; height = height; ways_on = ways_on }) cs
+    pushed (record { kind = k; tag = t; others = bs; height = length (gathers ctx); ways_on = ways ctx }) (live ctx) ≡ pushed (record { kind = k; tag = t; others = bs; height = height; ways_on = ways_on }) cs
 kept_as ctx t height ways_on cs k bs e f h =
-    ap (λ i. pushed bs (record { kind = k; tag = t; others = bs; height = i; ways_on = ways ctx }) (live ctx)) e
-    ∙ ap (λ x. pushed bs (record { kind = k; tag = t; others = bs; height = height; ways_on = x }) (live ctx)) f
-    ∙ ap (pushed bs (record { kind = k; tag = t; others = bs; height = height; ways_on = ways_on })) h
+    ap (λ i. pushed (record { kind = k; tag = t; others = bs; height = i; ways_on = ways ctx }) (live ctx)) e
+    ∙ ap (λ x. pushed (record { kind = k; tag = t; others = bs; height = height; ways_on = x }) (live ctx)) f
+    ∙ ap (pushed (record { kind = k; tag = t; others = bs; height = height; ways_on = ways_on })) h
 
 -- a later branch keeps gatherings, in a choice whose first branch doesn't gather
 next_plain : (g : Game) (kind : Kind) (t height : ℕ) (ways_on : List Way) (ctx : List Around) (cs : List Live) (b : Branch) (bs : List Branch) (n : ℕ) (w : World) (run : Run) →
     run ≡ unwound (search g) ctx (choose (search g) (later kind) t (b ∷ bs) n w) → Older t ctx → Sound ctx → BranchesIn (InBranch Plain t [] ∷ ctx) (b ∷ bs) → KeepsGathering b → TakesOut (later kind) t bs → Opens (retried (later kind) w) (InBranch (later kind) t bs ∷ ctx) → ways (InBranch (later kind) t bs ∷ ctx) ≡ ways ctx → length (gathers ctx) ≡ height → live ctx ≡ cs → ways ctx ≡ ways_on →
-    Began g (pushed bs (record { kind = later kind; tag = t; others = bs; height = height; ways_on = ways_on }) cs) ways_on b n (retried (later kind) w) run
+    Began g (pushed (record { kind = later kind; tag = t; others = bs; height = height; ways_on = ways_on }) cs) ways_on b n (retried (later kind) w) run
 next_plain g kind t height ways_on ctx cs b bs n w run is older sound inner keeps out o same e choices ways_are =
     began g _ ways_on (InBranch (later kind) t bs ∷ ctx) b n (retried (later kind) w) run keeps
     (is ∙ others_begin (search g) ctx kind t b bs n w)
     (older, sound, inner.1, out)
     o
     (others_in (later kind) t [] bs ctx b inner.0)
-    (ap (λ k. pushed bs (record { kind = k; tag = t; others = bs; height = length (gathers ctx); ways_on = ways ctx }) (live ctx)) (later_twice kind) ∙ kept_as ctx t height ways_on cs (later kind) bs e ways_are choices)
+    (ap (λ k. pushed (record { kind = k; tag = t; others = bs; height = length (gathers ctx); ways_on = ways ctx }) (live ctx)) (later_twice kind) ∙ kept_as ctx t height ways_on cs (later kind) bs e ways_are choices)
     (same ∙ ways_are)
 
 -- the one branch behind a first that gathers takes the gathering out
 next_takes_out : (g : Game) (t height : ℕ) (ways_on : List Way) (ctx : List Around) (cs : List Live) (b : Branch) (bs : List Branch) (n : ℕ) (w : World) (run : Run) →
     run ≡ unwound (search g) ctx (choose (search g) Plain t (b ∷ bs) n w) → Older t ctx → Sound ctx → BranchesIn (InBranch Plain t [] ∷ ctx) (b ∷ bs) → TakesOut Gathers t (b ∷ bs) → Opens w (InBranch Gathers t (b ∷ bs) ∷ ctx) → live ctx ≡ cs → ways ctx ≡ ways_on →
-    Began g (pushed bs (record { kind = Plain; tag = t; others = bs; height = height; ways_on = ways_on }) cs) ways_on b n w run
+    Began g (pushed (record { kind = Plain; tag = t; others = bs; height = height; ways_on = ways_on }) cs) ways_on b n w run
 next_takes_out g t height ways_on ctx cs (Enter path work) bs n w run is older sound inner out o choices ways_are = absurd out
 next_takes_out g t height ways_on ctx cs (Clash r work) bs n w run is older sound inner out o choices ways_are = absurd out
 next_takes_out g t height ways_on ctx cs (TakeOut u path) (b ∷ bs) n w run is older sound inner out o choices ways_are = absurd out
@@ -187,67 +204,106 @@ next_takes_out g t height ways_on ctx cs (TakeOut u path) [] n w run is older so
 
 next : (g : Game) (kind : Kind) (t height : ℕ) (ways_on : List Way) (ctx : List Around) (cs : List Live) (b : Branch) (bs : List Branch) (n : ℕ) (w : World) (run : Run) →
     run ≡ unwound (search g) ctx (choose (search g) (later kind) t (b ∷ bs) n w) → Sound (InBranch kind t (b ∷ bs) ∷ ctx) → Opens w (InBranch kind t (b ∷ bs) ∷ ctx) → length (gathers ctx) ≡ height → live ctx ≡ cs → ways ctx ≡ ways_on →
-    Began g (pushed bs (record { kind = later kind; tag = t; others = bs; height = height; ways_on = ways_on }) cs) ways_on b n (retried (later kind) w) run
+    Began g (pushed (record { kind = later kind; tag = t; others = bs; height = height; ways_on = ways_on }) cs) ways_on b n (retried (later kind) w) run
 next g Plain t height ways_on ctx cs b bs n w run is sound o e choices ways_are = next_plain g Plain t height ways_on ctx cs b bs n w run is sound.0 sound.1 sound.2 sound.3.0 sound.3.1 o refl e choices ways_are
 next g (Rules q) t height ways_on ctx cs b bs n w run is sound o e choices ways_are = next_plain g (Rules q) t height ways_on ctx cs b bs n w run is sound.0 sound.1 sound.2 sound.3.0 sound.3.1 o refl e choices ways_are
 next g Shield t height ways_on ctx cs b bs n w run is sound o e choices ways_are = next_plain g Shield t height ways_on ctx cs b bs n w run is sound.0 sound.1 sound.2 sound.3.0 sound.3.1 o refl e choices ways_are
 next g Gathers t height ways_on ctx cs b bs n w run is sound o e choices ways_are = next_takes_out g t height ways_on ctx cs b bs n w run is sound.0 sound.1 sound.2 sound.3 o choices ways_are
 
-pub begins_next : (g : Game) (c : Live) (cs : List Live) (b : Branch) (bs : List Branch) (n : ℕ) (w : World) (run : Run) → c.others ≡ b ∷ bs → Resumed g c cs n w run → Began g (pushed bs (record c { others = bs }) cs) c.ways_on b n (retried c.kind w) run
+begins_next : (g : Game) (c : Live) (cs : List Live) (b : Branch) (bs : List Branch) (n : ℕ) (w : World) (run : Run) → c.others ≡ b ∷ bs → Resumed g c cs n w run → Began g (pushed (record c { others = bs }) cs) c.ways_on b n (retried c.kind w) run
 begins_next g c cs b bs n w run e s =
-    subst (λ k. Began g (pushed bs (record { kind = k; tag = c.tag; others = bs; height = c.height; ways_on = c.ways_on }) cs) c.ways_on b n (retried k w) run) s.kind_is
+    subst (λ k. Began g (pushed (record { kind = k; tag = c.tag; others = bs; height = c.height; ways_on = c.ways_on }) cs) c.ways_on b n (retried k w) run) s.kind_is
     (next g s.kind c.tag c.height c.ways_on s.ctx cs b bs n w run
     (subst (λ l. run ≡ unwound (search g) s.ctx (choose (search g) (later s.kind) c.tag l n w)) e (subst (λ k. run ≡ unwound (search g) s.ctx (choose (search g) k c.tag c.others n w)) (sym s.kind_is) s.is))
     (subst (λ l. Sound (InBranch s.kind c.tag l ∷ s.ctx)) e s.sound) (subst (λ l. Opens w (InBranch s.kind c.tag l ∷ s.ctx)) e s.opens) s.height s.choices s.ways_are)
+
+-- no branch is left
+spends : (g : Game) (c : Live) (cs : List Live) (n : ℕ) (w : World) (run : Run) → c.others ≡ [] → Resumed g c cs n w run → Failed g cs n (exhausted c.kind w) run
+spends g c cs n w run none s = record {
+  ctx = s.ctx;
+  is = s.is ∙ ap (λ l. unwound (search g) s.ctx (choose (search g) c.kind c.tag l n w)) none;
+  sound = s.sound.1;
+  opens = opens_exhausted c.kind s.ctx w (opens_outside s.kind c.tag s.ctx w (subst (TakesOut s.kind c.tag) none s.sound.3) (subst (λ l. Opens w (InBranch s.kind c.tag l ∷ s.ctx)) none s.opens));
+  choices = s.choices;
+}
+
+tries_from : (g : Game) (c : Live) (cs : List Live) (n : ℕ) (w : World) (run : Run) → Resumed g c cs n w run → (bs : List Branch) → c.others ≡ bs → Tried g c.kind c.tag c.height c.ways_on cs bs n (tried_in c.kind bs w) run
+tries_from g c cs n w run s [] e = spends g c cs n w run e s
+tries_from g c cs n w run s (b ∷ bs) e = begins_next g c cs b bs n w run e s
+
+pub tries : (g : Game) (c : Live) (cs : List Live) (n : ℕ) (w : World) (run : Run) → Resumed g c cs n w run → Tried g c.kind c.tag c.height c.ways_on cs c.others n (tried_in c.kind c.others w) run
+tries g c cs n w run s = tries_from g c cs n w run s c.others refl
 
 -- ## A goal
 
 -- the run has ended
 ends : (s : Search) (ctx : List Around) (n : ℕ) (w : World) (e : _) (run : Run) → Opens w ctx → run ≡ unwind s ctx n w (End e) → Finished n w (End e) run
-ends s [] n w e run o is = record { world = w; silently = silently_here w; is = is }
+ends s [] n w e run o is = record { world = w; drops = drops_nothing w; is = is }
 ends s (InCut t ∷ ctx) n w e run o is = ends s ctx n w e run o is
 ends s (InBranch k t bs ∷ ctx) n w e run o is =
     let left = leaving k t bs w ctx o in
     let rest = ends s ctx n (leave k t w) e run left.opens is in
-    record { world = rest.world; silently = silently_on w (leave k t w) rest.world left.silently rest.silently; is = rest.is }
+    record { world = rest.world; drops = drops_on w (leave k t w) rest.world left.drops rest.drops; is = rest.is }
 
--- the gatherings that are open behind a move
-abbrev MoveOpens : List Around → Move → Type 0
-MoveOpens ctx (Chooses k t b bs w) = Opens w (InBranch k t bs ∷ ctx)
-MoveOpens ctx m = Opens (world_of m) ctx
+-- the gatherings that are open behind a goal
+abbrev OutcomeOpens : List Around → Outcome → Type 0
+OutcomeOpens ctx (Moves m) = Opens (world_at m) ctx
+OutcomeOpens ctx (Chooses k t b bs w) = Opens w (InBranch k t bs ∷ ctx)
 
-choice_opens : (ctx : List Around) (t : ℕ) (bs : List Branch) (w : World) → Opens w ctx → MoveOpens ctx (choice Plain t bs w)
-choice_opens ctx t [] w o = o
-choice_opens ctx t (b ∷ bs) w o = o
-
-rules_open : (ctx : List Around) (q t : ℕ) (bs : List Branch) (w : World) → Opens w ctx → MoveOpens ctx (choice (Rules q) t bs w)
-rules_open ctx q t [] w o = o
-rules_open ctx q t (b ∷ bs) w o = o
-
-stop_opens : (ctx : List Around) (s : Option ℕ) (w : World) → Opens w ctx → MoveOpens ctx (stop s w)
+stop_opens : (ctx : List Around) (s : Option ℕ) (w : World) → Opens w ctx → Opens (world_at (stop s w)) ctx
 stop_opens ctx None w o = o
 stop_opens ctx (Some s) w o = o
 
-goes_on_opens : (ctx : List Around) (b : Bool) (steps : List Step) (r : Registers) (w : World) → Opens w ctx → MoveOpens ctx (goes_on_if b steps r w)
+goes_on_opens : (ctx : List Around) (b : Bool) (steps : List Step) (r : Registers) (w : World) → Opens w ctx → Opens (world_at (goes_on_if b steps r w)) ctx
 goes_on_opens ctx true steps r w o = o
 goes_on_opens ctx false steps r w o = o
+
+act_opens : (ctx : List Around) (steps : List Step) (r : Registers) (a : Act) → Opens (world_in a) ctx → Opens (world_at (move_of steps r a)) ctx
+act_opens ctx steps r (Goes next w) o = o
+act_opens ctx steps r (Tests passed w) o = goes_on_opens ctx passed steps r w o
+act_opens ctx steps r (Unifies made a b w) o = goes_on_opens ctx _ steps _ _ o
+act_opens ctx steps r (Ends e w) o = o
+act_opens ctx steps r (Fails w) o = o
+act_opens ctx steps r (Stops w) o = stop_opens ctx r.stoppable w o
+
+-- a choice that gathers has opened its gathering
+abbrev OffersIn : List Around → Kind → ℕ → World → Type 0
+OffersIn ctx Gathers t w = tags_of w.gathered ≡ t ∷ gathers ctx
+OffersIn ctx k t w = Opens w ctx
+
+abbrev EffectOpens : List Around → ℕ → Effect → Type 0
+EffectOpens ctx t (Acts a) = Opens (world_in a) ctx
+EffectOpens ctx t (Offers Gathers [] w) = ⊥
+EffectOpens ctx t (Offers k bs w) = OffersIn ctx k t w
+
+choice_opens : (ctx : List Around) (k : Kind) (t : ℕ) (bs : List Branch) (w : World) → EffectOpens ctx t (Offers k bs w) → OutcomeOpens ctx (choice k t bs w)
+choice_opens ctx Plain t [] w o = o
+choice_opens ctx (Rules q) t [] w o = o
+choice_opens ctx Shield t [] w o = o
+choice_opens ctx Gathers t [] w o = absurd o
+choice_opens ctx Plain t (b ∷ bs) w o = o
+choice_opens ctx (Rules q) t (b ∷ bs) w o = o
+choice_opens ctx Shield t (b ∷ bs) w o = o
+choice_opens ctx Gathers t (b ∷ bs) w o = o
+
+outcome_opens : (ctx : List Around) (steps : List Step) (r : Registers) (e : Effect) → EffectOpens ctx r.next_tag e → OutcomeOpens ctx (outcome_of steps r e)
+outcome_opens ctx steps r (Acts a) o = act_opens ctx steps r a o
+outcome_opens ctx steps r (Offers k bs w) o = choice_opens ctx k r.next_tag bs w o
 
 printed_opens : (ctx : List Around) (pieces : List (List ℕ)) (w : World) → Opens w ctx → Opens (all_printed pieces w) ctx
 printed_opens ctx [] w o = o
 printed_opens ctx (piece ∷ pieces) w o = printed_opens ctx pieces (printed (Piece piece) w) o
 
-outcome_opens : (g : Game) (ctx : List Around) (x : Goal-F Goal) (env : List Value) (t : ℕ) (steps : List Step) (r : Registers) (w : World) → Opens w ctx → MoveOpens ctx (outcome g x env t steps r w)
-outcome_opens g ctx (Print-Form a) env t steps r w o = printed_opens ctx (pieces g.program (resolved r.bound (value_of g.program env a))) (worked (whole_looks r (value_of g.program env a)) w) o
-outcome_opens g ctx (Equal a b) env t steps r w o = goes_on_opens ctx _ steps _ _ o
-outcome_opens g ctx (Ask pred args many) env t steps r w o = rules_open ctx pred r.next_tag _ (noted (Asked pred) w) o
-outcome_opens g ctx (Either lists) env t steps r w o = choice_opens ctx r.next_tag (list_branches env t steps r lists) w o
-outcome_opens g ctx Stop env t steps r w o = stop_opens ctx r.stoppable w o
-outcome_opens g ctx (Collect term goals into) env t steps r w o = ap (λ l. r.next_tag ∷ l) o
-outcome_opens g ctx (Test kind a) env t steps r w o = goes_on_opens ctx _ steps r _ o
-outcome_opens g ctx _ env t steps r w o = o
+effect_opens : (g : Game) (ctx : List Around) (x : Goal-F Goal) (env : List Value) (t : ℕ) (steps : List Step) (r : Registers) (w : World) → Opens w ctx → EffectOpens ctx r.next_tag (effect g x env t steps r w)
+effect_opens g ctx (Print-Form a) env t steps r w o = printed_opens ctx (pieces g.program (resolved r.bound (value_of g.program env a))) (worked (whole_looks r (value_of g.program env a)) w) o
+effect_opens g ctx (Collect term goals into) env t steps r w o = ap (λ l. r.next_tag ∷ l) o
+effect_opens g ctx _ env t steps r w o = o
 
-move_opens : (g : Game) (ctx : List Around) (x : Goal-F Goal) (env : List Value) (t : ℕ) (steps : List Step) (r : Registers) (w : World) → Opens w ctx → MoveOpens ctx (move g x env t steps r w)
-move_opens g ctx x env t steps r w o = outcome_opens g ctx x env t steps (behind_terms g x r) (begun (behind_terms g x r) (writing g.program (terms_held x)) w) o
+move_opens : (g : Game) (ctx : List Around) (x : Goal-F Goal) (env : List Value) (t : ℕ) (steps : List Step) (r : Registers) (w : World) → Opens w ctx → OutcomeOpens ctx (move g x env t steps r w)
+move_opens g ctx x env t steps r w o =
+    let s = behind_terms g x r in
+    let v = begun s (writing (terms_held x)) w in
+    outcome_opens ctx steps s (effect g x env t steps s v) (effect_opens g ctx x env t steps s v o)
 
 -- how many gatherings are open outside a choice
 outside_is : (k : Kind) (t : ℕ) (bs : List Branch) (ctx : List Around) (w : World) → Opens w (InBranch k t bs ∷ ctx) → length (gathers ctx) ≡ open_outside k w
@@ -264,11 +320,14 @@ ways_new Shield t bs ctx w ws o e =
     ap (λ n. record { tag = t; others = bs; height = n } ∷ ways ctx) (sym (open_count w ctx o))
     ∙ ap (λ l. record { tag = t; others = bs; height = length w.gathered } ∷ l) e
 
-after : (g : Game) (cs : List Live) (ws : List Way) (n : ℕ) (run : Run) (ctx : List Around) → Sound ctx → live ctx ≡ cs → ways ctx ≡ ws → (m : Move) → MoveIn ctx m → run ≡ unwound (search g) ctx (after_move (search g) n m) → MoveOpens ctx m → After g cs ws n m run
-after g cs ws n run ctx sound choices ways_are (GoesOn path w) h is o = record { ctx = ctx; is = is; sound = sound; opens = o; inner = h; choices = choices; ways_are = ways_are }
-after g cs ws n run ctx sound choices ways_are (FailsAt w) h is o = record { ctx = ctx; is = is; sound = sound; opens = o; choices = choices }
-after g cs ws n run ctx sound choices ways_are (EndsAt e w) h is o = ends (search g) ctx n w e run o is
-after g cs ws n run ctx sound choices ways_are (StopsAt s w) h is o = record { ctx = ctx; is = is; sound = sound; opens = o; shielded = h; choices = choices; ways_are = ways_are }
+went : (g : Game) (cs : List Live) (ws : List Way) (n : ℕ) (run : Run) (ctx : List Around) → Sound ctx → live ctx ≡ cs → ways ctx ≡ ws → (m : Move) → MoveIn ctx m → run ≡ unwound (search g) ctx (after_move (search g) n m) → Opens (world_at m) ctx → Went g cs ws n m run
+went g cs ws n run ctx sound choices ways_are (GoesOn path w) h is o = record { ctx = ctx; is = is; sound = sound; opens = o; inner = h; choices = choices; ways_are = ways_are }
+went g cs ws n run ctx sound choices ways_are (FailsAt w) h is o = record { ctx = ctx; is = is; sound = sound; opens = o; choices = choices }
+went g cs ws n run ctx sound choices ways_are (EndsAt e w) h is o = ends (search g) ctx n w e run o is
+went g cs ws n run ctx sound choices ways_are (StopsAt s w) h is o = record { ctx = ctx; is = is; sound = sound; opens = o; shielded = h; choices = choices; ways_are = ways_are }
+
+after : (g : Game) (cs : List Live) (ws : List Way) (n : ℕ) (run : Run) (ctx : List Around) → Sound ctx → live ctx ≡ cs → ways ctx ≡ ws → (m : Outcome) → OutcomeIn ctx m → run ≡ unwound (search g) ctx (after_goal (search g) n m) → OutcomeOpens ctx m → After g cs ws n m run
+after g cs ws n run ctx sound choices ways_are (Moves m) h is o = went g cs ws n run ctx sound choices ways_are m h is o
 after g cs ws n run ctx sound choices ways_are (Chooses k t b bs w) h is o =
     began g _ _ (InBranch k t bs ∷ ctx) b n w run h.3 is (h.0, sound, h.2, h.4) o h.1
     (kept_as ctx t (open_outside k w) ws cs (later k) bs (outside_is k t bs ctx w o) ways_are choices) (ways_new k t bs ctx w ws o ways_are)
@@ -313,7 +372,7 @@ cut_bound t (Some c) path h =
     cond_both (nat_lt c t) (Cut c ∷ path.steps) path.steps (λ (l : List Step). IsBound (record path { steps = l }))
     (λ e. record { sound = h.sound; bindings = h.bindings; steps = omega (arith, h.steps) }) (λ e. h)
 
-module _ (g : Game) (n : ℕ) (w : World) (s : ℕ) (run : Run) (ctx : List Around) (i : Stops (search g) ctx n w s None) (is : run ≡ unwind (search g) ctx n w (StopTo s None)) (path : Path) (work : ℕ) (only : i.others ≡ Enter path work ∷ []) where
+module _ (g : Game) (n : ℕ) (w : World) (s : ℕ) (run : Run) (ctx : List Around) (i : StopsIn (search g) ctx n w s None) (is : run ≡ unwind (search g) ctx n w (StopTo s None)) (path : Path) (work : ℕ) (only : i.others ≡ Enter path work ∷ []) where
   abbrev on : Path
   on = record path { steps = cut_first s i.cut path.steps }
 
@@ -342,7 +401,7 @@ stops_on g cs ws s n w run st =
       outer = ways i.at;
       is = ap (way_to s) (sym st.ways_are) ∙ i.way;
       world = i.world;
-      silently = i.silently;
+      drops = i.drops;
       gatherings = open_count i.world i.at i.opens;
       stands = λ path work only. subst (λ l. Stands g (cut_to s l) (ways i.at) path n (begun path.registers work i.world) run) st.choices (way_on g n w s run st.ctx i st.is path work only);
     }
@@ -355,11 +414,11 @@ in_first s n w (CutFail u) = cond_both (eqb u 0) Failing (CutFail u) (λ x. run_
 in_first s n w (StopTo t c) = refl
 in_first s n w (End e) = refl
 
-pub starts : (g : Game) (typed : List ℕ) (n : ℕ) → Stands g [] [] (start_path g) n (start_world typed) (run g typed n)
+pub starts : (g : Game) (typed : List ℕ) (n : ℕ) → Stands g [] [] (start_path g) n (start_world g typed) (run g typed n)
 unfolding run
 starts g typed n = record {
   ctx = InBranch Plain 0 [] ∷ [];
-  is = let a = search g n (start_path g) (start_world typed) in in_first (search g) a.left a.world a.result;
+  is = let a = search g n (start_path g) (start_world g typed) in in_first (search g) a.left a.world a.result;
   sound = (tt, tt, tt, tt);
   opens = refl;
   inner = record { steps = (inl refl, tt); stop = tt; newer = (omega arith, tt); bound = binds_along.starts g };
@@ -371,7 +430,6 @@ pub keeps : Keeps
 keeps = record {
   starts = starts;
   has_happened = has_happened;
-  has_happened_before = has_happened_before;
   is_bound = λ g cs ws path n w run st. st.inner.bound;
   passes_answer = passes_answer;
   passes_cut = passes_cut;
@@ -380,7 +438,7 @@ keeps = record {
   passes_keep = passes_keep;
   passes_back = passes_back;
   fails = failed;
-  begins_next = begins_next;
+  tries = tries;
   takes = takes;
   limited = limited;
   done = done;

@@ -8,7 +8,7 @@ pub mod Spellings
 pub mod WorkedValues
 pub mod OneRun
 pub mod Search
-pub mod Silently
+pub mod Dropping
 pub mod Context
 pub mod Bindings
 pub mod Tags

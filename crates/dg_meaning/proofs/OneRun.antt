@@ -17,7 +17,7 @@ begins_on xs ys zs a b = record { behind = a.behind ++ b.behind; is = b.is ∙ a
 ends_on : {A : Type 0} (xs ys zs : List A) → EndsWith xs ys → EndsWith ys zs → EndsWith xs zs
 ends_on xs ys zs a b = record { taken = a.taken ++ b.taken; is = a.is ∙ ap (λ l. a.taken ++ l) b.is ∙ sym (append_assoc a.taken b.taken zs) }
 
-meters_same : (m : Meters) → MetersGrow m m
+pub meters_same : (m : Meters) → MetersGrow m m
 meters_same m = record { heap = omega arith; trail = omega arith; aux = omega arith; keep = omega arith; work = omega arith }
 
 pub grows_same : (w : World) → Grows w w

@@ -1,22 +1,22 @@
 -- The laws of the search: what it adds to the world, its equation, and that a larger budget goes on with the same run.
-use Rattle.std.proofs.Common.{◌≡◌, ℕ, zero, suc, ◌+◌, ◌<◌, ◌≤◌, ◌⊎◌, inl, inr, List, [], ◌∷◌, Option, Some, None, Bool, true, false, refl, sym, ap, ◌∙◌, subst, arith, length}
-use Rattle.std.specs.Prelude.{◌*◌, if◌then◌else◌}
+use Rattle.std.proofs.Common.{◌≡◌, ℕ, zero, suc, ◌+◌, ◌<◌, ◌≤◌, ◌⊎◌, inl, inr, List, [], ◌∷◌, Option, Some, None, Bool, true, false, refl, sym, ap, ◌∙◌, subst, arith, length, map}
+use Rattle.std.specs.Prelude.{if◌then◌else◌}
 use Rattle.dg_base.specs.declared.program.Goal.{Goal, Goal-F, out-Goal}
-use Rattle.dg_base.specs.declared.program.Goal.TheOpen.{Text, Print as Print-Form, Gap, Equal, Ask, Either, Stop, Collect, Test}
+use Rattle.dg_base.specs.declared.program.Goal.TheOpen.{Text, Print as Print-Form, Gap, Ask, Collect, Test}
 use Rattle.dg_base.specs.declared.run.Ending.TheVariants.{StepLimit}
 use Rattle.dg_base.specs.Goals.{terms_held}
 use Rattle.dg_meaning.specs.Values.{Value, value_of}
 use Rattle.dg_meaning.specs.Substitutions.{resolved}
-use Rattle.dg_meaning.specs.Unify.{Unified}
+use Rattle.dg_meaning.specs.Unify.{unify}
 use Rattle.dg_meaning.specs.World.{Game, World, Answered, Asked, noted, worked, kept, dropped}
 use Rattle.dg_meaning.specs.Cells.{writing}
 use Rattle.dg_meaning.specs.Pieces.{pieces}
-use Rattle.dg_meaning.specs.Path.{Step, Do, Answers, Cut, Refuse, Back, Keep, Leave, Registers, Path, Result, Failing, CutFail, StopTo, End, Answer, Branch, Enter, Clash, TakeOut, Kind, Plain, Rules, Shield, Gathers, Move, GoesOn, FailsAt, EndsAt, StopsAt, Chooses}
-use Rattle.dg_meaning.specs.Moves.{exhausted, begun, bound_by, made_since, list_branches, choice, goes_on_if, ask, unified, whole_looks, print, stop, outcome, behind_terms, move}
-use Rattle.dg_meaning.specs.Search.{Search, answer, cut_result, cut, later, retried, leave, catches, after_branch, begin, branches_cut, choose, choose_first, after_move, take_goal, go, nowhere, search_to, search}
+use Rattle.dg_meaning.specs.Path.{Step, Do, Answers, Cut, Refuse, Back, Keep, Leave, Registers, Path, Result, Failing, CutFail, StopTo, End, Answer, Branch, Enter, Clash, TakeOut, Kind, Plain, Rules, Shield, Gathers, Move, GoesOn, FailsAt, EndsAt, StopsAt, Outcome, Moves, Chooses, Act, Goes, Tests, Unifies, Ends, Fails, Stops, Effect, Acts, Offers}
+use Rattle.dg_meaning.specs.Moves.{exhausted, begun, bound_by, made_since, choice, goes_on_if, unifying, stop, move_of, taking_out, begins, first_looks, whole_looks, keeping, effect, outcome_of, outcome, behind_terms, move}
+use Rattle.dg_meaning.specs.Search.{Search, answer, cut_result, cut, later, retried, leave, catches, after_branch, begin, branches_cut, choose, choose_first, after_move, after_goal, take_goal, go, nowhere, search_to, search}
 use Rattle.dg_meaning.specs.Transcript.{ending_of, run_of, start_world, start_path, run}
 use Rattle.dg_meaning.specs.OneRun.{Grows, GoesOnFrom}
-use Rattle.dg_meaning.specs.Keeps.{world_of}
+use Rattle.dg_meaning.specs.Keeps.{world_at, world_of}
 use Rattle.dg_meaning.proofs.OneRun.{grows_same, grows_on, noted_grows, worked_grows, begun_grows, printed_grows, all_printed_grows, dropped_grows, opened_grows, kept_grows, exhausted_grows, retried_grows, leave_grows}
 
 -- ## Worlds only grow, and budgets only fall
@@ -47,12 +47,19 @@ after_branch_good k t n w (StopTo s c) next stopped g h =
     elim (catches k t s) as (λ b. Good n w (if b then stopped c n w else answer n (leave k t w) (StopTo s c))) [ true ↦ h c n w | false ↦ good_at n w (leave k t w) _ (leave_grows k t w) ]
 after_branch_good k t n w (End e) next stopped g h = good_at n w (leave k t w) _ (leave_grows k t w)
 
+pub beginning_grows : (b : Branch) (w : World) → Grows w (world_at (begins b w))
+beginning_grows (Enter path work) w = begun_grows path.registers work w
+beginning_grows (Clash r work) w = begun_grows r work w
+beginning_grows (TakeOut t path) w = grows_on w (dropped t w) _ (dropped_grows t w) (begun_grows path.registers (taking_out t w.gathered) (dropped t w))
+
+after_move_good : (s : Search) → IsGood s → (n : ℕ) (m : Move) → Good n (world_at m) (after_move s n m)
+after_move_good s g n (GoesOn path w) = g n path w
+after_move_good s g n (FailsAt w) = good_here n w _
+after_move_good s g n (EndsAt e w) = good_here n w _
+after_move_good s g n (StopsAt t w) = good_here n w _
+
 begin_good : (s : Search) → IsGood s → (b : Branch) (n : ℕ) (w : World) → Good n w (begin s b n w)
-begin_good s g (Enter path work) n w = good_on n n w (begun path.registers work w) _ (omega arith) (begun_grows path.registers work w) (g n path (begun path.registers work w))
-begin_good s g (Clash r work) n w = good_at n w (begun r work w) _ (begun_grows r work w)
-begin_good s g (TakeOut t path) n w =
-    let v = begun path.registers 0 (dropped t w) in
-    good_on n n w v _ (omega arith) (grows_on w (dropped t w) v (dropped_grows t w) (begun_grows path.registers 0 (dropped t w))) (g n path v)
+begin_good s g b n w = good_on n n w (world_at (begins b w)) _ (omega arith) (beginning_grows b w) (after_move_good s g n (begins b w))
 
 pub choose_good : (s : Search) → IsGood s → (k : Kind) (t : ℕ) (bs : List Branch) (n : ℕ) (w : World) → Good n w (choose s k t bs n w)
 choose_good s g k t [] n w = good_at n w (exhausted k w) _ (exhausted_grows k w)
@@ -69,59 +76,79 @@ choose_first_good s g k t b bs n w =
     good_on n a.left w a.world _ h.left h.grows
     (after_branch_good k t a.left a.world a.result (choose s (later k) t bs) (λ c. choose s (later k) t (branches_cut t c bs)) (λ m v. choose_good s g (later k) t bs m v) (λ c m v. choose_good s g (later k) t (branches_cut t c bs) m v))
 
-choice_grows : (k : Kind) (t : ℕ) (bs : List Branch) (w : World) → Grows w (world_of (choice k t bs w))
-choice_grows k t [] w = exhausted_grows k w
-choice_grows k t (b ∷ bs) w = grows_same w
+-- ## What comes of a goal
 
-stop_grows : (o : Option ℕ) (w : World) → Grows w (world_of (stop o w))
-stop_grows None w = grows_same w
-stop_grows (Some s) w = grows_same w
-
-ask_grows : (g : Game) (pred : ℕ) (args : List Value) (many : Bool) (steps : List Step) (r : Registers) (w : World) → Grows w (world_of (ask g pred args many steps r w))
-ask_grows g pred args many steps r w = grows_on w (noted (Asked pred) w) _ (noted_grows (Asked pred) w) (choice_grows (Rules pred) r.next_tag _ (noted (Asked pred) w))
-
-goes_on_grows : (b : Bool) (steps : List Step) (r : Registers) (w v : World) → Grows w v → Grows w (world_of (goes_on_if b steps r v))
+goes_on_grows : (b : Bool) (steps : List Step) (r : Registers) (w v : World) → Grows w v → Grows w (world_at (goes_on_if b steps r v))
 goes_on_grows true steps r w v h = h
 goes_on_grows false steps r w v h = h
 
-unified_grows : (u : Unified) (steps : List Step) (r : Registers) (w : World) → Grows w (world_of (unified u steps r w))
-unified_grows u steps r w =
-    let r' = bound_by u (length (made_since r.bound u.subst)) r in
-    goes_on_grows u.agrees steps r' w (begun r' (2 * u.count) w) (begun_grows r' (2 * u.count) w)
+stop_grows : (o : Option ℕ) (w v : World) → Grows w v → Grows w (world_at (stop o v))
+stop_grows None w v h = h
+stop_grows (Some s) w v h = h
 
-print_grows : (g : Game) (v : Value) (steps : List Step) (r : Registers) (w : World) → Grows w (world_of (print g v steps r w))
-print_grows g v steps r w =
+-- the world in which something is done at once
+abbrev pub world_in : Act → World
+world_in (Goes steps w) = w
+world_in (Tests passed w) = w
+world_in (Unifies made a b w) = w
+world_in (Ends e w) = w
+world_in (Fails w) = w
+world_in (Stops w) = w
+
+act_grows : (steps : List Step) (r : Registers) (a : Act) (w : World) → Grows w (world_in a) → Grows w (world_at (move_of steps r a))
+act_grows steps r (Goes next v) w h = h
+act_grows steps r (Tests passed v) w h = goes_on_grows passed steps r w v h
+act_grows steps r (Unifies made a b v) w h =
+    let u = unify made.bound a b in
+    let r' = bound_by u (length (made_since made.bound u.subst)) made in
+    goes_on_grows u.agrees steps r' w _ (grows_on w v _ h (begun_grows r' (unifying made.bound ((a, b) ∷ [])) v))
+act_grows steps r (Ends e v) w h = h
+act_grows steps r (Fails v) w h = h
+act_grows steps r (Stops v) w h = stop_grows r.stoppable w v h
+
+choice_grows : (k : Kind) (t : ℕ) (bs : List Branch) (w v : World) → Grows w v → Grows w (world_of (choice k t bs v))
+choice_grows k t [] w v h = grows_on w v _ h (exhausted_grows k v)
+choice_grows k t (b ∷ bs) w v h = h
+
+-- the world in which a goal has its effect
+abbrev world_for : Effect → World
+world_for (Acts a) = world_in a
+world_for (Offers k bs w) = w
+
+outcome_of_grows : (steps : List Step) (r : Registers) (e : Effect) (w : World) → Grows w (world_for e) → Grows w (world_of (outcome_of steps r e))
+outcome_of_grows steps r (Acts a) w h = act_grows steps r a w h
+outcome_of_grows steps r (Offers k bs v) w h = choice_grows k r.next_tag bs w v h
+
+effect_grows : (g : Game) (x : Goal-F Goal) (env : List Value) (t : ℕ) (steps : List Step) (r : Registers) (w : World) → Grows w (world_for (effect g x env t steps r w))
+effect_grows g (Text name) env t steps r w = printed_grows _ w
+effect_grows g (Print-Form a) env t steps r w =
+    let v = value_of g.program env a in
     let u = worked (whole_looks r v) w in
     grows_on w u _ (worked_grows (whole_looks r v) w) (all_printed_grows (pieces g.program (resolved r.bound v)) u)
+effect_grows g (Gap kind) env t steps r w = printed_grows _ w
+effect_grows g (Ask pred args many) env t steps r w =
+    let v = worked (first_looks r (map (value_of g.program env) args)) w in
+    grows_on w v (noted (Asked pred) v) (worked_grows _ w) (noted_grows (Asked pred) v)
+effect_grows g (Collect term goals into) env t steps r w = opened_grows r.next_tag w
+effect_grows g (Test kind a) env t steps r w = worked_grows _ w
+effect_grows g _ env t steps r w = grows_same w
 
 pub outcome_grows : (g : Game) (x : Goal-F Goal) (env : List Value) (t : ℕ) (steps : List Step) (r : Registers) (w : World) → Grows w (world_of (outcome g x env t steps r w))
-outcome_grows g (Text name) env t steps r w = printed_grows _ w
-outcome_grows g (Print-Form a) env t steps r w = print_grows g _ steps r w
-outcome_grows g (Gap kind) env t steps r w = printed_grows _ w
-outcome_grows g (Equal a b) env t steps r w = unified_grows _ steps r w
-outcome_grows g (Ask pred args many) env t steps r w = ask_grows g pred _ many steps r w
-outcome_grows g (Either lists) env t steps r w = choice_grows Plain r.next_tag (list_branches env t steps r lists) w
-outcome_grows g Stop env t steps r w = stop_grows r.stoppable w
-outcome_grows g (Collect term goals into) env t steps r w = opened_grows r.next_tag w
-outcome_grows g (Test kind a) env t steps r w = goes_on_grows _ steps r w _ (worked_grows _ w)
-outcome_grows g _ env t steps r w = grows_same w
+outcome_grows g x env t steps r w = outcome_of_grows steps r (effect g x env t steps r w) w (effect_grows g x env t steps r w)
 
 pub move_grows : (g : Game) (x : Goal-F Goal) (env : List Value) (t : ℕ) (steps : List Step) (r : Registers) (w : World) → Grows w (world_of (move g x env t steps r w))
 move_grows g x env t steps r w =
     let r' = behind_terms g x r in
-    let v = begun r' (writing g.program (terms_held x)) w in
-    grows_on w v _ (begun_grows r' (writing g.program (terms_held x)) w) (outcome_grows g x env t steps r' v)
+    let v = begun r' (writing (terms_held x)) w in
+    grows_on w v _ (begun_grows r' (writing (terms_held x)) w) (outcome_grows g x env t steps r' v)
 
-after_move_good : (s : Search) → IsGood s → (n : ℕ) (m : Move) → Good n (world_of m) (after_move s n m)
-after_move_good s g n (GoesOn path w) = g n path w
-after_move_good s g n (FailsAt w) = good_here n w _
-after_move_good s g n (EndsAt e w) = good_here n w _
-after_move_good s g n (StopsAt t w) = good_here n w _
-after_move_good s g n (Chooses k t b bs w) = choose_first_good s g k t b bs n w
+after_goal_good : (s : Search) → IsGood s → (n : ℕ) (m : Outcome) → Good n (world_of m) (after_goal s n m)
+after_goal_good s g n (Moves m) = after_move_good s g n m
+after_goal_good s g n (Chooses k t b bs w) = choose_first_good s g k t b bs n w
 
-take_goal_good : (s : Search) → IsGood s → (n : ℕ) (m : Move) (w : World) → Grows w (world_of m) → Good n w (take_goal s n m w)
+take_goal_good : (s : Search) → IsGood s → (n : ℕ) (m : Outcome) (w : World) → Grows w (world_of m) → Good n w (take_goal s n m w)
 take_goal_good s g zero m w b = good_here zero w _
-take_goal_good s g (suc n) m w b = good_on (suc n) n w (world_of m) _ (omega arith) b (after_move_good s g n m)
+take_goal_good s g (suc n) m w b = good_on (suc n) n w (world_of m) _ (omega arith) b (after_goal_good s g n m)
 
 -- a goal that is taken is work
 taken_grows : (g : Game) (x : Goal) (env : List Value) (t : ℕ) (steps : List Step) (r : Registers) (w : World) → Grows w (world_of (move g (out-Goal x) env t steps r (worked 1 w)))
@@ -137,7 +164,7 @@ go_good g s h n (Answers q ∷ steps) r w = good_on n n w (noted (Answered q) w)
 go_good g s h n (Cut t ∷ steps) r w = cut_good t n w _ (go_good g s h n steps r w)
 go_good g s h n (Refuse t ∷ steps) r w = good_here n w _
 go_good g s h n (Back ∷ steps) r w = good_here n w _
-go_good g s h n (Keep t x env ∷ steps) r w = let v = resolved r.bound (value_of g.program env x) in good_at n w (kept t v w) _ (kept_grows t v w)
+go_good g s h n (Keep t x env ∷ steps) r w = let v = value_of g.program env x in let u = worked (keeping r v) w in good_at n w (kept t (resolved r.bound v) u) _ (grows_on w u _ (worked_grows (keeping r v) w) (kept_grows t (resolved r.bound v) u))
 go_good g s h n (Leave t outer ∷ steps) r w = cut_good t n w _ (go_good g s h n steps (record r { stoppable = outer }) w)
 
 nowhere_good : IsGood nowhere
@@ -158,10 +185,14 @@ after_branch_same k t n w (End x) next next' stopped stopped' e h = refl
 abbrev AgreeTo : Search → Search → ℕ → Type 0
 AgreeTo s z k = (m : ℕ) (path : Path) (w : World) → m ≤ k → s m path w ≡ z m path w
 
+after_move_same : (s z : Search) (k : ℕ) → AgreeTo s z k → (n : ℕ) (m : Move) → n ≤ k → after_move s n m ≡ after_move z n m
+after_move_same s z k h n (GoesOn path w) le = h n path w le
+after_move_same s z k h n (FailsAt w) le = refl
+after_move_same s z k h n (EndsAt e w) le = refl
+after_move_same s z k h n (StopsAt t w) le = refl
+
 begin_same : (s z : Search) (k : ℕ) → AgreeTo s z k → (b : Branch) (n : ℕ) (w : World) → n ≤ k → begin s b n w ≡ begin z b n w
-begin_same s z k h (Enter path work) n w le = h n path (begun path.registers work w) le
-begin_same s z k h (Clash r work) n w le = refl
-begin_same s z k h (TakeOut t path) n w le = h n path (begun path.registers 0 (dropped t w)) le
+begin_same s z k h b n w le = after_move_same s z k h n (begins b w) le
 
 choose_same : (s z : Search) (k : ℕ) → IsGood s → AgreeTo s z k → (kind : Kind) (t : ℕ) (bs : List Branch) (n : ℕ) (w : World) → n ≤ k → choose s kind t bs n w ≡ choose z kind t bs n w
 choose_same s z k g h kind t [] n w le = refl
@@ -181,19 +212,16 @@ choose_first_same s z k g h kind t b bs n w le =
     (choose_same s z k g h (later kind) t bs a.left a.world le') (λ c. choose_same s z k g h (later kind) t (branches_cut t c bs) a.left a.world le')
     ∙ ap (λ (x : Answer). after_branch kind t x.left x.world x.result (choose z (later kind) t bs) (λ c. choose z (later kind) t (branches_cut t c bs))) (begin_same s z k h b n w le)
 
-after_move_same : (s z : Search) (k : ℕ) → IsGood s → AgreeTo s z k → (n : ℕ) (m : Move) → n ≤ k → after_move s n m ≡ after_move z n m
-after_move_same s z k g h n (GoesOn path w) le = h n path w le
-after_move_same s z k g h n (FailsAt w) le = refl
-after_move_same s z k g h n (EndsAt e w) le = refl
-after_move_same s z k g h n (StopsAt t w) le = refl
-after_move_same s z k g h n (Chooses kind t b bs w) le = choose_first_same s z k g h kind t b bs n w le
+after_goal_same : (s z : Search) (k : ℕ) → IsGood s → AgreeTo s z k → (n : ℕ) (m : Outcome) → n ≤ k → after_goal s n m ≡ after_goal z n m
+after_goal_same s z k g h n (Moves m) le = after_move_same s z k h n m le
+after_goal_same s z k g h n (Chooses kind t b bs w) le = choose_first_same s z k g h kind t b bs n w le
 
 abbrev AgreeBelow : Search → Search → ℕ → Type 0
 AgreeBelow s z k = (m : ℕ) (path : Path) (w : World) → m < k → s m path w ≡ z m path w
 
-take_goal_same : (s z : Search) (n : ℕ) → IsGood s → AgreeBelow s z n → (m : Move) (w : World) → take_goal s n m w ≡ take_goal z n m w
+take_goal_same : (s z : Search) (n : ℕ) → IsGood s → AgreeBelow s z n → (m : Outcome) (w : World) → take_goal s n m w ≡ take_goal z n m w
 take_goal_same s z zero g h m w = refl
-take_goal_same s z (suc n) g h m w = after_move_same s z n g (λ i path v le. h i path v (omega arith)) n m (omega arith)
+take_goal_same s z (suc n) g h m w = after_goal_same s z n g (λ i path v le. h i path v (omega arith)) n m (omega arith)
 
 go_same : (g : Game) (s z : Search) (n : ℕ) → IsGood s → AgreeBelow s z n → (steps : List Step) (r : Registers) (w : World) → go g s n steps r w ≡ go g z n steps r w
 go_same g s z n i h [] r w = refl
@@ -251,10 +279,14 @@ after_limit d (Rules q) t n w (End x) next stopped b e g = inr (e, g)
 after_limit d Shield t n w (End x) next stopped b e g = inr (e, g)
 after_limit d Gathers t n w (End x) next stopped b e g = inr (e, record { events = g.events; meters = g.meters; typed = g.typed; dice = g.dice })
 
+after_move_follows : (d : ℕ) (s z : Search) → FollowsOn d s z → (n k : ℕ) (m : Move) → k ≡ n + d → Follows d (after_move s n m) (after_move z k m)
+after_move_follows d s z f n k (GoesOn path w) e = f n k path w e
+after_move_follows d s z f n k (FailsAt w) e = follows_here d n k w _ e
+after_move_follows d s z f n k (EndsAt x w) e = follows_here d n k w _ e
+after_move_follows d s z f n k (StopsAt t w) e = follows_here d n k w _ e
+
 begin_follows : (d : ℕ) (s z : Search) → FollowsOn d s z → (b : Branch) (n k : ℕ) (w : World) → k ≡ n + d → Follows d (begin s b n w) (begin z b k w)
-begin_follows d s z f (Enter path work) n k w e = f n k path (begun path.registers work w) e
-begin_follows d s z f (Clash r work) n k w e = follows_here d n k (begun r work w) _ e
-begin_follows d s z f (TakeOut t path) n k w e = f n k path (begun path.registers 0 (dropped t w)) e
+begin_follows d s z f b n k w e = after_move_follows d s z f n k (begins b w) e
 
 choose_follows : (d : ℕ) (s z : Search) → IsGood z → FollowsOn d s z → (kind : Kind) (t : ℕ) (bs : List Branch) (n k : ℕ) (w : World) → k ≡ n + d → Follows d (choose s kind t bs n w) (choose z kind t bs k w)
 choose_follows d s z g f kind t [] n k w e = follows_here d n k (exhausted kind w) _ e
@@ -280,17 +312,14 @@ choose_first_follows d s z g f kind t b bs n k w e =
           (grows_on a.world c.world _ limit.1 (after_branch_good kind t c.left c.world c.result (choose z l t bs) (λ o. choose z l t (branches_cut t o bs)) (λ m v. choose_good z g l t bs m v) (λ o m v. choose_good z g l t (branches_cut t o bs) m v)).grows)
     ]
 
-after_move_follows : (d : ℕ) (s z : Search) → IsGood z → FollowsOn d s z → (n k : ℕ) (m : Move) → k ≡ n + d → Follows d (after_move s n m) (after_move z k m)
-after_move_follows d s z g f n k (GoesOn path w) e = f n k path w e
-after_move_follows d s z g f n k (FailsAt w) e = follows_here d n k w _ e
-after_move_follows d s z g f n k (EndsAt x w) e = follows_here d n k w _ e
-after_move_follows d s z g f n k (StopsAt t w) e = follows_here d n k w _ e
-after_move_follows d s z g f n k (Chooses kind t b bs w) e = choose_first_follows d s z g f kind t b bs n k w e
+after_goal_follows : (d : ℕ) (s z : Search) → IsGood z → FollowsOn d s z → (n k : ℕ) (m : Outcome) → k ≡ n + d → Follows d (after_goal s n m) (after_goal z k m)
+after_goal_follows d s z g f n k (Moves m) e = after_move_follows d s z f n k m e
+after_goal_follows d s z g f n k (Chooses kind t b bs w) e = choose_first_follows d s z g f kind t b bs n k w e
 
-take_goal_follows : (d : ℕ) (s z : Search) → IsGood z → FollowsOn d s z → (n k : ℕ) (m : Move) (w : World) → Grows w (world_of m) → k ≡ n + d → Follows d (take_goal s n m w) (take_goal z k m w)
+take_goal_follows : (d : ℕ) (s z : Search) → IsGood z → FollowsOn d s z → (n k : ℕ) (m : Outcome) (w : World) → Grows w (world_of m) → k ≡ n + d → Follows d (take_goal s n m w) (take_goal z k m w)
 take_goal_follows d s z g f zero k m w b e = inr (refl, (take_goal_good z g k m w b).grows)
 take_goal_follows d s z g f (suc n) zero m w b e = absurd (omega arith)
-take_goal_follows d s z g f (suc n) (suc k) m w b e = after_move_follows d s z g f n k m (omega arith)
+take_goal_follows d s z g f (suc n) (suc k) m w b e = after_goal_follows d s z g f n k m (omega arith)
 
 cut_follows : (d t : ℕ) (a b : Answer) → Follows d a b → Follows d (cut t a) (cut t b)
 cut_follows d t a b (inl e) = inl (ap (cut t) e)
@@ -303,7 +332,7 @@ go_follows g d s z i f n k (Answers q ∷ steps) r w e = go_follows g d s z i f 
 go_follows g d s z i f n k (Cut t ∷ steps) r w e = cut_follows d t _ _ (go_follows g d s z i f n k steps r w e)
 go_follows g d s z i f n k (Refuse t ∷ steps) r w e = follows_here d n k w _ e
 go_follows g d s z i f n k (Back ∷ steps) r w e = follows_here d n k w _ e
-go_follows g d s z i f n k (Keep t x env ∷ steps) r w e = follows_here d n k (kept t (resolved r.bound (value_of g.program env x)) w) _ e
+go_follows g d s z i f n k (Keep t x env ∷ steps) r w e = let v = value_of g.program env x in follows_here d n k (kept t (resolved r.bound v) (worked (keeping r v) w)) _ e
 go_follows g d s z i f n k (Leave t outer ∷ steps) r w e = cut_follows d t _ _ (go_follows g d s z i f n k steps (record r { stoppable = outer }) w e)
 
 search_to_follows : (g : Game) (d b : ℕ) → FollowsOn d (search_to g b) (search_to g b)
@@ -324,9 +353,9 @@ follows_run d a b (inr h) = record { grows = h.1; same = λ no. absurd (no (ap e
 
 pub run_goes_on : (g : Game) (typed : List ℕ) (m more : ℕ) → GoesOnFrom (run g typed m) (run g typed (m + more)) more
 unfolding run
-run_goes_on g typed m more = follows_run more _ _ (search_follows g more m (m + more) (start_path g) (start_world typed) refl)
+run_goes_on g typed m more = follows_run more _ _ (search_follows g more m (m + more) (start_path g) (start_world g typed) refl)
 
 -- no more is left of a run's budget than there was
 pub run_within : (g : Game) (typed : List ℕ) (n : ℕ) → (run g typed n).left ≤ n
 unfolding run
-run_within g typed n = (search_good g n (start_path g) (start_world typed)).left
+run_within g typed n = (search_good g n (start_path g) (start_world g typed)).left

@@ -1,17 +1,17 @@
 -- The tags that a path names stay those of choices around it.
-use Rattle.std.proofs.Common.{◌≡◌, ℕ, ◌+◌, ◌≤◌, inl, inr, List, [], ◌∷◌, ◌++◌, Option, Some, None, Bool, true, false, refl, sym, subst, arith, length, map}
+use Rattle.std.proofs.Common.{◌≡◌, ℕ, ◌+◌, ◌≤◌, inl, inr, List, [], ◌∷◌, ◌++◌, Option, Some, None, Bool, true, false, refl, sym, subst, arith, map}
 use Rattle.std.specs.Prelude.{slice_get}
 use Rattle.dg_base.specs.declared.program.Goal.{Goal, Goal-F, out-Goal}
-use Rattle.dg_base.specs.declared.program.Goal.TheOpen.{Text, Print as Print-Form, Gap, Equal, Ask, Either, Once, Not, If, Just, Stop, Forever, Exhaust, Collect, Stoppable, Test}
+use Rattle.dg_base.specs.declared.program.Goal.TheOpen.{Text, Print as Print-Form, Gap, Equal, Ask, Either, Once, Not, If, Just, Forever, Exhaust, Collect, Stoppable}
 use Rattle.dg_base.specs.declared.program.Goal.TheVariants.{Forever as Forever-Goal}
 use Rattle.dg_base.specs.declared.program.Rule.{Rule}
 use Rattle.dg_base.specs.Goals.{terms_held}
 use Rattle.dg_meaning.specs.Values.{Value, value_of}
-use Rattle.dg_meaning.specs.World.{Game, World, Asked, noted}
+use Rattle.dg_meaning.specs.World.{Game, World}
 use Rattle.dg_meaning.specs.Cells.{writing}
-use Rattle.dg_meaning.specs.Path.{Step, Do, Answers, Cut, Refuse, Back, Keep, Leave, Registers, Path, Branch, Enter, Clash, TakeOut, Kind, Plain, Rules, Shield, Gathers, Move, GoesOn, FailsAt, EndsAt, StopsAt, Chooses}
-use Rattle.dg_meaning.specs.Moves.{path_of, begun, goals_at, inside, enter, enter_if, choice_cells, list_branches, first_alone, vars_of, rule_branch, rule_branches, rules_of, choice, goes_on_if, stop, outcome, behind_terms, move}
-use Rattle.dg_meaning.specs.Bindings.{IsBound, BranchBinds, BranchesBind, MoveBinds}
+use Rattle.dg_meaning.specs.Path.{Step, Do, Answers, Cut, Refuse, Back, Keep, Leave, Registers, Path, Branch, Enter, Clash, TakeOut, Kind, Plain, Rules, Shield, Gathers, Move, GoesOn, FailsAt, EndsAt, StopsAt, Outcome, Moves, Chooses, Act, Goes, Tests, Unifies, Ends, Fails, Stops, Effect, Acts, Offers}
+use Rattle.dg_meaning.specs.Moves.{path_of, begun, goals_at, inside, enter, enter_if, choice_cells, is_excluded, call_cells, unless_excluded, list_branches, first_alone, vars_of, rule_branch, rule_branches, rules_of, choice, goes_on_if, stop, move_of, effect, outcome_of, behind_terms, move}
+use Rattle.dg_meaning.specs.Bindings.{IsBound, BranchBinds, BranchesBind, MoveBinds, OutcomeBinds}
 use Rattle.dg_meaning.proofs.Bindings.{binds_along}
 use Rattle.dg_meaning.specs.Context.{Around, InBranch, InCut, Holds, Older, Shielded, StopIn, StepsIn, PathIn, BranchIn, BranchesIn, KeepsGathering, KeepGatherings, TakesOut}
 
@@ -121,15 +121,22 @@ MoveTags ctx (GoesOn path w) = TagsIn ctx path
 MoveTags ctx (FailsAt w) = Unit {0}
 MoveTags ctx (EndsAt e w) = Unit {0}
 MoveTags ctx (StopsAt s w) = Shielded ctx s
-MoveTags ctx (Chooses k t b bs w) = Older t ctx × BranchTags (InBranch k t bs ∷ ctx) b × BranchesTags (InBranch Plain t [] ∷ ctx) bs × KeepsGathering b × TakesOut k t bs
+
+abbrev OutcomeTags : List Around → Outcome → Type 0
+OutcomeTags ctx (Moves m) = MoveTags ctx m
+OutcomeTags ctx (Chooses k t b bs w) = Older t ctx × BranchTags (InBranch k t bs ∷ ctx) b × BranchesTags (InBranch Plain t [] ∷ ctx) bs × KeepsGathering b × TakesOut k t bs
 
 if_keeps : (b : Bool) (path : Path) (work : ℕ) → KeepsGathering (enter_if b path work)
 if_keeps true path work = tt
 if_keeps false path work = tt
 
+unless_keeps : (b : Bool) (r : Registers) (work : ℕ) (x : Branch) → KeepsGathering x → KeepsGathering (unless_excluded b r work x)
+unless_keeps true r work x h = tt
+unless_keeps false r work x h = h
+
 rules_keep : (g : Game) (pred : ℕ) (args : List Value) (many : Bool) (steps : List Step) (r : Registers) (rules : List Rule) → KeepGatherings (rule_branches g pred args many steps r rules)
 rules_keep g pred args many steps r [] = tt
-rules_keep g pred args many steps r (rule ∷ rules) = (if_keeps _ _ _, rules_keep g pred args many steps r rules)
+rules_keep g pred args many steps r (rule ∷ rules) = (unless_keeps (is_excluded args r rule) r _ _ (if_keeps _ _ _), rules_keep g pred args many steps r rules)
 
 lists_keep : (env : List Value) (t : ℕ) (steps : List Step) (r : Registers) (lists : List (List Goal)) → KeepGatherings (list_branches env t steps r lists)
 lists_keep env t steps r [] = tt
@@ -138,6 +145,10 @@ lists_keep env t steps r (goals ∷ lists) = (tt, lists_keep env t steps r lists
 if_in : (ctx : List Around) (b : Bool) (path : Path) (work : ℕ) → TagsIn ctx path → BranchTags ctx (enter_if b path work)
 if_in ctx true path work h = h
 if_in ctx false path work h = tt
+
+unless_in : (ctx : List Around) (b : Bool) (r : Registers) (work : ℕ) (x : Branch) → BranchTags ctx x → BranchTags ctx (unless_excluded b r work x)
+unless_in ctx true r work x h = tt
+unless_in ctx false r work x h = h
 
 module _ (ctx : List Around) (env : List Value) (t : ℕ) (steps : List Step) (r : Registers) (holds : Holds ctx t) (rest : StepsIn ctx steps) (stopping : StopIn ctx r.stoppable) (older : Older r.next_tag ctx) where
   -- steps in a branch of the new choice
@@ -172,37 +183,43 @@ module _ (ctx : List Around) (env : List Value) (t : ℕ) (steps : List Step) (r
   rule_in : (g : Game) (pred : ℕ) (args : List Value) (many : Bool) (heap : ℕ) (rule : Rule) → BranchTags (InBranch Plain r.next_tag [] ∷ ctx) (rule_branch g pred args many steps r heap rule)
   rule_in g pred args many heap rule =
       let here = InBranch Plain r.next_tag [] ∷ ctx in
-      if_in here _ _ _ (path _ _ (record { stoppable = refl; next_tag = refl })
-      (steps_append here (goals_at (vars_of rule r) r.next_tag rule.body) (Answers pred ∷ first_alone many r.next_tag steps) (goals_in here (vars_of rule r) r.next_tag (inl refl) rule.body) (first_in many)))
+      unless_in here (is_excluded args r rule) r _ _ (if_in here _ _ _ (path _ _ (record { stoppable = refl; next_tag = refl })
+      (steps_append here (goals_at (vars_of rule r) r.next_tag rule.body) (Answers pred ∷ first_alone many r.next_tag steps) (goals_in here (vars_of rule r) r.next_tag (inl refl) rule.body) (first_in many))))
 
   rules_in : (g : Game) (pred : ℕ) (args : List Value) (many : Bool) (rules : List Rule) → BranchesTags (InBranch Plain r.next_tag [] ∷ ctx) (rule_branches g pred args many steps r rules)
   rules_in g pred args many [] = tt
-  rules_in g pred args many (rule ∷ rules) = (rule_in g pred args many (choice_cells (length args) rules) rule, rules_in g pred args many rules)
+  rules_in g pred args many (rule ∷ rules) = (rule_in g pred args many (call_cells args r rules) rule, rules_in g pred args many rules)
 
   lists_in : (lists : List (List Goal)) → BranchesTags (InBranch Plain r.next_tag [] ∷ ctx) (list_branches env t steps r lists)
   lists_in [] = tt
   lists_in (gs ∷ lists) = (one (choice_cells 0 lists) 1 _ (goals gs steps outside), lists_in lists)
 
-  choice_plain : (bs : List Branch) (w : World) → BranchesTags (InBranch Plain r.next_tag [] ∷ ctx) bs → KeepGatherings bs → MoveTags ctx (choice Plain r.next_tag bs w)
-  choice_plain [] w h k = tt
-  choice_plain (b ∷ bs) w h k = (older, branch_others Plain r.next_tag [] bs ctx b h.0, h.1, k.0, k.1)
+  abbrev Here : List Around
+  Here = InBranch Plain r.next_tag [] ∷ ctx
 
-  choice_rules : (pred : ℕ) (bs : List Branch) (w : World) → BranchesTags (InBranch Plain r.next_tag [] ∷ ctx) bs → KeepGatherings bs → MoveTags ctx (choice (Rules pred) r.next_tag bs w)
-  choice_rules pred [] w h k = tt
-  choice_rules pred (b ∷ bs) w h k = (older, branch_others (Rules pred) r.next_tag [] bs ctx b h.0, h.1, k.0, k.1)
+  -- a choice of branches that fit its kind
+  abbrev Fit : Kind → List Branch → Type 0
+  Fit k [] = Unit {0}
+  Fit k (b ∷ bs) = BranchTags (InBranch k r.next_tag bs ∷ ctx) b × BranchesTags Here bs × KeepsGathering b × TakesOut k r.next_tag bs
+
+  choice_tags : (k : Kind) (bs : List Branch) (w : World) → Fit k bs → OutcomeTags ctx (choice k r.next_tag bs w)
+  choice_tags k [] w h = tt
+  choice_tags k (b ∷ bs) w h = (older, h.0, h.1, h.2, h.3)
+
+  fit_plain : (bs : List Branch) → BranchesTags Here bs → KeepGatherings bs → Fit Plain bs
+  fit_plain [] h k = tt
+  fit_plain (b ∷ bs) h k = (branch_others Plain r.next_tag [] bs ctx b h.0, h.1, k.0, k.1)
+
+  fit_rules : (pred : ℕ) (bs : List Branch) → BranchesTags Here bs → KeepGatherings bs → Fit (Rules pred) bs
+  fit_rules pred [] h k = tt
+  fit_rules pred (b ∷ bs) h k = (branch_others (Rules pred) r.next_tag [] bs ctx b h.0, h.1, k.0, k.1)
 
   stop_in : (o : Option ℕ) (w : World) → StopIn ctx o → MoveTags ctx (stop o w)
   stop_in None w h = tt
   stop_in (Some s) w h = h
 
-  single : (heap : ℕ) (l : List Step) (w : World) → In l → MoveTags ctx (Chooses Plain r.next_tag (enter heap 0 r l) [] w)
-  single heap l w h = (older, one heap 0 l h, tt, tt, tt)
-
-  double : (heap : ℕ) (l m : List Step) (w : World) → In l → In m → MoveTags ctx (Chooses Plain r.next_tag (enter heap 0 r l) (enter 0 0 r m ∷ []) w)
-  double heap l m w h k = (older, branch_others Plain r.next_tag [] (enter 0 0 r m ∷ []) ctx (enter heap 0 r l) (one heap 0 l h), (one 0 0 m k, tt), tt, (tt, tt))
-
-  stoppable_in : (gs : List Goal) (w : World) → MoveTags ctx (Chooses Shield r.next_tag (Enter (path_of (goals_at env t gs ++ Leave r.next_tag r.stoppable ∷ steps) (record (inside 10 r) { stoppable = Some r.next_tag })) 0) (enter 0 0 r steps ∷ []) w)
-  stoppable_in gs w =
+  fit_stoppable : (gs : List Goal) → Fit Shield (Enter (path_of (goals_at env t gs ++ Leave r.next_tag r.stoppable ∷ steps) (record (inside 10 r) { stoppable = Some r.next_tag })) 0 ∷ enter 0 0 r steps ∷ [])
+  fit_stoppable gs =
       let others = enter 0 0 r steps ∷ [] in
       let here = InBranch Shield r.next_tag others ∷ ctx in
       let branch : TagsIn here (path_of (goals_at env t gs ++ Leave r.next_tag r.stoppable ∷ steps) (record (inside 10 r) { stoppable = Some r.next_tag })) = record {
@@ -210,41 +227,66 @@ module _ (ctx : List Around) (env : List Value) (t : ℕ) (steps : List Step) (r
         stop = inl refl;
         newer = (omega arith, older_raise r.next_tag (r.next_tag + 1) ctx (omega arith) older);
       } in
-      (older, branch, (one 0 0 steps outside, tt), tt, (tt, tt))
+      (branch, (one 0 0 steps outside, tt), tt, (tt, tt))
 
   -- the search goes on with registers of the same tags
   on : (s : Registers) (b : Bool) (w : World) → s.stoppable ≡ r.stoppable → s.next_tag ≡ r.next_tag → MoveTags ctx (goes_on_if b steps s w)
   on s true w e f = record { steps = rest; stop = subst (StopIn ctx) (sym e) stopping; newer = subst (λ u. Older u ctx) (sym f) older }
   on s false w e f = tt
 
-  outcome_in : (g : Game) (x : Goal-F Goal) (w : World) → MoveTags ctx (outcome g x env t steps r w)
-  outcome_in g (Text name) w = record { steps = rest; stop = stopping; newer = older }
-  outcome_in g (Print-Form a) w = record { steps = rest; stop = stopping; newer = older }
-  outcome_in g (Gap kind) w = record { steps = rest; stop = stopping; newer = older }
-  outcome_in g (Equal a b) w = on _ _ _ refl refl
-  outcome_in g (Ask pred args many) w =
+  abbrev ActTags : Act → Type 0
+  ActTags (Goes next w) = StepsIn ctx next
+  ActTags (Unifies made a b w) = (made.stoppable ≡ r.stoppable) × (made.next_tag ≡ r.next_tag)
+  ActTags act = Unit {0}
+
+  act_tags : (a : Act) → ActTags a → MoveTags ctx (move_of steps r a)
+  act_tags (Goes next w) h = record { steps = h; stop = stopping; newer = older }
+  act_tags (Tests passed w) h = on r passed w refl refl
+  act_tags (Unifies made a b w) h = on _ _ _ h.0 h.1
+  act_tags (Ends e w) h = tt
+  act_tags (Fails w) h = tt
+  act_tags (Stops w) h = stop_in r.stoppable w stopping
+
+  abbrev EffectTags : Effect → Type 0
+  EffectTags (Acts a) = ActTags a
+  EffectTags (Offers k bs w) = Fit k bs
+
+  outcome_tags : (e : Effect) → EffectTags e → OutcomeTags ctx (outcome_of steps r e)
+  outcome_tags (Acts a) h = act_tags a h
+  outcome_tags (Offers k bs w) h = choice_tags k bs w h
+
+  plain_two : (heap : ℕ) (l m : List Step) → In l → In m → Fit Plain (enter heap 0 r l ∷ enter 0 0 r m ∷ [])
+  plain_two heap l m h k = fit_plain (enter heap 0 r l ∷ enter 0 0 r m ∷ []) (one heap 0 l h, (one 0 0 m k, tt)) (tt, (tt, tt))
+
+  effect_tags : (g : Game) (x : Goal-F Goal) (w : World) → EffectTags (effect g x env t steps r w)
+  effect_tags g (Text name) w = rest
+  effect_tags g (Print-Form a) w = rest
+  effect_tags g (Gap kind) w = rest
+  effect_tags g (Equal a b) w = (refl, refl)
+  effect_tags g (Ask pred args many) w =
       let values = map (value_of g.program env) args in
       let rules = rules_of (slice_get g.program.preds pred) in
-      choice_rules pred _ (noted (Asked pred) w) (rules_in g pred values many rules) (rules_keep g pred values many steps r rules)
-  outcome_in g (Either lists) w = choice_plain (list_branches env t steps r lists) w (lists_in lists) (lists_keep env t steps r lists)
-  outcome_in g (Once gs) w = single 10 (goals_at env t gs ++ Cut r.next_tag ∷ steps) w (goals gs (Cut r.next_tag ∷ steps) (inl refl, outside))
-  outcome_in g (Not gs) w = double 10 (goals_at env t gs ++ Refuse r.next_tag ∷ []) steps w (goals gs (Refuse r.next_tag ∷ []) (inl refl, tt)) outside
-  outcome_in g (If test first other) w =
-      double 10 (goals_at env t test ++ Cut r.next_tag ∷ (goals_at env t first ++ steps)) (goals_at env t other ++ steps) w
+      fit_rules pred (rule_branches g pred values many steps r rules) (rules_in g pred values many rules) (rules_keep g pred values many steps r rules)
+  effect_tags g (Either lists) w = fit_plain (list_branches env t steps r lists) (lists_in lists) (lists_keep env t steps r lists)
+  effect_tags g (Once gs) w = let l = goals_at env t gs ++ Cut r.next_tag ∷ steps in fit_plain (enter 10 0 r l ∷ []) (one 10 0 l (goals gs (Cut r.next_tag ∷ steps) (inl refl, outside)), tt) (tt, tt)
+  effect_tags g (Not gs) w = plain_two 10 (goals_at env t gs ++ Refuse r.next_tag ∷ []) steps (goals gs (Refuse r.next_tag ∷ []) (inl refl, tt)) outside
+  effect_tags g (If test first other) w =
+      plain_two 10 (goals_at env t test ++ Cut r.next_tag ∷ (goals_at env t first ++ steps)) (goals_at env t other ++ steps)
       (goals test (Cut r.next_tag ∷ (goals_at env t first ++ steps)) (inl refl, goals first steps outside)) (goals other steps outside)
-  outcome_in g Just w = record { steps = (holds, rest); stop = stopping; newer = older }
-  outcome_in g Stop w = stop_in r.stoppable w stopping
-  outcome_in g Forever w = double 10 steps (Do Forever-Goal env t ∷ steps) w outside (inr holds, outside)
-  outcome_in g (Exhaust gs) w = double 10 (goals_at env t gs ++ Back ∷ []) steps w (goals gs (Back ∷ []) tt) outside
-  outcome_in g (Stoppable gs) w = stoppable_in gs w
-  outcome_in g (Collect term gs into) w =
+  effect_tags g Just w = (holds, rest)
+  effect_tags g Forever w = plain_two 10 steps (Do Forever-Goal env t ∷ steps) outside (inr holds, outside)
+  effect_tags g (Exhaust gs) w = plain_two 10 (goals_at env t gs ++ Back ∷ []) steps (goals gs (Back ∷ []) tt) outside
+  effect_tags g (Stoppable gs) w = fit_stoppable gs
+  effect_tags g (Collect term gs into) w =
       let others = TakeOut r.next_tag (path_of steps (inside 0 r)) ∷ [] in
-      (older, branch_others Gathers r.next_tag [] others ctx (enter 10 0 r (goals_at env t gs ++ Keep r.next_tag term env ∷ [])) (one 10 0 _ (goals gs (Keep r.next_tag term env ∷ []) tt)), (one 0 0 steps outside, tt), tt, refl)
-  outcome_in g (Test kind a) w = on r _ _ refl refl
-  outcome_in g _ w = tt
+      (branch_others Gathers r.next_tag [] others ctx (enter 10 0 r (goals_at env t gs ++ Keep r.next_tag term env ∷ [])) (one 10 0 _ (goals gs (Keep r.next_tag term env ∷ []) tt)), (one 0 0 steps outside, tt), tt, refl)
+  effect_tags g _ w = tt
 
-move_tags : (g : Game) (x : Goal-F Goal) (ctx : List Around) (env : List Value) (t : ℕ) (steps : List Step) (r : Registers) (w : World) → Holds ctx t → StepsIn ctx steps → StopIn ctx r.stoppable → Older r.next_tag ctx → MoveTags ctx (move g x env t steps r w)
-move_tags g x ctx env t steps r w holds rest stopping older = outcome_in ctx env t steps (behind_terms g x r) holds rest stopping older g x (begun (behind_terms g x r) (writing g.program (terms_held x)) w)
+move_tags : (g : Game) (x : Goal-F Goal) (ctx : List Around) (env : List Value) (t : ℕ) (steps : List Step) (r : Registers) (w : World) → Holds ctx t → StepsIn ctx steps → StopIn ctx r.stoppable → Older r.next_tag ctx → OutcomeTags ctx (move g x env t steps r w)
+move_tags g x ctx env t steps r w holds rest stopping older =
+    let s = behind_terms g x r in
+    let v = begun s (writing (terms_held x)) w in
+    outcome_tags ctx env t steps s holds rest stopping older (effect g x env t steps s v) (effect_tags ctx env t steps s holds rest stopping older g x v)
 
 -- ## With bindings
 
@@ -254,7 +296,10 @@ MoveIn ctx (GoesOn path w) = PathIn ctx path
 MoveIn ctx (FailsAt w) = Unit {0}
 MoveIn ctx (EndsAt e w) = Unit {0}
 MoveIn ctx (StopsAt s w) = Shielded ctx s
-MoveIn ctx (Chooses k t b bs w) = Older t ctx × BranchIn (InBranch k t bs ∷ ctx) b × BranchesIn (InBranch Plain t [] ∷ ctx) bs × KeepsGathering b × TakesOut k t bs
+
+abbrev pub OutcomeIn : List Around → Outcome → Type 0
+OutcomeIn ctx (Moves m) = MoveIn ctx m
+OutcomeIn ctx (Chooses k t b bs w) = Older t ctx × BranchIn (InBranch k t bs ∷ ctx) b × BranchesIn (InBranch Plain t [] ∷ ctx) bs × KeepsGathering b × TakesOut k t bs
 
 path_with : (ctx : List Around) (path : Path) → TagsIn ctx path → IsBound path → PathIn ctx path
 path_with ctx path h bound = record { steps = h.steps; stop = h.stop; newer = h.newer; bound = bound }
@@ -273,11 +318,14 @@ move_with ctx r (GoesOn path w) h k = path_with ctx path h k.is
 move_with ctx r (FailsAt w) h k = tt
 move_with ctx r (EndsAt e w) h k = tt
 move_with ctx r (StopsAt s w) h k = h
-move_with ctx r (Chooses kind t b bs w) h k = (h.0, branch_with (InBranch kind t bs ∷ ctx) r b h.1 k.0, branches_with (InBranch Plain t [] ∷ ctx) r bs h.2 k.1, h.3, h.4)
 
-pub move_in : (g : Game) (x : Goal) (ctx : List Around) (env : List Value) (t : ℕ) (steps : List Step) (r : Registers) (w : World) → PathIn ctx (path_of (Do x env t ∷ steps) r) → MoveIn ctx (move g (out-Goal x) env t steps r w)
+outcome_with : (ctx : List Around) (r : Registers) (m : Outcome) → OutcomeTags ctx m → OutcomeBinds r m → OutcomeIn ctx m
+outcome_with ctx r (Moves m) h k = move_with ctx r m h k
+outcome_with ctx r (Chooses kind t b bs w) h k = (h.0, branch_with (InBranch kind t bs ∷ ctx) r b h.1 k.0, branches_with (InBranch Plain t [] ∷ ctx) r bs h.2 k.1, h.3, h.4)
+
+pub move_in : (g : Game) (x : Goal) (ctx : List Around) (env : List Value) (t : ℕ) (steps : List Step) (r : Registers) (w : World) → PathIn ctx (path_of (Do x env t ∷ steps) r) → OutcomeIn ctx (move g (out-Goal x) env t steps r w)
 move_in g x ctx env t steps r w h =
-    move_with ctx r (move g (out-Goal x) env t steps r w) (move_tags g (out-Goal x) ctx env t steps r w h.steps.0 h.steps.1 h.stop h.newer) (binds_along.takes g x env t steps r w h.bound)
+    outcome_with ctx r (move g (out-Goal x) env t steps r w) (move_tags g (out-Goal x) ctx env t steps r w h.steps.0 h.steps.1 h.stop h.newer) (binds_along.takes g x env t steps r w h.bound)
 
 -- a branch that isn't stoppable is as good as a plain one
 pub others_in : (k : Kind) (t : ℕ) (bs cs : List Branch) (ctx : List Around) (b : Branch) → BranchIn (InBranch Plain t bs ∷ ctx) b → BranchIn (InBranch k t cs ∷ ctx) b

@@ -9,6 +9,7 @@ use Rattle.dg_base.specs.declared.program.Rule.{Rule}
 use Rattle.dg_base.specs.declared.program.Pred.{Pred}
 use Rattle.dg_meaning.specs.World.{Game, Prints, Piece, Asked, Answered, Retried, HasFailed}
 use Rattle.dg_meaning.specs.Unify.{solve}
+use Rattle.dg_meaning.specs.Letters.{compared}
 use Rattle.dg_meaning.specs.Search.{search}
 use Rattle.dg_meaning.specs.Render.{render}
 use Rattle.dg_meaning.specs.Transcript.{run, transcript}
@@ -78,7 +79,7 @@ unfolding run search solve form.out-Goal denote.Hole.Carrier.out
 heap = refl
 
 work : (run game [] 9).world.meters.work ≡ 16
-unfolding run search solve form.out-Goal denote.Hole.Carrier.out
+unfolding run search solve compared form.out-Goal denote.Hole.Carrier.out
 work = refl
 
 -- ## Control
@@ -90,7 +91,7 @@ forever = refl
 
 -- Up to its third word the work is fifteen: five for each.
 forever_work : (run (alone (Forever ∷ word 120 ∷ Fail ∷ [])) [] 9).world.meters.work ≡ 15
-unfolding run search solve form.out-Goal denote.Hole.Carrier.out
+unfolding run search solve compared form.out-Goal denote.Hole.Carrier.out
 forever_work = refl
 
 -- A stop with no stoppable part around it ends the run.

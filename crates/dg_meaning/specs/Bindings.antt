@@ -5,7 +5,7 @@ use Rattle.dg_meaning.specs.Values.{Value}
 use Rattle.dg_meaning.specs.Substitutions.{IsSubstitution, Extends}
 use Rattle.dg_meaning.specs.Unify.{top, top_of_pairs}
 use Rattle.dg_meaning.specs.World.{Game, World}
-use Rattle.dg_meaning.specs.Path.{Step, Do, Keep, Registers, Path, Branch, Enter, Clash, TakeOut, Move, GoesOn, FailsAt, EndsAt, StopsAt, Chooses}
+use Rattle.dg_meaning.specs.Path.{Step, Do, Keep, Registers, Path, Branch, Enter, Clash, TakeOut, Move, GoesOn, Outcome, Moves, Chooses}
 use Rattle.dg_meaning.specs.Moves.{path_of, move}
 use Rattle.dg_meaning.specs.Transcript.{start_path}
 
@@ -59,16 +59,18 @@ BranchesBind r (b ∷ bs) = BranchBinds r b × BranchesBind r bs
 -- So it is behind a move.
 abbrev pub MoveBinds : Registers → Move → Type 0
 MoveBinds r (GoesOn path w) = IsBoundBehind r path
-MoveBinds r (FailsAt w) = Unit {0}
-MoveBinds r (EndsAt e w) = Unit {0}
-MoveBinds r (StopsAt t w) = Unit {0}
-MoveBinds r (Chooses k t b bs w) = BranchBinds r b × BranchesBind r bs
+MoveBinds r m = Unit {0}
+
+-- So it is behind a goal.
+abbrev pub OutcomeBinds : Registers → Outcome → Type 0
+OutcomeBinds r (Moves m) = MoveBinds r m
+OutcomeBinds r (Chooses k t b bs w) = BranchBinds r b × BranchesBind r bs
 
 -- From the start on, the bindings of a path are a substitution of variables that have been made, to which each goal and each branch only adds.
 pub record BindsAlong : Type 0 where
   -- Nothing is bound at the start.
   pub starts : (g : Game) → IsBound (start_path g)
   -- A goal binds only more.
-  pub takes : (g : Game) (x : Goal) (env : List Value) (t : ℕ) (steps : List Step) (r : Registers) (w : World) → IsBound (path_of (Do x env t ∷ steps) r) → MoveBinds r (move g (out-Goal x) env t steps r w)
+  pub takes : (g : Game) (x : Goal) (env : List Value) (t : ℕ) (steps : List Step) (r : Registers) (w : World) → IsBound (path_of (Do x env t ∷ steps) r) → OutcomeBinds r (move g (out-Goal x) env t steps r w)
   -- A mark that is passed binds nothing.
   pub passes : (s : Step) (steps : List Step) (r : Registers) (outer : Option ℕ) → IsBound (path_of (s ∷ steps) r) → IsBound (path_of steps (record r { stoppable = outer }))

@@ -26,6 +26,6 @@ nodes_of terms = flat_map nodes terms
 abbrev pub cells : CoreProgram → List Term → ℕ
 cells program terms = sum_by (λ x. node_cells program (out-Term x)) (nodes_of terms)
 
--- The work of writing some terms: their nodes and their cells.
-abbrev pub writing : CoreProgram → List Term → ℕ
-writing program terms = length (nodes_of terms) + cells program terms
+-- The work of writing some terms: their nodes.
+abbrev pub writing : List Term → ℕ
+writing terms = length (nodes_of terms)

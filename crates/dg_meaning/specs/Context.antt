@@ -1,7 +1,7 @@
 -- What stands around a search, and what of it an engine has to keep. Hold it against the Dialog manual, chapter "Choice points".
-use Rattle.std.specs.Prelude.{ℕ, ◌<◌, ◌≡◌, ◌⊎◌, nat_lt, eqb, List, [], ◌∷◌, ◌++◌, Option, Some, None, length, drop, if◌then◌else◌}
-use Rattle.dg_meaning.specs.World.{World, Event, Gathering, prints}
-use Rattle.dg_meaning.specs.Path.{Step, Do, Answers, Cut, Refuse, Back, Keep, Leave, Path, Result, Branch, Enter, Clash, TakeOut, Kind, Plain, Shield, Gathers}
+use Rattle.std.specs.Prelude.{ℕ, ◌<◌, ◌≡◌, ◌⊎◌, nat_lt, eqb, List, [], ◌∷◌, Option, Some, None, Bool, true, false, length, drop, if◌then◌else◌}
+use Rattle.dg_meaning.specs.World.{World, Gathering}
+use Rattle.dg_meaning.specs.Path.{Step, Do, Answers, Cut, Refuse, Back, Keep, Leave, Path, Result, Branch, Enter, Clash, TakeOut, Kind, Plain, Rules, Shield, Gathers}
 use Rattle.dg_meaning.specs.Search.{Search, answer, cut_result, later, after_branch, branches_cut, choose}
 use Rattle.dg_meaning.specs.Transcript.{Run, run_of}
 use Rattle.dg_meaning.specs.Bindings.{IsBound}
@@ -65,15 +65,20 @@ abbrev pub cut_to : ℕ → List Live → List Live
 cut_to t [] = []
 cut_to t (c ∷ cs) = if nat_lt c.tag t then c ∷ cs else cut_to t cs
 
--- A choice is kept as long as it has a branch that was not begun.
-abbrev pub pushed : List Branch → Live → List Live → List Live
-pushed [] c cs = cs
-pushed (b ∷ bs) c cs = c ∷ cs
+-- A choice between rules is kept as long as it is around, since it is told where it fails; any other as long as it has a branch that was not begun.
+abbrev pub stays : Kind → List Branch → Bool
+stays (Rules q) others = true
+stays k [] = false
+stays k (b ∷ bs) = true
 
--- The choices that were not cut and have a branch left, the newest first.
+-- Choices with one more in front, where it is kept.
+abbrev pub pushed : Live → List Live → List Live
+pushed c cs = if stays c.kind c.others then c ∷ cs else cs
+
+-- The choices that were not cut and are kept, the newest first.
 abbrev pub live : List Around → List Live
 live [] = []
-live (InBranch k t others ∷ ctx) = pushed others (record { kind = later k; tag = t; others = others; height = length (gathers ctx); ways_on = ways ctx }) (live ctx)
+live (InBranch k t others ∷ ctx) = pushed (record { kind = later k; tag = t; others = others; height = length (gathers ctx); ways_on = ways ctx }) (live ctx)
 live (InCut t ∷ ctx) = cut_to t (live ctx)
 
 -- The way on of t, and the ways outside it.
@@ -159,9 +164,7 @@ Sound [] = Unit {0}
 Sound (InBranch k t others ∷ ctx) = Older t ctx × Sound ctx × BranchesIn (InBranch Plain t [] ∷ ctx) others × TakesOut k t others
 Sound (InCut t ∷ ctx) = Holds ctx t × Sound ctx
 
--- Between two worlds nothing was printed, taken or counted: only queries were answered or failed, and gatherings were dropped.
-pub record Silently (old new : World) : Type 0 where
-  pub calls : List Event
-  pub silent : prints calls ≡ []
+-- Between two worlds gatherings were dropped, the newest first, and nothing else has happened.
+pub record Drops (old new : World) : Type 0 where
   pub count : ℕ
-  pub is : new ≡ record old { events = old.events ++ calls; gathered = drop count old.gathered }
+  pub is : new ≡ record old { gathered = drop count old.gathered }

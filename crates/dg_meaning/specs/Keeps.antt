@@ -6,21 +6,25 @@ use Rattle.dg_base.specs.declared.program.Goal.{Goal, out-Goal}
 use Rattle.dg_base.specs.declared.run.Ending.TheVariants.{Done as Done-Ending, StepLimit}
 use Rattle.dg_meaning.specs.Values.{Value, value_of}
 use Rattle.dg_meaning.specs.Substitutions.{resolved}
-use Rattle.dg_meaning.specs.World.{Game, World, Answered, noted, worked, kept, dropped}
-use Rattle.dg_meaning.specs.Path.{Step, Do, Answers, Cut, Refuse, Back, Keep, Leave, Registers, Path, Result, Failing, StopTo, End, Answer, Branch, Enter, Clash, TakeOut, Kind, Shield, Gathers, Move, GoesOn, FailsAt, EndsAt, StopsAt, Chooses}
-use Rattle.dg_meaning.specs.Moves.{path_of, begun, move}
+use Rattle.dg_meaning.specs.World.{Game, World, Answered, noted, worked, kept}
+use Rattle.dg_meaning.specs.Path.{Step, Do, Answers, Cut, Refuse, Back, Keep, Leave, Registers, Path, Result, Failing, StopTo, End, Answer, Branch, Enter, TakeOut, Kind, Shield, Gathers, Move, GoesOn, FailsAt, EndsAt, StopsAt, Outcome, Moves, Chooses}
+use Rattle.dg_meaning.specs.Moves.{path_of, exhausted, begun, begins, keeping, move}
 use Rattle.dg_meaning.specs.Search.{Search, search, answer, later, retried, choose}
 use Rattle.dg_meaning.specs.Transcript.{Run, run_of, run, start_world, start_path}
 use Rattle.dg_meaning.specs.Bindings.{IsBound}
 use Rattle.dg_meaning.specs.OneRun.{Grows}
-use Rattle.dg_meaning.specs.Context.{Around, InBranch, unwind, gathers, Opens, Way, ways, Live, cut_to, pushed, live, way_to, Shielded, PathIn, Sound, Silently}
+use Rattle.dg_meaning.specs.Context.{Around, InBranch, unwind, gathers, Opens, Way, ways, Live, cut_to, pushed, live, way_to, Shielded, PathIn, Sound, Drops}
 
 -- The world that a move leaves.
-abbrev pub world_of : Move → World
-world_of (GoesOn path w) = w
-world_of (FailsAt w) = w
-world_of (EndsAt e w) = w
-world_of (StopsAt t w) = w
+abbrev pub world_at : Move → World
+world_at (GoesOn path w) = w
+world_at (FailsAt w) = w
+world_at (EndsAt e w) = w
+world_at (StopsAt t w) = w
+
+-- The world that a goal leaves.
+abbrev pub world_of : Outcome → World
+world_of (Moves m) = world_at m
 world_of (Chooses k t b bs w) = w
 
 -- What the run comes to, where a search with this around it gives an answer.
@@ -69,10 +73,10 @@ pub record Resumed (g : Game) (c : Live) (cs : List Live) (n : ℕ) (w : World) 
   pub choices : live ctx ≡ cs
   pub ways_are : ways ctx ≡ c.ways_on
 
--- The run r has ended so, and nothing was printed since.
+-- The run r has ended so, and nothing has happened since.
 pub record Finished (n : ℕ) (w : World) (result : Result) (r : Run) : Type 0 where
   pub world : World
-  pub silently : Silently w world
+  pub drops : Drops w world
   pub is : r ≡ run_of (answer n world result)
 
 -- ## Where it goes on
@@ -85,7 +89,7 @@ open_at bs height = height
 -- A failure goes to the newest choice, and without one the run has failed.
 pub record GoesBack (g : Game) (c : Live) (cs : List Live) (n : ℕ) (w : World) (r : Run) : Type 0 where
   pub world : World
-  pub silently : Silently w world
+  pub drops : Drops w world
   pub gatherings : length world.gathered ≡ open_at c.others c.height
   pub resumed : Resumed g c cs n world r
 
@@ -94,11 +98,26 @@ abbrev pub FailsTo : Game → ℕ → World → Run → List Live → Type 0
 FailsTo g n w r [] = Finished n w Failing r
 FailsTo g n w r (c ∷ cs) = GoesBack g c cs n w r
 
+-- Where a run stands behind a move, inside these choices and ways.
+abbrev pub Went : Game → List Live → List Way → ℕ → Move → Run → Type 0
+Went g cs ws n (GoesOn path w) r = Stands g cs ws path n w r
+Went g cs ws n (FailsAt w) r = Failed g cs n w r
+Went g cs ws n (EndsAt e w) r = Finished n w (End e) r
+Went g cs ws n (StopsAt s w) r = Stopping g cs ws s n w r
+
 -- A branch begins inside these choices and ways.
 abbrev pub Began : Game → List Live → List Way → Branch → ℕ → World → Run → Type 0
-Began g cs ws (Enter path work) n w r = Stands g cs ws path n (begun path.registers work w) r
-Began g cs ws (Clash registers work) n w r = Failed g cs n (begun registers work w) r
-Began g cs ws (TakeOut t path) n w r = Stands g cs ws path n (begun path.registers 0 (dropped t w)) r
+Began g cs ws b n w r = Went g cs ws n (begins b w) r
+
+-- Where a run stands at the branches that a choice has left: its first begins, with the others left, or it has failed.
+abbrev pub Tried : Game → Kind → ℕ → ℕ → List Way → List Live → List Branch → ℕ → World → Run → Type 0
+Tried g k t height ws cs [] n w r = Failed g cs n (exhausted k w) r
+Tried g k t height ws cs (b ∷ bs) n w r = Began g (pushed (record { kind = k; tag = t; others = bs; height = height; ways_on = ws }) cs) ws b n w r
+
+-- The world in which these branches of a choice are tried again.
+abbrev pub tried_in : Kind → List Branch → World → World
+tried_in k [] w = w
+tried_in k (b ∷ bs) w = retried k w
 
 -- How many gatherings are open outside a choice whose first branch begins in this world.
 abbrev pub open_outside : Kind → World → ℕ
@@ -107,19 +126,16 @@ open_outside k w = length w.gathered
 
 -- The choices where the first branch of a choice begins, with these behind it.
 abbrev pub new_choices : Kind → ℕ → List Branch → World → List Way → List Live → List Live
-new_choices k t bs w ws cs = pushed bs (record { kind = later k; tag = t; others = bs; height = open_outside k w; ways_on = ws }) cs
+new_choices k t bs w ws cs = pushed (record { kind = later k; tag = t; others = bs; height = open_outside k w; ways_on = ws }) cs
 
 -- The ways on there.
 abbrev pub new_ways : Kind → ℕ → List Branch → World → List Way → List Way
 new_ways Shield t bs w ws = record { tag = t; others = bs; height = length w.gathered } ∷ ws
 new_ways k t bs w ws = ws
 
--- Where a run stands behind a move.
-abbrev pub After : Game → List Live → List Way → ℕ → Move → Run → Type 0
-After g cs ws n (GoesOn path w) r = Stands g cs ws path n w r
-After g cs ws n (FailsAt w) r = Failed g cs n w r
-After g cs ws n (EndsAt e w) r = Finished n w (End e) r
-After g cs ws n (StopsAt s w) r = Stopping g cs ws s n w r
+-- Where a run stands behind a goal.
+abbrev pub After : Game → List Live → List Way → ℕ → Outcome → Run → Type 0
+After g cs ws n (Moves m) r = Went g cs ws n m r
 After g cs ws n (Chooses k t b bs w) r = Began g (new_choices k t bs w ws cs) (new_ways k t bs w ws) b n w r
 
 -- The run goes on behind the stoppable part s, with the choices that aren't older cut.
@@ -128,7 +144,7 @@ pub record WentOn (g : Game) (cs : List Live) (ws : List Way) (s : ℕ) (n : ℕ
   pub outer : List Way
   pub is : way_to s ws ≡ Some (way, outer)
   pub world : World
-  pub silently : Silently w world
+  pub drops : Drops w world
   pub gatherings : length world.gathered ≡ way.height
   pub stands : (path : Path) (work : ℕ) → way.others ≡ Enter path work ∷ [] → Stands g (cut_to s cs) outer path n (begun path.registers work world) r
 
@@ -137,10 +153,9 @@ pub record WentOn (g : Game) (cs : List Live) (ws : List Way) (s : ℕ) (n : ℕ
 -- What an engine may do at each step of a path, at a failure and at a stop.
 pub record Keeps : Type 0 where
   -- The run of a game stands at the query of its entry point, with no choice.
-  pub starts : (g : Game) (typed : List ℕ) (n : ℕ) → Stands g [] [] (start_path g) n (start_world typed) (run g typed n)
-  -- What has happened where a run stands, or has failed, has happened in the run.
-  pub has_happened : (g : Game) (cs : List Live) (ws : List Way) (path : Path) (n : ℕ) (w : World) (run : Run) → Stands g cs ws path n w run → Grows w run.world
-  pub has_happened_before : (g : Game) (cs : List Live) (n : ℕ) (w : World) (run : Run) → Failed g cs n w run → Grows w run.world
+  pub starts : (g : Game) (typed : List ℕ) (n : ℕ) → Stands g [] [] (start_path g) n (start_world g typed) (run g typed n)
+  -- What has happened where a goal has led has happened in the run; so it is where a run stands, has failed, stops or has ended.
+  pub has_happened : (g : Game) (cs : List Live) (ws : List Way) (n : ℕ) (m : Outcome) (run : Run) → After g cs ws n m run → Grows (world_of m) run.world
   -- Where a run stands, the bindings of its path are a substitution, and each variable in them and in its steps has been made.
   pub is_bound : (g : Game) (cs : List Live) (ws : List Way) (path : Path) (n : ℕ) (w : World) (run : Run) → Stands g cs ws path n w run → IsBound path
   -- That a rule was answered is noted.
@@ -152,13 +167,13 @@ pub record Keeps : Type 0 where
   -- At an answer of what is negated the choices inside it and its way on are dropped, and it fails.
   pub passes_refuse : (g : Game) (cs : List Live) (ws : List Way) (t : ℕ) (steps : List Step) (r : Registers) (n : ℕ) (w : World) (run : Run) → Stands g cs ws (path_of (Refuse t ∷ steps) r) n w run → Failed g (cut_to t cs) n w run
   -- At an answer of what is gathered the value of its term is kept, and it fails.
-  pub passes_keep : (g : Game) (cs : List Live) (ws : List Way) (t : ℕ) (x : Term) (env : List Value) (steps : List Step) (r : Registers) (n : ℕ) (w : World) (run : Run) → Stands g cs ws (path_of (Keep t x env ∷ steps) r) n w run → Failed g cs n (kept t (resolved r.bound (value_of g.program env x)) w) run
+  pub passes_keep : (g : Game) (cs : List Live) (ws : List Way) (t : ℕ) (x : Term) (env : List Value) (steps : List Step) (r : Registers) (n : ℕ) (w : World) (run : Run) → Stands g cs ws (path_of (Keep t x env ∷ steps) r) n w run → Failed g cs n (kept t (resolved r.bound (value_of g.program env x)) (worked (keeping r (value_of g.program env x)) w)) run
   -- At an answer of what is exhausted it fails.
   pub passes_back : (g : Game) (cs : List Live) (ws : List Way) (steps : List Step) (r : Registers) (n : ℕ) (w : World) (run : Run) → Stands g cs ws (path_of (Back ∷ steps) r) n w run → Failed g cs n w run
   -- A failure goes back to the newest choice.
   pub fails : (g : Game) (cs : List Live) (n : ℕ) (w : World) (run : Run) → Failed g cs n w run → FailsTo g n w run cs
-  -- Its next branch begins, and the choice is kept while it has more.
-  pub begins_next : (g : Game) (c : Live) (cs : List Live) (b : Branch) (bs : List Branch) (n : ℕ) (w : World) (run : Run) → c.others ≡ b ∷ bs → Resumed g c cs n w run → Began g (pushed bs (record c { others = bs }) cs) c.ways_on b n (retried c.kind w) run
+  -- Its next branch begins, or it has failed.
+  pub tries : (g : Game) (c : Live) (cs : List Live) (n : ℕ) (w : World) (run : Run) → Resumed g c cs n w run → Tried g c.kind c.tag c.height c.ways_on cs c.others n (tried_in c.kind c.others w) run
   -- A goal is taken where the budget has one, and its move says where it goes on.
   pub takes : (g : Game) (cs : List Live) (ws : List Way) (x : Goal) (env : List Value) (t : ℕ) (steps : List Step) (r : Registers) (n : ℕ) (w : World) (run : Run) → Stands g cs ws (path_of (Do x env t ∷ steps) r) (suc n) w run → After g cs ws n (move g (out-Goal x) env t steps r (worked 1 w)) run
   -- Where the budget has none the run ends at its limit.

@@ -1,6 +1,7 @@
 pub mod Values
 pub mod Substitutions
 pub mod Unify
+pub mod Letters
 pub mod Unifiers
 pub mod Spellings
 pub mod World
@@ -10,6 +11,7 @@ pub mod Pieces
 pub mod TypeTests
 pub mod Path
 pub mod Render
+pub mod Selection
 pub mod Moves
 pub mod Search
 pub mod Transcript

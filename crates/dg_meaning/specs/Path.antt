@@ -1,5 +1,5 @@
 -- What a search goes along, what may come of a goal, and what a search answers. Hold it against the Dialog manual, chapters "Choice points" and "Control flow".
-use Rattle.std.specs.Prelude.{ℕ, List, Option}
+use Rattle.std.specs.Prelude.{ℕ, List, Option, Bool}
 use Rattle.dg_base.specs.declared.program.Term.{Term}
 use Rattle.dg_base.specs.declared.program.Goal.{Goal}
 use Rattle.dg_base.specs.declared.run.Ending.{Ending}
@@ -57,10 +57,28 @@ pub data Kind : Type 0 where
   Shield : Kind
   Gathers : Kind
 
--- What comes of a goal: the search goes on, has failed, ends, stops, or has a choice of a tag.
+-- What comes of what is done at once: the search goes on, has failed, ends, or stops to a stoppable part.
 pub data Move : Type 0 where
   GoesOn : (path : Path) → (world : World) → Move
   FailsAt : (world : World) → Move
   EndsAt : (ending : Ending) → (world : World) → Move
   StopsAt : (tag : ℕ) → (world : World) → Move
-  Chooses : (kind : Kind) → (tag : ℕ) → (first : Branch) → (others : List Branch) → (world : World) → Move
+
+-- What comes of a goal: a move, or a choice of a tag.
+pub data Outcome : Type 0 where
+  Moves : (move : Move) → Outcome
+  Chooses : (kind : Kind) → (tag : ℕ) → (first : Branch) → (others : List Branch) → (world : World) → Outcome
+
+-- What is done at once: the search goes on with these steps, or where a test was passed, or where two values unify behind the registers in which they were made; it ends, has failed, or stops.
+pub data Act : Type 0 where
+  Goes : (steps : List Step) → (world : World) → Act
+  Tests : (passed : Bool) → (world : World) → Act
+  Unifies : (made : Registers) → (left : Value) → (right : Value) → (world : World) → Act
+  Ends : (ending : Ending) → (world : World) → Act
+  Fails : (world : World) → Act
+  Stops : (world : World) → Act
+
+-- What a goal does: something at once, or it offers branches of a choice of some kind.
+pub data Effect : Type 0 where
+  Acts : (act : Act) → Effect
+  Offers : (kind : Kind) → (branches : List Branch) → (world : World) → Effect

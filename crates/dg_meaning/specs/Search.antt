@@ -5,8 +5,8 @@ use Rattle.dg_base.specs.declared.run.Ending.TheVariants.{Done as Done-Ending, S
 use Rattle.dg_meaning.specs.Values.{value_of}
 use Rattle.dg_meaning.specs.Substitutions.{resolved}
 use Rattle.dg_meaning.specs.World.{Game, World, Answered, Retried, noted, worked, kept, dropped}
-use Rattle.dg_meaning.specs.Path.{Step, Do, Answers, Cut, Refuse, Back, Keep, Leave, Registers, Path, Result, Failing, CutFail, StopTo, End, Answer, Branch, Enter, Clash, TakeOut, Kind, Plain, Rules, Shield, Gathers, Move, GoesOn, FailsAt, EndsAt, StopsAt, Chooses}
-use Rattle.dg_meaning.specs.Moves.{exhausted, begun, move}
+use Rattle.dg_meaning.specs.Path.{Step, Do, Answers, Cut, Refuse, Back, Keep, Leave, Registers, Path, Result, Failing, CutFail, StopTo, End, Answer, Branch, Enter, Clash, TakeOut, Kind, Plain, Rules, Shield, Gathers, Move, GoesOn, FailsAt, EndsAt, StopsAt, Outcome, Moves, Chooses}
+use Rattle.dg_meaning.specs.Moves.{exhausted, begins, keeping, move}
 
 -- From a budget of goals, a path and a world to an answer.
 abbrev pub Search : Type 0
@@ -75,11 +75,16 @@ after_branch k t n w (CutFail u) next stopped = answer n (leave k t w) (if eqb u
 after_branch k t n w (StopTo s c) next stopped = if catches k t s then stopped c n w else answer n (leave k t w) (StopTo s c)
 after_branch k t n w (End e) next stopped = answer n (leave k t w) (End e)
 
+-- What a move leads to, where s searches.
+abbrev pub after_move : Search → ℕ → Move → Answer
+after_move s n (GoesOn path w) = s n path w
+after_move s n (FailsAt w) = answer n w Failing
+after_move s n (EndsAt e w) = answer n w (End e)
+after_move s n (StopsAt t w) = answer n w (StopTo t None)
+
 -- A branch begins, and s searches what it goes on with.
 abbrev pub begin : Search → Branch → ℕ → World → Answer
-begin s (Enter path work) n w = s n path (begun path.registers work w)
-begin s (Clash r work) n w = answer n (begun r work w) Failing
-begin s (TakeOut t path) n w = s n path (begun path.registers 0 (dropped t w))
+begin s b n w = after_move s n (begins b w)
 
 -- The branches of the choice t behind its first.
 abbrev pub choose : Search → Kind → ℕ → List Branch → ℕ → World → Answer
@@ -95,17 +100,14 @@ choose_first s k t b bs n w =
 -- ## Steps
 
 -- What a goal leads to, where s searches.
-abbrev pub after_move : Search → ℕ → Move → Answer
-after_move s n (GoesOn path w) = s n path w
-after_move s n (FailsAt w) = answer n w Failing
-after_move s n (EndsAt e w) = answer n w (End e)
-after_move s n (StopsAt t w) = answer n w (StopTo t None)
-after_move s n (Chooses k t b bs w) = choose_first s k t b bs n w
+abbrev pub after_goal : Search → ℕ → Outcome → Answer
+after_goal s n (Moves m) = after_move s n m
+after_goal s n (Chooses k t b bs w) = choose_first s k t b bs n w
 
 -- A goal is taken only where the budget has one.
-abbrev pub take_goal : Search → ℕ → Move → World → Answer
+abbrev pub take_goal : Search → ℕ → Outcome → World → Answer
 take_goal s zero m w = answer zero w (End StepLimit)
-take_goal s (suc n) m w = after_move s n m
+take_goal s (suc n) m w = after_goal s n m
 
 -- The steps of a path, where s searches what a goal goes on with; marks take nothing of the budget.
 abbrev pub go : Game → Search → ℕ → List Step → Registers → World → Answer
@@ -115,7 +117,7 @@ go g s n (Answers pred ∷ steps) r w = go g s n steps r (noted (Answered pred) 
 go g s n (Cut t ∷ steps) r w = cut t (go g s n steps r w)
 go g s n (Refuse t ∷ steps) r w = answer n w (CutFail t)
 go g s n (Back ∷ steps) r w = answer n w Failing
-go g s n (Keep t x env ∷ steps) r w = answer n (kept t (resolved r.bound (value_of g.program env x)) w) Failing
+go g s n (Keep t x env ∷ steps) r w = let v = value_of g.program env x in answer n (kept t (resolved r.bound v) (worked (keeping r v) w)) Failing
 go g s n (Leave t outer ∷ steps) r w = cut t (go g s n steps (record r { stoppable = outer }) w)
 
 -- Where no goal may be taken.

@@ -28,8 +28,8 @@ abbrev pub run_of : Answer → Run
 run_of a = record { left = a.left; world = a.world; ending = ending_of a.result }
 
 -- Nothing has happened, and all of the typed bytes are left.
-abbrev pub start_world : List ℕ → World
-start_world typed = record { events = []; gathered = []; meters = record { heap = 0; trail = 0; aux = 0; keep = 0; work = 0 }; typed = typed; dice = 0 }
+abbrev pub start_world : Game → List ℕ → World
+start_world g typed = record { events = []; gathered = []; meters = record { heap = 0; trail = 0; aux = 0; keep = 0; work = 0 }; typed = typed; dice = 0 }
 
 -- The query of the entry point.
 abbrev pub start_path : Game → Path
@@ -37,7 +37,7 @@ start_path g = record { steps = Do (Ask g.program.entry [] false) [] 0 ∷ []; r
 
 -- The run of a game on typed bytes, with a budget of n goals.
 unfoldable pub run : Game → List ℕ → ℕ → Run
-run g typed n = run_of (search g n (start_path g) (start_world typed))
+run g typed n = run_of (search g n (start_path g) (start_world g typed))
 
 -- ## Its transcript
 

@@ -98,8 +98,8 @@ const TRANSCRIPTS: [(&str, &str, u8, &str); 20] = [
     ("debug p.dg", CHOICE, 0, "took lamp\n"),
     ("debug p.dg", NESTED, 0, "2\n"),
     ("debug p.dg", DOUBLED, 0, "1\n"),
-    ("debug p.dg --heap 22", SECOND_RULE, 3, "[Heap limit]\n"),
-    ("debug p.dg --heap 23", SECOND_RULE, 0, "done\n"),
+    ("debug p.dg --heap 11", SECOND_RULE, 3, "[Heap limit]\n"),
+    ("debug p.dg --heap 12", SECOND_RULE, 0, "done\n"),
     (
         "debug p.dg",
         "(program entry point) (if) ($X = [a | $X]) (then) yes (else) no (endif)",

@@ -1,4 +1,4 @@
-use Rattle.std.proofs.Common.{◌<◌, ◌≤◌, ◌+◌, refl, length, rules}
+use Rattle.std.proofs.Common.{◌≤◌, ◌+◌, refl, length, rules}
 use Rattle.dg_base.specs.declared.program.Goal.TheVariants.{Ask}
 use Rattle.dg_interp.specs.declared.frames.Left.TheVariants.{Rules}
 use Rattle.dg_interp.specs.Engine.{store_in, FailsAt, TakesAt, BeginsAt}
@@ -40,9 +40,8 @@ begin_rule-requires-clause-sound c =
 
 pub begin_rule-requires-clause-left : goal.begin_rule-requires-clause-left
 begin_rule-requires-clause-left c =
-    let some : 0 < length c.rules_of-rules.result.now = search rules in
     asking_left c.args.self.now c.args.query c.args.terms.now c.write_args.new.store c.write_args.new.refs c.write_args.new.made c.in-Ok.args c.requires.ready c.write_args.ensures.kept c.write_args.ensures.saved c.in-Ok.ensures.written c.rules_of-rules.result c.rules_of-rules.ensures c.mark-place.result c.push.new.self c.mark-place.new.self
-    c.in_default.ensures.items c.mark-place.ensures.kept c.mark-place.ensures.same c.mark-place.ensures.saved some
+    c.in_default.ensures.items c.mark-place.ensures.kept c.mark-place.ensures.same c.mark-place.ensures.saved
 
 pub begin_rule-requires-clause-place : goal.begin_rule-requires-clause-place
 begin_rule-requires-clause-place c =

@@ -1,4 +1,4 @@
-use Rattle.std.proofs.Common.{refl, rules, length, ◌<◌}
+use Rattle.std.proofs.Common.{refl, rules}
 use Rattle.dg_base.specs.declared.program.Goal.TheVariants.{Either}
 use Rattle.dg_interp.specs.declared.frames.Left.TheVariants.{Lists}
 use Rattle.dg_interp.specs.Engine.{store_in, TakesAt, OpensAt, FailsAt}
@@ -18,8 +18,7 @@ returns-then-is_empty-clause-done c =
 
 pub open-requires-clause-left : goal.open-requires-clause-left
 open-requires-clause-left c =
-    let some : 0 < length c.args.lists.now = search rules in
-    (some, c.requires.built, c.in_ok-push.ensures.pushed.ready.here.env)
+    (c.requires.built, c.in_ok-push.ensures.pushed.ready.here.env)
 
 pub open-requires-clause-room : goal.open-requires-clause-room
 open-requires-clause-room c = pushed_room c.args.self.now.here c.args.self.now c.push.new.self c.in_ok-push.ensures.pushed c.requires.room

@@ -1,7 +1,7 @@
 use Rattle.std.proofs.Common.{refl, arith}
 use Rattle.dg_interp.specs.Frames.{left_in}
 use Rattle.dg_interp.specs.Engine.{FailsAt, BeginsAt, store_in}
-use Rattle.dg_interp.proofs.Branches.{none_popped, popped_sound, popped_place, popped_limits, begins_popped, fewer_left, retried_from, full_from, popped_left, may_undo}
+use Rattle.dg_interp.proofs.Branches.{none_popped, popped_sound, popped_place, popped_limits, begins_popped, fewer_left, retried_from, full_from, popped_left, popped_stays, may_undo}
 use Rattle.dg_interp.proofs.engine.Engine.retry.Goals as goal
 
 pub begin-requires-clause-sound : goal.begin-requires-clause-sound
@@ -36,3 +36,6 @@ begin-requires-clause-left c = popped_left c.args.self.now c.in-Some.choice c.po
 
 pub undo-requires : goal.undo-requires
 undo-requires c = may_undo c.args.self.now c.in-Some.choice c.pop.new.self c.requires.sound c.in-Some.ensures.items
+
+pub begin-requires-clause-some : goal.begin-requires-clause-some
+begin-requires-clause-some c = popped_stays c.args.self.now c.in-Some.choice c.pop.new.self c.requires.sound c.in-Some.ensures.items c.truncate.new.self c.truncate-in-Some.new.self c.undo.new.self c.truncate.ensures.items c.truncate-in-Some.ensures.items c.undo.ensures.back c.undo.ensures.saved
