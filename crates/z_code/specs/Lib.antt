@@ -2,3 +2,4 @@ pub use Rattle.z_model.specs.Decode
 pub use Rattle.z_model.specs.Spelling
 pub mod Decoded
 pub mod Appended
+pub mod Targets

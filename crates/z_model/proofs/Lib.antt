@@ -10,3 +10,5 @@ pub mod CompletedForms
 pub mod Ends
 pub mod NoInstruction
 pub mod Places
+pub mod Kept
+pub mod Standing

@@ -54,7 +54,10 @@ unfoldable pub pushed : Machine → ℕ → Result Machine ZFault
 pushed m x = if nat_lt (words m) 65536 then Ok (with_stack m (m.here.stack ++ x ∷ [])) else Err StackFull
 
 unfoldable pub popped : Machine → Result (ℕ × Machine) ZFault
-popped m = if nat_lt 0 (length m.here.stack) then Ok (slice_index m.here.stack (length m.here.stack - 1), with_stack m (take (length m.here.stack - 1) m.here.stack)) else Err StackEmpty
+popped m =
+    if nat_lt 0 (length m.here.stack) then
+    Ok (slice_index m.here.stack (length m.here.stack - 1), with_stack m (take (length m.here.stack - 1) m.here.stack))
+    else Err StackEmpty
 
 -- ---- variables
 
@@ -75,7 +78,8 @@ variable_of layout m v =
     else Ok (global_of layout m v, m)
 
 abbrev pub global_set : Layout → Machine → ℕ → ℕ → Machine
-global_set layout m v x = record m { memory = slice_set (slice_set m.memory (global_at layout v) (x / 256)) (global_at layout v + 1) (x % 256) }
+global_set layout m v x =
+    record m { memory = slice_set (slice_set m.memory (global_at layout v) (x / 256)) (global_at layout v + 1) (x % 256) }
 
 -- gives a local a value
 unfoldable pub local_set : Machine → ℕ → ℕ → Result Machine ZFault
@@ -83,7 +87,11 @@ local_set m v x = if nat_lt (v - 1) (length m.here.locals) then Ok (with_locals 
 
 -- gives a variable a value; 0 pushes a word
 unfoldable pub stored : Layout → Machine → ℕ → ℕ → Result Machine ZFault
-stored layout m v x = if v == 0 then pushed m x else if nat_lt v 16 then local_set m v x else Ok (global_set layout m v x)
+stored layout m v x =
+    if v == 0 then pushed m x
+    else if nat_lt v 16 then local_set m v x
+    else if nat_lt v 256 then Ok (global_set layout m v x)
+    else Err BadOpcode
 
 -- the store of an instruction, where it has one
 unfoldable pub stored_if : Layout → Machine → Option ℕ → ℕ → Result Machine ZFault
@@ -100,10 +108,7 @@ held_in layout m v =
     else Err BadOpcode
 
 unfoldable pub placed : Layout → Machine → ℕ → ℕ → Result Machine ZFault
-placed layout m v x =
-    if v == 0 then (popped m >>= λ p. pushed p.1 x)
-    else if nat_lt v 256 then stored layout m v x
-    else Err BadOpcode
+placed layout m v x = if v == 0 then (popped m >>= λ p. pushed p.1 x) else stored layout m v x
 
 -- ---- operands, from left to right
 

@@ -8,13 +8,15 @@ mod story;
 mod table;
 mod text;
 
-ghost use Rattle.std.specs.Prelude.{List, ℕ};
+ghost use Rattle.std.specs.Prelude.{List, ℕ, All, flat_map};
 ghost use Rattle.z_model.specs.Table.{Rows, rows_of};
-ghost use Rattle.z_model.specs.Spelling.{Again, AreBytes, Written};
+ghost use Rattle.z_model.specs.Spelling.{Again, AreBytes, Written, Stands, spelling};
 ghost use Rattle.z_model.specs.Undecoded.{Undecoded};
 ghost use Rattle.z_model.specs.declared.op.Op.{Op};
 ghost use Rattle.z_model.specs.Run.{ZGiven, ZState};
-ghost use Rattle.z_model.specs.Laws.{RunLaws};
+ghost use Rattle.z_model.specs.Machine.{Machine};
+ghost use Rattle.z_model.specs.Laws.{RunLaws, IsLaid, KeepsCode, CodeStays, StandsOn, IsDone, IsTextless, InARow};
+ghost use Rattle.z_model.specs.declared.story.Layout.{Layout};
 
 pub use end::{Args, Effect, Halt, ZEnd};
 pub use fault::ZFault;
@@ -41,4 +43,24 @@ pub fn written_again()
 /// A run of k + j steps is one of k and then one of j, and what was printed stays.
 pub fn runs_in_pieces()
     ensures { (w : ZGiven) (s : ZState) → RunLaws w s }
+{}
+
+/// A step keeps the code of a story, and so does a run.
+pub fn steps_keep_code()
+    ensures { (w : ZGiven) (s : ZState) → IsLaid w.layout → CodeStays w s }
+{}
+
+/// What stands in the code stands in each memory that keeps it.
+pub fn code_stands_on()
+    ensures { (layout : Layout) (old new : List ℕ) → KeepsCode layout old new → StandsOn layout old new }
+{}
+
+/// An instruction that stands at the counter is what the step does.
+pub fn stands_is_done()
+    ensures { (rows : Rows) (layout : Layout) (word : ℕ) (m : Machine) → IsDone rows layout word m }
+{}
+
+/// Ops that are written one behind another are instructions one behind another.
+pub fn instructions_in_a_row()
+    ensures { (rows : Rows) (bytes : List ℕ) (at : ℕ) (ops : List Op) → All (IsTextless rows) ops → Stands bytes at (flat_map spelling ops) → InARow rows bytes at ops }
 {}

@@ -2,6 +2,7 @@
 use Rattle.std.proofs.Common.{◌≡◌, ◌≢◌, ℕ, zero, suc, ◌+◌, ◌-◌, ◌%◌, ◌<◌, ◌≤◌, Bool, true, false, cond, eqb, ltb, List, [], ◌∷◌, length, map, Option, Some, None, Result, Ok, Err, IsOk, refl, subst, arith}
 use Rattle.std.proofs.lemmas.List.{append-nil, length-take}
 use Rattle.z_model.specs.declared.fault.ZFault.{ZFault}
+use Rattle.z_model.specs.declared.fault.ZFault.TheVariants.{BadOpcode}
 use Rattle.z_model.specs.declared.story.Layout.{Layout}
 use Rattle.z_model.specs.declared.end.Halt.{Halt}
 use Rattle.z_model.specs.declared.end.Halt.TheVariants.{AtQuit, AtInput}
@@ -62,16 +63,18 @@ line_ok mem buffer most line may few =
 store_ok : (layout : Layout) (m : Machine) (memory : List ℕ) (store : Option ℕ) (x : ℕ) → IsOk (stored_if layout m store x) → IsOk (stored_if layout (record m { memory = memory }) store x)
 unfolding stored_if stored pushed local_set
 store_ok layout m memory None x h = h
-store_ok layout m memory (Some v) x h = by_tests (eqb v 0) (ltb v 16) h
+store_ok layout m memory (Some v) x h = by_tests (eqb v 0) (ltb v 16) (ltb v 256) h
   where
     by_test : (t : Bool) (a b : Machine) (e : ZFault) → IsOk {T = Machine} {E = ZFault} (cond t (Ok a) (Err e)) → IsOk {T = Machine} {E = ZFault} (cond t (Ok b) (Err e))
     by_test true a b e h = refl
     by_test false a b e h = h
 
-    by_tests : (empty small : Bool) → IsOk (cond empty (pushed m x) (cond small (local_set m v x) (Ok (global_set layout m v x)))) → IsOk (cond empty (pushed (record m { memory = memory }) x) (cond small (local_set (record m { memory = memory }) v x) (Ok (global_set layout (record m { memory = memory }) v x))))
-    by_tests true small h = by_test (ltb (words m) 65536) _ _ _ h
-    by_tests false true h = by_test (ltb (v - 1) (length m.here.locals)) _ _ _ h
-    by_tests false false h = refl
+    by_tests : (empty small one : Bool) →
+        IsOk (cond empty (pushed m x) (cond small (local_set m v x) (cond one (Ok (global_set layout m v x)) (Err BadOpcode)))) →
+        IsOk (cond empty (pushed (record m { memory = memory }) x) (cond small (local_set (record m { memory = memory }) v x) (cond one (Ok (global_set layout (record m { memory = memory }) v x)) (Err BadOpcode))))
+    by_tests true small one h = by_test (ltb (words m) 65536) _ _ _ h
+    by_tests false true one h = by_test (ltb (v - 1) (length m.here.locals)) _ _ _ h
+    by_tests false false one h = by_test one _ _ _ h
 
 pub read_ok : (layout : Layout) (m : Machine) (buffer most : ℕ) (store : Option ℕ) (line : List ℕ) → have_right (is_writable layout) ((buffer + 1) % 65536) (most + 1) ≡ true → IsOk (stored_if layout m store 13) → length line ≤ most → IsOk (line_read layout m buffer store line)
 unfolding line_read

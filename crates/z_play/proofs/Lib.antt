@@ -1,3 +1,4 @@
+pub mod Stored
 pub mod Views
 pub mod Returns
 pub mod Entered
