@@ -12,6 +12,7 @@ pub mod TypeTests
 pub mod Path
 pub mod Render
 pub mod Selection
+pub mod Choosing
 pub mod Moves
 pub mod Search
 pub mod Transcript
