@@ -3,3 +3,4 @@ pub use Rattle.z_model.specs.Spelling
 pub mod Decoded
 pub mod Appended
 pub mod Targets
+pub mod Open

@@ -16,3 +16,10 @@ pub enum LOp {
     Label(u16),
     Do(Op, [Option<Target>; 4], Option<u16>),
 }
+
+/// Where a label stands.
+#[derive(Clone, Copy, Debug, PartialEq, Eq)]
+pub struct Spot {
+    pub label: u16,
+    pub at: u32,
+}

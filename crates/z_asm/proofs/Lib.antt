@@ -1,0 +1,5 @@
+pub mod Filled
+pub mod Placing
+pub mod Layouts
+pub mod Parts
+pub mod Standing

@@ -1,0 +1,7 @@
+use Rattle.std.proofs.Common.{◌≡◌, ◌+◌, drop}
+use Rattle.z_code.specs.Targets.{ops_size}
+use Rattle.z_asm.specs.Layout.{code_size}
+use Rattle.z_asm.proofs.sizes.size_of_code.Given as goal
+
+abbrev pub invariant-loop-op : goal.invariant-loop-op
+invariant-loop-op l = l.size + ops_size (drop l.op-index l.code.ops) ≡ code_size l.code

@@ -1,0 +1,13 @@
+pub mod Stretches
+pub mod Kept
+pub mod Operands
+pub mod Effects
+pub mod Keeping
+pub mod Jumps
+pub mod Calls
+pub mod Follows
+pub mod Routines
+pub mod Turns
+pub mod Trampoline
+pub mod Start
+pub mod Sizes

@@ -1,0 +1,10 @@
+pub mod State
+pub mod Acts
+pub mod Runs
+pub mod Code
+pub mod Leads
+pub mod Standing
+pub mod Turns
+pub mod WholeRuns
+pub mod Sizes
+pub mod Ranges

@@ -1,0 +1,90 @@
+-- How routines stand in a story, and what their instructions do.
+use Rattle.std.specs.Prelude.{◌≡◌, ◌≢◌, ℕ, ◌+◌, ◌*◌, ◌≤◌, ◌<◌, List, [], length, drop, Option, Some, None, Result, Ok, slice_get}
+use Rattle.z_model.specs.declared.fault.ZFault.{ZFault}
+use Rattle.z_model.specs.declared.story.Layout.{Layout}
+use Rattle.z_model.specs.declared.end.Halt.{Halt}
+use Rattle.z_model.specs.Flow.{return_to}
+use Rattle.z_model.specs.Machine.{Frame, Machine, words_in}
+use Rattle.z_model.specs.Table.{rows_of}
+use Rattle.z_model.specs.Laws.{IsLaid}
+use Rattle.z_model.specs.Run.{ZGiven, ZState, end_of}
+use Rattle.z_code.specs.Targets.{Placed, Names}
+use Rattle.z_lang.specs.declared.act.Routine.{Routine}
+use Rattle.z_lang.specs.declared.act.Act.{Act}
+use Rattle.z_lang.specs.State.{State, Program}
+use Rattle.z_lang.specs.Runs.{Outcome, Returns, Stops, Rests, Runs}
+use Rattle.z_lang.specs.Code.{code}
+use Rattle.z_lang.specs.Leads.{Leads, Ends}
+
+-- The player's table, and a story whose globals lie before the static base.
+pub record IsLaidOut (given : ZGiven) : Type 0 where
+  pub rows : given.rows ≡ rows_of
+  pub laid : IsLaid given.layout
+
+-- A routine stands at a packed address.
+pub record StandsAt (p : Program) (story : List ℕ) (x : ℕ) (r : Routine) : Type 0 where
+  pub labels : ℕ → ℕ
+  pub some : x ≢ 0
+  pub within : p.world.layout.base ≤ 8 * x
+  pub few : r.locals ≤ 15
+  pub count : slice_get story (8 * x) ≡ Some r.locals
+  pub code_is : Placed story p.names labels (8 * x + 1) (code r.body)
+
+-- All routines of a program stand in a story.
+pub record Stands (p : Program) (story : List ℕ) : Type 0 where
+  pub laid_out : IsLaidOut p.world
+  pub each : (x : ℕ) (r : Routine) → p.routine_at x ≡ Some r → StandsAt p story x r
+
+-- From the static base on, memory is as the story.
+abbrev pub IsKept : ℕ → List ℕ → List ℕ → Type 0
+IsKept base story memory = drop base memory ≡ drop base story
+
+-- Where a routine was called from.
+pub record Context : Type 0 where
+  pub back : ℕ
+  pub store : Option ℕ
+  pub args : ℕ
+  pub callers : List Frame
+
+abbrev pub machine_at : State → Context → ℕ → Machine
+machine_at s c pc = record { memory = s.memory; pc = pc; here = record { back = c.back; store = c.store; args = c.args; locals = s.locals; stack = [] }; callers = c.callers; tables = [] }
+
+abbrev pub outside : State → Machine → ZState
+outside s m = record { machine = m; typed = s.typed; drawn = s.drawn; output = s.output }
+
+-- the player's state where a routine's instructions go on at an address
+abbrev pub state_at : State → Context → ℕ → ZState
+state_at s c pc = outside s (machine_at s c pc)
+
+-- the machine behind a return
+abbrev pub resumed : Layout → State → Context → ℕ → Result Machine ZFault
+resumed layout s c x = return_to layout (machine_at s c 0) c.callers x
+
+-- There is room for so many more frames and words.
+pub record HasRoom (c : Context) (s : State) (f w : ℕ) : Type 0 where
+  pub frames : length c.callers + f < 8192
+  pub words : words_in c.callers + length s.locals + w ≤ 65536
+
+-- Acts stand at an address, and a state comes to it.
+pub record ComesAt (p : Program) (story : List ℕ) (labels : ℕ → ℕ) (c : Context) (acts : List Act) (s : State) (n : ℕ) (z : ZState) : Type 0 where
+  pub pc : ℕ
+  pub placed : Placed story p.names labels pc (code acts)
+  pub from : p.world.layout.base ≤ pc
+  pub leads : Leads p.world n z (state_at s c pc)
+
+-- where a state comes to with an outcome
+abbrev pub ComesTo : Program → List ℕ → (ℕ → ℕ) → Context → Outcome → State → ℕ → ZState → Type 0
+ComesTo p story labels c (Returns x) s n z = (m : Machine) → resumed p.world.layout s c x ≡ Ok m → Leads p.world n z (outside s m)
+ComesTo p story labels c (Stops halt) s n z = (last : ZState) × (last.output ≡ s.output) × Ends p.world n z (record { end = end_of halt; state = last })
+ComesTo p story labels c (Rests acts) s n z = ComesAt p story labels c acts s n z
+
+-- What comes of acts: memory is kept, and the player's state comes to the outcome.
+pub record Follows (p : Program) (story : List ℕ) (labels : ℕ → ℕ) (c : Context) (o : Outcome) (s' : State) (n : ℕ) (z : ZState) : Type 0 where
+  pub kept : IsKept p.world.layout.base story s'.memory
+  pub comes : ComesTo p story labels c o s' n z
+
+-- Where a routine that stands in a story begins, its instructions do what its acts mean.
+abbrev pub RoutinesFollow : Type 0
+RoutinesFollow = (p : Program) (story : List ℕ) → Stands p story → (x : ℕ) (r : Routine) → p.routine_at x ≡ Some r →
+    (labels : ℕ → ℕ) → Placed story p.names labels (8 * x + 1) (code r.body) → (c : Context) (f w n : ℕ) (s s' : State) (o : Outcome) → IsKept p.world.layout.base story s.memory → HasRoom c s f w →
+    Runs p f w r.body r.body s o s' n → Follows p story labels c o s' n (state_at s c (8 * x + 1))
