@@ -36,8 +36,9 @@ use Rattle.dg_interp.specs.declared.frames.Left.TheVariants.{Rules}
 use Rattle.dg_interp.specs.declared.engine.Engine.{Engine}
 use Rattle.dg_interp.specs.Rules.{ArgsWritten}
 use Rattle.dg_interp.specs.Terms.{Overflows, Written}
-use Rattle.dg_interp.specs.Frames.{stretch, values_in, steps_behind, Agrees, AreChoices, AreFrames, IsLeft, StandOn, GoBackTo}
-use Rattle.dg_interp.specs.Engine.{store_in, KeepsPlaces, HasPlace, IsPlace, Point, IsQuiet, IsSound, IsReady, TakesAt, FailsAt, BeginsAt, FullAt, Adds, Leads, SameLimits, steps_of}
+use Rattle.dg_interp.specs.Frames.{stretch, values_in, steps_behind, AreChoices, AreFrames, IsLeft, StandOn, GoBackTo}
+use Rattle.dg_interp.specs.Engine.{store_in, KeepsPlaces, HasPlace, IsPlace, Point, IsSound, IsReady, TakesAt, FailsAt, BeginsAt, FullAt, Adds, Leads, SameLimits, steps_of}
+use Rattle.dg_unify.specs.Engines.{Agrees}
 use Rattle.dg_interp.proofs.Links.{SameBy, same_here, same_append, behind_new, at_same, frame_raise, frames_raise, frames_append, choices_same, back_same, stand_raise, stand_same}
 use Rattle.dg_interp.proofs.Stores.{kept_here, all_hold, values_kept, hold_front, front_same, appended_stretch}
 use Rattle.dg_interp.proofs.Begins.{back_limits}
@@ -127,25 +128,25 @@ module _ (old : Engine) (query : Query) (terms : List Term) (store1 : ListBindin
   abbrev asked_in : (g : Game) (n : ℕ) (w : World) (run : Run) → from g n w run → World
   asked_in g n w run st = noted (Asked query.pred) (looked_in g n w run st)
 
-  adds_asked : (g : Game) (n : ℕ) (w : World) (run : Run) (st : from g n w run) → IsQuiet w → Adds [] w (asked_in g n w run st)
-  adds_asked g n w run st quiet =
+  adds_asked : (g : Game) (n : ℕ) (w : World) (run : Run) (st : from g n w run) → Adds [] w (asked_in g n w run st)
+  adds_asked g n w run st =
       let v = looked_in g n w run st in
-      let a = adds_taken (r_of g n w run st) (writing (terms_held (out-Goal x))) w quiet in
-      adds_on w v (asked_in g n w run st) [] [] (record { prints_are = a.prints_are; typed = refl; quiet = quiet }) (adds_noted v (Asked query.pred) quiet refl)
+      let a = adds_taken (r_of g n w run st) (writing (terms_held (out-Goal x))) w in
+      adds_on w v (asked_in g n w run st) [] [] (record { prints_are = a.prints_are; typed = refl }) (adds_noted v (Asked query.pred) refl)
 
   abbrev branches : (g : Game) (n : ℕ) (w : World) (run : Run) → from g n w run → List Rule → List Branch
   branches g n w run st rules = rule_branches g query.pred (values_in s1 ys args) query.many (steps_of old) (r_of g n w run st) rules
 
   asked : (rules : List Rule) → rules ≡ rules_of (slice_get old.program.now.preds query.pred) → (g : Game) (n : ℕ) (w : World) (run : Run) (st : from g n w run) →
-      After g st.lives st.ways n (choice (RulesOf query.pred) (r_of g n w run st).next_tag (branches g n w run st rules) (asked_in g n w run st)) run
+      After g st.at.inside.lives st.at.ways n (choice (RulesOf query.pred) (r_of g n w run st).next_tag (branches g n w run st rules) (asked_in g n w run st)) run
   asked rules are g n w run st =
       let r = r_of g n w run st in
       let values = values_in s xs old.here.env in
       let v = taken_in x old g n w run st in
       let as_asked = ap (λ f. outcome g f values old.here.tag (steps_of old) r v) (outs-Ask query.pred terms query.many) in
       let on : List Rule → List Value → Outcome = λ rs vs. choice (RulesOf query.pred) r.next_tag (rule_branches g query.pred vs query.many (steps_of old) r rs) (noted (Asked query.pred) (worked (first_looks r vs) v)) in
-      let here : rules_of (slice_get g.program.preds query.pred) ≡ rules = ap (λ (p : CoreProgram). rules_of (slice_get p.preds query.pred)) (sym st.program) ∙ sym are in
-      subst (λ m. After g st.lives st.ways n m run) (as_asked ∙ ap (λ rs. on rs (map (value_of g.program values) terms)) here ∙ ap (on rules) (sym (args_are g st.program))) (comes_of x old g n w run st)
+      let here : rules_of (slice_get g.program.preds query.pred) ≡ rules = ap (λ (p : CoreProgram). rules_of (slice_get p.preds query.pred)) (sym st.at.inside.program) ∙ sym are in
+      subst (λ m. After g st.at.inside.lives st.at.ways n m run) (as_asked ∙ ap (λ rs. on rs (map (value_of g.program values) terms)) here ∙ ap (on rules) (sym (args_are g st.at.inside.program))) (comes_of x old g n w run st)
 
   module _ (rules : Bor (List Rule)) (are : rules.now ≡ rules_of (slice_get old.program.now.preds query.pred)) where
     -- no rule is there
@@ -179,17 +180,20 @@ module _ (old : Engine) (query : Query) (terms : List Term) (store1 : ListBindin
     choices_now g ms cs h = choices_same g xs ys fs fs (length fs) (length xs) old.newest os ms cs front (same_here (length fs) fs) ready.sound.choices h
 
     pub asks_none : rules.now ≡ [] → Leads from (FailsAt failing)
-    asks_none none g n w run quiet st =
+    asks_none none g n w run st =
         let v = asked_in g n w run st in
         record {
           world = noted (HasFailed query.pred) v;
-          adds = adds_on w v (noted (HasFailed query.pred) v) [] [] (adds_asked g n w run st quiet) (adds_noted v (HasFailed query.pred) quiet refl);
+          adds = adds_on w v (noted (HasFailed query.pred) v) [] [] (adds_asked g n w run st) (adds_noted v (HasFailed query.pred) refl);
           holds = record {
-            program = st.program;
-            lives = st.lives;
-            saved = st.saved;
-            keeps = saved1 st.saved st.keeps;
-            choices = choices_now g st.saved st.lives st.choices;
+            inside = record {
+              program = st.at.inside.program;
+              lives = st.at.inside.lives;
+              saved = st.at.inside.saved;
+              keeps = saved1 st.at.inside.saved st.at.inside.keeps;
+              choices = choices_now g st.at.inside.saved st.at.inside.lives st.at.inside.choices;
+              world = st.at.inside.world;
+            };
             failed = asked [] (sym none ∙ are) g n w run st;
           };
         }
@@ -255,39 +259,45 @@ module _ (old : Engine) (query : Query) (terms : List Term) (store1 : ListBindin
           let here = (written g.program).written.charged.state in
           let form : cells g.program (terms_held (out-Goal x)) ≡ cells g.program terms = ap (λ f. cells g.program (terms_held f)) (outs-Ask query.pred terms query.many) in
           record {
-            bound = st.agrees.bound ∙ ap (λ (t : State). t.subst) (sym (state2 ∙ ap marked here));
-            vars = st.agrees.vars ∙ ap (λ (t : State). t.vars) (sym (state2 ∙ ap marked here));
-            heap = omega (arith, st.agrees.heap, form, ap (λ (t : State). t.heap) (state2 ∙ ap marked here));
-            trail = omega (arith, st.agrees.trail, ap (λ (t : State). t.trail) (state2 ∙ ap marked here));
+            bound = st.at.agrees.bound ∙ ap (λ (t : State). t.subst) (sym (state2 ∙ ap marked here));
+            vars = st.at.agrees.vars ∙ ap (λ (t : State). t.vars) (sym (state2 ∙ ap marked here));
+            heap = omega (arith, st.at.agrees.heap, form, ap (λ (t : State). t.heap) (state2 ∙ ap marked here));
+            trail = omega (arith, st.at.agrees.trail, ap (λ (t : State). t.trail) (state2 ∙ ap marked here));
             since = omega (arith, ap (λ (t : State). t.since) state2, ap (λ (t : State). t.vars) state2);
           }
 
       pub asks_some : Leads from (BeginsAt (Rules query args rules) place asking)
-      asks_some g n w run quiet st =
+      asks_some g n w run st =
           let r = r_of g n w run st in
           record {
             world = asked_in g n w run st;
-            adds = adds_asked g n w run st quiet;
+            adds = adds_asked g n w run st;
             holds = record {
-              program = st.program;
-              lives = st.lives;
-              ways = st.ways;
-              registers = r;
-              saved = st.saved;
+              at = record {
+                inside = record {
+                  program = st.at.inside.program;
+                  lives = st.at.inside.lives;
+                  saved = st.at.inside.saved;
+                  keeps = saves_drops true (fields_of store2) (record { mark = place; store = s2 }) st.at.inside.saved (place_now st.at.inside.saved (saved1 st.at.inside.saved st.at.inside.keeps)).keeps;
+                  choices = subst (λ l. AreChoices g ys l os st.at.inside.saved st.at.inside.lives) (sym pushed_on)
+                      (choices_same g ys ys fs gs (length fs) (length ys) old.newest os st.at.inside.saved st.at.inside.lives refl (same_append fs old.here) failing_sound.choices (choices_now g st.at.inside.saved st.at.inside.lives st.at.inside.choices));
+                  world = st.at.inside.world;
+                };
+                ways = st.at.ways;
+                registers = r;
+                agrees = agrees_now g n w run st;
+                tag = st.at.tag;
+              };
               back = record { mark = place; store = s2 };
-              is = place_now st.saved (saved1 st.saved st.keeps);
-              agrees = agrees_now g n w run st;
+              is = place_now st.at.inside.saved (saved1 st.at.inside.saved st.at.inside.keeps);
               back_agrees = agrees_now g n w run st;
-              choices = subst (λ l. AreChoices g ys l os st.saved st.lives) (sym pushed_on)
-                  (choices_same g ys ys fs gs (length fs) (length ys) old.newest os st.saved st.lives refl (same_append fs old.here) failing_sound.choices (choices_now g st.saved st.lives st.choices));
-              tag = st.tag;
               tried =
                   let same : rule_branches g query.pred (values_in s2 ys args) query.many (steps_behind (values_in s2 ys) frames.items (length frames.items)) r rules.now ≡ branches g n w run st rules.now =
                   ap (λ l. rule_branches g query.pred (values_in s2 ys args) query.many l r rules.now) steps_now
                   ∙ ap (λ vs. rule_branches g query.pred vs query.many (steps_of old) r rules.now) (values2 args (omega (arith, there.from, there.count, ap length there.written.appended.is, length-append xs made))) in
-                  subst (λ l. Tried g (RulesOf query.pred) r.next_tag 0 st.ways st.lives l n (asked_in g n w run st) run) (sym same)
-                  (subst (λ i. Tried g (RulesOf query.pred) r.next_tag i st.ways st.lives (branches g n w run st rules.now) n (asked_in g n w run st) run) (ap length quiet)
-                  (chosen_rules g st.lives st.ways n run query.pred r.next_tag (branches g n w run st rules.now) (asked_in g n w run st) (asked rules.now are g n w run st)));
+                  subst (λ l. Tried g (RulesOf query.pred) r.next_tag 0 st.at.ways st.at.inside.lives l n (asked_in g n w run st) run) (sym same)
+                  (subst (λ i. Tried g (RulesOf query.pred) r.next_tag i st.at.ways st.at.inside.lives (branches g n w run st rules.now) n (asked_in g n w run st) run) (ap length st.at.inside.world)
+                  (chosen_rules g st.at.inside.lives st.at.ways n run query.pred r.next_tag (branches g n w run st rules.now) (asked_in g n w run st) (asked rules.now are g n w run st)));
             };
           }
 

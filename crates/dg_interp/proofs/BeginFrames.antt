@@ -25,7 +25,8 @@ use Rattle.dg_interp.specs.declared.frames.Left.{Left}
 use Rattle.dg_interp.specs.declared.frames.Left.TheVariants.{Lists, Ways, Way as OneWay}
 use Rattle.dg_interp.specs.declared.engine.Engine.{Engine}
 use Rattle.dg_interp.specs.Terms.{Overflows}
-use Rattle.dg_interp.specs.Frames.{values_in, steps_behind, steps_at, kind_of, branches_of, Agrees, AreChoices, IsFrame, IsLeft, StandOn, GoBackTo, BeginsWith, has_some, stays_with, cells_if}
+use Rattle.dg_interp.specs.Frames.{values_in, steps_behind, steps_at, kind_of, branches_of, AreChoices, IsFrame, IsLeft, StandOn, GoBackTo, BeginsWith, has_some, stays_with, cells_if}
+use Rattle.dg_unify.specs.Engines.{Agrees}
 use Rattle.dg_interp.specs.Engine.{store_in, KeepsPlaces, HasPlace, Point, IsSound, BeginsAt, FullAt, WentOn, kept_if}
 use Rattle.dg_interp.proofs.Links.{same_here, at_same, branches_same}
 use Rattle.dg_interp.proofs.Stores.{all_hold, values_kept, hold_front}
@@ -85,17 +86,17 @@ module _ (old : Engine) (frame : Frame) (others : Left) (b : Bool) (place : Plac
     abbrev lives_of : Game → Registers → List Live → List Way → List Live
     lives_of g r lives ways = pushed (record { kind = kind_of all; tag = r.next_tag; others = the_others g r; height = 0; ways_on = ways }) lives
 
-    stands : (g : Game) (n : ℕ) (w : World) (run : Run) (st : from g n w run) → Stands g (lives_of g st.registers st.lives st.ways) st.ways (path_of (steps_at (values_in s old.refs.items) fs frame) (inside heap st.registers)) n (begun (inside heap st.registers) with.work w) run
+    stands : (g : Game) (n : ℕ) (w : World) (run : Run) (st : from g n w run) → Stands g (lives_of g st.at.registers st.at.inside.lives st.at.ways) st.at.ways (path_of (steps_at (values_in s old.refs.items) fs frame) (inside heap st.at.registers)) n (begun (inside heap st.at.registers) with.work w) run
     stands g n w run st =
-        let r = st.registers in
-        subst (λ h. Stands g (lives_of g r st.lives st.ways) st.ways (path_of (steps_at (values_in s old.refs.items) fs frame) (inside h r)) n (begun (inside h r) with.work w) run) (ap cells_if (sym same_b))
-        (subst (λ l. Tried g (kind_of all) r.next_tag 0 st.ways st.lives l n w run) (with.branches g (values_in s old.refs.items) fs r) st.tried)
+        let r = st.at.registers in
+        subst (λ h. Stands g (lives_of g r st.at.inside.lives st.at.ways) st.at.ways (path_of (steps_at (values_in s old.refs.items) fs frame) (inside h r)) n (begun (inside h r) with.work w) run) (ap cells_if (sym same_b))
+        (subst (λ l. Tried g (kind_of all) r.next_tag 0 st.at.ways st.at.inside.lives l n w run) (with.branches g (values_in s old.refs.items) fs r) st.tried)
 
     pub frame_full : (e : Full) → Overflows heap s e → FullAt from s e
-    frame_full full.Heap h = λ g n w run quiet st.
-        let path = path_of (steps_at (values_in s old.refs.items) fs frame) (inside heap st.registers) in
-        let later = (has_happened g _ st.ways n (Moves (GoesOn path (begun (inside heap st.registers) with.work w))) run (stands g n w run st)).meters in
-        omega (arith, later.heap, h, st.agrees.heap)
+    frame_full full.Heap h = λ g n w run st.
+        let path = path_of (steps_at (values_in s old.refs.items) fs frame) (inside heap st.at.registers) in
+        let later = (has_happened g _ st.at.ways n (Moves (GoesOn path (begun (inside heap st.at.registers) with.work w))) run (stands g n w run st)).meters in
+        omega (arith, later.heap, h, st.at.agrees.heap)
     frame_full full.Trail h = absurd h
     frame_full full.OutOfMemory h = tt
 
@@ -114,15 +115,15 @@ module _ (old : Engine) (frame : Frame) (others : Left) (b : Bool) (place : Plac
             since = omega (arith, a.since, ap (λ (t : State). t.since) now, ap (λ (t : State). t.vars) now);
           }
 
-      choices_now : (g : Game) (n : ℕ) (w : World) (run : Run) (st : from g n w run) → AreChoices g old.refs.items fs (reverse choices.items) (saved_if b st.back st.saved) (lives_of g st.registers st.lives st.ways)
+      choices_now : (g : Game) (n : ℕ) (w : World) (run : Run) (st : from g n w run) → AreChoices g old.refs.items fs (reverse choices.items) (saved_if b st.back st.at.inside.saved) (lives_of g st.at.registers st.at.inside.lives st.at.ways)
       choices_now g n w run st =
-          let r = st.registers in
+          let r = st.at.registers in
           let hold = hold_front st.back.store old.refs.items st.is.hold in
           let are : the_others g r ≡ branches_of g (values_in st.back.store old.refs.items) fs (length fs) others r =
           branches_same g (length fs) (length old.refs.items) (values_in st.back.store old.refs.items) (values_in s old.refs.items) fs fs others r left sound.frames
           (values_kept (length old.refs.items) st.back.store s old.refs.items old.refs.items st.is.kept hold refl) (same_here (length fs) fs) in
-          subst (λ l. AreChoices g old.refs.items fs l (saved_if b st.back st.saved) (lives_of g r st.lives st.ways)) (sym kept)
-          (kept_choices g old.refs.items fs o os st.back st.saved st.lives r (kind_of all) st.ways (the_others g r) b (same_b ∙ sym (branches_stay g (values_in s old.refs.items) fs (length fs) others r) ∙ ap (λ k. stays k (the_others g r)) with.kind) are (sym with.kind) st.tag st.back_agrees hold st.is.place_is st.choices)
+          subst (λ l. AreChoices g old.refs.items fs l (saved_if b st.back st.at.inside.saved) (lives_of g r st.at.inside.lives st.at.ways)) (sym kept)
+          (kept_choices g old.refs.items fs o os st.back st.at.inside.saved st.at.inside.lives r (kind_of all) st.at.ways (the_others g r) b (same_b ∙ sym (branches_stay g (values_in s old.refs.items) fs (length fs) others r) ∙ ap (λ k. stays k (the_others g r)) with.kind) are (sym with.kind) st.at.tag st.back_agrees hold st.is.place_is st.at.inside.choices)
 
       new_sound : IsSound new
       new_sound = record {
@@ -146,25 +147,30 @@ module _ (old : Engine) (frame : Frame) (others : Left) (b : Bool) (place : Plac
         ready = record { sound = new_sound; here = is };
         left = refl;
         limits = record { heap = k1.heap_limit; trail = k1.trail_limit };
-        leads = λ g n w run quiet st.
-            let r = st.registers in
+        leads = λ g n w run st.
+            let r = st.at.registers in
             let v = begun (inside heap r) with.work w in
             let same = at_same (length old.refs.items) (values_in s old.refs.items) (values_in s1 old.refs.items) fs fs (length fs) frame is
             (values_kept (length old.refs.items) s s1 old.refs.items old.refs.items k1 (hold_front s old.refs.items sound.hold) refl) sound.frames (same_here (length fs) fs) in
             record {
               world = v;
-              adds = record { prints_are = sym (append-nil (prints w.events)); typed = refl; quiet = quiet };
+              adds = record { prints_are = sym (append-nil (prints w.events)); typed = refl };
               holds = record {
-                program = st.program;
-                lives = lives_of g r st.lives st.ways;
-                ways = st.ways;
-                registers = inside heap r;
-                saved = saved_if b st.back st.saved;
-                keeps = saved1 _ (kept_places b old.store st.back st.saved st.is.keeps);
-                agrees = agrees_now r st.agrees;
-                choices = choices_now g n w run st;
-                tag = ap (λ k. k + 1) st.tag;
-                stands = subst (λ l. Stands g (lives_of g r st.lives st.ways) st.ways (path_of l (inside heap r)) n v run) (sym same) (stands g n w run st);
+                at = record {
+                  inside = record {
+                    program = st.at.inside.program;
+                    lives = lives_of g r st.at.inside.lives st.at.ways;
+                    saved = saved_if b st.back st.at.inside.saved;
+                    keeps = saved1 _ (kept_places b old.store st.back st.at.inside.saved st.is.keeps);
+                    choices = choices_now g n w run st;
+                    world = st.at.inside.world;
+                  };
+                  ways = st.at.ways;
+                  registers = inside heap r;
+                  agrees = agrees_now r st.at.agrees;
+                  tag = ap (λ k. k + 1) st.at.tag;
+                };
+                stands = subst (λ l. Stands g (lives_of g r st.at.inside.lives st.at.ways) st.at.ways (path_of l (inside heap r)) n v run) (sym same) (stands g n w run st);
               };
             };
       }

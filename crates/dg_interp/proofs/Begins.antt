@@ -42,8 +42,9 @@ use Rattle.dg_interp.specs.Passing.{rules_from, IsFirst, IsCandidate}
 use Rattle.dg_interp.proofs.PassedRules.{rules_from_candidate}
 use Rattle.dg_meaning.specs.Selection.{first_excludes, from_candidate}
 use Rattle.dg_interp.specs.Rules.{rule_cells, matched_in, EntersRule, RuleFull}
-use Rattle.dg_interp.specs.Frames.{values_in, frame_steps, steps_behind, steps_at, branches_of, Agrees, AreChoices, IsFrame, IsLeft, StandOn, GoBackTo}
-use Rattle.dg_interp.specs.Engine.{store_in, KeepsPlaces, HasPlace, Point, IsQuiet, IsSound, StandsAt, BeginsAt, FullAt, Adds, Then, SameLimits, WentOn, WentWrong, kept_if}
+use Rattle.dg_interp.specs.Frames.{values_in, frame_steps, steps_behind, steps_at, branches_of, AreChoices, IsFrame, IsLeft, StandOn, GoBackTo}
+use Rattle.dg_interp.specs.Engine.{store_in, KeepsPlaces, HasPlace, Point, IsSound, StandsAt, BeginsAt, FullAt, Adds, Then, SameLimits, WentOn, WentWrong, kept_if}
+use Rattle.dg_unify.specs.Engines.{Agrees}
 use Rattle.dg_interp.proofs.Links.{same_here, branches_same, behind_same, choices_same, back_same, frames_raise, stand_raise}
 use Rattle.dg_interp.proofs.Stores.{kept_on, all_hold, values_kept, hold_front, front_same, appended_stretch, values_count, trail_append, trail_older, made_is}
 use Rattle.dg_interp.proofs.Kept.{saved_if, kept_back, kept_choices}
@@ -210,38 +211,38 @@ module _ (old : Engine) (query : Query) (args : Env) (rules others : Bor (List R
       ap (λ h. rule_branch g query.pred the_args query.many steps r h rule) (same_heap r agrees)
       ∙ ap (λ b. unless_excluded b r (entering g the_args rule r) (branch r g)) (not_excluded r agrees)
 
-  begins : (g : Game) (n : ℕ) (w : World) (run : Run) (st : from g n w run) → Began g (lives_of g st.registers st.lives st.ways) st.ways (branch st.registers g) n w run
+  begins : (g : Game) (n : ℕ) (w : World) (run : Run) (st : from g n w run) → Began g (lives_of g st.at.registers st.at.inside.lives st.at.ways) st.at.ways (branch st.at.registers g) n w run
   begins g n w run st =
-      let r = st.registers in
-      subst (λ b. Began g (lives_of g r st.lives st.ways) st.ways b n w run) (branch_is g r st.agrees)
-      (subst (λ l. Tried g (RulesOf query.pred) r.next_tag 0 st.ways st.lives (rule_branches g query.pred the_args query.many steps r l) n w run) split st.tried)
+      let r = st.at.registers in
+      subst (λ b. Began g (lives_of g r st.at.inside.lives st.at.ways) st.at.ways b n w run) (branch_is g r st.at.agrees)
+      (subst (λ l. Tried g (RulesOf query.pred) r.next_tag 0 st.at.ways st.at.inside.lives (rule_branches g query.pred the_args query.many steps r l) n w run) split st.tried)
 
   sub : IsSubstitution s.state.subst
   sub = old.store.sound.fits.sound
 
   -- the heap is full where the choice is kept
   pub keep_full : (e : Full) → Overflows heap s e → FullAt from s e
-  keep_full full.Heap h = λ g n w run quiet st.
-      let r = st.registers in
-      let peaks = began_peaks g _ st.ways (match g the_args rule r).agrees _ _ n w run (begins g n w run st) in
-      omega (arith, peaks.0, h, st.agrees.heap)
+  keep_full full.Heap h = λ g n w run st.
+      let r = st.at.registers in
+      let peaks = began_peaks g _ st.at.ways (match g the_args rule r).agrees _ _ n w run (begins g n w run st) in
+      omega (arith, peaks.0, h, st.at.agrees.heap)
   keep_full full.Trail h = absurd h
   keep_full full.OutOfMemory h = tt
 
   module _ (charged : Charged heap s s1) where
     -- heap or trail is full where the rule is entered
     pub enter_full : (e : Full) → ((program : CoreProgram) → RuleFull program rule (values_in s1 xs args) s1 e) → FullAt from s e
-    enter_full full.Heap h = λ g n w run quiet st.
-        let r = st.registers in
-        let peaks = began_peaks g _ st.ways (match g the_args rule r).agrees _ _ n w run (begins g n w run st) in
-        let less = rule_heap g rule the_args heap s s1 s1 r st.agrees sub charged s.heap_limit (omega (arith, h g.program, k1.heap_limit)) in
+    enter_full full.Heap h = λ g n w run st.
+        let r = st.at.registers in
+        let peaks = began_peaks g _ st.at.ways (match g the_args rule r).agrees _ _ n w run (begins g n w run st) in
+        let less = rule_heap g rule the_args heap s s1 s1 r st.at.agrees sub charged s.heap_limit (omega (arith, h g.program, k1.heap_limit)) in
         omega (arith, peaks.0, less)
-    enter_full full.Trail h = λ g n w run quiet st.
-        let r = st.registers in
+    enter_full full.Trail h = λ g n w run st.
+        let r = st.at.registers in
         let same : values_in s1 xs args ≡ the_args = values_kept (length xs) s s1 xs xs k1 (hold_front s xs sound.hold) refl args left.1 in
         let here = subst (λ vs. RuleFull g.program rule vs s1 full.Trail) same (h g.program) in
-        let peaks = began_peaks g _ st.ways (match g the_args rule r).agrees _ _ n w run (begins g n w run st) in
-        let less = rule_trail g rule the_args heap s s1 s1 r st.agrees sub charged s.trail_limit (omega (arith, here, k1.trail_limit)) in
+        let peaks = began_peaks g _ st.at.ways (match g the_args rule r).agrees _ _ n w run (begins g n w run st) in
+        let less = rule_trail g rule the_args heap s s1 s1 r st.at.agrees sub charged s.trail_limit (omega (arith, here, k1.trail_limit)) in
         omega (arith, peaks.1, less)
     enter_full full.OutOfMemory h = tt
 
@@ -294,17 +295,17 @@ module _ (old : Engine) (query : Query) (args : Env) (rules others : Bor (List R
         room = sound.room;
       }
 
-      choices_now : (g : Game) (n : ℕ) (w : World) (run : Run) (st : from g n w run) → AreChoices g ys fs (reverse choices.items) (saved_if true st.back st.saved) (lives_of g st.registers st.lives st.ways)
+      choices_now : (g : Game) (n : ℕ) (w : World) (run : Run) (st : from g n w run) → AreChoices g ys fs (reverse choices.items) (saved_if true st.back st.at.inside.saved) (lives_of g st.at.registers st.at.inside.lives st.at.ways)
       choices_now g n w run st =
-          let r = st.registers in
+          let r = st.at.registers in
           let are : branches r g ≡ branches_of g (values_in st.back.store xs) fs (length fs) (Rules query args others) r =
           branches_same g (length fs) (length xs) (values_in st.back.store xs) (values_in s xs) fs fs (Rules query args others) r (all_rest IsBuiltRule rule others.now built_all, left.1) sound.frames (values_kept (length xs) st.back.store s xs xs st.is.kept (hold_front st.back.store xs st.is.hold) refl) (same_here (length fs) fs) in
-          subst (λ l. AreChoices g ys fs l (saved_if true st.back st.saved) (lives_of g r st.lives st.ways)) (sym kept)
-          (choices_same g xs ys fs fs (length fs) (length xs) old.newest (kept_if true o os) (saved_if true st.back st.saved) (lives_of g r st.lives st.ways) front (same_here (length fs) fs) stand
-          (kept_choices g xs fs o os st.back st.saved st.lives r (RulesOf query.pred) st.ways (branches r g) true refl are refl st.tag st.back_agrees (hold_front st.back.store xs st.is.hold) st.is.place_is st.choices))
+          subst (λ l. AreChoices g ys fs l (saved_if true st.back st.at.inside.saved) (lives_of g r st.at.inside.lives st.at.ways)) (sym kept)
+          (choices_same g xs ys fs fs (length fs) (length xs) old.newest (kept_if true o os) (saved_if true st.back st.at.inside.saved) (lives_of g r st.at.inside.lives st.at.ways) front (same_here (length fs) fs) stand
+          (kept_choices g xs fs o os st.back st.at.inside.saved st.at.inside.lives r (RulesOf query.pred) st.at.ways (branches r g) true refl are refl st.at.tag st.back_agrees (hold_front st.back.store xs st.is.hold) st.is.place_is st.at.inside.choices))
 
-      adds_begun : (r : Registers) (work : ℕ) (w : World) → IsQuiet w → Adds [] w (begun r work w)
-      adds_begun r work w quiet = record { prints_are = sym (append-nil (prints w.events)); typed = refl; quiet = quiet }
+      adds_begun : (r : Registers) (work : ℕ) (w : World) → Adds [] w (begun r work w)
+      adds_begun r work w = record { prints_are = sym (append-nil (prints w.events)); typed = refl }
 
       limits : (here : Frame) → SameLimits old (new here)
       limits here = record { heap = k12.heap_limit; trail = k12.trail_limit }
@@ -315,20 +316,23 @@ module _ (old : Engine) (query : Query) (args : Env) (rules others : Bor (List R
         sound = rule_sound old.here;
         left = refl;
         limits = limits old.here;
-        leads = λ g n w run quiet st.
-            let r = st.registers in
-            let none : (match g the_args rule r).agrees ≡ false = sym (rule_found g rule the_args heap s s1 s2 r st.agrees sub charged xs ys found (does g)) ∙ is in
+        leads = λ g n w run st.
+            let r = st.at.registers in
+            let none : (match g the_args rule r).agrees ≡ false = sym (rule_found g rule the_args heap s s1 s2 r st.at.agrees sub charged xs ys found (does g)) ∙ is in
             let work = entering g the_args rule r in
             record {
               world = begun (behind_of g r) work w;
-              adds = adds_begun (behind_of g r) work w quiet;
+              adds = adds_begun (behind_of g r) work w;
               holds = record {
-                program = st.program;
-                lives = lives_of g r st.lives st.ways;
-                saved = saved_if true st.back st.saved;
-                keeps = saved_places st.back st.saved st.is.keeps;
-                choices = choices_now g n w run st;
-                failed = subst (λ b. Began g (lives_of g r st.lives st.ways) st.ways (enter_if b (path_of (rule_steps query.pred query.many (vars_of rule r) r.next_tag rule steps) (behind_of g r)) work) n w run) none (begins g n w run st);
+                inside = record {
+                  program = st.at.inside.program;
+                  lives = lives_of g r st.at.inside.lives st.at.ways;
+                  saved = saved_if true st.back st.at.inside.saved;
+                  keeps = saved_places st.back st.at.inside.saved st.is.keeps;
+                  choices = choices_now g n w run st;
+                  world = st.at.inside.world;
+                };
+                failed = subst (λ b. Began g (lives_of g r st.at.inside.lives st.at.ways) st.at.ways (enter_if b (path_of (rule_steps query.pred query.many (vars_of rule r) r.next_tag rule steps) (behind_of g r)) work) n w run) none (begins g n w run st);
               };
             };
       }
@@ -367,50 +371,60 @@ module _ (old : Engine) (query : Query) (args : Env) (rules others : Bor (List R
           };
           left = refl;
           limits = limits here;
-          leads = λ g n w run quiet st.
-              let r = st.registers in
-              let yes' : (match g the_args rule r).agrees ≡ true = sym (rule_found g rule the_args heap s s1 s2 r st.agrees sub charged xs ys found (does g)) ∙ is in
+          leads = λ g n w run st.
+              let r = st.at.registers in
+              let yes' : (match g the_args rule r).agrees ≡ true = sym (rule_found g rule the_args heap s s1 s2 r st.at.agrees sub charged xs ys found (does g)) ∙ is in
               let work = entering g the_args rule r in
               let s' = behind_of g r in
               record {
                 world = begun s' work w;
-                adds = adds_begun s' work w quiet;
+                adds = adds_begun s' work w;
                 holds = record {
-                  program = st.program;
-                  lives = lives_of g r st.lives st.ways;
-                  ways = st.ways;
-                  registers = s';
-                  saved = saved_if true st.back st.saved;
-                  keeps = saved_places st.back st.saved st.is.keeps;
-                  agrees = rule_agrees g rule the_args heap s s1 s2 r st.agrees sub charged xs ys found (does g);
-                  choices = choices_now g n w run st;
-                  tag = ap (λ k. k + 1) st.tag;
-                  stands = subst (λ l. Stands g (lives_of g r st.lives st.ways) st.ways (path_of l s') n (begun s' work w) run) (sym (same_steps g r st.agrees st.tag))
-                      (subst (λ b. Began g (lives_of g r st.lives st.ways) st.ways (enter_if b (path_of (rule_steps query.pred query.many (vars_of rule r) r.next_tag rule steps) s') work) n w run) yes' (begins g n w run st));
+                  at = record {
+                    inside = record {
+                      program = st.at.inside.program;
+                      lives = lives_of g r st.at.inside.lives st.at.ways;
+                      saved = saved_if true st.back st.at.inside.saved;
+                      keeps = saved_places st.back st.at.inside.saved st.is.keeps;
+                      choices = choices_now g n w run st;
+                      world = st.at.inside.world;
+                    };
+                    ways = st.at.ways;
+                    registers = s';
+                    agrees = rule_agrees g rule the_args heap s s1 s2 r st.at.agrees sub charged xs ys found (does g);
+                    tag = ap (λ k. k + 1) st.at.tag;
+                  };
+                  stands = subst (λ l. Stands g (lives_of g r st.at.inside.lives st.at.ways) st.at.ways (path_of l s') n (begun s' work w) run) (sym (same_steps g r st.at.agrees st.at.tag))
+                      (subst (λ b. Began g (lives_of g r st.at.inside.lives st.at.ways) st.at.ways (enter_if b (path_of (rule_steps query.pred query.many (vars_of rule r) r.next_tag rule steps) s') work) n w run) yes' (begins g n w run st));
                 };
               };
         }
 
 -- ## A way on
 
-way_begins : (old : Engine) (frame : Frame) (place : Place) (sound : IsSound old) (g : Game) (n : ℕ) (w : World) (run : Run) → IsQuiet w → BeginsAt (OneWay frame) place old g n w run → Then [] w (λ v. StandsAt (record old { here = frame }) g n v run)
-way_begins old frame place sound g n w run quiet st =
-    let r = st.registers in
+way_begins : (old : Engine) (frame : Frame) (place : Place) (sound : IsSound old) (g : Game) (n : ℕ) (w : World) (run : Run) → BeginsAt (OneWay frame) place old g n w run → Then [] w (λ v. StandsAt (record old { here = frame }) g n v run)
+way_begins old frame place sound g n w run st =
+    let r = st.at.registers in
     let steps = steps_at (values_in (store_in old.store) old.refs.items) old.frames.items frame in
     let v = begun (inside 0 r) 0 w in
     record {
       world = v;
-      adds = record { prints_are = sym (append-nil (prints w.events)); typed = refl; quiet = quiet };
+      adds = record { prints_are = sym (append-nil (prints w.events)); typed = refl };
       holds = record {
-        program = st.program;
-        lives = st.lives;
-        ways = st.ways;
-        registers = inside 0 r;
-        saved = st.saved;
-        keeps = saves_drops true (fields_of old.store) st.back st.saved st.is.keeps;
-        agrees = record { bound = st.agrees.bound; vars = st.agrees.vars; heap = omega (arith, st.agrees.heap); trail = st.agrees.trail; since = st.agrees.since };
-        choices = st.choices;
-        tag = ap (λ k. k + 1) st.tag;
+        at = record {
+          inside = record {
+            program = st.at.inside.program;
+            lives = st.at.inside.lives;
+            saved = st.at.inside.saved;
+            keeps = saves_drops true (fields_of old.store) st.back st.at.inside.saved st.is.keeps;
+            choices = st.at.inside.choices;
+            world = st.at.inside.world;
+          };
+          ways = st.at.ways;
+          registers = inside 0 r;
+          agrees = record { bound = st.at.agrees.bound; vars = st.at.agrees.vars; heap = omega (arith, st.at.agrees.heap); trail = st.at.agrees.trail; since = st.at.agrees.since };
+          tag = ap (λ k. k + 1) st.at.tag;
+        };
         stands = st.tried;
       };
     }
@@ -423,5 +437,5 @@ way_begun old frame place sound is = record {
   };
   left = refl;
   limits = record { heap = refl; trail = refl };
-  leads = λ g n w run quiet st. way_begins old frame place sound g n w run quiet st;
+  leads = λ g n w run st. way_begins old frame place sound g n w run st;
 }

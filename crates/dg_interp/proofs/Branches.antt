@@ -22,11 +22,11 @@ use Rattle.dg_interp.specs.declared.frames.Frame.{Frame}
 use Rattle.dg_interp.specs.declared.frames.Choice.{Choice}
 use Rattle.dg_interp.specs.declared.engine.Engine.{Engine}
 use Rattle.dg_interp.specs.Frames.{values_in, kind_of, branches_of, IsChoice, AreChoices, AreFrames, IsLeft, StandOn, GoBackTo, left_in, stays_with, all_left}
-use Rattle.dg_interp.specs.Engine.{store_in, KeepsPlaces, HasPlace, IsPlace, Point, IsQuiet, IsSound, StandsAt, FailsAt, BeginsAt, Adds, Then, Leads, FullAt, SameLimits, WentOn, WentWrong, HasEndedSo, AtGoal, Branches, GoesBack, Tries, branches_left}
+use Rattle.dg_interp.specs.Engine.{store_in, KeepsPlaces, InWorld, HasPlace, IsPlace, Point, IsSound, StandsAt, FailsAt, BeginsAt, Adds, Then, Leads, FullAt, SameLimits, WentOn, WentWrong, HasEndedSo, AtGoal, Branches, GoesBack, Tries, branches_left}
 use Rattle.dg_interp.proofs.Links.{same_take, branches_same, frames_take, stand_same, choices_same, back_same}
 use Rattle.dg_interp.proofs.Stores.{all_hold, values_kept, take_all}
 use Rattle.dg_interp.proofs.Begins.{back_limits}
-use Rattle.dg_interp.proofs.Places.{went_further, went_wrong, adds_nothing, adds_on, adds_drops, adds_tried, leads_on, limits_on}
+use Rattle.dg_interp.proofs.Places.{went_further, went_wrong, adds_nothing, world_drops, world_tried, adds_on, adds_drops, adds_tried, leads_on, limits_on}
 use Rattle.dg_interp.proofs.Turns.{reverse_pop}
 
 -- ## The store to which a choice goes back
@@ -132,7 +132,7 @@ module _ (old : Engine) (o : Choice) (choices : Vec Choice Global) (sound : IsSo
     pub popped_stays : stays_with o.left ≡ true
     popped_stays = stand.3.1
 
-    begins : (g : Game) (m : Saved) (ms : List Saved) (c : Live) (cs : List Live) (n : ℕ) (w v : World) (run : Run) → IsQuiet v → Adds [] w v → old.program.now ≡ g.program → KeepsPlaces old.store (m ∷ ms) → IsChoice g xs fs o m c → AreChoices g xs fs os ms cs → Resumed g c cs n v run →
+    begins : (g : Game) (m : Saved) (ms : List Saved) (c : Live) (cs : List Live) (n : ℕ) (w v : World) (run : Run) → InWorld v → Adds [] w v → old.program.now ≡ g.program → KeepsPlaces old.store (m ∷ ms) → IsChoice g xs fs o m c → AreChoices g xs fs os ms cs → Resumed g c cs n v run →
         Then [] w (λ u. BeginsAt o.left o.place mid g n u run)
     begins g m ms c cs n w v run still adds program kept is others resumed =
         let r = is.registers in
@@ -145,25 +145,31 @@ module _ (old : Engine) (o : Choice) (choices : Vec Choice Global) (sound : IsSo
         ∙ branches_same g o.height o.refs (values_in m.store xs) (values_in (store_in store) refs.items) fs (take o.height fs) o.left r stand.3.0 stand.4 values (same_take fs o.height) in
         record {
           world = tried_in c.kind c.others v;
-          adds = adds_on w v (tried_in c.kind c.others v) [] [] adds (adds_tried c.kind c.others v still);
+          adds = adds_on w v (tried_in c.kind c.others v) [] [] adds (adds_tried c.kind c.others v);
           holds = record {
-            program = program;
-            lives = cs;
-            ways = c.ways_on;
-            registers = r;
-            saved = ms;
+            at = record {
+              inside = record {
+                program = program;
+                lives = cs;
+                saved = ms;
+                keeps = saves_drops true (fields_of store) m ms place.keeps;
+                choices = subst (λ l. AreChoices g refs.items l os ms cs) (sym cut) (choices_same g xs refs.items fs (take o.height fs) o.height o.refs o.tag os ms cs front (same_take fs o.height) stand.5 others);
+                world = world_tried c.kind c.others v still;
+              };
+              ways = c.ways_on;
+              registers = r;
+              agrees = record {
+                bound = is.agrees.bound ∙ ap (λ (t : State). t.subst) (sym here.state);
+                vars = is.agrees.vars ∙ ap (λ (t : State). t.vars) (sym here.state);
+                heap = is.agrees.heap ∙ ap (λ (t : State). t.heap) (sym here.state);
+                trail = omega (arith, is.agrees.trail, ap (λ (t : State). t.trail) here.state);
+                since = omega (arith, is.agrees.since, ap (λ (t : State). t.since) here.state, ap (λ (t : State). t.vars) here.state);
+              };
+              tag = is.tag_at;
+            };
             back = m;
             is = place;
-            agrees = record {
-              bound = is.agrees.bound ∙ ap (λ (t : State). t.subst) (sym here.state);
-              vars = is.agrees.vars ∙ ap (λ (t : State). t.vars) (sym here.state);
-              heap = is.agrees.heap ∙ ap (λ (t : State). t.heap) (sym here.state);
-              trail = omega (arith, is.agrees.trail, ap (λ (t : State). t.trail) here.state);
-              since = omega (arith, is.agrees.since, ap (λ (t : State). t.since) here.state, ap (λ (t : State). t.vars) here.state);
-            };
             back_agrees = is.agrees;
-            choices = subst (λ l. AreChoices g refs.items l os ms cs) (sym cut) (choices_same g xs refs.items fs (take o.height fs) o.height o.refs o.tag os ms cs front (same_take fs o.height) stand.5 others);
-            tag = is.tag_at;
             tried =
                 let u = tried_in c.kind c.others v in
                 subst (λ l. Tried g (kind_of o.left) r.next_tag 0 c.ways_on cs l n u run) (is.others ∙ sym same)
@@ -174,11 +180,11 @@ module _ (old : Engine) (o : Choice) (choices : Vec Choice Global) (sound : IsSo
         }
 
     pub begins_popped : Leads (FailsAt old) (BeginsAt o.left o.place mid)
-    begins_popped g n w run quiet st = from st.saved st.lives st.keeps (subst (λ l. AreChoices g xs fs l st.saved st.lives) was st.choices) (failed g st.lives n w run st.failed) where
+    begins_popped g n w run st = from st.inside.saved st.inside.lives st.inside.keeps (subst (λ l. AreChoices g xs fs l st.inside.saved st.inside.lives) was st.inside.choices) (failed g st.inside.lives n w run st.failed) where
       from : (ms : List Saved) (cs : List Live) → KeepsPlaces old.store ms → AreChoices g xs fs (o ∷ os) ms cs → FailsTo g n w run cs → Then [] w (λ u. BeginsAt o.left o.place mid g n u run)
       from [] cs k h f = absurd h
       from (m ∷ ms) [] k h f = absurd h
-      from (m ∷ ms) (c ∷ cs) k h f = begins g m ms c cs n w f.world run (adds_drops w f.world quiet f.drops).quiet (adds_drops w f.world quiet f.drops) st.program k h.0 h.1 f.resumed
+      from (m ∷ ms) (c ∷ cs) k h f = begins g m ms c cs n w f.world run (world_drops w f.world st.inside.world f.drops) (adds_drops w f.world f.drops) st.inside.program k h.0 h.1 f.resumed
 
 -- ## No choice is left
 
@@ -193,18 +199,18 @@ module _ (old : Engine) (choices : Vec Choice Global) (empty : length old.choice
   pub none_popped : HasEndedSo (FailsAt old) Failing old (record old { choices = choices })
   none_popped = record {
     left = refl;
-    ends = λ g n w run quiet st. from g n w run quiet st.saved st.lives (subst (λ l. AreChoices g old.refs.items old.frames.items l st.saved st.lives) none st.choices) (failed g st.lives n w run st.failed);
+    ends = λ g n w run st. from g n w run st.inside.saved st.inside.lives (subst (λ l. AreChoices g old.refs.items old.frames.items l st.inside.saved st.inside.lives) none st.inside.choices) (failed g st.inside.lives n w run st.failed);
   } where
-    from : (g : Game) (n : ℕ) (w : World) (run : Run) → IsQuiet w → (ms : List Saved) (cs : List Live) → AreChoices g old.refs.items old.frames.items [] ms cs → FailsTo g n w run cs → Then [] w (λ v. Finished n v Failing run)
-    from g n w run quiet [] [] h f = record { world = w; adds = adds_nothing w quiet; holds = f }
-    from g n w run quiet [] (c ∷ cs) h f = absurd h
-    from g n w run quiet (m ∷ ms) cs h f = absurd h
+    from : (g : Game) (n : ℕ) (w : World) (run : Run) → (ms : List Saved) (cs : List Live) → AreChoices g old.refs.items old.frames.items [] ms cs → FailsTo g n w run cs → Then [] w (λ v. Finished n v Failing run)
+    from g n w run [] [] h f = record { world = w; adds = adds_nothing w; holds = f }
+    from g n w run [] (c ∷ cs) h f = absurd h
+    from g n w run (m ∷ ms) cs h f = absurd h
 
 -- ## One after another
 
 pub full_from : (A B : Point) (s t : Store) (e : Full) → t.heap_limit ≡ s.heap_limit → t.trail_limit ≡ s.trail_limit → Leads A B → FullAt B t e → FullAt A s e
-full_from A B s t full.Heap same same' h f = λ g n w run quiet a. let x = h g n w run quiet a in let y = f g n x.world run x.adds.quiet x.holds in omega (arith, y, same)
-full_from A B s t full.Trail same same' h f = λ g n w run quiet a. let x = h g n w run quiet a in let y = f g n x.world run x.adds.quiet x.holds in omega (arith, y, same')
+full_from A B s t full.Heap same same' h f = λ g n w run a. let x = h g n w run a in let y = f g n x.world run x.holds in omega (arith, y, same)
+full_from A B s t full.Trail same same' h f = λ g n w run a. let x = h g n w run a in let y = f g n x.world run x.holds in omega (arith, y, same')
 full_from A B s t full.OutOfMemory same same' h f = tt
 
 pub went_on_from : (A B : Point) (old mid new : Engine) → mid.left ≡ old.left → SameLimits old mid → Leads A B → WentOn B mid new → WentOn A old new

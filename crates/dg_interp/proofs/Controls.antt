@@ -25,7 +25,8 @@ use Rattle.dg_interp.specs.declared.frames.Frame.{Frame}
 use Rattle.dg_interp.specs.declared.frames.Left.TheVariants.{Lists, Ways}
 use Rattle.dg_interp.specs.declared.frames.Mark.TheVariants.{Nothing, CutTo, RefuseTo}
 use Rattle.dg_interp.specs.declared.engine.Engine.{Engine}
-use Rattle.dg_interp.specs.Frames.{values_in, mark_steps, steps_behind, steps_at, Agrees, IsFrame, IsLeft}
+use Rattle.dg_interp.specs.Frames.{values_in, mark_steps, steps_behind, steps_at, IsFrame, IsLeft}
+use Rattle.dg_unify.specs.Engines.{Agrees}
 use Rattle.dg_interp.specs.Engine.{store_in, KeepsPlaces, steps_of, IsReady, Point, TakesAt, OpensAt, IsSound, FailsAt, IsPushed, IsAgain, FullAt, Leads, SameLimits, WentOn, Branches}
 use Rattle.dg_interp.proofs.Links.{same_here, same_values, same_append, behind_same, at_same, stand_raise}
 use Rattle.dg_interp.proofs.Takes.{behind, taken_in, comes_of, adds_taken, store_sound}
@@ -84,10 +85,10 @@ pushed_means frame old new ready is p = subst (Behind frame old) (sym p.same) (r
 })
 
 pub pushed_leads : (x : Goal) (frame : Frame) (old new : Engine) → Behind frame old new → (B : Point) → Leads (TakesAt x new) B → Leads (TakesAt x old) B
-pushed_leads x frame old new b B h g n w run quiet st = h g n w run quiet (b.takes x g n w run st)
+pushed_leads x frame old new b B h g n w run st = h g n w run (b.takes x g n w run st)
 
 pub stays : (A : Point) → Leads A A
-stays A g n w run quiet st = record { world = w; adds = adds_nothing w quiet; holds = st }
+stays A g n w run st = record { world = w; adds = adds_nothing w; holds = st }
 
 -- where the engine goes on is behind the others
 pub pushed_here : (old new : Engine) → IsReady old → IsPushed old.here old new → behind_all new ≡ steps_of new
@@ -144,12 +145,12 @@ not_opens goals old =
 
 -- ## The endless choice
 
-again_steps : (again : Frame) (old : Engine) → IsAgain again old → steps_at (values_of old) old.frames.items again ≡ Do Forever (values_of old old.here.env) old.here.tag ∷ steps_of old
+again_steps : (again : Frame) (old : Engine) → IsAgain Forever again old → steps_at (values_of old) old.frames.items again ≡ Do Forever (values_of old old.here.env) old.here.tag ∷ steps_of old
 again_steps again old is =
     ap (steps_at (values_of old) old.frames.items) is.rest
     ∙ ap (λ (l : List Goal). goals_at (values_of old old.here.env) old.here.tag l ++ mark_steps old.here.mark old.here.tag (steps_behind (values_of old) old.frames.items old.here.behind)) is.goals
 
-pub forever_opens : (again : Frame) (old : Engine) → IsAgain again old → Leads (TakesAt Forever old) (OpensAt (Ways old.here again) old)
+pub forever_opens : (again : Frame) (old : Engine) → IsAgain Forever again old → Leads (TakesAt Forever old) (OpensAt (Ways old.here again) old)
 forever_opens again old is =
     opens Forever old (ap terms_held outs-Forever) _ refl
     (λ g r w same tag.
@@ -172,21 +173,24 @@ no_lists [] h = refl
 no_lists (x ∷ xs) h = absurd (omega (arith, h))
 
 pub either_fails : (lists : List (List Goal)) (old : Engine) → lists ≡ [] → Leads (TakesAt (Either lists) old) (FailsAt old)
-either_fails lists old none g n w run quiet st =
+either_fails lists old none g n w run st =
     let x = Either lists in
     let r = behind x old g n w run st in
     let v = taken_in x old g n w run st in
     let env = values_of old old.here.env in
     record {
       world = v;
-      adds = adds_taken r (writing (terms_held (out-Goal x))) w quiet;
+      adds = adds_taken r (writing (terms_held (out-Goal x))) w;
       holds = record {
-        program = st.program;
-        lives = st.lives;
-        saved = st.saved;
-        keeps = st.keeps;
-        choices = st.choices;
-        failed = subst (λ m. After g st.lives st.ways n m run)
+        inside = record {
+          program = st.at.inside.program;
+          lives = st.at.inside.lives;
+          saved = st.at.inside.saved;
+          keeps = st.at.inside.keeps;
+          choices = st.at.inside.choices;
+          world = st.at.inside.world;
+        };
+        failed = subst (λ m. After g st.at.inside.lives st.at.ways n m run)
             (ap (λ f. outcome g f env old.here.tag (steps_of old) r v) (outs-Either lists) ∙ ap (λ l. choice Plain r.next_tag (list_branches env old.here.tag (steps_of old) r l) v) none) (comes_of x old g n w run st);
       };
     }
@@ -214,9 +218,9 @@ abbrev pub other_frame : Bor (List Goal) → Engine → Engine → Frame
 other_frame other between e = record e.here { goals = other; mark = Nothing; behind = length between.frames.items }
 
 pub branch_opens : (test first other : Bor (List Goal)) (old between e : Engine) → IsReady old → AreBuilt first.now → IsPushed old.here old between → IsPushed (then_frame first between) between e → Leads (TakesAt (If test.now first.now other.now) old) (OpensAt (Ways (test_frame test e) (other_frame other between e)) e)
-branch_opens test first other old between e ready built p q g n w run quiet st =
+branch_opens test first other old between e ready built p q g n w run st =
     let t = twice first old between e ready built p q in
-    if_opens test first other e (length between.frames.items) t.all t.older g n w run quiet (t.takes (If test.now first.now other.now) g n w run st)
+    if_opens test first other e (length between.frames.items) t.all t.older g n w run (t.takes (If test.now first.now other.now) g n w run st)
 
 pub branch_left : (test first other : Bor (List Goal)) (old between e : Engine) → IsReady old → AreBuilt test.now → AreBuilt first.now → AreBuilt other.now → IsPushed old.here old between → IsPushed (then_frame first between) between e → IsLeft (length e.frames.items) (length e.refs.items) (Ways (test_frame test e) (other_frame other between e))
 branch_left test first other old between e ready built built1 built2 p q =
@@ -235,16 +239,16 @@ module _ (goals : Bor (List Goal)) (old : Engine) (ready : IsReady old) (all : b
   once_steps : Registers → List Step
   once_steps r = goals_at env old.here.tag goals.now ++ Cut r.next_tag ∷ steps_of old
 
-  once_stands : (g : Game) (n : ℕ) (w : World) (run : Run) (st : TakesAt x old g n w run) → Stands g st.lives st.ways (path_of (once_steps (behind x old g n w run st)) (inside 10 (behind x old g n w run st))) n (begun (inside 10 (behind x old g n w run st)) 0 (taken_in x old g n w run st)) run
+  once_stands : (g : Game) (n : ℕ) (w : World) (run : Run) (st : TakesAt x old g n w run) → Stands g st.at.inside.lives st.at.ways (path_of (once_steps (behind x old g n w run st)) (inside 10 (behind x old g n w run st))) n (begun (inside 10 (behind x old g n w run st)) 0 (taken_in x old g n w run st)) run
   unfolding once_steps
-  once_stands g n w run st = subst (λ f. After g st.lives st.ways n (outcome g f env old.here.tag (steps_of old) (behind x old g n w run st) (taken_in x old g n w run st)) run) (outs-Once goals.now) (comes_of x old g n w run st)
+  once_stands g n w run st = subst (λ f. After g st.at.inside.lives st.at.ways n (outcome g f env old.here.tag (steps_of old) (behind x old g n w run st) (taken_in x old g n w run st)) run) (outs-Once goals.now) (comes_of x old g n w run st)
 
   held_none : terms_held (out-Goal x) ≡ []
   held_none = ap terms_held (outs-Once goals.now)
 
   pub once_full : (e : Full) (t : Store) → HeapFull 10 (store_in old.store) t e → FullAt (TakesAt x old) (store_in old.store) e
-  once_full full.Heap t h = λ g n w run quiet st.
-      let later = (stands_happened g st.lives st.ways _ n _ run (once_stands g n w run st)).meters in
+  once_full full.Heap t h = λ g n w run st.
+      let later = (stands_happened g st.at.inside.lives st.at.ways _ n _ run (once_stands g n w run st)).meters in
       let a = agrees_here x old held_none g n w run st in
       omega (arith, later.heap, h.0, a.heap)
   once_full full.Trail t h = absurd h
@@ -294,24 +298,29 @@ module _ (goals : Bor (List Goal)) (old : Engine) (ready : IsReady old) (all : b
       };
       left = refl;
       limits = record { heap = k.heap_limit; trail = k.trail_limit };
-      leads = λ g n w run quiet st.
+      leads = λ g n w run st.
           let r = behind x old g n w run st in
           let v = taken_in x old g n w run st in
-          let a = adds_taken r (writing (terms_held (out-Goal x))) w quiet in
+          let a = adds_taken r (writing (terms_held (out-Goal x))) w in
           record {
             world = begun (inside 10 r) 0 v;
-            adds = record { prints_are = a.prints_are; typed = refl; quiet = quiet };
+            adds = record { prints_are = a.prints_are; typed = refl };
             holds = record {
-              program = st.program;
-              lives = st.lives;
-              ways = st.ways;
-              registers = inside 10 r;
-              saved = st.saved;
-              keeps = saved st.saved st.keeps;
-              agrees = agrees_now r (agrees_here x old held_none g n w run st);
-              choices = st.choices;
-              tag = ap (λ i. i + 1) st.tag;
-              stands = subst (λ l. Stands g st.lives st.ways (path_of l (inside 10 r)) n (begun (inside 10 r) 0 v) run) (ap (λ i. goals_at env old.here.tag goals.now ++ Cut i ∷ steps_of old) st.tag ∙ sym same_first) (once_stands g n w run st);
+              at = record {
+                inside = record {
+                  program = st.at.inside.program;
+                  lives = st.at.inside.lives;
+                  saved = st.at.inside.saved;
+                  keeps = saved st.at.inside.saved st.at.inside.keeps;
+                  choices = st.at.inside.choices;
+                  world = st.at.inside.world;
+                };
+                ways = st.at.ways;
+                registers = inside 10 r;
+                agrees = agrees_now r (agrees_here x old held_none g n w run st);
+                tag = ap (λ i. i + 1) st.at.tag;
+              };
+              stands = subst (λ l. Stands g st.at.inside.lives st.at.ways (path_of l (inside 10 r)) n (begun (inside 10 r) 0 v) run) (ap (λ i. goals_at env old.here.tag goals.now ++ Cut i ∷ steps_of old) st.at.tag ∙ sym same_first) (once_stands g n w run st);
             };
           };
     }

@@ -108,7 +108,7 @@ module _ (program : CoreProgram) (rule : Rule) (refs behind vars before head : L
 
   pub rule_does : (s4 : Store) (r : Answer Bool Full) → Kept s3 s4 → Follows s3 s4 (solve s3.state.subst (zip (map (told s3) (stretch behind env)) (map (told s3) head))) r → MatchResult r (λ found. EntersRule program rule (values_in s refs env) s s4 refs behind found) (RuleFull program rule (values_in s refs env) s)
   rule_does s4 (Ok found) k4 h = rule_entered s4 found k4 h
-  rule_does s4 (Err e) k4 h = rule_full e h
+  rule_does s4 (Err e) k4 h = rule_full e h.cause
 
 -- its head takes more than is left
 pub head_full : (program : CoreProgram) (rule : Rule) (args : List Value) (refs behind : List Ref) (s s1 s2 : Store) (e : Full) → Charged 6 s s1 → Kept s s1 → MadeVars rule.vars s1 s2 refs behind → Kept s1 s2 → Overflows (cells program rule.head) s2 e → RuleFull program rule args s e

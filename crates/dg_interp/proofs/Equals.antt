@@ -30,8 +30,9 @@ use Rattle.dg_unify.specs.declared.bindings.Full.TheVariants as full
 use Rattle.dg_unify.specs.declared.list.ListBindings.{ListBindings}
 use Rattle.dg_interp.specs.declared.engine.Engine.{Engine}
 use Rattle.dg_interp.specs.Terms.{Overflows, BothMade}
-use Rattle.dg_interp.specs.Frames.{values_in, Agrees}
-use Rattle.dg_interp.specs.Engine.{store_in, KeepsPlaces, steps_of, IsQuiet, IsReady, TakesAt, FailsAt, FullAt, Adds, Leads, WentOn}
+use Rattle.dg_interp.specs.Frames.{values_in}
+use Rattle.dg_interp.specs.Engine.{store_in, KeepsPlaces, steps_of, IsReady, TakesAt, FailsAt, FullAt, Adds, Leads, WentOn}
+use Rattle.dg_unify.specs.Engines.{Agrees}
 use Rattle.dg_interp.proofs.Stores.{trail_append, trail_within, made_is}
 use Rattle.dg_interp.proofs.Turns.{all_first, all_rest}
 use Rattle.dg_interp.proofs.Takes.{behind, taken_in, comes_of, adds_taken, terms_full, store_ready}
@@ -82,12 +83,12 @@ module _ (a b : Term) (old : Engine) (mid : Store) (ra rb : Ref) (sound : IsSubs
   meant =
       let m = made g.program in
       ap (λ (y : State). unify y.subst (told mid ra) (told mid rb)) m.state
-      ∙ ap (λ S. unify S (told mid ra) (told mid rb)) (sym st.agrees.bound)
+      ∙ ap (λ S. unify S (told mid ra) (told mid rb)) (sym st.at.agrees.bound)
       ∙ ap (λ v. unify r.bound v (told mid rb)) m.left_is
       ∙ ap (λ v. unify r.bound (value_of g.program env a) v) m.right_is
 
   extends : Extends r.bound u.subst
-  extends = solve_extends r.bound ((value_of g.program env a, value_of g.program env b) ∷ []) (subst IsSubstitution (sym st.agrees.bound) sound)
+  extends = solve_extends r.bound ((value_of g.program env a, value_of g.program env b) ∷ []) (subst IsSubstitution (sym st.at.agrees.bound) sound)
 
   counted_trail : after.trail ≡ r.trail + length extends.made
   counted_trail = ap (λ l. r.trail + length l) (made_is extends.made r.bound u.subst extends.is)
@@ -104,21 +105,21 @@ module _ (a b : Term) (old : Engine) (mid : Store) (ra rb : Ref) (sound : IsSubs
       let trail : mid.state.trail ≡ s.state.trail = ap (λ (y : State). y.trail) m.state in
       let now = taken mid.state.since in
       let few = trail_within mid.state.since extends.made in
-      let before : trail_of mid.state.since mid.state.subst ≡ trail_of mid.state.since r.bound = ap (λ (y : State). trail_of mid.state.since y.subst) m.state ∙ ap (trail_of mid.state.since) (sym st.agrees.bound) in
+      let before : trail_of mid.state.since mid.state.subst ≡ trail_of mid.state.since r.bound = ap (λ (y : State). trail_of mid.state.since y.subst) m.state ∙ ap (trail_of mid.state.since) (sym st.at.agrees.bound) in
       let behind : trail_of mid.state.since new.state.subst ≡ trail_of mid.state.since u.subst = ap (trail_of mid.state.since) (does.subst ∙ ap (λ (v : Unified). v.subst) meant) in
       record {
         bound = sym (does.subst ∙ ap (λ (v : Unified). v.subst) meant);
-        vars = omega (arith, does.binds.vars, vars, st.agrees.vars);
-        heap = omega (arith, does.binds.heap, heap, form, st.agrees.heap);
-        trail = omega (arith, does.binds.trail, before, behind, now, few, counted_trail, trail, st.agrees.trail);
-        since = omega (arith, does.binds.since, since, does.binds.vars, vars, st.agrees.since);
+        vars = omega (arith, does.binds.vars, vars, st.at.agrees.vars);
+        heap = omega (arith, does.binds.heap, heap, form, st.at.agrees.heap);
+        trail = omega (arith, does.binds.trail, before, behind, now, few, counted_trail, trail, st.at.agrees.trail);
+        since = omega (arith, does.binds.since, since, does.binds.vars, vars, st.at.agrees.since);
       }
 
-  comes : Went g st.lives st.ways n (goes_on_if u.agrees (steps_of old) after bound_in) run
-  comes = subst (λ f. After g st.lives st.ways n (outcome g f env old.here.tag (steps_of old) r (taken_in x old g n w run st)) run) (outs-Equal a b) (comes_of x old g n w run st)
+  comes : Went g st.at.inside.lives st.at.ways n (goes_on_if u.agrees (steps_of old) after bound_in) run
+  comes = subst (λ f. After g st.at.inside.lives st.at.ways n (outcome g f env old.here.tag (steps_of old) r (taken_in x old g n w run st)) run) (outs-Equal a b) (comes_of x old g n w run st)
 
-  pub equal_comes : (found : Bool) → found ≡ (unify mid.state.subst (told mid ra) (told mid rb)).agrees → Went g st.lives st.ways n (goes_on_if found (steps_of old) after bound_in) run
-  equal_comes found is = subst (λ o. Went g st.lives st.ways n (goes_on_if o (steps_of old) after bound_in) run) (sym (is ∙ ap (λ (v : Unified). v.agrees) meant)) comes
+  pub equal_comes : (found : Bool) → found ≡ (unify mid.state.subst (told mid ra) (told mid rb)).agrees → Went g st.at.inside.lives st.at.ways n (goes_on_if found (steps_of old) after bound_in) run
+  equal_comes found is = subst (λ o. Went g st.at.inside.lives st.at.ways n (goes_on_if o (steps_of old) after bound_in) run) (sym (is ∙ ap (λ (v : Unified). v.agrees) meant)) comes
 
   world_is : (o : Bool) → world_at (goes_on_if o (steps_of old) after bound_in) ≡ bound_in
   world_is true = refl
@@ -130,14 +131,14 @@ module _ (a b : Term) (old : Engine) (mid : Store) (ra rb : Ref) (sound : IsSubs
       let trail : mid.state.trail ≡ s.state.trail = ap (λ (y : State). y.trail) m.state in
       let now = taken mid.state.since in
       let few = trail_within mid.state.since extends.made in
-      let before : trail_of mid.state.since mid.state.subst ≡ trail_of mid.state.since r.bound = ap (λ (y : State). trail_of mid.state.since y.subst) m.state ∙ ap (trail_of mid.state.since) (sym st.agrees.bound) in
+      let before : trail_of mid.state.since mid.state.subst ≡ trail_of mid.state.since r.bound = ap (λ (y : State). trail_of mid.state.since y.subst) m.state ∙ ap (trail_of mid.state.since) (sym st.at.agrees.bound) in
       let behind : trail_of mid.state.since (unify mid.state.subst (told mid ra) (told mid rb)).subst ≡ trail_of mid.state.since u.subst = ap (λ (v : Unified). trail_of mid.state.since v.subst) meant in
-      let grows : Grows bound_in run.world = subst (λ v. Grows v run.world) (world_is u.agrees) (has_happened g st.lives st.ways n (Moves (goes_on_if u.agrees (steps_of old) after bound_in)) run comes) in
-      omega (arith, h, before, behind, now, few, counted_trail, trail, st.agrees.trail, grows.meters.trail)
+      let grows : Grows bound_in run.world = subst (λ v. Grows v run.world) (world_is u.agrees) (has_happened g st.at.inside.lives st.at.ways n (Moves (goes_on_if u.agrees (steps_of old) after bound_in)) run comes) in
+      omega (arith, h, before, behind, now, few, counted_trail, trail, st.at.agrees.trail, grows.meters.trail)
 
 pub equal_trail_full : (a b : Term) (old : Engine) (mid : Store) (ra rb : Ref) → IsSubstitution (store_in old.store).state.subst → ((program : CoreProgram) → BothMade program a b (values_in (store_in old.store) old.refs.items old.here.env) (store_in old.store) mid ra rb) → (e : Full) → UnifyFull mid (unify mid.state.subst (told mid ra) (told mid rb)) e → FullAt (TakesAt (Equal a b) old) (store_in old.store) e
 equal_trail_full a b old mid ra rb sound made full.Heap h = absurd h
-equal_trail_full a b old mid ra rb sound made full.Trail h = λ g n w run quiet st. equal_trail a b old mid ra rb sound made g n w run st (store_in old.store).trail_limit (subst (λ k. k + trail_of mid.state.since mid.state.subst < mid.state.trail + trail_of mid.state.since (unify mid.state.subst (told mid ra) (told mid rb)).subst) (made g.program).kept.trail_limit h)
+equal_trail_full a b old mid ra rb sound made full.Trail h = λ g n w run st. equal_trail a b old mid ra rb sound made g n w run st (store_in old.store).trail_limit (subst (λ k. k + trail_of mid.state.since mid.state.subst < mid.state.trail + trail_of mid.state.since (unify mid.state.subst (told mid ra) (told mid rb)).subst) (made g.program).kept.trail_limit h)
 equal_trail_full a b old mid ra rb sound made full.OutOfMemory h = tt
 
 -- ## The engine behind it
@@ -147,31 +148,31 @@ module _ (a b : Term) (old : Engine) (mid : Store) (ra rb : Ref) (store : ListBi
   abbrev y : Goal
   y = Equal a b
 
-  adds_bound : (g : Game) (n : ℕ) (w : World) (run : Run) (st : TakesAt y old g n w run) → IsQuiet w → Adds [] w (bound_in a b old mid ra rb sound made g n w run st)
-  adds_bound g n w run st quiet = let t = adds_taken (behind y old g n w run st) (writing (terms_held (out-Goal y))) w quiet in record { prints_are = t.prints_are; typed = refl; quiet = quiet }
+  adds_bound : (g : Game) (n : ℕ) (w : World) (run : Run) (st : TakesAt y old g n w run) → Adds [] w (bound_in a b old mid ra rb sound made g n w run st)
+  adds_bound g n w run st = let t = adds_taken (behind y old g n w run st) (writing (terms_held (out-Goal y))) w in record { prints_are = t.prints_are; typed = refl }
 
   pub equal_passed : found ≡ true → WentOn (TakesAt y old) old (grown y old store stack ready k saved)
   equal_passed is = record {
     ready = store_ready old store stack k saved ready;
     left = refl;
     limits = grown_limits y old store stack ready k saved;
-    leads = λ g n w run quiet st.
+    leads = λ g n w run st.
         let v = bound_in a b old mid ra rb sound made g n w run st in
         let r = after a b old mid ra rb sound made g n w run st in
         record {
           world = v;
-          adds = adds_bound g n w run st quiet;
-          holds = stands_behind y old store stack ready k saved g n w v run st r (equal_agrees a b old mid ra rb sound made g n w run st (store_in store) found does) refl
-              (subst (λ o. Went g st.lives st.ways n (goes_on_if o (steps_of old) r v) run) is (equal_comes a b old mid ra rb sound made g n w run st found does.agrees));
+          adds = adds_bound g n w run st;
+          holds = stands_behind y old store stack ready k saved g n w v run st.at.inside.world st r (equal_agrees a b old mid ra rb sound made g n w run st (store_in store) found does) refl
+              (subst (λ o. Went g st.at.inside.lives st.at.ways n (goes_on_if o (steps_of old) r v) run) is (equal_comes a b old mid ra rb sound made g n w run st found does.agrees));
         };
   }
 
   pub equal_failed : found ≡ false → Leads (TakesAt y old) (FailsAt (grown y old store stack ready k saved))
-  equal_failed is g n w run quiet st =
+  equal_failed is g n w run st =
       let v = bound_in a b old mid ra rb sound made g n w run st in
       let r = after a b old mid ra rb sound made g n w run st in
       record {
         world = v;
-        adds = adds_bound g n w run st quiet;
-        holds = fails_behind y old store stack ready k saved g n w v run st (subst (λ o. Went g st.lives st.ways n (goes_on_if o (steps_of old) r v) run) is (equal_comes a b old mid ra rb sound made g n w run st found does.agrees));
+        adds = adds_bound g n w run st;
+        holds = fails_behind y old store stack ready k saved g n w v run st.at.inside.world st (subst (λ o. Went g st.at.inside.lives st.at.ways n (goes_on_if o (steps_of old) r v) run) is (equal_comes a b old mid ra rb sound made g n w run st found does.agrees));
       }

@@ -18,22 +18,25 @@ use Rattle.dg_base.specs.Goals.{terms_held}
 use Rattle.dg_interp.specs.declared.frames.Choice.{Choice}
 use Rattle.dg_interp.specs.declared.engine.Engine.{Engine}
 use Rattle.dg_interp.specs.Frames.{values_in, AreChoices, StandOn, GoBackTo}
-use Rattle.dg_interp.specs.Engine.{store_in, steps_of, IsQuiet, IsSound, IsReady, TakesAt, StandsAt, FailsAt, Then, Leads, Ends, Cuts, WentOn}
+use Rattle.dg_interp.specs.Engine.{store_in, steps_of, IsSound, IsReady, TakesAt, StandsAt, FailsAt, Then, Leads, Ends, Cuts, WentOn}
 use Rattle.dg_interp.proofs.Links.{saved_older, choices_cut, back_cut, stand_cut}
 use Rattle.dg_interp.proofs.Places.{keeps_older}
 use Rattle.dg_interp.proofs.Takes.{behind, taken_in, comes_of, adds_taken}
 
 pub fails_taken : (old : Engine) → Leads (TakesAt Fail old) (FailsAt old)
-fails_taken old g n w run quiet st = record {
+fails_taken old g n w run st = record {
   world = taken_in Fail old g n w run st;
-  adds = adds_taken (behind Fail old g n w run st) _ w quiet;
+  adds = adds_taken (behind Fail old g n w run st) _ w;
   holds = record {
-    program = st.program;
-    lives = st.lives;
-    saved = st.saved;
-    keeps = st.keeps;
-    choices = st.choices;
-    failed = subst (λ f. After g st.lives st.ways n (outcome g f (values_in (store_in old.store) old.refs.items old.here.env) old.here.tag (steps_of old) (behind Fail old g n w run st) (taken_in Fail old g n w run st)) run) outs-Fail (comes_of Fail old g n w run st);
+    inside = record {
+      program = st.at.inside.program;
+      lives = st.at.inside.lives;
+      saved = st.at.inside.saved;
+      keeps = st.at.inside.keeps;
+      choices = st.at.inside.choices;
+      world = st.at.inside.world;
+    };
+    failed = subst (λ f. After g st.at.inside.lives st.at.ways n (outcome g f (values_in (store_in old.store) old.refs.items old.here.env) old.here.tag (steps_of old) (behind Fail old g n w run st) (taken_in Fail old g n w run st)) run) outs-Fail (comes_of Fail old g n w run st);
   };
 }
 
@@ -70,56 +73,66 @@ module _ (old : Engine) (choices : Vec Choice Global) (ready : IsReady old) (cut
     ready = record { sound = new_sound; here = ready.here };
     left = refl;
     limits = record { heap = refl; trail = refl };
-    leads = λ g n w run quiet st.
+    leads = λ g n w run st.
         let r = behind Just old g n w run st in
         let v = taken_in Just old g n w run st in
-        let heap : r.heap ≡ st.registers.heap = no_cells st.registers.heap _ (ap (λ f. cells g.program (terms_held f)) outs-Just) in
+        let heap : r.heap ≡ st.at.registers.heap = no_cells st.at.registers.heap _ (ap (λ f. cells g.program (terms_held f)) outs-Just) in
         record {
           world = v;
-          adds = adds_taken r _ w quiet;
+          adds = adds_taken r _ w;
           holds = record {
-            program = st.program;
-            lives = cut_to t st.lives;
-            ways = st.ways;
-            registers = r;
-            saved = saved_older t os st.saved;
-            keeps = keeps_older old.store t os st.saved st.keeps;
-            agrees = record { bound = st.agrees.bound; vars = st.agrees.vars; heap = heap ∙ st.agrees.heap; trail = st.agrees.trail; since = st.agrees.since };
-            choices = subst (λ l. AreChoices g old.refs.items old.frames.items l (saved_older t os st.saved) (cut_to t st.lives)) (sym cuts) (choices_cut g t old.refs.items old.frames.items os st.saved st.lives st.choices);
-            tag = st.tag;
-            stands = passes_cut g st.lives st.ways t (steps_of old) r n v run
-                (subst (λ f. After g st.lives st.ways n (outcome g f (values_in (store_in old.store) old.refs.items old.here.env) t (steps_of old) r v) run) outs-Just (comes_of Just old g n w run st));
+            at = record {
+              inside = record {
+                program = st.at.inside.program;
+                lives = cut_to t st.at.inside.lives;
+                saved = saved_older t os st.at.inside.saved;
+                keeps = keeps_older old.store t os st.at.inside.saved st.at.inside.keeps;
+                choices = subst (λ l. AreChoices g old.refs.items old.frames.items l (saved_older t os st.at.inside.saved) (cut_to t st.at.inside.lives)) (sym cuts) (choices_cut g t old.refs.items old.frames.items os st.at.inside.saved st.at.inside.lives st.at.inside.choices);
+                world = st.at.inside.world;
+              };
+              ways = st.at.ways;
+              registers = r;
+              agrees = record { bound = st.at.agrees.bound; vars = st.at.agrees.vars; heap = heap ∙ st.at.agrees.heap; trail = st.at.agrees.trail; since = st.at.agrees.since };
+              tag = st.at.tag;
+            };
+            stands = passes_cut g st.at.inside.lives st.at.ways t (steps_of old) r n v run
+                (subst (λ f. After g st.at.inside.lives st.at.ways n (outcome g f (values_in (store_in old.store) old.refs.items old.here.env) t (steps_of old) r v) run) outs-Just (comes_of Just old g n w run st));
           };
         };
   }
 
 -- ## A word, and the end
 
-pub prints_word : (name : List ℕ) (e : Engine) (g : Game) (n : ℕ) (w : World) (run : Run) → IsQuiet w → TakesAt (Text name) e g n w run → Then (Piece name ∷ []) w (λ v. StandsAt e g n v run)
-prints_word name e g n w run quiet st =
+pub prints_word : (name : List ℕ) (e : Engine) (g : Game) (n : ℕ) (w : World) (run : Run) → TakesAt (Text name) e g n w run → Then (Piece name ∷ []) w (λ v. StandsAt e g n v run)
+prints_word name e g n w run st =
     let r = behind (Text name) e g n w run st in
     let v = taken_in (Text name) e g n w run st in
-    let heap : r.heap ≡ st.registers.heap = no_cells st.registers.heap _ (ap (λ f. cells g.program (terms_held f)) (outs-Text name)) in
+    let heap : r.heap ≡ st.at.registers.heap = no_cells st.at.registers.heap _ (ap (λ f. cells g.program (terms_held f)) (outs-Text name)) in
     record {
       world = printed (Piece name) v;
-      adds = record { prints_are = prints_append w.events (Prints (Piece name) ∷ []); typed = refl; quiet = quiet };
+      adds = record { prints_are = prints_append w.events (Prints (Piece name) ∷ []); typed = refl };
       holds = record {
-        program = st.program;
-        lives = st.lives;
-        ways = st.ways;
-        registers = r;
-        saved = st.saved;
-        keeps = st.keeps;
-        agrees = record { bound = st.agrees.bound; vars = st.agrees.vars; heap = heap ∙ st.agrees.heap; trail = st.agrees.trail; since = st.agrees.since };
-        choices = st.choices;
-        tag = st.tag;
-        stands = subst (λ f. After g st.lives st.ways n (outcome g f (values_in (store_in e.store) e.refs.items e.here.env) e.here.tag (steps_of e) r v) run) (outs-Text name) (comes_of (Text name) e g n w run st);
+        at = record {
+          inside = record {
+            program = st.at.inside.program;
+            lives = st.at.inside.lives;
+            saved = st.at.inside.saved;
+            keeps = st.at.inside.keeps;
+            choices = st.at.inside.choices;
+            world = st.at.inside.world;
+          };
+          ways = st.at.ways;
+          registers = r;
+          agrees = record { bound = st.at.agrees.bound; vars = st.at.agrees.vars; heap = heap ∙ st.at.agrees.heap; trail = st.at.agrees.trail; since = st.at.agrees.since };
+          tag = st.at.tag;
+        };
+        stands = subst (λ f. After g st.at.inside.lives st.at.ways n (outcome g f (values_in (store_in e.store) e.refs.items e.here.env) e.here.tag (steps_of e) r v) run) (outs-Text name) (comes_of (Text name) e g n w run st);
       };
     }
 
 pub quits : (e : Engine) → Ends (TakesAt Quit e) (End Quit-Ending)
-quits e g n w run quiet st = record {
+quits e g n w run st = record {
   world = taken_in Quit e g n w run st;
-  adds = adds_taken (behind Quit e g n w run st) _ w quiet;
-  holds = subst (λ f. After g st.lives st.ways n (outcome g f (values_in (store_in e.store) e.refs.items e.here.env) e.here.tag (steps_of e) (behind Quit e g n w run st) (taken_in Quit e g n w run st)) run) outs-Quit (comes_of Quit e g n w run st);
+  adds = adds_taken (behind Quit e g n w run st) _ w;
+  holds = subst (λ f. After g st.at.inside.lives st.at.ways n (outcome g f (values_in (store_in e.store) e.refs.items e.here.env) e.here.tag (steps_of e) (behind Quit e g n w run st) (taken_in Quit e g n w run st)) run) outs-Quit (comes_of Quit e g n w run st);
 }

@@ -17,7 +17,8 @@ use Rattle.dg_interp.specs.declared.frames.Frame.{Frame}
 use Rattle.dg_interp.specs.declared.frames.Left.{Left}
 use Rattle.dg_interp.specs.declared.frames.Left.TheVariants.{Rules, Lists, Ways, Way as OneWay}
 use Rattle.dg_interp.specs.declared.frames.Choice.{Choice}
-use Rattle.dg_interp.specs.Frames.{values_in, kind_of, branches_of, Agrees, AreChoices, AreFrames, IsLeft, StandOn, GoBackTo, left_in, all_left, has_some, stays_with, cells_if}
+use Rattle.dg_interp.specs.Frames.{values_in, kind_of, branches_of, AreChoices, AreFrames, IsLeft, StandOn, GoBackTo, left_in, all_left, has_some, stays_with, cells_if}
+use Rattle.dg_unify.specs.Engines.{Agrees}
 use Rattle.dg_interp.specs.Engine.{KeepsPlaces, kept_if}
 use Rattle.dg_interp.proofs.Links.{stand_raise}
 

@@ -18,6 +18,7 @@ pub mod Takes
 pub mod Asks
 pub mod Goals
 pub mod Runs
+pub mod Waiting
 pub mod Rounds
 pub mod Whole
 pub mod PrintedWorlds

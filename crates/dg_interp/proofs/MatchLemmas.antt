@@ -1,5 +1,5 @@
 -- How arguments and the head of a rule go on from one pair to the next.
-use Rattle.std.proofs.Common.{◌≡◌, ℕ, ◌+◌, ◌<◌, ◌≤◌, List, [], ◌∷◌, true, false, refl, sym, ap, ◌∙◌, subst, length}
+use Rattle.std.proofs.Common.{◌≡◌, ℕ, ◌+◌, ◌<◌, ◌≤◌, List, [], ◌∷◌, ◌++◌, append_assoc, true, false, refl, sym, ap, ◌∙◌, subst, length}
 use Rattle.std.specs.Prelude.{map, get_or, drop, Bool, Result, Ok, Err, ◌⊎◌}
 use Rattle.std.proofs.Common.{inl, inr}
 use Rattle.std.specs.List.{All, zip}
@@ -10,12 +10,12 @@ use Rattle.dg_meaning.specs.Substitutions.{Substitution, IsSubstitution}
 use Rattle.dg_meaning.specs.Unify.{Equations, Unified, agreed, counted, solve, unify, and_then}
 use Rattle.dg_meaning.proofs.Solving.{solve_extends}
 use Rattle.dg_meaning.proofs.UnifyLaws.{solve_none, solve_first}
-use Rattle.dg_unify.specs.Store.{Store, told, Holds, Kept, OnlyBinds, Does, UnifyFull, Follows}
+use Rattle.dg_unify.specs.Store.{Store, told, Holds, Kept, OnlyBinds, Does, BrokeOff, Follows}
 use Rattle.dg_unify.specs.declared.bindings.Ref.{Ref}
 use Rattle.dg_unify.specs.declared.bindings.Full.{Full}
 use Rattle.dg_unify.proofs.StoreLemmas.{kept_same, kept_on, kept_told}
 use Rattle.dg_unify.proofs.Meets.{more_same}
-use Rattle.dg_unify.proofs.Goings.{counted_none, counted_twice, binds_on, full_later, then_extends}
+use Rattle.dg_unify.proofs.Goings.{counted_none, counted_twice, binds_on, broke_later, then_extends}
 
 -- what the pairs from a number on have to become equal to
 abbrev pub pairs_from : Store → List Ref → List Ref → ℕ → Equations
@@ -25,11 +25,13 @@ pairs_from s args head n = zip (map (told s) (drop n args)) (map (told s) (drop 
 pub record Matching (old now : Store) (args head : List Ref) (n : ℕ) : Type 0 where
   pub kept : Kept old now
   pub binds : OnlyBinds old.state now.state
+  pub made : Substitution
+  pub grown : now.state.subst ≡ made ++ old.state.subst
   pub before : ℕ
   pub same : solve old.state.subst (pairs_from old args head 0) ≡ counted before (solve now.state.subst (pairs_from old args head n))
 
 pub matching_starts : (s : Store) (args head : List Ref) → Matching s s args head 0
-matching_starts s args head = record { kept = kept_same s; binds = more_same s.state; before = 0; same = counted_none (solve s.state.subst (pairs_from s args head 0)) }
+matching_starts s args head = record { kept = kept_same s; binds = more_same s.state; made = []; grown = refl; before = 0; same = counted_none (solve s.state.subst (pairs_from s args head 0)) }
 
 -- the answer of the rest is that of the whole
 matching_ends : (old now new : Store) (args head : List Ref) (n : ℕ) → Matching old now args head n → (r : Result Bool Full) → Follows now new (solve now.state.subst (pairs_from old args head n)) r → Follows old new (solve old.state.subst (pairs_from old args head 0)) r
@@ -39,7 +41,7 @@ matching_ends old now new args head n m (Ok d) u = record {
   binds = binds_on old.state now.state new.state m.binds u.binds;
 }
 matching_ends old now new args head n m (Err e) h =
-    full_later old now m.kept m.binds (solve now.state.subst (pairs_from old args head n)) (solve old.state.subst (pairs_from old args head 0)) [] (ap (λ (x : Unified). x.subst) m.same) e h
+    broke_later old now new m.kept m.binds m.made m.grown (solve now.state.subst (pairs_from old args head n)) (solve old.state.subst (pairs_from old args head 0)) [] (ap (λ (x : Unified). x.subst) m.same) e h
 
 zip_none : {A B : Type 0} (xs : List A) → zip {K = A} {X = B} xs [] ≡ []
 zip_none [] = refl
@@ -87,11 +89,11 @@ module _ (old now : Store) (sound : IsSubstitution now.state.subst) (args head :
       ∙ ap (λ v. solve S ((told now a, v) ∷ rest)) (sym (kept_told old now b m.kept (All-get_or (Holds old) head n d lb hb)))
       ∙ solve_first S (told now a, told now b) rest sound
 
-  pub match_full : (new : Store) (e : Full) → UnifyFull now one e → Follows old new (solve old.state.subst (pairs_from old args head 0)) (Err e)
+  pub match_full : (new : Store) (e : Full) → BrokeOff now new one e → Follows old new (solve old.state.subst (pairs_from old args head 0)) (Err e)
   match_full new e h =
       let grew = solve_extends S ((told now a, told now b) ∷ []) sound in
       let w = then_extends one next (λ S' is. solve_extends S' rest (subst IsSubstitution (sym is) grew.sound)) in
-      matching_ends old now new args head n m (Err e) (full_later now now (kept_same now) (more_same now.state) one (solve S (pairs_from old args head n)) w.0 (ap (λ (x : Unified). x.subst) first_then ∙ w.1) e h)
+      matching_ends old now new args head n m (Err e) (broke_later now now new (kept_same now) (more_same now.state) [] refl one (solve S (pairs_from old args head n)) w.0 (ap (λ (x : Unified). x.subst) first_then ∙ w.1) e h)
 
   pub match_clash : (new : Store) (answer : Bool) → answer ≡ false → Does now new one answer → Follows old new (solve old.state.subst (pairs_from old args head 0)) (Ok false)
   match_clash new answer is h =
@@ -106,9 +108,12 @@ module _ (old now : Store) (sound : IsSubstitution now.state.subst) (args head :
   match_on new answer is kept h =
       let same : solve S (pairs_from old args head n) ≡ counted one.count (solve new.state.subst rest) =
       first_then ∙ cond-true one.agrees (counted one.count (next one.subst)) one (sym h.agrees ∙ is) ∙ ap (λ S'. counted one.count (solve S' rest)) (sym h.subst) in
+      let grew = solve_extends S ((told now a, told now b) ∷ []) sound in
       record {
         kept = kept_on old now new m.kept kept;
         binds = binds_on old.state now.state new.state m.binds h.binds;
+        made = grew.made ++ m.made;
+        grown = h.subst ∙ grew.is ∙ ap (λ T. grew.made ++ T) m.grown ∙ sym (append_assoc grew.made m.made old.state.subst);
         before = m.before + one.count;
         same = m.same ∙ ap (counted m.before) same ∙ counted_twice m.before one.count (solve new.state.subst rest);
       }

@@ -25,7 +25,8 @@ use Rattle.dg_interp.specs.declared.frames.Frame.{Frame}
 use Rattle.dg_interp.specs.declared.frames.Choice.{Choice}
 use Rattle.dg_interp.specs.declared.frames.Left.{Left}
 use Rattle.dg_interp.specs.declared.engine.Engine.{Engine}
-use Rattle.dg_interp.specs.Frames.{values_in, steps_behind, steps_at, kind_of, branches_of, Agrees, AreChoices, AreFrames, IsLeft, IsFrame, StandOn, GoBackTo}
+use Rattle.dg_interp.specs.Frames.{values_in, steps_behind, steps_at, kind_of, branches_of, AreChoices, AreFrames, IsLeft, IsFrame, StandOn, GoBackTo}
+use Rattle.dg_unify.specs.Engines.{Agrees}
 use Rattle.dg_interp.specs.Engine.{store_in, KeepsPlaces, HasPlace, IsPlace, BeginsAt, steps_of, IsSound, IsReady, TakesAt, OpensAt, IsPushed, Leads, SameLimits}
 use Rattle.dg_interp.proofs.Links.{same_here, same_append, same_values, behind_new, at_same, frame_raise, frames_append, choices_same, stand_raise, stand_same, branches_same}
 use Rattle.dg_interp.proofs.Stores.{kept_here, all_hold, values_kept, hold_front}
@@ -44,8 +45,8 @@ module _ (x : Goal) (old : Engine) (none : terms_held (out-Goal x) ≡ []) where
   pub agrees_here : (g : Game) (n : ℕ) (w : World) (run : Run) (st : TakesAt x old g n w run) → Agrees (store_in old.store) (behind x old g n w run st)
   agrees_here g n w run st =
       let r = behind x old g n w run st in
-      let heap : r.heap ≡ st.registers.heap = no_cells st.registers.heap _ (ap (cells g.program) none) in
-      record { bound = st.agrees.bound; vars = st.agrees.vars; heap = heap ∙ st.agrees.heap; trail = st.agrees.trail; since = st.agrees.since }
+      let heap : r.heap ≡ st.at.registers.heap = no_cells st.at.registers.heap _ (ap (cells g.program) none) in
+      record { bound = st.at.agrees.bound; vars = st.at.agrees.vars; heap = heap ∙ st.at.agrees.heap; trail = st.at.agrees.trail; since = st.at.agrees.since }
 
   -- what comes of it is a choice with these branches
   abbrev pub IsChoiceOf : Left → Type 0
@@ -53,28 +54,33 @@ module _ (x : Goal) (old : Engine) (none : terms_held (out-Goal x) ≡ []) where
       outcome g (out-Goal x) (values_in (store_in old.store) old.refs.items old.here.env) old.here.tag (steps_of old) r w ≡ choice (kind_of left) r.next_tag (branches_of g (values_in (store_in old.store) old.refs.items) old.frames.items (length old.frames.items) left r) w
 
   pub opens : (left : Left) → kind_of left ≡ Plain → IsChoiceOf left → Leads (TakesAt x old) (OpensAt left old)
-  opens left plain is g n w run quiet st =
+  opens left plain is g n w run st =
       let r = behind x old g n w run st in
       let v = taken_in x old g n w run st in
       record {
         world = v;
-        adds = adds_taken r (writing (terms_held (out-Goal x))) w quiet;
+        adds = adds_taken r (writing (terms_held (out-Goal x))) w;
         holds = record {
-          program = st.program;
-          lives = st.lives;
-          ways = st.ways;
-          registers = r;
-          saved = st.saved;
-          keeps = st.keeps;
-          agrees = agrees_here g n w run st;
-          choices = st.choices;
-          tag = st.tag;
+          at = record {
+            inside = record {
+              program = st.at.inside.program;
+              lives = st.at.inside.lives;
+              saved = st.at.inside.saved;
+              keeps = st.at.inside.keeps;
+              choices = st.at.inside.choices;
+              world = st.at.inside.world;
+            };
+            ways = st.at.ways;
+            registers = r;
+            agrees = agrees_here g n w run st;
+            tag = st.at.tag;
+          };
           tried =
               let bs = branches_of g (values_in (store_in old.store) old.refs.items) old.frames.items (length old.frames.items) left r in
-              let here : After g st.lives st.ways n (choice Plain r.next_tag bs v) run =
-              subst (λ m. After g st.lives st.ways n m run) (is g r v st.program st.tag ∙ ap (λ k. choice k r.next_tag bs v) plain) (comes_of x old g n w run st) in
-              subst (λ k. Tried g k r.next_tag 0 st.ways st.lives bs n v run) (sym plain)
-              (subst (λ i. Tried g Plain r.next_tag i st.ways st.lives bs n v run) (ap length quiet) (chosen g st.lives st.ways n run r.next_tag bs v here));
+              let here : After g st.at.inside.lives st.at.ways n (choice Plain r.next_tag bs v) run =
+              subst (λ m. After g st.at.inside.lives st.at.ways n m run) (is g r v st.at.inside.program st.at.tag ∙ ap (λ k. choice k r.next_tag bs v) plain) (comes_of x old g n w run st) in
+              subst (λ k. Tried g k r.next_tag 0 st.at.ways st.at.inside.lives bs n v run) (sym plain)
+              (subst (λ i. Tried g Plain r.next_tag i st.at.ways st.at.inside.lives bs n v run) (ap length st.at.inside.world) (chosen g st.at.inside.lives st.at.ways n run r.next_tag bs v here));
         };
       }
 
@@ -132,16 +138,21 @@ module _ (old : Engine) (frame : Frame) (frames : Vec Frame Global) (ready : IsR
 
   pub pushed_takes : (x : Goal) (g : Game) (k : ℕ) (w : World) (run : Run) → TakesAt x old g k w run → TakesAt x new g k w run
   pushed_takes x g k w run st = record {
-    program = st.program;
-    lives = st.lives;
-    ways = st.ways;
-    registers = st.registers;
-    saved = st.saved;
-    keeps = st.keeps;
-    agrees = st.agrees;
-    choices = subst (λ l. AreChoices g old.refs.items l os st.saved st.lives) (sym pushed_on) (choices_same g old.refs.items old.refs.items fs gs (length fs) n old.newest os st.saved st.lives refl (same_append fs frame) ready.sound.choices st.choices);
-    tag = st.tag;
-    stands = subst (λ (l : List Step). Stands g st.lives st.ways (path_of (Do x (vs old.here.env) old.here.tag ∷ l) st.registers) (suc k) w run) (sym (pushed_same old.here ready.here)) st.stands;
+    at = record {
+      inside = record {
+        program = st.at.inside.program;
+        lives = st.at.inside.lives;
+        saved = st.at.inside.saved;
+        keeps = st.at.inside.keeps;
+        choices = subst (λ l. AreChoices g old.refs.items l os st.at.inside.saved st.at.inside.lives) (sym pushed_on) (choices_same g old.refs.items old.refs.items fs gs (length fs) n old.newest os st.at.inside.saved st.at.inside.lives refl (same_append fs frame) ready.sound.choices st.at.inside.choices);
+        world = st.at.inside.world;
+      };
+      ways = st.at.ways;
+      registers = st.at.registers;
+      agrees = st.at.agrees;
+      tag = st.at.tag;
+    };
+    stands = subst (λ (l : List Step). Stands g st.at.inside.lives st.at.ways (path_of (Do x (vs old.here.env) old.here.tag ∷ l) st.at.registers) (suc k) w run) (sym (pushed_same old.here ready.here)) st.stands;
   }
 
 -- ## A mark, and a new tag
@@ -192,24 +203,30 @@ module _ (old : Engine) (left : Left) (place : Place) (store : ListBindings) (re
   }
 
   pub opens_begins : IsLeft (length old.frames.items) (length refs) left → Leads (OpensAt left old) (BeginsAt left place opened)
-  opens_begins is g n w run quiet st = record {
+  opens_begins is g n w run st = record {
     world = w;
-    adds = adds_nothing w quiet;
+    adds = adds_nothing w;
     holds = record {
-      program = st.program;
-      lives = st.lives;
-      ways = st.ways;
-      registers = st.registers;
-      saved = st.saved;
+      at = record {
+        inside = record {
+          program = st.at.inside.program;
+          lives = st.at.inside.lives;
+          saved = st.at.inside.saved;
+          keeps = saves_drops true (fields_of store) (record { mark = place; store = t }) st.at.inside.saved (place_now st.at.inside.saved st.at.inside.keeps).keeps;
+          choices = st.at.inside.choices;
+          world = st.at.inside.world;
+        };
+        ways = st.at.ways;
+        registers = st.at.registers;
+        agrees = agrees_now st.at.registers st.at.agrees;
+        tag = st.at.tag;
+      };
       back = record { mark = place; store = t };
-      is = place_now st.saved st.keeps;
-      agrees = agrees_now st.registers st.agrees;
-      back_agrees = agrees_now st.registers st.agrees;
-      choices = st.choices;
-      tag = st.tag;
+      is = place_now st.at.inside.saved st.at.inside.keeps;
+      back_agrees = agrees_now st.at.registers st.at.agrees;
       tried =
-          subst (λ l. Tried g (kind_of left) st.registers.next_tag 0 st.ways st.lives l n w run)
-          (sym (branches_same g (length old.frames.items) (length refs) (values_in (store_in old.store) refs) (values_in t refs) old.frames.items old.frames.items left st.registers is ready.sound.frames
+          subst (λ l. Tried g (kind_of left) st.at.registers.next_tag 0 st.at.ways st.at.inside.lives l n w run)
+          (sym (branches_same g (length old.frames.items) (length refs) (values_in (store_in old.store) refs) (values_in t refs) old.frames.items old.frames.items left st.at.registers is ready.sound.frames
           (values_kept (length refs) (store_in old.store) t refs refs k (hold_front (store_in old.store) refs ready.sound.hold) refl) (same_here (length old.frames.items) old.frames.items))) st.tried;
     };
   }

@@ -24,10 +24,10 @@ use Rattle.dg_interp.specs.declared.frames.Env.{Env}
 use Rattle.dg_interp.specs.declared.frames.Left.TheVariants.{Rules}
 use Rattle.dg_interp.specs.declared.engine.Engine.{Engine}
 use Rattle.dg_interp.specs.Frames.{values_in, steps_behind, IsLeft}
-use Rattle.dg_interp.specs.Engine.{store_in, Point, IsSound, FailsAt, BeginsAt, Adds, Leads, WentWrong}
+use Rattle.dg_interp.specs.Engine.{store_in, Point, InWorld, IsSound, FailsAt, BeginsAt, Adds, Leads, WentWrong}
 use Rattle.dg_interp.specs.Passing.{rules_from, IsFirst, IsCandidate}
 use Rattle.dg_interp.proofs.PassedRules.{rules_from_candidate, from_is_candidate}
-use Rattle.dg_interp.proofs.Places.{adds_nothing, adds_on, adds_drops, adds_tried, adds_failed, leads_on, leads_nowhere, limits_here}
+use Rattle.dg_interp.proofs.Places.{there_in, world_drops, world_tried, adds_nothing, adds_on, adds_drops, adds_tried, adds_failed, leads_on, leads_nowhere, limits_here}
 use Rattle.dg_interp.proofs.Turns.{all_rest}
 
 candidates_built : (S : _) (args : List Value) (rules : List Rule) → All IsBuiltRule rules → All IsBuiltRule (from_candidate S args rules)
@@ -59,44 +59,37 @@ module _ (old : Engine) (query : Query) (args : Env) (place : Place) (sound : Is
   abbrev TriedAt : Game → Registers → List Way → List Live → List Rule → ℕ → World → Run → Type 0
   TriedAt g r ways lives rules n w run = Tried g (RulesOf query.pred) r.next_tag 0 ways lives (rule_branches g query.pred the_args query.many steps r rules) n w run
 
-  at_tried : (b b' : Bor (List Rule)) (rules : List Rule) (g : Game) (n : ℕ) (w v : World) (run : Run) → b'.now ≡ rules → (st : at b g n w run) → TriedAt g st.registers st.ways st.lives rules n v run → at b' g n v run
-  at_tried b b' rules g n w v run e st tried = record {
-    program = st.program;
-    lives = st.lives;
-    ways = st.ways;
-    registers = st.registers;
-    saved = st.saved;
+  at_tried : (b b' : Bor (List Rule)) (rules : List Rule) (g : Game) (n : ℕ) (w v : World) (run : Run) → b'.now ≡ rules → InWorld v → (st : at b g n w run) → TriedAt g st.at.registers st.at.ways st.at.inside.lives rules n v run → at b' g n v run
+  at_tried b b' rules g n w v run e is st tried = record {
+    at = there_in old old.newest g w v is st.at;
     back = st.back;
     is = st.is;
-    agrees = st.agrees;
     back_agrees = st.back_agrees;
-    choices = st.choices;
-    tag = st.tag;
-    tried = subst (λ l. TriedAt g st.registers st.ways st.lives l n v run) (sym e) tried;
+    tried = subst (λ l. TriedAt g st.at.registers st.at.ways st.at.inside.lives l n v run) (sym e) tried;
   }
 
   same_at : (b b' : Bor (List Rule)) → b.now ≡ b'.now → Leads (at b) (at b')
-  same_at b b' e g n w run quiet st = record { world = w; adds = adds_nothing w quiet; holds = at_tried b b' b.now g n w w run (sym e) st st.tried }
+  same_at b b' e g n w run st = record { world = w; adds = adds_nothing w; holds = at_tried b b' b.now g n w w run (sym e) st.at.inside.world st st.tried }
 
   -- an excluded rule fails as it begins
   passes_one : (b : Bor (List Rule)) (rule : Rule) (rules : List Rule) → first_excludes s.state.subst the_args rule.head ≡ true → Leads (at (bor b (rule ∷ rules))) (at (bor b rules))
-  passes_one b rule rules excluded g n w run quiet st =
-      let r = st.registers in
+  passes_one b rule rules excluded g n w run st =
+      let r = st.at.registers in
       let work = entering g the_args rule r in
       let bs = rule_branches g query.pred the_args query.many steps r rules in
-      let c : Live = record { kind = RulesOf query.pred; tag = r.next_tag; others = bs; height = 0; ways_on = st.ways } in
+      let c : Live = record { kind = RulesOf query.pred; tag = r.next_tag; others = bs; height = 0; ways_on = st.at.ways } in
       let v = begun (inside 0 r) work w in
-      let is : is_excluded the_args r rule ≡ true = ap (λ S. first_excludes S the_args rule.head) st.agrees.bound ∙ excluded in
-      let wrong : Failed g (c ∷ st.lives) n v run =
-      subst (λ x. Began g (c ∷ st.lives) st.ways x n w run) (passed g r rule (call_cells the_args r rules) is) st.tried in
-      let f = failed g (c ∷ st.lives) n v run wrong in
-      let begun_adds : Adds [] w v = record { prints_are = sym (append-nil (prints w.events)); typed = refl; quiet = quiet } in
-      let dropped = adds_drops v f.world quiet f.drops in
+      let is : is_excluded the_args r rule ≡ true = ap (λ S. first_excludes S the_args rule.head) st.at.agrees.bound ∙ excluded in
+      let wrong : Failed g (c ∷ st.at.inside.lives) n v run =
+      subst (λ x. Began g (c ∷ st.at.inside.lives) st.at.ways x n w run) (passed g r rule (call_cells the_args r rules) is) st.tried in
+      let f = failed g (c ∷ st.at.inside.lives) n v run wrong in
+      let begun_adds : Adds [] w v = record { prints_are = sym (append-nil (prints w.events)); typed = refl } in
+      let dropped = adds_drops v f.world f.drops in
       let u = tried_in (RulesOf query.pred) bs f.world in
       record {
         world = u;
-        adds = adds_on w f.world u [] [] (adds_on w v f.world [] [] begun_adds dropped) (adds_tried (RulesOf query.pred) bs f.world dropped.quiet);
-        holds = at_tried (bor b (rule ∷ rules)) (bor b rules) rules g n w u run refl st (tries g c st.lives n f.world run f.resumed);
+        adds = adds_on w f.world u [] [] (adds_on w v f.world [] [] begun_adds dropped) (adds_tried (RulesOf query.pred) bs f.world);
+        holds = at_tried (bor b (rule ∷ rules)) (bor b rules) rules g n w u run refl (world_tried (RulesOf query.pred) bs f.world (world_drops v f.world st.at.inside.world f.drops)) st (tries g c st.at.inside.lives n f.world run f.resumed);
       }
     where
       passed : (g : Game) (r : Registers) (rule : Rule) (heap : ℕ) → is_excluded the_args r rule ≡ true → rule_branch g query.pred the_args query.many steps r heap rule ≡ Clash (inside 0 r) (entering g the_args rule r)
@@ -128,16 +121,19 @@ module _ (old : Engine) (query : Query) (args : Env) (place : Place) (sound : Is
     passed_fewer = subst (λ (l : List Rule). length l ≤ length rules.now) (sym are) (fewer_candidates s.state.subst the_args rules.now)
 
     none_tried : left.now ≡ [] → Leads (at left) (FailsAt old)
-    none_tried e g n w run quiet st = record {
+    none_tried e g n w run st = record {
       world = _;
-      adds = adds_failed query.pred w quiet;
+      adds = adds_failed query.pred w;
       holds = record {
-        program = st.program;
-        lives = st.lives;
-        saved = st.saved;
-        keeps = saves_drops true (fields_of old.store) st.back st.saved st.is.keeps;
-        choices = st.choices;
-        failed = subst (λ l. TriedAt g st.registers st.ways st.lives l n w run) e st.tried;
+        inside = record {
+          program = st.at.inside.program;
+          lives = st.at.inside.lives;
+          saved = st.at.inside.saved;
+          keeps = saves_drops true (fields_of old.store) st.back st.at.inside.saved st.is.keeps;
+          choices = st.at.inside.choices;
+          world = st.at.inside.world;
+        };
+        failed = subst (λ l. TriedAt g st.at.registers st.at.ways st.at.inside.lives l n w run) e st.tried;
       };
     }
 

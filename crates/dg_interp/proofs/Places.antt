@@ -27,50 +27,68 @@ use Rattle.dg_interp.specs.declared.frames.Mark.TheVariants.{Nothing, AnswerOf, 
 use Rattle.dg_interp.specs.declared.frames.Frame.{Frame}
 use Rattle.dg_interp.specs.declared.frames.Choice.{Choice}
 use Rattle.dg_interp.specs.declared.engine.Engine.{Engine}
-use Rattle.dg_interp.specs.Frames.{values_in, mark_steps, frame_steps, steps_behind, steps_at, AreChoices, IsFrame, AreFrames, Agrees, StandOn, GoBackTo, floor_of, all_left}
-use Rattle.dg_interp.specs.Engine.{store_in, KeepsPlaces, IsQuiet, IsSound, IsReady, Point, StandsAt, FailsAt, Adds, Then, Leads, Cuts, branches_left, SameLimits, WentOn, WentWrong, HasEndedSo, MarkPassed, Refused, FrameLeft, steps_of}
+use Rattle.dg_interp.specs.Frames.{values_in, mark_steps, frame_steps, steps_behind, steps_at, AreChoices, IsFrame, AreFrames, StandOn, GoBackTo, floor_of, all_left}
+use Rattle.dg_interp.specs.Engine.{store_in, KeepsPlaces, InWorld, Inside, There, IsSound, IsReady, Point, StandsAt, FailsAt, Adds, Then, Leads, Cuts, branches_left, SameLimits, WentOn, WentWrong, HasEndedSo, MarkPassed, Refused, FrameLeft, steps_of}
+use Rattle.dg_unify.specs.Engines.{Agrees}
 use Rattle.dg_interp.proofs.Links.{same_take, same_values, behind_same, behind_frame, behind_end, frames_take, choices_same, saved_older, choices_cut, back_cut, keeps_cut, stand_cut, stand_same, stand_floor, floor_within, cut_fewer}
 
 -- ## From world to world
 
-pub adds_nothing : (w : World) → IsQuiet w → Adds [] w w
-adds_nothing w quiet = record { prints_are = sym (append-nil (prints w.events)); typed = refl; quiet = quiet }
+pub adds_nothing : (w : World) → Adds [] w w
+adds_nothing w = record { prints_are = sym (append-nil (prints w.events)); typed = refl }
 
 pub adds_on : (w v u : World) (xs ys : List Print) → Adds xs w v → Adds ys v u → Adds (xs ++ ys) w u
 adds_on w v u xs ys a b = record {
   prints_are = b.prints_are ∙ ap (λ l. l ++ ys) a.prints_are ∙ append_assoc (prints w.events) xs ys;
   typed = b.typed ∙ a.typed;
-  quiet = b.quiet;
 }
 
-pub adds_drops : (w v : World) → IsQuiet w → Drops w v → Adds [] w v
-adds_drops w v quiet d = subst (Adds [] w) (sym (quiet_same w v quiet d)) (adds_nothing w quiet)
+pub adds_drops : (w v : World) → Drops w v → Adds [] w v
+adds_drops w v d = record { prints_are = ap (λ (x : World). prints x.events) d.is ∙ sym (append-nil (prints w.events)); typed = ap (λ (x : World). x.typed) d.is }
+
+-- no gathering is open that could be dropped
+pub world_drops : (w v : World) → InWorld w → Drops w v → InWorld v
+world_drops w v is d = ap (λ (x : World). x.gathered) (quiet_same w v is d) ∙ is
+
+pub world_tried : (k : Kind) (bs : List Branch) (w : World) → InWorld w → InWorld (tried_in k bs w)
+world_tried k [] w is = is
+world_tried (Rules q) (b ∷ bs) w is = is
+world_tried Plain (b ∷ bs) w is = is
+world_tried Shield (b ∷ bs) w is = is
+world_tried Gathers (b ∷ bs) w is = is
+
+-- the same engine in another world
+abbrev pub in_world : (e : Engine) (g : Game) (w v : World) → InWorld v → Inside e g w → Inside e g v
+in_world e g w v is i = record { program = i.program; lives = i.lives; saved = i.saved; keeps = i.keeps; choices = i.choices; world = is }
+
+abbrev pub there_in : (e : Engine) (next : ℕ) (g : Game) (w v : World) → InWorld v → There e next g w → There e next g v
+there_in e next g w v is at = record { inside = in_world e g w v is at.inside; ways = at.ways; registers = at.registers; agrees = at.agrees; tag = at.tag }
 
 -- a call is noted
-pub adds_noted : (w : World) (e : Event) → IsQuiet w → prints (e ∷ []) ≡ [] → Adds [] w (noted e w)
-adds_noted w e quiet h = record { prints_are = prints_append w.events (e ∷ []) ∙ ap (λ l. prints w.events ++ l) h; typed = refl; quiet = quiet }
+pub adds_noted : (w : World) (e : Event) → prints (e ∷ []) ≡ [] → Adds [] w (noted e w)
+adds_noted w e h = record { prints_are = prints_append w.events (e ∷ []) ∙ ap (λ l. prints w.events ++ l) h; typed = refl }
 
-pub adds_failed : (q : ℕ) (w : World) → IsQuiet w → Adds [] w (noted (HasFailed q) w)
-adds_failed q w quiet = adds_noted w (HasFailed q) quiet refl
+pub adds_failed : (q : ℕ) (w : World) → Adds [] w (noted (HasFailed q) w)
+adds_failed q w = adds_noted w (HasFailed q) refl
 
 -- a choice is tried again
-pub adds_tried : (k : Kind) (bs : List Branch) (w : World) → IsQuiet w → Adds [] w (tried_in k bs w)
-adds_tried k [] w quiet = adds_nothing w quiet
-adds_tried (Rules q) (b ∷ bs) w quiet = adds_noted w (Retried q) quiet refl
-adds_tried Plain (b ∷ bs) w quiet = adds_nothing w quiet
-adds_tried Shield (b ∷ bs) w quiet = adds_nothing w quiet
-adds_tried Gathers (b ∷ bs) w quiet = adds_nothing w quiet
+pub adds_tried : (k : Kind) (bs : List Branch) (w : World) → Adds [] w (tried_in k bs w)
+adds_tried k [] w = adds_nothing w
+adds_tried (Rules q) (b ∷ bs) w = adds_noted w (Retried q) refl
+adds_tried Plain (b ∷ bs) w = adds_nothing w
+adds_tried Shield (b ∷ bs) w = adds_nothing w
+adds_tried Gathers (b ∷ bs) w = adds_nothing w
 
-pub then_on : (xs ys : List Print) (w : World) (P Q : World → Type 0) → Then xs w P → ((v : World) → IsQuiet v → P v → Then ys v Q) → Then (xs ++ ys) w Q
+pub then_on : (xs ys : List Print) (w : World) (P Q : World → Type 0) → Then xs w P → ((v : World) → P v → Then ys v Q) → Then (xs ++ ys) w Q
 then_on xs ys w P Q a f =
-    let b = f a.world a.adds.quiet a.holds in
+    let b = f a.world a.holds in
     record { world = b.world; adds = adds_on w a.world b.world xs ys a.adds b.adds; holds = b.holds }
 
 pub leads_on : (A B C : Point) → Leads A B → Leads B C → Leads A C
-leads_on A B C a b g n w run quiet h = then_on [] [] w (λ v. B g n v run) (λ v. C g n v run) (a g n w run quiet h) (λ v q k. b g n v run q k)
+leads_on A B C a b g n w run h = then_on [] [] w (λ v. B g n v run) (λ v. C g n v run) (a g n w run h) (λ v k. b g n v run k)
 
 pub leads_nowhere : (A : Point) → Leads A A
-leads_nowhere A g n w run quiet h = record { world = w; adds = adds_nothing w quiet; holds = h }
+leads_nowhere A g n w run h = record { world = w; adds = adds_nothing w; holds = h }
 
 pub limits_here : (e : Engine) → SameLimits e e
 limits_here e = record { heap = refl; trail = refl }
@@ -83,20 +101,25 @@ limits_on a b c h k = record { heap = k.heap ∙ h.heap; trail = k.trail ∙ h.t
 module _ (old new : Engine) (program : new.program.now ≡ old.program.now) (store : new.store ≡ old.store) (newest : new.newest ≡ old.newest) (steps : steps_of new ≡ steps_of old)
     (choices : (g : Game) (ms : List Saved) (cs : List Live) → AreChoices g old.refs.items old.frames.items (reverse old.choices.items) ms cs → AreChoices g new.refs.items new.frames.items (reverse new.choices.items) ms cs) where
   pub same_place : Leads (StandsAt old) (StandsAt new)
-  same_place g n w run quiet st = record {
+  same_place g n w run st = record {
     world = w;
-    adds = adds_nothing w quiet;
+    adds = adds_nothing w;
     holds = record {
-      program = program ∙ st.program;
-      lives = st.lives;
-      ways = st.ways;
-      registers = st.registers;
-      saved = st.saved;
-      keeps = subst (λ s. KeepsPlaces s st.saved) (sym store) st.keeps;
-      agrees = subst (λ s. Agrees (store_in s) st.registers) (sym store) st.agrees;
-      choices = choices g st.saved st.lives st.choices;
-      tag = st.tag ∙ ap (λ n. n + 1) (sym newest);
-      stands = subst (λ s. Stands g st.lives st.ways (path_of s st.registers) n w run) (sym steps) st.stands;
+      at = record {
+        inside = record {
+          program = program ∙ st.at.inside.program;
+          lives = st.at.inside.lives;
+          saved = st.at.inside.saved;
+          keeps = subst (λ s. KeepsPlaces s st.at.inside.saved) (sym store) st.at.inside.keeps;
+          choices = choices g st.at.inside.saved st.at.inside.lives st.at.inside.choices;
+          world = st.at.inside.world;
+        };
+        ways = st.at.ways;
+        registers = st.at.registers;
+        agrees = subst (λ s. Agrees (store_in s) st.at.registers) (sym store) st.at.agrees;
+        tag = st.at.tag ∙ ap (λ n. n + 1) (sym newest);
+      };
+      stands = subst (λ s. Stands g st.at.inside.lives st.at.ways (path_of s st.at.registers) n w run) (sym steps) st.stands;
     };
   }
 
@@ -160,23 +183,28 @@ module _ (old : Engine) (ready : IsReady old) (none : old.here.goals.now ≡ [])
       ready = off_ready;
       left = refl;
       limits = record { heap = refl; trail = refl };
-      leads = λ g n w run quiet st.
+      leads = λ g n w run st.
           let was : steps_of old ≡ Answers query.pred ∷ rest = steps_done values fs old.here (AnswerOf query) none is ∙ ap (λ m. Answers query.pred ∷ first_alone m old.here.tag rest) many in
           record {
             world = noted (Answered query.pred) w;
-            adds = adds_noted w (Answered query.pred) quiet refl;
+            adds = adds_noted w (Answered query.pred) refl;
             holds = record {
-              program = st.program;
-              lives = st.lives;
-              ways = st.ways;
-              registers = st.registers;
-              saved = st.saved;
-              keeps = st.keeps;
-              agrees = st.agrees;
-              choices = st.choices;
-              tag = st.tag;
-              stands = subst (λ s. Stands g st.lives st.ways (path_of s st.registers) n (noted (Answered query.pred) w) run) (sym off)
-                  (passes_answer g st.lives st.ways query.pred rest st.registers n w run (subst (λ s. Stands g st.lives st.ways (path_of s st.registers) n w run) was st.stands));
+              at = record {
+                inside = record {
+                  program = st.at.inside.program;
+                  lives = st.at.inside.lives;
+                  saved = st.at.inside.saved;
+                  keeps = st.at.inside.keeps;
+                  choices = st.at.inside.choices;
+                  world = st.at.inside.world;
+                };
+                ways = st.at.ways;
+                registers = st.at.registers;
+                agrees = st.at.agrees;
+                tag = st.at.tag;
+              };
+              stands = subst (λ s. Stands g st.at.inside.lives st.at.ways (path_of s st.at.registers) n (noted (Answered query.pred) w) run) (sym off)
+                  (passes_answer g st.at.inside.lives st.at.ways query.pred rest st.at.registers n w run (subst (λ s. Stands g st.at.inside.lives st.at.ways (path_of s st.at.registers) n w run) was st.stands));
             };
           };
     };
@@ -214,18 +242,23 @@ module _ (old : Engine) (ready : IsReady old) (none : old.here.goals.now ≡ [])
     choices_older : (g : Game) (ms : List Saved) (cs : List Live) → AreChoices g old.refs.items fs (reverse old.choices.items) ms cs → AreChoices g old.refs.items fs (reverse choices.items) (saved_older t (reverse old.choices.items) ms) (cut_to t cs)
     choices_older g ms cs h = subst (λ os. AreChoices g old.refs.items fs os (saved_older t (reverse old.choices.items) ms) (cut_to t cs)) (sym cuts) (choices_cut g t old.refs.items fs (reverse old.choices.items) ms cs h)
 
-    cut_at : (g : Game) (n : ℕ) (w v : World) (run : Run) (st : StandsAt old g n w run) → Stands g st.lives st.ways (path_of (Cut t ∷ rest) st.registers) n v run → StandsAt new g n v run
-    cut_at g n w v run st stands = record {
-      program = st.program;
-      lives = cut_to t st.lives;
-      ways = st.ways;
-      registers = st.registers;
-      saved = saved_older t (reverse old.choices.items) st.saved;
-      keeps = keeps_older old.store t (reverse old.choices.items) st.saved st.keeps;
-      agrees = st.agrees;
-      choices = choices_older g st.saved st.lives st.choices;
-      tag = st.tag;
-      stands = subst (λ s. Stands g (cut_to t st.lives) st.ways (path_of s st.registers) n v run) (sym off) (passes_cut g st.lives st.ways t rest st.registers n v run stands);
+    cut_at : (g : Game) (n : ℕ) (w v : World) (run : Run) → InWorld v → (st : StandsAt old g n w run) → Stands g st.at.inside.lives st.at.ways (path_of (Cut t ∷ rest) st.at.registers) n v run → StandsAt new g n v run
+    cut_at g n w v run none_open st stands = record {
+      at = record {
+        inside = record {
+          program = st.at.inside.program;
+          lives = cut_to t st.at.inside.lives;
+          saved = saved_older t (reverse old.choices.items) st.at.inside.saved;
+          keeps = keeps_older old.store t (reverse old.choices.items) st.at.inside.saved st.at.inside.keeps;
+          choices = choices_older g st.at.inside.saved st.at.inside.lives st.at.inside.choices;
+          world = none_open;
+        };
+        ways = st.at.ways;
+        registers = st.at.registers;
+        agrees = st.at.agrees;
+        tag = st.at.tag;
+      };
+      stands = subst (λ s. Stands g (cut_to t st.at.inside.lives) st.at.ways (path_of s st.at.registers) n v run) (sym off) (passes_cut g st.at.inside.lives st.at.ways t rest st.at.registers n v run stands);
     }
 
     pub tag_passed : old.here.mark ≡ CutTo t → MarkPassed old new
@@ -234,10 +267,10 @@ module _ (old : Engine) (ready : IsReady old) (none : old.here.goals.now ≡ [])
         ready = cut_ready;
         left = refl;
         limits = record { heap = refl; trail = refl };
-        leads = λ g n w run quiet st. record {
+        leads = λ g n w run st. record {
           world = w;
-          adds = adds_nothing w quiet;
-          holds = cut_at g n w w run st (subst (λ s. Stands g st.lives st.ways (path_of s st.registers) n w run) (steps_done values fs old.here (CutTo t) none is) st.stands);
+          adds = adds_nothing w;
+          holds = cut_at g n w w run st.at.inside.world st (subst (λ s. Stands g st.at.inside.lives st.at.ways (path_of s st.at.registers) n w run) (steps_done values fs old.here (CutTo t) none is) st.stands);
         };
       };
       goals = none;
@@ -252,16 +285,19 @@ module _ (old : Engine) (ready : IsReady old) (none : old.here.goals.now ≡ [])
         sound = cut_sound;
         left = refl;
         limits = record { heap = refl; trail = refl };
-        leads = λ g n w run quiet st. record {
+        leads = λ g n w run st. record {
           world = w;
-          adds = adds_nothing w quiet;
+          adds = adds_nothing w;
           holds = record {
-            program = st.program;
-            lives = cut_to t st.lives;
-            saved = saved_older t (reverse old.choices.items) st.saved;
-            keeps = keeps_older old.store t (reverse old.choices.items) st.saved st.keeps;
-            choices = choices_older g st.saved st.lives st.choices;
-            failed = passes_refuse g st.lives st.ways t [] st.registers n w run (subst (λ s. Stands g st.lives st.ways (path_of s st.registers) n w run) (steps_done values fs old.here (RefuseTo t) none is) st.stands);
+            inside = record {
+              program = st.at.inside.program;
+              lives = cut_to t st.at.inside.lives;
+              saved = saved_older t (reverse old.choices.items) st.at.inside.saved;
+              keeps = keeps_older old.store t (reverse old.choices.items) st.at.inside.saved st.at.inside.keeps;
+              choices = choices_older g st.at.inside.saved st.at.inside.lives st.at.inside.choices;
+              world = st.at.inside.world;
+            };
+            failed = passes_refuse g st.at.inside.lives st.at.ways t [] st.at.registers n w run (subst (λ s. Stands g st.at.inside.lives st.at.ways (path_of s st.at.registers) n w run) (steps_done values fs old.here (RefuseTo t) none is) st.stands);
           };
         };
       };
@@ -276,13 +312,13 @@ module _ (old : Engine) (ready : IsReady old) (none : old.here.goals.now ≡ [])
           ready = cut_ready t choices cuts;
           left = refl;
           limits = record { heap = refl; trail = refl };
-          leads = λ g n w run quiet st.
+          leads = λ g n w run st.
               let was : steps_of old ≡ Answers query.pred ∷ Cut t ∷ rest = steps_done values fs old.here (AnswerOf query) none is ∙ ap (λ m. Answers query.pred ∷ first_alone m t rest) many in
               record {
                 world = noted (Answered query.pred) w;
-                adds = adds_noted w (Answered query.pred) quiet refl;
-                holds = cut_at t choices cuts g n w (noted (Answered query.pred) w) run st
-                    (passes_answer g st.lives st.ways query.pred (Cut t ∷ rest) st.registers n w run (subst (λ s. Stands g st.lives st.ways (path_of s st.registers) n w run) was st.stands));
+                adds = adds_noted w (Answered query.pred) refl;
+                holds = cut_at t choices cuts g n w (noted (Answered query.pred) w) run st.at.inside.world st
+                    (passes_answer g st.at.inside.lives st.at.ways query.pred (Cut t ∷ rest) st.at.registers n w run (subst (λ s. Stands g st.at.inside.lives st.at.ways (path_of s st.at.registers) n w run) was st.stands));
               };
         };
         goals = none;
@@ -386,11 +422,11 @@ went_wrong From a b c h k = record {
 pub all_done : (From : Point) (old e : Engine) → WentOn From old e → e.here.goals.now ≡ [] → e.here.mark ≡ Nothing → e.here.behind ≡ 0 → HasEndedSo From (End Done) old e
 all_done From old e h none off end = record {
   left = h.left;
-  ends = λ g n w run quiet st.
-      then_on [] [] w (λ v. StandsAt e g n v run) (λ v. Finished n v (End Done) run) (h.leads g n w run quiet st)
-      (λ v q k.
+  ends = λ g n w run st.
+      then_on [] [] w (λ v. StandsAt e g n v run) (λ v. Finished n v (End Done) run) (h.leads g n w run st)
+      (λ v k.
       let values = values_in (store_in e.store) e.refs.items in
       let steps : steps_of e ≡ [] = steps_done values e.frames.items e.here Nothing none off ∙ ap (steps_behind values e.frames.items) end ∙ behind_end values e.frames.items in
-      let stands = subst (λ s. Stands g k.lives k.ways (path_of s k.registers) n v run) steps k.stands in
-      record { world = v; adds = adds_nothing v q; holds = done g k.lives k.ways k.registers n v run stands });
+      let stands = subst (λ s. Stands g k.at.inside.lives k.at.ways (path_of s k.at.registers) n v run) steps k.stands in
+      record { world = v; adds = adds_nothing v; holds = done g k.at.inside.lives k.at.ways k.at.registers n v run stands });
 }

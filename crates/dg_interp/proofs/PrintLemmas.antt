@@ -21,10 +21,16 @@ use Rattle.dg_unify.specs.declared.bindings.View.TheVariants as view
 use Rattle.dg_base.specs.declared.cells.Simple.{Simple}
 use Rattle.dg_base.specs.declared.cells.Simple.TheVariants as simple
 use Rattle.dg_unify.proofs.StoreLemmas.{told_is, holds_some, walked_to}
+use Rattle.dg_unify.proofs.Rooms.{Placed, newest_in, AreInside, room_for_all, room_left as wait_left}
+use Rattle.dg_unify.specs.Waits.{size_at}
+use Rattle.dg_unify.specs.declared.parts.Parts.TheVariants as form
+use Rattle.dg_unify.specs.declared.parts.Wait.{Wait}
+use Rattle.dg_interp.specs.declared.printing.Next.{Next}
+use Rattle.dg_interp.specs.declared.printing.Next.TheVariants as next
 use Rattle.dg_interp.specs.declared.spacer.Spacer.{Spacer}
 use Rattle.dg_base.specs.declared.writing.WriteFault.{WriteFault}
 use Rattle.dg_interp.specs.Spacer.{StandsFor, Added, growth}
-use Rattle.dg_interp.specs.Printing.{HasText, shows_nil, single_pieces, end_pieces, as_prints, growth_of, AllAdded, AddsAll, Printed}
+use Rattle.dg_interp.specs.Printing.{HasText, shows_nil, single_pieces, end_pieces, as_prints, growth_of, AllAdded, AddsAll, Printed, value_at, ref_of, next_pieces, opening, IsPairOf}
 
 -- ## Pieces behind pieces
 
@@ -117,10 +123,6 @@ letters_end spelling bytes n len t h short size =
 
 -- ## Values
 
--- a value, resolved
-abbrev pub value_at : Store → Ref → Value
-value_at s r = resolved s.state.subst (told s r)
-
 -- the parts of a list, resolved
 abbrev pub parts_at : Store → Ref → Ref → Values
 parts_at s h t = More (value_at s h) (More (value_at s t) NoMore)
@@ -141,9 +143,6 @@ pair_at s sound r h t p =
 
 pub pair_size : (s : Store) → IsSubstitution s.state.subst → (r h t : Ref) → ShowsPair s (walked_to s r) h t → size (value_at s r) ≡ room s h t + 1
 pair_size s sound r h t p = omega (arith, ap size (pair_at s sound r h t p))
-
-pub element_smaller : (s : Store) (h t : Ref) → size (value_at s h) < room s h t
-element_smaller s h t = omega (arith, size_some (value_at s t))
 
 -- ## A value that is no pair
 
@@ -212,52 +211,6 @@ other_shown s program w (view.Simple (simple.Word n)) e shows = other_is program
 other_shown s program w (view.Simple (simple.Object n)) e shows = other_is program w (Node (Object n) NoMore) shows (record { single = refl; end = refl })
 other_shown s program w (view.Simple simple.Nil) e shows = absurd (cc e)
 
--- ## The elements of a list
-
--- what is left of a list behind its elements up to here
-pub record Listing (s : Store) (program : CoreProgram) (h0 t0 h t : Ref) (sp0 sp : Spacer) (a b : SinkView) : Type 0 where
-  pub head_in : Holds s h
-  pub tail_in : Holds s t
-  pub front : List (List ℕ)
-  pub adds : AddsAll front sp0 sp a b
-  pub is : list_pieces program (parts_at s h0 t0) ≡ front ++ list_pieces program (parts_at s h t)
-  pub smaller : room s h t ≤ room s h0 t0
-
-pub listing_starts : (s : Store) (program : CoreProgram) (h t : Ref) (sp : Spacer) (a : SinkView) → Holds s h → Holds s t → Listing s program h t h t sp sp a a
-listing_starts s program h t sp a hh ht = record { head_in = hh; tail_in = ht; front = []; adds = adds_none sp a; is = refl; smaller = omega arith }
-
--- the sink failed within an element
-pub element_stops : (s : Store) (program : CoreProgram) (h0 t0 h t : Ref) (sp0 sp sp' : Spacer) (a b c : SinkView) (e : WriteFault) → Listing s program h0 t0 h t sp0 sp a b → Printed (pieces program (value_at s h)) sp sp' b c (Err e) → Printed (list_pieces program (parts_at s h0 t0)) sp0 sp' a c (Err e)
-element_stops s program h0 t0 h t sp0 sp sp' a b c e l p =
-    printed_as (l.front ++ list_pieces program (parts_at s h t)) (list_pieces program (parts_at s h0 t0)) sp0 sp' a c (Err e) l.is
-    (printed_then l.front (list_pieces program (parts_at s h t)) sp0 sp sp' a b c (Err e) l.adds
-    (printed_stop (pieces program (value_at s h)) (tail_pieces program (value_at s t)) sp sp' b c e p))
-
--- the tail is a pair
-pub element_on : (s : Store) → IsSubstitution s.state.subst → (program : CoreProgram) (h0 t0 h t h' t' : Ref) (sp0 sp sp' : Spacer) (a b c : SinkView) → Listing s program h0 t0 h t sp0 sp a b → AddsAll (pieces program (value_at s h)) sp sp' b c → ShowsPair s (walked_to s t) h' t' → Listing s program h0 t0 h' t' sp0 sp' a c
-element_on s sound program h0 t0 h t h' t' sp0 sp sp' a b c l p shows =
-    let e : value_at s t ≡ Node Pair (parts_at s h' t') = pair_at s sound t h' t' shows in
-    record {
-      head_in = holds_some s h' shows.head shows.head_is;
-      tail_in = holds_some s t' shows.tail shows.tail_is;
-      front = l.front ++ pieces program (value_at s h);
-      adds = adds_on l.front (pieces program (value_at s h)) sp0 sp sp' a b c l.adds p;
-      is =
-          l.is
-          ∙ ap (λ v. l.front ++ (pieces program (value_at s h) ++ tail_pieces program v)) e
-          ∙ sym (append_assoc l.front (pieces program (value_at s h)) (list_pieces program (parts_at s h' t')));
-      smaller = omega (arith, l.smaller, pair_size s sound t h' t' shows);
-    }
-
--- the end behind the last element
-pub list_ends : (s : Store) (program : CoreProgram) (h0 t0 h t : Ref) (sp0 sp sp' sp'' : Spacer) (a b c d : SinkView) (r : Result (Unit {0}) WriteFault) → Listing s program h0 t0 h t sp0 sp a b → AddsAll (pieces program (value_at s h)) sp sp' b c → IsSingle program (walked_to s t) (value_at s t) → Printed (end_pieces program (walked_to s t)) sp' sp'' c d r → Printed (list_pieces program (parts_at s h0 t0)) sp0 sp'' a d r
-list_ends s program h0 t0 h t sp0 sp sp' sp'' a b c d r l p end last =
-    let tail = tail_pieces program (value_at s t) in
-    printed_as (l.front ++ (pieces program (value_at s h) ++ tail)) (list_pieces program (parts_at s h0 t0)) sp0 sp'' a d r l.is
-    (printed_then l.front (pieces program (value_at s h) ++ tail) sp0 sp sp'' a b d r l.adds
-    (printed_then (pieces program (value_at s h)) tail sp sp' sp'' b c d r p
-    (printed_as (end_pieces program (walked_to s t)) tail sp' sp'' c d r end.tail_are last)))
-
 -- ## A whole value
 
 -- the sink failed at the first bracket
@@ -266,10 +219,115 @@ list_stops s sound program r h t sp sp' a b e shows p =
     let rest = list_pieces program (parts_at s h t) in
     printed_as (codes "[" ∷ rest) (pieces program (value_at s r)) sp sp' a b (Err e) (ap (pieces program) (pair_at s sound r h t shows)) (printed_stop (codes "[" ∷ []) rest sp sp' a b e p)
 
-pub list_follows : (s : Store) → IsSubstitution s.state.subst → (program : CoreProgram) (r h t : Ref) (sp sp' sp'' : Spacer) (a b c : SinkView) (result : Result (Unit {0}) WriteFault) → ShowsPair s (walked_to s r) h t → AddsAll (codes "[" ∷ []) sp sp' a b → Printed (list_pieces program (parts_at s h t)) sp' sp'' b c result → Printed (pieces program (value_at s r)) sp sp'' a c result
-list_follows s sound program r h t sp sp' sp'' a b c result shows k p =
-    let rest = list_pieces program (parts_at s h t) in
-    printed_as (codes "[" ∷ rest) (pieces program (value_at s r)) sp sp'' a c result (ap (pieces program) (pair_at s sound r h t shows)) (printed_then (codes "[" ∷ []) rest sp sp' sp'' a b c result k p)
-
 pub single_printed : (s : Store) (program : CoreProgram) (r : Ref) (sp sp' : Spacer) (a b : SinkView) (result : Result (Unit {0}) WriteFault) → IsSingle program (walked_to s r) (value_at s r) → Printed (single_pieces program (walked_to s r)) sp sp' a b result → Printed (pieces program (value_at s r)) sp sp' a b result
 single_printed s program r sp sp' a b result is p = printed_as (single_pieces program (walked_to s r)) (pieces program (value_at s r)) sp sp' a b result is.pieces_are p
+
+-- ## What is next
+
+pub pair_of : (s : Store) → IsSubstitution s.state.subst → (r h t : Ref) → ShowsPair s (walked_to s r) h t → IsPairOf s r h t
+pair_of s sound r h t shows = record { head_in = holds_some s h shows.head shows.head_is; tail_in = holds_some s t shows.tail shows.tail_is; is = pair_at s sound r h t shows }
+
+pub tail_printed : (s : Store) (program : CoreProgram) (r : Ref) (sp sp' : Spacer) (a b : SinkView) (result : Result (Unit {0}) WriteFault) → IsSingle program (walked_to s r) (value_at s r) → Printed (end_pieces program (walked_to s r)) sp sp' a b result → Printed (tail_pieces program (value_at s r)) sp sp' a b result
+tail_printed s program r sp sp' a b result is p = printed_as (end_pieces program (walked_to s r)) (tail_pieces program (value_at s r)) sp sp' a b result is.tail_are p
+
+-- the tails that wait
+abbrev pub rest_pieces : Store → CoreProgram → List Wait → List (List ℕ)
+rest_pieces s program [] = []
+rest_pieces s program (w ∷ ws) = tail_pieces program (value_at s w.b) ++ rest_pieces s program ws
+
+abbrev pub TailsWait : Store → List Wait → Type 0
+TailsWait s [] = Unit {0}
+TailsWait s (w ∷ ws) = Holds s w.b × TailsWait s ws
+
+abbrev pub newest : Ref → List Wait → Ref
+newest root ws = newest_in (λ w. w.a) root ws
+
+-- what is left of a value behind what was printed of it
+pub record Printing (s : Store) (program : CoreProgram) (root : Ref) (n : Next) (ws : List Wait) (sp0 sp : Spacer) (a b : SinkView) : Type 0 where
+  pub next_in : Holds s (ref_of n)
+  pub tails_in : TailsWait s ws
+  pub inside : AreInside s (λ w. w.a) (λ w. size_at s w.b) root ws
+  pub within : size_at s (ref_of n) ≤ size_at s (newest root ws)
+  pub front : List (List ℕ)
+  pub adds : AddsAll front sp0 sp a b
+  pub is : pieces program (value_at s root) ≡ front ++ (next_pieces s program n ++ rest_pieces s program ws)
+
+pub printing_starts : (s : Store) (program : CoreProgram) (root : Ref) (sp : Spacer) (a : SinkView) → Holds s root → Printing s program root (next.Value root) [] sp sp a a
+printing_starts s program root sp a h = record { next_in = h; tails_in = tt; inside = tt; within = omega arith; front = []; adds = adds_none sp a; is = sym (append-nil (pieces program (value_at s root))) }
+
+-- how much is left
+abbrev pub tails : Store → List Wait → ℕ
+tails s [] = 0
+tails s (w ∷ ws) = 2 * size_at s w.b + 1 + tails s ws
+
+abbrev pub to_print : Store → Next → List Wait → ℕ
+to_print s n ws = 2 * size_at s (ref_of n) + tails s ws
+
+opened_pieces : (s : Store) (program : CoreProgram) (n : Next) (h t : Ref) → IsPairOf s (ref_of n) h t → next_pieces s program n ≡ opening n ++ (pieces program (value_at s h) ++ tail_pieces program (value_at s t))
+opened_pieces s program (next.Value r) h t p = ap (pieces program) p.is
+opened_pieces s program (next.Tail r) h t p = ap (tail_pieces program) p.is
+
+module _ (s : Store) (placed : Placed s) (program : CoreProgram) (root : Ref) (n : Next) (ws : List Wait) (sp0 sp sp' : Spacer) (a b c : SinkView) (l : Printing s program root n ws sp0 sp a b) where
+  abbrev rest : List (List ℕ)
+  rest = rest_pieces s program ws
+
+  pub printing_stops : (e : WriteFault) → Printed (next_pieces s program n) sp sp' b c (Err e) → Printed (pieces program (value_at s root)) sp0 sp' a c (Err e)
+  printing_stops e p =
+      printed_as (l.front ++ (next_pieces s program n ++ rest)) (pieces program (value_at s root)) sp0 sp' a c (Err e) l.is
+      (printed_then l.front (next_pieces s program n ++ rest) sp0 sp sp' a b c (Err e) l.adds (printed_stop (next_pieces s program n) rest sp sp' b c e p))
+
+  -- it was printed, and nothing waits
+  pub printing_ends : ws ≡ [] → AddsAll (next_pieces s program n) sp sp' b c → AddsAll (pieces program (value_at s root)) sp0 sp' a c
+  printing_ends last p =
+      let none : next_pieces s program n ++ rest ≡ next_pieces s program n = ap (λ v. next_pieces s program n ++ rest_pieces s program v) last ∙ append-nil (next_pieces s program n) in
+      subst (λ ps. AddsAll ps sp0 sp' a c) (sym (l.is ∙ ap (λ ps. l.front ++ ps) none)) (adds_on l.front (next_pieces s program n) sp0 sp sp' a b c l.adds p)
+
+  -- it was printed, and the newest tail is taken up
+  pub printing_up : (w : Wait) (others : List Wait) → ws ≡ w ∷ others → AddsAll (next_pieces s program n) sp sp' b c → Printing s program root (next.Tail w.b) others sp0 sp' a c
+  printing_up w others is p =
+      let tails_in : TailsWait s (w ∷ others) = subst (TailsWait s) is l.tails_in in
+      let inside : AreInside s (λ v. v.a) (λ v. size_at s v.b) root (w ∷ others) = subst (AreInside s (λ v. v.a) (λ v. size_at s v.b) root) is l.inside in
+      record {
+        next_in = tails_in.0;
+        tails_in = tails_in.1;
+        inside = inside.3;
+        within = omega (arith, inside.2);
+        front = l.front ++ next_pieces s program n;
+        adds = adds_on l.front (next_pieces s program n) sp0 sp sp' a b c l.adds p;
+        is = l.is ∙ ap (λ v. l.front ++ (next_pieces s program n ++ rest_pieces s program v)) is ∙ sym (append_assoc l.front (next_pieces s program n) (rest_pieces s program (w ∷ others)));
+      }
+
+  pub up_smaller : (w : Wait) (others : List Wait) → ws ≡ w ∷ others → to_print s (next.Tail w.b) others < to_print s n ws
+  up_smaller w others is = omega (arith, ap (tails s) is)
+
+  -- it is a pair, whose tail waits
+  module _ (h t : Ref) (p : IsPairOf s (ref_of n) h t) where
+    abbrev wait : Wait
+    wait = record { a = h; b = t; p = form.Nothing; q = form.Nothing }
+
+    pair_sizes : size_at s (ref_of n) ≡ size_at s h + size_at s t + 1
+    pair_sizes = omega (arith, ap size p.is)
+
+    pub printing_room : Holds s root → length ws < s.places
+    printing_room hold = omega (arith, wait_left s placed (λ w. w.a) (λ w. size_at s w.b) root 0 ws (size_at s h) hold (room_for_all s root) l.inside (size_some (value_at s h)) (omega (arith, l.within, pair_sizes)))
+
+    pub printing_into : AddsAll (opening n) sp sp' b c → Printing s program root (next.Value h) (wait ∷ ws) sp0 sp' a c
+    printing_into added =
+        let A = pieces program (value_at s h) in
+        let B = tail_pieces program (value_at s t) in
+        record {
+          next_in = p.head_in;
+          tails_in = (p.tail_in, l.tails_in);
+          inside = (p.head_in, omega (arith, l.within, pair_sizes, size_some (value_at s t)), omega (arith, l.within, pair_sizes, size_some (value_at s h)), l.inside);
+          within = omega arith;
+          front = l.front ++ opening n;
+          adds = adds_on l.front (opening n) sp0 sp sp' a b c l.adds added;
+          is =
+              l.is
+              ∙ ap (λ ps. l.front ++ (ps ++ rest)) (opened_pieces s program n h t p)
+              ∙ ap (λ ps. l.front ++ ps) (append_assoc (opening n) (A ++ B) rest ∙ ap (λ ps. opening n ++ ps) (append_assoc A B rest))
+              ∙ sym (append_assoc l.front (opening n) (A ++ (B ++ rest)));
+        }
+
+    pub into_smaller : to_print s (next.Value h) (wait ∷ ws) < to_print s n ws
+    into_smaller = omega (arith, pair_sizes)

@@ -16,7 +16,7 @@ use Rattle.dg_unify.specs.declared.bindings.Full.TheVariants as full
 use Rattle.dg_interp.specs.declared.spacer.Spacer.{Spacer}
 use Rattle.dg_interp.specs.declared.engine.Engine.{Engine}
 use Rattle.dg_base.specs.Written.{SinkView}
-use Rattle.dg_interp.specs.Engine.{store_in, IsQuiet, IsReady, StandsAt, Adds, Then, FullAt, HasEndedSo, AtGoal, GoesToGoal}
+use Rattle.dg_interp.specs.Engine.{store_in, IsReady, StandsAt, Adds, Then, FullAt, HasEndedSo, AtGoal, GoesToGoal}
 use Rattle.dg_interp.specs.Running.{HasText, Reaches, GoesOn, HasEnded, limit_in, MeetsLimit, Ended, IsBroken, GoalDone, Does, limit_of}
 use Rattle.dg_interp.proofs.Places.{adds_nothing, then_on, limits_on, limits_here}
 use Rattle.dg_interp.proofs.Runs.{writes_nothing, writes_on, finished_so, no_more}
@@ -24,8 +24,8 @@ use Rattle.dg_interp.proofs.Runs.{writes_nothing, writes_on, finished_so, no_mor
 -- ## Behind a goal
 
 module _ (old mid new : Engine) (s s' : Spacer) (k k' : SinkView) (some : 0 < length old.here.goals.now) (h : GoalDone old mid s s' k k') where
-  leads_here : (g : Game) (w : World) (run : Run) → IsQuiet w → StandsAt old g old.left w run → Then h.added w (λ v. StandsAt mid g mid.left v run)
-  leads_here g w run quiet st = h.leads g mid.left w run quiet (subst (λ n. StandsAt old g n w run) h.left st)
+  leads_here : (g : Game) (w : World) (run : Run) → StandsAt old g old.left w run → Then h.added w (λ v. StandsAt mid g mid.left v run)
+  leads_here g w run st = h.leads g mid.left w run (subst (λ n. StandsAt old g n w run) h.left st)
 
   text_here : (w v : World) (start : SinkView) → Adds h.added w v → HasText s start k (prints w.events) → HasText s' start k' (prints v.events)
   text_here w v start adds text = subst (HasText s' start k') (sym adds.prints_are) (h.writes start (prints w.events) text)
@@ -39,18 +39,18 @@ module _ (old mid new : Engine) (s s' : Spacer) (k k' : SinkView) (some : 0 < le
       goals = 1;
       left = omega (arith, h.left, a.went_on.left);
       added = h.added ++ [];
-      leads = λ g n w run quiet st.
+      leads = λ g n w run st.
           let one : 1 + n ≡ suc n = omega arith in
-          then_on h.added [] w (λ v. StandsAt mid g n v run) (λ v. StandsAt new g n v run) (h.leads g n w run quiet (subst (λ i. StandsAt old g i w run) one st)) (λ v q at. a.went_on.leads g n v run q at);
+          then_on h.added [] w (λ v. StandsAt mid g n v run) (λ v. StandsAt new g n v run) (h.leads g n w run (subst (λ i. StandsAt old g i w run) one st)) (λ v at. a.went_on.leads g n v run at);
       writes = writes_on s s' s' k k' k' h.added [] h.writes (writes_nothing s' k');
     },
     h.left ∙ ap suc (sym a.went_on.left),
   )
 
   next_ended : (result : SearchResult) (e : Ending) → e ≡ ending_of result → HasEndedSo (StandsAt mid) result mid new → Reaches old s k (HasEnded e new.left s' k')
-  next_ended result e is a g w run start quiet st text =
-      let t = leads_here g w run quiet st in
-      let x = finished_so result e mid.left new.left s' k' t.world run start (text_here w t.world start t.adds text) (sym a.left) is (a.ends g mid.left t.world run t.adds.quiet t.holds) in
+  next_ended result e is a g w run start st text =
+      let t = leads_here g w run st in
+      let x = finished_so result e mid.left new.left s' k' t.world run start (text_here w t.world start t.adds text) (sym a.left) is (a.ends g mid.left t.world run t.holds) in
       record { world = x.world; typed = x.typed ∙ t.adds.typed; is = x.is; text = x.text }
 
   pub next_ok : (ending : Option Ending) → GoesToGoal (StandsAt mid) ending mid new → Does ending old new s s' k k'
@@ -60,18 +60,18 @@ module _ (old mid new : Engine) (s s' : Spacer) (k k' : SinkView) (some : 0 < le
   next_ok (Some _) a = absurd a
 
   next_lost : Reaches old s k (IsBroken OutOfMemory s' k')
-  next_lost g w run start quiet st text =
-      let t = leads_here g w run quiet st in
-      record { part = t.world.events; until = (stands_happened g t.holds.lives t.holds.ways _ mid.left t.world run t.holds.stands).events; text = text_here w t.world start t.adds text }
+  next_lost g w run start st text =
+      let t = leads_here g w run st in
+      record { part = t.world.events; until = (stands_happened g t.holds.at.inside.lives t.holds.at.ways _ mid.left t.world run t.holds.stands).events; text = text_here w t.world start t.adds text }
 
   next_heap : (left : ℕ) → mid.left ≡ left → FullAt (StandsAt mid) (store_in mid.store) full.Heap → MeetsLimit Heap left old s s' k k'
   next_heap left same f = record {
     goals = 0;
     left_is = omega (arith, h.left, same);
     added = h.added;
-    passed = λ g w run quiet st. let t = h.leads g 0 w run quiet st in omega (arith, f g 0 t.world run t.adds.quiet t.holds, h.limits.heap);
-    until = λ g w run quiet st. let t = h.leads g 0 w run quiet st in record { world = t.world; adds = t.adds; holds = (stands_happened g t.holds.lives t.holds.ways _ 0 t.world run t.holds.stands).events };
-    since = λ g w run quiet st. no_more old h.added g w run some st;
+    passed = λ g w run st. let t = h.leads g 0 w run st in omega (arith, f g 0 t.world run t.holds, h.limits.heap);
+    until = λ g w run st. let t = h.leads g 0 w run st in record { world = t.world; adds = t.adds; holds = (stands_happened g t.holds.at.inside.lives t.holds.at.ways _ 0 t.world run t.holds.stands).events };
+    since = λ g w run st. no_more old h.added g w run some st;
     writes = h.writes;
   }
 
@@ -80,9 +80,9 @@ module _ (old mid new : Engine) (s s' : Spacer) (k k' : SinkView) (some : 0 < le
     goals = 0;
     left_is = omega (arith, h.left, same);
     added = h.added;
-    passed = λ g w run quiet st. let t = h.leads g 0 w run quiet st in omega (arith, f g 0 t.world run t.adds.quiet t.holds, h.limits.trail);
-    until = λ g w run quiet st. let t = h.leads g 0 w run quiet st in record { world = t.world; adds = t.adds; holds = (stands_happened g t.holds.lives t.holds.ways _ 0 t.world run t.holds.stands).events };
-    since = λ g w run quiet st. no_more old h.added g w run some st;
+    passed = λ g w run st. let t = h.leads g 0 w run st in omega (arith, f g 0 t.world run t.holds, h.limits.trail);
+    until = λ g w run st. let t = h.leads g 0 w run st in record { world = t.world; adds = t.adds; holds = (stands_happened g t.holds.at.inside.lives t.holds.at.ways _ 0 t.world run t.holds.stands).events };
+    since = λ g w run st. no_more old h.added g w run some st;
     writes = h.writes;
   }
 
@@ -110,7 +110,7 @@ goes_nowhere e s k ready goal = record {
   goals = 0;
   left = omega arith;
   added = [];
-  leads = λ g n w run quiet st. let same : 0 + n ≡ n = omega arith in record { world = w; adds = adds_nothing w quiet; holds = subst (λ i. StandsAt e g i w run) same st };
+  leads = λ g n w run st. let same : 0 + n ≡ n = omega arith in record { world = w; adds = adds_nothing w; holds = subst (λ i. StandsAt e g i w run) same st };
   writes = writes_nothing s k;
 }
 
@@ -123,28 +123,28 @@ module _ (a b : Engine) (s s' s'' : Spacer) (k k' k'' : SinkView) (h : GoesOn a 
     goals = h.goals + j.goals;
     left = omega (arith, h.left, j.left);
     added = h.added ++ j.added;
-    leads = λ g n w run quiet st.
+    leads = λ g n w run st.
         let same : h.goals + j.goals + n ≡ h.goals + (j.goals + n) = omega arith in
-        then_on h.added j.added w (λ v. StandsAt b g (j.goals + n) v run) (λ v. StandsAt c g n v run) (h.leads g (j.goals + n) w run quiet (subst (λ i. StandsAt a g i w run) same st)) (λ v q at. j.leads g n v run q at);
+        then_on h.added j.added w (λ v. StandsAt b g (j.goals + n) v run) (λ v. StandsAt c g n v run) (h.leads g (j.goals + n) w run (subst (λ i. StandsAt a g i w run) same st)) (λ v at. j.leads g n v run at);
     writes = writes_on s s' s'' k k' k'' h.added j.added h.writes j.writes;
   }
 
-  at_here : (g : Game) (w : World) (run : Run) → IsQuiet w → StandsAt a g a.left w run → Then h.added w (λ v. StandsAt b g b.left v run)
-  at_here g w run quiet st = h.leads g b.left w run quiet (subst (λ n. StandsAt a g n w run) h.left st)
+  at_here : (g : Game) (w : World) (run : Run) → StandsAt a g a.left w run → Then h.added w (λ v. StandsAt b g b.left v run)
+  at_here g w run st = h.leads g b.left w run (subst (λ n. StandsAt a g n w run) h.left st)
 
   has_text : (w v : World) (start : SinkView) → Adds h.added w v → HasText s start k (prints w.events) → HasText s' start k' (prints v.events)
   has_text w v start adds text = subst (HasText s' start k') (sym adds.prints_are) (h.writes start (prints w.events) text)
 
   pub ended_reaches : (e : Ending) (n : ℕ) → Reaches b s' k' (HasEnded e n s'' k'') → Reaches a s k (HasEnded e n s'' k'')
-  ended_reaches e n j g w run start quiet st text =
-      let t = at_here g w run quiet st in
-      let y = j g t.world run start t.adds.quiet t.holds (has_text w t.world start t.adds text) in
+  ended_reaches e n j g w run start st text =
+      let t = at_here g w run st in
+      let y = j g t.world run start t.holds (has_text w t.world start t.adds text) in
       record { world = y.world; typed = y.typed ∙ t.adds.typed; is = y.is; text = y.text }
 
   pub broken_reaches : (fault : RunFault) → Reaches b s' k' (IsBroken fault s'' k'') → Reaches a s k (IsBroken fault s'' k'')
-  broken_reaches fault j g w run start quiet st text = here fault (j g t.world run start t.adds.quiet t.holds (has_text w t.world start t.adds text)) where
+  broken_reaches fault j g w run start st text = here fault (j g t.world run start t.holds (has_text w t.world start t.adds text)) where
     t : Then h.added w (λ v. StandsAt b g b.left v run)
-    t = at_here g w run quiet st
+    t = at_here g w run st
 
     here : (fault : RunFault) → IsBroken fault s'' k'' t.world run start → IsBroken fault s'' k'' w run start
     here Read x = x
@@ -164,14 +164,14 @@ module _ (a b : Engine) (s s' s'' : Spacer) (k k' k'' : SinkView) (h : GoesOn a 
         goals = h.goals + j.goals;
         left_is = omega (arith, h.left, j.left_is);
         added = h.added ++ j.added;
-        passed = λ g w run quiet st.
-            let t = h.leads g (suc j.goals) w run quiet (subst (λ i. StandsAt a g i w run) behind st) in
-            subst (λ n. n < greatest area run.world.meters) (same_limit area) (j.passed g t.world run t.adds.quiet t.holds);
-        until = λ g w run quiet st.
-            then_on h.added j.added w (λ v. StandsAt b g (suc j.goals) v run) (λ v. Begins v.events run.world.events) (h.leads g (suc j.goals) w run quiet (subst (λ i. StandsAt a g i w run) behind st)) (λ v q at. j.until g v run q at);
-        since = λ g w run quiet st.
-            let t = h.leads g j.goals w run quiet st in
-            let x = j.since g t.world run t.adds.quiet t.holds in
+        passed = λ g w run st.
+            let t = h.leads g (suc j.goals) w run (subst (λ i. StandsAt a g i w run) behind st) in
+            subst (λ n. n < greatest area run.world.meters) (same_limit area) (j.passed g t.world run t.holds);
+        until = λ g w run st.
+            then_on h.added j.added w (λ v. StandsAt b g (suc j.goals) v run) (λ v. Begins v.events run.world.events) (h.leads g (suc j.goals) w run (subst (λ i. StandsAt a g i w run) behind st)) (λ v at. j.until g v run at);
+        since = λ g w run st.
+            let t = h.leads g j.goals w run st in
+            let x = j.since g t.world run t.holds in
             record { behind = x.behind; is = sym (append_assoc (prints w.events) h.added j.added) ∙ ap (λ l. l ++ j.added) (sym t.adds.prints_are) ∙ x.is };
         writes = writes_on s s' s'' k k' k'' h.added j.added h.writes j.writes;
       }

@@ -2,7 +2,9 @@
 use Rattle.std.proofs.Common.{◌≡◌, ℕ, suc, ◌<◌, List, [], ◌∷◌, ◌++◌, Bool, true, false, Option, refl, sym, ap, ◌∙◌, subst, arith, length, append_assoc, Ok, Err}
 use Rattle.std.specs.Prelude.{Result, IfOk, IfErr}
 use Rattle.std.proofs.lemmas.List.{append-nil}
-use Rattle.dg_base.specs.declared.program.Goal.{Goal}
+use Rattle.dg_base.specs.declared.program.Goal.{Goal, out-Goal}
+use Rattle.dg_base.specs.declared.program.Goal as place
+use denote.Hole.Carrier.{out}
 use Rattle.dg_base.specs.declared.program.Goal.TheVariants.{Text, Print as PrintGoal, Quit}
 use Rattle.dg_base.specs.declared.program.Term.{Term}
 use Rattle.dg_base.specs.declared.run.Ending.{Ending}
@@ -28,7 +30,7 @@ use Rattle.dg_base.specs.Written.{SinkView, Wrote, BrokeOff}
 use Rattle.dg_interp.specs.Spacer.{StandsFor, Added, growth}
 use Rattle.dg_interp.specs.Printing.{as_prints, growth_of, AddsAll}
 use Rattle.dg_interp.specs.Frames.{mark_steps, steps_behind, values_in}
-use Rattle.dg_interp.specs.Engine.{store_in, pieces_at, WrotePrinted, IsQuiet, StandsAt, TakesAt, Then, FullAt, Taken, WentOn, HasEndedSo, Branches}
+use Rattle.dg_interp.specs.Engine.{store_in, IsAct, pieces_at, WrotePrinted, StandsAt, TakesAt, Then, FullAt, Taken, WentOn, HasEndedSo, Branches}
 use Rattle.dg_interp.specs.Running.{HasText, Writes, Reaches, HasEnded, MeetsLimit, IsBroken, GoalDone, DoesGoal, outcome_of}
 use Rattle.dg_base.proofs.WrittenLemmas.{wrote_on, broke_first, broke_later}
 use Rattle.dg_interp.proofs.Places.{adds_nothing, adds_on, adds_drops, limits_on}
@@ -75,7 +77,7 @@ writes_on s s' s'' k k' k'' xs ys a b start es h = subst (HasText s'' start k'')
 pub finished_so : (r : SearchResult) (e : Ending) (n m : ℕ) (s : Spacer) (k : SinkView) (w : World) (run : Run) (start : SinkView) → HasText s start k (prints w.events) → n ≡ m → e ≡ ending_of r → Then [] w (λ v. Finished n v r run) → HasEnded e m s k w run start
 finished_so r e n m s k w run start text same is t =
     let f = t.holds in
-    let adds = adds_on w t.world f.world [] [] t.adds (adds_drops t.world f.world t.adds.quiet f.drops) in
+    let adds = adds_on w t.world f.world [] [] t.adds (adds_drops t.world f.world f.drops) in
     record {
       world = f.world;
       typed = adds.typed;
@@ -85,9 +87,9 @@ finished_so r e n m s k w run start text same is t =
 
 -- a goal at hand where no goal is left
 limit_at : (e : Engine) (g : Game) (w : World) (run : Run) (st : StandsAt e g 0 w run) (goals : List Goal) → 0 < length goals →
-    Stands g st.lives st.ways (path_of (goals_at (values_in (store_in e.store) e.refs.items e.here.env) e.here.tag goals ++ mark_steps e.here.mark e.here.tag (steps_behind (values_in (store_in e.store) e.refs.items) e.frames.items e.here.behind)) st.registers) 0 w run → Finished 0 w (End StepLimit) run
+    Stands g st.at.inside.lives st.at.ways (path_of (goals_at (values_in (store_in e.store) e.refs.items e.here.env) e.here.tag goals ++ mark_steps e.here.mark e.here.tag (steps_behind (values_in (store_in e.store) e.refs.items) e.frames.items e.here.behind)) st.at.registers) 0 w run → Finished 0 w (End StepLimit) run
 limit_at e g w run st [] some h = absurd (omega arith)
-limit_at e g w run st (x ∷ goals) some h = limited g st.lives st.ways x _ e.here.tag _ st.registers w run h
+limit_at e g w run st (x ∷ goals) some h = limited g st.at.inside.lives st.at.ways x _ e.here.tag _ st.at.registers w run h
 
 pub limited_at : (e : Engine) (g : Game) (w : World) (run : Run) → 0 < length e.here.goals.now → StandsAt e g 0 w run → Finished 0 w (End StepLimit) run
 limited_at e g w run some st = limit_at e g w run st e.here.goals.now some st.stands
@@ -100,10 +102,18 @@ no_more e added g w run some st =
     record { behind = added; is = ap (λ l. l ++ added) (sym same) }
 
 pub run_limited : (e : Engine) (s : Spacer) (k : SinkView) → 0 < length e.here.goals.now → e.left ≡ 0 → Reaches e s k (HasEnded StepLimit e.left s k)
-run_limited e s k some none g w run start quiet st text =
-    finished_so (End StepLimit) StepLimit 0 e.left s k w run start text (sym none) refl (record { world = w; adds = adds_nothing w quiet; holds = limited_at e g w run some (subst (λ n. StandsAt e g n w run) none st) })
+run_limited e s k some none g w run start st text =
+    finished_so (End StepLimit) StepLimit 0 e.left s k w run start text (sym none) refl (record { world = w; adds = adds_nothing w; holds = limited_at e g w run some (subst (λ n. StandsAt e g n w run) none st) })
 
 -- ## One goal
+
+-- all goals but these three are acts
+pub is_act : (x : Goal) → ((name : List ℕ) → x ≡ Text name → ⊥) → ((a : Term) → x ≡ PrintGoal a → ⊥) → (x ≡ Quit → ⊥) → IsAct (out-Goal x)
+unfolding out-Goal out
+is_act (place.Text name) text print quit = absurd (text name refl)
+is_act (place.Print a) text print quit = absurd (print a refl)
+is_act place.Quit text print quit = absurd (quit refl)
+is_act x text print quit = tt
 
 module _ (x : Goal) (old mid : Engine) (s : Spacer) (k : SinkView) (some : 0 < length old.here.goals.now) (taken : Taken x old mid) where
   takes_here : (g : Game) (w : World) (run : Run) → StandsAt old g old.left w run → TakesAt x mid g mid.left w run
@@ -116,25 +126,25 @@ module _ (x : Goal) (old mid : Engine) (s : Spacer) (k : SinkView) (some : 0 < l
     limits = limits_on old mid new taken.limits h.limits;
     left = taken.left ∙ ap suc (sym h.left);
     added = [];
-    leads = λ g n w run quiet st. h.leads g n w run quiet (taken.takes g n w run st);
+    leads = λ g n w run st. h.leads g n w run (taken.takes g n w run st);
     writes = writes_nothing s k;
   }
 
   pub goal_ended : (new : Engine) (result : SearchResult) (e : Ending) → e ≡ ending_of result → HasEndedSo (TakesAt x mid) result mid new → Reaches old s k (HasEnded e new.left s k)
-  goal_ended new result e is h g w run start quiet st text = finished_so result e mid.left new.left s k w run start text (sym h.left) is (h.ends g mid.left w run quiet (takes_here g w run st))
+  goal_ended new result e is h g w run start st text = finished_so result e mid.left new.left s k w run start text (sym h.left) is (h.ends g mid.left w run (takes_here g w run st))
 
   -- memory ran out before anything was written
   pub goal_lost : Reaches old s k (IsBroken OutOfMemory s k)
-  goal_lost g w run start quiet st text = record { part = w.events; until = (stands_happened g st.lives st.ways _ old.left w run st.stands).events; text = text }
+  goal_lost g w run start st text = record { part = w.events; until = (stands_happened g st.at.inside.lives st.at.ways _ old.left w run st.stands).events; text = text }
 
   pub goal_heap : (left : ℕ) → mid.left ≡ left → FullAt (TakesAt x mid) (store_in mid.store) full.Heap → MeetsLimit Heap left old s s k k
   goal_heap left same h = record {
     goals = 0;
     left_is = omega (arith, taken.left, same);
     added = [];
-    passed = λ g w run quiet st. omega (arith, h g 0 w run quiet (taken.takes g 0 w run st), taken.limits.heap);
-    until = λ g w run quiet st. record { world = w; adds = adds_nothing w quiet; holds = (stands_happened g st.lives st.ways _ 1 w run st.stands).events };
-    since = λ g w run quiet st. no_more old [] g w run some st;
+    passed = λ g w run st. omega (arith, h g 0 w run (taken.takes g 0 w run st), taken.limits.heap);
+    until = λ g w run st. record { world = w; adds = adds_nothing w; holds = (stands_happened g st.at.inside.lives st.at.ways _ 1 w run st.stands).events };
+    since = λ g w run st. no_more old [] g w run some st;
     writes = writes_nothing s k;
   }
 
@@ -143,9 +153,9 @@ module _ (x : Goal) (old mid : Engine) (s : Spacer) (k : SinkView) (some : 0 < l
     goals = 0;
     left_is = omega (arith, taken.left, same);
     added = [];
-    passed = λ g w run quiet st. omega (arith, h g 0 w run quiet (taken.takes g 0 w run st), taken.limits.trail);
-    until = λ g w run quiet st. record { world = w; adds = adds_nothing w quiet; holds = (stands_happened g st.lives st.ways _ 1 w run st.stands).events };
-    since = λ g w run quiet st. no_more old [] g w run some st;
+    passed = λ g w run st. omega (arith, h g 0 w run (taken.takes g 0 w run st), taken.limits.trail);
+    until = λ g w run st. record { world = w; adds = adds_nothing w; holds = (stands_happened g st.at.inside.lives st.at.ways _ 1 w run st.stands).events };
+    since = λ g w run st. no_more old [] g w run some st;
     writes = writes_nothing s k;
   }
 
@@ -171,8 +181,8 @@ module _ (x : Goal) (old mid : Engine) (s : Spacer) (k : SinkView) (some : 0 < l
 -- ## A word
 
 module _ (x : Goal) (name bytes : List ℕ) (old mid : Engine) (s s' : Spacer) (k k' : SinkView) (taken : Taken x old mid) (is : x ≡ Text name) (same : bytes ≡ name) where
-  word_then : (g : Game) (n : ℕ) (w : World) (run : Run) → IsQuiet w → StandsAt old g (suc n) w run → Then (Piece bytes ∷ []) w (λ v. StandsAt mid g n v run)
-  word_then g n w run quiet st = prints_word bytes mid g n w run quiet (subst (λ y. TakesAt y mid g n w run) (is ∙ ap Text (sym same)) (taken.takes g n w run st))
+  word_then : (g : Game) (n : ℕ) (w : World) (run : Run) → StandsAt old g (suc n) w run → Then (Piece bytes ∷ []) w (λ v. StandsAt mid g n v run)
+  word_then g n w run st = prints_word bytes mid g n w run (subst (λ y. TakesAt y mid g n w run) (is ∙ ap Text (sym same)) (taken.takes g n w run st))
 
   pub word_done : ((es : List Print) → StandsFor s es → Added (Piece bytes) es k k' s') → GoalDone old mid s s' k k'
   word_done added = record {
@@ -185,11 +195,11 @@ module _ (x : Goal) (name bytes : List ℕ) (old mid : Engine) (s s' : Spacer) (
   }
 
   pub word_lost : ((es : List Print) → StandsFor s es → BrokeOff k k' (growth es (Piece bytes))) → Reaches old s k (IsBroken Write s' k')
-  word_lost broke g w run start quiet st text =
-      let t = word_then g mid.left w run quiet (subst (λ n. StandsAt old g n w run) taken.left st) in
+  word_lost broke g w run start st text =
+      let t = word_then g mid.left w run (subst (λ n. StandsAt old g n w run) taken.left st) in
       let h = t.holds in
       let is : text_of t.world.events ≡ render (prints w.events) ++ growth (prints w.events) (Piece bytes) = ap render t.adds.prints_are ∙ render_grows (prints w.events) (Piece bytes) in
-      text_begins t.world.events run.world.events (stands_happened g h.lives h.ways _ mid.left t.world run h.stands).events start k'
+      text_begins t.world.events run.world.events (stands_happened g h.at.inside.lives h.at.ways _ mid.left t.world run h.stands).events start k'
       (subst (BrokeOff start k') (sym is) (broke_later start k k' (render (prints w.events)) (growth (prints w.events) (Piece bytes)) text.wrote (broke (prints w.events) text.stands)))
 
 -- ## A printed value
@@ -203,8 +213,8 @@ module _ (x : Goal) (term : Term) (value : Ref) (old mid new : Engine) (s s' : S
   abbrev ps : List (List ℕ)
   ps = pieces_at new value
 
-  printed_then : (g : Game) (n : ℕ) (w : World) (run : Run) → IsQuiet w → StandsAt old g (suc n) w run → Then (as_prints ps) w (λ v. StandsAt new g n v run)
-  printed_then g n w run quiet st = wrote.leads g n w run quiet (subst (λ y. TakesAt y mid g n w run) is (taken.takes g n w run st))
+  printed_then : (g : Game) (n : ℕ) (w : World) (run : Run) → StandsAt old g (suc n) w run → Then (as_prints ps) w (λ v. StandsAt new g n v run)
+  printed_then g n w run st = wrote.leads g n w run (subst (λ y. TakesAt y mid g n w run) is (taken.takes g n w run st))
 
   pub value_done : AddsAll ps s s' k k' → GoalDone old new s s' k k'
   value_done added = record {
@@ -217,15 +227,15 @@ module _ (x : Goal) (term : Term) (value : Ref) (old mid new : Engine) (s s' : S
   }
 
   pub value_lost : ((es : List Print) → StandsFor s es → BrokeOff k k' (growth_of es ps)) → Reaches old s k (IsBroken Write s' k')
-  value_lost broke g w run start quiet st text =
-      let t = printed_then g mid.left w run quiet (subst (λ n. StandsAt old g n w run) taken.left st) in
+  value_lost broke g w run start st text =
+      let t = printed_then g mid.left w run (subst (λ n. StandsAt old g n w run) taken.left st) in
       let h = t.holds in
       let es = prints w.events in
       let same : text_of t.world.events ≡ render es ++ growth_of es ps = ap render t.adds.prints_are ∙ render_append es (as_prints ps) in
-      text_begins t.world.events run.world.events (stands_happened g h.lives h.ways _ mid.left t.world run h.stands).events start k'
+      text_begins t.world.events run.world.events (stands_happened g h.at.inside.lives h.at.ways _ mid.left t.world run h.stands).events start k'
       (subst (BrokeOff start k') (sym same) (broke_later start k k' (render es) (growth_of es ps) text.wrote (broke es text.stands)))
 
 pub goal_quits : (x : Goal) (old mid : Engine) (s : Spacer) (k : SinkView) → Taken x old mid → x ≡ Quit → Reaches old s k (HasEnded Quit-Ending mid.left s k)
-goal_quits x old mid s k taken is g w run start quiet st text =
+goal_quits x old mid s k taken is g w run start st text =
     finished_so (End Quit-Ending) Quit-Ending mid.left mid.left s k w run start text refl refl
-    (quits mid g mid.left w run quiet (subst (λ y. TakesAt y mid g mid.left w run) is (taken.takes g mid.left w run (subst (λ n. StandsAt old g n w run) taken.left st))))
+    (quits mid g mid.left w run (subst (λ y. TakesAt y mid g mid.left w run) is (taken.takes g mid.left w run (subst (λ n. StandsAt old g n w run) taken.left st))))

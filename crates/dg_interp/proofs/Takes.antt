@@ -25,7 +25,7 @@ use Rattle.dg_unify.specs.declared.list.ListBindings.{ListBindings}
 use Rattle.dg_interp.specs.declared.engine.Engine.{Engine}
 use Rattle.dg_interp.specs.Terms.{Overflows}
 use Rattle.dg_interp.specs.Frames.{values_in}
-use Rattle.dg_interp.specs.Engine.{store_in, KeepsPlaces, steps_of, IsQuiet, IsSound, IsReady, TakesAt, FullAt, Adds}
+use Rattle.dg_interp.specs.Engine.{store_in, KeepsPlaces, steps_of, IsSound, IsReady, TakesAt, FullAt, Adds}
 use Rattle.dg_interp.proofs.Stores.{all_hold}
 use Rattle.dg_interp.proofs.Begins.{back_limits}
 
@@ -37,24 +37,24 @@ module _ (x : Goal) (e : Engine) (g : Game) (n : ℕ) (w : World) (run : Run) (s
 
   -- the registers behind its terms
   abbrev pub behind : Registers
-  behind = behind_terms g (out-Goal x) st.registers
+  behind = behind_terms g (out-Goal x) st.at.registers
 
   -- the world in which it is taken
   abbrev pub taken_in : World
   taken_in = begun behind (writing (terms_held (out-Goal x))) (worked 1 w)
 
-  pub comes_of : After g st.lives st.ways n (outcome g (out-Goal x) values e.here.tag (steps_of e) behind taken_in) run
-  comes_of = takes g st.lives st.ways x values e.here.tag (steps_of e) st.registers n w run st.stands
+  pub comes_of : After g st.at.inside.lives st.at.ways n (outcome g (out-Goal x) values e.here.tag (steps_of e) behind taken_in) run
+  comes_of = takes g st.at.inside.lives st.at.ways x values e.here.tag (steps_of e) st.at.registers n w run st.stands
 
   pub taken_grows : Grows taken_in run.world
-  taken_grows = grows_on taken_in _ run.world (outcome_grows g (out-Goal x) values e.here.tag (steps_of e) behind taken_in) (has_happened g st.lives st.ways n (outcome g (out-Goal x) values e.here.tag (steps_of e) behind taken_in) run comes_of)
+  taken_grows = grows_on taken_in _ run.world (outcome_grows g (out-Goal x) values e.here.tag (steps_of e) behind taken_in) (has_happened g st.at.inside.lives st.at.ways n (outcome g (out-Goal x) values e.here.tag (steps_of e) behind taken_in) run comes_of)
 
-pub adds_taken : (r : Registers) (work : ℕ) (w : World) → IsQuiet w → Adds [] w (begun r work (worked 1 w))
-adds_taken r work w quiet = record { prints_are = sym (append-nil (prints w.events)); typed = refl; quiet = quiet }
+pub adds_taken : (r : Registers) (work : ℕ) (w : World) → Adds [] w (begun r work (worked 1 w))
+adds_taken r work w = record { prints_are = sym (append-nil (prints w.events)); typed = refl }
 
 -- the heap is full where its terms are written
 pub terms_full : (x : Goal) (old : Engine) (e : Full) → ((g : Game) → Overflows (cells g.program (terms_held (out-Goal x))) (store_in old.store) e) → FullAt (TakesAt x old) (store_in old.store) e
-terms_full x old full.Heap h = λ g n w run quiet st. let grows = (taken_grows x old g n w run st).meters in omega (arith, grows.heap, h g, st.agrees.heap)
+terms_full x old full.Heap h = λ g n w run st. let grows = (taken_grows x old g n w run st).meters in omega (arith, grows.heap, h g, st.at.agrees.heap)
 terms_full x old full.Trail h = absurd (h (record { program = old.program.now; dice = [] }))
 terms_full x old full.OutOfMemory h = tt
 

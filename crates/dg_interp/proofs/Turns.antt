@@ -28,7 +28,8 @@ use Rattle.dg_interp.specs.declared.frames.Mark.TheVariants.{Nothing}
 use Rattle.dg_interp.specs.declared.frames.Frame.{Frame}
 use Rattle.dg_interp.specs.declared.frames.Choice.{Choice}
 use Rattle.dg_interp.specs.declared.engine.Engine.{Engine}
-use Rattle.dg_interp.specs.Frames.{values_in, frame_steps, steps_behind, steps_at, Agrees, AreChoices, StandOn, GoBackTo}
+use Rattle.dg_interp.specs.Frames.{values_in, frame_steps, steps_behind, steps_at, AreChoices, StandOn, GoBackTo}
+use Rattle.dg_unify.specs.Engines.{Agrees}
 use Rattle.dg_interp.specs.Engine.{store_in, IsReady, StandsAt, Starts, Taken}
 use Rattle.dg_interp.proofs.Links.{behind_end}
 
@@ -83,20 +84,23 @@ module _ (old : Engine) (x : Goal) (goals : Bor (List Goal)) (left : ℕ) (ready
         room = omega (arith, ready.sound.room);
         built = built_goal x goals.now built;
         whole = built_alone x goals.now built;
-        again = ready.here;
-        goals = split;
-        rest = refl;
+        again = record { is = ready.here; goals = split; rest = refl };
         takes = λ g n w run st. record {
-          program = st.program;
-          lives = st.lives;
-          ways = st.ways;
-          registers = st.registers;
-          saved = st.saved;
-          keeps = st.keeps;
-          agrees = st.agrees;
-          choices = st.choices;
-          tag = st.tag;
-          stands = subst (λ (l : List Goal). Stands g st.lives st.ways (path_of (frame_steps (values old.here.env) l old.here.tag old.here.mark (steps_behind values fs old.here.behind)) st.registers) (suc n) w run) split st.stands;
+          at = record {
+            inside = record {
+              program = st.at.inside.program;
+              lives = st.at.inside.lives;
+              saved = st.at.inside.saved;
+              keeps = st.at.inside.keeps;
+              choices = st.at.inside.choices;
+              world = st.at.inside.world;
+            };
+            ways = st.at.ways;
+            registers = st.at.registers;
+            agrees = st.at.agrees;
+            tag = st.at.tag;
+          };
+          stands = subst (λ (l : List Goal). Stands g st.at.inside.lives st.at.ways (path_of (frame_steps (values old.here.env) l old.here.tag old.here.mark (steps_behind values fs old.here.behind)) st.at.registers) (suc n) w run) split st.stands;
         };
       }
 
@@ -124,15 +128,20 @@ module _ (program : Bor CoreProgram) (entry : Bor (List Goal)) (store : ListBind
 
   stands : (g : Game) (n : ℕ) (typed : List ℕ) → g.program ≡ program.now → StandsAt e g n (start_world g typed) (run g typed n)
   stands g n typed same = record {
-    program = sym same;
-    lives = [];
-    ways = [];
-    registers = (start_path g).registers;
-    saved = [];
-    keeps = tt;
-    agrees = subst (λ s. Agrees s (start_path g).registers) (sym means) (record { bound = refl; vars = refl; heap = refl; trail = omega arith; since = omega arith });
-    choices = subst (λ l. AreChoices g refs.items frames.items l [] []) (sym none) tt;
-    tag = refl;
+    at = record {
+      inside = record {
+        program = sym same;
+        lives = [];
+        saved = [];
+        keeps = tt;
+        choices = subst (λ l. AreChoices g refs.items frames.items l [] []) (sym none) tt;
+        world = refl;
+      };
+      ways = [];
+      registers = (start_path g).registers;
+      agrees = subst (λ s. Agrees s (start_path g).registers) (sym means) (record { bound = refl; vars = refl; heap = refl; trail = omega arith; since = omega arith });
+      tag = refl;
+    };
     stands =
         subst (λ s. Stands g [] [] (path_of s (start_path g).registers) n (start_world g typed) (run g typed n)) (sym steps)
         (subst (λ (p : CoreProgram). Stands g [] [] (path_of (Do (Ask p.entry [] false) [] 0 ∷ []) (start_path g).registers) n (start_world g typed) (run g typed n)) same (starts g typed n));

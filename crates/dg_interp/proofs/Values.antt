@@ -29,9 +29,10 @@ use Rattle.dg_unify.specs.declared.list.ListBindings.{ListBindings}
 use Rattle.dg_interp.specs.declared.frames.Env.{Env}
 use Rattle.dg_interp.specs.declared.engine.Engine.{Engine}
 use Rattle.dg_interp.specs.Terms.{Overflows}
-use Rattle.dg_interp.specs.Frames.{stretch, values_in, Agrees}
-use Rattle.dg_interp.specs.Engine.{store_in, KeepsPlaces, steps_of, IsQuiet, IsReady, TakesAt, StandsAt, FailsAt, FullAt, Adds, Then, Leads, SameLimits, WentOn, pieces_at, WrotePrinted}
+use Rattle.dg_interp.specs.Frames.{stretch, values_in}
+use Rattle.dg_interp.specs.Engine.{store_in, KeepsPlaces, steps_of, IsReady, TakesAt, StandsAt, FailsAt, FullAt, Adds, Then, Leads, SameLimits, WentOn, pieces_at, WrotePrinted, InWorld}
 use Rattle.dg_meaning.proofs.Dropping.{prints_append}
+use Rattle.dg_unify.specs.Engines.{Agrees}
 use Rattle.dg_interp.proofs.Places.{adds_nothing}
 use Rattle.dg_interp.proofs.BothLemmas.{made_holds}
 use Rattle.dg_interp.proofs.Links.{same_here, at_same}
@@ -50,22 +51,37 @@ module _ (x : Goal) (old : Engine) (store : ListBindings) (made : Vec Ref Global
   pub grown_limits : SameLimits old grown
   grown_limits = record { heap = k.heap_limit; trail = k.trail_limit }
 
-  pub stands_behind : (g : Game) (n : ℕ) (w v : World) (run : Run) (st : TakesAt x old g n w run) (r : Registers) → Agrees (store_in store) r → r.next_tag ≡ st.registers.next_tag → Stands g st.lives st.ways (path_of (steps_of old) r) n v run → StandsAt grown g n v run
-  stands_behind g n w v run st r agrees tag stands = record {
-    program = st.program;
-    lives = st.lives;
-    ways = st.ways;
-    registers = r;
-    saved = st.saved;
-    keeps = saved st.saved st.keeps;
-    agrees = agrees;
-    choices = st.choices;
-    tag = tag ∙ st.tag;
-    stands = subst (λ s. Stands g st.lives st.ways (path_of s r) n v run) (sym steps_same) stands;
+  pub stands_behind : (g : Game) (n : ℕ) (w v : World) (run : Run) → InWorld v → (st : TakesAt x old g n w run) (r : Registers) → Agrees (store_in store) r → r.next_tag ≡ st.at.registers.next_tag → Stands g st.at.inside.lives st.at.ways (path_of (steps_of old) r) n v run → StandsAt grown g n v run
+  stands_behind g n w v run none_open st r agrees tag stands = record {
+    at = record {
+      inside = record {
+        program = st.at.inside.program;
+        lives = st.at.inside.lives;
+        saved = st.at.inside.saved;
+        keeps = saved st.at.inside.saved st.at.inside.keeps;
+        choices = st.at.inside.choices;
+        world = none_open;
+      };
+      ways = st.at.ways;
+      registers = r;
+      agrees = agrees;
+      tag = tag ∙ st.at.tag;
+    };
+    stands = subst (λ s. Stands g st.at.inside.lives st.at.ways (path_of s r) n v run) (sym steps_same) stands;
   }
 
-  pub fails_behind : (g : Game) (n : ℕ) (w v : World) (run : Run) (st : TakesAt x old g n w run) → Failed g st.lives n v run → FailsAt grown g n v run
-  fails_behind g n w v run st h = record { program = st.program; lives = st.lives; saved = st.saved; keeps = saved st.saved st.keeps; choices = st.choices; failed = h }
+  pub fails_behind : (g : Game) (n : ℕ) (w v : World) (run : Run) → InWorld v → (st : TakesAt x old g n w run) → Failed g st.at.inside.lives n v run → FailsAt grown g n v run
+  fails_behind g n w v run none_open st h = record {
+    inside = record {
+      program = st.at.inside.program;
+      lives = st.at.inside.lives;
+      saved = st.at.inside.saved;
+      keeps = saved st.at.inside.saved st.at.inside.keeps;
+      choices = st.at.inside.choices;
+      world = none_open;
+    };
+    failed = h;
+  }
 
 pub made_among : (program : CoreProgram) (terms : List Term) (n : ℕ) (s t : Store) (refs part : List Ref) (env : Env) (r : Ref) (term : Term) → part ≡ stretch refs env → Made n s t r (value_of program (map (told s) part) term) → Made n s t r (value_of program (values_in s refs env) term)
 made_among program terms n s t refs part env r term e h = subst (λ l. Made n s t r (value_of program (map (told s) l) term)) e h
@@ -82,11 +98,11 @@ module _ (x : Goal) (term : Term) (held : terms_held (out-Goal x) ≡ term ∷ [
       let here = (written g.program).charged.state in
       let form : cells g.program (terms_held (out-Goal x)) ≡ cells g.program (term ∷ []) = ap (cells g.program) held in
       record {
-        bound = st.agrees.bound ∙ ap (λ (t : State). t.subst) (sym here);
-        vars = st.agrees.vars ∙ ap (λ (t : State). t.vars) (sym here);
-        heap = omega (arith, st.agrees.heap, form, ap (λ (t : State). t.heap) here);
-        trail = omega (arith, st.agrees.trail, ap (λ (t : State). t.trail) here);
-        since = omega (arith, st.agrees.since, ap (λ (t : State). t.since) here, ap (λ (t : State). t.vars) here);
+        bound = st.at.agrees.bound ∙ ap (λ (t : State). t.subst) (sym here);
+        vars = st.at.agrees.vars ∙ ap (λ (t : State). t.vars) (sym here);
+        heap = omega (arith, st.at.agrees.heap, form, ap (λ (t : State). t.heap) here);
+        trail = omega (arith, st.at.agrees.trail, ap (λ (t : State). t.trail) here);
+        since = omega (arith, st.at.agrees.since, ap (λ (t : State). t.since) here, ap (λ (t : State). t.vars) here);
       }
 
 -- ## A test
@@ -114,7 +130,7 @@ module _ (kind : TestKind) (term : Term) (old : Engine) (store : ListBindings) (
   looked : (g : Game) (n : ℕ) (w : World) (run : Run) (st : TakesAt x old g n w run) → World
   looked g n w run st = worked (test_looks kind (value_of g.program env term) (behind x old g n w run st)) (taken_in x old g n w run st)
 
-  comes_to : (g : Game) (n : ℕ) (w : World) (run : Run) (st : TakesAt x old g n w run) (found : Bool) → found ≡ passes s.state.subst kind (told s value) → Went g st.lives st.ways n (goes_on_if found (steps_of old) (behind x old g n w run st) (looked g n w run st)) run
+  comes_to : (g : Game) (n : ℕ) (w : World) (run : Run) (st : TakesAt x old g n w run) (found : Bool) → found ≡ passes s.state.subst kind (told s value) → Went g st.at.inside.lives st.at.ways n (goes_on_if found (steps_of old) (behind x old g n w run st) (looked g n w run st)) run
   unfolding looked
   comes_to g n w run st found is =
       let r = behind x old g n w run st in
@@ -122,29 +138,33 @@ module _ (kind : TestKind) (term : Term) (old : Engine) (store : ListBindings) (
       let m : Bool → Outcome = λ b. Moves (goes_on_if b (steps_of old) r (looked g n w run st)) in
       let same : passes s.state.subst kind (told s value) ≡ passes r.bound kind (value_of g.program env term) =
       ap (λ S. passes S kind (told s value)) (sym (agrees g n w run st).bound) ∙ ap (λ o. passes r.bound kind (or_nil o)) (written g.program).value in
-      subst (λ q. After g st.lives st.ways n q run) (ap (λ f. outcome g f env old.here.tag (steps_of old) r v) (outs-Test kind term) ∙ ap m (sym (is ∙ same))) (comes_of x old g n w run st)
+      subst (λ q. After g st.at.inside.lives st.at.ways n q run) (ap (λ f. outcome g f env old.here.tag (steps_of old) r v) (outs-Test kind term) ∙ ap m (sym (is ∙ same))) (comes_of x old g n w run st)
 
-  adds_looked : (g : Game) (n : ℕ) (w : World) (run : Run) (st : TakesAt x old g n w run) → IsQuiet w → Adds [] w (looked g n w run st)
+  adds_looked : (g : Game) (n : ℕ) (w : World) (run : Run) (st : TakesAt x old g n w run) → Adds [] w (looked g n w run st)
   unfolding looked
-  adds_looked g n w run st quiet = let a = adds_taken (behind x old g n w run st) (writing (terms_held (out-Goal x))) w quiet in record { prints_are = a.prints_are; typed = refl; quiet = quiet }
+  adds_looked g n w run st = let a = adds_taken (behind x old g n w run st) (writing (terms_held (out-Goal x))) w in record { prints_are = a.prints_are; typed = refl }
+
+  world_looked : (g : Game) (n : ℕ) (w : World) (run : Run) (st : TakesAt x old g n w run) → InWorld (looked g n w run st)
+  unfolding looked
+  world_looked g n w run st = st.at.inside.world
 
   pub test_passed : true ≡ passes s.state.subst kind (told s value) → WentOn (TakesAt x old) old (grown x old store made ready k saved)
   test_passed is = record {
     ready = store_ready old store made k saved ready;
     left = refl;
     limits = grown_limits x old store made ready k saved;
-    leads = λ g n w run quiet st. record {
+    leads = λ g n w run st. record {
       world = looked g n w run st;
-      adds = adds_looked g n w run st quiet;
-      holds = stands_behind x old store made ready k saved g n w (looked g n w run st) run st (behind x old g n w run st) (agrees g n w run st) refl (comes_to g n w run st true is);
+      adds = adds_looked g n w run st;
+      holds = stands_behind x old store made ready k saved g n w (looked g n w run st) run (world_looked g n w run st) st (behind x old g n w run st) (agrees g n w run st) refl (comes_to g n w run st true is);
     };
   }
 
   pub test_failed : false ≡ passes s.state.subst kind (told s value) → Leads (TakesAt x old) (FailsAt (grown x old store made ready k saved))
-  test_failed is g n w run quiet st = record {
+  test_failed is g n w run st = record {
     world = looked g n w run st;
-    adds = adds_looked g n w run st quiet;
-    holds = fails_behind x old store made ready k saved g n w (looked g n w run st) run st (comes_to g n w run st false is);
+    adds = adds_looked g n w run st;
+    holds = fails_behind x old store made ready k saved g n w (looked g n w run st) run (world_looked g n w run st) st (comes_to g n w run st false is);
   }
 
 pub test_plain : (kind : TestKind) (term : Term) → IsBuiltGoal (Test kind term) → HasNoClosure term
@@ -164,16 +184,19 @@ print_full term old = term_full (Print term) term (print_held term) old
 pub print_plain : (term : Term) → IsBuiltGoal (Print term) → HasNoClosure term
 print_plain term h = all_first HasNoClosure term [] (subst (λ f. All HasNoClosure (terms_held f)) (outs-Print term) h.1)
 
-adds_printed : (ps : List (List ℕ)) (w : World) → IsQuiet w → Adds (map Piece ps) w (all_printed ps w)
-adds_printed [] w quiet = adds_nothing w quiet
-adds_printed (p ∷ ps) w quiet =
+adds_printed : (ps : List (List ℕ)) (w : World) → Adds (map Piece ps) w (all_printed ps w)
+adds_printed [] w = adds_nothing w
+adds_printed (p ∷ ps) w =
     let v = printed (Piece p) w in
-    let a = adds_printed ps v quiet in
+    let a = adds_printed ps v in
     record {
       prints_are = a.prints_are ∙ ap (λ l. l ++ map Piece ps) (prints_append w.events (Prints (Piece p) ∷ [])) ∙ append_assoc (prints w.events) (Piece p ∷ []) (map Piece ps);
       typed = a.typed;
-      quiet = a.quiet;
     }
+
+world_printed : (ps : List (List ℕ)) (w : World) → InWorld w → InWorld (all_printed ps w)
+world_printed [] w none_open = none_open
+world_printed (p ∷ ps) w none_open = world_printed ps (printed (Piece p) w) none_open
 
 module _ (term : Term) (old : Engine) (store : ListBindings) (made : Vec Ref Global) (value : Ref) (ready : IsReady old) (k : Kept (store_in old.store) (store_in store)) (saved : (ms : List Saved) → KeepsPlaces old.store ms → KeepsPlaces store ms)
     (written : (program : CoreProgram) → Made (cells program (term ∷ [])) (store_in old.store) (store_in store) value (value_of program (values_in (store_in old.store) old.refs.items old.here.env) term)) where
@@ -195,23 +218,23 @@ module _ (term : Term) (old : Engine) (store : ListBindings) (made : Vec Ref Glo
       let s = store_in store in
       ap (λ v. pieces g.program (resolved r.bound (or_nil v))) (sym (written g.program).value)
       ∙ ap (λ S. pieces g.program (resolved S (told s value))) (agrees_behind y term (print_held term) old store value written g n w run st).bound
-      ∙ ap (λ p. pieces p (resolved s.state.subst (told s value))) (sym st.program)
+      ∙ ap (λ p. pieces p (resolved s.state.subst (told s value))) (sym st.at.inside.program)
 
-  prints_next : (g : Game) (n : ℕ) (w : World) (run : Run) → IsQuiet w → TakesAt y old g n w run → Then (map Piece (pieces_at new value)) w (λ v. StandsAt new g n v run)
-  prints_next g n w run quiet st =
+  prints_next : (g : Game) (n : ℕ) (w : World) (run : Run) → TakesAt y old g n w run → Then (map Piece (pieces_at new value)) w (λ v. StandsAt new g n v run)
+  prints_next g n w run st =
       let r = behind y old g n w run st in
       let v = taken_in y old g n w run st in
       let before = worked (whole_looks r (value_of g.program values term)) v in
       let ps = pieces_at new value in
-      let a = adds_taken r (writing (terms_held (out-Goal y))) w quiet in
-      let b = adds_printed ps before quiet in
-      let stands : Stands g st.lives st.ways (path_of (steps_of old) r) n (all_printed ps before) run =
-      subst (λ l. Stands g st.lives st.ways (path_of (steps_of old) r) n (all_printed l before) run) (same_pieces g n w run st)
-      (subst (λ f. After g st.lives st.ways n (outcome g f values old.here.tag (steps_of old) r v) run) (outs-Print term) (comes_of y old g n w run st)) in
+      let a = adds_taken r (writing (terms_held (out-Goal y))) w in
+      let b = adds_printed ps before in
+      let stands : Stands g st.at.inside.lives st.at.ways (path_of (steps_of old) r) n (all_printed ps before) run =
+      subst (λ l. Stands g st.at.inside.lives st.at.ways (path_of (steps_of old) r) n (all_printed l before) run) (same_pieces g n w run st)
+      (subst (λ f. After g st.at.inside.lives st.at.ways n (outcome g f values old.here.tag (steps_of old) r v) run) (outs-Print term) (comes_of y old g n w run st)) in
       record {
         world = all_printed ps before;
-        adds = record { prints_are = b.prints_are ∙ ap (λ l. l ++ map Piece ps) (a.prints_are ∙ append-nil (prints w.events)); typed = b.typed; quiet = b.quiet };
-        holds = stands_behind y old store made ready k saved g n w (all_printed ps before) run st r (agrees_behind y term (print_held term) old store value written g n w run st) refl stands;
+        adds = record { prints_are = b.prints_are ∙ ap (λ l. l ++ map Piece ps) (a.prints_are ∙ append-nil (prints w.events)); typed = b.typed };
+        holds = stands_behind y old store made ready k saved g n w (all_printed ps before) run (world_printed ps before st.at.inside.world) st r (agrees_behind y term (print_held term) old store value written g n w run st) refl stands;
       }
 
   pub wrote_printed : WrotePrinted term value old new

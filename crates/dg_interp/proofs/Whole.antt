@@ -81,7 +81,7 @@ module _ (program : CoreProgram) (limits : Limits) (e : Engine) (starts : Starts
   no_text = record { stands = new; wrote = wrote_nothing k }
 
   reached : (P : World → Run → SinkView → Type 0) → Reaches e s k P → P (start_world g typed) r k
-  reached P h = subst (λ n. P (start_world g typed) (run g typed n) k) starts.left (h g (start_world g typed) (run g typed e.left) k refl (starts.stands g e.left typed refl) no_text)
+  reached P h = subst (λ n. P (start_world g typed) (run g typed n) k) starts.left (h g (start_world g typed) (run g typed e.left) k (starts.stands g e.left typed refl) no_text)
 
   -- ## A limit
 
@@ -94,13 +94,13 @@ module _ (program : CoreProgram) (limits : Limits) (e : Engine) (starts : Starts
 
     part_is : IsPart m.added (run g typed m.goals).world.events whole_run.world.events
     part_is =
-        let t = m.until g (start_world g typed) whole_run refl (starts.stands g (suc m.goals) typed refl) in
-        let b = m.since g (start_world g typed) (run g typed m.goals) refl (starts.stands g m.goals typed refl) in
+        let t = m.until g (start_world g typed) whole_run (starts.stands g (suc m.goals) typed refl) in
+        let b = m.since g (start_world g typed) (run g typed m.goals) (starts.stands g m.goals typed refl) in
         subst (λ l. IsPart l (run g typed m.goals).world.events whole_run.world.events) t.adds.prints_are
         (the_part t.world.events (run g typed m.goals).world.events whole_run.world.events t.holds (later_run g typed m.goals (suc m.goals) (omega arith)).events (subst (Begins (prints (run g typed m.goals).world.events)) (sym t.adds.prints_are) b))
 
     passed_limit : limit_of area limits < peak area g typed (suc m.goals)
-    passed_limit = subst (λ n. n < peak area g typed (suc m.goals)) same (m.passed g (start_world g typed) whole_run refl (starts.stands g (suc m.goals) typed refl))
+    passed_limit = subst (λ n. n < peak area g typed (suc m.goals)) same (m.passed g (start_world g typed) whole_run (starts.stands g (suc m.goals) typed refl))
 
     taken_goals : limits.steps - left ≡ suc m.goals
     taken_goals = omega (arith, m.left_is, starts.left)

@@ -1,8 +1,9 @@
 -- What an engine stands for, and what its parts do to that. Hold it against the Dialog manual, chapter "Choice points".
 use Rattle.std.specs.Prelude.{ℕ, suc, ◌+◌, ◌^◌, ◌≡◌, ◌<◌, ◌≤◌, ◌++◌, nat_lt, List, [], ◌∷◌, Bool, true, false, length, map, reverse, Option, Some, None, if◌then◌else◌}
 use Rattle.std.specs.List.{All}
-use Rattle.dg_base.specs.declared.program.Goal.{Goal}
-use Rattle.dg_base.specs.declared.program.Goal.TheVariants.{Print as PrintGoal, Forever}
+use Rattle.dg_base.specs.declared.program.Goal.{Goal, Goal-F}
+use Rattle.dg_base.specs.declared.program.Goal.TheVariants.{Print as PrintGoal}
+use Rattle.dg_base.specs.declared.program.Goal.TheOpen.{Text, Print as PrintForm, Quit}
 use Rattle.dg_base.specs.declared.program.Term.{Term}
 use Rattle.dg_base.specs.declared.program.CoreProgram.{CoreProgram}
 use Rattle.dg_base.specs.declared.run.Ending.{Ending}
@@ -16,7 +17,8 @@ use Rattle.dg_meaning.specs.Transcript.{Run, run, start_world}
 use Rattle.dg_meaning.specs.Context.{Way, Live}
 use Rattle.dg_meaning.specs.Keeps.{Stands, Failed, Finished, Tried}
 use Rattle.dg_meaning.specs.Built.{IsBuilt, IsBuiltGoal, AreBuilt}
-use Rattle.dg_unify.specs.Store.{Store, Saved, Holds, Kept, told}
+use Rattle.dg_unify.specs.Store.{Store, Saved, Holds, told}
+use Rattle.dg_unify.specs.Engines.{Agrees, IsPlace as IsPlaceOf}
 use Rattle.dg_unify.specs.Slots.{store_of, Stand}
 use Rattle.dg_unify.specs.Listed.{fields_of}
 use Rattle.dg_unify.specs.declared.bindings.Ref.{Ref}
@@ -31,7 +33,7 @@ use Rattle.dg_interp.specs.declared.frames.Choice.{Choice}
 use Rattle.dg_interp.specs.declared.engine.Engine.{Engine}
 use Rattle.dg_interp.specs.declared.engine.Settled.{Settled}
 use Rattle.dg_interp.specs.declared.engine.Settled.TheVariants as settled
-use Rattle.dg_interp.specs.Frames.{values_in, steps_at, kind_of, branches_of, Agrees, AreChoices, IsFrame, AreFrames, StandOn, GoBackTo, all_left}
+use Rattle.dg_interp.specs.Frames.{values_in, steps_at, kind_of, branches_of, AreChoices, IsFrame, AreFrames, StandOn, GoBackTo, all_left}
 
 -- ## What holds of an engine
 
@@ -65,9 +67,9 @@ pub record IsReady (e : Engine) : Type 0 where
 
 -- ## What it stands for
 
--- No gathering is open.
-abbrev pub IsQuiet : World → Type 0
-IsQuiet w = w.gathered ≡ []
+-- What an engine has of a world: no gathering is open.
+abbrev pub InWorld : World → Type 0
+InWorld w = w.gathered ≡ []
 
 -- Where a run may be: the game, the goals left of its budget, its world, and all that it comes to.
 abbrev pub Point : Type 1
@@ -77,33 +79,37 @@ Point = Game → ℕ → World → Run → Type 0
 abbrev pub steps_of : Engine → List Step
 steps_of e = steps_at (values_in (store_in e.store) e.refs.items) e.frames.items e.here
 
--- The run comes from where the engine is, with so many goals left of its budget.
-pub record StandsAt (e : Engine) (g : Game) (n : ℕ) (w : World) (run : Run) : Type 0 where
+-- The engine is in this world, inside these choices.
+pub record Inside (e : Engine) (g : Game) (w : World) : Type 0 where
   pub program : e.program.now ≡ g.program
   pub lives : List Live
-  pub ways : List Way
-  pub registers : Registers
   pub saved : List Saved
   pub keeps : KeepsPlaces e.store saved
-  pub agrees : Agrees (store_in e.store) registers
   pub choices : AreChoices g e.refs.items e.frames.items (reverse e.choices.items) saved lives
-  pub tag : registers.next_tag ≡ e.newest + 1
-  pub stands : Stands g lives ways (path_of (steps_of e) registers) n w run
+  pub world : InWorld w
+
+-- The engine is there, on a path with these registers, on which the next choice has this tag.
+pub record There (e : Engine) (next : ℕ) (g : Game) (w : World) : Type 0 where
+  pub inside : Inside e g w
+  pub ways : List Way
+  pub registers : Registers
+  pub agrees : Agrees (store_in e.store) registers
+  pub tag : registers.next_tag ≡ next
+
+-- The run comes from where the engine is, with so many goals left of its budget.
+pub record StandsAt (e : Engine) (g : Game) (n : ℕ) (w : World) (run : Run) : Type 0 where
+  pub at : There e (e.newest + 1) g w
+  pub stands : Stands g at.inside.lives at.ways (path_of (steps_of e) at.registers) n w run
 
 -- The run comes from a failure where the engine is.
 pub record FailsAt (e : Engine) (g : Game) (n : ℕ) (w : World) (run : Run) : Type 0 where
-  pub program : e.program.now ≡ g.program
-  pub lives : List Live
-  pub saved : List Saved
-  pub keeps : KeepsPlaces e.store saved
-  pub choices : AreChoices g e.refs.items e.frames.items (reverse e.choices.items) saved lives
-  pub failed : Failed g lives n w run
+  pub inside : Inside e g w
+  pub failed : Failed g inside.lives n w run
 
--- From one world to another these things were printed, nothing was read, and no gathering is open.
+-- From one world to another these things were printed, and nothing was read.
 pub record Adds (es : List Print) (old new : World) : Type 0 where
   pub prints_are : prints new.events ≡ prints old.events ++ es
   pub typed : new.typed ≡ old.typed
-  pub quiet : IsQuiet new
 
 -- After these things were printed, this holds.
 pub record Then (es : List Print) (w : World) (P : World → Type 0) : Type 0 where
@@ -124,7 +130,7 @@ pub record Starts (program : CoreProgram) (n heap trail : ℕ) (e : Engine) : Ty
 
 -- A run that comes from one point comes from the other, and nothing was printed.
 abbrev pub Leads : Point → Point → Type 0
-Leads From To = (g : Game) (n : ℕ) (w : World) (run : Run) → IsQuiet w → From g n w run → Then [] w (λ v. To g n v run)
+Leads From To = (g : Game) (n : ℕ) (w : World) (run : Run) → From g n w run → Then [] w (λ v. To g n v run)
 
 -- A run that comes from there has ended so.
 abbrev pub Ends : Point → Result → Type 0
@@ -132,8 +138,8 @@ Ends From result = Leads From (λ g n v run. Finished n v result run)
 
 -- A limit was met: each run that comes from there passes it.
 abbrev pub FullAt : Point → Store → Full → Type 0
-FullAt From s full.Heap = (g : Game) (n : ℕ) (w : World) (run : Run) → IsQuiet w → From g n w run → s.heap_limit < run.world.meters.heap
-FullAt From s full.Trail = (g : Game) (n : ℕ) (w : World) (run : Run) → IsQuiet w → From g n w run → s.trail_limit < run.world.meters.trail
+FullAt From s full.Heap = (g : Game) (n : ℕ) (w : World) (run : Run) → From g n w run → s.heap_limit < run.world.meters.heap
+FullAt From s full.Trail = (g : Game) (n : ℕ) (w : World) (run : Run) → From g n w run → s.trail_limit < run.world.meters.trail
 FullAt From s full.OutOfMemory = Unit {0}
 
 -- The limits are the same.
@@ -219,16 +225,21 @@ GoesToGoal From (Some other) old new = ⊥
 
 -- The run comes from this goal, in front of where the engine is.
 pub record TakesAt (x : Goal) (e : Engine) (g : Game) (n : ℕ) (w : World) (run : Run) : Type 0 where
-  pub program : e.program.now ≡ g.program
-  pub lives : List Live
-  pub ways : List Way
-  pub registers : Registers
-  pub saved : List Saved
-  pub keeps : KeepsPlaces e.store saved
-  pub agrees : Agrees (store_in e.store) registers
-  pub choices : AreChoices g e.refs.items e.frames.items (reverse e.choices.items) saved lives
-  pub tag : registers.next_tag ≡ e.newest + 1
-  pub stands : Stands g lives ways (path_of (Do x (values_in (store_in e.store) e.refs.items e.here.env) e.here.tag ∷ steps_of e) registers) (suc n) w run
+  pub at : There e (e.newest + 1) g w
+  pub stands : Stands g at.inside.lives at.ways (path_of (Do x (values_in (store_in e.store) e.refs.items e.here.env) e.here.tag ∷ steps_of e) at.registers) (suc n) w run
+
+-- A frame that goes on where the engine is, with this goal in front.
+pub record IsAgain (x : Goal) (again : Frame) (e : Engine) : Type 0 where
+  pub is : IsFrame (length e.frames.items) (length e.refs.items) again
+  pub goals : again.goals.now ≡ x ∷ e.here.goals.now
+  pub rest : again ≡ record e.here { goals = again.goals }
+
+-- A goal that neither prints nor ends the run.
+abbrev pub IsAct : Goal-F Goal → Type 0
+IsAct (Text name) = ⊥
+IsAct (PrintForm a) = ⊥
+IsAct Quit = ⊥
+IsAct x = Unit {0}
 
 -- A goal was taken, and what it does is left to do.
 pub record Taken (x : Goal) (old new : Engine) : Type 0 where
@@ -238,14 +249,18 @@ pub record Taken (x : Goal) (old new : Engine) : Type 0 where
   pub room : new.newest + 1 + new.left < 2 ^ 64
   pub built : IsBuiltGoal x
   pub whole : AreBuilt (x ∷ [])
-  pub again : IsFrame (length new.frames.items) (length new.refs.items) old.here
-  pub goals : old.here.goals.now ≡ x ∷ new.here.goals.now
-  pub rest : old.here ≡ record new.here { goals = old.here.goals }
+  pub again : IsAgain x old.here new
   pub takes : (g : Game) (n : ℕ) (w : World) (run : Run) → StandsAt old g (suc n) w run → TakesAt x new g n w run
 
 -- The pieces of a value that stands at a Ref.
 abbrev pub pieces_at : Engine → Ref → List (List ℕ)
 pieces_at e r = let s = store_in e.store in pieces e.program.now (resolved s.state.subst (told s r))
+
+-- All is as it was, but for what waits in the store.
+pub record StaysBut (old new : Engine) : Type 0 where
+  pub same : new ≡ record old { store = new.store }
+  pub store : store_in new.store ≡ store_in old.store
+  pub places : (ms : List Saved) → KeepsPlaces old.store ms → KeepsPlaces new.store ms
 
 -- The value that a goal prints stands at a Ref, and a run that comes from that goal comes from where the engine is once the pieces are printed.
 pub record WrotePrinted (term : Term) (value : Ref) (old new : Engine) : Type 0 where
@@ -253,7 +268,7 @@ pub record WrotePrinted (term : Term) (value : Ref) (old new : Engine) : Type 0 
   pub left : new.left ≡ old.left
   pub limits : SameLimits old new
   pub holds : Holds (store_in new.store) value
-  pub leads : (g : Game) (n : ℕ) (w : World) (run : Run) → IsQuiet w → TakesAt (PrintGoal term) old g n w run → Then (map Piece (pieces_at new value)) w (λ v. StandsAt new g n v run)
+  pub leads : (g : Game) (n : ℕ) (w : World) (run : Run) → TakesAt (PrintGoal term) old g n w run → Then (map Piece (pieces_at new value)) w (λ v. StandsAt new g n v run)
 
 -- ## Branches
 
@@ -268,11 +283,8 @@ Tries From true old new = WentOn From old new
 Tries From false old new = WentWrong From old new
 
 -- A store to which the engine may go back to this place is where it is now.
-pub record IsPlace (e : Engine) (place : Place) (back : Saved) (saved : List Saved) : Type 0 where
-  pub keeps : KeepsPlaces e.store (back ∷ saved)
-  pub place_is : back.mark ≡ place
-  pub hold : All (Holds back.store) e.refs.items
-  pub kept : Kept back.store (store_in e.store)
+abbrev pub IsPlace : Engine → Place → Saved → List Saved → Type 0
+IsPlace e place back saved = IsPlaceOf (KeepsPlaces e.store) (store_in e.store) e.refs.items place back saved
 
 -- There is such a store.
 pub record HasPlace (e : Engine) (place : Place) : Type 0 where
@@ -283,18 +295,11 @@ pub record HasPlace (e : Engine) (place : Place) : Type 0 where
 
 -- The run comes from these branches, of which the first is to begin, with all frames behind them.
 pub record BeginsAt (left : Left) (place : Place) (e : Engine) (g : Game) (n : ℕ) (w : World) (run : Run) : Type 0 where
-  pub program : e.program.now ≡ g.program
-  pub lives : List Live
-  pub ways : List Way
-  pub registers : Registers
-  pub saved : List Saved
+  pub at : There e e.newest g w
   pub back : Saved
-  pub is : IsPlace e place back saved
-  pub agrees : Agrees (store_in e.store) registers
-  pub back_agrees : Agrees back.store registers
-  pub choices : AreChoices g e.refs.items e.frames.items (reverse e.choices.items) saved lives
-  pub tag : registers.next_tag ≡ e.newest
-  pub tried : Tried g (kind_of left) registers.next_tag 0 ways lives (branches_of g (values_in (store_in e.store) e.refs.items) e.frames.items (length e.frames.items) left registers) n w run
+  pub is : IsPlace e place back at.inside.saved
+  pub back_agrees : Agrees back.store at.registers
+  pub tried : Tried g (kind_of left) at.registers.next_tag 0 at.ways at.inside.lives (branches_of g (values_in (store_in e.store) e.refs.items) e.frames.items (length e.frames.items) left at.registers) n w run
 
 -- A choice, where it stays, in front of others.
 abbrev pub kept_if : Bool → Choice → List Choice → List Choice
@@ -308,22 +313,8 @@ Retries From (Some begun) old new = Tries From begun old new × (branches_left n
 
 -- The run comes from the first of these branches, in a choice that opens where the engine is.
 pub record OpensAt (left : Left) (e : Engine) (g : Game) (n : ℕ) (w : World) (run : Run) : Type 0 where
-  pub program : e.program.now ≡ g.program
-  pub lives : List Live
-  pub ways : List Way
-  pub registers : Registers
-  pub saved : List Saved
-  pub keeps : KeepsPlaces e.store saved
-  pub agrees : Agrees (store_in e.store) registers
-  pub choices : AreChoices g e.refs.items e.frames.items (reverse e.choices.items) saved lives
-  pub tag : registers.next_tag ≡ e.newest + 1
-  pub tried : Tried g (kind_of left) registers.next_tag 0 ways lives (branches_of g (values_in (store_in e.store) e.refs.items) e.frames.items (length e.frames.items) left registers) n w run
-
--- A frame that goes on where the engine is, with the endless choice in front.
-pub record IsAgain (again : Frame) (e : Engine) : Type 0 where
-  pub is : IsFrame (length e.frames.items) (length e.refs.items) again
-  pub goals : again.goals.now ≡ Forever ∷ e.here.goals.now
-  pub rest : again ≡ record e.here { goals = again.goals }
+  pub at : There e (e.newest + 1) g w
+  pub tried : Tried g (kind_of left) at.registers.next_tag 0 at.ways at.inside.lives (branches_of g (values_in (store_in e.store) e.refs.items) e.frames.items (length e.frames.items) left at.registers) n w run
 
 -- A frame was put behind the others; all else is as it was.
 pub record IsPushed (frame : Frame) (old new : Engine) : Type 0 where

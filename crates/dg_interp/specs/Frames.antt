@@ -9,6 +9,7 @@ use Rattle.dg_meaning.specs.Moves.{goals_at, first_alone, enter, list_branches, 
 use Rattle.dg_meaning.specs.Context.{Live}
 use Rattle.dg_meaning.specs.Built.{AreBuilt, IsBuiltRule}
 use Rattle.dg_unify.specs.Store.{Store, Saved, told, Holds}
+use Rattle.dg_unify.specs.Engines.{Agrees, GoBackTo as GoBack}
 use Rattle.dg_unify.specs.declared.bindings.Ref.{Ref}
 use Rattle.dg_interp.specs.declared.frames.Env.{Env}
 use Rattle.dg_interp.specs.declared.frames.Mark.{Mark}
@@ -101,14 +102,6 @@ pub record BeginsWith (height : ℕ) (frame : Frame) (others left : Left) : Type
   pub work : ℕ
   pub branches : (g : Game) (values : Env → List Value) (fs : List Frame) (r : Registers) → branches_of g values fs height left r ≡ enter (cells_if (stays_with others)) work r (steps_at values fs frame) ∷ branches_of g values fs height others r
 
--- A store is where a path is: its trail may be shorter.
-pub record Agrees (s : Store) (r : Registers) : Type 0 where
-  pub bound : r.bound ≡ s.state.subst
-  pub vars : r.next_var ≡ s.state.vars
-  pub heap : r.heap ≡ s.state.heap
-  pub trail : s.state.trail ≤ r.trail
-  pub since : s.state.since ≤ s.state.vars
-
 -- An engine's choice, which goes back to this store, is one of the meaning, outside gatherings.
 pub record IsChoice (g : Game) (refs : List Ref) (fs : List Frame) (o : Choice) (m : Saved) (c : Live) : Type 0 where
   pub registers : Registers
@@ -157,9 +150,7 @@ StandOn fs height refs tag (o ∷ os) = (o.height ≤ height) × (o.refs ≤ ref
 
 -- The stores to which choices go back hold what stands behind them, and have these limits.
 abbrev pub GoBackTo : List Ref → ℕ → ℕ → List Choice → List Saved → Type 0
-GoBackTo refs heap trail [] [] = Unit {0}
-GoBackTo refs heap trail (o ∷ os) (m ∷ ms) = (m.mark ≡ o.place) × All (Holds m.store) (take o.refs refs) × (m.store.heap_limit ≡ heap) × (m.store.trail_limit ≡ trail) × GoBackTo refs heap trail os ms
-GoBackTo refs heap trail os ms = ⊥
+GoBackTo refs heap trail os ms = GoBack (λ o. o.place) (λ o. take o.refs refs) heap trail os ms
 
 -- How many frames the choices stand on, the newest first.
 abbrev pub floor_of : List Choice → ℕ

@@ -7,4 +7,3 @@ pub mod Engine
 pub mod Running
 pub mod Interpret
 pub mod Passing
-pub mod Testing

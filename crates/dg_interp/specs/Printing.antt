@@ -1,20 +1,22 @@
 -- What printing a value leaves behind. Hold it against the Dialog manual, chapter "Output", and docs/LANGUAGE.md, where it says how a value is printed.
-use Rattle.std.specs.Prelude.{ℕ, ◌≡◌, ◌≤◌, ◌++◌, List, [], ◌∷◌, map, length, take, Bool, false, true, Result, Ok, Err, codes}
+use Rattle.std.specs.Prelude.{ℕ, ◌≡◌, ◌≤◌, ◌++◌, List, [], ◌∷◌, map, length, take, Bool, false, true, Option, Some, None, Result, Ok, Err, codes}
 use Rattle.dg_base.specs.declared.program.CoreProgram.{CoreProgram}
-use Rattle.dg_meaning.specs.Values.{Nil, Value, Node, NoMore, More}
+use Rattle.dg_meaning.specs.Values.{Nil, Value, Node, pair}
 use Rattle.dg_meaning.specs.Substitutions.{resolved}
-use Rattle.dg_meaning.specs.Pieces.{word_text, first_piece, list_pieces}
+use Rattle.dg_meaning.specs.Pieces.{word_text, first_piece, pieces, tail_pieces}
 use Rattle.dg_meaning.specs.World.{Print, Piece}
 use Rattle.dg_meaning.specs.Render.{nothing_met, met_from, render_from}
 use Rattle.dg_base.specs.Written.{SinkView, Wrote, BrokeOff}
 use Rattle.dg_base.specs.declared.writing.WriteFault.{WriteFault}
-use Rattle.dg_unify.specs.Store.{Store, told}
+use Rattle.dg_unify.specs.Store.{Store, told, Holds}
 use Rattle.dg_unify.specs.declared.bindings.Ref.{Ref}
 use Rattle.dg_unify.specs.declared.bindings.View.{View}
 use Rattle.dg_unify.specs.declared.bindings.View.TheVariants as view
 use Rattle.dg_base.specs.declared.cells.Simple.TheVariants as simple
 use Rattle.dg_interp.specs.Spacer.{StandsFor}
 use Rattle.dg_interp.specs.declared.spacer.Spacer.{Spacer}
+use Rattle.dg_interp.specs.declared.printing.Next.{Next}
+use Rattle.dg_interp.specs.declared.printing.Next.TheVariants as next
 
 -- ## Letters
 
@@ -61,8 +63,35 @@ abbrev pub Printed : List (List ℕ) → Spacer → Spacer → SinkView → Sink
 Printed pieces s s' old new (Ok done) = AddsAll pieces s s' old new
 Printed pieces s s' old new (Err fault) = (es : List Print) → StandsFor s es → BrokeOff old new (growth_of es pieces)
 
--- What printing the list of a head and a tail came to, behind its first bracket.
-abbrev pub PrintsList : Store → CoreProgram → Ref → Ref → Spacer → Spacer → SinkView → SinkView → Result (Unit {0}) WriteFault → Type 0
-PrintsList store program head tail s s' old new result =
-    let parts = More (resolved store.state.subst (told store head)) (More (resolved store.state.subst (told store tail)) NoMore) in
-    Printed (list_pieces program parts) s s' old new result
+-- ## What is next
+
+-- The value of a Ref, resolved.
+abbrev pub value_at : Store → Ref → Value
+value_at s r = resolved s.state.subst (told s r)
+
+-- The value that is next, or the tail.
+abbrev pub ref_of : Next → Ref
+ref_of (next.Value r) = r
+ref_of (next.Tail r) = r
+
+-- The pieces of what is next.
+abbrev pub next_pieces : Store → CoreProgram → Next → List (List ℕ)
+next_pieces s program (next.Value r) = pieces program (value_at s r)
+next_pieces s program (next.Tail r) = tail_pieces program (value_at s r)
+
+-- The piece in front of its elements, where it is a pair.
+abbrev pub opening : Next → List (List ℕ)
+opening (next.Value r) = codes "[" ∷ []
+opening (next.Tail r) = []
+
+-- It is the pair of these two.
+pub record IsPairOf (s : Store) (r h t : Ref) : Type 0 where
+  pub head_in : Holds s h
+  pub tail_in : Holds s t
+  pub is : value_at s r ≡ pair (value_at s h) (value_at s t)
+
+-- What printing the front of what is next came to: it is a pair, whose parts are to come, or was printed whole, or the sink failed within it.
+abbrev pub PrintsNext : Store → CoreProgram → Next → Spacer → Spacer → SinkView → SinkView → Result (Option (Ref × Ref)) WriteFault → Type 0
+PrintsNext s program n sp sp' old new (Ok (Some parts)) = IsPairOf s (ref_of n) parts.0 parts.1 × AddsAll (opening n) sp sp' old new
+PrintsNext s program n sp sp' old new (Ok None) = AddsAll (next_pieces s program n) sp sp' old new
+PrintsNext s program n sp sp' old new (Err fault) = (es : List Print) → StandsFor sp es → BrokeOff old new (growth_of es (next_pieces s program n))

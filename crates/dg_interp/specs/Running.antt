@@ -16,7 +16,7 @@ use Rattle.dg_interp.specs.declared.spacer.Spacer.{Spacer}
 use Rattle.dg_interp.specs.declared.engine.Engine.{Engine}
 use Rattle.dg_base.specs.Written.{SinkView, Wrote, BrokeOff}
 use Rattle.dg_interp.specs.Spacer.{StandsFor}
-use Rattle.dg_interp.specs.Engine.{store_in, IsQuiet, IsReady, StandsAt, SameLimits, Then}
+use Rattle.dg_interp.specs.Engine.{store_in, IsReady, StandsAt, SameLimits, Then}
 
 -- Since the start the sink took the text of these things, and the spacer stands for them.
 pub record HasText (s : Spacer) (start now : SinkView) (es : List Print) : Type 0 where
@@ -29,7 +29,7 @@ Writes s s' before now added = (start : SinkView) (es : List Print) → HasText 
 
 -- Whatever run comes from where the engine is, with as much of its budget left and all that it printed so far written, this holds of it.
 abbrev pub Reaches : Engine → Spacer → SinkView → (World → Run → SinkView → Type 0) → Type 0
-Reaches e s now P = (g : Game) (w : World) (run : Run) (start : SinkView) → IsQuiet w → StandsAt e g e.left w run → HasText s start now (prints w.events) → P w run start
+Reaches e s now P = (g : Game) (w : World) (run : Run) (start : SinkView) → StandsAt e g e.left w run → HasText s start now (prints w.events) → P w run start
 
 -- A goal was taken and done, and each run goes on from where the engine is; what was added to it was written.
 pub record GoalDone (old new : Engine) (s s' : Spacer) (before now : SinkView) : Type 0 where
@@ -37,7 +37,7 @@ pub record GoalDone (old new : Engine) (s s' : Spacer) (before now : SinkView) :
   pub limits : SameLimits old new
   pub left : old.left ≡ suc new.left
   pub added : List Print
-  pub leads : (g : Game) (n : ℕ) (w : World) (run : Run) → IsQuiet w → StandsAt old g (suc n) w run → Then added w (λ v. StandsAt new g n v run)
+  pub leads : (g : Game) (n : ℕ) (w : World) (run : Run) → StandsAt old g (suc n) w run → Then added w (λ v. StandsAt new g n v run)
   pub writes : Writes s s' before now added
 
 -- Some goals were taken, and each run goes on from where the engine is; what was added to it was written.
@@ -48,7 +48,7 @@ pub record GoesOn (old new : Engine) (s s' : Spacer) (before now : SinkView) : T
   pub goals : ℕ
   pub left : old.left ≡ goals + new.left
   pub added : List Print
-  pub leads : (g : Game) (n : ℕ) (w : World) (run : Run) → IsQuiet w → StandsAt old g (goals + n) w run → Then added w (λ v. StandsAt new g n v run)
+  pub leads : (g : Game) (n : ℕ) (w : World) (run : Run) → StandsAt old g (goals + n) w run → Then added w (λ v. StandsAt new g n v run)
   pub writes : Writes s s' before now added
 
 -- The run has ended so, with this much of its budget left, all that it printed was written, and nothing was read.
@@ -69,9 +69,9 @@ pub record MeetsLimit (area : Area) (left : ℕ) (old : Engine) (s s' : Spacer) 
   pub goals : ℕ
   pub left_is : old.left ≡ suc goals + left
   pub added : List Print
-  pub passed : (g : Game) (w : World) (run : Run) → IsQuiet w → StandsAt old g (suc goals) w run → limit_in area (store_in old.store) < greatest area run.world.meters
-  pub until : (g : Game) (w : World) (run : Run) → IsQuiet w → StandsAt old g (suc goals) w run → Then added w (λ v. Begins v.events run.world.events)
-  pub since : (g : Game) (w : World) (run : Run) → IsQuiet w → StandsAt old g goals w run → Begins (prints run.world.events) (prints w.events ++ added)
+  pub passed : (g : Game) (w : World) (run : Run) → StandsAt old g (suc goals) w run → limit_in area (store_in old.store) < greatest area run.world.meters
+  pub until : (g : Game) (w : World) (run : Run) → StandsAt old g (suc goals) w run → Then added w (λ v. Begins v.events run.world.events)
+  pub since : (g : Game) (w : World) (run : Run) → StandsAt old g goals w run → Begins (prints run.world.events) (prints w.events ++ added)
   pub writes : Writes s s' before now added
 
 -- How a run has ended: at a limit, or as its search ends.

@@ -8,7 +8,7 @@ ghost use Rattle.dg_interp.specs.declared.frames.Left.TheVariants.{Rules, Lists,
 ghost use Rattle.dg_unify.specs.declared.bindings.Full.TheVariants.{OutOfMemory as WantOfMemory};
 ghost use Rattle.dg_interp.specs.declared.frames.Left.{Left as TheLeft};
 ghost use Rattle.dg_interp.specs.Frames.{IsFrame, BeginsWith, IsLeft, stays_with, left_in, floor_of, stretch as the_stretch, values_in, EndsBy, cells_if};
-ghost use Rattle.dg_interp.specs.Engine.{Starts, IsSound, IsReady, StandsAt, FailsAt, TakesAt, BeginsAt, OpensAt, IsPushed, HasPlace, Cuts, Passes, Settles, FrameLeft, GoesToGoal, GoesBack, Retries, Taken, Branches, WentOn, Tries, FullAt, store_in, pieces_at, WrotePrinted, branches_left, KeepsPlaces, kept_if};
+ghost use Rattle.dg_interp.specs.Engine.{Starts, IsSound, IsReady, StandsAt, FailsAt, TakesAt, BeginsAt, OpensAt, IsPushed, HasPlace, Cuts, Passes, Settles, FrameLeft, GoesToGoal, GoesBack, Retries, Taken, Branches, WentOn, Tries, FullAt, store_in, pieces_at, WrotePrinted, StaysBut, branches_left, KeepsPlaces, kept_if};
 ghost use Rattle.dg_base.specs.declared.program.CoreProgram.{CoreProgram as Program};
 ghost use Rattle.dg_meaning.specs.Cells.{cells};
 ghost use Rattle.dg_meaning.specs.Closures.{HasNoClosure};
@@ -18,6 +18,7 @@ ghost use Rattle.dg_interp.specs.Passing.{IsFirst, IsCandidate};
 ghost use Rattle.dg_interp.specs.Printing.{Printed};
 ghost use Rattle.dg_unify.specs.Store.{Saved, Kept, Holds, Charged};
 
+mod acting;
 mod control;
 mod passing;
 
@@ -612,11 +613,13 @@ impl<'p> Engine<'p> {
     }
 
     /// Drops the choices inside the rule at hand.
-    pub fn just(&mut self)
+    fn just(&mut self) -> bool
         requires ready { IsReady self.old }
-        ensures cut { WentOn (TakesAt JustGoal self.old) self.old self.new }
+        ensures cut { Branches (TakesAt JustGoal self.old) result self.old self.new }
+        ensures left { self.new.left ≡ self.old.left }
     {
         cut(&mut self.choices, self.here.tag);
+        true
     }
 
     /// Writes the value that a goal prints.
@@ -637,15 +640,16 @@ impl<'p> Engine<'p> {
 
     /// Prints the value that stands at a Ref.
     pub fn print<K: Sink>(
-        &self,
+        &mut self,
         spacer: &mut Spacer,
         sink: &mut K,
         value: Ref,
     ) -> Result<(), WriteFault>
-        requires { Holds (store_in self.now.store) value }
-        ensures { Printed (pieces_at self.now value) spacer.old spacer.new (K.view sink.old) (K.view sink.new) result }
+        requires { Holds (store_in self.old.store) value }
+        ensures stays { StaysBut self.old self.new }
+        ensures printed { Printed (pieces_at self.old value) spacer.old spacer.new (K.view sink.old) (K.view sink.new) result }
     {
-        print_value(&self.store, self.program, spacer, sink, value)
+        print_value(&mut self.store, self.program, spacer, sink, value)
     }
 
     /// Makes two values equal; where they clash, goes back.
@@ -683,7 +687,7 @@ impl<'p> Engine<'p> {
         ) {
             Err(e) => Err(e),
             Ok(value) => {
-                if test(&self.store, kind, value) {
+                if test(&mut self.store, kind, value) {
                     return Ok(true);
                 }
                 self.back()

@@ -4,13 +4,20 @@ ghost use Rattle.std.specs.Prelude.{◌≡◌, ◌≤◌, ◌+◌, ◌∷◌, []
 ghost use Rattle.dg_meaning.specs.Values.{Value};
 ghost use Rattle.dg_meaning.specs.Pieces.{shown_letter, word_text, pieces, label_piece, first_piece};
 ghost use Rattle.dg_meaning.specs.Substitutions.{resolved};
-ghost use Rattle.dg_unify.specs.Store.{label_of, told, Holds, Shows, IsUnknownAt};
-ghost use Rattle.dg_interp.specs.Printing.{HasText, shows_nil, single_pieces, end_pieces, Printed, PrintsList};
+ghost use Rattle.dg_unify.specs.Store.{Saved, label_of, told, Holds, Shows, IsUnknownAt};
+ghost use Rattle.dg_interp.specs.Printing.{HasText, shows_nil, single_pieces, end_pieces, ref_of, Printed, PrintsNext};
 
 use crate::spacer::Spacer;
 use dg_base::{CoreProgram, Name, Simple, Sink, WriteFault};
-use dg_unify::{Bindings, Ref, View};
+use dg_unify::{Bindings, Parts, Ref, View, Wait};
 use itoa::Buffer;
+
+/// What is to be printed next: a value, or the elements behind one and what ends their list.
+#[derive(Clone, Copy)]
+pub enum Next {
+    Value(Ref),
+    Tail(Ref),
+}
 
 // One piece.
 fn print_piece<K: Sink>(spacer: &mut Spacer, sink: &mut K, piece: &[u8]) -> Result<(), WriteFault>
@@ -198,53 +205,70 @@ fn print_end<B: Bindings, K: Sink>(
     print_tail(store, program, spacer, sink, tail)
 }
 
-// The elements of a list and what ends it: a recursion into the elements alone.
-#[cycle(print)]
-fn print_list<B: Bindings, K: Sink>(
+// Prints what comes first of what is next: the bracket of a list that is a value, and then its first element and its
+// other elements are to come; nothing of a list that is a tail; and any other value, or the end of a list, whole.
+fn print_next<B: Bindings, K: Sink>(
     store: &B,
     program: &CoreProgram,
     spacer: &mut Spacer,
     sink: &mut K,
-    head: Ref,
-    tail: Ref,
-) -> Result<(), WriteFault>
-    requires head_in { Holds (B.meaning store.now) head }
-    requires tail_in { Holds (B.meaning store.now) tail }
-    ensures { PrintsList (B.meaning store.now) program.now head tail spacer.old spacer.new (K.view sink.old) (K.view sink.new) result }
+    next: Next,
+) -> Result<Option<(Ref, Ref)>, WriteFault>
+    requires { Holds (B.meaning store.now) (ref_of next) }
+    ensures { PrintsNext (B.meaning store.now) program.now next spacer.old spacer.new (K.view sink.old) (K.view sink.new) result }
 {
-    let mut head = head;
-    let mut tail = tail;
-    'elements: loop {
-        match print_value(store, program, spacer, sink, head) {
-            Err(fault) => return Err(fault),
-            Ok(()) => match store.walk(tail) {
-                View::Pair(next, others) => {
-                    head = next;
-                    tail = others;
-                }
-                end => return print_end(store, program, spacer, sink, end),
+    match next {
+        Next::Value(value) => match store.walk(value) {
+            View::Pair(head, tail) => match print_piece(spacer, sink, b"[") {
+                Err(fault) => Err(fault),
+                Ok(()) => Ok(Some((head, tail))),
             },
-        }
+            single => match print_single(store, program, spacer, sink, single) {
+                Err(fault) => Err(fault),
+                Ok(()) => Ok(None),
+            },
+        },
+        Next::Tail(tail) => match store.walk(tail) {
+            View::Pair(head, others) => Ok(Some((head, others))),
+            end => match print_end(store, program, spacer, sink, end) {
+                Err(fault) => Err(fault),
+                Ok(()) => Ok(None),
+            },
+        },
     }
 }
 
-/// Prints a value, piece by piece.
-#[cycle(print)]
+/// Prints a value, piece by piece. The tails of lists wait in the store while an element is printed.
 pub fn print_value<B: Bindings, K: Sink>(
-    store: &B,
+    store: &mut B,
     program: &CoreProgram,
     spacer: &mut Spacer,
     sink: &mut K,
     value: Ref,
 ) -> Result<(), WriteFault>
-    requires { Holds (B.meaning store.now) value }
-    ensures { Printed (pieces program.now (resolved (B.meaning store.now).state.subst (told (B.meaning store.now) value))) spacer.old spacer.new (K.view sink.old) (K.view sink.new) result }
+    requires { Holds (B.meaning store.old) value }
+    ensures same { B.meaning store.new ≡ B.meaning store.old }
+    ensures saved { (ms : List Saved) → B.saves store.old ms → B.saves store.new ms }
+    ensures printed { Printed (pieces program.now (resolved (B.meaning store.old).state.subst (told (B.meaning store.old) value))) spacer.old spacer.new (K.view sink.old) (K.view sink.new) result }
 {
-    match store.walk(value) {
-        View::Pair(head, tail) => match print_piece(spacer, sink, b"[") {
-            Err(fault) => Err(fault),
-            Ok(()) => print_list(store, program, spacer, sink, head, tail),
-        },
-        single => print_single(store, program, spacer, sink, single),
+    store.forget(0);
+    let mut next = Next::Value(value);
+    'parts: loop {
+        match print_next(store, program, spacer, sink, next) {
+            Err(fault) => return Err(fault),
+            Ok(Some((head, tail))) => {
+                store.put_off(Wait {
+                    a: head,
+                    b: tail,
+                    p: Parts::Nothing,
+                    q: Parts::Nothing,
+                });
+                next = Next::Value(head);
+            }
+            Ok(None) => match store.take_up() {
+                None => return Ok(()),
+                Some(wait) => next = Next::Tail(wait.b),
+            },
+        }
     }
 }

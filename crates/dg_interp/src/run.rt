@@ -4,7 +4,6 @@ ghost use Rattle.dg_interp.specs.Engine.{IsReady};
 ghost use Rattle.dg_interp.specs.Running.{Reaches, IsBroken, Ended, DoesGoal, Does, limit_of, outcome_of};
 
 use crate::engine::Engine;
-use crate::frames::Query;
 use crate::spacer::Spacer;
 use dg_base::{Ending, Goal, RunFault, Sink};
 use dg_unify::Full;
@@ -59,31 +58,8 @@ fn do_goal<K: Sink>(
                 Err(_) => Err(RunFault::Write),
             },
         },
-        Goal::Equal(a, b) => outcome(engine.equal(a, b)),
-        Goal::Ask(pred, args, many) => {
-            let query = Query {
-                pred: *pred,
-                many: *many,
-            };
-            outcome(engine.ask(query, args.as_slice()))
-        }
-        Goal::Either(lists) => outcome(engine.either(lists.as_slice())),
-        Goal::Once(goals) => outcome(engine.once(goals.as_slice())),
-        Goal::Not(goals) => outcome(engine.not(goals.as_slice())),
-        Goal::If(test, first, other) => outcome(engine.branch(
-            test.as_slice(),
-            first.as_slice(),
-            other.as_slice(),
-        )),
-        Goal::Forever => outcome(engine.forever(again)),
-        Goal::Just => {
-            engine.just();
-            Ok(None)
-        }
-        Goal::Fail => outcome(engine.fail()),
         Goal::Quit => Ok(Some(Ending::Quit)),
-        Goal::Test(kind, term) => outcome(engine.test(*kind, term)),
-        _ => unreachable!(),
+        goal => outcome(engine.act(goal, again)),
     }
 }
 

@@ -1,15 +1,12 @@
 // Tests of what a value is.
 
-ghost use Rattle.std.specs.Prelude.{◌≡◌};
+ghost use Rattle.std.specs.Prelude.{◌≡◌, List};
 ghost use Rattle.dg_meaning.specs.Values.{Value};
-ghost use Rattle.dg_meaning.specs.TypeTests.{top_passes, passes, are_full as all_full};
-ghost use Rattle.dg_meaning.specs.Substitutions.{all_resolved};
-ghost use Rattle.dg_unify.specs.Store.{told, Holds, Shows};
-ghost use Rattle.dg_unify.specs.Parts.{AreIn, values_of};
-ghost use Rattle.dg_interp.specs.Testing.{AreFull};
+ghost use Rattle.dg_meaning.specs.TypeTests.{top_passes, passes};
+ghost use Rattle.dg_unify.specs.Store.{Saved, told, Holds, Shows};
 
 use dg_base::{Simple, TestKind};
-use dg_unify::{Bindings, Parts, Ref, Seen, View, inner, split, variable_of};
+use dg_unify::{Bindings, Ref, View, is_open};
 
 // Whether a value that was looked up passes a test by what stands at its top.
 fn view_passes(kind: TestKind, view: View) -> bool
@@ -28,48 +25,15 @@ fn view_passes(kind: TestKind, view: View) -> bool
     }
 }
 
-// Whether no unbound variable stands in some values: a recursion into all but the last, which is done in the loop. Those
-// in which none stands are noted, and one that comes again soon isn't looked through again.
-fn are_full<B: Bindings>(store: &B, parts: Parts, seen: &mut Seen) -> bool
-    requires parts_in { AreIn (B.meaning store.now) parts }
-    requires seen_in { AreFull (B.meaning store.now) seen.old }
-    ensures full { result ≡ all_full (all_resolved (B.meaning store.now).state.subst (values_of (B.meaning store.now) parts)) }
-    ensures seen { AreFull (B.meaning store.now) seen.new }
-{
-    let mut parts = parts;
-    'parts: loop {
-        match split(store, parts) {
-            None => return true,
-            Some(front) => match front.rest {
-                Parts::Nothing => {
-                    if seen.has(front.first) {
-                        return true;
-                    }
-                    let view = store.walk(front.first);
-                    match variable_of(view) {
-                        Some(_) => return false,
-                        None => parts = inner(view),
-                    }
-                }
-                _ => {
-                    if !are_full(store, Parts::One(front.first), seen) {
-                        return false;
-                    }
-                    seen.note(front.first);
-                    parts = front.rest;
-                }
-            },
-        }
-    }
-}
-
-/// Whether a value passes a test.
-pub fn test<B: Bindings>(store: &B, kind: TestKind, value: Ref) -> bool
-    requires { Holds (B.meaning store.now) value }
-    ensures { result ≡ passes (B.meaning store.now).state.subst kind (told (B.meaning store.now) value) }
+/// Whether a value passes a test. What waits in the store meanwhile is dropped.
+pub fn test<B: Bindings>(store: &mut B, kind: TestKind, value: Ref) -> bool
+    requires { Holds (B.meaning store.old) value }
+    ensures same { B.meaning store.new ≡ B.meaning store.old }
+    ensures saved { (ms : List Saved) → B.saves store.old ms → B.saves store.new ms }
+    ensures passed { result ≡ passes (B.meaning store.old).state.subst kind (told (B.meaning store.old) value) }
 {
     match kind {
-        TestKind::FullyBound => are_full(store, Parts::One(value), &mut Seen::new()),
+        TestKind::FullyBound => !is_open(store, value),
         _ => view_passes(kind, store.walk(value)),
     }
 }

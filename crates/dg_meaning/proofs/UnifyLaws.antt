@@ -130,7 +130,7 @@ other : (x y : ℕ) → eqb x y ≡ false → (if eqb y x then Var y else Var y)
 other x y h = elim (eqb y x) as (λ t. (if t then Var y else Var y) ≡ Var y) [ true ↦ refl | false ↦ refl ]
 
 -- what a turn promises: when what it leads to is done, the two are equal
-abbrev Makes : Substitution → Value → Value → Turn → Type 0
+abbrev pub Makes : Substitution → Value → Value → Turn → Type 0
 Makes S a b (Goes parts) = (made : Substitution) → EqualUnder (made ++ S) parts → resolved (made ++ S) a ≡ resolved (made ++ S) b
 Makes S a b (Binds x v) = resolved ((x, v) ∷ S) a ≡ resolved ((x, v) ∷ S) b
 Makes S a b Clashes = Unit {0}
@@ -138,7 +138,7 @@ Makes S a b Clashes = Unit {0}
 bind_makes : (S : Substitution) (a b : Value) (x : ℕ) (v : Value) → resolved S a ≡ Var x → resolved S v ≡ resolved S b → contains x (resolved S v) ≡ false → replaced x (resolved S v) (resolved S a) ≡ replaced x (resolved S v) (resolved S b)
 bind_makes S a b x v ha same absent = rw (ha, ← same, replaced_absent x (resolved S v) (resolved S v) absent) (cond-true (eqb x x) (resolved S v) (Var x) (eq-eqb x x refl))
 
-turned_makes : (S : Substitution) (a b v u : Value) → Walked S a v → Walked S b u → Makes S a b (turn_of S v u)
+pub turned_makes : (S : Substitution) (a b v u : Value) → Walked S a v → Walked S b u → Makes S a b (turn_of S v u)
 turned_makes S a b (Var x) (Var y) wa wb =
     let ax : resolved S a ≡ Var x = sym wa.same ∙ resolved_unbound S x (wa.free x refl) in
     let by : resolved S b ≡ Var y = sym wb.same ∙ resolved_unbound S y (wb.free y refl) in

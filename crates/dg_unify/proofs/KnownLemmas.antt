@@ -57,7 +57,7 @@ equal_done s sound a b h =
     let k = equal_values s.state.subst (told s a) (told s b) sound h.same in
     record { agrees = sym k.0; subst = sym k.1; binds = more_same s.state }
 
-pub left_done : (old new : Store) → IsSubstitution old.state.subst → (a b : Ref) (p q : Parts) → AreLeft old new (told old a) (told old b) p q → IsEqual old a b → TurnsInto old new (told old a) (told old b) (Ok (met.Done true))
+pub left_done : (old new : Store) → IsSubstitution old.state.subst → (a b : Ref) (p q : Parts) → AreLeft old new a b p q → IsEqual old a b → TurnsInto old new a b (Ok (met.Done true))
 left_done old new sound a b p q left h = subst (λ (s : Store). Does old s (unify old.state.subst (told old a) (told old b)) true) (sym left.same) (equal_done old sound a b h)
 
 pub noted : (s : Store) (ps : List (Option (Ref × Ref))) (i : ℕ) (p : Ref × Ref) (a b : Ref) → All (is_equal_pair s) ps → slice_index_or ps i None ≡ Some p → p.0.0 ≡ a.0 → nat_eq p.1.0 b.0 ≡ true → IsEqual s a b

@@ -6,9 +6,14 @@ pub mod Stores
 pub mod FenceLemmas
 pub mod StoreLemmas
 pub mod PartsLemmas
+pub mod TakingUp
+pub mod Rooms
+pub mod FindLemmas
+pub mod Standing
 pub mod Tops
 pub mod Meets
 pub mod Goings
+pub mod Settling
 pub mod NoteLemmas
 pub mod SeenLemmas
 pub mod KnownLemmas

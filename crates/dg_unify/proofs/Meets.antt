@@ -49,13 +49,13 @@ follows_bound old new x v sound fits b =
     }
 
 pub follows_full : (old new : Store) (x : ℕ) (v : Value) (e : Full) → IsSubstitution old.state.subst → FitsFront x v old.state.subst → TrailFull old new x e → FollowsTurn old new (Binds x (walk old.state.subst v)) (Err e)
-follows_full old new x v full.Heap sound fits h = h
+follows_full old new x v full.Heap sound fits h = absurd h
 follows_full old new x v full.Trail sound fits h =
     let w = walk old.state.subst v in
     let e = solve_none ((x, w) ∷ old.state.subst) (walked_fits old.state.subst sound x v fits, sound) in
     let k : (solve ((x, w) ∷ old.state.subst) []).subst ≡ (x, w) ∷ old.state.subst = ap (λ (u : Unified). u.subst) e in
-    rw k (omega (arith, h.0))
-follows_full old new x v full.OutOfMemory sound fits h = h.0
+    record { cause = rw k (omega (arith, h.0)); state = h.1 }
+follows_full old new x v full.OutOfMemory sound fits h = record { cause = h.0; state = h.2 }
 
 some_var : (m n : ℕ) → Some (Var m) ≡ Some (Var n) → m ≡ n
 some_var m n e = cc
@@ -138,11 +138,14 @@ counted_full old c u full.Heap h = h
 counted_full old c u full.Trail h = h
 counted_full old c u full.OutOfMemory h = h
 
-follows_met : (old new : Store) → IsSubstitution old.state.subst → (a b : Value) (r : Result Bool Full) → FollowsTurn old new (turn old.state.subst a b) r → TurnsInto old new a b (met_of r)
+follows_met : (old new : Store) → IsSubstitution old.state.subst → (a b : Ref) (r : Result Bool Full) → FollowsTurn old new (turn old.state.subst (told old a) (told old b)) r → TurnsInto old new a b (met_of r)
 follows_met old new sound a b (Ok d) h =
-    rw (solve_step old.state.subst (a, b) [] sound) (record { agrees = h.agrees; subst = h.subst; binds = h.binds })
+    rw (solve_step old.state.subst (told old a, told old b) [] sound) (record { agrees = h.agrees; subst = h.subst; binds = h.binds })
 follows_met old new sound a b (Err e) h =
-    rw (solve_step old.state.subst (a, b) [] sound) (counted_full old (cost old.state.subst a b) (solve_turn old.state.subst [] (turn old.state.subst a b)) e h)
+    let S = old.state.subst in
+    let u = told old a in
+    let v = told old b in
+    rw (solve_step S (u, v) [] sound) (record { cause = counted_full old (cost S u v) (solve_turn S [] (turn S u v)) e h.cause; state = h.state })
 
 pub unbound_at : (s : Store) → IsSubstitution s.state.subst → (at r : Ref) → ShowsVar s (walked_to s at) r → IsUnbound s r
 unbound_at s sound at r shows = record {
@@ -151,27 +154,27 @@ unbound_at s sound at r shows = record {
   free = (walked s.state.subst sound (told s at)).free shows.number shows.is;
 }
 
-pub met_vars : (old new : Store) → IsSubstitution old.state.subst → (a b x y : Ref) (r : Result Bool Full) → (sx : ShowsVar old (walked_to old a) x) → (sy : ShowsVar old (walked_to old b) y) → FollowsTurn old new (ties sx.number sy.number) r → TurnsInto old new (told old a) (told old b) (met_of r)
-met_vars old new sound a b x y r sx sy h = follows_met old new sound (told old a) (told old b) r (rw (sx.is, sy.is) h)
+pub met_vars : (old new : Store) → IsSubstitution old.state.subst → (a b x y : Ref) (r : Result Bool Full) → (sx : ShowsVar old (walked_to old a) x) → (sy : ShowsVar old (walked_to old b) y) → FollowsTurn old new (ties sx.number sy.number) r → TurnsInto old new a b (met_of r)
+met_vars old new sound a b x y r sx sy h = follows_met old new sound a b r (rw (sx.is, sy.is) h)
 
-pub met_left : (old new : Store) → IsSubstitution old.state.subst → (a b x : Ref) (f : Label) (vs : Values) (r : Result Bool Full) → (sx : ShowsVar old (walked_to old a) x) → walked_to old b ≡ Node f vs → FollowsTurn old new (binds old.state.subst sx.number (walked_to old b)) r → TurnsInto old new (told old a) (told old b) (met_of r)
+pub met_left : (old new : Store) → IsSubstitution old.state.subst → (a b x : Ref) (f : Label) (vs : Values) (r : Result Bool Full) → (sx : ShowsVar old (walked_to old a) x) → walked_to old b ≡ Node f vs → FollowsTurn old new (binds old.state.subst sx.number (walked_to old b)) r → TurnsInto old new a b (met_of r)
 met_left old new sound a b x f vs r sx sy h =
     let k : FollowsTurn old new (binds old.state.subst sx.number (Node f vs)) r = subst (λ w. FollowsTurn old new (binds old.state.subst sx.number w) r) sy h in
-    follows_met old new sound (told old a) (told old b) r (rw (sx.is, sy) k)
+    follows_met old new sound a b r (rw (sx.is, sy) k)
 
-pub met_right : (old new : Store) → IsSubstitution old.state.subst → (a b y : Ref) (f : Label) (vs : Values) (r : Result Bool Full) → walked_to old a ≡ Node f vs → (sy : ShowsVar old (walked_to old b) y) → FollowsTurn old new (binds old.state.subst sy.number (walked_to old a)) r → TurnsInto old new (told old a) (told old b) (met_of r)
+pub met_right : (old new : Store) → IsSubstitution old.state.subst → (a b y : Ref) (f : Label) (vs : Values) (r : Result Bool Full) → walked_to old a ≡ Node f vs → (sy : ShowsVar old (walked_to old b) y) → FollowsTurn old new (binds old.state.subst sy.number (walked_to old a)) r → TurnsInto old new a b (met_of r)
 met_right old new sound a b y f vs r sx sy h =
     let k : FollowsTurn old new (binds old.state.subst sy.number (Node f vs)) r = subst (λ w. FollowsTurn old new (binds old.state.subst sy.number w) r) sx h in
-    follows_met old new sound (told old a) (told old b) r (rw (sx, sy.is) k)
+    follows_met old new sound a b r (rw (sx, sy.is) k)
 
-pub met_nodes : (s : Store) → IsSubstitution s.state.subst → (a b : Ref) (f g : Label) (vs us : Values) → walked_to s a ≡ Node f vs → walked_to s b ≡ Node g us → (m : Met) → Compares s f g vs us m → TurnsInto s s (told s a) (told s b) (Ok m)
+pub met_nodes : (s : Store) → IsSubstitution s.state.subst → (a b : Ref) (f g : Label) (vs us : Values) → walked_to s a ≡ Node f vs → walked_to s b ≡ Node g us → (m : Met) → Compares s f g vs us m → TurnsInto s s a b (Ok m)
 met_nodes s sound a b f g vs us ea eb (met.Done answer) h =
-    let P : Bool → Type 0 = λ y. TurnsInto s s (told s a) (told s b) (Ok (met.Done y)) in
-    let k : P false = follows_met s s sound (told s a) (told s b) (Ok false) (rw (ea, eb, h.1) (follows_clash s)) in
+    let P : Bool → Type 0 = λ y. TurnsInto s s a b (Ok (met.Done y)) in
+    let k : P false = follows_met s s sound a b (Ok false) (rw (ea, eb, h.1) (follows_clash s)) in
     subst P (sym h.0) k
 met_nodes s sound a b f g vs us ea eb (met.Goes p q) h = record {
   same = refl;
   turn = rw (ea, eb, h.0, h.1.values, h.2.values) refl;
-  p_in = h.1.are_in;
-  q_in = h.2.are_in;
+  left = record { label = f; parts = vs; is = ea; shows = h.1 };
+  right = record { label = g; parts = us; is = eb; shows = h.2 };
 }

@@ -1,19 +1,14 @@
 -- The parts of values, one after another.
-use Rattle.std.proofs.Common.{◌≡◌, ℕ, zero, suc, ◌+◌, ◌*◌, ◌<◌, ◌≤◌, Bool, true, false, refl, sym, ap, ◌∙◌, arith, subst, Option, Some, None}
-use Rattle.std.specs.Prelude.{◌||◌}
-use Rattle.dg_meaning.specs.Values.{Label, Value, Node, Values, NoMore, More}
-use Rattle.dg_meaning.specs.Substitutions.{Substitution, resolved, all_resolved, contains, any_contains, IsSubstitution}
-use Rattle.dg_meaning.specs.Unify.{size, sizes}
-use Rattle.dg_meaning.proofs.Walks.{resolved_node, walked, size_some}
-use Rattle.dg_unify.specs.Store.{Store, or_nil, IsTold, told, count_of, part_at, IsPart, IsClosureAt, ShowsVar, Shows}
-use Rattle.dg_unify.specs.Parts.{parts_in, dropped, values_of, more_than_one, IsRest, IsSplit, ShowsInner, IsVariable, IsClear}
+use Rattle.std.proofs.Common.{◌≡◌, ℕ, zero, suc, ◌+◌, ◌<◌, ◌≤◌, refl, sym, ap, ◌∙◌, arith, subst, Option, Some, None}
+use Rattle.dg_meaning.specs.Values.{Label, Closure, Value, Node, Values, NoMore, More}
+use Rattle.dg_unify.specs.Store.{Store, Kept, or_nil, IsTold, told, count_of, part_at, IsPart, IsClosureAt, ShowsVar, Shows}
+use Rattle.dg_unify.specs.Parts.{parts_in, dropped, values_of, AreIn, IsClosure, IsRest, IsSplit, IsVariable}
 use Rattle.dg_unify.specs.declared.bindings.Ref.{Ref}
 use Rattle.dg_unify.specs.declared.bindings.View.{View}
 use Rattle.dg_unify.specs.declared.bindings.View.TheVariants as view
 use Rattle.dg_unify.specs.declared.parts.Parts.{Parts}
 use Rattle.dg_unify.specs.declared.parts.Parts.TheVariants as form
-use Rattle.dg_unify.specs.declared.parts.Front.{Front}
-use Rattle.dg_unify.proofs.StoreLemmas.{told_is, holds_some, walked_to}
+use Rattle.dg_unify.proofs.StoreLemmas.{told_is, holds_some, kept_holds, kept_told}
 
 -- ## Captured values
 
@@ -60,7 +55,6 @@ split_some s c n place ps r rest h part is =
       values = ap (dropped n) (closure_parts s c place ps h) ∙ dropped_some n ps v at ∙ ap (λ w. More w (dropped (suc n) ps)) (sym (told_is s r v value)) ∙ ap (More (told s r)) (sym others);
       first_in = holds_some s r v value;
       rest_in = is.are_in;
-      others = λ h'. refl;
     }
 
 -- ## Views
@@ -85,71 +79,22 @@ shown_node s w (view.Pair h t) is shows = record { f = _; vs = _; is = shows.is 
 shown_node s w (view.Closure p c) is shows = record { f = _; vs = _; is = shows.is }
 shown_node s w (view.Unknown r) is shows = record { f = _; vs = _; is = shows.is }
 
--- ## The test of containment
+-- ## Behind a call
 
-pub or_end : (a : Bool) → (a || false) ≡ a
-or_end true = refl
-or_end false = refl
+pub in_kept : (old new : Store) (p : Parts) → Kept old new → AreIn old p → AreIn new p
+in_kept old new form.Nothing k h = tt
+in_kept old new (form.One r) k h = kept_holds old new r k h
+in_kept old new (form.Two q r) k h = (kept_holds old new q k h.0, kept_holds old new r k h.1)
+in_kept old new (form.Captured c n) k h = record { place = h.place; parts = h.parts; at = record { value = k.values c (Node (Closure h.place) h.parts) h.at.value; few = h.at.few } }
 
--- what is left to look at
-abbrev pub left_in : Store → Parts → ℕ
-left_in s p = 2 * sizes (all_resolved s.state.subst (values_of s p)) + more_than_one p
+closure_kept : (old new : Store) (c : Ref) → Kept old new → IsClosure old c → told new c ≡ told old c
+closure_kept old new c k h = ap or_nil (k.values c (Node (Closure h.place) h.parts) h.at.value ∙ sym h.at.value)
 
-more_at_most : (p : Parts) → more_than_one p ≤ 1
-more_at_most form.Nothing = omega arith
-more_at_most (form.One r) = omega arith
-more_at_most (form.Two q r) = omega arith
-more_at_most (form.Captured c n) = omega arith
-
--- a variable stands in these
-abbrev pub stands_in : Store → ℕ → Parts → Bool
-stands_in s n p = any_contains n (all_resolved s.state.subst (values_of s p))
-
--- a variable that isn't in one value
-pub first_clear : (s : Store) (front : Front) (n : ℕ) → false ≡ stands_in s n (form.One front.first) → IsClear s n front.first
-first_clear s front n h = sym (or_end (contains n (resolved s.state.subst (told s front.first)))) ∙ sym h
-
-module _ (s : Store) (sound : IsSubstitution s.state.subst) (p : Parts) (front : Front) (split : IsSplit s p front) where
-  abbrev S : Substitution
-  S = s.state.subst
-
-  abbrev v : Value
-  v = told s front.first
-
-  stands_split : (n : ℕ) → stands_in s n p ≡ (contains n (resolved S v) || stands_in s n front.rest)
-  stands_split n = ap (λ vs. any_contains n (all_resolved S vs)) split.values
-
-  left_split : left_in s p ≡ 2 * (size (resolved S v) + sizes (all_resolved S (values_of s front.rest))) + more_than_one p
-  left_split = ap (λ vs. 2 * sizes (all_resolved S vs) + more_than_one p) split.values
-
-  pub last_stands : front.rest ≡ form.Nothing → (n : ℕ) → stands_in s n p ≡ contains n (resolved S v)
-  last_stands last n = stands_split n ∙ ap (λ q. contains n (resolved S v) || stands_in s n q) last ∙ or_end (contains n (resolved S v))
-
-  node_resolved : (f : Label) (vs : Values) → walked_to s front.first ≡ Node f vs → resolved S v ≡ Node f (all_resolved S vs)
-  node_resolved f vs is = sym (walked S sound v).same ∙ ap (resolved S) is ∙ resolved_node S f vs
-
-  pub last_inner : front.rest ≡ form.Nothing → (f : Label) (vs : Values) → walked_to s front.first ≡ Node f vs → (q : Parts) → ShowsInner s vs q → (n : ℕ) → stands_in s n p ≡ stands_in s n q
-  last_inner last f vs is q shows n =
-      last_stands last n ∙ ap (contains n) (node_resolved f vs is) ∙ ap (λ ws. any_contains n (all_resolved S ws)) (sym shows.values)
-
-  pub last_smaller : front.rest ≡ form.Nothing → (f : Label) (vs : Values) → walked_to s front.first ≡ Node f vs → (q : Parts) → ShowsInner s vs q → left_in s q < left_in s p
-  last_smaller last f vs is q shows =
-      let e : sizes (all_resolved S (values_of s q)) ≡ sizes (all_resolved S vs) = ap (λ ws. sizes (all_resolved S ws)) shows.values in
-      let k : size (resolved S v) ≡ sizes (all_resolved S vs) + 1 = ap size (node_resolved f vs is) in
-      omega (arith, e, k, left_split, more_at_most q)
-
-  pub first_smaller : (front.rest ≡ form.Nothing → ⊥) → left_in s (form.One front.first) < left_in s p
-  first_smaller others = omega (arith, left_split, split.others others)
-
-  pub rest_smaller : (front.rest ≡ form.Nothing → ⊥) → left_in s front.rest < left_in s p
-  rest_smaller others = omega (arith, left_split, split.others others, more_at_most front.rest, size_some (resolved S v))
-
-  pub first_found : (n : ℕ) → true ≡ stands_in s n (form.One front.first) → true ≡ stands_in s n p
-  first_found n h =
-      let e : contains n (resolved S v) ≡ true = sym (or_end (contains n (resolved S v))) ∙ sym h in
-      sym (stands_split n ∙ ap (λ b. b || stands_in s n front.rest) e)
-
-  pub first_missed : (n : ℕ) → false ≡ stands_in s n (form.One front.first) → stands_in s n p ≡ stands_in s n front.rest
-  first_missed n h =
-      let e : contains n (resolved S v) ≡ false = sym (or_end (contains n (resolved S v))) ∙ sym h in
-      stands_split n ∙ ap (λ b. b || stands_in s n front.rest) e
+pub values_kept : (old new : Store) (p : Parts) → Kept old new → AreIn old p → values_of new p ≡ values_of old p
+values_kept old new form.Nothing k h = refl
+values_kept old new (form.One r) k h = ap (λ v. More v NoMore) (kept_told old new r k h)
+values_kept old new (form.Two q r) k h =
+    let a = kept_told old new q k h.0 in
+    let b = kept_told old new r k h.1 in
+    rw (a, b) refl
+values_kept old new (form.Captured c n) k h = ap (λ v. dropped n (parts_in v)) (closure_kept old new c k h)

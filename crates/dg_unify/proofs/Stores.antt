@@ -36,6 +36,7 @@ grown_links f f' links es el eh et = record { slots = es ∙ sym (append-nil f.s
 pub kept_grown : (grows : Bool) (f f' : Fields) (extra : List Slot) (links : List Link) → Grown f f' extra links → Kept (store_of grows f) (store_of grows f')
 kept_grown grows f f' extra links g = record {
   values = λ r v h. subst (λ xs. value_in xs r.0 ≡ Some v) (sym g.slots) (in_more f.slots extra r.0 v h);
+  places = omega (arith, ap length g.slots, length-append f.slots extra);
   heap_limit = g.heap_limit;
   trail_limit = g.trail_limit;
   grows = refl;
@@ -88,7 +89,7 @@ stand_marked grows f f' m ms sound ef em h =
 pub undone_back : (grows : Bool) (f f' : Fields) (to : Mark) (s : Store) (ms : List Saved) → f' ≡ fields_at f to → Stand grows f (record { mark = to; store = s } ∷ ms) → Back s (store_of grows f')
 undone_back grows f f' to s ms e h =
     let is : s ≡ store_of grows f' = h.3.store ∙ ap (store_of grows) (sym e) in
-    subst (λ t. Back s t) is (record { state = refl; kept = record { values = λ r v k. k; heap_limit = refl; trail_limit = refl; grows = refl } })
+    subst (λ t. Back s t) is (record { state = refl; kept = record { values = λ r v k. k; places = omega arith; heap_limit = refl; trail_limit = refl; grows = refl } })
 
 pub undone_stand : (grows : Bool) (f f' : Fields) (to : Mark) (s : Store) (ms : List Saved) → f' ≡ fields_at f to → Stand grows f (record { mark = to; store = s } ∷ ms) → Stand grows f' (record { mark = to; store = s } ∷ ms)
 undone_stand grows f f' to s ms e h =

@@ -8,6 +8,9 @@ pub mod Laws
 pub mod Ends
 pub mod Listed
 pub mod Parts
+pub mod Waits
+pub mod Finds
 pub mod Seen
 pub mod Known
 pub mod Turns
+pub mod Engines

@@ -1,8 +1,9 @@
 -- What values of a store some parts are. Hold it against dg_meaning/specs/Values.antt.
-use Rattle.std.specs.Prelude.{◌≡◌, ℕ, zero, suc, Option, Some, None, false}
+use Rattle.std.specs.Prelude.{◌≡◌, ℕ, zero, suc, Option, Some, None}
 use Rattle.dg_meaning.specs.Values.{Label, Value, Var, Node, Values, NoMore, More}
-use Rattle.dg_meaning.specs.Substitutions.{walk, resolved, contains}
+use Rattle.dg_meaning.specs.Substitutions.{walk}
 use Rattle.dg_unify.specs.Store.{Store, told, Holds, IsClosureAt}
+use Rattle.dg_unify.specs.Finds.{finds_at}
 use Rattle.dg_unify.specs.declared.bindings.Ref.{Ref}
 use Rattle.dg_unify.specs.declared.bindings.View.{View}
 use Rattle.dg_unify.specs.declared.bindings.View.TheVariants as view
@@ -43,24 +44,16 @@ AreIn s (parts.One r) = Holds s r
 AreIn s (parts.Two q r) = Holds s q × Holds s r
 AreIn s (parts.Captured c n) = IsClosure s c
 
--- Whether they may be more than one.
-abbrev pub more_than_one : Parts → ℕ
-more_than_one parts.Nothing = 0
-more_than_one (parts.One r) = 0
-more_than_one (parts.Two q r) = 1
-more_than_one (parts.Captured c n) = 1
-
 -- The captured values from a number on.
 pub record IsRest (s : Store) (c : Ref) (n : ℕ) (rest : Parts) : Type 0 where
   pub are_in : AreIn s rest
   pub values : values_of s rest ≡ dropped n (parts_in (told s c))
 
--- The first and the others; where there are others, it was more than one.
+-- The first and the others.
 pub record IsSplit (s : Store) (p : Parts) (front : Front) : Type 0 where
   pub values : values_of s p ≡ More (told s front.first) (values_of s front.rest)
   pub first_in : Holds s front.first
   pub rest_in : AreIn s front.rest
-  pub others : (front.rest ≡ parts.Nothing → ⊥) → more_than_one p ≡ 1
 
 -- What a split of some parts comes to.
 abbrev pub SplitsInto : Store → Parts → Option Front → Type 0
@@ -84,11 +77,7 @@ pub record IsOpened (s : Store) (at : Ref) (inner : Parts) : Type 0 where
   pub is : walk s.state.subst (told s at) ≡ Node label parts
   pub shows : ShowsInner s parts inner
 
--- The variable n doesn't stand in a value.
-abbrev pub IsClear : Store → ℕ → Ref → Type 0
-IsClear s n at = contains n (resolved s.state.subst (told s at)) ≡ false
-
--- What a look for the variable n tells of a value.
-abbrev pub LooksInto : Store → ℕ → Ref → Look → Type 0
-LooksInto s n at (looks.Ends found) = found ≡ contains n (resolved s.state.subst (told s at))
-LooksInto s n at (looks.Goes inner) = IsOpened s at inner
+-- What a look for a variable tells of a value.
+abbrev pub LooksInto : Store → Option ℕ → Ref → Look → Type 0
+LooksInto s o at (looks.Ends found) = found ≡ finds_at s o at
+LooksInto s o at (looks.Goes inner) = IsOpened s at inner

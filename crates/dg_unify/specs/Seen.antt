@@ -1,8 +1,6 @@
 -- What is known of values that were looked through. Hold it against dg_meaning/specs/Substitutions.antt.
-use Rattle.std.specs.Prelude.{◌≡◌, ℕ, Option, Some, None, Bool, false}
+use Rattle.std.specs.Prelude.{◌≡◌, Option, Some, None, Bool, false}
 use Rattle.std.specs.List.{All}
-use Rattle.dg_meaning.specs.Substitutions.{resolved, contains}
-use Rattle.dg_unify.specs.Store.{Store, told}
 use Rattle.dg_unify.specs.declared.bindings.Ref.{Ref}
 use Rattle.dg_unify.specs.declared.seen.Seen.{Seen}
 
@@ -14,7 +12,3 @@ is_free finds (Some at) = finds at ≡ false
 -- Nothing is found in any value that is noted.
 abbrev pub AreFree : (Ref → Bool) → Seen → Type 0
 AreFree finds seen = All (is_free finds) seen.refs
-
--- The variable n doesn't stand in any value that is noted.
-abbrev pub AreClear : Store → ℕ → Seen → Type 0
-AreClear s n seen = AreFree (λ at. contains n (resolved s.state.subst (told s at))) seen

@@ -157,6 +157,7 @@ abbrev pub store_of : Bool → Fields → Store
 store_of grows f = record {
   state = record { vars = f.vars; subst = subst_of f.slots (reverse f.log); since = f.since; heap = f.heap; trail = f.trail };
   value = λ r. value_in f.slots r.0;
+  places = length f.slots;
   heap_limit = f.heap_limit;
   trail_limit = f.trail_limit;
   grows = grows;

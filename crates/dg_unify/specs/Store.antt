@@ -1,5 +1,5 @@
 -- What a store of bindings stands for, and what its calls do to that. Hold it against docs/LANGUAGE.md, where it says when two values unify and what a limit counts.
-use Rattle.std.specs.Prelude.{◌≡◌, ℕ, zero, suc, ◌+◌, ◌<◌, ◌≤◌, nat_lt, List, [], ◌∷◌, map, length, Option, Some, None, Bool, if◌then◌else◌, IsTrue, Result, Ok, Err}
+use Rattle.std.specs.Prelude.{◌≡◌, ℕ, zero, suc, ◌+◌, ◌<◌, ◌≤◌, nat_lt, List, [], ◌∷◌, map, length, ◌++◌, Option, Some, None, Bool, true, false, if◌then◌else◌, IsTrue, Result, Ok, Err}
 use Rattle.dg_base.specs.declared.cells.Simple.{Simple}
 use Rattle.dg_base.specs.declared.cells.Simple.TheVariants as simple
 use Rattle.dg_meaning.specs.Values.{Label, Num, Word, Unknown, Object, Nil, Closure, Value, Var, Node, Values, NoMore, More, leaf, pair, parts_of}
@@ -22,10 +22,11 @@ pub record State : Type 0 where
   pub heap : ℕ
   pub trail : ℕ
 
--- A state, what each Ref stands for, the limits of the counts, and whether the store grows, so that it may find no memory.
+-- A state, what each Ref stands for, a number above the Ref of each variable and of each value with parts, the limits of the counts, and whether the store grows, so that it may find no memory.
 pub record Store : Type 0 where
   pub state : State
   pub value : Ref → Option Value
+  pub places : ℕ
   pub heap_limit : ℕ
   pub trail_limit : ℕ
   pub grows : Bool
@@ -59,9 +60,15 @@ told_parts s rs = parts_of (map (told s) rs)
 abbrev pub Holds : Store → Ref → Type 0
 Holds s r = IsTold (s.value r)
 
--- What stood for a value still stands for it, and the limits stay.
+-- A value without parts that is no variable.
+abbrev pub is_single : Value → Bool
+is_single (Node f NoMore) = true
+is_single other = false
+
+-- What stood for a value still stands for it, no place is lost, and the limits stay.
 pub record Kept (old new : Store) : Type 0 where
   pub values : (r : Ref) (v : Value) → old.value r ≡ Some v → new.value r ≡ Some v
+  pub places : old.places ≤ new.places
   pub heap_limit : new.heap_limit ≡ old.heap_limit
   pub trail_limit : new.trail_limit ≡ old.trail_limit
   pub grows : new.grows ≡ old.grows
@@ -221,7 +228,16 @@ UnifyFull old meant full.Heap = ⊥
 UnifyFull old meant full.Trail = old.trail_limit + trail_of old.state.since old.state.subst < old.state.trail + trail_of old.state.since meant.subst
 UnifyFull old meant full.OutOfMemory = IsTrue old.grows
 
+-- A unification that came to no end has made only bindings, the oldest of those that are meant, up to a clash.
+pub record BrokeOff (old new : Store) (meant : Unified) (e : Full) : Type 0 where
+  pub cause : UnifyFull old meant e
+  pub binds : OnlyBinds old.state new.state
+  pub made : Substitution
+  pub further : Substitution
+  pub grown : new.state.subst ≡ made ++ old.state.subst
+  pub within : meant.subst ≡ further ++ new.state.subst
+
 -- What came of a unification is what is meant, or one of these.
 abbrev pub Follows : Store → Store → Unified → Result Bool Full → Type 0
 Follows old new meant (Ok agreed) = Does old new meant agreed
-Follows old new meant (Err e) = UnifyFull old meant e
+Follows old new meant (Err e) = BrokeOff old new meant e

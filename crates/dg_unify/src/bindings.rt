@@ -1,5 +1,6 @@
 // What a store of bindings does.
 
+use crate::parts::Wait;
 use dg_base::Simple;
 use thiserror::Error;
 
@@ -41,11 +42,13 @@ pub enum Full {
 
 /// Values with variables, and what these are bound to.
 pub trait Bindings {
-    ghost use Rattle.std.specs.Prelude.{◌≡◌, ℕ, ◌+◌, ◌*◌, ◌<◌, ◌≤◌, List, [], ◌∷◌, Option, Some, true, false, All, length, MatchResult, IfOk, IsOk};
+    ghost use Rattle.std.specs.Prelude.{◌≡◌, ℕ, ◌+◌, ◌*◌, ◌<◌, ◌≤◌, List, [], ◌∷◌, ◌++◌, Option, Some, true, false, All, length, MatchResult, IfOk, IsOk};
     ghost use Rattle.std.specs.List.{slice_get};
     ghost use Rattle.dg_meaning.specs.Values.{Label, Unknown, Closure, Value, Var, Node, Values, leaf, pair};
     ghost use Rattle.dg_meaning.specs.Substitutions.{walk, resolved, contains, IsSubstitution};
-    ghost use Rattle.dg_unify.specs.Store.{State, Store, Saved, told, told_parts, Holds, Kept, Fresh, Made, HeapFull, Charged, label_of, Shows, part_at, IsPart, IsClosureAt, IsUnknownAt, MayBind, Bound, TrailFull, marked, Back};
+    ghost use Rattle.dg_unify.specs.Store.{State, Store, Saved, told, told_parts, Holds, Kept, Fresh, Made, HeapFull, Charged, label_of, is_single, Shows, part_at, IsPart, IsClosureAt, IsUnknownAt, MayBind, Bound, TrailFull, marked, Back};
+    ghost use Rattle.dg_unify.specs.Waits.{TakesUp};
+    ghost use Rattle.dg_unify.specs.declared.parts.Wait.{Wait};
     ghost use Rattle.dg_unify.specs.declared.bindings.Ref.{Ref};
 
     /// What it stands for.
@@ -53,6 +56,9 @@ pub trait Bindings {
 
     /// Marks that stand, each with what it gives back, the newest first.
     ghost saves: { Self → List Saved → Type 0 };
+
+    /// What waits, the newest first.
+    ghost waits: { Self → List Wait };
 
     /// A new variable, which takes one of the heap.
     fn fresh(&mut self) -> Result<Ref, Full>
@@ -123,6 +129,7 @@ pub trait Bindings {
     fn bind(&mut self, var: Ref, to: Ref) -> Result<(), Full>
         requires { MayBind (meaning self.old) var to }
         ensures kept { Kept (meaning self.old) (meaning self.new) }
+        ensures waits { waits self.new ≡ waits self.old }
         ensures saved { (ms : List Saved) → saves self.old ms → saves self.new ms }
         ensures made { (x : ℕ) → (meaning self.old).value var ≡ Some (Var x) → MatchResult result (λ _. Bound (meaning self.old) (meaning self.new) x (told (meaning self.old) to)) (λ e. TrailFull (meaning self.old) (meaning self.new) x e) };
 
@@ -138,6 +145,29 @@ pub trait Bindings {
         ensures back { (s : Store) → (ms : List Saved) → saves self.old (record { mark = to; store = s } ∷ ms) → Back s (meaning self.new) }
         ensures saved { (s : Store) → (ms : List Saved) → saves self.old (record { mark = to; store = s } ∷ ms) → saves self.new (record { mark = to; store = s } ∷ ms) };
 
+    /// How many wait.
+    fn waiting(&self) -> usize
+        ensures { result ≡ length (waits self.now) };
+
+    /// Lets one more wait. There is room for as many as there are places.
+    fn put_off(&mut self, wait: Wait)
+        requires { length (waits self.old) < (meaning self.old).places }
+        ensures same { meaning self.new ≡ meaning self.old }
+        ensures saved { (ms : List Saved) → saves self.old ms → saves self.new ms }
+        ensures waits { waits self.new ≡ wait ∷ waits self.old };
+
+    /// Takes up the newest that waits.
+    fn take_up(&mut self) -> Option<Wait>
+        ensures same { meaning self.new ≡ meaning self.old }
+        ensures saved { (ms : List Saved) → saves self.old ms → saves self.new ms }
+        ensures taken { TakesUp (waits self.old) (waits self.new) result };
+
+    /// Drops what waits, but for so many, the oldest.
+    fn forget(&mut self, to: usize)
+        ensures same { meaning self.new ≡ meaning self.old }
+        ensures saved { (ms : List Saved) → saves self.old ms → saves self.new ms }
+        ensures waits { (above base : List Wait) → waits self.old ≡ above ++ base → length base ≡ to → waits self.new ≡ base };
+
     /// What is bound is a substitution.
     ghost sound: { (s : Self) → IsSubstitution (meaning s).state.subst };
 
@@ -146,6 +176,9 @@ pub trait Bindings {
 
     /// Of two variables the younger has the greater number in its Ref.
     ghost younger: { (s : Self) (r q : Ref) (m n : ℕ) → (meaning s).value r ≡ Some (Var m) → (meaning s).value q ≡ Some (Var n) → r.0 < q.0 → m < n };
+
+    /// A variable, and a value with parts, stands at one of the places.
+    ghost placed: { (s : Self) (r : Ref) (v : Value) → (meaning s).value r ≡ Some v → is_single v ≡ false → r.0 < (meaning s).places };
 
     /// No mark at all stands always.
     ghost starts: { (s : Self) → saves s [] };

@@ -3,6 +3,7 @@
 
 mod bindings;
 mod fence;
+mod finding;
 mod known;
 mod links;
 mod list;
@@ -13,7 +14,7 @@ mod slots;
 mod unifying;
 
 pub use bindings::{Bindings, Full, Mark, Ref, View};
+pub use finding::is_open;
 pub use list::ListBindings;
-pub use parts::{Front, Parts, inner, split, variable_of};
-pub use seen::Seen;
+pub use parts::{Parts, Wait};
 pub use unifying::unify;

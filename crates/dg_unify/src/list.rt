@@ -1,6 +1,6 @@
 // A store that grows.
 
-ghost use Rattle.std.specs.Prelude.{◌≡◌, ◌&&◌, ◌+◌, ◌-◌, ◌<◌, ◌≤◌, List, [], Option, Some, None, MatchResult, length, reverse, true};
+ghost use Rattle.std.specs.Prelude.{vec_capacity, ◌≡◌, ◌&&◌, ◌+◌, ◌-◌, ◌<◌, ◌≤◌, List, [], Option, Some, None, MatchResult, length, reverse, true};
 ghost use Rattle.dg_unify.specs.Store.{trail_for};
 ghost use Rattle.dg_unify.specs.Linked.{log_of, vars_of};
 ghost use Rattle.dg_unify.specs.Slots.{AreSound, Stand, store_of};
@@ -12,6 +12,7 @@ ghost use Rattle.dg_unify.specs.declared.slots.Slot.TheVariants as slot;
 use crate::bindings::{Bindings, Full, Mark, Ref, View};
 use crate::fence::Fence;
 use crate::links::Links;
+use crate::parts::Wait;
 use crate::room::{captured_at, letter_at, place_for, push_captured, push_letters, trail_for};
 use crate::slots::{FIRST_SIMPLE, Slot, number_of, simple_at};
 use dg_base::Simple;
@@ -28,7 +29,9 @@ pub struct ListBindings {
     heap_limit: u32,
     trail_limit: u32,
     fence: Fence,
+    waits: Vec<Wait>,
     ghost sound: { AreSound (record { slots = slots.items; log = log_of links; vars = vars_of links; since = since; heap = heap; trail = trail; heap_limit = heap_limit; trail_limit = trail_limit }) } by { are_sound_prop (record { slots = slots.items; log = log_of links; vars = vars_of links; since = since; heap = heap; trail = trail; heap_limit = heap_limit; trail_limit = trail_limit }) },
+    ghost spacious: { length slots.items ≤ vec_capacity waits },
     ghost fenced: { IsFenced slots.items (reverse (log_of links)) (vars_of links) fence } by { is_fenced_prop slots.items (reverse (log_of links)) (vars_of links) fence },
 }
 
@@ -56,6 +59,7 @@ impl ListBindings {
                 vars: 0,
                 reach: 0,
             },
+            waits: Vec::new(alloc),
         }
     }
 
@@ -185,6 +189,7 @@ impl ListBindings {
         requires { MayLink (fields_of self.old) var to }
         ensures kept { Kept (store_of true (fields_of self.old)) (store_of true (fields_of self.new)) }
         ensures saved { (ms : List Saved) → Stand true (fields_of self.old) ms → Stand true (fields_of self.new) ms }
+        ensures waits { self.new.waits ≡ self.old.waits }
         ensures made { MatchResult result (λ _. Bound (store_of true (fields_of self.old)) (store_of true (fields_of self.new)) var (told_in (fields_of self.old) to)) (λ e. TrailFull (store_of true (fields_of self.old)) (store_of true (fields_of self.new)) var e) }
     {
         let more = trail_for(self.since, var);
@@ -205,17 +210,21 @@ impl ListBindings {
 
 impl Bindings for ListBindings {
     ghost use Rattle.dg_unify.specs.Listed.{fields_of};
-    ghost use Rattle.dg_unify.specs.Laws.{slots_younger, saves_drops};
+    ghost use Rattle.dg_unify.specs.Laws.{slots_younger, slots_placed, saves_drops};
 
     ghost meaning = { λ s. store_of true (fields_of s) };
 
     ghost saves = { λ s ms. Stand true (fields_of s) ms };
+
+    ghost waits = { λ s. reverse s.waits.items };
 
     ghost sound = { λ s. s.sound.fits.sound };
 
     ghost within = { λ s. s.sound.heap_fits };
 
     ghost younger = { λ s. slots_younger s.slots.items (reverse (log_of s.links)) (vars_of s.links) s.sound.fits };
+
+    ghost placed = { λ s r v h k. slots_placed s.slots.items r v h k };
 
     ghost starts = { λ s. tt };
 
@@ -226,7 +235,7 @@ impl Bindings for ListBindings {
             return Err(Full::Heap);
         }
         let fence = self.fence.for_new(self.fence_now());
-        match place_for(&mut self.slots, 1) {
+        match place_for(&mut self.slots, &mut self.waits, 1) {
             Err(e) => Err(e),
             Ok(at) => {
                 let number = self.links.vars();
@@ -250,7 +259,7 @@ impl Bindings for ListBindings {
             return Err(Full::Heap);
         }
         let constant = self.are_constant(head, tail);
-        match place_for(&mut self.slots, 1) {
+        match place_for(&mut self.slots, &mut self.waits, 1) {
             Err(e) => Err(e),
             Ok(at) => {
                 self.slots.push_reserved(Slot::Pair(head, tail, constant));
@@ -265,7 +274,7 @@ impl Bindings for ListBindings {
         if self.heap_limit - self.heap < 3 + count {
             return Err(Full::Heap);
         }
-        match place_for(&mut self.slots, 1 + captured.len()) {
+        match place_for(&mut self.slots, &mut self.waits, 1 + captured.len()) {
             Err(e) => Err(e),
             Ok(at) => {
                 self.slots.push_reserved(Slot::Closure(place, count as u16));
@@ -281,7 +290,7 @@ impl Bindings for ListBindings {
         if self.heap_limit - self.heap < 3 + 3 * count {
             return Err(Full::Heap);
         }
-        match place_for(&mut self.slots, 1 + spelling.len()) {
+        match place_for(&mut self.slots, &mut self.waits, 1 + spelling.len()) {
             Err(e) => Err(e),
             Ok(at) => {
                 self.slots.push_reserved(Slot::Unknown(count as u16));
@@ -366,5 +375,21 @@ impl Bindings for ListBindings {
             vars: to.vars,
             reach: to.vars,
         };
+    }
+
+    fn waiting(&self) -> usize {
+        self.waits.len()
+    }
+
+    fn put_off(&mut self, wait: Wait) {
+        self.waits.push_reserved(wait);
+    }
+
+    fn take_up(&mut self) -> Option<Wait> {
+        self.waits.pop()
+    }
+
+    fn forget(&mut self, to: usize) {
+        self.waits.truncate(to);
     }
 }

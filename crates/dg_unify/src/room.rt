@@ -1,26 +1,34 @@
 // Room for slots, what is written there, and what a binding takes of the trail.
 
-ghost use Rattle.std.specs.Prelude.{◌≡◌, ◌+◌, ◌<◌, ◌≤◌, ◌⊎◌, ◌++◌, OnOk, OnErr, IfOk, IfErr, length, vec_len, vec_capacity};
+ghost use Rattle.std.specs.Prelude.{◌≡◌, ◌+◌, ◌<◌, ◌≤◌, ◌++◌, OnOk, IfOk, IfErr, length, vec_len, vec_capacity};
 ghost use Rattle.dg_unify.specs.Store.{trail_for as taken_for};
 ghost use Rattle.std.specs.List.{slice_get};
 ghost use Rattle.dg_unify.specs.Slots.{captured_slots, letter_slots, captured_of, letter_slot};
 ghost use Rattle.dg_unify.specs.declared.bindings.Full.TheVariants as full;
 
 use crate::bindings::{Full, Ref};
+use crate::parts::Wait;
 use crate::slots::{FIRST_SIMPLE, Slot};
 
-/// The place of the next slot, where there is room for so many. A place is a number below `FIRST_SIMPLE`.
-pub fn place_for(slots: &mut Vec<Slot>, count: usize) -> Result<u32, Full>
-    requires { vec_len slots.old ≤ 2147483648 }
+/// The place of the next slot, where there is room for so many, and as many may wait as there are then. A place is a
+/// number below `FIRST_SIMPLE`.
+pub fn place_for(slots: &mut Vec<Slot>, waits: &mut Vec<Wait>, count: usize) -> Result<u32, Full>
+    requires within { vec_len slots.old ≤ 2147483648 }
+    requires spacious { vec_len slots.old ≤ vec_capacity waits.old }
     ensures items { slots.new.items ≡ slots.old.items }
+    ensures waits { waits.new.items ≡ waits.old.items }
     ensures place { IfOk result (λ at. at ≡ vec_len slots.old) }
     ensures within { OnOk result (vec_len slots.old + count ≤ 2147483648) }
     ensures room { OnOk result (vec_len slots.new + count ≤ vec_capacity slots.new) }
+    ensures spacious { OnOk result (vec_len slots.old + count ≤ vec_capacity waits.new) }
+    ensures as_before { vec_len slots.old ≤ vec_capacity waits.new }
     ensures err { IfErr result (λ e. e ≡ full.OutOfMemory) }
-    ensures full { OnErr result ((2147483648 < vec_len slots.old + count) ⊎ (vec_capacity slots.old < vec_len slots.old + count)) }
 {
     let at = slots.len();
     if count > FIRST_SIMPLE as usize - at {
+        return Err(Full::OutOfMemory);
+    }
+    if waits.capacity() < at + count && waits.reserve(at + count).is_err() {
         return Err(Full::OutOfMemory);
     }
     match slots.reserve(count) {

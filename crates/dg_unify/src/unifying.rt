@@ -1,17 +1,19 @@
 // The unification of two values of a store.
 
-ghost use Rattle.std.specs.Prelude.{◌≡◌, ℕ, List, Some, Ok, true, ◌&&◌};
+ghost use Rattle.std.specs.Prelude.{◌≡◌, ℕ, List, [], Some, ◌&&◌, length};
 ghost use Rattle.dg_meaning.specs.Values.{Label, Var, Node, Values};
 ghost use Rattle.dg_meaning.specs.Substitutions.{walk};
 ghost use Rattle.dg_meaning.specs.Unify.{same_label, as_many, side_by_side, Binds, binds, ties, same_spelling, solve as solved, unify as unified};
 ghost use Rattle.dg_unify.specs.Store.{Saved, told, Holds, Kept, label_of, Shows, IsClosureAt, IsUnknownAt, MayBind, Follows};
-ghost use Rattle.dg_unify.specs.Parts.{AreIn, values_of};
+ghost use Rattle.dg_unify.specs.Parts.{AreIn, values_of, IsOpened};
+ghost use Rattle.dg_unify.specs.Waits.{HasRoom};
 ghost use Rattle.dg_unify.specs.Known.{AreEqual};
-ghost use Rattle.dg_unify.specs.Turns.{IsUnbound, FollowsTurn, TurnsInto, IsFirstOf, Compares, is_nothing as no_parts, met_of};
+ghost use Rattle.dg_unify.specs.Turns.{IsUnbound, FollowsTurn, TurnsInto, IsFirstOf, Compares, met_of};
 
 use crate::bindings::{Bindings, Full, Ref, View};
+use crate::finding::{put_behind, stands_in};
 use crate::known::Known;
-use crate::parts::{Parts, inner, split, stands_in, variable_of};
+use crate::parts::{Parts, Wait, inner, split, variable_of};
 use dg_base::Simple;
 
 /// How two values met: nothing is left, or the parts of both are.
@@ -21,14 +23,13 @@ pub enum Met {
     Goes(Parts, Parts),
 }
 
-/// The first two of some values, the others, and whether there are no others.
+/// The first two of some values, and the others.
 #[derive(Clone, Copy)]
 pub struct First {
     pub a: Ref,
     pub b: Ref,
     pub p: Parts,
     pub q: Parts,
-    pub last: bool,
 }
 
 // Whether two values without parts are the same.
@@ -157,6 +158,7 @@ fn link<B: Bindings>(store: &mut B, var: Ref, to: Ref) -> Result<bool, Full>
     requires { MayBind (B.meaning store.old) var to }
     ensures kept { Kept (B.meaning store.old) (B.meaning store.new) }
     ensures saved { (ms : List Saved) → B.saves store.old ms → B.saves store.new ms }
+    ensures waits { B.waits store.new ≡ B.waits store.old }
     ensures follows { (n : ℕ) → (B.meaning store.old).value var ≡ Some (Var n) → FollowsTurn (B.meaning store.old) (B.meaning store.new) (Binds n (walk (B.meaning store.old).state.subst (told (B.meaning store.old) to))) result }
 {
     match store.bind(var, to) {
@@ -171,6 +173,7 @@ fn tie<B: Bindings>(store: &mut B, x: Ref, y: Ref) -> Result<bool, Full>
     requires y_in { IsUnbound (B.meaning store.old) y }
     ensures kept { Kept (B.meaning store.old) (B.meaning store.new) }
     ensures saved { (ms : List Saved) → B.saves store.old ms → B.saves store.new ms }
+    ensures waits { B.waits store.new ≡ B.waits store.old }
     ensures follows { (m n : ℕ) → (B.meaning store.old).value x ≡ Some (Var m) → (B.meaning store.old).value y ≡ Some (Var n) → FollowsTurn (B.meaning store.old) (B.meaning store.new) (ties m n) result }
 {
     if x.0 == y.0 {
@@ -187,8 +190,10 @@ fn tie<B: Bindings>(store: &mut B, x: Ref, y: Ref) -> Result<bool, Full>
 fn point<B: Bindings>(store: &mut B, x: Ref, to: Ref) -> Result<bool, Full>
     requires x_in { IsUnbound (B.meaning store.old) x }
     requires to_in { Holds (B.meaning store.old) to }
+    requires room { HasRoom (B.meaning store.old) (length (B.waits store.old)) to }
     ensures kept { Kept (B.meaning store.old) (B.meaning store.new) }
     ensures saved { (ms : List Saved) → B.saves store.old ms → B.saves store.new ms }
+    ensures waits { B.waits store.new ≡ B.waits store.old }
     ensures follows { (n : ℕ) → (B.meaning store.old).value x ≡ Some (Var n) → FollowsTurn (B.meaning store.old) (B.meaning store.new) (binds (B.meaning store.old).state.subst n (walk (B.meaning store.old).state.subst (told (B.meaning store.old) to))) result }
 {
     if stands_in(store, x, to) {
@@ -201,9 +206,12 @@ fn point<B: Bindings>(store: &mut B, x: Ref, to: Ref) -> Result<bool, Full>
 fn meet<B: Bindings>(store: &mut B, a: Ref, b: Ref) -> Result<Met, Full>
     requires a_in { Holds (B.meaning store.old) a }
     requires b_in { Holds (B.meaning store.old) b }
+    requires a_room { HasRoom (B.meaning store.old) (length (B.waits store.old)) a }
+    requires b_room { HasRoom (B.meaning store.old) (length (B.waits store.old)) b }
     ensures kept { Kept (B.meaning store.old) (B.meaning store.new) }
     ensures saved { (ms : List Saved) → B.saves store.old ms → B.saves store.new ms }
-    ensures met { TurnsInto (B.meaning store.old) (B.meaning store.new) (told (B.meaning store.old) a) (told (B.meaning store.old) b) result }
+    ensures waits { B.waits store.new ≡ B.waits store.old }
+    ensures met { TurnsInto (B.meaning store.old) (B.meaning store.new) a b result }
 {
     let v = store.walk(a);
     let w = store.walk(b);
@@ -216,16 +224,6 @@ fn meet<B: Bindings>(store: &mut B, a: Ref, b: Ref) -> Result<Met, Full>
             Some(y) => done(point(store, y, a)),
             None => Ok(compare(store, v, w)),
         },
-    }
-}
-
-// Whether there are no values.
-fn is_nothing(parts: Parts) -> bool
-    ensures { result ≡ no_parts parts }
-{
-    match parts {
-        Parts::Nothing => true,
-        _ => false,
     }
 }
 
@@ -244,7 +242,6 @@ fn first_of<B: Bindings>(store: &B, p: Parts, q: Parts) -> Option<First>
                 b: y.first,
                 p: x.rest,
                 q: y.rest,
-                last: is_nothing(x.rest),
             }),
         },
     }
@@ -254,10 +251,13 @@ fn first_of<B: Bindings>(store: &B, p: Parts, q: Parts) -> Option<First>
 fn turn<B: Bindings>(store: &mut B, a: Ref, b: Ref, known: &Known) -> Result<Met, Full>
     requires a_in { Holds (B.meaning store.old) a }
     requires b_in { Holds (B.meaning store.old) b }
+    requires a_room { HasRoom (B.meaning store.old) (length (B.waits store.old)) a }
+    requires b_room { HasRoom (B.meaning store.old) (length (B.waits store.old)) b }
     requires known_in { AreEqual (B.meaning store.old) known.now }
     ensures kept { Kept (B.meaning store.old) (B.meaning store.new) }
     ensures saved { (ms : List Saved) → B.saves store.old ms → B.saves store.new ms }
-    ensures met { TurnsInto (B.meaning store.old) (B.meaning store.new) (told (B.meaning store.old) a) (told (B.meaning store.old) b) result }
+    ensures waits { B.waits store.new ≡ B.waits store.old }
+    ensures met { TurnsInto (B.meaning store.old) (B.meaning store.new) a b result }
 {
     match meet(store, a, b) {
         Err(e) => Err(e),
@@ -271,74 +271,54 @@ fn turn<B: Bindings>(store: &mut B, a: Ref, b: Ref, known: &Known) -> Result<Met
     }
 }
 
-// Makes each of some values equal to the one at its place among others: a recursion into all but the last, which is
-// done in the loop.
-#[cycle(unify)]
-fn solve<B: Bindings>(store: &mut B, p: Parts, q: Parts, known: &mut Known) -> Result<bool, Full>
-    requires p_in { AreIn (B.meaning store.old) p }
-    requires q_in { AreIn (B.meaning store.old) q }
-    requires known_in { AreEqual (B.meaning store.old) known.old }
+// Makes each of some values equal to the one at its place among others, where these are the parts of two. The parts that
+// stand behind two others wait, and where nothing is left of these, the two are noted, so that they aren't looked through
+// again where they stand beside each other again.
+fn solve<B: Bindings>(store: &mut B, a: Ref, b: Ref, p: Parts, q: Parts) -> Result<bool, Full>
+    requires a_in { Holds (B.meaning store.old) a }
+    requires b_in { Holds (B.meaning store.old) b }
+    requires left { IsOpened (B.meaning store.old) a p }
+    requires right { IsOpened (B.meaning store.old) b q }
+    requires none_waits { B.waits store.old ≡ [] }
     ensures kept { Kept (B.meaning store.old) (B.meaning store.new) }
     ensures saved { (ms : List Saved) → B.saves store.old ms → B.saves store.new ms }
     ensures follows { Follows (B.meaning store.old) (B.meaning store.new) (solved (B.meaning store.old).state.subst (side_by_side (values_of (B.meaning store.old) p) (values_of (B.meaning store.old) q))) result }
-    ensures known { result ≡ Ok true → AreEqual (B.meaning store.new) known.new }
 {
     let mut p = p;
     let mut q = q;
+    let mut known = Known::new();
     'turns: loop {
         match first_of(store, p, q) {
-            None => return Ok(true),
-            Some(first) => {
-                if first.last {
-                    match turn(store, first.a, first.b, known) {
-                        Err(e) => return Err(e),
-                        Ok(Met::Done(agreed)) => return Ok(agreed),
-                        Ok(Met::Goes(v, w)) => {
-                            p = v;
-                            q = w;
-                        }
-                    }
-                } else {
-                    match agree(store, first.a, first.b, known) {
-                        Err(e) => return Err(e),
-                        Ok(agreed) => {
-                            if !agreed {
-                                return Ok(false);
-                            }
-                            p = first.p;
-                            q = first.q;
-                        }
-                    }
+            None => match store.take_up() {
+                None => return Ok(true),
+                Some(wait) => {
+                    known.note(wait.a, wait.b);
+                    p = wait.p;
+                    q = wait.q;
                 }
-            }
+            },
+            Some(first) => match turn(store, first.a, first.b, &known) {
+                Err(e) => return Err(e),
+                Ok(Met::Done(false)) => return Ok(false),
+                Ok(Met::Done(true)) => {
+                    p = first.p;
+                    q = first.q;
+                }
+                Ok(Met::Goes(v, w)) => {
+                    put_behind(
+                        store,
+                        Wait {
+                            a: first.a,
+                            b: first.b,
+                            p: first.p,
+                            q: first.q,
+                        },
+                    );
+                    p = v;
+                    q = w;
+                }
+            },
         }
-    }
-}
-
-// Makes two values equal. Two that have parts are noted, so that they aren't looked through again where they stand
-// beside each other again.
-#[cycle(unify)]
-fn agree<B: Bindings>(store: &mut B, a: Ref, b: Ref, known: &mut Known) -> Result<bool, Full>
-    requires a_in { Holds (B.meaning store.old) a }
-    requires b_in { Holds (B.meaning store.old) b }
-    requires known_in { AreEqual (B.meaning store.old) known.old }
-    ensures kept { Kept (B.meaning store.old) (B.meaning store.new) }
-    ensures saved { (ms : List Saved) → B.saves store.old ms → B.saves store.new ms }
-    ensures unified { Follows (B.meaning store.old) (B.meaning store.new) (unified (B.meaning store.old).state.subst (told (B.meaning store.old) a) (told (B.meaning store.old) b)) result }
-    ensures known { result ≡ Ok true → AreEqual (B.meaning store.new) known.new }
-{
-    match turn(store, a, b, known) {
-        Err(e) => Err(e),
-        Ok(Met::Done(agreed)) => Ok(agreed),
-        Ok(Met::Goes(p, q)) => match solve(store, p, q, known) {
-            Err(e) => Err(e),
-            Ok(agreed) => {
-                if agreed {
-                    known.note(a, b);
-                }
-                Ok(agreed)
-            }
-        },
     }
 }
 
@@ -351,9 +331,10 @@ pub fn unify<B: Bindings>(store: &mut B, a: Ref, b: Ref) -> Result<bool, Full>
     ensures saved { (ms : List Saved) → B.saves store.old ms → B.saves store.new ms }
     ensures unified { Follows (B.meaning store.old) (B.meaning store.new) (unified (B.meaning store.old).state.subst (told (B.meaning store.old) a) (told (B.meaning store.old) b)) result }
 {
+    store.forget(0);
     match meet(store, a, b) {
         Err(e) => Err(e),
         Ok(Met::Done(agreed)) => Ok(agreed),
-        Ok(Met::Goes(p, q)) => solve(store, p, q, &mut Known::new()),
+        Ok(Met::Goes(p, q)) => solve(store, a, b, p, q),
     }
 }

@@ -110,7 +110,7 @@ impl<'p> Engine<'p> {
     pub fn forever(&mut self, again: Frame<'p>) -> Result<bool, Full>
         requires ready { IsReady self.old }
         requires room { self.old.newest + 1 + self.old.left < 2 ^ 64 }
-        requires again { IsAgain again self.old }
+        requires again { IsAgain ForeverGoal again self.old }
         ensures done { IfOk result (λ found. Branches (TakesAt ForeverGoal self.old) found self.old self.new) }
         ensures full { IfErr result (λ e. FullAt (TakesAt ForeverGoal self.old) (store_in self.old.store) e) }
         ensures left { self.new.left ≡ self.old.left }

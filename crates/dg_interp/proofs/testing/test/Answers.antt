@@ -1,14 +1,18 @@
-use Rattle.std.proofs.Common.{sym, ◌∙◌}
+use Rattle.std.proofs.Common.{sym, ap, ◌∙◌}
+use Rattle.std.specs.Prelude.{not}
+use Rattle.dg_meaning.specs.Substitutions.{resolved}
+use Rattle.dg_meaning.specs.TypeTests.{passes}
 use Rattle.dg_unify.specs.Store.{told}
 use Rattle.dg_unify.proofs.StoreLemmas.{walked_to}
-use Rattle.dg_interp.specs.Testing.{is_open}
-use Rattle.dg_interp.proofs.TestLemmas.{passes_top}
+use Rattle.dg_interp.proofs.TestLemmas.{full_value, passes_top}
 use Rattle.dg_interp.proofs.testing.test.Goals as goal
 
-pub returns-in_default : goal.returns-in_default
-returns-in_default g c =
+pub returns-in_default-clause-passed : goal.returns-in_default-clause-passed
+returns-in_default-clause-passed g c =
     let s = g.B.Bindings.meaning c.args.store.now in
     c.view_passes.ensures s (walked_to s c.args.value) c.walk.ensures ∙ sym (passes_top s.state.subst c.args.kind (told s c.args.value) c.in_default.not-FullyBound)
 
-pub are_full-requires-clause-seen_in : goal.are_full-requires-clause-seen_in
-are_full-requires-clause-seen_in g c = c.new.ensures (is_open (g.B.Bindings.meaning c.args.store.now))
+pub returns-in-FullyBound-clause-passed : goal.returns-in-FullyBound-clause-passed
+returns-in-FullyBound-clause-passed g c =
+    let s = g.B.Bindings.meaning c.args.store.now in
+    ap not c.is_open.ensures.found ∙ full_value (resolved s.state.subst (told s c.args.value)) ∙ ap (λ k. passes s.state.subst k (told s c.args.value)) (sym c.in-FullyBound.is)

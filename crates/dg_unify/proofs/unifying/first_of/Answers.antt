@@ -8,4 +8,4 @@ pub returns-in-None-split : goal.returns-in-None-split
 returns-in-None-split g c = none_right (g.B.Bindings.meaning c.args.store.now) c.args.p c.args.q c.in-None-split.ensures
 
 pub returns-in-Some-split : goal.returns-in-Some-split
-returns-in-Some-split g c = first_is (g.B.Bindings.meaning c.args.store.now) c.args.p c.args.q c.in-Some.x c.in-Some-split.y c.is_nothing.result c.is_nothing.ensures c.in-Some.ensures c.in-Some-split.ensures
+returns-in-Some-split g c = first_is (g.B.Bindings.meaning c.args.store.now) c.args.p c.args.q c.in-Some.x c.in-Some-split.y c.in-Some.ensures c.in-Some-split.ensures

@@ -23,7 +23,7 @@ pub returns-in-Err-unify-clause-full : goal.returns-in-Err-unify-clause-full
 returns-in-Err-unify-clause-full c =
     let old = c.args.self.now in
     equal_trail_full c.args.a.now c.args.b.now old (store_in c.write_both.new.store) c.in-Ok.left c.in-Ok.right old.store.sound.fits.sound
-    (λ program. both_among program _ _ _ _ _ _ old.refs.items c.stretch-env.result.now old.here.env (c.stretch-env.ensures ∙ ap (λ l. stretch l old.here.env) c.deref.ensures.value) (c.in-Ok.ensures.written program)) c.in-Err-unify.e c.in-Err-unify.ensures.unified
+    (λ program. both_among program _ _ _ _ _ _ old.refs.items c.stretch-env.result.now old.here.env (c.stretch-env.ensures ∙ ap (λ l. stretch l old.here.env) c.deref.ensures.value) (c.in-Ok.ensures.written program)) c.in-Err-unify.e c.in-Err-unify.ensures.unified.cause
 
 pub returns-in-Ok-true-clause-equal : goal.returns-in-Ok-true-clause-equal
 returns-in-Ok-true-clause-equal c =

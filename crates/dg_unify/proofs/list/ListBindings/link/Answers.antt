@@ -18,7 +18,7 @@ invariant_of-self c =
     let el : f'.log ≡ f.log ++ l ∷ [] = c.in-Ok.ensures.ok in
     let g = grown_links f f' (l ∷ []) refl el refl refl in
     let sound = link_sound f f' c.args.var c.args.to c.args.self.now.sound c.requires g c.bind.ensures.vars refl (omega (arith, c.args.self.now.sound.trail_fits)) in
-    record { sound = sound; fenced = fence_linked f f' c.args.self.now.fence c.fence_now.result c.for_link-fence.result l c.top_of.result sound g c.bind.ensures.vars c.top_of.ensures (rw c.bind.ensures.vars c.fence_now.ensures) c.for_link-fence.ensures c.args.self.now.fenced }
+    record { sound = sound; spacious = c.args.self.now.spacious; fenced = fence_linked f f' c.args.self.now.fence c.fence_now.result c.for_link-fence.result l c.top_of.result sound g c.bind.ensures.vars c.top_of.ensures (rw c.bind.ensures.vars c.fence_now.ensures) c.for_link-fence.ensures c.args.self.now.fenced }
 
 pub returns-in-Ok-clause-kept : goal.returns-in-Ok-clause-kept
 returns-in-Ok-clause-kept c =

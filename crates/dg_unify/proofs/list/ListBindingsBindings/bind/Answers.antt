@@ -1,4 +1,4 @@
-use Rattle.std.proofs.Common.{true}
+use Rattle.std.proofs.Common.{true, ap, reverse}
 use Rattle.dg_unify.specs.Slots.{store_of}
 use Rattle.dg_unify.specs.Listed.{fields_of}
 use Rattle.dg_unify.proofs.Stores.{bind_links, bind_var, bind_is_var, bind_made}
@@ -13,3 +13,6 @@ returns-in-Var-clause-made c = λ x hx.
 
 pub returns-in_default : goal.returns-in_default
 returns-in_default c = absurd (bind_is_var true (fields_of c.args.self.now) c.args.var c.args.to c.requires c.index.result.now c.index.ensures c.in_default.not-Var)
+
+pub returns-in-Var-clause-waits : goal.returns-in-Var-clause-waits
+returns-in-Var-clause-waits c = ap (λ v. reverse v.items) c.link.ensures.waits

@@ -1,4 +1,4 @@
-use Rattle.std.proofs.Common.{rules, ◌≡◌, ◌+◌, arith, length, Some, ◌∙◌, List, [], ◌∷◌, ◌++◌, refl, ap, true, append_assoc}
+use Rattle.std.proofs.Common.{rules, ◌≡◌, ◌+◌, arith, length, Some, ◌∙◌, List, [], ◌∷◌, ◌++◌, refl, ap, true, append_assoc, length-append}
 use Rattle.std.proofs.lemmas.Grind.{common_steps}
 use Rattle.dg_meaning.specs.Values.{Value, Node, Closure}
 use Rattle.dg_unify.specs.Store.{told_parts}
@@ -24,6 +24,7 @@ invariant_of-self-in-Ok c =
     let value : value_in f'.slots (length f.slots) ≡ Some v = closure_at f.slots f'.slots c.args.place (length c.args.captured.now) c.args.captured.now (length f.slots) es refl refl (omega (arith, c.in-Ok.ensures.within)) c.requires.captured_in in
     record {
       sound = value_sound f f' (slot.Closure c.args.place (length c.args.captured.now)) (captured_slots c.args.captured.now) v c.args.self.now.sound g (c.requires.few, plain_captured c.args.captured.now) (inner_captured c.args.captured.now) value (no_marks f.slots (slot.Closure c.args.place (length c.args.captured.now)) refl) refl (omega (arith, c.in-Ok.ensures.within, captured_length c.args.captured.now)) (omega (arith, c.args.self.now.sound.heap_fits)) refl;
+      spacious = omega (arith, ap length es, length-append f.slots extra, captured_length c.args.captured.now, c.in-Ok.ensures.spacious);
       fenced = fence_kept f f' extra c.args.self.now.fence c.args.self.now.sound g (omega arith) c.args.self.now.fenced;
     }
 

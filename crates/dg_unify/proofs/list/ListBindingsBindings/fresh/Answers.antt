@@ -1,4 +1,4 @@
-use Rattle.std.proofs.Common.{rules, ◌≡◌, ◌+◌, ◌≤◌, arith, List, [], ◌∷◌, ◌++◌, refl, true}
+use Rattle.std.proofs.Common.{rules, ◌≡◌, ◌+◌, ◌≤◌, arith, List, [], ◌∷◌, ◌++◌, refl, true, ap, length, length-append}
 use Rattle.std.proofs.lemmas.Grind.{common_steps}
 use Rattle.dg_unify.specs.Linked.{log_of, vars_of}
 use Rattle.dg_unify.specs.Slots.{Fields}
@@ -20,6 +20,7 @@ invariant_of-self-in-Ok c =
     let ev : f'.vars ≡ f.vars + 1 = search rules in
     record {
       sound = fresh_sound f f' c.args.self.now.sound g ev (omega (arith, c.in-Ok.ensures.within)) (omega (arith, c.args.self.now.sound.heap_fits)) refl;
+      spacious = omega (arith, ap length es, length-append f.slots extra, c.in-Ok.ensures.spacious);
       fenced = fence_made f f' extra c.args.self.now.fence c.fence_now.result c.for_new-fence.result c.args.self.now.sound g (omega (arith, ev)) c.fence_now.ensures c.for_new-fence.ensures c.args.self.now.fenced;
     }
 

@@ -1,4 +1,4 @@
-use Rattle.std.proofs.Common.{rules, ◌≡◌, ◌+◌, arith, length, Some, List, [], ◌∷◌, ◌++◌, refl, true}
+use Rattle.std.proofs.Common.{rules, ◌≡◌, ◌+◌, arith, length, Some, List, [], ◌∷◌, ◌++◌, refl, true, ap, length, length-append}
 use Rattle.std.proofs.lemmas.Grind.{common_steps}
 use Rattle.dg_meaning.specs.Values.{pair}
 use Rattle.dg_unify.specs.Store.{told}
@@ -23,6 +23,7 @@ invariant_of-self-in-Ok c =
     let value : value_in f'.slots (length f.slots) ≡ Some (pair (told (store_of true f) c.args.head) (told (store_of true f) c.args.tail)) = pair_at f.slots f'.slots c.args.head c.args.tail c.are_constant-constant.result (length f.slots) es refl (omega (arith, c.in-Ok.ensures.within)) c.requires.head_in c.requires.tail_in in
     record {
       sound = value_sound f f' (slot.Pair c.args.head c.args.tail c.are_constant-constant.result) [] (pair (told (store_of true f) c.args.head) (told (store_of true f) c.args.tail)) c.args.self.now.sound g (tt, tt) tt value (pair_marks f.slots c.args.head c.args.tail c.are_constant-constant.result c.are_constant-constant.ensures) refl (omega (arith, c.in-Ok.ensures.within)) (omega (arith, c.args.self.now.sound.heap_fits)) refl;
+      spacious = omega (arith, ap length es, length-append f.slots extra, c.in-Ok.ensures.spacious);
       fenced = fence_kept f f' extra c.args.self.now.fence c.args.self.now.sound g (omega arith) c.args.self.now.fenced;
     }
 

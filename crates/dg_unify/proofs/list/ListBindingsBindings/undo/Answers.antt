@@ -1,4 +1,4 @@
-use Rattle.std.proofs.Common.{◌≡◌, refl, true}
+use Rattle.std.proofs.Common.{◌≡◌, arith, refl, true}
 use Rattle.dg_unify.specs.Linked.{log_of, vars_of}
 use Rattle.dg_unify.specs.Slots.{Fields, fields_at}
 use Rattle.dg_unify.specs.Listed.{fields_of}
@@ -18,7 +18,7 @@ invariant_of-self c =
     let f' : Fields = record { slots = c.truncate.new.self.items; log = log_of c.undo.new.self; vars = vars_of c.undo.new.self; since = c.args.to.vars; heap = c.args.to.heap; trail = c.args.to.trail; heap_limit = c.args.self.now.heap_limit; trail_limit = c.args.self.now.trail_limit } in
     let e : f' ≡ fields_at f c.args.to = rw (c.truncate.ensures.items, c.undo.ensures.log, c.undo.ensures.vars) refl in
     let sound = undone_sound true f f' c.args.to c.requires.0 c.requires.1 e c.requires.2 in
-    record { sound = sound; fenced = fence_undone f f' c.args.to c.requires.0 c.requires.1 e c.requires.2 }
+    record { sound = sound; spacious = omega (arith, c.truncate.ensures.len, c.args.self.now.spacious); fenced = fence_undone f f' c.args.to c.requires.0 c.requires.1 e c.requires.2 }
 
 pub returns-clause-back : goal.returns-clause-back
 returns-clause-back c = λ s ms h.

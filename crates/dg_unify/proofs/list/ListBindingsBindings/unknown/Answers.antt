@@ -1,4 +1,4 @@
-use Rattle.std.proofs.Common.{rules, ◌≡◌, ◌+◌, ◌*◌, arith, length, Some, ◌∙◌, List, [], ◌∷◌, ◌++◌, refl, ap, true, append_assoc}
+use Rattle.std.proofs.Common.{rules, ◌≡◌, ◌+◌, ◌*◌, arith, length, Some, ◌∙◌, List, [], ◌∷◌, ◌++◌, refl, ap, true, append_assoc, ap, length-append}
 use Rattle.std.proofs.lemmas.Grind.{common_steps}
 use Rattle.dg_meaning.specs.Values.{Unknown, leaf}
 use Rattle.dg_unify.specs.Linked.{log_of, vars_of}
@@ -22,6 +22,7 @@ invariant_of-self-in-Ok c =
     let value : value_in f'.slots (length f.slots) ≡ Some (leaf (Unknown c.args.spelling.now)) = word_at f.slots f'.slots (length c.args.spelling.now) c.args.spelling.now (length f.slots) es refl refl (omega (arith, c.in-Ok.ensures.within)) in
     record {
       sound = value_sound f f' (slot.Unknown (length c.args.spelling.now)) (letter_slots c.args.spelling.now) (leaf (Unknown c.args.spelling.now)) c.args.self.now.sound g (c.requires.short, plain_letters c.args.spelling.now) (inner_letters c.args.spelling.now) value (no_marks f.slots (slot.Unknown (length c.args.spelling.now)) refl) refl (omega (arith, c.in-Ok.ensures.within, letters_length c.args.spelling.now)) (omega (arith, c.args.self.now.sound.heap_fits)) refl;
+      spacious = omega (arith, ap length es, length-append f.slots extra, letters_length c.args.spelling.now, c.in-Ok.ensures.spacious);
       fenced = fence_kept f f' extra c.args.self.now.fence c.args.self.now.sound g (omega arith) c.args.self.now.fenced;
     }
 

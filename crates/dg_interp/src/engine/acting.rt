@@ -1,0 +1,47 @@
+// Goals that neither print nor end the run.
+ghost use Rattle.std.specs.Prelude.{◌≡◌, ◌+◌, ◌<◌, ◌^◌, [], ◌∷◌, IfOk, IfErr};
+ghost use Rattle.dg_base.specs.declared.program.Goal.{out-Goal};
+ghost use Rattle.dg_meaning.specs.Built.{AreBuilt, IsBuiltGoal};
+ghost use Rattle.dg_interp.specs.Engine.{IsReady, TakesAt, Branches, FullAt, IsAct, IsAgain, store_in};
+
+use super::Engine;
+use crate::frames::{Frame, Query};
+use dg_base::Goal;
+use dg_unify::Full;
+
+impl<'p> Engine<'p> {
+    /// Does a goal that was taken from this frame; false where the run has failed.
+    pub fn act(&mut self, goal: &'p Goal, again: Frame<'p>) -> Result<bool, Full>
+        requires ready { IsReady self.old }
+        requires room { self.old.newest + 1 + self.old.left < 2 ^ 64 }
+        requires built { AreBuilt (goal.now ∷ []) }
+        requires form { IsBuiltGoal goal.now }
+        requires act { IsAct (out-Goal goal.now) }
+        requires again { IsAgain goal.now again self.old }
+        ensures done { IfOk result (λ found. Branches (TakesAt goal.entry.now self.old) found self.old self.new) }
+        ensures full { IfErr result (λ e. FullAt (TakesAt goal.entry.now self.old) (store_in self.old.store) e) }
+        ensures left { self.new.left ≡ self.old.left }
+    {
+        match goal {
+            Goal::Equal(a, b) => self.equal(a, b),
+            Goal::Test(kind, term) => self.test(*kind, term),
+            Goal::Ask(pred, args, many) => {
+                let query = Query {
+                    pred: *pred,
+                    many: *many,
+                };
+                self.ask(query, args.as_slice())
+            }
+            Goal::Either(lists) => self.either(lists.as_slice()),
+            Goal::Once(goals) => self.once(goals.as_slice()),
+            Goal::Not(goals) => self.not(goals.as_slice()),
+            Goal::If(test, first, other) => {
+                self.branch(test.as_slice(), first.as_slice(), other.as_slice())
+            }
+            Goal::Forever => self.forever(again),
+            Goal::Just => Ok(self.just()),
+            Goal::Fail => self.fail(),
+            _ => unreachable!(),
+        }
+    }
+}
