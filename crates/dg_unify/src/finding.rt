@@ -139,6 +139,9 @@ pub fn stands_in<B: Bindings>(store: &mut B, x: Ref, at: Ref) -> bool
     ensures waits { B.waits store.new ≡ B.waits store.old }
     ensures found { (n : ℕ) → (B.meaning store.old).value x ≡ Some (Var n) → result ≡ contains n (resolved (B.meaning store.old).state.subst (told (B.meaning store.old) at)) }
 {
+    if store.is_clear(x, at) {
+        return false;
+    }
     finds(store, Some(x), at)
 }
 
