@@ -13,9 +13,12 @@ pub mod Path
 pub mod Render
 pub mod Selection
 pub mod Choosing
+pub mod ValueCells
+pub mod Facts
 pub mod Moves
 pub mod Search
 pub mod Transcript
+pub mod Growth
 pub mod Bindings
 pub mod OneRun
 pub mod Peaks

@@ -1,0 +1,6 @@
+pub mod ListsLemmas
+pub mod FactsLemmas
+pub mod TablesLemmas
+pub mod ChangeLemmas
+pub mod StartLemmas
+pub mod StartedLemmas

@@ -1,0 +1,4 @@
+pub mod Lists
+pub mod Tables
+pub mod Starts
+pub mod Worlds
