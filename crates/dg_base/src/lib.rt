@@ -15,6 +15,8 @@ mod sinks;
 mod sources;
 mod traits;
 mod tree;
+mod typing;
+mod units;
 mod writing;
 
 pub use cells::{Cell, Simple};
@@ -37,4 +39,6 @@ pub use sources::{ByteSource, SureSource};
 pub use sqlite_items::{Boxed, Items};
 pub use traits::{Failed, Shelf, ShelfFault, Sink, Source, StoreFault};
 pub use tree::{Arm, Body, Head, Item, ItemBody, NowChange, Part, Stmt, Tree, Value};
+pub use typing::{EXTRA, find_place, typed};
+pub use units::{Unit, unit_at};
 pub use writing::{WriteFault, write_all, write_both, write_pieces};

@@ -1,7 +1,7 @@
 // Encodings that the Inform 6 compiler lists.
 use std::process::Abort;
 use std::test::Fail;
-use z_code::{Decoded, decode, decode_op, encode_op};
+use z_code::{decode, decode_op, encode_op};
 use z_model::{Branch, Extended, Form, Instr, One, Op, Operand, Operands, Several, Two, Zero};
 
 const NONE: Operand = Operand::Small(0);
@@ -59,7 +59,10 @@ fn branching(op: Op, when: bool, offset: i16, short: bool) -> Op {
 // Whether these bytes are this instruction, and no more.
 fn decodes(rt: &impl Abort, bytes: &[u8], instr: Instr, op: Op) -> Result<(), Fail> {
     let end = bytes.len();
-    assert_eq!(rt; decode(bytes, 0), Ok(Decoded { instr, op, end }));
+    let found = decode(bytes, 0)?;
+    assert_eq!(rt; found.row.instr, instr);
+    assert_eq!(rt; found.op, op);
+    assert_eq!(rt; found.end, end);
     assert_eq!(rt; decode_op(bytes, 0), Ok((op, end)));
     Ok(())
 }

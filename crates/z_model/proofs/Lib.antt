@@ -9,6 +9,6 @@ pub mod Completed
 pub mod CompletedForms
 pub mod Ends
 pub mod NoInstruction
-pub mod Places
 pub mod Kept
 pub mod Standing
+pub mod Worked

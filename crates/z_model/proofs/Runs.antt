@@ -1,6 +1,7 @@
 -- Runs in pieces, and what they print.
 use Rattle.std.proofs.Common.{◌≡◌, ℕ, zero, suc, ◌+◌, List, [], ◌∷◌, ◌++◌, Option, Result, Ok, Err, refl, sym, ap, ◌∙◌, arith, append_assoc}
 use Rattle.std.proofs.lemmas.List.{append-nil}
+use Rattle.dg_base.specs.Begins.{Begins}
 use Rattle.z_model.specs.declared.fault.ZFault.{ZFault}
 use Rattle.z_model.specs.declared.end.Halt.{Halt}
 use Rattle.z_model.specs.declared.end.Halt.TheVariants.{AtQuit, AtInput, AtFault}
@@ -16,7 +17,7 @@ use Rattle.z_model.specs.Text.{string_at, text_bytes}
 use Rattle.z_model.specs.Zscii.{code_bytes}
 use Rattle.std.specs.Prelude.{encode_utf8}
 use Rattle.std.specs.Fmt.{signed_decimal}
-use Rattle.z_model.specs.Laws.{then_more, Begins, RunLaws}
+use Rattle.z_model.specs.Laws.{then_more, RunLaws}
 
 halted : (more : ZState → ZRun) (halt : Halt) (s : ZState) → then_more more (record { end = end_of halt; state = s }) ≡ record { end = end_of halt; state = s }
 halted more AtQuit s = refl
@@ -37,10 +38,10 @@ sum_law w (suc k) j s =
 -- ---- the output
 
 same_begins : (xs : List ℕ) → Begins xs xs
-same_begins xs = record { more = []; is = sym (append-nil xs) }
+same_begins xs = record { behind = []; is = sym (append-nil xs) }
 
 begins_then : (xs ys zs : List ℕ) → Begins xs ys → Begins ys zs → Begins xs zs
-begins_then xs ys zs p q = record { more = p.more ++ q.more; is = q.is ∙ ap (λ (l : List ℕ). l ++ q.more) p.is ∙ append_assoc xs p.more q.more }
+begins_then xs ys zs p q = record { behind = p.behind ++ q.behind; is = q.is ∙ ap (λ (l : List ℕ). l ++ q.behind) p.is ∙ append_assoc xs p.behind q.behind }
 
 abbrev state_of : Next → ZState
 state_of (On s) = s
@@ -56,11 +57,11 @@ line_grows w s m buffer most store (byte ∷ typed) = unless_grows s (record s {
 
 effect_grows : (w : ZGiven) (s : ZState) (effect : Effect) (m : Machine) → Begins s.output (state_of (effect_on w s effect m)).output
 effect_grows w s Goes m = same_begins s.output
-effect_grows w s (PrintsCode c) m = record { more = code_bytes c; is = refl }
-effect_grows w s (PrintsUnicode c) m = record { more = encode_utf8 c; is = refl }
-effect_grows w s (PrintsNumber x) m = record { more = signed_decimal (signed_16 x); is = refl }
-effect_grows w s (PrintsText at) m = record { more = text_bytes (string_at m.memory at); is = refl }
-effect_grows w s (PrintsLine at) m = unless_grows s (shown s m (text_bytes (string_at m.memory at) ++ 10 ∷ [])) (returned w.layout m 1) (record { more = text_bytes (string_at m.memory at) ++ 10 ∷ []; is = refl })
+effect_grows w s (PrintsCode c) m = record { behind = code_bytes c; is = refl }
+effect_grows w s (PrintsUnicode c) m = record { behind = encode_utf8 c; is = refl }
+effect_grows w s (PrintsNumber x) m = record { behind = signed_decimal (signed_16 x); is = refl }
+effect_grows w s (PrintsText at) m = record { behind = text_bytes (string_at m.memory at); is = refl }
+effect_grows w s (PrintsLine at) m = unless_grows s (shown s m (text_bytes (string_at m.memory at) ++ 10 ∷ [])) (returned w.layout m 1) (record { behind = text_bytes (string_at m.memory at) ++ 10 ∷ []; is = refl })
 effect_grows w s Draws m = same_begins s.output
 effect_grows w s (Reads buffer most store) m = line_grows w s m buffer most store s.typed
 effect_grows w s Quits m = same_begins s.output

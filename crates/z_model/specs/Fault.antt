@@ -1,5 +1,5 @@
 -- The numbers and texts of the faults, which are this project's own; the standard leaves an error's report to the interpreter.
-use Rattle.std.specs.Prelude.{ℕ}
+use Rattle.std.specs.Prelude.{ℕ, List, codes}
 use Rattle.z_model.specs.declared.fault.ZFault.{ZFault}
 use Rattle.z_model.specs.declared.fault.ZFault.TheVariants.{BadOpcode, OffEnd, BadAddress, BadWrite, StackEmpty, StackFull, BadLocal, DivideByZero, BadCall, BadString, BadCharacter, BadReturn, Unsupported}
 
@@ -18,3 +18,19 @@ number_of BadString = 59
 number_of BadCharacter = 60
 number_of BadReturn = 61
 number_of Unsupported = 62
+
+-- its text, for a reader of the error
+abbrev pub text_of_fault : ZFault → List ℕ
+text_of_fault BadOpcode = codes "no such instruction"
+text_of_fault OffEnd = codes "the story ends within an instruction, or a jump leads before it"
+text_of_fault BadAddress = codes "a byte that may not be read"
+text_of_fault BadWrite = codes "a byte that may not be written"
+text_of_fault StackEmpty = codes "the routine's stack is empty"
+text_of_fault StackFull = codes "too many frames or words"
+text_of_fault BadLocal = codes "no such local variable"
+text_of_fault DivideByZero = codes "division by zero"
+text_of_fault BadCall = codes "no routine stands there"
+text_of_fault BadString = codes "a string without an end, or with an abbreviation"
+text_of_fault BadCharacter = codes "a character that is not printed"
+text_of_fault BadReturn = codes "a return from the opening routine"
+text_of_fault Unsupported = codes "reading into a parse buffer is not supported"

@@ -1,5 +1,6 @@
 -- What holds of every step and run: a run comes in pieces, its output only grows, the code stays, and what stands at the counter is done.
 use Rattle.std.specs.Prelude.{◌≡◌, ◌≢◌, ◌<◌, ◌≤◌, ℕ, ◌+◌, List, ◌∷◌, ◌++◌, length, drop, flat_map, All, slice_get}
+use Rattle.dg_base.specs.Begins.{Begins}
 use Rattle.z_model.specs.declared.op.Op.{Op}
 use Rattle.z_model.specs.declared.story.Layout.{Layout}
 use Rattle.z_model.specs.declared.end.ZEnd.{ZEnd}
@@ -21,11 +22,6 @@ then_more more r = by_end r.end
     by_end ends.Quit = r
     by_end ends.InputEnded = r
     by_end (ends.Broken fault at) = r
-
--- the second is the first with more behind it
-pub record Begins (old new : List ℕ) : Type 0 where
-  pub more : List ℕ
-  pub is : new ≡ old ++ more
 
 -- A run of k + j steps is one of k and then one of j, and what was printed stays.
 pub record RunLaws (w : ZGiven) (s : ZState) : Type 0 where

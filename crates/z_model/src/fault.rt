@@ -1,36 +1,25 @@
 // Why a story is broken.
-ghost use Rattle.std.specs.Prelude.{◌≡◌};
-ghost use Rattle.z_model.specs.Fault.{number_of};
+ghost use Rattle.std.specs.Prelude.{◌≡◌, Some};
+ghost use Rattle.z_model.specs.Fault.{number_of, text_of_fault};
 
-use thiserror::Error;
+use std::error::Error;
+use std::fmt;
 
-#[derive(Clone, Copy, Debug, PartialEq, Eq, Error)]
+/// Why a story is broken.
+#[derive(Clone, Copy, Debug, PartialEq, Eq)]
 pub enum ZFault {
-    #[error("no such instruction")]
     BadOpcode,
-    #[error("the story ends within an instruction, or a jump leads before it")]
     OffEnd,
-    #[error("a byte that may not be read")]
     BadAddress,
-    #[error("a byte that may not be written")]
     BadWrite,
-    #[error("the routine's stack is empty")]
     StackEmpty,
-    #[error("too many frames or words")]
     StackFull,
-    #[error("no such local variable")]
     BadLocal,
-    #[error("division by zero")]
     DivideByZero,
-    #[error("no routine stands there")]
     BadCall,
-    #[error("a string without an end, or with an abbreviation")]
     BadString,
-    #[error("a character that is not printed")]
     BadCharacter,
-    #[error("a return from the opening routine")]
     BadReturn,
-    #[error("reading into a parse buffer is not supported")]
     Unsupported,
 }
 
@@ -56,3 +45,27 @@ impl ZFault {
         }
     }
 }
+
+impl fmt::Display for ZFault {
+    ghost output = { λ fault. Some (text_of_fault fault) };
+
+    fn fmt<W: fmt::Write>(&self, f: &mut fmt::Formatter<W>) -> fmt::Result {
+        f.write_str(match self {
+            ZFault::BadOpcode => "no such instruction",
+            ZFault::OffEnd => "the story ends within an instruction, or a jump leads before it",
+            ZFault::BadAddress => "a byte that may not be read",
+            ZFault::BadWrite => "a byte that may not be written",
+            ZFault::StackEmpty => "the routine's stack is empty",
+            ZFault::StackFull => "too many frames or words",
+            ZFault::BadLocal => "no such local variable",
+            ZFault::DivideByZero => "division by zero",
+            ZFault::BadCall => "no routine stands there",
+            ZFault::BadString => "a string without an end, or with an abbreviation",
+            ZFault::BadCharacter => "a character that is not printed",
+            ZFault::BadReturn => "a return from the opening routine",
+            ZFault::Unsupported => "reading into a parse buffer is not supported",
+        })
+    }
+}
+
+impl Error for ZFault {}

@@ -18,12 +18,13 @@ ghost use Rattle.z_model.specs.Machine.{Machine};
 ghost use Rattle.z_model.specs.Laws.{RunLaws, IsLaid, KeepsCode, CodeStays, StandsOn, IsDone, IsTextless, InARow};
 ghost use Rattle.z_model.specs.declared.story.Layout.{Layout};
 
+pub use dg_base::{EXTRA, find_place};
 pub use end::{Args, Effect, Halt, ZEnd};
 pub use fault::ZFault;
 pub use op::{Branch, Form, Found, Op, Operand, OperandType, OperandTypes, Operands};
 pub use story::{Header, Layout, StoryRefusal, read_header};
 pub use table::{Extended, Instr, Kind, One, Row, Several, Two, Zero, find_row};
-pub use text::{Alphabet, EXTRA, PUNCTUATION, Reading, code_of, find_place};
+pub use text::{Alphabet, PUNCTUATION, Reading, code_of};
 
 /// What is written as an instruction of the table is decoded again, whatever stands around it; no bytes are two instructions.
 pub fn instructions_again()

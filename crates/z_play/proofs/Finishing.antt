@@ -1,5 +1,5 @@
 -- The rest of each effect.
-use Rattle.std.proofs.Common.{◌≡◌, ◌≢◌, ℕ, zero, suc, ◌+◌, ◌-◌, ◌%◌, ◌<◌, ◌≤◌, Bool, true, false, cond, eqb, ltb, List, [], ◌∷◌, length, map, Option, Some, None, Result, Ok, Err, IsOk, refl, subst, arith}
+use Rattle.std.proofs.Common.{◌≡◌, ◌≢◌, ℕ, zero, suc, ◌+◌, ◌-◌, ◌%◌, ◌<◌, ◌≤◌, Bool, true, false, cond, eqb, ltb, List, [], ◌∷◌, length, Option, Some, None, Result, Ok, Err, IsOk, refl, subst, arith}
 use Rattle.std.proofs.lemmas.List.{append-nil, length-take}
 use Rattle.z_model.specs.declared.fault.ZFault.{ZFault}
 use Rattle.z_model.specs.declared.fault.ZFault.TheVariants.{BadOpcode}
@@ -13,7 +13,7 @@ use Rattle.z_model.specs.Machine.{Machine, pushed, local_set, global_set, stored
 use Rattle.std.proofs.Math.ListN.{set}
 use Rattle.z_model.specs.Memory.{Memory, guarded, is_writable, have_right, with_byte, with_bytes}
 use Rattle.z_model.specs.Flow.{returned}
-use Rattle.z_model.specs.Typed.{typed_code, typed_line, typed_left, line_within, left_within, line_limit, without_return}
+use Rattle.z_model.specs.Typed.{typed_bytes, typed_codes, typed_line, typed_left, left_within}
 use Rattle.z_model.specs.Run.{ZGiven, line_read, with_line, next_drawn}
 use Rattle.z_play.specs.Effects.{CanFinish}
 use Rattle.z_play.specs.View.{Sets}
@@ -136,7 +136,7 @@ left_less b typed = by_test (eqb b 10) (left_shorter 65535 typed)
 
 line_short : (most : ℕ) (typed : List ℕ) → length (typed_line most typed) ≤ most
 unfolding typed_line
-line_short most typed = omega (arith, length-take most (map typed_code (without_return (line_within line_limit typed))))
+line_short most typed = omega (arith, length-take most (typed_codes (typed_bytes typed)))
 
 ok_is : {A : Type 0} (r : Result A ZFault) → IsOk r → (x : A) × (r ≡ Ok x)
 ok_is (Ok x) h = (x, refl)

@@ -12,3 +12,4 @@ pub mod Going
 pub mod Loading
 pub mod Lines
 pub mod Signs
+pub mod Codes

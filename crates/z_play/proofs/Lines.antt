@@ -15,7 +15,8 @@ use Rattle.z_play.specs.Advancing.{RanTo, RanUnread}
 use Rattle.z_play.specs.Played.{Played, InputFailed, PrintUnwritten, OutputFailed}
 use Rattle.dg_base.proofs.WrittenLemmas.{wrote_on, broke_first}
 use Rattle.z_play.proofs.Written.{broke_after, broke_whole}
-use Rattle.z_model.specs.Laws.{Begins, then_more}
+use Rattle.dg_base.specs.Begins.{Begins}
+use Rattle.z_model.specs.Laws.{then_more}
 use Rattle.z_model.proofs.Runs.{run_laws}
 
 -- ---- the text of a line
@@ -96,9 +97,9 @@ fault_cut w s n old new after first ran cut =
 
 piece_begins : (w : ZGiven) (j : ℕ) (end : ZEnd) (s : ZState) → Begins s.output (then_more (zrun w j) (record { end = end; state = s })).state.output
 piece_begins w j ends.StepLimit s = (run_laws w s).grows j
-piece_begins w j ends.Quit s = record { more = []; is = sym (append-nil s.output) }
-piece_begins w j ends.InputEnded s = record { more = []; is = sym (append-nil s.output) }
-piece_begins w j (ends.Broken fault at) s = record { more = []; is = sym (append-nil s.output) }
+piece_begins w j ends.Quit s = record { behind = []; is = sym (append-nil s.output) }
+piece_begins w j ends.InputEnded s = record { behind = []; is = sym (append-nil s.output) }
+piece_begins w j (ends.Broken fault at) s = record { behind = []; is = sym (append-nil s.output) }
 
 -- the output of more instructions begins with that of fewer
 more_printed : (w : ZGiven) (k j : ℕ) (s : ZState) → Begins (zrun w k s).state.output (zrun w (k + j) s).state.output
@@ -111,8 +112,8 @@ print_cut w s n left old new h =
     let all : h.m + 1 + (n - (h.m + 1)) ≡ n = omega (arith, h.below) in
     let grown = subst (λ (k : ℕ). Begins (zrun w (h.m + 1) s).state.output (zrun w k s).state.output) all (more_printed w (h.m + 1) (n - (h.m + 1)) s) in
     let more = output_first r.state.output (end_line r.end) in
-    let text : played_text r ≡ (zrun w (h.m + 1) s).state.output ++ (grown.more ++ more.0) = more.1 ∙ ap (λ (l : List ℕ). l ++ more.0) grown.is ∙ append_assoc (zrun w (h.m + 1) s).state.output grown.more more.0 in
-    subst (λ (l : List ℕ). BrokeOff old new l) (sym text) (broke_first old new (zrun w (h.m + 1) s).state.output (grown.more ++ more.0) (broke_whole old new (zrun w h.m s).state.output (zrun w (h.m + 1) s).state.output h.cut))
+    let text : played_text r ≡ (zrun w (h.m + 1) s).state.output ++ (grown.behind ++ more.0) = more.1 ∙ ap (λ (l : List ℕ). l ++ more.0) grown.is ∙ append_assoc (zrun w (h.m + 1) s).state.output grown.behind more.0 in
+    subst (λ (l : List ℕ). BrokeOff old new l) (sym text) (broke_first old new (zrun w (h.m + 1) s).state.output (grown.behind ++ more.0) (broke_whole old new (zrun w h.m s).state.output (zrun w (h.m + 1) s).state.output h.cut))
 
 -- ---- the start
 

@@ -1,8 +1,8 @@
 -- A typed line, byte by byte.
-use Rattle.std.proofs.Common.{◌≡◌, ◌≢◌, ℕ, zero, suc, ◌-◌, ◌<◌, ◌≤◌, Bool, true, false, cond, eqb, List, [], ◌∷◌, ◌++◌, length, map, take, Option, Some, None, refl, sym, ap, subst, ◌∙◌, arith, append_assoc}
+use Rattle.std.proofs.Common.{◌≡◌, ◌≢◌, ℕ, zero, suc, ◌-◌, ◌<◌, ◌≤◌, Bool, true, false, cond, eqb, List, [], ◌∷◌, ◌++◌, length, take, Option, Some, None, refl, sym, ap, subst, ◌∙◌, arith, append_assoc}
 use Rattle.std.specs.Io.KnownBytes.{Consumes, IsAtEnd, Keeps}
 use Rattle.std.proofs.lemmas.Bool.{ne_eqb}
-use Rattle.z_model.specs.Typed.{typed_code, typed_line, typed_left, line_within, left_within, without_return}
+use Rattle.z_model.specs.Typed.{typed_bytes, typed_left, line_within, left_within, without_return}
 use Rattle.z_play.specs.Lines.{IsKept, StopsWithin}
 
 -- So much of a line was read: the last byte is held back, and the codes of those before it are kept.
@@ -88,11 +88,11 @@ reading_starts typed first line left is = record {
   is = is;
   line_is = refl;
   left_is = refl;
-  keeps = record { codes = sym (take_none (length line)); count = ap length (sym (take_none (length line))) };
+  keeps = record { front = sym (take_none (length line)); count = ap length (sym (take_none (length line))) };
   most = omega arith;
 }
   where
-    take_none : (n : ℕ) → take n (map typed_code []) ≡ []
+    take_none : (n : ℕ) → take {A = ℕ} n [] ≡ []
     take_none zero = refl
     take_none (suc n) = refl
 
@@ -109,21 +109,17 @@ reading_goes typed first line line' kept kept' held room byte left left' r rest 
 
 -- ---- the first byte
 
-pub typed_empty : (most : ℕ) (typed rest : List ℕ) (b : ℕ) → b ≡ 10 → typed ≡ b ∷ rest → (typed_line most typed ≡ []) × (typed_left typed ≡ rest)
-unfolding typed_line typed_left without_return
-typed_empty most typed rest b e is =
+pub typed_empty : (typed rest : List ℕ) (b : ℕ) → b ≡ 10 → typed ≡ b ∷ rest → (typed_bytes typed ≡ []) × (typed_left typed ≡ rest)
+unfolding typed_bytes typed_left without_return
+typed_empty typed rest b e is =
     let line = at_newline 65536 typed rest b (omega arith) e is in
-    (rw line.0 (none most), line.1)
-  where
-    none : (n : ℕ) → take n (map typed_code []) ≡ []
-    none zero = refl
-    none (suc n) = refl
+    (rw line.0 refl, line.1)
 
-pub typed_more : (most : ℕ) (typed rest : List ℕ) (b : ℕ) → b ≢ 10 → typed ≡ b ∷ rest → (typed_line most typed ≡ take most (map typed_code (without_return (b ∷ line_within 65535 rest)))) × (typed_left typed ≡ left_within 65535 rest)
-unfolding typed_line typed_left
-typed_more most typed rest b e is =
+pub typed_more : (typed rest : List ℕ) (b : ℕ) → b ≢ 10 → typed ≡ b ∷ rest → (typed_bytes typed ≡ without_return (b ∷ line_within 65535 rest)) × (typed_left typed ≡ left_within 65535 rest)
+unfolding typed_bytes typed_left
+typed_more typed rest b e is =
     let line = at_byte 65536 typed rest b (omega arith) e is in
-    (ap (λ (l : List ℕ). take most (map typed_code (without_return l))) line.0, line.1)
+    (ap without_return line.0, line.1)
 
 pub stops_at_first : (typed : List ℕ) (left : Option (List ℕ)) → left ≡ Some typed → StopsWithin (typed_left typed) typed left
 unfolding typed_left
@@ -131,9 +127,13 @@ stops_at_first typed left is = record { rest = typed; is = is; most = omega arit
 
 pub stops_later : (typed rest : List ℕ) (b : ℕ) (left : Option (List ℕ)) → b ≢ 10 → typed ≡ b ∷ rest → StopsWithin (left_within 65535 rest) rest left → StopsWithin (typed_left typed) typed left
 stops_later typed rest b left e is stops =
-    let line = typed_more 0 typed rest b e is in
+    let line = typed_more typed rest b e is in
     let longer : length typed ≡ suc (length rest) = ap length is in
     record { rest = stops.rest; is = stops.is; most = omega (arith, stops.most); least = subst (λ (l : List ℕ). length l ≤ length stops.rest) (sym line.1) stops.least }
 
 pub not_empty : (typed rest : List ℕ) (b : ℕ) → typed ≡ b ∷ rest → typed ≢ []
 not_empty typed rest b is none = cc
+
+pub nothing_taken : (n : ℕ) (bytes : List ℕ) → bytes ≡ [] → [] ≡ take n bytes
+nothing_taken zero bytes e = refl
+nothing_taken (suc n) bytes e = rw e refl

@@ -1,12 +1,12 @@
 -- What is taken of the typed bytes, line by line, where they are told; what a line is stands in z_model.
-use Rattle.std.specs.Prelude.{◌≡◌, ◌≢◌, ◌≤◌, ◌-◌, ℕ, List, [], ◌∷◌, length, map, take, Option, Some, None, Result, Ok, Err}
+use Rattle.std.specs.Prelude.{◌≡◌, ◌≢◌, ◌≤◌, ◌-◌, ℕ, List, [], ◌∷◌, length, take, Option, Some, None, Result, Ok, Err}
 use Rattle.dg_base.specs.declared.traits.Failed.{Failed}
-use Rattle.z_model.specs.Typed.{typed_code, typed_line, typed_left, line_within, left_within, without_return}
+use Rattle.z_model.specs.Typed.{typed_bytes, typed_left, line_within, left_within, without_return}
 
--- The codes of these bytes are kept, as many as there is room for.
+-- These bytes are kept, as many as there is room for.
 pub record IsKept (line : List ℕ) (kept : ℕ) (bytes : List ℕ) : Type 0 where
-  pub codes : take kept line ≡ take (length line) (map typed_code bytes)
-  pub count : kept ≡ length (take (length line) (map typed_code bytes))
+  pub front : take kept line ≡ take (length line) bytes
+  pub count : kept ≡ length (take (length line) bytes)
 
 -- A byte of a line is the next of the bytes left, with so many more to come.
 pub record IsNext (byte room : ℕ) (typed : List ℕ) (left : Option (List ℕ)) : Type 0 where
@@ -36,6 +36,6 @@ TakesRest (Err failed) first typed line left = StopsWithin (left_within 65535 ty
 
 -- A line is taken, where a byte is left.
 abbrev pub TakesLine : Result (Option ℕ) Failed → List ℕ → List ℕ → Option (List ℕ) → Type 0
-TakesLine (Ok (Some kept)) typed line left = (typed ≢ []) × (take kept line ≡ typed_line (length line) typed) × (left ≡ Some (typed_left typed))
+TakesLine (Ok (Some kept)) typed line left = (typed ≢ []) × (take kept line ≡ take (length line) (typed_bytes typed)) × (left ≡ Some (typed_left typed))
 TakesLine (Ok None) typed line left = (typed ≡ []) × (left ≡ Some [])
 TakesLine (Err failed) typed line left = StopsWithin (typed_left typed) typed left

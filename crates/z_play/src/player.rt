@@ -15,7 +15,7 @@ ghost use Rattle.dg_base.specs.Causes.{HasCause};
 
 use crate::engine::{Called, Engine};
 use crate::output::{write_code, write_line, write_number, write_text, write_unicode};
-use crate::typed::take_line;
+use crate::typed::{keep_codes, take_line};
 use dg_base::{Failed, Fault, Sink, Source, WriteFault, write_all, write_pieces};
 use itoa::Buffer;
 use std::alloc::{AllocError, Global};
@@ -49,7 +49,12 @@ const OPENING: Called = Called {
 };
 
 // Writes what an instruction prints.
-fn print<K: Sink>(engine: &Engine, effect: Effect, begun: bool, sink: &mut K) -> Result<bool, WriteFault>
+fn print<K: Sink>(
+    engine: &Engine,
+    effect: Effect,
+    begun: bool,
+    sink: &mut K,
+) -> Result<bool, WriteFault>
     requires { CanFinish effect engine.now.layout (machine engine.now) }
     ensures ok { OnOk result (Wrote (K.view sink.old) (K.view sink.new) (text_of effect (machine engine.now))) }
     ensures begun { IfOk result (λ now. now ≡ is_open begun (text_of effect (machine engine.now))) }
@@ -79,13 +84,16 @@ fn read_line<S: Source>(
     ensures told { (dice typed : List ℕ) (drawn : ℕ) → (S.view source.old).left ≡ Some typed → Finishes result (given_by engine.old.layout dice) (Effect.Reads buffer most store) (machine engine.old) typed drawn (machine engine.new) (S.view source.new).left drawn }
     ensures cause { HasCause (S.view source.old).faults (S.view source.new).faults result }
 {
-    let mut room = [0; 255];
-    let line = &mut room[..most as usize];
-    match take_line(source, line) {
+    let mut bytes = [0; 1024];
+    match take_line(source, &mut bytes) {
         Err(failed) => Err(failed),
         Ok(None) => Ok(Some(Halt::AtInput)),
         Ok(Some(kept)) => {
-            engine.finish_read(buffer, store, &line[..kept]).unwrap();
+            // A unit has at most four bytes, so these are enough for the codes that are kept.
+            let mut room = [0; 255];
+            let line = &mut room[..most as usize];
+            let count = keep_codes(line, &bytes[..kept]);
+            engine.finish_read(buffer, store, &line[..count]).unwrap();
             Ok(None)
         }
     }

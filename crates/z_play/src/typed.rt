@@ -1,20 +1,42 @@
 // Typed lines.
-ghost use Rattle.std.specs.Prelude.{◌≡◌, ◌<◌, ◌≤◌, ◌++◌, ◌∷◌, [], ℕ, List, Some, IfOk, IfSome, length};
-ghost use Rattle.z_model.specs.Typed.{typed_code, without_return};
+ghost use Rattle.std.specs.Prelude.{◌≡◌, ◌<◌, ◌≤◌, ◌++◌, ◌∷◌, [], ℕ, List, Some, IfOk, IfSome, length, take};
+ghost use Rattle.z_model.specs.Typed.{typed_code, typed_codes, without_return};
 ghost use Rattle.z_play.specs.Lines.{IsKept, TakesNext, TakesRest, TakesLine};
 ghost use Rattle.dg_base.specs.Causes.{HasCause};
 
-use dg_base::{Failed, Source};
+use dg_base::{Failed, Source, Unit, typed, unit_at};
+use z_model::code_of;
 
-/// The code that is kept for a typed byte.
-fn typed_code(byte: u8) -> u8
-    ensures { result ≡ typed_code byte }
+fn code_of_unit(unit: Unit) -> u8
+    ensures { result ≡ typed_code unit.character }
 {
-    match byte {
-        b'\t' => b' ',
-        b'A'..=b'Z' => byte + 32,
-        b' '..=b'~' => byte,
-        _ => b'?',
+    match unit.character {
+        None => b'?',
+        Some(c) => match typed(c) {
+            None => b'?',
+            Some(kept) => code_of(kept).unwrap_or(b'?'),
+        },
+    }
+}
+
+/// Keeps the codes of a line's units, as many as there is room for.
+pub fn keep_codes(line: &mut [u8], bytes: &[u8]) -> usize
+    ensures within { result ≤ length line.new }
+    ensures codes { take result line.new ≡ take (length line.new) (typed_codes bytes.now) }
+{
+    let mut kept = 0;
+    let mut at = 0;
+    loop {
+        if line.len() <= kept {
+            return kept;
+        }
+        if bytes.len() <= at {
+            return kept;
+        }
+        let unit = unit_at(bytes[at], &bytes[at + 1..]);
+        line[kept] = code_of_unit(unit);
+        kept += 1;
+        at += unit.size;
     }
 }
 
@@ -25,7 +47,7 @@ fn keep(line: &mut [u8], kept: usize, byte: u8) -> usize
     ensures keeps { (front : List ℕ) → IsKept line.old kept front → IsKept line.new result (front ++ byte ∷ []) }
 {
     if kept < line.len() {
-        line[kept] = typed_code(byte);
+        line[kept] = byte;
         kept + 1
     } else {
         kept
@@ -52,7 +74,7 @@ fn next_byte<S: Source>(source: &mut S, room: u32) -> Result<Option<u8>, Failed>
     Ok(Some(byte))
 }
 
-// The rest of a line behind its first byte, of which as many codes are kept as there is room for.
+// The rest of a line behind its first byte, of which as many bytes are kept as there is room for.
 fn take_rest<S: Source>(source: &mut S, line: &mut [u8], first: u8) -> Result<usize, Failed>
     ensures within { IfOk result (λ kept. kept ≤ length line.new) }
     ensures told { (typed : List ℕ) → (S.view source.old).left ≡ Some typed → TakesRest result first typed line.new (S.view source.new).left }
@@ -87,7 +109,7 @@ fn keep_last(line: &mut [u8], kept: usize, held: u8) -> usize
     }
 }
 
-/// Takes a typed line, of which as many codes are kept as there is room for; none where no byte is left.
+/// Takes a typed line, of which as many bytes are kept as there is room for; none where no byte is left.
 pub fn take_line<S: Source>(source: &mut S, line: &mut [u8]) -> Result<Option<usize>, Failed>
     ensures within { IfOk result (λ kept. IfSome kept (λ n. n ≤ length line.new)) }
     ensures told { (typed : List ℕ) → (S.view source.old).left ≡ Some typed → TakesLine result typed line.new (S.view source.new).left }

@@ -7,8 +7,8 @@ use Rattle.z_model.specs.declared.text.Alphabet.TheVariants.{Lower, Punctuation}
 use Rattle.z_model.specs.Decode.{text_end}
 use Rattle.z_model.specs.Text.{Codes, codes_of, read_character, z_characters, string_at, punctuation}
 use Rattle.z_text.specs.Encode.{code_characters, sign_characters, word_bytes, packed, is_empty, string_of, has_code, AreSmall, StringAgain}
-use Rattle.z_model.specs.Zscii.{place_of}
-use Rattle.z_model.proofs.Places.{found_at, place_within}
+use Rattle.dg_base.specs.Typed.{place_of}
+use Rattle.dg_base.proofs.Places.{found_at, place_within}
 
 pub three_front : (zs : List ℕ) (at : ℕ) → at + 3 < length zs → packed (drop at zs) ≡ word_bytes 0 (get_or zs at 0) (get_or zs (at + 1) 0) (get_or zs (at + 2) 0) ++ packed (drop (at + 3) zs)
 unfolding packed

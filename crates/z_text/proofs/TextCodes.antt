@@ -3,9 +3,10 @@ use Rattle.std.proofs.Common.{◌≡◌, ℕ, zero, suc, ◌+◌, ◌-◌, ◌/�
 use Rattle.std.specs.Prelude.{encode_utf8, ◌&&◌, ◌||◌, slice_index}
 use lib.Utf8.{encode}
 use Rattle.std.proofs.lemmas.Bool.{eqb-true, ne_eqb, lt-ltb, le-ltb, ltb-true, ltb-false, cases_lt}
-use Rattle.z_model.specs.Zscii.{code_bytes, extra}
+use Rattle.z_model.specs.Zscii.{code_bytes}
+use Rattle.dg_base.specs.Typed.{extra}
 use Rattle.z_text.specs.Encode.{has_code}
-use Rattle.z_model.specs.Zscii.{place_of, place_from}
+use Rattle.dg_base.specs.Typed.{place_of, place_from}
 use Rattle.z_text.specs.Codes.{codes_from, wide_code, wide_character, ascii_code}
 
 -- ---- the extra characters, each by computing

@@ -1,8 +1,8 @@
 -- The codes of a text, byte by byte; a character is one byte or two.
 use Rattle.std.specs.Prelude.{ℕ, ◌+◌, ◌*◌, ◌%◌, List, [], ◌∷◌, ◌++◌, ◌≡◌, flat_map, Option, Some, None, ◌==◌, nat_lt, if◌then◌else◌}
-use Rattle.z_model.specs.Zscii.{extra}
+use Rattle.dg_base.specs.Typed.{extra}
 use Rattle.z_text.specs.Encode.{code_characters}
-use Rattle.z_model.specs.Zscii.{place_of}
+use Rattle.dg_base.specs.Typed.{place_of}
 
 abbrev pub ascii_code : ℕ → ℕ
 ascii_code byte = if byte == 10 then 13 else byte

@@ -1,6 +1,7 @@
 -- How a text is written as a string (Z-Machine Standard 1.1, sections 3.2 to 3.6, read from the text to its bytes).
 use Rattle.std.specs.Prelude.{◌≡◌, ◌<◌, ◌+◌, ◌-◌, ◌*◌, ◌/◌, ◌%◌, ℕ, List, [], ◌∷◌, ◌++◌, length, flat_map, All, Option, Some, None, Bool, true, false, ◌==◌, ◌&&◌, ◌||◌, nat_lt, IsTrue, if◌then◌else◌}
-use Rattle.z_model.specs.Zscii.{code_bytes, place_of}
+use Rattle.z_model.specs.Zscii.{code_bytes}
+use Rattle.dg_base.specs.Typed.{place_of}
 use Rattle.z_model.specs.Text.{punctuation, string_at}
 
 -- a code in two Z-characters behind a shift: one of A2, or the two halves of a code of ten bits

@@ -3,3 +3,4 @@ pub use Rattle.z_model.specs.Zscii
 pub mod Walk
 pub mod Encode
 pub mod Codes
+pub mod Faults

@@ -1,18 +1,32 @@
 // Strings, read whole.
 ghost use Rattle.std.specs.Prelude.{◌≡◌, ◌<◌, length, Some, None, IfOk, IsErrOf};
 ghost use Rattle.z_model.specs.Text.{string_at};
+ghost use Rattle.z_text.specs.Faults.{text_of_text_fault};
 
 use crate::walker::Walker;
 use std::alloc::Global;
-use thiserror::Error;
+use std::error::Error;
+use std::fmt;
 
-#[derive(Clone, Copy, Debug, PartialEq, Eq, Error)]
+/// Why a string isn't read whole.
+#[derive(Clone, Copy, Debug, PartialEq, Eq)]
 pub enum TextFault {
-    #[error("a string without an end, or with an abbreviation")]
     BadString,
-    #[error("out of memory")]
     OutOfMemory,
 }
+
+impl fmt::Display for TextFault {
+    ghost output = { λ fault. Some (text_of_text_fault fault) };
+
+    fn fmt<W: fmt::Write>(&self, f: &mut fmt::Formatter<W>) -> fmt::Result {
+        f.write_str(match self {
+            TextFault::BadString => "a string without an end, or with an abbreviation",
+            TextFault::OutOfMemory => "out of memory",
+        })
+    }
+}
+
+impl Error for TextFault {}
 
 /// The codes of the string at a place, and its end.
 pub fn decode(alloc: Global, bytes: &[u8], at: usize) -> Result<(Vec<u16>, usize), TextFault>

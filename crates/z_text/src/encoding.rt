@@ -2,7 +2,7 @@
 ghost use Rattle.std.specs.Prelude.{◌≡◌, ◌<◌, ◌≤◌, ◌++◌, None, ℕ, List, length, flat_map, IfOk, IfSome, OnOk, if◌then◌else◌};
 ghost use Rattle.z_model.specs.Text.{punctuation};
 ghost use Rattle.z_text.specs.Encode.{code_characters, sign_characters, packed, word_bytes, string_of, AreSmall, IsTextOf, IsPrintable};
-ghost use Rattle.z_model.specs.Zscii.{place_of};
+ghost use Rattle.dg_base.specs.Typed.{place_of};
 ghost use Rattle.z_text.specs.Codes.{codes_from, wide_code, ascii_code, PutsByte};
 
 use std::alloc::{AllocError, Global};

@@ -1,7 +1,8 @@
 use Rattle.std.proofs.Common.{◌≡◌, ◌<◌, ◌-◌, ◌≤◌, ℕ, zero, suc, Bool, true, false, cond, ltb, List, [], ◌∷◌, get_or, refl, sym, arith}
 use Rattle.std.proofs.lemmas.Bool.{ltb-true, ne_eqb, le-ltb}
 use Rattle.std.proofs.lemmas.List.{get_or_past}
-use Rattle.z_model.specs.Zscii.{character_of, extra}
+use Rattle.z_model.specs.Zscii.{character_of}
+use Rattle.dg_base.specs.Typed.{extra}
 use Rattle.z_play.proofs.output.character_of.Goals as goal
 
 abbrev all_low : List ℕ → Bool

@@ -1,18 +1,17 @@
 use Rattle.std.proofs.Common.{rules, ◌≡◌, ◌≤◌, ℕ, List, length, take, Option, Ok, sym, ◌∙◌, ap, subst, arith}
-use Rattle.std.proofs.lemmas.List.{length-take}
 use Rattle.z_model.specs.Run.{line_read}
 use Rattle.z_model.specs.Typed.{typed_line}
 use Rattle.z_play.specs.View.{machine}
 use Rattle.z_play.specs.Lines.{TakesLine}
 use Rattle.z_play.specs.Scene.{given_by}
+use Rattle.z_play.proofs.Codes.{line_kept}
 use Rattle.z_play.proofs.Finishing.{read_ok, sets_ok, sets_given, finish_input, finish_reading, unfinished_reading}
 use Rattle.z_play.proofs.player.read_line.Goals as goal
 
 pub unwrap-requires : goal.unwrap-requires
 unwrap-requires g c =
-    let long : length c.take_line.new.line ≡ c.args.most = search rules in
-    let few : length (take c.in-Ok-Some.kept c.take_line.new.line) ≤ c.args.most = omega (arith, length-take c.in-Ok-Some.kept c.take_line.new.line) in
-    sets_ok c.finish_read.result (machine c.finish_read.new.self) _ c.finish_read.ensures.read (read_ok c.args.engine.now.layout (machine c.args.engine.now) c.args.buffer c.args.most c.args.store (take c.in-Ok-Some.kept c.take_line.new.line) c.requires.can.0 c.requires.can.1 few)
+    let few : length (take c.keep_codes-count.result c.keep_codes-count.new.line) ≤ c.args.most = search rules in
+    sets_ok c.finish_read.result (machine c.finish_read.new.self) _ c.finish_read.ensures.read (read_ok c.args.engine.now.layout (machine c.args.engine.now) c.args.buffer c.args.most c.args.store (take c.keep_codes-count.result c.keep_codes-count.new.line) c.requires.can.0 c.requires.can.1 few)
 
 pub returns-in-Err-clause-told : goal.returns-in-Err-clause-told
 returns-in-Err-clause-told g c = λ dice typed drawn told. unfinished_reading (given_by c.args.engine.now.layout dice) (machine c.args.engine.now) c.args.buffer c.args.most c.args.store typed drawn (g.S.Source.view c.take_line.new.source).left c.requires.can.0 c.requires.can.1 (c.in-Err.ensures.told typed told)
@@ -24,9 +23,12 @@ returns-in-Ok-None-clause-told g c = λ dice typed drawn told.
 
 pub returns-in-Ok-Some-clause-told : goal.returns-in-Ok-Some-clause-told
 returns-in-Ok-Some-clause-told g c = λ dice typed drawn told.
-    let long : length c.take_line.new.line ≡ c.args.most = search rules in
-    let few : length (take c.in-Ok-Some.kept c.take_line.new.line) ≤ c.args.most = omega (arith, length-take c.in-Ok-Some.kept c.take_line.new.line) in
+    let kept : List ℕ = take c.keep_codes-count.result c.keep_codes-count.new.line in
+    let few : length (take c.keep_codes-count.result c.keep_codes-count.new.line) ≤ c.args.most = search rules in
+    let long : length c.keep_codes-count.new.line ≡ c.args.most = search rules in
+    let room : length c.take_line.new.line ≡ 1024 = search rules in
     let taken = subst (λ (o : Option ℕ). TakesLine (Ok o) typed c.take_line.new.line (g.S.Source.view c.take_line.new.source).left) c.in-Ok-Some.field-0-is (c.in-Ok-Some.ensures.told typed told) in
-    let line : (take c.in-Ok-Some.kept c.take_line.new.line) ≡ typed_line c.args.most typed = taken.1 ∙ ap (λ (n : ℕ). typed_line n typed) long in
-    let given = sets_given c.finish_read.result (machine c.finish_read.new.self) _ c.finish_read.ensures.read (read_ok c.args.engine.now.layout (machine c.args.engine.now) c.args.buffer c.args.most c.args.store (take c.in-Ok-Some.kept c.take_line.new.line) c.requires.can.0 c.requires.can.1 few) in
+    let line : take c.keep_codes-count.result c.keep_codes-count.new.line ≡ typed_line c.args.most typed =
+    line_kept c.args.most (take c.keep_codes-count.result c.keep_codes-count.new.line) c.keep_codes-count.new.line c.take_line.new.line (take c.in-Ok-Some.kept c.take_line.new.line) typed c.keep_codes-count.ensures.codes long (omega arith) taken.1 room in
+    let given = sets_given c.finish_read.result (machine c.finish_read.new.self) _ c.finish_read.ensures.read (read_ok c.args.engine.now.layout (machine c.args.engine.now) c.args.buffer c.args.most c.args.store (take c.keep_codes-count.result c.keep_codes-count.new.line) c.requires.can.0 c.requires.can.1 few) in
     finish_reading (given_by c.args.engine.now.layout dice) (machine c.args.engine.now) (machine c.finish_read.new.self) c.args.buffer c.args.most c.args.store typed drawn (g.S.Source.view c.take_line.new.source).left taken.0 taken.2 (ap (λ (l : List ℕ). line_read c.args.engine.now.layout (machine c.args.engine.now) c.args.buffer c.args.store l) (sym line) ∙ given)

@@ -1,7 +1,7 @@
 use Rattle.std.proofs.Common.{sym, ◌∙◌, arith, drop}
 use Rattle.std.proofs.Math.ListN.{drop_of_length-le}
-use Rattle.z_model.proofs.Places.{place_here, place_later, place_none}
-use Rattle.z_model.proofs.text.find_place.Goals as goal
+use Rattle.dg_base.proofs.Places.{place_here, place_later, place_none}
+use Rattle.dg_base.proofs.typing.find_place.Goals as goal
 
 pub returns-then-entry-value-clause-place : goal.returns-then-entry-value-clause-place
 returns-then-entry-value-clause-place c = sym (place_here c.args.value c.args.table.now c.loop-place.place c.loop-place-test.true c.if-entry-value.true) ∙ c.loop-place.invariant
