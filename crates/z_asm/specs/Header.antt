@@ -11,7 +11,8 @@ objects = 544
 abbrev pub word_bytes : ℕ → List ℕ
 word_bytes n = (n / 256) ∷ (n % 256) ∷ []
 
--- The version; the high memory mark, which is the first instruction's address; that address; the dictionary, the object table, the globals and the static base; the length divided by 8, and the checksum.
+-- The version; the high memory mark, which is the first instruction's address; that address; the dictionary, the object table, the globals
+-- and the static base; the length divided by 8, and the checksum.
 abbrev pub header_bytes : (first dictionary base length checksum : ℕ) → List ℕ
 header_bytes first dictionary base length checksum =
     8 ∷ 0 ∷ 0 ∷ 0 ∷ (word_bytes first ++ (word_bytes first ++ (word_bytes dictionary ++ (word_bytes objects ++ (word_bytes globals ++ (word_bytes base

@@ -44,12 +44,16 @@ packed at = at / 8
 -- the bytes of the tables that are writable, or of those that aren't
 abbrev pub table_bytes : Bool → List Table → List ℕ
 table_bytes writable [] = []
-table_bytes writable (t ∷ ts) = if t.writable then (if writable then t.bytes ++ table_bytes writable ts else table_bytes writable ts) else (if writable then table_bytes writable ts else t.bytes ++ table_bytes writable ts)
+table_bytes writable (t ∷ ts) =
+    if t.writable then (if writable then t.bytes ++ table_bytes writable ts else table_bytes writable ts)
+    else (if writable then table_bytes writable ts else t.bytes ++ table_bytes writable ts)
 
 -- where the tables stand, when the writable ones begin at the first place and the others at the second
 abbrev pub table_places : ℕ → ℕ → List Table → List ℕ
 table_places here there [] = []
-table_places here there (t ∷ ts) = if t.writable then here ∷ table_places (here + length t.bytes) there ts else there ∷ table_places here (there + length t.bytes) ts
+table_places here there (t ∷ ts) =
+    if t.writable then here ∷ table_places (here + length t.bytes) there ts
+    else there ∷ table_places here (there + length t.bytes) ts
 
 -- ---- names
 

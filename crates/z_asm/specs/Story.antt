@@ -1,7 +1,9 @@
 -- The story of an image, byte by byte (Z-Machine Standard 1.1, sections 1.1, 1.2, 5.2, 11.1 and 13.2).
 use Rattle.std.specs.Prelude.{ℕ, ◌+◌, ◌-◌, ◌*◌, ◌/◌, ◌%◌, ◌<◌, ◌⊎◌, List, [], ◌∷◌, ◌++◌, map, length, sum, replicate, Option, Some, None, true, false}
 use Rattle.z_model.specs.declared.op.Form.TheVariants as forms
+use Rattle.z_model.specs.declared.op.Operand.{Operand}
 use Rattle.z_model.specs.declared.op.Operand.TheVariants as operands
+use Rattle.z_model.specs.declared.op.Operands.{Operands}
 use Rattle.z_model.specs.declared.op.Op.{Op}
 use Rattle.z_code.specs.declared.target.LOp.{LOp}
 use Rattle.z_code.specs.declared.target.LOp.TheVariants as lops
@@ -40,15 +42,20 @@ first_of image = dictionary_of image + 4
 abbrev pub front_of : Image → ℕ
 front_of image = first_of image + 4
 
+abbrev pub given : ℕ → Operand → Operands
+given count first = record { count = count; first = first; second = operands.Small 0; third = operands.Small 0; fourth = operands.Small 0 }
+
 abbrev pub call_first : Op
-call_first = record { form = forms.Short; number = 15; operands = record { count = 1; first = operands.Large 0; second = operands.Small 0; third = operands.Small 0; fourth = operands.Small 0 }; store = None; branch = None; text = 0 }
+call_first = record { form = forms.Short; number = 15; operands = given 1 (operands.Large 0); store = None; branch = None; text = 0 }
 
 abbrev pub then_quit : Op
-then_quit = record { form = forms.Short; number = 10; operands = record { count = 0; first = operands.Small 0; second = operands.Small 0; third = operands.Small 0; fourth = operands.Small 0 }; store = None; branch = None; text = 0 }
+then_quit = record { form = forms.Short; number = 10; operands = given 0 (operands.Small 0); store = None; branch = None; text = 0 }
 
 -- They call routine 0, and quit.
 abbrev pub first_ops : List LOp
-first_ops = lops.Do call_first (Some (targets.Routine 0) ∷ None ∷ None ∷ None ∷ []) None ∷ lops.Do then_quit (None ∷ None ∷ None ∷ None ∷ []) None ∷ []
+first_ops =
+    lops.Do call_first (Some (targets.Routine 0) ∷ None ∷ None ∷ None ∷ []) None ∷
+    lops.Do then_quit (None ∷ None ∷ None ∷ None ∷ []) None ∷ []
 
 -- ---- strings and routines
 

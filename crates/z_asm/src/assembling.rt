@@ -68,7 +68,8 @@ fn put_codes(
 ) -> Result<(), AllocError>
     requires within { end_from (length out.old.items) (map code_size codes.now) < 2 ^ 31 }
     requires writable { AreWritable (names_in names.now) codes.now }
-    ensures { OnOk result (out.new.items ≡ out.old.items ++ laid (length out.old.items) (map (code_part (names_in names.now)) codes.now) (map code_size codes.now)) }
+    ensures { OnOk result
+        (out.new.items ≡ out.old.items ++ laid (length out.old.items) (map (code_part (names_in names.now)) codes.now) (map code_size codes.now)) }
 {
     for code in codes {
         pad(out)?;
@@ -156,7 +157,8 @@ fn with_header(alloc: Global, bytes: &[u8], plan: &Plan) -> Result<Vec<u8>, Allo
     requires long { 64 ≤ length bytes.now }
     requires short { length bytes.now < 524288 }
     requires first { plan.now.dictionary + 4 < 65536 }
-    ensures { IfOk result (λ story. story.items ≡ header_bytes (plan.now.dictionary + 4) plan.now.dictionary plan.now.base (length bytes.now) (sum (drop 64 bytes.now) % 65536) ++ drop 64 bytes.now) }
+    ensures { IfOk result (λ story.
+        story.items ≡ header_bytes (plan.now.dictionary + 4) plan.now.dictionary plan.now.base (length bytes.now) (sum (drop 64 bytes.now) % 65536) ++ drop 64 bytes.now) }
 {
     let behind = &bytes[64..];
     let header = header(plan, bytes.len(), checksum(behind));

@@ -66,7 +66,8 @@ pub(crate) fn aligned(at: usize) -> usize
 // The end of the tables of one kind that begin at a place.
 fn end_of_tables(tables: &[Table], writable: bool, at: usize) -> Option<usize>
     requires { at ≤ 65528 }
-    ensures { MatchOption result (65528 < at + length (table_bytes writable tables.now)) (λ end. (end ≡ at + length (table_bytes writable tables.now)) × (end ≤ 65528)) }
+    ensures { MatchOption result (65528 < at + length (table_bytes writable tables.now))
+        (λ end. (end ≡ at + length (table_bytes writable tables.now)) × (end ≤ 65528)) }
 {
     let mut end = at;
     for table in tables {

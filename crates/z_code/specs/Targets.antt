@@ -116,7 +116,8 @@ pub record Fits (bytes : List ℕ) (names : Names) (labels : ℕ → ℕ) (at : 
 abbrev pub Placed : List ℕ → Names → (ℕ → ℕ) → ℕ → List LOp → Type 0
 Placed bytes names labels at [] = Unit {0}
 Placed bytes names labels at (lops.Label l ∷ ops) = (labels l ≡ at) × Placed bytes names labels at ops
-Placed bytes names labels at (lops.Do op ts branch ∷ ops) = Fits bytes names labels at op ts branch × Placed bytes names labels (at + length (spelling op)) ops
+Placed bytes names labels at (lops.Do op ts branch ∷ ops) =
+    Fits bytes names labels at op ts branch × Placed bytes names labels (at + length (spelling op)) ops
 
 -- ---- their bytes
 

@@ -11,3 +11,5 @@ pub mod Turns
 pub mod Trampoline
 pub mod Start
 pub mod Sizes
+pub mod Opening
+pub mod Lists

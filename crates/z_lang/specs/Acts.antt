@@ -96,7 +96,8 @@ with_output s text = record s { output = s.output ++ text }
 abbrev pub does : Program → Act → State → Option State
 does p (acts.Copy v a) s = value p s a >>= λ x. put p v x s
 does p (acts.Compute v f a b) s = value p s a >>= λ x. value p s b >>= λ y. computed p.world.layout s.memory f x y >>= λ z. put p v z s
-does p (acts.Write w a b c) s = value p s a >>= λ x. value p s b >>= λ y. value p s c >>= λ z. written p.world.layout s.memory w x y z >>= λ memory. Some (record s { memory = memory })
+does p (acts.Write w a b c) s = value p s a >>= λ x. value p s b >>= λ y. value p s c >>= λ z.
+    written p.world.layout s.memory w x y z >>= λ memory. Some (record s { memory = memory })
 does p (acts.Print k a) s = value p s a >>= λ x. printed s.memory k x >>= λ text. Some (with_output s text)
 does p (acts.Random v a) s = value p s a >>= λ r. drawn p v r s
 does p (acts.Read v a) s = value p s a >>= λ x. readable p.world.layout s.memory x >>= λ most. put p v 13 s >>= λ tried. line_in p v x most s.typed s

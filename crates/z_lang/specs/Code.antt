@@ -144,8 +144,10 @@ instruction (acts.Label l) = lops.Label l
 instruction (acts.Goto l) = lops.Do (short_op 12 (operands.Large 0)) (Some (targets.Label l) ∷ None ∷ None ∷ None ∷ []) None
 instruction (acts.When t l) = lops.Do (variable_op (compare_number t.comparison) (test_operands t) None (Some (branch_on t.answer))) (test_targets t) (Some l)
 instruction (acts.Copy v a) = lops.Do (variable_op 13 (two_of (operands.Small v) (operand a)) None None) (None ∷ target a ∷ None ∷ None ∷ []) None
-instruction (acts.Compute v f a b) = lops.Do (variable_op (number_of f) (two_of (operand a) (operand b)) (Some v) None) (target a ∷ target b ∷ None ∷ None ∷ []) None
-instruction (acts.Write w a b c) = lops.Do (variable_op (write_number w) (three_of (operand a) (operand b) (operand c)) None None) (target a ∷ target b ∷ target c ∷ None ∷ []) None
+instruction (acts.Compute v f a b) =
+    lops.Do (variable_op (number_of f) (two_of (operand a) (operand b)) (Some v) None) (target a ∷ target b ∷ None ∷ None ∷ []) None
+instruction (acts.Write w a b c) =
+    lops.Do (variable_op (write_number w) (three_of (operand a) (operand b) (operand c)) None None) (target a ∷ target b ∷ target c ∷ None ∷ []) None
 instruction (acts.Print k a) = lops.Do (print_op k (operand a)) (target a ∷ None ∷ None ∷ None ∷ []) None
 instruction (acts.Random v a) = lops.Do (variable_op 39 (one_of (operand a)) (Some v) None) (target a ∷ None ∷ None ∷ None ∷ []) None
 instruction (acts.Read v a) = lops.Do (variable_op 36 (two_of (operand a) (operands.Small 0)) (Some v) None) (target a ∷ None ∷ None ∷ None ∷ []) None

@@ -7,4 +7,4 @@ pub mod Standing
 pub mod Turns
 pub mod WholeRuns
 pub mod Sizes
-pub mod Ranges
+pub mod Bodies

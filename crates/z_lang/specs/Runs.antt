@@ -39,19 +39,25 @@ pub data Runs (p : Program) : ℕ → ℕ → List Act → List Act → State �
       Runs p f w body more s o s' n → Runs p f w body (acts.Label l ∷ more) s o s' n
   goes : {f w l n : ℕ} {body more there : List Act} {s s' : State} {o : Outcome} → behind l body ≡ Some there →
       Runs p f w body there s o s' n → Runs p f w body (acts.Goto l ∷ more) s o s' (suc n)
-  taken : {f w l n : ℕ} {test : Test} {body more there : List Act} {s s' : State} {o : Outcome} → answer_of p s test ≡ Some test.answer → behind l body ≡ Some there →
+  taken : {f w l n : ℕ} {test : Test} {body more there : List Act} {s s' : State} {o : Outcome} →
+      answer_of p s test ≡ Some test.answer → behind l body ≡ Some there →
       Runs p f w body there s o s' n → Runs p f w body (acts.When test l ∷ more) s o s' (suc n)
   passed : {f w l n : ℕ} {test : Test} {body more : List Act} {s s' : State} {o : Outcome} → answer_of p s test ≡ Some (not test.answer) →
       Runs p f w body more s o s' n → Runs p f w body (acts.When test l ∷ more) s o s' (suc n)
   done : {f w n : ℕ} {act : Act} {body more : List Act} {s s1 s' : State} {o : Outcome} → does p act s ≡ Some s1 →
       Runs p f w body more s1 o s' n → Runs p f w body (act ∷ more) s o s' (suc n)
-  calls : {f w f' w' : ℕ} {v : Option ℕ} {x y n n' : ℕ} {a : Atom} {args : Args} {xs : ℕ × ℕ × ℕ} {r : Routine} {body more : List Act} {s s1 s2 s' : State} {o : Outcome} →
+  calls : {f w f' w' : ℕ} {v : Option ℕ} {x y n n' : ℕ} {a : Atom} {args : Args} {xs : ℕ × ℕ × ℕ} {r : Routine}
+      {body more : List Act} {s s1 s2 s' : State} {o : Outcome} →
       value p s a ≡ Some x → arguments p s args ≡ Some xs → p.routine_at x ≡ Some r → f' < f → r.locals + w' ≤ w →
       Runs p f' w' r.body r.body (entered s r.locals xs) (Returns y) s1 n → put_if p v y (left_with s s1) ≡ Some s2 →
       Runs p f w body more s2 o s' n' → Runs p f w body (acts.Call v a args ∷ more) s o s' (suc n + n')
-  calls_last : {f w f' w' : ℕ} {v : Option ℕ} {x n : ℕ} {a : Atom} {args : Args} {xs : ℕ × ℕ × ℕ} {r : Routine} {halt : Halt} {body more : List Act} {s s' : State} →
+  calls_last : {f w f' w' : ℕ} {v : Option ℕ} {x n : ℕ} {a : Atom} {args : Args} {xs : ℕ × ℕ × ℕ} {r : Routine} {halt : Halt}
+      {body more : List Act} {s s' : State} →
       value p s a ≡ Some x → arguments p s args ≡ Some xs → p.routine_at x ≡ Some r → f' < f → r.locals + w' ≤ w →
       Runs p f' w' r.body r.body (entered s r.locals xs) (Stops halt) s' n → Runs p f w body (acts.Call v a args ∷ more) s (Stops halt) s' (suc n)
-  ends_input : {f w v x most : ℕ} {a : Atom} {body more : List Act} {s tried : State} → value p s a ≡ Some x → readable p.world.layout s.memory x ≡ Some most → put p v 13 s ≡ Some tried → s.typed ≡ [] → Runs p f w body (acts.Read v a ∷ more) s (Stops AtInput) s 1
-  returns : {f w x : ℕ} {a : Atom} {body more : List Act} {s : State} → value p s a ≡ Some x → Runs p f w body (acts.Return a ∷ more) s (Returns x) s 1
+  ends_input : {f w v x most : ℕ} {a : Atom} {body more : List Act} {s tried : State} → value p s a ≡ Some x →
+      readable p.world.layout s.memory x ≡ Some most → put p v 13 s ≡ Some tried → s.typed ≡ [] →
+      Runs p f w body (acts.Read v a ∷ more) s (Stops AtInput) s 1
+  returns : {f w x : ℕ} {a : Atom} {body more : List Act} {s : State} →
+      value p s a ≡ Some x → Runs p f w body (acts.Return a ∷ more) s (Returns x) s 1
   quits : {f w : ℕ} {body more : List Act} {s : State} → Runs p f w body (acts.Quit ∷ more) s (Stops AtQuit) s 1

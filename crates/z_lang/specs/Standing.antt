@@ -1,5 +1,5 @@
 -- How routines stand in a story, and what their instructions do.
-use Rattle.std.specs.Prelude.{◌≡◌, ◌≢◌, ℕ, ◌+◌, ◌*◌, ◌≤◌, ◌<◌, List, [], length, drop, Option, Some, None, Result, Ok, slice_get}
+use Rattle.std.specs.Prelude.{◌≡◌, ◌≢◌, ℕ, suc, ◌+◌, ◌*◌, ◌≤◌, ◌<◌, ◌==◌, List, [], ◌∷◌, length, drop, Option, Some, None, Result, Ok, if◌then◌else◌, slice_get}
 use Rattle.z_model.specs.declared.fault.ZFault.{ZFault}
 use Rattle.z_model.specs.declared.story.Layout.{Layout}
 use Rattle.z_model.specs.declared.end.Halt.{Halt}
@@ -8,7 +8,7 @@ use Rattle.z_model.specs.Machine.{Frame, Machine, words_in}
 use Rattle.z_model.specs.Table.{rows_of}
 use Rattle.z_model.specs.Laws.{IsLaid}
 use Rattle.z_model.specs.Run.{ZGiven, ZState, end_of}
-use Rattle.z_code.specs.Targets.{Placed, Names}
+use Rattle.z_code.specs.Targets.{Names, label_from, Placed}
 use Rattle.z_lang.specs.declared.act.Routine.{Routine}
 use Rattle.z_lang.specs.declared.act.Act.{Act}
 use Rattle.z_lang.specs.State.{State, Program}
@@ -46,8 +46,11 @@ pub record Context : Type 0 where
   pub args : ℕ
   pub callers : List Frame
 
+abbrev pub frame_of : State → Context → Frame
+frame_of s c = record { back = c.back; store = c.store; args = c.args; locals = s.locals; stack = [] }
+
 abbrev pub machine_at : State → Context → ℕ → Machine
-machine_at s c pc = record { memory = s.memory; pc = pc; here = record { back = c.back; store = c.store; args = c.args; locals = s.locals; stack = [] }; callers = c.callers; tables = [] }
+machine_at s c pc = record { memory = s.memory; pc = pc; here = frame_of s c; callers = c.callers; tables = [] }
 
 abbrev pub outside : State → Machine → ZState
 outside s m = record { machine = m; typed = s.typed; drawn = s.drawn; output = s.output }
@@ -86,5 +89,28 @@ pub record Follows (p : Program) (story : List ℕ) (labels : ℕ → ℕ) (c : 
 -- Where a routine that stands in a story begins, its instructions do what its acts mean.
 abbrev pub RoutinesFollow : Type 0
 RoutinesFollow = (p : Program) (story : List ℕ) → Stands p story → (x : ℕ) (r : Routine) → p.routine_at x ≡ Some r →
-    (labels : ℕ → ℕ) → Placed story p.names labels (8 * x + 1) (code r.body) → (c : Context) (f w n : ℕ) (s s' : State) (o : Outcome) → IsKept p.world.layout.base story s.memory → HasRoom c s f w →
+    (labels : ℕ → ℕ) → Placed story p.names labels (8 * x + 1) (code r.body) → (c : Context) (f w n : ℕ) (s s' : State) (o : Outcome) →
+    IsKept p.world.layout.base story s.memory → HasRoom c s f w →
     Runs p f w r.body r.body s o s' n → Follows p story labels c o s' n (state_at s c (8 * x + 1))
+
+-- ---- the routines of a list
+
+-- the routine at a packed address, among routines numbered from here on
+abbrev pub look : Names → ℕ → ℕ → List Routine → Option Routine
+look names k x [] = None
+look names k x (r ∷ rs) = if names.routine k == x then Some r else look names (suc k) x rs
+
+abbrev pub program_of : ZGiven → Names → List Routine → Program
+program_of given names rs = record { world = given; names = names; routine_at = λ x. look names 0 x rs }
+
+-- A routine's count of locals and its instructions stand at the address of its number, behind the static base.
+pub record StandsAs (given : ZGiven) (names : Names) (story : List ℕ) (k : ℕ) (r : Routine) : Type 0 where
+  pub few : r.locals ≤ 15
+  pub some : 0 < names.routine k
+  pub behind : given.layout.base ≤ 8 * names.routine k
+  pub count : slice_get story (8 * names.routine k) ≡ Some r.locals
+  pub code_is : let at = 8 * names.routine k + 1 in Placed story names (label_from at (code r.body)) at (code r.body)
+
+-- Routines that stand so are the routines of a program.
+pub record ListStands (given : ZGiven) (names : Names) (rs : List Routine) (story : List ℕ) : Type 0 where
+  pub stands : IsLaidOut given → ((k : ℕ) (r : Routine) → slice_get rs k ≡ Some r → StandsAs given names story k r) → Stands (program_of given names rs) story

@@ -58,7 +58,9 @@ with_local v x s = if nat_lt (v - 1) (length s.locals) then Some (record s { loc
 
 -- a variable with another value
 unfoldable pub put : Program → ℕ → ℕ → State → Option State
-put p v x s = if v == 0 then None else if nat_lt v 16 then with_local v x s else if nat_lt v 256 then Some (record s { memory = with_global p.world.layout s.memory v x }) else None
+put p v x s =
+    if v == 0 then None else if nat_lt v 16 then with_local v x s
+    else if nat_lt v 256 then Some (record s { memory = with_global p.world.layout s.memory v x }) else None
 
 -- the same, where a variable is named
 abbrev pub put_if : Program → Option ℕ → ℕ → State → Option State

@@ -3,12 +3,16 @@
 
 mod act;
 mod emit;
-mod ranges;
 
-ghost use Rattle.std.specs.Prelude.{List};
+ghost use Rattle.std.specs.Prelude.{List, ℕ};
 ghost use Rattle.z_lang.specs.declared.act.Act.{Act};
+ghost use Rattle.z_code.specs.Open.{Counts};
+ghost use Rattle.z_lang.specs.Bodies.{Opens};
 ghost use Rattle.z_lang.specs.Sizes.{TakesBytes};
-ghost use Rattle.z_lang.specs.Standing.{RoutinesFollow};
+ghost use Rattle.z_lang.specs.Standing.{ListStands, RoutinesFollow};
+ghost use Rattle.z_lang.specs.declared.act.Routine.{Routine};
+ghost use Rattle.z_code.specs.Targets.{Names};
+ghost use Rattle.z_model.specs.Run.{ZGiven};
 
 pub use act::{Act, Args, Atom, Comparison, Function, Print, Routine, Test, Width};
 pub use emit::compile;
@@ -22,4 +26,14 @@ pub fn routines_follow()
 /// An act is one instruction of a known number of bytes, or a label.
 pub fn acts_take_bytes()
     ensures { (body : List Act) → TakesBytes body }
+{}
+
+/// Acts that fit have instructions that the assembler takes.
+pub fn bodies_open()
+    ensures { (counts : Counts) (body : List Act) → Opens counts body }
+{}
+
+/// Routines of a list that stand at the addresses of their numbers are those of a program.
+pub fn lists_stand()
+    ensures { (given : ZGiven) (names : Names) (rs : List Routine) (story : List ℕ) → ListStands given names rs story }
 {}
