@@ -1,244 +1,229 @@
--- From one program or refusal to the answers on a source.
-use Rattle.std.proofs.Common.{◌≡◌, ◌≤◌, ◌<◌, ◌⊎◌, inl, inr, ℕ, List, length, Option, Some, None, Ok, Err, Bool, IsTrue, subst, refl, arith}
-use Rattle.std.specs.Prelude.{IsSome}
+-- From what the parts of a call did to its answer.
+use Rattle.std.proofs.Common.{◌≡◌, ◌<◌, ◌⊎◌, inl, inr, ℕ, zero, suc, List, [], ◌∷◌, length, true, Option, Some, None, Ok, Err, IsTrue, refl, sym, ap, subst, arith}
+use Rattle.std.specs.Prelude.{IsSome, nat_lt}
+use Rattle.std.proofs.lemmas.Bool.Decides.{nat_tests}
 use Rattle.dg_base.specs.Causes.{Rose}
-use Rattle.dg_base.specs.Shelves.{Told, held, WhereTold}
-use Rattle.dialog_tool.specs.Command.{debug}
-use Rattle.dg_base.specs.Written.{SinkView, Wrote, BrokeOff}
+use Rattle.dg_base.specs.Shelves.{Told, ShelfView, held, WhereTold, KeepsAll}
 use Rattle.dg_base.specs.declared.program.CoreProgram.{CoreProgram as Core}
 use Rattle.dg_base.specs.declared.refusal.Refusal.{Refusal}
-use Rattle.dg_base.specs.declared.run.Limits.{Limits}
-use Rattle.dg_meaning.specs.Transcript.{no_memory_line}
 use Rattle.dg_base.specs.declared.refusal.Kind.TheVariants.{SourceTooLong}
+use Rattle.dg_base.specs.declared.run.Outcome.{Outcome}
+use Rattle.dg_meaning.specs.Transcript.{no_memory_line}
+use Rattle.dg_interp.specs.Interpret.{ForTyped, HasShown, HasLostInput, HasLostOutput, HasLostMemory}
+use Rattle.z_model.specs.Story.{refusal_of}
+use Rattle.z_model.specs.declared.story.StoryRefusal.{StoryRefusal}
+use Rattle.z_model.specs.declared.story.StoryRefusal.TheVariants.{BadLength}
+use Rattle.dialog_tool.specs.Command.{debug, play, Task, limits_of}
+use Rattle.dialog_tool.specs.Call.{Call, Outside, Finds, IsAsTold, IsFetched}
+use Rattle.dialog_tool.specs.Lines.{Says, said, unsaid, usage_line, refusal_line, story_line, file_fault_line}
 use Rattle.dialog_tool.specs.Source.{Compiles, refusal_at}
-use Rattle.dialog_tool.proofs.Never.{not_both}
-use Rattle.dialog_tool.proofs.SourceLemmas.{one_answer, too_long}
 use Rattle.dialog_tool.specs.Answers
-use Rattle.dialog_tool.proofs.StatusLemmas.{isnt, late_isnt, late_neither, comes_neither, ran_isnt}
+use Rattle.dialog_tool.proofs.Never.{never}
+use Rattle.dialog_tool.proofs.SourceLemmas.{too_long}
 
--- the line of a refusal could not be written, or the one on want of memory behind it
-pub refusal_lost : (left : Option (List ℕ)) (dice : List ℕ) (old new : SinkView) (name : List ℕ) (limits : Limits) (source : List ℕ) (r : Refusal) → Compiles source (Err r)
-    → BrokeOff old new (Answers.refusal_line name r) ⊎ BrokeOff old new no_memory_line → Answers.SourceLostOutput left dice old new name limits source
-refusal_lost left dice old new name limits source r compiles (inl broke) = record {
-  text = Answers.refusal_line name r;
-  allowed = Answers.line (record { refusal = r; compiles = compiles; is = refl });
-  broke = broke;
-}
-refusal_lost left dice old new name limits source r compiles (inr broke) = record { text = no_memory_line; allowed = Answers.memory refl; broke = broke }
+-- ## What is told
 
--- a run could not be written
-pub run_lost : (left : Option (List ℕ)) (dice : List ℕ) (old new : SinkView) (name : List ℕ) (limits : Limits) (source : List ℕ) (p : Core) → Compiles source (Ok p)
-    → Answers.LostOutput p limits left dice old new → Answers.SourceLostOutput left dice old new name limits source
-run_lost None dice old new name limits source p compiles lost = record {
-  text = lost.1.bytes;
-  allowed = Answers.show (record { program = p; compiles = compiles; writes = (lost.0, lost.1.may_write) });
-  broke = lost.1.broke;
-}
-run_lost (Some typed) dice old new name limits source p compiles lost = record {
-  text = lost.bytes;
-  allowed = Answers.show (record { program = p; compiles = compiles; writes = lost.may_write });
-  broke = lost.broke;
-}
+-- contents as they are told, of which this holds
+pub some_contents : (told : Told) (P : (List ℕ → Option (List ℕ)) → Type 0) (any : List ℕ → Option (List ℕ)) → P any → WhereTold told P → (contents : List ℕ → Option (List ℕ)) × IsAsTold told contents × P contents
+some_contents None P any p h = (any, tt, p)
+some_contents (Some contents) P any p h = (contents, refl, h)
 
--- memory ran out in a run
-pub run_short : (left : Option (List ℕ)) (dice : List ℕ) (old new : SinkView) (name : List ℕ) (limits : Limits) (source : List ℕ) (p : Core) → Compiles source (Ok p)
-    → Answers.LostMemory p limits left dice old new → Answers.SourceLostMemory left dice old new name limits source
-run_short None dice old new name limits source p compiles lost = record {
-  text = lost.1.bytes;
-  is = inr (record { program = p; compiles = compiles; shows = (lost.0, lost.1.shows) });
-  wrote = lost.1.wrote;
-}
-run_short (Some typed) dice old new name limits source p compiles lost = record {
-  text = lost.bytes;
-  is = inr (record { program = p; compiles = compiles; shows = lost.shows });
-  wrote = lost.wrote;
-}
+-- bytes as they are told, of which this holds
+pub some_typed : (left : Option (List ℕ)) (P : List ℕ → Type 0) → ForTyped left P → (typed : List ℕ) × IsAsTold left typed × P typed
+some_typed None P h = (h.0, tt, h.1)
+some_typed (Some typed) P h = (typed, refl, h)
 
-pub run_shown : (status : ℕ) (left behind : Option (List ℕ)) (dice : List ℕ) (old new : SinkView) (name : List ℕ) (limits : Limits) (source : List ℕ) (p : Core) → Compiles source (Ok p)
-    → Answers.Shown status p limits left behind dice old new → Answers.IsRun status left behind dice old new name limits source
-run_shown status left behind dice old new name limits source p compiles h = record { program = p; compiles = compiles; outcome = h.outcome; shown = h.shown; is_status = h.is_status }
+-- bytes as they are told
+pub any_typed : (left : Option (List ℕ)) → (typed : List ℕ) × IsAsTold left typed × (IsSome left → left ≡ Some typed)
+any_typed None = ([], tt, λ no. never no)
+any_typed (Some typed) = (typed, refl, λ is. refl)
 
-pub input_lost : (before after : ℕ) (left behind : Option (List ℕ)) (dice : List ℕ) (old new : SinkView) (name : List ℕ) (limits : Limits) (source : List ℕ) (p : Core) → Compiles source (Ok p)
-    → Answers.LostInput p limits before after left behind dice old new → Answers.SourceLostInput before after left behind dice old new name limits source
-input_lost before after left behind dice old new name limits source p compiles h = record { rose = h.rose; cut_off = record { program = p; compiles = compiles; lost = h.lost } }
+-- ## Answers
 
--- ## From the answers on a source to those of the call
+-- what is found in a call
+pub record Found (c : Call) (o : Outside) : Type 0 where
+  pub found : Finds c o
+  pub kept : KeepsAll c.shelf.contents c.shelf_after.contents
 
-pub at_source : (told : Told) (name : List ℕ) (limits : Limits) (source : List ℕ) (P : List ℕ → Limits → List ℕ → Type 0) → WhereTold told (λ contents. source ≡ held (contents name)) → P name limits source → Answers.AtSource (Some (debug name limits)) told P
-at_source None name limits source P is h = tt
-at_source (Some contents) name limits source P is h = subst (λ (l : List ℕ). P name limits l) is h
+pub ended : (c : Call) (o : Outside) (result : ℕ) → Found c o → Answers.Ends c o result → Answers.Answers c result
+ended c o result f e = record { outside = o; found = f.found; kept = f.kept; answer = inl e }
 
-pub if_source : (told : Told) (name : List ℕ) (limits : Limits) (source : List ℕ) (P : List ℕ → Limits → List ℕ → Type 0) → WhereTold told (λ contents. source ≡ held (contents name)) → P name limits source → Answers.IfSource (Some (debug name limits)) told P
-if_source None name limits source P is h = tt
-if_source (Some contents) name limits source P is h = subst (λ (l : List ℕ). P name limits l) is h
+pub failed : (c : Call) (o : Outside) (result : ℕ) → Found c o → result ≡ 5 → Answers.Fails c o → Answers.Answers c result
+failed c o result f e h = record { outside = o; found = f.found; kept = f.kept; answer = inr (inl (e, h)) }
 
-may_print : (told : Told) (left : Option (List ℕ)) (dice text name : List ℕ) (limits : Limits) (source : List ℕ) → WhereTold told (λ contents. source ≡ held (contents name)) → Answers.MayPrintOf left dice text name limits source → Answers.MayPrint (Some (debug name limits)) told left dice text
-may_print told left dice text name limits source is (Answers.line h) = Answers.refusal (at_source told name limits source (Answers.IsRefusalLine text) is h)
-may_print told left dice text name limits source is (Answers.show h) = Answers.shown (at_source told name limits source (Answers.MayShow left dice text) is h)
-may_print told left dice text name limits source is (Answers.memory e) = Answers.no_memory e
+pub lacked : (c : Call) (o : Outside) (result : ℕ) → Found c o → result ≡ 6 → Answers.Lacks c o → Answers.Answers c result
+lacked c o result f e h = record { outside = o; found = f.found; kept = f.kept; answer = inr (inr (e, h)) }
 
-pub source_short : (told : Told) (left : Option (List ℕ)) (dice : List ℕ) (old new : SinkView) (name : List ℕ) (limits : Limits) (source : List ℕ) → WhereTold told (λ contents. source ≡ held (contents name))
-    → Answers.SourceLostMemory left dice old new name limits source → Answers.NoMemory (Some (debug name limits)) told left dice old new
-source_short told left dice old new name limits source is h = record { text = h.text; is = here h.is; wrote = h.wrote }
+-- ## Lines of the tool
+
+pub says_usage : (c : Call) (o : Outside) (result : ℕ) → Found c o → c.command ≡ None → c.shelf_after ≡ c.shelf → c.input_after ≡ c.input → Says 2 usage_line c.out c.out_after result → Answers.Answers c result
+says_usage c o result f none shelf input (said e w) = ended c o result f (Answers.misused e (record { none = none; wrote = w; shelf_stays = shelf; input_stays = input }))
+says_usage c o result f none shelf input (unsaid e b) = failed c o result f e (Answers.out usage_line (Answers.usage none refl) b)
+
+pub says_refusal : (c : Call) (o : Outside) (result : ℕ) → Found c o → (t : Task) (r : Refusal) → Answers.IsRefused c o t r → c.input_after ≡ c.input → Says 1 (refusal_line t.name r) c.out c.out_after result → Answers.Answers c result
+says_refusal c o result f t r is same (said e w) = ended c o result f (Answers.refused e (record { task = t; refusal = r; is = is; wrote = w; input_stays = same }))
+says_refusal c o result f t r is same (unsaid e b) = failed c o result f e (Answers.out (refusal_line t.name r) (Answers.refusal t r is refl) b)
+
+pub says_no_story : (c : Call) (o : Outside) (result : ℕ) → Found c o → (t : Task) (r : StoryRefusal) → Answers.IsNoStory c o t r → c.input_after ≡ c.input → Says 4 (story_line t.name r) c.out c.out_after result → Answers.Answers c result
+says_no_story c o result f t r is same (said e w) = ended c o result f (Answers.refused_story e (record { task = t; refusal = r; is = is; wrote = w; input_stays = same }))
+says_no_story c o result f t r is same (unsaid e b) = failed c o result f e (Answers.out (story_line t.name r) (Answers.story_refusal t r is refl) b)
+
+pub says_fault : (c : Call) (o : Outside) (result : ℕ) → Found c o → (name : List ℕ) → Answers.LostFile c name → c.input_after ≡ c.input → Says 5 (file_fault_line name) c.out c.out_after result → Answers.Answers c result
+says_fault c o result f name lost same (said e w) = failed c o result f e (Answers.shelf name lost w same)
+says_fault c o result f name lost same (unsaid e b) = failed c o result f e (Answers.out (file_fault_line name) (Answers.file_fault name lost refl) b)
+
+pub says_no_memory : (c : Call) (o : Outside) (result : ℕ) → Found c o → c.input_after ≡ c.input → Says 6 no_memory_line c.out c.out_after result → Answers.Answers c result
+says_no_memory c o result f same (said e w) = lacked c o result f e (Answers.nothing_ran w same)
+says_no_memory c o result f same (unsaid e b) = failed c o result f e (Answers.out no_memory_line (Answers.no_memory refl) b)
+
+-- ## The file of a task
+
+-- what is found where a task's file is told
+pub record HasFile (c : Call) (t : Task) (file : List ℕ) : Type 0 where
+  pub contents : List ℕ → Option (List ℕ)
+  pub told : IsAsTold c.shelf.contents contents
+  pub kept : KeepsAll c.shelf.contents c.shelf_after.contents
+  pub is : file ≡ held (contents t.name)
+
+abbrev pub outside : (List ℕ → Option (List ℕ)) → List ℕ → Outside
+outside contents typed = record { contents = contents; typed = typed }
+
+-- the outside of a call that finds a file, for bytes as they are told
+abbrev pub outside_of : (c : Call) (t : Task) (file : List ℕ) → HasFile c t file → Outside
+outside_of c t file h = outside h.contents (any_typed c.input.left).0
+
+pub found_file : (c : Call) (t : Task) (file : List ℕ) (h : HasFile c t file) → Found c (outside_of c t file h)
+found_file c t file h = record { found = record { contents = h.told; typed = (any_typed c.input.left).1 }; kept = h.kept }
+
+pub refused_in : (c : Call) (t : Task) (file : List ℕ) (r : Refusal) → c.command ≡ Some (debug t) → (h : HasFile c t file) → Compiles file (Err r) → Answers.IsRefused c (outside_of c t file h) t r
+refused_in c t file r words h is = record { words = words; compiles = subst (λ (l : List ℕ). Compiles l (Err r)) h.is is }
+
+pub no_story_in : (c : Call) (t : Task) (file : List ℕ) (r : StoryRefusal) → c.command ≡ Some (play t) → (h : HasFile c t file) → refusal_of file ≡ Some r → Answers.IsNoStory c (outside_of c t file h) t r
+no_story_in c t file r words h is = record { words = words; refused = subst (λ (l : List ℕ). refusal_of l ≡ Some r) h.is is }
+
+-- a shelf that gave a file, or one that is longer than so much
+pub file_here : (c : Call) (t : Task) (file : List ℕ) → IsFetched c.shelf c.shelf_after t file → HasFile c t file
+file_here c t file h =
+    let some = some_contents c.shelf.contents (λ told. file ≡ held (told t.name)) (λ name. Some file) refl h.told in
+    record { contents = some.0; told = some.1; kept = h.kept; is = some.2 }
+
+zeros : ℕ → List ℕ
+zeros zero = []
+zeros (suc n) = 0 ∷ zeros n
+
+zeros_many : (n : ℕ) → length (zeros n) ≡ n
+unfolding zeros
+zeros_many zero = refl
+zeros_many (suc n) = ap suc (zeros_many n)
+
+pub long_here : (c : Call) (t : Task) (most : ℕ) → KeepsAll c.shelf.contents c.shelf_after.contents → WhereTold c.shelf.contents (λ told. most < length (held (told t.name))) → (file : List ℕ) × (most < length file) × HasFile c t file
+long_here c t most kept h =
+    let long : most < length (zeros (suc most)) = omega (arith, zeros_many (suc most)) in
+    let some = some_contents c.shelf.contents (λ told. most < length (held (told t.name))) (λ name. Some (zeros (suc most))) long h in
+    (held (some.0 t.name), some.2, record { contents = some.0; told = some.1; kept = kept; is = refl })
+
+-- a shelf that gave nothing
+pub nothing_here : (c : Call) → KeepsAll c.shelf.contents c.shelf_after.contents → (o : Outside) × Found c o
+nothing_here c kept =
+    let some = any_contents c.shelf.contents in
+    (outside some.0 (any_typed c.input.left).0, record { found = record { contents = some.1; typed = (any_typed c.input.left).1 }; kept = kept })
   where
-    here : (h.text ≡ no_memory_line) ⊎ Answers.ShowsSome left dice h.text name limits source → (h.text ≡ no_memory_line) ⊎ Answers.AtSource (Some (debug name limits)) told (Answers.ShowsSome left dice h.text)
-    here (inl e) = inl e
-    here (inr k) = inr (at_source told name limits source (Answers.ShowsSome left dice h.text) is k)
+    any_contents : (told : Told) → (contents : List ℕ → Option (List ℕ)) × IsAsTold told contents
+    any_contents None = (λ name. None, tt)
+    any_contents (Some contents) = (contents, refl)
 
-pub source_faults : (told : Told) (sure : Bool) (a a' b b' : ℕ) (left behind : Option (List ℕ)) (dice : List ℕ) (old new : SinkView) (name : List ℕ) (limits : Limits) (source : List ℕ) → WhereTold told (λ contents. source ≡ held (contents name))
-    → Answers.SourceLostInput b b' left behind dice old new name limits source ⊎ Answers.SourceLostOutput left dice old new name limits source
-    → Answers.ShelfFailed (Some (debug name limits)) told sure a a' old new ⊎ (Answers.InputFailed (Some (debug name limits)) told b b' left behind dice old new ⊎ Answers.OutFailed (Some (debug name limits)) told left dice old new)
-source_faults told sure a a' b b' left behind dice old new name limits source is (inl h) = inr (inl (record { rose = h.rose; cut_off = at_source told name limits source (Answers.IsCutOff left behind dice old new) is h.cut_off }))
-source_faults told sure a a' b b' left behind dice old new name limits source is (inr h) = inr (inr (record { text = h.text; allowed = may_print told left dice h.text name limits source is h.allowed; broke = h.broke }))
+-- ## A source's run
 
-pub file_faults : (told : Told) (sure : Bool) (a a' b b' : ℕ) (left behind : Option (List ℕ)) (dice : List ℕ) (old new : SinkView) (name : List ℕ) (limits : Limits) → Rose a a' → (IsTrue sure → WhereTold told (λ contents. IsSome (contents name) → ⊥))
-    → Wrote old new (Answers.file_fault_line name) ⊎ BrokeOff old new (Answers.file_fault_line name)
-    → Answers.ShelfFailed (Some (debug name limits)) told sure a a' old new ⊎ (Answers.InputFailed (Some (debug name limits)) told b b' left behind dice old new ⊎ Answers.OutFailed (Some (debug name limits)) told left dice old new)
-file_faults told sure a a' b b' left behind dice old new name limits rose missing (inl wrote) = inl (record { rose = rose; name = name; file = refl; missing = missing; wrote = wrote })
-file_faults told sure a a' b b' left behind dice old new name limits rose missing (inr broke) = inr (inr (record { text = Answers.file_fault_line name; allowed = Answers.file_fault name refl refl; broke = broke }))
+program : (c : Call) (t : Task) (file : List ℕ) (p : Core) (typed : List ℕ) → c.command ≡ Some (debug t) → (h : HasFile c t file) → Compiles file (Ok p) → Answers.IsProgram c (outside h.contents typed) t p
+program c t file p typed words h is = record { words = words; compiles = subst (λ (l : List ℕ). Compiles l (Ok p)) h.is is }
 
--- ## A source that is too long
+pub run_ends : (c : Call) (t : Task) (file : List ℕ) (result : ℕ) → c.command ≡ Some (debug t) → IsFetched c.shelf c.shelf_after t file → (p : Core) (outcome : Outcome) → Compiles file (Ok p) → result ≡ Answers.status_of outcome.ending
+    → ForTyped c.input.left (λ typed. HasShown (Answers.game_of c t p) typed (limits_of t) outcome c.input_after.left c.out c.out_after) → Answers.Answers c result
+run_ends c t file result words f p outcome is e shown =
+    let h = file_here c t file f in
+    let s = some_typed c.input.left _ shown in
+    ended c (outside h.contents s.0) result (record { found = record { contents = h.told; typed = s.1 }; kept = h.kept })
+    (Answers.ran (record { task = t; program = p; is = program c t file p s.0 words h is; outcome = outcome; shown = s.2; is_status = e }))
 
-pub long_refused : (told : Told) (name : List ℕ) (limits : Limits) (old new : SinkView) (r : Refusal) → r ≡ refusal_at SourceTooLong 1 → WhereTold told (λ contents. 1048576 < length (held (contents name))) → Wrote old new (Answers.refusal_line name r)
-    → Answers.AtSource (Some (debug name limits)) told (Answers.IsRefused old new)
-long_refused None name limits old new r e more wrote = tt
-long_refused (Some contents) name limits old new r e more wrote = record { refusal = r; compiles = rw e (too_long (held (contents name)) more); wrote = wrote }
+pub run_unread : (c : Call) (t : Task) (file : List ℕ) (result : ℕ) → c.command ≡ Some (debug t) → IsFetched c.shelf c.shelf_after t file → (p : Core) → Compiles file (Ok p) → result ≡ 5 → Rose c.input.faults c.input_after.faults
+    → ForTyped c.input.left (λ typed. HasLostInput (Answers.game_of c t p) typed (limits_of t) c.input_after.left c.out c.out_after) → Answers.Answers c result
+run_unread c t file result words f p is e rose lost =
+    let h = file_here c t file f in
+    let s = some_typed c.input.left _ lost in
+    failed c (outside h.contents s.0) result (record { found = record { contents = h.told; typed = s.1 }; kept = h.kept }) e
+    (Answers.input (record { rose = rose; task = t; program = p; is = program c t file p s.0 words h is; lost = s.2 }))
 
-long_line : (told : Told) (name : List ℕ) (limits : Limits) (r : Refusal) → r ≡ refusal_at SourceTooLong 1 → WhereTold told (λ contents. 1048576 < length (held (contents name)))
-    → Answers.AtSource (Some (debug name limits)) told (Answers.IsRefusalLine (Answers.refusal_line name r))
-long_line None name limits r e more = tt
-long_line (Some contents) name limits r e more = record { refusal = r; compiles = rw e (too_long (held (contents name)) more); is = refl }
+pub run_unwritten : (c : Call) (t : Task) (file : List ℕ) (result : ℕ) → c.command ≡ Some (debug t) → IsFetched c.shelf c.shelf_after t file → (p : Core) → Compiles file (Ok p) → result ≡ 5
+    → ForTyped c.input.left (λ typed. HasLostOutput (Answers.game_of c t p) typed (limits_of t) c.out c.out_after) → Answers.Answers c result
+run_unwritten c t file result words f p is e lost =
+    let h = file_here c t file f in
+    let s = some_typed c.input.left _ lost in
+    failed c (outside h.contents s.0) result (record { found = record { contents = h.told; typed = s.1 }; kept = h.kept }) e
+    (Answers.out s.2.bytes (Answers.shown t p (program c t file p s.0 words h is) s.2.may_write) s.2.broke)
 
-pub long_faults : (told : Told) (sure : Bool) (a a' b b' : ℕ) (left behind : Option (List ℕ)) (dice : List ℕ) (old new : SinkView) (name : List ℕ) (limits : Limits) (r : Refusal) → r ≡ refusal_at SourceTooLong 1 → WhereTold told (λ contents. 1048576 < length (held (contents name)))
-    → BrokeOff old new (Answers.refusal_line name r) ⊎ BrokeOff old new no_memory_line
-    → Answers.ShelfFailed (Some (debug name limits)) told sure a a' old new ⊎ (Answers.InputFailed (Some (debug name limits)) told b b' left behind dice old new ⊎ Answers.OutFailed (Some (debug name limits)) told left dice old new)
-long_faults told sure a a' b b' left behind dice old new name limits r e more (inl broke) = inr (inr (record { text = Answers.refusal_line name r; allowed = Answers.refusal (long_line told name limits r e more); broke = broke }))
-long_faults told sure a a' b b' left behind dice old new name limits r e more (inr broke) = inr (inr (record { text = no_memory_line; allowed = Answers.no_memory refl; broke = broke }))
+pub run_short : (c : Call) (t : Task) (file : List ℕ) (result : ℕ) → c.command ≡ Some (debug t) → IsFetched c.shelf c.shelf_after t file → (p : Core) → Compiles file (Ok p) → result ≡ 6
+    → ForTyped c.input.left (λ typed. HasLostMemory (Answers.game_of c t p) typed (limits_of t) c.out c.out_after) → Answers.Answers c result
+run_short c t file result words f p is e lost =
+    let h = file_here c t file f in
+    let s = some_typed c.input.left _ lost in
+    lacked c (outside h.contents s.0) result (record { found = record { contents = h.told; typed = s.1 }; kept = h.kept }) e
+    (Answers.in_run t p (program c t file p s.0 words h is) s.2)
 
-pub long_runs : (told : Told) (name : List ℕ) (limits : Limits) (result : ℕ) → WhereTold told (λ contents. 1048576 < length (held (contents name))) → Answers.IfSource (Some (debug name limits)) told (λ name limits source. (p : Core) → Compiles source (Ok p) → (result ≡ 0) ⊎ Answers.Comes 3 result)
-long_runs None name limits result more = tt
-long_runs (Some contents) name limits result more =
-    λ p accepted. not_both (Ok p) (Err (refusal_at SourceTooLong 1)) p (refusal_at SourceTooLong 1) refl refl (one_answer (held (contents name)) (Ok p) (Err (refusal_at SourceTooLong 1)) accepted (too_long (held (contents name)) more))
+-- ## Where nothing runs
 
--- ## What is answered
+keeps_same : (told : Told) → KeepsAll told told
+keeps_same None = tt
+keeps_same (Some contents) = λ name. refl
 
--- a source that is a program was run
-pub program_answers : (b b' : ℕ) (left behind : Option (List ℕ)) (dice : List ℕ) (old new : SinkView) (name : List ℕ) (limits : Limits) (source : List ℕ) (result : ℕ) (p : Core) → Compiles source (Ok p) → (result ≡ 0) ⊎ Answers.Comes 3 result
-    → ((result ≡ 0) ⊎ (result ≡ 3) → Answers.Shown result p limits left behind dice old new) → (result ≡ 6 → Answers.LostMemory p limits left dice old new)
-    → (result ≡ 5 → Answers.LostInput p limits b b' left behind dice old new ⊎ Answers.LostOutput p limits left dice old new) → b ≤ b' → Answers.SourceAnswers b b' left behind dice old new name limits source result
-program_answers b b' left behind dice old new name limits source result p compiles statuses ran memory fault later = record {
-  statuses = first statuses;
-  refused = λ is. ran_isnt result 1 statuses is refl refl refl refl;
-  refuses = λ r refused. not_both (Ok p) (Err r) p r refl refl (one_answer source (Ok p) (Err r) compiles refused);
-  ran = λ is. run_shown result left behind dice old new name limits source p compiles (ran is);
-  runs = λ q accepted. statuses;
-  memory = λ is. run_short left dice old new name limits source p compiles (memory is);
-  fault = λ is. lost (fault is);
-  later = later;
-}
-  where
-    first : (result ≡ 0) ⊎ Answers.Comes 3 result → (result ≡ 0) ⊎ ((result ≡ 1) ⊎ Answers.Comes 3 result)
-    first (inl e) = inl e
-    first (inr h) = inr (inr h)
+-- the words are no command
+pub no_words : (c : Call) (result : ℕ) → c.command ≡ None → c.shelf_after ≡ c.shelf → c.input_after ≡ c.input → Says 2 usage_line c.out c.out_after result → Answers.Answers c result
+no_words c result none shelf input says =
+    let n = nothing_here c (subst (λ (s : ShelfView). KeepsAll c.shelf.contents s.contents) (sym shelf) (keeps_same c.shelf.contents)) in
+    says_usage c n.0 result n.1 none shelf input says
 
-    lost : Answers.LostInput p limits b b' left behind dice old new ⊎ Answers.LostOutput p limits left dice old new → Answers.SourceLostInput b b' left behind dice old new name limits source ⊎ Answers.SourceLostOutput left dice old new name limits source
-    lost (inl h) = inl (input_lost _ _ _ _ _ _ _ _ _ _ p compiles h)
-    lost (inr h) = inr (run_lost left dice old new name limits source p compiles h)
+-- no memory was found
+pub no_room : (c : Call) (result : ℕ) → KeepsAll c.shelf.contents c.shelf_after.contents → c.input_after ≡ c.input → Says 6 no_memory_line c.out c.out_after result → Answers.Answers c result
+no_room c result kept same says = let n = nothing_here c kept in says_no_memory c n.0 result n.1 same says
 
--- a source that is refused
-pub refusal_answers : (b : ℕ) (left behind : Option (List ℕ)) (dice : List ℕ) (old new : SinkView) (name : List ℕ) (limits : Limits) (source : List ℕ) (result : ℕ) (r : Refusal) → Compiles source (Err r) → Answers.Comes 1 result
-    → (result ≡ 1 → Wrote old new (Answers.refusal_line name r)) → (result ≡ 6 → Wrote old new no_memory_line) → (result ≡ 5 → BrokeOff old new (Answers.refusal_line name r) ⊎ BrokeOff old new no_memory_line)
-    → Answers.SourceAnswers b b left behind dice old new name limits source result
-refusal_answers b left behind dice old new name limits source result r compiles statuses line memory fault = record {
-  statuses = first statuses;
-  refused = λ is. record { refusal = r; compiles = compiles; wrote = line is };
-  refuses = λ s refused. statuses;
-  ran = λ is. comes_neither result 1 statuses is refl refl;
-  runs = λ p accepted. not_both (Ok p) (Err r) p r refl refl (one_answer source (Ok p) (Err r) accepted compiles);
-  memory = λ is. record { text = no_memory_line; is = inl refl; wrote = memory is };
-  fault = λ is. inr (refusal_lost left dice old new name limits source r compiles (fault is));
-  later = omega arith;
-}
-  where
-    first : Answers.Comes 1 result → (result ≡ 0) ⊎ ((result ≡ 1) ⊎ Answers.Comes 3 result)
-    first (inl e) = inr (inl e)
-    first (inr h) = inr (inr (inr h))
-
--- no memory was found to read a source
-pub unread_answers : (b : ℕ) (left behind : Option (List ℕ)) (dice : List ℕ) (old new : SinkView) (name : List ℕ) (limits : Limits) (source : List ℕ) (result : ℕ) → (result ≡ 5) ⊎ (result ≡ 6)
-    → (result ≡ 6 → Wrote old new no_memory_line) → (result ≡ 5 → BrokeOff old new no_memory_line) → Answers.SourceAnswers b b left behind dice old new name limits source result
-unread_answers b left behind dice old new name limits source result late memory fault = record {
-  statuses = inr (inr (inr late));
-  refused = λ is. late_isnt result 1 late is refl refl;
-  refuses = λ r refused. inr late;
-  ran = λ is. late_neither result late is;
-  runs = λ p accepted. inr (inr late);
-  memory = λ is. record { text = no_memory_line; is = inl refl; wrote = memory is };
-  fault = λ is. inr (record { text = no_memory_line; allowed = Answers.memory refl; broke = fault is });
-  later = omega arith;
-}
-
--- a source was fetched
-pub fetched_answers : (told : Told) (sure : Bool) (a a' b b' : ℕ) (left behind : Option (List ℕ)) (dice : List ℕ) (old new : SinkView) (name : List ℕ) (limits : Limits) (source : List ℕ) (result : ℕ) → WhereTold told (λ contents. source ≡ held (contents name))
-    → Answers.SourceAnswers b b' left behind dice old new name limits source result → Answers.DebugAnswers (Some (debug name limits)) told sure a a' b b' left behind dice old new result
-fetched_answers told sure a a' b b' left behind dice old new name limits source result is h = record {
-  statuses = h.statuses;
-  refused = λ e. at_source told name limits source (Answers.IsRefused old new) is (h.refused e);
-  refuses = if_source told name limits source (λ name limits source. (r : Refusal) → Compiles source (Err r) → Answers.Comes 1 result) is h.refuses;
-  ran = λ e. at_source told name limits source (Answers.IsRun result left behind dice old new) is (h.ran e);
-  runs = if_source told name limits source (λ name limits source. (p : Core) → Compiles source (Ok p) → (result ≡ 0) ⊎ Answers.Comes 3 result) is h.runs;
-  memory = λ e. source_short told left dice old new name limits source is (h.memory e);
-  fault = λ e. source_faults told sure a a' b b' left behind dice old new name limits source is (h.fault e);
-}
-
--- this holds of whatever source is run
-each_source : (told : Told) (name : List ℕ) (limits : Limits) (P : List ℕ → Limits → List ℕ → Type 0) → ((source : List ℕ) → P name limits source) → Answers.IfSource (Some (debug name limits)) told P
-each_source None name limits P h = tt
-each_source (Some contents) name limits P h = h (held (contents name))
-
--- the source is too long
-pub long_answers : (told : Told) (sure : Bool) (a a' b b' : ℕ) (left behind : Option (List ℕ)) (dice : List ℕ) (old new : SinkView) (name : List ℕ) (limits : Limits) (result : ℕ) (r : Refusal) → r ≡ refusal_at SourceTooLong 1 → WhereTold told (λ contents. 1048576 < length (held (contents name)))
-    → Answers.Comes 1 result → (result ≡ 1 → Wrote old new (Answers.refusal_line name r)) → (result ≡ 6 → Wrote old new no_memory_line) → (result ≡ 5 → BrokeOff old new (Answers.refusal_line name r) ⊎ BrokeOff old new no_memory_line)
-    → Answers.DebugAnswers (Some (debug name limits)) told sure a a' b b' left behind dice old new result
-long_answers told sure a a' b b' left behind dice old new name limits result r e more statuses line memory fault = record {
-  statuses = first statuses;
-  refused = λ is. long_refused told name limits old new r e more (line is);
-  refuses = each_source told name limits (λ name limits source. (s : Refusal) → Compiles source (Err s) → Answers.Comes 1 result) (λ source s refused. statuses);
-  ran = λ is. comes_neither result 1 statuses is refl refl;
-  runs = long_runs told name limits result more;
-  memory = λ is. record { text = no_memory_line; is = inl refl; wrote = memory is };
-  fault = λ is. long_faults told sure a a' b b' left behind dice old new name limits r e more (fault is);
-}
-  where
-    first : Answers.Comes 1 result → (result ≡ 0) ⊎ ((result ≡ 1) ⊎ Answers.Comes 3 result)
-    first (inl e) = inr (inl e)
-    first (inr h) = inr (inr (inr h))
-
-late_answers : (told : Told) (sure : Bool) (a a' b b' : ℕ) (left behind : Option (List ℕ)) (dice : List ℕ) (old new : SinkView) (name : List ℕ) (limits : Limits) (result : ℕ) → (result ≡ 5) ⊎ (result ≡ 6)
-    → (result ≡ 6 → Answers.NoMemory (Some (debug name limits)) told left dice old new)
-    → (result ≡ 5 → Answers.ShelfFailed (Some (debug name limits)) told sure a a' old new ⊎ (Answers.InputFailed (Some (debug name limits)) told b b' left behind dice old new ⊎ Answers.OutFailed (Some (debug name limits)) told left dice old new))
-    → Answers.DebugAnswers (Some (debug name limits)) told sure a a' b b' left behind dice old new result
-late_answers told sure a a' b b' left behind dice old new name limits result late memory fault = record {
-  statuses = inr (inr (inr late));
-  refused = λ is. late_isnt result 1 late is refl refl;
-  refuses = each_source told name limits (λ name limits source. (r : Refusal) → Compiles source (Err r) → Answers.Comes 1 result) (λ source r refused. inr late);
-  ran = λ is. late_neither result late is;
-  runs = each_source told name limits (λ name limits source. (p : Core) → Compiles source (Ok p) → (result ≡ 0) ⊎ Answers.Comes 3 result) (λ source p accepted. inr (inr late));
-  memory = memory;
-  fault = fault;
-}
+-- no memory was found for the words
+pub no_room_first : (c : Call) (result : ℕ) → c.shelf_after ≡ c.shelf → c.input_after ≡ c.input → Says 6 no_memory_line c.out c.out_after result → Answers.Answers c result
+no_room_first c result shelf same says = no_room c result (subst (λ (s : ShelfView). KeepsAll c.shelf.contents s.contents) (sym shelf) (keeps_same c.shelf.contents)) same says
 
 -- the shelf failed
-pub failed_answers : (told : Told) (sure : Bool) (a a' b b' : ℕ) (left behind : Option (List ℕ)) (dice : List ℕ) (old new : SinkView) (name : List ℕ) (limits : Limits) (result : ℕ) → result ≡ 5 → Rose a a' → (IsTrue sure → WhereTold told (λ contents. IsSome (contents name) → ⊥))
-    → Wrote old new (Answers.file_fault_line name) ⊎ BrokeOff old new (Answers.file_fault_line name) → Answers.DebugAnswers (Some (debug name limits)) told sure a a' b b' left behind dice old new result
-failed_answers told sure a a' b b' left behind dice old new name limits result five rose missing line =
-    late_answers told sure a a' b b' left behind dice old new name limits result (inl five) (λ is. isnt result 5 6 five is refl)
-    (λ is. file_faults told sure a a' b b' left behind dice old new name limits rose missing line)
+pub file_lost : (c : Call) (t : Task) (result : ℕ) → (c.command ≡ Some (debug t)) ⊎ (c.command ≡ Some (play t)) → KeepsAll c.shelf.contents c.shelf_after.contents → Rose c.shelf.faults c.shelf_after.faults
+    → (IsTrue c.shelf.sure → WhereTold c.shelf.contents (λ contents. IsSome (contents t.name) → ⊥)) → c.input_after ≡ c.input → Says 5 (file_fault_line t.name) c.out c.out_after result → Answers.Answers c result
+file_lost c t result words kept rose missing same says =
+    let n = nothing_here c kept in
+    says_fault c n.0 result n.1 t.name (record { words = (t, words, refl); rose = rose; missing = missing }) same says
 
--- no memory was found to fetch a source
-pub unfetched_answers : (told : Told) (sure : Bool) (a a' b b' : ℕ) (left behind : Option (List ℕ)) (dice : List ℕ) (old new : SinkView) (name : List ℕ) (limits : Limits) (result : ℕ) → (result ≡ 5) ⊎ (result ≡ 6)
-    → (result ≡ 6 → Wrote old new no_memory_line) → (result ≡ 5 → BrokeOff old new no_memory_line) → Answers.DebugAnswers (Some (debug name limits)) told sure a a' b b' left behind dice old new result
-unfetched_answers told sure a a' b b' left behind dice old new name limits result late memory fault =
-    late_answers told sure a a' b b' left behind dice old new name limits result late
-    (λ is. record { text = no_memory_line; is = inl refl; wrote = memory is })
-    (λ is. inr (inr (record { text = no_memory_line; allowed = Answers.no_memory refl; broke = fault is })))
+-- the source is refused
+pub source_refused : (c : Call) (t : Task) (file : List ℕ) (result : ℕ) (r : Refusal) → c.command ≡ Some (debug t) → IsFetched c.shelf c.shelf_after t file → Compiles file (Err r) → c.input_after ≡ c.input
+    → Says 1 (refusal_line t.name r) c.out c.out_after result → Answers.Answers c result
+source_refused c t file result r words f is same says =
+    let h = file_here c t file f in
+    says_refusal c (outside_of c t file h) result (found_file c t file h) t r (refused_in c t file r words h is) same says
+
+-- the source is too long
+pub source_long : (c : Call) (t : Task) (result : ℕ) (r : Refusal) → c.command ≡ Some (debug t) → KeepsAll c.shelf.contents c.shelf_after.contents → WhereTold c.shelf.contents (λ told. 1048576 < length (held (told t.name)))
+    → r ≡ refusal_at SourceTooLong 1 → c.input_after ≡ c.input → Says 1 (refusal_line t.name r) c.out c.out_after result → Answers.Answers c result
+source_long c t result r words kept more e same says =
+    let long = long_here c t 1048576 kept more in
+    says_refusal c (outside_of c t long.0 long.2) result (found_file c t long.0 long.2) t r (refused_in c t long.0 r words long.2 (rw e (too_long long.0 long.1))) same says
+
+-- the file is no story
+pub story_refused : (c : Call) (t : Task) (file : List ℕ) (result : ℕ) (r : StoryRefusal) → c.command ≡ Some (play t) → IsFetched c.shelf c.shelf_after t file → refusal_of file ≡ Some r → c.input_after ≡ c.input
+    → Says 4 (story_line t.name r) c.out c.out_after result → Answers.Answers c result
+story_refused c t file result r words f is same says =
+    let h = file_here c t file f in
+    says_no_story c (outside_of c t file h) result (found_file c t file h) t r (no_story_in c t file r words h is) same says
+
+long_story : (file : List ℕ) → 524288 < length file → refusal_of file ≡ Some BadLength
+unfolding refusal_of
+long_story file more = let test : nat_lt 524288 (length file) ≡ true = grind (arith, nat_tests) in rw test refl
+
+-- the file is too long for a story
+pub story_long : (c : Call) (t : Task) (result : ℕ) → c.command ≡ Some (play t) → KeepsAll c.shelf.contents c.shelf_after.contents → WhereTold c.shelf.contents (λ told. 524288 < length (held (told t.name)))
+    → c.input_after ≡ c.input → Says 4 (story_line t.name BadLength) c.out c.out_after result → Answers.Answers c result
+story_long c t result words kept more same says =
+    let long = long_here c t 524288 kept more in
+    says_no_story c (outside_of c t long.0 long.2) result (found_file c t long.0 long.2) t BadLength (no_story_in c t long.0 BadLength words long.2 (long_story long.0 long.1)) same says

@@ -19,7 +19,7 @@ use Rattle.dg_lower.proofs.SoundLemmas.{core_sound}
 use Rattle.dg_names.specs.Counts.{IsNamed, first_passing}
 use Rattle.dg_names.specs.Named.{Named, names_in, mentioned, word_in, names_of}
 use Rattle.dg_reader.specs.Read.{IsRead}
-use Rattle.dialog_tool.specs.Source.{refusal_at, IsProgram, not_named, not_built, not_rewritten, lowered, Compiles, not_lexed, not_read, read}
+use Rattle.dialog_tool.specs.Source.{refusal_at, refused, given, Compiles}
 use Rattle.dialog_tool.proofs.FewLemmas.{items_few}
 use Rattle.dialog_tool.proofs.FirstLemmas.{firsts_differ}
 use Rattle.dialog_tool.proofs.KeptLemmas.{items_kept}
@@ -59,19 +59,16 @@ source_given source tokens items named plain accepted lexed is n built w =
 -- ---- the program
 
 entered : (named : Named) (plain : List Item) (p : Core) (b : Bool) → has_entry plain ≡ b → Ok p ≡ (if b then Ok (core_of named plain) else Err (refusal_at NoEntry 1)) → IsGiven named plain → are_built plain ≡ true → IsSound p
-entered named plain p true q e given built = let same : core_of named plain ≡ p = cc in subst IsSound same (core_sound named plain given built q)
-entered named plain p false q e given built = cc
-
-program_sound : (source : List ℕ) (tokens : List Token) (items : List Item) (p : Core) → refusal_of source ≡ None → IsLexed source tokens → IsRead (map seen tokens) (Ok items) → IsProgram items (Ok p) → IsSound p
-program_sound source tokens items p accepted lexed is (not_named r h e) = cc
-program_sound source tokens items p accepted lexed is (not_built n h l u e) = cc
-program_sound source tokens items p accepted lexed is (not_rewritten n h u r w e) = cc
-program_sound source tokens items p accepted lexed is (lowered n h u plain w e) =
-    entered n plain p (has_entry plain) refl e (source_given source tokens items n plain accepted lexed is h u w)
-    (subst (λ (l : List Item). are_built l ≡ true) (sym w.1) (items_built None items u))
+entered named plain p true q e things built = let same : core_of named plain ≡ p = cc in subst IsSound same (core_sound named plain things built q)
+entered named plain p false q e things built = cc
 
 -- what a source compiles to is sound
 pub compiled_sound : (source : List ℕ) (p : Core) → Compiles source (Ok p) → IsSound p
-compiled_sound source p (not_lexed r h e) = cc
-compiled_sound source p (not_read none tokens lexed r is e) = cc
-compiled_sound source p (read none tokens lexed items is program) = program_sound source tokens items p none lexed is program
+compiled_sound source p (refused r h e) = cc
+compiled_sound source p (given ts l (refused r h e)) = cc
+compiled_sound source p (given ts l (given items is (refused r h e))) = cc
+compiled_sound source p (given ts l (given items is (given n h (refused r k e)))) = cc
+compiled_sound source p (given ts l (given items is (given n h (given all u (refused r k e))))) = cc
+compiled_sound source p (given ts l (given items is (given n h (given all u (given plain w e))))) =
+    entered n plain p (has_entry plain) refl e (source_given source l.1 items n plain l.0 l.2 (subst (λ s. IsRead s (Ok items)) l.3 is) h u w)
+    (subst (λ (l : List Item). are_built l ≡ true) (sym w.1) (items_built None items u))

@@ -5,10 +5,9 @@ pub mod OptionLemmas
 pub mod RewrittenLemmas
 pub mod CoreLemmas
 pub mod SourceLemmas
-pub mod StatusLemmas
 pub mod AnswerLemmas
+pub mod DecideLemmas
 pub mod PlayLemmas
-pub mod StoryLemmas
 pub mod FirstLemmas
 pub mod FewLemmas
 pub mod KeptLemmas

@@ -1,5 +1,5 @@
--- A source has one answer.
-use Rattle.std.proofs.Common.{◌≡◌, ◌<◌, ◌⊎◌, inl, inr, ℕ, List, length, map, true, false, Option, Some, None, Result, Ok, Err, refl, sym, ◌∙◌, ap, subst, arith}
+-- The steps of a source, and that it has one answer.
+use Rattle.std.proofs.Common.{◌≡◌, ◌<◌, ◌⊎◌, inl, inr, ℕ, List, length, map, true, false, Some, Result, Ok, Err, refl, sym, ◌∙◌, ap, subst, arith}
 use Rattle.std.specs.Prelude.{nat_lt, IfOk, IfErr}
 use Rattle.std.proofs.lemmas.Bool.Decides.{nat_tests}
 use Rattle.dg_base.specs.Tree.{Item}
@@ -8,130 +8,78 @@ use Rattle.dg_base.specs.declared.program.CoreProgram.{CoreProgram as Core}
 use Rattle.dg_base.specs.declared.refusal.ReadFault.{ReadFault}
 use Rattle.dg_base.specs.declared.refusal.ReadFault.TheVariants as fault
 use Rattle.dg_base.specs.declared.refusal.Refusal.{Refusal}
-use Rattle.dg_base.specs.declared.refusal.Kind.TheVariants.{NotBuiltYet, NoEntry, SourceTooLong}
+use Rattle.dg_base.specs.declared.refusal.Kind.TheVariants.{NoEntry, SourceTooLong}
 use Rattle.dg_lex.specs.Bad.{refusal_of}
-use Rattle.dg_lex.specs.Tokens.{IsLexed, Seen, seen, without_mark}
+use Rattle.dg_lex.specs.Tokens.{IsLexed, Seen, seen}
 use Rattle.dg_lex.specs.declared.token.Token.{Token}
-use Rattle.dg_lex.proofs.One.{tokens_one}
 use Rattle.dg_reader.specs.Read.{IsRead}
-use Rattle.dg_reader.proofs.FaultLemmas.{fault_map}
-use Rattle.dg_reader.proofs.ReadLemmas.{read_one}
 use Rattle.dg_names.specs.Named.{Named}
 use Rattle.dg_names.specs.Counts.{IsNamed}
-use Rattle.dg_names.proofs.NameLemmas.{one_answer as named_one}
 use Rattle.dg_access.specs.Rewritten.{IsRewritten}
 use Rattle.dg_lower.specs.Core.{core_of, has_entry}
-use Rattle.dg_lower.specs.Forms.{first_unbuilt}
-use Rattle.dialog_tool.specs.Source.{refusal_at, program_of, IsProgram, not_named, not_built, not_rewritten, lowered, Compiles, not_lexed, not_read, read}
-use Rattle.dialog_tool.proofs.Never.{not_some, not_both}
+use Rattle.dialog_tool.specs.Source.{Then, refused, given, refusal_at, Lexes, Builds, Lowers, Compiles, Meets}
 
-rewritten_one : (is : List Item) (a b : Result (List Item) Refusal) → IsRewritten is a → IsRewritten is b → a ≡ b
-rewritten_one is (Ok x) (Ok y) h k = ap Ok (h.1 ∙ sym k.1)
-rewritten_one is (Ok x) (Err s) h k = let same = sym h.0 ∙ k.1 in cc
-rewritten_one is (Err r) (Ok y) h k = let same = sym k.0 ∙ h.1 in cc
-rewritten_one is (Err r) (Err s) h k = let same = sym h.1 ∙ k.1 in let one = h.2 in let other = k.2 in cc
+-- ## Steps
 
--- an answer that is one refusal is no other
-refused_both : {A : Type 0} (x y : Result A Refusal) (r s : Refusal) (a b : Result Core Refusal) → x ≡ Err r → y ≡ Err s → x ≡ y → a ≡ Err r → b ≡ Err s → a ≡ b
-refused_both x y r s a b h k same e f = cc
+-- this holds of one answer only
+abbrev pub IsOne : {A : Type 0} → (A → Type 0) → Type 0
+IsOne {A = A} P = (x y : A) → P x → P y → x ≡ y
 
-one_value : {A : Type 0} (x y : Result A Refusal) (n m : A) → x ≡ Ok n → y ≡ Ok m → x ≡ y → n ≡ m
-one_value x y n m h k same = cc
+pub then_one : {A B : Type 0} (P : Result A Refusal → Type 0) (Q : A → Result B Refusal → Type 0) → IsOne P → ((a : A) → IsOne (Q a)) → IsOne (Then P Q)
+then_one P Q p q x y (refused r h e) (refused s k f) = let same = p (Err r) (Err s) h k in cc
+then_one P Q p q x y (refused r h e) (given b k w) = let same = p (Err r) (Ok b) h k in cc
+then_one P Q p q x y (given a h v) (refused s k f) = let same = p (Ok a) (Err s) h k in cc
+then_one P Q p q x y (given a h v) (given b k w) = let same : a ≡ b = let both = p (Ok a) (Ok b) h k in cc in q b x y (subst (λ z. Q z x) same v) w
 
-lines_both : (is : List Item) (l j : ℕ) (a b : Result Core Refusal) → first_unbuilt is ≡ Some l → first_unbuilt is ≡ Some j → a ≡ Err (refusal_at NotBuiltYet l) → b ≡ Err (refusal_at NotBuiltYet j) → a ≡ b
-lines_both is l j a b h k e f = cc
+pub then_ok : {A B : Type 0} (P : Result A Refusal → Type 0) (Q : A → Result B Refusal → Type 0) (a : A) (answer : Result B ReadFault) → P (Ok a) → Meets (Q a) answer → Meets (Then P Q) answer
+then_ok P Q a (Ok b) h k = given a h k
+then_ok P Q a (Err (fault.Refused r)) h k = given a h k
+then_ok P Q a (Err fault.OutOfMemory) h k = tt
 
-lowered_both : (n m : Named) (p q : List Item) (a b : Result Core Refusal) → n ≡ m → p ≡ q → a ≡ program_of n p → b ≡ program_of m q → a ≡ b
-lowered_both n m p q a b names plain e f = cc
+pub then_err : {A B : Type 0} (P : Result A Refusal → Type 0) (Q : A → Result B Refusal → Type 0) (f : ReadFault) → IsFault (λ r. P (Err r)) f → Meets (Then P Q) (Err f)
+then_err P Q (fault.Refused r) h = refused r h refl
+then_err P Q fault.OutOfMemory h = tt
 
-program_one : (is : List Item) (a b : Result Core Refusal) → IsProgram is a → IsProgram is b → a ≡ b
-program_one is a b (not_named r h e) (not_named s k f) = refused_both (Err r) (Err s) r s a b refl refl (named_one is (Err r) (Err s) h k) e f
-program_one is a b (not_named r h e) (not_built m k l u f) = not_both (Ok m) (Err r) m r refl refl (named_one is (Ok m) (Err r) k h)
-program_one is a b (not_named r h e) (not_rewritten m k u s w f) = not_both (Ok m) (Err r) m r refl refl (named_one is (Ok m) (Err r) k h)
-program_one is a b (not_named r h e) (lowered m k u p w f) = not_both (Ok m) (Err r) m r refl refl (named_one is (Ok m) (Err r) k h)
-program_one is a b (not_built n h l u e) (not_named s k f) = not_both (Ok n) (Err s) n s refl refl (named_one is (Ok n) (Err s) h k)
-program_one is a b (not_built n h l u e) (not_built m k j v f) = lines_both is l j a b u v e f
-program_one is a b (not_built n h l u e) (not_rewritten m k v s w f) = not_some (first_unbuilt is) l u v
-program_one is a b (not_built n h l u e) (lowered m k v p w f) = not_some (first_unbuilt is) l u v
-program_one is a b (not_rewritten n h u r w e) (not_named s k f) = not_both (Ok n) (Err s) n s refl refl (named_one is (Ok n) (Err s) h k)
-program_one is a b (not_rewritten n h u r w e) (not_built m k j v f) = not_some (first_unbuilt is) j v u
-program_one is a b (not_rewritten n h u r w e) (not_rewritten m k v s x f) = refused_both (Err r) (Err s) r s a b refl refl (rewritten_one is (Err r) (Err s) w x) e f
-program_one is a b (not_rewritten n h u r w e) (lowered m k v p x f) = not_both (Ok p) (Err r) p r refl refl (rewritten_one is (Ok p) (Err r) x w)
-program_one is a b (lowered n h u p w e) (not_named s k f) = not_both (Ok n) (Err s) n s refl refl (named_one is (Ok n) (Err s) h k)
-program_one is a b (lowered n h u p w e) (not_built m k j v f) = not_some (first_unbuilt is) j v u
-program_one is a b (lowered n h u p w e) (not_rewritten m k v s x f) = not_both (Ok p) (Err s) p s refl refl (rewritten_one is (Ok p) (Err s) w x)
-program_one is a b (lowered n h u p w e) (lowered m k v q x f) = lowered_both n m p q a b (one_value (Ok n) (Ok m) n m refl refl (named_one is (Ok n) (Ok m) h k)) (one_value (Ok p) (Ok q) p q refl refl (rewritten_one is (Ok p) (Ok q) w x)) e f
+-- ## One answer
 
--- the items that are read of a source
-items_one : (source : List ℕ) (ts us : List Token) (a b : Result (List Item) Refusal) → IsLexed source ts → IsLexed source us → IsRead (map seen ts) a → IsRead (map seen us) b → a ≡ b
-items_one source ts us a b h k r s = read_one (map seen us) a b (subst (λ (l : List Seen). IsRead l a) (tokens_one _ _ (without_mark source) ts us h k) r) s
+lexes_one : (source : List ℕ) → ((ts us : List Token) → IsLexed source ts → IsLexed source us → map seen ts ≡ map seen us) → IsOne (Lexes source)
+lexes_one source one (Ok ts) (Ok us) h k = ap Ok (h.3 ∙ one h.1 k.1 h.2 k.2 ∙ sym k.3)
+lexes_one source one (Ok ts) (Err s) h k = let no = sym h.0 ∙ k in cc
+lexes_one source one (Err r) (Ok us) h k = let no = sym k.0 ∙ h in cc
+lexes_one source one (Err r) (Err s) h k = let same = sym h ∙ k in cc
 
-refused_lexed : (o : Option Refusal) (r s : Refusal) (a b : Result Core Refusal) → o ≡ Some r → o ≡ Some s → a ≡ Err r → b ≡ Err s → a ≡ b
-refused_lexed o r s a b h k e f = cc
+builds_one : (items : List Item) → IsOne (Builds items)
+builds_one items (Ok a) (Ok b) h k = refl
+builds_one items (Ok a) (Err s) h k = let no = sym h ∙ k.1 in cc
+builds_one items (Err r) (Ok b) h k = let no = sym k ∙ h.1 in cc
+builds_one items (Err r) (Err s) h k = let line : h.0 ≡ k.0 = let same = sym h.1 ∙ k.1 in cc in ap Err (h.2 ∙ ap (λ l. refusal_at _ l) line ∙ sym k.2)
 
-pub one_answer : (source : List ℕ) (a b : Result Core Refusal) → Compiles source a → Compiles source b → a ≡ b
-one_answer source a b (not_lexed r h e) (not_lexed s k f) = refused_lexed (refusal_of source) r s a b h k e f
-one_answer source a b (not_lexed r h e) (not_read none us k s y f) = not_some (refusal_of source) r h none
-one_answer source a b (not_lexed r h e) (read none us k js y f) = not_some (refusal_of source) r h none
-one_answer source a b (not_read none ts h r x e) (not_lexed s k f) = not_some (refusal_of source) s k none
-one_answer source a b (not_read none ts h r x e) (not_read none' us k s y f) = refused_both (Err r) (Err s) r s a b refl refl (items_one source ts us (Err r) (Err s) h k x y) e f
-one_answer source a b (not_read none ts h r x e) (read none' us k js y f) = not_both (Ok js) (Err r) js r refl refl (items_one source us ts (Ok js) (Err r) k h y x)
-one_answer source a b (read none ts h is x e) (not_lexed s k f) = not_some (refusal_of source) s k none
-one_answer source a b (read none ts h is x e) (not_read none' us k s y f) = not_both (Ok is) (Err s) is s refl refl (items_one source ts us (Ok is) (Err s) h k x y)
-one_answer source a b (read none ts h is x e) (read none' us k js y f) =
-    program_one js a b (subst (λ (l : List Item). IsProgram l a) (one_value (Ok is) (Ok js) is js refl refl (items_one source ts us (Ok is) (Ok js) h k x y)) e) f
+lowers_one : (named : Named) (plain : List Item) → IsOne (Lowers named plain)
+lowers_one named plain x y h k = h ∙ sym k
+
+pub compiles_one : (source : List ℕ) → ((source : List ℕ) (ts us : List Token) → IsLexed source ts → IsLexed source us → map seen ts ≡ map seen us)
+    → ((ts : List Seen) → IsOne (IsRead ts)) → ((is : List Item) → IsOne (IsNamed is)) → ((is : List Item) → IsOne (IsRewritten is)) → IsOne (Compiles source)
+compiles_one source lexed read named rewritten =
+    then_one _ _ (lexes_one source (lexed source)) (λ ts. then_one _ _ (read ts) (λ items.
+    then_one _ _ (named items) (λ n. then_one _ _ (builds_one items) (λ all. then_one _ _ (rewritten items) (λ plain. lowers_one n plain)))))
 
 -- ## From the calls to the answer
 
-pub unnamed_of : (is : List Item) (f : ReadFault) → IsFault (λ r. IsNamed is (Err r)) f → IsFault (λ r. IsProgram is (Err r)) f
-unnamed_of is f h = fault_map _ _ (λ r k. not_named r k refl) f h
+pub lexed_of : (source : List ℕ) (f : ReadFault) → (f ≡ fault.OutOfMemory) ⊎ ((r : Refusal) × (refusal_of source ≡ Some r) × (f ≡ fault.Refused r)) → IsFault (λ r. Lexes source (Err r)) f
+lexed_of source f (inl e) = rw e tt
+lexed_of source f (inr h) = rw h.2 h.1
 
-pub unbuilt_of : (is : List Item) (named : Named) (line : ℕ) → IsNamed is (Ok named) → Some line ≡ first_unbuilt is → IsProgram is (Err (refusal_at NotBuiltYet line))
-unbuilt_of is named line h e = not_built named h line (sym e) refl
+pub lowered_of : (named : Named) (plain : List Item) (answer : Result Core ReadFault) → IfOk answer (λ p. p ≡ core_of named plain) → IfOk answer (λ p. has_entry plain ≡ true)
+    → IfErr answer (IsFault (λ r. (has_entry plain ≡ false) × (r ≡ refusal_at NoEntry 1))) → Meets (Lowers named plain) answer
+lowered_of named plain (Ok p) core entry none = rw entry (ap Ok core)
+lowered_of named plain (Err (fault.Refused r)) core entry none = rw none.0 (ap Err none.1)
+lowered_of named plain (Err fault.OutOfMemory) core entry none = tt
 
--- what the items with plain heads come to
-abbrev pub Comes : List Item → Named → Result Core Refusal → Type 0
-Comes is named answer = (plain : List Item) × IsRewritten is (Ok plain) × (answer ≡ program_of named plain)
-
--- what the lowered program of plain items is
-pub lowered_of : (is : List Item) (named : Named) (plain : List Item) (answer : Result Core ReadFault) → IsRewritten is (Ok plain) → IfOk answer (λ p. p ≡ core_of named plain) → IfOk answer (λ _. has_entry plain ≡ true) → IfOk answer (λ p. Comes is named (Ok p))
-lowered_of is named plain (Ok p) w core entry = (plain, w, rw entry (ap Ok core))
-lowered_of is named plain (Err f) w core entry = tt
-
-pub no_entry_of : (is : List Item) (named : Named) (plain : List Item) (answer : Result Core ReadFault) → IsRewritten is (Ok plain) → IfErr answer (IsFault (λ r. (has_entry plain ≡ false) × (r ≡ refusal_at NoEntry 1)))
-    → IfErr answer (IsFault (λ r. IsRewritten is (Err r) ⊎ Comes is named (Err r)))
-no_entry_of is named plain (Ok p) w h = tt
-no_entry_of is named plain (Err f) w h = fault_map _ _ (λ r k. inr (plain, w, rw k.0 (ap Err k.1))) f h
-
-pub built_of : (is : List Item) (named : Named) (p : Core) → IsNamed is (Ok named) → None ≡ first_unbuilt is → Comes is named (Ok p) → IsProgram is (Ok p)
-built_of is named p h e k = lowered named h (sym e) k.0 k.1 k.2
-
-pub late_of : (is : List Item) (named : Named) (f : ReadFault) → IsNamed is (Ok named) → None ≡ first_unbuilt is → IsFault (λ r. IsRewritten is (Err r) ⊎ Comes is named (Err r)) f → IsFault (λ r. IsProgram is (Err r)) f
-late_of is named f h e k = fault_map _ _ each f k
-  where
-    each : (r : Refusal) → IsRewritten is (Err r) ⊎ Comes is named (Err r) → IsProgram is (Err r)
-    each r (inl m) = not_rewritten named h (sym e) r m refl
-    each r (inr m) = lowered named h (sym e) m.0 m.1 m.2
-
-pub not_lexed_of : (source : List ℕ) (f : ReadFault) → (f ≡ fault.OutOfMemory) ⊎ ((r : Refusal) × (refusal_of source ≡ Some r) × (f ≡ fault.Refused r)) → IsFault (λ r. Compiles source (Err r)) f
-not_lexed_of source f (inl e) = rw e tt
-not_lexed_of source f (inr h) = rw h.2 (not_lexed h.0 h.1 refl)
-
-pub not_read_of : (source : List ℕ) (tokens given : List Token) (f : ReadFault) → refusal_of source ≡ None → IsLexed source tokens → given ≡ tokens
-    → IsFault (λ r. IsRead (map seen given) (Err r)) f → IsFault (λ r. Compiles source (Err r)) f
-not_read_of source tokens given f none lexed same h =
-    fault_map _ _ (λ r k. not_read none tokens lexed r (subst (λ (l : List Token). IsRead (map seen l) (Err r)) same k) refl) f h
-
-pub read_of : (source : List ℕ) (tokens given : List Token) (items : List Item) (answer : Result Core Refusal) → refusal_of source ≡ None → IsLexed source tokens → given ≡ tokens
-    → IsRead (map seen given) (Ok items) → IsProgram items answer → Compiles source answer
-read_of source tokens given items answer none lexed same is program =
-    read none tokens lexed items (subst (λ (l : List Token). IsRead (map seen l) (Ok items)) same is) program
-
-pub refused_of : (source : List ℕ) (tokens given : List Token) (items : List Item) (f : ReadFault) → refusal_of source ≡ None → IsLexed source tokens → given ≡ tokens
-    → IsRead (map seen given) (Ok items) → IsFault (λ r. IsProgram items (Err r)) f → IsFault (λ r. Compiles source (Err r)) f
-refused_of source tokens given items f none lexed same is h = fault_map _ _ (λ r k. read_of source tokens given items (Err r) none lexed same is k) f h
+pub meets_ok : {A : Type 0} (P : Result A Refusal → Type 0) (Q : A → Type 0) (answer : Result A ReadFault) → ((a : A) → P (Ok a) → Q a) → Meets P answer → IfOk answer Q
+meets_ok P Q (Ok a) f h = f a h
+meets_ok P Q (Err e) f h = tt
 
 -- ## A source that is too long
 
 pub too_long : (source : List ℕ) → 1048576 < length source → Compiles source (Err (refusal_at SourceTooLong 1))
-too_long source more = let test : nat_lt 1048576 (length source) ≡ true = grind (arith, nat_tests) in not_lexed (refusal_at SourceTooLong 1) (rw test refl) refl
+too_long source more = let test : nat_lt 1048576 (length source) ≡ true = grind (arith, nat_tests) in refused (refusal_at SourceTooLong 1) (rw test refl) refl

@@ -1,30 +1,26 @@
 -- The answers of the program, one by one: hold them against the table of statuses in man/dialog.1.
-use Rattle.std.specs.Prelude.{◌≡◌, ◌≤◌, ◌⊎◌, ℕ, List, ◌++◌, Option, Some, None, Bool, IsTrue, IsSome, Ok, Err, codes, decimal}
+use Rattle.std.specs.Prelude.{◌≡◌, ◌⊎◌, ℕ, List, Some, None, IsTrue, IsSome, Ok, Err}
 use Rattle.dg_base.specs.Causes.{Rose}
-use Rattle.dg_base.specs.Shelves.{Told, held, WhereTold}
-use Rattle.dg_base.specs.Written.{SinkView, Wrote, BrokeOff}
-use Rattle.dg_base.specs.Refusals.{text_of_kind}
+use Rattle.dg_base.specs.Shelves.{WhereTold, KeepsAll}
+use Rattle.dg_base.specs.Written.{Wrote, BrokeOff}
 use Rattle.dg_base.specs.declared.program.CoreProgram.{CoreProgram as Core}
 use Rattle.dg_base.specs.declared.refusal.Refusal.{Refusal}
-use Rattle.dg_base.specs.declared.run.Limits.{Limits}
 use Rattle.dg_base.specs.declared.run.Ending.{Ending}
 use Rattle.dg_base.specs.declared.run.Ending.TheVariants.{Done, Quit, Failed, Stopped, InputEnded, StepLimit, HeapLimit, TrailLimit, AuxLimit, KeepLimit}
 use Rattle.dg_base.specs.declared.run.Outcome.{Outcome}
-use Rattle.dg_meaning.specs.Shows.{MayWrite, ShowsNoMemory}
+use Rattle.dg_base.specs.declared.run.Fault.TheVariants.{Read}
+use Rattle.dg_meaning.specs.World.{Game}
+use Rattle.dg_meaning.specs.Shows.{MayWrite}
 use Rattle.dg_meaning.specs.Transcript.{no_memory_line}
-use Rattle.dg_interp.specs.Interpret.{game, ForTyped, HasShown, HasLostInput, HasLostOutput, HasLostMemory}
-use Rattle.dialog_tool.specs.Command.{Command, debug, play, usage_line}
+use Rattle.dg_interp.specs.Interpret.{game, HasShown, HasLostInput, HasLostMemory}
+use Rattle.z_model.specs.Story.{refusal_of}
+use Rattle.z_model.specs.declared.end.ZEnd.{ZEnd}
+use Rattle.z_model.specs.declared.story.StoryRefusal.{StoryRefusal}
+use Rattle.dialog_tool.specs.Command.{debug, play, Task, limits_of}
+use Rattle.dialog_tool.specs.Call.{Call, Outside, Finds, file_of, dice_for}
+use Rattle.dialog_tool.specs.Lines.{usage_line, refusal_line, story_line, file_fault_line}
+use Rattle.dialog_tool.specs.Playing.{run_of, status_of_end, TaskPlays, MayTell}
 use Rattle.dialog_tool.specs.Source.{Compiles}
-
--- ---- lines
-
--- FILE:LINE: TEXT
-abbrev pub refusal_line : List ℕ → Refusal → List ℕ
-refusal_line name r = name ++ (codes ":" ++ (decimal r.line ++ (codes ": " ++ (text_of_kind r.kind ++ codes "\n"))))
-
--- FILE: file fault
-abbrev pub file_fault_line : List ℕ → List ℕ
-file_fault_line name = name ++ codes ": file fault\n"
 
 -- ---- statuses
 
@@ -45,166 +41,146 @@ status_of TrailLimit = 3
 status_of AuxLimit = 3
 status_of KeepLimit = 3
 
--- ---- what the answers speak of
+-- ---- what a task is
 
--- the file that a command reads
-abbrev pub file_of : Option Command → Option (List ℕ)
-file_of None = None
-file_of (Some (debug name limits)) = Some name
-file_of (Some (play name steps dice)) = Some name
+-- The words run a source, and it is this program.
+pub record IsProgram (c : Call) (o : Outside) (t : Task) (p : Core) : Type 0 where
+  pub words : c.command ≡ Some (debug t)
+  pub compiles : Compiles (file_of o t) (Ok p)
 
--- the words run a source, and this holds of its file's name, the limits and, where they are told, the file's contents
-abbrev pub AtSource : Option Command → Told → (List ℕ → Limits → List ℕ → Type 0) → Type 0
-AtSource None told P = ⊥
-AtSource (Some (debug name limits)) told P = WhereTold told (λ contents. P name limits (held (contents name)))
-AtSource (Some (play name steps dice)) told P = ⊥
+-- The words run a source, and it is refused.
+pub record IsRefused (c : Call) (o : Outside) (t : Task) (r : Refusal) : Type 0 where
+  pub words : c.command ≡ Some (debug t)
+  pub compiles : Compiles (file_of o t) (Err r)
 
--- where the words run a source and the contents of its file are told, this holds of them
-abbrev pub IfSource : Option Command → Told → (List ℕ → Limits → List ℕ → Type 0) → Type 0
-IfSource None told P = Unit {0}
-IfSource (Some (debug name limits)) None P = Unit {0}
-IfSource (Some (debug name limits)) (Some contents) P = P name limits (held (contents name))
-IfSource (Some (play name steps dice)) told P = Unit {0}
+-- The words play a file, and it is a story.
+pub record IsStory (c : Call) (o : Outside) (t : Task) : Type 0 where
+  pub words : c.command ≡ Some (play t)
+  pub accepted : refusal_of (file_of o t) ≡ None
+
+-- The words play a file, and it is no story.
+pub record IsNoStory (c : Call) (o : Outside) (t : Task) (r : StoryRefusal) : Type 0 where
+  pub words : c.command ≡ Some (play t)
+  pub refused : refusal_of (file_of o t) ≡ Some r
+
+-- the game of a program
+abbrev pub game_of : Call → Task → Core → Game
+game_of c t p = game p (dice_for c t)
+
+-- The shelf failed at the file of the words; one that is sure fails only where it has no such file.
+pub record LostFile (c : Call) (name : List ℕ) : Type 0 where
+  pub words : (t : Task) × ((c.command ≡ Some (debug t)) ⊎ (c.command ≡ Some (play t))) × (name ≡ t.name)
+  pub rose : Rose c.shelf.faults c.shelf_after.faults
+  pub missing : IsTrue c.shelf.sure → WhereTold c.shelf.contents (λ contents. IsSome (contents name) → ⊥)
 
 -- ---- the answers
 
 -- 2: the words are no command, and out took the usage line
-pub record IsUsage (command : Option Command) (old new : SinkView) : Type 0 where
-  pub none : command ≡ None
-  pub wrote : Wrote old new usage_line
+pub record Misused (c : Call) : Type 0 where
+  pub none : c.command ≡ None
+  pub wrote : Wrote c.out c.out_after usage_line
+  pub shelf_stays : c.shelf_after ≡ c.shelf
+  pub input_stays : c.input_after ≡ c.input
 
 -- 1: the source is refused, and out took the line that says so
-pub record IsRefused (old new : SinkView) (name : List ℕ) (limits : Limits) (source : List ℕ) : Type 0 where
+pub record RefusedSource (c : Call) (o : Outside) : Type 0 where
+  pub task : Task
   pub refusal : Refusal
-  pub compiles : Compiles source (Err refusal)
-  pub wrote : Wrote old new (refusal_line name refusal)
+  pub is : IsRefused c o task refusal
+  pub wrote : Wrote c.out c.out_after (refusal_line task.name refusal)
+  pub input_stays : c.input_after ≡ c.input
 
 -- 0 and 3: the source is a program, and out took a text that shows a run of it on the typed bytes
-pub record IsRun (status : ℕ) (left left_behind : Option (List ℕ)) (dice : List ℕ) (old new : SinkView) (name : List ℕ) (limits : Limits) (source : List ℕ) : Type 0 where
+pub record RanSource (c : Call) (o : Outside) (status : ℕ) : Type 0 where
+  pub task : Task
   pub program : Core
-  pub compiles : Compiles source (Ok program)
+  pub is : IsProgram c o task program
   pub outcome : Outcome
-  pub shown : ForTyped left (λ typed. HasShown (game program dice) typed (limits) outcome left_behind old new)
+  pub shown : HasShown (game_of c task program) o.typed (limits_of task) outcome c.input_after.left c.out c.out_after
   pub is_status : status ≡ status_of outcome.ending
 
--- 5: the input failed in a run, and out took the text up to there with its closing
-pub record IsCutOff (left left_behind : Option (List ℕ)) (dice : List ℕ) (old new : SinkView) (name : List ℕ) (limits : Limits) (source : List ℕ) : Type 0 where
+-- 4: the file is no story, and out took the line that says why
+pub record RefusedStory (c : Call) (o : Outside) : Type 0 where
+  pub task : Task
+  pub refusal : StoryRefusal
+  pub is : IsNoStory c o task refusal
+  pub wrote : Wrote c.out c.out_after (story_line task.name refusal)
+  pub input_stays : c.input_after ≡ c.input
+
+-- 0, 3 and 4: the file is a story and its run ended; where the input tells its bytes, out took the run's output with the line of its end
+pub record PlayedStory (c : Call) (o : Outside) (status : ℕ) : Type 0 where
+  pub task : Task
+  pub is : IsStory c o task
+  pub end : ZEnd
+  pub is_status : status ≡ status_of_end end
+  pub played : IsSome c.input.left → TaskPlays (Ok end) c o task
+
+-- what a call comes to where nothing fails
+pub data Ends (c : Call) (o : Outside) (result : ℕ) : Type 0 where
+  misused : result ≡ 2 → Misused c → Ends c o result
+  refused : result ≡ 1 → RefusedSource c o → Ends c o result
+  ran : RanSource c o result → Ends c o result
+  refused_story : result ≡ 4 → RefusedStory c o → Ends c o result
+  played : PlayedStory c o result → Ends c o result
+
+-- ---- where something fails
+
+-- 5: the input failed in a source's run, and out took the text up to there with its closing
+pub record CutOffSource (c : Call) (o : Outside) : Type 0 where
+  pub rose : Rose c.input.faults c.input_after.faults
+  pub task : Task
   pub program : Core
-  pub compiles : Compiles source (Ok program)
-  pub lost : ForTyped left (λ typed. HasLostInput (game program dice) typed (limits) left_behind old new)
+  pub is : IsProgram c o task program
+  pub lost : HasLostInput (game_of c task program) o.typed (limits_of task) c.input_after.left c.out c.out_after
 
--- 5: the shelf failed at the command's file, and out took the line that names it; a shelf that is sure fails only where it has no such file
-pub record ShelfFailed (command : Option Command) (told : Told) (sure : Bool) (before after : ℕ) (old new : SinkView) : Type 0 where
-  pub rose : Rose before after
-  pub name : List ℕ
-  pub file : file_of command ≡ Some name
-  pub missing : IsTrue sure → WhereTold told (λ contents. IsSome (contents name) → ⊥)
-  pub wrote : Wrote old new (file_fault_line name)
+-- 5: the input failed in a story's run, and where it tells its bytes, out took the output up to there with the line that says so
+pub record CutOffStory (c : Call) (o : Outside) : Type 0 where
+  pub rose : Rose c.input.faults c.input_after.faults
+  pub task : Task
+  pub is : IsStory c o task
+  pub lost : IsSome c.input.left → TaskPlays (Err Read) c o task
 
--- 5: the input failed in a source's run
-pub record InputFailed (command : Option Command) (told : Told) (before after : ℕ) (left left_behind : Option (List ℕ)) (dice : List ℕ) (old new : SinkView) : Type 0 where
-  pub rose : Rose before after
-  pub cut_off : AtSource command told (IsCutOff left left_behind dice old new)
-
--- a program's run may write this text
-pub record MayShow (left : Option (List ℕ)) (dice text : List ℕ) (name : List ℕ) (limits : Limits) (source : List ℕ) : Type 0 where
-  pub program : Core
-  pub compiles : Compiles source (Ok program)
-  pub writes : ForTyped left (λ typed. MayWrite (game program dice) typed (limits) text)
-
--- the source is refused with this line
-pub record IsRefusalLine (text : List ℕ) (name : List ℕ) (limits : Limits) (source : List ℕ) : Type 0 where
-  pub refusal : Refusal
-  pub compiles : Compiles source (Err refusal)
-  pub is : text ≡ refusal_line name refusal
-
--- the texts that a call may be writing, but for those of a story
-pub data MayPrint (command : Option Command) (told : Told) (left : Option (List ℕ)) (dice text : List ℕ) : Type 0 where
-  usage : command ≡ None → text ≡ usage_line → MayPrint command told left dice text
-  refusal : AtSource command told (IsRefusalLine text) → MayPrint command told left dice text
-  shown : AtSource command told (MayShow left dice text) → MayPrint command told left dice text
-  file_fault : (name : List ℕ) → file_of command ≡ Some name → text ≡ file_fault_line name → MayPrint command told left dice text
-  no_memory : text ≡ no_memory_line → MayPrint command told left dice text
-
--- 5: out failed within such a text, of which it took a front; where it told a room, the text is longer
-pub record OutFailed (command : Option Command) (told : Told) (left : Option (List ℕ)) (dice : List ℕ) (old new : SinkView) : Type 0 where
+-- out failed within what a story's run may be writing
+pub record LostOut (c : Call) (o : Outside) (t : Task) : Type 0 where
   pub text : List ℕ
-  pub allowed : MayPrint command told left dice text
-  pub broke : BrokeOff old new text
+  pub may_tell : MayTell c o t text
+  pub broke : BrokeOff c.out c.out_after text
 
--- a run's text up to some moment, closed with the line on want of memory
-pub record ShowsSome (left : Option (List ℕ)) (dice text : List ℕ) (name : List ℕ) (limits : Limits) (source : List ℕ) : Type 0 where
-  pub program : Core
-  pub compiles : Compiles source (Ok program)
-  pub shows : ForTyped left (λ typed. ShowsNoMemory (game program dice) typed (limits) text)
+-- the texts that a call may be writing when out fails, but for those of a story
+pub data MayPrint (c : Call) (o : Outside) (text : List ℕ) : Type 0 where
+  usage : c.command ≡ None → text ≡ usage_line → MayPrint c o text
+  refusal : (t : Task) → (r : Refusal) → IsRefused c o t r → text ≡ refusal_line t.name r → MayPrint c o text
+  shown : (t : Task) → (p : Core) → IsProgram c o t p → MayWrite (game_of c t p) o.typed (limits_of t) text → MayPrint c o text
+  story_refusal : (t : Task) → (r : StoryRefusal) → IsNoStory c o t r → text ≡ story_line t.name r → MayPrint c o text
+  file_fault : (name : List ℕ) → LostFile c name → text ≡ file_fault_line name → MayPrint c o text
+  no_memory : text ≡ no_memory_line → MayPrint c o text
 
--- 6: out took the line on want of memory, behind what a run had printed where there was one
-pub record NoMemory (command : Option Command) (told : Told) (left : Option (List ℕ)) (dice : List ℕ) (old new : SinkView) : Type 0 where
-  pub text : List ℕ
-  pub is : (text ≡ no_memory_line) ⊎ AtSource command told (ShowsSome left dice text)
-  pub wrote : Wrote old new text
+-- What failed, at 5: the shelf, and out took the line that names the file; the input; or out within a text, of which it took a front. Where a room was told, the text is longer.
+pub data Fails (c : Call) (o : Outside) : Type 0 where
+  shelf : (name : List ℕ) → LostFile c name → Wrote c.out c.out_after (file_fault_line name) → c.input_after ≡ c.input → Fails c o
+  input : CutOffSource c o → Fails c o
+  story_input : CutOffStory c o → Fails c o
+  out : (text : List ℕ) → MayPrint c o text → BrokeOff c.out c.out_after text → Fails c o
+  story_out : (t : Task) → IsStory c o t → Rose c.out.faults c.out_after.faults → (IsSome c.input.left → LostOut c o t) → Fails c o
 
--- ---- one program and one source
+-- Where no memory was found, at 6: nothing ran, and out took the line that says so; or a source's run was broken off, and the line stands behind what it printed
+pub data Lacks (c : Call) (o : Outside) : Type 0 where
+  nothing_ran : Wrote c.out c.out_after no_memory_line → c.input_after ≡ c.input → Lacks c o
+  in_run : (t : Task) → (p : Core) → IsProgram c o t p → HasLostMemory (game_of c t p) o.typed (limits_of t) c.out c.out_after → Lacks c o
 
--- out took a text that shows a run of this program, with the status of its ending
-pub record Shown (status : ℕ) (program : Core) (limits : Limits) (left left_behind : Option (List ℕ)) (dice : List ℕ) (old new : SinkView) : Type 0 where
-  pub outcome : Outcome
-  pub shown : ForTyped left (λ typed. HasShown (game program dice) typed (limits) outcome left_behind old new)
-  pub is_status : status ≡ status_of outcome.ending
+-- ---- the call
 
--- the input failed in a run of this program
-pub record LostInput (program : Core) (limits : Limits) (before after : ℕ) (left left_behind : Option (List ℕ)) (dice : List ℕ) (old new : SinkView) : Type 0 where
-  pub rose : Rose before after
-  pub lost : ForTyped left (λ typed. HasLostInput (game program dice) typed (limits) left_behind old new)
+-- What a call comes to, for some outside as far as it is told; the shelf keeps what it holds.
+pub record Answers (c : Call) (result : ℕ) : Type 0 where
+  pub outside : Outside
+  pub found : Finds c outside
+  pub kept : KeepsAll c.shelf.contents c.shelf_after.contents
+  pub answer : Ends c outside result ⊎ (((result ≡ 5) × Fails c outside) ⊎ ((result ≡ 6) × Lacks c outside))
 
--- memory ran out in a run of this program
-abbrev pub LostMemory : Core → Limits → Option (List ℕ) → List ℕ → SinkView → SinkView → Type 0
-LostMemory program limits left dice old new = ForTyped left (λ typed. HasLostMemory (game program dice) typed (limits) old new)
-
--- out failed in a run of this program
-abbrev pub LostOutput : Core → Limits → Option (List ℕ) → List ℕ → SinkView → SinkView → Type 0
-LostOutput program limits left dice old new = ForTyped left (λ typed. HasLostOutput (game program dice) typed (limits) old new)
-
--- the input failed in a run of a source
-pub record SourceLostInput (before after : ℕ) (left left_behind : Option (List ℕ)) (dice : List ℕ) (old new : SinkView) (name : List ℕ) (limits : Limits) (source : List ℕ) : Type 0 where
-  pub rose : Rose before after
-  pub cut_off : IsCutOff left left_behind dice old new name limits source
-
--- a text that may be written once a source was fetched
-pub data MayPrintOf (left : Option (List ℕ)) (dice text name : List ℕ) (limits : Limits) (source : List ℕ) : Type 0 where
-  line : IsRefusalLine text name limits source → MayPrintOf left dice text name limits source
-  show : MayShow left dice text name limits source → MayPrintOf left dice text name limits source
-  memory : text ≡ no_memory_line → MayPrintOf left dice text name limits source
-
--- out failed within such a text
-pub record SourceLostOutput (left : Option (List ℕ)) (dice : List ℕ) (old new : SinkView) (name : List ℕ) (limits : Limits) (source : List ℕ) : Type 0 where
-  pub text : List ℕ
-  pub allowed : MayPrintOf left dice text name limits source
-  pub broke : BrokeOff old new text
-
--- memory ran out once a source was fetched
-pub record SourceLostMemory (left : Option (List ℕ)) (dice : List ℕ) (old new : SinkView) (name : List ℕ) (limits : Limits) (source : List ℕ) : Type 0 where
-  pub text : List ℕ
-  pub is : (text ≡ no_memory_line) ⊎ ShowsSome left dice text name limits source
-  pub wrote : Wrote old new text
-
--- what is answered once a source was fetched: each status with what holds there, and which statuses a refused source and a program have
-pub record SourceAnswers (b b' : ℕ) (left left_behind : Option (List ℕ)) (dice : List ℕ) (old new : SinkView) (name : List ℕ) (limits : Limits) (source : List ℕ) (result : ℕ) : Type 0 where
-  pub statuses : (result ≡ 0) ⊎ ((result ≡ 1) ⊎ Comes 3 result)
-  pub refused : result ≡ 1 → IsRefused old new name limits source
-  pub refuses : (r : Refusal) → Compiles source (Err r) → Comes 1 result
-  pub ran : (result ≡ 0) ⊎ (result ≡ 3) → IsRun result left left_behind dice old new name limits source
-  pub runs : (p : Core) → Compiles source (Ok p) → (result ≡ 0) ⊎ Comes 3 result
-  pub memory : result ≡ 6 → SourceLostMemory left dice old new name limits source
-  pub fault : result ≡ 5 → SourceLostInput b b' left left_behind dice old new name limits source ⊎ SourceLostOutput left dice old new name limits source
-  pub later : b ≤ b'
-
--- what is answered where the words run a source
-pub record DebugAnswers (command : Option Command) (told : Told) (sure : Bool) (a a' b b' : ℕ) (left left_behind : Option (List ℕ)) (dice : List ℕ) (old new : SinkView) (result : ℕ) : Type 0 where
-  pub statuses : (result ≡ 0) ⊎ ((result ≡ 1) ⊎ Comes 3 result)
-  pub refused : result ≡ 1 → AtSource command told (IsRefused old new)
-  pub refuses : IfSource command told (λ name limits source. (r : Refusal) → Compiles source (Err r) → Comes 1 result)
-  pub ran : (result ≡ 0) ⊎ (result ≡ 3) → AtSource command told (IsRun result left left_behind dice old new)
-  pub runs : IfSource command told (λ name limits source. (p : Core) → Compiles source (Ok p) → (result ≡ 0) ⊎ Comes 3 result)
-  pub memory : result ≡ 6 → NoMemory command told left dice old new
-  pub fault : result ≡ 5 → ShelfFailed command told sure a a' old new ⊎ (InputFailed command told b b' left left_behind dice old new ⊎ OutFailed command told left dice old new)
+-- Which statuses come where: 2 exactly where the words are no command; 1 exactly where the source is refused, 0 and 3 where it is a program; 4 exactly where the file is no story, and of a story the status of its run's end.
+pub record Decides (c : Call) (result : ℕ) : Type 0 where
+  pub no_command : c.command ≡ None → Comes 2 result
+  pub refuses : (o : Outside) → c.shelf.contents ≡ Some o.contents → (t : Task) → (r : Refusal) → IsRefused c o t r → Comes 1 result
+  pub runs : (o : Outside) → c.shelf.contents ≡ Some o.contents → (t : Task) → (p : Core) → IsProgram c o t p → (result ≡ 0) ⊎ Comes 3 result
+  pub no_story : (o : Outside) → c.shelf.contents ≡ Some o.contents → (t : Task) → (r : StoryRefusal) → IsNoStory c o t r → Comes 4 result
+  pub plays : (o : Outside) → c.shelf.contents ≡ Some o.contents → c.input.left ≡ Some o.typed → (t : Task) → IsStory c o t → Comes (status_of_end (run_of c o t t.steps).end) result

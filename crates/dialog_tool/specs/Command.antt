@@ -10,10 +10,18 @@ use Rattle.dg_base.specs.declared.run.Limits.{Limits}
 abbrev pub texts : List (String Global) → List (List ℕ)
 texts words = map string_bytes words
 
--- what is to be done: a source is run within limits; a story is played, with at most so many instructions, and with these dice in place of those that are handed in
+-- A file's name and what the options say of its run: goals or instructions, cells of the heap, bindings to be undone, and dice in place of those that are handed in.
+pub record Task : Type 0 where
+  pub name : List ℕ
+  pub steps : ℕ
+  pub heap : ℕ
+  pub trail : ℕ
+  pub dice : Option (List ℕ)
+
+-- what is to be done: a source is run, or a story is played
 pub data Command : Type 0 where
-  debug : (name : List ℕ) → (limits : Limits) → Command
-  play : (name : List ℕ) → (steps : ℕ) → (dice : Option (List ℕ)) → Command
+  debug : Task → Command
+  play : Task → Command
 
 -- a file name isn't empty and doesn't begin with two dashes
 abbrev pub is_file_name : List ℕ → Bool
@@ -80,21 +88,6 @@ abbrev pub number_or : ℕ → ℕ → Option (List ℕ) → Option ℕ
 number_or usual most None = Some usual
 number_or usual most (Some word) = number_of 1 most word
 
--- ---- a source
-
--- the limits of these goals, heap cells and bindings to be undone, where each is a number that it may be
-abbrev pub limits_from : Option ℕ → Option ℕ → Option ℕ → Option Limits
-limits_from (Some steps) (Some heap) (Some trail) = Some (record { steps = steps; heap = heap; trail = trail; aux = 100000; keep = 10000 })
-limits_from steps heap trail = None
-
--- the limits that the options name
-abbrev pub limits_of : Values → Option Limits
-limits_of values = limits_from (number_or 100000000 1000000000000 values.steps) (number_or 1000000 16000000 values.heap) (number_or 200000 16000000 values.trail)
-
--- a source is run as its options say; it has no dice
-abbrev pub debug_with : List ℕ → Values → Option Command
-debug_with name values = if is_some values.dice then None else option_map (debug name) (limits_of values)
-
 -- ---- dice
 
 -- the parts of a word between its commas
@@ -105,18 +98,39 @@ parts_of word = slice_split (λ c. nat_eq c 44) word
 abbrev pub dice_of : List ℕ → Option (List ℕ)
 dice_of word = if nat_le (length (parts_of word)) 1024 && list_all (is_number 0 65535) (parts_of word) then Some (map (value_behind 0) (parts_of word)) else None
 
--- ---- a story
-
 -- the dice in place of those that are handed in, if any
 abbrev pub own_dice : Option (List ℕ) → Option (Option (List ℕ))
 own_dice None = Some None
 own_dice (Some word) = option_map Some (dice_of word)
 
+-- ---- a task
+
+-- the task of these numbers and dice, where each is one that it may be
+abbrev pub task_from : List ℕ → Option ℕ → Option ℕ → Option ℕ → Option (Option (List ℕ)) → Option Task
+task_from name (Some steps) (Some heap) (Some trail) (Some dice) = Some (record { name = name; steps = steps; heap = heap; trail = trail; dice = dice })
+task_from name steps heap trail dice = None
+
+-- the task that the options name, with so many steps where they name none
+abbrev pub task_of : ℕ → List ℕ → Values → Option Task
+task_of usual name values =
+    task_from name (number_or usual 1000000000000 values.steps) (number_or 1000000 16000000 values.heap) (number_or 200000 16000000 values.trail) (own_dice values.dice)
+
+-- a source is run as its options say; it has no dice
+abbrev pub debug_with : List ℕ → Values → Option Command
+debug_with name values = if is_some values.dice then None else option_map debug (task_of 100000000 name values)
+
 -- a story is played as its options say; it has no limits of heap and trail
 abbrev pub play_with : List ℕ → Values → Option Command
-play_with name values =
-    if is_some values.heap || is_some values.trail then None
-    else option_and_then (λ steps. option_map (play name steps) (own_dice values.dice)) (number_or 1000000000 1000000000000 values.steps)
+play_with name values = if is_some values.heap || is_some values.trail then None else option_map play (task_of 1000000000 name values)
+
+-- the limits of a task
+abbrev pub limits_of : Task → Limits
+limits_of task = record { steps = task.steps; heap = task.heap; trail = task.trail; aux = 100000; keep = 10000 }
+
+-- a task's own dice, or those that are handed in
+abbrev pub thrown : Option (List ℕ) → List ℕ → List ℕ
+thrown None handed = handed
+thrown (Some dice) handed = dice
 
 -- ---- the words
 
@@ -129,7 +143,3 @@ command_of (command ∷ name ∷ options) =
     else if bytes_eq command (codes "debug") then option_and_then (debug_with name) (values_of options)
     else if bytes_eq command (codes "play") then option_and_then (play_with name) (values_of options)
     else None
-
--- what is printed for words that are no command
-abbrev pub usage_line : List ℕ
-usage_line = codes "usage: dialog debug FILE, build FILE OUT, play STORY, run FILE, singles FILE, make N\n"

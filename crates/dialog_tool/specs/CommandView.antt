@@ -4,11 +4,15 @@ use Rattle.std.specs.Option.{option_map}
 use Rattle.dialog_tool.specs.Command as spec
 use Rattle.dialog_tool.specs.declared.command.Command.{Command}
 use Rattle.dialog_tool.specs.declared.command.Command.TheVariants.{Debug, Play}
+use Rattle.dialog_tool.specs.declared.command.Task.{Task}
 use Rattle.dialog_tool.specs.declared.command.Values.{Values}
 
+abbrev pub task_view : Task → spec.Task
+task_view t = record { name = t.name.now; steps = t.steps; heap = t.heap; trail = t.trail; dice = option_map (λ d. d.items) t.dice }
+
 abbrev pub command_view : Command → spec.Command
-command_view (Debug name limits) = spec.debug name.now limits
-command_view (Play name steps own) = spec.play name.now steps (option_map (λ d. d.items) own)
+command_view (Debug task) = spec.debug (task_view task)
+command_view (Play task) = spec.play (task_view task)
 
 abbrev pub values_view : Values → spec.Values
 values_view g = record {
@@ -19,6 +23,9 @@ values_view g = record {
 }
 
 -- Dice of its own aren't empty.
-abbrev pub HasDice : Command → Type 0
-HasDice (Debug name limits) = Unit {0}
-HasDice (Play name steps own) = IfSome own (λ d. 0 < length d.items)
+abbrev pub HasDice : Task → Type 0
+HasDice task = IfSome task.dice (λ d. 0 < length d.items)
+
+abbrev pub CommandHasDice : Command → Type 0
+CommandHasDice (Debug task) = HasDice task
+CommandHasDice (Play task) = HasDice task

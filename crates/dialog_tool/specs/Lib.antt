@@ -1,5 +1,7 @@
 pub mod Command
 pub mod CommandView
 pub mod Source
-pub mod Answers
+pub mod Lines
+pub mod Call
 pub mod Playing
+pub mod Answers

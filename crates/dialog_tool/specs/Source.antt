@@ -3,10 +3,12 @@ use Rattle.std.specs.Prelude.{◌≡◌, ℕ, List, map, Some, None, Result, Ok,
 use Rattle.dg_base.specs.Tree.{Item}
 use Rattle.dg_base.specs.declared.program.CoreProgram.{CoreProgram as Core}
 use Rattle.dg_base.specs.declared.refusal.Refusal.{Refusal}
+use Rattle.dg_base.specs.declared.refusal.ReadFault.{ReadFault}
+use Rattle.dg_base.specs.declared.refusal.ReadFault.TheVariants as fault
 use Rattle.dg_base.specs.declared.refusal.Kind.{Kind}
 use Rattle.dg_base.specs.declared.refusal.Kind.TheVariants.{NotBuiltYet, NoEntry}
 use Rattle.dg_lex.specs.Bad.{refusal_of}
-use Rattle.dg_lex.specs.Tokens.{IsLexed, seen}
+use Rattle.dg_lex.specs.Tokens.{IsLexed, Seen, seen}
 use Rattle.dg_lex.specs.declared.token.Token.{Token}
 use Rattle.dg_reader.specs.Read.{IsRead}
 use Rattle.dg_names.specs.Counts.{IsNamed}
@@ -15,22 +17,38 @@ use Rattle.dg_access.specs.Rewritten.{IsRewritten}
 use Rattle.dg_lower.specs.Core.{core_of, has_entry}
 use Rattle.dg_lower.specs.Forms.{first_unbuilt}
 
+-- One step behind another: the first refuses, and that is the answer; or it gives what the second answers on.
+pub data Then {A B : Type 0} (P : Result A Refusal → Type 0) (Q : A → Result B Refusal → Type 0) (answer : Result B Refusal) : Type 0 where
+  refused : (r : Refusal) → P (Err r) → answer ≡ Err r → Then P Q answer
+  given : (a : A) → P (Ok a) → Q a answer → Then P Q answer
+
 abbrev pub refusal_at : Kind → ℕ → Refusal
 refusal_at kind line = record { kind = kind; line = line }
 
--- The program of these names and items with plain heads, unless the entry has no rule.
-abbrev pub program_of : Named → List Item → Result Core Refusal
-program_of named plain = if has_entry plain then Ok (core_of named plain) else Err (refusal_at NoEntry 1)
+-- a source is refused as too long or for a bad character, or these are its tokens
+abbrev pub Lexes : List ℕ → Result (List Seen) Refusal → Type 0
+Lexes source (Ok ts) = (refusal_of source ≡ None) × (tokens : List Token) × IsLexed source tokens × (ts ≡ map seen tokens)
+Lexes source (Err r) = refusal_of source ≡ Some r
 
--- What the items of a source are that were read: a count of the source passes; or a form isn't built yet; or a count passes once heads are plain; or the entry has no rule; or they are a program.
-pub data IsProgram (items : List Item) (answer : Result Core Refusal) : Type 0 where
-  not_named : (refusal : Refusal) → IsNamed items (Err refusal) → answer ≡ Err refusal → IsProgram items answer
-  not_built : (named : Named) → IsNamed items (Ok named) → (line : ℕ) → first_unbuilt items ≡ Some line → answer ≡ Err (refusal_at NotBuiltYet line) → IsProgram items answer
-  not_rewritten : (named : Named) → IsNamed items (Ok named) → first_unbuilt items ≡ None → (refusal : Refusal) → IsRewritten items (Err refusal) → answer ≡ Err refusal → IsProgram items answer
-  lowered : (named : Named) → IsNamed items (Ok named) → first_unbuilt items ≡ None → (plain : List Item) → IsRewritten items (Ok plain) → answer ≡ program_of named plain → IsProgram items answer
+-- a form isn't built yet, or all are
+abbrev pub Builds : List Item → Result (Unit {0}) Refusal → Type 0
+Builds items (Ok all) = first_unbuilt items ≡ None
+Builds items (Err r) = (line : ℕ) × (first_unbuilt items ≡ Some line) × (r ≡ refusal_at NotBuiltYet line)
 
--- What a source is: it is too long or has a bad character; or its tokens are no items; or what its items are.
-pub data Compiles (source : List ℕ) (answer : Result Core Refusal) : Type 0 where
-  not_lexed : (refusal : Refusal) → refusal_of source ≡ Some refusal → answer ≡ Err refusal → Compiles source answer
-  not_read : refusal_of source ≡ None → (tokens : List Token) → IsLexed source tokens → (refusal : Refusal) → IsRead (map seen tokens) (Err refusal) → answer ≡ Err refusal → Compiles source answer
-  read : refusal_of source ≡ None → (tokens : List Token) → IsLexed source tokens → (items : List Item) → IsRead (map seen tokens) (Ok items) → IsProgram items answer → Compiles source answer
+-- the program of these names and items with plain heads, unless the entry has no rule
+abbrev pub Lowers : Named → List Item → Result Core Refusal → Type 0
+Lowers named plain answer = answer ≡ (if has_entry plain then Ok (core_of named plain) else Err (refusal_at NoEntry 1))
+
+-- What items are that were read: a count of the source passes, or a form isn't built yet, or a count passes once heads are plain, or the entry has no rule, or they are a program.
+abbrev pub Becomes : List Item → Result Core Refusal → Type 0
+Becomes items = Then (IsNamed items) (λ named. Then (Builds items) (λ all. Then (IsRewritten items) (Lowers named)))
+
+-- What a source is: it is too long or has a bad character, or its tokens are no items, or what its items are.
+abbrev pub Compiles : List ℕ → Result Core Refusal → Type 0
+Compiles source = Then (Lexes source) (λ tokens. Then (IsRead tokens) Becomes)
+
+-- a call's answer is one of these, unless memory ran out
+abbrev pub Meets : {A : Type 0} → (Result A Refusal → Type 0) → Result A ReadFault → Type 0
+Meets P (Ok a) = P (Ok a)
+Meets P (Err (fault.Refused r)) = P (Err r)
+Meets P (Err fault.OutOfMemory) = Unit {0}

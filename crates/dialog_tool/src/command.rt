@@ -1,13 +1,15 @@
 // Reads the words of a command line.
-ghost use Rattle.std.specs.Prelude.{◌≡◌, ◌≤◌, ◌<◌, ◌^◌, IfOk, IfSome, string_bytes};
-ghost use Rattle.std.specs.Option.{option_map, option_and_then};
+ghost use Rattle.std.specs.Prelude.{◌≡◌, ◌≤◌, ◌<◌, ◌^◌, Some, IfOk, IfSome, length, string_bytes};
+ghost use Rattle.std.specs.Option.{option_map};
 ghost use Rattle.dialog_tool.specs.Command as spec;
 ghost use Rattle.dialog_tool.specs.Command.{texts};
-ghost use Rattle.dialog_tool.specs.CommandView.{command_view, values_view, HasDice};
+ghost use Rattle.dialog_tool.specs.CommandView.{task_view, command_view, values_view, HasDice, CommandHasDice};
 
 use crate::numbers::{dice_of, number_of};
 use dg_base::Limits;
 use std::alloc::{AllocError, Global};
+
+const USUAL_GOALS: u64 = 100_000_000;
 
 const USUAL_INSTRUCTIONS: u64 = 1_000_000_000;
 
@@ -15,20 +17,22 @@ const MOST_STEPS: u64 = 1_000_000_000_000;
 
 const MOST_CELLS: u64 = 16_000_000;
 
-/// What is to be done.
+/// A file's name and what the options say of its run: goals or instructions, cells of the heap, bindings to be undone, and dice
+/// in place of those that are handed in.
+#[derive(Drop)]
+pub struct Task<'a> {
+    pub name: &'a str,
+    pub steps: u64,
+    pub heap: u32,
+    pub trail: u32,
+    pub dice: Option<Vec<u16>>,
+}
+
+/// What is to be done: a source is run, or a story is played.
 #[derive(Drop)]
 pub enum Command<'a> {
-    /// Run a source within limits.
-    Debug {
-        name: &'a str,
-        limits: Limits,
-    },
-    /// Play a story, with at most so many instructions, and with dice of its own in place of those that are handed in.
-    Play {
-        name: &'a str,
-        steps: u64,
-        own: Option<Vec<u16>>,
-    },
+    Debug(Task<'a>),
+    Play(Task<'a>),
 }
 
 // The words behind the options.
@@ -131,51 +135,76 @@ fn cells_or(usual: u32, word: Option<&str>) -> Option<u32>
     Some(cells as u32)
 }
 
-fn limits_of(values: Values<'_>) -> Option<Limits>
-    ensures { result ≡ spec.limits_of (values_view values.entry) }
+fn own_dice(alloc: Global, word: Option<&str>) -> Result<Option<Option<Vec<u16>>>, AllocError>
+    ensures dice { IfOk result (λ own. option_map (λ dice. option_map (λ d. d.items) dice) own ≡ spec.own_dice (option_map (λ w. w.now) word.entry)) }
+    ensures some { IfOk result (λ own. IfSome own (λ dice. IfSome dice (λ d. 0 < length d.items))) }
 {
-    let usual = Limits::debug();
-    let steps = number_or(usual.steps, MOST_STEPS, values.steps)?;
-    let heap = cells_or(usual.heap, values.heap)?;
-    let trail = cells_or(usual.trail, values.trail)?;
-    Some(Limits {
+    let Some(word) = word else {
+        return Ok(Some(None));
+    };
+    match dice_of(alloc, word) {
+        Ok(Some(dice)) => Ok(Some(Some(dice))),
+        Ok(None) => Ok(None),
+        Err(error) => Err(error),
+    }
+}
+
+// The task of these numbers and dice.
+fn task_from<'a>(
+    name: &'a str,
+    values: Values<'_>,
+    usual: u64,
+    dice: Option<Vec<u16>>,
+) -> Option<Task<'a>>
+    requires usual { usual < 2 ^ 60 }
+    requires dice { IfSome dice (λ d. 0 < length d.items) }
+    ensures task { option_map task_view result ≡ spec.task_from name.now (spec.number_or usual 1000000000000 (values_view values.entry).steps) (spec.number_or 1000000 16000000 (values_view values.entry).heap) (spec.number_or 200000 16000000 (values_view values.entry).trail) (Some (option_map (λ d. d.items) dice)) }
+    ensures dice { IfSome result HasDice }
+{
+    let limits = Limits::debug();
+    let steps = number_or(usual, MOST_STEPS, values.steps)?;
+    let heap = cells_or(limits.heap, values.heap)?;
+    let trail = cells_or(limits.trail, values.trail)?;
+    Some(Task {
+        name,
         steps,
         heap,
         trail,
-        ..usual
+        dice,
     })
 }
 
-fn debug<'a>(name: &'a str, options: &[String]) -> Option<Command<'a>>
-    ensures command { option_map command_view result ≡ option_and_then (spec.debug_with name.now) (spec.values_of (texts options.now)) }
-    ensures dice { IfSome result HasDice }
+// The task that the options name.
+fn task_of<'a>(
+    alloc: Global,
+    usual: u64,
+    name: &'a str,
+    values: Values<'_>,
+) -> Result<Option<Task<'a>>, AllocError>
+    requires { usual < 2 ^ 60 }
+    ensures task { IfOk result (λ task. option_map task_view task ≡ spec.task_of usual name.now (values_view values.entry)) }
+    ensures dice { IfOk result (λ task. IfSome task HasDice) }
 {
-    let values = values_of(options)?;
-    if values.dice.is_some() {
-        return None;
+    match own_dice(alloc, values.dice) {
+        Ok(Some(dice)) => Ok(task_from(name, values, usual, dice)),
+        Ok(None) => Ok(None),
+        Err(error) => Err(error),
     }
-    let limits = limits_of(values)?;
-    Some(Command::Debug { name, limits })
 }
 
-fn play_with<'a>(
+fn debug<'a>(
     alloc: Global,
     name: &'a str,
-    steps: u64,
-    word: Option<&str>,
+    values: Values<'_>,
 ) -> Result<Option<Command<'a>>, AllocError>
-    ensures command { IfOk result (λ command. option_map command_view command ≡ option_map (spec.play name.now steps) (spec.own_dice (option_map (λ w. w.now) word.entry))) }
-    ensures dice { IfOk result (λ command. IfSome command HasDice) }
+    ensures command { IfOk result (λ command. option_map command_view command ≡ spec.debug_with name.now (values_view values.entry)) }
+    ensures dice { IfOk result (λ command. IfSome command CommandHasDice) }
 {
-    let Some(word) = word else {
-        let own = None;
-        return Ok(Some(Command::Play { name, steps, own }));
-    };
-    match dice_of(alloc, word) {
-        Ok(Some(dice)) => {
-            let own = Some(dice);
-            Ok(Some(Command::Play { name, steps, own }))
-        }
+    if values.dice.is_some() {
+        return Ok(None);
+    }
+    match task_of(alloc, USUAL_GOALS, name, values) {
+        Ok(Some(task)) => Ok(Some(Command::Debug(task))),
         Ok(None) => Ok(None),
         Err(error) => Err(error),
     }
@@ -184,27 +213,25 @@ fn play_with<'a>(
 fn play<'a>(
     alloc: Global,
     name: &'a str,
-    options: &[String],
+    values: Values<'_>,
 ) -> Result<Option<Command<'a>>, AllocError>
-    ensures command { IfOk result (λ command. option_map command_view command ≡ option_and_then (spec.play_with name.now) (spec.values_of (texts options.now))) }
-    ensures dice { IfOk result (λ command. IfSome command HasDice) }
+    ensures command { IfOk result (λ command. option_map command_view command ≡ spec.play_with name.now (values_view values.entry)) }
+    ensures dice { IfOk result (λ command. IfSome command CommandHasDice) }
 {
-    let Some(values) = values_of(options) else {
-        return Ok(None);
-    };
     if values.heap.is_some() || values.trail.is_some() {
         return Ok(None);
     }
-    let Some(steps) = number_or(USUAL_INSTRUCTIONS, MOST_STEPS, values.steps) else {
-        return Ok(None);
-    };
-    play_with(alloc, name, steps, values.dice)
+    match task_of(alloc, USUAL_INSTRUCTIONS, name, values) {
+        Ok(Some(task)) => Ok(Some(Command::Play(task))),
+        Ok(None) => Ok(None),
+        Err(error) => Err(error),
+    }
 }
 
 /// The command that these words are.
 pub fn command_of(alloc: Global, words: &[String]) -> Result<Option<Command<'_>>, AllocError>
     ensures command { IfOk result (λ command. option_map command_view command ≡ spec.command_of (texts words.now)) }
-    ensures dice { IfOk result (λ command. IfSome command HasDice) }
+    ensures dice { IfOk result (λ command. IfSome command CommandHasDice) }
 {
     let [command, name, options @ ..] = words else {
         return Ok(None);
@@ -213,9 +240,12 @@ pub fn command_of(alloc: Global, words: &[String]) -> Result<Option<Command<'_>>
     if !is_file_name(name) {
         return Ok(None);
     }
+    let Some(values) = values_of(options) else {
+        return Ok(None);
+    };
     match command.as_str() {
-        "debug" => Ok(debug(name, options)),
-        "play" => play(alloc, name, options),
+        "debug" => debug(alloc, name, values),
+        "play" => play(alloc, name, values),
         _ => Ok(None),
     }
 }

@@ -1,12 +1,13 @@
 // The lines of the tool itself, and its statuses.
-ghost use Rattle.std.specs.Prelude.{◌≡◌, ◌⊎◌, IfOk, string_bytes};
-ghost use Rattle.dg_base.specs.Written.{Wrote, BrokeOff};
+ghost use Rattle.std.specs.Prelude.{◌≡◌, ◌++◌, codes};
+ghost use Rattle.dg_base.specs.Written.{texts, joined};
 ghost use Rattle.dg_meaning.specs.Transcript.{no_memory_line};
-ghost use Rattle.dialog_tool.specs.Command.{usage_line};
-ghost use Rattle.dialog_tool.specs.Answers.{refusal_line, file_fault_line, Comes};
+ghost use Rattle.z_model.specs.Story.{text_of_story};
+ghost use Rattle.dialog_tool.specs.Lines.{Says, usage_line, refusal_line, story_line, file_fault_line};
 
-use dg_base::{Refusal, Sink, text_of, write_all, write_both};
-use std::alloc::{AllocError, Global};
+use dg_base::{Refusal, Sink, text_of, write_pieces};
+use itoa::Buffer;
+use z_model::StoryRefusal;
 
 pub const DONE: u8 = 0;
 
@@ -25,64 +26,73 @@ pub const NO_MEMORY: u8 = 6;
 const USAGE_LINE: &[u8] =
     b"usage: dialog debug FILE, build FILE OUT, play STORY, run FILE, singles FILE, make N\n";
 
-fn refusal_text(alloc: Global, name: &str, refusal: &Refusal) -> Result<String, AllocError>
-    ensures { IfOk result (λ line. string_bytes line ≡ refusal_line name.now refusal.now) }
+// Writes a line of these pieces, and answers this status.
+fn say<K: Sink>(out: &mut K, status: u8, pieces: &[&[u8]]) -> u8
+    ensures { Says status (joined (texts pieces.now)) (K.view out.old) (K.view out.new) result }
 {
-    let line = refusal.line;
-    let text = text_of(refusal.kind);
-    format!(in alloc; "{name}:{line}: {text}\n")
+    match write_pieces(out, pieces) {
+        Ok(()) => status,
+        Err(_) => FAULT,
+    }
 }
 
 /// Writes the line on want of memory.
 pub fn no_memory<K: Sink>(out: &mut K) -> u8
-    ensures statuses { (result ≡ 5) ⊎ (result ≡ 6) }
-    ensures line { result ≡ 6 → Wrote (K.view out.old) (K.view out.new) no_memory_line }
-    ensures fault { result ≡ 5 → BrokeOff (K.view out.old) (K.view out.new) no_memory_line }
+    ensures { Says 6 no_memory_line (K.view out.old) (K.view out.new) result }
 {
-    match write_all(out, b"[No memory]\n") {
-        Ok(()) => NO_MEMORY,
-        Err(_) => FAULT,
-    }
-}
-
-/// Writes the line of a refusal.
-pub fn refuse<K: Sink>(alloc: Global, name: &str, refusal: &Refusal, out: &mut K) -> u8
-    ensures statuses { Comes 1 result }
-    ensures line { result ≡ 1 → Wrote (K.view out.old) (K.view out.new) (refusal_line name.now refusal.now) }
-    ensures memory { result ≡ 6 → Wrote (K.view out.old) (K.view out.new) no_memory_line }
-    ensures fault { result ≡ 5 →
-        BrokeOff (K.view out.old) (K.view out.new) (refusal_line name.now refusal.now)
-        ⊎ BrokeOff (K.view out.old) (K.view out.new) no_memory_line }
-{
-    match refusal_text(alloc, name, refusal) {
-        Ok(line) => match write_all(out, line.as_bytes()) {
-            Ok(()) => REFUSED,
-            Err(_) => FAULT,
-        },
-        Err(_) => no_memory(out),
-    }
-}
-
-/// Writes the line of a file that failed.
-pub fn file_fault<K: Sink>(name: &str, out: &mut K) -> u8
-    ensures statuses { result ≡ 5 }
-    ensures line { Wrote (K.view out.old) (K.view out.new) (file_fault_line name.now)
-        ⊎ BrokeOff (K.view out.old) (K.view out.new) (file_fault_line name.now) }
-{
-    match write_both(out, name.as_bytes(), b": file fault\n") {
-        Ok(()) => FAULT,
-        Err(_) => FAULT,
-    }
+    say(out, NO_MEMORY, &[b"[No memory]\n"])
 }
 
 /// Writes the line on words that are no command.
 pub fn usage<K: Sink>(out: &mut K) -> u8
-    ensures statuses { (result ≡ 2) ⊎ (result ≡ 5) }
-    ensures line { result ≡ 2 → Wrote (K.view out.old) (K.view out.new) usage_line }
-    ensures fault { result ≡ 5 → BrokeOff (K.view out.old) (K.view out.new) usage_line }
+    ensures { Says 2 usage_line (K.view out.old) (K.view out.new) result }
 {
-    match write_all(out, USAGE_LINE) {
-        Ok(()) => USAGE,
-        Err(_) => FAULT,
+    say(out, USAGE, &[USAGE_LINE])
+}
+
+/// Writes the line of a file that failed.
+pub fn file_fault<K: Sink>(name: &str, out: &mut K) -> u8
+    ensures { Says 5 (file_fault_line name.now) (K.view out.old) (K.view out.new) result }
+{
+    say(out, FAULT, &[name.as_bytes(), b": file fault\n"])
+}
+
+// Writes a refusal's line from its parts.
+fn say_refusal<'a, K: Sink>(out: &mut K, name: &'a [u8], line: &'a [u8], text: &'a [u8]) -> u8
+    ensures { Says 1 (name.now ++ (codes ":" ++ (line.now ++ (codes ": " ++ (text.now ++ codes "\n"))))) (K.view out.old) (K.view out.new) result }
+{
+    say(out, REFUSED, &[name, b":", line, b": ", text, b"\n"])
+}
+
+/// Writes the line of a source's refusal.
+pub fn refuse<K: Sink>(name: &str, refusal: &Refusal, out: &mut K) -> u8
+    ensures { Says 1 (refusal_line name.now refusal.now) (K.view out.old) (K.view out.new) result }
+{
+    let mut buffer = Buffer::new();
+    let line = buffer.format(refusal.line).as_bytes();
+    say_refusal(out, name.as_bytes(), line, text_of(refusal.kind).as_bytes())
+}
+
+fn story_text(refusal: StoryRefusal) -> &'static [u8]
+    ensures { result.now ≡ text_of_story refusal }
+{
+    match refusal {
+        StoryRefusal::TooShort => b"story too short",
+        StoryRefusal::BadVersion => b"story version is not 8",
+        StoryRefusal::BadLength => b"story length is wrong",
+        StoryRefusal::BadMap => b"story map is wrong",
     }
+}
+
+fn say_story<'a, K: Sink>(out: &mut K, name: &'a [u8], text: &'a [u8]) -> u8
+    ensures { Says 4 (name.now ++ (codes ": " ++ (text.now ++ codes "\n"))) (K.view out.old) (K.view out.new) result }
+{
+    say(out, STORY, &[name, b": ", text, b"\n"])
+}
+
+/// Writes the line of a file that is no story.
+pub fn refuse_story<K: Sink>(name: &str, refusal: StoryRefusal, out: &mut K) -> u8
+    ensures { Says 4 (story_line name.now refusal) (K.view out.old) (K.view out.new) result }
+{
+    say_story(out, name.as_bytes(), story_text(refusal))
 }

@@ -6,8 +6,8 @@ use Rattle.std.proofs.lemmas.Bool.{ltb-false, or_parts}
 use Rattle.z_model.specs.declared.story.StoryRefusal.{StoryRefusal}
 use Rattle.z_model.specs.declared.story.Layout.{Layout}
 use Rattle.z_model.specs.declared.story.Header.{Header}
-use Rattle.z_model.specs.Run.{ZState, zrun}
-use Rattle.z_model.specs.Story.{header_word, start_of, globals_of, base_of, length_of, memory_of, layout_of, first_machine, given_of, start_state, story_run, refusal_of, has_bad_length, has_bad_map, IsHeader}
+use Rattle.z_model.specs.Run.{ZState}
+use Rattle.z_model.specs.Story.{header_word, start_of, globals_of, base_of, length_of, memory_of, layout_of, first_machine, refusal_of, has_bad_length, has_bad_map, IsHeader}
 use Rattle.z_play.specs.Scene.{given_by}
 use Rattle.z_play.specs.Ready.{IsStory, IsLoaded}
 
@@ -104,14 +104,12 @@ from_start : List ℕ → List ℕ → ℕ → ZState
 from_start typed memory start = record { machine = first_machine memory start; typed = typed; drawn = 0; output = [] }
 
 pub loaded_of : (file : List ℕ) (h : Header) → IsHeader file h → IsLoaded file (memory_of file)
-unfolding story_run from_start
+unfolding from_start
 loaded_of file h is =
     let b = bounds file is.accepted in
     record {
       accepted = is.accepted;
       is = refl;
-      runs = λ typed dice n.
-          ap (λ (l : Layout). zrun (given_by l dice) n (start_state (memory_of file) typed)) (layout_same file b)
-          ∙ ap (λ (m : List ℕ). zrun (given_of file dice) n (from_start typed m (start_of (memory_of file)))) (whole file b)
-          ∙ ap (λ (s : ℕ). zrun (given_of file dice) n (from_start typed (memory_of file) s)) (start_same file b);
+      given = λ dice. ap (λ (l : Layout). given_by l dice) (layout_same file b);
+      start = λ typed. ap (λ (m : List ℕ). from_start typed m (start_of (memory_of file))) (whole file b) ∙ ap (λ (s : ℕ). from_start typed (memory_of file) s) (start_same file b);
     }

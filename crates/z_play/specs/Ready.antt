@@ -1,7 +1,7 @@
 -- What a player holds: a story, cut to its length, and an engine for it.
 use Rattle.std.specs.Prelude.{◌≡◌, ◌+◌, ◌≤◌, ℕ, List, length, None}
 use Rattle.z_model.specs.declared.story.Layout.{Layout}
-use Rattle.z_model.specs.Story.{layout_of, start_of, memory_of, refusal_of, story_run}
+use Rattle.z_model.specs.Story.{layout_of, start_of, memory_of, refusal_of, given_of, start_state}
 use Rattle.z_play.specs.declared.engine.Engine.{Engine}
 use Rattle.z_play.specs.View.{Sound}
 
@@ -22,8 +22,9 @@ pub record IsReady (story : List ℕ) (start : ℕ) (e : Engine) : Type 0 where
   pub sound : Sound e
   pub same_size : length e.memory.items ≡ length story
 
--- The file isn't refused, the story is its bytes up to its length, and runs as the file does.
+-- The file isn't refused, the story is its bytes up to its length, and its runs are the file's.
 pub record IsLoaded (file story : List ℕ) : Type 0 where
   pub accepted : refusal_of file ≡ None
   pub is : story ≡ memory_of file
-  pub runs : (typed dice : List ℕ) (n : ℕ) → story_run story typed dice n ≡ story_run file typed dice n
+  pub given : (dice : List ℕ) → given_of story dice ≡ given_of file dice
+  pub start : (typed : List ℕ) → start_state story typed ≡ start_state file typed

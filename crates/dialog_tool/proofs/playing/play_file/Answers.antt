@@ -1,18 +1,34 @@
-use Rattle.std.proofs.Common.{refl}
-use Rattle.dialog_tool.specs.Playing.{as_played}
-use Rattle.dialog_tool.proofs.PlayLemmas.{played_answers, refused_answers, unloaded_answers}
+use Rattle.std.proofs.Common.{Ok, Err, refl}
+use Rattle.dg_base.specs.declared.run.Fault.TheVariants.{Read, Write}
+use Rattle.dialog_tool.specs.CommandView.{task_view}
+use Rattle.dialog_tool.proofs.AnswerLemmas.{story_refused, no_room}
+use Rattle.dialog_tool.proofs.PlayLemmas.{file_plays, play_ends, play_unread, play_unwritten}
 use Rattle.dialog_tool.proofs.playing.play_file.Goals as goal
 
-pub returns-in-Ok : goal.returns-in-Ok
-returns-in-Ok g c =
-    played_answers _ _ (g.S.Source.view c.args.input.now).left _ _ _ (as_played c.args.name.now c.args.steps c.args.dice.now c.args.file.items) c.run_story.result c.in-Ok.ensures.loaded.accepted c.run_story.ensures.statuses
-    (c.run_story.ensures.ran c.args.name.now c.args.file.items c.in-Ok.ensures.loaded) (c.run_story.ensures.fault c.args.name.now c.args.file.items c.in-Ok.ensures.loaded)
-
 pub returns-in-Err-Refused : goal.returns-in-Err-Refused
-returns-in-Err-Refused g c =
+returns-in-Err-Refused g c = λ before after f.
     let refused = rw c.in-Err-Refused.field-0-is at c.in-Err-Refused.ensures.refused in
-    refused_answers _ _ (g.S.Source.view c.args.input.now).left _ _ _ (as_played c.args.name.now c.args.steps c.args.dice.now c.args.file.items) c.refuse_story.result c.in-Err-Refused.refusal (refused c.in-Err-Refused.refusal refl) c.refuse_story.ensures.statuses c.refuse_story.ensures.line c.refuse_story.ensures.fault
+    story_refused _ (task_view c.args.task.now) c.args.file.items _ c.in-Err-Refused.refusal refl f (refused c.in-Err-Refused.refusal refl) refl c.refuse_story.ensures
 
 pub returns-in-Err-OutOfMemory : goal.returns-in-Err-OutOfMemory
-returns-in-Err-OutOfMemory g c =
-    unloaded_answers _ _ (g.S.Source.view c.args.input.now).left _ _ _ (as_played c.args.name.now c.args.steps c.args.dice.now c.args.file.items) c.no_memory.result c.no_memory.ensures.statuses c.no_memory.ensures.line c.no_memory.ensures.fault
+returns-in-Err-OutOfMemory g c = λ before after f. no_room _ _ f.kept refl c.no_memory.ensures
+
+pub returns-in-Ok-run : goal.returns-in-Ok-run
+returns-in-Ok-run g c = λ before after f.
+    let told = rw c.thrown-dice.ensures.dice at c.in-Ok-run.ensures.told in
+    play_ends _ (task_view c.args.task.now) c.args.file.items _ refl f c.in-Ok.ensures.loaded.accepted c.in-Ok-run.end c.status_of_end.ensures
+    (λ typed is. file_plays c.args.file.items c.in-Ok.player c.in-Ok.ensures.loaded (Ok c.in-Ok-run.end) _ typed _ _ _ _ (told typed is))
+
+pub returns-in-Err-Read : goal.returns-in-Err-Read
+returns-in-Err-Read g c = λ before after f.
+    let told = rw (c.in-Err-Read.field-0-is, c.thrown-dice.ensures.dice) at c.in-Err-Read.ensures.told in
+    let causes = rw c.in-Err-Read.field-0-is at c.in-Err-Read.ensures.causes in
+    play_unread _ (task_view c.args.task.now) c.args.file.items _ refl f c.in-Ok.ensures.loaded.accepted refl (causes.read_failed refl)
+    (λ typed is. file_plays c.args.file.items c.in-Ok.player c.in-Ok.ensures.loaded (Err Read) _ typed _ _ _ _ (told typed is))
+
+pub returns : goal.returns
+returns g c = λ before after f.
+    let told = rw (c.in-Err-Write.field-0-is, c.thrown-dice.ensures.dice) at c.in-Err-Write.ensures.told in
+    let causes = rw c.in-Err-Write.field-0-is at c.in-Err-Write.ensures.causes in
+    play_unwritten _ (task_view c.args.task.now) c.args.file.items _ refl f c.in-Ok.ensures.loaded.accepted refl (causes.write_failed refl)
+    (λ typed is. file_plays c.args.file.items c.in-Ok.player c.in-Ok.ensures.loaded (Err Write) _ typed _ _ _ _ (told typed is))

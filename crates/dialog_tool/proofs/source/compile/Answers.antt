@@ -1,31 +1,27 @@
-use Rattle.std.proofs.Common.{Ok}
+use Rattle.std.proofs.Common.{map, Err, ap}
 use Rattle.dg_base.specs.TreeView.{tree_view}
-use Rattle.dg_reader.proofs.FaultLemmas.{ok_map, err_map}
+use Rattle.dg_lex.specs.Tokens.{seen}
+use Rattle.dg_reader.specs.Read.{IsRead}
+use Rattle.dialog_tool.specs.Source.{Lexes, Becomes, Compiles}
 use Rattle.dialog_tool.proofs.GivenLemmas.{compiled_sound}
-use Rattle.dialog_tool.proofs.SourceLemmas.{not_lexed_of, not_read_of, read_of, refused_of}
+use Rattle.dialog_tool.proofs.SourceLemmas.{then_ok, then_err, lexed_of, meets_ok}
 use Rattle.dialog_tool.proofs.source.compile.Goals as goal
 
-pub returns-in-Err-clause-refused : goal.returns-in-Err-clause-refused
-returns-in-Err-clause-refused c = not_lexed_of c.args.source.now c.in-Err.fault c.in-Err.ensures.refused
+pub returns-in-Err-clause-program : goal.returns-in-Err-clause-program
+returns-in-Err-clause-program c = then_err (Lexes c.args.source.now) _ c.in-Err.fault (lexed_of c.args.source.now c.in-Err.fault c.in-Err.ensures.refused)
 
-pub returns-in-Err-read-clause-refused : goal.returns-in-Err-read-clause-refused
-returns-in-Err-read-clause-refused c = not_read_of c.args.source.now c.in-Ok.tokens.items c.deref.result.now c.in-Err-read.fault c.in-Ok.ensures.accepted c.in-Ok.ensures.tokens c.deref.ensures.value c.in-Err-read.ensures.refused
+pub returns-in-Err-read-clause-program : goal.returns-in-Err-read-clause-program
+returns-in-Err-read-clause-program c =
+    then_ok (Lexes c.args.source.now) _ (map seen c.deref.result.now) (Err c.in-Err-read.fault) (c.in-Ok.ensures.accepted, c.in-Ok.tokens.items, c.in-Ok.ensures.tokens, ap (map seen) c.deref.ensures.value)
+    (then_err (IsRead (map seen c.deref.result.now)) Becomes c.in-Err-read.fault c.in-Err-read.ensures.refused)
 
 pub returns-clause-program : goal.returns-clause-program
 returns-clause-program c =
-    ok_map c.program_of.result _ _
-    (λ p is. read_of c.args.source.now c.in-Ok.tokens.items c.deref.result.now (tree_view c.in-Ok-read.tree) (Ok p) c.in-Ok.ensures.accepted c.in-Ok.ensures.tokens c.deref.ensures.value c.in-Ok-read.ensures.tree is)
-    c.program_of.ensures.program
-
-pub returns-clause-refused : goal.returns-clause-refused
-returns-clause-refused c =
-    err_map c.program_of.result _ _
-    (λ f is. refused_of c.args.source.now c.in-Ok.tokens.items c.deref.result.now (tree_view c.in-Ok-read.tree) f c.in-Ok.ensures.accepted c.in-Ok.ensures.tokens c.deref.ensures.value c.in-Ok-read.ensures.tree is)
-    c.program_of.ensures.refused
+    then_ok (Lexes c.args.source.now) _ (map seen c.deref.result.now) c.program_of.result (c.in-Ok.ensures.accepted, c.in-Ok.tokens.items, c.in-Ok.ensures.tokens, ap (map seen) c.deref.ensures.value)
+    (then_ok (IsRead (map seen c.deref.result.now)) Becomes (tree_view c.in-Ok-read.tree) c.program_of.result c.in-Ok-read.ensures.tree c.program_of.ensures.program)
 
 pub returns-clause-sound : goal.returns-clause-sound
 returns-clause-sound c =
-    ok_map c.program_of.result _ _
-    (λ p is. compiled_sound c.args.source.now p
-    (read_of c.args.source.now c.in-Ok.tokens.items c.deref.result.now (tree_view c.in-Ok-read.tree) (Ok p) c.in-Ok.ensures.accepted c.in-Ok.ensures.tokens c.deref.ensures.value c.in-Ok-read.ensures.tree is))
-    c.program_of.ensures.program
+    meets_ok (Compiles c.args.source.now) _ c.program_of.result (compiled_sound c.args.source.now)
+    (then_ok (Lexes c.args.source.now) _ (map seen c.deref.result.now) c.program_of.result (c.in-Ok.ensures.accepted, c.in-Ok.tokens.items, c.in-Ok.ensures.tokens, ap (map seen) c.deref.ensures.value)
+    (then_ok (IsRead (map seen c.deref.result.now)) Becomes (tree_view c.in-Ok-read.tree) c.program_of.result c.in-Ok-read.ensures.tree c.program_of.ensures.program))

@@ -1,0 +1,143 @@
+-- Which statuses come where: each answer excludes the others.
+use Rattle.std.proofs.Common.{◌≡◌, ◌⊎◌, inl, inr, ℕ, List, Option, Some, None, Result, Ok, Err, refl, sym, ◌∙◌, ap, subst}
+use Rattle.std.specs.Prelude.{IsSome}
+use Rattle.dg_base.specs.declared.program.CoreProgram.{CoreProgram as Core}
+use Rattle.dg_base.specs.declared.refusal.Refusal.{Refusal}
+use Rattle.dg_base.specs.declared.run.Ending.{Ending}
+use Rattle.dg_base.specs.declared.run.Ending.TheVariants.{Done, Quit, Failed, Stopped, InputEnded, StepLimit, HeapLimit, TrailLimit, AuxLimit, KeepLimit}
+use Rattle.z_model.specs.Story.{refusal_of}
+use Rattle.z_model.specs.declared.story.StoryRefusal.{StoryRefusal}
+use Rattle.dialog_tool.specs.Command.{debug, play, Task}
+use Rattle.dialog_tool.specs.Call.{Call, Outside, IsAsTold, file_of}
+use Rattle.dialog_tool.specs.Playing.{status_of_end, run_of}
+use Rattle.dialog_tool.specs.Source.{Compiles}
+use Rattle.dialog_tool.specs.Answers.{Answers, Comes, Decides, Ends, Fails, Lacks, status_of, misused, refused, ran, refused_story, played, IsProgram, IsRefused, IsStory, IsNoStory}
+
+-- ## What is told is one
+
+abbrev outside : (List ℕ → Option (List ℕ)) → List ℕ → Outside
+outside contents typed = record { contents = contents; typed = typed }
+
+as_told : {A : Type 0} (told : Option A) (a b : A) → told ≡ Some a → IsAsTold told b → a ≡ b
+as_told None a b e h = cc
+as_told (Some x) a b e h = let same : x ≡ a = cc in sym same ∙ h
+
+is_some : {A : Type 0} (told : Option A) (a : A) → told ≡ Some a → IsSome told
+is_some told a e = subst IsSome (sym e) refl
+
+same_task : (c : Call) (t u : Task) → c.command ≡ Some (debug t) → c.command ≡ Some (debug u) → t ≡ u
+same_task c t u h k = let same = sym h ∙ k in cc
+
+same_story : (c : Call) (t u : Task) → c.command ≡ Some (play t) → c.command ≡ Some (play u) → t ≡ u
+same_story c t u h k = let same = sym h ∙ k in cc
+
+no_words : {A : Type 0} (c : Call) (t : Task) → c.command ≡ None → c.command ≡ Some (debug t) → A
+no_words c t h k = let no = sym h ∙ k in cc
+
+no_story_words : {A : Type 0} (c : Call) (t : Task) → c.command ≡ None → c.command ≡ Some (play t) → A
+no_story_words c t h k = let no = sym h ∙ k in cc
+
+other_words : {A : Type 0} (c : Call) (t u : Task) → c.command ≡ Some (debug t) → c.command ≡ Some (play u) → A
+other_words c t u h k = let no = sym h ∙ k in cc
+
+same_file : (o p : Outside) (t u : Task) → o.contents ≡ p.contents → t ≡ u → file_of o t ≡ file_of p u
+same_file o p t u h k = ap (λ (contents : List ℕ → Option (List ℕ)). file_of (outside contents o.typed) t) h ∙ ap (file_of p) k
+
+-- ## Statuses
+
+status_ends : (e : Ending) → (status_of e ≡ 0) ⊎ (status_of e ≡ 3)
+status_ends Done = inl refl
+status_ends Quit = inl refl
+status_ends Failed = inl refl
+status_ends Stopped = inl refl
+status_ends InputEnded = inl refl
+status_ends StepLimit = inr refl
+status_ends HeapLimit = inr refl
+status_ends TrailLimit = inr refl
+status_ends AuxLimit = inr refl
+status_ends KeepLimit = inr refl
+
+comes : (c : Call) (o : Outside) (result status : ℕ) → (Ends c o result → result ≡ status) → Ends c o result ⊎ (((result ≡ 5) × Fails c o) ⊎ ((result ≡ 6) × Lacks c o)) → Comes status result
+comes c o result status f (inl e) = inl (f e)
+comes c o result status f (inr (inl h)) = inr (inl h.0)
+comes c o result status f (inr (inr h)) = inr (inr h.0)
+
+runs_so : (c : Call) (o : Outside) (result : ℕ) → (Ends c o result → (result ≡ 0) ⊎ (result ≡ 3)) → Ends c o result ⊎ (((result ≡ 5) × Fails c o) ⊎ ((result ≡ 6) × Lacks c o)) → (result ≡ 0) ⊎ Comes 3 result
+runs_so c o result f (inl e) = which (f e)
+  where
+    which : (result ≡ 0) ⊎ (result ≡ 3) → (result ≡ 0) ⊎ Comes 3 result
+    which (inl zero) = inl zero
+    which (inr three) = inr (inl three)
+runs_so c o result f (inr (inl h)) = inr (inr (inl h.0))
+runs_so c o result f (inr (inr h)) = inr (inr (inr h.0))
+
+-- ## Each cause with its answer
+
+-- no source is a program and refused
+apart : {A : Type 0} (one : (source : List ℕ) (x y : Result Core Refusal) → Compiles source x → Compiles source y → x ≡ y) (a b : List ℕ) (p : Core) (r : Refusal) → a ≡ b → Compiles a (Ok p) → Compiles b (Err r) → A
+apart one a b p r same h k = let no = one b (Ok p) (Err r) (subst (λ (l : List ℕ). Compiles l (Ok p)) same h) k in cc
+
+none_ends : (c : Call) (o : Outside) (result : ℕ) → c.command ≡ None → Ends c o result → result ≡ 2
+none_ends c o result none (misused e m) = e
+none_ends c o result none (refused e h) = no_words c h.task none h.is.words
+none_ends c o result none (ran h) = no_words c h.task none h.is.words
+none_ends c o result none (refused_story e h) = no_story_words c h.task none h.is.words
+none_ends c o result none (played h) = no_story_words c h.task none h.is.words
+
+refused_ends : (c : Call) (o p : Outside) (result : ℕ) (t : Task) (r : Refusal) → ((source : List ℕ) (x y : Result Core Refusal) → Compiles source x → Compiles source y → x ≡ y)
+    → p.contents ≡ o.contents → IsRefused c o t r → Ends c p result → result ≡ 1
+refused_ends c o p result t r one same is (misused e m) = no_words c t m.none is.words
+refused_ends c o p result t r one same is (refused e h) = e
+refused_ends c o p result t r one same is (ran h) = apart one (file_of p h.task) (file_of o t) h.program r (same_file p o h.task t same (same_task c h.task t h.is.words is.words)) h.is.compiles is.compiles
+refused_ends c o p result t r one same is (refused_story e h) = other_words c t h.task is.words h.is.words
+refused_ends c o p result t r one same is (played h) = other_words c t h.task is.words h.is.words
+
+program_ends : (c : Call) (o p : Outside) (result : ℕ) (t : Task) (q : Core) → ((source : List ℕ) (x y : Result Core Refusal) → Compiles source x → Compiles source y → x ≡ y)
+    → p.contents ≡ o.contents → IsProgram c o t q → Ends c p result → (result ≡ 0) ⊎ (result ≡ 3)
+program_ends c o p result t q one same is (misused e m) = no_words c t m.none is.words
+program_ends c o p result t q one same is (refused e h) = apart one (file_of o t) (file_of p h.task) q h.refusal (sym (same_file p o h.task t same (same_task c h.task t h.is.words is.words))) is.compiles h.is.compiles
+program_ends c o p result t q one same is (ran h) = which (status_ends h.outcome.ending)
+  where
+    which : (status_of h.outcome.ending ≡ 0) ⊎ (status_of h.outcome.ending ≡ 3) → (result ≡ 0) ⊎ (result ≡ 3)
+    which (inl zero) = inl (h.is_status ∙ zero)
+    which (inr three) = inr (h.is_status ∙ three)
+program_ends c o p result t q one same is (refused_story e h) = other_words c t h.task is.words h.is.words
+program_ends c o p result t q one same is (played h) = other_words c t h.task is.words h.is.words
+
+-- no file is a story and none
+story_apart : {A : Type 0} (a b : List ℕ) (r : StoryRefusal) → a ≡ b → refusal_of a ≡ None → refusal_of b ≡ Some r → A
+story_apart a b r same h k = let no = sym h ∙ ap refusal_of same ∙ k in cc
+
+no_story_ends : (c : Call) (o p : Outside) (result : ℕ) (t : Task) (r : StoryRefusal) → p.contents ≡ o.contents → IsNoStory c o t r → Ends c p result → result ≡ 4
+no_story_ends c o p result t r same is (misused e m) = no_story_words c t m.none is.words
+no_story_ends c o p result t r same is (refused e h) = other_words c h.task t h.is.words is.words
+no_story_ends c o p result t r same is (ran h) = other_words c h.task t h.is.words is.words
+no_story_ends c o p result t r same is (refused_story e h) = e
+no_story_ends c o p result t r same is (played h) = story_apart (file_of p h.task) (file_of o t) r (same_file p o h.task t same (same_story c h.task t h.is.words is.words)) h.is.accepted is.refused
+
+played_ends : (c : Call) (o p : Outside) (result : ℕ) (t : Task) → c.input.left ≡ Some o.typed → p ≡ o → IsStory c o t → Ends c p result → result ≡ status_of_end (run_of c o t t.steps).end
+played_ends c o p result t told same is (misused e m) = no_story_words c t m.none is.words
+played_ends c o p result t told same is (refused e h) = other_words c h.task t h.is.words is.words
+played_ends c o p result t told same is (ran h) = other_words c h.task t h.is.words is.words
+played_ends c o p result t told same is (refused_story e h) = story_apart (file_of o t) (file_of p h.task) h.refusal (ap (λ (q : Outside). file_of q t) (sym same) ∙ ap (file_of p) (same_story c t h.task is.words h.is.words)) is.accepted h.is.refused
+played_ends c o p result t told same is (played h) =
+    h.is_status ∙ ap status_of_end ((h.played (is_some c.input.left o.typed told)).ends)
+    ∙ ap (λ (q : Outside). status_of_end (run_of c q h.task h.task.steps).end) same
+    ∙ ap (λ (u : Task). status_of_end (run_of c o u u.steps).end) (same_story c h.task t h.is.words is.words)
+
+pub decided : (c : Call) (result : ℕ) → ((source : List ℕ) (x y : Result Core Refusal) → Compiles source x → Compiles source y → x ≡ y) → Answers c result → Decides c result
+decided c result one a =
+    let contents : (o : Outside) → c.shelf.contents ≡ Some o.contents → a.outside.contents ≡ o.contents = λ o told. sym (as_told c.shelf.contents o.contents a.outside.contents told a.found.contents) in
+    record {
+      no_command = λ none. comes c a.outside result 2 (none_ends c a.outside result none) a.answer;
+      refuses = λ o told t r is. comes c a.outside result 1 (refused_ends c o a.outside result t r one (contents o told) is) a.answer;
+      runs = λ o told t p is. runs_so c a.outside result (program_ends c o a.outside result t p one (contents o told) is) a.answer;
+      no_story = λ o told t r is. comes c a.outside result 4 (no_story_ends c o a.outside result t r (contents o told) is) a.answer;
+      plays = λ o told typed t is.
+          let both : a.outside ≡ o = outside_is a.outside o (contents o told) (sym (as_told c.input.left o.typed a.outside.typed typed a.found.typed)) in
+          comes c a.outside result _ (played_ends c o a.outside result t typed both is) a.answer;
+    }
+  where
+    outside_is : (p o : Outside) → p.contents ≡ o.contents → p.typed ≡ o.typed → p ≡ o
+    outside_is p o h k =
+        ap (λ (contents : List ℕ → Option (List ℕ)). outside contents p.typed) h ∙ ap (outside o.contents) k

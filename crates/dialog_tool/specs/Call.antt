@@ -1,0 +1,49 @@
+-- A call of the program, and what it may find outside.
+use Rattle.std.specs.Prelude.{◌≡◌, ℕ, List, Option, Some, None}
+use Rattle.dg_base.specs.Shelves.{ShelfView, held, WhereTold, KeepsAll}
+use Rattle.dg_base.specs.Streams.{SourceView}
+use Rattle.dg_base.specs.Written.{SinkView}
+use Rattle.dialog_tool.specs.Command.{Command, Task, thrown}
+
+-- What the words ask for, the dice that are handed in, and what the shelf, the input and the output tell before the call and behind it.
+pub record Call : Type 0 where
+  pub command : Option Command
+  pub dice : List ℕ
+  pub shelf : ShelfView
+  pub shelf_after : ShelfView
+  pub input : SourceView
+  pub input_after : SourceView
+  pub out : SinkView
+  pub out_after : SinkView
+
+abbrev pub call : Option Command → List ℕ → ShelfView → ShelfView → SourceView → SourceView → SinkView → SinkView → Call
+call command dice shelf shelf_after input input_after out out_after =
+    record { command = command; dice = dice; shelf = shelf; shelf_after = shelf_after; input = input; input_after = input_after; out = out; out_after = out_after }
+
+-- What a call may find: the contents of each name, and the bytes to be typed.
+pub record Outside : Type 0 where
+  pub contents : List ℕ → Option (List ℕ)
+  pub typed : List ℕ
+
+-- this is what is told, or anything where nothing is told
+abbrev pub IsAsTold : {A : Type 0} → Option A → A → Type 0
+IsAsTold None value = Unit {0}
+IsAsTold (Some told) value = told ≡ value
+
+-- The shelf holds these contents and the input these bytes, as far as they tell.
+pub record Finds (c : Call) (o : Outside) : Type 0 where
+  pub contents : IsAsTold c.shelf.contents o.contents
+  pub typed : IsAsTold c.input.left o.typed
+
+-- the bytes of a task's file
+abbrev pub file_of : Outside → Task → List ℕ
+file_of o t = held (o.contents t.name)
+
+-- the dice that are thrown for a task
+abbrev pub dice_for : Call → Task → List ℕ
+dice_for c t = thrown t.dice c.dice
+
+-- A shelf's file is this, as far as the shelf tells, and it keeps what it holds.
+pub record IsFetched (before after : ShelfView) (t : Task) (file : List ℕ) : Type 0 where
+  pub told : WhereTold before.contents (λ contents. file ≡ held (contents t.name))
+  pub kept : KeepsAll before.contents after.contents
