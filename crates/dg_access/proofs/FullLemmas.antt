@@ -1,4 +1,4 @@
--- A scope is full along a walk exactly where a rule or a closure has too many variables.
+-- A scope is full along the mentions of an item exactly where a rule or a closure has too many variables.
 use Rattle.std.proofs.Common.{◌≡◌, ◌≤◌, ◌||◌, ◌∙◌, ℕ, List, [], ◌∷◌, ◌++◌, Bool, true, false, length, nat_lt, refl, sym, ap, append_assoc, arith}
 use Rattle.std.specs.Prelude.{if◌then◌else◌, codes}
 use Rattle.std.specs.List.{list_any}
@@ -6,14 +6,12 @@ use Rattle.std.specs.Str.{bytes_eq}
 use Rattle.std.proofs.lemmas.List.Folds.{list_any-append}
 use Rattle.std.proofs.lemmas.Grind.{common_steps}
 use Rattle.dg_base.specs.Tree.{Said}
-use Rattle.dg_names.specs.Mentions.{Mentions, nothing, mention, query, object, word, variable, unnamed, closure, branches, select, of_said}
-use Rattle.dg_names.specs.Named.{at_depth}
-use Rattle.dg_access.specs.Marks as marks
-use Rattle.dg_access.specs.Marks.{Mark, closed, marks_of_said, names_among}
-use Rattle.dg_access.specs.Counts.{times, names_out, leaving, is_full_closure, is_full_at, has_many_variables}
-use Rattle.dg_access.specs.Scopes.{Entry, with_places, after, is_full, stays, merged, passes, walk}
+use Rattle.dg_base.specs.Mentions.{variable, Mentions, nothing, thing, closed, things, closures, names_in, variable_in}
+use Rattle.dg_base.specs.Walk.{Met, met, opens, closes, walk}
+use Rattle.dg_access.specs.Counts as spec
+use Rattle.dg_access.specs.Counts.{times, names_out, leaving, counted_of, is_full_at, has_many_variables}
+use Rattle.dg_access.specs.Scopes.{Entry, with_places, after, is_full, stays, merged, passes}
 use Rattle.dg_access.proofs.EntryLemmas.{add_all, longer, add_append, as_many, merged_leaving}
-use Rattle.dg_access.proofs.SpotLemmas.{item_spotted}
 
 -- A scope behind these mentions.
 abbrev grown : List (List ℕ) → List Entry → Mentions → List Entry
@@ -32,12 +30,12 @@ named_if : (s : List Entry) (n : List ℕ) (ns : List (List ℕ)) (b : Bool) →
 named_if s n ns true = refl
 named_if s n ns false = refl
 
-closure_more : (all : List (List ℕ)) (s : List Entry) (inner ms : Mentions) → grown all (merged (places_in all) s (grown all [] inner)) ms ≡ grown all s (mention (closure inner) ms)
+closure_more : (all : List (List ℕ)) (s : List Entry) (inner ms : Mentions) → grown all (merged (places_in all) s (grown all [] inner)) ms ≡ grown all s (closed inner ms)
 closure_more all s inner ms =
     ap (λ (o : List Entry). add_all o (names_out all ms)) (merged_leaving all s (names_out all inner))
     ∙ sym (add_append s (leaving all (names_out all inner)) (names_out all ms))
 
-closure_full : (all : List (List ℕ)) (inner : Mentions) → is_full_closure all (closure inner) ≡ is_full (grown all [] inner)
+closure_full : (all : List (List ℕ)) (inner : Mentions) → spec.is_full all inner ≡ is_full (grown all [] inner)
 closure_full all inner = ap (nat_lt 64) (sym (as_many (names_out all inner)))
 
 -- ---- tests in a row
@@ -54,30 +52,26 @@ two_tests false true f false a r o on up = refl
 two_tests false false true g a r o on up = ap (λ (y : Bool). y || (a || r)) (sym (up refl))
 two_tests false false false g a r o on up = on refl
 
-passes_walk : (all : List (List ℕ)) (ms : Mentions) (s : List Entry) (outer : List (List Entry)) (rest : List Mark) → is_full s ≡ false → passes (places_in all) (walk ms ++ rest) s outer ≡ (is_full (grown all s ms) || (list_any (is_full_closure all) (at_depth ms) || passes (places_in all) rest (grown all s ms) outer))
+passes_walk : (all : List (List ℕ)) (ms : Mentions) (s : List Entry) (outer : List (List Entry)) (rest : List Met) → is_full s ≡ false → passes (places_in all) (walk ms ++ rest) s outer ≡ (is_full (grown all s ms) || (list_any (spec.is_full all) (closures ms) || passes (places_in all) rest (grown all s ms) outer))
 passes_walk all nothing s outer rest e = ap (λ (b : Bool). b || passes (places_in all) rest s outer) (sym e)
-passes_walk all (mention (variable n) ms) s outer rest e =
-    one_test (is_full (after n s)) (is_full (grown all (after n s) ms)) (list_any (is_full_closure all) (at_depth ms)) (passes (places_in all) rest (grown all (after n s) ms) outer) (passes (places_in all) (walk ms ++ rest) (after n s) outer) (passes_walk all ms (after n s) outer rest) (full_grown all (after n s) ms)
-    ∙ ap (λ (x : List Entry). is_full x || (list_any (is_full_closure all) (at_depth ms) || passes (places_in all) rest x outer)) (named_if s n (names_out all ms) (bytes_eq n (codes "_")))
-passes_walk all (mention unnamed ms) s outer rest e = passes_walk all ms s outer rest e
-passes_walk all (mention (query ps) ms) s outer rest e = passes_walk all ms s outer rest e
-passes_walk all (mention (object n) ms) s outer rest e = passes_walk all ms s outer rest e
-passes_walk all (mention (word n) ms) s outer rest e = passes_walk all ms s outer rest e
-passes_walk all (mention (branches n) ms) s outer rest e = passes_walk all ms s outer rest e
-passes_walk all (mention (select n) ms) s outer rest e = passes_walk all ms s outer rest e
-passes_walk all (mention (closure inner) ms) s outer rest e =
-    let full = list_any (is_full_closure all) in
+passes_walk all (thing (variable n) ms) s outer rest e =
+    one_test (is_full (after n s)) (is_full (grown all (after n s) ms)) (list_any (spec.is_full all) (closures ms)) (passes (places_in all) rest (grown all (after n s) ms) outer) (passes (places_in all) (walk ms ++ rest) (after n s) outer)
+    (passes_walk all ms (after n s) outer rest) (full_grown all (after n s) ms)
+    ∙ ap (λ (x : List Entry). is_full x || (list_any (spec.is_full all) (closures ms) || passes (places_in all) rest x outer)) (named_if s n (names_out all ms) (bytes_eq n (codes "_")))
+passes_walk all (thing t ms) s outer rest e = passes_walk all ms s outer rest e
+passes_walk all (closed inner ms) s outer rest e =
+    let full = list_any (spec.is_full all) in
     let s' : List Entry = merged (places_in all) s (grown all [] inner) in
-    ap (λ (l : List Mark). passes (places_in all) l [] (s ∷ outer)) (append_assoc (walk inner) (closed ∷ walk ms) rest)
-    ∙ passes_walk all inner [] (s ∷ outer) (closed ∷ (walk ms ++ rest)) refl
-    ∙ two_tests (is_full (grown all [] inner)) (full (at_depth inner)) (is_full s') (is_full (grown all s' ms)) (full (at_depth ms)) (passes (places_in all) rest (grown all s' ms) outer) (passes (places_in all) (walk ms ++ rest) s' outer) (passes_walk all ms s' outer rest) (full_grown all s' ms)
-    ∙ ap (λ (b : Bool). is_full (grown all s' ms) || ((b || (full (at_depth inner) || full (at_depth ms))) || passes (places_in all) rest (grown all s' ms) outer)) (sym (closure_full all inner))
-    ∙ ap (λ (b : Bool). is_full (grown all s' ms) || ((is_full_closure all (closure inner) || b) || passes (places_in all) rest (grown all s' ms) outer)) (sym (list_any-append (is_full_closure all) (at_depth inner) (at_depth ms)))
-    ∙ ap (λ (x : List Entry). is_full x || ((is_full_closure all (closure inner) || full (at_depth inner ++ at_depth ms)) || passes (places_in all) rest x outer)) (closure_more all s inner ms)
+    ap (λ (l : List Met). passes (places_in all) l [] (s ∷ outer)) (append_assoc (walk inner) (closes ∷ walk ms) rest)
+    ∙ passes_walk all inner [] (s ∷ outer) (closes ∷ (walk ms ++ rest)) refl
+    ∙ two_tests (is_full (grown all [] inner)) (full (closures inner)) (is_full s') (is_full (grown all s' ms)) (full (closures ms)) (passes (places_in all) rest (grown all s' ms) outer) (passes (places_in all) (walk ms ++ rest) s' outer) (passes_walk all ms s' outer rest) (full_grown all s' ms)
+    ∙ ap (λ (b : Bool). is_full (grown all s' ms) || ((b || (full (closures inner) || full (closures ms))) || passes (places_in all) rest (grown all s' ms) outer)) (sym (closure_full all inner))
+    ∙ ap (λ (b : Bool). is_full (grown all s' ms) || ((spec.is_full all inner || b) || passes (places_in all) rest (grown all s' ms) outer)) (sym (list_any-append (spec.is_full all) (closures inner) (closures ms)))
+    ∙ ap (λ (x : List Entry). is_full x || ((spec.is_full all inner || full (closures inner ++ closures ms)) || passes (places_in all) rest x outer)) (closure_more all s inner ms)
 
-nil_behind : (xs : List Mark) → xs ++ [] ≡ xs
+nil_behind : (xs : List Met) → xs ++ [] ≡ xs
 nil_behind [] = refl
-nil_behind (x ∷ xs) = ap (λ (l : List Mark). x ∷ l) (nil_behind xs)
+nil_behind (x ∷ xs) = ap (λ (l : List Met). x ∷ l) (nil_behind xs)
 
 or_false : (b : Bool) → (b || false) ≡ b
 or_false true = refl
@@ -85,10 +79,10 @@ or_false false = refl
 
 full_walk : (all : List (List ℕ)) (ms : Mentions) → passes (places_in all) (walk ms) [] [] ≡ is_full_at all ms
 full_walk all ms =
-    ap (λ (l : List Mark). passes (places_in all) l [] []) (sym (nil_behind (walk ms)))
+    ap (λ (l : List Met). passes (places_in all) l [] []) (sym (nil_behind (walk ms)))
     ∙ passes_walk all ms [] [] [] refl
-    ∙ ap (λ (b : Bool). is_full (grown all [] ms) || b) (or_false (list_any (is_full_closure all) (at_depth ms)))
-    ∙ ap (λ (b : Bool). b || list_any (is_full_closure all) (at_depth ms)) (sym (closure_full all ms))
+    ∙ ap (λ (b : Bool). is_full (grown all [] ms) || b) (or_false (list_any (spec.is_full all) (closures ms)))
+    ∙ ap (λ (b : Bool). b || list_any (spec.is_full all) (closures ms)) (sym (closure_full all ms))
 
 -- ---- the same with the same totals
 
@@ -101,20 +95,17 @@ merged_same f g is o (e ∷ es) =
     merged_same f g is (if stays f e then o else with_places o e.name e.places) es
     ∙ ap (λ (b : Bool). merged g (if b then o else with_places o e.name e.places) es) (stays_same f g is e)
 
-passes_same : (f g : List ℕ → ℕ) → ((n : List ℕ) → f n ≡ g n) → (ms : List Mark) (s : List Entry) (outer : List (List Entry)) → passes f ms s outer ≡ passes g ms s outer
+passes_same : (f g : List ℕ → ℕ) → ((n : List ℕ) → f n ≡ g n) → (ms : List Met) (s : List Entry) (outer : List (List Entry)) → passes f ms s outer ≡ passes g ms s outer
 passes_same f g is [] s outer = refl
-passes_same f g is (marks.named n ∷ ms) s outer = ap (λ (b : Bool). is_full (after n s) || b) (passes_same f g is ms (after n s) outer)
-passes_same f g is (marks.opened ∷ ms) s outer = passes_same f g is ms [] (s ∷ outer)
-passes_same f g is (marks.closed ∷ ms) s [] = passes_same f g is ms s []
-passes_same f g is (marks.closed ∷ ms) s (o ∷ outer) =
+passes_same f g is (met (variable n) ∷ ms) s outer = ap (λ (b : Bool). is_full (after n s) || b) (passes_same f g is ms (after n s) outer)
+passes_same f g is (met t ∷ ms) s outer = passes_same f g is ms s outer
+passes_same f g is (opens ∷ ms) s outer = passes_same f g is ms [] (s ∷ outer)
+passes_same f g is (closes ∷ ms) s [] = passes_same f g is ms s []
+passes_same f g is (closes ∷ ms) s (o ∷ outer) =
     ap (λ (b : Bool). is_full (merged f o s) || b) (passes_same f g is ms (merged f o s) outer)
     ∙ ap (λ (x : List Entry). is_full x || passes g ms x outer) (merged_same f g is o s)
-passes_same f g is (marks.node ∷ ms) s outer = passes_same f g is ms s outer
-passes_same f g is (marks.query ∷ ms) s outer = passes_same f g is ms s outer
-passes_same f g is (marks.select ∷ ms) s outer = passes_same f g is ms s outer
 
-pub item_full : (total : List ℕ → ℕ) (said : Said) → ((n : List ℕ) → total n ≡ times n (names_among (marks_of_said said))) → passes total (marks_of_said said) [] [] ≡ has_many_variables said
+pub item_full : (total : List ℕ → ℕ) (said : Said) → ((n : List ℕ) → total n ≡ times n (names_in variable_in (things (counted_of said)))) → passes total (walk (counted_of said)) [] [] ≡ has_many_variables said
 item_full total said is =
-    passes_same total (places_in (names_among (marks_of_said said))) is (marks_of_said said) [] []
-    ∙ item_spotted (places_in (names_among (marks_of_said said))) said
-    ∙ full_walk (names_among (marks_of_said said)) (of_said said)
+    passes_same total (places_in (names_in variable_in (things (counted_of said)))) is (walk (counted_of said)) [] []
+    ∙ full_walk (names_in variable_in (things (counted_of said))) (counted_of said)

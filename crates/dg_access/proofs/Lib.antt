@@ -6,7 +6,6 @@ pub mod NumberLemmas
 pub mod NameLemmas
 pub mod CountLemmas
 pub mod EntryLemmas
-pub mod SpotLemmas
 pub mod FullLemmas
 pub mod TotalLemmas
 pub mod NoteLemmas

@@ -1,10 +1,11 @@
--- What is noted at one mark, and a name that comes to a scope.
+-- What is noted at one step, and a name that comes to a scope.
 use Rattle.std.proofs.Common.{◌≡◌, ◌+◌, ◌<◌, ◌≤◌, ◌∙◌, ◌||◌, ℕ, zero, suc, List, [], ◌∷◌, ◌++◌, Bool, true, false, Vec, Global, length, get_or, set, refl, sym, ap, arith}
 use Rattle.std.specs.Prelude.{if◌then◌else◌}
 use Rattle.std.specs.Str.{bytes_eq}
 use Rattle.std.proofs.lemmas.List.{map-append, length-map}
-use Rattle.dg_access.specs.Marks as marks
-use Rattle.dg_access.specs.Marks.{Mark}
+use Rattle.dg_base.specs.Walk.{Met, closes, mention_view}
+use Rattle.dg_base.specs.declared.mentions.Mention.{Mention}
+use Rattle.dg_base.specs.declared.mentions.Mention.TheVariants as mention
 use Rattle.dg_access.specs.Scopes as spec
 use Rattle.dg_access.specs.Scopes.{entry, with_places, place_of, is_full, merged, passes}
 use Rattle.dg_access.specs.State.{entry_view, scope_view, stack_of}
@@ -15,9 +16,9 @@ pub stack_push : (ss : List (Vec Entry Global)) (s : Vec Entry Global) → stack
 stack_push [] s = refl
 stack_push (t ∷ ss) s = ap (λ (l : List (List spec.Entry)). l ++ scope_view t.items ∷ []) (stack_push ss s)
 
-pub noted_closed : (total : List ℕ → ℕ) (old new : List (Vec Entry Global)) (o : Vec Entry Global) (s m : List spec.Entry) (over : Bool) → old ≡ new ++ o ∷ [] → m ≡ merged total (scope_view o.items) s → over ≡ is_full m → (ms : List Mark) → passes total (marks.closed ∷ ms) s (stack_of old) ≡ (over || passes total ms m (stack_of new))
+pub noted_closed : (total : List ℕ → ℕ) (old new : List (Vec Entry Global)) (o : Vec Entry Global) (s m : List spec.Entry) (over : Bool) → old ≡ new ++ o ∷ [] → m ≡ merged total (scope_view o.items) s → over ≡ is_full m → (ms : List Met) → passes total (closes ∷ ms) s (stack_of old) ≡ (over || passes total ms m (stack_of new))
 noted_closed total old new o s m over outer inner full ms =
-    ap (passes total (marks.closed ∷ ms) s) (ap stack_of outer ∙ stack_push new o)
+    ap (passes total (closes ∷ ms) s) (ap stack_of outer ∙ stack_push new o)
     ∙ ap (λ (x : List spec.Entry). is_full x || passes total ms x (stack_of new)) (sym inner)
     ∙ ap (λ (b : Bool). b || passes total ms m (stack_of new)) (sym full)
 
@@ -55,3 +56,10 @@ pub put_behind : (es : List Entry) (new : Entry) (at : ℕ) → at ≡ place_of 
 put_behind es new at place le =
     map-append entry_view es (new ∷ [])
     ∙ sym (behind (scope_view es) new.name.now new.places (omega (arith, place, le, length-map es entry_view)))
+
+-- a mention of no variable and of no closure
+pub still : (m : Mention) → ((n : _) → m ≡ Mention.Variable n → ⊥) → (m ≡ Mention.Opened → ⊥) → (m ≡ Mention.Closed → ⊥) → (total : List ℕ → ℕ) (s : List spec.Entry) (outer : List (List spec.Entry)) (ms : List Met) → passes total (mention_view m ∷ ms) s outer ≡ passes total ms s outer
+still (mention.Variable n) v o c total s outer ms = absurd (v n refl)
+still mention.Opened v o c total s outer ms = absurd (o refl)
+still mention.Closed v o c total s outer ms = absurd (c refl)
+still m v o c total s outer ms = refl

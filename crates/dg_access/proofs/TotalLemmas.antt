@@ -1,12 +1,13 @@
 -- How often a name stands in an item, as a map tells it.
-use Rattle.std.proofs.Common.{◌≡◌, ◌+◌, ◌∙◌, ℕ, List, [], ◌∷◌, Bool, true, false, Option, Some, Bor, cond, refl, sym, ap, arith}
+use Rattle.std.proofs.Common.{◌≡◌, ◌+◌, ◌∙◌, ℕ, List, [], ◌∷◌, ◌++◌, Bool, true, false, Option, Some, Bor, cond, refl, sym, ap, arith}
 use Rattle.std.specs.Prelude.{if◌then◌else◌, unwrap_or}
 use Rattle.std.specs.Map.{lookup}
 use Rattle.std.specs.Str.{bytes_eq}
 use Rattle.std.specs.Cmp.Lexicographic.{bytes_decides}
 use Rattle.indexmap.specs.IndexMap.{insert_entry}
 use Rattle.dg_access.specs.Counts.{times}
-use Rattle.dg_access.specs.Marks.{Mark, node, query, select, named, opened, closed, names_among}
+use Rattle.dg_base.specs.Mentions.{Thing, names_in, variable_in}
+use Rattle.dg_base.proofs.MentionLemmas.{names_append}
 use Rattle.dg_access.specs.State.{total_at}
 
 found_if : (b : Bool) (v : ℕ) (o : Option ℕ) → unwrap_or (cond b (Some v) o) 0 ≡ (if b then v else unwrap_or o 0)
@@ -64,19 +65,17 @@ added es new k v e is n =
     ∙ one_more es k.now n (bytes_eq n k.now) refl
     ∙ ap (λ (x : ℕ). total_at es n + x) (sym (times_one (bytes_eq n k.now)))
 
--- ---- along the marks
+-- ---- along the mentions
 
-times_if : (b : Bool) (x : ℕ) → (if b then x + 1 else x) ≡ (if b then 0 + 1 else 0) + x
-times_if true x = omega arith
-times_if false x = omega arith
+times_if : (b : Bool) (x y z : ℕ) → x ≡ y + z → (if b then x + 1 else x) ≡ (if b then y + 1 else y) + z
+times_if true x y z e = omega (arith, e)
+times_if false x y z e = e
 
-pub times_first : (n : List ℕ) (m : Mark) (ms : List Mark) → times n (names_among (m ∷ ms)) ≡ times n (names_among (m ∷ [])) + times n (names_among ms)
-times_first n (named k) ms = times_if (bytes_eq n k) (times n (names_among ms))
-times_first n node ms = omega arith
-times_first n query ms = omega arith
-times_first n select ms = omega arith
-times_first n opened ms = omega arith
-times_first n closed ms = omega arith
+pub times_append : (n : List ℕ) (a b : List (List ℕ)) → times n (a ++ b) ≡ times n a + times n b
+times_append n [] b = omega arith
+times_append n (k ∷ a) b = times_if (bytes_eq n k) _ _ _ (times_append n a b)
 
-pub times_step : (n : List ℕ) (m : Mark) (ms : List Mark) (old new whole : ℕ) → new ≡ old + times n (names_among (m ∷ [])) → old + times n (names_among (m ∷ ms)) ≡ whole → new + times n (names_among ms) ≡ whole
-times_step n m ms old new whole e is = omega (arith, e, is, times_first n m ms)
+pub times_step : (n : List ℕ) (a b : List Thing) (old new whole : ℕ) → new ≡ old + times n (names_in variable_in a) → old + times n (names_in variable_in (a ++ b)) ≡ whole → new + times n (names_in variable_in b) ≡ whole
+times_step n a b old new whole e is =
+    let split = ap (times n) (names_append variable_in a b) ∙ times_append n (names_in variable_in a) (names_in variable_in b) in
+    omega (arith, e, is, split)

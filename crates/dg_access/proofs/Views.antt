@@ -6,7 +6,7 @@ use Rattle.dg_base.specs.TreeView.{stmt_view, branch_view, branches_view}
 use Rattle.dg_base.specs.declared.tree.Stmt
 use Rattle.dg_base.specs.declared.tree.Stmt.{Stmt}
 use Rattle.dg_base.specs.declared.program.Mode.{Mode}
-use Rattle.dg_names.proofs.Views.{select_seen}
+use Rattle.dg_base.proofs.Views.{select_seen}
 use Rattle.dg_access.specs.State.{selected}
 
 pub each_branch : (bs : List (List Stmt)) → branches_view (map (map stmt_view) bs) ≡ tree.branches_of (map branch_view bs)

@@ -3,7 +3,7 @@ use Rattle.std.specs.Prelude.{ℕ, zero, suc, ◌+◌, List, [], ◌∷◌, Bool
 use Rattle.std.specs.List.{starts_with}
 use Rattle.dg_base.specs.Tree as tree
 use Rattle.dg_base.specs.Tree.{Said, Item}
-use Rattle.dg_access.specs.Marks.{marks_of_said, names_among}
+use Rattle.dg_base.specs.Mentions.{things_in, names_in, variable_in}
 use Rattle.dg_access.specs.Plain.{Setting, choice_mark, plain_parts, rule_body}
 
 -- Whether this begins one of these names.
@@ -18,7 +18,7 @@ first_free names number (suc left) = if begins_one names (choice_mark number) th
 
 -- The first number with which no variable of an item begins as the names of its choices do.
 abbrev pub free_number : Said → ℕ
-free_number said = let names = names_among (marks_of_said said) in first_free names 0 (length names)
+free_number said = let names = names_in variable_in (things_in said) in first_free names 0 (length names)
 
 -- How the heads and bodies of an item are rewritten.
 abbrev pub in_rule : Option (List ℕ) → Said → Setting

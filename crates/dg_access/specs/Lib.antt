@@ -1,5 +1,4 @@
 pub mod Plain
-pub mod Marks
 pub mod Items
 pub mod Counts
 pub mod Rewritten

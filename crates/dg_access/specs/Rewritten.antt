@@ -1,10 +1,10 @@
 -- The tree with plain heads, or why it is refused: hold it against docs/LANGUAGE.md, "Plain heads" and "Limits".
-use Rattle.std.specs.Prelude.{◌≡◌, List, [], ◌∷◌, ◌||◌, Bool, true, false, Some, None, Result, Ok, Err}
+use Rattle.std.specs.Prelude.{List, [], ◌∷◌, ◌||◌, Bool, true, false, None, Result}
 use Rattle.dg_base.specs.Tree.{Said, topic, rule, deny, access, global_variable, Item}
 use Rattle.dg_base.specs.declared.refusal.Refusal.{Refusal}
-use Rattle.dg_base.specs.declared.refusal.Kind.TheVariants.{TooMany}
+use Rattle.dg_base.specs.Passing.{first_passing, IsCounted}
 use Rattle.dg_access.specs.Items.{plain_items}
-use Rattle.dg_access.specs.Counts.{first_passing}
+use Rattle.dg_access.specs.Counts.{has_excess, are_many}
 
 -- An access rule.
 abbrev pub is_access : Said → Bool
@@ -21,5 +21,4 @@ has_access (i ∷ is) = is_access i.said || has_access is
 
 -- The rewritten tree, or the first item at which a count of it passes its number.
 abbrev pub IsRewritten : List Item → Result (List Item) Refusal → Type 0
-IsRewritten is (Ok new) = (first_passing [] (plain_items None is) ≡ None) × (new ≡ plain_items None is)
-IsRewritten is (Err r) = (i : Item) × (first_passing [] (plain_items None is) ≡ Some i) × (r ≡ record { kind = TooMany; line = i.line })
+IsRewritten is = IsCounted (first_passing has_excess are_many [] (plain_items None is)) (plain_items None is)

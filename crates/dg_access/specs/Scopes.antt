@@ -1,11 +1,12 @@
--- Variables and numbers that are counted along the marks of an item. The proofs alone rest on it.
-use Rattle.std.specs.Prelude.{ℕ, ◌+◌, ◌||◌, ◌&&◌, List, [], ◌∷◌, ◌++◌, Bool, false, Option, Some, None, length, min, codes, nat_eq, nat_lt, if◌then◌else◌}
+-- Variables and numbers that are counted along the mentions of an item. The proofs alone rest on it.
+use Rattle.std.specs.Prelude.{ℕ, ◌+◌, ◌||◌, ◌&&◌, List, [], ◌∷◌, Bool, false, Option, length, codes, nat_eq, nat_lt, if◌then◌else◌}
 use Rattle.std.specs.Str.{bytes_eq}
 use Rattle.dg_base.specs.Tree.{Said, Item}
-use Rattle.dg_names.specs.Counts.{is_rule}
-use Rattle.dg_names.specs.Mentions.{variable, closure, Mentions, nothing, mention}
-use Rattle.dg_access.specs.Marks.{Mark, named, opened, closed, marks_of_said}
-use Rattle.dg_access.specs.Counts.{is_unnamed, is_node, is_select, is_opened, number_of, has_excess}
+use Rattle.dg_base.specs.Mentions.{Thing, variable, things, weight_of}
+use Rattle.dg_base.specs.Passing.{passing}
+use Rattle.dg_base.specs.Walk.{Met, met, opens, closes}
+use Rattle.dg_names.specs.Counts.{closures_at, selects_at}
+use Rattle.dg_access.specs.Counts.{is_unnamed, nodes_at, rules_at, counted_of, has_excess}
 
 -- ---- variables
 
@@ -43,29 +44,14 @@ abbrev pub merged : (List ℕ → ℕ) → List Entry → List Entry → List En
 merged total o [] = o
 merged total o (e ∷ es) = merged total (if stays total e then o else with_places o e.name e.places) es
 
--- Whether a scope is full along these marks, from this scope in those on.
-abbrev pub passes : (List ℕ → ℕ) → List Mark → List Entry → List (List Entry) → Bool
+-- Whether a scope is full along these mentions, from this scope in those on.
+abbrev pub passes : (List ℕ → ℕ) → List Met → List Entry → List (List Entry) → Bool
 passes total [] s outer = false
-passes total (named n ∷ ms) s outer = is_full (after n s) || passes total ms (after n s) outer
-passes total (opened ∷ ms) s outer = passes total ms [] (s ∷ outer)
-passes total (closed ∷ ms) s [] = passes total ms s []
-passes total (closed ∷ ms) s (o ∷ outer) = is_full (merged total o s) || passes total ms (merged total o s) outer
-passes total (m ∷ ms) s outer = passes total ms s outer
-
--- What some mentions are marked with, but for what isn't of variables.
-abbrev pub walk : Mentions → List Mark
-walk nothing = []
-walk (mention (variable n) ms) = named n ∷ walk ms
-walk (mention (closure inner) ms) = opened ∷ (walk inner ++ closed ∷ walk ms)
-walk (mention m ms) = walk ms
-
--- The marks that are of variables.
-abbrev pub spots : List Mark → List Mark
-spots [] = []
-spots (named n ∷ ms) = named n ∷ spots ms
-spots (opened ∷ ms) = opened ∷ spots ms
-spots (closed ∷ ms) = closed ∷ spots ms
-spots (m ∷ ms) = spots ms
+passes total (met (variable n) ∷ ms) s outer = is_full (after n s) || passes total ms (after n s) outer
+passes total (met t ∷ ms) s outer = passes total ms s outer
+passes total (opens ∷ ms) s outer = passes total ms [] (s ∷ outer)
+passes total (closes ∷ ms) s [] = passes total ms s []
+passes total (closes ∷ ms) s (o ∷ outer) = is_full (merged total o s) || passes total ms (merged total o s) outer
 
 -- ---- counts in all
 
@@ -75,18 +61,18 @@ pub record Counted : Type 0 where
   pub selects : ℕ
   pub nodes : ℕ
 
--- A sum in 64 bits that stays at the last number.
-abbrev pub more : ℕ → ℕ → ℕ
-more a b = min (a + b) 18446744073709551615
+-- What is counted behind these mentions.
+abbrev pub counted : List Thing → Counted → Counted
+counted ts c = record {
+  rules = c.rules + weight_of rules_at ts;
+  closures = c.closures + weight_of closures_at ts;
+  selects = c.selects + weight_of selects_at ts;
+  nodes = c.nodes + weight_of nodes_at ts;
+}
 
 -- What is counted behind an item.
-abbrev pub behind : Said → Counted → Counted
-behind said c = record {
-  rules = more c.rules (if is_rule said then 1 else 0);
-  closures = more c.closures (number_of is_opened (marks_of_said said));
-  selects = more c.selects (number_of is_select (marks_of_said said));
-  nodes = more c.nodes (number_of is_node (marks_of_said said));
-}
+abbrev pub behind : Counted → Said → Counted
+behind c said = counted (things (counted_of said)) c
 
 -- Nothing yet.
 abbrev pub uncounted : Counted
@@ -97,6 +83,5 @@ abbrev pub has_many : Counted → Bool
 has_many c = nat_lt 16000 c.rules || (nat_lt 16000 c.closures || (nat_lt 500 c.selects || nat_lt 2000000 c.nodes))
 
 -- The first item at which a count passes, from what was counted on.
-abbrev pub passing : Counted → List Item → Option Item
-passing c [] = None
-passing c (i ∷ is) = if has_excess i.said || has_many (behind i.said c) then Some i else passing (behind i.said c) is
+abbrev pub passing_in : Counted → List Item → Option Item
+passing_in = passing has_excess behind has_many

@@ -8,11 +8,11 @@ use Rattle.indexmap.specs.IndexMap.{IndexMap}
 use Rattle.dg_base.specs.Tree as tree
 use Rattle.dg_base.specs.Tree.{Parts, Value, Stmt, Body}
 use Rattle.dg_access.specs.Plain as spec
-use Rattle.dg_access.specs.Marks as marks
-use Rattle.dg_access.specs.Counts.{is_node, is_query, is_select, is_opened}
+use Rattle.dg_base.specs.Mentions.{Thing}
+use Rattle.dg_base.specs.Walk.{Met}
+use Rattle.dg_names.specs.Counts.{closures_at, selects_at}
+use Rattle.dg_access.specs.Counts.{nodes_at, queries_at, rules_at}
 use Rattle.dg_access.specs.Scopes as scopes
-use Rattle.dg_access.specs.declared.marks.Mark.{Mark}
-use Rattle.dg_access.specs.declared.marks.Mark.TheVariants as mark
 use Rattle.dg_access.specs.declared.setting.Setting.{Setting}
 use Rattle.dg_access.specs.declared.counts.Sort.{Sort}
 use Rattle.dg_access.specs.declared.counts.Sort.TheVariants as sort
@@ -33,29 +33,18 @@ first_or (tree.part (tree.part_value v) ps) d = v
 abbrev pub seen : List (Bor (List ℕ)) → List (List ℕ)
 seen ns = map (λ (n : Bor (List ℕ)). n.now) ns
 
-abbrev pub mark_view : Mark → marks.Mark
-mark_view mark.Node = marks.node
-mark_view mark.Query = marks.query
-mark_view mark.Select = marks.select
-mark_view (mark.Named n) = marks.named n.now
-mark_view mark.Opened = marks.opened
-mark_view mark.Closed = marks.closed
-
--- What these marks stand for.
-abbrev pub marked : List Mark → List marks.Mark
-marked ms = map mark_view ms
-
 -- The branches of a select.
 abbrev pub selected : Stmt → Body
 selected (tree.select mode b) = b
 selected s = tree.no_branches
 
--- The marks of a sort.
-abbrev pub test_of : Sort → marks.Mark → Bool
-test_of sort.Node m = is_node m
-test_of sort.Query m = is_query m
-test_of sort.Select m = is_select m
-test_of sort.Closure m = is_opened m
+-- What a sort weighs.
+abbrev pub weight_at : Sort → Thing → ℕ
+weight_at sort.Node = nodes_at
+weight_at sort.Query = queries_at
+weight_at sort.Select = selects_at
+weight_at sort.Closure = closures_at
+weight_at sort.Rule = rules_at
 
 abbrev pub counts_view : Counts → scopes.Counted
 counts_view c = record { rules = c.rules; closures = c.closures; selects = c.selects; nodes = c.nodes }
@@ -79,6 +68,6 @@ abbrev pub stack_of : List (Vec Entry Global) → List (List scopes.Entry)
 stack_of [] = []
 stack_of (s ∷ ss) = stack_of ss ++ scope_view s.items ∷ []
 
--- What was marked was noted, and this says whether a scope is full there.
-abbrev pub IsNoted : (List ℕ → ℕ) → marks.Mark → Scopes → Scopes → Bool → Type 0
-IsNoted total m old new over = (ms : List marks.Mark) → scopes.passes total (m ∷ ms) (scope_view old.inner.items) (stack_of old.outer.items) ≡ (over || scopes.passes total ms (scope_view new.inner.items) (stack_of new.outer.items))
+-- What was met was noted, and this says whether a scope is full there.
+abbrev pub IsNoted : (List ℕ → ℕ) → Met → Scopes → Scopes → Bool → Type 0
+IsNoted total m old new over = (ms : List Met) → scopes.passes total (m ∷ ms) (scope_view old.inner.items) (stack_of old.outer.items) ≡ (over || scopes.passes total ms (scope_view new.inner.items) (stack_of new.outer.items))

@@ -1,17 +1,18 @@
 // The counts of rewritten items.
-ghost use Rattle.std.specs.Prelude.{◌≡◌, ◌||◌, map, nat_lt, IfOk, OnOk, if◌then◌else◌};
+ghost use Rattle.std.specs.Prelude.{◌≡◌, ◌+◌, ◌||◌, map, nat_lt, IfOk, OnOk};
 ghost use Rattle.std.specs.Option.{option_map};
+ghost use Rattle.dg_base.specs.Mentions.{things, weight_of};
 ghost use Rattle.dg_base.specs.TreeView.{item_view, said_view};
-ghost use Rattle.dg_names.specs.Counts as named;
+ghost use Rattle.dg_base.specs.Walk.{walk, mention_view, seen, thing_at, things_at};
 ghost use Rattle.dg_access.specs.Counts as spec;
-ghost use Rattle.dg_access.specs.Marks.{marks_of_said};
+ghost use Rattle.dg_access.specs.Counts.{counted_of};
 ghost use Rattle.dg_access.specs.Scopes as scopes;
-ghost use Rattle.dg_access.specs.Scopes.{more, behind, uncounted, passing};
-ghost use Rattle.dg_access.specs.State.{marked, mark_view, test_of, counts_view};
+ghost use Rattle.dg_access.specs.Scopes.{counted, behind, uncounted, passing_in};
+ghost use Rattle.dg_access.specs.State.{weight_at, counts_view};
 
-use crate::marks::{Mark, mark_said};
+use crate::totals::sum;
 use crate::variables::has_many_variables;
-use dg_base::{Item, ItemBody};
+use dg_base::{Item, ItemBody, Mention, Role, mentions_of};
 use std::alloc::{AllocError, Global};
 
 const RULES: usize = 16_000;
@@ -31,9 +32,10 @@ pub enum Sort {
     Query,
     Select,
     Closure,
+    Rule,
 }
 
-/// The counts in all. One that is full stays so.
+/// The counts in all.
 #[derive(Clone, Copy)]
 pub struct Counts {
     pub rules: usize,
@@ -42,64 +44,70 @@ pub struct Counts {
     pub nodes: usize,
 }
 
-fn is_of(sort: Sort, mark: Mark<'_>) -> bool
-    ensures { result ≡ test_of sort (mark_view mark.entry) }
+fn nodes_of(role: Role) -> usize
+    ensures { result ≡ spec.nodes_of role }
 {
-    match sort {
-        Sort::Node => matches!(mark, Mark::Node),
-        Sort::Query => matches!(mark, Mark::Query),
-        Sort::Select => matches!(mark, Mark::Select),
-        Sort::Closure => matches!(mark, Mark::Opened),
+    match role {
+        Role::Rule | Role::Access | Role::Changed(_) => 1,
+        Role::Asked | Role::AskedAll | Role::AskedNot | Role::Nested => 2,
+        Role::Declared => 3,
     }
 }
 
-// How many of the marks are of a sort.
-fn number_of(sort: Sort, marks: &[Mark<'_>]) -> usize
-    ensures { result ≡ spec.number_of (test_of sort) (marked marks.now) }
+fn nodes_at(mention: Mention<'_>) -> usize
+    ensures { result ≡ weight_of spec.nodes_at (thing_at (mention_view mention.entry)) }
 {
-    let mut number = 0;
-    for mark in marks {
-        if is_of(sort, *mark) {
-            number += 1;
-        }
-    }
-    number
-}
-
-fn is_rule(said: &ItemBody) -> bool
-    ensures { result ≡ named.is_rule (said_view said.now) }
-{
-    matches!(
-        said,
-        ItemBody::Rule(_, _) | ItemBody::Deny(_, _) | ItemBody::Access(_, _)
-    )
-}
-
-fn rules_behind(rules: usize, said: &ItemBody) -> usize
-    ensures { result ≡ more rules (if named.is_rule (said_view said.now) then 1 else 0) }
-{
-    if is_rule(said) {
-        rules.saturating_add(1)
-    } else {
-        rules
+    match mention {
+        Mention::Query(role, _) => nodes_of(role),
+        Mention::TopicLine(_) | Mention::Branches(_) | Mention::Closed => 0,
+        _ => 1,
     }
 }
 
-// The counts behind an item with these marks.
-fn behind(counts: Counts, said: &ItemBody, marks: &[Mark<'_>]) -> Counts
-    requires { marked marks.now ≡ marks_of_said (said_view said.now) }
-    ensures { counts_view result ≡ behind (said_view said.now) (counts_view counts) }
+fn queries_at(mention: Mention<'_>) -> usize
+    ensures { result ≡ weight_of spec.queries_at (thing_at (mention_view mention.entry)) }
 {
-    Counts {
-        rules: rules_behind(counts.rules, said),
-        closures: counts
-            .closures
-            .saturating_add(number_of(Sort::Closure, marks)),
-        selects: counts
-            .selects
-            .saturating_add(number_of(Sort::Select, marks)),
-        nodes: counts.nodes.saturating_add(number_of(Sort::Node, marks)),
+    match mention {
+        Mention::Query(Role::Asked | Role::AskedAll | Role::AskedNot, _) => 1,
+        _ => 0,
     }
+}
+
+// How much a mention weighs in a sort.
+fn weight_at(sort: Sort, mention: Mention<'_>) -> usize
+    ensures { result ≡ weight_of (weight_at sort) (thing_at (mention_view mention.entry)) }
+{
+    match (sort, mention) {
+        (Sort::Node, _) => nodes_at(mention),
+        (Sort::Query, _) => queries_at(mention),
+        (Sort::Select, Mention::Select(_)) => 1,
+        (Sort::Closure, Mention::Opened) => 1,
+        (Sort::Rule, Mention::Query(Role::Rule, _)) => 1,
+        _ => 0,
+    }
+}
+
+// How much all these weigh in a sort.
+fn weight_of(sort: Sort, mentions: &[Mention<'_>]) -> Result<usize, AllocError>
+    ensures { IfOk result (λ weight. weight ≡ weight_of (weight_at sort) (things_at (seen mentions.now))) }
+{
+    let mut weight = 0;
+    for mention in mentions {
+        weight = sum(weight, weight_at(sort, *mention))?;
+    }
+    Ok(weight)
+}
+
+// The counts behind these mentions.
+fn behind(counts: Counts, mentions: &[Mention<'_>]) -> Result<Counts, AllocError>
+    ensures { IfOk result (λ new. counts_view new ≡ counted (things_at (seen mentions.now)) (counts_view counts)) }
+{
+    Ok(Counts {
+        rules: sum(counts.rules, weight_of(Sort::Rule, mentions)?)?,
+        closures: sum(counts.closures, weight_of(Sort::Closure, mentions)?)?,
+        selects: sum(counts.selects, weight_of(Sort::Select, mentions)?)?,
+        nodes: sum(counts.nodes, weight_of(Sort::Node, mentions)?)?,
+    })
 }
 
 fn has_many(counts: Counts) -> bool
@@ -111,32 +119,44 @@ fn has_many(counts: Counts) -> bool
         || counts.nodes > NODES
 }
 
-fn has_many_queries(marks: &[Mark<'_>]) -> bool
-    ensures { result ≡ nat_lt 10000 (spec.number_of spec.is_query (marked marks.now)) }
+fn has_many_queries(mentions: &[Mention<'_>]) -> Result<bool, AllocError>
+    ensures { IfOk result (λ many. many ≡ nat_lt 10000 (weight_of spec.queries_at (things_at (seen mentions.now)))) }
 {
-    number_of(Sort::Query, marks) > QUERIES
+    let queries = weight_of(Sort::Query, mentions)?;
+    Ok(queries > QUERIES)
 }
 
 // Whether a count of one item passes its number.
-fn has_excess(alloc: Global, said: &ItemBody, marks: &[Mark<'_>]) -> Result<bool, AllocError>
-    requires { marked marks.now ≡ marks_of_said (said_view said.now) }
+fn has_excess(alloc: Global, said: &ItemBody, mentions: &[Mention<'_>]) -> Result<bool, AllocError>
+    requires walk { seen mentions.now ≡ walk (counted_of (said_view said.now)) }
+    requires things { things_at (seen mentions.now) ≡ things (counted_of (said_view said.now)) }
     ensures { IfOk result (λ over. over ≡ spec.has_excess (said_view said.now)) }
 {
-    if has_many_queries(marks) {
+    if has_many_queries(mentions)? {
         return Ok(true);
     }
-    has_many_variables(alloc, said, marks)
+    has_many_variables(alloc, said, mentions)
+}
+
+// What is counted of an item.
+fn counted_mentions(alloc: Global, said: &ItemBody) -> Result<Vec<Mention<'_>>, AllocError>
+    ensures walk { IfOk result (λ found. seen found.items ≡ walk (counted_of (said_view said.now))) }
+    ensures things { IfOk result (λ found. things_at (seen found.items) ≡ things (counted_of (said_view said.now))) }
+{
+    match said {
+        ItemBody::Access(_, _) => Ok(Vec::new(alloc)),
+        _ => mentions_of(alloc, said),
+    }
 }
 
 // Adds an item: whether a count passes its number there.
 fn add_item(alloc: Global, counts: &mut Counts, said: &ItemBody) -> Result<bool, AllocError>
-    ensures over { IfOk result (λ over. over ≡ (spec.has_excess (said_view said.now) || scopes.has_many (behind (said_view said.now) (counts_view counts.old)))) }
-    ensures behind { OnOk result (counts_view counts.new ≡ behind (said_view said.now) (counts_view counts.old)) }
+    ensures over { IfOk result (λ over. over ≡ (spec.has_excess (said_view said.now) || scopes.has_many (behind (counts_view counts.old) (said_view said.now)))) }
+    ensures behind { OnOk result (counts_view counts.new ≡ behind (counts_view counts.old) (said_view said.now)) }
 {
-    let mut marks = Vec::new(alloc);
-    mark_said(&mut marks, said)?;
-    *counts = behind(*counts, said, marks.as_slice());
-    if has_excess(alloc, said, marks.as_slice())? {
+    let mentions = counted_mentions(alloc, said)?;
+    *counts = behind(*counts, mentions.as_slice())?;
+    if has_excess(alloc, said, mentions.as_slice())? {
         return Ok(true);
     }
     Ok(has_many(*counts))
@@ -144,7 +164,7 @@ fn add_item(alloc: Global, counts: &mut Counts, said: &ItemBody) -> Result<bool,
 
 /// The line of the first item at which a count passes its number.
 pub fn first_passing(alloc: Global, items: &[Item]) -> Result<Option<u32>, AllocError>
-    ensures { IfOk result (λ line. line ≡ option_map (λ i. i.line) (passing uncounted (map item_view items.now))) }
+    ensures { IfOk result (λ line. line ≡ option_map (λ i. i.line) (passing_in uncounted (map item_view items.now))) }
 {
     let mut counts = Counts {
         rules: 0,

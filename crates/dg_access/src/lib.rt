@@ -4,7 +4,6 @@
 mod counts;
 mod fresh;
 mod laws;
-mod marks;
 mod numbers;
 mod plain;
 mod puts;

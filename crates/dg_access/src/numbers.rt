@@ -1,13 +1,14 @@
 // The number with which the names of an item's choices begin.
-ghost use Rattle.std.specs.Prelude.{◌≡◌, ◌++◌, ◌∷◌, [], length, IfOk, OnOk};
+ghost use Rattle.std.specs.Prelude.{◌≡◌, ◌++◌, length, IfOk, OnOk};
 ghost use Rattle.dg_base.specs.TreeView.{said_view};
-ghost use Rattle.dg_access.specs.Marks.{names_among};
+ghost use Rattle.dg_base.specs.Mentions.{names_in, variable_in};
+ghost use Rattle.dg_base.specs.Walk as walk;
+ghost use Rattle.dg_base.specs.Walk.{mention_view, thing_at, things_at};
 ghost use Rattle.dg_access.specs.Items as spec;
 ghost use Rattle.dg_access.specs.Plain.{choice_mark};
-ghost use Rattle.dg_access.specs.State.{marked, seen};
+ghost use Rattle.dg_access.specs.State.{seen};
 
-use crate::marks::{Mark, mark_said};
-use dg_base::ItemBody;
+use dg_base::{ItemBody, Mention, mentions_of};
 use std::alloc::{AllocError, Global};
 
 fn choice_mark(alloc: Global, number: usize) -> Result<Vec<u8>, AllocError>
@@ -47,21 +48,20 @@ fn first_free(alloc: Global, names: &[&[u8]]) -> Result<usize, AllocError>
     Ok(names.len())
 }
 
-fn add_name<'a>(names: &mut Vec<&'a [u8]>, mark: Mark<'a>) -> Result<(), AllocError>
-    ensures { OnOk result (seen names.new.items ≡ seen names.old.items ++ names_among (marked (mark.entry ∷ []))) }
+fn add_name<'a>(names: &mut Vec<&'a [u8]>, mention: Mention<'a>) -> Result<(), AllocError>
+    ensures { OnOk result (seen names.new.items ≡ seen names.old.items ++ names_in variable_in (thing_at (mention_view mention.entry))) }
 {
-    if let Mark::Named(name) = mark {
+    if let Mention::Variable(name) = mention {
         names.push(name)?;
     }
     Ok(())
 }
 
-#[tactic(auto, using(std::proofs::lemmas::Grind::common_steps))]
-fn add_names<'a>(names: &mut Vec<&'a [u8]>, marks: &[Mark<'a>]) -> Result<(), AllocError>
-    ensures { OnOk result (seen names.new.items ≡ seen names.old.items ++ names_among (marked marks.now)) }
+fn add_names<'a>(names: &mut Vec<&'a [u8]>, mentions: &[Mention<'a>]) -> Result<(), AllocError>
+    ensures { OnOk result (seen names.new.items ≡ seen names.old.items ++ names_in variable_in (things_at (walk.seen mentions.now))) }
 {
-    for mark in marks {
-        add_name(names, *mark)?;
+    for mention in mentions {
+        add_name(names, *mention)?;
     }
     Ok(())
 }
@@ -70,9 +70,8 @@ fn add_names<'a>(names: &mut Vec<&'a [u8]>, marks: &[Mark<'a>]) -> Result<(), Al
 pub fn free_number(alloc: Global, said: &ItemBody) -> Result<usize, AllocError>
     ensures { IfOk result (λ number. number ≡ spec.free_number (said_view said.now)) }
 {
-    let mut marks = Vec::new(alloc);
-    mark_said(&mut marks, said)?;
+    let mentions = mentions_of(alloc, said)?;
     let mut names = Vec::new(alloc);
-    add_names(&mut names, marks.as_slice())?;
+    add_names(&mut names, mentions.as_slice())?;
     first_free(alloc, names.as_slice())
 }

@@ -1,10 +1,11 @@
 // How often each variable stands in an item.
 ghost use Rattle.std.specs.Prelude.{◌≡◌, ◌+◌, ◌∷◌, [], List, ℕ, IfOk, OnOk};
 ghost use Rattle.dg_access.specs.Counts.{times};
-ghost use Rattle.dg_access.specs.Marks.{names_among};
-ghost use Rattle.dg_access.specs.State.{marked, total_in};
+ghost use Rattle.dg_base.specs.Mentions.{names_in, variable_in};
+ghost use Rattle.dg_base.specs.Walk.{mention_view, seen, thing_at, things_at};
+ghost use Rattle.dg_access.specs.State.{total_in};
 
-use crate::marks::Mark;
+use dg_base::Mention;
 use indexmap::IndexMap;
 use std::alloc::{AllocError, Global};
 
@@ -36,25 +37,28 @@ fn add_name<'a>(totals: &mut IndexMap<&'a [u8], usize>, name: &'a [u8]) -> Resul
     Ok(())
 }
 
-fn add_mark<'a>(totals: &mut IndexMap<&'a [u8], usize>, mark: Mark<'a>) -> Result<(), AllocError>
-    ensures { OnOk result ((n : List ℕ) → total_in totals.new n ≡ total_in totals.old n + times n (names_among (marked (mark.entry ∷ [])))) }
+fn add_mention<'a>(
+    totals: &mut IndexMap<&'a [u8], usize>,
+    mention: Mention<'a>,
+) -> Result<(), AllocError>
+    ensures { OnOk result ((n : List ℕ) → total_in totals.new n ≡ total_in totals.old n + times n (names_in variable_in (thing_at (mention_view mention.entry)))) }
 {
-    if let Mark::Named(name) = mark {
+    if let Mention::Variable(name) = mention {
         add_name(totals, name)?;
     }
     Ok(())
 }
 
-/// How often each name stands among the marks of an item.
+/// How often each name stands among the mentions of an item.
 pub fn totals_among<'a>(
     alloc: Global,
-    marks: &[Mark<'a>],
+    mentions: &[Mention<'a>],
 ) -> Result<IndexMap<&'a [u8], usize>, AllocError>
-    ensures { IfOk result (λ totals. (n : List ℕ) → total_in totals n ≡ times n (names_among (marked marks.now))) }
+    ensures { IfOk result (λ totals. (n : List ℕ) → total_in totals n ≡ times n (names_in variable_in (things_at (seen mentions.now)))) }
 {
     let mut totals = IndexMap::new(alloc);
-    for mark in marks {
-        add_mark(&mut totals, *mark)?;
+    for mention in mentions {
+        add_mention(&mut totals, *mention)?;
     }
     Ok(totals)
 }

@@ -2,14 +2,14 @@
 ghost use Rattle.std.specs.Prelude.{◌≡◌, ◌∷◌, [], IfOk, OnOk};
 ghost use Rattle.dg_base.specs.TreeView.{said_view};
 ghost use Rattle.dg_access.specs.Counts as spec;
-ghost use Rattle.dg_access.specs.Marks as marks;
-ghost use Rattle.dg_access.specs.Marks.{marks_of_said};
+ghost use Rattle.dg_access.specs.Counts.{counted_of};
+ghost use Rattle.dg_base.specs.Mentions.{variable, things};
+ghost use Rattle.dg_base.specs.Walk.{met, opens, closes, walk, mention_view, seen, things_at};
 ghost use Rattle.dg_access.specs.Scopes.{with_places, place_of, is_full, stays, merged, passes};
-ghost use Rattle.dg_access.specs.State.{marked, mark_view, entry_view, scope_view, stack_of, total_in, IsNoted};
+ghost use Rattle.dg_access.specs.State.{entry_view, scope_view, stack_of, total_in, IsNoted};
 
-use crate::marks::Mark;
 use crate::totals::{sum, total_of, totals_among};
-use dg_base::ItemBody;
+use dg_base::{ItemBody, Mention};
 use indexmap::IndexMap;
 use std::alloc::{AllocError, Global};
 use std::mem;
@@ -95,7 +95,7 @@ fn note_named<'a>(
     scopes: &mut Scopes<'a>,
     name: &'a [u8],
 ) -> Result<bool, AllocError>
-    ensures { IfOk result (IsNoted (total_in totals.now) (marks.named name.now) scopes.old scopes.new) }
+    ensures { IfOk result (IsNoted (total_in totals.now) (met (variable name.now)) scopes.old scopes.new) }
 {
     if name != PARAMETER {
         add_places(&mut scopes.inner, name, 1)?;
@@ -114,7 +114,7 @@ fn open(alloc: Global, scopes: &mut Scopes<'_>) -> Result<(), AllocError>
 }
 
 fn note_closed(totals: &IndexMap<&[u8], usize>, scopes: &mut Scopes<'_>) -> Result<bool, AllocError>
-    ensures { IfOk result (IsNoted (total_in totals.now) marks.closed scopes.old scopes.new) }
+    ensures { IfOk result (IsNoted (total_in totals.now) closes scopes.old scopes.new) }
 {
     match scopes.outer.pop() {
         Some(mut outer) => {
@@ -126,54 +126,55 @@ fn note_closed(totals: &IndexMap<&[u8], usize>, scopes: &mut Scopes<'_>) -> Resu
     }
 }
 
-// Notes what is marked: whether a scope is full there.
+// Notes what is met: whether a scope is full there.
 fn note<'a>(
     alloc: Global,
     totals: &IndexMap<&[u8], usize>,
     scopes: &mut Scopes<'a>,
-    mark: Mark<'a>,
+    mention: Mention<'a>,
 ) -> Result<bool, AllocError>
-    ensures { IfOk result (IsNoted (total_in totals.now) (mark_view mark.entry) scopes.old scopes.new) }
+    ensures { IfOk result (IsNoted (total_in totals.now) (mention_view mention.entry) scopes.old scopes.new) }
 {
-    match mark {
-        Mark::Named(name) => note_named(totals, scopes, name),
-        Mark::Opened => {
+    match mention {
+        Mention::Variable(name) => note_named(totals, scopes, name),
+        Mention::Opened => {
             open(alloc, scopes)?;
             Ok(false)
         }
-        Mark::Closed => note_closed(totals, scopes),
-        Mark::Node | Mark::Query | Mark::Select => Ok(false),
+        Mention::Closed => note_closed(totals, scopes),
+        _ => Ok(false),
     }
 }
 
 fn is_full_along<'a>(
     alloc: Global,
     totals: &IndexMap<&[u8], usize>,
-    marks: &[Mark<'a>],
+    mentions: &[Mention<'a>],
 ) -> Result<bool, AllocError>
-    ensures { IfOk result (λ full. full ≡ passes (total_in totals.now) (marked marks.now) [] []) }
+    ensures { IfOk result (λ full. full ≡ passes (total_in totals.now) (seen mentions.now) [] []) }
 {
     let mut scopes = Scopes {
         inner: Vec::new(alloc),
         outer: Vec::new(alloc),
     };
-    for mark in marks {
-        if note(alloc, totals, &mut scopes, *mark)? {
+    for mention in mentions {
+        if note(alloc, totals, &mut scopes, *mention)? {
             return Ok(true);
         }
     }
     Ok(false)
 }
 
-/// Whether a rule or a closure of an item with these marks has too many variables.
+/// Whether a rule or a closure of an item that mentions this has too many variables.
 pub fn has_many_variables(
     alloc: Global,
     said: &ItemBody,
-    marks: &[Mark<'_>],
+    mentions: &[Mention<'_>],
 ) -> Result<bool, AllocError>
-    requires { marked marks.now ≡ marks_of_said (said_view said.now) }
+    requires walk { seen mentions.now ≡ walk (counted_of (said_view said.now)) }
+    requires things { things_at (seen mentions.now) ≡ things (counted_of (said_view said.now)) }
     ensures { IfOk result (λ many. many ≡ spec.has_many_variables (said_view said.now)) }
 {
-    let totals = totals_among(alloc, marks)?;
-    is_full_along(alloc, &totals, marks)
+    let totals = totals_among(alloc, mentions)?;
+    is_full_along(alloc, &totals, mentions)
 }

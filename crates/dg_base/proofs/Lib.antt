@@ -4,3 +4,7 @@ pub mod NodeLemmas
 mod HeadLemmas
 pub mod Places
 pub mod UnitLemmas
+pub mod Views
+pub mod MentionLemmas
+pub mod PassingLemmas
+mod WalkLemmas

@@ -5,6 +5,7 @@
 mod cells;
 mod heads;
 mod laws;
+mod mentions;
 mod names;
 mod pieces;
 mod program;
@@ -17,11 +18,13 @@ mod traits;
 mod tree;
 mod typing;
 mod units;
+mod walk;
 mod writing;
 
 pub use cells::{Cell, Simple};
 pub use heads::{is_named, name_of, name_of_parts};
 pub use laws::faults_last;
+pub use mentions::{Form, Mention, Role};
 pub use names::{
     BUILTINS, Builtin, KEYWORDS, PRELUDE_NAMES, REFUSED_NAMES, builtin_of, is_keyword,
     is_prelude_name, is_refused_name,
@@ -42,3 +45,4 @@ pub use tree::{Arm, Body, Head, Item, ItemBody, NowChange, Part, Stmt, Tree, Val
 pub use typing::{EXTRA, find_place, typed};
 pub use units::{Unit, unit_at};
 pub use writing::{WriteFault, write_all, write_both, write_pieces};
+pub use walk::mentions_of;

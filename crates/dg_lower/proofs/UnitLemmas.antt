@@ -5,7 +5,7 @@ use Rattle.dg_base.specs.TreeView.{stmt_view, body_view, branches_view}
 use Rattle.dg_base.specs.declared.tree.Body.{Body}
 use Rattle.dg_base.specs.declared.tree.Stmt.{Stmt}
 use Rattle.dg_base.specs.declared.program.Goal.TheVariants.{Either}
-use Rattle.dg_names.proofs.Views.{body_seen}
+use Rattle.dg_base.proofs.Views.{body_seen}
 use Rattle.dg_lower.specs.Goals.{Scope, lists, unit}
 
 unit_of_many : (scope : Scope) (bs : List (List Stmt)) → 2 ≤ length bs → unit (lists scope (branches_view (map (map stmt_view) bs))) ≡ Either (lists scope (branches_view (map (map stmt_view) bs))) ∷ []

@@ -1,9 +1,5 @@
-pub mod Views
-pub mod WalkLemmas
 pub mod FirstLemmas
 pub mod ScopeLemmas
 pub mod StateLemmas
-pub mod TellLemmas
 pub mod NameLemmas
-pub mod TreeLemmas
 pub mod SetLemmas

@@ -1,55 +1,46 @@
--- The first item at which a count passes, and what was told before it.
-use Rattle.std.proofs.Common.{◌≡◌, ◌+◌, ◌<◌, ◌||◌, ℕ, List, [], ◌∷◌, ◌++◌, Bool, true, false, Option, Some, None, length, min, nat_lt, refl, sym, ◌∙◌, ap, append_assoc, arith}
-use Rattle.std.specs.Prelude.{if◌then◌else◌, Result, Ok, Err}
+-- What is told of items one by one is what they mention together, and the first item at which a count passes.
+use Rattle.std.proofs.Common.{◌≡◌, ◌+◌, ◌≤◌, ◌||◌, ℕ, List, [], ◌∷◌, ◌++◌, Bool, true, false, Option, Some, None, length, nat_lt, refl, sym, ◌∙◌, ap, subst, append_assoc, arith}
+use Rattle.std.specs.Prelude.{if◌then◌else◌, Ok, Err}
 use Rattle.std.proofs.lemmas.Grind.{common_steps}
+use Rattle.dg_base.specs.Faults.{IsFault}
 use Rattle.dg_base.specs.Tree.{Item}
-use Rattle.dg_base.specs.declared.refusal.Refusal.{Refusal}
+use Rattle.dg_base.specs.Mentions.{Thing, things_in, mentioned, names_in, weight_of}
+use Rattle.dg_base.specs.Passing.{first_passing, passing}
 use Rattle.dg_base.specs.declared.refusal.Kind.TheVariants.{TooMany}
-use Rattle.dg_names.specs.Mentions.{Mention, of_said}
-use Rattle.dg_names.specs.Named.{Named, at_depth, mentioned, names_in, predicate_in, object_in, word_in}
-use Rattle.dg_names.specs.Counts.{is_rule, rules_in, has_excess, number_of, is_closure, is_select, are_many, first_passing, IsNamed}
-use Rattle.dg_names.specs.State.{Told, told, untold, has_many, rules_behind, passing}
-use Rattle.dg_names.proofs.FirstLemmas.{firsts_of}
-use Rattle.dg_names.proofs.TellLemmas.{told_append, told_again}
+use Rattle.dg_base.specs.declared.refusal.ReadFault.{ReadFault}
+use Rattle.dg_base.specs.declared.refusal.ReadFault.TheVariants.{Refused}
+use Rattle.dg_base.proofs.MentionLemmas.{names_append, weight_append, mentioned_push}
+use Rattle.dg_base.proofs.PassingLemmas as one
+use Rattle.dg_names.specs.Named.{Named, predicate_in, object_in, word_in, names_of}
+use Rattle.dg_names.specs.Counts.{is_rule, rules_in, has_excess, closures_at, selects_at, are_many_names, are_many, IsNamed}
+use Rattle.dg_names.specs.Scopes.{with_names}
+use Rattle.dg_names.specs.State.{Told, told, behind, untold, told_on, told_names, has_many}
+use Rattle.dg_names.proofs.FirstLemmas.{firsts_of, with_append}
 
-same_bool : (a b : Bool) → (a ≡ true → b ≡ true) → (b ≡ true → a ≡ true) → a ≡ b
-same_bool true true f g = refl
-same_bool false false f g = refl
-same_bool true false f g = sym (f refl)
-same_bool false true f g = g refl
+abbrev make : List (List ℕ) → List (List ℕ) → List (List ℕ) → ℕ → ℕ → ℕ → Told
+make p o w c s r = record { preds = p; objects = o; words = w; closures = c; selects = s; rules = r }
 
--- a number that stays at the last one passes where it should
-capped : (k a n : ℕ) → k < 18446744073709551615 → a ≡ n → nat_lt k (min a 18446744073709551615) ≡ nat_lt k n
-capped k a n few e = same_bool _ _ (λ h. grind (arith, common_steps, h)) (λ h. grind (arith, common_steps, h))
+same_told : (p p' o o' w w' : List (List ℕ)) (c c' s s' r r' : ℕ) → p ≡ p' → o ≡ o' → w ≡ w' → c ≡ c' → s ≡ s' → r ≡ r' → make p o w c s r ≡ make p' o' w' c' s' r'
+same_told p p' o o' w w' c c' s s' r r' pe oe we ce se re =
+    ap (λ (x : List (List ℕ)). make x o w c s r) pe
+    ∙ ap (λ (x : List (List ℕ)). make p' x w c s r) oe
+    ∙ ap (λ (x : List (List ℕ)). make p' o' x c s r) we
+    ∙ ap (λ (x : ℕ). make p' o' w' x s r) ce
+    ∙ ap (λ (x : ℕ). make p' o' w' c' x r) se
+    ∙ ap (λ (x : ℕ). make p' o' w' c' s' x) re
 
-many_at : (o o' w w' p p' : List (List ℕ)) (r : ℕ) (c c' s s' : Bool) → o ≡ o' → w ≡ w' → p ≡ p' → c ≡ c' → s ≡ s' → ((nat_lt 1000 (length o) || (nat_lt 4000 (length w) || nat_lt 4000 (length p))) || (nat_lt 16000 r || (c || s))) ≡ ((nat_lt 1000 (length o') || (nat_lt 4000 (length w') || nat_lt 4000 (length p'))) || (nat_lt 16000 r || (c' || s')))
-many_at o o' w w' p p' r c c' s s' oe we pe ce se =
-    ap (λ (x : List (List ℕ)). (nat_lt 1000 (length x) || (nat_lt 4000 (length w) || nat_lt 4000 (length p))) || (nat_lt 16000 r || (c || s))) oe
-    ∙ ap (λ (x : List (List ℕ)). (nat_lt 1000 (length o') || (nat_lt 4000 (length x) || nat_lt 4000 (length p))) || (nat_lt 16000 r || (c || s))) we
-    ∙ ap (λ (x : List (List ℕ)). (nat_lt 1000 (length o') || (nat_lt 4000 (length w') || nat_lt 4000 (length x))) || (nat_lt 16000 r || (c || s))) pe
-    ∙ ap (λ (x : Bool). (nat_lt 1000 (length o') || (nat_lt 4000 (length w') || nat_lt 4000 (length p'))) || (nat_lt 16000 r || (x || s))) ce
-    ∙ ap (λ (x : Bool). (nat_lt 1000 (length o') || (nat_lt 4000 (length w') || nat_lt 4000 (length p'))) || (nat_lt 16000 r || (c' || x))) se
+names_on : (f : Thing → List (List ℕ)) (ks : List (List ℕ)) (a b : List Thing) → with_names ks (names_in f (a ++ b)) ≡ with_names (with_names ks (names_in f a)) (names_in f b)
+names_on f ks a b = ap (with_names ks) (names_append f a b) ∙ with_append ks (names_in f a) (names_in f b)
 
-many_same : (is : List Item) → has_many (told (mentioned is) untold) (rules_in is) ≡ are_many is
-many_same is = many_at _ _ _ _ _ _ (rules_in is) _ _ _ _
-    (firsts_of (names_in object_in (mentioned is))) (firsts_of (names_in word_in (mentioned is))) (firsts_of (names_in predicate_in (mentioned is)))
-    (capped 16000 (0 + number_of is_closure (mentioned is)) (number_of is_closure (mentioned is)) (omega arith) (omega arith))
-    (capped 500 (0 + number_of is_select (mentioned is)) (number_of is_select (mentioned is)) (omega arith) (omega arith))
+weight_on : (f : Thing → ℕ) (k : ℕ) (a b : List Thing) → k + weight_of f (a ++ b) ≡ (k + weight_of f a) + weight_of f b
+weight_on f k a b = omega (arith, weight_append f a b)
 
-many_again : (t : Told) (r : ℕ) → has_many (told [] t) r ≡ has_many t r
-many_again t r = many_at t.objects t.objects t.words t.words t.preds t.preds r _ _ _ _ refl refl refl
-    (capped 16000 (t.closures + 0) t.closures (omega arith) (omega arith))
-    (capped 500 (t.selects + 0) t.selects (omega arith) (omega arith))
+pub told_append : (a b : List Thing) (t : Told) → told (a ++ b) t ≡ told b (told a t)
+told_append a b t = same_told _ _ _ _ _ _ _ _ _ _ _ _
+    (names_on predicate_in t.preds a b) (names_on object_in t.objects a b) (names_on word_in t.words a b)
+    (weight_on closures_at t.closures a b) (weight_on selects_at t.selects a b) refl
 
-nil_behind : (xs : List Mention) → xs ++ [] ≡ xs
-nil_behind [] = refl
-nil_behind (x ∷ xs) = ap (λ (l : List Mention). x ∷ l) (nil_behind xs)
-
-mentioned_push : (before : List Item) (i : Item) → mentioned (before ++ i ∷ []) ≡ mentioned before ++ at_depth (of_said i.said)
-mentioned_push [] i = nil_behind (at_depth (of_said i.said))
-mentioned_push (j ∷ before) i =
-    ap (λ (l : List Mention). at_depth (of_said j.said) ++ l) (mentioned_push before i)
-    ∙ sym (append_assoc (at_depth (of_said j.said)) (mentioned before) (at_depth (of_said i.said)))
+-- ---- all items at once
 
 swapped : (a b : Bool) (x : ℕ) → (if a then (if b then x + 1 else x) + 1 else (if b then x + 1 else x)) ≡ (if b then (if a then x + 1 else x) + 1 else (if a then x + 1 else x))
 swapped true true x = refl
@@ -57,45 +48,95 @@ swapped true false x = refl
 swapped false true x = refl
 swapped false false x = refl
 
-rules_push : (before : List Item) (i : Item) → rules_in (before ++ i ∷ []) ≡ rules_behind i.said (rules_in before)
+rules_push : (before : List Item) (i : Item) → rules_in (before ++ i ∷ []) ≡ (if is_rule i.said then rules_in before + 1 else rules_in before)
 rules_push [] i = refl
 rules_push (j ∷ before) i =
     ap (λ (n : ℕ). if is_rule j.said then n + 1 else n) (rules_push before i)
     ∙ swapped (is_rule j.said) (is_rule i.said) (rules_in before)
 
-pub passing_is_first : (before is : List Item) → passing (told (mentioned before) untold) (rules_in before) is ≡ first_passing before is
-passing_is_first before [] = refl
-passing_is_first before (i ∷ is) =
-    ap (λ (t : Told). if has_excess i.said || has_many t (rules_behind i.said (rules_in before)) then Some i else passing t (rules_behind i.said (rules_in before)) is)
-    (sym (told_append (mentioned before) (at_depth (of_said i.said)) untold) ∙ ap (λ (l : List Mention). told l untold) (sym (mentioned_push before i)))
-    ∙ ap (λ (n : ℕ). if has_excess i.said || has_many (told (mentioned (before ++ i ∷ [])) untold) n then Some i else passing (told (mentioned (before ++ i ∷ [])) untold) n is) (sym (rules_push before i))
-    ∙ ap (λ (b : Bool). if has_excess i.said || b then Some i else passing (told (mentioned (before ++ i ∷ [])) untold) (rules_in (before ++ i ∷ [])) is) (many_same (before ++ i ∷ []))
-    ∙ ap (λ (o : Option Item). if has_excess i.said || are_many (before ++ i ∷ []) then Some i else o) (passing_is_first (before ++ i ∷ []) is)
+-- what is told of these items
+abbrev counted : List Item → Told
+counted is = record (told (mentioned is) untold) { rules = rules_in is }
+
+pub counted_push : (before : List Item) (i : Item) → counted (before ++ i ∷ []) ≡ behind (counted before) i.said
+counted_push before i =
+    let all = mentioned_push before i in
+    same_told _ _ _ _ _ _ _ _ _ _ _ _
+    (ap (λ (l : List Thing). with_names [] (names_in predicate_in l)) all ∙ names_on predicate_in [] (mentioned before) (things_in i.said))
+    (ap (λ (l : List Thing). with_names [] (names_in object_in l)) all ∙ names_on object_in [] (mentioned before) (things_in i.said))
+    (ap (λ (l : List Thing). with_names [] (names_in word_in l)) all ∙ names_on word_in [] (mentioned before) (things_in i.said))
+    (ap (λ (l : List Thing). 0 + weight_of closures_at l) all ∙ weight_on closures_at 0 (mentioned before) (things_in i.said))
+    (ap (λ (l : List Thing). 0 + weight_of selects_at l) all ∙ weight_on selects_at 0 (mentioned before) (things_in i.said))
+    (rules_push before i)
+
+pub told_all : (before is : List Item) → told_on (counted before) is ≡ counted (before ++ is)
+told_all before [] = ap counted (sym (nil_behind before))
+  where
+    nil_behind : (xs : List Item) → xs ++ [] ≡ xs
+    nil_behind [] = refl
+    nil_behind (x ∷ xs) = ap (λ (l : List Item). x ∷ l) (nil_behind xs)
+told_all before (i ∷ is) =
+    ap (λ (t : Told). told_on t is) (sym (counted_push before i))
+    ∙ told_all (before ++ i ∷ []) is
+    ∙ ap counted (append_assoc before (i ∷ []) is)
+
+named_all : (is : List Item) → told_names (counted is) ≡ names_of is
+named_all is =
+    ap (λ (x : List (List ℕ)). named x (counted is).objects (counted is).words) (firsts_of (names_in predicate_in (mentioned is)))
+    ∙ ap (λ (x : List (List ℕ)). named (names_of is).preds x (counted is).words) (firsts_of (names_in object_in (mentioned is)))
+    ∙ ap (λ (x : List (List ℕ)). named (names_of is).preds (names_of is).objects x) (firsts_of (names_in word_in (mentioned is)))
+  where
+    named : List (List ℕ) → List (List ℕ) → List (List ℕ) → Named
+    named p o w = record { preds = p; objects = o; words = w }
+
+many_same : (is : List Item) → has_many (counted is) ≡ are_many is
+many_same is =
+    ap (λ (d : Named). are_many_names d || (nat_lt 16000 (rules_in is) || (nat_lt 16000 (0 + weight_of closures_at (mentioned is)) || nat_lt 500 (0 + weight_of selects_at (mentioned is))))) (named_all is)
+    ∙ ap (λ (k : ℕ). are_many_names (names_of is) || (nat_lt 16000 (rules_in is) || (nat_lt 16000 k || nat_lt 500 (0 + weight_of selects_at (mentioned is))))) (omega arith)
+    ∙ ap (λ (k : ℕ). are_many_names (names_of is) || (nat_lt 16000 (rules_in is) || (nat_lt 16000 (weight_of closures_at (mentioned is)) || nat_lt 500 k))) (omega arith)
+
+-- the first of these items at which a count passes
+abbrev pub passing_in : Told → List Item → Option Item
+passing_in = passing has_excess behind has_many
+
+pub passing_is_first : (is : List Item) → passing_in untold is ≡ first_passing has_excess are_many [] is
+passing_is_first is = one.passing_is_first has_excess behind has_many counted are_many counted_push many_same [] is
 
 -- ---- one item more
 
-stepped_at : (x : Bool) (t t' : Told) (r : ℕ) (i : Item) (rest : List Item) (over : Bool) → over ≡ (x || has_many t' (rules_behind i.said r)) → (x ≡ false → told [] t' ≡ told (at_depth (of_said i.said)) t) → (if x || has_many (told (at_depth (of_said i.said)) (told [] t)) (rules_behind i.said r) then Some i else passing (told (at_depth (of_said i.said)) (told [] t)) (rules_behind i.said r) rest) ≡ (if over then Some i else passing (told [] t') (rules_behind i.said r) rest)
-stepped_at true t t' r i rest over is same = ap (λ (b : Bool). if b then Some i else passing (told [] t') (rules_behind i.said r) rest) (sym is)
-stepped_at false t t' r i rest over is same =
-    ap (λ (u : Told). if has_many u (rules_behind i.said r) then Some i else passing u (rules_behind i.said r) rest) (told_again (at_depth (of_said i.said)) t ∙ sym (same refl))
-    ∙ ap (λ (b : Bool). if b then Some i else passing (told [] t') (rules_behind i.said r) rest) (many_again t' (rules_behind i.said r) ∙ sym is)
+step_at : (x : Bool) (t t' : Told) (i : Item) (rest : List Item) (over : Bool) → over ≡ (x || has_many (behind t i.said)) → (over ≡ false → t' ≡ behind t i.said) → (if x || has_many (behind t i.said) then Some i else passing_in (behind t i.said) rest) ≡ (if over then Some i else passing_in t' rest)
+step_at x t t' i rest true is same = ap (λ (b : Bool). if b then Some i else passing_in (behind t i.said) rest) (sym is)
+step_at x t t' i rest false is same =
+    ap (λ (b : Bool). if b then Some i else passing_in (behind t i.said) rest) (sym is)
+    ∙ ap (λ (u : Told). passing_in u rest) (sym (same refl))
 
-pub stepped : (t t' : Told) (r : ℕ) (i : Item) (rest : List Item) (over : Bool) → over ≡ (has_excess i.said || has_many t' (rules_behind i.said r)) → (has_excess i.said ≡ false → told [] t' ≡ told (at_depth (of_said i.said)) t) → passing (told [] t) r (i ∷ rest) ≡ (if over then Some i else passing (told [] t') (rules_behind i.said r) rest)
-stepped t t' r i rest over is same = stepped_at (has_excess i.said) t t' r i rest over is same
+pub stepped : (t t' : Told) (i : Item) (rest : List Item) (over : Bool) → over ≡ (has_excess i.said || has_many (behind t i.said)) → (over ≡ false → t' ≡ behind t i.said) → passing_in t (i ∷ rest) ≡ (if over then Some i else passing_in t' rest)
+stepped t t' i rest over is same = step_at (has_excess i.said) t t' i rest over is same
 
-pub told_more : (t t' : Told) (i : Item) (rest : List Item) → told [] t' ≡ told (at_depth (of_said i.said)) t → told (mentioned rest) t' ≡ told (mentioned (i ∷ rest)) t
-told_more t t' i rest same =
-    sym (told_again (mentioned rest) t') ∙ ap (told (mentioned rest)) same
-    ∙ sym (told_append (at_depth (of_said i.said)) (mentioned rest) t)
+right_false : (a b : Bool) → (a || b) ≡ false → b ≡ false
+right_false true b e = absurd (let no : true ≡ false = e in cc)
+right_false false b e = e
 
--- ---- one answer
+left_false : (a b : Bool) → (a || b) ≡ false → a ≡ false
+left_false true b e = e
+left_false false b e = refl
 
-some_same : (a b : Item) → Some a ≡ Some b → a ≡ b
-some_same a b e = cc
+few_if : (n : ℕ) → nat_lt 4000 n ≡ false → n ≤ 4000
+few_if n e = grind (arith, common_steps, e)
 
-pub one_answer : (is : List Item) (a b : Result Named Refusal) → IsNamed is a → IsNamed is b → a ≡ b
-one_answer is (Ok a) (Ok b) x y = ap (λ (n : Named). Ok n) (x.1 ∙ sym (y.1))
-one_answer is (Ok a) (Err r) x y = absurd (let no : None ≡ Some y.0 = sym (x.0) ∙ y.1 in cc)
-one_answer is (Err r) (Ok b) x y = absurd (let no : None ≡ Some x.0 = sym (y.0) ∙ x.1 in cc)
-one_answer is (Err r) (Err q) x y =
-    ap (λ (e : Refusal). Err e) (x.2 ∙ ap (λ (i : Item). record { kind = TooMany; line = i.line }) (some_same x.0 y.0 (sym (x.1) ∙ y.1)) ∙ sym (y.2))
+-- few predicates where no count passes
+pub few_preds : (x : Bool) (t t' : Told) → (x || has_many t) ≡ false → t' ≡ t → length t'.preds ≤ 4000
+few_preds x t t' none is =
+    subst (λ (u : Told). length u.preds ≤ 4000) (sym is)
+    (few_if (length t.preds)
+    (right_false (nat_lt 4000 (length t.words)) (nat_lt 4000 (length t.preds))
+    (right_false (nat_lt 1000 (length t.objects)) (nat_lt 4000 (length t.words) || nat_lt 4000 (length t.preds))
+    (left_false _ _ (right_false x (has_many t) none)))))
+
+-- ---- answers
+
+pub refused_at : (is : List Item) (i : Item) (f : ReadFault) → f ≡ Refused (record { kind = TooMany; line = i.line }) → passing_in untold is ≡ Some i → IsFault (λ r. IsNamed is (Err r)) f
+refused_at is i f e first = subst (IsFault (λ r. IsNamed is (Err r))) (sym e) (i, sym (passing_is_first is) ∙ first, refl)
+
+pub all_named : (is : List Item) (t : Told) → passing_in untold is ≡ None → t ≡ told_on untold is → IsNamed is (Ok (told_names t))
+all_named is t none all = (sym (passing_is_first is) ∙ none, ap told_names (all ∙ told_all [] is) ∙ named_all is)

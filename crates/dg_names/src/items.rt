@@ -1,20 +1,17 @@
 // Items are counted one by one.
-ghost use Rattle.std.specs.Prelude.{◌≡◌, ◌||◌, [], false, nat_lt, length, IfOk};
+ghost use Rattle.std.specs.Prelude.{◌≡◌, ◌+◌, ◌||◌, false, IfOk, OnOk, if◌then◌else◌};
+ghost use Rattle.dg_base.specs.Mentions.{of_said, things_in};
+ghost use Rattle.dg_base.specs.Walk.{walk, seen, things_at};
 ghost use Rattle.dg_base.specs.TreeView.{said_view};
 ghost use Rattle.dg_names.specs.Counts as spec;
 ghost use Rattle.dg_names.specs.Counts.{has_excess};
-ghost use Rattle.dg_names.specs.Mentions.{of_said};
-ghost use Rattle.dg_names.specs.Named.{at_depth};
-ghost use Rattle.dg_names.specs.Scopes.{is_full, passes};
-ghost use Rattle.dg_names.specs.State.{listed, scope_view, stack_of, flat, told, tally_view, has_many};
-ghost use Rattle.dg_names.specs.Walk.{left_of};
+ghost use Rattle.dg_names.specs.State.{behind, listed, tally_view, has_many};
 
-use crate::state::{Numbers, Scope, Scopes, Sets, Tally};
-use crate::tally::tell;
-use crate::variables::note;
-use crate::walk::{next, start};
-use crate::work::Work;
-use dg_base::ItemBody;
+use crate::state::{Numbers, Sets, Tally};
+use crate::tally::{sum, tell_all};
+use crate::variables;
+use crate::variables::has_many_variables;
+use dg_base::{ItemBody, Mention, mentions_of};
 use std::alloc::{AllocError, Global};
 
 const OBJECTS: usize = 1_000;
@@ -29,62 +26,25 @@ const CLOSURES: usize = 16_000;
 
 const SELECTS: usize = 500;
 
-// Walks through what is left: whether a count of one item passes its number.
-fn walk_on<'a>(
-    alloc: Global,
-    left: &mut Vec<Work<'a>>,
-    scopes: &mut Scopes<'a>,
-    tally: &mut Tally,
-) -> Result<bool, AllocError>
-    requires { is_full (scope_view scopes.old.inner) ≡ false }
-    ensures over { IfOk result (λ over. over ≡ passes (left_of left.old.items) (scope_view scopes.old.inner) (stack_of scopes.old.outer.items)) }
-    ensures told { IfOk result (λ over. over ≡ false → told [] (tally_view tally.new) ≡ told (flat (left_of left.old.items)) (tally_view tally.old)) }
-{
-    while let Some(event) = next(left)? {
-        if note(alloc, scopes, event)? {
-            return Ok(true);
-        }
-        tell(alloc, tally, event)?;
-    }
-    Ok(false)
-}
-
-fn read_item(alloc: Global, tally: &mut Tally, said: &ItemBody) -> Result<bool, AllocError>
-    ensures over { IfOk result (λ over. over ≡ has_excess (said_view said.now)) }
-    ensures told { IfOk result (λ over. over ≡ false → told [] (tally_view tally.new) ≡ told (at_depth (of_said (said_view said.now))) (tally_view tally.old)) }
-{
-    let mut left = Vec::new(alloc);
-    start(&mut left, said)?;
-    let mut scopes = Scopes {
-        inner: Scope {
-            names: Vec::new(alloc),
-            unnamed: 0,
-        },
-        outer: Vec::new(alloc),
-    };
-    walk_on(alloc, &mut left, &mut scopes, tally)
-}
-
 fn has_many_names(sets: &Sets) -> bool
-    ensures { result ≡ (nat_lt 1000 (length (listed sets.now.objects)) || (nat_lt 4000 (length (listed sets.now.words)) || nat_lt 4000 (length (listed sets.now.preds)))) }
+    ensures { result ≡ spec.are_many_names (record { preds = listed sets.now.preds; objects = listed sets.now.objects; words = listed sets.now.words }) }
 {
     sets.objects.len() > OBJECTS || sets.words.len() > WORDS || sets.preds.len() > PREDICATES
 }
 
-fn has_many_rules(rules: usize, numbers: &Numbers) -> bool
-    ensures { result ≡ (nat_lt 16000 rules || (nat_lt 16000 numbers.now.closures || nat_lt 500 numbers.now.selects)) }
+fn has_many(tally: &Tally) -> bool
+    ensures { result ≡ has_many (tally_view tally.now) }
 {
-    rules > RULES || numbers.closures > CLOSURES || numbers.selects > SELECTS
+    let Numbers {
+        closures,
+        selects,
+        rules,
+    } = tally.numbers;
+    has_many_names(&tally.sets) || rules > RULES || closures > CLOSURES || selects > SELECTS
 }
 
-fn has_many(tally: &Tally, rules: usize) -> bool
-    ensures { result ≡ has_many (tally_view tally.now) rules }
-{
-    has_many_names(&tally.sets) || has_many_rules(rules, &tally.numbers)
-}
-
-/// Whether an item is a rule, of any sign.
-pub fn is_rule(said: &ItemBody) -> bool
+// Whether an item is a rule, of any sign.
+fn is_rule(said: &ItemBody) -> bool
     ensures { result ≡ spec.is_rule (said_view said.now) }
 {
     matches!(
@@ -93,18 +53,52 @@ pub fn is_rule(said: &ItemBody) -> bool
     )
 }
 
-/// Adds an item, behind which there are so many rules: whether a count passes its number there.
-pub fn add_item(
-    alloc: Global,
-    tally: &mut Tally,
-    rules: usize,
-    said: &ItemBody,
-) -> Result<bool, AllocError>
-    ensures over { IfOk result (λ over. over ≡ (has_excess (said_view said.now) || has_many (tally_view tally.new) rules)) }
-    ensures told { IfOk result (λ over. has_excess (said_view said.now) ≡ false → told [] (tally_view tally.new) ≡ told (at_depth (of_said (said_view said.now))) (tally_view tally.old)) }
+// Whether a count of one item passes its number.
+fn has_excess(alloc: Global, said: &ItemBody, mentions: &[Mention<'_>]) -> Result<bool, AllocError>
+    requires walk { seen mentions.now ≡ walk (of_said (said_view said.now)) }
+    requires things { things_at (seen mentions.now) ≡ things_in (said_view said.now) }
+    ensures { IfOk result (λ over. over ≡ has_excess (said_view said.now)) }
 {
-    if read_item(alloc, tally, said)? {
+    if variables::has_excess(mentions) {
         return Ok(true);
     }
-    Ok(has_many(tally, rules))
+    has_many_variables(alloc, mentions)
+}
+
+fn count_rule(numbers: &mut Numbers, said: &ItemBody) -> Result<(), AllocError>
+    ensures rules { OnOk result (numbers.new.rules ≡ (if spec.is_rule (said_view said.now) then numbers.old.rules + 1 else numbers.old.rules)) }
+    ensures closures { numbers.new.closures ≡ numbers.old.closures }
+    ensures selects { numbers.new.selects ≡ numbers.old.selects }
+{
+    if is_rule(said) {
+        numbers.rules = sum(numbers.rules, 1)?;
+    }
+    Ok(())
+}
+
+// Adds what an item mentions, and the item.
+fn tell_item(
+    alloc: Global,
+    tally: &mut Tally,
+    said: &ItemBody,
+    mentions: &[Mention<'_>],
+) -> Result<(), AllocError>
+    requires { things_at (seen mentions.now) ≡ things_in (said_view said.now) }
+    ensures { OnOk result (tally_view tally.new ≡ behind (tally_view tally.old) (said_view said.now)) }
+{
+    tell_all(alloc, tally, mentions)?;
+    count_rule(&mut tally.numbers, said)
+}
+
+/// Adds an item: whether a count passes its number there.
+pub fn add_item(alloc: Global, tally: &mut Tally, said: &ItemBody) -> Result<bool, AllocError>
+    ensures over { IfOk result (λ over. over ≡ (has_excess (said_view said.now) || has_many (behind (tally_view tally.old) (said_view said.now)))) }
+    ensures behind { IfOk result (λ over. over ≡ false → tally_view tally.new ≡ behind (tally_view tally.old) (said_view said.now)) }
+{
+    let mentions = mentions_of(alloc, said)?;
+    if has_excess(alloc, said, mentions.as_slice())? {
+        return Ok(true);
+    }
+    tell_item(alloc, tally, said, mentions.as_slice())?;
+    Ok(has_many(tally))
 }

@@ -7,8 +7,6 @@ mod names;
 mod state;
 mod tally;
 mod variables;
-mod walk;
-mod work;
 
 pub use laws::one_answer;
 pub use state::Names;

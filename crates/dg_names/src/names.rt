@@ -2,15 +2,15 @@
 ghost use Rattle.std.specs.Prelude.{◌≡◌, ◌<◌, ◌≤◌, length, position, map, Ok, Err, IfOk, IfErr, OnOk, IsErrOf};
 ghost use Rattle.std.specs.Str.{bytes_eq};
 ghost use Rattle.dg_base.specs.Heads.{name_of as head_name};
-ghost use Rattle.dg_base.specs.TreeView.{head_view, item_view, said_view, tree_view};
+ghost use Rattle.dg_base.specs.TreeView.{head_view, item_view, tree_view};
 ghost use Rattle.dg_names.specs.Counts.{IsNamed};
 ghost use Rattle.dg_base.specs.Faults.{IsFault};
 ghost use Rattle.dg_names.specs.State as spec;
-ghost use Rattle.dg_names.specs.State.{listed, names_view, rules_behind, tally_view, untold};
+ghost use Rattle.dg_names.specs.State.{listed, names_view, tally_view, untold};
 
-use crate::items::{add_item, is_rule};
+use crate::items::add_item;
 use crate::state::{Names, Numbers, Sets, Tally};
-use dg_base::{Head, Item, ItemBody, Kind, ReadFault, Refusal, Tree, name_of};
+use dg_base::{Head, Item, Kind, ReadFault, Refusal, Tree, name_of};
 use indexmap::IndexSet;
 use std::alloc::{AllocError, Global};
 
@@ -21,13 +21,6 @@ fn too_many(line: u32) -> ReadFault
         kind: Kind::TooMany,
         line,
     })
-}
-
-fn rules_behind(said: &ItemBody, rules: usize) -> usize
-    requires { rules < 18446744073709551615 }
-    ensures { result ≡ rules_behind (said_view said.now) rules }
-{
-    if is_rule(said) { rules + 1 } else { rules }
 }
 
 // Nothing yet.
@@ -43,6 +36,7 @@ fn untold(alloc: Global) -> Tally
         numbers: Numbers {
             closures: 0,
             selects: 0,
+            rules: 0,
         },
     }
 }
@@ -66,10 +60,8 @@ fn add_items(alloc: Global, tally: &mut Tally, items: &[Item]) -> Result<(), Rea
     ensures refused { IfErr result (IsFault (λ r. IsNamed (map item_view items.now) (Err r))) }
     ensures memory { IsErrOf result ReadFault.OutOfMemory → 0 < length items.now }
 {
-    let mut rules = 0;
     for item in items {
-        rules = rules_behind(&item.body, rules);
-        if add_item(alloc, tally, rules, &item.body)? {
+        if add_item(alloc, tally, &item.body)? {
             return Err(too_many(item.line));
         }
     }

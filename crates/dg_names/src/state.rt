@@ -4,11 +4,12 @@ ghost use Rattle.indexmap.specs.IndexSet.{index_set_len};
 
 use indexmap::IndexSet;
 
-/// The variables of a rule or a closure so far: the names, and how many have none.
+/// The variables of a rule or a closure so far: the names, how many of its own have none, and how many it shares.
 #[derive(Drop)]
 pub struct Scope<'a> {
     pub names: Vec<&'a [u8]>,
-    pub unnamed: usize,
+    pub own: usize,
+    pub shared: usize,
 }
 
 /// The scope that is open, and those outside it, the nearest last.
@@ -26,11 +27,12 @@ pub struct Sets {
     pub words: IndexSet<Vec<u8>>,
 }
 
-/// Numbers of things in a source. One that is full stays so.
+/// Numbers of things in a source.
 #[derive(Clone, Copy)]
 pub struct Numbers {
     pub closures: usize,
     pub selects: usize,
+    pub rules: usize,
 }
 
 /// The counts of a source.

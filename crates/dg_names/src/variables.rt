@@ -1,18 +1,19 @@
 // The counts of one item: variables, places and branches.
-ghost use Rattle.std.specs.Prelude.{◌≡◌, ◌+◌, ◌<◌, ◌||◌, false, length, map, OnOk, IfOk, IsErr};
+ghost use Rattle.std.specs.Prelude.{◌≡◌, ◌<◌, [], false, true, length, map, nat_lt, OnOk, IfOk, IsErr};
 ghost use Rattle.std.specs.List.{list_any};
 ghost use Rattle.std.specs.Str.{bytes_eq};
 ghost use Rattle.dg_base.specs.Tree.{parts_of};
 ghost use Rattle.dg_base.specs.TreeView.{part_view, head_view};
-ghost use Rattle.dg_names.specs.Counts.{places_in, is_excess};
-ghost use Rattle.dg_names.specs.Mentions.{query, variable, unnamed};
-ghost use Rattle.dg_names.specs.Walk.{met, opened, closed, event_view};
-ghost use Rattle.dg_names.specs.Scopes.{with_name, with_names, is_full};
-ghost use Rattle.dg_names.specs.State.{seen, scope_view, IsNoted};
+ghost use Rattle.dg_base.specs.Mentions.{variable, unnamed};
+ghost use Rattle.dg_base.specs.Walk as walk;
+ghost use Rattle.dg_base.specs.Walk.{met, opens, closes, mention_view, thing_at, things_at};
+ghost use Rattle.dg_names.specs.Counts as spec;
+ghost use Rattle.dg_names.specs.Scopes.{with_name, with_names, no_variables, is_over, passes};
+ghost use Rattle.dg_names.specs.State.{seen, scope_view, stack_of, IsNoted};
 
 use crate::state::{Scope, Scopes};
-use crate::work::Event;
-use dg_base::{Head, Part};
+use crate::tally::sum;
+use dg_base::{Head, Mention, Part};
 use std::alloc::{AllocError, Global};
 use std::mem;
 
@@ -55,15 +56,17 @@ pub fn add_names<'a>(names: &mut Vec<&'a [u8]>, more: &[&'a [u8]]) -> Result<(),
     Ok(())
 }
 
-fn is_full(scope: &Scope<'_>) -> bool
-    ensures { result ≡ is_full (scope_view scope.now) }
+fn is_over(scope: &Scope<'_>) -> bool
+    ensures { result ≡ is_over (scope_view scope.now) }
 {
     let named = scope.names.len();
-    named > VARIABLES || scope.unnamed > VARIABLES - named
+    named > VARIABLES
+        || scope.own > VARIABLES - named
+        || scope.shared > VARIABLES - named - scope.own
 }
 
 fn places_in(parts: &[Part]) -> usize
-    ensures { result ≡ places_in (parts_of (map part_view parts.now)) }
+    ensures { result ≡ spec.places_in (parts_of (map part_view parts.now)) }
 {
     let mut places = 0;
     for part in parts {
@@ -76,36 +79,67 @@ fn places_in(parts: &[Part]) -> usize
 }
 
 fn has_many_places(head: &Head) -> bool
-    ensures { result ≡ is_excess (query (head_view head.now)) }
+    ensures { result ≡ nat_lt 12 (spec.places_in (head_view head.now)) }
 {
     places_in(head.parts.as_slice()) > PLACES
 }
 
+fn is_excess(mention: Mention<'_>) -> bool
+    ensures { result ≡ list_any spec.is_excess (thing_at (mention_view mention.entry)) }
+{
+    match mention {
+        Mention::Query(_, head) => has_many_places(head),
+        Mention::Branches(count) | Mention::Select(count) => count > BRANCHES,
+        _ => false,
+    }
+}
+
+/// Whether one of these has too many places or branches.
+pub fn has_excess(mentions: &[Mention<'_>]) -> bool
+    ensures { result ≡ list_any spec.is_excess (things_at (walk.seen mentions.now)) }
+{
+    for mention in mentions {
+        if is_excess(*mention) {
+            return true;
+        }
+    }
+    false
+}
+
 fn note_variable<'a>(scopes: &mut Scopes<'a>, name: &'a [u8]) -> Result<bool, AllocError>
-    requires { is_full (scope_view scopes.old.inner) ≡ false }
+    requires { is_over (scope_view scopes.old.inner) ≡ false }
     ensures { IfOk result (IsNoted (met (variable name.now)) scopes.old scopes.new) }
 {
     if name == PARAMETER {
         return Ok(false);
     }
     add_name(&mut scopes.inner.names, name)?;
-    Ok(is_full(&scopes.inner))
+    Ok(is_over(&scopes.inner))
 }
 
-fn note_unnamed(scopes: &mut Scopes<'_>) -> bool
-    requires { is_full (scope_view scopes.old.inner) ≡ false }
-    ensures { IsNoted (met unnamed) scopes.old scopes.new result }
+fn note_own(scopes: &mut Scopes<'_>) -> bool
+    requires { is_over (scope_view scopes.old.inner) ≡ false }
+    ensures { IsNoted (met (unnamed false)) scopes.old scopes.new result }
 {
-    scopes.inner.unnamed += 1;
-    is_full(&scopes.inner)
+    scopes.inner.own += 1;
+    is_over(&scopes.inner)
+}
+
+fn note_shared(scopes: &mut Scopes<'_>) -> bool
+    requires { is_over (scope_view scopes.old.inner) ≡ false }
+    ensures { IsNoted (met (unnamed true)) scopes.old scopes.new result }
+{
+    scopes.inner.shared += 1;
+    is_over(&scopes.inner)
 }
 
 fn note_opened(alloc: Global, scopes: &mut Scopes<'_>) -> Result<bool, AllocError>
-    ensures { IfOk result (IsNoted opened scopes.old scopes.new) }
+    ensures { IfOk result (IsNoted opens scopes.old scopes.new) }
 {
     let inner = Scope {
         names: Vec::new(alloc),
-        unnamed: 0,
+        own: 0,
+        shared: 0,
     };
     let outer = mem::replace(&mut scopes.inner, inner);
     scopes.outer.push(outer)?;
@@ -113,35 +147,55 @@ fn note_opened(alloc: Global, scopes: &mut Scopes<'_>) -> Result<bool, AllocErro
 }
 
 fn note_closed(scopes: &mut Scopes<'_>) -> Result<bool, AllocError>
-    requires { is_full (scope_view scopes.old.inner) ≡ false }
-    ensures { IfOk result (IsNoted closed scopes.old scopes.new) }
+    requires { is_over (scope_view scopes.old.inner) ≡ false }
+    ensures { IfOk result (IsNoted closes scopes.old scopes.new) }
 {
     match scopes.outer.pop() {
         Some(mut outer) => {
             add_names(&mut outer.names, scopes.inner.names.as_slice())?;
+            outer.shared = sum(outer.shared, scopes.inner.shared)?;
             scopes.inner = outer;
-            Ok(is_full(&scopes.inner))
+            Ok(is_over(&scopes.inner))
         }
         None => Ok(false),
     }
 }
 
-/// Notes what is met in an item: whether a count of one item passes its number there.
-pub fn note<'a>(
+// Notes what is met: whether there are too many variables there.
+fn note<'a>(
     alloc: Global,
     scopes: &mut Scopes<'a>,
-    event: Event<'a>,
+    mention: Mention<'a>,
 ) -> Result<bool, AllocError>
-    requires { is_full (scope_view scopes.old.inner) ≡ false }
-    ensures { IfOk result (IsNoted (event_view event.entry) scopes.old scopes.new) }
+    requires { is_over (scope_view scopes.old.inner) ≡ false }
+    ensures { IfOk result (IsNoted (mention_view mention.entry) scopes.old scopes.new) }
 {
-    match event {
-        Event::Query(head) => Ok(has_many_places(head)),
-        Event::Variable(name) => note_variable(scopes, name),
-        Event::Unnamed => Ok(note_unnamed(scopes)),
-        Event::Branching(count) | Event::Selecting(count) => Ok(count > BRANCHES),
-        Event::Opened => note_opened(alloc, scopes),
-        Event::Closed => note_closed(scopes),
-        Event::Object(_) | Event::Word(_) => Ok(false),
+    match mention {
+        Mention::Variable(name) => note_variable(scopes, name),
+        Mention::Unnamed(false) => Ok(note_own(scopes)),
+        Mention::Unnamed(true) | Mention::Choice(_) => Ok(note_shared(scopes)),
+        Mention::Opened => note_opened(alloc, scopes),
+        Mention::Closed => note_closed(scopes),
+        _ => Ok(false),
     }
+}
+
+/// Whether there are too many variables in an item that mentions this, or in a closure of it.
+pub fn has_many_variables(alloc: Global, mentions: &[Mention<'_>]) -> Result<bool, AllocError>
+    ensures { IfOk result (λ many. many ≡ passes (walk.seen mentions.now) no_variables []) }
+{
+    let mut scopes = Scopes {
+        inner: Scope {
+            names: Vec::new(alloc),
+            own: 0,
+            shared: 0,
+        },
+        outer: Vec::new(alloc),
+    };
+    for mention in mentions {
+        if note(alloc, &mut scopes, *mention)? {
+            return Ok(true);
+        }
+    }
+    Ok(false)
 }

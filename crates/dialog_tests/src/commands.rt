@@ -243,6 +243,46 @@ fn large_sources_are_refused(rt: HostRuntime) -> Result<(), Fail> {
     Ok(())
 }
 
+// A rule whose head has two queries, each with a closure of so many anonymous variables.
+fn nested(
+    alloc: Global,
+    open: &str,
+    close: &str,
+    first: usize,
+    second: usize,
+) -> Result<String, Fail> {
+    let mut source = String::from_str(alloc, "(p ")?;
+    for count in [first, second] {
+        source.push_str(open)?;
+        for _ in 0..count {
+            source.push_str("$ ")?;
+        }
+        source.push_str(close)?;
+    }
+    source.push_str(") x\n(program entry point) x")?;
+    Ok(source)
+}
+
+#[test]
+fn anonymous_variables_count_where_plain_heads_put_them(rt: HostRuntime) -> Result<(), Fail> {
+    let alloc = rt.alloc();
+    let taken = "p.dg:1: not built yet\n";
+    let refused = "p.dg:1: too many\n";
+    let cases = [
+        ("(q {", "}) ", 32, 32, taken),
+        ("(q {", "}) ", 33, 32, refused),
+        ("(q {", "}) ", 64, 0, taken),
+        ("(q {", "}) ", 65, 0, refused),
+        ("(q [{", "}]) ", 33, 32, refused),
+        ("(q 1 {", "}) ", 64, 64, taken),
+    ];
+    for (open, close, first, second, text) in cases {
+        let source = nested(alloc, open, close, first, second)?;
+        gives(&rt, alloc, "debug p.dg", "p.dg", source.as_bytes(), 1, text)?;
+    }
+    Ok(())
+}
+
 // A story of 552 bytes whose first instructions these are.
 fn story(alloc: Global, code: [u8; 8]) -> Result<Vec<u8>, Fail>
     ensures { IfOk result (λ bytes. length bytes.items ≡ 552) }

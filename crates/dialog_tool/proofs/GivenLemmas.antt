@@ -16,16 +16,19 @@ use Rattle.dg_lower.specs.Core.{core_of, has_entry}
 use Rattle.dg_lower.specs.Forms.{first_unbuilt, are_built}
 use Rattle.dg_lower.specs.Given.{IsGiven, SaidMeets}
 use Rattle.dg_lower.proofs.SoundLemmas.{core_sound}
-use Rattle.dg_names.specs.Counts.{IsNamed, first_passing}
-use Rattle.dg_names.specs.Named.{Named, names_in, mentioned, word_in, names_of}
+use Rattle.dg_base.specs.Mentions.{mentioned, names_in}
+use Rattle.dg_base.specs.Passing.{first_passing}
+use Rattle.dg_names.specs.Counts as names
+use Rattle.dg_names.specs.Counts.{IsNamed}
+use Rattle.dg_names.specs.Named.{Named, word_in, names_of}
 use Rattle.dg_reader.specs.Read.{IsRead}
 use Rattle.dialog_tool.specs.Source.{refusal_at, refused, given, Compiles}
 use Rattle.dialog_tool.proofs.FewLemmas.{items_few}
 use Rattle.dialog_tool.proofs.FirstLemmas.{firsts_differ}
 use Rattle.dialog_tool.proofs.KeptLemmas.{items_kept}
 use Rattle.dialog_tool.proofs.LexedLemmas.{lexed_spelled}
-use Rattle.dialog_tool.proofs.MentionedLemmas.{readable, items_among}
-use Rattle.dialog_tool.proofs.NamesLemmas.{preds_named, objects_named, words_named, all_among, names_few}
+use Rattle.dialog_tool.proofs.MentionedLemmas.{readable}
+use Rattle.dialog_tool.proofs.NamesLemmas.{preds_named, objects_named, words_named, items_among, names_few}
 use Rattle.dialog_tool.proofs.ReadableLemmas.{items_read}
 use Rattle.dialog_tool.proofs.RewrittenLemmas.{items_built}
 
@@ -34,13 +37,13 @@ use Rattle.dialog_tool.proofs.RewrittenLemmas.{items_built}
 abbrev AreReadable : List Item → Type 0
 AreReadable items = All (λ (i : Item). SaidMeets readable i.said) items
 
-plain_given : (items : List Item) → AreReadable items → first_unbuilt items ≡ None → first_passing [] items ≡ None → plain.first_passing [] (plain_items None items) ≡ None → IsGiven (names_of items) (plain_items None items)
+plain_given : (items : List Item) → AreReadable items → first_unbuilt items ≡ None → first_passing names.has_excess names.are_many [] items ≡ None → first_passing plain.has_excess plain.are_many [] (plain_items None items) ≡ None → IsGiven (names_of items) (plain_items None items)
 plain_given items r built few plain_few = record {
-  things = items_kept (names_of items) None items tt built (items_among (names_of items) items built r (all_among items));
+  things = items_kept (names_of items) None items tt built (items_among items r);
   few_variables = items_few [] (plain_items None items) (items_built None items built) plain_few;
-  preds = preds_named items built r;
-  objects = objects_named items built r;
-  words = words_named items built r;
+  preds = preds_named items r;
+  objects = objects_named items r;
+  words = words_named items r;
   words_differ = firsts_differ (names_in word_in (mentioned items));
   few_preds = (names_few items few).preds;
   few_objects = (names_few items few).objects;

@@ -3,7 +3,7 @@ use Rattle.std.proofs.lemmas.Grind.{common_steps}
 use Rattle.std.proofs.lemmas.List.{append_assoc, append-nil, map-append, drop_more, drop_all}
 use Rattle.dg_base.specs.Tree as tree
 use Rattle.dg_base.specs.TreeView.{branches_view, stmt_view}
-use Rattle.dg_names.proofs.Views.{part_word_seen, value_seen, body_seen, arm_seen, change_seen, head_seen, values_seen, stmts_seen}
+use Rattle.dg_base.proofs.Views.{part_word_seen, value_seen, body_seen, arm_seen, change_seen, head_seen, values_seen, stmts_seen}
 use Rattle.dg_access.specs.Plain.{plain_body, new_in_body}
 use Rattle.dg_access.specs.State.{setting_view, selected}
 use Rattle.dg_access.proofs.Before.{parts_end, values_end, stmts_end, branches_end, arms_end, changes_end, parts_push, values_push, stmts_push, branches_push, arms_push, changes_push}

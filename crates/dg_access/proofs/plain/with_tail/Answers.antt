@@ -1,5 +1,5 @@
 use Rattle.std.proofs.Common.{arith}
-use Rattle.dg_names.proofs.Views.{tailed_list_seen}
+use Rattle.dg_base.proofs.Views.{tailed_list_seen}
 use Rattle.dg_access.proofs.plain.with_tail.Goals as goal
 
 pub returns : goal.returns

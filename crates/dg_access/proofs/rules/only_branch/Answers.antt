@@ -2,7 +2,7 @@ use Rattle.std.proofs.Common.{◌∙◌, ap, sym}
 use Rattle.dg_base.specs.Tree as tree
 use Rattle.dg_access.specs.Plain.{is_single, whole_body}
 use Rattle.dg_access.proofs.BranchLemmas.{popped}
-use Rattle.dg_names.proofs.Views.{body_seen}
+use Rattle.dg_base.proofs.Views.{body_seen}
 use Rattle.dg_access.proofs.rules.only_branch.Goals as goal
 
 pub returns-in-Some : goal.returns-in-Some

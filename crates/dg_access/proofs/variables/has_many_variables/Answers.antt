@@ -1,7 +1,8 @@
 use Rattle.std.proofs.Common.{◌≡◌, ◌∙◌, [], List, Bool, IfOk, ap, subst}
+use Rattle.dg_base.specs.Mentions.{Thing, names_in, variable_in}
 use Rattle.dg_base.specs.TreeView.{said_view}
+use Rattle.dg_base.specs.Walk.{Met}
 use Rattle.dg_access.specs.Counts.{times}
-use Rattle.dg_access.specs.Marks.{Mark, names_among}
 use Rattle.dg_access.specs.Scopes.{passes}
 use Rattle.dg_access.specs.State.{total_in}
 use Rattle.dg_access.proofs.FullLemmas.{item_full}
@@ -11,6 +12,6 @@ pub returns : goal.returns
 returns c =
     let total = total_in c.in_ok-totals.totals in
     subst (λ (b : Bool). IfOk c.is_full_along.result (λ many. many ≡ b))
-    (ap (λ (ms : List Mark). passes total ms [] []) c.requires
-    ∙ item_full total (said_view c.args.said.now) (λ n. c.in_ok-totals.ensures n ∙ ap (λ (ms : List Mark). times n (names_among ms)) c.requires))
+    (ap (λ (ms : List Met). passes total ms [] []) c.requires.walk
+    ∙ item_full total (said_view c.args.said.now) (λ n. c.in_ok-totals.ensures n ∙ ap (λ (ts : List Thing). times n (names_in variable_in ts)) c.requires.things))
     c.is_full_along.ensures

@@ -1,6 +1,6 @@
 use Rattle.std.proofs.Common.{arith}
 use Rattle.std.proofs.lemmas.List.{append_assoc, append-nil, map-append, drop_more, drop_all}
-use Rattle.dg_names.proofs.Views.{part_word_seen, value_seen, head_seen, body_seen, arm_seen, values_seen, stmts_seen}
+use Rattle.dg_base.proofs.Views.{part_word_seen, value_seen, head_seen, body_seen, arm_seen, values_seen, stmts_seen}
 use Rattle.dg_lower.proofs.goals.values_in.Goals as goal
 
 ruleset steps = (append_assoc, append-nil, map-append, drop_more, drop_all, part_word_seen, value_seen, body_seen, arm_seen)

@@ -2,7 +2,7 @@ use Rattle.std.proofs.Common.{arith, rules}
 use Rattle.std.proofs.lemmas.List.{append_assoc, append-nil, map-append, drop_more, drop_all}
 use Rattle.dg_base.specs.declared.program.Term.TheFolds as terms
 use Rattle.dg_base.specs.declared.tree.Part.TheFolds as trees
-use Rattle.dg_names.proofs.Views.{value_seen, values_seen}
+use Rattle.dg_base.proofs.Views.{value_seen, values_seen}
 use Rattle.dg_lower.proofs.terms.+terms.Goals as goal
 
 ruleset steps = (append_assoc, append-nil, map-append, drop_more, drop_all)

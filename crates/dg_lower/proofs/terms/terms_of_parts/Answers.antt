@@ -1,6 +1,6 @@
 use Rattle.std.proofs.Common.{arith}
 use Rattle.std.proofs.lemmas.List.{append_assoc, append-nil, map-append, drop_more, drop_all}
-use Rattle.dg_names.proofs.Views.{part_word_seen, value_seen, body_seen, arm_seen}
+use Rattle.dg_base.proofs.Views.{part_word_seen, value_seen, body_seen, arm_seen}
 use Rattle.dg_lower.proofs.terms.terms_of_parts.Goals as goal
 
 ruleset steps = (append_assoc, append-nil, map-append, drop_more, drop_all, part_word_seen, value_seen, body_seen, arm_seen)

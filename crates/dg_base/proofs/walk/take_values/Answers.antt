@@ -1,0 +1,5 @@
+use Rattle.dg_base.proofs.WalkLemmas.{parted, values_then, put_next}
+use Rattle.dg_base.proofs.walk.take_values.Goals as goal
+
+pub returns-in-len1-up : goal.returns-in-len1-up
+returns-in-len1-up c = put_next _ _ _ _ _ c.put_two.ensures (values_then c.args.twice c.args.values.now _ _ (parted c.args.values.now c.first-item.result c.in-len1-up.len_at_least c.first-item.is))

@@ -1,6 +1,0 @@
-use Rattle.dg_names.proofs.Views.{arm_seen}
-use Rattle.dg_names.proofs.WalkLemmas.{parted, arms_then, put_three}
-use Rattle.dg_names.proofs.walk.take_arms.Goals as goal
-
-pub returns-in-len1-up : goal.returns-in-len1-up
-returns-in-len1-up c = put_three _ _ _ _ _ _ _ c.put_three.ensures (arms_then c.args.arms.now c.first-item.result _ _ _ (parted c.args.arms.now c.first-item.result c.in-len1-up.len_at_least c.first-item.is) (arm_seen c.first-item.result))
