@@ -1,6 +1,5 @@
 -- One item, from the answer for its tokens, and items one after another.
 use Rattle.std.proofs.Common.{◌≡◌, ◌&&◌, ◌||◌, ◌<◌, ◌+◌, ◌-◌, ℕ, zero, suc, List, [], ◌∷◌, ◌++◌, length, take, drop, map, get_or, Bool, true, false, not, None, Err, refl, sym, ◌∙◌, ap, subst, arith, add-one, length-drop}
-use Rattle.std.specs.Prelude.{option_and_then}
 use Rattle.std.proofs.lemmas.List.{append-nil, map-append, take-append-drop, take_all, take_more, drop-drop}
 use Rattle.dg_base.specs.Tree.{Item}
 use Rattle.dg_base.specs.declared.refusal.ReadFault.{ReadFault}
@@ -10,12 +9,11 @@ use Rattle.dg_lex.specs.Tokens.{Seen, seen}
 use Rattle.dg_lex.specs.declared.token.Token.{Token}
 use Rattle.dg_reader.specs.Tokens.{Tok}
 use Rattle.dg_reader.specs.TokenView.{token_view}
-use Rattle.dg_reader.specs.Grammar.{Shape, InItem, IsUnclosed, IsUnexpected}
-use Rattle.dg_reader.specs.Machine.{run, start, Outcome, done, unclosed, unexpected, at_end, outcome_from, outcome}
-use Rattle.dg_reader.specs.Items.{StopsAt, IsOpen, EndsAs}
-use Rattle.dg_reader.proofs.Closing.{run-append}
+use Rattle.dg_reader.specs.Grammar.{Shape, InItem, IsUnclosed, IsUnexpectedAt}
+use Rattle.dg_reader.specs.Machine.{Outcome, done, unclosed, at_end, outcome_from, outcome}
+use Rattle.dg_reader.specs.Items.{IsOpen, EndsAs}
 use Rattle.dg_reader.proofs.Laws.{Says, outcome_says}
-use Rattle.dg_reader.specs.Read.{toks, all_behind, begins_item, IsFront, is_topic, behind_topic, said_of, IsItemAt, ReadTo, IsFaultOf, IsRefusedAt, not_closed, not_expected, not_allowed, IsRefusedIn, IsRead}
+use Rattle.dg_reader.specs.Read.{toks, all_behind, begins_item, IsFront, is_topic, behind_topic, said_of, IsItemAt, ReadTo, IsFaultOf, line_at, IsRefusedAt, not_closed, not_expected, not_allowed, IsRefusedIn, IsRead}
 use Rattle.dg_reader.specs.Heads.{fault_in}
 use Rattle.dg_base.specs.Faults.{IsFault}
 use Rattle.dg_reader.proofs.FaultLemmas.{fault_map}
@@ -34,17 +32,6 @@ ends_item ts shape h = says ts (done shape) (ap outcome_from h.taken ∙ ap at_e
 
 open_unclosed : (ts : List Tok) → IsOpen ts → IsUnclosed true ts
 open_unclosed ts h = says ts unclosed (ap outcome_from h.taken ∙ ap at_end h.goes_on)
-
-stops_unexpected : (ts : List Token) (index : ℕ) → StopsAt ts index → IsUnexpected true (map token_view ts)
-stops_unexpected ts index h =
-    let front : List Token = take (index + 1) ts in
-    let back : List Token = drop (index + 1) ts in
-    let split : map token_view ts ≡ map token_view front ++ map token_view back = ap (map token_view) (sym (take-append-drop (index + 1) ts)) ∙ map-append token_view front back in
-    let none : run (map token_view ts) (start ∷ []) ≡ None =
-    ap (λ (l : List Tok). run l (start ∷ [])) split
-    ∙ run-append (map token_view front) (map token_view back) (start ∷ [])
-    ∙ ap (option_and_then (run (map token_view back))) h.stops in
-    says (map token_view ts) unexpected (ap outcome_from none)
 
 -- ## One item
 
@@ -79,17 +66,26 @@ open_item before (t ∷ ts) d some alone column h =
     not_closed (seen t) (map seen ts) [] (front_all (seen t) (map seen ts) alone)
     (subst (λ (b : Bool). IsUnclosed b (toks (map seen (t ∷ ts)))) (sym column) (subst (λ (l : List Tok). IsUnclosed true l) (toks_seen (t ∷ ts)) (open_unclosed (map token_view (t ∷ ts)) h))) refl
 
-pub stopped_item : (before : Bool) (ts : List Token) (d : Token) (index : ℕ) → 0 < length ts → all_behind (map seen (drop 1 ts)) ≡ true → (get_or ts 0 d).first ≡ true → StopsAt ts index → IsRefusedAt before (map seen ts) (record { kind = Unexpected; line = (get_or ts 0 d).line })
-stopped_item before [] d index some alone column h = absurd (omega arith)
-stopped_item before (t ∷ ts) d index some alone column h =
-    not_expected (seen t) (map seen ts) [] (front_all (seen t) (map seen ts) alone)
-    (subst (λ (b : Bool). IsUnexpected b (toks (map seen (t ∷ ts)))) (sym column) (subst (λ (l : List Tok). IsUnexpected true l) (toks_seen (t ∷ ts)) (stops_unexpected (t ∷ ts) index h))) refl
+-- the line of a token that is read
+line_seen : (t : Token) (ts : List Token) (index : ℕ) (d : Token) → index < length (t ∷ ts) → (get_or (t ∷ ts) index d).line ≡ line_at (seen t) (map seen ts) index
+line_seen t ts zero d lt = refl
+line_seen t [] (suc index) d lt = absurd (omega arith)
+line_seen t (u ∷ ts) (suc index) d lt = line_seen u ts index d (omega arith)
+
+pub stopped_item : (before : Bool) (ts : List Token) (d e : Token) (index : ℕ) → 0 < length ts → all_behind (map seen (drop 1 ts)) ≡ true → (get_or ts 0 d).first ≡ true → index < length ts
+    → IsUnexpectedAt true (map token_view ts) index → IsRefusedAt before (map seen ts) (record { kind = Unexpected; line = (get_or ts index e).line })
+stopped_item before [] d e index some alone column within h = absurd (omega arith)
+stopped_item before (t ∷ ts) d e index some alone column within h =
+    not_expected (seen t) (map seen ts) [] (front_all (seen t) (map seen ts) alone) index
+    (subst (λ (b : Bool). IsUnexpectedAt b (toks (map seen (t ∷ ts))) index) (sym column) (subst (λ (l : List Tok). IsUnexpectedAt true l index) (toks_seen (t ∷ ts)) h))
+    (ap (λ (l : ℕ). record { kind = Unexpected; line = l }) (line_seen t ts index e within))
 
 pub indented_item : (before : Bool) (ts : List Token) (d : Token) → 0 < length ts → all_behind (map seen (drop 1 ts)) ≡ true → (get_or ts 0 d).first ≡ false → IsRefusedAt before (map seen ts) (record { kind = Unexpected; line = (get_or ts 0 d).line })
 indented_item before [] d some alone column = absurd (omega arith)
 indented_item before (t ∷ ts) d some alone column =
-    not_expected (seen t) (map seen ts) [] (front_all (seen t) (map seen ts) alone)
-    (subst (λ (b : Bool). IsUnexpected b (toks (map seen (t ∷ ts)))) (sym column) (outcome_says false (toks (map seen (t ∷ ts))))) refl
+    not_expected (seen t) (map seen ts) [] (front_all (seen t) (map seen ts) alone) 0
+    (subst (λ (b : Bool). IsUnexpectedAt b (toks (map seen (t ∷ ts))) 0) (sym column)
+    (record { within = omega arith; here = outcome_says false (take 1 (toks (map seen (t ∷ ts)))); first = λ before less. absurd (omega arith) })) refl
 
 -- ## Items one after another
 
@@ -125,7 +121,7 @@ front_there ts rest f o q front alone ends = front_on ts rest f o (subst (λ (l 
 
 refused_on : (before : Bool) (ts rest : List Seen) (r : Refusal) → IsRefusedAt before ts r → all_behind (drop 1 ts) ≡ true → begins_item rest ≡ true → IsRefusedAt before (ts ++ rest) r
 refused_on before ts rest r (not_closed f o q front u e) alone ends = not_closed f o rest (front_there ts rest f o q front alone ends) u e
-refused_on before ts rest r (not_expected f o q front u e) alone ends = not_expected f o rest (front_there ts rest f o q front alone ends) u e
+refused_on before ts rest r (not_expected f o q front n u e) alone ends = not_expected f o rest (front_there ts rest f o q front alone ends) n u e
 refused_on before ts rest r (not_allowed f o q front shape s e) alone ends = not_allowed f o rest (front_there ts rest f o q front alone ends) shape s e
 
 read_push : (before : Bool) (ts : List Seen) (items : List Item) (mid rest : List Seen) (item : Item) → ReadTo before ts items mid → IsItemAt (behind_topic before items) mid item rest → ReadTo before ts (items ++ item ∷ []) rest

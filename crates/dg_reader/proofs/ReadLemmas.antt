@@ -1,7 +1,7 @@
 -- Tokens are read in one way.
-use Rattle.std.proofs.Common.{◌≡◌, ◌||◌, ℕ, Option, Some, None, List, [], ◌∷◌, ◌++◌, Bool, true, false, not, Result, Ok, Err, refl, sym, ◌∙◌, ap, subst}
+use Rattle.std.proofs.Common.{◌≡◌, ◌||◌, ◌+◌, ◌<◌, ℕ, Option, Some, None, List, [], ◌∷◌, ◌++◌, take, drop, append_assoc, arith, Bool, true, false, not, Result, Ok, Err, refl, sym, ◌∙◌, ap, subst}
 use Rattle.std.proofs.lemmas.Bool.{and_parts}
-use Rattle.std.proofs.lemmas.List.{append-nil}
+use Rattle.std.proofs.lemmas.List.{append-nil, take-append-drop}
 use Rattle.dg_base.specs.Tree.{Item}
 use Rattle.dg_base.specs.declared.refusal.Refusal.{Refusal}
 use Rattle.dg_base.specs.declared.refusal.Kind.{Kind}
@@ -9,10 +9,10 @@ use Rattle.dg_base.specs.declared.refusal.Kind.TheVariants.{Unclosed, Unexpected
 use Rattle.dg_lex.specs.Tokens.{Seen}
 use Rattle.dg_reader.specs.Tokens.{Tok}
 use Rattle.dg_reader.specs.Grammar.{Shape, InItem, HasShape}
-use Rattle.dg_reader.specs.Grammar.{IsUnclosed, IsUnexpected}
+use Rattle.dg_reader.specs.Grammar.{IsUnclosed, IsUnexpected, IsUnexpectedAt}
 use Rattle.dg_reader.specs.Heads.{fault_in}
 use Rattle.dg_reader.proofs.Laws.{shape_decided}
-use Rattle.dg_reader.specs.Read.{toks, all_behind, begins_item, IsFront, item_of, is_topic, behind_topic, IsItemAt, ReadTo, IsFaultOf, IsRefusedAt, not_closed, not_expected, not_allowed, IsRead}
+use Rattle.dg_reader.specs.Read.{toks, all_behind, begins_item, IsFront, item_of, is_topic, behind_topic, IsItemAt, ReadTo, IsFaultOf, line_at, IsRefusedAt, not_closed, not_expected, not_allowed, IsRead}
 
 -- ## Fronts
 
@@ -116,11 +116,28 @@ refusal_on k f = record { kind = k; line = f.line }
 line_there : (f g : Seen) (k : Kind) → f ≡ g → refusal_on k f ≡ refusal_on k g
 line_there f g k e = cc
 
+-- where no item goes on with a token, none does with those behind it
+whole_unexpected : (c : Bool) (ts : List Tok) (index : ℕ) → IsUnexpectedAt c ts index → IsUnexpected c ts
+whole_unexpected c ts index u rest s =
+    u.here (drop (index + 1) ts ++ rest)
+    (subst (λ (l : List Tok). HasShape c l) (ap (λ (l : List Tok). l ++ rest) (sym (take-append-drop (index + 1) ts)) ∙ append_assoc (take (index + 1) ts) (drop (index + 1) ts) rest) s)
+
+index_one : (c : Bool) (ts : List Tok) (i j : ℕ) → IsUnexpectedAt c ts i → IsUnexpectedAt c ts j → i ≡ j
+index_one c ts i j u v =
+    let least : i < j → ⊥ = λ less. v.first i less u.here in
+    let most : j < i → ⊥ = λ less. u.first j less v.here in
+    omega (arith, least, most)
+
+lines_one : (f g : Seen) (o p : List Seen) (i j : ℕ) → f ≡ g → o ≡ p → IsUnexpectedAt f.first (toks (f ∷ o)) i → IsUnexpectedAt g.first (toks (g ∷ p)) j → line_at f o i ≡ line_at g p j
+lines_one f g o p i j h k u v =
+    let there : IsUnexpectedAt g.first (toks (g ∷ p)) i = subst (λ (l : List Seen). IsUnexpectedAt g.first (toks (g ∷ l)) i) k (subst (λ (t : Seen). IsUnexpectedAt t.first (toks (t ∷ o)) i) h u) in
+    ap (λ (t : Seen). line_at t o i) h ∙ ap (λ (l : List Seen). line_at g l i) k ∙ ap (line_at g p) (index_one g.first (toks (g ∷ p)) i j there v)
+
 clash : (before : Bool) (ts : List Seen) (i : Item) (r : List Seen) (s : Refusal) → IsItemAt before ts i r → IsRefusedAt before ts s → ⊥
 clash before ts i r s h (not_closed f o q front u e) =
     u.none_yet (item_there ts h.first f h.others o r q h.front front (record { shape = h.shape; item = h.shaped }))
-clash before ts i r s h (not_expected f o q front u e) =
-    u [] (subst (λ (l : List Tok). HasShape f.first l) (sym (append-nil (toks (f ∷ o)))) (item_there ts h.first f h.others o r q h.front front (record { shape = h.shape; item = h.shaped })))
+clash before ts i r s h (not_expected f o q front n u e) =
+    whole_unexpected f.first (toks (f ∷ o)) n u [] (subst (λ (l : List Tok). HasShape f.first l) (sym (append-nil (toks (f ∷ o)))) (item_there ts h.first f h.others o r q h.front front (record { shape = h.shape; item = h.shaped })))
 clash before ts i r s h (not_allowed f o q front shape a e) =
     no_fault (fault_in before h.shape) (fault_in before shape) e.kind (ap (fault_in before) (shape_one ts h.first f h.others o r q h.shape shape h.front front h.shaped a)) h.allowed e.fault
   where
@@ -141,19 +158,21 @@ faults_one before l m s t a b lines shapes h k =
 
 at_one : (before : Bool) (ts : List Seen) (r s : Refusal) → IsRefusedAt before ts r → IsRefusedAt before ts s → r ≡ s
 at_one before ts r s (not_closed f o q front u e) (not_closed f' o' q' front' u' e') = e ∙ line_there f f' Unclosed (front_one ts f f' o o' q q' front front').first ∙ sym e'
-at_one before ts r s (not_closed f o q front u e) (not_expected f' o' q' front' u' e') = absurd (u' u.rest (later_there ts f f' o o' q q' u.rest front front' u.later))
+at_one before ts r s (not_closed f o q front u e) (not_expected f' o' q' front' n' u' e') = absurd (whole_unexpected f'.first (toks (f' ∷ o')) n' u' u.rest (later_there ts f f' o o' q q' u.rest front front' u.later))
 at_one before ts r s (not_closed f o q front u e) (not_allowed f' o' q' front' t a e') = absurd (shaped_open ts f' f o' o q' q t front' front a u)
-at_one before ts r s (not_expected f o q front u e) (not_closed f' o' q' front' u' e') = absurd (u u'.rest (later_there ts f' f o' o q' q u'.rest front' front u'.later))
-at_one before ts r s (not_expected f o q front u e) (not_expected f' o' q' front' u' e') = e ∙ line_there f f' Unexpected (front_one ts f f' o o' q q' front front').first ∙ sym e'
-at_one before ts r s (not_expected f o q front u e) (not_allowed f' o' q' front' t a e') = absurd (shaped_stopped ts f' f o' o q' q t front' front a u)
+at_one before ts r s (not_expected f o q front n u e) (not_closed f' o' q' front' u' e') = absurd (whole_unexpected f.first (toks (f ∷ o)) n u u'.rest (later_there ts f' f o' o q' q u'.rest front' front u'.later))
+at_one before ts r s (not_expected f o q front n u e) (not_expected f' o' q' front' n' u' e') =
+    let same : SameFront f f' o o' q q' = front_one ts f f' o o' q q' front front' in
+    e ∙ ap (λ (l : ℕ). record { kind = Unexpected; line = l }) (lines_one f f' o o' n n' same.first same.others u u') ∙ sym e'
+at_one before ts r s (not_expected f o q front n u e) (not_allowed f' o' q' front' t a e') = absurd (shaped_stopped ts f' f o' o q' q t front' front a (whole_unexpected f.first (toks (f ∷ o)) n u))
 at_one before ts r s (not_allowed f o q front t a e) (not_closed f' o' q' front' u' e') = absurd (shaped_open ts f f' o o' q q' t front front' a u')
-at_one before ts r s (not_allowed f o q front t a e) (not_expected f' o' q' front' u' e') = absurd (shaped_stopped ts f f' o o' q q' t front front' a u')
+at_one before ts r s (not_allowed f o q front t a e) (not_expected f' o' q' front' n' u' e') = absurd (shaped_stopped ts f f' o o' q q' t front front' a (whole_unexpected f'.first (toks (f' ∷ o')) n' u'))
 at_one before ts r s (not_allowed f o q front t a e) (not_allowed f' o' q' front' t' a' e') =
     faults_one before f.line f'.line t t' r s (ap (λ (x : Seen). x.line) (front_one ts f f' o o' q q' front front').first) (shape_one ts f f' o o' q q' t t' front front' a a') e e'
 
 none_refused : (before : Bool) (r : Refusal) → IsRefusedAt before [] r → ⊥
 none_refused before r (not_closed f o q front u e) = no_front f o q front
-none_refused before r (not_expected f o q front u e) = no_front f o q front
+none_refused before r (not_expected f o q front n u e) = no_front f o q front
 none_refused before r (not_allowed f o q front t a e) = no_front f o q front
 
 ok_refused : (before : Bool) (ts : List Seen) (is js : List Item) (rest : List Seen) (r : Refusal) → ReadTo before ts is [] → ReadTo before ts js rest → IsRefusedAt (behind_topic before js) rest r → ⊥

@@ -75,7 +75,7 @@ fn item_of(alloc: Global, before: bool, tokens: &[Token<'_>]) -> Result<Item, Re
     match find(alloc, tokens) {
         Ok(found) => allowed(alloc, before, line, found),
         Err(ShapeFault::Unclosed) => Err(refusal(Kind::Unclosed, line)),
-        Err(ShapeFault::Unexpected(_)) => Err(refusal(Kind::Unexpected, line)),
+        Err(ShapeFault::Unexpected(at)) => Err(refusal(Kind::Unexpected, tokens[at].line)),
         Err(ShapeFault::OutOfMemory) => Err(ReadFault::OutOfMemory),
     }
 }

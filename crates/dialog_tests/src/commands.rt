@@ -143,7 +143,7 @@ fn sources_give_their_transcript(rt: HostRuntime) -> Result<(), Fail> {
 }
 
 // The words of the command, the source, the status and the line.
-const REFUSALS: [(&str, &str, u8, &str); 18] = [
+const REFUSALS: [(&str, &str, u8, &str); 19] = [
     (
         "debug p.dg",
         "",
@@ -170,9 +170,15 @@ const REFUSALS: [(&str, &str, u8, &str); 18] = [
     ),
     (
         "debug p.dg",
-        "(program entry point) (p 16384)",
+        "(program entry point) Hello\n  (if) (p)\n  ) x",
         1,
-        "p.dg:1: unexpected token\n",
+        "p.dg:3: unexpected token\n",
+    ),
+    (
+        "debug p.dg",
+        "(program entry point)\n  (p 16384)",
+        1,
+        "p.dg:2: unexpected token\n",
     ),
     (
         "debug p.dg",

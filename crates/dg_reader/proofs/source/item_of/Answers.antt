@@ -29,5 +29,7 @@ returns-in-Err-Unclosed-clause-refused c =
 
 pub returns-in-Err-Unexpected-clause-refused : goal.returns-in-Err-Unexpected-clause-refused
 returns-in-Err-Unexpected-clause-refused c =
+    let stops = rw c.in-Err-Unexpected.field-0-is at c.in-Err-Unexpected.ensures.unexpected in
+    let first = rw c.in-Err-Unexpected.field-0-is at c.in-Err-Unexpected.ensures.first in
     subst (λ (f : ReadFault). IsFault (spec.IsRefusedAt c.args.before (map seen c.args.tokens.now)) f) (sym c.refusal-in-Err-Unexpected.ensures)
-    (stopped_item c.args.before c.args.tokens.now _ _ c.requires.some c.requires.alone c.if-not-tokens.false (rw c.in-Err-Unexpected.field-0-is at c.in-Err-Unexpected.ensures.unexpected))
+    (stopped_item c.args.before c.args.tokens.now _ _ _ c.requires.some c.requires.alone c.if-not-tokens.false (rw (← c.in-Err-Unexpected.at-is) at stops.within) (rw (← c.in-Err-Unexpected.at-is) at first))
