@@ -106,10 +106,10 @@ module _ (old : Engine) (query : Query) (terms : List Term) (store1 : ListBindin
   longer = omega (arith, ap length there.written.appended.is, length-append xs made)
 
   same_values : SameBy (length xs) (values_in s xs) (values_in s1 ys)
-  same_values = values_kept (length xs) s s1 xs ys k1 (hold_front s xs ready.sound.hold) front
+  same_values = values_kept (length xs) s s1 xs ys k1 (hold_front s xs ready.sound.base.hold) front
 
   hold : All (Holds s1) ys
-  hold = subst (All (Holds s1)) (sym there.written.appended.is) (All-append (Holds s1) xs made (all_hold s s1 xs k1 ready.sound.hold) there.written.appended.hold)
+  hold = subst (All (Holds s1)) (sym there.written.appended.is) (All-append (Holds s1) xs made (all_hold s s1 xs k1 ready.sound.base.hold) there.written.appended.hold)
 
   -- the values of the arguments
   args_are : (g : Game) → old.program.now ≡ g.program → values_in s1 ys args ≡ map (value_of g.program (values_in s xs old.here.env)) terms
@@ -156,28 +156,30 @@ module _ (old : Engine) (query : Query) (terms : List Term) (store1 : ListBindin
     pub ask_limits : SameLimits old failing
     ask_limits = record { heap = k1.heap_limit; trail = k1.trail_limit }
 
-    failing_keeps : KeepsPlaces store1 ready.sound.places.saved
-    failing_keeps = saved1 ready.sound.places.saved ready.sound.places.keeps
+    failing_keeps : KeepsPlaces store1 ready.sound.base.places.saved
+    failing_keeps = saved1 ready.sound.base.places.saved ready.sound.base.places.keeps
 
-    failing_back : GoBackTo ys s1.heap_limit s1.trail_limit os ready.sound.places.saved
-    failing_back = back_limits ys s.heap_limit s.trail_limit s1.heap_limit s1.trail_limit os ready.sound.places.saved (sym k1.heap_limit) (sym k1.trail_limit) (back_same xs ys fs (length fs) (length xs) old.newest s.heap_limit s.trail_limit os ready.sound.places.saved front ready.sound.choices ready.sound.places.back_to)
+    failing_back : GoBackTo ys s1.heap_limit s1.trail_limit os ready.sound.base.places.saved
+    failing_back = back_limits ys s.heap_limit s.trail_limit s1.heap_limit s1.trail_limit os ready.sound.base.places.saved (sym k1.heap_limit) (sym k1.trail_limit) (back_same xs ys fs (length fs) (length xs) old.newest s.heap_limit s.trail_limit os ready.sound.base.places.saved front ready.sound.base.choices ready.sound.base.places.back_to)
 
     pub failing_sound : IsSound failing
     failing_sound = record {
-      program = ready.sound.program;
-      hold = hold;
-      frames = frames_raise (length fs) (length xs) (length ys) fs longer ready.sound.frames;
-      choices = stand_raise fs (length fs) (length fs) (length xs) (length ys) old.newest old.newest os (omega arith) longer (omega arith) ready.sound.choices;
-      places = record {
-        saved = ready.sound.places.saved;
-        keeps = failing_keeps;
-        back_to = failing_back;
+      base = record {
+        program = ready.sound.base.program;
+        hold = hold;
+        frames = frames_raise (length fs) (length xs) (length ys) fs longer ready.sound.base.frames;
+        choices = stand_raise fs (length fs) (length fs) (length xs) (length ys) old.newest old.newest os (omega arith) longer (omega arith) ready.sound.base.choices;
+        places = record {
+          saved = ready.sound.base.places.saved;
+          keeps = failing_keeps;
+          back_to = failing_back;
+        };
       };
       room = ready.sound.room;
     }
 
     choices_now : (g : Game) (ms : List Saved) (cs : List Live) → AreChoices g xs fs os ms cs → AreChoices g ys fs os ms cs
-    choices_now g ms cs h = choices_same g xs ys fs fs (length fs) (length xs) old.newest os ms cs front (same_here (length fs) fs) ready.sound.choices h
+    choices_now g ms cs h = choices_same g xs ys fs fs (length fs) (length xs) old.newest os ms cs front (same_here (length fs) fs) ready.sound.base.choices h
 
     pub asks_none : rules.now ≡ [] → Leads from (FailsAt failing)
     asks_none none g n w run st =
@@ -213,36 +215,38 @@ module _ (old : Engine) (query : Query) (terms : List Term) (store1 : ListBindin
       count = length-append fs (old.here ∷ [])
 
       frames_now : AreFrames (length gs) (length ys) gs
-      frames_now = frames_append (length ys) fs old.here failing_sound.frames (frame_raise (length fs) (length fs) (length xs) (length ys) old.here (omega arith) longer ready.here)
+      frames_now = frames_append (length ys) fs old.here failing_sound.base.frames (frame_raise (length fs) (length fs) (length xs) (length ys) old.here (omega arith) longer ready.here)
 
       stand : StandOn gs (length gs) (length ys) (old.newest + 1) os
-      stand = stand_raise gs (length fs) (length gs) (length ys) (length ys) old.newest (old.newest + 1) os (omega (arith, count)) (omega arith) (omega arith) (stand_same fs gs (length fs) (length ys) old.newest os (same_append fs old.here) failing_sound.choices)
+      stand = stand_raise gs (length fs) (length gs) (length ys) (length ys) old.newest (old.newest + 1) os (omega (arith, count)) (omega arith) (omega arith) (stand_same fs gs (length fs) (length ys) old.newest os (same_append fs old.here) failing_sound.base.choices)
 
       place_now : (ms : List Saved) → KeepsPlaces store1 ms → IsPlace asking place (record { mark = place; store = s2 }) ms
       place_now ms h = record { keeps = saved2 ms h; place_is = refl; hold = all_hold s1 s2 ys k2 hold; kept = kept_here s2 }
 
-      back_now : GoBackTo ys s2.heap_limit s2.trail_limit os ready.sound.places.saved
-      back_now = back_limits ys s1.heap_limit s1.trail_limit s2.heap_limit s2.trail_limit os ready.sound.places.saved (sym k2.heap_limit) (sym k2.trail_limit) failing_back
+      back_now : GoBackTo ys s2.heap_limit s2.trail_limit os ready.sound.base.places.saved
+      back_now = back_limits ys s1.heap_limit s1.trail_limit s2.heap_limit s2.trail_limit os ready.sound.base.places.saved (sym k2.heap_limit) (sym k2.trail_limit) failing_back
 
       pub asking_place : HasPlace asking place
-      asking_place = record { back = record { mark = place; store = s2 }; saved = ready.sound.places.saved; is = place_now ready.sound.places.saved failing_keeps; back_to = back_now }
+      asking_place = record { back = record { mark = place; store = s2 }; saved = ready.sound.base.places.saved; is = place_now ready.sound.base.places.saved failing_keeps; back_to = back_now }
 
       pub asking_limits : SameLimits old asking
       asking_limits = record { heap = k2.heap_limit ∙ k1.heap_limit; trail = k2.trail_limit ∙ k1.trail_limit }
 
       pub asking_sound : old.newest + 1 + old.left < 2 ^ 64 → IsSound asking
       asking_sound room = record {
-        program = ready.sound.program;
-        hold = all_hold s1 s2 ys k2 hold;
-        frames = subst (λ (l : List Frame). AreFrames (length l) (length ys) l) (sym pushed_on) frames_now;
-        choices = subst (λ (l : List Frame). StandOn l (length l) (length ys) (old.newest + 1) os) (sym pushed_on) stand;
-        places = record { saved = ready.sound.places.saved; keeps = saves_drops true (fields_of store2) _ _ (saved2 ready.sound.places.saved failing_keeps); back_to = back_now };
+        base = record {
+          program = ready.sound.base.program;
+          hold = all_hold s1 s2 ys k2 hold;
+          frames = subst (λ (l : List Frame). AreFrames (length l) (length ys) l) (sym pushed_on) frames_now;
+          choices = subst (λ (l : List Frame). StandOn l (length l) (length ys) (old.newest + 1) os) (sym pushed_on) stand;
+          places = record { saved = ready.sound.base.places.saved; keeps = saves_drops true (fields_of store2) _ _ (saved2 ready.sound.base.places.saved failing_keeps); back_to = back_now };
+        };
         room = room;
       }
 
       pub asking_left : IsLeft (length frames.items) (length ys) (Rules query args rules)
       asking_left =
-          (subst (λ (l : List Rule). All IsBuiltRule l) (sym are) (rules_built old.program.now.preds query.pred ready.sound.program), omega (arith, there.from, there.count, ap length there.written.appended.is, length-append xs made))
+          (subst (λ (l : List Rule). All IsBuiltRule l) (sym are) (rules_built old.program.now.preds query.pred ready.sound.base.program), omega (arith, there.from, there.count, ap length there.written.appended.is, length-append xs made))
 
       values2 : SameBy (length ys) (values_in s1 ys) (values_in s2 ys)
       values2 = values_kept (length ys) s1 s2 ys ys k2 (hold_front s1 ys hold) refl
@@ -251,8 +255,8 @@ module _ (old : Engine) (query : Query) (terms : List Term) (store1 : ListBindin
       steps_now =
           ap (λ (l : List Frame). steps_behind (values_in s2 ys) l (length l)) pushed_on
           ∙ ap (steps_behind (values_in s2 ys) gs) count
-          ∙ behind_new (length ys) (values_in s2 ys) fs old.here failing_sound.frames ready.here.older
-          ∙ at_same (length xs) (values_in s xs) (values_in s2 ys) fs fs (length fs) old.here ready.here (λ env ends. values2 env (omega (arith, ends, longer)) ∙ same_values env ends) ready.sound.frames (same_here (length fs) fs)
+          ∙ behind_new (length ys) (values_in s2 ys) fs old.here failing_sound.base.frames ready.here.older
+          ∙ at_same (length xs) (values_in s xs) (values_in s2 ys) fs fs (length fs) old.here ready.here (λ env ends. values2 env (omega (arith, ends, longer)) ∙ same_values env ends) ready.sound.base.frames (same_here (length fs) fs)
 
       agrees_now : (g : Game) (n : ℕ) (w : World) (run : Run) (st : from g n w run) → Agrees s2 (r_of g n w run st)
       agrees_now g n w run st =
@@ -280,7 +284,7 @@ module _ (old : Engine) (query : Query) (terms : List Term) (store1 : ListBindin
                   saved = st.at.inside.saved;
                   keeps = saves_drops true (fields_of store2) (record { mark = place; store = s2 }) st.at.inside.saved (place_now st.at.inside.saved (saved1 st.at.inside.saved st.at.inside.keeps)).keeps;
                   choices = subst (λ l. AreChoices g ys l os st.at.inside.saved st.at.inside.lives) (sym pushed_on)
-                      (choices_same g ys ys fs gs (length fs) (length ys) old.newest os st.at.inside.saved st.at.inside.lives refl (same_append fs old.here) failing_sound.choices (choices_now g st.at.inside.saved st.at.inside.lives st.at.inside.choices));
+                      (choices_same g ys ys fs gs (length fs) (length ys) old.newest os st.at.inside.saved st.at.inside.lives refl (same_append fs old.here) failing_sound.base.choices (choices_now g st.at.inside.saved st.at.inside.lives st.at.inside.choices));
                   world = st.at.inside.world;
                 };
                 ways = st.at.ways;

@@ -74,7 +74,7 @@ module _ (old : Engine) (frame : Frame) (others : Left) (b : Bool) (place : Plac
   o = record { tag = old.newest; left = others; height = length fs; refs = length old.refs.items; place = place }
 
   stand : StandOn fs (length fs) (length old.refs.items) old.newest (kept_if b o os)
-  stand = kept_stand b fs (length fs) (length old.refs.items) old.newest o os (omega arith) (omega arith) (omega arith) left same_b sound.frames sound.choices
+  stand = kept_stand b fs (length fs) (length old.refs.items) old.newest o os (omega arith) (omega arith) (omega arith) left same_b sound.base.frames sound.base.choices
 
   abbrev the_others : Game → Registers → List Branch
   the_others g r = branches_of g (values_in s old.refs.items) fs (length fs) others r
@@ -120,24 +120,26 @@ module _ (old : Engine) (frame : Frame) (others : Left) (b : Bool) (place : Plac
           let r = st.at.registers in
           let hold = hold_front st.back.store old.refs.items st.is.hold in
           let are : the_others g r ≡ branches_of g (values_in st.back.store old.refs.items) fs (length fs) others r =
-          branches_same g (length fs) (length old.refs.items) (values_in st.back.store old.refs.items) (values_in s old.refs.items) fs fs others r left sound.frames
+          branches_same g (length fs) (length old.refs.items) (values_in st.back.store old.refs.items) (values_in s old.refs.items) fs fs others r left sound.base.frames
           (values_kept (length old.refs.items) st.back.store s old.refs.items old.refs.items st.is.kept hold refl) (same_here (length fs) fs) in
           subst (λ l. AreChoices g old.refs.items fs l (saved_if b st.back st.at.inside.saved) (lives_of g r st.at.inside.lives st.at.ways)) (sym kept)
           (kept_choices g old.refs.items fs o os st.back st.at.inside.saved st.at.inside.lives r (kind_of all) st.at.ways (the_others g r) b (same_b ∙ sym (branches_stay g (values_in s old.refs.items) fs (length fs) others r) ∙ ap (λ k. stays k (the_others g r)) with.kind) are (sym with.kind) st.at.tag st.back_agrees hold st.is.place_is st.at.inside.choices)
 
       new_sound : IsSound new
       new_sound = record {
-        program = sound.program;
-        hold = all_hold s s1 old.refs.items k1 sound.hold;
-        frames = sound.frames;
-        choices = subst (StandOn fs (length fs) (length old.refs.items) old.newest) (sym kept) stand;
-        places = record {
-          saved = saved_if b has.back has.saved;
-          keeps = saved1 _ (kept_places b old.store has.back has.saved has.is.keeps);
-          back_to = subst (λ l. GoBackTo old.refs.items s1.heap_limit s1.trail_limit l (saved_if b has.back has.saved)) (sym kept)
-              (kept_back b old.refs.items s1.heap_limit s1.trail_limit o os has.back has.saved has.is.place_is (hold_front has.back.store old.refs.items has.is.hold)
-              (sym (k1.heap_limit ∙ has.is.kept.heap_limit)) (sym (k1.trail_limit ∙ has.is.kept.trail_limit))
-              (back_limits old.refs.items s.heap_limit s.trail_limit s1.heap_limit s1.trail_limit os has.saved (sym k1.heap_limit) (sym k1.trail_limit) has.back_to));
+        base = record {
+          program = sound.base.program;
+          hold = all_hold s s1 old.refs.items k1 sound.base.hold;
+          frames = sound.base.frames;
+          choices = subst (StandOn fs (length fs) (length old.refs.items) old.newest) (sym kept) stand;
+          places = record {
+            saved = saved_if b has.back has.saved;
+            keeps = saved1 _ (kept_places b old.store has.back has.saved has.is.keeps);
+            back_to = subst (λ l. GoBackTo old.refs.items s1.heap_limit s1.trail_limit l (saved_if b has.back has.saved)) (sym kept)
+                (kept_back b old.refs.items s1.heap_limit s1.trail_limit o os has.back has.saved has.is.place_is (hold_front has.back.store old.refs.items has.is.hold)
+                (sym (k1.heap_limit ∙ has.is.kept.heap_limit)) (sym (k1.trail_limit ∙ has.is.kept.trail_limit))
+                (back_limits old.refs.items s.heap_limit s.trail_limit s1.heap_limit s1.trail_limit os has.saved (sym k1.heap_limit) (sym k1.trail_limit) has.back_to));
+          };
         };
         room = sound.room;
       }
@@ -151,7 +153,7 @@ module _ (old : Engine) (frame : Frame) (others : Left) (b : Bool) (place : Plac
             let r = st.at.registers in
             let v = begun (inside heap r) with.work w in
             let same = at_same (length old.refs.items) (values_in s old.refs.items) (values_in s1 old.refs.items) fs fs (length fs) frame is
-            (values_kept (length old.refs.items) s s1 old.refs.items old.refs.items k1 (hold_front s old.refs.items sound.hold) refl) sound.frames (same_here (length fs) fs) in
+            (values_kept (length old.refs.items) s s1 old.refs.items old.refs.items k1 (hold_front s old.refs.items sound.base.hold) refl) sound.base.frames (same_here (length fs) fs) in
             record {
               world = v;
               adds = record { prints_are = sym (append-nil (prints w.events)); typed = refl };

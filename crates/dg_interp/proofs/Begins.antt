@@ -182,7 +182,7 @@ module _ (old : Engine) (query : Query) (args : Env) (rules others : Bor (List R
   rule_built = all_first IsBuiltRule rule others.now built_all
 
   stand : StandOn fs (length fs) (length xs) old.newest (o ∷ os)
-  stand = (omega arith, omega arith, omega arith, ((all_rest IsBuiltRule rule others.now built_all, left.1), refl), sound.frames, sound.choices)
+  stand = (omega arith, omega arith, omega arith, ((all_rest IsBuiltRule rule others.now built_all, left.1), refl), sound.base.frames, sound.base.choices)
 
   abbrev branches : Registers → Game → List Branch
   branches r g = rule_branches g query.pred the_args query.many steps r others.now
@@ -239,7 +239,7 @@ module _ (old : Engine) (query : Query) (args : Env) (rules others : Bor (List R
         omega (arith, peaks.0, less)
     enter_full full.Trail h = λ g n w run st.
         let r = st.at.registers in
-        let same : values_in s1 xs args ≡ the_args = values_kept (length xs) s s1 xs xs k1 (hold_front s xs sound.hold) refl args left.1 in
+        let same : values_in s1 xs args ≡ the_args = values_kept (length xs) s s1 xs xs k1 (hold_front s xs sound.base.hold) refl args left.1 in
         let here = subst (λ vs. RuleFull g.program rule vs s1 full.Trail) same (h g.program) in
         let peaks = began_peaks g _ st.at.ways (match g the_args rule r).agrees _ _ n w run (begins g n w run st) in
         let less = rule_trail g rule the_args heap s s1 s1 r st.at.agrees sub charged s.trail_limit (omega (arith, here, k1.trail_limit)) in
@@ -255,7 +255,7 @@ module _ (old : Engine) (query : Query) (args : Env) (rules others : Bor (List R
       ys = refs2.items
 
       same_args : values_in s1 xs args ≡ the_args
-      same_args = values_kept (length xs) s s1 xs xs k1 (hold_front s xs sound.hold) refl args left.1
+      same_args = values_kept (length xs) s s1 xs xs k1 (hold_front s xs sound.base.hold) refl args left.1
 
       does : (g : Game) → EntersRule g.program rule the_args s1 s2 xs ys found
       does g = subst (λ vs. EntersRule g.program rule vs s1 s2 xs ys found) same_args (enters g.program)
@@ -280,17 +280,19 @@ module _ (old : Engine) (query : Query) (args : Env) (rules others : Bor (List R
 
       rule_sound : (here : Frame) → IsSound (new here)
       rule_sound here = record {
-        program = sound.program;
-        hold = subst (All (Holds s2)) (sym ends.appended.is) (All-append (Holds s2) xs ends.appended.made (all_hold s s2 xs k12 sound.hold) ends.appended.hold);
-        frames = frames_raise (length fs) (length xs) (length ys) fs longer sound.frames;
-        choices = subst (StandOn fs (length fs) (length ys) old.newest) (sym kept) (stand_raise fs (length fs) (length fs) (length xs) (length ys) old.newest old.newest (kept_if true o os) (omega arith) longer (omega arith) stand);
-        places = record {
-          saved = saved_if true has.back has.saved;
-          keeps = saved_places has.back has.saved has.is.keeps;
-          back_to = subst (λ l. GoBackTo ys s2.heap_limit s2.trail_limit l (saved_if true has.back has.saved)) (sym kept)
-              (kept_back true ys s2.heap_limit s2.trail_limit o os has.back has.saved has.is.place_is (subst (All (Holds has.back.store)) (sym front) (hold_front has.back.store xs has.is.hold))
-              (sym (k12.heap_limit ∙ has.is.kept.heap_limit)) (sym (k12.trail_limit ∙ has.is.kept.trail_limit))
-              (back_limits ys s.heap_limit s.trail_limit s2.heap_limit s2.trail_limit os has.saved (sym k12.heap_limit) (sym k12.trail_limit) (back_same xs ys fs (length fs) (length xs) old.newest s.heap_limit s.trail_limit os has.saved front sound.choices has.back_to)));
+        base = record {
+          program = sound.base.program;
+          hold = subst (All (Holds s2)) (sym ends.appended.is) (All-append (Holds s2) xs ends.appended.made (all_hold s s2 xs k12 sound.base.hold) ends.appended.hold);
+          frames = frames_raise (length fs) (length xs) (length ys) fs longer sound.base.frames;
+          choices = subst (StandOn fs (length fs) (length ys) old.newest) (sym kept) (stand_raise fs (length fs) (length fs) (length xs) (length ys) old.newest old.newest (kept_if true o os) (omega arith) longer (omega arith) stand);
+          places = record {
+            saved = saved_if true has.back has.saved;
+            keeps = saved_places has.back has.saved has.is.keeps;
+            back_to = subst (λ l. GoBackTo ys s2.heap_limit s2.trail_limit l (saved_if true has.back has.saved)) (sym kept)
+                (kept_back true ys s2.heap_limit s2.trail_limit o os has.back has.saved has.is.place_is (subst (All (Holds has.back.store)) (sym front) (hold_front has.back.store xs has.is.hold))
+                (sym (k12.heap_limit ∙ has.is.kept.heap_limit)) (sym (k12.trail_limit ∙ has.is.kept.trail_limit))
+                (back_limits ys s.heap_limit s.trail_limit s2.heap_limit s2.trail_limit os has.saved (sym k12.heap_limit) (sym k12.trail_limit) (back_same xs ys fs (length fs) (length xs) old.newest s.heap_limit s.trail_limit os has.saved front sound.base.choices has.back_to)));
+          };
         };
         room = sound.room;
       }
@@ -299,7 +301,7 @@ module _ (old : Engine) (query : Query) (args : Env) (rules others : Bor (List R
       choices_now g n w run st =
           let r = st.at.registers in
           let are : branches r g ≡ branches_of g (values_in st.back.store xs) fs (length fs) (Rules query args others) r =
-          branches_same g (length fs) (length xs) (values_in st.back.store xs) (values_in s xs) fs fs (Rules query args others) r (all_rest IsBuiltRule rule others.now built_all, left.1) sound.frames (values_kept (length xs) st.back.store s xs xs st.is.kept (hold_front st.back.store xs st.is.hold) refl) (same_here (length fs) fs) in
+          branches_same g (length fs) (length xs) (values_in st.back.store xs) (values_in s xs) fs fs (Rules query args others) r (all_rest IsBuiltRule rule others.now built_all, left.1) sound.base.frames (values_kept (length xs) st.back.store s xs xs st.is.kept (hold_front st.back.store xs st.is.hold) refl) (same_here (length fs) fs) in
           subst (λ l. AreChoices g ys fs l (saved_if true st.back st.at.inside.saved) (lives_of g r st.at.inside.lives st.at.ways)) (sym kept)
           (choices_same g xs ys fs fs (length fs) (length xs) old.newest (kept_if true o os) (saved_if true st.back st.at.inside.saved) (lives_of g r st.at.inside.lives st.at.ways) front (same_here (length fs) fs) stand
           (kept_choices g xs fs o os st.back st.at.inside.saved st.at.inside.lives r (RulesOf query.pred) st.at.ways (branches r g) true refl are refl st.at.tag st.back_agrees (hold_front st.back.store xs st.is.hold) st.is.place_is st.at.inside.choices))
@@ -354,7 +356,7 @@ module _ (old : Engine) (query : Query) (args : Env) (rules others : Bor (List R
         same_steps : (g : Game) (r : Registers) → Agrees s r → r.next_tag ≡ old.newest → steps_at (values_in s2 ys) fs here ≡ rule_steps query.pred query.many (vars_of rule r) r.next_tag rule steps
         same_steps g r agrees tag =
             ap (λ vs. frame_steps vs goals.now old.newest (AnswerOf query) (steps_behind (values_in s2 ys) fs (length fs))) (values_made g r agrees)
-            ∙ ap (λ l. frame_steps (vars_of rule r) goals.now old.newest (AnswerOf query) l) (behind_same (length xs) (values_in s xs) (values_in s2 ys) fs fs (length fs) (length fs) (omega arith) (values_kept (length xs) s s2 xs ys k12 (hold_front s xs sound.hold) front) sound.frames (same_here (length fs) fs))
+            ∙ ap (λ l. frame_steps (vars_of rule r) goals.now old.newest (AnswerOf query) l) (behind_same (length xs) (values_in s xs) (values_in s2 ys) fs fs (length fs) (length fs) (omega arith) (values_kept (length xs) s s2 xs ys k12 (hold_front s xs sound.base.hold) front) sound.base.frames (same_here (length fs) fs))
             ∙ ap (λ (l : List Goal). frame_steps (vars_of rule r) l old.newest (AnswerOf query) steps) body
             ∙ ap (λ t. rule_steps query.pred query.many (vars_of rule r) t rule steps) (sym tag)
 
@@ -432,7 +434,7 @@ way_begins old frame place sound g n w run st =
 pub way_begun : (old : Engine) (frame : Frame) (place : Place) → IsSound old → IsFrame (length old.frames.items) (length old.refs.items) frame → WentOn (BeginsAt (OneWay frame) place old) old (record old { here = frame })
 way_begun old frame place sound is = record {
   ready = record {
-    sound = record { program = sound.program; hold = sound.hold; frames = sound.frames; choices = sound.choices; places = record { saved = sound.places.saved; keeps = sound.places.keeps; back_to = sound.places.back_to }; room = sound.room };
+    sound = record { base = sound.base; room = sound.room };
     here = is;
   };
   left = refl;

@@ -55,14 +55,14 @@ module _ (old : Engine) (o : Choice) (choices : Vec Choice Global) (sound : IsSo
   was : reverse old.choices.items ≡ o ∷ os
   was = reverse_pop old.choices.items choices.items o popped
 
-  back_to : GoBackTo xs (store_in old.store).heap_limit (store_in old.store).trail_limit (o ∷ os) sound.places.saved
-  back_to = subst (λ l. GoBackTo xs (store_in old.store).heap_limit (store_in old.store).trail_limit l sound.places.saved) was sound.places.back_to
+  back_to : GoBackTo xs (store_in old.store).heap_limit (store_in old.store).trail_limit (o ∷ os) sound.base.places.saved
+  back_to = subst (λ l. GoBackTo xs (store_in old.store).heap_limit (store_in old.store).trail_limit l sound.base.places.saved) was sound.base.places.back_to
 
   pub may_undo : KeptAt old.store o.place
-  may_undo = kept_at old.store xs _ _ o os sound.places.saved back_to sound.places.keeps
+  may_undo = kept_at old.store xs _ _ o os sound.base.places.saved back_to sound.base.places.keeps
 
   stand : StandOn fs (length fs) (length xs) old.newest (o ∷ os)
-  stand = subst (StandOn fs (length fs) (length xs) old.newest) was sound.choices
+  stand = subst (StandOn fs (length fs) (length xs) old.newest) was sound.base.choices
 
   pub fewer_left : all_left (reverse old.choices.items) ≡ 1 + left_in o.left + all_left os
   fewer_left = ap all_left was
@@ -106,23 +106,25 @@ module _ (old : Engine) (o : Choice) (choices : Vec Choice Global) (sound : IsSo
         }
 
     pub popped_place : HasPlace mid o.place
-    popped_place = place_of sound.places.saved back_to sound.places.keeps
+    popped_place = place_of sound.base.places.saved back_to sound.base.places.keeps
 
     limits_of : (ms : List Saved) → GoBackTo xs (store_in old.store).heap_limit (store_in old.store).trail_limit (o ∷ os) ms → KeepsPlaces old.store ms → SameLimits old mid
     limits_of [] b h = absurd b
     limits_of (m ∷ ms) b h = let is = is_place m ms b.0 b.1 h in record { heap = is.kept.heap_limit ∙ b.2; trail = is.kept.trail_limit ∙ b.3 }
 
     pub popped_limits : SameLimits old mid
-    popped_limits = limits_of sound.places.saved back_to sound.places.keeps
+    popped_limits = limits_of sound.base.places.saved back_to sound.base.places.keeps
 
     pub popped_sound : IsSound mid
     popped_sound = record {
-      program = sound.program;
-      hold = all_hold popped_place.back.store (store_in store) refs.items popped_place.is.kept popped_place.is.hold;
-      frames = subst (λ n. AreFrames (length frames.items) n frames.items) (sym count_refs) (subst (λ (l : List Frame). AreFrames (length l) o.refs l) (sym cut) (frames_take o.refs o.height fs stand.0 stand.4));
-      choices = subst (λ n. StandOn frames.items n (length refs.items) o.tag os) (sym count)
-          (subst (λ n. StandOn frames.items o.height n o.tag os) (sym count_refs) (subst (λ l. StandOn l o.height o.refs o.tag os) (sym cut) (stand_same fs (take o.height fs) o.height o.refs o.tag os (same_take fs o.height) stand.5)));
-      places = record { saved = popped_place.saved; keeps = saves_drops true (fields_of store) popped_place.back popped_place.saved popped_place.is.keeps; back_to = popped_place.back_to };
+      base = record {
+        program = sound.base.program;
+        hold = all_hold popped_place.back.store (store_in store) refs.items popped_place.is.kept popped_place.is.hold;
+        frames = subst (λ n. AreFrames (length frames.items) n frames.items) (sym count_refs) (subst (λ (l : List Frame). AreFrames (length l) o.refs l) (sym cut) (frames_take o.refs o.height fs stand.0 stand.4));
+        choices = subst (λ n. StandOn frames.items n (length refs.items) o.tag os) (sym count)
+            (subst (λ n. StandOn frames.items o.height n o.tag os) (sym count_refs) (subst (λ l. StandOn l o.height o.refs o.tag os) (sym cut) (stand_same fs (take o.height fs) o.height o.refs o.tag os (same_take fs o.height) stand.5)));
+        places = record { saved = popped_place.saved; keeps = saves_drops true (fields_of store) popped_place.back popped_place.saved popped_place.is.keeps; back_to = popped_place.back_to };
+      };
       room = omega (arith, sound.room, stand.2);
     }
 

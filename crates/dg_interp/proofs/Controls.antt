@@ -30,7 +30,7 @@ use Rattle.dg_unify.specs.Engines.{Agrees}
 use Rattle.dg_interp.specs.Engine.{store_in, KeepsPlaces, steps_of, IsReady, Point, TakesAt, OpensAt, IsSound, FailsAt, IsPushed, IsAgain, FullAt, Leads, SameLimits, WentOn, Branches}
 use Rattle.dg_interp.proofs.Links.{same_here, same_values, same_append, behind_same, at_same, stand_raise}
 use Rattle.dg_interp.proofs.Takes.{behind, taken_in, comes_of, adds_taken, store_sound}
-use Rattle.dg_interp.proofs.Places.{adds_nothing}
+use Rattle.dg_interp.proofs.Places.{inside_in, inside_kept, adds_nothing}
 use Rattle.dg_interp.proofs.Branches.{went_on_from, ended_from}
 use Rattle.dg_interp.proofs.Opens.{agrees_here, opens, pushed_behind, pushed_same, pushed_takes}
 use Rattle.dg_interp.proofs.Stores.{values_kept, hold_front}
@@ -79,7 +79,7 @@ pushed_means frame old new ready is p = subst (Behind frame old) (sym p.same) (r
   same = pushed_same old frame new.frames ready is p.frames;
   older = λ k le.
       ap (λ (l : List Frame). steps_behind (values_of old) l k) p.frames
-      ∙ behind_same (length old.refs.items) (values_of old) (values_of old) old.frames.items (old.frames.items ++ frame ∷ []) (length old.frames.items) k le (same_values (length old.refs.items) (values_of old)) ready.sound.frames (same_append old.frames.items frame);
+      ∙ behind_same (length old.refs.items) (values_of old) (values_of old) old.frames.items (old.frames.items ++ frame ∷ []) (length old.frames.items) k le (same_values (length old.refs.items) (values_of old)) ready.sound.base.frames (same_append old.frames.items frame);
   takes = pushed_takes old frame new.frames ready is p.frames;
   limits = record { heap = refl; trail = refl };
 })
@@ -182,14 +182,7 @@ either_fails lists old none g n w run st =
       world = v;
       adds = adds_taken r (writing (terms_held (out-Goal x))) w;
       holds = record {
-        inside = record {
-          program = st.at.inside.program;
-          lives = st.at.inside.lives;
-          saved = st.at.inside.saved;
-          keeps = st.at.inside.keeps;
-          choices = st.at.inside.choices;
-          world = st.at.inside.world;
-        };
+        inside = inside_in _ st.at.inside.world st.at.inside;
         failed = subst (λ m. After g st.at.inside.lives st.at.ways n m run)
             (ap (λ f. outcome g f env old.here.tag (steps_of old) r v) (outs-Either lists) ∙ ap (λ l. choice Plain r.next_tag (list_branches env old.here.tag (steps_of old) r l) v) none) (comes_of x old g n w run st);
       };
@@ -276,7 +269,7 @@ module _ (goals : Bor (List Goal)) (old : Engine) (ready : IsReady old) (all : b
     same_first : steps_of new ≡ goals_at env old.here.tag goals.now ++ Cut (old.newest + 1) ∷ steps_of old
     same_first =
         at_same (length old.refs.items) (values_of old) (values_of new) old.frames.items old.frames.items (length old.frames.items) first is
-        (values_kept (length old.refs.items) (store_in old.store) (store_in store) old.refs.items old.refs.items k (hold_front (store_in old.store) old.refs.items ready.sound.hold) refl) ready.sound.frames (same_here (length old.frames.items) old.frames.items)
+        (values_kept (length old.refs.items) (store_in old.store) (store_in store) old.refs.items old.refs.items k (hold_front (store_in old.store) old.refs.items ready.sound.base.hold) refl) ready.sound.base.frames (same_here (length old.frames.items) old.frames.items)
         ∙ ap (λ l. goals_at env old.here.tag goals.now ++ Cut (old.newest + 1) ∷ l) all
 
     stood : IsSound (record old { store = store; made = old.made })
@@ -287,11 +280,13 @@ module _ (goals : Bor (List Goal)) (old : Engine) (ready : IsReady old) (all : b
     once_begun = record {
       ready = record {
         sound = record {
-          program = ready.sound.program;
-          hold = stood.hold;
-          frames = ready.sound.frames;
-          choices = stand_raise old.frames.items (length old.frames.items) (length old.frames.items) (length old.refs.items) (length old.refs.items) old.newest (old.newest + 1) (reverse old.choices.items) (omega arith) (omega arith) (omega arith) ready.sound.choices;
-          places = record { saved = stood.places.saved; keeps = stood.places.keeps; back_to = stood.places.back_to };
+          base = record {
+            program = ready.sound.base.program;
+            hold = stood.base.hold;
+            frames = ready.sound.base.frames;
+            choices = stand_raise old.frames.items (length old.frames.items) (length old.frames.items) (length old.refs.items) (length old.refs.items) old.newest (old.newest + 1) (reverse old.choices.items) (omega arith) (omega arith) (omega arith) ready.sound.base.choices;
+            places = record { saved = stood.base.places.saved; keeps = stood.base.places.keeps; back_to = stood.base.places.back_to };
+          };
           room = room;
         };
         here = is;
@@ -307,14 +302,7 @@ module _ (goals : Bor (List Goal)) (old : Engine) (ready : IsReady old) (all : b
             adds = record { prints_are = a.prints_are; typed = refl };
             holds = record {
               at = record {
-                inside = record {
-                  program = st.at.inside.program;
-                  lives = st.at.inside.lives;
-                  saved = st.at.inside.saved;
-                  keeps = saved st.at.inside.saved st.at.inside.keeps;
-                  choices = st.at.inside.choices;
-                  world = st.at.inside.world;
-                };
+                inside = inside_kept _ _ saved st.at.inside.world st.at.inside;
                 ways = st.at.ways;
                 registers = inside 10 r;
                 agrees = agrees_now r (agrees_here x old held_none g n w run st);

@@ -20,7 +20,7 @@ use Rattle.dg_interp.specs.declared.engine.Engine.{Engine}
 use Rattle.dg_interp.specs.Frames.{values_in, AreChoices, StandOn, GoBackTo}
 use Rattle.dg_interp.specs.Engine.{store_in, steps_of, IsSound, IsReady, TakesAt, StandsAt, FailsAt, Then, Leads, Ends, Cuts, WentOn}
 use Rattle.dg_interp.proofs.Links.{saved_older, choices_cut, back_cut, stand_cut}
-use Rattle.dg_interp.proofs.Places.{keeps_older}
+use Rattle.dg_interp.proofs.Places.{inside_in, keeps_older}
 use Rattle.dg_interp.proofs.Takes.{behind, taken_in, comes_of, adds_taken}
 
 pub fails_taken : (old : Engine) → Leads (TakesAt Fail old) (FailsAt old)
@@ -28,14 +28,7 @@ fails_taken old g n w run st = record {
   world = taken_in Fail old g n w run st;
   adds = adds_taken (behind Fail old g n w run st) _ w;
   holds = record {
-    inside = record {
-      program = st.at.inside.program;
-      lives = st.at.inside.lives;
-      saved = st.at.inside.saved;
-      keeps = st.at.inside.keeps;
-      choices = st.at.inside.choices;
-      world = st.at.inside.world;
-    };
+    inside = inside_in _ st.at.inside.world st.at.inside;
     failed = subst (λ f. After g st.at.inside.lives st.at.ways n (outcome g f (values_in (store_in old.store) old.refs.items old.here.env) old.here.tag (steps_of old) (behind Fail old g n w run st) (taken_in Fail old g n w run st)) run) outs-Fail (comes_of Fail old g n w run st);
   };
 }
@@ -56,14 +49,16 @@ module _ (old : Engine) (choices : Vec Choice Global) (ready : IsReady old) (cut
 
   new_sound : IsSound new
   new_sound = record {
-    program = ready.sound.program;
-    hold = ready.sound.hold;
-    frames = ready.sound.frames;
-    choices = subst (StandOn old.frames.items (length old.frames.items) (length old.refs.items) old.newest) (sym cuts) (stand_cut old.frames.items t (length old.frames.items) (length old.refs.items) old.newest os ready.sound.choices);
-    places = record {
-      saved = saved_older t os ready.sound.places.saved;
-      keeps = keeps_older old.store t os ready.sound.places.saved ready.sound.places.keeps;
-      back_to = subst (λ l. GoBackTo old.refs.items (store_in old.store).heap_limit (store_in old.store).trail_limit l (saved_older t os ready.sound.places.saved)) (sym cuts) (back_cut t old.refs.items _ _ os ready.sound.places.saved ready.sound.places.back_to);
+    base = record {
+      program = ready.sound.base.program;
+      hold = ready.sound.base.hold;
+      frames = ready.sound.base.frames;
+      choices = subst (StandOn old.frames.items (length old.frames.items) (length old.refs.items) old.newest) (sym cuts) (stand_cut old.frames.items t (length old.frames.items) (length old.refs.items) old.newest os ready.sound.base.choices);
+      places = record {
+        saved = saved_older t os ready.sound.base.places.saved;
+        keeps = keeps_older old.store t os ready.sound.base.places.saved ready.sound.base.places.keeps;
+        back_to = subst (λ l. GoBackTo old.refs.items (store_in old.store).heap_limit (store_in old.store).trail_limit l (saved_older t os ready.sound.base.places.saved)) (sym cuts) (back_cut t old.refs.items _ _ os ready.sound.base.places.saved ready.sound.base.places.back_to);
+      };
     };
     room = ready.sound.room;
   }
@@ -113,14 +108,7 @@ prints_word name e g n w run st =
       adds = record { prints_are = prints_append w.events (Prints (Piece name) ∷ []); typed = refl };
       holds = record {
         at = record {
-          inside = record {
-            program = st.at.inside.program;
-            lives = st.at.inside.lives;
-            saved = st.at.inside.saved;
-            keeps = st.at.inside.keeps;
-            choices = st.at.inside.choices;
-            world = st.at.inside.world;
-          };
+          inside = inside_in _ st.at.inside.world st.at.inside;
           ways = st.at.ways;
           registers = r;
           agrees = record { bound = st.at.agrees.bound; vars = st.at.agrees.vars; heap = heap ∙ st.at.agrees.heap; trail = st.at.agrees.trail; since = st.at.agrees.since };

@@ -31,7 +31,7 @@ use Rattle.dg_interp.specs.Engine.{store_in, KeepsPlaces, HasPlace, IsPlace, Beg
 use Rattle.dg_interp.proofs.Links.{same_here, same_append, same_values, behind_new, at_same, frame_raise, frames_append, choices_same, stand_raise, stand_same, branches_same}
 use Rattle.dg_interp.proofs.Stores.{kept_here, all_hold, values_kept, hold_front}
 use Rattle.dg_interp.proofs.Begins.{back_limits}
-use Rattle.dg_interp.proofs.Places.{adds_nothing}
+use Rattle.dg_interp.proofs.Places.{inside_in, adds_nothing}
 use Rattle.dg_interp.proofs.Goals.{no_cells}
 use Rattle.dg_interp.proofs.Takes.{behind, taken_in, comes_of, adds_taken}
 
@@ -62,14 +62,7 @@ module _ (x : Goal) (old : Engine) (none : terms_held (out-Goal x) ≡ []) where
         adds = adds_taken r (writing (terms_held (out-Goal x))) w;
         holds = record {
           at = record {
-            inside = record {
-              program = st.at.inside.program;
-              lives = st.at.inside.lives;
-              saved = st.at.inside.saved;
-              keeps = st.at.inside.keeps;
-              choices = st.at.inside.choices;
-              world = st.at.inside.world;
-            };
+            inside = inside_in _ st.at.inside.world st.at.inside;
             ways = st.at.ways;
             registers = r;
             agrees = agrees_here g n w run st;
@@ -109,17 +102,19 @@ module _ (old : Engine) (frame : Frame) (frames : Vec Frame Global) (ready : IsR
   count = length-append fs (frame ∷ [])
 
   stand : StandOn gs (length gs) n old.newest os
-  stand = stand_raise gs (length fs) (length gs) n n old.newest old.newest os (omega (arith, count)) (omega arith) (omega arith) (stand_same fs gs (length fs) n old.newest os (same_append fs frame) ready.sound.choices)
+  stand = stand_raise gs (length fs) (length gs) n n old.newest old.newest os (omega (arith, count)) (omega arith) (omega arith) (stand_same fs gs (length fs) n old.newest os (same_append fs frame) ready.sound.base.choices)
 
   pub frame_pushed : IsPushed frame old new
   frame_pushed = record {
     ready = record {
       sound = record {
-        program = ready.sound.program;
-        hold = ready.sound.hold;
-        frames = subst (λ (l : List Frame). AreFrames (length l) n l) (sym pushed_on) (frames_append n fs frame ready.sound.frames is);
-        choices = subst (λ (l : List Frame). StandOn l (length l) n old.newest os) (sym pushed_on) stand;
-        places = record { saved = ready.sound.places.saved; keeps = ready.sound.places.keeps; back_to = ready.sound.places.back_to };
+        base = record {
+          program = ready.sound.base.program;
+          hold = ready.sound.base.hold;
+          frames = subst (λ (l : List Frame). AreFrames (length l) n l) (sym pushed_on) (frames_append n fs frame ready.sound.base.frames is);
+          choices = subst (λ (l : List Frame). StandOn l (length l) n old.newest os) (sym pushed_on) stand;
+          places = record { saved = ready.sound.base.places.saved; keeps = ready.sound.base.places.keeps; back_to = ready.sound.base.places.back_to };
+        };
         room = ready.sound.room;
       };
       here = subst (λ (l : List Frame). IsFrame (length l) n old.here) (sym pushed_on) (frame_raise (length fs) (length gs) n n old.here (omega (arith, count)) (omega arith) ready.here);
@@ -131,10 +126,10 @@ module _ (old : Engine) (frame : Frame) (frames : Vec Frame Global) (ready : IsR
   pub pushed_behind : steps_behind vs frames.items (length frames.items) ≡ steps_at vs fs frame
   pushed_behind =
       ap (λ (l : List Frame). steps_behind vs l (length l)) pushed_on ∙ ap (steps_behind vs gs) count
-      ∙ behind_new n vs fs frame ready.sound.frames is.older
+      ∙ behind_new n vs fs frame ready.sound.base.frames is.older
 
   pub pushed_same : (f : Frame) → IsFrame (length fs) n f → steps_at vs frames.items f ≡ steps_at vs fs f
-  pushed_same f h = ap (λ (l : List Frame). steps_at vs l f) pushed_on ∙ at_same n vs vs fs gs (length fs) f h (same_values n vs) ready.sound.frames (same_append fs frame)
+  pushed_same f h = ap (λ (l : List Frame). steps_at vs l f) pushed_on ∙ at_same n vs vs fs gs (length fs) f h (same_values n vs) ready.sound.base.frames (same_append fs frame)
 
   pub pushed_takes : (x : Goal) (g : Game) (k : ℕ) (w : World) (run : Run) → TakesAt x old g k w run → TakesAt x new g k w run
   pushed_takes x g k w run st = record {
@@ -144,7 +139,7 @@ module _ (old : Engine) (frame : Frame) (frames : Vec Frame Global) (ready : IsR
         lives = st.at.inside.lives;
         saved = st.at.inside.saved;
         keeps = st.at.inside.keeps;
-        choices = subst (λ l. AreChoices g old.refs.items l os st.at.inside.saved st.at.inside.lives) (sym pushed_on) (choices_same g old.refs.items old.refs.items fs gs (length fs) n old.newest os st.at.inside.saved st.at.inside.lives refl (same_append fs frame) ready.sound.choices st.at.inside.choices);
+        choices = subst (λ l. AreChoices g old.refs.items l os st.at.inside.saved st.at.inside.lives) (sym pushed_on) (choices_same g old.refs.items old.refs.items fs gs (length fs) n old.newest os st.at.inside.saved st.at.inside.lives refl (same_append fs frame) ready.sound.base.choices st.at.inside.choices);
         world = st.at.inside.world;
       };
       ways = st.at.ways;
@@ -169,27 +164,29 @@ module _ (old : Engine) (left : Left) (place : Place) (store : ListBindings) (re
   refs = old.refs.items
 
   hold : All (Holds t) refs
-  hold = all_hold (store_in old.store) t refs k ready.sound.hold
+  hold = all_hold (store_in old.store) t refs k ready.sound.base.hold
 
   place_now : (ms : List Saved) → KeepsPlaces old.store ms → IsPlace opened place (record { mark = place; store = t }) ms
   place_now ms h = record { keeps = saved ms h; place_is = refl; hold = hold; kept = kept_here t }
 
-  back_now : GoBackTo refs t.heap_limit t.trail_limit (reverse old.choices.items) ready.sound.places.saved
-  back_now = back_limits refs _ _ _ _ (reverse old.choices.items) ready.sound.places.saved (sym k.heap_limit) (sym k.trail_limit) ready.sound.places.back_to
+  back_now : GoBackTo refs t.heap_limit t.trail_limit (reverse old.choices.items) ready.sound.base.places.saved
+  back_now = back_limits refs _ _ _ _ (reverse old.choices.items) ready.sound.base.places.saved (sym k.heap_limit) (sym k.trail_limit) ready.sound.base.places.back_to
 
   pub opened_place : HasPlace opened place
-  opened_place = record { back = record { mark = place; store = t }; saved = ready.sound.places.saved; is = place_now ready.sound.places.saved ready.sound.places.keeps; back_to = back_now }
+  opened_place = record { back = record { mark = place; store = t }; saved = ready.sound.base.places.saved; is = place_now ready.sound.base.places.saved ready.sound.base.places.keeps; back_to = back_now }
 
   pub opened_limits : SameLimits old opened
   opened_limits = record { heap = k.heap_limit; trail = k.trail_limit }
 
   pub opened_sound : old.newest + 1 + old.left < 2 ^ 64 → IsSound opened
   opened_sound room = record {
-    program = ready.sound.program;
-    hold = hold;
-    frames = ready.sound.frames;
-    choices = stand_raise old.frames.items (length old.frames.items) (length old.frames.items) (length refs) (length refs) old.newest (old.newest + 1) (reverse old.choices.items) (omega arith) (omega arith) (omega arith) ready.sound.choices;
-    places = record { saved = ready.sound.places.saved; keeps = saves_drops true (fields_of store) _ _ (saved ready.sound.places.saved ready.sound.places.keeps); back_to = back_now };
+    base = record {
+      program = ready.sound.base.program;
+      hold = hold;
+      frames = ready.sound.base.frames;
+      choices = stand_raise old.frames.items (length old.frames.items) (length old.frames.items) (length refs) (length refs) old.newest (old.newest + 1) (reverse old.choices.items) (omega arith) (omega arith) (omega arith) ready.sound.base.choices;
+      places = record { saved = ready.sound.base.places.saved; keeps = saves_drops true (fields_of store) _ _ (saved ready.sound.base.places.saved ready.sound.base.places.keeps); back_to = back_now };
+    };
     room = room;
   }
 
@@ -226,7 +223,7 @@ module _ (old : Engine) (left : Left) (place : Place) (store : ListBindings) (re
       back_agrees = agrees_now st.at.registers st.at.agrees;
       tried =
           subst (λ l. Tried g (kind_of left) st.at.registers.next_tag 0 st.at.ways st.at.inside.lives l n w run)
-          (sym (branches_same g (length old.frames.items) (length refs) (values_in (store_in old.store) refs) (values_in t refs) old.frames.items old.frames.items left st.at.registers is ready.sound.frames
-          (values_kept (length refs) (store_in old.store) t refs refs k (hold_front (store_in old.store) refs ready.sound.hold) refl) (same_here (length old.frames.items) old.frames.items))) st.tried;
+          (sym (branches_same g (length old.frames.items) (length refs) (values_in (store_in old.store) refs) (values_in t refs) old.frames.items old.frames.items left st.at.registers is ready.sound.base.frames
+          (values_kept (length refs) (store_in old.store) t refs refs k (hold_front (store_in old.store) refs ready.sound.base.hold) refl) (same_here (length old.frames.items) old.frames.items))) st.tried;
     };
   }

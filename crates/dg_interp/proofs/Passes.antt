@@ -61,7 +61,7 @@ module _ (old : Engine) (query : Query) (args : Env) (place : Place) (sound : Is
 
   at_tried : (b b' : Bor (List Rule)) (rules : List Rule) (g : Game) (n : ℕ) (w v : World) (run : Run) → b'.now ≡ rules → InWorld v → (st : at b g n w run) → TriedAt g st.at.registers st.at.ways st.at.inside.lives rules n v run → at b' g n v run
   at_tried b b' rules g n w v run e is st tried = record {
-    at = there_in old old.newest g w v is st.at;
+    at = there_in v is st.at;
     back = st.back;
     is = st.is;
     back_agrees = st.back_agrees;

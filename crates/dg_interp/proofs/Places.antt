@@ -5,10 +5,12 @@ use Rattle.std.proofs.lemmas.Option.{slice_get-get_or}
 use Rattle.std.proofs.lemmas.List.{append-nil}
 use Rattle.std.specs.declared.vec.Vec.{Vec}
 use Rattle.std.specs.declared.alloc.Global.{Global}
+use Rattle.dg_base.specs.declared.program.CoreProgram.{CoreProgram}
 use Rattle.dg_base.specs.declared.run.Ending.TheVariants.{Done}
 use Rattle.dg_meaning.specs.World.{Game, World, Event, Print, Answered, Retried, HasFailed, prints, noted}
 use Rattle.dg_meaning.specs.Path.{Step, Answers, Cut, End, Branch, Kind, Plain, Rules, Shield, Gathers}
 use Rattle.dg_meaning.specs.Moves.{path_of, first_alone}
+use Rattle.dg_meaning.specs.Peaks.{Area, Heap, Trail, Aux, Keep}
 use Rattle.dg_meaning.specs.Transcript.{Run}
 use Rattle.dg_meaning.specs.Context.{Live, cut_to, Drops}
 use Rattle.dg_meaning.specs.Keeps.{Stands, Finished, tried_in}
@@ -28,7 +30,7 @@ use Rattle.dg_interp.specs.declared.frames.Frame.{Frame}
 use Rattle.dg_interp.specs.declared.frames.Choice.{Choice}
 use Rattle.dg_interp.specs.declared.engine.Engine.{Engine}
 use Rattle.dg_interp.specs.Frames.{values_in, mark_steps, frame_steps, steps_behind, steps_at, AreChoices, IsFrame, AreFrames, StandOn, GoBackTo, floor_of, all_left}
-use Rattle.dg_interp.specs.Engine.{store_in, KeepsPlaces, InWorld, Inside, There, IsSound, IsReady, Point, StandsAt, FailsAt, Adds, Then, Leads, Cuts, branches_left, SameLimits, WentOn, WentWrong, HasEndedSo, MarkPassed, Refused, FrameLeft, steps_of}
+use Rattle.dg_interp.specs.Engine.{store_in, limit_in, KeepsPlaces, InWorld, Within, On, IsSound, IsReady, Point, StandsAt, FailsAt, Adds, Then, Leads, Cuts, branches_left, SameLimits, WentOn, WentWrong, HasEndedSo, MarkPassed, Refused, FrameLeft, steps_of}
 use Rattle.dg_unify.specs.Engines.{Agrees}
 use Rattle.dg_interp.proofs.Links.{same_take, same_values, behind_same, behind_frame, behind_end, frames_take, choices_same, saved_older, choices_cut, back_cut, keeps_cut, stand_cut, stand_same, stand_floor, floor_within, cut_fewer}
 
@@ -57,12 +59,16 @@ world_tried Plain (b ∷ bs) w is = is
 world_tried Shield (b ∷ bs) w is = is
 world_tried Gathers (b ∷ bs) w is = is
 
--- the same engine in another world
-abbrev pub in_world : (e : Engine) (g : Game) (w v : World) → InWorld v → Inside e g w → Inside e g v
-in_world e g w v is i = record { program = i.program; lives = i.lives; saved = i.saved; keeps = i.keeps; choices = i.choices; world = is }
+-- the same in another world
+abbrev pub inside_in : {p : CoreProgram} {s : ListBindings} {rs : List Ref} {fs : List Frame} {os : List Choice} {g : Game} {w : World} (v : World) → InWorld v → Within p s rs fs os g w → Within p s rs fs os g v
+inside_in v is i = record { program = i.program; lives = i.lives; saved = i.saved; keeps = i.keeps; choices = i.choices; world = is }
 
-abbrev pub there_in : (e : Engine) (next : ℕ) (g : Game) (w v : World) → InWorld v → There e next g w → There e next g v
-there_in e next g w v is at = record { inside = in_world e g w v is at.inside; ways = at.ways; registers = at.registers; agrees = at.agrees; tag = at.tag }
+-- and over a store that keeps its places
+abbrev pub inside_kept : {p : CoreProgram} {s : ListBindings} {rs : List Ref} {fs : List Frame} {os : List Choice} {g : Game} {w : World} (s' : ListBindings) (v : World) → ((ms : List Saved) → KeepsPlaces s ms → KeepsPlaces s' ms) → InWorld v → Within p s rs fs os g w → Within p s' rs fs os g v
+inside_kept s' v k is i = record { program = i.program; lives = i.lives; saved = i.saved; keeps = k i.saved i.keeps; choices = i.choices; world = is }
+
+abbrev pub there_in : {p : CoreProgram} {s : ListBindings} {rs : List Ref} {fs : List Frame} {os : List Choice} {next : ℕ} {g : Game} {w : World} (v : World) → InWorld v → On p s rs fs os next g w → On p s rs fs os next g v
+there_in v is at = record { inside = inside_in v is at.inside; ways = at.ways; registers = at.registers; agrees = at.agrees; tag = at.tag }
 
 -- a call is noted
 pub adds_noted : (w : World) (e : Event) → prints (e ∷ []) ≡ [] → Adds [] w (noted e w)
@@ -92,6 +98,12 @@ leads_nowhere A g n w run h = record { world = w; adds = adds_nothing w; holds =
 
 pub limits_here : (e : Engine) → SameLimits e e
 limits_here e = record { heap = refl; trail = refl }
+
+pub limits_at : (old new : Engine) → SameLimits old new → (area : Area) → limit_in area (store_in new.store) ≡ limit_in area (store_in old.store)
+limits_at old new same Heap = same.heap
+limits_at old new same Trail = same.trail
+limits_at old new same Aux = refl
+limits_at old new same Keep = refl
 
 pub limits_on : (a b c : Engine) → SameLimits a b → SameLimits b c → SameLimits a c
 limits_on a b c h k = record { heap = k.heap ∙ h.heap; trail = k.trail ∙ h.trail }
@@ -156,7 +168,7 @@ module _ (old : Engine) (ready : IsReady old) (none : old.here.goals.now ≡ [])
 
   off_ready : IsReady (marked_off old)
   off_ready = record {
-    sound = record { program = ready.sound.program; hold = ready.sound.hold; frames = ready.sound.frames; choices = ready.sound.choices; places = record { saved = ready.sound.places.saved; keeps = ready.sound.places.keeps; back_to = ready.sound.places.back_to }; room = ready.sound.room };
+    sound = record { base = ready.sound.base; room = ready.sound.room };
     here = record { built = ready.here.built; older = ready.here.older; env = ready.here.env };
   }
 
@@ -189,20 +201,7 @@ module _ (old : Engine) (ready : IsReady old) (none : old.here.goals.now ≡ [])
             world = noted (Answered query.pred) w;
             adds = adds_noted w (Answered query.pred) refl;
             holds = record {
-              at = record {
-                inside = record {
-                  program = st.at.inside.program;
-                  lives = st.at.inside.lives;
-                  saved = st.at.inside.saved;
-                  keeps = st.at.inside.keeps;
-                  choices = st.at.inside.choices;
-                  world = st.at.inside.world;
-                };
-                ways = st.at.ways;
-                registers = st.at.registers;
-                agrees = st.at.agrees;
-                tag = st.at.tag;
-              };
+              at = there_in _ st.at.inside.world st.at;
               stands = subst (λ s. Stands g st.at.inside.lives st.at.ways (path_of s st.at.registers) n (noted (Answered query.pred) w) run) (sym off)
                   (passes_answer g st.at.inside.lives st.at.ways query.pred rest st.at.registers n w run (subst (λ s. Stands g st.at.inside.lives st.at.ways (path_of s st.at.registers) n w run) was st.stands));
             };
@@ -220,15 +219,17 @@ module _ (old : Engine) (ready : IsReady old) (none : old.here.goals.now ≡ [])
 
     cut_sound : IsSound new
     cut_sound = record {
-      program = ready.sound.program;
-      hold = ready.sound.hold;
-      frames = ready.sound.frames;
-      choices = subst (StandOn fs (length fs) (length old.refs.items) old.newest) (sym cuts) (stand_cut fs t (length fs) (length old.refs.items) old.newest (reverse old.choices.items) ready.sound.choices);
-      places = record {
-        saved = saved_older t (reverse old.choices.items) ready.sound.places.saved;
-        keeps = keeps_older old.store t (reverse old.choices.items) ready.sound.places.saved ready.sound.places.keeps;
-        back_to = subst (λ os. GoBackTo old.refs.items (store_in old.store).heap_limit (store_in old.store).trail_limit os (saved_older t (reverse old.choices.items) ready.sound.places.saved)) (sym cuts)
-            (back_cut t old.refs.items _ _ (reverse old.choices.items) ready.sound.places.saved ready.sound.places.back_to);
+      base = record {
+        program = ready.sound.base.program;
+        hold = ready.sound.base.hold;
+        frames = ready.sound.base.frames;
+        choices = subst (StandOn fs (length fs) (length old.refs.items) old.newest) (sym cuts) (stand_cut fs t (length fs) (length old.refs.items) old.newest (reverse old.choices.items) ready.sound.base.choices);
+        places = record {
+          saved = saved_older t (reverse old.choices.items) ready.sound.base.places.saved;
+          keeps = keeps_older old.store t (reverse old.choices.items) ready.sound.base.places.saved ready.sound.base.places.keeps;
+          back_to = subst (λ os. GoBackTo old.refs.items (store_in old.store).heap_limit (store_in old.store).trail_limit os (saved_older t (reverse old.choices.items) ready.sound.base.places.saved)) (sym cuts)
+              (back_cut t old.refs.items _ _ (reverse old.choices.items) ready.sound.base.places.saved ready.sound.base.places.back_to);
+        };
       };
       room = ready.sound.room;
     }
@@ -350,10 +351,10 @@ module _ (old : Engine) (frames : Vec Frame Global) (f : Frame) (needed : ℕ) (
   at = slice_get-get_or was (old.here.behind - 1) f (omega (arith, ready.here.older)) ∙ ap Some (sym is)
 
   frame : IsFrame (old.here.behind - 1) (length the_refs) f
-  frame = ready.sound.frames (old.here.behind - 1) f (omega (arith, ready.here.older)) at
+  frame = ready.sound.base.frames (old.here.behind - 1) f (omega (arith, ready.here.older)) at
 
   enough : needed ≤ length was
-  enough = omega (arith, need, floor_within was (length was) (length the_refs) old.newest os ready.sound.choices, frame.older, ready.here.older)
+  enough = omega (arith, need, floor_within was (length was) (length the_refs) old.newest os ready.sound.base.choices, frame.older, ready.here.older)
 
   count : length (take needed was) ≡ needed
   count = length-take needed was ∙ omega (arith, enough)
@@ -361,7 +362,7 @@ module _ (old : Engine) (frames : Vec Frame Global) (f : Frame) (needed : ℕ) (
   same : steps_at the_values frames.items f ≡ steps_of old
   same =
       let link : suc (old.here.behind - 1) ≡ old.here.behind = omega arith in
-      let few : AreFrames needed (length the_refs) was = λ k h lt e. ready.sound.frames k h (omega (arith, lt, enough)) e in
+      let few : AreFrames needed (length the_refs) was = λ k h lt e. ready.sound.base.frames k h (omega (arith, lt, enough)) e in
       ap (λ l. steps_at the_values l f) kept
       ∙ ap (frame_steps (the_values f.env) f.goals.now f.tag f.mark) (behind_same (length the_refs) the_values the_values was (take needed was) needed f.behind (omega (arith, need)) (same_values (length the_refs) the_values) few (same_take was needed))
       ∙ sym (behind_frame the_values was (old.here.behind - 1) f at frame.older)
@@ -369,7 +370,7 @@ module _ (old : Engine) (frames : Vec Frame Global) (f : Frame) (needed : ℕ) (
       ∙ sym (steps_done the_values was old.here Nothing none off)
 
   stand : StandOn was needed (length the_refs) old.newest os
-  stand = stand_floor was (length was) needed (length the_refs) old.newest os (omega (arith, need)) ready.sound.choices
+  stand = stand_floor was (length was) needed (length the_refs) old.newest os (omega (arith, need)) ready.sound.base.choices
 
   choices_kept : (g : Game) (ms : List Saved) (cs : List Live) → AreChoices g the_refs was os ms cs → AreChoices g the_refs frames.items os ms cs
   choices_kept g ms cs h = subst (λ l. AreChoices g the_refs l os ms cs) (sym kept) (choices_same g the_refs the_refs was (take needed was) needed (length the_refs) old.newest os ms cs refl (same_take was needed) stand h)
@@ -379,12 +380,14 @@ module _ (old : Engine) (frames : Vec Frame Global) (f : Frame) (needed : ℕ) (
     went_on = record {
       ready = record {
         sound = record {
-          program = ready.sound.program;
-          hold = ready.sound.hold;
-          frames = subst (λ (l : List Frame). AreFrames (length l) (length the_refs) l) (sym kept) (frames_take (length the_refs) needed was enough (λ k h lt e. ready.sound.frames k h (omega (arith, lt, enough)) e));
-          choices = subst (λ (l : List Frame). StandOn l (length l) (length the_refs) old.newest os) (sym kept)
-              (subst (λ n. StandOn (take needed was) n (length the_refs) old.newest os) (sym count) (stand_same was (take needed was) needed (length the_refs) old.newest os (same_take was needed) stand));
-          places = record { saved = ready.sound.places.saved; keeps = ready.sound.places.keeps; back_to = ready.sound.places.back_to };
+          base = record {
+            program = ready.sound.base.program;
+            hold = ready.sound.base.hold;
+            frames = subst (λ (l : List Frame). AreFrames (length l) (length the_refs) l) (sym kept) (frames_take (length the_refs) needed was enough (λ k h lt e. ready.sound.base.frames k h (omega (arith, lt, enough)) e));
+            choices = subst (λ (l : List Frame). StandOn l (length l) (length the_refs) old.newest os) (sym kept)
+                (subst (λ n. StandOn (take needed was) n (length the_refs) old.newest os) (sym count) (stand_same was (take needed was) needed (length the_refs) old.newest os (same_take was needed) stand));
+            places = record { saved = ready.sound.base.places.saved; keeps = ready.sound.base.places.keeps; back_to = ready.sound.base.places.back_to };
+          };
           room = ready.sound.room;
         };
         here = record { built = frame.built; older = subst (λ (l : List Frame). f.behind ≤ length l) (sym kept) (omega (arith, need, count)); env = frame.env };

@@ -9,16 +9,16 @@ use Rattle.dg_meaning.specs.World.{Game, World, prints}
 use Rattle.dg_meaning.specs.Path.{Result as SearchResult, Failing, End}
 use Rattle.dg_meaning.specs.Transcript.{Run, ending_of}
 use Rattle.dg_meaning.specs.OneRun.{Begins}
-use Rattle.dg_meaning.specs.Peaks.{Area, Heap, Trail, Aux, Keep, greatest}
+use Rattle.dg_meaning.specs.Peaks.{Area, Heap, Trail, greatest}
 use Rattle.dg_meaning.proofs.Keeps.{stands_happened}
 use Rattle.dg_unify.specs.declared.bindings.Full.{Full}
 use Rattle.dg_unify.specs.declared.bindings.Full.TheVariants as full
 use Rattle.dg_interp.specs.declared.spacer.Spacer.{Spacer}
 use Rattle.dg_interp.specs.declared.engine.Engine.{Engine}
 use Rattle.dg_base.specs.Written.{SinkView}
-use Rattle.dg_interp.specs.Engine.{store_in, IsReady, StandsAt, Adds, Then, FullAt, HasEndedSo, AtGoal, GoesToGoal}
-use Rattle.dg_interp.specs.Running.{HasText, Reaches, GoesOn, HasEnded, limit_in, MeetsLimit, Ended, IsBroken, GoalDone, Does, limit_of}
-use Rattle.dg_interp.proofs.Places.{adds_nothing, then_on, limits_on, limits_here}
+use Rattle.dg_interp.specs.Engine.{PassesLimit, store_in, IsReady, StandsAt, Adds, Then, FullAt, HasEndedSo, AtGoal, GoesToGoal}
+use Rattle.dg_interp.specs.Running.{HasText, Reaches, GoesOn, HasEnded, MeetsLimit, Ended, IsBroken, GoalDone, Does, limit_of}
+use Rattle.dg_interp.proofs.Places.{limits_at, adds_nothing, then_on, limits_on, limits_here}
 use Rattle.dg_interp.proofs.Runs.{writes_nothing, writes_on, finished_so, no_more}
 
 -- ## Behind a goal
@@ -64,23 +64,12 @@ module _ (old mid new : Engine) (s s' : Spacer) (k k' : SinkView) (some : 0 < le
       let t = leads_here g w run st in
       record { part = t.world.events; until = (stands_happened g t.holds.at.inside.lives t.holds.at.ways _ mid.left t.world run t.holds.stands).events; text = text_here w t.world start t.adds text }
 
-  next_heap : (left : ℕ) → mid.left ≡ left → FullAt (StandsAt mid) (store_in mid.store) full.Heap → MeetsLimit Heap left old s s' k k'
-  next_heap left same f = record {
+  next_limit : (area : Area) (left : ℕ) → mid.left ≡ left → PassesLimit area (StandsAt mid) (store_in mid.store) → MeetsLimit area left old s s' k k'
+  next_limit area left same f = record {
     goals = 0;
     left_is = omega (arith, h.left, same);
     added = h.added;
-    passed = λ g w run st. let t = h.leads g 0 w run st in omega (arith, f g 0 t.world run t.holds, h.limits.heap);
-    until = λ g w run st. let t = h.leads g 0 w run st in record { world = t.world; adds = t.adds; holds = (stands_happened g t.holds.at.inside.lives t.holds.at.ways _ 0 t.world run t.holds.stands).events };
-    since = λ g w run st. no_more old h.added g w run some st;
-    writes = h.writes;
-  }
-
-  next_trail : (left : ℕ) → mid.left ≡ left → FullAt (StandsAt mid) (store_in mid.store) full.Trail → MeetsLimit Trail left old s s' k k'
-  next_trail left same f = record {
-    goals = 0;
-    left_is = omega (arith, h.left, same);
-    added = h.added;
-    passed = λ g w run st. let t = h.leads g 0 w run st in omega (arith, f g 0 t.world run t.holds, h.limits.trail);
+    passed = λ g w run st. let t = h.leads g 0 w run st in subst (λ n. n < greatest area run.world.meters) (limits_at old mid h.limits area) (f g 0 t.world run t.holds);
     until = λ g w run st. let t = h.leads g 0 w run st in record { world = t.world; adds = t.adds; holds = (stands_happened g t.holds.at.inside.lives t.holds.at.ways _ 0 t.world run t.holds.stands).events };
     since = λ g w run st. no_more old h.added g w run some st;
     writes = h.writes;
@@ -89,8 +78,8 @@ module _ (old mid new : Engine) (s s' : Spacer) (k k' : SinkView) (some : 0 < le
   pub next_full : (e : Full) (r : Result Ending RunFault) → r ≡ limit_of e → new.left ≡ mid.left → FullAt (StandsAt mid) (store_in mid.store) e → IfOk r (λ ending. Ended ending new.left old s s' k k')
   next_full e r is left f = subst (λ q. IfOk q (λ ending. Ended ending new.left old s s' k k')) (sym is) (here e f) where
     here : (e : Full) → FullAt (StandsAt mid) (store_in mid.store) e → IfOk (limit_of e) (λ ending. Ended ending new.left old s s' k k')
-    here full.Heap f = next_heap new.left (sym left) f
-    here full.Trail f = next_trail new.left (sym left) f
+    here full.Heap f = next_limit Heap new.left (sym left) f
+    here full.Trail f = next_limit Trail new.left (sym left) f
     here full.OutOfMemory f = tt
 
   pub next_breaks : (e : Full) (r : Result Ending RunFault) → r ≡ limit_of e → IfErr r (λ fault. Reaches old s k (IsBroken fault s' k'))
@@ -151,12 +140,6 @@ module _ (a b : Engine) (s s' s'' : Spacer) (k k' k'' : SinkView) (h : GoesOn a 
     here Write x = x
     here OutOfMemory x = x
 
-  same_limit : (area : Area) → limit_in area (store_in b.store) ≡ limit_in area (store_in a.store)
-  same_limit Heap = h.limits.heap
-  same_limit Trail = h.limits.trail
-  same_limit Aux = refl
-  same_limit Keep = refl
-
   limit_further : (area : Area) (left : ℕ) → MeetsLimit area left b s' s'' k' k'' → MeetsLimit area left a s s'' k k''
   limit_further area left j =
       let behind : suc (h.goals + j.goals) ≡ h.goals + suc j.goals = omega arith in
@@ -166,7 +149,7 @@ module _ (a b : Engine) (s s' s'' : Spacer) (k k' k'' : SinkView) (h : GoesOn a 
         added = h.added ++ j.added;
         passed = λ g w run st.
             let t = h.leads g (suc j.goals) w run (subst (λ i. StandsAt a g i w run) behind st) in
-            subst (λ n. n < greatest area run.world.meters) (same_limit area) (j.passed g t.world run t.holds);
+            subst (λ n. n < greatest area run.world.meters) (limits_at a b h.limits area) (j.passed g t.world run t.holds);
         until = λ g w run st.
             then_on h.added j.added w (λ v. StandsAt b g (suc j.goals) v run) (λ v. Begins v.events run.world.events) (h.leads g (suc j.goals) w run (subst (λ i. StandsAt a g i w run) behind st)) (λ v at. j.until g v run at);
         since = λ g w run st.

@@ -17,7 +17,7 @@ use Rattle.dg_meaning.specs.Moves.{path_of, goals_at}
 use Rattle.dg_meaning.specs.Render.{Met, nothing_met, met_from, met_behind, written, render, render_from}
 use Rattle.dg_meaning.specs.Transcript.{Run, ending_of, text_of}
 use Rattle.dg_meaning.specs.OneRun.{Begins}
-use Rattle.dg_meaning.specs.Peaks.{Heap, Trail}
+use Rattle.dg_meaning.specs.Peaks.{Area, Heap, Trail, greatest}
 use Rattle.dg_meaning.specs.Keeps.{Stands, Finished}
 use Rattle.dg_meaning.proofs.Dropping.{prints_append}
 use Rattle.dg_meaning.proofs.Keeps.{stands_happened, limited}
@@ -30,10 +30,10 @@ use Rattle.dg_base.specs.Written.{SinkView, Wrote, BrokeOff}
 use Rattle.dg_interp.specs.Spacer.{StandsFor, Added, growth}
 use Rattle.dg_interp.specs.Printing.{as_prints, growth_of, AddsAll}
 use Rattle.dg_interp.specs.Frames.{mark_steps, steps_behind, values_in}
-use Rattle.dg_interp.specs.Engine.{store_in, IsAct, pieces_at, WrotePrinted, StandsAt, TakesAt, Then, FullAt, Taken, WentOn, HasEndedSo, Branches}
+use Rattle.dg_interp.specs.Engine.{store_in, PassesLimit, IsAct, pieces_at, WrotePrinted, StandsAt, TakesAt, Then, FullAt, Taken, WentOn, HasEndedSo, Branches}
 use Rattle.dg_interp.specs.Running.{HasText, Writes, Reaches, HasEnded, MeetsLimit, IsBroken, GoalDone, DoesGoal, outcome_of}
 use Rattle.dg_base.proofs.WrittenLemmas.{wrote_on, broke_first, broke_later}
-use Rattle.dg_interp.proofs.Places.{adds_nothing, adds_on, adds_drops, limits_on}
+use Rattle.dg_interp.proofs.Places.{limits_at, adds_nothing, adds_on, adds_drops, limits_on}
 use Rattle.dg_interp.proofs.Goals.{prints_word, quits}
 
 -- ## Text
@@ -137,23 +137,12 @@ module _ (x : Goal) (old mid : Engine) (s : Spacer) (k : SinkView) (some : 0 < l
   pub goal_lost : Reaches old s k (IsBroken OutOfMemory s k)
   goal_lost g w run start st text = record { part = w.events; until = (stands_happened g st.at.inside.lives st.at.ways _ old.left w run st.stands).events; text = text }
 
-  pub goal_heap : (left : ℕ) → mid.left ≡ left → FullAt (TakesAt x mid) (store_in mid.store) full.Heap → MeetsLimit Heap left old s s k k
-  goal_heap left same h = record {
+  pub goal_limit : (area : Area) (left : ℕ) → mid.left ≡ left → PassesLimit area (TakesAt x mid) (store_in mid.store) → MeetsLimit area left old s s k k
+  goal_limit area left same h = record {
     goals = 0;
     left_is = omega (arith, taken.left, same);
     added = [];
-    passed = λ g w run st. omega (arith, h g 0 w run (taken.takes g 0 w run st), taken.limits.heap);
-    until = λ g w run st. record { world = w; adds = adds_nothing w; holds = (stands_happened g st.at.inside.lives st.at.ways _ 1 w run st.stands).events };
-    since = λ g w run st. no_more old [] g w run some st;
-    writes = writes_nothing s k;
-  }
-
-  pub goal_trail : (left : ℕ) → mid.left ≡ left → FullAt (TakesAt x mid) (store_in mid.store) full.Trail → MeetsLimit Trail left old s s k k
-  goal_trail left same h = record {
-    goals = 0;
-    left_is = omega (arith, taken.left, same);
-    added = [];
-    passed = λ g w run st. omega (arith, h g 0 w run (taken.takes g 0 w run st), taken.limits.trail);
+    passed = λ g w run st. subst (λ n. n < greatest area run.world.meters) (limits_at old mid taken.limits area) (h g 0 w run (taken.takes g 0 w run st));
     until = λ g w run st. record { world = w; adds = adds_nothing w; holds = (stands_happened g st.at.inside.lives st.at.ways _ 1 w run st.stands).events };
     since = λ g w run st. no_more old [] g w run some st;
     writes = writes_nothing s k;
@@ -165,8 +154,8 @@ module _ (x : Goal) (old mid : Engine) (s : Spacer) (k : SinkView) (some : 0 < l
     here : (r : Result Bool Full) → IfOk r (λ found. Branches (TakesAt x mid) found mid new) → IfErr r (λ e. FullAt (TakesAt x mid) (store_in mid.store) e) → IfOk (outcome_of r) (λ ending. DoesGoal ending old new s s k k)
     here (Ok true) ok err = goal_done new ok
     here (Ok false) ok err = goal_ended new Failing Failed refl ok
-    here (Err full.Heap) ok err = goal_heap new.left (sym left) err
-    here (Err full.Trail) ok err = goal_trail new.left (sym left) err
+    here (Err full.Heap) ok err = goal_limit Heap new.left (sym left) err
+    here (Err full.Trail) ok err = goal_limit Trail new.left (sym left) err
     here (Err full.OutOfMemory) ok err = tt
 
   pub goal_breaks : (r : Result Bool Full) (result : Result (Option Ending) RunFault) → result ≡ outcome_of r → IfErr result (λ fault. Reaches old s k (IsBroken fault s k))

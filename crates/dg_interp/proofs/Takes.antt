@@ -63,11 +63,13 @@ terms_full x old full.OutOfMemory h = tt
 module _ (old : Engine) (store : ListBindings) (made : Vec Ref Global) (k : Kept (store_in old.store) (store_in store)) (saved : (ms : List Saved) → KeepsPlaces old.store ms → KeepsPlaces store ms) where
   pub store_sound : IsSound old → IsSound (record old { store = store; made = made })
   store_sound sound = record {
-    program = sound.program;
-    hold = all_hold (store_in old.store) (store_in store) old.refs.items k sound.hold;
-    frames = sound.frames;
-    choices = sound.choices;
-    places = record { saved = sound.places.saved; keeps = saved sound.places.saved sound.places.keeps; back_to = back_limits old.refs.items _ _ _ _ (reverse old.choices.items) sound.places.saved (sym k.heap_limit) (sym k.trail_limit) sound.places.back_to };
+    base = record {
+      program = sound.base.program;
+      hold = all_hold (store_in old.store) (store_in store) old.refs.items k sound.base.hold;
+      frames = sound.base.frames;
+      choices = sound.base.choices;
+      places = record { saved = sound.base.places.saved; keeps = saved sound.base.places.saved sound.base.places.keeps; back_to = back_limits old.refs.items _ _ _ _ (reverse old.choices.items) sound.base.places.saved (sym k.heap_limit) (sym k.trail_limit) sound.base.places.back_to };
+    };
     room = sound.room;
   }
 

@@ -70,11 +70,7 @@ module _ (old : Engine) (x : Goal) (goals : Bor (List Goal)) (left : ℕ) (ready
       record {
         ready = record {
           sound = record {
-            program = ready.sound.program;
-            hold = ready.sound.hold;
-            frames = ready.sound.frames;
-            choices = ready.sound.choices;
-            places = record { saved = ready.sound.places.saved; keeps = ready.sound.places.keeps; back_to = ready.sound.places.back_to };
+            base = ready.sound.base;
             room = omega (arith, ready.sound.room);
           };
           here = record { built = built_rest x goals.now built; older = ready.here.older; env = ready.here.env };
@@ -86,20 +82,7 @@ module _ (old : Engine) (x : Goal) (goals : Bor (List Goal)) (left : ℕ) (ready
         whole = built_alone x goals.now built;
         again = record { is = ready.here; goals = split; rest = refl };
         takes = λ g n w run st. record {
-          at = record {
-            inside = record {
-              program = st.at.inside.program;
-              lives = st.at.inside.lives;
-              saved = st.at.inside.saved;
-              keeps = st.at.inside.keeps;
-              choices = st.at.inside.choices;
-              world = st.at.inside.world;
-            };
-            ways = st.at.ways;
-            registers = st.at.registers;
-            agrees = st.at.agrees;
-            tag = st.at.tag;
-          };
+          at = st.at;
           stands = subst (λ (l : List Goal). Stands g st.at.inside.lives st.at.ways (path_of (frame_steps (values old.here.env) l old.here.tag old.here.mark (steps_behind values fs old.here.behind)) st.at.registers) (suc n) w run) split st.stands;
         };
       }
@@ -151,11 +134,13 @@ module _ (program : Bor CoreProgram) (entry : Bor (List Goal)) (store : ListBind
   started = record {
     ready = record {
       sound = record {
-        program = built;
-        hold = subst (All (Holds (store_in store))) (sym no_refs) (λ k d lt. absurd (omega arith));
-        frames = λ k f lt h. absurd (let q : None ≡ Some f = sym (ap (λ (l : List Frame). slice_get l k) no_frames) ∙ h in cc);
-        choices = subst (StandOn frames.items (length frames.items) (length refs.items) 0) (sym none) tt;
-        places = record { saved = []; keeps = tt; back_to = subst (λ os. GoBackTo refs.items (store_in store).heap_limit (store_in store).trail_limit os []) (sym none) tt };
+        base = record {
+          program = built;
+          hold = subst (All (Holds (store_in store))) (sym no_refs) (λ k d lt. absurd (omega arith));
+          frames = λ k f lt h. absurd (let q : None ≡ Some f = sym (ap (λ (l : List Frame). slice_get l k) no_frames) ∙ h in cc);
+          choices = subst (StandOn frames.items (length frames.items) (length refs.items) 0) (sym none) tt;
+          places = record { saved = []; keeps = tt; back_to = subst (λ os. GoBackTo refs.items (store_in store).heap_limit (store_in store).trail_limit os []) (sym none) tt };
+        };
         room = omega arith;
       };
       here = record { built = subst AreBuilt (sym is) (entry_built program.now.entry); older = omega arith; env = omega arith };

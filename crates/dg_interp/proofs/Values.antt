@@ -33,7 +33,7 @@ use Rattle.dg_interp.specs.Frames.{stretch, values_in}
 use Rattle.dg_interp.specs.Engine.{store_in, KeepsPlaces, steps_of, IsReady, TakesAt, StandsAt, FailsAt, FullAt, Adds, Then, Leads, SameLimits, WentOn, pieces_at, WrotePrinted, InWorld}
 use Rattle.dg_meaning.proofs.Dropping.{prints_append}
 use Rattle.dg_unify.specs.Engines.{Agrees}
-use Rattle.dg_interp.proofs.Places.{adds_nothing}
+use Rattle.dg_interp.proofs.Places.{inside_kept, adds_nothing}
 use Rattle.dg_interp.proofs.BothLemmas.{made_holds}
 use Rattle.dg_interp.proofs.Links.{same_here, at_same}
 use Rattle.dg_interp.proofs.Stores.{values_kept, hold_front}
@@ -46,7 +46,7 @@ module _ (x : Goal) (old : Engine) (store : ListBindings) (made : Vec Ref Global
 
   steps_same : steps_of grown ≡ steps_of old
   steps_same = at_same (length old.refs.items) (values_in (store_in old.store) old.refs.items) (values_in (store_in store) old.refs.items) old.frames.items old.frames.items (length old.frames.items) old.here ready.here
-      (values_kept (length old.refs.items) (store_in old.store) (store_in store) old.refs.items old.refs.items k (hold_front (store_in old.store) old.refs.items ready.sound.hold) refl) ready.sound.frames (same_here (length old.frames.items) old.frames.items)
+      (values_kept (length old.refs.items) (store_in old.store) (store_in store) old.refs.items old.refs.items k (hold_front (store_in old.store) old.refs.items ready.sound.base.hold) refl) ready.sound.base.frames (same_here (length old.frames.items) old.frames.items)
 
   pub grown_limits : SameLimits old grown
   grown_limits = record { heap = k.heap_limit; trail = k.trail_limit }
@@ -54,14 +54,7 @@ module _ (x : Goal) (old : Engine) (store : ListBindings) (made : Vec Ref Global
   pub stands_behind : (g : Game) (n : ℕ) (w v : World) (run : Run) → InWorld v → (st : TakesAt x old g n w run) (r : Registers) → Agrees (store_in store) r → r.next_tag ≡ st.at.registers.next_tag → Stands g st.at.inside.lives st.at.ways (path_of (steps_of old) r) n v run → StandsAt grown g n v run
   stands_behind g n w v run none_open st r agrees tag stands = record {
     at = record {
-      inside = record {
-        program = st.at.inside.program;
-        lives = st.at.inside.lives;
-        saved = st.at.inside.saved;
-        keeps = saved st.at.inside.saved st.at.inside.keeps;
-        choices = st.at.inside.choices;
-        world = none_open;
-      };
+      inside = inside_kept _ _ saved none_open st.at.inside;
       ways = st.at.ways;
       registers = r;
       agrees = agrees;
@@ -72,14 +65,7 @@ module _ (x : Goal) (old : Engine) (store : ListBindings) (made : Vec Ref Global
 
   pub fails_behind : (g : Game) (n : ℕ) (w v : World) (run : Run) → InWorld v → (st : TakesAt x old g n w run) → Failed g st.at.inside.lives n v run → FailsAt grown g n v run
   fails_behind g n w v run none_open st h = record {
-    inside = record {
-      program = st.at.inside.program;
-      lives = st.at.inside.lives;
-      saved = st.at.inside.saved;
-      keeps = saved st.at.inside.saved st.at.inside.keeps;
-      choices = st.at.inside.choices;
-      world = none_open;
-    };
+    inside = inside_kept _ _ saved none_open st.at.inside;
     failed = h;
   }
 

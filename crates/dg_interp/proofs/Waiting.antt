@@ -15,6 +15,7 @@ use Rattle.dg_unify.specs.declared.bindings.Ref.{Ref}
 use Rattle.dg_unify.specs.declared.list.ListBindings.{ListBindings}
 use Rattle.dg_interp.specs.declared.engine.Engine.{Engine}
 use Rattle.dg_interp.specs.Frames.{values_in, steps_at, GoBackTo}
+use Rattle.dg_interp.proofs.Places.{inside_kept}
 use Rattle.dg_interp.specs.Engine.{store_in, KeepsPlaces, IsReady, StandsAt, Adds, StaysBut, WrotePrinted, pieces_at}
 
 module _ (mid : Engine) (store : ListBindings) (same : store_in store ≡ store_in mid.store) (places : (ms : List Saved) → KeepsPlaces mid.store ms → KeepsPlaces store ms) where
@@ -24,14 +25,16 @@ module _ (mid : Engine) (store : ListBindings) (same : store_in store ≡ store_
   ready_here : IsReady mid → IsReady new
   ready_here r = record {
     sound = record {
-      program = r.sound.program;
-      hold = subst (λ t. All (Holds t) mid.refs.items) (sym same) r.sound.hold;
-      frames = r.sound.frames;
-      choices = r.sound.choices;
-      places = record {
-        saved = r.sound.places.saved;
-        keeps = places r.sound.places.saved r.sound.places.keeps;
-        back_to = subst (λ t. GoBackTo mid.refs.items t.heap_limit t.trail_limit (reverse mid.choices.items) r.sound.places.saved) (sym same) r.sound.places.back_to;
+      base = record {
+        program = r.sound.base.program;
+        hold = subst (λ t. All (Holds t) mid.refs.items) (sym same) r.sound.base.hold;
+        frames = r.sound.base.frames;
+        choices = r.sound.base.choices;
+        places = record {
+          saved = r.sound.base.places.saved;
+          keeps = places r.sound.base.places.saved r.sound.base.places.keeps;
+          back_to = subst (λ t. GoBackTo mid.refs.items t.heap_limit t.trail_limit (reverse mid.choices.items) r.sound.base.places.saved) (sym same) r.sound.base.places.back_to;
+        };
       };
       room = r.sound.room;
     };
@@ -41,14 +44,7 @@ module _ (mid : Engine) (store : ListBindings) (same : store_in store ≡ store_
   stands_here : (g : Game) (n : ℕ) (w : World) (run : Run) → StandsAt mid g n w run → StandsAt new g n w run
   stands_here g n w run st = record {
     at = record {
-      inside = record {
-        program = st.at.inside.program;
-        lives = st.at.inside.lives;
-        saved = st.at.inside.saved;
-        keeps = places st.at.inside.saved st.at.inside.keeps;
-        choices = st.at.inside.choices;
-        world = st.at.inside.world;
-      };
+      inside = inside_kept _ _ places st.at.inside.world st.at.inside;
       ways = st.at.ways;
       registers = st.at.registers;
       agrees = subst (λ t. Agrees t st.at.registers) (sym same) st.at.agrees;

@@ -22,8 +22,8 @@ use Rattle.dg_interp.specs.declared.spacer.Spacer.{Spacer}
 use Rattle.dg_interp.specs.declared.engine.Engine.{Engine}
 use Rattle.dg_base.specs.Written.{SinkView, Wrote, BrokeOff}
 use Rattle.dg_interp.specs.Spacer.{StandsFor, ending_line}
-use Rattle.dg_interp.specs.Engine.{store_in, Starts}
-use Rattle.dg_interp.specs.Running.{HasText, Reaches, HasEnded, limit_in, MeetsLimit, Ended, HasPart, IsBroken}
+use Rattle.dg_interp.specs.Engine.{limit_in, store_in, Starts}
+use Rattle.dg_interp.specs.Running.{HasText, Reaches, HasEnded, MeetsLimit, Ended, HasPart, IsBroken}
 use Rattle.dg_interp.specs.Interpret.{game, ForTyped, HasShown, HasLostOutput, HasLostMemory}
 use Rattle.dg_base.proofs.WrittenLemmas.{wrote_nothing, wrote_on, broke_first, broke_later}
 

@@ -16,6 +16,7 @@ use Rattle.dg_meaning.specs.Moves.{path_of}
 use Rattle.dg_meaning.specs.Transcript.{Run, run, start_world}
 use Rattle.dg_meaning.specs.Context.{Way, Live}
 use Rattle.dg_meaning.specs.Keeps.{Stands, Failed, Finished, Tried}
+use Rattle.dg_meaning.specs.Peaks.{Area, Heap, Trail, greatest}
 use Rattle.dg_meaning.specs.Built.{IsBuilt, IsBuiltGoal, AreBuilt}
 use Rattle.dg_unify.specs.Store.{Store, Saved, Holds, told}
 use Rattle.dg_unify.specs.Engines.{Agrees, IsPlace as IsPlaceOf}
@@ -45,19 +46,23 @@ store_in s = store_of true (fields_of s)
 abbrev pub KeepsPlaces : ListBindings → List Saved → Type 0
 KeepsPlaces s ms = Stand true (fields_of s) ms
 
--- The stores to which its choices go back.
-pub record HasPlaces (e : Engine) : Type 0 where
+-- The stores to which choices on these Refs go back.
+pub record HasPlaces (store : ListBindings) (refs : List Ref) (os : List Choice) : Type 0 where
   pub saved : List Saved
-  pub keeps : KeepsPlaces e.store saved
-  pub back_to : GoBackTo e.refs.items (store_in e.store).heap_limit (store_in e.store).trail_limit (reverse e.choices.items) saved
+  pub keeps : KeepsPlaces store saved
+  pub back_to : GoBackTo refs (store_in store).heap_limit (store_in store).trail_limit os saved
 
--- Its links and choices are in order, all is built, its Refs have values, and its tags can't run out before its goals do.
+-- All is built, Refs have values, and links and choices are in order.
+pub record Sound (p : CoreProgram) (store : ListBindings) (refs : List Ref) (fs : List Frame) (os : List Choice) (newest : ℕ) : Type 0 where
+  pub program : IsBuilt p
+  pub hold : All (Holds (store_in store)) refs
+  pub frames : AreFrames (length fs) (length refs) fs
+  pub choices : StandOn fs (length fs) (length refs) newest os
+  pub places : HasPlaces store refs os
+
+-- So it is with an engine, and its tags can't run out before its goals do.
 pub record IsSound (e : Engine) : Type 0 where
-  pub program : IsBuilt e.program.now
-  pub hold : All (Holds (store_in e.store)) e.refs.items
-  pub frames : AreFrames (length e.frames.items) (length e.refs.items) e.frames.items
-  pub choices : StandOn e.frames.items (length e.frames.items) (length e.refs.items) e.newest (reverse e.choices.items)
-  pub places : HasPlaces e
+  pub base : Sound e.program.now e.store e.refs.items e.frames.items (reverse e.choices.items) e.newest
   pub room : e.newest + e.left < 2 ^ 64
 
 -- The same, with goals at hand.
@@ -79,22 +84,30 @@ Point = Game → ℕ → World → Run → Type 0
 abbrev pub steps_of : Engine → List Step
 steps_of e = steps_at (values_in (store_in e.store) e.refs.items) e.frames.items e.here
 
--- The engine is in this world, inside these choices.
-pub record Inside (e : Engine) (g : Game) (w : World) : Type 0 where
-  pub program : e.program.now ≡ g.program
+-- A program, a store, Refs, frames and choices are in this world, inside choices of the meaning.
+pub record Within (p : CoreProgram) (store : ListBindings) (refs : List Ref) (frames : List Frame) (os : List Choice) (g : Game) (w : World) : Type 0 where
+  pub program : p ≡ g.program
   pub lives : List Live
   pub saved : List Saved
-  pub keeps : KeepsPlaces e.store saved
-  pub choices : AreChoices g e.refs.items e.frames.items (reverse e.choices.items) saved lives
+  pub keeps : KeepsPlaces store saved
+  pub choices : AreChoices g refs frames os saved lives
   pub world : InWorld w
 
--- The engine is there, on a path with these registers, on which the next choice has this tag.
-pub record There (e : Engine) (next : ℕ) (g : Game) (w : World) : Type 0 where
-  pub inside : Inside e g w
+-- The same of an engine.
+abbrev pub Inside : Engine → Game → World → Type 0
+Inside e g w = Within e.program.now e.store e.refs.items e.frames.items (reverse e.choices.items) g w
+
+-- They are there on a path with these registers, on which the next choice has this tag.
+pub record On (p : CoreProgram) (store : ListBindings) (refs : List Ref) (frames : List Frame) (os : List Choice) (next : ℕ) (g : Game) (w : World) : Type 0 where
+  pub inside : Within p store refs frames os g w
   pub ways : List Way
   pub registers : Registers
-  pub agrees : Agrees (store_in e.store) registers
+  pub agrees : Agrees (store_in store) registers
   pub tag : registers.next_tag ≡ next
+
+-- The same of an engine.
+abbrev pub There : Engine → ℕ → Game → World → Type 0
+There e next g w = On e.program.now e.store e.refs.items e.frames.items (reverse e.choices.items) next g w
 
 -- The run comes from where the engine is, with so many goals left of its budget.
 pub record StandsAt (e : Engine) (g : Game) (n : ℕ) (w : World) (run : Run) : Type 0 where
@@ -136,10 +149,20 @@ Leads From To = (g : Game) (n : ℕ) (w : World) (run : Run) → From g n w run 
 abbrev pub Ends : Point → Result → Type 0
 Ends From result = Leads From (λ g n v run. Finished n v result run)
 
+-- The limit that a store has.
+abbrev pub limit_in : Area → Store → ℕ
+limit_in Heap s = s.heap_limit
+limit_in Trail s = s.trail_limit
+limit_in other s = 0
+
+-- Each run that comes from there passes the limit of an area.
+abbrev pub PassesLimit : Area → Point → Store → Type 0
+PassesLimit area From s = (g : Game) (n : ℕ) (w : World) (run : Run) → From g n w run → limit_in area s < greatest area run.world.meters
+
 -- A limit was met: each run that comes from there passes it.
 abbrev pub FullAt : Point → Store → Full → Type 0
-FullAt From s full.Heap = (g : Game) (n : ℕ) (w : World) (run : Run) → From g n w run → s.heap_limit < run.world.meters.heap
-FullAt From s full.Trail = (g : Game) (n : ℕ) (w : World) (run : Run) → From g n w run → s.trail_limit < run.world.meters.trail
+FullAt From s full.Heap = PassesLimit Heap From s
+FullAt From s full.Trail = PassesLimit Trail From s
 FullAt From s full.OutOfMemory = Unit {0}
 
 -- The limits are the same.

@@ -9,14 +9,13 @@ use Rattle.dg_meaning.specs.Render.{render}
 use Rattle.dg_meaning.specs.Transcript.{Run, text_of}
 use Rattle.dg_meaning.specs.OneRun.{Begins}
 use Rattle.dg_meaning.specs.Peaks.{Area, Heap, Trail, greatest}
-use Rattle.dg_unify.specs.Store.{Store}
 use Rattle.dg_unify.specs.declared.bindings.Full.{Full}
 use Rattle.dg_unify.specs.declared.bindings.Full.TheVariants as full
 use Rattle.dg_interp.specs.declared.spacer.Spacer.{Spacer}
 use Rattle.dg_interp.specs.declared.engine.Engine.{Engine}
 use Rattle.dg_base.specs.Written.{SinkView, Wrote, BrokeOff}
 use Rattle.dg_interp.specs.Spacer.{StandsFor}
-use Rattle.dg_interp.specs.Engine.{store_in, IsReady, StandsAt, SameLimits, Then}
+use Rattle.dg_interp.specs.Engine.{store_in, limit_in, IsReady, StandsAt, SameLimits, Then}
 
 -- Since the start the sink took the text of these things, and the spacer stands for them.
 pub record HasText (s : Spacer) (start now : SinkView) (es : List Print) : Type 0 where
@@ -57,12 +56,6 @@ pub record HasEnded (ending : Ending) (left : ℕ) (s : Spacer) (now : SinkView)
   pub typed : world.typed ≡ w.typed
   pub is : run ≡ record { left = left; world = world; ending = ending }
   pub text : HasText s start now (prints world.events)
-
--- The limit that a store has.
-abbrev pub limit_in : Area → Store → ℕ
-limit_in Heap s = s.heap_limit
-limit_in Trail s = s.trail_limit
-limit_in other s = 0
 
 -- A limit was met behind some goals, with this much of the budget left: the run with a budget of these goals passes it, and of what was written it has printed all, and the run with a budget of one less no more.
 pub record MeetsLimit (area : Area) (left : ℕ) (old : Engine) (s s' : Spacer) (before now : SinkView) : Type 0 where
