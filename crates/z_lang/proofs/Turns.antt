@@ -4,7 +4,8 @@ use Rattle.std.proofs.lemmas.Bool.{cases_lt}
 use Rattle.std.proofs.lemmas.List.{append-nil}
 use Rattle.z_model.specs.declared.end.ZEnd.{ZEnd}
 use Rattle.z_model.specs.declared.end.ZEnd.TheVariants as ends
-use Rattle.z_model.specs.Laws.{Begins, then_more}
+use Rattle.dg_base.specs.Begins.{Begins}
+use Rattle.z_model.specs.Laws.{then_more}
 use Rattle.z_model.proofs.Runs.{run_laws}
 use Rattle.z_model.specs.Run.{ZGiven, ZState, ZRun, zrun}
 use Rattle.z_lang.specs.Leads.{Leads, Ends}
@@ -40,7 +41,7 @@ record Midway (z : ZState) (r whole : ZRun) : Type 0 where
   most : Begins r.state.output whole.state.output
 
 same_begins : (xs ys : List ℕ) → xs ≡ ys → Begins xs ys
-same_begins xs ys e = record { more = []; is = sym e ∙ sym (append-nil xs) }
+same_begins xs ys e = record { behind = []; is = sym e ∙ sym (append-nil xs) }
 
 begins_on : (more : ZState → ZRun) (end : ZEnd) (z : ZState) → ((s : ZState) → Begins s.output (more s).state.output) → Begins z.output (then_more more (run_at end z)).state.output
 begins_on more ends.StepLimit z grows = grows z

@@ -2,7 +2,7 @@
 use Rattle.std.specs.Prelude.{◌≡◌, ℕ, ◌+◌, ◌≤◌, ◌⊎◌, List}
 use Rattle.z_model.specs.declared.end.ZEnd.{ZEnd}
 use Rattle.z_model.specs.declared.end.ZEnd.TheVariants as ends
-use Rattle.z_model.specs.Laws.{Begins}
+use Rattle.dg_base.specs.Begins.{Begins}
 use Rattle.z_model.specs.Run.{ZGiven, ZState, ZRun}
 use Rattle.z_lang.specs.Leads.{Leads, Ends}
 use Rattle.z_lang.specs.Turns.{Turn, To, Over, Turning, Reaches, printed_by}
