@@ -1,6 +1,12 @@
--- What is printed for each refusal of a source: hold it against the table of docs/REFUSALS.md.
-use Rattle.std.specs.Prelude.{ℕ, List, codes}
+-- What is printed for each refusal of a source, and what errors show: hold the first against the table of docs/REFUSALS.md.
+use Rattle.std.specs.Prelude.{ℕ, List, ◌++◌, codes, decimal}
 use Rattle.dg_base.specs.declared.refusal.Kind.{Kind}
+use Rattle.dg_base.specs.declared.refusal.ReadFault.{ReadFault}
+use Rattle.dg_base.specs.declared.refusal.ReadFault.TheVariants as reading
+use Rattle.dg_base.specs.declared.run.Fault.{Fault}
+use Rattle.dg_base.specs.declared.run.Fault.TheVariants as fault
+use Rattle.dg_base.specs.declared.run.RunFault.{RunFault}
+use Rattle.dg_base.specs.declared.run.RunFault.TheVariants as running
 use Rattle.dg_base.specs.declared.refusal.Kind.TheVariants.{BadByte, Unclosed, Unexpected, NotInProfile, BadHead, AccessLoop, BadNow, BadInitial, TooMany, NoEntry, SourceTooLong, NotBuiltYet}
 
 -- the text of a kind of refusal
@@ -17,3 +23,19 @@ text_of_kind TooMany = codes "too many"
 text_of_kind NoEntry = codes "no rule for (program entry point)"
 text_of_kind SourceTooLong = codes "source too long"
 text_of_kind NotBuiltYet = codes "not built yet"
+
+-- what a fault of a run that takes no memory shows
+abbrev pub fault_text : Fault → List ℕ
+fault_text fault.Read = codes "the input failed"
+fault_text fault.Write = codes "the output failed"
+
+-- what a fault of a run shows
+abbrev pub run_fault_text : RunFault → List ℕ
+run_fault_text running.Read = codes "the input failed"
+run_fault_text running.Write = codes "the output failed"
+run_fault_text running.OutOfMemory = codes "out of memory"
+
+-- what the fault of a call that reads a source shows
+abbrev pub read_fault_text : ReadFault → List ℕ
+read_fault_text (reading.Refused r) = codes "line " ++ decimal r.line ++ codes ": " ++ text_of_kind r.kind
+read_fault_text reading.OutOfMemory = codes "out of memory"

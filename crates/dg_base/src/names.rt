@@ -6,7 +6,7 @@ ghost use Rattle.std.specs.Str.{bytes_eq};
 ghost use Rattle.dg_base.specs.Heads.{name_of};
 ghost use Rattle.dg_base.specs.Tree.{parts_of};
 ghost use Rattle.dg_base.specs.TreeView.{part_view};
-ghost use Rattle.dg_base.specs.Names.{keywords, refused_names, prelude_names, name_among, builtin_among, builtin_named};
+ghost use Rattle.dg_base.specs.Names.{keywords, refused_names, prelude_names, builtins, listed_keywords, listed_refused_names, listed_prelude_names, listed_builtins, name_among, builtin_among, builtin_named};
 
 use crate::heads::is_named;
 use crate::program::{ArithOp, CompareOp, GapKind, TestKind};
@@ -136,6 +136,14 @@ pub const PRELUDE_NAMES: [&str; 4] = [
     "(split key $ in $)",
     "(split $ by $ into $ and $)",
 ];
+
+/// The tables of the code are the lists of the definitions.
+pub fn tables_are_listed()
+    ensures keywords { keywords ≡ listed_keywords }
+    ensures refused { refused_names ≡ listed_refused_names }
+    ensures builtins { builtins ≡ listed_builtins }
+    ensures prelude { prelude_names ≡ listed_prelude_names }
+{}
 
 // Whether the name of these parts is one of these.
 fn is_among(parts: &[Part], names: &[&str]) -> bool

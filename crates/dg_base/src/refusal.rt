@@ -1,10 +1,11 @@
 // Why a source is refused.
-ghost use Rattle.std.specs.Prelude.{◌≡◌};
-ghost use Rattle.dg_base.specs.Refusals.{text_of_kind};
+ghost use Rattle.std.specs.Prelude.{◌≡◌, Some};
+ghost use Rattle.dg_base.specs.Refusals.{text_of_kind, read_fault_text};
 ghost use Rattle.dg_base.specs.declared.refusal.ReadFault.TheVariants.{OutOfMemory};
 
 use std::alloc::{AllocError, AllocFailed};
-use thiserror::Error;
+use std::error::Error;
+use std::fmt;
 
 /// What a source is refused for.
 #[derive(Clone, Copy, PartialEq, Eq, Debug)]
@@ -31,13 +32,26 @@ pub struct Refusal {
 }
 
 /// What a call that reads a source answers in place of its result.
-#[derive(Clone, Copy, PartialEq, Eq, Debug, Error)]
+#[derive(Clone, Copy, PartialEq, Eq, Debug)]
 pub enum ReadFault {
-    #[error("line {}: {}", .0.line, text_of(.0.kind))]
     Refused(Refusal),
-    #[error("out of memory")]
     OutOfMemory,
 }
+
+impl fmt::Display for ReadFault {
+    ghost output = { λ fault. Some (read_fault_text fault) };
+
+    fn fmt<W: fmt::Write>(&self, f: &mut fmt::Formatter<W>) -> fmt::Result {
+        match self {
+            ReadFault::Refused(refusal) => {
+                write!(f, "line {}: {}", refusal.line, text_of(refusal.kind))
+            }
+            ReadFault::OutOfMemory => f.write_str("out of memory"),
+        }
+    }
+}
+
+impl Error for ReadFault {}
 
 impl From<AllocError> for ReadFault {
     ghost from_gives = { λ _ fault. fault ≡ OutOfMemory };

@@ -1,14 +1,24 @@
 // Writes whole texts to a sink, which may take a piece in several puts.
-ghost use Rattle.std.specs.Prelude.{◌++◌, OnOk, OnErr};
+ghost use Rattle.std.specs.Prelude.{◌++◌, Some, codes, OnOk, OnErr};
 ghost use Rattle.dg_base.specs.Written.{texts, joined, Wrote, BrokeOff};
 
 use crate::traits::Sink;
-use thiserror::Error;
+use std::error::Error;
+use std::fmt;
 
 /// A text wasn't written whole.
-#[derive(Clone, Copy, Debug, PartialEq, Eq, Error)]
-#[error("the output failed")]
+#[derive(Clone, Copy, Debug, PartialEq, Eq)]
 pub struct WriteFault;
+
+impl fmt::Display for WriteFault {
+    ghost output = { λ _. Some (codes "the output failed") };
+
+    fn fmt<W: fmt::Write>(&self, f: &mut fmt::Formatter<W>) -> fmt::Result {
+        f.write_str("the output failed")
+    }
+}
+
+impl Error for WriteFault {}
 
 /// Writes a whole text.
 pub fn write_all<K: Sink>(sink: &mut K, text: &[u8]) -> Result<(), WriteFault>
