@@ -44,5 +44,5 @@ pub use traits::{Failed, Shelf, ShelfFault, Sink, Source, StoreFault};
 pub use tree::{Arm, Body, Head, Item, ItemBody, NowChange, Part, Stmt, Tree, Value};
 pub use typing::{EXTRA, find_place, typed};
 pub use units::{Unit, unit_at};
-pub use writing::{WriteFault, write_all, write_both, write_pieces};
 pub use walk::mentions_of;
+pub use writing::{WriteFault, write_all, write_both, write_pieces};
