@@ -46,7 +46,7 @@ is_full ms = nat_lt 64 (variables_of ms)
 
 -- A predicate with too many places, or a body or a select with too many branches.
 abbrev pub is_excess : Thing → Bool
-is_excess (query role ps) = nat_lt 12 (places_in ps)
+is_excess (query _ ps) = nat_lt 12 (places_in ps)
 is_excess (branches n) = nat_lt 500 n
 is_excess (select n) = nat_lt 500 n
 is_excess t = false

@@ -18,7 +18,7 @@ is_fixed name = is_some (builtin_named name) && not (bytes_eq (codes "($ has par
 
 -- The predicate of a head, a query or a change.
 abbrev pub predicate_in : Thing → List (List ℕ)
-predicate_in (query role ps) = if is_fixed (name_of ps) then [] else name_of ps ∷ []
+predicate_in (query _ ps) = if is_fixed (name_of ps) then [] else name_of ps ∷ []
 predicate_in t = []
 
 -- The name of an object.
