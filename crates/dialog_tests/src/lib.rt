@@ -2,11 +2,15 @@
 #![tactic(auto)]
 
 #[cfg(test)]
+mod choosing;
+#[cfg(test)]
 mod commands;
 #[cfg(test)]
 mod forms;
 #[cfg(test)]
 mod instructions;
+#[cfg(test)]
+mod spacing;
 #[cfg(test)]
 mod stories;
 #[cfg(test)]

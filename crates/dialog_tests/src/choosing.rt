@@ -1,0 +1,29 @@
+// Selects that were worked out by hand from the table of their modes.
+ghost use Rattle.std.specs.Prelude.{◌<◌, length};
+
+use dg_base::Mode;
+use dg_choose::{Dice, Site, pick};
+use std::test::Fail;
+
+// The first four branches of a select with three, at these dice.
+fn picked(mode: Mode, words: &[u16]) -> [u16; 4]
+    requires { 0 < length words.now }
+{
+    let mut dice = Dice::new(words);
+    let mut site = Site::new();
+    let first = pick(mode, 3, &mut site, &mut dice);
+    let second = pick(mode, 3, &mut site, &mut dice);
+    let third = pick(mode, 3, &mut site, &mut dice);
+    [first, second, third, pick(mode, 3, &mut site, &mut dice)]
+}
+
+#[test]
+fn selects_pick_by_their_mode(rt: HostRuntime) -> Result<(), Fail> {
+    assert_eq!(rt; picked(Mode::Stopping, &[4]), [0, 1, 2, 2]);
+    assert_eq!(rt; picked(Mode::Cycling, &[4]), [0, 1, 2, 0]);
+    assert_eq!(rt; picked(Mode::PurelyAtRandom, &[4, 5]), [1, 2, 1, 2]);
+    assert_eq!(rt; picked(Mode::AtRandom, &[4]), [1, 0, 1, 0]);
+    assert_eq!(rt; picked(Mode::ThenAtRandom, &[5]), [0, 1, 2, 1]);
+    assert_eq!(rt; picked(Mode::ThenPurelyAtRandom, &[5]), [0, 1, 2, 2]);
+    Ok(())
+}
