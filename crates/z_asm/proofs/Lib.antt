@@ -3,3 +3,4 @@ pub mod Placing
 pub mod Layouts
 pub mod Parts
 pub mod Standing
+pub mod Spans

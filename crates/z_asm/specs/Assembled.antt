@@ -8,6 +8,7 @@ use Rattle.z_asm.specs.declared.image.Code.{Code}
 use Rattle.z_asm.specs.declared.image.Table.{Table}
 use Rattle.z_asm.specs.declared.image.Image.{Image}
 use Rattle.z_asm.specs.Header.{globals}
+use Rattle.z_asm.specs.Layout.{code_size}
 use Rattle.z_asm.specs.Story.{base_of, first_of, front_of, names_of, first_ops}
 
 -- A table's bytes stand at its address: before the static base where it is writable, and from there on where it isn't.
@@ -42,3 +43,9 @@ pub record IsAssembled (image : Image) (story : List ℕ) : Type 0 where
   pub tables : (k : ℕ) (t : Table) → slice_get image.tables k ≡ Some t → HasTable image story k t
   pub texts : (k : ℕ) (text : List ℕ) → slice_get image.strings k ≡ Some text → HasText image story k text
   pub routines : (k : ℕ) (code : Code) → slice_get image.routines k ≡ Some code → HasCode image story k code
+
+-- For each routine its first byte, which stands at its packed address, and the place behind its last.
+pub record ArePlaces (image : Image) (places : List (ℕ × ℕ)) : Type 0 where
+  pub count : length places ≡ length image.routines
+  pub each : (k : ℕ) (code : Code) → slice_get image.routines k ≡ Some code →
+      let start = 8 * (names_of image).routine k in slice_get places k ≡ Some (start, start + code_size code)

@@ -25,6 +25,11 @@ abbrev pub places_from : ℕ → List ℕ → List ℕ
 places_from at [] = []
 places_from at (size ∷ sizes) = aligned at ∷ places_from (aligned at + size) sizes
 
+-- where each begins and where it ends
+abbrev pub spans_from : ℕ → List ℕ → List (ℕ × ℕ)
+spans_from at [] = []
+spans_from at (size ∷ sizes) = (aligned at, aligned at + size) ∷ spans_from (aligned at + size) sizes
+
 -- where they end
 abbrev pub end_from : ℕ → List ℕ → ℕ
 end_from at [] = at

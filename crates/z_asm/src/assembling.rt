@@ -1,17 +1,18 @@
 // A story, put together.
 ghost use Rattle.std.specs.Prelude.{◌≡◌, ◌+◌, ◌-◌, ◌<◌, ◌≤◌, ◌^◌, ◌++◌, map, drop, length, replicate, sum, ◌%◌, IfOk, OnOk, IsErrOf};
 ghost use Rattle.z_asm.specs.Header.{header_bytes};
-ghost use Rattle.z_asm.specs.Layout.{code_size, aligned, end_from, laid, table_bytes, names_in};
+ghost use Rattle.z_asm.specs.Layout.{code_size, aligned, spans_from, end_from, laid, table_bytes, names_in};
 ghost use Rattle.z_asm.specs.Conditions.{ArePrintable, IsImage};
 ghost use Rattle.z_asm.specs.Filled.{AreWritable};
 ghost use Rattle.z_asm.specs.Plan.{IsPlan};
-ghost use Rattle.z_asm.specs.Assembled.{IsAssembled};
+ghost use Rattle.z_asm.specs.Assembled.{IsAssembled, ArePlaces};
 ghost use Rattle.z_asm.specs.Story.{string_bytes, strings_of, string_part, code_part, first_ops, readable_bytes, bytes_behind, story_of, IsTooLarge};
 
 use crate::filling::{put_code, put_ops};
 use crate::header::{checksum, header};
 use crate::image::{Code, Image, Table};
 use crate::layout::{Addresses, AsmFault, Plan, aligned, lay_out};
+use crate::sizes::size_of_code;
 use sqlite_items::Items;
 use std::alloc::{AllocError, Global};
 use z_code::{Form, LOp, Op, Operand, Operands, Target};
@@ -180,4 +181,33 @@ pub fn assemble(alloc: Global, image: &Image) -> Result<Vec<u8>, AsmFault>
     let bytes = without_header(alloc, image, &plan, strings.as_slice())?;
     let story = with_header(alloc, bytes.as_slice(), &plan)?;
     Ok(story)
+}
+
+// Where routines begin and end that stand behind a place.
+fn spans(alloc: Global, from: usize, image: &Image) -> Result<Vec<(u32, u32)>, AllocError>
+    requires image { IsImage image.now }
+    requires near { end_from from (map code_size image.now.routines) ≤ 524280 }
+    ensures { IfOk result (λ spans. spans.items ≡ spans_from from (map code_size image.now.routines)) }
+{
+    let mut places = Vec::new(alloc);
+    let mut end = from;
+    for code in image.routines.as_slice() {
+        let start = aligned(end);
+        end = start + size_of_code(code);
+        places.push((start as u32, end as u32))?;
+    }
+    Ok(places)
+}
+
+/// The first byte of each routine in the story of an image, and the place behind its last.
+pub fn places(alloc: Global, image: &Image) -> Result<Vec<(u32, u32)>, AsmFault>
+    requires { IsImage image.now }
+    ensures places { IfOk result (λ places. ArePlaces image.now places.items) }
+    ensures fits { IfOk result (λ _. IsTooLarge image.now → ⊥) }
+    ensures large { IsErrOf result AsmFault.TooLarge → IsTooLarge image.now }
+{
+    let strings = encoded(alloc, image.strings.as_slice())?;
+    let plan = lay_out(alloc, image, strings.as_slice())?;
+    let places = spans(alloc, plan.routines_from, image)?;
+    Ok(places)
 }

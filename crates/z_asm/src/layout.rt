@@ -37,12 +37,14 @@ pub struct Addresses {
     pub texts: Items<u16>,
 }
 
-/// Where everything stands, the dictionary's address, and the end before it is filled up.
+/// Where everything stands, the dictionary's address, the end of the strings, behind which the
+/// routines stand, and the end before it is filled up.
 #[derive(Drop)]
 pub struct Plan {
     pub addresses: Addresses,
     pub base: u16,
     pub dictionary: u16,
+    pub routines_from: usize,
     pub end: usize,
 }
 
@@ -179,6 +181,7 @@ pub fn lay_out(alloc: Global, image: &Image, strings: &[Items<u8>]) -> Result<Pl
         },
         base: base as u16,
         dictionary: dictionary as u16,
+        routines_from,
         end,
     })
 }

@@ -8,6 +8,6 @@ mod image;
 mod layout;
 mod sizes;
 
-pub use assembling::assemble;
+pub use assembling::{assemble, places};
 pub use image::{Code, Image, Table};
 pub use layout::{Addresses, AsmFault, Plan, lay_out};

@@ -13,3 +13,4 @@ pub mod Start
 pub mod Sizes
 pub mod Opening
 pub mod Lists
+pub mod Constructs

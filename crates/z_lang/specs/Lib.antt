@@ -8,3 +8,5 @@ pub mod Turns
 pub mod WholeRuns
 pub mod Sizes
 pub mod Bodies
+pub mod Lines
+pub mod Constructs

@@ -3,9 +3,15 @@
 
 mod act;
 mod emit;
+mod lines;
 
 ghost use Rattle.std.specs.Prelude.{List, ℕ};
 ghost use Rattle.z_lang.specs.declared.act.Act.{Act};
+ghost use Rattle.z_lang.specs.declared.act.Test.{Test};
+ghost use Rattle.z_lang.specs.declared.lines.Line.{Line};
+ghost use Rattle.z_lang.specs.declared.lines.Open.{Open};
+ghost use Rattle.z_lang.specs.State.{Program, State};
+ghost use Rattle.z_lang.specs.Constructs.{Flattens, ConstructsRun};
 ghost use Rattle.z_code.specs.Open.{Counts};
 ghost use Rattle.z_lang.specs.Bodies.{Opens};
 ghost use Rattle.z_lang.specs.Sizes.{TakesBytes};
@@ -16,6 +22,7 @@ ghost use Rattle.z_model.specs.Run.{ZGiven};
 
 pub use act::{Act, Args, Atom, Comparison, Function, Print, Routine, Test, Width};
 pub use emit::compile;
+pub use lines::{Line, flatten};
 
 /// The instructions of routines that stand in a story do what their acts mean, in as many
 /// instructions.
@@ -36,4 +43,16 @@ pub fn bodies_open()
 /// Routines of a list that stand at the addresses of their numbers are those of a program.
 pub fn lists_stand()
     ensures { (given : ZGiven) (names : Names) (rs : List Routine) (story : List ℕ) → ListStands given names rs story }
+{}
+
+/// Lines whose constructs are ended flatten to the acts of their constructs.
+pub fn lines_flatten()
+    ensures { (n : ℕ) (around : List Open) (first other more : List Line) (t : Test) → Flattens n around first other more t }
+{}
+
+/// An `if` whose test holds runs its first part, else its other, and a loop runs its part as long
+/// as its test holds, in exactly so many instructions.
+pub fn constructs_run()
+    ensures { (p : Program) (f w : ℕ) (body : List Act) (t : Test) (l e : ℕ) (first other more : List Act) (s s' : State) (n : ℕ) →
+        ConstructsRun p f w body t l e first other more s s' n }
 {}

@@ -1,0 +1,34 @@
+-- Where routines begin and end.
+use Rattle.std.proofs.Common.{◌≡◌, ℕ, zero, suc, ◌+◌, ◌*◌, ◌/◌, ◌<◌, ◌≤◌, List, [], ◌∷◌, length, map, drop, get_or, Some, refl, sym, ap, ◌∙◌, arith}
+use Rattle.std.specs.Prelude.{slice_get, slice_index}
+use Rattle.std.proofs.lemmas.Option.{same_Some}
+use Rattle.z_asm.specs.declared.image.Code.{Code}
+use Rattle.z_asm.specs.declared.image.Image.{Image}
+use Rattle.z_asm.specs.Layout.{aligned, code_size, places_from, spans_from, end_from, packed}
+use Rattle.z_asm.specs.Story.{routines_from}
+use Rattle.z_asm.specs.Assembled.{ArePlaces}
+use Rattle.z_asm.proofs.Layouts.{aligned_is, near}
+
+spans_many : (at : ℕ) (codes : List Code) → length (spans_from at (map code_size codes)) ≡ length codes
+spans_many at [] = refl
+spans_many at (c ∷ codes) = ap (λ (n : ℕ). suc n) (spans_many (aligned at + code_size c) codes)
+
+span_is : (at : ℕ) (codes : List Code) (k : ℕ) (code : Code) → slice_get codes k ≡ Some code →
+    let start = 8 * slice_index (map packed (places_from at (map code_size codes))) k in
+    slice_get (spans_from at (map code_size codes)) k ≡ Some (start, start + code_size code)
+span_is at [] k code e = absurd (cc)
+span_is at (c ∷ codes) zero code e =
+    ap (λ (x : ℕ). Some (x, x + code_size c)) (sym (aligned_is at))
+    ∙ ap (λ (y : Code). Some (8 * (aligned at / 8), 8 * (aligned at / 8) + code_size y)) (same_Some c code e)
+span_is at (c ∷ codes) (suc k) code e = span_is (aligned at + code_size c) codes k code e
+
+pub are_places : (image : Image) → ArePlaces image (spans_from (routines_from image) (map code_size image.routines))
+are_places image = record {
+  count = spans_many (routines_from image) image.routines;
+  each = λ k code e. span_is (routines_from image) image.routines k code e;
+}
+
+-- the next routine ends near where all do
+pub routine_near : (codes : List Code) (k : ℕ) (c : Code) (at : ℕ) → k < length codes → c ≡ get_or codes k c →
+    end_from at (map code_size (drop k codes)) ≤ 524280 → aligned at + code_size c < 524281
+routine_near codes k c at lt is h = near code_size codes k c at 524281 lt is (omega arith)
