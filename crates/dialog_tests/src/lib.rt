@@ -8,6 +8,8 @@ mod commands;
 #[cfg(test)]
 mod forms;
 #[cfg(test)]
+mod images;
+#[cfg(test)]
 mod instructions;
 #[cfg(test)]
 mod spacing;

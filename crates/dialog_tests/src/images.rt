@@ -1,0 +1,148 @@
+// Stories that are assembled from acts, and played.
+ghost use Rattle.std.specs.Prelude.{◌≡◌, ◌<◌, IfOk};
+ghost use Rattle.z_code.specs.Targets.{ops_size};
+ghost use Rattle.z_lang.specs.Code.{code};
+ghost use Rattle.z_lang.specs.Bodies.{AreFit};
+ghost use Rattle.z_asm.specs.Conditions.{IsImage};
+
+use dg_base::{SureSink, SureSource};
+use sqlite_items::Items;
+use std::alloc::{AllocError, Global};
+use std::process::Abort;
+use std::test::Fail;
+use z_asm::{Code, Image, Table, assemble};
+use z_lang::{Act, Args, Atom, Comparison, Function, Print, Routine, Test, Width, compile};
+use z_model::ZEnd;
+use z_play::Player;
+
+fn code_of(alloc: Global, locals: u8, body: &[Act]) -> Result<Code, AllocError>
+    ensures locals { IfOk result (λ c. c.locals ≡ locals) }
+    ensures ops { IfOk result (λ c. c.ops ≡ code body.now) }
+{
+    let body = Items::from_vec(Vec::from_slice(alloc, body)?);
+    let ops = compile(alloc, &Routine { locals, body })?;
+    Ok(Code {
+        locals,
+        ops: Items::from_vec(ops),
+    })
+}
+
+// An image with a buffer of 20 characters, a text, and two routines, of which the second has two locals.
+fn image_of(alloc: Global, main: &[Act], other: &[Act]) -> Result<Image, AllocError>
+    requires main { AreFit (record { routines = 2; tables = 1; texts = 1 }) (code main.now) main.now }
+    requires main_short { ops_size (code main.now) < 8000 }
+    requires other { AreFit (record { routines = 2; tables = 1; texts = 1 }) (code other.now) other.now }
+    requires other_short { ops_size (code other.now) < 8000 }
+    ensures { IfOk result (λ image. IsImage image) }
+{
+    let mut buffer = vec![in alloc; 0u8; 40]?;
+    buffer[0] = 20;
+    let table = Table {
+        bytes: Items::from_vec(buffer),
+        writable: true,
+    };
+    let mut tables = Items::new(alloc);
+    tables.push(table)?;
+    let text = Vec::from_slice(alloc, b"Hello")?;
+    let mut strings = Items::new(alloc);
+    strings.push(Items::from_vec(text))?;
+    let mut routines = Items::new(alloc);
+    routines.push(code_of(alloc, 0, main)?)?;
+    routines.push(code_of(alloc, 2, other)?)?;
+    Ok(Image {
+        tables,
+        strings,
+        routines,
+    })
+}
+
+// What a story of two routines writes.
+fn played(
+    alloc: Global,
+    rt: &impl Abort,
+    main: &[Act],
+    other: &[Act],
+    text: &str,
+) -> Result<(), Fail>
+    requires main { AreFit (record { routines = 2; tables = 1; texts = 1 }) (code main.now) main.now }
+    requires main_short { ops_size (code main.now) < 8000 }
+    requires other { AreFit (record { routines = 2; tables = 1; texts = 1 }) (code other.now) other.now }
+    requires other_short { ops_size (code other.now) < 8000 }
+{
+    let image = image_of(alloc, main, other)?;
+    let mut player = Player::load(alloc, assemble(alloc, &image)?)?;
+    let mut source = SureSource::new(b"Xyzzy\n".as_slice().to_vec(alloc)?);
+    let mut sink = SureSink::new(alloc, 100)?;
+    let end = player.run(100, &mut source, &[0], &mut sink)?;
+    assert_eq!(rt; end, ZEnd::Quit);
+    assert_eq!(rt; sink.taken(), text.as_bytes(), "{text}");
+    Ok(())
+}
+
+const ZERO: Atom = Atom::Num(0);
+
+const ONE: Atom = Atom::Num(1);
+
+const X: Atom = Atom::Var(16);
+
+const BUFFER: Atom = Atom::Table(0);
+
+const NOTHING: [Act; 1] = [Act::Return(ZERO)];
+
+#[test]
+fn assembled_stories_are_played(rt: HostRuntime) -> Result<(), Fail> {
+    let hello = [Act::Print(Print::Text, Atom::Text(0)), Act::Return(ZERO)];
+    played(rt.alloc(), &rt, &hello, &NOTHING, "Hello")?;
+    let is_zero = Test {
+        comparison: Comparison::Equal,
+        first: X,
+        second: ZERO,
+        answer: true,
+    };
+    let counts_down = [
+        Act::Copy(16, Atom::Num(3)),
+        Act::Label(0),
+        Act::When(is_zero, 1),
+        Act::Print(Print::Number, X),
+        Act::Compute(16, Function::Sub, X, ONE),
+        Act::Goto(0),
+        Act::Label(1),
+        Act::Return(ZERO),
+    ];
+    played(rt.alloc(), &rt, &counts_down, &NOTHING, "321")?;
+    let calls = [
+        Act::Copy(17, Atom::Routine(1)),
+        Act::Call(
+            Some(16),
+            Atom::Var(17),
+            Args::Two(Atom::Num(6), Atom::Num(7)),
+        ),
+        Act::Print(Print::Number, X),
+        Act::Return(ZERO),
+    ];
+    let multiplies = [
+        Act::Compute(1, Function::Mul, Atom::Var(1), Atom::Var(2)),
+        Act::Return(Atom::Var(1)),
+    ];
+    played(rt.alloc(), &rt, &calls, &multiplies, "42")?;
+    let writes = [
+        Act::Write(Width::Word, BUFFER, Atom::Num(3), Atom::Num(513)),
+        Act::Compute(16, Function::Byte, BUFFER, Atom::Num(6)),
+        Act::Print(Print::Number, X),
+        Act::Compute(16, Function::Word, BUFFER, Atom::Num(3)),
+        Act::Print(Print::Number, X),
+        Act::Return(ZERO),
+    ];
+    played(rt.alloc(), &rt, &writes, &NOTHING, "2513")?;
+    let reads = [
+        Act::Read(16, BUFFER),
+        Act::Print(Print::Number, X),
+        Act::Compute(16, Function::Byte, BUFFER, ONE),
+        Act::Print(Print::Number, X),
+        Act::Compute(16, Function::Byte, BUFFER, Atom::Num(2)),
+        Act::Print(Print::Code, X),
+        Act::Return(ZERO),
+    ];
+    played(rt.alloc(), &rt, &reads, &NOTHING, "135x")?;
+    Ok(())
+}
