@@ -4,8 +4,8 @@ use std::test::Fail;
 use z_model::{ZEnd, ZFault};
 use z_play::Player;
 
-// A story with these instructions, of at most 8 or of 40 bytes, behind its 544 bytes of memory; the run begins so many
-// bytes behind the first of them, and byte 64 has this value.
+// A story with these instructions, of at most 8 or of 40 bytes, behind its 544 bytes of memory, and zeros behind its length;
+// the run begins so many bytes behind the first of them, and byte 64 has this value.
 fn story(rt: &HostRuntime, code: &[u8], skipped: u8, most: u8) -> Result<Player, Fail> {
     let mut bytes = vec![in rt.alloc(); 0u8; 544]?;
     bytes[0] = 8;
@@ -16,9 +16,7 @@ fn story(rt: &HostRuntime, code: &[u8], skipped: u8, most: u8) -> Result<Player,
     bytes[15] = 32;
     bytes[64] = most;
     bytes.extend_from_slice(code)?;
-    while bytes.len() % 8 != 0 {
-        bytes.push(0)?;
-    }
+    bytes.extend_from_slice(&[0; 40])?;
     bytes[27] = if code.len() > 8 { 73 } else { 69 };
     Ok(Player::load(rt.alloc(), bytes)?)
 }
