@@ -3,17 +3,15 @@ use Rattle.std.proofs.Common.{◌≡◌, ℕ, suc, inl, inr, List, [], ◌∷◌
 use Rattle.std.specs.Prelude.{eqb, nat_lt, if◌then◌else◌}
 use Rattle.std.proofs.lemmas.Bool.{cond_both, cond-true, cond-false, ltb-true}
 use Rattle.dg_base.specs.declared.program.Goal.{Goal, Goal-F, out-Goal}
-use Rattle.dg_base.specs.declared.program.Goal.TheOpen.{Print as Print-Form, Collect}
 use Rattle.dg_base.specs.declared.run.Ending.TheVariants.{Done as Done-Ending, StepLimit}
 use Rattle.dg_base.specs.declared.program.Term.{Term}
 use Rattle.dg_base.specs.Goals.{terms_held}
 use Rattle.dg_meaning.specs.Values.{Value, value_of}
 use Rattle.dg_meaning.specs.Substitutions.{resolved}
-use Rattle.dg_meaning.specs.World.{Game, World, Piece, Answered, noted, worked, kept}
-use Rattle.dg_meaning.specs.Path.{Step, Do, Answers, Cut, Refuse, Back, Keep, Leave, Registers, Path, Result, Failing, CutFail, StopTo, End, Branch, Enter, Clash, TakeOut, Kind, Plain, Rules, Shield, Gathers, Move, GoesOn, FailsAt, EndsAt, StopsAt, Outcome, Moves, Chooses, Act, Goes, Tests, Unifies, Ends, Fails, Stops, Effect, Acts, Offers}
+use Rattle.dg_meaning.specs.World.{Game, World, Answered, noted, worked, kept}
+use Rattle.dg_meaning.specs.Path.{Step, Do, Answers, Cut, Refuse, Back, Keep, Leave, Registers, Path, Result, Failing, CutFail, StopTo, End, Branch, Enter, Clash, TakeOut, Finds, Kind, Plain, Rules, Shield, Gathers, Move, GoesOn, FailsAt, EndsAt, StopsAt, Outcome, Moves, Chooses, Act, Goes, Tests, Unifies, Ends, Fails, Stops, Effect, Acts, Offers}
 use Rattle.dg_meaning.specs.Cells.{writing}
-use Rattle.dg_meaning.specs.Pieces.{pieces}
-use Rattle.dg_meaning.specs.Moves.{path_of, exhausted, begun, printed, all_printed, begins, choice, goes_on_if, move_of, whole_looks, keeping, stop, effect, outcome_of, behind_terms, move}
+use Rattle.dg_meaning.specs.Moves.{path_of, exhausted, begun, path_at, beginning, begins, choice, goes_on_if, move_of, keeping, stop, effect, outcome_of, behind_terms, move}
 use Rattle.dg_meaning.specs.Search.{Search, search, answer, later, retried, leave, begin, cut, cut_first, cut_result, after_branch, choose, branches_cut, after_move, after_goal}
 use Rattle.dg_meaning.specs.Transcript.{Run, run_of, run, start_world, start_path}
 use Rattle.dg_meaning.specs.Context.{Around, InBranch, InCut, unwind, gathers, tags_of, Opens, Way, ways, Live, cut_to, pushed, live, way_to, Older, StepsIn, PathIn, KeepsGathering, KeepGatherings, TakesOut, Sound, BranchIn, BranchesIn}
@@ -22,9 +20,10 @@ use Rattle.dg_meaning.proofs.Dropping.{drops_nothing, drops_on, drops_grow}
 use Rattle.dg_meaning.specs.Bindings.{IsBound}
 use Rattle.dg_meaning.specs.OneRun.{Grows}
 use Rattle.dg_meaning.proofs.OneRun.{grows_same, grows_on}
-use Rattle.dg_meaning.proofs.Search.{IsGood, world_in, beginning_grows, after_branch_good, choose_good, search_good, search_steps}
+use Rattle.dg_meaning.proofs.Stays.{world_in, EffectStays, effect_stays, world_before, beginning_stays}
+use Rattle.dg_meaning.proofs.Search.{IsGood, beginning_grows, after_branch_good, choose_good, search_good, search_steps}
 use Rattle.dg_meaning.proofs.Context.{without_head, tags_kept, length_tags, later_twice, others_begin, opens_outside, opens_exhausted, Fails as FailsIn, run_fails, resumes, fails, leaving, resumed_at, Held, Stops as StopsIn, stops}
-use Rattle.dg_meaning.proofs.Tags.{stop_mark, steps_mark, others_in, MoveIn, OutcomeIn, move_in}
+use Rattle.dg_meaning.proofs.Tags.{stop_mark, steps_mark, others_in, begin_in, MoveIn, OutcomeIn, move_in}
 use Rattle.dg_meaning.proofs.Bindings.{binds_along}
 
 -- ## What has happened
@@ -133,14 +132,16 @@ kept_open : (others : List Branch) (ctx : List Around) (w : World) → Opens w c
 kept_open [] ctx w o h = open_count w ctx o
 kept_open (Enter path work ∷ bs) ctx w o h = open_count w ctx o
 kept_open (Clash r work ∷ bs) ctx w o h = open_count w ctx o
-kept_open (TakeOut u path ∷ bs) ctx w o h = absurd h.0
+kept_open (Finds place o' args path ∷ bs) ctx w o h = open_count w ctx o
+kept_open (TakeOut u whole into path ∷ bs) ctx w o h = absurd h.0
 
 open_is : (k : Kind) (t : ℕ) (others : List Branch) (ctx : List Around) (w : World) → Opens w (InBranch k t others ∷ ctx) → TakesOut k t others → length w.gathered ≡ open_at others (length (gathers ctx))
 open_is Gathers t [] ctx w o h = absurd h
 open_is Gathers t (Enter path work ∷ bs) ctx w o h = absurd h
 open_is Gathers t (Clash r work ∷ bs) ctx w o h = absurd h
-open_is Gathers t (TakeOut u path ∷ []) ctx w o h = let n = sym (length_tags w.gathered) ∙ ap length o in omega (arith, n)
-open_is Gathers t (TakeOut u path ∷ b ∷ bs) ctx w o h = absurd h
+open_is Gathers t (Finds place o' args path ∷ bs) ctx w o h = absurd h
+open_is Gathers t (TakeOut u whole into path ∷ []) ctx w o h = let n = sym (length_tags w.gathered) ∙ ap length o in omega (arith, n)
+open_is Gathers t (TakeOut u whole into path ∷ b ∷ bs) ctx w o h = absurd h
 open_is Plain t others ctx w o h = kept_open others ctx w o h
 open_is (Rules q) t others ctx w o h = kept_open others ctx w o h
 open_is Shield t others ctx w o h = kept_open others ctx w o h
@@ -159,10 +160,53 @@ failed g cs n w run f = subst (FailsTo g n w run) f.choices (fails_to g f.ctx n 
 
 -- ## A branch begins
 
+-- the run has ended
+ends : (s : Search) (ctx : List Around) (n : ℕ) (w : World) (e : _) (run : Run) → Opens w ctx → run ≡ unwind s ctx n w (End e) → Finished n w (End e) run
+ends s [] n w e run o is = record { world = w; drops = drops_nothing w; is = is }
+ends s (InCut t ∷ ctx) n w e run o is = ends s ctx n w e run o is
+ends s (InBranch k t bs ∷ ctx) n w e run o is =
+    let left = leaving k t bs w ctx o in
+    let rest = ends s ctx n (leave k t w) e run left.opens is in
+    record { world = rest.world; drops = drops_on w (leave k t w) rest.world left.drops rest.drops; is = rest.is }
+
+stop_opens : (ctx : List Around) (s : Option ℕ) (w : World) → Opens w ctx → Opens (world_at (stop s w)) ctx
+stop_opens ctx None w o = o
+stop_opens ctx (Some s) w o = o
+
+goes_on_opens : (ctx : List Around) (b : Bool) (steps : List Step) (r : Registers) (w : World) → Opens w ctx → Opens (world_at (goes_on_if b steps r w)) ctx
+goes_on_opens ctx true steps r w o = o
+goes_on_opens ctx false steps r w o = o
+
+act_opens : (ctx : List Around) (steps : List Step) (r : Registers) (a : Act) → Opens (world_in a) ctx → Opens (world_at (move_of steps r a)) ctx
+act_opens ctx steps r (Goes next w) o = o
+act_opens ctx steps r (Tests passed w) o = goes_on_opens ctx passed steps r w o
+act_opens ctx steps r (Unifies made es w) o = goes_on_opens ctx _ steps _ _ o
+act_opens ctx steps r (Ends e w) o = o
+act_opens ctx steps r (Fails w) o = o
+act_opens ctx steps r (Stops w) o = stop_opens ctx r.stoppable w o
+
+went : (g : Game) (cs : List Live) (ws : List Way) (n : ℕ) (run : Run) (ctx : List Around) → Sound ctx → live ctx ≡ cs → ways ctx ≡ ws → (m : Move) → MoveIn ctx m → run ≡ unwound (search g) ctx (after_move (search g) n m) → Opens (world_at m) ctx → Went g cs ws n m run
+went g cs ws n run ctx sound choices ways_are (GoesOn path w) h is o = record { ctx = ctx; is = is; sound = sound; opens = o; inner = h; choices = choices; ways_are = ways_are }
+went g cs ws n run ctx sound choices ways_are (FailsAt w) h is o = record { ctx = ctx; is = is; sound = sound; opens = o; choices = choices }
+went g cs ws n run ctx sound choices ways_are (EndsAt e w) h is o = ends (search g) ctx n w e run o is
+went g cs ws n run ctx sound choices ways_are (StopsAt s w) h is o = record { ctx = ctx; is = is; sound = sound; opens = o; shielded = h; choices = choices; ways_are = ways_are }
+
+-- the gatherings are those that were open before
+begin_opens : (ctx : List Around) (b : Branch) (w : World) → Opens (world_before b w) ctx → Opens (world_at (begins b w)) ctx
+begin_opens ctx b w o = act_opens ctx (path_at b).steps (path_at b).registers (beginning b w) (ap tags_of (beginning_stays b w).gathered ∙ o)
+
+begun_in : (g : Game) (cs : List Live) (ws : List Way) (ctx : List Around) (b : Branch) (n : ℕ) (w : World) (run : Run) → Opens (world_before b w) ctx → run ≡ unwound (search g) ctx (begin (search g) b n w) → Sound ctx → BranchIn ctx b → live ctx ≡ cs → ways ctx ≡ ws → Began g cs ws b n w run
+begun_in g cs ws ctx b n w run o is sound h l e = went g cs ws n run ctx sound l e (begins b w) (begin_in ctx b w h) is (begin_opens ctx b w o)
+
+-- what takes nothing out drops nothing
+keeps_before : (ctx : List Around) (b : Branch) (w : World) → KeepsGathering b → Opens w ctx → Opens (world_before b w) ctx
+keeps_before ctx (Enter path work) w k o = o
+keeps_before ctx (Clash r work) w k o = o
+keeps_before ctx (TakeOut t whole into path) w k o = absurd k
+keeps_before ctx (Finds place o' args path) w k o = o
+
 began : (g : Game) (cs : List Live) (ws : List Way) (ctx : List Around) (b : Branch) (n : ℕ) (w : World) (run : Run) → KeepsGathering b → run ≡ unwound (search g) ctx (begin (search g) b n w) → Sound ctx → Opens w ctx → BranchIn ctx b → live ctx ≡ cs → ways ctx ≡ ws → Began g cs ws b n w run
-began g cs ws ctx (Enter path work) n w run k is sound o h l e = record { ctx = ctx; is = is; sound = sound; opens = o; inner = h; choices = l; ways_are = e }
-began g cs ws ctx (Clash r work) n w run k is sound o h l e = record { ctx = ctx; is = is; sound = sound; opens = o; choices = l }
-began g cs ws ctx (TakeOut t path) n w run k is sound o h l e = absurd k
+began g cs ws ctx b n w run k is sound o h l e = begun_in g cs ws ctx b n w run (keeps_before ctx b w k o) is sound h l e
 
 -- what is kept of a choice around
 kept_as : (ctx : List Around) (t height : ℕ) (ways_on : List Way) (cs : List Live) (k : Kind) (bs : List Branch) → length (gathers ctx) ≡ height → ways ctx ≡ ways_on → live ctx ≡ cs →
@@ -191,16 +235,16 @@ next_takes_out : (g : Game) (t height : ℕ) (ways_on : List Way) (ctx : List Ar
     Began g (pushed (record { kind = Plain; tag = t; others = bs; height = height; ways_on = ways_on }) cs) ways_on b n w run
 next_takes_out g t height ways_on ctx cs (Enter path work) bs n w run is older sound inner out o choices ways_are = absurd out
 next_takes_out g t height ways_on ctx cs (Clash r work) bs n w run is older sound inner out o choices ways_are = absurd out
-next_takes_out g t height ways_on ctx cs (TakeOut u path) (b ∷ bs) n w run is older sound inner out o choices ways_are = absurd out
-next_takes_out g t height ways_on ctx cs (TakeOut u path) [] n w run is older sound inner out o choices ways_are = record {
-  ctx = InBranch Plain t [] ∷ ctx;
-  is = is ∙ others_begin (search g) ctx Plain t (TakeOut u path) [] n w;
-  sound = (older, sound, tt, tt);
-  opens = (without_head u w.gathered (gathers ctx) (o ∙ ap (λ x. x ∷ gathers ctx) (sym out))).1;
-  inner = inner.0;
-  choices = choices;
-  ways_are = ways_are;
-}
+next_takes_out g t height ways_on ctx cs (Finds place o' args path) bs n w run is older sound inner out o choices ways_are = absurd out
+next_takes_out g t height ways_on ctx cs (TakeOut u whole into path) (b ∷ bs) n w run is older sound inner out o choices ways_are = absurd out
+next_takes_out g t height ways_on ctx cs (TakeOut u whole into path) [] n w run is older sound inner out o choices ways_are =
+    begun_in g _ ways_on (InBranch Plain t [] ∷ ctx) (TakeOut u whole into path) n w run
+    (without_head u w.gathered (gathers ctx) (o ∙ ap (λ x. x ∷ gathers ctx) (sym out))).1
+    (is ∙ others_begin (search g) ctx Plain t (TakeOut u whole into path) [] n w)
+    (older, sound, tt, tt)
+    inner.0
+    choices
+    ways_are
 
 next : (g : Game) (kind : Kind) (t height : ℕ) (ways_on : List Way) (ctx : List Around) (cs : List Live) (b : Branch) (bs : List Branch) (n : ℕ) (w : World) (run : Run) →
     run ≡ unwound (search g) ctx (choose (search g) (later kind) t (b ∷ bs) n w) → Sound (InBranch kind t (b ∷ bs) ∷ ctx) → Opens w (InBranch kind t (b ∷ bs) ∷ ctx) → length (gathers ctx) ≡ height → live ctx ≡ cs → ways ctx ≡ ways_on →
@@ -236,35 +280,10 @@ tries g c cs n w run s = tries_from g c cs n w run s c.others refl
 
 -- ## A goal
 
--- the run has ended
-ends : (s : Search) (ctx : List Around) (n : ℕ) (w : World) (e : _) (run : Run) → Opens w ctx → run ≡ unwind s ctx n w (End e) → Finished n w (End e) run
-ends s [] n w e run o is = record { world = w; drops = drops_nothing w; is = is }
-ends s (InCut t ∷ ctx) n w e run o is = ends s ctx n w e run o is
-ends s (InBranch k t bs ∷ ctx) n w e run o is =
-    let left = leaving k t bs w ctx o in
-    let rest = ends s ctx n (leave k t w) e run left.opens is in
-    record { world = rest.world; drops = drops_on w (leave k t w) rest.world left.drops rest.drops; is = rest.is }
-
 -- the gatherings that are open behind a goal
 abbrev OutcomeOpens : List Around → Outcome → Type 0
 OutcomeOpens ctx (Moves m) = Opens (world_at m) ctx
 OutcomeOpens ctx (Chooses k t b bs w) = Opens w (InBranch k t bs ∷ ctx)
-
-stop_opens : (ctx : List Around) (s : Option ℕ) (w : World) → Opens w ctx → Opens (world_at (stop s w)) ctx
-stop_opens ctx None w o = o
-stop_opens ctx (Some s) w o = o
-
-goes_on_opens : (ctx : List Around) (b : Bool) (steps : List Step) (r : Registers) (w : World) → Opens w ctx → Opens (world_at (goes_on_if b steps r w)) ctx
-goes_on_opens ctx true steps r w o = o
-goes_on_opens ctx false steps r w o = o
-
-act_opens : (ctx : List Around) (steps : List Step) (r : Registers) (a : Act) → Opens (world_in a) ctx → Opens (world_at (move_of steps r a)) ctx
-act_opens ctx steps r (Goes next w) o = o
-act_opens ctx steps r (Tests passed w) o = goes_on_opens ctx passed steps r w o
-act_opens ctx steps r (Unifies made a b w) o = goes_on_opens ctx _ steps _ _ o
-act_opens ctx steps r (Ends e w) o = o
-act_opens ctx steps r (Fails w) o = o
-act_opens ctx steps r (Stops w) o = stop_opens ctx r.stoppable w o
 
 -- a choice that gathers has opened its gathering
 abbrev OffersIn : List Around → Kind → ℕ → World → Type 0
@@ -290,20 +309,19 @@ outcome_opens : (ctx : List Around) (steps : List Step) (r : Registers) (e : Eff
 outcome_opens ctx steps r (Acts a) o = act_opens ctx steps r a o
 outcome_opens ctx steps r (Offers k bs w) o = choice_opens ctx k r.next_tag bs w o
 
-printed_opens : (ctx : List Around) (pieces : List (List ℕ)) (w : World) → Opens w ctx → Opens (all_printed pieces w) ctx
-printed_opens ctx [] w o = o
-printed_opens ctx (piece ∷ pieces) w o = printed_opens ctx pieces (printed (Piece piece) w) o
-
-effect_opens : (g : Game) (ctx : List Around) (x : Goal-F Goal) (env : List Value) (t : ℕ) (steps : List Step) (r : Registers) (w : World) → Opens w ctx → EffectOpens ctx r.next_tag (effect g x env t steps r w)
-effect_opens g ctx (Print-Form a) env t steps r w o = printed_opens ctx (pieces g.program (resolved r.bound (value_of g.program env a))) (worked (whole_looks r (value_of g.program env a)) w) o
-effect_opens g ctx (Collect term goals into) env t steps r w o = ap (λ l. r.next_tag ∷ l) o
-effect_opens g ctx _ env t steps r w o = o
+effect_opens : (ctx : List Around) (t : ℕ) (w : World) (e : Effect) → EffectStays t w e → Opens w ctx → EffectOpens ctx t e
+effect_opens ctx t w (Acts a) h o = ap tags_of h.gathered ∙ o
+effect_opens ctx t w (Offers Gathers [] v) h o = absurd h
+effect_opens ctx t w (Offers Gathers (b ∷ bs) v) h o = h.1 ∙ ap (λ l. t ∷ l) o
+effect_opens ctx t w (Offers Plain bs v) h o = ap tags_of h.gathered ∙ o
+effect_opens ctx t w (Offers (Rules q) bs v) h o = ap tags_of h.gathered ∙ o
+effect_opens ctx t w (Offers Shield bs v) h o = ap tags_of h.gathered ∙ o
 
 move_opens : (g : Game) (ctx : List Around) (x : Goal-F Goal) (env : List Value) (t : ℕ) (steps : List Step) (r : Registers) (w : World) → Opens w ctx → OutcomeOpens ctx (move g x env t steps r w)
 move_opens g ctx x env t steps r w o =
     let s = behind_terms g x r in
     let v = begun s (writing (terms_held x)) w in
-    outcome_opens ctx steps s (effect g x env t steps s v) (effect_opens g ctx x env t steps s v o)
+    outcome_opens ctx steps s (effect g x env t steps s v) (effect_opens ctx s.next_tag v (effect g x env t steps s v) (effect_stays g x env t steps s v) o)
 
 -- how many gatherings are open outside a choice
 outside_is : (k : Kind) (t : ℕ) (bs : List Branch) (ctx : List Around) (w : World) → Opens w (InBranch k t bs ∷ ctx) → length (gathers ctx) ≡ open_outside k w
@@ -319,12 +337,6 @@ ways_new Gathers t bs ctx w ws o e = e
 ways_new Shield t bs ctx w ws o e =
     ap (λ n. record { tag = t; others = bs; height = n } ∷ ways ctx) (sym (open_count w ctx o))
     ∙ ap (λ l. record { tag = t; others = bs; height = length w.gathered } ∷ l) e
-
-went : (g : Game) (cs : List Live) (ws : List Way) (n : ℕ) (run : Run) (ctx : List Around) → Sound ctx → live ctx ≡ cs → ways ctx ≡ ws → (m : Move) → MoveIn ctx m → run ≡ unwound (search g) ctx (after_move (search g) n m) → Opens (world_at m) ctx → Went g cs ws n m run
-went g cs ws n run ctx sound choices ways_are (GoesOn path w) h is o = record { ctx = ctx; is = is; sound = sound; opens = o; inner = h; choices = choices; ways_are = ways_are }
-went g cs ws n run ctx sound choices ways_are (FailsAt w) h is o = record { ctx = ctx; is = is; sound = sound; opens = o; choices = choices }
-went g cs ws n run ctx sound choices ways_are (EndsAt e w) h is o = ends (search g) ctx n w e run o is
-went g cs ws n run ctx sound choices ways_are (StopsAt s w) h is o = record { ctx = ctx; is = is; sound = sound; opens = o; shielded = h; choices = choices; ways_are = ways_are }
 
 after : (g : Game) (cs : List Live) (ws : List Way) (n : ℕ) (run : Run) (ctx : List Around) → Sound ctx → live ctx ≡ cs → ways ctx ≡ ws → (m : Outcome) → OutcomeIn ctx m → run ≡ unwound (search g) ctx (after_goal (search g) n m) → OutcomeOpens ctx m → After g cs ws n m run
 after g cs ws n run ctx sound choices ways_are (Moves m) h is o = went g cs ws n run ctx sound choices ways_are m h is o

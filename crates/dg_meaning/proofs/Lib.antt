@@ -7,6 +7,7 @@ pub mod EqualValues
 pub mod Spellings
 pub mod WorkedValues
 pub mod OneRun
+pub mod Stays
 pub mod Search
 pub mod Dropping
 pub mod Context

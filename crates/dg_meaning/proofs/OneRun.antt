@@ -1,10 +1,17 @@
 -- The order on worlds, and what each change of a world is in it.
-use Rattle.std.proofs.Common.{ℕ, List, [], ◌∷◌, ◌++◌, refl, sym, ap, ◌∙◌, arith, append_assoc}
+use Rattle.std.proofs.Common.{ℕ, zero, suc, List, [], ◌∷◌, ◌++◌, refl, sym, ap, ◌∙◌, arith, append_assoc}
+use Rattle.std.specs.Prelude.{eqb}
+use Rattle.std.proofs.lemmas.Bool.{cond_both}
 use Rattle.std.proofs.lemmas.List.{append-nil}
+use Rattle.dg_base.specs.declared.program.CoreProgram.{CoreProgram}
 use Rattle.dg_meaning.specs.Values.{Value}
-use Rattle.dg_meaning.specs.World.{World, Meters, Event, Print, Piece, noted, worked, reached, opened, kept, dropped}
+use Rattle.dg_meaning.specs.Words.{behind_line, longest, behind_first}
+use Rattle.dg_meaning.specs.Facts.{Alteration}
+use Rattle.dg_meaning.specs.Choosing.{Choice}
+use Rattle.dg_meaning.specs.World.{World, Gathering, Meters, Event, Print, Piece, noted, worked, reached, gathering, gathered_with, kept, dropped, drew}
+use Rattle.dg_meaning.specs.Changes.{changed}
 use Rattle.dg_meaning.specs.Path.{Registers, Kind, Rules, Gathers}
-use Rattle.dg_meaning.specs.Moves.{printed, all_printed, exhausted, begun}
+use Rattle.dg_meaning.specs.Moves.{printed, all_printed, exhausted, begun, selected}
 use Rattle.dg_meaning.specs.Search.{retried, leave}
 use Rattle.dg_meaning.specs.OneRun.{Begins, EndsWith, MetersGrow, Grows}
 
@@ -77,11 +84,42 @@ all_printed_grows (piece ∷ pieces) w = grows_on w (printed (Piece piece) w) _ 
 pub dropped_grows : (t : ℕ) (w : World) → Grows w (dropped t w)
 dropped_grows t w = record { events = begins_same w.events; meters = meters_same w.meters; typed = record { taken = []; is = refl }; dice = omega arith }
 
-pub opened_grows : (t : ℕ) (w : World) → Grows w (opened t w)
-opened_grows t w = record { events = begins_same w.events; meters = meters_same w.meters; typed = record { taken = []; is = refl }; dice = omega arith }
+-- what is set, and what is kept of selects, is no part of it either
+pub gathering_grows : (gs : List Gathering) (w : World) → Grows w (gathering gs w)
+gathering_grows gs w = record {
+  events = begins_same w.events;
+  meters = record { heap = omega arith; trail = omega arith; aux = omega arith; keep = omega arith; work = omega arith };
+  typed = record { taken = []; is = refl };
+  dice = omega arith;
+}
 
 pub kept_grows : (t : ℕ) (x : Value) (w : World) → Grows w (kept t x w)
-kept_grows t x w = record { events = begins_same w.events; meters = meters_same w.meters; typed = record { taken = []; is = refl }; dice = omega arith }
+kept_grows t x w = gathering_grows (gathered_with t x w.gathered) w
+
+pub changed_grows : (program : CoreProgram) (a : Alteration) (w : World) → Grows w (changed program a w)
+changed_grows program a w = record {
+  events = begins_same w.events;
+  meters = record { heap = omega arith; trail = omega arith; aux = omega arith; keep = omega arith; work = omega arith };
+  typed = record { taken = []; is = refl };
+  dice = omega arith;
+}
+
+pub selected_grows : (site : ℕ) (c : Choice) (w : World) → Grows w (selected site c w)
+selected_grows site c w = record { events = begins_same w.events; meters = meters_same w.meters; typed = record { taken = []; is = refl }; dice = omega arith }
+
+pub drew_grows : (n : ℕ) (w : World) → Grows w (drew n w)
+drew_grows n w = record { events = begins_same w.events; meters = meters_same w.meters; typed = record { taken = []; is = refl }; dice = omega arith }
+
+-- a line is the front of what was typed
+line_taken : (n : ℕ) (bytes : List ℕ) → EndsWith bytes (behind_line n bytes)
+line_taken zero bytes = record { taken = []; is = refl }
+line_taken (suc n) [] = record { taken = []; is = refl }
+line_taken (suc n) (b ∷ bytes) =
+    cond_both (eqb b 10) bytes (behind_line n bytes) (EndsWith (b ∷ bytes)) (λ e. record { taken = b ∷ []; is = refl })
+    (λ e. let h = line_taken n bytes in record { taken = b ∷ h.taken; is = ap (λ l. b ∷ l) h.is })
+
+pub line_grows : (w : World) → Grows w (record w { typed = behind_first w.typed })
+line_grows w = record { events = begins_same w.events; meters = meters_same w.meters; typed = line_taken longest w.typed; dice = omega arith }
 
 pub exhausted_grows : (k : Kind) (w : World) → Grows w (exhausted k w)
 exhausted_grows (Rules q) w = noted_grows _ w

@@ -1,23 +1,22 @@
 -- The laws of the search: what it adds to the world, its equation, and that a larger budget goes on with the same run.
-use Rattle.std.proofs.Common.{◌≡◌, ℕ, zero, suc, ◌+◌, ◌<◌, ◌≤◌, ◌⊎◌, inl, inr, List, [], ◌∷◌, Option, Some, None, Bool, true, false, refl, sym, ap, ◌∙◌, subst, arith, length, map}
+use Rattle.std.proofs.Common.{◌≡◌, ℕ, zero, suc, ◌+◌, ◌<◌, ◌≤◌, ◌⊎◌, inl, inr, List, [], ◌∷◌, Option, Some, None, Bool, true, false, refl, sym, ap, ◌∙◌, subst, arith, length}
 use Rattle.std.specs.Prelude.{if◌then◌else◌}
 use Rattle.dg_base.specs.declared.program.Goal.{Goal, Goal-F, out-Goal}
-use Rattle.dg_base.specs.declared.program.Goal.TheOpen.{Text, Print as Print-Form, Gap, Ask, Collect, Test}
 use Rattle.dg_base.specs.declared.run.Ending.TheVariants.{StepLimit}
 use Rattle.dg_base.specs.Goals.{terms_held}
 use Rattle.dg_meaning.specs.Values.{Value, value_of}
 use Rattle.dg_meaning.specs.Substitutions.{resolved}
-use Rattle.dg_meaning.specs.Unify.{unify}
-use Rattle.dg_meaning.specs.World.{Game, World, Answered, Asked, noted, worked, kept, dropped}
+use Rattle.dg_meaning.specs.Unify.{solve}
+use Rattle.dg_meaning.specs.World.{Game, World, Answered, noted, worked, kept}
 use Rattle.dg_meaning.specs.Cells.{writing}
-use Rattle.dg_meaning.specs.Pieces.{pieces}
-use Rattle.dg_meaning.specs.Path.{Step, Do, Answers, Cut, Refuse, Back, Keep, Leave, Registers, Path, Result, Failing, CutFail, StopTo, End, Answer, Branch, Enter, Clash, TakeOut, Kind, Plain, Rules, Shield, Gathers, Move, GoesOn, FailsAt, EndsAt, StopsAt, Outcome, Moves, Chooses, Act, Goes, Tests, Unifies, Ends, Fails, Stops, Effect, Acts, Offers}
-use Rattle.dg_meaning.specs.Moves.{exhausted, begun, bound_by, made_since, choice, goes_on_if, unifying, stop, move_of, taking_out, begins, first_looks, whole_looks, keeping, effect, outcome_of, outcome, behind_terms, move}
+use Rattle.dg_meaning.specs.Path.{Step, Do, Answers, Cut, Refuse, Back, Keep, Leave, Registers, Path, Result, Failing, CutFail, StopTo, End, Answer, Branch, Kind, Plain, Rules, Shield, Gathers, Move, GoesOn, FailsAt, EndsAt, StopsAt, Outcome, Moves, Chooses, Act, Goes, Tests, Unifies, Ends, Fails, Stops, Effect, Acts, Offers}
+use Rattle.dg_meaning.specs.Moves.{exhausted, begun, bound_by, made_since, choice, goes_on_if, unifying, stop, move_of, path_at, beginning, begins, keeping, effect, outcome_of, outcome, behind_terms, move}
 use Rattle.dg_meaning.specs.Search.{Search, answer, cut_result, cut, later, retried, leave, catches, after_branch, begin, branches_cut, choose, choose_first, after_move, after_goal, take_goal, go, nowhere, search_to, search}
 use Rattle.dg_meaning.specs.Transcript.{ending_of, run_of, start_world, start_path, run}
 use Rattle.dg_meaning.specs.OneRun.{Grows, GoesOnFrom}
 use Rattle.dg_meaning.specs.Keeps.{world_at, world_of}
-use Rattle.dg_meaning.proofs.OneRun.{grows_same, grows_on, noted_grows, worked_grows, begun_grows, printed_grows, all_printed_grows, dropped_grows, opened_grows, kept_grows, exhausted_grows, retried_grows, leave_grows}
+use Rattle.dg_meaning.proofs.OneRun.{grows_same, grows_on, noted_grows, worked_grows, begun_grows, kept_grows, exhausted_grows, retried_grows, leave_grows}
+use Rattle.dg_meaning.proofs.Stays.{world_in, world_for, EffectStays, effect_stays, world_before, beginning_stays, before_grows}
 
 -- ## Worlds only grow, and budgets only fall
 
@@ -47,10 +46,31 @@ after_branch_good k t n w (StopTo s c) next stopped g h =
     elim (catches k t s) as (λ b. Good n w (if b then stopped c n w else answer n (leave k t w) (StopTo s c))) [ true ↦ h c n w | false ↦ good_at n w (leave k t w) _ (leave_grows k t w) ]
 after_branch_good k t n w (End e) next stopped g h = good_at n w (leave k t w) _ (leave_grows k t w)
 
+-- ## What comes of an act
+
+goes_on_grows : (b : Bool) (steps : List Step) (r : Registers) (w v : World) → Grows w v → Grows w (world_at (goes_on_if b steps r v))
+goes_on_grows true steps r w v h = h
+goes_on_grows false steps r w v h = h
+
+stop_grows : (o : Option ℕ) (w v : World) → Grows w v → Grows w (world_at (stop o v))
+stop_grows None w v h = h
+stop_grows (Some s) w v h = h
+
+act_grows : (steps : List Step) (r : Registers) (a : Act) (w : World) → Grows w (world_in a) → Grows w (world_at (move_of steps r a))
+act_grows steps r (Goes next v) w h = h
+act_grows steps r (Tests passed v) w h = goes_on_grows passed steps r w v h
+act_grows steps r (Unifies made es v) w h =
+    let u = solve made.bound es in
+    let r' = bound_by u (length (made_since made.bound u.subst)) made in
+    goes_on_grows u.agrees steps r' w _ (grows_on w v _ h (begun_grows r' (unifying made.bound es) v))
+act_grows steps r (Ends e v) w h = h
+act_grows steps r (Fails v) w h = h
+act_grows steps r (Stops v) w h = stop_grows r.stoppable w v h
+
 pub beginning_grows : (b : Branch) (w : World) → Grows w (world_at (begins b w))
-beginning_grows (Enter path work) w = begun_grows path.registers work w
-beginning_grows (Clash r work) w = begun_grows r work w
-beginning_grows (TakeOut t path) w = grows_on w (dropped t w) _ (dropped_grows t w) (begun_grows path.registers (taking_out t w.gathered) (dropped t w))
+beginning_grows b w =
+    act_grows (path_at b).steps (path_at b).registers (beginning b w) w
+    (grows_on w (world_before b w) _ (before_grows b w) (beginning_stays b w).grows)
 
 after_move_good : (s : Search) → IsGood s → (n : ℕ) (m : Move) → Good n (world_at m) (after_move s n m)
 after_move_good s g n (GoesOn path w) = g n path w
@@ -78,63 +98,24 @@ choose_first_good s g k t b bs n w =
 
 -- ## What comes of a goal
 
-goes_on_grows : (b : Bool) (steps : List Step) (r : Registers) (w v : World) → Grows w v → Grows w (world_at (goes_on_if b steps r v))
-goes_on_grows true steps r w v h = h
-goes_on_grows false steps r w v h = h
-
-stop_grows : (o : Option ℕ) (w v : World) → Grows w v → Grows w (world_at (stop o v))
-stop_grows None w v h = h
-stop_grows (Some s) w v h = h
-
--- the world in which something is done at once
-abbrev pub world_in : Act → World
-world_in (Goes steps w) = w
-world_in (Tests passed w) = w
-world_in (Unifies made a b w) = w
-world_in (Ends e w) = w
-world_in (Fails w) = w
-world_in (Stops w) = w
-
-act_grows : (steps : List Step) (r : Registers) (a : Act) (w : World) → Grows w (world_in a) → Grows w (world_at (move_of steps r a))
-act_grows steps r (Goes next v) w h = h
-act_grows steps r (Tests passed v) w h = goes_on_grows passed steps r w v h
-act_grows steps r (Unifies made a b v) w h =
-    let u = unify made.bound a b in
-    let r' = bound_by u (length (made_since made.bound u.subst)) made in
-    goes_on_grows u.agrees steps r' w _ (grows_on w v _ h (begun_grows r' (unifying made.bound ((a, b) ∷ [])) v))
-act_grows steps r (Ends e v) w h = h
-act_grows steps r (Fails v) w h = h
-act_grows steps r (Stops v) w h = stop_grows r.stoppable w v h
-
 choice_grows : (k : Kind) (t : ℕ) (bs : List Branch) (w v : World) → Grows w v → Grows w (world_of (choice k t bs v))
 choice_grows k t [] w v h = grows_on w v _ h (exhausted_grows k v)
 choice_grows k t (b ∷ bs) w v h = h
-
--- the world in which a goal has its effect
-abbrev world_for : Effect → World
-world_for (Acts a) = world_in a
-world_for (Offers k bs w) = w
 
 outcome_of_grows : (steps : List Step) (r : Registers) (e : Effect) (w : World) → Grows w (world_for e) → Grows w (world_of (outcome_of steps r e))
 outcome_of_grows steps r (Acts a) w h = act_grows steps r a w h
 outcome_of_grows steps r (Offers k bs v) w h = choice_grows k r.next_tag bs w v h
 
-effect_grows : (g : Game) (x : Goal-F Goal) (env : List Value) (t : ℕ) (steps : List Step) (r : Registers) (w : World) → Grows w (world_for (effect g x env t steps r w))
-effect_grows g (Text name) env t steps r w = printed_grows _ w
-effect_grows g (Print-Form a) env t steps r w =
-    let v = value_of g.program env a in
-    let u = worked (whole_looks r v) w in
-    grows_on w u _ (worked_grows (whole_looks r v) w) (all_printed_grows (pieces g.program (resolved r.bound v)) u)
-effect_grows g (Gap kind) env t steps r w = printed_grows _ w
-effect_grows g (Ask pred args many) env t steps r w =
-    let v = worked (first_looks r (map (value_of g.program env) args)) w in
-    grows_on w v (noted (Asked pred) v) (worked_grows _ w) (noted_grows (Asked pred) v)
-effect_grows g (Collect term goals into) env t steps r w = opened_grows r.next_tag w
-effect_grows g (Test kind a) env t steps r w = worked_grows _ w
-effect_grows g _ env t steps r w = grows_same w
+effect_grows : (t : ℕ) (w : World) (e : Effect) → EffectStays t w e → Grows w (world_for e)
+effect_grows t w (Acts a) h = h.grows
+effect_grows t w (Offers Gathers [] v) h = absurd h
+effect_grows t w (Offers Gathers (b ∷ bs) v) h = h.0
+effect_grows t w (Offers Plain bs v) h = h.grows
+effect_grows t w (Offers (Rules q) bs v) h = h.grows
+effect_grows t w (Offers Shield bs v) h = h.grows
 
 pub outcome_grows : (g : Game) (x : Goal-F Goal) (env : List Value) (t : ℕ) (steps : List Step) (r : Registers) (w : World) → Grows w (world_of (outcome g x env t steps r w))
-outcome_grows g x env t steps r w = outcome_of_grows steps r (effect g x env t steps r w) w (effect_grows g x env t steps r w)
+outcome_grows g x env t steps r w = outcome_of_grows steps r (effect g x env t steps r w) w (effect_grows r.next_tag w (effect g x env t steps r w) (effect_stays g x env t steps r w))
 
 pub move_grows : (g : Game) (x : Goal-F Goal) (env : List Value) (t : ℕ) (steps : List Step) (r : Registers) (w : World) → Grows w (world_of (move g x env t steps r w))
 move_grows g x env t steps r w =

@@ -5,8 +5,8 @@ use Rattle.dg_meaning.specs.Values.{Value}
 use Rattle.dg_meaning.specs.Substitutions.{IsSubstitution, Extends}
 use Rattle.dg_meaning.specs.Unify.{top, top_of_pairs}
 use Rattle.dg_meaning.specs.World.{Game, World}
-use Rattle.dg_meaning.specs.Path.{Step, Do, Keep, Registers, Path, Branch, Enter, Clash, TakeOut, Move, GoesOn, Outcome, Moves, Chooses}
-use Rattle.dg_meaning.specs.Moves.{path_of, move}
+use Rattle.dg_meaning.specs.Path.{Step, Do, Keep, Registers, Path, Branch, Enter, Clash, TakeOut, Finds, Move, GoesOn, Outcome, Moves, Chooses}
+use Rattle.dg_meaning.specs.Moves.{path_of, begins, move}
 use Rattle.dg_meaning.specs.Transcript.{start_path}
 
 -- ## Variables
@@ -45,11 +45,12 @@ pub record IsBoundBehind (r : Registers) (path : Path) : Type 0 where
   pub binds : BindsOn r path.registers
   pub is : IsBound path
 
--- So it is with a branch.
+-- So it is with a branch, whose values have variables that have been made.
 abbrev pub BranchBinds : Registers → Branch → Type 0
 BranchBinds r (Enter path work) = IsBoundBehind r path
 BranchBinds r (Clash s work) = BindsOn r s
-BranchBinds r (TakeOut t path) = IsBoundBehind r path
+BranchBinds r (TakeOut t whole into path) = IsBoundBehind r path × (top into ≤ path.registers.next_var)
+BranchBinds r (Finds place o args path) = IsBoundBehind r path × (top_of_values args ≤ path.registers.next_var)
 
 -- So it is with each of these branches.
 abbrev pub BranchesBind : Registers → List Branch → Type 0
@@ -72,5 +73,7 @@ pub record BindsAlong : Type 0 where
   pub starts : (g : Game) → IsBound (start_path g)
   -- A goal binds only more.
   pub takes : (g : Game) (x : Goal) (env : List Value) (t : ℕ) (steps : List Step) (r : Registers) (w : World) → IsBound (path_of (Do x env t ∷ steps) r) → OutcomeBinds r (move g (out-Goal x) env t steps r w)
+  -- The beginning of a branch binds only more.
+  pub begins_on : (r : Registers) (b : Branch) (w : World) → BranchBinds r b → MoveBinds r (begins b w)
   -- A mark that is passed binds nothing.
   pub passes : (s : Step) (steps : List Step) (r : Registers) (outer : Option ℕ) → IsBound (path_of (s ∷ steps) r) → IsBound (path_of steps (record r { stoppable = outer }))

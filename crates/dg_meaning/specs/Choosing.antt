@@ -1,5 +1,5 @@
 -- How a select chooses one of its branches, and what the dice are. Hold it against docs/LANGUAGE.md, "Choosing": the modes and their draws are this project's own choice.
-use Rattle.std.specs.Prelude.{ℕ, ◌+◌, ◌-◌, ◌%◌, List, length, slice_index, min, nat_eq, nat_lt, nat_le, if◌then◌else◌}
+use Rattle.std.specs.Prelude.{ℕ, ◌+◌, ◌-◌, ◌%◌, List, length, slice_index, slice_index_or, min, nat_eq, nat_lt, nat_le, if◌then◌else◌}
 use Rattle.dg_base.specs.declared.program.Mode.{Mode}
 use Rattle.dg_base.specs.declared.program.Mode.TheVariants.{Stopping, Cycling, PurelyAtRandom, AtRandom, ThenAtRandom, ThenPurelyAtRandom}
 
@@ -19,6 +19,10 @@ no_picks = record { count = 0; last = 0 }
 -- What is kept behind one more pick.
 abbrev pub picked : ℕ → Picks → Picks
 picked branch picks = record { count = picks.count + 1; last = branch }
+
+-- What is kept of the site of this number.
+abbrev pub picks_at : List Picks → ℕ → Picks
+picks_at sites site = slice_index_or sites site no_picks
 
 -- A branch, numbered from 0, and how many dice words are drawn for it.
 pub record Choice : Type 0 where

@@ -1,10 +1,11 @@
 -- What stands around a search, and what of it an engine has to keep. Hold it against the Dialog manual, chapter "Choice points".
-use Rattle.std.specs.Prelude.{ℕ, ◌<◌, ◌≡◌, ◌⊎◌, nat_lt, eqb, List, [], ◌∷◌, Option, Some, None, Bool, true, false, length, drop, if◌then◌else◌}
+use Rattle.std.specs.Prelude.{ℕ, ◌<◌, ◌≤◌, ◌≡◌, ◌⊎◌, nat_lt, eqb, List, [], ◌∷◌, Option, Some, None, Bool, true, false, length, drop, if◌then◌else◌}
 use Rattle.dg_meaning.specs.World.{World, Gathering}
-use Rattle.dg_meaning.specs.Path.{Step, Do, Answers, Cut, Refuse, Back, Keep, Leave, Path, Result, Branch, Enter, Clash, TakeOut, Kind, Plain, Rules, Shield, Gathers}
+use Rattle.dg_meaning.specs.Path.{Step, Do, Answers, Cut, Refuse, Back, Keep, Leave, Path, Result, Branch, Enter, Clash, TakeOut, Finds, Kind, Plain, Rules, Shield, Gathers}
 use Rattle.dg_meaning.specs.Search.{Search, answer, cut_result, later, after_branch, branches_cut, choose}
 use Rattle.dg_meaning.specs.Transcript.{Run, run_of}
-use Rattle.dg_meaning.specs.Bindings.{IsBound}
+use Rattle.dg_meaning.specs.Unify.{top}
+use Rattle.dg_meaning.specs.Bindings.{top_of_values, IsBound}
 
 -- ## Around a search
 
@@ -130,11 +131,12 @@ pub record PathIn (ctx : List Around) (path : Path) : Type 0 where
   pub newer : Older path.registers.next_tag ctx
   pub bound : IsBound path
 
--- What a branch names is around it.
+-- What a branch names is around it, and its values have variables that have been made.
 abbrev pub BranchIn : List Around → Branch → Type 0
 BranchIn ctx (Enter path work) = PathIn ctx path
 BranchIn ctx (Clash r work) = Unit {0}
-BranchIn ctx (TakeOut t path) = PathIn ctx path
+BranchIn ctx (TakeOut t whole into path) = PathIn ctx path × (top into ≤ path.registers.next_var)
+BranchIn ctx (Finds place o args path) = PathIn ctx path × (top_of_values args ≤ path.registers.next_var)
 
 -- So it is for each of these branches.
 abbrev pub BranchesIn : List Around → List Branch → Type 0
@@ -143,7 +145,7 @@ BranchesIn ctx (b ∷ bs) = BranchIn ctx b × BranchesIn ctx bs
 
 -- A branch takes no gathering out.
 abbrev pub KeepsGathering : Branch → Type 0
-KeepsGathering (TakeOut t path) = ⊥
+KeepsGathering (TakeOut t whole into path) = ⊥
 KeepsGathering b = Unit {0}
 
 -- None of these branches takes a gathering out.
@@ -154,7 +156,7 @@ KeepGatherings (b ∷ bs) = KeepsGathering b × KeepGatherings bs
 -- Behind a first branch that gathers, one branch takes the gathering out; no other branch takes one out.
 abbrev pub TakesOut : Kind → ℕ → List Branch → Type 0
 TakesOut Gathers t [] = ⊥
-TakesOut Gathers t (TakeOut u path ∷ []) = u ≡ t
+TakesOut Gathers t (TakeOut u whole into path ∷ []) = u ≡ t
 TakesOut Gathers t (b ∷ bs) = ⊥
 TakesOut k t others = KeepGatherings others
 

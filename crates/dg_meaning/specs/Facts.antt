@@ -86,6 +86,10 @@ kept_from place (kind ∷ kinds) facts = kept_at facts place kind + kept_from (p
 abbrev pub kept_size : List PlaceKind → List Fact → ℕ
 kept_size kinds facts = kept_from 0 kinds facts
 
+-- The kinds of the places of a program.
+abbrev pub kinds_of : CoreProgram → List PlaceKind
+kinds_of program = map (λ (place : Place). place.kind) program.places
+
 -- ## The objects of a place in order
 
 -- Something is set of an object at a place.

@@ -83,7 +83,7 @@ pub record Finished (n : ℕ) (w : World) (result : Result) (r : Run) : Type 0 w
 
 -- How many gatherings are open where a choice goes on: one more where that takes one out.
 abbrev pub open_at : List Branch → ℕ → ℕ
-open_at (TakeOut t path ∷ bs) height = height + 1
+open_at (TakeOut t whole into path ∷ bs) height = height + 1
 open_at bs height = height
 
 -- A failure goes to the newest choice, and without one the run has failed.

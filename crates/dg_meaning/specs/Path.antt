@@ -5,6 +5,7 @@ use Rattle.dg_base.specs.declared.program.Goal.{Goal}
 use Rattle.dg_base.specs.declared.run.Ending.{Ending}
 use Rattle.dg_meaning.specs.Values.{Value}
 use Rattle.dg_meaning.specs.Substitutions.{Substitution}
+use Rattle.dg_meaning.specs.Unify.{Equations}
 use Rattle.dg_meaning.specs.World.{World}
 
 -- A goal with the values of the variables of its rule and the tag of the choice that its (just) cuts to, or a mark. The marks: a rule of a predicate was answered, choices back to a tag are cut, cut and then fail, fail, gather the value of a term and fail, leave a stoppable part with what is innermost outside it.
@@ -44,11 +45,17 @@ pub record Answer : Type 0 where
   pub world : World
   pub result : Result
 
--- A branch of a choice: a path with the work of beginning it, one that has failed, with such work, as soon as these registers were reached, or a path at whose beginning a gathering is taken out.
+-- What a gathering is taken out as: the list of its values, or their sum.
+pub data Whole : Type 0 where
+  AsList : Whole
+  AsSum : Whole
+
+-- A branch of a choice: a path with the work of beginning it, one that has failed, with such work, as soon as these registers were reached, a path at whose beginning a gathering is taken out and unified with a value, or a path at whose beginning it is tested what is set of an object at a place, or, without a place, nothing, before the object and that are unified with these arguments.
 pub data Branch : Type 0 where
   Enter : (path : Path) → (work : ℕ) → Branch
   Clash : (registers : Registers) → (work : ℕ) → Branch
-  TakeOut : (tag : ℕ) → (path : Path) → Branch
+  TakeOut : (tag : ℕ) → (whole : Whole) → (into : Value) → (path : Path) → Branch
+  Finds : (place : Option ℕ) → (object : ℕ) → (args : List Value) → (path : Path) → Branch
 
 -- A choice without more, one between the rules of a predicate, one whose first branch may be stopped, and one whose first branch gathers.
 pub data Kind : Type 0 where
@@ -69,11 +76,11 @@ pub data Outcome : Type 0 where
   Moves : (move : Move) → Outcome
   Chooses : (kind : Kind) → (tag : ℕ) → (first : Branch) → (others : List Branch) → (world : World) → Outcome
 
--- What is done at once: the search goes on with these steps, or where a test was passed, or where two values unify behind the registers in which they were made; it ends, has failed, or stops.
+-- What is done at once: the search goes on with these steps, or where a test was passed, or where equations agree behind the registers in which their values were made; it ends, has failed, or stops.
 pub data Act : Type 0 where
   Goes : (steps : List Step) → (world : World) → Act
   Tests : (passed : Bool) → (world : World) → Act
-  Unifies : (made : Registers) → (left : Value) → (right : Value) → (world : World) → Act
+  Unifies : (made : Registers) → (equations : Equations) → (world : World) → Act
   Ends : (ending : Ending) → (world : World) → Act
   Fails : (world : World) → Act
   Stops : (world : World) → Act

@@ -5,7 +5,7 @@ use Rattle.dg_base.specs.declared.run.Ending.TheVariants.{Done as Done-Ending, S
 use Rattle.dg_meaning.specs.Values.{value_of}
 use Rattle.dg_meaning.specs.Substitutions.{resolved}
 use Rattle.dg_meaning.specs.World.{Game, World, Answered, Retried, noted, worked, kept, dropped}
-use Rattle.dg_meaning.specs.Path.{Step, Do, Answers, Cut, Refuse, Back, Keep, Leave, Registers, Path, Result, Failing, CutFail, StopTo, End, Answer, Branch, Enter, Clash, TakeOut, Kind, Plain, Rules, Shield, Gathers, Move, GoesOn, FailsAt, EndsAt, StopsAt, Outcome, Moves, Chooses}
+use Rattle.dg_meaning.specs.Path.{Step, Do, Answers, Cut, Refuse, Back, Keep, Leave, Registers, Path, Result, Failing, CutFail, StopTo, End, Answer, Branch, Enter, Clash, TakeOut, Finds, Kind, Plain, Rules, Shield, Gathers, Move, GoesOn, FailsAt, EndsAt, StopsAt, Outcome, Moves, Chooses}
 use Rattle.dg_meaning.specs.Moves.{exhausted, begins, keeping, move}
 
 -- From a budget of goals, a path and a world to an answer.
@@ -39,7 +39,8 @@ cut_first t (Some c) steps = if nat_lt c t then Cut c ∷ steps else steps
 abbrev pub branch_cut : ℕ → Option ℕ → Branch → Branch
 branch_cut t c (Enter path work) = Enter (record path { steps = cut_first t c path.steps }) work
 branch_cut t c (Clash r work) = Clash r work
-branch_cut t c (TakeOut u path) = TakeOut u (record path { steps = cut_first t c path.steps })
+branch_cut t c (TakeOut u whole into path) = TakeOut u whole into (record path { steps = cut_first t c path.steps })
+branch_cut t c (Finds place o args path) = Finds place o args (record path { steps = cut_first t c path.steps })
 
 -- Branches with such a cut in front of the steps of each.
 abbrev pub branches_cut : ℕ → Option ℕ → List Branch → List Branch

@@ -1,8 +1,10 @@
 -- A run and its transcript. Hold it against the Dialog manual, chapters "Choice points" (a program asks its entry point) and "Output".
-use Rattle.std.specs.Prelude.{ℕ, List, [], ◌∷◌, ◌++◌, Option, Some, None, false, codes}
+use Rattle.std.specs.Prelude.{ℕ, List, [], ◌∷◌, ◌++◌, Option, Some, None, false, codes, replicate}
 use Rattle.dg_base.specs.declared.program.Goal.TheVariants.{Ask}
 use Rattle.dg_base.specs.declared.run.Ending.{Ending}
 use Rattle.dg_base.specs.declared.run.Ending.TheVariants.{Done as Done-Ending, Quit as Quit-Ending, Failed as Failed-Ending, Stopped, InputEnded, StepLimit, HeapLimit, TrailLimit, AuxLimit, KeepLimit}
+use Rattle.dg_meaning.specs.Facts.{kinds_of, kept_size, start_facts}
+use Rattle.dg_meaning.specs.Choosing.{no_picks}
 use Rattle.dg_meaning.specs.World.{Game, World, Event, prints}
 use Rattle.dg_meaning.specs.Path.{Do, Path, Result, Failing, CutFail, StopTo, End, Answer}
 use Rattle.dg_meaning.specs.Search.{search}
@@ -27,9 +29,19 @@ ending_of (End e) = e
 abbrev pub run_of : Answer → Run
 run_of a = record { left = a.left; world = a.world; ending = ending_of a.result }
 
--- Nothing has happened, and all of the typed bytes are left.
+-- What starts set is set, and counts as kept; nothing has happened, no select has picked, and all of the typed bytes are left.
 abbrev pub start_world : Game → List ℕ → World
-start_world g typed = record { events = []; gathered = []; meters = record { heap = 0; trail = 0; aux = 0; keep = 0; work = 0 }; typed = typed; dice = 0 }
+start_world g typed =
+    let facts = start_facts g.program.places in
+    record {
+      events = [];
+      gathered = [];
+      meters = record { heap = 0; trail = 0; aux = 0; keep = kept_size (kinds_of g.program) facts; work = 0 };
+      typed = typed;
+      dice = 0;
+      facts = facts;
+      sites = replicate g.program.sites no_picks;
+    }
 
 -- The query of the entry point.
 abbrev pub start_path : Game → Path
