@@ -16,5 +16,7 @@ pub mod Tags
 pub mod Keeps
 pub mod Worked
 pub mod WorkedSearch
+pub mod WorkedWorld
 pub mod Limits
 pub mod BuiltLemmas
+pub mod Excluding

@@ -30,3 +30,4 @@ pub mod Shows
 pub mod Built
 pub mod Context
 pub mod Keeps
+pub mod Excluding

@@ -14,6 +14,7 @@ ghost use Rattle.dg_meaning.specs.OneRun.{GoesOnFrom};
 ghost use Rattle.dg_meaning.specs.Peaks.{IsWithin};
 ghost use Rattle.dg_meaning.specs.Shows.{ShowsRun, Shows};
 ghost use Rattle.dg_meaning.specs.Keeps.{Keeps};
+ghost use Rattle.dg_meaning.specs.Excluding.{ExcludedRulesClash};
 
 /// All runs of a game are cuts of one run.
 pub fn runs_are_cuts()
@@ -52,4 +53,9 @@ pub fn unification_is_most_general()
 /// It makes no difference to unification whether words are named by their numbers or by their spellings.
 pub fn spellings_unify()
     ensures { SpellingsUnify }
+{}
+
+/// A rule that the first argument of a query excludes would not have matched.
+pub fn excluded_rules_clash()
+    ensures { ExcludedRulesClash }
 {}
