@@ -8,6 +8,8 @@ mod state;
 mod tally;
 mod variables;
 
-pub use laws::one_answer;
+pub use laws::{
+    firsts_are_names, mentions_are_among, names_are_few, names_are_printable, one_answer,
+};
 pub use state::Names;
 pub use variables::add_names;
