@@ -1,3 +1,4 @@
 pub mod Chars
 pub mod Bad
 pub mod Tokens
+pub mod Spelled

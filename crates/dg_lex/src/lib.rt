@@ -1,7 +1,10 @@
 //! The tokens of a source, in order, each a slice of it.
 #![tactic(auto)]
 
-ghost use Rattle.std.specs.Prelude.{◌≡◌, ℕ, List, map};
+ghost use Rattle.std.specs.Prelude.{◌≡◌, ℕ, List, None, All, map};
+ghost use Rattle.dg_base.specs.Sound.{IsName};
+ghost use Rattle.dg_lex.specs.Bad.{refusal_of};
+ghost use Rattle.dg_lex.specs.Spelled.{IsSpelled, IsSpelledToken};
 ghost use Rattle.dg_lex.specs.Tokens.{IsLexed, seen};
 ghost use Rattle.dg_lex.specs.declared.token.Token.{Token};
 
@@ -17,4 +20,14 @@ pub use token::{Token, TokenKind};
 /// No source has two lists of tokens.
 pub fn tokens_are_one()
     ensures { (source : List ℕ) (ts us : List Token) → IsLexed source ts → IsLexed source us → map seen ts ≡ map seen us }
+{}
+
+/// The words and names of a source that isn't refused are spelled.
+pub fn tokens_are_spelled()
+    ensures { (source : List ℕ) (ts : List Token) → refusal_of source ≡ None → IsLexed source ts → All IsSpelledToken (map seen ts) }
+{}
+
+/// A text that is spelled can be printed.
+pub fn spelled_texts_are_names()
+    ensures { (text : List ℕ) → IsSpelled text → IsName text }
 {}
