@@ -9,3 +9,7 @@ pub mod EntryLemmas
 pub mod FullLemmas
 pub mod TotalLemmas
 pub mod NoteLemmas
+pub mod KeptLemmas
+pub mod LeftLemmas
+pub mod ComesLemmas
+pub mod FewLemmas

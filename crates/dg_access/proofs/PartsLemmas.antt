@@ -10,7 +10,7 @@ first_push [] p d = refl
 first_push (tree.part_word w ∷ done) p d = first_push done p d
 first_push (tree.part_value v ∷ done) p d = refl
 
-pub first_else : (ps : Parts) → first_or ps tree.anonymous ≡ first_value ps
+pub first_else : (ps : Parts) → first_or ps (tree.plain_list tree.no_values) ≡ first_value ps
 first_else tree.no_parts = refl
 first_else (tree.part (tree.part_word w) ps) = first_else ps
 first_else (tree.part (tree.part_value v) ps) = refl

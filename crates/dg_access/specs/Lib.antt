@@ -1,6 +1,9 @@
 pub mod Plain
 pub mod Items
+pub mod Left
+pub mod Comes
 pub mod Counts
 pub mod Rewritten
+pub mod Few
 pub mod Scopes
 pub mod State

@@ -26,9 +26,9 @@ abbrev pub topic_value : Option (List ℕ) → Value
 topic_value None = tree.current_topic
 topic_value (Some name) = tree.object_name name
 
--- The first value among these parts.
+-- The first value among these parts, or the empty list where there is none: a head that stands as a value has one.
 abbrev pub first_value : Parts → Value
-first_value tree.no_parts = tree.anonymous
+first_value tree.no_parts = tree.plain_list tree.no_values
 first_value (tree.part (tree.part_word w) ps) = first_value ps
 first_value (tree.part (tree.part_value v) ps) = v
 

@@ -13,6 +13,9 @@ mod setting;
 mod totals;
 mod variables;
 
-pub use laws::{choices_differ, one_answer, unnamed_variables_differ};
+pub use laws::{
+    choices_differ, mentions_come_from_the_source, one_answer, unnamed_variables_differ,
+    variables_are_few, variables_are_named,
+};
 pub use rewriting::rewrite;
 pub use rules::plain_tree;

@@ -31,18 +31,18 @@ fn value_or(part: Part, other: Value) -> Value
     }
 }
 
-fn no_value() -> Value
-    ensures { value_view result ≡ tree.anonymous }
+fn no_value(alloc: Global) -> Value
+    ensures { value_view result ≡ tree.plain_list tree.no_values }
 {
-    Value::Any
+    Value::List(Items::new(alloc), None)
 }
 
 // The first value among these parts. A head that stands as a value has one.
 #[tactic(auto, using(std::proofs::lemmas::Grind::common_steps, crate::proofs::PartsLemmas::first_push, crate::proofs::PartsLemmas::first_else))]
-fn first_value(mut parts: Vec<Part>) -> Value
+fn first_value(alloc: Global, mut parts: Vec<Part>) -> Value
     ensures { value_view result ≡ spec.first_value (parts_of (map part_view parts.items)) }
 {
-    let mut first = no_value();
+    let mut first = no_value(alloc);
     while let Some(part) = parts.pop() {
         first = value_or(part, first);
     }
@@ -71,6 +71,7 @@ fn plain_choice(alloc: Global, setting: Setting<'_>, at: &mut usize) -> Result<V
 
 // What stands for a query of these parts that stands as a value.
 fn standing_for(
+    alloc: Global,
     setting: Setting<'_>,
     parts: Result<Vec<Part>, AllocError>,
 ) -> Result<Value, AllocError>
@@ -80,7 +81,7 @@ fn standing_for(
     Ok(if setting.declares {
         Value::Query(head_of(parts))
     } else {
-        first_value(parts)
+        first_value(alloc, parts)
     })
 }
 
@@ -214,6 +215,7 @@ pub fn plain_value(
         Value::Closure(body) => plain_body(alloc, setting, at, body).map(Value::Closure),
         Value::Query(head) => {
             standing_for(
+                alloc,
                 setting,
                 plain_parts(alloc, setting, at, head.parts.as_slice()),
             )

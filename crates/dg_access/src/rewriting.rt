@@ -2,6 +2,7 @@
 ghost use Rattle.std.specs.Prelude.{◌≡◌, false, Ok, Err, IfOk, IfErr};
 ghost use Rattle.dg_base.specs.Faults.{IsFault};
 ghost use Rattle.dg_base.specs.TreeView.{tree_view};
+ghost use Rattle.dg_access.specs.Left.{IsPlain};
 ghost use Rattle.dg_access.specs.Rewritten.{has_access, IsRewritten};
 
 use crate::counts::first_passing;
@@ -23,6 +24,7 @@ fn too_many(line: u32) -> ReadFault
 pub fn rewrite(alloc: Global, tree: Tree, names: &Names) -> Result<Tree, ReadFault>
     requires { has_access (tree_view tree) ≡ false }
     ensures rewritten { IfOk result (λ new. IsRewritten (tree_view tree) (Ok (tree_view new))) }
+    ensures plain { IfOk result (λ new. IsPlain (tree_view new)) }
     ensures refused { IfErr result (IsFault (λ r. IsRewritten (tree_view tree) (Err r))) }
 {
     let new = plain_tree(alloc, &tree)?;

@@ -9,6 +9,7 @@ use Rattle.dg_base.specs.declared.tree.Item.{Item}
 use Rattle.dg_access.specs.Scopes.{uncounted, passing_in}
 use Rattle.dg_access.specs.Rewritten.{IsRewritten}
 use Rattle.dg_access.proofs.CountLemmas.{all_pass, refused_at}
+use Rattle.dg_access.proofs.LeftLemmas.{items_plain}
 use Rattle.dg_access.proofs.rewriting.rewrite.Goals as goal
 
 pub returns-clause-rewritten : goal.returns-clause-rewritten
@@ -25,3 +26,6 @@ returns-in-Some-clause-refused c =
     subst (λ (f : ReadFault). IsFault (λ r. IsRewritten (tree_view c.args.tree) (Err r)) f) (sym c.too_many.ensures)
     (refused_at (tree_view c.args.tree) (tree_view c.in_ok-new.new) c.in-Some.line c.in_ok-new.ensures
     (some ∙ ap (λ (l : List Item). option_map (λ (i : tree.Item). i.line) (passing_in uncounted (map item_view l))) slice))
+
+pub returns-clause-plain : goal.returns-clause-plain
+returns-clause-plain c = rw c.in_ok-new.ensures (items_plain None (tree_view c.args.tree))

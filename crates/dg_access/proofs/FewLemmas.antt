@@ -1,0 +1,51 @@
+-- Where no count passes, the variables are few.
+use Rattle.std.proofs.Common.{◌≡◌, ◌≤◌, ℕ, List, [], ◌∷◌, ◌++◌, ◌||◌, Bool, true, false, Some, None, nat_lt, refl, sym, ap, subst, arith}
+use Rattle.std.specs.Prelude.{if◌then◌else◌}
+use Rattle.std.specs.List.{All, list_any}
+use Rattle.std.proofs.lemmas.Bool.{or_parts}
+use Rattle.std.proofs.lemmas.Bool.Decides.{nat_tests}
+use Rattle.std.proofs.lemmas.List.Elements.{All-nil, All-cons}
+use Rattle.dg_base.specs.Tree.{Said, Item}
+use Rattle.dg_base.specs.Mentions.{Mentions, nothing, thing, closed, things, closures, names_in, weight_of, variable_in}
+use Rattle.dg_base.specs.Passing.{first_passing}
+use Rattle.dg_names.specs.Counts.{counted_in}
+use Rattle.dg_access.specs.Counts.{variables_of, is_full, counted_of, has_many_variables, queries_at, has_excess, are_many}
+use Rattle.dg_access.specs.Few.{AreFew, HasFewVariables, RewrittenIsFew, AllAreOut}
+
+not_over : (k : ℕ) → nat_lt 64 k ≡ false → k ≤ 64
+not_over k h = grind (arith, nat_tests, h)
+
+all_few : (all : List (List ℕ)) (inner : List Mentions) → list_any (is_full all) inner ≡ false → All (AreFew all) inner
+all_few all [] h = All-nil (AreFew all)
+all_few all (ms ∷ inner) h =
+    let each = or_parts (is_full all ms) (list_any (is_full all) inner) h in
+    All-cons (AreFew all) ms inner (not_over (variables_of all ms) each.0) (all_few all inner each.1)
+
+said_few : (said : Said) → has_excess said ≡ false → HasFewVariables said
+said_few said h =
+    let ms = counted_of said in
+    let all = names_in variable_in (things ms) in
+    let each = or_parts (is_full all ms) (list_any (is_full all) (closures ms)) (or_parts (nat_lt 10000 (weight_of queries_at (things ms))) (has_many_variables said) h).1 in
+    (not_over (variables_of all ms) each.0, all_few all (closures ms) each.1)
+
+-- where no item is the first at which a count passes, no item has too many
+first_few : (before : List Item) (i : Item) (is : List Item) → first_passing has_excess are_many before (i ∷ is) ≡ None → (has_excess i.said ≡ false) × (first_passing has_excess are_many (before ++ i ∷ []) is ≡ None)
+first_few before i is h = here (has_excess i.said || are_many (before ++ i ∷ [])) refl h
+  where
+    here : (b : Bool) → (has_excess i.said || are_many (before ++ i ∷ [])) ≡ b → (if b then Some i else first_passing has_excess are_many (before ++ i ∷ []) is) ≡ None → (has_excess i.said ≡ false) × (first_passing has_excess are_many (before ++ i ∷ []) is ≡ None)
+    here true e k = cc
+    here false e k = ((or_parts (has_excess i.said) (are_many (before ++ i ∷ [])) e).0, k)
+
+items_few : (before is : List Item) → first_passing has_excess are_many before is ≡ None → All (λ (i : Item). HasFewVariables i.said) is
+items_few before [] e = All-nil (λ (i : Item). HasFewVariables i.said)
+items_few before (i ∷ is) e =
+    let few = first_few before i is e in
+    All-cons (λ (j : Item). HasFewVariables j.said) i is (said_few i.said few.0) (items_few (before ++ i ∷ []) is few.1)
+
+pub rewritten_few : (is new : List Item) → RewrittenIsFew is new
+rewritten_few is new r = subst (λ (l : List Item). All (λ (i : Item). HasFewVariables i.said) l) (sym r.1) (items_few [] _ r.0)
+
+pub all_out : (all : List (List ℕ)) (ms : Mentions) → AllAreOut all ms
+all_out all nothing e = refl
+all_out all (thing t ms) e = ap (λ (l : List (List ℕ)). counted_in t ++ l) (all_out all ms e)
+all_out all (closed inner ms) e = cc

@@ -1,0 +1,24 @@
+-- How many variables are left in a rewritten tree: hold it against docs/LANGUAGE.md, "Limits".
+use Rattle.std.specs.Prelude.{◌≡◌, ◌≤◌, ℕ, List, [], Result, Ok}
+use Rattle.std.specs.List.{All}
+use Rattle.dg_base.specs.Tree.{Said, Item}
+use Rattle.dg_base.specs.Mentions.{Mentions, things, closures, names_in, variable_in}
+use Rattle.dg_names.specs.Counts.{counted_in}
+use Rattle.dg_access.specs.Counts.{names_out, variables_of, counted_of}
+use Rattle.dg_access.specs.Rewritten.{IsRewritten}
+
+-- At most 64 variables, of all the names in an item.
+abbrev pub AreFew : List (List ℕ) → Mentions → Type 0
+AreFew all ms = variables_of all ms ≤ 64
+
+-- A rule and each closure in it has few variables.
+abbrev pub HasFewVariables : Said → Type 0
+HasFewVariables said = let ms = counted_of said in let all = names_in variable_in (things ms) in AreFew all ms × All (AreFew all) (closures ms)
+
+-- Each item of a rewritten tree has few variables.
+abbrev pub RewrittenIsFew : List Item → List Item → Type 0
+RewrittenIsFew is new = IsRewritten is (Ok new) → All (λ (i : Item). HasFewVariables i.said) new
+
+-- Where no closure stands, the variables are all that are named.
+abbrev pub AllAreOut : List (List ℕ) → Mentions → Type 0
+AllAreOut all ms = closures ms ≡ [] → names_out all ms ≡ names_in counted_in (things ms)
