@@ -10,14 +10,13 @@ pub mod Laws
 pub mod Numbers
 pub mod Keys
 pub mod Closed
-pub mod Weighed
 pub mod FaultLemmas
 pub mod ReadLemmas
 pub mod ItemLemmas
 pub mod HeadLemmas
 mod DistinctLemmas
-pub mod Told
-pub mod Queries
 pub mod Stops
 pub mod Innermost
 pub mod SignLemmas
+pub mod PartLemmas
+pub mod ReadableLemmas

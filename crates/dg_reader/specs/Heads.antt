@@ -4,11 +4,11 @@ use Rattle.std.specs.Option.{is_some}
 use Rattle.std.specs.Str.{bytes_eq}
 use Rattle.dg_base.specs.Heads.{name_of}
 use Rattle.dg_base.specs.Names.{keywords, prelude_names, name_among, builtin_named}
-use Rattle.dg_base.specs.Tree.{Part, part_word, part_value, Parts, no_parts, part, Value, num, dict_word, object_name, current_topic, anonymous, variable, plain_list, nested, Values, no_values, value, Stmt, ask, ask_all, ask_not, Stmts, no_stmts, stmt, Body, no_branches, branch}
+use Rattle.dg_base.specs.Tree.{Part, part_word, part_value, Parts, no_parts, part, Value, num, dict_word, object_name, current_topic, anonymous, variable, plain_list, nested, Values, no_values, value, Stmt, ask, ask_all, ask_not, Stmts, no_stmts, stmt, Body, no_branches, branch, Said, rule, deny, access}
 use Rattle.dg_base.specs.declared.refusal.Kind.{Kind}
 use Rattle.dg_base.specs.declared.refusal.Kind.TheVariants.{NotInProfile, BadHead}
-use Rattle.dg_reader.specs.Grammar.{Sign, plain_rule, access_rule, Shape, topic_line, clause, is_declaration}
-use Rattle.dg_reader.specs.Weights.{has_refused, has_topic}
+use Rattle.dg_reader.specs.Grammar.{Sign, plain_rule, negated, access_rule, is_declaration}
+use Rattle.dg_reader.specs.Profile.{has_refused, has_topic}
 
 -- ---- names
 
@@ -155,15 +155,21 @@ keeps_declaration_rules sign ps b = (is_unsigned sign && is_empty_body b) && dec
 abbrev pub keeps_own_rules : Sign → Parts → Body → Bool
 keeps_own_rules sign ps b = if is_declaration ps then keeps_declaration_rules sign ps b else queries_have_values ps && keeps_access_rules sign ps b
 
+-- The name that a rule's head may have, and the rules of its kind.
+abbrev pub keeps_head_rules : Sign → Parts → Body → Bool
+keeps_head_rules sign ps b = not (is_reserved (name_of ps)) && keeps_own_rules sign ps b
+
+-- The rules of the head that an item has.
+abbrev pub keeps_rules : Said → Bool
+keeps_rules (rule ps b) = keeps_head_rules plain_rule ps b
+keeps_rules (deny ps b) = keeps_head_rules negated ps b
+keeps_rules (access ps b) = keeps_head_rules access_rule ps b
+keeps_rules said = true
+
 -- A `*` in the place of a value stands behind a topic.
-abbrev pub keeps_topic_rule : Bool → Shape → Bool
-keeps_topic_rule behind_topic shape = behind_topic || not (has_topic shape)
+abbrev pub keeps_topic_rule : Bool → Said → Bool
+keeps_topic_rule behind_topic said = behind_topic || not (has_topic said)
 
--- The rules that an item keeps, which may stand behind a topic.
-abbrev pub keeps_rules : Bool → Shape → Bool
-keeps_rules behind_topic (topic_line n) = true
-keeps_rules behind_topic (clause sign ps b) = keeps_topic_rule behind_topic (clause sign ps b) && (not (is_reserved (name_of ps)) && keeps_own_rules sign ps b)
-
--- Why an item of this shape is refused: a refused name stands in it, or else it breaks a rule.
-abbrev pub fault_in : Bool → Shape → Option Kind
-fault_in behind_topic shape = if has_refused shape then Some NotInProfile else if keeps_rules behind_topic shape then None else Some BadHead
+-- Why an item is refused: a refused name stands in it, or else it breaks a rule.
+abbrev pub fault_of : Bool → Said → Option Kind
+fault_of behind_topic said = if has_refused said then Some NotInProfile else if keeps_topic_rule behind_topic said && keeps_rules said then None else Some BadHead

@@ -1,5 +1,5 @@
 -- What the reader answers for one item, in the words of reading token by token. The proofs alone rest on it.
-use Rattle.std.specs.Prelude.{◌≡◌, ◌+◌, ◌<◌, ℕ, List, [], ◌∷◌, take, length, map, Some, None, Result, Ok, Err, nat_lt}
+use Rattle.std.specs.Prelude.{◌≡◌, ◌+◌, ◌<◌, ℕ, List, [], ◌∷◌, take, length, map, Some, None, Result, Ok, Err}
 use Rattle.dg_base.specs.TreeView.{head_view, body_view}
 use Rattle.dg_reader.specs.Grammar.{Shape, topic_line, clause}
 use Rattle.dg_reader.specs.Tokens.{Tok}
@@ -8,11 +8,6 @@ use Rattle.dg_reader.specs.Frames.{sign_view}
 use Rattle.dg_reader.specs.TokenView.{token_view}
 use Rattle.dg_lex.specs.declared.token.Token.{Token}
 use Rattle.dg_reader.specs.declared.item.Shape as code
-use Rattle.dg_reader.specs.Frames.{stack_view}
-use Rattle.dg_reader.specs.StackSums.{stack_sum}
-use Rattle.dg_reader.specs.Weights.{refused_weight, no_weight, has_refused, has_topic}
-use Rattle.dg_reader.specs.declared.item.Found.{Found}
-use Rattle.dg_reader.specs.declared.item.Reading.{Reading}
 use Rattle.dg_reader.specs.declared.item.ShapeFault.{ShapeFault}
 use Rattle.dg_reader.specs.declared.item.ShapeFault.TheVariants as fault
 use Rattle.dg_reader.specs.declared.item.Shape.TheVariants as shape
@@ -53,13 +48,3 @@ OnUnclosed (Ok x) P = Unit {0}
 OnUnclosed (Err fault.Unclosed) P = P
 OnUnclosed (Err (fault.Unexpected index)) P = Unit {0}
 OnUnclosed (Err fault.OutOfMemory) P = Unit {0}
-
--- It is known of what stands open whether a refused name and a `*` in the place of a value stand in it.
-pub record Weighed (reading : Reading) : Type 0 where
-  pub refused : reading.refused ≡ nat_lt 0 (stack_sum refused_weight 0 (stack_view reading.stack.items))
-  pub topic : reading.topic ≡ nat_lt 0 (stack_sum no_weight 1 (stack_view reading.stack.items))
-
--- The same of an item.
-pub record IsTold (found : Found) : Type 0 where
-  pub refused : found.refused ≡ has_refused (shape_view found.shape)
-  pub topic : found.topic ≡ has_topic (shape_view found.shape)

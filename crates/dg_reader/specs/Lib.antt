@@ -5,11 +5,9 @@ pub mod Machine
 pub mod Frames
 pub mod Keywords
 pub mod Items
-pub mod Sums
-pub mod StackSums
-pub mod Named
-pub mod Weights
+pub mod Profile
 pub mod Heads
 pub mod Distinct
 pub mod Read
 pub mod Sizes
+pub mod Readable

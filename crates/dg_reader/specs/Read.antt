@@ -1,5 +1,5 @@
 -- The items of a source, from its tokens: hold it against docs/LANGUAGE.md, "Grammar", and against docs/REFUSALS.md on unclosed constructs, unexpected tokens, refused names and bad heads.
-use Rattle.std.specs.Prelude.{◌≡◌, ◌&&◌, ◌||◌, ℕ, zero, suc, List, [], ◌∷◌, ◌++◌, Bool, true, false, not, map, Some, None, unwrap_or, Result, Ok, Err, if◌then◌else◌}
+use Rattle.std.specs.Prelude.{◌≡◌, ◌&&◌, ◌||◌, ℕ, zero, suc, List, [], ◌∷◌, ◌++◌, Bool, true, false, not, map, Some, None, unwrap_or, Option, Result, Ok, Err, if◌then◌else◌}
 use Rattle.dg_base.specs.Tree.{Parts, Body, Said, topic, rule, deny, access, global_variable, Item}
 use Rattle.dg_base.specs.declared.refusal.Refusal.{Refusal}
 use Rattle.dg_base.specs.declared.refusal.Kind.{Kind}
@@ -8,7 +8,7 @@ use Rattle.dg_lex.specs.Tokens.{Seen}
 use Rattle.dg_reader.specs.Tokens.{Tok}
 use Rattle.dg_reader.specs.TokenView.{kind_view}
 use Rattle.dg_reader.specs.Grammar.{Sign, plain_rule, negated, access_rule, Shape, topic_line, clause, is_declaration, InItem, IsUnclosed, IsUnexpectedAt}
-use Rattle.dg_reader.specs.Heads.{declared_query, fault_in}
+use Rattle.dg_reader.specs.Heads.{declared_query, fault_of}
 
 -- ---- the tokens of an item
 
@@ -38,16 +38,29 @@ pub record IsFront (ts : List Seen) (first : Seen) (others rest : List Seen) : T
 abbrev pub declared : Parts → Said
 declared ps = global_variable (unwrap_or (declared_query ps) ps)
 
--- What another head with its sign and its body says.
+-- A rule with such a head says what it declares, and each other item what it is.
+abbrev pub declared_or : Said → Said
+declared_or (rule ps b) = if is_declaration ps then declared ps else rule ps b
+declared_or said = said
+
+-- A head with its sign and its body, a declaration being a rule.
 abbrev pub signed : Sign → Parts → Body → Said
 signed plain_rule ps b = rule ps b
 signed negated ps b = deny ps b
 signed access_rule ps b = access ps b
 
+-- An item of this shape, a declaration being a rule.
+abbrev pub signed_of : Shape → Said
+signed_of (topic_line n) = topic n
+signed_of (clause sign ps b) = signed sign ps b
+
 -- What an item of this shape says.
 abbrev pub said_of : Shape → Said
-said_of (topic_line n) = topic n
-said_of (clause sign ps b) = if is_declaration ps then declared ps else signed sign ps b
+said_of shape = declared_or (signed_of shape)
+
+-- Why an item of this shape is refused, if it is.
+abbrev pub fault_in : Bool → Shape → Option Kind
+fault_in behind_topic shape = fault_of behind_topic (signed_of shape)
 
 -- An item of this shape, on the line of its first token.
 abbrev pub item_of : Seen → Shape → Item

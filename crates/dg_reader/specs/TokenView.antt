@@ -1,7 +1,7 @@
 -- A token of the source as the grammar sees it.
 use Rattle.std.specs.Prelude.{ℕ, List, drop}
 use Rattle.dg_reader.specs.Tokens as tokens
-use Rattle.dg_reader.specs.Tokens.{without_escapes}
+use Rattle.dg_lex.specs.Spelled.{without_escapes}
 use Rattle.dg_lex.specs.declared.token.Token.{Token}
 use Rattle.dg_lex.specs.declared.token.TokenKind.{TokenKind}
 use Rattle.dg_lex.specs.declared.token.TokenKind.TheVariants.{Word, Dict, Object, Var, Anon, At, Hash, RoundOpen, RoundClose, SquareOpen, SquareClose, BraceOpen, BraceClose, Bar, Star, Tilde}

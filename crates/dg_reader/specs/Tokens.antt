@@ -64,13 +64,3 @@ are_several (w ∷ u ∷ ws) = true
 -- Whether a word of a rule's head is a choice of words.
 abbrev pub is_choice : List ℕ → Bool
 is_choice w = are_several (word_parts w)
-
--- A text behind a backslash or not, with each further backslash dropped, so that the character behind one stands for itself.
-abbrev pub escapes_dropped : Bool → List ℕ → List ℕ
-escapes_dropped escaped [] = []
-escapes_dropped true (c ∷ cs) = c ∷ escapes_dropped false cs
-escapes_dropped false (c ∷ cs) = if nat_eq c 92 then escapes_dropped true cs else c ∷ escapes_dropped false cs
-
--- A text without escapes.
-abbrev pub without_escapes : List ℕ → List ℕ
-without_escapes text = escapes_dropped false text

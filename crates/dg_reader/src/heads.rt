@@ -7,17 +7,17 @@ ghost use Rattle.dg_base.specs.TreeView.{part_view, value_view, stmt_view, head_
 ghost use Rattle.dg_reader.specs.Frames.{sign_view};
 ghost use Rattle.dg_reader.specs.Heads as spec;
 ghost use Rattle.dg_reader.specs.Items.{shape_view};
-ghost use Rattle.dg_reader.specs.Read.{declared, signed, said_of};
+ghost use Rattle.dg_reader.specs.Read.{declared, declared_or, signed_of};
 ghost use Rattle.dg_reader.specs.Sizes.{is_atom, elements_of, all_constant, work, value_size, values_size};
-ghost use Rattle.dg_reader.specs.Weights.{has_refused, has_topic};
 
 use crate::distinct::are_distinct_variables;
 use crate::frames::Sign;
-use crate::item::{Found, Shape};
+use crate::item::Shape;
 use crate::open::declares;
+use crate::profile::{has_refused, has_topic};
 use dg_base::{
     Body, Head, ItemBody, Items, Kind, Part, Stmt, Value, builtin_of, is_keyword, is_named,
-    is_prelude_name,
+    is_prelude_name, mentions_of,
 };
 use std::alloc::{AllocError, Global};
 
@@ -316,7 +316,7 @@ fn keeps_own_rules(alloc: Global, sign: Sign, head: &Head, body: &Body) -> Resul
 
 // Whether a rule's head has a name that it may have, and the rules of its kind are kept.
 fn keeps_head_rules(alloc: Global, sign: Sign, head: &Head, body: &Body) -> Result<bool, AllocError>
-    ensures { IfOk result (λ keeps. keeps ≡ (not (spec.is_reserved (head_name (head_view head.now))) && spec.keeps_own_rules (sign_view sign) (head_view head.now) (body_view body.now))) }
+    ensures { IfOk result (λ keeps. keeps ≡ spec.keeps_head_rules (sign_view sign) (head_view head.now) (body_view body.now)) }
 {
     if is_reserved(head.parts.as_slice()) {
         return Ok(false);
@@ -324,36 +324,33 @@ fn keeps_head_rules(alloc: Global, sign: Sign, head: &Head, body: &Body) -> Resu
     keeps_own_rules(alloc, sign, head, body)
 }
 
-/// Whether an item keeps the rules that stand beside the grammar, where a topic stands before it or not.
-fn keeps_rules(alloc: Global, behind_topic: bool, found: &Found) -> Result<bool, AllocError>
-    requires { found.now.topic ≡ has_topic (shape_view found.now.shape) }
-    ensures { IfOk result (λ keeps. keeps ≡ spec.keeps_rules behind_topic (shape_view found.now.shape)) }
+// Whether the head that an item has keeps the rules of its kind.
+fn keeps_rules(alloc: Global, said: &ItemBody) -> Result<bool, AllocError>
+    ensures { IfOk result (λ keeps. keeps ≡ spec.keeps_rules (said_view said.now)) }
 {
-    match &found.shape {
-        Shape::Topic(_) => Ok(true),
-        Shape::Clause(sign, head, body) => {
-            if found.topic && !behind_topic {
-                return Ok(false);
-            }
-            keeps_head_rules(alloc, *sign, head, body)
-        }
+    match said {
+        ItemBody::Rule(head, body) => keeps_head_rules(alloc, Sign::Plain, head, body),
+        ItemBody::Deny(head, body) => keeps_head_rules(alloc, Sign::Negated, head, body),
+        ItemBody::Access(head, body) => keeps_head_rules(alloc, Sign::Access, head, body),
+        ItemBody::Topic(_) | ItemBody::Variable(_) => Ok(true),
     }
 }
 
-/// Why an item is refused that has a shape.
-pub fn fault_in(
+/// Why an item is refused that has a shape, a declaration being a rule; a topic may stand before it.
+pub fn fault_of(
     alloc: Global,
     behind_topic: bool,
-    found: &Found,
+    said: &ItemBody,
 ) -> Result<Option<Kind>, AllocError>
-    requires refused { found.now.refused ≡ has_refused (shape_view found.now.shape) }
-    requires topic { found.now.topic ≡ has_topic (shape_view found.now.shape) }
-    ensures { IfOk result (λ fault. fault ≡ spec.fault_in behind_topic (shape_view found.now.shape)) }
+    ensures { IfOk result (λ fault. fault ≡ spec.fault_of behind_topic (said_view said.now)) }
 {
-    if found.refused {
+    let mentions = mentions_of(alloc, said)?;
+    if has_refused(mentions.as_slice()) {
         return Ok(Some(Kind::NotInProfile));
     }
-    if keeps_rules(alloc, behind_topic, found)? {
+    let has_topic = has_topic(mentions.as_slice());
+    let keeps_rules = keeps_rules(alloc, said)?;
+    if (behind_topic || !has_topic) && keeps_rules {
         Ok(None)
     } else {
         Ok(Some(Kind::BadHead))
@@ -385,29 +382,30 @@ fn declared(mut parts: Items<Part>) -> ItemBody
     }
 }
 
-// What a head with its sign and its body says.
-fn signed(sign: Sign, head: Head, body: Body) -> ItemBody
-    ensures { said_view result ≡ signed (sign_view sign) (head_view head) (body_view body) }
-{
-    match sign {
-        Sign::Plain => ItemBody::Rule(head, body),
-        Sign::Negated => ItemBody::Deny(head, body),
-        Sign::Access => ItemBody::Access(head, body),
-    }
-}
-
-/// What an item of this shape says.
-pub fn said_of(shape: Shape) -> ItemBody
-    ensures { said_view result ≡ said_of (shape_view shape) }
+/// An item of this shape, a declaration being a rule.
+pub fn signed_of(shape: Shape) -> ItemBody
+    ensures { said_view result ≡ signed_of (shape_view shape) }
 {
     match shape {
         Shape::Topic(name) => ItemBody::Topic(name),
-        Shape::Clause(sign, head, body) => {
+        Shape::Clause(Sign::Plain, head, body) => ItemBody::Rule(head, body),
+        Shape::Clause(Sign::Negated, head, body) => ItemBody::Deny(head, body),
+        Shape::Clause(Sign::Access, head, body) => ItemBody::Access(head, body),
+    }
+}
+
+/// What an item says, a declaration no longer being a rule.
+pub fn declared_or(said: ItemBody) -> ItemBody
+    ensures { said_view result ≡ declared_or (said_view said) }
+{
+    match said {
+        ItemBody::Rule(head, body) => {
             if declares(head.parts.as_slice()) {
                 declared(head.parts)
             } else {
-                signed(sign, head, body)
+                ItemBody::Rule(head, body)
             }
         }
+        other => other,
     }
 }

@@ -1,19 +1,18 @@
 // The shape of an item, from its tokens.
-ghost use Rattle.std.specs.Prelude.{◌≡◌, ◌∷◌, [], map, true, None, Some, Ok, Err, IfOk, OnOk};
+ghost use Rattle.std.specs.Prelude.{◌≡◌, ◌∷◌, [], map, true, None, Some, Ok, Err, IfOk};
 ghost use Rattle.std.specs.Option.{option_map};
 ghost use Rattle.dg_base.specs.TreeView.{stmt_view, branch_view};
 ghost use Rattle.dg_reader.specs.Grammar.{IsUnexpectedAt};
 ghost use Rattle.dg_reader.specs.Machine as machine;
 ghost use Rattle.dg_reader.specs.TokenView.{token_view};
 ghost use Rattle.dg_reader.specs.Frames.{stack_view, frame_view, owner_view, Moves};
-ghost use Rattle.dg_reader.specs.Items.{shape_view, StopsAt, IsOpen, EndsAs, OnUnclosed, OnUnexpected, Weighed, IsTold};
+ghost use Rattle.dg_reader.specs.Items.{shape_view, StopsAt, IsOpen, EndsAs, OnUnclosed, OnUnexpected};
 ghost use Rattle.dg_reader.specs.declared.item.ShapeFault.TheVariants.{OutOfMemory};
 
 use crate::forms::body;
 use crate::frames::{Frame, Owner, Sign, Stop};
 use crate::release::{let_go_body, let_go_frame, let_go_frames};
 use crate::step::step;
-use crate::weights::{adds_refused, adds_topic};
 use dg_base::{Body, Head, Items, Name, Stmt};
 use dg_lex::Token;
 use std::alloc::{AllocError, AllocFailed, Global};
@@ -23,22 +22,6 @@ use std::alloc::{AllocError, AllocFailed, Global};
 pub enum Shape {
     Topic(Name),
     Clause(Sign, Head, Body),
-}
-
-/// The shape of an item, whether a refused name stands in it, and whether a `*` stands in the place of a value.
-#[derive(Drop)]
-pub struct Found {
-    pub shape: Shape,
-    pub refused: bool,
-    pub topic: bool,
-}
-
-// What stands open, and the same of what was read so far.
-#[derive(Drop)]
-pub struct Reading {
-    pub stack: Vec<Frame>,
-    pub refused: bool,
-    pub topic: bool,
 }
 
 /// Why tokens have no shape: they may go on, or the token of this number may not stand there.
@@ -140,91 +123,60 @@ fn finished(mut stack: Vec<Frame>) -> Result<Option<Shape>, AllocError>
     }
 }
 
-// Goes on with one token.
-fn take(alloc: Global, reading: &mut Reading, token: &Token<'_>) -> Result<(), Stop>
-    requires { Weighed reading.old }
-    ensures moves { Moves (machine.step (token_view token.now) (stack_view reading.old.stack.items)) result (stack_view reading.new.stack.items) }
-    ensures weighed { OnOk result (Weighed reading.new) }
-{
-    let refused = adds_refused(&reading.stack, token);
-    let topic = adds_topic(&reading.stack, token);
-    step(alloc, &mut reading.stack, token)?;
-    reading.refused |= refused;
-    reading.topic |= topic;
-    Ok(())
-}
-
-fn begin(alloc: Global) -> Result<Reading, AllocError>
-    ensures { IfOk result (λ reading. (stack_view reading.stack.items ≡ machine.start ∷ []) × Weighed reading) }
+fn begin(alloc: Global) -> Result<Vec<Frame>, AllocError>
+    ensures { IfOk result (λ stack. stack_view stack.items ≡ machine.start ∷ []) }
 {
     let mut stack = Vec::new(alloc);
     stack.push(Frame::Start)?;
-    Ok(Reading {
-        stack,
-        refused: false,
-        topic: false,
-    })
+    Ok(stack)
 }
 
 // The token of this number may not stand behind what was read.
-fn stopped(reading: Reading, index: usize) -> Result<Reading, ShapeFault>
+fn stopped(stack: Vec<Frame>, index: usize) -> Result<Vec<Frame>, ShapeFault>
     ensures { result ≡ Err (ShapeFault.Unexpected index) }
 {
-    let_go_frames(reading.stack);
+    let_go_frames(stack);
     Err(ShapeFault::Unexpected(index))
 }
 
 // What stands open behind all tokens.
-fn run(alloc: Global, tokens: &[Token<'_>]) -> Result<Reading, ShapeFault>
-    ensures ok { IfOk result (λ reading. machine.run (map token_view tokens.now) (machine.start ∷ []) ≡ Some (stack_view reading.stack.items)) }
-    ensures weighed { IfOk result (λ reading. Weighed reading) }
+fn run(alloc: Global, tokens: &[Token<'_>]) -> Result<Vec<Frame>, ShapeFault>
+    ensures ok { IfOk result (λ stack. machine.run (map token_view tokens.now) (machine.start ∷ []) ≡ Some (stack_view stack.items)) }
     ensures unclosed { OnUnclosed result ⊥ }
     ensures unexpected { OnUnexpected result (λ index. StopsAt tokens.now index) }
 {
-    let mut reading = begin(alloc)?;
+    let mut stack = begin(alloc)?;
     for index in 0..tokens.len() {
-        match take(alloc, &mut reading, &tokens[index]) {
+        match step(alloc, &mut stack, &tokens[index]) {
             Ok(()) => {}
-            Err(Stop::Unexpected) => return stopped(reading, index),
+            Err(Stop::Unexpected) => return stopped(stack, index),
             Err(Stop::OutOfMemory) => return Err(ShapeFault::OutOfMemory),
         }
     }
-    Ok(reading)
+    Ok(stack)
 }
 
 // The item that ends where the tokens do.
-fn end(reading: Reading) -> Result<Found, ShapeFault>
-    requires { Weighed reading }
-    ensures ok { IfOk result (λ found. machine.finished (stack_view reading.stack.items) ≡ Some (shape_view found.shape)) }
-    ensures told { IfOk result IsTold }
-    ensures unclosed { OnUnclosed result (machine.finished (stack_view reading.stack.items) ≡ None) }
+fn end(stack: Vec<Frame>) -> Result<Shape, ShapeFault>
+    ensures ok { IfOk result (λ shape. machine.finished (stack_view stack.items) ≡ Some (shape_view shape)) }
+    ensures unclosed { OnUnclosed result (machine.finished (stack_view stack.items) ≡ None) }
     ensures unexpected { OnUnexpected result (λ index. ⊥) }
 {
-    let Reading {
-        stack,
-        refused,
-        topic,
-    } = reading;
     match finished(stack)? {
-        Some(shape) => Ok(Found {
-            shape,
-            refused,
-            topic,
-        }),
+        Some(shape) => Ok(shape),
         None => Err(ShapeFault::Unclosed),
     }
 }
 
 /// The item that these tokens are, all of them.
-pub fn find(alloc: Global, tokens: &[Token<'_>]) -> Result<Found, ShapeFault>
-    ensures ok { IfOk result (λ found. EndsAs (map token_view tokens.now) (shape_view found.shape)) }
-    ensures told { IfOk result IsTold }
+pub fn find(alloc: Global, tokens: &[Token<'_>]) -> Result<Shape, ShapeFault>
+    ensures ok { IfOk result (λ shape. EndsAs (map token_view tokens.now) (shape_view shape)) }
     ensures unclosed { OnUnclosed result (IsOpen (map token_view tokens.now)) }
     ensures unexpected { OnUnexpected result (λ index. StopsAt tokens.now index) }
     ensures first { OnUnexpected result (λ index. IsUnexpectedAt true (map token_view tokens.now) index) }
 {
     match run(alloc, tokens) {
-        Ok(reading) => end(reading),
+        Ok(stack) => end(stack),
         Err(fault) => Err(fault),
     }
 }

@@ -1,12 +1,15 @@
 //! The reader: from the tokens of a source to its tree.
 #![tactic(auto)]
 
-ghost use Rattle.std.specs.Prelude.{◌≡◌, List, Bool, Result};
+ghost use Rattle.std.specs.Prelude.{◌≡◌, List, Bool, Result, Ok, All};
 ghost use Rattle.dg_base.specs.Tree.{Item};
 ghost use Rattle.dg_base.specs.declared.refusal.Refusal.{Refusal};
+ghost use Rattle.dg_base.specs.Mentions.{mentioned};
+ghost use Rattle.dg_lex.specs.Spelled.{IsSpelledToken};
 ghost use Rattle.dg_lex.specs.Tokens.{Seen};
 ghost use Rattle.dg_reader.specs.Grammar.{IsDecided};
 ghost use Rattle.dg_reader.specs.Read.{IsRead};
+ghost use Rattle.dg_reader.specs.Readable.{IsReadable};
 ghost use Rattle.dg_reader.specs.Tokens.{Tok};
 
 mod close;
@@ -18,11 +21,11 @@ mod heads;
 mod item;
 mod keyword;
 mod open;
+mod profile;
 mod put;
 mod release;
 mod source;
 mod step;
-mod weights;
 mod words;
 
 pub use source::read;
@@ -35,4 +38,9 @@ pub fn items_are_decided()
 /// Tokens are read in one way.
 pub fn items_are_one()
     ensures { (ts : List Seen) → (a b : Result (List Item) Refusal) → IsRead ts a → IsRead ts b → a ≡ b }
+{}
+
+/// What is read can be printed where the words and names of its tokens are spelled, and its numbers are in their range.
+pub fn items_are_readable()
+    ensures { (ts : List Seen) → (is : List Item) → All IsSpelledToken ts → IsRead ts (Ok is) → All IsReadable (mentioned is) }
 {}

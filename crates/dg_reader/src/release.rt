@@ -1,9 +1,8 @@
 // Lets go of what was read and isn't wanted, however deep, without recursion.
 
 use crate::frames::{Frame, Owner};
-use crate::item::Shape;
 use crate::keyword::Keyword;
-use dg_base::{Items, Pieces, Stmt};
+use dg_base::{ItemBody, Items, Pieces, Stmt};
 
 fn add_owner(pieces: &mut Pieces, owner: Owner) {
     match owner {
@@ -87,11 +86,12 @@ pub fn let_go_keyword(keyword: Keyword) {
 }
 
 /// Lets go of an item.
-pub fn let_go_shape(shape: Shape) {
+pub fn let_go_item(said: ItemBody) {
     let mut pieces = Pieces::new();
-    match shape {
-        Shape::Topic(_name) => {}
-        Shape::Clause(_sign, head, body) => {
+    match said {
+        ItemBody::Topic(_name) => {}
+        ItemBody::Variable(head) => pieces.add_head(head),
+        ItemBody::Rule(head, body) | ItemBody::Deny(head, body) | ItemBody::Access(head, body) => {
             pieces.add_head(head);
             pieces.add_body(body);
         }

@@ -2,15 +2,13 @@
 ghost use Rattle.std.specs.Prelude.{◌≡◌, ◌<◌, ◌≤◌, [], true, None, length, take, drop, map, Ok, Err, IfOk, IfErr};
 ghost use Rattle.dg_base.specs.TreeView.{said_view, item_view, tree_view};
 ghost use Rattle.dg_lex.specs.Tokens.{seen};
-ghost use Rattle.dg_reader.specs.Heads.{fault_in};
-ghost use Rattle.dg_reader.specs.Items.{shape_view, IsTold};
+ghost use Rattle.dg_reader.specs.Items.{shape_view};
 ghost use Rattle.dg_base.specs.Faults.{IsFault};
 ghost use Rattle.dg_reader.specs.Read as spec;
 
-use crate::heads;
-use crate::heads::said_of;
-use crate::item::{Found, Shape, ShapeFault, find};
-use crate::release::let_go_shape;
+use crate::heads::{declared_or, fault_of, signed_of};
+use crate::item::{Shape, ShapeFault, find};
+use crate::release::let_go_item;
 use dg_base::{Item, ItemBody, Items, Kind, ReadFault, Refusal, Tree};
 use dg_lex::Token;
 use std::alloc::Global;
@@ -37,27 +35,34 @@ fn refusal(kind: Kind, line: u32) -> ReadFault
     ReadFault::Refused(Refusal { kind, line })
 }
 
-// An item of this shape is refused.
-fn refused(shape: Shape, kind: Kind, line: u32) -> Result<Item, ReadFault>
+// An item is refused.
+fn refused(said: ItemBody, kind: Kind, line: u32) -> Result<Item, ReadFault>
     ensures { result ≡ Err (ReadFault.Refused (record { kind = kind; line = line })) }
 {
-    let_go_shape(shape);
+    let_go_item(said);
     Err(refusal(kind, line))
 }
 
-// An item of this shape, where it has no fault.
-fn allowed(alloc: Global, before: bool, line: u32, found: Found) -> Result<Item, ReadFault>
-    requires { IsTold found }
-    ensures item { IfOk result (λ item. (fault_in before (shape_view found.shape) ≡ None) × (item_view item ≡ record { line = line; said = spec.said_of (shape_view found.shape) })) }
-    ensures refused { IfErr result (IsFault (spec.IsFaultOf before line (shape_view found.shape))) }
+fn no_memory(said: ItemBody) -> Result<Item, ReadFault>
+    ensures { result ≡ Err ReadFault.OutOfMemory }
 {
-    match heads::fault_in(alloc, before, &found) {
+    let_go_item(said);
+    Err(ReadFault::OutOfMemory)
+}
+
+// An item of this shape, where it has no fault.
+fn allowed(alloc: Global, before: bool, line: u32, shape: Shape) -> Result<Item, ReadFault>
+    ensures item { IfOk result (λ item. (spec.fault_in before (shape_view shape) ≡ None) × (item_view item ≡ record { line = line; said = spec.said_of (shape_view shape) })) }
+    ensures refused { IfErr result (IsFault (spec.IsFaultOf before line (shape_view shape))) }
+{
+    let said = signed_of(shape);
+    match fault_of(alloc, before, &said) {
         Ok(None) => Ok(Item {
             line,
-            body: said_of(found.shape),
+            body: declared_or(said),
         }),
-        Ok(Some(kind)) => refused(found.shape, kind, line),
-        Err(_) => Err(ReadFault::OutOfMemory),
+        Ok(Some(kind)) => refused(said, kind, line),
+        Err(_) => no_memory(said),
     }
 }
 
@@ -73,7 +78,7 @@ fn item_of(alloc: Global, before: bool, tokens: &[Token<'_>]) -> Result<Item, Re
         return Err(refusal(Kind::Unexpected, line));
     }
     match find(alloc, tokens) {
-        Ok(found) => allowed(alloc, before, line, found),
+        Ok(shape) => allowed(alloc, before, line, shape),
         Err(ShapeFault::Unclosed) => Err(refusal(Kind::Unclosed, line)),
         Err(ShapeFault::Unexpected(at)) => Err(refusal(Kind::Unexpected, tokens[at].line)),
         Err(ShapeFault::OutOfMemory) => Err(ReadFault::OutOfMemory),

@@ -1,6 +1,6 @@
 // One token more.
 ghost use Rattle.std.specs.Prelude.{◌≡◌, drop, IfOk};
-ghost use Rattle.dg_reader.specs.Tokens.{without_escapes};
+ghost use Rattle.dg_lex.specs.Spelled.{without_escapes};
 ghost use Rattle.dg_reader.specs.TokenView.{token_view};
 ghost use Rattle.dg_reader.specs.Machine as machine;
 ghost use Rattle.dg_reader.specs.Frames.{stack_view, Moves};

@@ -1,7 +1,8 @@
-use Rattle.dg_reader.specs.declared.item.Found.{Found}
-use Rattle.dg_reader.specs.declared.item.Reading.{Reading}
+use Rattle.std.proofs.Common.{Vec, Global}
+use Rattle.dg_reader.specs.declared.frames.Frame.{Frame}
+use Rattle.dg_reader.specs.declared.item.Shape.{Shape}
 use Rattle.dg_reader.proofs.Stops.{stops_at, unexpected_map}
 use Rattle.dg_reader.proofs.item.find.Goals as goal
 
 pub returns-in-Err-clause-first : goal.returns-in-Err-clause-first
-returns-in-Err-clause-first c = unexpected_map Reading Found c.in-Err.fault _ _ (stops_at c.args.tokens.now) c.in-Err.ensures.unexpected
+returns-in-Err-clause-first c = unexpected_map (Vec Frame Global) Shape c.in-Err.fault _ _ (stops_at c.args.tokens.now) c.in-Err.ensures.unexpected

@@ -2,11 +2,7 @@ use Rattle.std.proofs.Common.{◌≡◌, ◌∷◌, [], Some, map, take}
 use Rattle.dg_reader.specs.Machine.{run, start}
 use Rattle.dg_reader.specs.TokenView.{token_view}
 use Rattle.dg_reader.specs.Frames.{stack_view}
-use Rattle.dg_reader.specs.Items.{Weighed}
 use Rattle.dg_reader.proofs.item.run.Given as goal
 
 abbrev pub invariant-loop-index : goal.invariant-loop-index
-invariant-loop-index l = record {
-  taken : run (map token_view (take l.index l.tokens)) (start ∷ []) ≡ Some (stack_view l.reading.stack.items);
-  weighed : Weighed l.reading;
-}
+invariant-loop-index l = run (map token_view (take l.index l.tokens)) (start ∷ []) ≡ Some (stack_view l.stack.items)

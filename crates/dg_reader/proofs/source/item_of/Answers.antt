@@ -16,11 +16,11 @@ returns-then-not-tokens-clause-refused c =
 
 pub returns-in-Ok-clause-item : goal.returns-in-Ok-clause-item
 returns-in-Ok-clause-item c =
-    ok_map c.allowed.result _ _ (λ item h. whole_item c.args.before c.args.tokens.now _ (shape_view c.in-Ok.found.shape) (item_view item) c.requires.some c.requires.alone c.if-not-tokens.false c.in-Ok.ensures.ok h.0 h.1) c.allowed.ensures.item
+    ok_map c.allowed.result _ _ (λ item h. whole_item c.args.before c.args.tokens.now _ (shape_view c.in-Ok.shape) (item_view item) c.requires.some c.requires.alone c.if-not-tokens.false c.in-Ok.ensures.ok h.0 h.1) c.allowed.ensures.item
 
 pub returns-in-Ok-clause-refused : goal.returns-in-Ok-clause-refused
 returns-in-Ok-clause-refused c =
-    err_map c.allowed.result _ _ (λ fault h. fault_map _ _ (λ r k. faulty_item c.args.before c.args.tokens.now _ (shape_view c.in-Ok.found.shape) r c.requires.some c.requires.alone c.if-not-tokens.false c.in-Ok.ensures.ok k) fault h) c.allowed.ensures.refused
+    err_map c.allowed.result _ _ (λ fault h. fault_map _ _ (λ r k. faulty_item c.args.before c.args.tokens.now _ (shape_view c.in-Ok.shape) r c.requires.some c.requires.alone c.if-not-tokens.false c.in-Ok.ensures.ok k) fault h) c.allowed.ensures.refused
 
 pub returns-in-Err-Unclosed-clause-refused : goal.returns-in-Err-Unclosed-clause-refused
 returns-in-Err-Unclosed-clause-refused c =

@@ -1,5 +1,5 @@
 use Rattle.std.proofs.Common.{◌≡◌, ◌++◌, drop}
-use Rattle.dg_reader.specs.Tokens.{escapes_dropped, without_escapes}
+use Rattle.dg_lex.specs.Spelled.{escapes_dropped, without_escapes}
 use Rattle.dg_reader.proofs.words.name_of.Given as goal
 
 abbrev pub invariant-loop-c : goal.invariant-loop-c
