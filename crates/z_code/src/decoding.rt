@@ -10,7 +10,7 @@ ghost use Rattle.z_model.specs.Decode.{byte_at, known, counted, count_of, operan
 
 use z_model::{
     Branch, Form, Found, Kind, Op, Operand, OperandType, OperandTypes, Operands, Row, ZFault,
-    find_row,
+    find_row, word_of,
 };
 
 #[inline(always)]
@@ -138,7 +138,7 @@ fn operand(bytes: &[u8], kind: OperandType, at: usize) -> Result<(Operand, usize
         OperandType::Large => {
             let high = read(bytes, at)?;
             let low = read(bytes, at + 1)?;
-            Ok((Operand::Large(256 * high as u16 + low as u16), at + 2))
+            Ok((Operand::Large(word_of(high, low)), at + 2))
         }
         OperandType::Small => {
             let byte = read(bytes, at)?;
@@ -187,7 +187,7 @@ fn branch(bytes: &[u8], wanted: bool, at: usize) -> Result<(Option<Branch>, usiz
         return Ok((Some(branch), at + 1));
     }
     let low = read(bytes, at + 1)?;
-    let raw = 256 * (byte % 64) as i16 + low as i16;
+    let raw = word_of(byte % 64, low) as i16;
     let offset = if raw < 8192 { raw } else { raw - 16384 };
     let branch = Branch {
         when,

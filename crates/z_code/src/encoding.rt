@@ -5,7 +5,7 @@ ghost use Rattle.z_model.specs.Spelling.{type_if, types_in, type_byte, code, lon
 ghost use Rattle.z_code.specs.Appended.{HasRoom, Appended};
 
 use std::alloc::AllocError;
-use z_model::{Branch, Form, Op, Operand, OperandType, OperandTypes, Operands};
+use z_model::{Branch, Form, Op, Operand, OperandType, OperandTypes, Operands, bytes_of};
 
 fn type_if(present: bool, operand: Operand) -> OperandType
     ensures { result ≡ type_if present operand }
@@ -93,9 +93,7 @@ fn put_operand(out: &mut Vec<u8>, kind: OperandType, operand: Operand)
     ensures { Appended out.old out.new (operand_bytes kind operand) 2 }
 {
     match (kind, operand) {
-        (OperandType::Large, Operand::Large(word)) => {
-            put(out, &[(word / 256) as u8, (word % 256) as u8])
-        }
+        (OperandType::Large, Operand::Large(word)) => put(out, &bytes_of(word)),
         (OperandType::Small, Operand::Small(byte)) => put(out, &[byte]),
         (OperandType::Variable, Operand::Variable(byte)) => put(out, &[byte]),
         _ => {}
@@ -142,7 +140,8 @@ fn put_offset(out: &mut Vec<u8>, short: bool, when: bool, offset: i16)
         put(out, &[128 * top + 64 + offset as u8]);
     } else {
         let bits = bits_of(offset);
-        put(out, &[128 * top + (bits / 256) as u8, (bits % 256) as u8]);
+        let [high, low] = bytes_of(bits);
+        put(out, &[128 * top + high, low]);
     }
 }
 

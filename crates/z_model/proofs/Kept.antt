@@ -1,9 +1,9 @@
 -- What a step leaves of the code.
-use Rattle.std.proofs.Common.{◌≡◌, ◌≢◌, ℕ, zero, suc, ◌+◌, ◌-◌, ◌*◌, ◌/◌, ◌%◌, ◌<◌, ◌≤◌, Bool, true, false, cond, eqb, ltb, List, [], ◌∷◌, ◌++◌, length, drop, take, Option, Some, None, Result, Ok, Err, IfOk, refl, sym, ap, subst, ◌∙◌, arith, ◌⊎◌, inl, inr}
+use Rattle.std.proofs.Common.{◌≡◌, ◌≢◌, ℕ, zero, suc, ◌+◌, ◌-◌, ◌*◌, ◌/◌, ◌%◌, ◌<◌, ◌≤◌, Bool, true, false, cond, eqb, ltb, List, [], ◌∷◌, ◌++◌, length, Option, Some, None, Result, Ok, Err, IfOk, refl, sym, ap, ◌∙◌, arith, ◌⊎◌, inl, inr}
 use Rattle.std.specs.Prelude.{slice_get}
 use Rattle.std.proofs.Math.ListN.{set}
 use Rattle.std.proofs.lemmas.List.{length-set, drop-set-lt}
-use Rattle.std.proofs.lemmas.Bool.{eqb-true, eqb-false, ltb-true, ltb-false}
+use Rattle.std.proofs.lemmas.Bool.{eqb-true, ltb-true, ltb-false}
 use lib.IntN.{ℤ, negsuc}
 use Rattle.std.specs.Prelude.{pos}
 use Rattle.z_model.specs.declared.fault.ZFault.{ZFault}
@@ -14,7 +14,6 @@ use Rattle.z_model.specs.declared.op.Operand.{Operand}
 use Rattle.z_model.specs.declared.op.Operand.TheVariants as operands
 use Rattle.z_model.specs.declared.op.Operands.{Operands}
 use Rattle.z_model.specs.declared.end.Args.{Args}
-use Rattle.z_model.specs.declared.end.Halt.{Halt}
 use Rattle.z_model.specs.declared.end.Effect.{Effect}
 use Rattle.z_model.specs.declared.end.Effect.TheVariants.{Goes, PrintsCode, PrintsUnicode, PrintsNumber, PrintsText, PrintsLine, Draws, Reads, Quits}
 use Rattle.z_model.specs.declared.table.Instr.{Instr}
@@ -30,16 +29,16 @@ use Rattle.z_model.specs.declared.table.Several.TheVariants as several
 use Rattle.z_model.specs.declared.table.Extended.{Extended}
 use Rattle.z_model.specs.declared.table.Extended.TheVariants as extended
 use Rattle.z_model.specs.Table.{Rows}
-use Rattle.z_model.specs.Decode.{◌>>=◌, or_fault, op_at}
-use Rattle.z_model.specs.Memory.{Memory, guarded, is_writable, byte_in, with_byte, word_in, with_word, with_bytes, have_right}
+use Rattle.z_model.specs.Decode.{◌>>=◌, op_at}
+use Rattle.z_model.specs.Memory.{Memory, guarded, is_writable, with_byte, with_word, with_bytes}
 use Rattle.z_model.specs.Machine.{Frame, Machine, pushed, popped, global_at, global_set, local_of, local_set, variable_of, stored, stored_if, held_in, placed, value_of, value_if, values_of}
-use Rattle.z_model.specs.Numbers.{signed_16, quotient, remainder}
+use Rattle.z_model.specs.Numbers.{signed_16}
 use Rattle.z_model.specs.Flow.{at_pc, address, jumped, return_to, returned, branch_taken, agrees, branched, local_count, entered, called}
 use Rattle.z_model.specs.Effects.{goes, answers, answers_or, written, fault_in, unless, printed, prints_line, added, adds, adds_and_tests, pulls, returns_popped, most_typed, reads, random_of}
 use Rattle.z_model.specs.Step.{do_two, do_one, do_zero, do_several, do_extended, do_instr, machine_step}
 use Rattle.z_model.specs.Text.{string_at, text_bytes}
 use Rattle.z_model.specs.Typed.{typed_line, typed_left}
-use Rattle.z_model.specs.Run.{ZGiven, ZState, Next, On, Ended, end_of, ZRun, go_on, zstep, zrun, next_by, shown, effect_on, on_unless, line_taken, line_read, with_line, word_at}
+use Rattle.z_model.specs.Run.{ZGiven, ZState, Next, On, Ended, go_on, zstep, zrun, next_by, shown, effect_on, on_unless, line_taken, line_read, with_line, word_at}
 use Rattle.z_model.specs.Laws.{IsLaid, KeepsCode, CodeStays, state_behind}
 
 -- ---- answers of which something holds

@@ -1,5 +1,5 @@
 -- What several instructions do: answers, printing, variables that operands name, reading and drawing (Z-Machine Standard 1.1, section 15).
-use Rattle.std.specs.Prelude.{ℕ, ◌+◌, ◌-◌, ◌%◌, Option, Some, None, Result, Ok, Err, Bool, nat_lt, ◌==◌, ◌||◌, if◌then◌else◌, int_lt}
+use Rattle.std.specs.Prelude.{ℕ, ◌+◌, ◌%◌, Option, Some, None, Result, Ok, Err, nat_lt, ◌==◌, ◌||◌, if◌then◌else◌, int_lt}
 use Rattle.z_model.specs.declared.fault.ZFault.{ZFault}
 use Rattle.z_model.specs.declared.fault.ZFault.TheVariants.{BadWrite, BadCharacter, Unsupported}
 use Rattle.z_model.specs.declared.op.Branch.{Branch}

@@ -1,5 +1,5 @@
 -- What holds of every step and run: a run comes in pieces, its output only grows, the code stays, and what stands at the counter is done.
-use Rattle.std.specs.Prelude.{◌≡◌, ◌≢◌, ◌<◌, ◌≤◌, ℕ, ◌+◌, List, ◌∷◌, ◌++◌, length, drop, flat_map, All, slice_get}
+use Rattle.std.specs.Prelude.{◌≡◌, ◌≢◌, ◌<◌, ◌≤◌, ℕ, ◌+◌, List, ◌∷◌, ◌++◌, length, drop, flat_map, slice_get}
 use Rattle.dg_base.specs.Begins.{Begins}
 use Rattle.z_model.specs.declared.op.Op.{Op}
 use Rattle.z_model.specs.declared.story.Layout.{Layout}

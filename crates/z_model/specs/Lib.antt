@@ -8,6 +8,7 @@ pub mod Zscii
 pub mod Text
 pub mod Typed
 pub mod Memory
+pub mod Words
 pub mod Machine
 pub mod Numbers
 pub mod Flow

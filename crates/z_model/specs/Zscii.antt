@@ -1,6 +1,6 @@
 -- The character codes of a story and what they print (Z-Machine Standard 1.1, section 3.8; the extra characters of the codes from 155 on stand in dg_base).
 use Rattle.std.specs.Option.{option_map}
-use Rattle.std.specs.Prelude.{ℕ, ◌+◌, ◌-◌, List, [], ◌∷◌, Option, Some, None, Bool, true, not, nat_lt, ◌==◌, ◌&&◌, ◌||◌, if◌then◌else◌, slice_index, encode_utf8}
+use Rattle.std.specs.Prelude.{ℕ, ◌+◌, ◌-◌, List, [], ◌∷◌, Option, Some, Bool, true, not, nat_lt, ◌==◌, ◌&&◌, ◌||◌, if◌then◌else◌, slice_index, encode_utf8}
 use Rattle.dg_base.specs.Typed.{extra, place_of}
 
 -- Nothing, a newline, ASCII and the extra characters have codes.

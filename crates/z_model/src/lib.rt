@@ -7,6 +7,7 @@ mod op;
 mod story;
 mod table;
 mod text;
+mod word;
 
 ghost use Rattle.std.specs.Prelude.{List, ℕ, All, flat_map};
 ghost use Rattle.z_model.specs.Table.{Rows, rows_of};
@@ -25,6 +26,7 @@ pub use op::{Branch, Form, Found, Op, Operand, OperandType, OperandTypes, Operan
 pub use story::{Header, Layout, StoryRefusal, read_header};
 pub use table::{Extended, Instr, Kind, One, Row, Several, Two, Zero, find_row};
 pub use text::{Alphabet, PUNCTUATION, Reading, code_of};
+pub use word::{bytes_of, word_of};
 
 /// What is written as an instruction of the table is decoded again, whatever stands around it; no bytes are two instructions.
 pub fn instructions_again()

@@ -2,6 +2,7 @@
 ghost use Rattle.std.specs.Prelude.{◌≡◌, ◌<◌, ◌≤◌, ◌+◌, ◌%◌, length, drop, sum, Some, IfOk, IfErr};
 ghost use Rattle.z_model.specs.Story.{header_word, length_of, refusal_of, has_bad_map, layout_of, start_of, text_of_story, IsHeader};
 
+use crate::word::word_of;
 use std::error::Error;
 use std::fmt;
 
@@ -49,7 +50,7 @@ fn word(file: &[u8], at: usize) -> u16
     requires { at + 1 < length file.now }
     ensures { result ≡ header_word file.now at }
 {
-    256 * file[at] as u16 + file[at + 1] as u16
+    word_of(file[at], file[at + 1])
 }
 
 fn size_of(file: &[u8]) -> usize

@@ -5,7 +5,7 @@ ghost use Rattle.z_play.specs.View.{machine, Sound, Gives, Sets, Kept};
 ghost use Rattle.z_play.specs.Top.{top_of};
 ghost use Rattle.z_play.specs.Faults.{fault_of};
 
-use z_model::{Args, Layout, Operand, Operands, ZFault};
+use z_model::{Args, Layout, Operand, Operands, ZFault, bytes_of, word_of};
 
 /// A routine that was called: its locals and its words stand in the stack from `base` on.
 #[derive(Clone, Copy)]
@@ -99,9 +99,7 @@ impl Engine {
         ensures { result ≡ global_of self.now.layout (machine self.now) v }
     {
         let at = self.layout.globals as usize + 2 * (v as usize - 16);
-        let high = self.memory[at];
-        let low = self.memory[at + 1];
-        256 * high as u16 + low as u16
+        word_of(self.memory[at], self.memory[at + 1])
     }
 
     // The value of a variable; 0 takes a word from the stack.
@@ -135,8 +133,9 @@ impl Engine {
             return self.set_local(v, x);
         }
         let at = self.layout.globals as usize + 2 * (v as usize - 16);
-        self.memory[at] = (x / 256) as u8;
-        self.memory[at + 1] = (x % 256) as u8;
+        let [high, low] = bytes_of(x);
+        self.memory[at] = high;
+        self.memory[at + 1] = low;
         Ok(())
     }
 

@@ -5,7 +5,7 @@ ghost use Rattle.z_model.specs.declared.story.Layout.{Layout};
 ghost use Rattle.z_model.specs.Run.{with_line};
 ghost use Rattle.z_play.specs.View.{Sets};
 
-use z_model::{Layout, ZFault};
+use z_model::{Layout, ZFault, bytes_of, word_of};
 
 #[tactic(auto, unfolding(z_model::specs::Memory::byte_in))]
 pub fn read_byte(memory: &[u8], at: u16) -> Result<u8, ZFault>
@@ -24,7 +24,7 @@ pub fn read_word(memory: &[u8], at: u16) -> Result<u16, ZFault>
 {
     let high = read_byte(memory, at)?;
     let low = read_byte(memory, at.wrapping_add(1))?;
-    Ok(256 * high as u16 + low as u16)
+    Ok(word_of(high, low))
 }
 
 #[inline]
@@ -53,8 +53,9 @@ pub fn write_word(memory: &mut [u8], layout: Layout, at: u16, word: u16) -> Resu
     requires room { 64 ≤ length memory.old }
     ensures { Sets result (guarded layout memory.new) (with_word (guarded layout memory.old) at word) }
 {
-    write_byte(memory, layout, at, (word / 256) as u8)?;
-    write_byte(memory, layout, at.wrapping_add(1), (word % 256) as u8)?;
+    let [high, low] = bytes_of(word);
+    write_byte(memory, layout, at, high)?;
+    write_byte(memory, layout, at.wrapping_add(1), low)?;
     Ok(())
 }
 

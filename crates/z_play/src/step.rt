@@ -16,7 +16,9 @@ use crate::engine::Engine;
 use crate::memory::{may_write_all, read_byte, read_word, write_byte, write_typed, write_word};
 use crate::text::{find_fault, is_character, is_printed};
 use z_code::decode;
-use z_model::{Args, Branch, Effect, Extended, Instr, One, Op, Several, Two, ZFault, Zero};
+use z_model::{
+    Args, Branch, Effect, Extended, Instr, One, Op, Several, Two, ZFault, Zero, bytes_of,
+};
 
 // The address of a word in an array.
 #[inline]
@@ -423,7 +425,8 @@ impl Engine {
             Several::CallVs | Several::CallVn => self.do_call(end, op.store, a),
             Several::Storew => self.store_word(end, word_place(x, a.second), a.third),
             Several::Storeb => {
-                self.store_byte(end, x.wrapping_add(a.second), (a.third % 256) as u8)
+                let [_, low] = bytes_of(a.third);
+                self.store_byte(end, x.wrapping_add(a.second), low)
             }
             Several::Aread => self.read(end, op.store, a),
             Several::PrintChar => self.print(end, Effect::PrintsCode(x)),
