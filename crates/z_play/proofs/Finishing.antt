@@ -1,5 +1,5 @@
 -- The rest of each effect.
-use Rattle.std.proofs.Common.{◌≡◌, ◌≢◌, ℕ, zero, suc, ◌+◌, ◌-◌, ◌%◌, ◌<◌, ◌≤◌, Bool, true, false, cond, eqb, ltb, List, [], ◌∷◌, length, Option, Some, None, Result, Ok, Err, IsOk, refl, subst, arith}
+use Rattle.std.proofs.Common.{◌≡◌, ◌≢◌, ℕ, zero, suc, ◌+◌, ◌-◌, ◌%◌, ◌<◌, ◌≤◌, Bool, true, false, cond, eqb, ltb, List, [], ◌∷◌, length, Option, Some, None, Result, Ok, Err, IsOk, ◌⊎◌, inl, inr, refl, sym, subst, arith}
 use Rattle.std.proofs.lemmas.List.{append-nil, length-take}
 use Rattle.z_model.specs.declared.fault.ZFault.{ZFault}
 use Rattle.z_model.specs.declared.fault.ZFault.TheVariants.{BadOpcode}
@@ -182,3 +182,20 @@ sets_given (Err e) m given h ok = absurd (failed h ok)
   where
     failed : given ≡ Err e → IsOk given → ⊥
     failed h ok = cc
+
+-- a line is printed, and its return was tried
+pub line_finished : {X : Type 0} (w : ZGiven) (effect : Effect) (m m' : Machine) (at : ℕ) (typed : List ℕ) (drawn : ℕ) (r : Result X ZFault) →
+    effect ≡ PrintsLine at → CanFinish effect w.layout m → Sets r m' (returned w.layout m 1) → Finished w effect m typed drawn None m' (Some typed) drawn
+line_finished w effect m m' at typed drawn r is can sets =
+    let ok : IsOk (returned w.layout m 1) = subst (λ (e : Effect). CanFinish e w.layout m) is can in
+    subst (λ (e : Effect). Finished w e m typed drawn None m' (Some typed) drawn) (sym is)
+    (finish_line w m m' at typed drawn (Some typed) refl (sets_given r m' (returned w.layout m 1) sets ok))
+
+-- what is neither a line nor a draw nor a reading nor an end
+pub is_plain : (effect : Effect) → (effect ≡ Goes) ⊎ (((x : ℕ) × (effect ≡ PrintsCode x)) ⊎ (((x : ℕ) × (effect ≡ PrintsUnicode x)) ⊎
+    (((x : ℕ) × (effect ≡ PrintsNumber x)) ⊎ ((x : ℕ) × (effect ≡ PrintsText x))))) → IsPlain effect
+is_plain effect (inl e) = subst IsPlain (sym e) tt
+is_plain effect (inr (inl p)) = subst IsPlain (sym p.1) tt
+is_plain effect (inr (inr (inl p))) = subst IsPlain (sym p.1) tt
+is_plain effect (inr (inr (inr (inl p)))) = subst IsPlain (sym p.1) tt
+is_plain effect (inr (inr (inr (inr p)))) = subst IsPlain (sym p.1) tt

@@ -1,5 +1,5 @@
 -- A run, instruction by instruction.
-use Rattle.std.proofs.Common.{◌≡◌, ◌<◌, ◌≤◌, ◌⊎◌, ℕ, suc, ◌+◌, List, [], ◌++◌, length, Bool, Option, Some, None, Ok, Err, inl, inr, refl, sym, ◌∙◌, ap, subst, arith}
+use Rattle.std.proofs.Common.{◌≡◌, ◌<◌, ◌≤◌, ◌⊎◌, ℕ, suc, ◌+◌, List, [], ◌++◌, length, Bool, Option, Some, None, Result, Ok, Err, inl, inr, refl, sym, ◌∙◌, ap, subst, arith}
 use Rattle.std.proofs.lemmas.List.{append-nil}
 use Rattle.z_model.specs.declared.fault.ZFault.{ZFault}
 use Rattle.z_model.specs.declared.end.Effect.{Effect}
@@ -14,7 +14,7 @@ use Rattle.z_play.specs.Effects.{CanFinish}
 use Rattle.dg_base.specs.Written.{SinkView, Wrote, BrokeOff}
 use Rattle.z_play.specs.Output.{BrokeBehind}
 use Rattle.z_play.specs.Scene.{Scene, scene, state, next_of, IsBeyond, Came, CutOff, Unread}
-use Rattle.z_play.specs.Acting.{text_of, Finished, Unfinished}
+use Rattle.z_play.specs.Acting.{text_of, Finished, Unfinished, MayBeLeft}
 use Rattle.z_play.specs.Advancing.{next_from, Advances, RanTo, RanUnread, RunsOn}
 use Rattle.z_play.specs.Played.{HasCauses, PrintUnwritten}
 use Rattle.dg_base.specs.declared.run.Fault.{Fault}
@@ -203,6 +203,20 @@ going_first w m n typed begun left now told = record {
 
 pub less_left : (w : ZGiven) (start : ZState) (n left less : ℕ) (old here : Scene) → left ≡ less + 1 → Going w start n left old here → Going w start n (less + 1) old here
 less_left w start n left less old here e g = subst (λ (k : ℕ). Going w start n k old here) e g
+
+-- ---- where the source tells nothing
+
+pub typed_is : (w : ZGiven) (start : ZState) (n left : ℕ) (old : Scene) (m : Machine) (drawn : ℕ) (begun : Bool) (typed : List ℕ) (now : SinkView) →
+    (g : Going w start n left old (scene m drawn begun (Some typed) now)) → typed ≡ g.typed
+typed_is w start n left old m drawn begun typed now g = let is = g.left_is in cc
+
+-- nothing may always be left
+pub nothing_left : {E : Type 0} (result : Result (Option Halt) E) → MayBeLeft result []
+nothing_left (Ok None) = tt
+nothing_left (Ok (Some AtQuit)) = tt
+nothing_left (Ok (Some AtInput)) = refl
+nothing_left (Ok (Some (AtFault fault at))) = tt
+nothing_left (Err e) = tt
 
 -- ---- causes
 

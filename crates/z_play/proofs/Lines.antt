@@ -1,5 +1,5 @@
 -- The line behind a run.
-use Rattle.std.proofs.Common.{◌≡◌, ◌≢◌, ◌+◌, ◌-◌, ℕ, List, [], ◌∷◌, ◌++◌, Bool, false, Option, inl, inr, refl, sym, ◌∙◌, ap, subst, arith, append_assoc}
+use Rattle.std.proofs.Common.{◌≡◌, ◌≢◌, ◌+◌, ◌-◌, ℕ, List, [], ◌∷◌, ◌++◌, Bool, false, Option, Result, inl, inr, refl, sym, ◌∙◌, ap, subst, arith, append_assoc}
 use Rattle.std.proofs.lemmas.List.{append-nil}
 use Rattle.z_model.specs.declared.end.ZEnd.{ZEnd}
 use Rattle.z_model.specs.declared.end.ZEnd.TheVariants as ends
@@ -11,7 +11,8 @@ use Rattle.z_model.specs.Story.{layout_of, start_of, memory_of, first_machine, g
 use Rattle.dg_base.specs.Written.{SinkView, Wrote, BrokeOff}
 use Rattle.z_play.specs.Output.{BrokeBehind}
 use Rattle.z_play.specs.Scene.{Scene, given_by, state}
-use Rattle.z_play.specs.Advancing.{RanTo, RanUnread}
+use Rattle.z_play.specs.Advancing.{RanTo, RanUnread, RunsOn}
+use Rattle.dg_base.specs.declared.run.Fault.{Fault}
 use Rattle.z_play.specs.Played.{Played, InputFailed, PrintUnwritten, OutputFailed}
 use Rattle.dg_base.proofs.WrittenLemmas.{wrote_on, broke_first}
 use Rattle.z_play.proofs.Written.{broke_after, broke_whole}
@@ -40,9 +41,12 @@ output_first output (b ∷ line) = (newline_if (is_open false output) ++ b ∷ l
 
 -- ---- the ends
 
-pub quit_shows : (r : ZRun) (old new : Scene) → RanTo r ends.Quit old new → Played r ends.Quit new.left old.seen new.seen
+quit_here : (r : ZRun) (old new : Scene) → RanTo r ends.Quit old new → Played r ends.Quit new.left old.seen new.seen
 unfolding with_end_line
-quit_shows r old new ran = record { ends = ran.ends; left_is = ran.left; wrote = subst (λ (end : ZEnd). Wrote old.seen new.seen (with_end_line r.state.output (end_line end))) ran.ends ran.wrote }
+quit_here r old new ran = record { ends = ran.ends; left_is = ran.left; wrote = subst (λ (end : ZEnd). Wrote old.seen new.seen (with_end_line r.state.output (end_line end))) ran.ends ran.wrote }
+
+pub quit_shows : (r : ZRun) (old new : Scene) (seen : SinkView) → new.seen ≡ seen → RanTo r ends.Quit old new → Played r ends.Quit new.left old.seen seen
+quit_shows r old new seen same ran = subst (λ (v : SinkView). Played r ends.Quit new.left old.seen v) same (quit_here r old new ran)
 
 -- what is written of a run that ended so
 text_is : (r : ZRun) (end : ZEnd) (begun : Bool) → end ≢ ends.Quit → end ≡ r.end → begun ≡ is_open false r.state.output → r.state.output ++ (newline_if begun ++ end_line end) ≡ played_text r
@@ -51,19 +55,21 @@ text_is r end begun some ended begins =
     ∙ sym (line_behind end some r.state.output)
     ∙ ap (λ (e : ZEnd). with_end_line r.state.output (end_line e)) ended
 
-pub end_shows : (r : ZRun) (end : ZEnd) (old new : Scene) (after : SinkView) → old.begun ≡ false → end ≢ ends.Quit → RanTo r end old new → Wrote new.seen after (newline_if new.begun ++ end_line end) → Played r end new.left old.seen after
-end_shows r end old new after first some ran wrote = record {
+pub end_shows : (r : ZRun) (end : ZEnd) (old new : Scene) (begun : Bool) (seen after : SinkView) → old.begun ≡ false → new.begun ≡ begun → new.seen ≡ seen →
+    end ≢ ends.Quit → RanTo r end old new → Wrote seen after (newline_if begun ++ end_line end) → Played r end new.left old.seen after
+end_shows r end old new begun seen after first same_begun same_seen some ran wrote_then = record {
   ends = ran.ends;
   left_is = ran.left;
-  wrote = subst (λ (l : List ℕ). Wrote old.seen after l) (text_is r end new.begun some ran.ends (ran.begins ∙ ap (λ (b : Bool). is_open b r.state.output) first)) (wrote_on old.seen new.seen after r.state.output (newline_if new.begun ++ end_line end) ran.wrote wrote);
+  wrote = subst (λ (l : List ℕ). Wrote old.seen after l) (text_is r end new.begun some ran.ends (ran.begins ∙ ap (λ (b : Bool). is_open b r.state.output) first)) (wrote_on old.seen new.seen after r.state.output (newline_if new.begun ++ end_line end) ran.wrote (rw (same_seen, same_begun) wrote_then));
 }
 
-pub end_cut : (w : ZGiven) (s : ZState) (n : ℕ) (end : ZEnd) (old new : Scene) (after : SinkView) → old.begun ≡ false → end ≢ ends.Quit → RanTo (zrun w n s) end old new → BrokeOff new.seen after (newline_if new.begun ++ end_line end) → OutputFailed w s n new.left old.seen after
-end_cut w s n end old new after first some ran cut =
+pub end_cut : (w : ZGiven) (s : ZState) (n : ℕ) (end : ZEnd) (old new : Scene) (begun : Bool) (seen after : SinkView) → old.begun ≡ false → new.begun ≡ begun → new.seen ≡ seen →
+    end ≢ ends.Quit → RanTo (zrun w n s) end old new → BrokeOff seen after (newline_if begun ++ end_line end) → OutputFailed w s n new.left old.seen after
+end_cut w s n end old new begun seen after first same_begun same_seen some ran cut =
     let r : ZRun = zrun w n s in
     inr (inl (record {
       left_is = ran.left;
-      cut = subst (λ (l : List ℕ). BrokeBehind old.seen after r.state.output l) (text_is r end new.begun some ran.ends (ran.begins ∙ ap (λ (b : Bool). is_open b r.state.output) first)) (broke_after old.seen new.seen after r.state.output (newline_if new.begun ++ end_line end) ran.wrote cut);
+      cut = subst (λ (l : List ℕ). BrokeBehind old.seen after r.state.output l) (text_is r end new.begun some ran.ends (ran.begins ∙ ap (λ (b : Bool). is_open b r.state.output) first)) (broke_after old.seen new.seen after r.state.output (newline_if new.begun ++ end_line end) ran.wrote (rw (same_seen, same_begun) cut));
     }))
 
 -- ---- the input failed
@@ -71,27 +77,32 @@ end_cut w s n end old new after first some ran cut =
 fault_text : (output : List ℕ) (begun : Bool) → begun ≡ is_open false output → output ++ (newline_if begun ++ unread_line) ≡ with_end_line output unread_line
 fault_text output begun begins = ap (λ (b : Bool). output ++ (newline_if b ++ unread_line)) begins ∙ sym (input_line_behind output)
 
-pub fault_shows : (w : ZGiven) (s : ZState) (n : ℕ) (old new : Scene) (after : SinkView) → old.begun ≡ false → RanUnread w s n old new → Wrote new.seen after (newline_if new.begun ++ unread_line) → InputFailed w s n new.left old.seen after
-fault_shows w s n old new after first ran wrote =
+pub fault_shows : (w : ZGiven) (s : ZState) (n : ℕ) (old new : Scene) (begun : Bool) (seen after : SinkView) → old.begun ≡ false → new.begun ≡ begun → new.seen ≡ seen →
+    RanUnread w s n old new → Wrote seen after (newline_if begun ++ unread_line) → InputFailed w s n new.left old.seen after
+fault_shows w s n old new begun seen after first same_begun same_seen ran wrote_then =
     let output : List ℕ = (zrun w ran.m s).state.output in
     record {
       m = ran.m;
       rest = ran.rest;
       left_is = ran.left;
       stopped = ran.stopped;
-      wrote = subst (λ (l : List ℕ). Wrote old.seen after l) (fault_text output new.begun (ran.begins ∙ ap (λ (b : Bool). is_open b output) first)) (wrote_on old.seen new.seen after output (newline_if new.begun ++ unread_line) ran.wrote wrote);
+      wrote = subst (λ (l : List ℕ). Wrote old.seen after l) (fault_text output new.begun (ran.begins ∙ ap (λ (b : Bool). is_open b output) first)) (wrote_on old.seen new.seen after output (newline_if new.begun ++ unread_line) ran.wrote (rw (same_seen, same_begun) wrote_then));
     }
 
-pub fault_cut : (w : ZGiven) (s : ZState) (n : ℕ) (old new : Scene) (after : SinkView) → old.begun ≡ false → RanUnread w s n old new → BrokeOff new.seen after (newline_if new.begun ++ unread_line) → OutputFailed w s n new.left old.seen after
-fault_cut w s n old new after first ran cut =
+pub fault_cut : (w : ZGiven) (s : ZState) (n : ℕ) (old new : Scene) (begun : Bool) (seen after : SinkView) → old.begun ≡ false → new.begun ≡ begun → new.seen ≡ seen →
+    RanUnread w s n old new → BrokeOff seen after (newline_if begun ++ unread_line) → OutputFailed w s n new.left old.seen after
+fault_cut w s n old new begun seen after first same_begun same_seen ran cut =
     let output : List ℕ = (zrun w ran.m s).state.output in
     inr (inr (record {
       m = ran.m;
       rest = ran.rest;
       left_is = ran.left;
       stopped = ran.stopped;
-      cut = subst (λ (l : List ℕ). BrokeBehind old.seen after output l) (fault_text output new.begun (ran.begins ∙ ap (λ (b : Bool). is_open b output) first)) (broke_after old.seen new.seen after output (newline_if new.begun ++ unread_line) ran.wrote cut);
+      cut = subst (λ (l : List ℕ). BrokeBehind old.seen after output l) (fault_text output new.begun (ran.begins ∙ ap (λ (b : Bool). is_open b output) first)) (broke_after old.seen new.seen after output (newline_if new.begun ++ unread_line) ran.wrote (rw (same_seen, same_begun) cut));
     }))
+
+pub unwritten_shows : (w : ZGiven) (s : ZState) (n : ℕ) (old new : Scene) (seen : SinkView) → new.seen ≡ seen → PrintUnwritten w s n new.left old.seen new.seen → OutputFailed w s n new.left old.seen seen
+unwritten_shows w s n old new seen same cut = inl (subst (λ (v : SinkView). PrintUnwritten w s n new.left old.seen v) same cut)
 
 -- ---- the output failed
 
@@ -123,3 +134,11 @@ start_is story typed start m whole at first =
 
 pub world_is : (story dice : List ℕ) (l : Layout) → l ≡ layout_of story → given_by l dice ≡ given_of story dice
 world_is story dice l e = ap (λ (k : Layout). given_by k dice) e
+
+-- the run of a player is that of its story
+pub runs_as : (story dice typed : List ℕ) (l : Layout) (start : ℕ) (m : Machine) (answer : Result ZEnd Fault) (n : ℕ) (old new : Scene) →
+    l ≡ layout_of story → memory_of story ≡ story → start ≡ start_of story → m ≡ first_machine story start →
+    RunsOn answer (given_by l dice) (state m typed 0 []) n old new → RunsOn answer (given_of story dice) (start_state story typed) n old new
+runs_as story dice typed l start m answer n old new laid whole at first ran =
+    subst (λ (w : ZGiven). RunsOn answer w (start_state story typed) n old new) (world_is story dice l laid)
+    (subst (λ (s : ZState). RunsOn answer (given_by l dice) s n old new) (start_is story typed start m whole at first) ran)

@@ -107,6 +107,10 @@ reading_goes typed first line line' kept kept' held room byte left left' r rest 
   most = omega (arith, r.most);
 }
 
+-- what is left where so much was read
+pub rest_is : (typed : List ℕ) (first : ℕ) (line : List ℕ) (kept held room : ℕ) (left : List ℕ) (r : Reading typed first line kept held room (Some left)) → left ≡ r.rest
+rest_is typed first line kept held room left r = let is = r.is in cc
+
 -- ---- the first byte
 
 pub typed_empty : (typed rest : List ℕ) (b : ℕ) → b ≡ 10 → typed ≡ b ∷ rest → (typed_bytes typed ≡ []) × (typed_left typed ≡ rest)

@@ -1,8 +1,9 @@
 -- What an effect prints, and how the rest of it leads on.
-use Rattle.std.specs.Prelude.{◌≡◌, ℕ, List, [], ◌∷◌, ◌++◌, encode_utf8, Option, Some, Result, Ok, Err}
+use Rattle.std.specs.Prelude.{◌≡◌, ℕ, List, [], ◌∷◌, ◌++◌, encode_utf8, Option, Some, None, Result, Ok, Err}
 use Rattle.std.specs.Fmt.{signed_decimal}
 use Rattle.dg_base.specs.declared.traits.Failed.{Failed}
 use Rattle.z_model.specs.declared.end.Halt.{Halt}
+use Rattle.z_model.specs.declared.end.Halt.TheVariants.{AtQuit, AtInput, AtFault}
 use Rattle.z_model.specs.declared.end.Effect.{Effect}
 use Rattle.z_model.specs.declared.end.Effect.TheVariants.{Goes, PrintsCode, PrintsUnicode, PrintsNumber, PrintsText, PrintsLine, Draws, Reads, Quits}
 use Rattle.z_model.specs.Zscii.{code_bytes}
@@ -24,6 +25,14 @@ text_of (PrintsLine at) m = text_bytes (string_at m.memory at) ++ 10 ∷ []
 text_of Draws m = []
 text_of (Reads buffer most store) m = []
 text_of Quits m = []
+
+-- Where the source tells nothing, these bytes may be left behind an instruction: none where it ends for want of one.
+abbrev pub MayBeLeft : {E : Type 0} → Result (Option Halt) E → List ℕ → Type 0
+MayBeLeft (Ok None) left = Unit {0}
+MayBeLeft (Ok (Some AtQuit)) left = Unit {0}
+MayBeLeft (Ok (Some AtInput)) left = left ≡ []
+MayBeLeft (Ok (Some (AtFault fault at))) left = Unit {0}
+MayBeLeft (Err e) left = Unit {0}
 
 -- The rest of an effect was done.
 pub record Finished (w : ZGiven) (effect : Effect) (old : Machine) (typed : List ℕ) (drawn : ℕ) (halt : Option Halt) (new : Machine) (left : Option (List ℕ)) (drawn' : ℕ) : Type 0 where

@@ -39,3 +39,9 @@ abbrev pub TakesLine : Result (Option ℕ) Failed → List ℕ → List ℕ → 
 TakesLine (Ok (Some kept)) typed line left = (typed ≢ []) × (take kept line ≡ take (length line) (typed_bytes typed)) × (left ≡ Some (typed_left typed))
 TakesLine (Ok None) typed line left = (typed ≡ []) × (left ≡ Some [])
 TakesLine (Err failed) typed line left = StopsWithin (typed_left typed) typed left
+
+-- Where the source tells nothing, these bytes may be left behind a line: none where no byte was left for it.
+abbrev pub MayFollow : Result (Option ℕ) Failed → List ℕ → Type 0
+MayFollow (Ok (Some kept)) left = Unit {0}
+MayFollow (Ok None) left = left ≡ []
+MayFollow (Err failed) left = Unit {0}

@@ -5,6 +5,7 @@ use Rattle.dg_base.specs.Streams.{SourceView}
 use Rattle.z_model.specs.declared.end.ZEnd.{ZEnd}
 use Rattle.z_model.specs.declared.end.ZEnd.TheVariants as ends
 use Rattle.z_model.specs.Run.{ZGiven, ZState, ZRun, zrun}
+use Rattle.z_model.specs.Story.{start_state}
 use Rattle.z_model.specs.Closing.{played_text, with_end_line, unread_line}
 use Rattle.dg_base.specs.Written.{SinkView, Wrote}
 use Rattle.z_play.specs.Output.{BrokeBehind}
@@ -62,6 +63,12 @@ abbrev pub Plays : Result ZEnd Fault → ZGiven → ZState → ℕ → Option (L
 Plays (Ok end) w s n left old new = Played (zrun w n s) end left old new
 Plays (Err Read) w s n left old new = InputFailed w s n left old new
 Plays (Err Write) w s n left old new = OutputFailed w s n left old new
+
+-- For some typed bytes, and some that are left, a story's run did so: what is known where the source tells nothing.
+pub record PlaysSome (answer : Result ZEnd Fault) (w : ZGiven) (story : List ℕ) (n : ℕ) (old new : SinkView) : Type 0 where
+  pub typed : List ℕ
+  pub left : List ℕ
+  pub plays : Plays answer w (start_state story typed) n (Some left) old new
 
 -- Each fault has its cause, and no count falls.
 pub record HasCauses {T : Type 0} (input input' : SourceView) (out out' : SinkView) (result : Result T Fault) : Type 0 where

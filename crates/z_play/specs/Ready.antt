@@ -1,8 +1,10 @@
 -- What a player holds: a story, cut to its length, and an engine for it.
-use Rattle.std.specs.Prelude.{◌≡◌, ◌+◌, ◌≤◌, ℕ, List, length, None}
+use Rattle.std.specs.Prelude.{◌≡◌, ◌+◌, ◌≤◌, ℕ, List, length, codes, None}
 use Rattle.z_model.specs.declared.story.Layout.{Layout}
-use Rattle.z_model.specs.Story.{layout_of, start_of, memory_of, refusal_of, given_of, start_state}
+use Rattle.z_model.specs.Story.{layout_of, start_of, memory_of, refusal_of, text_of_story, given_of, start_state}
 use Rattle.z_play.specs.declared.engine.Engine.{Engine}
+use Rattle.z_play.specs.declared.player.LoadFault.{LoadFault}
+use Rattle.z_play.specs.declared.player.LoadFault.TheVariants.{Refused, OutOfMemory}
 use Rattle.z_play.specs.View.{Sound}
 
 -- These bytes are the memory of the story that they are, and the parts of the layout lie in it.
@@ -15,6 +17,12 @@ pub record IsStory (story : List ℕ) (start : ℕ) (layout : Layout) : Type 0 w
   pub from : 64 ≤ layout.globals
   pub globals : layout.globals + 480 ≤ layout.base
 
+-- what is printed of a fault: hold it against the table of docs/REFUSALS.md
+abbrev pub text_of_load : LoadFault → List ℕ
+text_of_load (Refused refusal) = text_of_story refusal
+text_of_load OutOfMemory = codes "out of memory"
+
+-- The story is whole, and its engine is sound and as long.
 pub record IsReady (story : List ℕ) (start : ℕ) (e : Engine) : Type 0 where
   pub whole : memory_of story ≡ story
   pub layout_is : e.layout ≡ layout_of story

@@ -1,17 +1,18 @@
 // Stories, loaded and run.
-ghost use Rattle.std.specs.Prelude.{◌≡◌, ◌<◌, ◌++◌, ℕ, List, Some, Err, IfOk, IfErr, OnOk, OnErr, length, []};
-ghost use Rattle.z_model.specs.Run.{end_of};
+ghost use Rattle.std.specs.Prelude.{◌≡◌, ◌<◌, ◌++◌, ℕ, List, Some, Err, false, IfOk, IfErr, OnOk, OnErr, length, []};
+ghost use Rattle.z_model.specs.Run.{ZGiven, ZState, end_of};
 ghost use Rattle.z_model.specs.Closing.{is_open, end_line, newline_if, unread_line};
 ghost use Rattle.z_model.specs.Story.{refusal_of, first_machine, given_of, start_state, IsHeader};
 ghost use Rattle.z_play.specs.View.{machine, Sound, Kept};
 ghost use Rattle.z_play.specs.Effects.{CanFinish};
-ghost use Rattle.dg_base.specs.Written.{Wrote, BrokeOff};
-ghost use Rattle.z_play.specs.Scene.{scene, given_by, state};
-ghost use Rattle.z_play.specs.Acting.{text_of, Finishes};
+ghost use Rattle.dg_base.specs.Written.{SinkView, Wrote, BrokeOff};
+ghost use Rattle.z_play.specs.Scene.{Scene, scene, given_by, state};
+ghost use Rattle.z_play.specs.Acting.{text_of, Finishes, MayBeLeft};
 ghost use Rattle.z_play.specs.Advancing.{Advances, RunsOn};
-ghost use Rattle.z_play.specs.Played.{Plays, HasCauses};
-ghost use Rattle.z_play.specs.Ready.{IsStory, IsLoaded};
+ghost use Rattle.z_play.specs.Played.{Plays, PlaysSome, HasCauses};
+ghost use Rattle.z_play.specs.Ready.{IsStory, IsLoaded, text_of_load};
 ghost use Rattle.dg_base.specs.Causes.{HasCause};
+ghost use Rattle.dg_base.specs.Streams.{SourceView};
 
 use crate::engine::{Called, Engine};
 use crate::output::{write_code, write_line, write_number, write_text, write_unicode};
@@ -19,18 +20,30 @@ use crate::typed::{keep_codes, take_line};
 use dg_base::{Failed, Fault, Sink, Source, WriteFault, write_all, write_pieces};
 use itoa::Buffer;
 use std::alloc::{AllocError, Global};
+use std::error::Error;
+use std::fmt;
 use std::marker::Model;
-use thiserror::Error;
 use z_model::{Effect, Halt, Header, Layout, StoryRefusal, ZEnd, ZFault, read_header};
 
 /// Why a story isn't loaded.
-#[derive(Clone, Copy, Debug, PartialEq, Eq, Error)]
+#[derive(Clone, Copy, Debug, PartialEq, Eq)]
 pub enum LoadFault {
-    #[error("{0}")]
     Refused(StoryRefusal),
-    #[error("out of memory")]
     OutOfMemory,
 }
+
+impl fmt::Display for LoadFault {
+    ghost output = { λ fault. Some (text_of_load fault) };
+
+    fn fmt<W: fmt::Write>(&self, f: &mut fmt::Formatter<W>) -> fmt::Result {
+        match self {
+            LoadFault::Refused(refusal) => refusal.fmt(f),
+            LoadFault::OutOfMemory => f.write_str("out of memory"),
+        }
+    }
+}
+
+impl Error for LoadFault {}
 
 /// A story, and all the memory of its runs.
 #[derive(Drop)]
@@ -81,7 +94,12 @@ fn read_line<S: Source>(
     requires sound { Sound engine.old }
     requires can { CanFinish (Effect.Reads buffer most store) engine.old.layout (machine engine.old) }
     ensures kept { Kept engine.old engine.new }
-    ensures told { (dice typed : List ℕ) (drawn : ℕ) → (S.view source.old).left ≡ Some typed → Finishes result (given_by engine.old.layout dice) (Effect.Reads buffer most store) (machine engine.old) typed drawn (machine engine.new) (S.view source.new).left drawn }
+    ensures told { (dice typed : List ℕ) (drawn : ℕ) → (S.view source.old).left ≡ Some typed →
+        Finishes result (given_by engine.old.layout dice) (Effect.Reads buffer most store) (machine engine.old) typed drawn
+        (machine engine.new) (S.view source.new).left drawn }
+    ensures untold { (dice left : List ℕ) (drawn : ℕ) → MayBeLeft result left →
+        ((typed : List ℕ) × Finishes result (given_by engine.old.layout dice) (Effect.Reads buffer most store) (machine engine.old) typed drawn
+        (machine engine.new) (Some left) drawn) }
     ensures cause { HasCause (S.view source.old).faults (S.view source.new).faults result }
 {
     let mut bytes = [0; 1024];
@@ -112,7 +130,12 @@ fn finish<S: Source>(
     requires drawn { drawn.old < length dice.now }
     ensures kept { Kept engine.old engine.new }
     ensures drawn { drawn.new < length dice.now }
-    ensures told { (typed : List ℕ) → (S.view source.old).left ≡ Some typed → Finishes result (given_by engine.old.layout dice.now) effect (machine engine.old) typed drawn.old (machine engine.new) (S.view source.new).left drawn.new }
+    ensures told { (typed : List ℕ) → (S.view source.old).left ≡ Some typed →
+        Finishes result (given_by engine.old.layout dice.now) effect (machine engine.old) typed drawn.old
+        (machine engine.new) (S.view source.new).left drawn.new }
+    ensures untold { (left : List ℕ) → MayBeLeft result left →
+        ((typed : List ℕ) × Finishes result (given_by engine.old.layout dice.now) effect (machine engine.old) typed drawn.old
+        (machine engine.new) (Some left) drawn.new) }
     ensures cause { HasCause (S.view source.old).faults (S.view source.new).faults result }
 {
     match effect {
@@ -147,7 +170,12 @@ fn advance<S: Source, K: Sink>(
     requires drawn { drawn.old < length dice.now }
     ensures kept { Kept engine.old engine.new }
     ensures drawn { drawn.new < length dice.now }
-    ensures told { (typed : List ℕ) → (S.view source.old).left ≡ Some typed → Advances result (given_by engine.old.layout dice.now) typed (scene (machine engine.old) drawn.old begun.old (S.view source.old).left (K.view sink.old)) (scene (machine engine.new) drawn.new begun.new (S.view source.new).left (K.view sink.new)) }
+    ensures told { (typed : List ℕ) → (S.view source.old).left ≡ Some typed → Advances result (given_by engine.old.layout dice.now) typed
+        (scene (machine engine.old) drawn.old begun.old (S.view source.old).left (K.view sink.old))
+        (scene (machine engine.new) drawn.new begun.new (S.view source.new).left (K.view sink.new)) }
+    ensures untold { (left : List ℕ) → MayBeLeft result left → ((typed : List ℕ) × Advances result (given_by engine.old.layout dice.now) typed
+        (scene (machine engine.old) drawn.old begun.old (Some typed) (K.view sink.old))
+        (scene (machine engine.new) drawn.new begun.new (Some left) (K.view sink.new))) }
     ensures causes { HasCauses (S.view source.old) (S.view source.new) (K.view sink.old) (K.view sink.new) result }
 {
     let at = engine.pc;
@@ -189,7 +217,14 @@ fn run_steps<S: Source, K: Sink>(
     requires sound { Sound engine.old }
     requires dice { 0 < length dice.now }
     ensures kept { Kept engine.old engine.new }
-    ensures told { (typed : List ℕ) → (S.view source.old).left ≡ Some typed → (drawn : ℕ) → RunsOn result (given_by engine.old.layout dice.now) (state (machine engine.old) typed 0 []) steps (scene (machine engine.old) 0 begun.old (S.view source.old).left (K.view sink.old)) (scene (machine engine.new) drawn begun.new (S.view source.new).left (K.view sink.new)) }
+    ensures told { (typed : List ℕ) → (S.view source.old).left ≡ Some typed → (drawn : ℕ) →
+        RunsOn result (given_by engine.old.layout dice.now) (state (machine engine.old) typed 0 []) steps
+        (scene (machine engine.old) 0 begun.old (S.view source.old).left (K.view sink.old))
+        (scene (machine engine.new) drawn begun.new (S.view source.new).left (K.view sink.new)) }
+    ensures untold { (drawn : ℕ) → ((typed : List ℕ) × (left : List ℕ) ×
+        RunsOn result (given_by engine.old.layout dice.now) (state (machine engine.old) typed 0 []) steps
+        (scene (machine engine.old) 0 begun.old (Some typed) (K.view sink.old))
+        (scene (machine engine.new) drawn begun.new (Some left) (K.view sink.new))) }
     ensures causes { HasCauses (S.view source.old) (S.view source.new) (K.view sink.old) (K.view sink.new) result }
 {
     let mut drawn = 0;
@@ -260,6 +295,29 @@ fn close_failed<K: Sink>(sink: &mut K, begun: bool) -> Result<(), WriteFault>
     match write_newline(sink, begun) {
         Ok(()) => write_all(sink, b"[Input fault]\n"),
         Err(failed) => Err(failed),
+    }
+}
+
+// Writes the line behind a run, if there is one.
+fn close_run<K: Sink>(ended: Result<ZEnd, Fault>, begun: bool, sink: &mut K) -> Result<ZEnd, Fault>
+    ensures plays { (w : ZGiven) (s : ZState) (n : ℕ) (old new : Scene) → old.begun ≡ false → new.begun ≡ begun → new.seen ≡ K.view sink.old →
+        RunsOn ended w s n old new → Plays result w s n new.left old.seen (K.view sink.new) }
+    ensures causes { (input left : SourceView) (out : SinkView) → HasCauses input left out (K.view sink.old) ended →
+        HasCauses input left out (K.view sink.new) result }
+{
+    match ended {
+        Ok(end) => match end {
+            ZEnd::Quit => Ok(ZEnd::Quit),
+            _ => match close(sink, begun, end) {
+                Ok(()) => Ok(end),
+                Err(_) => Err(Fault::Write),
+            },
+        },
+        Err(Fault::Read) => match close_failed(sink, begun) {
+            Ok(()) => Err(Fault::Read),
+            Err(_) => Err(Fault::Write),
+        },
+        Err(Fault::Write) => Err(Fault::Write),
     }
 }
 
@@ -353,24 +411,14 @@ impl Player {
     ) -> Result<ZEnd, Fault>
         requires { 0 < length dice.now }
         ensures kept { self.new ≡ self.old }
-        ensures told { (typed : List ℕ) → (S.view source.old).left ≡ Some typed → Plays result (given_of self.old dice.now) (start_state self.old typed) steps (S.view source.new).left (K.view sink.old) (K.view sink.new) }
+        ensures told { (typed : List ℕ) → (S.view source.old).left ≡ Some typed →
+            Plays result (given_of self.old dice.now) (start_state self.old typed) steps (S.view source.new).left (K.view sink.old) (K.view sink.new) }
+        ensures untold { PlaysSome result (given_of self.old dice.now) self.old steps (K.view sink.old) (K.view sink.new) }
         ensures causes { HasCauses (S.view source.old) (S.view source.new) (K.view sink.old) (K.view sink.new) result }
     {
         reset(&mut self.engine, &self.story, self.start);
         let mut begun = false;
-        match run_steps(&mut self.engine, steps, &mut begun, dice, source, sink) {
-            Ok(end) => match end {
-                ZEnd::Quit => Ok(ZEnd::Quit),
-                _ => match close(sink, begun, end) {
-                    Ok(()) => Ok(end),
-                    Err(_) => Err(Fault::Write),
-                },
-            },
-            Err(Fault::Read) => match close_failed(sink, begun) {
-                Ok(()) => Err(Fault::Read),
-                Err(_) => Err(Fault::Write),
-            },
-            Err(Fault::Write) => Err(Fault::Write),
-        }
+        let ended = run_steps(&mut self.engine, steps, &mut begun, dice, source, sink);
+        close_run(ended, begun, sink)
     }
 }

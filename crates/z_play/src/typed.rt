@@ -1,7 +1,7 @@
 // Typed lines.
 ghost use Rattle.std.specs.Prelude.{◌≡◌, ◌<◌, ◌≤◌, ◌++◌, ◌∷◌, [], ℕ, List, Some, IfOk, IfSome, length, take};
 ghost use Rattle.z_model.specs.Typed.{typed_code, typed_codes, without_return};
-ghost use Rattle.z_play.specs.Lines.{IsKept, TakesNext, TakesRest, TakesLine};
+ghost use Rattle.z_play.specs.Lines.{IsKept, TakesNext, TakesRest, TakesLine, MayFollow};
 ghost use Rattle.dg_base.specs.Causes.{HasCause};
 
 use dg_base::{Failed, Source, Unit, typed, unit_at};
@@ -57,6 +57,7 @@ fn keep(line: &mut [u8], kept: usize, byte: u8) -> usize
 // The next byte of a line, which may have so many more; none at its end.
 fn next_byte<S: Source>(source: &mut S, room: u32) -> Result<Option<u8>, Failed>
     ensures told { (typed : List ℕ) → (S.view source.old).left ≡ Some typed → TakesNext result room typed (S.view source.new).left }
+    ensures untold { (left : List ℕ) → ((typed : List ℕ) × TakesNext result room typed (Some left)) }
     ensures room { IfOk result (λ byte. IfSome byte (λ b. 0 < room)) }
     ensures cause { HasCause (S.view source.old).faults (S.view source.new).faults result }
 {
@@ -78,6 +79,7 @@ fn next_byte<S: Source>(source: &mut S, room: u32) -> Result<Option<u8>, Failed>
 fn take_rest<S: Source>(source: &mut S, line: &mut [u8], first: u8) -> Result<usize, Failed>
     ensures within { IfOk result (λ kept. kept ≤ length line.new) }
     ensures told { (typed : List ℕ) → (S.view source.old).left ≡ Some typed → TakesRest result first typed line.new (S.view source.new).left }
+    ensures untold { (left : List ℕ) → ((typed : List ℕ) × TakesRest result first typed line.new (Some left)) }
     ensures cause { HasCause (S.view source.old).faults (S.view source.new).faults result }
 {
     let mut kept = 0;
@@ -113,6 +115,7 @@ fn keep_last(line: &mut [u8], kept: usize, held: u8) -> usize
 pub fn take_line<S: Source>(source: &mut S, line: &mut [u8]) -> Result<Option<usize>, Failed>
     ensures within { IfOk result (λ kept. IfSome kept (λ n. n ≤ length line.new)) }
     ensures told { (typed : List ℕ) → (S.view source.old).left ≡ Some typed → TakesLine result typed line.new (S.view source.new).left }
+    ensures untold { (left : List ℕ) → MayFollow result left → ((typed : List ℕ) × TakesLine result typed line.new (Some left)) }
     ensures cause { HasCause (S.view source.old).faults (S.view source.new).faults result }
 {
     let first = match source.next() {

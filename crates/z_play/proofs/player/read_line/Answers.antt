@@ -1,8 +1,8 @@
-use Rattle.std.proofs.Common.{rules, ◌≡◌, ◌≤◌, ℕ, List, length, take, Option, Ok, sym, ◌∙◌, ap, subst, arith}
+use Rattle.std.proofs.Common.{rules, ◌≡◌, ◌≤◌, ℕ, List, length, take, Option, [], Some, Ok, refl, sym, ◌∙◌, ap, subst, arith}
 use Rattle.z_model.specs.Run.{line_read}
 use Rattle.z_model.specs.Typed.{typed_line}
 use Rattle.z_play.specs.View.{machine}
-use Rattle.z_play.specs.Lines.{TakesLine}
+use Rattle.z_play.specs.Lines.{TakesLine, MayFollow}
 use Rattle.z_play.specs.Scene.{given_by}
 use Rattle.z_play.proofs.Codes.{line_kept}
 use Rattle.z_play.proofs.Finishing.{read_ok, sets_ok, sets_given, finish_input, finish_reading, unfinished_reading}
@@ -32,3 +32,26 @@ returns-in-Ok-Some-clause-told g c = λ dice typed drawn told.
     line_kept c.args.most (take c.keep_codes-count.result c.keep_codes-count.new.line) c.keep_codes-count.new.line c.take_line.new.line (take c.in-Ok-Some.kept c.take_line.new.line) typed c.keep_codes-count.ensures.codes long (omega arith) taken.1 room in
     let given = sets_given c.finish_read.result (machine c.finish_read.new.self) _ c.finish_read.ensures.read (read_ok c.args.engine.now.layout (machine c.args.engine.now) c.args.buffer c.args.most c.args.store (take c.keep_codes-count.result c.keep_codes-count.new.line) c.requires.can.0 c.requires.can.1 few) in
     finish_reading (given_by c.args.engine.now.layout dice) (machine c.args.engine.now) (machine c.finish_read.new.self) c.args.buffer c.args.most c.args.store typed drawn (g.S.Source.view c.take_line.new.source).left taken.0 taken.2 (ap (λ (l : List ℕ). line_read c.args.engine.now.layout (machine c.args.engine.now) c.args.buffer c.args.store l) (sym line) ∙ given)
+
+pub returns-in-Err-clause-untold : goal.returns-in-Err-clause-untold
+returns-in-Err-clause-untold g c = λ dice left drawn may.
+    let line = c.in-Err.ensures.untold left tt in
+    (line.0, unfinished_reading (given_by c.args.engine.now.layout dice) (machine c.args.engine.now) c.args.buffer c.args.most c.args.store line.0 drawn (Some left) c.requires.can.0 c.requires.can.1 line.1)
+
+pub returns-in-Ok-None-clause-untold : goal.returns-in-Ok-None-clause-untold
+returns-in-Ok-None-clause-untold g c = λ dice left drawn none.
+    ([], finish_input (given_by c.args.engine.now.layout dice) (machine c.args.engine.now) (machine c.args.engine.now) c.args.buffer c.args.most c.args.store [] drawn (Some left) refl (ap Some none))
+
+pub returns-in-Ok-Some-clause-untold : goal.returns-in-Ok-Some-clause-untold
+returns-in-Ok-Some-clause-untold g c = λ dice left drawn may.
+    let source = c.in-Ok-Some.ensures.untold left (subst (λ (o : Option ℕ). MayFollow (Ok o) left) (sym c.in-Ok-Some.field-0-is) tt) in
+    let typed = source.0 in
+    let kept : List ℕ = take c.keep_codes-count.result c.keep_codes-count.new.line in
+    let few : length (take c.keep_codes-count.result c.keep_codes-count.new.line) ≤ c.args.most = search rules in
+    let long : length c.keep_codes-count.new.line ≡ c.args.most = search rules in
+    let room : length c.take_line.new.line ≡ 1024 = search rules in
+    let taken = subst (λ (o : Option ℕ). TakesLine (Ok o) source.0 c.take_line.new.line (Some left)) c.in-Ok-Some.field-0-is source.1 in
+    let line : take c.keep_codes-count.result c.keep_codes-count.new.line ≡ typed_line c.args.most source.0 =
+    line_kept c.args.most (take c.keep_codes-count.result c.keep_codes-count.new.line) c.keep_codes-count.new.line c.take_line.new.line (take c.in-Ok-Some.kept c.take_line.new.line) typed c.keep_codes-count.ensures.codes long (omega arith) taken.1 room in
+    let given = sets_given c.finish_read.result (machine c.finish_read.new.self) _ c.finish_read.ensures.read (read_ok c.args.engine.now.layout (machine c.args.engine.now) c.args.buffer c.args.most c.args.store (take c.keep_codes-count.result c.keep_codes-count.new.line) c.requires.can.0 c.requires.can.1 few) in
+    (typed, finish_reading (given_by c.args.engine.now.layout dice) (machine c.args.engine.now) (machine c.finish_read.new.self) c.args.buffer c.args.most c.args.store typed drawn (Some left) taken.0 taken.2 (ap (λ (l : List ℕ). line_read c.args.engine.now.layout (machine c.args.engine.now) c.args.buffer c.args.store l) (sym line) ∙ given))

@@ -1,12 +1,14 @@
-use Rattle.std.proofs.Common.{◌≡◌, ◌+◌, ◌-◌, ℕ, [], Option, Ok, Err, refl, sym, ◌∙◌, subst, arith}
+use Rattle.std.proofs.Common.{◌≡◌, ◌+◌, ◌-◌, ℕ, List, [], Option, Some, Ok, Err, refl, sym, ◌∙◌, subst, arith}
 use Rattle.z_model.specs.declared.story.Layout.{Layout}
 use Rattle.z_model.specs.declared.end.Halt.{Halt}
 use Rattle.z_model.specs.declared.end.ZEnd.{ZEnd}
 use Rattle.z_model.specs.Run.{zrun}
 use Rattle.z_play.specs.View.{machine}
 use Rattle.z_play.specs.Scene.{scene, given_by, state}
+use Rattle.z_play.specs.Acting.{MayBeLeft}
 use Rattle.z_play.specs.Advancing.{Advances, RanTo}
-use Rattle.z_play.proofs.Going.{Going, going_first, less_left, going_on, run_ended, run_limit, run_failed, causes_ok, causes_err}
+use Rattle.dg_base.specs.declared.run.Fault.{Fault}
+use Rattle.z_play.proofs.Going.{Going, going_first, less_left, going_on, run_ended, run_limit, run_failed, typed_is, nothing_left, causes_ok, causes_err}
 use Rattle.z_play.proofs.player.run_steps.Goals as goal
 
 pub loop-left-init : goal.loop-left-init
@@ -16,6 +18,7 @@ loop-left-init g c = record {
   reads = omega arith;
   writes = omega arith;
   going = λ typed told. going_first (given_by c.args.engine.now.layout c.args.dice.now) (machine c.args.engine.now) c.args.steps typed c.args.begun.now (g.S.Source.view c.args.source.now).left (g.K.Sink.view c.args.sink.now) told;
+  untold = λ left. (left, going_first (given_by c.args.engine.now.layout c.args.dice.now) (machine c.args.engine.now) c.args.steps left c.args.begun.now (Some left) (g.K.Sink.view c.args.sink.now) refl);
 }
 
 pub advance-requires-clause-sound : goal.advance-requires-clause-sound
@@ -34,6 +37,29 @@ returns-in-Err-clause-told g c = λ typed told drawn.
     let stepped = subst (λ (l : Layout). Advances (Err c.in-Err.fault) (given_by l c.args.dice.now) here.typed (scene (machine c.loop-left.engine) c.loop-left.drawn c.loop-left.begun (g.S.Source.view c.loop-left.source).left (g.K.Sink.view c.loop-left.sink)) (scene (machine c.advance.new.engine) c.advance.new.drawn c.advance.new.begun (g.S.Source.view c.advance.new.source).left (g.K.Sink.view c.advance.new.sink))) c.loop-left.invariant.kept.layout (c.in-Err.ensures.told here.typed here.left_is) in
     run_failed (given_by c.args.engine.now.layout c.args.dice.now) (state (machine c.args.engine.now) typed 0 []) c.args.steps (c.loop-left.left - 1) (scene (machine c.args.engine.now) 0 c.args.begun.now (g.S.Source.view c.args.source.now).left (g.K.Sink.view c.args.sink.now)) (scene (machine c.loop-left.engine) c.loop-left.drawn c.loop-left.begun (g.S.Source.view c.loop-left.source).left (g.K.Sink.view c.loop-left.sink)) (scene (machine c.advance.new.engine) c.advance.new.drawn c.advance.new.begun (g.S.Source.view c.advance.new.source).left (g.K.Sink.view c.advance.new.sink)) drawn c.in-Err.fault here stepped
 
+pub returns-in-Err-clause-untold : goal.returns-in-Err-clause-untold
+returns-in-Err-clause-untold g c = λ drawn.
+    let source = c.in-Err.ensures.untold [] tt in
+    let before = c.loop-left.invariant.untold source.0 in
+    let more : c.loop-left.left ≡ c.loop-left.left - 1 + 1 = omega (arith, c.loop-left-test.true) in
+    let here = less_left (given_by c.args.engine.now.layout c.args.dice.now) (state (machine c.args.engine.now) before.0 0 []) c.args.steps c.loop-left.left (c.loop-left.left - 1)
+    (scene (machine c.args.engine.now) 0 c.args.begun.now (Some before.0) (g.K.Sink.view c.args.sink.now))
+    (scene (machine c.loop-left.engine) c.loop-left.drawn c.loop-left.begun (Some source.0) (g.K.Sink.view c.loop-left.sink)) more before.1 in
+    let same = typed_is (given_by c.args.engine.now.layout c.args.dice.now) (state (machine c.args.engine.now) before.0 0 []) c.args.steps (c.loop-left.left - 1 + 1) (scene (machine c.args.engine.now) 0 c.args.begun.now (Some before.0) (g.K.Sink.view c.args.sink.now)) (machine c.loop-left.engine) c.loop-left.drawn c.loop-left.begun source.0 (g.K.Sink.view c.loop-left.sink) here in
+    let laid = subst (λ (l : Layout). Advances (Err c.in-Err.fault) (given_by l c.args.dice.now) source.0
+    (scene (machine c.loop-left.engine) c.loop-left.drawn c.loop-left.begun (Some source.0) (g.K.Sink.view c.loop-left.sink))
+    (scene (machine c.advance.new.engine) c.advance.new.drawn c.advance.new.begun (Some []) (g.K.Sink.view c.advance.new.sink))) c.loop-left.invariant.kept.layout source.1 in
+    let stepped = subst (λ (typed : List ℕ). Advances (Err c.in-Err.fault) (given_by c.args.engine.now.layout c.args.dice.now) typed
+    (scene (machine c.loop-left.engine) c.loop-left.drawn c.loop-left.begun (Some source.0) (g.K.Sink.view c.loop-left.sink))
+    (scene (machine c.advance.new.engine) c.advance.new.drawn c.advance.new.begun (Some []) (g.K.Sink.view c.advance.new.sink))) same laid in (
+      before.0,
+      [],
+      run_failed (given_by c.args.engine.now.layout c.args.dice.now) (state (machine c.args.engine.now) before.0 0 []) c.args.steps (c.loop-left.left - 1)
+          (scene (machine c.args.engine.now) 0 c.args.begun.now (Some before.0) (g.K.Sink.view c.args.sink.now))
+          (scene (machine c.loop-left.engine) c.loop-left.drawn c.loop-left.begun (Some source.0) (g.K.Sink.view c.loop-left.sink))
+          (scene (machine c.advance.new.engine) c.advance.new.drawn c.advance.new.begun (Some []) (g.K.Sink.view c.advance.new.sink)) drawn c.in-Err.fault here stepped,
+    )
+
 pub returns-in-Err-clause-causes : goal.returns-in-Err-clause-causes
 returns-in-Err-clause-causes g c = causes_err (g.S.Source.view c.args.source.now) (g.S.Source.view c.loop-left.source) (g.S.Source.view c.advance.new.source) (g.K.Sink.view c.args.sink.now) (g.K.Sink.view c.loop-left.sink) (g.K.Sink.view c.advance.new.sink) c.in-Err.fault c.loop-left.invariant.reads c.loop-left.invariant.writes c.in-Err.ensures.causes
 
@@ -47,6 +73,35 @@ returns-in-Some-clause-told g c = λ typed told drawn.
     let stepped = subst (λ (l : Layout). Advances (Ok c.in-Ok.halt) (given_by l c.args.dice.now) here.typed (scene (machine c.loop-left.engine) c.loop-left.drawn c.loop-left.begun (g.S.Source.view c.loop-left.source).left (g.K.Sink.view c.loop-left.sink)) (scene (machine c.advance.new.engine) c.advance.new.drawn c.advance.new.begun (g.S.Source.view c.advance.new.source).left (g.K.Sink.view c.advance.new.sink))) c.loop-left.invariant.kept.layout (c.in-Ok.ensures.told here.typed here.left_is) in
     let ended = subst (λ (h : Option Halt). Advances (Ok h) (given_by c.args.engine.now.layout c.args.dice.now) here.typed (scene (machine c.loop-left.engine) c.loop-left.drawn c.loop-left.begun (g.S.Source.view c.loop-left.source).left (g.K.Sink.view c.loop-left.sink)) (scene (machine c.advance.new.engine) c.advance.new.drawn c.advance.new.begun (g.S.Source.view c.advance.new.source).left (g.K.Sink.view c.advance.new.sink))) c.in-Some.is stepped in
     subst (λ (end : ZEnd). RanTo (zrun (given_by c.args.engine.now.layout c.args.dice.now) c.args.steps (state (machine c.args.engine.now) typed 0 [])) end (scene (machine c.args.engine.now) 0 c.args.begun.now (g.S.Source.view c.args.source.now).left (g.K.Sink.view c.args.sink.now)) (scene (machine c.advance.new.engine) drawn c.advance.new.begun (g.S.Source.view c.advance.new.source).left (g.K.Sink.view c.advance.new.sink))) (sym c.end_as.ensures) (run_ended (given_by c.args.engine.now.layout c.args.dice.now) (state (machine c.args.engine.now) typed 0 []) c.args.steps (c.loop-left.left - 1) (scene (machine c.args.engine.now) 0 c.args.begun.now (g.S.Source.view c.args.source.now).left (g.K.Sink.view c.args.sink.now)) (scene (machine c.loop-left.engine) c.loop-left.drawn c.loop-left.begun (g.S.Source.view c.loop-left.source).left (g.K.Sink.view c.loop-left.sink)) (scene (machine c.advance.new.engine) c.advance.new.drawn c.advance.new.begun (g.S.Source.view c.advance.new.source).left (g.K.Sink.view c.advance.new.sink)) drawn c.in-Some.halt here ended)
+
+pub returns-in-Some-clause-untold : goal.returns-in-Some-clause-untold
+returns-in-Some-clause-untold g c = λ drawn.
+    let source = c.in-Ok.ensures.untold [] (nothing_left {E = Fault} (Ok c.in-Ok.halt)) in
+    let before = c.loop-left.invariant.untold source.0 in
+    let more : c.loop-left.left ≡ c.loop-left.left - 1 + 1 = omega (arith, c.loop-left-test.true) in
+    let here = less_left (given_by c.args.engine.now.layout c.args.dice.now) (state (machine c.args.engine.now) before.0 0 []) c.args.steps c.loop-left.left (c.loop-left.left - 1)
+    (scene (machine c.args.engine.now) 0 c.args.begun.now (Some before.0) (g.K.Sink.view c.args.sink.now))
+    (scene (machine c.loop-left.engine) c.loop-left.drawn c.loop-left.begun (Some source.0) (g.K.Sink.view c.loop-left.sink)) more before.1 in
+    let same = typed_is (given_by c.args.engine.now.layout c.args.dice.now) (state (machine c.args.engine.now) before.0 0 []) c.args.steps (c.loop-left.left - 1 + 1) (scene (machine c.args.engine.now) 0 c.args.begun.now (Some before.0) (g.K.Sink.view c.args.sink.now)) (machine c.loop-left.engine) c.loop-left.drawn c.loop-left.begun source.0 (g.K.Sink.view c.loop-left.sink) here in
+    let laid = subst (λ (l : Layout). Advances (Ok c.in-Ok.halt) (given_by l c.args.dice.now) source.0
+    (scene (machine c.loop-left.engine) c.loop-left.drawn c.loop-left.begun (Some source.0) (g.K.Sink.view c.loop-left.sink))
+    (scene (machine c.advance.new.engine) c.advance.new.drawn c.advance.new.begun (Some []) (g.K.Sink.view c.advance.new.sink))) c.loop-left.invariant.kept.layout source.1 in
+    let stepped = subst (λ (typed : List ℕ). Advances (Ok c.in-Ok.halt) (given_by c.args.engine.now.layout c.args.dice.now) typed
+    (scene (machine c.loop-left.engine) c.loop-left.drawn c.loop-left.begun (Some source.0) (g.K.Sink.view c.loop-left.sink))
+    (scene (machine c.advance.new.engine) c.advance.new.drawn c.advance.new.begun (Some []) (g.K.Sink.view c.advance.new.sink))) same laid in
+    let ended = subst (λ (h : Option Halt). Advances (Ok h) (given_by c.args.engine.now.layout c.args.dice.now) here.typed
+    (scene (machine c.loop-left.engine) c.loop-left.drawn c.loop-left.begun (Some source.0) (g.K.Sink.view c.loop-left.sink))
+    (scene (machine c.advance.new.engine) c.advance.new.drawn c.advance.new.begun (Some []) (g.K.Sink.view c.advance.new.sink))) c.in-Some.is stepped in (
+      before.0,
+      [],
+      subst (λ (end : ZEnd). RanTo (zrun (given_by c.args.engine.now.layout c.args.dice.now) c.args.steps (state (machine c.args.engine.now) before.0 0 [])) end
+          (scene (machine c.args.engine.now) 0 c.args.begun.now (Some before.0) (g.K.Sink.view c.args.sink.now))
+          (scene (machine c.advance.new.engine) drawn c.advance.new.begun (Some []) (g.K.Sink.view c.advance.new.sink))) (sym c.end_as.ensures)
+          (run_ended (given_by c.args.engine.now.layout c.args.dice.now) (state (machine c.args.engine.now) before.0 0 []) c.args.steps (c.loop-left.left - 1)
+          (scene (machine c.args.engine.now) 0 c.args.begun.now (Some before.0) (g.K.Sink.view c.args.sink.now))
+          (scene (machine c.loop-left.engine) c.loop-left.drawn c.loop-left.begun (Some source.0) (g.K.Sink.view c.loop-left.sink))
+          (scene (machine c.advance.new.engine) c.advance.new.drawn c.advance.new.begun (Some []) (g.K.Sink.view c.advance.new.sink)) drawn c.in-Some.halt here ended),
+    )
 
 pub returns-in-Some-clause-causes : goal.returns-in-Some-clause-causes
 returns-in-Some-clause-causes g c = causes_ok (g.S.Source.view c.args.source.now) (g.S.Source.view c.loop-left.source) (g.S.Source.view c.advance.new.source) (g.K.Sink.view c.args.sink.now) (g.K.Sink.view c.loop-left.sink) (g.K.Sink.view c.advance.new.sink) c.in-Ok.halt c.end_as.result c.loop-left.invariant.reads c.loop-left.invariant.writes c.in-Ok.ensures.causes
@@ -63,6 +118,29 @@ loop-left-preserved g c = record {
       let stepped = subst (λ (l : Layout). Advances (Ok c.in-Ok.halt) (given_by l c.args.dice.now) here.typed (scene (machine c.loop-left.engine) c.loop-left.drawn c.loop-left.begun (g.S.Source.view c.loop-left.source).left (g.K.Sink.view c.loop-left.sink)) (scene (machine c.advance.new.engine) c.advance.new.drawn c.advance.new.begun (g.S.Source.view c.advance.new.source).left (g.K.Sink.view c.advance.new.sink))) c.loop-left.invariant.kept.layout (c.in-Ok.ensures.told here.typed here.left_is) in
       let on = subst (λ (h : Option Halt). Advances (Ok h) (given_by c.args.engine.now.layout c.args.dice.now) here.typed (scene (machine c.loop-left.engine) c.loop-left.drawn c.loop-left.begun (g.S.Source.view c.loop-left.source).left (g.K.Sink.view c.loop-left.sink)) (scene (machine c.advance.new.engine) c.advance.new.drawn c.advance.new.begun (g.S.Source.view c.advance.new.source).left (g.K.Sink.view c.advance.new.sink))) c.in-None.is stepped in
       going_on (given_by c.args.engine.now.layout c.args.dice.now) (state (machine c.args.engine.now) typed 0 []) c.args.steps (c.loop-left.left - 1) (scene (machine c.args.engine.now) 0 c.args.begun.now (g.S.Source.view c.args.source.now).left (g.K.Sink.view c.args.sink.now)) (scene (machine c.loop-left.engine) c.loop-left.drawn c.loop-left.begun (g.S.Source.view c.loop-left.source).left (g.K.Sink.view c.loop-left.sink)) (scene (machine c.advance.new.engine) c.advance.new.drawn c.advance.new.begun (g.S.Source.view c.advance.new.source).left (g.K.Sink.view c.advance.new.sink)) here on;
+  untold = λ left.
+      let source = c.in-Ok.ensures.untold left (subst (λ (h : Option Halt). MayBeLeft {E = Fault} (Ok h) left) (sym c.in-None.is) tt) in
+      let before = c.loop-left.invariant.untold source.0 in
+      let more : c.loop-left.left ≡ c.loop-left.left - 1 + 1 = omega (arith, c.loop-left-test.true) in
+      let here = less_left (given_by c.args.engine.now.layout c.args.dice.now) (state (machine c.args.engine.now) before.0 0 []) c.args.steps c.loop-left.left (c.loop-left.left - 1)
+      (scene (machine c.args.engine.now) 0 c.args.begun.now (Some before.0) (g.K.Sink.view c.args.sink.now))
+      (scene (machine c.loop-left.engine) c.loop-left.drawn c.loop-left.begun (Some source.0) (g.K.Sink.view c.loop-left.sink)) more before.1 in
+      let same = typed_is (given_by c.args.engine.now.layout c.args.dice.now) (state (machine c.args.engine.now) before.0 0 []) c.args.steps (c.loop-left.left - 1 + 1) (scene (machine c.args.engine.now) 0 c.args.begun.now (Some before.0) (g.K.Sink.view c.args.sink.now)) (machine c.loop-left.engine) c.loop-left.drawn c.loop-left.begun source.0 (g.K.Sink.view c.loop-left.sink) here in
+      let laid = subst (λ (l : Layout). Advances (Ok c.in-Ok.halt) (given_by l c.args.dice.now) source.0
+      (scene (machine c.loop-left.engine) c.loop-left.drawn c.loop-left.begun (Some source.0) (g.K.Sink.view c.loop-left.sink))
+      (scene (machine c.advance.new.engine) c.advance.new.drawn c.advance.new.begun (Some left) (g.K.Sink.view c.advance.new.sink))) c.loop-left.invariant.kept.layout source.1 in
+      let stepped = subst (λ (typed : List ℕ). Advances (Ok c.in-Ok.halt) (given_by c.args.engine.now.layout c.args.dice.now) typed
+      (scene (machine c.loop-left.engine) c.loop-left.drawn c.loop-left.begun (Some source.0) (g.K.Sink.view c.loop-left.sink))
+      (scene (machine c.advance.new.engine) c.advance.new.drawn c.advance.new.begun (Some left) (g.K.Sink.view c.advance.new.sink))) same laid in
+      let on = subst (λ (h : Option Halt). Advances (Ok h) (given_by c.args.engine.now.layout c.args.dice.now) here.typed
+      (scene (machine c.loop-left.engine) c.loop-left.drawn c.loop-left.begun (Some source.0) (g.K.Sink.view c.loop-left.sink))
+      (scene (machine c.advance.new.engine) c.advance.new.drawn c.advance.new.begun (Some left) (g.K.Sink.view c.advance.new.sink))) c.in-None.is stepped in (
+        before.0,
+        going_on (given_by c.args.engine.now.layout c.args.dice.now) (state (machine c.args.engine.now) before.0 0 []) c.args.steps (c.loop-left.left - 1)
+            (scene (machine c.args.engine.now) 0 c.args.begun.now (Some before.0) (g.K.Sink.view c.args.sink.now))
+            (scene (machine c.loop-left.engine) c.loop-left.drawn c.loop-left.begun (Some source.0) (g.K.Sink.view c.loop-left.sink))
+            (scene (machine c.advance.new.engine) c.advance.new.drawn c.advance.new.begun (Some left) (g.K.Sink.view c.advance.new.sink)) here on,
+      );
 }
 
 pub returns-clause-kept : goal.returns-clause-kept
@@ -72,6 +150,20 @@ pub returns-clause-told : goal.returns-clause-told
 returns-clause-told g c = λ typed told drawn.
     let none : c.loop-left.left ≡ 0 = omega (arith, c.loop-left-test.false) in
     run_limit (given_by c.args.engine.now.layout c.args.dice.now) (state (machine c.args.engine.now) typed 0 []) c.args.steps (scene (machine c.args.engine.now) 0 c.args.begun.now (g.S.Source.view c.args.source.now).left (g.K.Sink.view c.args.sink.now)) (scene (machine c.loop-left.engine) c.loop-left.drawn c.loop-left.begun (g.S.Source.view c.loop-left.source).left (g.K.Sink.view c.loop-left.sink)) drawn (subst (λ (k : ℕ). Going (given_by c.args.engine.now.layout c.args.dice.now) (state (machine c.args.engine.now) typed 0 []) c.args.steps k (scene (machine c.args.engine.now) 0 c.args.begun.now (g.S.Source.view c.args.source.now).left (g.K.Sink.view c.args.sink.now)) (scene (machine c.loop-left.engine) c.loop-left.drawn c.loop-left.begun (g.S.Source.view c.loop-left.source).left (g.K.Sink.view c.loop-left.sink))) none (c.loop-left.invariant.going typed told))
+
+pub returns-clause-untold : goal.returns-clause-untold
+returns-clause-untold g c = λ drawn.
+    let none : c.loop-left.left ≡ 0 = omega (arith, c.loop-left-test.false) in
+    let before = c.loop-left.invariant.untold [] in (
+      before.0,
+      [],
+      run_limit (given_by c.args.engine.now.layout c.args.dice.now) (state (machine c.args.engine.now) before.0 0 []) c.args.steps
+          (scene (machine c.args.engine.now) 0 c.args.begun.now (Some before.0) (g.K.Sink.view c.args.sink.now))
+          (scene (machine c.loop-left.engine) c.loop-left.drawn c.loop-left.begun (Some []) (g.K.Sink.view c.loop-left.sink)) drawn
+          (subst (λ (k : ℕ). Going (given_by c.args.engine.now.layout c.args.dice.now) (state (machine c.args.engine.now) before.0 0 []) c.args.steps k
+          (scene (machine c.args.engine.now) 0 c.args.begun.now (Some before.0) (g.K.Sink.view c.args.sink.now))
+          (scene (machine c.loop-left.engine) c.loop-left.drawn c.loop-left.begun (Some []) (g.K.Sink.view c.loop-left.sink))) none before.1),
+    )
 
 pub returns-clause-causes : goal.returns-clause-causes
 returns-clause-causes g c = record { reads = c.loop-left.invariant.reads; writes = c.loop-left.invariant.writes; read_failed = λ e. absurd cc; write_failed = λ e. absurd cc }

@@ -1,4 +1,4 @@
-use Rattle.std.proofs.Common.{◌≡◌, length, ◌-◌}
+use Rattle.std.proofs.Common.{length, ◌-◌}
 use Rattle.z_play.proofs.Codes.{KeepsCodes}
 use Rattle.z_play.proofs.typed.keep_codes.Given as goal
 

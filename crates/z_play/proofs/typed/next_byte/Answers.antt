@@ -1,4 +1,4 @@
-use Rattle.std.proofs.Common.{[], ◌∷◌, Some, sym, ap, ◌∙◌, arith}
+use Rattle.std.proofs.Common.{[], ◌∷◌, Some, refl, sym, ap, ◌∙◌, arith}
 use Rattle.std.specs.Io.KnownBytes.{Consumes, IsAtEnd, Keeps}
 use Rattle.z_play.proofs.Reading.{consumed, ended, no_room, no_byte, at_newline, at_byte}
 use Rattle.z_play.proofs.typed.next_byte.Goals as goal
@@ -28,3 +28,28 @@ returns-clause-told g c = λ typed told.
     let given = consumed (g.S.Source.view c.args.source.now).left (g.S.Source.view c.next.new.self).left typed c.in-Ok-Some.byte told took in
     let line = at_byte c.args.room typed given.0 c.in-Ok-Some.byte (omega arith) c.if-byte-eq10.false given.2 in
     record { rest = given.0; is = given.1; taken = given.2; line = line.0; behind = line.1 }
+
+pub returns-then-room-eq0-clause-untold : goal.returns-then-room-eq0-clause-untold
+returns-then-room-eq0-clause-untold g c = λ left.
+    let none = no_room c.args.room left c.if-room-eq0.true in
+    (left, (none.0, ap Some (sym none.1)))
+
+pub returns-in-Err-clause-untold : goal.returns-in-Err-clause-untold
+returns-in-Err-clause-untold g c = λ left. (left, refl)
+
+-- an end of the bytes is as good as a newline
+pub returns-in-Ok-None-clause-untold : goal.returns-in-Ok-None-clause-untold
+returns-in-Ok-None-clause-untold g c = λ left.
+    let line = at_newline c.args.room (10 ∷ left) left 10 (omega (arith, c.if-room-eq0.false)) refl refl in
+    (10 ∷ left, (line.0, ap Some (sym line.1)))
+
+pub returns-then-byte-eq10-clause-untold : goal.returns-then-byte-eq10-clause-untold
+returns-then-byte-eq10-clause-untold g c = λ left.
+    let line = at_newline c.args.room (10 ∷ left) left 10 (omega (arith, c.if-room-eq0.false)) refl refl in
+    (10 ∷ left, (line.0, ap Some (sym line.1)))
+
+pub returns-clause-untold : goal.returns-clause-untold
+returns-clause-untold g c = λ left.
+    let byte = c.in-Ok-Some.byte in
+    let line = at_byte c.args.room (byte ∷ left) left byte (omega (arith, c.if-room-eq0.false)) c.if-byte-eq10.false refl in
+    (byte ∷ left, record { rest = left; is = refl; taken = refl; line = line.0; behind = line.1 })

@@ -1,4 +1,4 @@
-use Rattle.std.proofs.Common.{[], ◌∷◌, length, take, Some, sym, ap, ◌∙◌}
+use Rattle.std.proofs.Common.{[], ◌∷◌, length, take, Some, refl, sym, ap, ◌∙◌}
 use Rattle.std.specs.Io.KnownBytes.{Consumes}
 use Rattle.z_model.specs.Typed.{typed_bytes}
 use Rattle.z_play.proofs.Reading.{consumed, stays, typed_empty, typed_more, stops_at_first, stops_later, not_empty, nothing_taken}
@@ -27,3 +27,28 @@ returns-in-Err-take_rest-clause-told g c = λ typed told.
     let took : Consumes (g.S.Source.view c.args.source.now).left (g.S.Source.view c.next.new.self).left (c.in-Ok-Some.first ∷ []) = rw c.in-Ok-Some.field-0-is at c.in-Ok-Some.ensures.byte in
     let given = consumed (g.S.Source.view c.args.source.now).left (g.S.Source.view c.next.new.self).left typed c.in-Ok-Some.first told took in
     stops_later typed given.0 c.in-Ok-Some.first (g.S.Source.view c.take_rest.new.source).left c.if-first-eq10.false given.2 (c.in-Err-take_rest.ensures.told given.0 given.1)
+
+pub returns-in-Err-clause-untold : goal.returns-in-Err-clause-untold
+returns-in-Err-clause-untold g c = λ left may. (left, stops_at_first left (Some left) refl)
+
+pub returns-in-Ok-None-clause-untold : goal.returns-in-Ok-None-clause-untold
+returns-in-Ok-None-clause-untold g c = λ left none. ([], (refl, ap Some none))
+
+pub returns-then-first-eq10-clause-untold : goal.returns-then-first-eq10-clause-untold
+returns-then-first-eq10-clause-untold g c = λ left may.
+    let first = c.in-Ok-Some.first in
+    let line = typed_empty (first ∷ left) left first c.if-first-eq10.true refl in
+    (first ∷ left, (not_empty (first ∷ left) left first refl, nothing_taken (length c.args.line.now) (typed_bytes (first ∷ left)) line.0, ap Some (sym line.1)))
+
+pub returns-in-Ok-clause-untold : goal.returns-in-Ok-clause-untold
+returns-in-Ok-clause-untold g c = λ left may.
+    let first = c.in-Ok-Some.first in
+    let rest = c.in-Ok.ensures.untold left in
+    let line = typed_more (first ∷ rest.0) rest.0 first c.if-first-eq10.false refl in
+    (first ∷ rest.0, (not_empty (first ∷ rest.0) rest.0 first refl, rest.1.0.front ∙ ap (take (length c.take_rest.new.line)) (sym line.0), rest.1.1 ∙ ap Some (sym line.1)))
+
+pub returns-in-Err-take_rest-clause-untold : goal.returns-in-Err-take_rest-clause-untold
+returns-in-Err-take_rest-clause-untold g c = λ left may.
+    let first = c.in-Ok-Some.first in
+    let rest = c.in-Err-take_rest.ensures.untold left in
+    (first ∷ rest.0, stops_later (first ∷ rest.0) rest.0 first (Some left) c.if-first-eq10.false refl rest.1)

@@ -1,7 +1,7 @@
-use Rattle.std.proofs.Common.{◌≡◌, ◌≤◌, ◌++◌, ◌∷◌, List, ℕ, [], Some, sym, ap, subst, ◌∙◌, arith, length}
+use Rattle.std.proofs.Common.{◌≡◌, ◌≤◌, ◌++◌, ◌∷◌, List, ℕ, [], Some, refl, sym, ap, subst, ◌∙◌, arith, length}
 use Rattle.z_model.specs.Typed.{line_within, left_within}
 use Rattle.z_play.specs.Lines.{IsNext}
-use Rattle.z_play.proofs.Reading.{reading_starts, reading_goes, left_shorter}
+use Rattle.z_play.proofs.Reading.{reading_starts, reading_goes, rest_is, left_shorter}
 use Rattle.z_play.proofs.typed.take_rest.Goals as goal
 
 pub loop-failed-init : goal.loop-failed-init
@@ -9,6 +9,7 @@ loop-failed-init g c = record {
   within = omega arith;
   later = omega arith;
   told = λ typed told. reading_starts typed c.args.first c.args.line.now (g.S.Source.view c.args.source.now).left told;
+  untold = λ left. (left, reading_starts left c.args.first c.args.line.now (Some left) refl);
 }
 
 pub returns-in-Err-clause-told : goal.returns-in-Err-clause-told
@@ -20,6 +21,30 @@ returns-in-Err-clause-told g c = λ typed told.
       most = r.most;
       least = subst (λ (l : List ℕ). length l ≤ length r.rest) (sym r.left_is) (left_shorter c.loop-failed.room r.rest);
     }
+
+pub returns-in-Err-clause-untold : goal.returns-in-Err-clause-untold
+returns-in-Err-clause-untold g c = λ left.
+    let next = c.in-Err.ensures.untold left in
+    let before = c.loop-failed.invariant.untold next.0 in
+    let r = before.1 in (
+      before.0,
+      record {
+        rest = r.rest;
+        is = next.1 ∙ r.is;
+        most = r.most;
+        least = subst (λ (l : List ℕ). length l ≤ length r.rest) (sym r.left_is) (left_shorter c.loop-failed.room r.rest);
+      },
+    )
+
+pub returns-in-Ok-None-clause-untold : goal.returns-in-Ok-None-clause-untold
+returns-in-Ok-None-clause-untold g c = λ left.
+    let next = rw c.in-Ok-None.field-0-is at (c.in-Ok-None.ensures.untold left) in
+    let before = c.loop-failed.invariant.untold next.0 in
+    let r = before.1 in
+    let same = rest_is before.0 c.args.first c.loop-failed.line c.loop-failed.kept c.loop-failed.held c.loop-failed.room next.0 r in
+    let end = subst (λ (l : List ℕ). (line_within c.loop-failed.room l ≡ []) × (Some left ≡ Some (left_within c.loop-failed.room l))) same next.1 in
+    let whole = r.line_is ∙ ap (λ (l : List ℕ). r.front ++ c.loop-failed.held ∷ l) end.0 in
+    (before.0, (rw whole (c.keep_last.ensures.keeps r.front r.keeps), end.1 ∙ ap Some (sym r.left_is)))
 
 pub returns-in-Ok-None-clause-told : goal.returns-in-Ok-None-clause-told
 returns-in-Ok-None-clause-told g c = λ typed told.
@@ -36,4 +61,11 @@ loop-failed-preserved g c = record {
       let r = c.loop-failed.invariant.told typed told in
       let next : IsNext c.in-Ok-Some.byte c.loop-failed.room r.rest (g.S.Source.view c.next_byte.new.source).left = rw c.in-Ok-Some.field-0-is at (c.in-Ok-Some.ensures.told r.rest r.is) in
       reading_goes typed c.args.first c.loop-failed.line c.keep-kept.new.line c.loop-failed.kept c.keep-kept.result c.loop-failed.held c.loop-failed.room c.in-Ok-Some.byte (g.S.Source.view c.loop-failed.source).left (g.S.Source.view c.next_byte.new.source).left r next.rest next.is next.line next.behind (omega (arith, ap length next.taken)) (c.keep-kept.ensures.keeps r.front r.keeps);
+  untold = λ left.
+      let byte = rw c.in-Ok-Some.field-0-is at (c.in-Ok-Some.ensures.untold left) in
+      let before = c.loop-failed.invariant.untold byte.0 in
+      let r = before.1 in
+      let same = rest_is before.0 c.args.first c.loop-failed.line c.loop-failed.kept c.loop-failed.held c.loop-failed.room byte.0 r in
+      let next = subst (λ (l : List ℕ). IsNext c.in-Ok-Some.byte c.loop-failed.room l (Some left)) same byte.1 in
+      (before.0, reading_goes before.0 c.args.first c.loop-failed.line c.keep-kept.new.line c.loop-failed.kept c.keep-kept.result c.loop-failed.held c.loop-failed.room c.in-Ok-Some.byte (Some byte.0) (Some left) r next.rest next.is next.line next.behind (omega (arith, ap length next.taken)) (c.keep-kept.ensures.keeps r.front r.keeps));
 }

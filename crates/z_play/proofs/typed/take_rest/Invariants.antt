@@ -7,6 +7,7 @@ invariant-loop-failed g l = record {
   within : l.kept ≤ length l.line;
   later : (g.S.Source.view l.initial.source).faults ≤ (g.S.Source.view l.source).faults;
   told : (typed : List ℕ) → (g.S.Source.view l.initial.source).left ≡ Some typed → Reading typed l.first l.line l.kept l.held l.room (g.S.Source.view l.source).left;
+  untold : (left : List ℕ) → ((typed : List ℕ) × Reading typed l.first l.line l.kept l.held l.room (Some left));
 }
 
 abbrev pub decreases-loop-failed : goal.decreases-loop-failed
