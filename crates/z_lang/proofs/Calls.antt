@@ -1,6 +1,6 @@
 -- A call begins a routine, and its return goes on behind the call.
-use Rattle.std.proofs.Common.{◌≡◌, ◌≢◌, ℕ, suc, ◌+◌, ◌-◌, ◌*◌, ◌<◌, ◌≤◌, Bool, true, false, List, [], ◌∷◌, length, take, Option, Some, None, Result, Ok, Err, refl, sym, ap, ◌∙◌, subst, arith}
-use Rattle.std.specs.Prelude.{nat_lt, ◌==◌, if◌then◌else◌, slice_get}
+use Rattle.std.proofs.Common.{◌≡◌, ◌≢◌, ℕ, ◌+◌, ◌-◌, ◌*◌, ◌<◌, ◌≤◌, List, [], ◌∷◌, length, Option, Some, None, Result, Ok, refl, ap, arith}
+use Rattle.std.specs.Prelude.{slice_get}
 use Rattle.std.proofs.lemmas.Option.{same_Some}
 use Rattle.std.proofs.lemmas.Bool.{lt-ltb, le-ltb, ne_eqb}
 use Rattle.z_model.specs.declared.fault.ZFault.{ZFault}
@@ -8,7 +8,7 @@ use Rattle.z_model.specs.declared.story.Layout.{Layout}
 use Rattle.z_model.specs.declared.end.Args.{Args}
 use Rattle.z_model.specs.Flow.{called, entered as entered_by, local_count, locals_from, return_to, returned}
 use Rattle.z_model.specs.Machine.{Frame, Machine, words, words_in, stored_if}
-use Rattle.z_lang.specs.State.{State, Program, put, put_if}
+use Rattle.z_lang.specs.State.{State, Program, put_if}
 use Rattle.z_lang.specs.Runs.{entered, left_with}
 use Rattle.z_lang.specs.Standing.{Context, machine_at, resumed}
 use Rattle.z_lang.proofs.Operands.{args_of, put_stored}

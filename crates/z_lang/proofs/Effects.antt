@@ -1,13 +1,11 @@
 -- What the instructions of single acts do to the machine.
-use Rattle.std.proofs.Common.{◌≡◌, ℕ, zero, suc, ◌+◌, ◌-◌, ◌*◌, ◌%◌, ◌<◌, ◌≤◌, Bool, true, false, not, List, [], ◌∷◌, ◌++◌, length, Option, Some, None, Result, Ok, Err, refl, sym, ap, ◌∙◌, subst, arith}
-use Rattle.std.specs.Prelude.{nat_lt, ◌==◌, ◌||◌, ◌&&◌, if◌then◌else◌, int_lt, bit_and, bit_or, encode_utf8}
-use Rattle.std.specs.Fmt.{signed_decimal}
+use Rattle.std.proofs.Common.{◌≡◌, ℕ, ◌+◌, ◌*◌, ◌%◌, Bool, true, false, not, List, ◌++◌, Option, Some, None, Result, Ok, Err, refl, ap}
+use Rattle.std.specs.Prelude.{◌==◌, ◌||◌, if◌then◌else◌, int_lt, encode_utf8}
 use Rattle.std.proofs.lemmas.Option.{same_Some}
 use Rattle.z_model.specs.declared.fault.ZFault.{ZFault}
-use Rattle.z_model.specs.declared.fault.ZFault.TheVariants.{BadOpcode, BadCharacter}
+use Rattle.z_model.specs.declared.fault.ZFault.TheVariants.{BadCharacter}
 use Rattle.z_model.specs.declared.story.Layout.{Layout}
 use Rattle.z_model.specs.declared.op.Op.{Op}
-use Rattle.z_model.specs.declared.op.Operand.{Operand}
 use Rattle.z_model.specs.declared.op.Branch.{Branch}
 use Rattle.z_model.specs.declared.table.Row.{Row}
 use Rattle.z_model.specs.declared.table.Instr.{Instr}
@@ -18,17 +16,17 @@ use Rattle.z_model.specs.declared.table.Several.TheVariants as several
 use Rattle.z_model.specs.declared.table.Extended.TheVariants as extended
 use Rattle.z_model.specs.declared.end.Args.{Args}
 use Rattle.z_model.specs.declared.end.Effect.{Effect}
-use Rattle.z_model.specs.declared.end.Effect.TheVariants.{Goes, PrintsCode, PrintsUnicode, PrintsNumber, PrintsText, Draws}
+use Rattle.z_model.specs.declared.end.Effect.TheVariants.{Goes, PrintsCode, PrintsUnicode, PrintsText}
 use Rattle.z_model.specs.Zscii.{is_printed, is_character, code_bytes}
 use Rattle.z_model.specs.Table.{Rows}
-use Rattle.z_model.specs.Decode.{◌>>=◌, or_fault, found, op_at}
-use Rattle.z_model.specs.Effects.{goes, answers, answers_or, written as written_by, printed as printed_by, unless, random_of}
+use Rattle.z_model.specs.Decode.{found, op_at}
+use Rattle.z_model.specs.Effects.{goes, answers, answers_or, written as written_by, printed as printed_by, unless}
 use Rattle.z_model.specs.Flow.{at_pc, branched, branch_taken, agrees}
-use Rattle.z_model.specs.Machine.{Machine, values_of, stored, stored_if, placed}
+use Rattle.z_model.specs.Machine.{Machine, values_of, stored_if}
 use Rattle.z_model.specs.Memory.{Memory, guarded, byte_in, word_in, with_byte, with_word}
-use Rattle.z_model.specs.Numbers.{signed_16, quotient, remainder, equals_one}
-use Rattle.z_model.specs.Run.{ZGiven, ZState, Next, On, zstep, next_by, effect_on, word_at, next_drawn}
-use Rattle.z_model.specs.Step.{do_instr, do_two, do_one, do_zero, do_several, do_extended, machine_step}
+use Rattle.z_model.specs.Numbers.{signed_16, quotient, remainder}
+use Rattle.z_model.specs.Run.{ZGiven, ZState, Next, On, zstep, next_by, word_at}
+use Rattle.z_model.specs.Step.{do_instr, do_two, do_one, do_several, do_extended, machine_step}
 use Rattle.z_model.specs.Text.{string_at, print_fault, text_bytes}
 use Rattle.z_lang.specs.declared.act.Atom.{Atom}
 use Rattle.z_lang.specs.declared.act.Function.{Function}
@@ -40,10 +38,9 @@ use Rattle.z_lang.specs.declared.act.Print.TheVariants as prints
 use Rattle.z_lang.specs.declared.act.Comparison.{Comparison}
 use Rattle.z_lang.specs.declared.act.Comparison.TheVariants as comparisons
 use Rattle.z_lang.specs.State.{unless_fault, State, Program, put}
-use Rattle.z_lang.specs.Acts.{computed, bytes_unless, written, printed, drawn, text_unless}
-use Rattle.z_lang.specs.Code.{number_of, write_number, compare_number}
-use Rattle.z_lang.specs.Standing.{Context, machine_at, state_at, outside}
-use Rattle.z_lang.proofs.Operands.{args_of, put_stored, put_placed}
+use Rattle.z_lang.specs.Acts.{computed, bytes_unless, written, printed, text_unless}
+use Rattle.z_lang.specs.Standing.{Context, machine_at}
+use Rattle.z_lang.proofs.Operands.{args_of, put_stored}
 
 -- ---- one instruction
 

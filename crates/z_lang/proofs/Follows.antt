@@ -1,8 +1,7 @@
 -- The instructions of a routine follow its meaning.
-use Rattle.std.proofs.Common.{◌≡◌, ◌≢◌, ℕ, suc, ◌+◌, ◌-◌, ◌*◌, ◌<◌, ◌≤◌, Bool, true, false, not, List, [], ◌∷◌, ◌++◌, length, take, Option, Some, None, Result, Ok, Err, refl, sym, ap, ◌∙◌, subst, arith}
-use Rattle.std.specs.Prelude.{slice_get, nat_lt, ◌==◌, ◌||◌, ◌%◌, if◌then◌else◌}
+use Rattle.std.proofs.Common.{◌≡◌, ℕ, suc, ◌+◌, ◌≤◌, Bool, true, false, not, List, [], ◌∷◌, length, Option, Some, None, Result, Ok, refl, ap, ◌∙◌, subst}
+use Rattle.std.specs.Prelude.{◌%◌}
 use Rattle.std.proofs.lemmas.Option.{same_Some}
-use Rattle.std.proofs.lemmas.Bool.{eqb-true}
 use Rattle.z_model.specs.declared.fault.ZFault.{ZFault}
 use Rattle.z_model.specs.declared.op.Op.{Op}
 use Rattle.z_model.specs.declared.story.Layout.{Layout}
@@ -22,24 +21,20 @@ use Rattle.z_model.specs.declared.table.Instr.TheVariants as instrs
 use Rattle.z_model.specs.declared.op.Found.{Found}
 use Rattle.z_model.specs.declared.end.Args.{Args as ZArgs}
 use Rattle.z_model.specs.declared.end.Effect.{Effect}
-use Rattle.z_model.specs.declared.end.Effect.TheVariants.{Goes, Draws}
-use Rattle.z_model.specs.declared.end.Halt.{Halt}
 use Rattle.z_model.specs.declared.end.Halt.TheVariants.{AtQuit, AtInput}
 use Rattle.z_model.specs.Spelling.{spelling, type_of_operand, types_in, row_of}
 use Rattle.z_model.specs.Typed.{typed_left}
 use Rattle.z_model.specs.Table.{Rows, rows_of}
-use Rattle.z_model.specs.Decode.{◌>>=◌, known, short_kind, found, op_at}
-use Rattle.z_model.specs.Effects.{answers, reads, most_typed, random_of, goes}
+use Rattle.z_model.specs.Decode.{known, short_kind, found, op_at}
+use Rattle.z_model.specs.Effects.{reads, most_typed, random_of, goes}
 use Rattle.z_model.specs.Flow.{at_pc, returned, branched}
-use Rattle.z_model.specs.Machine.{Machine, value_of, values_of, stored, stored_if}
+use Rattle.z_model.specs.Machine.{Machine, value_of, values_of, stored_if}
 use Rattle.z_model.specs.Numbers.{word_from}
-use Rattle.z_model.specs.Run.{ZGiven, ZState, Next, On, Ended, zstep, next_by, line_read, word_at, next_drawn, end_of}
-use Rattle.z_model.specs.Step.{do_instr, do_one, do_zero, do_two, do_several, machine_step}
-use Rattle.z_code.specs.declared.target.LOp.{LOp}
-use Rattle.z_code.specs.declared.target.LOp.TheVariants as lops
+use Rattle.z_model.specs.Run.{ZGiven, ZState, Next, On, Ended, zstep, next_by, line_read, word_at, next_drawn}
+use Rattle.z_model.specs.Step.{do_instr, do_one, do_zero, do_two, do_several}
 use Rattle.z_code.specs.declared.target.Target.{Target}
 use Rattle.z_code.specs.declared.target.Target.TheVariants as targets
-use Rattle.z_code.specs.Targets.{fill, filled, nth, Fits, Placed, offset_to, IsNear, Names}
+use Rattle.z_code.specs.Targets.{fill, filled, Fits, offset_to, IsNear, Names}
 use Rattle.z_lang.specs.declared.act.Atom.{Atom}
 use Rattle.z_lang.specs.declared.act.Function.{Function}
 use Rattle.z_lang.specs.declared.act.Function.TheVariants as functions
@@ -50,24 +45,20 @@ use Rattle.z_lang.specs.declared.act.Print.TheVariants as prints
 use Rattle.z_lang.specs.declared.act.Comparison.{Comparison}
 use Rattle.z_lang.specs.declared.act.Comparison.TheVariants as comparisons
 use Rattle.z_lang.specs.declared.act.Test.{Test}
-use Rattle.z_lang.specs.declared.act.Args.{Args}
-use Rattle.z_lang.specs.declared.act.Args.TheVariants as args
-use Rattle.z_lang.specs.declared.act.Routine.{Routine}
-use Rattle.z_lang.specs.declared.act.Act.{Act}
 use Rattle.z_lang.specs.declared.act.Act.TheVariants as acts
 use Rattle.z_lang.specs.State.{State, Program, value, put}
-use Rattle.z_lang.specs.Acts.{compared, computed, written, printed, does, drawn, readable, arguments, answer_of, with_output}
-use Rattle.z_lang.specs.Runs.{Outcome, Returns, Stops, Rests, Runs, behind, entered, left_with}
-use Rattle.z_lang.specs.Code.{one_of, two_of, three_of, four_of, short_op, variable_op, print_op, quit_op, branch_on, with_args, arg_targets, operand, target, instruction, code, number_of, write_number, compare_number, operands_by, targets_by, test_operands, test_targets}
-use Rattle.z_lang.specs.Leads.{Leads, Ends}
-use Rattle.z_lang.specs.Standing.{IsLaidOut, StandsAt, Stands, IsKept, Context, machine_at, outside, state_at, resumed, HasRoom, ComesTo}
-use Rattle.z_lang.proofs.Stretches.{leads_none, leads_step, leads_then, ends_step, ends_then, ends_last}
-use Rattle.z_lang.proofs.Kept.{kept_get, decoded}
+use Rattle.z_lang.specs.Acts.{compared, computed, written, printed, does, drawn, readable, answer_of, with_output}
+use Rattle.z_lang.specs.Runs.{Outcome, Returns, Stops, Rests}
+use Rattle.z_lang.specs.Code.{one_of, two_of, three_of, short_op, variable_op, print_op, quit_op, branch_on, operand, target, number_of, write_number, compare_number, operands_by, targets_by, test_operands, test_targets}
+use Rattle.z_lang.specs.Leads.{Leads}
+use Rattle.z_lang.specs.Standing.{IsLaidOut, IsKept, Context, machine_at, outside, state_at, resumed, ComesTo}
+use Rattle.z_lang.proofs.Stretches.{leads_step, leads_then, ends_step, ends_then}
+use Rattle.z_lang.proofs.Kept.{decoded}
 use Rattle.z_lang.proofs.Operands.{operand_is, values_none, values_one, values_two, values_three, values_four, args_of, the_word, the_args, put_stored, put_placed}
 use Rattle.z_lang.proofs.Effects.{the_step, step_by, zstep_by, instr_of, computes, answer_stored, write_instr, writes, print_instr, prints_as, compare_instr, Decides, equal_two, equal_three, equal_four, is_less, is_greater, branches, branches_not}
-use Rattle.z_lang.proofs.Keeping.{IsReadable, is_readable, Took, took, SameOutside, the_state, Drew, nothing_drawn, one_drawn, drew, bound, put_keeps, does_keeps}
+use Rattle.z_lang.proofs.Keeping.{IsReadable, is_readable, Took, took, SameOutside, Drew, nothing_drawn, one_drawn, drew, bound, put_keeps}
 use Rattle.z_lang.proofs.Jumps.{branch_leads, jump_leads}
-use Rattle.z_lang.proofs.Calls.{within, call_enters, return_resumes, call_returns}
+use Rattle.z_lang.proofs.Calls.{return_resumes}
 
 -- ---- one step
 

@@ -1,17 +1,15 @@
 -- Where a jump and a branch lead.
-use Rattle.z_model.specs.Decode.{◌>>=◌}
-use Rattle.z_model.specs.Flow.{at_pc, address, jumped, branch_taken, agrees, branched}
+use Rattle.z_model.specs.Flow.{at_pc, jumped, branch_taken}
 use Rattle.z_model.specs.Machine.{Machine}
 use Rattle.z_model.specs.Numbers.{signed_16, word_from}
 use Rattle.z_code.specs.Targets.{offset_to, IsNear}
-use Rattle.std.proofs.Common.{◌≡◌, ℕ, zero, suc, ◌+◌, ◌-◌, ◌%◌, ◌<◌, ◌≤◌, ◌⊎◌, inl, inr, ⊎_elim, Bool, true, false, not, Option, Some, None, Result, Ok, refl, sym, ap, ◌∙◌, subst, arith}
-use Rattle.std.specs.Prelude.{pos, nat_lt, if◌then◌else◌}
+use Rattle.std.proofs.Common.{◌≡◌, ℕ, suc, ◌+◌, ◌-◌, ◌%◌, ◌<◌, ◌≤◌, ⊎_elim, Result, Ok, refl, sym, subst, arith}
+use Rattle.std.specs.Prelude.{pos}
 use lib.IntN.{ℤ, ◌+ℤ◌, ◌-ℤ◌, negsuc}
 use Rattle.std.proofs.lemmas.Int.{ints}
 use Rattle.std.proofs.lemmas.Bool.{lt-ltb, le-ltb}
 use Rattle.z_model.specs.declared.fault.ZFault.{ZFault}
 use Rattle.z_model.specs.declared.story.Layout.{Layout}
-use Rattle.z_model.specs.declared.op.Branch.{Branch}
 
 abbrev the_machine : Machine → Result Machine ZFault
 the_machine m = Ok m

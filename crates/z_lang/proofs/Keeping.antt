@@ -1,24 +1,17 @@
 -- What single acts keep: the number of locals, and the outside where they only store.
-use Rattle.std.proofs.Common.{◌≡◌, ℕ, suc, ◌+◌, ◌-◌, ◌*◌, ◌/◌, ◌%◌, ◌<◌, ◌≤◌, Bool, true, false, List, [], ◌∷◌, ◌++◌, length, Option, Some, None, Result, Ok, Err, refl, sym, ap, ◌∙◌, subst, arith}
+use Rattle.std.proofs.Common.{◌≡◌, ℕ, ◌+◌, ◌-◌, ◌%◌, Bool, true, false, List, [], ◌∷◌, length, Option, Some, None, Result, Ok, Err, refl, sym, ap, ◌∙◌, subst}
 use Rattle.std.proofs.Math.ListN.{length-set}
-use Rattle.std.specs.Prelude.{nat_lt, ◌==◌, ◌||◌, if◌then◌else◌, slice_set}
+use Rattle.std.specs.Prelude.{nat_lt, ◌==◌, ◌||◌, if◌then◌else◌}
 use Rattle.std.proofs.lemmas.Option.{same_Some}
-use Rattle.std.proofs.lemmas.Bool.{eqb-true, ltb-true, ltb-false}
 use Rattle.z_model.specs.declared.fault.ZFault.{ZFault}
-use Rattle.z_model.specs.declared.fault.ZFault.TheVariants.{BadWrite}
 use Rattle.z_model.specs.declared.story.Layout.{Layout}
 use Rattle.z_model.specs.Typed.{typed_line, typed_left}
 use Rattle.z_model.specs.Memory.{Memory, guarded, is_writable, byte_in, have_right}
 use Rattle.z_model.specs.Run.{word_at, next_drawn, with_line}
-use Rattle.z_lang.specs.declared.act.Atom.{Atom}
-use Rattle.z_lang.specs.declared.act.Function.{Function}
-use Rattle.z_lang.specs.declared.act.Width.{Width}
-use Rattle.z_lang.specs.declared.act.Width.TheVariants as widths
 use Rattle.z_lang.specs.declared.act.Act.{Act}
 use Rattle.z_lang.specs.declared.act.Act.TheVariants as acts
-use Rattle.z_lang.specs.State.{◌>>=◌, unless_fault, State, Program, value, put, put_if, with_local, global, with_global}
+use Rattle.z_lang.specs.State.{◌>>=◌, unless_fault, State, Program, value, put, put_if, with_local}
 use Rattle.z_lang.specs.Acts.{computed, bytes_unless, written, printed, drawn, readable, line_in, does, with_output}
-use Rattle.z_lang.specs.Standing.{IsLaidOut, IsKept, Context, machine_at, state_at, outside}
 use Rattle.z_lang.proofs.Operands.{in_local, in_global}
 use Rattle.z_lang.proofs.Effects.{no_fault}
 

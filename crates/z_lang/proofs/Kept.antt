@@ -1,12 +1,11 @@
 -- Memory that is as the story from the static base on: what is decoded there, and what keeps it so.
-use Rattle.std.proofs.Common.{◌≡◌, ℕ, zero, suc, ◌+◌, ◌-◌, ◌<◌, ◌≤◌, Bool, true, false, List, [], ◌∷◌, length, drop, Option, Some, None, Result, Ok, refl, sym, ap, ◌∙◌, subst, arith}
-use Rattle.std.specs.Prelude.{slice_get, slice_set}
-use Rattle.std.proofs.lemmas.List.{drop-set-lt}
+use Rattle.std.proofs.Common.{◌≡◌, ℕ, zero, suc, ◌+◌, ◌-◌, ◌≤◌, Bool, true, false, List, [], ◌∷◌, length, drop, Ok, refl, sym, ap, ◌∙◌, subst, arith}
+use Rattle.std.specs.Prelude.{slice_get}
 use Rattle.z_model.specs.declared.op.Op.{Op}
 use Rattle.z_model.specs.Spelling.{spelling, IsInstruction}
 use Rattle.z_model.specs.Spelling as spell
 use Rattle.z_model.proofs.InstrLaws.{again_holds}
-use Rattle.z_model.specs.Decode.{or_fault, text_end, text_at, found, op_at}
+use Rattle.z_model.specs.Decode.{text_at, found, op_at}
 use Rattle.z_model.specs.Table.{Rows}
 use Rattle.z_model.specs.Laws.{IsLaid, state_behind}
 use Rattle.z_model.specs.Run.{ZGiven, ZState, Next, On, ZRun, zstep, zrun}

@@ -14,3 +14,4 @@ pub mod Sizes
 pub mod Opening
 pub mod Lists
 pub mod Constructs
+pub mod Labels

@@ -1,12 +1,12 @@
 -- Routines of a list that stand in a story are found at their addresses.
-use Rattle.std.proofs.Common.{◌≡◌, ◌≢◌, ℕ, zero, suc, ◌+◌, ◌*◌, ◌<◌, ◌≤◌, Bool, true, false, List, [], ◌∷◌, Option, Some, None, refl, sym, ap, ◌∙◌, subst, arith}
+use Rattle.std.proofs.Common.{◌≡◌, ℕ, suc, ◌+◌, ◌*◌, ◌≤◌, Bool, true, false, List, [], ◌∷◌, Some, refl, sym, ap, ◌∙◌, subst, arith}
 use Rattle.std.specs.Prelude.{slice_get, ◌==◌, if◌then◌else◌}
 use Rattle.std.proofs.lemmas.Bool.{eqb-true}
 use Rattle.z_model.specs.Run.{ZGiven}
 use Rattle.z_code.specs.Targets.{Names, label_from, Placed}
 use Rattle.z_lang.specs.declared.act.Routine.{Routine}
 use Rattle.z_lang.specs.Code.{code}
-use Rattle.z_lang.specs.Standing.{IsLaidOut, StandsAt, Stands, look, program_of, StandsAs, ListStands}
+use Rattle.z_lang.specs.Standing.{StandsAt, look, program_of, StandsAs, ListStands}
 
 record FoundAt (names : Names) (k x : ℕ) (rs : List Routine) (r : Routine) : Type 0 where
   at : ℕ

@@ -1,12 +1,12 @@
 -- The instructions of acts that fit can be assembled.
-use Rattle.std.proofs.Common.{◌≡◌, ℕ, ◌+◌, ◌*◌, ◌<◌, ◌≤◌, Bool, true, false, List, [], ◌∷◌, Option, Some, None, Result, Ok, refl, sym, ap, ◌∙◌, subst, arith}
+use Rattle.std.proofs.Common.{◌≡◌, ℕ, ◌+◌, ◌*◌, ◌<◌, ◌≤◌, Bool, true, false, List, [], ◌∷◌, Option, Some, None, Result, Ok, refl, sym, subst, arith}
 use Rattle.std.specs.Prelude.{nat_lt, if◌then◌else◌}
 use Rattle.std.proofs.lemmas.Bool.{ltb-true}
 use Rattle.z_model.specs.declared.fault.ZFault.{ZFault}
 use Rattle.z_model.specs.declared.op.Form.TheVariants as forms
 use Rattle.z_model.specs.declared.op.Operand.{Operand}
 use Rattle.z_model.specs.declared.op.Operand.TheVariants as operands
-use Rattle.z_model.specs.declared.op.OperandType.TheVariants.{Large, Small, Variable, Omitted}
+use Rattle.z_model.specs.declared.op.OperandType.TheVariants.{Omitted}
 use Rattle.z_model.specs.declared.op.OperandTypes.{OperandTypes}
 use Rattle.z_model.specs.declared.op.Branch.{Branch}
 use Rattle.z_model.specs.declared.op.Op.{Op}
@@ -20,11 +20,9 @@ use Rattle.z_model.specs.declared.table.Several.TheVariants as several
 use Rattle.z_model.specs.declared.table.Extended.TheVariants as extended
 use Rattle.z_model.specs.Table.{rows_of}
 use Rattle.z_model.specs.Decode.{present, count_of, counted}
-use Rattle.z_model.specs.Spelling.{code as code_of, type_of_operand, row_of, FitsType, FitsStore, FitsBranch, FitsText, IsOp, IsOfTable}
+use Rattle.z_model.specs.Spelling.{code as code_of, type_of_operand, row_of, FitsType, FitsStore, FitsBranch, FitsText, IsOfTable}
 use Rattle.z_code.specs.declared.target.LOp.{LOp}
-use Rattle.z_code.specs.declared.target.LOp.TheVariants as lops
 use Rattle.z_code.specs.declared.target.Target.{Target}
-use Rattle.z_code.specs.declared.target.Target.TheVariants as targets
 use Rattle.z_code.specs.Targets.{nth}
 use Rattle.z_code.specs.Open.{Counts, HasLabel, OpenIf, IsOpen, AreOpen}
 use Rattle.z_lang.specs.declared.act.Atom.{Atom}
@@ -37,13 +35,12 @@ use Rattle.z_lang.specs.declared.act.Print.{Print}
 use Rattle.z_lang.specs.declared.act.Print.TheVariants as prints
 use Rattle.z_lang.specs.declared.act.Comparison.{Comparison}
 use Rattle.z_lang.specs.declared.act.Comparison.TheVariants as comparisons
-use Rattle.z_lang.specs.declared.act.Test.{Test}
 use Rattle.z_lang.specs.declared.act.Args.{Args}
 use Rattle.z_lang.specs.declared.act.Args.TheVariants as args
 use Rattle.z_lang.specs.declared.act.Act.{Act}
 use Rattle.z_lang.specs.declared.act.Act.TheVariants as acts
-use Rattle.z_lang.specs.Code.{operand, target, one_of, two_of, three_of, four_of, short_op, variable_op, quit_op, number_of, write_number, compare_number, operands_by, targets_by, call_number, branch_on, print_op, with_args, arg_targets, instruction, code}
-use Rattle.z_lang.specs.Bodies.{FitsAtom, FitArgs, FitsComparison, FitsTest, FitsStored, FitsAct, AreFit, Opens}
+use Rattle.z_lang.specs.Code.{operand, target, one_of, two_of, three_of, four_of, short_op, variable_op, quit_op, number_of, write_number, compare_number, operands_by, targets_by, call_number, branch_on, print_op, with_args, arg_targets, code}
+use Rattle.z_lang.specs.Bodies.{FitsAtom, FitArgs, FitsComparison, FitsStored, AreFit, Opens}
 use Rattle.z_lang.proofs.Effects.{instr_of, write_instr, compare_instr}
 
 -- ---- operands

@@ -1,5 +1,5 @@
 -- The values that the machine takes for an act's operands, and how it stores an answer.
-use Rattle.std.proofs.Common.{◌≡◌, ℕ, zero, suc, ◌+◌, ◌-◌, ◌<◌, ◌≤◌, Bool, true, false, cond, ltb, eqb, List, [], ◌∷◌, length, Option, Some, None, Result, Ok, Err, refl, sym, ap, ◌∙◌, subst, arith}
+use Rattle.std.proofs.Common.{◌≡◌, ℕ, ◌-◌, Bool, true, false, length, Option, Some, None, Result, Ok, Err, refl, ap, arith}
 use Rattle.std.specs.Prelude.{nat_lt, ◌==◌, if◌then◌else◌, slice_get, slice_set}
 use Rattle.std.proofs.lemmas.Option.{same_Some}
 use Rattle.std.proofs.lemmas.Bool.{cond_both, ltb-true, lt-ltb}
@@ -11,7 +11,7 @@ use Rattle.z_model.specs.declared.op.Operand.TheVariants as operands
 use Rattle.z_model.specs.declared.end.Args.{Args}
 use Rattle.z_model.specs.Decode.{◌>>=◌, or_fault}
 use Rattle.z_model.specs.Machine.{Machine, popped, pushed, variable_of, value_of, value_if, values_of, stored, local_set, placed}
-use Rattle.z_code.specs.Targets.{fill, Names}
+use Rattle.z_code.specs.Targets.{fill}
 use Rattle.z_lang.specs.declared.act.Atom.{Atom}
 use Rattle.z_lang.specs.declared.act.Atom.TheVariants as atoms
 use Rattle.z_lang.specs.State.{State, Program, variable, value, put, with_local, global, with_global}

@@ -1,44 +1,33 @@
 -- The instructions of routines follow their meaning, act by act and call by call.
-use Rattle.std.proofs.Common.{◌≡◌, ◌≢◌, ℕ, suc, ◌+◌, ◌-◌, ◌*◌, ◌<◌, ◌≤◌, Bool, true, false, not, List, [], ◌∷◌, ◌++◌, length, take, length-take, Option, Some, None, Result, Ok, Err, refl, sym, ap, ◌∙◌, subst, arith, min}
-use Rattle.std.specs.Prelude.{slice_get, ◌==◌, if◌then◌else◌}
+use Rattle.std.proofs.Common.{◌≡◌, ℕ, suc, ◌+◌, ◌-◌, ◌*◌, ◌<◌, ◌≤◌, Bool, true, false, List, [], ◌∷◌, length, take, length-take, Option, Some, None, Ok, refl, sym, ap, ◌∙◌, subst, arith}
+use Rattle.std.specs.Prelude.{◌==◌, if◌then◌else◌}
 use Rattle.std.proofs.lemmas.Option.{same_Some}
 use Rattle.std.proofs.lemmas.Bool.{eqb-true}
-use Rattle.z_model.specs.declared.fault.ZFault.{ZFault}
-use Rattle.z_model.specs.declared.story.Layout.{Layout}
 use Rattle.z_model.specs.declared.op.Op.{Op}
-use Rattle.z_model.specs.declared.op.Operand.{Operand}
-use Rattle.z_model.specs.declared.op.Operand.TheVariants as operands
-use Rattle.z_model.specs.declared.op.Operands.{Operands}
 use Rattle.z_model.specs.declared.table.Row.{Row}
 use Rattle.z_model.specs.declared.table.Instr.TheVariants as instrs
 use Rattle.z_model.specs.declared.table.Several.TheVariants as several
 use Rattle.z_model.specs.declared.end.Args.{Args as ZArgs}
-use Rattle.z_model.specs.declared.end.Halt.{Halt}
 use Rattle.z_model.specs.declared.end.Halt.TheVariants.{AtQuit, AtInput}
-use Rattle.z_model.specs.Spelling.{spelling}
-use Rattle.z_model.specs.Effects.{goes}
 use Rattle.z_model.specs.Flow.{zeros, called}
-use Rattle.z_model.specs.Machine.{Machine, value_of, values_of, words_in}
-use Rattle.z_model.specs.Run.{ZGiven, ZState, Next, On, Ended, zstep, next_by, word_at, end_of}
+use Rattle.z_model.specs.Machine.{Machine, values_of, words_in}
+use Rattle.z_model.specs.Run.{ZGiven, ZState, zstep, next_by, word_at}
 use Rattle.z_model.specs.Step.{do_instr, do_several}
-use Rattle.z_code.specs.declared.target.LOp.{LOp}
-use Rattle.z_code.specs.declared.target.LOp.TheVariants as lops
 use Rattle.z_code.specs.declared.target.Target.{Target}
-use Rattle.z_code.specs.Targets.{filled, Fits, Placed, Names}
+use Rattle.z_code.specs.Targets.{filled, Placed, Names}
 use Rattle.z_lang.specs.declared.act.Atom.{Atom}
-use Rattle.z_lang.specs.declared.act.Test.{Test}
 use Rattle.z_lang.specs.declared.act.Args.{Args}
 use Rattle.z_lang.specs.declared.act.Args.TheVariants as args
 use Rattle.z_lang.specs.declared.act.Routine.{Routine}
 use Rattle.z_lang.specs.declared.act.Act.{Act}
 use Rattle.z_lang.specs.declared.act.Act.TheVariants as acts
-use Rattle.z_lang.specs.State.{State, Program, value, put}
-use Rattle.z_lang.specs.Acts.{does, arguments, answer_of}
-use Rattle.z_lang.specs.Runs.{Outcome, Returns, Stops, Rests, Runs, rests, at_label, goes as jumps, taken, passed, done, calls, calls_last, ends_input, returns, quits, behind, entered, left_with}
-use Rattle.z_lang.specs.Code.{variable_op, call_number, quit_op, with_args, arg_targets, operand, target, instruction, code}
-use Rattle.z_lang.specs.Leads.{Leads, Ends}
-use Rattle.z_lang.specs.Standing.{IsLaidOut, StandsAt, Stands, IsKept, Context, machine_at, outside, state_at, resumed, HasRoom, ComesTo, Follows}
-use Rattle.z_lang.proofs.Stretches.{leads_none, leads_step, leads_then, ends_step, ends_then, ends_last}
+use Rattle.z_lang.specs.State.{State, Program, value}
+use Rattle.z_lang.specs.Acts.{does, arguments}
+use Rattle.z_lang.specs.Runs.{Outcome, Stops, Rests, Runs, rests, at_label, goes as jumps, taken, passed, done, calls, calls_last, ends_input, returns, quits, behind, entered, left_with}
+use Rattle.z_lang.specs.Code.{variable_op, call_number, quit_op, with_args, arg_targets, operand, target, code}
+use Rattle.z_lang.specs.Leads.{Leads}
+use Rattle.z_lang.specs.Standing.{StandsAt, Stands, IsKept, Context, machine_at, outside, state_at, HasRoom, Follows}
+use Rattle.z_lang.proofs.Stretches.{leads_none, leads_step, ends_last}
 use Rattle.z_lang.proofs.Kept.{kept_get, step_kept, stretch_kept}
 use Rattle.z_lang.proofs.Operands.{operand_is, values_one, values_two, values_three, values_four, args_of, the_args}
 use Rattle.z_lang.proofs.Keeping.{bound, put_if_keeps, does_keeps}

@@ -1,20 +1,15 @@
 -- The instruction of an act takes as many bytes as are said.
-use Rattle.std.proofs.Common.{◌≡◌, ℕ, ◌+◌, ◌*◌, Bool, true, false, List, [], ◌∷◌, ◌++◌, length, Option, Some, None, refl, ap, ◌∙◌, arith, length-append}
+use Rattle.std.proofs.Common.{◌≡◌, ℕ, ◌+◌, ◌*◌, Bool, true, false, List, [], ◌∷◌, ◌++◌, length, Some, None, refl, arith, length-append}
 use Rattle.std.specs.Prelude.{nat_lt, if◌then◌else◌}
-use Rattle.z_model.specs.declared.op.Operand.{Operand}
 use Rattle.z_model.specs.declared.op.Operand.TheVariants as operands
-use Rattle.z_model.specs.declared.op.OperandType.TheVariants.{Large, Small, Variable}
 use Rattle.z_model.specs.Spelling.{type_of_operand, operand_bytes, bit}
 use Rattle.z_code.specs.Targets.{op_size, ops_size}
 use Rattle.z_lang.specs.declared.act.Atom.{Atom}
 use Rattle.z_lang.specs.declared.act.Atom.TheVariants as atoms
 use Rattle.z_lang.specs.declared.act.Function.{Function}
-use Rattle.z_lang.specs.declared.act.Function.TheVariants as functions
-use Rattle.z_lang.specs.declared.act.Width.TheVariants as widths
 use Rattle.z_lang.specs.declared.act.Print.TheVariants as prints
 use Rattle.z_lang.specs.declared.act.Comparison.{Comparison}
 use Rattle.z_lang.specs.declared.act.Comparison.TheVariants as comparisons
-use Rattle.z_lang.specs.declared.act.Test.{Test}
 use Rattle.z_lang.specs.declared.act.Args.TheVariants as args
 use Rattle.z_lang.specs.declared.act.Act.{Act}
 use Rattle.z_lang.specs.declared.act.Act.TheVariants as acts

@@ -1,8 +1,7 @@
 -- A story's first instruction calls a routine without arguments, which begins.
-use Rattle.std.proofs.Common.{◌≡◌, ◌≢◌, ℕ, zero, suc, ◌+◌, ◌-◌, ◌*◌, ◌<◌, ◌≤◌, List, [], ◌∷◌, length, Option, Some, None, Result, Ok, refl, sym, ap, ◌∙◌, subst, arith}
+use Rattle.std.proofs.Common.{◌≡◌, ◌≢◌, ℕ, ◌+◌, ◌*◌, ◌≤◌, List, [], ◌∷◌, Some, None, Ok, refl, ◌∙◌, arith}
 use Rattle.std.specs.Prelude.{slice_get}
-use Rattle.std.proofs.lemmas.Bool.{lt-ltb, le-ltb, ne_eqb}
-use Rattle.z_model.specs.declared.fault.ZFault.{ZFault}
+use Rattle.std.proofs.lemmas.Bool.{le-ltb, ne_eqb}
 use Rattle.z_model.specs.declared.story.Layout.{Layout}
 use Rattle.z_model.specs.declared.op.Op.{Op}
 use Rattle.z_model.specs.declared.op.Operand.TheVariants as operands
@@ -11,7 +10,7 @@ use Rattle.z_model.specs.declared.table.One.TheVariants as one
 use Rattle.z_model.specs.declared.end.Args.{Args as ZArgs}
 use Rattle.z_model.specs.Story.{start_state, memory_of, start_of}
 use Rattle.z_model.specs.Flow.{called, entered as entered_by, local_count}
-use Rattle.z_model.specs.Machine.{Machine, words}
+use Rattle.z_model.specs.Machine.{Machine}
 use Rattle.z_model.specs.Run.{ZGiven, ZState, zstep, next_by, word_at}
 use Rattle.z_model.specs.Step.{do_instr, do_one}
 use Rattle.z_code.specs.declared.target.Target.TheVariants as targets
@@ -20,10 +19,10 @@ use Rattle.z_lang.specs.declared.act.Routine.{Routine}
 use Rattle.z_lang.specs.State.{State, Program}
 use Rattle.z_lang.specs.Runs.{entered}
 use Rattle.z_lang.specs.Code.{short_op}
-use Rattle.z_lang.specs.Standing.{IsLaidOut, StandsAt, Stands, IsKept, Context, machine_at, state_at}
+use Rattle.z_lang.specs.Standing.{Stands, IsKept, Context, machine_at, state_at}
 use Rattle.z_lang.proofs.Kept.{kept_get}
 use Rattle.z_lang.proofs.Operands.{values_one, args_of}
-use Rattle.z_lang.proofs.Follows.{Here, end_at, by_row, on, large_is}
+use Rattle.z_lang.proofs.Follows.{end_at, by_row, on, large_is}
 
 -- the opening frame
 abbrev pub opening : Context

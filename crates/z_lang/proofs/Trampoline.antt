@@ -1,9 +1,7 @@
 -- A routine that calls the routine in a variable, puts its answer there and begins again: one turn.
-use Rattle.std.proofs.Common.{◌≡◌, ◌≢◌, ℕ, suc, ◌+◌, ◌-◌, ◌*◌, ◌<◌, ◌≤◌, List, [], ◌∷◌, length, Option, Some, None, refl, sym, ap, ◌∙◌, subst, arith}
-use Rattle.z_model.specs.Spelling.{spelling}
+use Rattle.std.proofs.Common.{◌≡◌, ℕ, suc, ◌+◌, ◌*◌, ◌<◌, ◌≤◌, List, [], ◌∷◌, Some, refl, subst, arith}
 use Rattle.z_model.specs.declared.end.Halt.{Halt}
-use Rattle.z_model.specs.Machine.{words_in}
-use Rattle.z_model.specs.Run.{ZGiven, ZState, zstep}
+use Rattle.z_model.specs.Run.{ZState, zstep}
 use Rattle.z_code.specs.Targets.{Placed}
 use Rattle.z_lang.specs.declared.act.Atom.TheVariants as atoms
 use Rattle.z_lang.specs.declared.act.Args.TheVariants as args
@@ -11,16 +9,16 @@ use Rattle.z_lang.specs.declared.act.Routine.{Routine}
 use Rattle.z_lang.specs.declared.act.Act.{Act}
 use Rattle.z_lang.specs.declared.act.Act.TheVariants as acts
 use Rattle.z_lang.specs.State.{State, Program, value, put}
-use Rattle.z_lang.specs.Runs.{Outcome, Returns, Stops, Runs, entered, left_with}
-use Rattle.z_lang.specs.Code.{code, operand}
-use Rattle.z_lang.specs.Leads.{Leads, Ends}
-use Rattle.z_lang.specs.Standing.{IsLaidOut, StandsAt, Stands, IsKept, Context, machine_at, outside, state_at, HasRoom, ComesTo, Follows}
+use Rattle.z_lang.specs.Runs.{Returns, Stops, Runs, entered, left_with}
+use Rattle.z_lang.specs.Code.{code}
+use Rattle.z_lang.specs.Leads.{Leads}
+use Rattle.z_lang.specs.Standing.{Stands, IsKept, Context, machine_at, state_at, HasRoom, ComesTo}
 use Rattle.z_lang.proofs.Stretches.{leads_none, leads_step, leads_then}
 use Rattle.z_lang.proofs.Kept.{stretch_kept}
 use Rattle.z_lang.proofs.Keeping.{put_keeps}
 use Rattle.z_lang.proofs.Calls.{within, call_returns}
-use Rattle.z_lang.proofs.Follows.{Here, end_at, on, outside_same, goto_step, comes_step}
-use Rattle.z_lang.proofs.Routines.{call_op, many, call_step, room_within, follows, routine_follows}
+use Rattle.z_lang.proofs.Follows.{end_at, on, outside_same, goto_step, comes_step}
+use Rattle.z_lang.proofs.Routines.{call_op, call_step, room_within, follows, routine_follows}
 
 -- the acts of the trampoline
 abbrev pub trampoline : ℕ → List Act

@@ -1,5 +1,5 @@
 -- What a routine's acts have to be, so that they can be assembled.
-use Rattle.std.specs.Prelude.{ℕ, ◌<◌, ◌≤◌, List, [], ◌∷◌, Option, Some, None}
+use Rattle.std.specs.Prelude.{ℕ, ◌<◌, List, [], ◌∷◌, Option, Some, None}
 use Rattle.z_code.specs.declared.target.LOp.{LOp}
 use Rattle.z_code.specs.Open.{Counts, HasLabel, AreOpen}
 use Rattle.z_lang.specs.declared.act.Atom.{Atom}

@@ -1,6 +1,6 @@
 -- What an `if` and a loop do, in how many instructions: an `if` whose test holds runs its first part, else its other;
 -- a loop runs its part as long as its test holds.
-use Rattle.std.specs.Prelude.{◌≡◌, ℕ, ◌+◌, List, [], ◌∷◌, ◌++◌, Some, not}
+use Rattle.std.specs.Prelude.{◌≡◌, ℕ, ◌+◌, ◌<◌, ◌≤◌, List, [], ◌∷◌, ◌++◌, Some, not}
 use Rattle.z_lang.specs.declared.act.Test.{Test}
 use Rattle.z_lang.specs.declared.act.Act.{Act}
 use Rattle.z_lang.specs.declared.act.Act.TheVariants as acts
@@ -10,7 +10,7 @@ use Rattle.z_lang.specs.declared.lines.Open.{Open}
 use Rattle.z_lang.specs.State.{State, Program}
 use Rattle.z_lang.specs.Acts.{answer_of}
 use Rattle.z_lang.specs.Runs.{Outcome, Rests, Runs, behind}
-use Rattle.z_lang.specs.Lines.{opposite, next_label, flattened}
+use Rattle.z_lang.specs.Lines.{opposite, next_label, flattened, first_label}
 
 -- ---- lines whose constructs are ended
 
@@ -62,6 +62,21 @@ pub record Flattens (n : ℕ) (open_ : List Open) (first other more : List Line)
       (flattened (label_behind (label_behind (n + 2) first) other) open_ more)
   pub loop : AreEnded first → flattened n open_ (lines.While t ∷ first ++ (lines.End ∷ more)) ≡
       loop_acts t n (n + 1) (flattened (n + 2) [] first) (flattened (label_behind (n + 2) first) open_ more)
+
+-- ---- where their labels lead
+
+-- A label among the acts that are written is below those of constructs.
+abbrev pub IsOwn : Line → Type 0
+IsOwn (lines.Do (acts.Label k)) = k < first_label
+IsOwn line = Unit {0}
+
+abbrev pub AreOwn : List Line → Type 0
+AreOwn [] = Unit {0}
+AreOwn (line ∷ more) = IsOwn line × AreOwn more
+
+-- Each label of a construct leads to its place in the acts of lines: to what stands behind it.
+pub record LabelsLead (xs : List Line) (body : List Act) : Type 0 where
+  pub leads : AreOwn xs → (l : ℕ) (front more : List Act) → first_label ≤ l → body ≡ front ++ (acts.Label l ∷ more) → behind l body ≡ Some more
 
 -- ---- what they do
 

@@ -1,5 +1,5 @@
 -- The meaning of routines: where acts lead, within how many frames and words of the machine's stack, and in how many instructions.
-use Rattle.std.specs.Prelude.{◌≡◌, ℕ, suc, ◌+◌, ◌≤◌, ◌<◌, ◌==◌, List, [], ◌∷◌, take, Option, Some, None, Bool, not, if◌then◌else◌}
+use Rattle.std.specs.Prelude.{◌≡◌, ℕ, suc, ◌+◌, ◌≤◌, ◌<◌, ◌==◌, List, [], ◌∷◌, take, Option, Some, None, not, if◌then◌else◌}
 use Rattle.z_model.specs.declared.end.Halt.{Halt}
 use Rattle.z_model.specs.declared.end.Halt.TheVariants.{AtQuit, AtInput}
 use Rattle.z_model.specs.Flow.{zeros}

@@ -2,7 +2,6 @@
 use Rattle.std.specs.Prelude.{◌≡◌, ◌≢◌, ℕ, suc, ◌+◌, ◌*◌, ◌≤◌, ◌<◌, ◌==◌, List, [], ◌∷◌, length, drop, Option, Some, None, Result, Ok, if◌then◌else◌, slice_get}
 use Rattle.z_model.specs.declared.fault.ZFault.{ZFault}
 use Rattle.z_model.specs.declared.story.Layout.{Layout}
-use Rattle.z_model.specs.declared.end.Halt.{Halt}
 use Rattle.z_model.specs.Flow.{return_to}
 use Rattle.z_model.specs.Machine.{Frame, Machine, words_in}
 use Rattle.z_model.specs.Table.{rows_of}

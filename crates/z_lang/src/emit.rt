@@ -1,5 +1,5 @@
 // From acts to instructions.
-ghost use Rattle.std.specs.Prelude.{◌≡◌, ◌∷◌, IfOk};
+ghost use Rattle.std.specs.Prelude.{◌≡◌, ◌∷◌, [], IfOk};
 ghost use Rattle.z_lang.specs.Code.{operand, target, none_of, one_of, two_of, three_of, four_of, short_op, variable_op, number_of, write_number, compare_number, test_operands, test_targets, call_number, branch_on, print_op, with_args, arg_targets, quit_op, instruction, code};
 
 use crate::act::{Act, Args, Atom, Comparison, Function, Print, Routine, Test, Width};
@@ -271,85 +271,108 @@ fn quit() -> Op
     }
 }
 
+fn goto(label: u16) -> LOp
+    ensures { result ≡ instruction (Act.Goto label) }
+{
+    LOp::Do(
+        short_of(12, Operand::Large(0)),
+        [Some(Target::Label(label)), None, None, None],
+        None,
+    )
+}
+
+fn when(test: Test, label: u16) -> LOp
+    ensures { result ≡ instruction (Act.When test label) }
+{
+    let number = compare_number(test.comparison);
+    let branch = Some(branch_on(test.answer));
+    LOp::Do(
+        variable_of(number, test_operands(test), None, branch),
+        test_targets(test),
+        Some(label),
+    )
+}
+
+fn copy(to: u8, from: Atom) -> LOp
+    ensures { result ≡ instruction (Act.Copy to from) }
+{
+    let operands = two_of(Operand::Small(to), operand_of(from));
+    LOp::Do(
+        variable_of(13, operands, None, None),
+        [None, target_of(from), None, None],
+        None,
+    )
+}
+
+fn compute(to: u8, function: Function, first: Atom, second: Atom) -> LOp
+    ensures { result ≡ instruction (Act.Compute to function first second) }
+{
+    let operands = two_of(operand_of(first), operand_of(second));
+    LOp::Do(
+        variable_of(number_of(function), operands, Some(to), None),
+        [target_of(first), target_of(second), None, None],
+        None,
+    )
+}
+
+fn write(width: Width, at: Atom, index: Atom, value: Atom) -> LOp
+    ensures { result ≡ instruction (Act.Write width at index value) }
+{
+    let operands = three_of(operand_of(at), operand_of(index), operand_of(value));
+    LOp::Do(
+        variable_of(write_number(width), operands, None, None),
+        [target_of(at), target_of(index), target_of(value), None],
+        None,
+    )
+}
+
+fn call(to: Option<u8>, routine: Atom, args: Args) -> LOp
+    ensures { result ≡ instruction (Act.Call to routine args) }
+{
+    let operands = with_args(operand_of(routine), args);
+    LOp::Do(
+        variable_of(call_number(to), operands, to, None),
+        call_targets(routine, args),
+        None,
+    )
+}
+
+// An instruction whose first operand alone may name something.
+fn naming(op: Op, first: Atom) -> LOp
+    ensures { result ≡ LOp.Do op (target first ∷ None ∷ None ∷ None ∷ []) None }
+{
+    LOp::Do(op, [target_of(first), None, None, None], None)
+}
+
+fn random(to: u8, range: Atom) -> LOp
+    ensures { result ≡ instruction (Act.Random to range) }
+{
+    let operands = one_of(operand_of(range));
+    naming(variable_of(39, operands, Some(to), None), range)
+}
+
+fn read(to: u8, buffer: Atom) -> LOp
+    ensures { result ≡ instruction (Act.Read to buffer) }
+{
+    let operands = two_of(operand_of(buffer), Operand::Small(0));
+    naming(variable_of(36, operands, Some(to), None), buffer)
+}
+
 fn instruction(act: Act) -> LOp
     ensures { result ≡ instruction act }
 {
     match act {
         Act::Label(label) => LOp::Label(label),
-        Act::Goto(label) => LOp::Do(
-            short_of(12, Operand::Large(0)),
-            [Some(Target::Label(label)), None, None, None],
-            None,
-        ),
-        Act::When(test, label) => {
-            let number = compare_number(test.comparison);
-            let branch = Some(branch_on(test.answer));
-            LOp::Do(
-                variable_of(number, test_operands(test), None, branch),
-                test_targets(test),
-                Some(label),
-            )
-        }
-        Act::Copy(to, from) => LOp::Do(
-            variable_of(13, two_of(Operand::Small(to), operand_of(from)), None, None),
-            [None, target_of(from), None, None],
-            None,
-        ),
-        Act::Compute(to, function, first, second) => LOp::Do(
-            variable_of(
-                number_of(function),
-                two_of(operand_of(first), operand_of(second)),
-                Some(to),
-                None,
-            ),
-            [target_of(first), target_of(second), None, None],
-            None,
-        ),
-        Act::Write(width, at, index, value) => LOp::Do(
-            variable_of(
-                write_number(width),
-                three_of(operand_of(at), operand_of(index), operand_of(value)),
-                None,
-                None,
-            ),
-            [target_of(at), target_of(index), target_of(value), None],
-            None,
-        ),
-        Act::Print(kind, value) => LOp::Do(
-            print_of(kind, operand_of(value)),
-            [target_of(value), None, None, None],
-            None,
-        ),
-        Act::Random(to, range) => LOp::Do(
-            variable_of(39, one_of(operand_of(range)), Some(to), None),
-            [target_of(range), None, None, None],
-            None,
-        ),
-        Act::Read(to, buffer) => LOp::Do(
-            variable_of(
-                36,
-                two_of(operand_of(buffer), Operand::Small(0)),
-                Some(to),
-                None,
-            ),
-            [target_of(buffer), None, None, None],
-            None,
-        ),
-        Act::Call(to, routine, args) => LOp::Do(
-            variable_of(
-                call_number(to),
-                with_args(operand_of(routine), args),
-                to,
-                None,
-            ),
-            call_targets(routine, args),
-            None,
-        ),
-        Act::Return(value) => LOp::Do(
-            short_of(11, operand_of(value)),
-            [target_of(value), None, None, None],
-            None,
-        ),
+        Act::Goto(label) => goto(label),
+        Act::When(test, label) => when(test, label),
+        Act::Copy(to, from) => copy(to, from),
+        Act::Compute(to, function, first, second) => compute(to, function, first, second),
+        Act::Write(width, at, index, value) => write(width, at, index, value),
+        Act::Print(kind, value) => naming(print_of(kind, operand_of(value)), value),
+        Act::Random(to, range) => random(to, range),
+        Act::Read(to, buffer) => read(to, buffer),
+        Act::Call(to, routine, args) => call(to, routine, args),
+        Act::Return(value) => naming(short_of(11, operand_of(value)), value),
         Act::Quit => LOp::Do(quit(), [None, None, None, None], None),
     }
 }

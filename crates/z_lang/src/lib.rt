@@ -5,13 +5,14 @@ mod act;
 mod emit;
 mod lines;
 
-ghost use Rattle.std.specs.Prelude.{List, ℕ};
+ghost use Rattle.std.specs.Prelude.{List, [], ℕ};
 ghost use Rattle.z_lang.specs.declared.act.Act.{Act};
 ghost use Rattle.z_lang.specs.declared.act.Test.{Test};
 ghost use Rattle.z_lang.specs.declared.lines.Line.{Line};
 ghost use Rattle.z_lang.specs.declared.lines.Open.{Open};
 ghost use Rattle.z_lang.specs.State.{Program, State};
-ghost use Rattle.z_lang.specs.Constructs.{Flattens, ConstructsRun};
+ghost use Rattle.z_lang.specs.Lines.{flattened, first_label};
+ghost use Rattle.z_lang.specs.Constructs.{Flattens, LabelsLead, ConstructsRun};
 ghost use Rattle.z_code.specs.Open.{Counts};
 ghost use Rattle.z_lang.specs.Bodies.{Opens};
 ghost use Rattle.z_lang.specs.Sizes.{TakesBytes};
@@ -48,6 +49,11 @@ pub fn lists_stand()
 /// Lines whose constructs are ended flatten to the acts of their constructs.
 pub fn lines_flatten()
     ensures { (n : ℕ) (around : List Open) (first other more : List Line) (t : Test) → Flattens n around first other more t }
+{}
+
+/// Each label of a construct leads to its place in what lines flatten to.
+pub fn labels_lead()
+    ensures { (xs : List Line) → LabelsLead xs (flattened first_label [] xs) }
 {}
 
 /// An `if` whose test holds runs its first part, else its other, and a loop runs its part as long

@@ -1,5 +1,6 @@
 // Routines as they are written: acts, with constructs around them.
 ghost use Rattle.std.specs.Prelude.{◌≡◌, ◌+◌, ◌<◌, ◌≤◌, ◌++◌, [], length, reverse, IfOk, OnOk};
+ghost use Rattle.z_lang.specs.Constructs.{LabelsLead};
 ghost use Rattle.z_lang.specs.Lines.{opposite, closes, line_acts, opened, next_label, top_of, around, with_open, flattened, first_label};
 
 use crate::act::{Act, Test};
@@ -127,7 +128,8 @@ fn put_open(constructs: &mut Vec<Open>, construct: Option<Open>) -> Result<(), A
 /// The acts of lines.
 pub fn flatten(alloc: Global, lines: &[Line]) -> Result<Vec<Act>, AllocError>
     requires { length lines.now ≤ 8000 }
-    ensures { IfOk result (λ acts. acts.items ≡ flattened first_label [] lines.now) }
+    ensures acts { IfOk result (λ acts. acts.items ≡ flattened first_label [] lines.now) }
+    ensures leads { IfOk result (λ acts. LabelsLead lines.now acts.items) }
 {
     let mut acts = Vec::new(alloc);
     let mut open: Vec<Open> = Vec::new(alloc);
