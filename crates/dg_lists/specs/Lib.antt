@@ -1,2 +1,4 @@
 pub mod Numbers
 pub mod Gathered
+pub mod Copies
+pub mod Reading

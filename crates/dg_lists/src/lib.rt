@@ -3,6 +3,8 @@
 
 mod gather;
 mod numbers;
+mod reading;
 
 pub use gather::{AuxFull, Gather, GatherMark};
 pub use numbers::{arith, compare};
+pub use reading::{from_cells, list_from_cells};
