@@ -9,7 +9,8 @@ use Rattle.dg_base.specs.declared.cells.Cell.{Cell}
 use Rattle.dg_base.specs.declared.cells.Cell.TheVariants as cell
 use Rattle.dg_meaning.specs.Values.{Closure, Nil, Value, Values, Node, leaf, pair, parts_of}
 use Rattle.dg_meaning.specs.ValueCells.{cells_of, cells_of_all}
-use Rattle.dg_lists.specs.Copies.{list_of, values_of, vars_in, vars_in_all, copy_from, copies_from, copy_cells, all_copy_cells, IsFormed, AreFormed}
+use Rattle.dg_meaning.specs.Copies.{list_of, values_of, vars_in, vars_in_all, copy_from, copies_from, copy_cells, all_copy_cells}
+use Rattle.dg_lists.specs.Formed.{IsFormed, AreFormed}
 use Rattle.dg_unify.specs.Store.{State, Store, told, told_parts, Holds, Kept, Charged, Made, Fresh, HeapFull}
 use Rattle.dg_unify.specs.declared.bindings.Ref.{Ref}
 use Rattle.dg_unify.specs.declared.bindings.Full.{Full}

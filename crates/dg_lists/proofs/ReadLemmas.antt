@@ -7,7 +7,8 @@ use Rattle.dg_base.specs.declared.cells.Cell.{Cell}
 use Rattle.dg_base.specs.declared.cells.Cell.TheVariants as cell
 use Rattle.dg_meaning.specs.Values.{Label, Num, Word, Unknown, Object, Nil, Pair, Closure, Value, Var, Node, Values, NoMore, More, leaf, pair, parts_of}
 use Rattle.dg_meaning.specs.ValueCells.{count_of, label_cells, cells_of, cells_of_all}
-use Rattle.dg_lists.specs.Copies.{values_of, vars_in, vars_in_all, copy_from, copies_from, label_weight, copy_cells, all_copy_cells, Fits, IsFormed, AreFormed}
+use Rattle.dg_meaning.specs.Copies.{values_of, vars_in, vars_in_all, copy_from, copies_from, label_weight, copy_cells, all_copy_cells}
+use Rattle.dg_lists.specs.Formed.{Fits, IsFormed, AreFormed}
 use Rattle.dg_lists.specs.Reading.{letter, word_from, closure_from, pair_from, row_vars, row_weight, values_read}
 
 parts_again : (vs : Values) → parts_of (values_of vs) ≡ vs

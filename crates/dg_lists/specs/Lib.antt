@@ -1,4 +1,3 @@
-pub mod Numbers
 pub mod Gathered
-pub mod Copies
+pub mod Formed
 pub mod Reading

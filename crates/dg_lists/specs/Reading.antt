@@ -4,7 +4,7 @@ use Rattle.std.specs.List.{All}
 use Rattle.dg_base.specs.declared.cells.Cell.{Cell}
 use Rattle.dg_base.specs.declared.cells.Cell.TheVariants as cell
 use Rattle.dg_meaning.specs.Values.{Num, Word, Unknown, Object, Nil, Closure, Value, Var, Node, Values, leaf, pair, parts_of}
-use Rattle.dg_lists.specs.Copies.{copy_from, vars_in, copy_cells, values_of, copies_from, vars_in_all, all_copy_cells, list_of}
+use Rattle.dg_meaning.specs.Copies.{copy_from, vars_in, copy_cells, values_of, copies_from, vars_in_all, all_copy_cells, list_of}
 use Rattle.dg_unify.specs.Store.{Store, told, Holds, Kept}
 use Rattle.dg_unify.specs.declared.bindings.Ref.{Ref}
 use Rattle.dg_unify.specs.declared.bindings.Full.{Full}

@@ -1,6 +1,6 @@
 // Arithmetic and comparisons of numbers.
 ghost use Rattle.std.specs.Prelude.{◌≡◌};
-ghost use Rattle.dg_lists.specs.Numbers.{in_range, calculated, in_order};
+ghost use Rattle.dg_meaning.specs.Numbers.{in_range, calculated, in_order};
 
 use dg_base::{ArithOp, CompareOp};
 

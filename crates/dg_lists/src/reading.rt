@@ -4,7 +4,8 @@ ghost use Rattle.std.specs.Prelude.{◌≡◌, ◌+◌, ◌*◌, ◌<◌, ◌≤
 ghost use Rattle.dg_meaning.specs.Values.{leaf, Nil, Values, Value};
 ghost use Rattle.dg_meaning.specs.ValueCells.{cells_of, cells_of_all};
 ghost use Rattle.dg_unify.specs.Store.{Store, Saved, Kept, Holds, told, Made, HeapFull};
-ghost use Rattle.dg_lists.specs.Copies.{IsFormed, AreFormed, copy_cells, all_copy_cells, values_of};
+ghost use Rattle.dg_lists.specs.Formed.{IsFormed, AreFormed};
+ghost use Rattle.dg_meaning.specs.Copies.{copy_cells, all_copy_cells, values_of};
 ghost use Rattle.dg_lists.specs.Reading.{letter as letter_in, word_from, closure_from, pair_from, parts_taken as taken_by, cell_weight, row_weight, MadeFrom, HasRead, Stopped, Copied, ListMade, ListCopied};
 
 use dg_base::{Cell, Simple};
