@@ -1,3 +1,4 @@
 pub mod Encoded
 pub mod ClassLemmas
 pub mod CutLemmas
+pub mod CharLemmas

@@ -1,8 +1,12 @@
 //! The words of a typed line: where they stand, what they are, and their letters.
 #![tactic(auto)]
 
+mod chars;
 mod classes;
 mod cutting;
+mod joined;
 
+pub use chars::next_char;
 pub use classes::{Class, classify};
 pub use cutting::next_word;
+pub use joined::{Joined, TooLong};
