@@ -1,0 +1,129 @@
+-- A predicate is asked.
+use Rattle.std.proofs.Common.{◌≡◌, ℕ, suc, ◌+◌, ◌<◌, ◌≤◌, List, [], ◌∷◌, Bool, true, false, refl, sym, ap, ◌∙◌, subst, arith, length}
+use Rattle.std.specs.Prelude.{slice_get}
+use Rattle.dg_base.specs.declared.program.Goal.{Goal, Goal-F}
+use Rattle.dg_base.specs.declared.program.Goal.TheVariants as goal
+use Rattle.dg_base.specs.declared.program.Goal.TheVariants.{outs-Ask}
+use Rattle.dg_base.specs.declared.program.Goal.TheOpen as form
+use Rattle.dg_base.specs.declared.program.Term.{Term}
+use Rattle.dg_base.specs.declared.program.Rule.{Rule}
+use Rattle.dg_base.specs.declared.run.Limits.{Limits}
+use Rattle.dg_base.specs.declared.run.Ending.TheVariants as ending
+use Rattle.dg_meaning.specs.Values.{Value}
+use Rattle.dg_meaning.specs.Substitutions.{IsSubstitution}
+use Rattle.dg_meaning.specs.World.{Game, World, Print, Asked, noted, worked}
+use Rattle.dg_meaning.specs.Cells.{cells, writing}
+use Rattle.dg_meaning.specs.Path.{Step, Do, Answers, Registers, Rules}
+use Rattle.dg_meaning.specs.Moves.{first_alone, first_looks, choice, exhausted, rules_of, rule_branches}
+use Rattle.dg_meaning.specs.Transcript.{Run}
+use Rattle.dg_meaning.specs.Context.{Way as WayOn, Live}
+use Rattle.dg_meaning.specs.Keeps.{After}
+use Rattle.dg_mid.specs.declared.code.Op.{Op}
+use Rattle.dg_mid.specs.declared.code.Op.TheVariants as op
+use Rattle.dg_mid.specs.declared.code.RuleCode.{RuleCode}
+use Rattle.dg_mid.specs.declared.code.Code.{Code}
+use Rattle.dg_mid.specs.Code.{block_at, rules_at, selected}
+use Rattle.dg_mid.specs.State.{Place, Frame, Call, Mid, vars_of, cut_of}
+use Rattle.dg_mid.specs.Step.{Setting, setting, does, more, first_of, begins, asks, asks_last, last, values, call_of}
+use Rattle.dg_mid.specs.Codes.{End, Stands, Returns, returns, RulesStand, Codes}
+use Rattle.dg_mid.specs.Reads.{silents, Behind, Layer, Reads, Mirrors, Comes}
+use Rattle.dg_mid.proofs.Here.{Here, steps_of, nothing_more}
+use Rattle.dg_mid.proofs.Taking.{behind, taken_in, comes, taken_grows, charge, heap_full, Met}
+use Rattle.dg_mid.proofs.Backs.{exhausted_tells}
+use Rattle.dg_mid.proofs.Calls.{rules_begin}
+
+-- ## A query
+
+module _ (g : Game) (code : Code) (limits : Limits) (call : Call) (pred : ℕ) (answered : List ℕ) (after : List Step) (q : Registers) (sub : IsSubstitution q.bound) (m : Mid) (ps : List Print) (lives : List Live) (ways : List WayOn) (n : ℕ) (run : Run)
+    (reads : Reads code (block_at code call.next) m.frames m.inner after) (cut : call.cut.tag ≡ q.next_tag) where
+  abbrev set : Setting
+  set = setting g code limits
+
+  -- the rules of a predicate
+  rules_asked : {least : ℕ} → (codes : List RuleCode) (rules : List Rule) (w : World) → RulesStand code codes rules → Mirrors g code m ps q lives ways w →
+      After g lives ways n (choice (Rules pred) q.next_tag (rule_branches g pred call.args call.many (silents answered after) q rules) w) run → least ≤ w.meters.work → Comes least ps set (begins set call (selected (first_of q.bound call) codes) m) g n run
+  rules_asked {least = least} [] [] w stand i a le =
+      let told = exhausted_tells (Rules pred) w in
+      record { world = exhausted (Rules pred) w; at = record { lives = lives; choices = i.choices_are; gathered = told.gathered ∙ i.gathered_is; printed = told.printed ∙ i.printed_is; failed = a }; worked = omega (arith, le, told.work) }
+  rules_asked {least = least} [] (rule ∷ rules) w stand i a le = absurd stand
+  rules_asked {least = least} (c ∷ cs) [] w stand i a le = absurd stand
+  rules_asked {least = least} (c ∷ cs) (rule ∷ rules) w stand i a le =
+      rules_begin g code limits call pred answered after q sub m ps lives ways n run (length w.gathered) reads cut (ap length i.gathered_is) (c ∷ cs) rule rules w stand i a le
+
+  pub asks_on : {least : ℕ} → RulesStand code (rules_at code pred) (rules_of (slice_get g.program.preds pred)) → (w : World) → Mirrors g code m ps q lives ways w →
+      After g lives ways n (choice (Rules pred) q.next_tag (rule_branches g pred call.args call.many (silents answered after) q (rules_of (slice_get g.program.preds pred))) w) run → least ≤ w.meters.work → Comes least ps set (asks set pred call m) g n run
+  asks_on {least = least} stand w i a le =
+      subst (λ S. Comes least ps set (begins set call (selected (first_of S call) (rules_at code pred)) m) g n run) i.agrees.bound (rules_asked (rules_at code pred) (rules_of (slice_get g.program.preds pred)) w stand i a le)
+
+-- ## The goal
+
+module _ (code : Code) (limits : Limits) (m : Mid) (ps : List Print) (ops : List Op) (g : Game) (n : ℕ) (w : World) (run : Run) (codes : Codes g.program code) (pred : ℕ) (terms : List Term) (many : Bool) (steps : List Step)
+    (h : Here code m ps (Do (goal.Ask pred terms many) (vars_of m.frames) (cut_of m.frames).tag ∷ steps) g (suc n) w run) where
+  abbrev the : Setting
+  the = setting g code limits
+
+  abbrev k : ℕ
+  k = cells g.program terms
+
+  abbrev m' : Mid
+  m' = record m { ops = ops }
+
+  abbrev x : Goal
+  x = goal.Ask pred terms many
+
+  abbrev f : Goal-F Goal
+  f = form.Ask pred terms many
+
+  abbrev q : Registers
+  q = behind code m ps steps g n w run x f (outs-Ask pred terms many) h
+
+  abbrev v : World
+  v = taken_in code m ps steps g n w run x f (outs-Ask pred terms many) h
+
+  abbrev args : List Value
+  args = values the m terms
+
+  -- the query goes on at a block with these frames
+  goes_asked : {least : ℕ} → (next : ℕ) (frames : List Frame) (inner : List Place) (answered : List ℕ) (after : List Step) → steps ≡ silents answered after → Reads code (block_at code next) frames inner after →
+      least ≤ w.meters.work + (1 + writing terms) → Comes least ps the (asks the pred (call_of args many next (more k m')) (record (more k m') { frames = frames; inner = inner })) g n run
+  goes_asked {least = least} next frames inner answered after e reads le =
+      let i = h.mirrors in
+      let asked = noted (Asked pred) (worked (first_looks q args) v) in
+      asks_on g code limits (call_of args many next (more k m')) pred answered after q h.stands.inner.bound.sound (record (more k m') { frames = frames; inner = inner }) ps h.lives h.ways n run
+      reads (sym i.tag) (codes.rules pred) asked
+      (record {
+        agrees = record { bound = i.agrees.bound; vars = i.agrees.vars; heap = omega (arith, i.agrees.heap); trail = i.agrees.trail; since = i.agrees.since };
+        tag = i.tag;
+        choices_are = i.choices_are;
+        below = i.below;
+        stops_are = i.stops_are;
+        stop_is = i.stop_is;
+        gathered_is = i.gathered_is;
+        printed_is = nothing_more (Asked pred) (worked (first_looks q args) v) ps refl i.printed_is;
+      })
+      (subst (λ l. After g h.lives h.ways n (choice (Rules pred) q.next_tag (rule_branches g pred args many l q (rules_of (slice_get g.program.preds pred))) asked) run) e
+      (comes code m ps steps g n w run x f (outs-Ask pred terms many) h)) (omega (arith, le))
+
+  full : the.limits.heap < m.state.heap + k → Met the ending.HeapLimit ps g n run
+  full = heap_full the m' ps k v g n run h.mirrors.printed_is (omega (arith, h.mirrors.agrees.heap)) (taken_grows code m ps steps g n w run x f (outs-Ask pred terms many) h)
+
+  pub ask : {least : ℕ} → (next : ℕ) (goals : List Goal) (end : End) (rest : List Step) → Stands code (block_at code next) goals end → Behind code m.frames rest → steps ≡ steps_of m goals end rest → least ≤ w.meters.work + (1 + writing terms) → Comes least ps the (does the (op.Ask pred terms many next) m') g n run
+  ask {least = least} next goals end rest s below e le =
+      charge the [] k m' _ g n run full
+      (goes_asked next m.frames m.inner [] steps refl (record { goals = goals; end = end; rest = rest; stands = s; below = below; is = e }) le)
+
+  -- where a rule's last query goes on that still has to cut
+  answers_then : Behind code m.frames steps → Reads code (block_at code 0) m.frames [] steps
+  answers_then below = subst (λ l. Reads code l m.frames [] steps) (sym codes.answers) (record { goals = []; end = Returns; rest = steps; stands = returns []; below = below; is = refl })
+
+  last_on : {least : ℕ} → (b : Bool) (fr : Frame) (fs : List Frame) (p : ℕ) (answered : List ℕ) (after : List Step) → Layer (Behind code fs) code (block_at code fr.next) (vars_of fs) (cut_of fs).tag fr.inner after → steps ≡ Answers p ∷ first_alone b fr.cut.tag (silents answered after) →
+      Reads code (block_at code 0) m.frames [] steps → least ≤ w.meters.work + (1 + writing terms) → Comes least ps the (asks_last the pred args many b fr fs (more k m')) g n run
+  last_on {least = least} true fr fs p answered after layer e again le = goes_asked fr.next fs fr.inner (p ∷ answered) after e layer le
+  last_on {least = least} false fr fs p answered after layer e again le = goes_asked 0 m.frames [] [] steps refl again le
+
+  last_in : {least : ℕ} → (frames : List Frame) → Behind code frames steps → Reads code (block_at code 0) m.frames [] steps → least ≤ w.meters.work + (1 + writing terms) → Comes least ps the (last the pred args many frames (more k m')) g n run
+  last_in {least = least} [] below again le = goes_asked 0 m.frames [] [] steps refl again le
+  last_in {least = least} (fr ∷ fs) below again le = last_on fr.many fr fs below.pred below.answered below.after below.layer below.is again le
+
+  pub last_ask : {least : ℕ} → Behind code m.frames steps → least ≤ w.meters.work + (1 + writing terms) → Comes least ps the (does the (op.LastAsk pred terms many) m') g n run
+  last_ask {least = least} below le = charge the [] k m' _ g n run full (last_in m.frames below (answers_then below) le)

@@ -1,0 +1,15 @@
+pub mod Here
+pub mod Marks
+pub mod Taking
+pub mod Drops
+pub mod Stops
+pub mod Acts
+pub mod Choices
+pub mod Backs
+pub mod Parts
+pub mod Excluded
+pub mod Calls
+pub mod Asks
+pub mod Simulation
+pub mod Whole
+pub mod Shown

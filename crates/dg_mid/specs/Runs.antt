@@ -1,0 +1,72 @@
+-- Whole runs of register code, and what they show. Hold it against the Dialog manual, chapter "Output".
+use Rattle.std.specs.Prelude.{ℕ, zero, suc, ◌+◌, ◌-◌, ◌≡◌, ◌≤◌, ◌++◌, List, [], None, true}
+use Rattle.dg_base.specs.declared.run.Ending.{Ending}
+use Rattle.dg_base.specs.declared.run.Ending.TheVariants.{StepLimit}
+use Rattle.dg_meaning.specs.World.{Game, Print, prints}
+use Rattle.dg_meaning.specs.Render.{render, nothing_met, met_from}
+use Rattle.dg_meaning.specs.Transcript.{run, newline_behind, line_of}
+use Rattle.dg_meaning.specs.Shows.{Shows}
+use Rattle.dg_meaning.specs.OneRun.{Begins}
+use Rattle.dg_mid.specs.declared.code.Code.{Code}
+use Rattle.dg_mid.specs.Code.{block_at}
+use Rattle.dg_mid.specs.State.{Status, Runs, Ended}
+use Rattle.dg_mid.specs.Step.{Setting, step, said, followed, takes_goal}
+use Rattle.dg_mid.specs.Units.{one_if, units, earned, selects}
+use Rattle.dg_mid.specs.Reads.{Comes}
+
+-- The start: in front of the query of the entry.
+abbrev pub start : Code → Status
+start code = Runs (record {
+  ops = block_at code 1;
+  frames = [];
+  inner = [];
+  choices = [];
+  stops = [];
+  stop = None;
+  gathered = [];
+  next_tag = 1;
+  state = record { vars = 0; subst = []; since = 0; heap = 0; trail = 0 };
+})
+
+-- Where a run of code is: the status, what was printed, how many goals were taken, what the steps have cost, how much of it is work of the search, and how often rules were looked at.
+pub record Point : Type 0 where
+  pub now : Status
+  pub prints : List Print
+  pub goals : ℕ
+  pub spent : ℕ
+  pub paid : ℕ
+  pub looks : ℕ
+
+-- Where it is behind the next step.
+abbrev pub next : Setting → Point → Point
+next s p = record {
+  now = step s p.now;
+  prints = followed p.prints (said s p.now);
+  goals = one_if (takes_goal p.now) + p.goals;
+  spent = units s p.prints p.now + p.spent;
+  paid = earned s p.prints p.now + p.paid;
+  looks = selects p.now + p.looks;
+}
+
+-- Where it is after so many steps.
+abbrev pub after : Setting → ℕ → Point
+after s zero = record { now = start s.code; prints = []; goals = 0; spent = 0; paid = 0; looks = 0 }
+after s (suc k) = next s (after s k)
+
+-- Each run with at least the budget of the goals taken comes from there, and what the run with a budget of one less prints was printed.
+pub record IsAt (s : Setting) (g : Game) (typed : List ℕ) (p : Point) : Type 0 where
+  pub comes : (n : ℕ) → Comes p.paid p.prints s p.now g n (run g typed (p.goals + n))
+  pub since : Begins (prints (run g typed (p.goals - 1)).world.events) p.prints
+
+-- ## What is shown
+
+-- The text of what was printed, closed with a line.
+abbrev pub closed_text : List Print → List ℕ → List ℕ
+closed_text ps line = render ps ++ (newline_behind (met_from nothing_met ps).last ++ line)
+
+-- Where a run of code has ended, and where its goals are used up, what was printed, with the closing of the ending, shows the game.
+pub record ShowsAll (s : Setting) (g : Game) (typed : List ℕ) : Type 0 where
+  pub ends : (k : ℕ) (e : Ending) → (after s k).now ≡ Ended e → (after s k).goals ≤ s.limits.steps →
+      Shows g typed s.limits (closed_text (after s k).prints (line_of e)) (record { ending = e; goals = (after s k).goals }) None
+  pub limited : (k : ℕ) → (after s k).goals ≡ s.limits.steps → takes_goal (after s k).now ≡ true →
+      Shows g typed s.limits (closed_text (after s k).prints (line_of StepLimit)) (record { ending = StepLimit; goals = s.limits.steps }) None

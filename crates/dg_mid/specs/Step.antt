@@ -1,0 +1,365 @@
+-- What one instruction does, with its limits. Hold it against the Dialog manual, chapters "Choice points", "Control flow" and "Beyond the program".
+use Rattle.std.specs.Prelude.{ℕ, zero, suc, ◌+◌, ◌++◌, ◌-◌, nat_lt, List, [], ◌∷◌, Option, Some, None, Bool, true, false, length, map, drop, if◌then◌else◌}
+use Rattle.std.specs.List.{zip, slice_get}
+use Rattle.dg_base.specs.declared.program.Term.{Term}
+use Rattle.dg_base.specs.declared.program.CoreProgram.{CoreProgram}
+use Rattle.dg_base.specs.declared.run.Limits.{Limits}
+use Rattle.dg_base.specs.declared.run.Ending.TheVariants as ending
+use Rattle.dg_meaning.specs.Values.{Value, value_of}
+use Rattle.dg_meaning.specs.Substitutions.{Substitution, walk, resolved}
+use Rattle.dg_meaning.specs.Unify.{Unified, solve, unify}
+use Rattle.dg_meaning.specs.World.{Game, Print, Gathering, gathered_with, gathered_without}
+use Rattle.dg_meaning.specs.Cells.{cells}
+use Rattle.dg_meaning.specs.Moves.{new_vars, made_since}
+use Rattle.dg_unify.specs.Store.{State, trail_of, marked}
+use Rattle.dg_mid.specs.declared.code.Op.{Op}
+use Rattle.dg_mid.specs.declared.code.Op.TheVariants as op
+use Rattle.dg_mid.specs.declared.code.Action.{Action}
+use Rattle.dg_mid.specs.declared.code.RuleCode.{RuleCode}
+use Rattle.dg_mid.specs.declared.code.Code.{Code}
+use Rattle.dg_mid.specs.Code.{block_at, rules_at, selected}
+use Rattle.dg_mid.specs.State.{Place, Frame, Call, Way, Goes, Calls, Stop, Choice, Mid, Status, Runs, Enters, Resumes, Fails, Ended, vars_of, cut_of, place_of, cut_choices, stop_to}
+use Rattle.dg_mid.specs.Actions.{Deed, Says, IsPassed, AreEqual, CutsRule, StopsPart, QuitsRun, terms_of, deed, said_by}
+
+-- What stays the same: the program, for what it prints and captures, its code, and the limits.
+pub record Setting : Type 0 where
+  pub program : CoreProgram
+  pub code : Code
+  pub limits : Limits
+
+-- The setting of a game.
+abbrev pub setting : Game → Code → Limits → Setting
+setting g code limits = record { program = g.program; code = code; limits = limits }
+
+-- ## Heap and trail
+
+-- The machine with so many more cells of the heap taken.
+abbrev pub more : ℕ → Mid → Mid
+more n m = record m { state = record m.state { heap = m.state.heap + n } }
+
+-- So many more cells are taken and it goes on, or the limit is met.
+abbrev pub charged : Setting → ℕ → Mid → Status → Status
+charged g zero m next = next
+charged g (suc n) m next = if nat_lt g.limits.heap (m.state.heap + suc n) then Ended ending.HeapLimit else next
+
+-- What the bindings in front of older ones take of the trail, with what it has.
+abbrev pub trail_more : State → Unified → ℕ
+trail_more s u = s.trail + trail_of s.since (made_since s.subst u.subst)
+
+-- The machine with what a unification has bound.
+abbrev pub bound : Unified → Mid → Mid
+bound u m = record m { state = record m.state { subst = u.subst; trail = trail_more m.state u } }
+
+-- It goes on where values agree, and fails where they don't.
+abbrev pub if_agreed : Bool → Mid → Status → Status
+if_agreed true m next = next
+if_agreed false m next = Fails m
+
+-- A unification was done and it goes on so where the values agree, or the limit is met.
+abbrev pub unified : Setting → Unified → Mid → Status → Status
+unified g u m next = if nat_lt g.limits.trail (trail_more m.state u) then Ended ending.TrailLimit else if_agreed u.agrees (bound u m) next
+
+-- ## Choices
+
+-- The machine inside the next choice, which has no way on.
+abbrev pub passed : Mid → Mid
+passed m = record m { next_tag = m.next_tag + 1 }
+
+-- A choice that opens now.
+abbrev pub new_choice : Way → Mid → Choice
+new_choice way m = record {
+  place = place_of m;
+  way = way;
+  frames = m.frames;
+  inner = m.inner;
+  stops = m.stops;
+  stop = m.stop;
+  height = length m.gathered;
+  state = marked m.state;
+}
+
+-- The machine inside a choice with this way on, of so many arguments.
+abbrev pub inside : Way → ℕ → Mid → Mid
+inside way arguments m = more (10 + arguments) (record m { choices = new_choice way m ∷ m.choices; next_tag = m.next_tag + 1; state = marked m.state })
+
+-- The machine inside one more inner construct.
+abbrev pub within : Place → Mid → Mid
+within p m = record m { inner = p ∷ m.inner }
+
+-- The machine without the choices that aren't older than a place.
+abbrev pub cut_to : Place → Mid → Mid
+cut_to p m = record m { choices = cut_choices p m.choices }
+
+-- The oldest gatherings, so many.
+abbrev pub gathered_to : ℕ → List Gathering → List Gathering
+gathered_to height gs = drop (length gs - height) gs
+
+-- The machine back at a choice, which is gone.
+abbrev pub back_at : Choice → List Choice → Mid → Mid
+back_at c cs m = record m {
+  frames = c.frames;
+  inner = c.inner;
+  choices = cs;
+  stops = c.stops;
+  stop = c.stop;
+  gathered = gathered_to c.height m.gathered;
+  next_tag = c.place.tag;
+  state = c.state;
+}
+
+-- ## Queries
+
+-- A value that is walked, where there is one.
+abbrev pub walked : Substitution → Option Value → Option Value
+walked S None = None
+walked S (Some v) = Some (walk S v)
+
+-- The walked first argument of a call.
+abbrev pub first_of : Substitution → Call → Option Value
+first_of S call = walked S (slice_get call.args 0)
+
+-- The machine at the code of a rule.
+abbrev pub at_rule : Setting → RuleCode → Mid → Mid
+at_rule g r m = record m { ops = block_at g.code r.block }
+
+-- A call enters a rule, with these others left; a choice opens where there are any.
+abbrev pub enters : Setting → Call → RuleCode → List RuleCode → Mid → Status
+enters g call r [] m = Enters call (passed (at_rule g r m))
+enters g call r (q ∷ qs) m = charged g (10 + length call.args) m (Enters call (inside (Calls call (q ∷ qs)) (length call.args) (at_rule g r m)))
+
+-- A call enters the first of some rules, of which the others that aren't excluded are left.
+abbrev pub begins : Setting → Call → List RuleCode → Mid → Status
+begins g call [] m = Fails m
+begins g call (r ∷ rs) m = enters g call r (selected (first_of m.state.subst call) rs) m
+
+-- A predicate is asked.
+abbrev pub asks : Setting → ℕ → Call → Mid → Status
+asks g pred call m = begins g call (selected (first_of m.state.subst call) (rules_at g.code pred)) m
+
+-- The values of terms.
+abbrev pub values : Setting → Mid → List Term → List Value
+values g m terms = map (value_of g.program (vars_of m.frames)) terms
+
+-- A call that goes on here.
+abbrev pub call_of : List Value → Bool → ℕ → Mid → Call
+call_of args many next m = record { args = args; many = many; next = next; cut = place_of m }
+
+-- The last query of a rule: it goes on where the rule does, or, where the rule still has to cut, at the block that answers a rule.
+abbrev pub asks_last : Setting → ℕ → List Value → Bool → Bool → Frame → List Frame → Mid → Status
+asks_last g pred args many true f fs m = asks g pred (call_of args many f.next m) (record m { frames = fs; inner = f.inner })
+asks_last g pred args many false f fs m = asks g pred (call_of args many 0 m) (record m { inner = [] })
+
+-- The same with these frames.
+abbrev pub last : Setting → ℕ → List Value → Bool → List Frame → Mid → Status
+last g pred args many [] m = asks g pred (call_of args many 0 m) (record m { inner = [] })
+last g pred args many (f ∷ fs) m = asks_last g pred args many f.many f fs m
+
+-- The machine behind the answer of a rule; the rule's other choices are cut where one answer is wanted.
+abbrev pub returned : Setting → Bool → Frame → List Frame → Mid → Mid
+returned g true f fs m = record m { ops = block_at g.code f.next; frames = fs; inner = f.inner }
+returned g false f fs m = cut_to f.cut (record m { ops = block_at g.code f.next; frames = fs; inner = f.inner })
+
+-- The rule at hand is answered.
+abbrev pub returns : Setting → List Frame → Mid → Status
+returns g [] m = Fails m
+returns g (f ∷ fs) m = Runs (returned g f.many f fs m)
+
+-- ## Inner constructs
+
+-- The newest inner construct is left, and the choices inside it are cut.
+abbrev pub commits : List Place → Mid → Status
+commits [] m = Fails m
+commits (p ∷ ps) m = Runs (cut_to p (record m { inner = ps }))
+
+-- The same, and then it fails.
+abbrev pub refuses : List Place → Mid → Status
+refuses [] m = Fails m
+refuses (p ∷ ps) m = Fails (cut_to p (record m { inner = ps }))
+
+-- ## Stoppable parts and gatherings
+
+-- Where it goes on behind a stoppable part that begins now.
+abbrev pub new_stop : ℕ → Mid → Stop
+new_stop alt m = record { place = place_of m; block = alt; frames = m.frames; inner = m.inner; state = marked m.state; height = length m.gathered }
+
+-- The machine inside a stoppable part.
+abbrev pub shielded : ℕ → Mid → Mid
+shielded alt m = record (within (place_of m) (inside (Goes alt) 0 m)) { stops = new_stop alt m ∷ m.stops; stop = Some m.next_tag }
+
+-- A stoppable part is left.
+abbrev pub leaves : List Place → Mid → Status
+leaves [] m = Fails m
+leaves (p ∷ ps) m = Runs (cut_to p (record m { inner = ps; stop = p.outer }))
+
+-- The machine behind a stoppable part that was stopped.
+abbrev pub stopped : Setting → Stop → List Stop → Mid → Mid
+stopped g s ss m = record m {
+  ops = block_at g.code s.block;
+  frames = s.frames;
+  inner = s.inner;
+  choices = cut_choices s.place m.choices;
+  stops = ss;
+  stop = s.place.outer;
+  gathered = gathered_to s.height m.gathered;
+  next_tag = s.place.tag + 1;
+  state = s.state;
+}
+
+-- A stop to this stoppable part; it fails where there is none.
+abbrev pub stops_at : Setting → Option (Stop × List Stop) → Mid → Status
+stops_at g None m = Fails m
+stops_at g (Some found) m = Runs (stopped g found.0 found.1 m)
+
+-- A stop to the innermost part that is open; the run ends where none is.
+abbrev pub stops : Setting → Option ℕ → Mid → Status
+stops g None m = Ended ending.Stopped
+stops g (Some t) m = stops_at g (stop_to t m.stops) m
+
+-- The machine inside a gathering.
+abbrev pub gathering : ℕ → Mid → Mid
+gathering alt m = within (place_of m) (inside (Goes alt) 0 (record m { gathered = record { tag = m.next_tag; values = [] } ∷ m.gathered }))
+
+-- A value is gathered, and it fails.
+abbrev pub keeps : Value → List Place → Mid → Status
+keeps v [] m = Fails m
+keeps v (p ∷ ps) m = Fails (record m { inner = ps; gathered = gathered_with p.tag v m.gathered })
+
+-- ## Instructions
+
+-- It goes on where a test is passed.
+abbrev pub if_passed : Bool → Mid → Status
+if_passed true m = Runs m
+if_passed false m = Fails m
+
+-- What a deed leads to.
+abbrev pub done : Setting → Deed → Mid → Status
+done g (Says ps) m = Runs m
+done g (IsPassed passed) m = if_passed passed m
+done g (AreEqual a b) m = let u = unify m.state.subst a b in unified g u m (Runs (bound u m))
+done g CutsRule m = Runs (cut_to (cut_of m.frames) m)
+done g StopsPart m = stops g m.stop m
+done g QuitsRun m = Ended ending.Quit
+
+-- What an action comes to where a machine is.
+abbrev pub deed_at : Setting → Action → Mid → Deed
+deed_at g a m = deed g.program (vars_of m.frames) m.state.subst a
+
+-- What an instruction leads to, where the machine is behind it.
+abbrev pub does : Setting → Op → Mid → Status
+does g (op.Do a) m = let n = cells g.program (terms_of a) in charged g n m (done g (deed_at g a m) (more n m))
+does g (op.Ask pred terms many next) m = let n = cells g.program terms in charged g n m (asks g pred (call_of (values g m terms) many next (more n m)) (more n m))
+does g (op.LastAsk pred terms many) m = let n = cells g.program terms in charged g n m (last g pred (values g m terms) many m.frames (more n m))
+does g op.Take m = Runs (passed m)
+does g (op.Branch alt) m = charged g 10 m (Runs (inside (Goes alt) 0 m))
+does g op.Once m = charged g 10 m (Runs (within (place_of m) (more 10 (passed m))))
+does g (op.Try alt) m = charged g 10 m (Runs (within (place_of m) (inside (Goes alt) 0 m)))
+does g (op.Shield alt) m = charged g 10 m (Runs (shielded alt m))
+does g (op.Collect term into alt) m = let n = cells g.program (term ∷ into ∷ []) in charged g n m (charged g 10 (more n m) (Runs (gathering alt (more n m))))
+does g (op.Retry alt) m = Fails m
+does g op.TakeOut m = Fails m
+does g op.Commit m = commits m.inner m
+does g op.Refuse m = refuses m.inner m
+does g op.Leave m = leaves m.inner m
+does g (op.Keep term) m = keeps (resolved m.state.subst (value_of g.program (vars_of m.frames) term)) m.inner m
+does g op.Back m = Fails m
+does g op.Return m = returns g m.frames m
+does g (op.Goto b) m = Runs (record m { ops = block_at g.code b })
+does g (op.Enter vars head) m = Fails m
+does g op.Done m = Ended ending.Done
+
+-- The code at hand; it fails at its end.
+abbrev pub runs : Setting → List Op → Mid → Status
+runs g [] m = Fails m
+runs g (x ∷ ops) m = does g x (record m { ops = ops })
+
+-- ## Entering and going back
+
+-- The frame of a rule that is entered.
+abbrev pub new_frame : Call → ℕ → Mid → Frame
+new_frame call vars m = record { vars = new_vars vars m.state.vars; cut = call.cut; many = call.many; next = call.next; inner = m.inner }
+
+-- A rule is entered: its variables are made, its head is written, and the arguments are unified with it.
+abbrev pub enter : Setting → Call → ℕ → List Term → Mid → Status
+enter g call vars head m =
+    let n = 6 + vars + cells g.program head in
+    let f = new_frame call vars m in
+    let m' = record m { state = record m.state { vars = m.state.vars + vars; heap = m.state.heap + n } } in
+    let u = solve m.state.subst (zip call.args (map (value_of g.program f.vars) head)) in
+    charged g n m (unified g u m' (Runs (record (bound u m') { frames = f ∷ m.frames; inner = [] })))
+
+-- The code of a rule begins with its entering.
+abbrev pub entered : Setting → Call → List Op → Mid → Status
+entered g call (op.Enter vars head ∷ ops) m = enter g call vars head (record m { ops = ops })
+entered g call ops m = Fails m
+
+-- A choice goes on at this code; it is kept where the code begins with a further way.
+abbrev pub resumed : Setting → List Op → Mid → Status
+resumed g (op.Retry alt ∷ ops) m = charged g 10 m (Runs (inside (Goes alt) 0 (record m { ops = ops })))
+resumed g (op.TakeOut ∷ ops) m = Runs (passed (record m { ops = ops; gathered = gathered_without m.next_tag m.gathered }))
+resumed g ops m = Runs (passed (record m { ops = ops }))
+
+-- A choice goes on.
+abbrev pub goes_on : Setting → Way → Mid → Status
+goes_on g (Goes b) m = resumed g (block_at g.code b) m
+goes_on g (Calls call rules) m = begins g call rules m
+
+-- A failure goes back to the newest choice; without one the run has failed.
+abbrev pub goes_back : List Choice → Mid → Status
+goes_back [] m = Ended ending.Failed
+goes_back (c ∷ cs) m = Resumes c.way (back_at c cs m)
+
+-- ## One step
+
+-- What a step leads to.
+abbrev pub step : Setting → Status → Status
+step g (Runs m) = runs g m.ops m
+step g (Enters call m) = entered g call m.ops m
+step g (Resumes way m) = goes_on g way m
+step g (Fails m) = goes_back m.choices m
+step g (Ended e) = Ended e
+
+-- An instruction takes a goal.
+abbrev pub is_goal : Op → Bool
+is_goal (op.Do a) = true
+is_goal (op.Ask pred terms many next) = true
+is_goal (op.LastAsk pred terms many) = true
+is_goal op.Take = true
+is_goal (op.Branch alt) = true
+is_goal op.Once = true
+is_goal (op.Try alt) = true
+is_goal (op.Shield alt) = true
+is_goal (op.Collect term into alt) = true
+is_goal x = false
+
+-- The first of some instructions takes a goal.
+abbrev pub at_goal : List Op → Bool
+at_goal [] = false
+at_goal (x ∷ ops) = is_goal x
+
+-- The next step takes a goal.
+abbrev pub takes_goal : Status → Bool
+takes_goal (Runs m) = at_goal m.ops
+takes_goal s = false
+
+-- ## What is printed
+
+-- What an instruction prints, where it meets no limit.
+abbrev pub said_in : Setting → Mid → List Op → List Print
+said_in g m (op.Do a ∷ ops) = said_by (deed_at g a m)
+said_in g m ops = []
+
+-- What is printed by a step that leads to a status: nothing where the run has ended.
+abbrev pub said_to : List Print → Status → List Print
+said_to [] s = []
+said_to (p ∷ ps) (Ended e) = []
+said_to (p ∷ ps) s = p ∷ ps
+
+-- What a step prints.
+abbrev pub said : Setting → Status → List Print
+said g (Runs m) = said_to (said_in g m m.ops) (step g (Runs m))
+said g s = []
+
+-- What was printed, with what is printed now behind it.
+abbrev pub followed : List Print → List Print → List Print
+followed ps [] = ps
+followed ps (q ∷ qs) = ps ++ q ∷ qs

@@ -1,0 +1,94 @@
+// The instructions, and what they stand in.
+
+use dg_base::{GapKind, Items, Name, Term, TestKind};
+
+/// What is done at once: a goal with no goals in it that makes no choice.
+#[derive(Drop)]
+pub enum Action {
+    Text(Name),
+    Print(Term),
+    Gap(GapKind),
+    Equal(Term, Term),
+    Test(TestKind, Term),
+    Just,
+    Fail,
+    Stop,
+    Quit,
+}
+
+/// One instruction. Those down to Collect take a goal. A number that isn't a predicate's or a count of variables is a block's.
+#[derive(Drop)]
+pub enum Op {
+    /// An action.
+    Do(Action),
+    /// A query of a predicate with these arguments, for all its answers or for one, that goes on at a block.
+    Ask(u16, Items<Term>, bool, u32),
+    /// The last query of a rule, which goes on where the rule does.
+    LastAsk(u16, Items<Term>, bool),
+    /// An (or) of one list.
+    Take,
+    /// A choice whose other way is a block.
+    Branch(u32),
+    /// An inner construct whose first answer is taken.
+    Once,
+    /// An inner construct, and a choice whose other way is a block.
+    Try(u32),
+    /// The same, and a stoppable part.
+    Shield(u32),
+    /// The same, and a gathering of the first term's values for the second.
+    Collect(Term, Term, u32),
+    /// First of a block with which a choice goes on: the choice is kept, with this block.
+    Retry(u32),
+    /// First of the block behind a gathering.
+    TakeOut,
+    /// The inner construct is left.
+    Commit,
+    /// The inner construct is left, and it fails.
+    Refuse,
+    /// The stoppable part is left.
+    Leave,
+    /// The value of the term is gathered, and it fails.
+    Keep(Term),
+    /// It fails.
+    Back,
+    /// The rule is answered.
+    Return,
+    /// It goes on at a block.
+    Goto(u32),
+    /// First of a rule, with so many variables and this head.
+    Enter(u16, Items<Term>),
+    /// The run is done.
+    Done,
+}
+
+/// A stretch of code that is entered at its beginning alone.
+#[derive(Drop)]
+pub struct Block {
+    pub ops: Items<Op>,
+}
+
+/// What is at the top of each value that a rule's first head term may stand for.
+#[derive(Clone, Copy, PartialEq, Eq, Debug)]
+pub enum Key {
+    Any,
+    Num(u16),
+    Word(u16),
+    Object(u16),
+    Nil,
+    Pair,
+    Closure(u16),
+}
+
+/// The key of a rule, and the block of its code.
+#[derive(Clone, Copy, PartialEq, Eq, Debug)]
+pub struct RuleCode {
+    pub key: Key,
+    pub block: u32,
+}
+
+/// The code of a program: its blocks, and for each predicate its rules. Block 0 answers a rule, block 1 asks the entry.
+#[derive(Drop)]
+pub struct Code {
+    pub blocks: Items<Block>,
+    pub preds: Items<Items<RuleCode>>,
+}
