@@ -1,180 +1,129 @@
 -- What is done at once.
-use Rattle.std.specs.Prelude.{map}
-use Rattle.std.proofs.Common.{◌≡◌, ℕ, suc, ◌+◌, List, [], ◌∷◌, ◌++◌, Bool, true, false, refl, ap, ◌∙◌, subst, arith, append_assoc, length, ◌≤◌, sym}
-use Rattle.std.proofs.lemmas.List.{append-nil}
+use Rattle.std.specs.Prelude.{◌-◌, map}
+use Rattle.std.proofs.Common.{◌≡◌, ℕ, suc, ◌+◌, List, [], ◌∷◌, ◌++◌, Bool, true, false, Option, refl, ap, ◌∙◌, subst, arith, length, ◌≤◌, sym}
 use Rattle.dg_base.specs.declared.program.Goal.{Goal, out-Goal}
-use Rattle.dg_base.specs.declared.program.Goal.TheVariants.{outs-Text, outs-Print, outs-Gap, outs-Equal, outs-Test, outs-Just, outs-Fail, outs-Stop, outs-Quit}
-use Rattle.dg_base.specs.declared.program.TestKind.{TestKind}
-use Rattle.dg_base.specs.declared.program.TestKind.TheVariants as kind
+use Rattle.dg_base.specs.declared.program.Goal.TheVariants.{outs-Text, outs-Print, outs-Gap, outs-GapN, outs-Equal, outs-Test, outs-Now, outs-Arith, outs-Compare, outs-Random, outs-Input, outs-SplitWord, outs-JoinWords, outs-Just, outs-Fail, outs-Stop, outs-Quit}
 use Rattle.dg_base.specs.declared.run.Limits.{Limits}
 use Rattle.dg_base.specs.declared.run.Ending.TheVariants as ending
-use Rattle.dg_meaning.specs.Values.{Value, value_of}
-use Rattle.dg_meaning.specs.Substitutions.{links, resolved}
-use Rattle.dg_meaning.specs.Unify.{Unified, looks, unify}
-use Rattle.dg_meaning.specs.World.{Game, World, Print, Piece, Prints, prints, worked}
+use Rattle.dg_meaning.specs.Substitutions.{Substitution}
+use Rattle.dg_meaning.specs.Unify.{Unified, Equations, solve}
+use Rattle.dg_meaning.specs.World.{Game, World, Gathering, Meters, Event, Print, Prints, prints}
 use Rattle.dg_meaning.specs.Cells.{cells}
-use Rattle.dg_meaning.specs.Pieces.{pieces}
-use Rattle.dg_meaning.specs.Path.{Step, Do, Cut, Registers, Act, Goes, Tests, Unifies, Ends, Stops, Moves, End as EndsSo}
-use Rattle.dg_meaning.specs.Moves.{begun, stop, printed, all_printed, goes_on_if, bound_by, made_since, unified, unifying, move_of, outcome, test_looks, whole_looks}
-use Rattle.dg_meaning.specs.Render.{Met, nothing_met, met_from, met_behind, written, characters}
+use Rattle.dg_meaning.specs.Path.{Step, Do, Registers, Act, Goes, Tests, Unifies, Ends, Fails as FailsNow, Stops, Effect, Acts, FailsAt as MoveFails, End as EndsSo}
+use Rattle.dg_meaning.specs.Moves.{begun, stop, goes_on_if, bound_by, made_since, unified, unifying, move_of, outcome_of, effect}
 use Rattle.dg_meaning.specs.Transcript.{Run}
 use Rattle.dg_meaning.specs.OneRun.{Grows}
 use Rattle.dg_meaning.specs.Context.{Way as WayOn, Live}
 use Rattle.dg_meaning.specs.Keeps.{Went, After, world_at}
-use Rattle.dg_meaning.proofs.Dropping.{prints_append}
-use Rattle.dg_unify.specs.Store.{State}
+use Rattle.dg_meaning.proofs.OneRun.{grows_on, begun_grows}
+use Rattle.dg_meaning.proofs.Stays.{world_in, EffectStays, effect_stays}
 use Rattle.dg_mid.specs.declared.code.Op.{Op}
 use Rattle.dg_mid.specs.declared.code.Op.TheVariants as op
 use Rattle.dg_mid.specs.declared.code.Action.{Action}
-use Rattle.dg_mid.specs.declared.code.Code.{Code}
 use Rattle.dg_mid.specs.declared.code.Action.TheVariants as action
-use Rattle.dg_mid.specs.State.{Mid, Runs, vars_of, cut_of}
-use Rattle.dg_mid.specs.Actions.{form_of, goal_of, terms_of, Deed, Says, IsPassed, AreEqual, CutsRule, StopsPart, QuitsRun, deed, said_by}
-use Rattle.dg_mid.specs.Step.{Setting, setting, does, done, deed_at, more, bound, trail_more, if_agreed, if_passed, cut_to, said_to, followed}
-use Rattle.dg_mid.specs.Units.{effort, tested, looked, doing, all_characters}
+use Rattle.dg_mid.specs.declared.code.Code.{Code}
+use Rattle.dg_mid.specs.State.{Outside, Mid, Runs, Fails, vars_of, cut_of}
+use Rattle.dg_mid.specs.Actions.{form_of, goal_of, terms_of, registers_of, world_of, act_in, act_at, world_by, said_by, outside_in}
+use Rattle.dg_mid.specs.Step.{Setting, setting, does, done, made_in, more, bound, unified as unified_here, if_agreed, if_passed, cut_to, said_to, followed}
+use Rattle.dg_mid.specs.Units.{effort, act_work}
 use Rattle.dg_mid.specs.Codes.{End, Stands}
-use Rattle.dg_mid.specs.Reads.{Behind, Agrees, Mirrors, Comes}
-use Rattle.dg_mid.proofs.Here.{Here, steps_of, mirrors_on, followed_is}
+use Rattle.dg_mid.specs.Reads.{Behind, outside_of, Mirrors, Comes}
+use Rattle.dg_mid.proofs.Here.{Here, steps_of, followed_is}
 use Rattle.dg_mid.proofs.Marks.{goes_on, cuts, ends_here}
-use Rattle.dg_mid.proofs.Taking.{behind, taken_in, comes, taken_grows, charge, heap_full, trail_full, trail_within, went_grows, unify_on}
+use Rattle.dg_mid.proofs.Taking.{behind, taken_in, comes, taken_grows, charge, heap_full, keep_on, trail_within, went_grows, unify_on}
 use Rattle.dg_mid.proofs.Stops.{stops_with}
+use Rattle.dg_mid.proofs.Alike.{Did, MadeAlike, Alike, goes, cuts as cuts_rule, tests, unifies, quits, lacks_input, fails, stops, AlikeEffects, alike, regs, world_with, action_alike}
 
--- ## What is printed
+-- ## Registers and worlds
 
--- the world in which all this is printed
-abbrev pub all_said : List Print → World → World
-all_said [] w = w
-all_said (p ∷ ps) w = all_said ps (printed p w)
+pub registers_are : (q : Registers) (n : ℕ) (s : Option ℕ) (S : Substitution) (x : ℕ) → q.next_tag ≡ n → q.stoppable ≡ s → q.bound ≡ S → q.next_var ≡ x → q ≡ regs n s S x q.heap q.trail
+registers_are q n s S x a b c d =
+    ap (λ k. regs k q.stoppable q.bound q.next_var q.heap q.trail) a ∙ ap (λ k. regs n k q.bound q.next_var q.heap q.trail) b ∙ ap (λ k. regs n s k q.next_var q.heap q.trail) c ∙ ap (λ k. regs n s S k q.heap q.trail) d
 
-pieces_said : (pieces : List (List ℕ)) (w : World) → all_printed pieces w ≡ all_said (map Piece pieces) w
-pieces_said [] w = refl
-pieces_said (piece ∷ pieces) w = pieces_said pieces (printed (Piece piece) w)
+pub world_is : (v : World) (gs : List Gathering) (o : Outside) → v.gathered ≡ gs → outside_of v ≡ o → v ≡ world_with v.events gs v.meters o.typed o.dice o.facts o.sites
+world_is v gs o a b = ap (λ k. world_with v.events k v.meters v.typed v.dice v.facts v.sites) a ∙ ap (λ (k : Outside). world_with v.events gs v.meters k.typed k.dice k.facts k.sites) b
 
-said_gathers : (qs : List Print) (w : World) → (all_said qs w).gathered ≡ w.gathered
-said_gathers [] w = refl
-said_gathers (q ∷ qs) w = said_gathers qs (printed q w)
+abbrev pub nothing_counted : Meters
+nothing_counted = record { heap = 0; trail = 0; aux = 0; keep = 0; work = 0 }
 
-one_printed : (p : Print) (w : World) (ps : List Print) → prints w.events ≡ ps → prints (printed p w).events ≡ ps ++ p ∷ []
-one_printed p w ps h = prints_append w.events (Prints p ∷ []) ∙ ap (λ l. l ++ p ∷ []) h
+pub nothing_first : (ps : List Print) → prints (map Prints ps) ≡ ps
+nothing_first [] = refl
+nothing_first (p ∷ ps) = ap (λ l. p ∷ l) (nothing_first ps)
 
-said_prints : (qs : List Print) (w : World) (ps : List Print) → prints w.events ≡ ps → prints (all_said qs w).events ≡ ps ++ qs
-said_prints [] w ps h = h ∙ sym (append-nil ps)
-said_prints (q ∷ qs) w ps h = said_prints qs (printed q w) (ps ++ q ∷ []) (one_printed q w ps h) ∙ append_assoc ps (q ∷ []) qs
-
-met_more : (met : Met) (ps : List Print) (p : Print) → met_from met (ps ++ p ∷ []) ≡ met_behind (met_from met ps) p
-met_more met [] p = refl
-met_more met (q ∷ ps) p = met_more (met_behind met q) ps p
-
-said_works : (qs : List Print) (w : World) (ps : List Print) → prints w.events ≡ ps → (all_said qs w).meters.work ≡ w.meters.work + all_characters (met_from nothing_met ps) qs
-said_works [] w ps h = omega arith
-said_works (q ∷ qs) w ps h =
-    let rest = said_works qs (printed q w) (ps ++ q ∷ []) (one_printed q w ps h) in
-    let same = ap (λ met. all_characters met qs) (met_more nothing_met ps q) in
-    let here = ap (λ l. characters (written (met_from nothing_met l) q)) h in
-    omega (arith, rest, same, here)
-
-said_runs : (qs : List Print) (m : Mid) → said_to qs (Runs m) ≡ qs
-said_runs [] m = refl
-said_runs (q ∷ qs) m = refl
-
--- ## What it looks at
-
-test_works : (kind : TestKind) (v : Value) (r : Registers) (s : State) → r.bound ≡ s.subst → r.next_var ≡ s.vars → test_looks kind v r ≡ tested kind v s
-test_works kind.FullyBound v r s a b = ap (λ S. looks S r.next_var v) a ∙ ap (λ x. looks s.subst x v) b
-test_works kind v r s a b = ap (λ S. 1 + links S v) a
-
--- the world in which an action has looked at what it looks at
-abbrev pub looked_in : Game → List Value → Registers → Action → World → World
-looked_in g env q (action.Print t) v = worked (whole_looks q (value_of g.program env t)) v
-looked_in g env q (action.Test kind t) v = worked (test_looks kind (value_of g.program env t) q) v
-looked_in g env q a v = v
-
-looked_gathers : (g : Game) (env : List Value) (q : Registers) (a : Action) (v : World) → (looked_in g env q a v).gathered ≡ v.gathered
-looked_gathers g env q (action.Print t) v = refl
-looked_gathers g env q (action.Test kind t) v = refl
-looked_gathers g env q a v = refl
-
-looked_prints : (g : Game) (env : List Value) (q : Registers) (a : Action) (v : World) → prints (looked_in g env q a v).events ≡ prints v.events
-looked_prints g env q (action.Print t) v = refl
-looked_prints g env q (action.Test kind t) v = refl
-looked_prints g env q a v = refl
-
--- ## The act of a goal
+-- ## Acts
 
 outs : (a : Action) → out-Goal (goal_of a) ≡ form_of a
 outs (action.Text name) = outs-Text name
 outs (action.Print t) = outs-Print t
 outs (action.Gap kind) = outs-Gap kind
+outs (action.GapN t) = outs-GapN t
 outs (action.Equal a b) = outs-Equal a b
 outs (action.Test kind t) = outs-Test kind t
+outs (action.Now place args sets) = outs-Now place args sets
+outs (action.Arith f a b c) = outs-Arith f a b c
+outs (action.Compare f a b) = outs-Compare f a b
+outs (action.Random a b c) = outs-Random a b c
+outs (action.Input t) = outs-Input t
+outs (action.SplitWord a b) = outs-SplitWord a b
+outs (action.JoinWords a b) = outs-JoinWords a b
 outs action.Just = outs-Just
 outs action.Fail = outs-Fail
 outs action.Stop = outs-Stop
 outs action.Quit = outs-Quit
 
--- the act of a deed, in front of these steps
-abbrev pub act_of : List Step → ℕ → Registers → Deed → World → Act
-act_of steps t q (Says qs) u = Goes steps (all_said qs u)
-act_of steps t q (IsPassed passed) u = Tests passed u
-act_of steps t q (AreEqual a b) u = Unifies q a b u
-act_of steps t q CutsRule u = Goes (Cut t ∷ steps) u
-act_of steps t q StopsPart u = Stops u
-act_of steps t q QuitsRun u = Ends ending.Quit u
+-- ## What an act leads to
 
--- what comes of an action's goal is what comes of its deed
-act_is : (g : Game) (a : Action) (env : List Value) (t : ℕ) (steps : List Step) (q : Registers) (v : World) →
-    outcome g (form_of a) env t steps q v ≡ Moves (move_of steps q (act_of steps t q (deed g.program env q.bound a) (looked_in g env q a v)))
-act_is g (action.Text name) env t steps q v = refl
-act_is g (action.Print x) env t steps q v = ap (λ w. Moves (move_of steps q (Goes steps w))) (pieces_said (pieces g.program (resolved q.bound (value_of g.program env x))) (worked (whole_looks q (value_of g.program env x)) v))
-act_is g (action.Gap kind) env t steps q v = refl
-act_is g (action.Equal a b) env t steps q v = refl
-act_is g (action.Test kind x) env t steps q v = refl
-act_is g action.Just env t steps q v = refl
-act_is g action.Fail env t steps q v = refl
-act_is g action.Stop env t steps q v = refl
-act_is g action.Quit env t steps q v = refl
+after_test : (b : Bool) (steps : List Step) (r : Registers) (w : World) → world_at (goes_on_if b steps r w) ≡ w
+after_test true steps r w = refl
+after_test false steps r w = refl
 
--- ## Deeds
+said_runs : (qs : List Print) (m : Mid) → said_to qs (Runs m) ≡ qs
+said_runs [] m = refl
+said_runs (q ∷ qs) m = refl
 
-world_is : (b : Bool) (steps : List Step) (r : Registers) (w : World) → world_at (goes_on_if b steps r w) ≡ w
-world_is true steps r w = refl
-world_is false steps r w = refl
+said_fails : (qs : List Print) (m : Mid) → said_to qs (Fails m) ≡ qs
+said_fails [] m = refl
+said_fails (q ∷ qs) m = refl
+
+-- a machine is where an act has led
+module _ (set : Setting) (m : Mid) (goals : List Goal) (end : End) (rest : List Step) (g : Game) (n : ℕ) (run : Run) (stands : Stands set.code m.ops goals end) (below : Behind set.code m.frames rest) where
+  goes_so : {least : ℕ} → (ps qs : List Print) (q : Registers) (lives : List Live) (ways : List WayOn) (u : World) → Mirrors g set.code m (ps ++ qs) q lives ways u → Went g lives ways n (move_of (steps_of m goals end rest) q (Goes (steps_of m goals end rest) u)) run → least ≤ u.meters.work → Comes least (followed ps (said_to qs (Runs m))) set (Runs m) g n run
+  goes_so {least = least} ps qs q lives ways u i st le =
+      subst (λ l. Comes least l set (Runs m) g n run) (sym (ap (followed ps) (said_runs qs m) ∙ followed_is ps qs))
+      (goes_on set m (steps_of m goals end rest) [] g n u run (record { goals = goals; end = end; rest = rest; stands = stands; below = below; is = refl })
+      (record { lives = lives; ways = ways; registers = q; mirrors = i; stands = st }) le)
+
+  fails_so : {least : ℕ} → (ps qs : List Print) (q : Registers) (lives : List Live) (ways : List WayOn) (u : World) → Mirrors g set.code m (ps ++ qs) q lives ways u → Went g lives ways n (MoveFails u) run → least ≤ u.meters.work → Comes least (followed ps (said_to qs (Fails m))) set (Fails m) g n run
+  fails_so {least = least} ps qs q lives ways u i f le =
+      subst (λ l. Comes least l set (Fails m) g n run) (sym (ap (followed ps) (said_fails qs m) ∙ followed_is ps qs))
+      (record { world = u; at = record { lives = lives; choices = i.choices_are; gathered = i.gathered_is; outside = i.outside_is; printed = i.printed_is; failed = f }; worked = le })
+
+  tests_so : {least : ℕ} → (b : Bool) (ps qs : List Print) (q : Registers) (lives : List Live) (ways : List WayOn) (u : World) → Mirrors g set.code m (ps ++ qs) q lives ways u → Went g lives ways n (goes_on_if b (steps_of m goals end rest) q u) run → least ≤ u.meters.work → Comes least (followed ps (said_to qs (if_passed b m))) set (if_passed b m) g n run
+  tests_so {least = least} true ps qs q lives ways u i st le = goes_so ps qs q lives ways u i st le
+  tests_so {least = least} false ps qs q lives ways u i f le = fails_so ps qs q lives ways u i f le
 
 module _ (set : Setting) (m : Mid) (goals : List Goal) (end : End) (rest : List Step) (g : Game) (n : ℕ) (run : Run) (stands : Stands set.code m.ops goals end) (below : Behind set.code m.frames rest) where
-  abbrev pub steps : List Step
-  steps = steps_of m goals end rest
+  agreed_so : {least : ℕ} → (b : Bool) (u : Unified) (ps qs : List Print) (q : Registers) (lives : List Live) (ways : List WayOn) (v : World) → Mirrors g set.code (bound u m) (ps ++ qs) q lives ways v → Went g lives ways n (goes_on_if b (steps_of m goals end rest) q v) run → least ≤ v.meters.work →
+      Comes least (followed ps (said_to qs (if_agreed b (bound u m) (Runs (bound u m))))) set (if_agreed b (bound u m) (Runs (bound u m))) g n run
+  agreed_so {least = least} true u ps qs q lives ways v i st le = goes_so set (bound u m) goals end rest g n run stands below ps qs q lives ways v i st le
+  agreed_so {least = least} false u ps qs q lives ways v i f le = fails_so set (bound u m) goals end rest g n run stands below ps qs q lives ways v i f le
 
-  -- the machine goes on behind a goal
-  goes : {least : ℕ} → {ps : List Print} → (q : Registers) (lives : List Live) (ways : List WayOn) (u : World) → Mirrors g set.code m ps q lives ways u → Went g lives ways n (move_of steps q (Goes steps u)) run → least ≤ u.meters.work → Comes least ps set (Runs m) g n run
-  goes {least = least} {ps = ps} q lives ways u i st le =
-      goes_on set m steps [] g n u run (record { goals = goals; end = end; rest = rest; stands = stands; below = below; is = refl })
-      (record { lives = lives; ways = ways; registers = q; mirrors = i; stands = st }) le
-
-  tests : {least : ℕ} → {ps : List Print} → (b : Bool) (q : Registers) (lives : List Live) (ways : List WayOn) (u : World) → Mirrors g set.code m ps q lives ways u → Went g lives ways n (goes_on_if b steps q u) run → least ≤ u.meters.work → Comes least ps set (if_passed b m) g n run
-  tests {least = least} {ps = ps} true q lives ways u i st le = goes q lives ways u i st le
-  tests {least = least} {ps = ps} false q lives ways u i f le = record { world = u; at = record { lives = lives; choices = i.choices_are; gathered = i.gathered_is; printed = i.printed_is; failed = f }; worked = le }
-
-module _ (set : Setting) (m : Mid) (goals : List Goal) (end : End) (rest : List Step) (g : Game) (n : ℕ) (run : Run) (stands : Stands set.code m.ops goals end) (below : Behind set.code m.frames rest) where
-  -- what a unification comes to
-  agreed : {least : ℕ} → {ps : List Print} → (b : Bool) (u : Unified) (q : Registers) (lives : List Live) (ways : List WayOn) (v : World) → Mirrors g set.code (bound u m) ps q lives ways v → Went g lives ways n (goes_on_if b (steps_of m goals end rest) q v) run → least ≤ v.meters.work →
-      Comes least ps set (if_agreed b (bound u m) (Runs (bound u m))) g n run
-  agreed {least = least} {ps = ps} true u q lives ways v i st le = goes set (bound u m) goals end rest g n run stands below q lives ways v i st le
-  agreed {least = least} {ps = ps} false u q lives ways v i f le = record { world = v; at = record { lives = lives; choices = i.choices_are; gathered = i.gathered_is; printed = i.printed_is; failed = f }; worked = le }
-
-  equal : {least : ℕ} → {ps : List Print} → (a b : Value) (q : Registers) (lives : List Live) (ways : List WayOn) (v : World) → Mirrors g set.code m ps q lives ways v → Went g lives ways n (unified a b (steps_of m goals end rest) q v) run → least ≤ v.meters.work + unifying m.state.subst ((a, b) ∷ []) →
-      Comes least ps set (done set (AreEqual a b) m) g n run
-  equal {least = least} {ps = ps} a b q lives ways v i h le =
+  -- equations behind values that were made
+  equations_so : {least : ℕ} → (es : Equations) (ps qs : List Print) (q : Registers) (lives : List Live) (ways : List WayOn) (v0 v : World) → prints v0.events ≡ ps → Grows v0 v → Mirrors g set.code m (ps ++ qs) q lives ways v → Went g lives ways n (unified es (steps_of m goals end rest) q v) run → least ≤ v.meters.work + unifying m.state.subst es →
+      Comes least (followed ps (said_to qs (unified_here set (solve m.state.subst es) m (Runs (bound (solve m.state.subst es) m))))) set (unified_here set (solve m.state.subst es) m (Runs (bound (solve m.state.subst es) m))) g n run
+  equations_so {least = least} es ps qs q lives ways v0 v first grown i h le =
       let S = m.state.subst in
-      let u = unify S a b in
+      let u = solve S es in
       let made = made_since S u.subst in
       let few = trail_within m.state.since made in
       let q' : Registers = bound_by u (length made) q in
-      let v' : World = begun q' (unifying S ((a, b) ∷ [])) v in
-      let went : Went g lives ways n (goes_on_if u.agrees (steps_of m goals end rest) q' v') run = subst (λ T. Went g lives ways n (let t = unify T a b in (let r = bound_by t (length (made_since T t.subst)) q in goes_on_if t.agrees (steps_of m goals end rest) r (begun r (unifying T ((a, b) ∷ [])) v))) run) i.agrees.bound h in
-      let grows : Grows v' run.world = subst (λ y. Grows y run.world) (world_is u.agrees (steps_of m goals end rest) q' v') (went_grows g lives ways n (goes_on_if u.agrees (steps_of m goals end rest) q' v') run went) in
-      unify_on set u m (Runs (bound u m)) g n run
-      (trail_full set ps (trail_more m.state u) v' g n run i.printed_is (omega (arith, i.agrees.trail, few)) grows)
-      (agreed u.agrees u q' lives ways v'
+      let v' : World = begun q' (unifying S es) v in
+      let went : Went g lives ways n (goes_on_if u.agrees (steps_of m goals end rest) q' v') run = subst (λ T. Went g lives ways n (let t = solve T es in (let r = bound_by t (length (made_since T t.subst)) q in goes_on_if t.agrees (steps_of m goals end rest) r (begun r (unifying T es) v))) run) i.agrees.bound h in
+      let grows : Grows v' run.world = subst (λ y. Grows y run.world) (after_test u.agrees (steps_of m goals end rest) q' v') (went_grows g lives ways n (goes_on_if u.agrees (steps_of m goals end rest) q' v') run went) in
+      let before = grows_on v0 v run.world grown (grows_on v v' run.world (begun_grows q' (unifying S es) v) grows) in
+      unify_on set qs u m (Runs (bound u m)) g n run
+      (λ full. record { world = v0; at = record { passes = omega (arith, full, i.agrees.trail, few, grows.meters.trail); printed = first; happened = before }; grows = before })
+      (agreed_so u.agrees u ps qs q' lives ways v'
       (record {
         agrees = record { bound = refl; vars = i.agrees.vars; heap = i.agrees.heap; trail = omega (arith, i.agrees.trail, few); since = i.agrees.since };
         tag = i.tag;
@@ -183,66 +132,148 @@ module _ (set : Setting) (m : Mid) (goals : List Goal) (end : End) (rest : List 
         stops_are = i.stops_are;
         stop_is = i.stop_is;
         gathered_is = i.gathered_is;
+        outside_is = i.outside_is;
         printed_is = i.printed_is;
       })
       went (omega (arith, le)))
 
-  deed_on : {least : ℕ} → {ps : List Print} → (d : Deed) (q : Registers) (lives : List Live) (ways : List WayOn) (v : World) → Mirrors g set.code m ps q lives ways v → Went g lives ways n (move_of (steps_of m goals end rest) q (act_of (steps_of m goals end rest) (cut_of m.frames).tag q d v)) run →
-      least ≤ v.meters.work + doing (met_from nothing_met ps) m.state.subst d → Comes least (followed ps (said_to (said_by d) (done set d m))) set (done set d m) g n run
-  deed_on {least = least} {ps = ps} (Says qs) q lives ways v i h le =
-      let now = followed_is ps qs in
-      subst (λ l. Comes least (followed ps l) set (Runs m) g n run) (sym (said_runs qs m))
-      (goes set m goals end rest g n run stands below q lives ways (all_said qs v)
-      (mirrors_on g set.code m.state m.next_tag m.choices m.stops m.stop m.gathered ps (followed ps qs) q lives ways v (all_said qs v) (said_gathers qs v) (said_prints qs v ps i.printed_is ∙ sym now) i)
-      h (let x = said_works qs v ps i.printed_is in omega (arith, le, x)))
-  deed_on {least = least} {ps = ps} (IsPassed b) q lives ways v i h le = tests set m goals end rest g n run stands below b q lives ways v i h (omega (arith, le))
-  deed_on {least = least} {ps = ps} (AreEqual a b) q lives ways v i h le = equal a b q lives ways v i h le
-  deed_on {least = least} {ps = ps} CutsRule q lives ways v i h le =
+-- what a unification reaches has been reached in the run
+unified_reaches : (g : Game) (es : Equations) (steps : List Step) (q : Registers) (lives : List Live) (ways : List WayOn) (n : ℕ) (v : World) (run : Run) → Went g lives ways n (unified es steps q v) run → (q.heap ≤ run.world.meters.heap) × Grows v run.world
+unified_reaches g es steps q lives ways n v run h =
+    let u = solve q.bound es in
+    let q' : Registers = bound_by u (length (made_since q.bound u.subst)) q in
+    let v' : World = begun q' (unifying q.bound es) v in
+    let grows : Grows v' run.world = subst (λ y. Grows y run.world) (after_test u.agrees steps q' v') (went_grows g lives ways n (goes_on_if u.agrees steps q' v') run h) in
+    let reached = grows.meters.heap in
+    (omega (arith, reached), grows_on v v' run.world (begun_grows q' (unifying q.bound es) v) grows)
+
+-- the machine behind what was done outside
+did_mirrors : (g : Game) (code : Code) (m : Mid) (ps : List Print) (q : Registers) (lives : List Live) (ways : List WayOn) (v v1 w1 : World) → Did v v1 (world_of [] m) w1 → Mirrors g code m ps q lives ways v → Mirrors g code (outside_in w1 m) (ps ++ prints w1.events) q lives ways v1
+did_mirrors g code m ps q lives ways v v1 w1 d i = record {
+  agrees = i.agrees;
+  tag = i.tag;
+  choices_are = i.choices_are;
+  below = i.below;
+  stops_are = i.stops_are;
+  stop_is = i.stop_is;
+  gathered_is = d.gathered ∙ i.gathered_is;
+  outside_is = d.outside;
+  printed_is = d.said ∙ ap (λ l. l ++ d.new) i.printed_is ∙ ap (λ l. ps ++ l) (sym d.said_here);
+}
+
+-- what the search counts of an act, the machine counts
+pub act_works : (q r : Registers) (t : ℕ) (steps : List Step) (v w : World) (a b : Act) → q.bound ≡ r.bound → prints v.events ≡ prints w.events → Alike q r t steps v w a b → act_work a + w.meters.work ≡ act_work b + v.meters.work
+act_works q r t steps v w a b e h (goes v1 w1 d) = d.work h
+act_works q r t steps v w a b e h cuts_rule = omega arith
+act_works q r t steps v w a b e h (tests x v1 w1 d) = d.work h
+act_works q r t steps v w a b e h (unifies made here es v1 w1 ma d) =
+    let x = d.work h in let y = ap (λ S. unifying S es) (ma.bound ∙ e ∙ sym ma.here_bound) in omega (arith, x, y)
+act_works q r t steps v w a b e h quits = omega arith
+act_works q r t steps v w a b e h lacks_input = omega arith
+act_works q r t steps v w a b e h (fails v1 w1 d) = d.work h
+act_works q r t steps v w a b e h stops = omega arith
+
+module _ (code : Code) (limits : Limits) (m : Mid) (goals : List Goal) (end : End) (rest : List Step) (g : Game) (n : ℕ) (run : Run) (stands : Stands code m.ops goals end) (below : Behind code m.frames rest) where
+  abbrev set : Setting
+  set = setting g code limits
+
+  made_so : {least : ℕ} → (es : Equations) (ps : List Print) (q made here : Registers) (lives : List Live) (ways : List WayOn) (v v1 w1 : World) → MadeAlike q (registers_of m) made here → Did v v1 (world_of [] m) w1 → Mirrors g code m ps q lives ways v → Grows v v1 → Went g lives ways n (unified es (steps_of m goals end rest) made v1) run →
+      least ≤ v1.meters.work + unifying made.bound es → Comes least (followed ps (said_to (prints w1.events) (done set (Unifies here es w1) m))) set (done set (Unifies here es w1) m) g n run
+  made_so {least = least} es ps q made here lives ways v v1 w1 ma d i grown h le =
+      let m' = made_in here (outside_in w1 m) in
+      let qs = prints w1.events in
+      let reached = unified_reaches g es (steps_of m goals end rest) made lives ways n v1 run h in
+      let before = grows_on v v1 run.world grown reached.1 in
+      let on = did_mirrors g code m ps q lives ways v v1 w1 d i in
+      let bound_is : made.bound ≡ m.state.subst = ma.bound ∙ i.agrees.bound in
+      let mirrors : Mirrors g code m' (ps ++ qs) made lives ways v1 = record {
+        agrees = record { bound = bound_is; vars = ma.vars; heap = let x = ma.heap in let y = i.agrees.heap in omega (arith, x, y); trail = let x = i.agrees.trail in omega (arith, x, ma.trail); since = let x = ma.older in let y = i.agrees.since in omega (arith, x, y) };
+        tag = ma.tag ∙ i.tag;
+        choices_are = i.choices_are;
+        below = i.below;
+        stops_are = i.stops_are;
+        stop_is = ma.stop ∙ i.stop_is;
+        gathered_is = on.gathered_is;
+        outside_is = on.outside_is;
+        printed_is = on.printed_is;
+      } in
+      charge set qs (here.heap - m.state.heap) m (unified_here set (solve here.bound es) m' (Runs (bound (solve here.bound es) m'))) g n run
+      (λ full. record { world = v; at = record { passes = let x = ma.heap in let y = i.agrees.heap in let z = ma.higher in omega (arith, full, x, y, z, reached.0); printed = i.printed_is; happened = before }; grows = before })
+      (subst (λ S. Comes least (followed ps (said_to qs (unified_here set (solve S es) m' (Runs (bound (solve S es) m'))))) set (unified_here set (solve S es) m' (Runs (bound (solve S es) m'))) g n run) (sym ma.here_bound)
+      (equations_so set m' goals end rest g n run stands below es ps qs made lives ways v v1 i.printed_is grown mirrors h (let x = ap (λ S. unifying S es) bound_is in omega (arith, le, x))))
+
+  pub act_on : {least : ℕ} → (ps : List Print) (q : Registers) (lives : List Live) (ways : List WayOn) (v : World) (a b : Act) → Alike q (registers_of m) (cut_of m.frames).tag (steps_of m goals end rest) v (world_of [] m) a b → Mirrors g code m ps q lives ways v → Grows v (world_by a) → Grows v run.world →
+      Went g lives ways n (move_of (steps_of m goals end rest) q a) run → least ≤ act_work a → Comes least (followed ps (said_to (said_by b) (done set b m))) set (done set b m) g n run
+  act_on {least = least} ps q lives ways v a b (goes v1 w1 d) i grown happened h le =
+      keep_on set (prints w1.events) w1.meters.keep (Runs (outside_in w1 m)) g n run
+      (λ full. record { world = v; at = record { passes = let x = d.keep (omega arith) in let y = (went_grows g lives ways n (move_of (steps_of m goals end rest) q a) run h).meters.keep in omega (arith, full, x, y); printed = i.printed_is; happened = happened }; grows = happened })
+      (goes_so set (outside_in w1 m) goals end rest g n run stands below ps (prints w1.events) q lives ways v1 (did_mirrors g code m ps q lives ways v v1 w1 d i) h le)
+  act_on {least = least} ps q lives ways v a b cuts_rule i grown happened h le =
       goes_on set (cut_to (cut_of m.frames) m) (steps_of m goals end rest) [] g n v run (record { goals = goals; end = end; rest = rest; stands = stands; below = below; is = refl })
-      (cuts set.code m ps (cut_of m.frames) (steps_of m goals end rest) g n v run (record { lives = lives; ways = ways; registers = q; mirrors = i; stands = h })) (omega (arith, le))
-  deed_on {least = least} {ps = ps} StopsPart q lives ways v i h le =
-      stops_with set m ps g n v run q lives ways i m.stop (subst (λ t. Went g lives ways n (stop t v) run) i.stop_is h) (omega (arith, le))
-  deed_on {least = least} {ps = ps} QuitsRun q lives ways v i h le = ends_here set ending.Quit (EndsSo ending.Quit) g n v run refl (λ w x. x) i.printed_is h (omega (arith, le))
+      (cuts code m ps (cut_of m.frames) (steps_of m goals end rest) g n v run (record { lives = lives; ways = ways; registers = q; mirrors = i; stands = h })) (omega (arith, le))
+  act_on {least = least} ps q lives ways v a b (tests x v1 w1 d) i grown happened h le =
+      tests_so set (outside_in w1 m) goals end rest g n run stands below x ps (prints w1.events) q lives ways v1 (did_mirrors g code m ps q lives ways v v1 w1 d i) h le
+  act_on {least = least} ps q lives ways v a b (unifies made here es v1 w1 ma d) i grown happened h le = made_so es ps q made here lives ways v v1 w1 ma d i grown h le
+  act_on {least = least} ps q lives ways v a b quits i grown happened h le = ends_here set ending.Quit (EndsSo ending.Quit) g n v run refl (λ w x. x) i.printed_is h le
+  act_on {least = least} ps q lives ways v a b lacks_input i grown happened h le = ends_here set ending.InputEnded (EndsSo ending.InputEnded) g n v run refl (λ w x. x) i.printed_is h le
+  act_on {least = least} ps q lives ways v a b (fails v1 w1 d) i grown happened h le =
+      fails_so set (outside_in w1 m) goals end rest g n run stands below ps (prints w1.events) q lives ways v1 (did_mirrors g code m ps q lives ways v v1 w1 d i) h le
+  act_on {least = least} ps q lives ways v a b stops i grown happened h le =
+      stops_with set m ps g n v run q lives ways i m.stop (subst (λ t. Went g lives ways n (stop t v) run) i.stop_is h) le
 
 -- ## The instruction
 
-looks_same : (g : Game) (code : Code) (limits : Limits) (a : Action) (m : Mid) (q : Registers) (v : World) → q.bound ≡ m.state.subst → q.next_var ≡ m.state.vars → (looked_in g (vars_of m.frames) q a v).meters.work ≡ v.meters.work + looked (setting g code limits) a m
-looks_same g code limits (action.Print t) m q v b n =
-    let x = value_of g.program (vars_of m.frames) t in
-    ap (λ k. v.meters.work + k) (ap (λ S. looks S q.next_var x) b ∙ ap (λ k. looks m.state.subst k x) n)
-looks_same g code limits (action.Test kind t) m q v b n = ap (λ k. v.meters.work + k) (test_works kind (value_of g.program (vars_of m.frames) t) q m.state b n)
-looks_same g code limits a m q v b n = omega arith
+pub grows_in : (v : World) (a : Act) → Grows v (world_in a) → Grows v (world_by a)
+grows_in v (Goes steps w) h = h
+grows_in v (Tests b w) h = h
+grows_in v (Unifies made es w) h = h
+grows_in v (Ends e w) h = h
+grows_in v (FailsNow w) h = h
+grows_in v (Stops w) h = h
+
+effects_act : (q r : Registers) (t : ℕ) (steps : List Step) (v w : World) (a b : Effect) → AlikeEffects q r t steps v w a b → (a ≡ Acts (act_in a)) × Alike q r t steps v w (act_in a) (act_in b)
+effects_act q r t steps v w a b (alike x y h) = (refl, h)
 
 pub acts : {least : ℕ} → {ps : List Print} → (code : Code) (limits : Limits) (m : Mid) (a : Action) (ops : List Op) (goals : List Goal) (end : End) (rest : List Step) (g : Game) (n : ℕ) (w : World) (run : Run) → Stands code ops goals end → Behind code m.frames rest →
-    Here code m ps (Do (goal_of a) (vars_of m.frames) (cut_of m.frames).tag ∷ steps_of m goals end rest) g (suc n) w run → least ≤ w.meters.work + (1 + effort (setting g code limits) (met_from nothing_met ps) (op.Do a) m) →
-    Comes least (followed ps (said_to (said_by (deed_at (setting g code limits) a m)) (does (setting g code limits) (op.Do a) (record m { ops = ops })))) (setting g code limits) (does (setting g code limits) (op.Do a) (record m { ops = ops })) g n run
+    Here code m ps (Do (goal_of a) (vars_of m.frames) (cut_of m.frames).tag ∷ steps_of m goals end rest) g (suc n) w run → least ≤ w.meters.work + (1 + effort (setting g code limits) ps (op.Do a) m) →
+    Comes least (followed ps (said_to (said_by (act_at g [] a (more (cells g.program (terms_of a)) m))) (does (setting g code limits) (op.Do a) (record m { ops = ops })))) (setting g code limits) (does (setting g code limits) (op.Do a) (record m { ops = ops })) g n run
 acts {least = least} {ps = ps} code limits m a ops goals end rest g n w run stands below h le =
     let set = setting g code limits in
     let i = h.mirrors in
+    let env = vars_of m.frames in
+    let t = (cut_of m.frames).tag in
     let steps = steps_of m goals end rest in
     let x = goal_of a in
     let f = form_of a in
-    let q = behind code m ps steps g n w run x f (outs a) h in
-    let v = taken_in code m ps steps g n w run x f (outs a) h in
-    let u = looked_in g (vars_of m.frames) q a v in
     let k = cells g.program (terms_of a) in
     let m' : Mid = record m { ops = ops } in
-    let d = deed_at set a m in
-    let same : deed g.program (vars_of m.frames) q.bound a ≡ d = ap (λ S. deed g.program (vars_of m.frames) S a) i.agrees.bound in
-    let agrees : Agrees (record m.state { heap = m.state.heap + k }) q = record { bound = i.agrees.bound; vars = i.agrees.vars; heap = omega (arith, i.agrees.heap); trail = i.agrees.trail; since = i.agrees.since } in
-    let went = subst (λ o. After g h.lives h.ways n o run) (act_is g a (vars_of m.frames) (cut_of m.frames).tag steps q v) (comes code m ps steps g n w run x f (outs a) h) in
-    charge set (said_by d) k m' (done set d (more k m')) g n run
-    (heap_full set m' ps k v g n run i.printed_is (omega (arith, i.agrees.heap)) (taken_grows code m ps steps g n w run x f (outs a) h))
-    (deed_on set (more k m') goals end rest g n run stands below d q h.lives h.ways u
+    let m0 : Mid = more k m' in
+    let q = behind code m ps steps g n w run x f (outs a) h in
+    let v = taken_in code m ps steps g n w run x f (outs a) h in
+    let q0 = regs m.next_tag m.stop m.state.subst m.state.vars q.heap q.trail in
+    let v0 = world_with v.events m.gathered v.meters m.outside.typed m.outside.dice m.outside.facts m.outside.sites in
+    let happened : Grows v0 run.world = subst (λ (y : World). Grows y run.world) (world_is v m.gathered m.outside i.gathered_is i.outside_is) (taken_grows code m ps steps g n w run x f (outs a) h) in
+    let o = subst (λ y. After g h.lives h.ways n (outcome_of steps q0 (effect g f env t steps q0 y)) run) (world_is v m.gathered m.outside i.gathered_is i.outside_is)
+    (subst (λ y. After g h.lives h.ways n (outcome_of steps y (effect g f env t steps y v)) run) (registers_are q m.next_tag m.stop m.state.subst m.state.vars i.tag i.stop_is i.agrees.bound i.agrees.vars) (comes code m ps steps g n w run x f (outs a) h)) in
+    let same : (es' : List Event) → AlikeEffects q0 (registers_of m0) t steps v0 (world_with es' m.gathered nothing_counted m.outside.typed m.outside.dice m.outside.facts m.outside.sites) (effect g f env t steps q0 v0) (effect g f env t [] (registers_of m0) (world_with es' m.gathered nothing_counted m.outside.typed m.outside.dice m.outside.facts m.outside.sites)) =
+    λ es'. action_alike m.next_tag m.stop m.state.subst m.state.vars q.heap q.trail m0.state.heap m0.state.trail v.events es' m.gathered v.meters nothing_counted m.outside.typed m.outside.dice m.outside.facts m.outside.sites t steps g a env in
+    let here = effects_act q0 (registers_of m0) t steps v0 (world_of [] m0) _ _ (same []) in
+    let counted = effects_act q0 (registers_of m0) t steps v0 (world_of ps m0) _ _ (same (map Prints ps)) in
+    let work = act_works q0 (registers_of m0) t steps v0 (world_of ps m0) _ _ refl (i.printed_is ∙ sym (nothing_first ps)) counted.1 in
+    charge set (said_by (act_at g [] a m0)) k m' (done set (act_at g [] a m0) m0) g n run
+    (heap_full set m' ps k v0 g n run i.printed_is (omega (arith, i.agrees.heap)) happened)
+    (act_on code limits m0 goals end rest g n run stands below ps q0 h.lives h.ways v0 (act_in (effect g f env t steps q0 v0)) (act_at g [] a m0) here.1
     (record {
-      agrees = agrees;
-      tag = i.tag;
+      agrees = record { bound = refl; vars = refl; heap = omega (arith, i.agrees.heap); trail = i.agrees.trail; since = i.agrees.since };
+      tag = refl;
       choices_are = i.choices_are;
       below = i.below;
       stops_are = i.stops_are;
-      stop_is = i.stop_is;
-      gathered_is = looked_gathers g (vars_of m.frames) q a v ∙ i.gathered_is;
-      printed_is = looked_prints g (vars_of m.frames) q a v ∙ i.printed_is;
+      stop_is = refl;
+      gathered_is = refl;
+      outside_is = refl;
+      printed_is = i.printed_is;
     })
-    (subst (λ e. Went g h.lives h.ways n (move_of steps q (act_of steps (cut_of m.frames).tag q e u)) run) same went)
-    (let z = looks_same g code limits a m q v i.agrees.bound i.agrees.vars in omega (arith, le, z)))
+    (grows_in v0 (act_in (effect g f env t steps q0 v0)) (subst (EffectStays q0.next_tag v0) here.0 (effect_stays g f env t steps q0 v0)).grows) happened
+    (subst (λ e. After g h.lives h.ways n (outcome_of steps q0 e) run) here.0 o)
+    (omega (arith, le, work)))

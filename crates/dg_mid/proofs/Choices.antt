@@ -7,7 +7,7 @@ use Rattle.dg_base.specs.declared.program.Goal.TheOpen as form
 use Rattle.dg_base.specs.declared.run.Limits.{Limits}
 use Rattle.dg_meaning.specs.Values.{Value}
 use Rattle.dg_meaning.specs.World.{Game, World, Print, prints}
-use Rattle.dg_meaning.specs.Path.{Step, Do, Cut, Refuse, Back, Registers, Branch, Enter, Clash, TakeOut, Plain}
+use Rattle.dg_meaning.specs.Path.{Step, Do, Cut, Refuse, Back, Registers, Branch, Enter, Clash, TakeOut, Finds, Plain}
 use Rattle.dg_meaning.specs.Moves.{begun, path_of, goals_at, enter, inside, list_branches}
 use Rattle.dg_meaning.specs.Transcript.{Run}
 use Rattle.dg_meaning.specs.Context.{Way as WayOn, Live}
@@ -20,7 +20,7 @@ use Rattle.dg_mid.specs.Code.{block_at}
 use Rattle.dg_mid.specs.State.{Place, Frame, Way, Goes, Stop, Mid, Runs, vars_of, cut_of, place_of}
 use Rattle.dg_mid.specs.Step.{Setting, setting, does, more, charged, passed, within, new_choice, inside as inside_choice}
 use Rattle.dg_mid.specs.Codes.{End, Stands, Others, last_list, more_lists, Commits, Refuses, Backs, forever}
-use Rattle.dg_mid.specs.Reads.{Behind, Layer, kept, WayOf, GoesAt, AreStops, end_steps, Mirrors, Comes}
+use Rattle.dg_mid.specs.Reads.{Behind, Layer, kept, WayOf, GoesAt, AreStops, end_steps, outside_of, Mirrors, Comes}
 use Rattle.dg_mid.proofs.Here.{Here, steps_of}
 use Rattle.dg_mid.proofs.Marks.{goes_on, below_next}
 use Rattle.dg_mid.proofs.Taking.{behind, taken_in, comes, charge, heap_full}
@@ -40,10 +40,10 @@ inside_is q r cells e = subst (λ (x : Registers). IsInside q x cells) (sym e) (
 
 -- the machine inside a choice that has this way on
 pub choice_mirrors : (g : Game) (code : Code) (m : Mid) (ps : List Print) (q r : Registers) (lives : List Live) (ways now_ways : List WayOn) (w v : World) (way : Way) (arguments : ℕ) (c : Live) (now_stops : List Stop) (now_stop : Option ℕ) →
-    Mirrors g code m ps q lives ways w → v.gathered ≡ w.gathered → prints v.events ≡ ps → IsInside q r (10 + arguments) → AreStops code now_stops now_ways → r.stoppable ≡ now_stop →
+    Mirrors g code m ps q lives ways w → v.gathered ≡ w.gathered → outside_of v ≡ outside_of w → prints v.events ≡ ps → IsInside q r (10 + arguments) → AreStops code now_stops now_ways → r.stoppable ≡ now_stop →
     AreStops code m.stops c.ways_on → open_at c.others c.height ≡ length m.gathered → c.tag ≡ q.next_tag → WayOf g code way m.frames m.inner m.state.subst q c.kind c.others →
     Mirrors g code (record (inside_choice way arguments m) { stops = now_stops; stop = now_stop }) ps r (c ∷ lives) now_ways v
-choice_mirrors g code m ps q r lives ways now_ways w v way arguments c now_stops now_stop i same printed on stops_are stop_is old height tag way_is = record {
+choice_mirrors g code m ps q r lives ways now_ways w v way arguments c now_stops now_stop i same out printed on stops_are stop_is old height tag way_is = record {
   agrees = record { bound = on.bound ∙ i.agrees.bound; vars = on.vars ∙ i.agrees.vars; heap = omega (arith, i.agrees.heap, on.heap); trail = omega (arith, i.agrees.trail, on.trail); since = omega arith };
   tag = omega (arith, on.tag, i.tag);
   choices_are = kept (new_choice way m) m.choices c lives
@@ -53,13 +53,14 @@ choice_mirrors g code m ps q r lives ways now_ways w v way arguments c now_stops
   stops_are = stops_are;
   stop_is = stop_is;
   gathered_is = same ∙ i.gathered_is;
+  outside_is = out ∙ i.outside_is;
   printed_is = printed;
 }
 
 -- the machine inside the next choice, which has no way on, with so many cells more
-pub passed_mirrors : (g : Game) (code : Code) (m : Mid) (ps : List Print) (q r : Registers) (lives : List Live) (ways : List WayOn) (w v : World) (cells : ℕ) → Mirrors g code m ps q lives ways w → v.gathered ≡ w.gathered → prints v.events ≡ ps → IsInside q r cells → r.stoppable ≡ m.stop →
+pub passed_mirrors : (g : Game) (code : Code) (m : Mid) (ps : List Print) (q r : Registers) (lives : List Live) (ways : List WayOn) (w v : World) (cells : ℕ) → Mirrors g code m ps q lives ways w → v.gathered ≡ w.gathered → outside_of v ≡ outside_of w → prints v.events ≡ ps → IsInside q r cells → r.stoppable ≡ m.stop →
     Mirrors g code (more cells (passed m)) ps r lives ways v
-passed_mirrors g code m ps q r lives ways w v cells i same printed on stop = record {
+passed_mirrors g code m ps q r lives ways w v cells i same out printed on stop = record {
   agrees = record { bound = on.bound ∙ i.agrees.bound; vars = on.vars ∙ i.agrees.vars; heap = omega (arith, i.agrees.heap, on.heap); trail = omega (arith, i.agrees.trail, on.trail); since = i.agrees.since };
   tag = omega (arith, on.tag, i.tag);
   choices_are = i.choices_are;
@@ -67,6 +68,7 @@ passed_mirrors g code m ps q r lives ways w v cells i same printed on stop = rec
   stops_are = i.stops_are;
   stop_is = stop;
   gathered_is = same ∙ i.gathered_is;
+  outside_is = out ∙ i.outside_is;
   printed_is = printed;
 }
 
@@ -98,7 +100,8 @@ pub goes_open : (code : Code) (b : ℕ) (frames : List Frame) (inner : List Plac
 goes_open code b frames inner q [] height goes = refl
 goes_open code b frames inner q (Enter path work ∷ os) height goes = refl
 goes_open code b frames inner q (Clash r work ∷ os) height goes = refl
-goes_open code b frames inner q (TakeOut t path ∷ os) height goes = absurd goes
+goes_open code b frames inner q (TakeOut t whole into path ∷ os) height goes = absurd goes
+goes_open code b frames inner q (Finds place o args path ∷ os) height goes = absurd goes
 
 -- ## Goals
 
@@ -119,8 +122,8 @@ module _ (code : Code) (limits : Limits) (m : Mid) (ops : List Op) (goals : List
   m' = record m { ops = ops }
 
   -- behind a goal without terms
-  pub mirrors_behind : (ps : List Print) (q : Registers) (lives : List Live) (ways : List WayOn) (v : World) → Mirrors g code m ps q lives ways w → v.gathered ≡ w.gathered → prints v.events ≡ ps → Mirrors g code m ps (record q { heap = q.heap + 0 }) lives ways v
-  mirrors_behind ps q lives ways v i same printed = record {
+  pub mirrors_behind : (ps : List Print) (q : Registers) (lives : List Live) (ways : List WayOn) (v : World) → Mirrors g code m ps q lives ways w → v.gathered ≡ w.gathered → outside_of v ≡ outside_of w → prints v.events ≡ ps → Mirrors g code m ps (record q { heap = q.heap + 0 }) lives ways v
+  mirrors_behind ps q lives ways v i same out printed = record {
     agrees = record { bound = i.agrees.bound; vars = i.agrees.vars; heap = omega (arith, i.agrees.heap); trail = i.agrees.trail; since = i.agrees.since };
     tag = i.tag;
     choices_are = i.choices_are;
@@ -128,6 +131,7 @@ module _ (code : Code) (limits : Limits) (m : Mid) (ops : List Op) (goals : List
     stops_are = i.stops_are;
     stop_is = i.stop_is;
     gathered_is = same ∙ i.gathered_is;
+    outside_is = out ∙ i.outside_is;
     printed_is = printed;
   }
 
@@ -146,7 +150,7 @@ module _ (code : Code) (limits : Limits) (m : Mid) (ops : List Op) (goals : List
         lives = c ∷ lives;
         ways = ways;
         registers = inside 10 q;
-        mirrors = choice_mirrors g code m' ps q (inside 10 q) lives ways ways v u (Goes alt) 0 c m.stops m.stop i refl i.printed_is (inside_is q (inside 10 q) 10 refl) i.stops_are i.stop_is i.stops_are
+        mirrors = choice_mirrors g code m' ps q (inside 10 q) lives ways ways v u (Goes alt) 0 c m.stops m.stop i refl refl i.printed_is (inside_is q (inside 10 q) 10 refl) i.stops_are i.stop_is i.stops_are
             (goes_open code alt m.frames m.inner q (o ∷ os) (length v.gathered) goes ∙ ap length i.gathered_is) refl (refl, inl goes);
         stands = st;
       }) le)
@@ -158,7 +162,7 @@ module _ (code : Code) (limits : Limits) (m : Mid) (ops : List Op) (goals : List
       let f = form.Either (list ∷ second ∷ lists) in
       let q = behind code m ps steps g n w run x f (outs-Either (list ∷ second ∷ lists)) h in
       let v = taken_in code m ps steps g n w run x f (outs-Either (list ∷ second ∷ lists)) h in
-      opens alt _ _ 1 m.inner (goals_at vars tag list ++ steps) h.lives h.ways q v (mirrors_behind ps h.registers h.lives h.ways v h.mirrors refl h.mirrors.printed_is)
+      opens alt _ _ 1 m.inner (goals_at vars tag list ++ steps) h.lives h.ways q v (mirrors_behind ps h.registers h.lives h.ways v h.mirrors refl refl h.mirrors.printed_is)
       (lists_go code m.frames m.inner rest below q alt (second ∷ lists) goals end others) (layered code m.frames m.inner rest below ops list goals end s)
       (comes code m ps steps g n w run x f (outs-Either (list ∷ second ∷ lists)) h) (omega (arith, le))
 
@@ -170,14 +174,14 @@ module _ (code : Code) (limits : Limits) (m : Mid) (ops : List Op) (goals : List
       let q = behind code m ps steps g n w run x f (outs-Either (list ∷ [])) h in
       let v = taken_in code m ps steps g n w run x f (outs-Either (list ∷ [])) h in
       let u = begun (inside 0 q) 1 v in
-      let i = passed_mirrors g code m' ps h.registers (inside 0 q) h.lives h.ways w u 0 h.mirrors refl h.mirrors.printed_is (record { bound = refl; vars = refl; heap = omega arith; trail = omega arith; tag = refl }) h.mirrors.stop_is in
+      let i = passed_mirrors g code m' ps h.registers (inside 0 q) h.lives h.ways w u 0 h.mirrors refl refl h.mirrors.printed_is (record { bound = refl; vars = refl; heap = omega arith; trail = omega arith; tag = refl }) h.mirrors.stop_is in
       goes_on set (passed m') (goals_at vars tag list ++ steps) [] g n u run
       (layered code m.frames m.inner rest below ops list goals end s)
       (record {
         lives = h.lives;
         ways = h.ways;
         registers = inside 0 q;
-        mirrors = record { agrees = record { bound = i.agrees.bound; vars = i.agrees.vars; heap = omega (arith, i.agrees.heap); trail = i.agrees.trail; since = i.agrees.since }; tag = i.tag; choices_are = i.choices_are; below = i.below; stops_are = i.stops_are; stop_is = i.stop_is; gathered_is = i.gathered_is; printed_is = i.printed_is };
+        mirrors = record { agrees = record { bound = i.agrees.bound; vars = i.agrees.vars; heap = omega (arith, i.agrees.heap); trail = i.agrees.trail; since = i.agrees.since }; tag = i.tag; choices_are = i.choices_are; below = i.below; stops_are = i.stops_are; stop_is = i.stop_is; gathered_is = i.gathered_is; outside_is = i.outside_is; printed_is = i.printed_is };
         stands = comes code m ps steps g n w run x f (outs-Either (list ∷ [])) h;
       }) (omega (arith, le))
 
@@ -198,7 +202,7 @@ module _ (code : Code) (limits : Limits) (m : Mid) (ops : List Op) (goals : List
         lives = h.lives;
         ways = h.ways;
         registers = inside 10 q;
-        mirrors = passed_mirrors g code m' ps h.registers (inside 10 q) h.lives h.ways w u 10 h.mirrors refl h.mirrors.printed_is (record { bound = refl; vars = refl; heap = omega arith; trail = omega arith; tag = refl }) h.mirrors.stop_is;
+        mirrors = passed_mirrors g code m' ps h.registers (inside 10 q) h.lives h.ways w u 10 h.mirrors refl refl h.mirrors.printed_is (record { bound = refl; vars = refl; heap = omega arith; trail = omega arith; tag = refl }) h.mirrors.stop_is;
         stands = st;
       }) (omega (arith, le)))
 
@@ -212,7 +216,7 @@ module _ (code : Code) (limits : Limits) (m : Mid) (ops : List Op) (goals : List
       let f = form.Not inner in
       let q = behind code m ps steps g n w run x f (outs-Not inner) h in
       let v = taken_in code m ps steps g n w run x f (outs-Not inner) h in
-      opens alt _ _ 0 (place_of m ∷ m.inner) (goals_at vars tag inner ++ Refuse q.next_tag ∷ []) h.lives h.ways q v (mirrors_behind ps h.registers h.lives h.ways v h.mirrors refl h.mirrors.printed_is)
+      opens alt _ _ 0 (place_of m ∷ m.inner) (goals_at vars tag inner ++ Refuse q.next_tag ∷ []) h.lives h.ways q v (mirrors_behind ps h.registers h.lives h.ways v h.mirrors refl refl h.mirrors.printed_is)
       (other_way alt q [] other)
       (record { goals = inner; end = Refuses; rest = rest; stands = s; below = below; is = ap (λ k. goals_at vars tag inner ++ Refuse k ∷ []) h.mirrors.tag })
       (comes code m ps steps g n w run x f (outs-Not inner) h) (omega (arith, le))
@@ -224,7 +228,7 @@ module _ (code : Code) (limits : Limits) (m : Mid) (ops : List Op) (goals : List
       let f = form.If test first other in
       let q = behind code m ps steps g n w run x f (outs-If test first other) h in
       let v = taken_in code m ps steps g n w run x f (outs-If test first other) h in
-      opens alt _ _ 0 (place_of m ∷ m.inner) (goals_at vars tag test ++ Cut q.next_tag ∷ (goals_at vars tag first ++ steps)) h.lives h.ways q v (mirrors_behind ps h.registers h.lives h.ways v h.mirrors refl h.mirrors.printed_is)
+      opens alt _ _ 0 (place_of m ∷ m.inner) (goals_at vars tag test ++ Cut q.next_tag ∷ (goals_at vars tag first ++ steps)) h.lives h.ways q v (mirrors_behind ps h.registers h.lives h.ways v h.mirrors refl refl h.mirrors.printed_is)
       (other_way alt q other o)
       (record {
         goals = test;
@@ -243,7 +247,7 @@ module _ (code : Code) (limits : Limits) (m : Mid) (ops : List Op) (goals : List
       let f = form.Exhaust inner in
       let q = behind code m ps steps g n w run x f (outs-Exhaust inner) h in
       let v = taken_in code m ps steps g n w run x f (outs-Exhaust inner) h in
-      opens alt _ _ 0 (place_of m ∷ m.inner) (goals_at vars tag inner ++ Back ∷ []) h.lives h.ways q v (mirrors_behind ps h.registers h.lives h.ways v h.mirrors refl h.mirrors.printed_is)
+      opens alt _ _ 0 (place_of m ∷ m.inner) (goals_at vars tag inner ++ Back ∷ []) h.lives h.ways q v (mirrors_behind ps h.registers h.lives h.ways v h.mirrors refl refl h.mirrors.printed_is)
       (other_way alt q [] other)
       (record { goals = inner; end = Backs; rest = rest; stands = s; below = below; is = refl })
       (comes code m ps steps g n w run x f (outs-Exhaust inner) h) (omega (arith, le))
@@ -255,7 +259,7 @@ module _ (code : Code) (limits : Limits) (m : Mid) (ops : List Op) (goals : List
       let q = behind code m ps steps g n w run x f outs-Forever h in
       let v = taken_in code m ps steps g n w run x f outs-Forever h in
       let again : Stands code (block_at code b) (goal.Forever ∷ goals) end = subst (λ l. Stands code l (goal.Forever ∷ goals) end) (sym block) (forever b ops goals end block s) in
-      opens b _ _ 0 m.inner steps h.lives h.ways q v (mirrors_behind ps h.registers h.lives h.ways v h.mirrors refl h.mirrors.printed_is)
+      opens b _ _ 0 m.inner steps h.lives h.ways q v (mirrors_behind ps h.registers h.lives h.ways v h.mirrors refl refl h.mirrors.printed_is)
       (other_way b q (goal.Forever ∷ []) again)
       (record { goals = goals; end = end; rest = rest; stands = s; below = below; is = refl })
       (comes code m ps steps g n w run x f outs-Forever h) (omega (arith, le))

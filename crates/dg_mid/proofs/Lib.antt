@@ -1,6 +1,7 @@
 pub mod Here
 pub mod Marks
 pub mod Taking
+pub mod Alike
 pub mod Drops
 pub mod Stops
 pub mod Acts

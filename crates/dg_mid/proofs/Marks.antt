@@ -4,14 +4,15 @@ use Rattle.std.proofs.Common.{◌≡◌, ℕ, ◌+◌, ◌<◌, ◌≤◌, List,
 use Rattle.std.proofs.lemmas.Bool.{cond_both, cond-true, ltb-true, lt-ltb}
 use Rattle.dg_base.specs.declared.program.Goal.{Goal}
 use Rattle.dg_base.specs.declared.program.Term.{Term}
+use Rattle.dg_base.specs.declared.run.Limits.{Limits}
 use Rattle.dg_base.specs.declared.run.Ending.{Ending}
 use Rattle.dg_base.specs.declared.run.Ending.TheVariants as ending
 use Rattle.dg_meaning.specs.Values.{value_of}
 use Rattle.dg_meaning.specs.Substitutions.{resolved}
 use Rattle.dg_meaning.specs.Unify.{looks}
 use Rattle.dg_meaning.specs.Letters.{copied}
-use Rattle.dg_meaning.specs.World.{Game, World, Print, prints, kept as gathered_more, gathered_with, worked}
-use Rattle.dg_meaning.specs.Path.{Step, Cut, Back, Result, End as EndsSo}
+use Rattle.dg_meaning.specs.World.{Game, World, Print, prints, kept as gathered_more, gathered_size, gathered_with, worked}
+use Rattle.dg_meaning.specs.Path.{Step, Cut, Back, Result, FailsAt as MoveFails, End as EndsSo}
 use Rattle.dg_meaning.specs.Moves.{goals_at, first_alone, keeping}
 use Rattle.dg_meaning.specs.Transcript.{Run, ending_of}
 use Rattle.dg_meaning.specs.Keeps.{Finished}
@@ -21,11 +22,12 @@ use Rattle.dg_mid.specs.declared.code.Op.{Op}
 use Rattle.dg_mid.specs.declared.code.Code.{Code}
 use Rattle.dg_mid.specs.Code.{block_at}
 use Rattle.dg_mid.specs.State.{Place, Frame, Choice, Mid, Runs, Fails, Ended, vars_of, cut_of, cut_choices}
-use Rattle.dg_mid.specs.Step.{Setting, cut_to, returned, returns, commits, refuses, leaves, keeps}
+use Rattle.dg_mid.specs.Step.{Setting, setting, cut_to, returned, returns, commits, refuses, leaves, keeps}
 use Rattle.dg_mid.specs.Units.{gathering_work}
 use Rattle.dg_mid.specs.Codes.{End, Commits, Refuses, Leaves, Keeps, Stands}
 use Rattle.dg_mid.specs.Reads.{silents, end_steps, Behind, Layer, AreChoices, none, dead, kept, AreBelow, HasEnded, EndedAt, Comes}
 use Rattle.dg_mid.proofs.Here.{Here, answers, prints_dropped, work_dropped}
+use Rattle.dg_mid.proofs.Taking.{went_grows, gather_on}
 
 -- ## Cuts
 
@@ -82,6 +84,7 @@ cuts code m ps p steps g n w run h =
         stops_are = i.stops_are;
         stop_is = i.stop_is;
         gathered_is = i.gathered_is;
+        outside_is = i.outside_is;
         printed_is = i.printed_is;
       };
       stands = passes_cut g h.lives h.ways p.tag steps h.registers n w run h.stands;
@@ -102,7 +105,7 @@ goes_on {least = least} {ps = ps} set m steps answered g n w run layer h le = re
 pub fails_back : {least : ℕ} → {ps : List Print} → (set : Setting) (m : Mid) (steps : List Step) (g : Game) (n : ℕ) (w : World) (run : Run) → Here set.code m ps (Back ∷ steps) g n w run → least ≤ w.meters.work → Comes least ps set (Fails m) g n run
 fails_back {least = least} {ps = ps} set m steps g n w run h le = record {
   world = w;
-  at = record { lives = h.lives; choices = h.mirrors.choices_are; gathered = h.mirrors.gathered_is; printed = h.mirrors.printed_is; failed = passes_back g h.lives h.ways steps h.registers n w run h.stands };
+  at = record { lives = h.lives; choices = h.mirrors.choices_are; gathered = h.mirrors.gathered_is; outside = h.mirrors.outside_is; printed = h.mirrors.printed_is; failed = passes_back g h.lives h.ways steps h.registers n w run h.stands };
   worked = le;
 }
 
@@ -134,6 +137,7 @@ refuse {least = least} {ps = ps} set m ops rest (p ∷ inner) g n w run h le = r
     lives = cut_lives p.tag h.lives;
     choices = cut_both g set.code m.choices h.lives p h.mirrors.choices_are;
     gathered = h.mirrors.gathered_is;
+    outside = h.mirrors.outside_is;
     printed = h.mirrors.printed_is;
     failed = passes_refuse g h.lives h.ways p.tag [] h.registers n w run h.stands;
   };
@@ -160,29 +164,29 @@ leave {least = least} {ps = ps} set m ops goals end rest (p ∷ inner) g n w run
         stops_are = i.stops_are;
         stop_is = refl;
         gathered_is = i.gathered_is;
+        outside_is = i.outside_is;
         printed_is = i.printed_is;
       };
       stands = passes_leave g h.lives h.ways p.tag p.outer _ h.registers n w run h.stands;
     }) le
 
-pub keep : {least : ℕ} → {ps : List Print} → (set : Setting) (m : Mid) (ops : List Op) (term : Term) (rest : List Step) (inner : List Place) (g : Game) (n : ℕ) (w : World) (run : Run) →
-    Here set.code m ps (end_steps (Keeps term) (vars_of m.frames) (cut_of m.frames).tag inner rest) g n w run → least ≤ w.meters.work + gathering_work inner m.state (value_of g.program (vars_of m.frames) term) → Comes least ps set (keeps (resolved m.state.subst (value_of g.program (vars_of m.frames) term)) inner (record m { ops = ops })) g n run
-keep {least = least} {ps = ps} set m ops term rest [] g n w run h le = fails_back set (record m { ops = ops }) [] g n w run h (omega (arith, le))
-keep {least = least} {ps = ps} set m ops term rest (p ∷ inner) g n w run h le =
+pub keep : {least : ℕ} → {ps : List Print} → (code : Code) (limits : Limits) (m : Mid) (ops : List Op) (term : Term) (rest : List Step) (inner : List Place) (g : Game) (n : ℕ) (w : World) (run : Run) →
+    Here code m ps (end_steps (Keeps term) (vars_of m.frames) (cut_of m.frames).tag inner rest) g n w run → least ≤ w.meters.work + gathering_work inner m.state (value_of g.program (vars_of m.frames) term) →
+    Comes least ps (setting g code limits) (keeps (setting g code limits) (resolved m.state.subst (value_of g.program (vars_of m.frames) term)) inner (record m { ops = ops })) g n run
+keep {least = least} {ps = ps} code limits m ops term rest [] g n w run h le = fails_back (setting g code limits) (record m { ops = ops }) [] g n w run h (omega (arith, le))
+keep {least = least} {ps = ps} code limits m ops term rest (p ∷ inner) g n w run h le =
     let i = h.mirrors in
     let v = value_of g.program (vars_of m.frames) term in
     let work : keeping h.registers v ≡ looks m.state.subst m.state.vars v + copied (resolved m.state.subst v) = ap (λ S. looks S h.registers.next_var v + copied (resolved S v)) i.agrees.bound ∙ ap (λ x. looks m.state.subst x v + copied (resolved m.state.subst v)) i.agrees.vars in
-    record {
-      world = gathered_more p.tag (resolved h.registers.bound v) (worked (keeping h.registers v) w);
-      at = record {
-        lives = h.lives;
-        choices = i.choices_are;
-        gathered = ap (gathered_with p.tag (resolved h.registers.bound v)) i.gathered_is ∙ ap (λ S. gathered_with p.tag (resolved S v) m.gathered) i.agrees.bound;
-        printed = i.printed_is;
-        failed = passes_keep g h.lives h.ways p.tag term (vars_of m.frames) [] h.registers n w run h.stands;
-      };
+    let u = gathered_more p.tag (resolved h.registers.bound v) (worked (keeping h.registers v) w) in
+    let new : u.gathered ≡ gathered_with p.tag (resolved m.state.subst v) m.gathered = ap (gathered_with p.tag (resolved h.registers.bound v)) i.gathered_is ∙ ap (λ S. gathered_with p.tag (resolved S v) m.gathered) i.agrees.bound in
+    let failed = passes_keep g h.lives h.ways p.tag term (vars_of m.frames) [] h.registers n w run h.stands in
+    gather_on (setting g code limits) ps (gathered_with p.tag (resolved m.state.subst v) m.gathered) _ u g n run i.printed_is (let a = ap gathered_size new in omega (arith, a)) (went_grows g h.lives [] n (MoveFails u) run failed)
+    (record {
+      world = u;
+      at = record { lives = h.lives; choices = i.choices_are; gathered = new; outside = i.outside_is; printed = i.printed_is; failed = failed };
       worked = omega (arith, le, work);
-    }
+    })
 
 return_on : {least : ℕ} → {ps : List Print} → (set : Setting) (m : Mid) (ops : List Op) (many : Bool) (f : Frame) (fs : List Frame) (answered : List ℕ) (after : List Step) (g : Game) (n : ℕ) (w : World) (run : Run) →
     Layer (Behind set.code fs) set.code (block_at set.code f.next) (vars_of fs) (cut_of fs).tag f.inner after →

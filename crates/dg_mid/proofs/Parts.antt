@@ -1,35 +1,44 @@
 -- Stoppable parts and gatherings.
 use Rattle.std.specs.Prelude.{◌-◌}
-use Rattle.std.proofs.Common.{◌≡◌, ℕ, suc, ◌+◌, ◌≤◌, List, [], ◌∷◌, ◌++◌, Some, inl, inr, refl, sym, ap, ◌∙◌, subst, arith, length}
-use Rattle.dg_base.specs.declared.program.Goal.{Goal}
+use Rattle.std.proofs.Common.{◌≡◌, ℕ, suc, ◌+◌, ◌≤◌, List, [], ◌∷◌, ◌++◌, Some, Option, None, inl, inr, refl, sym, ap, ◌∙◌, subst, arith, length, map}
+use Rattle.dg_base.specs.declared.program.Goal.{Goal, Goal-F, out-Goal}
+use Rattle.dg_base.specs.Goals.{terms_held}
 use Rattle.dg_base.specs.declared.program.Goal.TheVariants as goal
-use Rattle.dg_base.specs.declared.program.Goal.TheVariants.{outs-Stoppable, outs-Collect}
+use Rattle.dg_base.specs.declared.program.Goal.TheVariants.{outs-Stoppable, outs-Collect, outs-Accumulate}
 use Rattle.dg_base.specs.declared.program.Goal.TheOpen as form
 use Rattle.dg_base.specs.declared.program.Term.{Term}
 use Rattle.dg_base.specs.declared.run.Limits.{Limits}
-use Rattle.dg_meaning.specs.Values.{Value}
-use Rattle.dg_meaning.specs.World.{Game, World, Gathering, Print, opened, dropped, gathered_without}
+use Rattle.dg_meaning.specs.Values.{Value, value_of}
+use Rattle.dg_meaning.specs.World.{Game, World, Gathering, Event, Print, Prints, prints, gathered_size, gathered_at, opened, dropped, gathered_without}
 use Rattle.dg_meaning.specs.Cells.{cells, writing}
-use Rattle.dg_meaning.specs.Path.{Step, Do, Keep, Leave, Registers, TakeOut, Plain}
-use Rattle.dg_meaning.specs.Moves.{begun, path_of, goals_at, enter, inside, taking_out}
+use Rattle.dg_meaning.specs.Path.{Step, Do, Keep, Leave, Registers, TakeOut, Plain, Whole, AsList, AsSum}
+use Rattle.dg_meaning.specs.Moves.{begun, path_of, goals_at, enter, inside, outcome_of, effect, move_of, gives_number, gathers as gathering_of, takes_out as takes_out_act}
 use Rattle.dg_meaning.specs.Transcript.{Run}
 use Rattle.dg_meaning.specs.Context.{Way as WayOn, Live}
-use Rattle.dg_meaning.specs.Keeps.{Tried}
+use Rattle.dg_meaning.specs.Keeps.{Tried, After, Went}
+use Rattle.dg_meaning.specs.OneRun.{Grows}
 use Rattle.dg_meaning.proofs.Keeps.{stands_happened}
+use Rattle.dg_meaning.proofs.OneRun.{begun_grows}
+use Rattle.dg_meaning.specs.Numbers.{total}
 use Rattle.dg_mid.specs.declared.code.Op.{Op}
 use Rattle.dg_mid.specs.declared.code.Op.TheVariants as op
+use Rattle.dg_mid.specs.declared.code.Gathered.{Gathered}
+use Rattle.dg_mid.specs.declared.code.Gathered.TheVariants as gathered
 use Rattle.dg_mid.specs.declared.code.Code.{Code}
 use Rattle.dg_mid.specs.Code.{block_at}
-use Rattle.dg_mid.specs.State.{Goes, Mid, Runs, vars_of, cut_of}
-use Rattle.dg_mid.specs.Step.{Setting, setting, does, more, charged, passed, shielded, new_stop, gathering, resumed}
+use Rattle.dg_mid.specs.State.{Outside, Goes, Mid, Runs, vars_of, cut_of}
+use Rattle.dg_mid.specs.Step.{Setting, setting, does, more, charged, passed, shielded, new_stop, gathers, gathering, without_gathering, taken_out, done, said_to, followed, resumed}
+use Rattle.dg_mid.specs.Actions.{whole_of, registers_of, world_of, world_by, said_by}
 use Rattle.dg_mid.specs.Units.{resuming}
 use Rattle.dg_mid.specs.Codes.{End, Stands, Leaves, Keeps}
 use Rattle.dg_mid.specs.Reads.{Behind, WayIs, TakesAt, IsStop, Mirrors, Comes}
 use Rattle.dg_mid.proofs.Here.{Here, steps_of}
-use Rattle.dg_mid.proofs.Marks.{goes_on}
-use Rattle.dg_mid.proofs.Taking.{behind, taken_in, comes, charge, heap_full}
-use Rattle.dg_mid.proofs.Choices.{choice_mirrors, passed_mirrors, inside_is, mirrors_behind}
+use Rattle.dg_mid.proofs.Marks.{goes_on, below_next}
+use Rattle.dg_mid.proofs.Taking.{behind, taken_in, comes, charge, heap_full, gather_on, began_grows}
+use Rattle.dg_mid.proofs.Choices.{choice_mirrors, inside_is, mirrors_behind}
 use Rattle.dg_mid.proofs.Backs.{tried_plainly}
+use Rattle.dg_mid.proofs.Alike.{Alike, regs, world_with, takes_alike}
+use Rattle.dg_mid.proofs.Acts.{registers_are, world_is, nothing_counted, nothing_first, act_works, act_on}
 
 module _ (code : Code) (limits : Limits) (m : Mid) (ops : List Op) (goals : List Goal) (end : End) (rest : List Step) (g : Game) (n : ℕ) (w : World) (run : Run) (below : Behind code m.frames rest) where
   abbrev set : Setting
@@ -60,7 +69,7 @@ module _ (code : Code) (limits : Limits) (m : Mid) (ops : List Op) (goals : List
       let q' : Registers = record (inside 10 q) { stoppable = Some q.next_tag } in
       let u = begun q' 0 v in
       let st = comes code m ps steps g n w run x f (outs-Stoppable inner) h in
-      let i = mirrors_behind code limits m ops goals end rest g n w run below ps h.registers h.lives h.ways v h.mirrors refl h.mirrors.printed_is in
+      let i = mirrors_behind code limits m ops goals end rest g n w run below ps h.registers h.lives h.ways v h.mirrors refl refl h.mirrors.printed_is in
       let way = way_behind (block_at code alt) q other in
       let c : Live = record { kind = Plain; tag = q.next_tag; others = enter 0 0 q steps ∷ []; height = length v.gathered; ways_on = h.ways } in
       let on_way : WayOn = record { tag = q.next_tag; others = enter 0 0 q steps ∷ []; height = length v.gathered } in
@@ -84,74 +93,123 @@ module _ (code : Code) (limits : Limits) (m : Mid) (ops : List Op) (goals : List
         lives = c ∷ h.lives;
         ways = on_way ∷ h.ways;
         registers = q';
-        mirrors = choice_mirrors g code m' ps q q' h.lives h.ways (on_way ∷ h.ways) v u (Goes alt) 0 c (new_stop alt m' ∷ m.stops) (Some m.next_tag) i refl i.printed_is (record { bound = refl; vars = refl; heap = omega arith; trail = omega arith; tag = refl })
+        mirrors = choice_mirrors g code m' ps q q' h.lives h.ways (on_way ∷ h.ways) v u (Goes alt) 0 c (new_stop alt m' ∷ m.stops) (Some m.next_tag) i refl refl i.printed_is (record { bound = refl; vars = refl; heap = omega arith; trail = omega arith; tag = refl })
             (part, i.stops_are) (ap Some i.tag) i.stops_are (ap length i.gathered_is) refl (refl, inl way);
         stands = st;
       }) (omega (arith, le)))
 
-  pub collects : {least : ℕ} → {ps : List Print} → (term into : Term) (alt : ℕ) (inner : List Goal) (others : List Op) → Stands code ops inner (Keeps term) → block_at code alt ≡ op.TakeOut ∷ others → Stands code others goals end → Here code m ps (Do (goal.Collect term inner into) vars tag ∷ steps) g (suc n) w run →
+  -- a gathering opens
+  gathers_so : {least : ℕ} → {ps : List Print} → (whole : Gathered) (x : Goal) (f : Goal-F Goal) (is : out-Goal x ≡ f) (term into : Term) (alt : ℕ) (inner : List Goal) (others : List Op) → terms_held f ≡ term ∷ into ∷ [] →
+      ((q : Registers) (v : World) → effect g f vars tag steps q v ≡ gathering_of g (whole_of whole) term inner into vars tag steps q v) →
+      Stands code ops inner (Keeps term) → block_at code alt ≡ op.TakeOut whole into ∷ others → Stands code others goals end → Here code m ps (Do x vars tag ∷ steps) g (suc n) w run →
       least ≤ w.meters.work + (1 + writing (term ∷ into ∷ [])) → Comes least ps set (does set (op.Collect term into alt) m') g n run
-  collects {least = least} {ps = ps} term into alt inner others s block other h le =
-      let x = goal.Collect term inner into in
-      let f = form.Collect term inner into in
-      let q = behind code m ps steps g n w run x f (outs-Collect term inner into) h in
-      let v = taken_in code m ps steps g n w run x f (outs-Collect term inner into) h in
+  gathers_so {least = least} {ps = ps} whole x f is term into alt inner others held offers s block other h le =
       let i = h.mirrors in
+      let q = behind code m ps steps g n w run x f is h in
+      let v = taken_in code m ps steps g n w run x f is h in
       let k = cells g.program (term ∷ into ∷ []) in
+      let taken : cells g.program (terms_held f) ≡ k = ap (cells g.program) held in
+      let written : writing (terms_held f) ≡ writing (term ∷ into ∷ []) = ap writing held in
       let m1 = more k m' in
       let new : Gathering = record { tag = m.next_tag; values = [] } in
       let m2 : Mid = record m1 { gathered = new ∷ m.gathered } in
       let on = goals_at vars tag inner ++ Keep q.next_tag term vars ∷ [] in
       let o = opened q.next_tag v in
       let u = begun (inside 10 q) 0 o in
-      let st = comes code m ps steps g n w run x f (outs-Collect term inner into) h in
+      let st = subst (λ e. After g h.lives h.ways n (outcome_of steps q e) run) (offers q v) (comes code m ps steps g n w run x f is h) in
       let happened = stands_happened g _ _ _ n u run st in
       let gathered : o.gathered ≡ new ∷ m.gathered = ap (λ t. record { tag = t; values = [] } ∷ v.gathered) i.tag ∙ ap (λ l. new ∷ l) i.gathered_is in
       let here : Mirrors g code m2 ps q h.lives h.ways o = record {
-        agrees = record { bound = i.agrees.bound; vars = i.agrees.vars; heap = omega (arith, i.agrees.heap); trail = i.agrees.trail; since = i.agrees.since };
+        agrees = record { bound = i.agrees.bound; vars = i.agrees.vars; heap = omega (arith, i.agrees.heap, taken); trail = i.agrees.trail; since = i.agrees.since };
         tag = i.tag;
         choices_are = i.choices_are;
         below = i.below;
         stops_are = i.stops_are;
         stop_is = i.stop_is;
         gathered_is = gathered;
+        outside_is = i.outside_is;
         printed_is = i.printed_is;
       } in
-      let c : Live = record { kind = Plain; tag = q.next_tag; others = TakeOut q.next_tag (path_of steps (inside 0 q)) ∷ []; height = length o.gathered - 1; ways_on = h.ways } in
-      charge set [] k m' (charged set 10 m1 (Runs (gathering alt m1))) g n run
-      (heap_full set m' ps k u g n run i.printed_is (omega (arith, i.agrees.heap)) happened)
-      (charge set [] 10 m1 (Runs (gathering alt m1)) g n run
-      (heap_full set m1 ps 10 u g n run i.printed_is (omega (arith, i.agrees.heap)) happened)
+      let out = TakeOut q.next_tag (whole_of whole) (value_of g.program vars into) (path_of steps (inside 0 q)) in
+      let c : Live = record { kind = Plain; tag = q.next_tag; others = out ∷ []; height = length o.gathered - 1; ways_on = h.ways } in
+      charge set [] k m' (charged set 10 m1 (gathers set (new ∷ m.gathered) (Runs (gathering alt m1)))) g n run
+      (heap_full set m' ps k u g n run i.printed_is (omega (arith, i.agrees.heap, taken)) happened)
+      (charge set [] 10 m1 (gathers set (new ∷ m.gathered) (Runs (gathering alt m1))) g n run
+      (heap_full set m1 ps 10 u g n run i.printed_is (omega (arith, i.agrees.heap, taken)) happened)
+      (gather_on set ps (new ∷ m.gathered) (Runs (gathering alt m1)) u g n run i.printed_is (let a = ap gathered_size gathered in omega (arith, a)) happened
       (goes_on set (gathering alt m1) on [] g n u run
       (record { goals = inner; end = Keeps term; rest = rest; stands = s; below = below; is = ap (λ t. goals_at vars tag inner ++ Keep t term vars ∷ []) i.tag })
       (record {
         lives = c ∷ h.lives;
         ways = h.ways;
         registers = inside 10 q;
-        mirrors = choice_mirrors g code m2 ps q (inside 10 q) h.lives h.ways h.ways o u (Goes alt) 0 c m.stops m.stop here refl i.printed_is (inside_is q (inside 10 q) 10 refl) i.stops_are i.stop_is i.stops_are
-            (let l = ap length gathered in omega (arith, l)) refl (refl, inr (record { path = path_of steps (inside 0 q); ops = others; others_are = refl; block = block; way = way_behind others q other }));
+        mirrors = choice_mirrors g code m2 ps q (inside 10 q) h.lives h.ways h.ways o u (Goes alt) 0 c m.stops m.stop here refl refl i.printed_is (inside_is q (inside 10 q) 10 refl) i.stops_are i.stop_is i.stops_are
+            (let l = ap length gathered in omega (arith, l)) refl (refl, inr (record { path = path_of steps (inside 0 q); ops = others; whole = whole; into = into; others_are = refl; block = block; way = way_behind others q other }));
         stands = st;
-      }) (omega (arith, le))))
+      }) (omega (arith, le, written)))))
+
+  pub collects : {least : ℕ} → {ps : List Print} → (term into : Term) (alt : ℕ) (inner : List Goal) (others : List Op) → Stands code ops inner (Keeps term) → block_at code alt ≡ op.TakeOut gathered.List into ∷ others → Stands code others goals end → Here code m ps (Do (goal.Collect term inner into) vars tag ∷ steps) g (suc n) w run →
+      least ≤ w.meters.work + (1 + writing (term ∷ into ∷ [])) → Comes least ps set (does set (op.Collect term into alt) m') g n run
+  collects {least = least} {ps = ps} term into alt inner others s block other h le = gathers_so gathered.List (goal.Collect term inner into) (form.Collect term inner into) (outs-Collect term inner into) term into alt inner others refl (λ q v. refl) s block other h le
+
+  pub accumulates : {least : ℕ} → {ps : List Print} → (term into : Term) (alt : ℕ) (inner : List Goal) (others : List Op) → Stands code ops inner (Keeps term) → block_at code alt ≡ op.TakeOut gathered.Sum into ∷ others → Stands code others goals end → Here code m ps (Do (goal.Accumulate term inner into) vars tag ∷ steps) g (suc n) w run →
+      least ≤ w.meters.work + (1 + writing (term ∷ into ∷ [])) → Comes least ps set (does set (op.Collect term into alt) m') g n run
+  accumulates {least = least} {ps = ps} term into alt inner others s block other h le = gathers_so gathered.Sum (goal.Accumulate term inner into) (form.Accumulate term inner into) (outs-Accumulate term inner into) term into alt inner others refl (λ q v. refl) s block other h le
+
+number_says : (o : Option ℕ) (into : Value) (r : Registers) (w : World) → said_by (gives_number o into r w) ≡ prints w.events
+number_says None into r w = refl
+number_says (Some n) into r w = refl
+
+taken_says : (whole : Whole) (into : Value) (vs : List Value) (r : Registers) (w : World) → said_by (takes_out_act whole into vs r w) ≡ prints w.events
+taken_says AsList into vs r w = refl
+taken_says AsSum into vs r w = number_says (total vs) into r (begun r (length vs) w)
+
+number_grows : (o : Option ℕ) (into : Value) (r : Registers) (w v : World) → Grows w v → Grows w (world_by (gives_number o into r v))
+number_grows None into r w v h = h
+number_grows (Some n) into r w v h = h
+
+takes_grow : (whole : Whole) (into : Value) (vs : List Value) (r : Registers) (w : World) → Grows w (world_by (takes_out_act whole into vs r w))
+takes_grow AsList into vs r w = begun_grows r _ w
+takes_grow AsSum into vs r w = number_grows (total vs) into r w (begun r (length vs) w) (begun_grows r (length vs) w)
 
 -- a gathering is taken out
 pub takes_out : {least : ℕ} → {ps : List Print} → (code : Code) (limits : Limits) (b : ℕ) (m : Mid) (c : Live) (lives : List Live) (q : Registers) (g : Game) (n : ℕ) (w : World) (run : Run) → Mirrors g code m ps q lives c.ways_on w → c.kind ≡ Plain → Tried g c.kind c.tag c.height c.ways_on lives c.others n w run →
-    TakesAt code b m.frames m.inner q c.others → least ≤ w.meters.work + resuming (block_at code b) m → Comes least ps (setting g code limits) (resumed (setting g code limits) (block_at code b) m) g n run
+    TakesAt g code b m.frames m.inner q c.others → least ≤ w.meters.work + resuming (setting g code limits) ps (block_at code b) m → Comes least ps (setting g code limits) (resumed (setting g code limits) (block_at code b) m) g n run
 takes_out {least = least} {ps = ps} code limits b m c lives q g n w run i kind tried t le =
     let set = setting g code limits in
-    let r = t.way.registers in
     let d = dropped q.next_tag w in
-    let m1 : Mid = record m { ops = t.ops; gathered = gathered_without m.next_tag m.gathered } in
-    let v = begun t.path.registers (taking_out q.next_tag w.gathered) d in
-    let there : d.gathered ≡ gathered_without m.next_tag m.gathered = ap (λ k. gathered_without k w.gathered) i.tag ∙ ap (gathered_without m.next_tag) i.gathered_is in
-    let out : taking_out q.next_tag w.gathered ≡ taking_out m.next_tag m.gathered = ap (λ k. taking_out k w.gathered) i.tag ∙ ap (taking_out m.next_tag) i.gathered_is in
-    let here : Mirrors g code m1 ps q lives c.ways_on d = record { agrees = record { bound = i.agrees.bound; vars = i.agrees.vars; heap = i.agrees.heap; trail = i.agrees.trail; since = i.agrees.since }; tag = i.tag; choices_are = i.choices_are; below = i.below; stops_are = i.stops_are; stop_is = i.stop_is; gathered_is = there; printed_is = i.printed_is } in
-    let on = passed_mirrors g code m1 ps q t.path.registers lives c.ways_on d v 0 here refl i.printed_is (inside_is q t.path.registers 0 r) (ap (λ (x : Registers). x.stoppable) r ∙ i.stop_is) in
-    subst (λ ops. Comes least ps set (resumed set ops m) g n run) (sym t.block)
-    (goes_on set (passed m1) t.path.steps [] g n v run t.way.reads
+    let m1 : Mid = passed (without_gathering (record m { ops = t.ops })) in
+    let into = value_of g.program (vars_of m.frames) t.into in
+    let vs = gathered_at m.next_tag m.gathered in
+    let whole = whole_of t.whole in
+    let there : d.gathered ≡ m1.gathered = ap (λ k. gathered_without k w.gathered) i.tag ∙ ap (gathered_without m.next_tag) i.gathered_is in
+    let values : gathered_at q.next_tag w.gathered ≡ vs = ap (λ k. gathered_at k w.gathered) i.tag ∙ ap (gathered_at m.next_tag) i.gathered_is in
+    let r = t.path.registers in
+    let on = inside_is q r 0 t.way.registers in
+    let q0 = regs m1.next_tag m1.stop m1.state.subst m1.state.vars r.heap r.trail in
+    let v0 = world_with d.events m1.gathered d.meters m1.outside.typed m1.outside.dice m1.outside.facts m1.outside.sites in
+    let st = tried_plainly g c lives (TakeOut q.next_tag whole into t.path ∷ []) n w run kind t.others_are tried in
+    let went = subst (λ v. Went g lives c.ways_on n (move_of t.path.steps q0 (takes_out_act whole into vs q0 v)) run) (world_is d m1.gathered m1.outside there i.outside_is)
+    (subst (λ x. Went g lives c.ways_on n (move_of t.path.steps x (takes_out_act whole into vs x d)) run) (registers_are r m1.next_tag m1.stop m1.state.subst m1.state.vars (on.tag ∙ ap (λ k. k + 1) i.tag) (ap (λ (x : Registers). x.stoppable) t.way.registers ∙ i.stop_is) (on.bound ∙ i.agrees.bound) (on.vars ∙ i.agrees.vars))
+    (subst (λ l. Went g lives c.ways_on n (move_of t.path.steps r (takes_out_act whole into l r d)) run) values st)) in
+    let grown = began_grows g lives c.ways_on (TakeOut q.next_tag whole into t.path) n w run st in
+    let happened : Grows v0 run.world = subst (λ (o : Outside). Grows (world_with w.events m1.gathered w.meters o.typed o.dice o.facts o.sites) run.world) i.outside_is (record { events = grown.events; meters = grown.meters; typed = grown.typed; dice = grown.dice }) in
+    let alike : (es' : List Event) (steps : List Step) → Alike q0 (registers_of m1) (cut_of m.frames).tag steps v0 (world_with es' m1.gathered nothing_counted m1.outside.typed m1.outside.dice m1.outside.facts m1.outside.sites) (takes_out_act whole into vs q0 v0) (takes_out_act whole into vs (registers_of m1) (world_with es' m1.gathered nothing_counted m1.outside.typed m1.outside.dice m1.outside.facts m1.outside.sites)) =
+    λ es' steps. takes_alike m1.next_tag m1.stop m1.state.subst m1.state.vars r.heap r.trail m1.state.heap m1.state.trail d.events es' m1.gathered d.meters nothing_counted m1.outside.typed m1.outside.dice m1.outside.facts m1.outside.sites (cut_of m.frames).tag steps whole into vs in
+    let work = act_works q0 (registers_of m1) (cut_of m.frames).tag t.path.steps v0 (world_of ps m1) _ _ refl (i.printed_is ∙ sym (nothing_first ps)) (alike (map Prints ps) t.path.steps) in
+    let silent = taken_says whole into vs (registers_of m1) (world_of [] m1) in
+    subst (λ l. Comes least ps set (resumed set l m) g n run) (sym t.block)
+    (subst (λ l. Comes least (followed ps (said_to l (done set (taken_out set [] t.whole t.into (record m { ops = t.ops })) m1))) set (done set (taken_out set [] t.whole t.into (record m { ops = t.ops })) m1) g n run) silent
+    (act_on code limits m1 t.way.reads.goals t.way.reads.end t.way.reads.rest g n run t.way.reads.stands t.way.reads.below ps q0 lives c.ways_on v0 (takes_out_act whole into vs q0 v0) (taken_out set [] t.whole t.into (record m { ops = t.ops })) (alike [] (steps_of m1 t.way.reads.goals t.way.reads.end t.way.reads.rest))
     (record {
-      lives = lives;
-      ways = c.ways_on;
-      registers = t.path.registers;
-      mirrors = record { agrees = record { bound = on.agrees.bound; vars = on.agrees.vars; heap = omega (arith, on.agrees.heap); trail = on.agrees.trail; since = on.agrees.since }; tag = on.tag; choices_are = on.choices_are; below = on.below; stops_are = on.stops_are; stop_is = on.stop_is; gathered_is = on.gathered_is; printed_is = on.printed_is };
-      stands = tried_plainly g c lives (TakeOut q.next_tag t.path ∷ []) n w run kind t.others_are tried;
-    }) (let z = ap (λ l. resuming l m) t.block in omega (arith, le, z, out)))
+      agrees = record { bound = refl; vars = refl; heap = let x = on.heap in let y = i.agrees.heap in omega (arith, x, y); trail = let x = on.trail in let y = i.agrees.trail in omega (arith, x, y); since = i.agrees.since };
+      tag = refl;
+      choices_are = i.choices_are;
+      below = below_next m.next_tag m.choices i.below;
+      stops_are = i.stops_are;
+      stop_is = refl;
+      gathered_is = refl;
+      outside_is = refl;
+      printed_is = i.printed_is;
+    })
+    (takes_grow whole into vs q0 v0) happened (subst (λ l. Went g lives c.ways_on n (move_of l q0 (takes_out_act whole into vs q0 v0)) run) t.way.reads.is went) (let z = ap (λ l. resuming set ps l m) t.block in omega (arith, le, z, work))))

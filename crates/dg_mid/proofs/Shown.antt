@@ -10,7 +10,7 @@ use Rattle.dg_meaning.specs.World.{Game, World, Event, Print, prints}
 use Rattle.dg_meaning.specs.Transcript.{Run, run_of, run, start_world, start_path, closed, line_of}
 use Rattle.dg_meaning.specs.OneRun.{Begins, Grows}
 use Rattle.dg_meaning.specs.Search.{answer}
-use Rattle.dg_meaning.specs.Peaks.{Area, Heap, Trail, peak, limit_of, limit_ending}
+use Rattle.dg_meaning.specs.Peaks.{Area, Heap, Trail, Aux, Keep, greatest, peak, limit_of, limit_ending}
 use Rattle.dg_meaning.specs.Shows.{Shows}
 use Rattle.dg_meaning.proofs.Keeps.{starts as stands_at_start, limited}
 use Rattle.dg_meaning.proofs.Dropping.{prints_append}
@@ -20,7 +20,7 @@ use Rattle.dg_mid.specs.declared.code.Code.{Code}
 use Rattle.dg_mid.specs.State.{Ended}
 use Rattle.dg_mid.specs.Step.{Setting, setting, takes_goal}
 use Rattle.dg_mid.specs.Codes.{Codes}
-use Rattle.dg_mid.specs.Reads.{At, HasEnded}
+use Rattle.dg_mid.specs.Reads.{At, HasEnded, MeetsLimit}
 use Rattle.dg_mid.specs.Runs.{Point, after, IsAt, closed_text, ShowsAll}
 use Rattle.dg_mid.proofs.Whole.{is_at, at_limit}
 
@@ -40,6 +40,10 @@ begins_shorter (x ∷ q) (y ∷ p) (z ∷ w) h k le =
 nothing_more : {A : Type 0} (xs b c : List A) → xs ≡ (xs ++ b) ++ c → b ≡ []
 nothing_more xs [] c e = refl
 nothing_more xs (x ∷ b) c e = absurd (omega (arith, ap length e, length-append (xs ++ x ∷ b) c, length-append xs (x ∷ b)))
+
+begins_nothing : {A : Type 0} (xs : List A) → Begins xs [] → xs ≡ []
+begins_nothing [] h = refl
+begins_nothing (x ∷ xs) h = let e : [] ≡ x ∷ (xs ++ h.behind) = h.is in absurd (cc)
 
 -- a part of a run, with what it prints, behind one part and up to another
 pub record IsPart (printed : List Print) (before after : List Event) : Type 0 where
@@ -63,16 +67,11 @@ module _ (g : Game) (code : Code) (limits : Limits) (codes : Codes g.program cod
   abbrev set : Setting
   set = setting g code limits
 
-  -- nothing is counted before the first goal
-  first_heap : (run g typed 0).world.meters.heap ≡ 0
-  first_heap =
+  -- nothing has happened before the first goal
+  nothing_first : (run g typed 0).world.events ≡ []
+  nothing_first =
       let f = limited g [] [] _ _ _ _ (start_path g).registers (start_world g typed) (run g typed 0) (stands_at_start g typed 0) in
-      ap (λ (x : Run). x.world.meters.heap) f.is ∙ ap (λ (w : World). w.meters.heap) f.drops.is
-
-  first_trail : (run g typed 0).world.meters.trail ≡ 0
-  first_trail =
-      let f = limited g [] [] _ _ _ _ (start_path g).registers (start_world g typed) (run g typed 0) (stands_at_start g typed 0) in
-      ap (λ (x : Run). x.world.meters.trail) f.is ∙ ap (λ (w : World). w.meters.trail) f.drops.is
+      ap (λ (x : Run). x.world.events) f.is ∙ ap (λ (w : World). w.events) f.drops.is
 
   -- a run that has ended
   ended_shows : (goals : ℕ) (e : Ending) (ps : List Print) (w : World) → goals ≤ limits.steps → HasEnded e ps (limits.steps - goals) w (run g typed (goals + (limits.steps - goals))) → Shows g typed limits (closed_text ps (line_of e)) (record { ending = e; goals = goals }) None
@@ -87,9 +86,9 @@ module _ (g : Game) (code : Code) (limits : Limits) (codes : Codes g.program cod
       })
 
   -- a limit
-  limit_shows : (area : Area) (goals : ℕ) (ps : List Print) (w : World) → goals ≤ limits.steps → (goals ≡ 0 → ⊥) → limit_of area limits < peak area g typed goals → prints w.events ≡ ps → Grows w (run g typed goals).world → Begins (prints (run g typed (goals - 1)).world.events) ps →
+  limit_shows : (area : Area) (goals : ℕ) (ps : List Print) (w : World) → goals ≤ limits.steps → limit_of area limits < peak area g typed goals → prints w.events ≡ ps → Grows w (run g typed goals).world → Begins (prints (run g typed (goals - 1)).world.events) ps →
       Shows g typed limits (closed_text ps (line_of (limit_ending area))) (record { ending = limit_ending area; goals = goals }) None
-  limit_shows area goals ps w le some passed printed grows since =
+  limit_shows area goals ps w le passed printed grows since =
       let part = the_part w.events (run g typed (goals - 1)).world.events (run g typed goals).world.events grows.events (later_run g typed (goals - 1) goals (omega arith)).events (subst (Begins (prints (run g typed (goals - 1)).world.events)) (sym printed) since) in
       inr (record {
         area = area;
@@ -100,23 +99,22 @@ module _ (g : Game) (code : Code) (limits : Limits) (codes : Codes g.program cod
         text = ap (λ l. closed_text l (line_of (limit_ending area))) (sym (part.prints_are ∙ printed));
         until = part.until;
         since = part.since;
-        none_before_the_first = λ e. absurd (some e);
+        none_before_the_first = λ e. begins_nothing part.part (subst (Begins part.part) (ap (λ k. (run g typed k).world.events) e ∙ nothing_first) part.until);
         covers = λ k le' within. limit_covers g typed limits area goals part.part passed part.since k within;
       })
 
+  -- a limit that is met where the run is
+  meets_so : (area : Area) (p : Point) (w : World) → p.goals ≤ limits.steps → IsAt set g typed p → MeetsLimit (limit_of area limits) (greatest area (run g typed (p.goals + 0)).world.meters) p.prints w (run g typed (p.goals + 0)) →
+      Shows g typed limits (closed_text p.prints (line_of (limit_ending area))) (record { ending = limit_ending area; goals = p.goals }) None
+  meets_so area p w le h at =
+      let all : p.goals + 0 ≡ p.goals = omega arith in
+      limit_shows area p.goals p.prints w le (subst (λ k. limit_of area limits < greatest area (run g typed k).world.meters) all at.passes) at.printed (subst (λ k. Grows w (run g typed k).world) all at.happened) h.since
+
   ends_so : (p : Point) (e : Ending) → IsAt set g typed p → p.now ≡ Ended e → p.goals ≤ limits.steps → Shows g typed limits (closed_text p.prints (line_of e)) (record { ending = e; goals = p.goals }) None
-  ends_so p ending.HeapLimit h is le =
-      let c = h.comes 0 in
-      let at = subst (λ now. At set now p.prints g 0 c.world (run g typed (p.goals + 0))) is c.at in
-      let all : p.goals + 0 ≡ p.goals = omega arith in
-      let passed = subst (λ k. limits.heap < (run g typed k).world.meters.heap) all at.passes in
-      limit_shows Heap p.goals p.prints c.world le (λ e. let none = subst (λ k. limits.heap < (run g typed k).world.meters.heap) e passed in omega (arith, none, first_heap)) passed at.printed (subst (λ k. Grows c.world (run g typed k).world) all at.happened) h.since
-  ends_so p ending.TrailLimit h is le =
-      let c = h.comes 0 in
-      let at = subst (λ now. At set now p.prints g 0 c.world (run g typed (p.goals + 0))) is c.at in
-      let all : p.goals + 0 ≡ p.goals = omega arith in
-      let passed = subst (λ k. limits.trail < (run g typed k).world.meters.trail) all at.passes in
-      limit_shows Trail p.goals p.prints c.world le (λ e. let none = subst (λ k. limits.trail < (run g typed k).world.meters.trail) e passed in omega (arith, none, first_trail)) passed at.printed (subst (λ k. Grows c.world (run g typed k).world) all at.happened) h.since
+  ends_so p ending.HeapLimit h is le = let c = h.comes 0 in meets_so Heap p c.world le h (subst (λ now. At set now p.prints g 0 c.world (run g typed (p.goals + 0))) is c.at)
+  ends_so p ending.TrailLimit h is le = let c = h.comes 0 in meets_so Trail p c.world le h (subst (λ now. At set now p.prints g 0 c.world (run g typed (p.goals + 0))) is c.at)
+  ends_so p ending.AuxLimit h is le = let c = h.comes 0 in meets_so Aux p c.world le h (subst (λ now. At set now p.prints g 0 c.world (run g typed (p.goals + 0))) is c.at)
+  ends_so p ending.KeepLimit h is le = let c = h.comes 0 in meets_so Keep p c.world le h (subst (λ now. At set now p.prints g 0 c.world (run g typed (p.goals + 0))) is c.at)
   ends_so p e h is le =
       let c = h.comes (limits.steps - p.goals) in
       ended_shows p.goals e p.prints c.world le (subst (λ now. At set now p.prints g (limits.steps - p.goals) c.world (run g typed (p.goals + (limits.steps - p.goals)))) is c.at)
@@ -136,6 +134,6 @@ module _ (g : Game) (code : Code) (limits : Limits) (codes : Codes g.program cod
 
   pub shows_all : ShowsAll set g typed
   shows_all = record {
-    ends = λ k e is le. ends_so (after set k) e (is_at g code limits codes typed k) is le;
-    limited = λ k full e. limited_so (after set k) (is_at g code limits codes typed k) full e;
+    ends = λ k e is le. ends_so (after set typed k) e (is_at g code limits codes typed k) is le;
+    limited = λ k full e. limited_so (after set typed k) (is_at g code limits codes typed k) full e;
   }

@@ -5,7 +5,6 @@ use Rattle.dg_base.specs.declared.run.Limits.{Limits}
 use Rattle.dg_meaning.specs.World.{Game, World, Print}
 use Rattle.dg_meaning.specs.Path.{Step, Rules, Kind}
 use Rattle.dg_meaning.specs.Moves.{call_cells}
-use Rattle.dg_meaning.specs.Render.{nothing_met, met_from}
 use Rattle.dg_meaning.specs.Transcript.{Run}
 use Rattle.dg_meaning.specs.Keeps.{Tried, open_at}
 use Rattle.dg_mid.specs.declared.code.Op.{Op}
@@ -14,7 +13,7 @@ use Rattle.dg_mid.specs.Code.{block_at, selected}
 use Rattle.dg_mid.specs.State.{Way, Goes, Calls, Mid, Status, Runs, Enters, Resumes, Fails, Ended}
 use Rattle.dg_mid.specs.Step.{Setting, setting, runs, first_of, begins, goes_on as way_goes_on, at_goal, said_in, said_to, followed}
 use Rattle.dg_mid.specs.Units.{earned_of, earned_by}
-use Rattle.dg_mid.specs.Codes.{End, Stands, jumps, returns, commits, refuses, backs, leaves, keeps, finishes, acts, ask, last_ask, only, either, once, negates, branch, exhausts, shields, collects, forever, Codes}
+use Rattle.dg_mid.specs.Codes.{End, Stands, jumps, returns, commits, refuses, backs, leaves, keeps, finishes, acts, ask, last_ask, only, either, once, negates, branch, exhausts, shields, collects, accumulates, forever, Codes}
 use Rattle.dg_mid.specs.Reads.{silents, Behind, RunsAt, ResumesAt, Comes, before, Simulates}
 use Rattle.dg_mid.proofs.Here.{Here, steps_of, answers}
 use Rattle.dg_mid.proofs.Marks as marks
@@ -34,14 +33,14 @@ module _ (code : Code) (limits : Limits) (m : Mid) (ps : List Print) (rest : Lis
   set = setting g code limits
 
   -- an instruction
-  pub runs_one : {least : ℕ} → (ops : List Op) (goals : List Goal) (end : End) → Stands code ops goals end → Here code m ps (steps_of m goals end rest) g (before (at_goal ops) n) w run → least ≤ w.meters.work + earned_of set (met_from nothing_met ps) ops m → Does least ps set ops m g n run
+  pub runs_one : {least : ℕ} → (ops : List Op) (goals : List Goal) (end : End) → Stands code ops goals end → Here code m ps (steps_of m goals end rest) g (before (at_goal ops) n) w run → least ≤ w.meters.work + earned_of set ps ops m → Does least ps set ops m g n run
   runs_one {least = least} ops goals end (jumps b others goals' end' s) h le = marks.goes_on set (record m { ops = block_at code b }) (steps_of m goals end rest) [] g n w run (record { goals = goals; end = end; rest = rest; stands = s; below = below; is = refl }) h (omega (arith, le))
   runs_one {least = least} ops goals end (returns others) h le = marks.return set m others m.frames rest g n w run below h (omega (arith, le))
   runs_one {least = least} ops goals end (commits others goals' end' s) h le = marks.commit set m others goals' end' rest m.inner g n w run s below h (omega (arith, le))
   runs_one {least = least} ops goals end (refuses others) h le = marks.refuse set m others rest m.inner g n w run h (omega (arith, le))
   runs_one {least = least} ops goals end (backs others) h le = marks.fails_back set (record m { ops = others }) [] g n w run h (omega (arith, le))
   runs_one {least = least} ops goals end (leaves others goals' end' s) h le = marks.leave set m others goals' end' rest m.inner g n w run s below h (omega (arith, le))
-  runs_one {least = least} ops goals end (keeps term others) h le = marks.keep set m others term rest m.inner g n w run h (omega (arith, le))
+  runs_one {least = least} ops goals end (keeps term others) h le = marks.keep code limits m others term rest m.inner g n w run h (omega (arith, le))
   runs_one {least = least} ops goals end (finishes others) h le = marks.finish set m g n w run h (omega (arith, le))
   runs_one {least = least} ops goals end (acts a others goals' end' s) h le = acts_on.acts code limits m a others goals' end' rest g n w run s below h le
   runs_one {least = least} ops goals end (ask pred terms many next others goals' end' s) h le = asks_on.ask code limits m ps others g n w run codes pred terms many (steps_of m goals' end' rest) h next goals' end' rest s below refl le
@@ -54,10 +53,11 @@ module _ (code : Code) (limits : Limits) (m : Mid) (ps : List Print) (rest : Lis
   runs_one {least = least} ops goals end (exhausts alt inner others goals' end' s o) h le = choices.exhausts code limits m others goals' end' rest g n w run below alt inner s o h (omega (arith, le))
   runs_one {least = least} ops goals end (shields alt inner others goals' end' s o) h le = parts.shields code limits m others goals' end' rest g n w run below alt inner s o h (omega (arith, le))
   runs_one {least = least} ops goals end (collects term into alt inner others behind goals' end' s e o) h le = parts.collects code limits m others goals' end' rest g n w run below term into alt inner behind s e o h (omega (arith, le))
+  runs_one {least = least} ops goals end (accumulates term into alt inner others behind goals' end' s e o) h le = parts.accumulates code limits m others goals' end' rest g n w run below term into alt inner behind s e o h (omega (arith, le))
   runs_one {least = least} ops goals end (forever b others goals' end' e s) h le = choices.endless code limits m others goals' end' rest g n w run below b e s h (omega (arith, le))
 
 -- the code at hand
-runs_at : {least : ℕ} → {ps : List Print} → (code : Code) (limits : Limits) (m : Mid) (g : Game) (n : ℕ) (w : World) (run : Run) → Codes g.program code → RunsAt code m ps g (before (at_goal m.ops) n) w run → least ≤ w.meters.work + earned_of (setting g code limits) (met_from nothing_met ps) m.ops m →
+runs_at : {least : ℕ} → {ps : List Print} → (code : Code) (limits : Limits) (m : Mid) (g : Game) (n : ℕ) (w : World) (run : Run) → Codes g.program code → RunsAt code m ps g (before (at_goal m.ops) n) w run → least ≤ w.meters.work + earned_of (setting g code limits) ps m.ops m →
     Does least ps (setting g code limits) m.ops m g n run
 runs_at {least = least} {ps = ps} code limits m g n w run codes h le =
     let layer = h.reads in
@@ -66,7 +66,7 @@ runs_at {least = least} {ps = ps} code limits m g n w run codes h le =
     runs_one code limits m ps layer.rest g n a.world run codes layer.below m.ops layer.goals layer.end layer.stands (subst (λ l. Here code m ps l g k a.world run) layer.is a.here) (let z = a.work in omega (arith, le, z))
 
 -- a choice goes on
-resumes_at : {least : ℕ} → {ps : List Print} → (code : Code) (limits : Limits) (way : Way) (m : Mid) (g : Game) (n : ℕ) (w : World) (run : Run) → ResumesAt code way m ps g n w run → least ≤ w.meters.work + earned_by (setting g code limits) way m → Comes least ps (setting g code limits) (way_goes_on (setting g code limits) way m) g n run
+resumes_at : {least : ℕ} → {ps : List Print} → (code : Code) (limits : Limits) (way : Way) (m : Mid) (g : Game) (n : ℕ) (w : World) (run : Run) → ResumesAt code way m ps g n w run → least ≤ w.meters.work + earned_by (setting g code limits) ps way m → Comes least ps (setting g code limits) (way_goes_on (setting g code limits) way m) g n run
 resumes_at {least = least} {ps = ps} code limits (Goes b) m g n w run h le = elim h.way_is.1 [
   | inl goes ↦ backs_on.resumes code limits b m ps h.live h.lives h.registers g n w run h.mirrors h.tag h.way_is.0 h.height h.tried h.live.others refl goes le
   | inr takes ↦ parts.takes_out code limits b m h.live h.lives h.registers g n w run h.mirrors h.way_is.0 h.tried takes le
@@ -87,5 +87,5 @@ pub simulates : (code : Code) (limits : Limits) (now : Status) (g : Game) → Co
 simulates code limits (Runs m) g codes least n ps w run h le = runs_at code limits m g n w run codes h le
 simulates code limits (Enters call m) g codes least n ps w run h le = enters_at g code limits call m n w run h le
 simulates code limits (Resumes way m) g codes least n ps w run h le = resumes_at code limits way m g n w run h le
-simulates code limits (Fails m) g codes least n ps w run h le = backs_on.back (setting g code limits) m g m.choices h.lives n w run 0 h.choices h.gathered h.printed h.failed (omega (arith, le))
+simulates code limits (Fails m) g codes least n ps w run h le = backs_on.back (setting g code limits) m g m.choices h.lives n w run 0 h.choices h.gathered h.outside h.printed h.failed (omega (arith, le))
 simulates code limits (Ended e) g codes least n ps w run h le = record { world = w; at = h; worked = omega (arith, le) }

@@ -8,7 +8,7 @@ use Rattle.dg_base.specs.declared.run.Ending.TheVariants as ending
 use Rattle.dg_base.specs.Goals.{terms_held}
 use Rattle.dg_meaning.specs.Substitutions.{Substitution}
 use Rattle.dg_meaning.specs.Unify.{Unified}
-use Rattle.dg_meaning.specs.World.{Game, World, Print, prints, worked}
+use Rattle.dg_meaning.specs.World.{Game, World, Gathering, Print, gathered_size, prints, worked}
 use Rattle.dg_meaning.specs.Cells.{writing}
 use Rattle.dg_meaning.specs.Path.{Step, Do, Registers, Branch, Kind, Move, FailsAt as MoveFails, Moves}
 use Rattle.dg_meaning.specs.Moves.{path_of, exhausted, begun, begins, behind_terms, outcome, made_since, older_bound}
@@ -22,7 +22,7 @@ use Rattle.dg_meaning.proofs.OneRun.{grows_on, grows_same, exhausted_grows}
 use Rattle.dg_unify.specs.Store.{trail_for, trail_of}
 use Rattle.dg_mid.specs.declared.code.Code.{Code}
 use Rattle.dg_mid.specs.State.{Mid, Status, Runs, Enters, Resumes, Fails, Ended, vars_of, cut_of}
-use Rattle.dg_mid.specs.Step.{Setting, charged, unified, bound, trail_more, if_agreed, said_to, followed}
+use Rattle.dg_mid.specs.Step.{Setting, gathers, keeps_within, charged, unified, bound, trail_more, if_agreed, said_to, followed}
 use Rattle.dg_mid.specs.Reads.{silents, EndedAt, Comes, At}
 use Rattle.dg_mid.proofs.Here.{Here, after as comes_of}
 
@@ -50,7 +50,7 @@ module _ (code : Code) (m : Mid) (ps : List Print) (steps : List Step) (g : Game
   comes = comes_of code m ps steps g n w run x f is h
 
   pub taken_grows : Grows taken_in run.world
-  taken_grows = grows_on taken_in _ run.world (outcome_grows g f (vars_of m.frames) (cut_of m.frames).tag steps behind taken_in) (has_happened g h.lives h.ways n _ run comes)
+  taken_grows = grows_on taken_in _ run.world (outcome_grows g f (vars_of m.frames) (cut_of m.frames).tag steps behind taken_in) (has_happened g h.lives h.ways n (outcome g f (vars_of m.frames) (cut_of m.frames).tag steps behind taken_in) run comes)
 
 -- ## Limits
 
@@ -67,6 +67,14 @@ heap_full set m ps k w g n run printed reached grows full = record { world = w; 
 -- the trail is full where these registers were reached
 pub trail_full : (set : Setting) (ps : List Print) (k : ℕ) (w : World) (g : Game) (n : ℕ) (run : Run) → prints w.events ≡ ps → k ≤ w.meters.trail → Grows w run.world → set.limits.trail < k → Met set ending.TrailLimit ps g n run
 trail_full set ps k w g n run printed reached grows full = record { world = w; at = record { passes = omega (arith, grows.meters.trail); printed = printed; happened = grows }; grows = grows }
+
+-- too much is gathered in this world
+pub aux_full : (set : Setting) (ps : List Print) (k : ℕ) (w : World) (g : Game) (n : ℕ) (run : Run) → prints w.events ≡ ps → k ≤ w.meters.aux → Grows w run.world → set.limits.aux < k → Met set ending.AuxLimit ps g n run
+aux_full set ps k w g n run printed reached grows full = record { world = w; at = record { passes = omega (arith, grows.meters.aux); printed = printed; happened = grows }; grows = grows }
+
+-- too much is kept in this world
+pub keep_full : (set : Setting) (ps : List Print) (k : ℕ) (w : World) (g : Game) (n : ℕ) (run : Run) → prints w.events ≡ ps → k ≤ w.meters.keep → Grows w run.world → set.limits.keep < k → Met set ending.KeepLimit ps g n run
+keep_full set ps k w g n run printed reached grows full = record { world = w; at = record { passes = omega (arith, grows.meters.keep); printed = printed; happened = grows }; grows = grows }
 
 -- ## Trails
 
@@ -103,6 +111,8 @@ tried_grows g k t height ways cs (b ∷ bs) n w run h = began_grows g _ ways b n
 ended_grows : (set : Setting) (e : Ending) (ps : List Print) (n : ℕ) (w : World) (run : Run) → EndedAt set e ps n w run → Grows w run.world
 ended_grows set ending.HeapLimit ps n w run h = h.happened
 ended_grows set ending.TrailLimit ps n w run h = h.happened
+ended_grows set ending.AuxLimit ps n w run h = h.happened
+ended_grows set ending.KeepLimit ps n w run h = h.happened
 ended_grows set e ps n w run h = subst (Grows w) (sym (ap (λ (r : Run). r.world) h.is)) (grows_same w)
 
 -- what has happened where a machine is has happened in the run
@@ -139,9 +149,27 @@ charge {least = least} {ps = ps} set qs (suc k) m next g n run full on =
     (λ e. on)
 
 -- it goes on, or the trail is full
-pub unify_on : {least : ℕ} → {ps : List Print} → (set : Setting) (u : Unified) (m : Mid) (next : Status) (g : Game) (n : ℕ) (run : Run) → (set.limits.trail < trail_more m.state u → Met set ending.TrailLimit ps g n run) →
-    Comes least ps set (if_agreed u.agrees (bound u m) next) g n run → Comes least ps set (unified set u m next) g n run
-unify_on {least = least} {ps = ps} set u m next g n run full on =
-    cond_both (nat_lt set.limits.trail (trail_more m.state u)) (Ended ending.TrailLimit) (if_agreed u.agrees (bound u m) next) (λ s. Comes least ps set s g n run)
-    (λ e. met_comes least set ending.TrailLimit ps g n run (full (ltb-true set.limits.trail (trail_more m.state u) e)) (least_in least set (if_agreed u.agrees (bound u m) next) ps g n run on))
+pub unify_on : {least : ℕ} → {ps : List Print} → (set : Setting) (qs : List Print) (u : Unified) (m : Mid) (next : Status) (g : Game) (n : ℕ) (run : Run) → (set.limits.trail < trail_more m.state u → Met set ending.TrailLimit ps g n run) →
+    Comes least (followed ps (said_to qs (if_agreed u.agrees (bound u m) next))) set (if_agreed u.agrees (bound u m) next) g n run → Comes least (followed ps (said_to qs (unified set u m next))) set (unified set u m next) g n run
+unify_on {least = least} {ps = ps} set qs u m next g n run full on =
+    cond_both (nat_lt set.limits.trail (trail_more m.state u)) (Ended ending.TrailLimit) (if_agreed u.agrees (bound u m) next) (λ s. Comes least (followed ps (said_to qs s)) set s g n run)
+    (λ e. subst (λ l. Comes least l set (Ended ending.TrailLimit) g n run) (sym (nothing_said qs ending.TrailLimit ps))
+    (met_comes least set ending.TrailLimit ps g n run (full (ltb-true set.limits.trail (trail_more m.state u) e)) (least_in least set (if_agreed u.agrees (bound u m) next) _ g n run on)))
+    (λ e. on)
+
+-- it goes on, or too much is gathered
+pub gather_on : {least : ℕ} → (set : Setting) (ps : List Print) (gs : List Gathering) (next : Status) (w : World) (g : Game) (n : ℕ) (run : Run) → prints w.events ≡ ps → gathered_size gs ≤ w.meters.aux → Grows w run.world →
+    Comes least ps set next g n run → Comes least ps set (gathers set gs next) g n run
+gather_on {least = least} set ps gs next w g n run printed reached grows on =
+    cond_both (nat_lt set.limits.aux (gathered_size gs)) (Ended ending.AuxLimit) next (λ s. Comes least ps set s g n run)
+    (λ e. met_comes least set ending.AuxLimit ps g n run (aux_full set ps (gathered_size gs) w g n run printed reached grows (ltb-true set.limits.aux (gathered_size gs) e)) (least_in least set next ps g n run on))
+    (λ e. on)
+
+-- it goes on, or too much is kept
+pub keep_on : {least : ℕ} → {ps : List Print} → (set : Setting) (qs : List Print) (size : ℕ) (next : Status) (g : Game) (n : ℕ) (run : Run) → (set.limits.keep < size → Met set ending.KeepLimit ps g n run) →
+    Comes least (followed ps (said_to qs next)) set next g n run → Comes least (followed ps (said_to qs (keeps_within set size next))) set (keeps_within set size next) g n run
+keep_on {least = least} {ps = ps} set qs size next g n run full on =
+    cond_both (nat_lt set.limits.keep size) (Ended ending.KeepLimit) next (λ s. Comes least (followed ps (said_to qs s)) set s g n run)
+    (λ e. subst (λ l. Comes least l set (Ended ending.KeepLimit) g n run) (sym (nothing_said qs ending.KeepLimit ps))
+    (met_comes least set ending.KeepLimit ps g n run (full (ltb-true set.limits.keep size e)) (least_in least set next (followed ps (said_to qs next)) g n run on)))
     (λ e. on)

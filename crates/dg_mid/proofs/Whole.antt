@@ -16,7 +16,7 @@ use Rattle.dg_mid.specs.declared.code.Code.{Code}
 use Rattle.dg_mid.specs.State.{Mid, Status, Runs, Enters, Resumes, Fails, Ended}
 use Rattle.dg_mid.specs.Step.{Setting, setting, step, said, followed, takes_goal, at_goal}
 use Rattle.dg_mid.specs.Units.{one_if, earned}
-use Rattle.dg_mid.specs.Codes.{Codes, End, Stands, jumps, returns, commits, refuses, backs, leaves, keeps, finishes, acts, ask, last_ask, only, either, once, negates, branch, exhausts, shields, collects, forever}
+use Rattle.dg_mid.specs.Codes.{Codes, End, Stands, jumps, returns, commits, refuses, backs, leaves, keeps, finishes, acts, ask, last_ask, only, either, once, negates, branch, exhausts, shields, collects, accumulates, forever}
 use Rattle.dg_mid.specs.Reads.{none, At, before, Comes, RunsAt}
 use Rattle.dg_mid.specs.Runs.{start, Point, next, after, IsAt}
 use Rattle.dg_mid.proofs.Here.{Here, steps_of, answers, prints_dropped, followed_is}
@@ -28,14 +28,14 @@ module _ (g : Game) (code : Code) (limits : Limits) (codes : Codes g.program cod
 
   -- ## The start
 
-  at_start : (n : ℕ) → Comes 0 [] set (start code) g n (run g typed n)
+  at_start : (n : ℕ) → Comes 0 [] set (start set typed) g n (run g typed n)
   at_start n = record {
     world = start_world g typed;
     at = record {
       lives = [];
       ways = [];
       registers = (start_path g).registers;
-      mirrors = record { agrees = record { bound = refl; vars = refl; heap = omega arith; trail = omega arith; since = omega arith }; tag = refl; choices_are = none; below = tt; stops_are = tt; stop_is = refl; gathered_is = refl; printed_is = refl };
+      mirrors = record { agrees = record { bound = refl; vars = refl; heap = omega arith; trail = omega arith; since = omega arith }; tag = refl; choices_are = none; below = tt; stops_are = tt; stop_is = refl; gathered_is = refl; outside_is = refl; printed_is = refl };
       answered = [];
       steps = (start_path g).steps;
       reads = record { goals = _; end = _; rest = _; stands = codes.starts; below = refl; is = refl };
@@ -83,6 +83,7 @@ module _ (g : Game) (code : Code) (limits : Limits) (codes : Codes g.program cod
   limited_one m ps ops goals end rest w r (exhausts alt inner others goals' end' s o) e h = limited g h.lives h.ways _ _ _ _ h.registers w r h.stands
   limited_one m ps ops goals end rest w r (shields alt inner others goals' end' s o) e h = limited g h.lives h.ways _ _ _ _ h.registers w r h.stands
   limited_one m ps ops goals end rest w r (collects term into alt inner others behind goals' end' s q o) e h = limited g h.lives h.ways _ _ _ _ h.registers w r h.stands
+  limited_one m ps ops goals end rest w r (accumulates term into alt inner others behind goals' end' s q o) e h = limited g h.lives h.ways _ _ _ _ h.registers w r h.stands
   limited_one m ps ops goals end rest w r (forever b others goals' end' q s) e h = limited g h.lives h.ways _ _ _ _ h.registers w r h.stands
 
   -- the run so far has printed what the machine has printed
@@ -124,9 +125,9 @@ module _ (g : Game) (code : Code) (limits : Limits) (codes : Codes g.program cod
       subst (λ k. Begins (prints (run g typed k).world.events) (followed p.prints (said set p.now))) same
       (subst (λ ps. Begins ps (followed p.prints (said set p.now))) (sym (ap (λ (x : Run). prints x.world.events) l.is ∙ l.printed_is)) (more_said p.prints (said set p.now)))
 
-  pub is_at : (k : ℕ) → IsAt set g typed (after set k)
-  is_at zero = record { comes = λ n. let same : n ≡ 0 + n = omega arith in subst (λ k. Comes 0 [] set (start code) g n (run g typed k)) same (at_start n); since = record { behind = []; is = sym (append-nil (prints (run g typed (0 - 1)).world.events) ∙ nothing_first) } }
+  pub is_at : (k : ℕ) → IsAt set g typed (after set typed k)
+  is_at zero = record { comes = λ n. let same : n ≡ 0 + n = omega arith in subst (λ k. Comes 0 [] set (start set typed) g n (run g typed k)) same (at_start n); since = record { behind = []; is = sym (append-nil (prints (run g typed (0 - 1)).world.events) ∙ nothing_first) } }
   is_at (suc k) =
       let h = is_at k in
-      let p = after set k in
+      let p = after set typed k in
       record { comes = comes_on p.paid p.prints p.goals p.now (takes_goal p.now) refl h.comes; since = since_on p (takes_goal p.now) refl h }

@@ -1,26 +1,36 @@
--- What is done at once. Hold it against the Dialog manual, chapters "Output" and "Control flow", and docs/LANGUAGE.md on equations.
-use Rattle.std.specs.Prelude.{List, [], ◌∷◌, Bool, false, map}
+-- What is done at once: the act of a goal, in a machine. Hold it against the Dialog manual, chapters "Output" and "Control flow", and docs/LANGUAGE.md on equations.
+use Rattle.std.specs.Prelude.{List, [], map}
 use Rattle.dg_base.specs.declared.program.Goal.{Goal, Goal-F}
 use Rattle.dg_base.specs.declared.program.Goal.TheVariants as goal
 use Rattle.dg_base.specs.declared.program.Goal.TheOpen as form
 use Rattle.dg_base.specs.declared.program.Term.{Term}
-use Rattle.dg_base.specs.declared.program.CoreProgram.{CoreProgram}
 use Rattle.dg_base.specs.Goals.{terms_held}
-use Rattle.dg_meaning.specs.Values.{Value, value_of}
-use Rattle.dg_meaning.specs.Substitutions.{Substitution, resolved}
-use Rattle.dg_meaning.specs.World.{Print, Piece, GapOf}
-use Rattle.dg_meaning.specs.Pieces.{pieces}
-use Rattle.dg_meaning.specs.TypeTests.{passes}
+use Rattle.dg_meaning.specs.World.{Game, World, Print, Prints, prints}
+use Rattle.dg_meaning.specs.Path.{Registers, Act, Goes, Tests, Unifies, Ends, Fails as FailsNow, Stops, Effect, Acts, Offers, Whole, AsList, AsSum}
+use Rattle.dg_meaning.specs.Moves.{effect}
 use Rattle.dg_mid.specs.declared.code.Action.{Action}
 use Rattle.dg_mid.specs.declared.code.Action.TheVariants as action
+use Rattle.dg_mid.specs.declared.code.Gathered.{Gathered}
+use Rattle.dg_mid.specs.declared.code.Gathered.TheVariants as gathered
+use Rattle.dg_mid.specs.State.{Mid, vars_of, cut_of}
+
+-- ## Goals
 
 -- The form of the goal that an action does.
 abbrev pub form_of : Action → Goal-F Goal
 form_of (action.Text name) = form.Text name
 form_of (action.Print t) = form.Print t
 form_of (action.Gap kind) = form.Gap kind
+form_of (action.GapN t) = form.GapN t
 form_of (action.Equal a b) = form.Equal a b
 form_of (action.Test kind t) = form.Test kind t
+form_of (action.Now place args sets) = form.Now place args sets
+form_of (action.Arith f a b c) = form.Arith f a b c
+form_of (action.Compare f a b) = form.Compare f a b
+form_of (action.Random a b c) = form.Random a b c
+form_of (action.Input t) = form.Input t
+form_of (action.SplitWord a b) = form.SplitWord a b
+form_of (action.JoinWords a b) = form.JoinWords a b
 form_of action.Just = form.Just
 form_of action.Fail = form.Fail
 form_of action.Stop = form.Stop
@@ -31,8 +41,16 @@ abbrev pub goal_of : Action → Goal
 goal_of (action.Text name) = goal.Text name
 goal_of (action.Print t) = goal.Print t
 goal_of (action.Gap kind) = goal.Gap kind
+goal_of (action.GapN t) = goal.GapN t
 goal_of (action.Equal a b) = goal.Equal a b
 goal_of (action.Test kind t) = goal.Test kind t
+goal_of (action.Now place args sets) = goal.Now place args sets
+goal_of (action.Arith f a b c) = goal.Arith f a b c
+goal_of (action.Compare f a b) = goal.Compare f a b
+goal_of (action.Random a b c) = goal.Random a b c
+goal_of (action.Input t) = goal.Input t
+goal_of (action.SplitWord a b) = goal.SplitWord a b
+goal_of (action.JoinWords a b) = goal.JoinWords a b
 goal_of action.Just = goal.Just
 goal_of action.Fail = goal.Fail
 goal_of action.Stop = goal.Stop
@@ -42,28 +60,51 @@ goal_of action.Quit = goal.Quit
 abbrev pub terms_of : Action → List Term
 terms_of a = terms_held (form_of a)
 
--- What an action comes to: something is printed, a test is passed or not, two values are to be equal, the rule's other choices are cut, a stop, or the run quits.
-pub data Deed : Type 0 where
-  Says : (prints : List Print) → Deed
-  IsPassed : (passed : Bool) → Deed
-  AreEqual : (left : Value) → (right : Value) → Deed
-  CutsRule : Deed
-  StopsPart : Deed
-  QuitsRun : Deed
+-- What a gathering is taken out as.
+abbrev pub whole_of : Gathered → Whole
+whole_of gathered.List = AsList
+whole_of gathered.Sum = AsSum
 
--- What an action comes to among these values of variables, under these bindings.
-abbrev pub deed : CoreProgram → List Value → Substitution → Action → Deed
-deed program env S (action.Text name) = Says (Piece name ∷ [])
-deed program env S (action.Print t) = Says (map Piece (pieces program (resolved S (value_of program env t))))
-deed program env S (action.Gap kind) = Says (GapOf kind ∷ [])
-deed program env S (action.Equal a b) = AreEqual (value_of program env a) (value_of program env b)
-deed program env S (action.Test kind t) = IsPassed (passes S kind (value_of program env t))
-deed program env S action.Just = CutsRule
-deed program env S action.Fail = IsPassed false
-deed program env S action.Stop = StopsPart
-deed program env S action.Quit = QuitsRun
+-- ## Acts
 
--- What a deed prints.
-abbrev pub said_by : Deed → List Print
-said_by (Says ps) = ps
-said_by d = []
+-- A machine's registers as the search has them.
+abbrev pub registers_of : Mid → Registers
+registers_of m = record { next_tag = m.next_tag; stoppable = m.stop; bound = m.state.subst; next_var = m.state.vars; heap = m.state.heap; trail = m.state.trail }
+
+-- The world as a machine has it that has printed this, where nothing is counted yet.
+abbrev pub world_of : List Print → Mid → World
+world_of ps m = record {
+  events = map Prints ps;
+  gathered = m.gathered;
+  meters = record { heap = 0; trail = 0; aux = 0; keep = 0; work = 0 };
+  typed = m.outside.typed;
+  dice = m.outside.dice;
+  facts = m.outside.facts;
+  sites = m.outside.sites;
+}
+
+-- The act of an effect; an action offers no branches.
+abbrev pub act_in : Effect → Act
+act_in (Acts act) = act
+act_in (Offers k bs w) = FailsNow w
+
+-- An action does what its goal does, in the machine's registers and world.
+abbrev pub act_at : Game → List Print → Action → Mid → Act
+act_at g ps a m = act_in (effect g (form_of a) (vars_of m.frames) (cut_of m.frames).tag [] (registers_of m) (world_of ps m))
+
+-- The world that an act leaves.
+abbrev pub world_by : Act → World
+world_by (Goes steps w) = w
+world_by (Tests passed w) = w
+world_by (Unifies made es w) = w
+world_by (Ends e w) = w
+world_by (FailsNow w) = w
+world_by (Stops w) = w
+
+-- What an act prints, where nothing was printed before it.
+abbrev pub said_by : Act → List Print
+said_by act = prints (world_by act).events
+
+-- The machine with what is outside in a world.
+abbrev pub outside_in : World → Mid → Mid
+outside_in w m = record m { outside = record { typed = w.typed; dice = w.dice; facts = w.facts; sites = w.sites } }

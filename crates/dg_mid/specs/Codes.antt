@@ -9,6 +9,7 @@ use Rattle.dg_meaning.specs.Moves.{rules_of}
 use Rattle.dg_mid.specs.declared.code.Op.{Op}
 use Rattle.dg_mid.specs.declared.code.Op.TheVariants as op
 use Rattle.dg_mid.specs.declared.code.Action.{Action}
+use Rattle.dg_mid.specs.declared.code.Gathered.TheVariants as gathered
 use Rattle.dg_mid.specs.declared.code.RuleCode.{RuleCode}
 use Rattle.dg_mid.specs.declared.code.Code.{Code}
 use Rattle.dg_mid.specs.Code.{block_at, rules_at, label_of, first_label}
@@ -60,8 +61,11 @@ mutual
     shields : (alt : ℕ) (inner : List Goal) (ops : List Op) (goals : List Goal) (end : End) →
         Stands code ops inner (Leaves goals end) → Stands code (block_at code alt) goals end → Stands code (op.Shield alt ∷ ops) (goal.Stoppable inner ∷ goals) end
     collects : (term into : Term) (alt : ℕ) (inner : List Goal) (ops others : List Op) (goals : List Goal) (end : End) →
-        Stands code ops inner (Keeps term) → block_at code alt ≡ op.TakeOut ∷ others → Stands code others goals end →
+        Stands code ops inner (Keeps term) → block_at code alt ≡ op.TakeOut gathered.List into ∷ others → Stands code others goals end →
         Stands code (op.Collect term into alt ∷ ops) (goal.Collect term inner into ∷ goals) end
+    accumulates : (term into : Term) (alt : ℕ) (inner : List Goal) (ops others : List Op) (goals : List Goal) (end : End) →
+        Stands code ops inner (Keeps term) → block_at code alt ≡ op.TakeOut gathered.Sum into ∷ others → Stands code others goals end →
+        Stands code (op.Collect term into alt ∷ ops) (goal.Accumulate term inner into ∷ goals) end
     forever : (b : ℕ) (ops : List Op) (goals : List Goal) (end : End) →
         block_at code b ≡ op.Branch b ∷ ops → Stands code ops goals end → Stands code (op.Branch b ∷ ops) (goal.Forever ∷ goals) end
 

@@ -2,12 +2,13 @@
 use Rattle.std.specs.Prelude.{ℕ, suc, ◌+◌, ◌≡◌, ◌<◌, ◌≤◌, ◌⊎◌, ◌++◌, List, [], ◌∷◌, Option, Bool, true, false, length}
 use Rattle.dg_base.specs.declared.program.Goal.{Goal}
 use Rattle.dg_base.specs.declared.program.Rule.{Rule}
+use Rattle.dg_base.specs.declared.program.Term.{Term}
 use Rattle.dg_base.specs.declared.run.Ending.{Ending}
 use Rattle.dg_base.specs.declared.run.Ending.TheVariants as ending
-use Rattle.dg_meaning.specs.Values.{Value}
+use Rattle.dg_meaning.specs.Values.{Value, value_of}
 use Rattle.dg_meaning.specs.Substitutions.{Substitution, IsSubstitution}
 use Rattle.dg_meaning.specs.World.{Game, World, Gathering, Print, prints}
-use Rattle.dg_meaning.specs.Path.{Step, Answers, Cut, Refuse, Back, Keep, Leave, Registers, Path, Branch, Enter, Clash, TakeOut, Kind, Plain, Rules, Result}
+use Rattle.dg_meaning.specs.Path.{Step, Answers, Cut, Refuse, Back, Keep, Leave, Registers, Path, Branch, Enter, Clash, TakeOut, Finds, Kind, Plain, Rules, Result}
 use Rattle.dg_meaning.specs.Moves.{path_of, goals_at, first_alone, inside, is_excluded, rule_branch, rule_branches}
 use Rattle.dg_meaning.specs.Transcript.{Run, run_of, ending_of}
 use Rattle.dg_meaning.specs.Search.{answer}
@@ -17,10 +18,12 @@ use Rattle.dg_meaning.specs.OneRun.{Grows}
 use Rattle.dg_unify.specs.Store.{State}
 use Rattle.dg_mid.specs.declared.code.Op.{Op}
 use Rattle.dg_mid.specs.declared.code.Op.TheVariants as op
+use Rattle.dg_mid.specs.declared.code.Gathered.{Gathered}
 use Rattle.dg_mid.specs.declared.code.RuleCode.{RuleCode}
 use Rattle.dg_mid.specs.declared.code.Code.{Code}
 use Rattle.dg_mid.specs.Code.{block_at, selected}
-use Rattle.dg_mid.specs.State.{Place, Frame, Call, Way, Goes, Calls, Stop, Choice, Mid, Status, Runs, Enters, Resumes, Fails, Ended, vars_of, cut_of}
+use Rattle.dg_mid.specs.State.{Place, Frame, Call, Way, Goes, Calls, Stop, Choice, Outside, Mid, Status, Runs, Enters, Resumes, Fails, Ended, vars_of, cut_of}
+use Rattle.dg_mid.specs.Actions.{whole_of}
 use Rattle.dg_mid.specs.Step.{Setting, first_of, step, said, followed, takes_goal}
 use Rattle.dg_mid.specs.Units.{earned}
 use Rattle.dg_mid.specs.Codes.{End, Returns, Commits, Refuses, Backs, Leaves, Keeps, Finishes, Stands, RulesStand}
@@ -102,7 +105,8 @@ GoesAt code b frames inner r [] = ⊥
 GoesAt code b frames inner r (Enter path work ∷ []) = WayIs code (block_at code b) frames inner r 0 path
 GoesAt code b frames inner r (Enter path work ∷ o ∷ os) = RetryIs (λ alt. GoesAt code alt frames inner r (o ∷ os)) code b frames inner r path work
 GoesAt code b frames inner r (Clash s work ∷ others) = ⊥
-GoesAt code b frames inner r (TakeOut t path ∷ others) = ⊥
+GoesAt code b frames inner r (TakeOut t whole into path ∷ others) = ⊥
+GoesAt code b frames inner r (Finds place o args path ∷ others) = ⊥
 
 -- Branches that are not begun are rules of a query, of which these are left from the first on that isn't excluded.
 pub record CallsAt (g : Game) (code : Code) (call : Call) (rules : List RuleCode) (frames : List Frame) (inner : List Place) (S : Substitution) (r : Registers) (kind : Kind) (others : List Branch) : Type 0 where
@@ -121,16 +125,18 @@ pub record CallsAt (g : Game) (code : Code) (call : Call) (rules : List RuleCode
   pub sound : IsSubstitution r.bound
 
 -- The one branch that is not begun takes a gathering out, and goes on at a block.
-pub record TakesAt (code : Code) (b : ℕ) (frames : List Frame) (inner : List Place) (r : Registers) (others : List Branch) : Type 0 where
+pub record TakesAt (g : Game) (code : Code) (b : ℕ) (frames : List Frame) (inner : List Place) (r : Registers) (others : List Branch) : Type 0 where
   pub path : Path
   pub ops : List Op
-  pub others_are : others ≡ TakeOut r.next_tag path ∷ []
-  pub block : block_at code b ≡ op.TakeOut ∷ ops
+  pub whole : Gathered
+  pub into : Term
+  pub others_are : others ≡ TakeOut r.next_tag (whole_of whole) (value_of g.program (vars_of frames) into) path ∷ []
+  pub block : block_at code b ≡ op.TakeOut whole into ∷ ops
   pub way : WayIs code ops frames inner r 0 path
 
 -- What a choice goes on with is the branches that are not begun.
 abbrev pub WayOf : Game → Code → Way → List Frame → List Place → Substitution → Registers → Kind → List Branch → Type 0
-WayOf g code (Goes b) frames inner S r kind others = (kind ≡ Plain) × (GoesAt code b frames inner r others ⊎ TakesAt code b frames inner r others)
+WayOf g code (Goes b) frames inner S r kind others = (kind ≡ Plain) × (GoesAt code b frames inner r others ⊎ TakesAt g code b frames inner r others)
 WayOf g code (Calls call rules) frames inner S r kind others = CallsAt g code call rules frames inner S r kind others
 
 -- A machine's stoppable part is one around the search.
@@ -168,7 +174,8 @@ abbrev pub AreClashes : List Branch → Type 0
 AreClashes [] = Unit {0}
 AreClashes (Clash r work ∷ bs) = AreClashes bs
 AreClashes (Enter path work ∷ bs) = ⊥
-AreClashes (TakeOut t path ∷ bs) = ⊥
+AreClashes (TakeOut t whole into path ∷ bs) = ⊥
+AreClashes (Finds place o args path ∷ bs) = ⊥
 
 -- The newest of these choices is older than a tag.
 abbrev pub AreBelow : ℕ → List Choice → Type 0
@@ -183,8 +190,12 @@ pub data AreChoices (g : Game) (code : Code) : List Choice → List Live → Typ
 
 -- ## Where a run is
 
--- A machine in this state, with so many choices opened, with these choices, stoppable parts and gatherings, that has printed this, is where the search has these registers, choices and ways on, in this world.
-pub record MirrorsWith (g : Game) (code : Code) (state : State) (next_tag : ℕ) (choices : List Choice) (stops : List Stop) (stop : Option ℕ) (gathered : List Gathering) (ps : List Print) (r : Registers) (lives : List Live) (ways : List WayOn) (w : World) : Type 0 where
+-- What is outside in a world.
+abbrev pub outside_of : World → Outside
+outside_of w = record { typed = w.typed; dice = w.dice; facts = w.facts; sites = w.sites }
+
+-- A machine in this state, with so many choices opened, with these choices, stoppable parts and gatherings, and this outside, that has printed this, is where the search has these registers, choices and ways on, in this world.
+pub record MirrorsWith (g : Game) (code : Code) (state : State) (next_tag : ℕ) (choices : List Choice) (stops : List Stop) (stop : Option ℕ) (gathered : List Gathering) (outside : Outside) (ps : List Print) (r : Registers) (lives : List Live) (ways : List WayOn) (w : World) : Type 0 where
   pub agrees : Agrees state r
   pub tag : r.next_tag ≡ next_tag
   pub choices_are : AreChoices g code choices lives
@@ -192,11 +203,12 @@ pub record MirrorsWith (g : Game) (code : Code) (state : State) (next_tag : ℕ)
   pub stops_are : AreStops code stops ways
   pub stop_is : r.stoppable ≡ stop
   pub gathered_is : w.gathered ≡ gathered
+  pub outside_is : outside_of w ≡ outside
   pub printed_is : prints w.events ≡ ps
 
 -- A machine that has printed this is where the search has these registers, choices and ways on, in this world.
 abbrev pub Mirrors : Game → Code → Mid → List Print → Registers → List Live → List WayOn → World → Type 0
-Mirrors g code m ps r lives ways w = MirrorsWith g code m.state m.next_tag m.choices m.stops m.stop m.gathered ps r lives ways w
+Mirrors g code m ps r lives ways w = MirrorsWith g code m.state m.next_tag m.choices m.stops m.stop m.gathered m.outside ps r lives ways w
 
 -- The code at hand stands for the path.
 pub record RunsAt (code : Code) (m : Mid) (ps : List Print) (g : Game) (n : ℕ) (w : World) (run : Run) : Type 0 where
@@ -244,6 +256,7 @@ pub record FailsAt (code : Code) (m : Mid) (ps : List Print) (g : Game) (n : ℕ
   pub lives : List Live
   pub choices : AreChoices g code m.choices lives
   pub gathered : w.gathered ≡ m.gathered
+  pub outside : outside_of w ≡ m.outside
   pub printed : prints w.events ≡ ps
   pub failed : Failed g lives n w run
 
@@ -264,6 +277,8 @@ pub record MeetsLimit (limit : ℕ) (peak : ℕ) (ps : List Print) (w : World) (
 abbrev pub EndedAt : Setting → Ending → List Print → ℕ → World → Run → Type 0
 EndedAt s ending.HeapLimit ps n w run = MeetsLimit s.limits.heap run.world.meters.heap ps w run
 EndedAt s ending.TrailLimit ps n w run = MeetsLimit s.limits.trail run.world.meters.trail ps w run
+EndedAt s ending.AuxLimit ps n w run = MeetsLimit s.limits.aux run.world.meters.aux ps w run
+EndedAt s ending.KeepLimit ps n w run = MeetsLimit s.limits.keep run.world.meters.keep ps w run
 EndedAt s e ps n w run = HasEnded e ps n w run
 
 -- The run comes from where a machine is that has printed this, with so many goals left of its budget.

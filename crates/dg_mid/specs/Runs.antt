@@ -4,20 +4,19 @@ use Rattle.dg_base.specs.declared.run.Ending.{Ending}
 use Rattle.dg_base.specs.declared.run.Ending.TheVariants.{StepLimit}
 use Rattle.dg_meaning.specs.World.{Game, Print, prints}
 use Rattle.dg_meaning.specs.Render.{render, nothing_met, met_from}
-use Rattle.dg_meaning.specs.Transcript.{run, newline_behind, line_of}
+use Rattle.dg_meaning.specs.Transcript.{run, start_world, newline_behind, line_of}
 use Rattle.dg_meaning.specs.Shows.{Shows}
 use Rattle.dg_meaning.specs.OneRun.{Begins}
-use Rattle.dg_mid.specs.declared.code.Code.{Code}
 use Rattle.dg_mid.specs.Code.{block_at}
 use Rattle.dg_mid.specs.State.{Status, Runs, Ended}
 use Rattle.dg_mid.specs.Step.{Setting, step, said, followed, takes_goal}
 use Rattle.dg_mid.specs.Units.{one_if, units, earned, selects}
-use Rattle.dg_mid.specs.Reads.{Comes}
+use Rattle.dg_mid.specs.Reads.{outside_of, Comes}
 
--- The start: in front of the query of the entry.
-abbrev pub start : Code → Status
-start code = Runs (record {
-  ops = block_at code 1;
+-- The start on typed bytes: in front of the query of the entry, where what starts set is set.
+abbrev pub start : Setting → List ℕ → Status
+start s typed = Runs (record {
+  ops = block_at s.code 1;
   frames = [];
   inner = [];
   choices = [];
@@ -26,6 +25,7 @@ start code = Runs (record {
   gathered = [];
   next_tag = 1;
   state = record { vars = 0; subst = []; since = 0; heap = 0; trail = 0 };
+  outside = outside_of (start_world s.game typed);
 })
 
 -- Where a run of code is: the status, what was printed, how many goals were taken, what the steps have cost, how much of it is work of the search, and how often rules were looked at.
@@ -48,10 +48,10 @@ next s p = record {
   looks = selects p.now + p.looks;
 }
 
--- Where it is after so many steps.
-abbrev pub after : Setting → ℕ → Point
-after s zero = record { now = start s.code; prints = []; goals = 0; spent = 0; paid = 0; looks = 0 }
-after s (suc k) = next s (after s k)
+-- Where it is after so many steps, on these typed bytes.
+abbrev pub after : Setting → List ℕ → ℕ → Point
+after s typed zero = record { now = start s typed; prints = []; goals = 0; spent = 0; paid = 0; looks = 0 }
+after s typed (suc k) = next s (after s typed k)
 
 -- Each run with at least the budget of the goals taken comes from there, and what the run with a budget of one less prints was printed.
 pub record IsAt (s : Setting) (g : Game) (typed : List ℕ) (p : Point) : Type 0 where
@@ -66,7 +66,7 @@ closed_text ps line = render ps ++ (newline_behind (met_from nothing_met ps).las
 
 -- Where a run of code has ended, and where its goals are used up, what was printed, with the closing of the ending, shows the game.
 pub record ShowsAll (s : Setting) (g : Game) (typed : List ℕ) : Type 0 where
-  pub ends : (k : ℕ) (e : Ending) → (after s k).now ≡ Ended e → (after s k).goals ≤ s.limits.steps →
-      Shows g typed s.limits (closed_text (after s k).prints (line_of e)) (record { ending = e; goals = (after s k).goals }) None
-  pub limited : (k : ℕ) → (after s k).goals ≡ s.limits.steps → takes_goal (after s k).now ≡ true →
-      Shows g typed s.limits (closed_text (after s k).prints (line_of StepLimit)) (record { ending = StepLimit; goals = s.limits.steps }) None
+  pub ends : (k : ℕ) (e : Ending) → (after s typed k).now ≡ Ended e → (after s typed k).goals ≤ s.limits.steps →
+      Shows g typed s.limits (closed_text (after s typed k).prints (line_of e)) (record { ending = e; goals = (after s typed k).goals }) None
+  pub limited : (k : ℕ) → (after s typed k).goals ≡ s.limits.steps → takes_goal (after s typed k).now ≡ true →
+      Shows g typed s.limits (closed_text (after s typed k).prints (line_of StepLimit)) (record { ending = StepLimit; goals = s.limits.steps }) None

@@ -2,6 +2,8 @@
 use Rattle.std.specs.Prelude.{ℕ, List, [], ◌∷◌, Option, Some, None, Bool, nat_lt, eqb, if◌then◌else◌}
 use Rattle.dg_base.specs.declared.run.Ending.{Ending}
 use Rattle.dg_meaning.specs.Values.{Value}
+use Rattle.dg_meaning.specs.Choosing.{Picks}
+use Rattle.dg_meaning.specs.Facts.{Fact}
 use Rattle.dg_meaning.specs.World.{Gathering}
 use Rattle.dg_unify.specs.Store.{State}
 use Rattle.dg_mid.specs.declared.code.Op.{Op}
@@ -53,7 +55,14 @@ pub record Choice : Type 0 where
   pub height : ℕ
   pub state : State
 
--- The code at hand, the frames with the newest first, the inner constructs that are open in the newest one, the choices, the stoppable parts around, the innermost of them that is still open, the open gatherings, how many choices were opened along the path, and the state of the store.
+-- What backtracking doesn't take back, beside what is gathered: the typed bytes left, how many dice words were drawn, what is set, and what is kept of each select.
+pub record Outside : Type 0 where
+  pub typed : List ℕ
+  pub dice : ℕ
+  pub facts : List Fact
+  pub sites : List Picks
+
+-- The code at hand, the frames with the newest first, the inner constructs that are open in the newest one, the choices, the stoppable parts around, the innermost of them that is still open, the open gatherings, how many choices were opened along the path, the state of the store, and what is outside.
 pub record Mid : Type 0 where
   pub ops : List Op
   pub frames : List Frame
@@ -64,6 +73,7 @@ pub record Mid : Type 0 where
   pub gathered : List Gathering
   pub next_tag : ℕ
   pub state : State
+  pub outside : Outside
 
 -- It runs its code, enters a rule, goes on with what a choice had left, goes back to the newest choice, or has ended.
 pub data Status : Type 0 where

@@ -2,34 +2,34 @@
 use Rattle.std.specs.Prelude.{ℕ, zero, suc, ◌+◌, ◌++◌, ◌-◌, nat_lt, List, [], ◌∷◌, Option, Some, None, Bool, true, false, length, map, drop, if◌then◌else◌}
 use Rattle.std.specs.List.{zip, slice_get}
 use Rattle.dg_base.specs.declared.program.Term.{Term}
-use Rattle.dg_base.specs.declared.program.CoreProgram.{CoreProgram}
 use Rattle.dg_base.specs.declared.run.Limits.{Limits}
 use Rattle.dg_base.specs.declared.run.Ending.TheVariants as ending
 use Rattle.dg_meaning.specs.Values.{Value, value_of}
 use Rattle.dg_meaning.specs.Substitutions.{Substitution, walk, resolved}
-use Rattle.dg_meaning.specs.Unify.{Unified, solve, unify}
-use Rattle.dg_meaning.specs.World.{Game, Print, Gathering, gathered_with, gathered_without}
+use Rattle.dg_meaning.specs.Unify.{Unified, solve}
+use Rattle.dg_meaning.specs.World.{Game, Print, Gathering, gathered_size, gathered_at, gathered_with, gathered_without}
+use Rattle.dg_meaning.specs.Path.{Registers, Act, Goes, Tests, Unifies, Ends, Fails as FailsNow, Stops}
 use Rattle.dg_meaning.specs.Cells.{cells}
-use Rattle.dg_meaning.specs.Moves.{new_vars, made_since}
+use Rattle.dg_meaning.specs.Moves.{new_vars, made_since, takes_out}
 use Rattle.dg_unify.specs.Store.{State, trail_of, marked}
 use Rattle.dg_mid.specs.declared.code.Op.{Op}
 use Rattle.dg_mid.specs.declared.code.Op.TheVariants as op
-use Rattle.dg_mid.specs.declared.code.Action.{Action}
+use Rattle.dg_mid.specs.declared.code.Gathered.{Gathered}
 use Rattle.dg_mid.specs.declared.code.RuleCode.{RuleCode}
 use Rattle.dg_mid.specs.declared.code.Code.{Code}
 use Rattle.dg_mid.specs.Code.{block_at, rules_at, selected}
 use Rattle.dg_mid.specs.State.{Place, Frame, Call, Way, Goes, Calls, Stop, Choice, Mid, Status, Runs, Enters, Resumes, Fails, Ended, vars_of, cut_of, place_of, cut_choices, stop_to}
-use Rattle.dg_mid.specs.Actions.{Deed, Says, IsPassed, AreEqual, CutsRule, StopsPart, QuitsRun, terms_of, deed, said_by}
+use Rattle.dg_mid.specs.Actions.{terms_of, whole_of, registers_of, world_of, act_at, said_by, outside_in}
 
--- What stays the same: the program, for what it prints and captures, its code, and the limits.
+-- What stays the same: the game, for what its program prints, captures and keeps, and for its dice, its code, and the limits.
 pub record Setting : Type 0 where
-  pub program : CoreProgram
+  pub game : Game
   pub code : Code
   pub limits : Limits
 
 -- The setting of a game.
 abbrev pub setting : Game → Code → Limits → Setting
-setting g code limits = record { program = g.program; code = code; limits = limits }
+setting g code limits = record { game = g; code = code; limits = limits }
 
 -- ## Heap and trail
 
@@ -138,7 +138,7 @@ asks g pred call m = begins g call (selected (first_of m.state.subst call) (rule
 
 -- The values of terms.
 abbrev pub values : Setting → Mid → List Term → List Value
-values g m terms = map (value_of g.program (vars_of m.frames)) terms
+values g m terms = map (value_of g.game.program (vars_of m.frames)) terms
 
 -- A call that goes on here.
 abbrev pub call_of : List Value → Bool → ℕ → Mid → Call
@@ -219,10 +219,14 @@ stops g (Some t) m = stops_at g (stop_to t m.stops) m
 abbrev pub gathering : ℕ → Mid → Mid
 gathering alt m = within (place_of m) (inside (Goes alt) 0 (record m { gathered = record { tag = m.next_tag; values = [] } ∷ m.gathered }))
 
+-- These gatherings are open, and it goes on, or the limit is met.
+abbrev pub gathers : Setting → List Gathering → Status → Status
+gathers g gs next = if nat_lt g.limits.aux (gathered_size gs) then Ended ending.AuxLimit else next
+
 -- A value is gathered, and it fails.
-abbrev pub keeps : Value → List Place → Mid → Status
-keeps v [] m = Fails m
-keeps v (p ∷ ps) m = Fails (record m { inner = ps; gathered = gathered_with p.tag v m.gathered })
+abbrev pub keeps : Setting → Value → List Place → Mid → Status
+keeps g v [] m = Fails m
+keeps g v (p ∷ ps) m = gathers g (gathered_with p.tag v m.gathered) (Fails (record m { inner = ps; gathered = gathered_with p.tag v m.gathered }))
 
 -- ## Instructions
 
@@ -231,36 +235,44 @@ abbrev pub if_passed : Bool → Mid → Status
 if_passed true m = Runs m
 if_passed false m = Fails m
 
--- What a deed leads to.
-abbrev pub done : Setting → Deed → Mid → Status
-done g (Says ps) m = Runs m
-done g (IsPassed passed) m = if_passed passed m
-done g (AreEqual a b) m = let u = unify m.state.subst a b in unified g u m (Runs (bound u m))
-done g CutsRule m = Runs (cut_to (cut_of m.frames) m)
-done g StopsPart m = stops g m.stop m
-done g QuitsRun m = Ended ending.Quit
+-- It goes on where what is set takes no more than may be kept, or the limit is met.
+abbrev pub keeps_within : Setting → ℕ → Status → Status
+keeps_within g size next = if nat_lt g.limits.keep size then Ended ending.KeepLimit else next
 
--- What an action comes to where a machine is.
-abbrev pub deed_at : Setting → Action → Mid → Deed
-deed_at g a m = deed g.program (vars_of m.frames) m.state.subst a
+-- The machine behind values that were made, in these registers.
+abbrev pub made_in : Registers → Mid → Mid
+made_in r m = record m { state = record m.state { vars = r.next_var; heap = r.heap } }
+
+-- What an act leads to; the only steps that one goes on with are a cut of the rule.
+abbrev pub done : Setting → Act → Mid → Status
+done g (Goes [] w) m = keeps_within g w.meters.keep (Runs (outside_in w m))
+done g (Goes (s ∷ steps) w) m = Runs (cut_to (cut_of m.frames) m)
+done g (Tests passed w) m = if_passed passed (outside_in w m)
+done g (Unifies made es w) m =
+    let m' = made_in made (outside_in w m) in
+    let u = solve made.bound es in
+    charged g (made.heap - m.state.heap) m (unified g u m' (Runs (bound u m')))
+done g (Ends e w) m = Ended e
+done g (FailsNow w) m = Fails (outside_in w m)
+done g (Stops w) m = stops g m.stop (outside_in w m)
 
 -- What an instruction leads to, where the machine is behind it.
 abbrev pub does : Setting → Op → Mid → Status
-does g (op.Do a) m = let n = cells g.program (terms_of a) in charged g n m (done g (deed_at g a m) (more n m))
-does g (op.Ask pred terms many next) m = let n = cells g.program terms in charged g n m (asks g pred (call_of (values g m terms) many next (more n m)) (more n m))
-does g (op.LastAsk pred terms many) m = let n = cells g.program terms in charged g n m (last g pred (values g m terms) many m.frames (more n m))
+does g (op.Do a) m = let n = cells g.game.program (terms_of a) in charged g n m (done g (act_at g.game [] a (more n m)) (more n m))
+does g (op.Ask pred terms many next) m = let n = cells g.game.program terms in charged g n m (asks g pred (call_of (values g m terms) many next (more n m)) (more n m))
+does g (op.LastAsk pred terms many) m = let n = cells g.game.program terms in charged g n m (last g pred (values g m terms) many m.frames (more n m))
 does g op.Take m = Runs (passed m)
 does g (op.Branch alt) m = charged g 10 m (Runs (inside (Goes alt) 0 m))
 does g op.Once m = charged g 10 m (Runs (within (place_of m) (more 10 (passed m))))
 does g (op.Try alt) m = charged g 10 m (Runs (within (place_of m) (inside (Goes alt) 0 m)))
 does g (op.Shield alt) m = charged g 10 m (Runs (shielded alt m))
-does g (op.Collect term into alt) m = let n = cells g.program (term ∷ into ∷ []) in charged g n m (charged g 10 (more n m) (Runs (gathering alt (more n m))))
+does g (op.Collect term into alt) m = let n = cells g.game.program (term ∷ into ∷ []) in charged g n m (charged g 10 (more n m) (gathers g (gathering alt (more n m)).gathered (Runs (gathering alt (more n m)))))
 does g (op.Retry alt) m = Fails m
-does g op.TakeOut m = Fails m
+does g (op.TakeOut whole into) m = Fails m
 does g op.Commit m = commits m.inner m
 does g op.Refuse m = refuses m.inner m
 does g op.Leave m = leaves m.inner m
-does g (op.Keep term) m = keeps (resolved m.state.subst (value_of g.program (vars_of m.frames) term)) m.inner m
+does g (op.Keep term) m = keeps g (resolved m.state.subst (value_of g.game.program (vars_of m.frames) term)) m.inner m
 does g op.Back m = Fails m
 does g op.Return m = returns g m.frames m
 does g (op.Goto b) m = Runs (record m { ops = block_at g.code b })
@@ -281,10 +293,10 @@ new_frame call vars m = record { vars = new_vars vars m.state.vars; cut = call.c
 -- A rule is entered: its variables are made, its head is written, and the arguments are unified with it.
 abbrev pub enter : Setting → Call → ℕ → List Term → Mid → Status
 enter g call vars head m =
-    let n = 6 + vars + cells g.program head in
+    let n = 6 + vars + cells g.game.program head in
     let f = new_frame call vars m in
     let m' = record m { state = record m.state { vars = m.state.vars + vars; heap = m.state.heap + n } } in
-    let u = solve m.state.subst (zip call.args (map (value_of g.program f.vars) head)) in
+    let u = solve m.state.subst (zip call.args (map (value_of g.game.program f.vars) head)) in
     charged g n m (unified g u m' (Runs (record (bound u m') { frames = f ∷ m.frames; inner = [] })))
 
 -- The code of a rule begins with its entering.
@@ -292,10 +304,20 @@ abbrev pub entered : Setting → Call → List Op → Mid → Status
 entered g call (op.Enter vars head ∷ ops) m = enter g call vars head (record m { ops = ops })
 entered g call ops m = Fails m
 
+-- The machine without the gathering of the choice that goes on.
+abbrev pub without_gathering : Mid → Mid
+without_gathering m = record m { gathered = gathered_without m.next_tag m.gathered }
+
+-- What was gathered is taken out.
+abbrev pub taken_out : Setting → List Print → Gathered → Term → Mid → Act
+taken_out g ps whole into m =
+    let m' = passed (without_gathering m) in
+    takes_out (whole_of whole) (value_of g.game.program (vars_of m.frames) into) (gathered_at m.next_tag m.gathered) (registers_of m') (world_of ps m')
+
 -- A choice goes on at this code; it is kept where the code begins with a further way.
 abbrev pub resumed : Setting → List Op → Mid → Status
 resumed g (op.Retry alt ∷ ops) m = charged g 10 m (Runs (inside (Goes alt) 0 (record m { ops = ops })))
-resumed g (op.TakeOut ∷ ops) m = Runs (passed (record m { ops = ops; gathered = gathered_without m.next_tag m.gathered }))
+resumed g (op.TakeOut whole into ∷ ops) m = let m' = passed (without_gathering (record m { ops = ops })) in done g (taken_out g [] whole into m) m'
 resumed g ops m = Runs (passed (record m { ops = ops }))
 
 -- A choice goes on.
@@ -345,7 +367,7 @@ takes_goal s = false
 
 -- What an instruction prints, where it meets no limit.
 abbrev pub said_in : Setting → Mid → List Op → List Print
-said_in g m (op.Do a ∷ ops) = said_by (deed_at g a m)
+said_in g m (op.Do a ∷ ops) = said_by (act_at g.game [] a (more (cells g.game.program (terms_of a)) m))
 said_in g m ops = []
 
 -- What is printed by a step that leads to a status: nothing where the run has ended.

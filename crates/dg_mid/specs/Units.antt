@@ -2,82 +2,58 @@
 use Rattle.std.specs.Prelude.{ℕ, ◌+◌, ◌-◌, nat_lt, List, [], ◌∷◌, Option, Some, None, Bool, true, false, map, if◌then◌else◌}
 use Rattle.std.specs.List.{zip}
 use Rattle.dg_base.specs.declared.program.Term.{Term}
-use Rattle.dg_base.specs.declared.program.TestKind.{TestKind}
-use Rattle.dg_base.specs.declared.program.TestKind.TheVariants.{FullyBound}
 use Rattle.dg_meaning.specs.Values.{Value, value_of}
-use Rattle.dg_meaning.specs.Substitutions.{Substitution, links, resolved}
+use Rattle.dg_meaning.specs.Substitutions.{resolved}
 use Rattle.dg_meaning.specs.Unify.{Equations, looks}
 use Rattle.dg_meaning.specs.Letters.{copied}
 use Rattle.dg_meaning.specs.World.{Print}
-use Rattle.dg_meaning.specs.Cells.{writing}
-use Rattle.dg_meaning.specs.Moves.{unifying, taking_out}
-use Rattle.dg_meaning.specs.Render.{Met, nothing_met, met_from, met_behind, written, characters}
+use Rattle.dg_meaning.specs.Cells.{cells, writing}
+use Rattle.dg_meaning.specs.Moves.{unifying}
+use Rattle.dg_meaning.specs.Path.{Act, Unifies}
 use Rattle.dg_unify.specs.Store.{State}
 use Rattle.dg_mid.specs.declared.code.Op.{Op}
 use Rattle.dg_mid.specs.declared.code.Op.TheVariants as op
-use Rattle.dg_mid.specs.declared.code.Action.{Action}
 use Rattle.dg_mid.specs.declared.code.Action.TheVariants as action
 use Rattle.dg_mid.specs.Code.{block_at}
 use Rattle.dg_mid.specs.State.{Place, Frame, Call, Way, Goes, Calls, Stop, Choice, Mid, Status, Runs, Enters, Resumes, Fails, Ended, vars_of, cut_of, stop_to}
-use Rattle.dg_mid.specs.Actions.{Deed, Says, AreEqual, terms_of}
-use Rattle.dg_mid.specs.Step.{Setting, is_goal, new_frame, deed_at}
+use Rattle.dg_mid.specs.Actions.{terms_of, act_at, world_by}
+use Rattle.dg_mid.specs.Step.{Setting, more, is_goal, new_frame, taken_out}
 
 -- ## What the search counts
 
--- The characters of what is printed behind what was met.
-abbrev pub all_characters : Met → List Print → ℕ
-all_characters met [] = 0
-all_characters met (p ∷ ps) = characters (written met p) + all_characters (met_behind met p) ps
-
--- The nodes and links of a whole value.
-abbrev pub whole : State → Value → ℕ
-whole s v = looks s.subst s.vars v
-
--- The nodes and links that a test looks at.
-abbrev pub tested : TestKind → Value → State → ℕ
-tested FullyBound v s = whole s v
-tested kind v s = 1 + links s.subst v
-
--- The nodes and links that an action looks at before its deed.
-abbrev pub looked : Setting → Action → Mid → ℕ
-looked g (action.Print t) m = whole m.state (value_of g.program (vars_of m.frames) t)
-looked g (action.Test kind t) m = tested kind (value_of g.program (vars_of m.frames) t) m.state
-looked g a m = 0
-
--- The work of a deed, behind what was met: the characters that it prints, or its unification.
-abbrev pub doing : Met → Substitution → Deed → ℕ
-doing met S (Says ps) = all_characters met ps
-doing met S (AreEqual a b) = unifying S ((a, b) ∷ [])
-doing met S d = 0
+-- The work of an act that was begun without any: what it does, and its unification.
+abbrev pub act_work : Act → ℕ
+act_work (Unifies made es w) = w.meters.work + unifying made.bound es
+act_work act = (world_by act).meters.work
 
 -- The work of gathering a value inside these constructs: it is looked through and copied; without one nothing gathers.
 abbrev pub gathering_work : List Place → State → Value → ℕ
 gathering_work [] s v = 0
-gathering_work (p ∷ ps) s v = whole s v + copied (resolved s.subst v)
+gathering_work (p ∷ ps) s v = looks s.subst s.vars v + copied (resolved s.subst v)
 
--- The work of an instruction, behind what was met.
-abbrev pub effort : Setting → Met → Op → Mid → ℕ
-effort g met (op.Do a) m = writing (terms_of a) + looked g a m + doing met m.state.subst (deed_at g a m)
-effort g met (op.Ask pred terms many next) m = writing terms
-effort g met (op.LastAsk pred terms many) m = writing terms
-effort g met (op.Collect term into alt) m = writing (term ∷ into ∷ [])
-effort g met (op.Keep term) m = gathering_work m.inner m.state (value_of g.program (vars_of m.frames) term)
-effort g met x m = 0
+-- The work of an instruction, behind what was printed.
+abbrev pub effort : Setting → List Print → Op → Mid → ℕ
+effort g ps (op.Do a) m = writing (terms_of a) + act_work (act_at g.game ps a (more (cells g.game.program (terms_of a)) m))
+effort g ps (op.Ask pred terms many next) m = writing terms
+effort g ps (op.LastAsk pred terms many) m = writing terms
+effort g ps (op.Collect term into alt) m = writing (term ∷ into ∷ [])
+effort g ps (op.Keep term) m = gathering_work m.inner m.state (value_of g.game.program (vars_of m.frames) term)
+effort g ps x m = 0
 
 -- The arguments of a call beside the terms of a rule's head.
 abbrev pub head_equations : Setting → Call → ℕ → List Term → Mid → Equations
-head_equations g call vars head m = zip call.args (map (value_of g.program (new_frame call vars m).vars) head)
+head_equations g call vars head m = zip call.args (map (value_of g.game.program (new_frame call vars m).vars) head)
 
 -- The work of entering a rule.
 abbrev pub entering : Setting → Call → List Op → Mid → ℕ
 entering g call (op.Enter vars head ∷ ops) m = 1 + writing head + unifying m.state.subst (head_equations g call vars head m)
 entering g call ops m = 0
 
--- The work of going on at a block: a list between (or) is one, and what was gathered is looked through and copied.
-abbrev pub resuming : List Op → Mid → ℕ
-resuming (op.Retry alt ∷ ops) m = 1
-resuming (op.TakeOut ∷ ops) m = taking_out m.next_tag m.gathered
-resuming ops m = 0
+-- The work of going on at a block: a list between (or) is one, and what was gathered is taken out.
+abbrev pub resuming : Setting → List Print → List Op → Mid → ℕ
+resuming g ps (op.Retry alt ∷ ops) m = 1
+resuming g ps (op.TakeOut whole into ∷ ops) m = act_work (taken_out g ps whole into m)
+resuming g ps ops m = 0
 
 -- ## What is paid by what was done before
 
@@ -124,20 +100,20 @@ undone (c ∷ cs) m = m.state.trail - c.state.trail
 -- ## One step
 
 -- What the code at hand costs: one for its step, with all that it does.
-abbrev pub units_of : Setting → Met → List Op → Mid → ℕ
-units_of g met [] m = 1
-units_of g met (x ∷ ops) m = 1 + effort g met x m + drops x m
+abbrev pub units_of : Setting → List Print → List Op → Mid → ℕ
+units_of g ps [] m = 1
+units_of g ps (x ∷ ops) m = 1 + effort g ps x m + drops x m
 
 -- What going on costs.
-abbrev pub units_by : Setting → Way → Mid → ℕ
-units_by g (Goes b) m = 1 + resuming (block_at g.code b) m
-units_by g (Calls call rules) m = 1
+abbrev pub units_by : Setting → List Print → Way → Mid → ℕ
+units_by g ps (Goes b) m = 1 + resuming g ps (block_at g.code b) m
+units_by g ps (Calls call rules) m = 1
 
 -- What a step costs an engine, behind what was printed: 1 at least, until it has ended.
 abbrev pub units : Setting → List Print → Status → ℕ
-units g ps (Runs m) = units_of g (met_from nothing_met ps) m.ops m
+units g ps (Runs m) = units_of g ps m.ops m
 units g ps (Enters call m) = 1 + entering g call m.ops m
-units g ps (Resumes way m) = units_by g way m
+units g ps (Resumes way m) = units_by g ps way m
 units g ps (Fails m) = 1 + undone m.choices m
 units g ps (Ended e) = 0
 
@@ -147,20 +123,20 @@ one_if true = 1
 one_if false = 0
 
 -- What the search counts of the code at hand.
-abbrev pub earned_of : Setting → Met → List Op → Mid → ℕ
-earned_of g met [] m = 0
-earned_of g met (x ∷ ops) m = one_if (is_goal x) + effort g met x m
+abbrev pub earned_of : Setting → List Print → List Op → Mid → ℕ
+earned_of g ps [] m = 0
+earned_of g ps (x ∷ ops) m = one_if (is_goal x) + effort g ps x m
 
 -- What it counts of going on.
-abbrev pub earned_by : Setting → Way → Mid → ℕ
-earned_by g (Goes b) m = resuming (block_at g.code b) m
-earned_by g (Calls call rules) m = 0
+abbrev pub earned_by : Setting → List Print → Way → Mid → ℕ
+earned_by g ps (Goes b) m = resuming g ps (block_at g.code b) m
+earned_by g ps (Calls call rules) m = 0
 
 -- What the search adds to the work at a step, at least.
 abbrev pub earned : Setting → List Print → Status → ℕ
-earned g ps (Runs m) = earned_of g (met_from nothing_met ps) m.ops m
+earned g ps (Runs m) = earned_of g ps m.ops m
 earned g ps (Enters call m) = entering g call m.ops m
-earned g ps (Resumes way m) = earned_by g way m
+earned g ps (Resumes way m) = earned_by g ps way m
 earned g ps (Fails m) = 0
 earned g ps (Ended e) = 0
 

@@ -1,6 +1,6 @@
 // The instructions, and what they stand in.
 
-use dg_base::{GapKind, Items, Name, Term, TestKind};
+use dg_base::{ArithOp, CompareOp, GapKind, Items, Name, Term, TestKind};
 
 /// What is done at once: a goal with no goals in it that makes no choice.
 #[derive(Drop)]
@@ -8,12 +8,27 @@ pub enum Action {
     Text(Name),
     Print(Term),
     Gap(GapKind),
+    GapN(Term),
     Equal(Term, Term),
     Test(TestKind, Term),
+    Now(u16, Items<Term>, bool),
+    Arith(ArithOp, Term, Term, Term),
+    Compare(CompareOp, Term, Term),
+    Random(Term, Term, Term),
+    Input(Term),
+    SplitWord(Term, Term),
+    JoinWords(Term, Term),
     Just,
     Fail,
     Stop,
     Quit,
+}
+
+/// What a gathering is taken out as: the list of its values, or their sum.
+#[derive(Clone, Copy, PartialEq, Eq, Debug)]
+pub enum Gathered {
+    List,
+    Sum,
 }
 
 /// One instruction. Those down to Collect take a goal. A number that isn't a predicate's or a count of variables is a block's.
@@ -39,8 +54,8 @@ pub enum Op {
     Collect(Term, Term, u32),
     /// First of a block with which a choice goes on: the choice is kept, with this block.
     Retry(u32),
-    /// First of the block behind a gathering.
-    TakeOut,
+    /// First of the block behind a gathering, which is taken out and unified with the term.
+    TakeOut(Gathered, Term),
     /// The inner construct is left.
     Commit,
     /// The inner construct is left, and it fails.

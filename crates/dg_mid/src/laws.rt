@@ -10,7 +10,7 @@ ghost use Rattle.dg_mid.specs.Runs.{after, IsAt, ShowsAll};
 
 /// Every run of code that stands for a program is a run of its search.
 pub fn code_runs_as_searched()
-    ensures { (g : Game) → (code : TheCode) → (limits : Limits) → Codes g.program code → (typed : List ℕ) → (k : ℕ) → IsAt (setting g code limits) g typed (after (setting g code limits) k) }
+    ensures { (g : Game) → (code : TheCode) → (limits : Limits) → Codes g.program code → (typed : List ℕ) → (k : ℕ) → IsAt (setting g code limits) g typed (after (setting g code limits) typed k) }
 {}
 
 /// What runs of the code print shows the game.

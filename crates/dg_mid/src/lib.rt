@@ -4,5 +4,5 @@
 mod code;
 mod laws;
 
-pub use code::{Action, Block, Code, Key, Op, RuleCode};
+pub use code::{Action, Block, Code, Gathered, Key, Op, RuleCode};
 pub use laws::{code_runs_as_searched, code_shows_the_game};
