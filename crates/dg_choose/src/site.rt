@@ -48,8 +48,10 @@ fn another_branch(branches: u16, last: u16, dice: &mut Dice<'_>) -> u16
 // The branch that a site chooses.
 fn choose(mode: Mode, branches: u16, site: Site, dice: &mut Dice<'_>) -> u16
     requires { 0 < branches }
-    ensures branch { (picks : Picks) → (words : List ℕ) → (n : ℕ) → HasPicked site mode branches picks → HasDrawn dice.old words n → result ≡ (choice mode branches picks (die words n)).branch }
-    ensures drawn { (picks : Picks) → (words : List ℕ) → (n : ℕ) → HasPicked site mode branches picks → HasDrawn dice.old words n → HasDrawn dice.new words (n + (choice mode branches picks (die words n)).drawn) }
+    ensures branch { (picks : Picks) → (words : List ℕ) → (n : ℕ) → HasPicked site mode branches picks → HasDrawn dice.old words n →
+        result ≡ (choice mode branches picks (die words n)).branch }
+    ensures drawn { (picks : Picks) → (words : List ℕ) → (n : ℕ) → HasPicked site mode branches picks → HasDrawn dice.old words n →
+        HasDrawn dice.new words (n + (choice mode branches picks (die words n)).drawn) }
     ensures within { (picks : Picks) → HasPicked site mode branches picks → result < branches }
 {
     if branches == 1 {
@@ -82,7 +84,8 @@ fn turn_behind(mode: Mode, branches: u16, turn: u16) -> u16
 /// Picks a branch of a select.
 pub fn pick(mode: Mode, branches: u16, site: &mut Site, dice: &mut Dice<'_>) -> u16
     requires { 0 < branches }
-    ensures chose { (picks : Picks) → (words : List ℕ) → (n : ℕ) → HasPicked site.old mode branches picks → HasDrawn dice.old words n → Chose mode branches picks words n result site.new dice.new }
+    ensures chose { (picks : Picks) → (words : List ℕ) → (n : ℕ) → HasPicked site.old mode branches picks → HasDrawn dice.old words n →
+        Chose mode branches picks words n result site.new dice.new }
     ensures within { (picks : Picks) → HasPicked site.old mode branches picks → result < branches }
 {
     let branch = choose(mode, branches, *site, dice);

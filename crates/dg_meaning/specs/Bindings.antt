@@ -72,8 +72,10 @@ pub record BindsAlong : Type 0 where
   -- Nothing is bound at the start.
   pub starts : (g : Game) → IsBound (start_path g)
   -- A goal binds only more.
-  pub takes : (g : Game) (x : Goal) (env : List Value) (t : ℕ) (steps : List Step) (r : Registers) (w : World) → IsBound (path_of (Do x env t ∷ steps) r) → OutcomeBinds r (move g (out-Goal x) env t steps r w)
+  pub takes : (g : Game) (x : Goal) (env : List Value) (t : ℕ) (steps : List Step) (r : Registers) (w : World) →
+      IsBound (path_of (Do x env t ∷ steps) r) → OutcomeBinds r (move g (out-Goal x) env t steps r w)
   -- The beginning of a branch binds only more.
   pub begins_on : (r : Registers) (b : Branch) (w : World) → BranchBinds r b → MoveBinds r (begins b w)
   -- A mark that is passed binds nothing.
-  pub passes : (s : Step) (steps : List Step) (r : Registers) (outer : Option ℕ) → IsBound (path_of (s ∷ steps) r) → IsBound (path_of steps (record r { stoppable = outer }))
+  pub passes : (s : Step) (steps : List Step) (r : Registers) (outer : Option ℕ) → IsBound (path_of (s ∷ steps) r) →
+      IsBound (path_of steps (record r { stoppable = outer }))

@@ -159,26 +159,39 @@ pub record Keeps : Type 0 where
   -- Where a run stands, the bindings of its path are a substitution, and each variable in them and in its steps has been made.
   pub is_bound : (g : Game) (cs : List Live) (ws : List Way) (path : Path) (n : ℕ) (w : World) (run : Run) → Stands g cs ws path n w run → IsBound path
   -- That a rule was answered is noted.
-  pub passes_answer : (g : Game) (cs : List Live) (ws : List Way) (q : ℕ) (steps : List Step) (r : Registers) (n : ℕ) (w : World) (run : Run) → Stands g cs ws (path_of (Answers q ∷ steps) r) n w run → Stands g cs ws (path_of steps r) n (noted (Answered q) w) run
+  pub passes_answer : (g : Game) (cs : List Live) (ws : List Way) (q : ℕ) (steps : List Step) (r : Registers) (n : ℕ) (w : World) (run : Run) →
+      Stands g cs ws (path_of (Answers q ∷ steps) r) n w run → Stands g cs ws (path_of steps r) n (noted (Answered q) w) run
   -- A mark that cuts to t drops the choices that are not older.
-  pub passes_cut : (g : Game) (cs : List Live) (ws : List Way) (t : ℕ) (steps : List Step) (r : Registers) (n : ℕ) (w : World) (run : Run) → Stands g cs ws (path_of (Cut t ∷ steps) r) n w run → Stands g (cut_to t cs) ws (path_of steps r) n w run
+  pub passes_cut : (g : Game) (cs : List Live) (ws : List Way) (t : ℕ) (steps : List Step) (r : Registers) (n : ℕ) (w : World) (run : Run) →
+      Stands g cs ws (path_of (Cut t ∷ steps) r) n w run → Stands g (cut_to t cs) ws (path_of steps r) n w run
   -- At the end of a stoppable part the choices inside it are dropped, and the part outside it is the innermost.
-  pub passes_leave : (g : Game) (cs : List Live) (ws : List Way) (t : ℕ) (outer : Option ℕ) (steps : List Step) (r : Registers) (n : ℕ) (w : World) (run : Run) → Stands g cs ws (path_of (Leave t outer ∷ steps) r) n w run → Stands g (cut_to t cs) ws (path_of steps (record r { stoppable = outer })) n w run
+  pub passes_leave : (g : Game) (cs : List Live) (ws : List Way) (t : ℕ) (outer : Option ℕ) (steps : List Step) (r : Registers) (n : ℕ) (w : World)
+      (run : Run) → Stands g cs ws (path_of (Leave t outer ∷ steps) r) n w run →
+      Stands g (cut_to t cs) ws (path_of steps (record r { stoppable = outer })) n w run
   -- At an answer of what is negated the choices inside it and its way on are dropped, and it fails.
-  pub passes_refuse : (g : Game) (cs : List Live) (ws : List Way) (t : ℕ) (steps : List Step) (r : Registers) (n : ℕ) (w : World) (run : Run) → Stands g cs ws (path_of (Refuse t ∷ steps) r) n w run → Failed g (cut_to t cs) n w run
+  pub passes_refuse : (g : Game) (cs : List Live) (ws : List Way) (t : ℕ) (steps : List Step) (r : Registers) (n : ℕ) (w : World) (run : Run) →
+      Stands g cs ws (path_of (Refuse t ∷ steps) r) n w run → Failed g (cut_to t cs) n w run
   -- At an answer of what is gathered the value of its term is kept, and it fails.
-  pub passes_keep : (g : Game) (cs : List Live) (ws : List Way) (t : ℕ) (x : Term) (env : List Value) (steps : List Step) (r : Registers) (n : ℕ) (w : World) (run : Run) → Stands g cs ws (path_of (Keep t x env ∷ steps) r) n w run → Failed g cs n (kept t (resolved r.bound (value_of g.program env x)) (worked (keeping r (value_of g.program env x)) w)) run
+  pub passes_keep : (g : Game) (cs : List Live) (ws : List Way) (t : ℕ) (x : Term) (env : List Value) (steps : List Step) (r : Registers) (n : ℕ)
+      (w : World) (run : Run) → Stands g cs ws (path_of (Keep t x env ∷ steps) r) n w run →
+      Failed g cs n (kept t (resolved r.bound (value_of g.program env x)) (worked (keeping r (value_of g.program env x)) w)) run
   -- At an answer of what is exhausted it fails.
-  pub passes_back : (g : Game) (cs : List Live) (ws : List Way) (steps : List Step) (r : Registers) (n : ℕ) (w : World) (run : Run) → Stands g cs ws (path_of (Back ∷ steps) r) n w run → Failed g cs n w run
+  pub passes_back : (g : Game) (cs : List Live) (ws : List Way) (steps : List Step) (r : Registers) (n : ℕ) (w : World) (run : Run) →
+      Stands g cs ws (path_of (Back ∷ steps) r) n w run → Failed g cs n w run
   -- A failure goes back to the newest choice.
   pub fails : (g : Game) (cs : List Live) (n : ℕ) (w : World) (run : Run) → Failed g cs n w run → FailsTo g n w run cs
   -- Its next branch begins, or it has failed.
-  pub tries : (g : Game) (c : Live) (cs : List Live) (n : ℕ) (w : World) (run : Run) → Resumed g c cs n w run → Tried g c.kind c.tag c.height c.ways_on cs c.others n (tried_in c.kind c.others w) run
+  pub tries : (g : Game) (c : Live) (cs : List Live) (n : ℕ) (w : World) (run : Run) → Resumed g c cs n w run →
+      Tried g c.kind c.tag c.height c.ways_on cs c.others n (tried_in c.kind c.others w) run
   -- A goal is taken where the budget has one, and its move says where it goes on.
-  pub takes : (g : Game) (cs : List Live) (ws : List Way) (x : Goal) (env : List Value) (t : ℕ) (steps : List Step) (r : Registers) (n : ℕ) (w : World) (run : Run) → Stands g cs ws (path_of (Do x env t ∷ steps) r) (suc n) w run → After g cs ws n (move g (out-Goal x) env t steps r (worked 1 w)) run
+  pub takes : (g : Game) (cs : List Live) (ws : List Way) (x : Goal) (env : List Value) (t : ℕ) (steps : List Step) (r : Registers) (n : ℕ)
+      (w : World) (run : Run) → Stands g cs ws (path_of (Do x env t ∷ steps) r) (suc n) w run →
+      After g cs ws n (move g (out-Goal x) env t steps r (worked 1 w)) run
   -- Where the budget has none the run ends at its limit.
-  pub limited : (g : Game) (cs : List Live) (ws : List Way) (x : Goal) (env : List Value) (t : ℕ) (steps : List Step) (r : Registers) (w : World) (run : Run) → Stands g cs ws (path_of (Do x env t ∷ steps) r) 0 w run → Finished 0 w (End StepLimit) run
+  pub limited : (g : Game) (cs : List Live) (ws : List Way) (x : Goal) (env : List Value) (t : ℕ) (steps : List Step) (r : Registers) (w : World)
+      (run : Run) → Stands g cs ws (path_of (Do x env t ∷ steps) r) 0 w run → Finished 0 w (End StepLimit) run
   -- Without a step the run is done.
-  pub done : (g : Game) (cs : List Live) (ws : List Way) (r : Registers) (n : ℕ) (w : World) (run : Run) → Stands g cs ws (path_of [] r) n w run → Finished n w (End Done-Ending) run
+  pub done : (g : Game) (cs : List Live) (ws : List Way) (r : Registers) (n : ℕ) (w : World) (run : Run) → Stands g cs ws (path_of [] r) n w run →
+      Finished n w (End Done-Ending) run
   -- A stop goes on behind the stoppable part.
   pub stops_on : (g : Game) (cs : List Live) (ws : List Way) (s : ℕ) (n : ℕ) (w : World) (run : Run) → Stopping g cs ws s n w run → WentOn g cs ws s n w run

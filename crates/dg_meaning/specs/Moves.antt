@@ -184,7 +184,8 @@ rule_branch g pred args many steps r heap rule =
 -- A branch for each rule of a predicate.
 abbrev pub rule_branches : Game → ℕ → List Value → Bool → List Step → Registers → List Rule → List Branch
 rule_branches g pred args many steps r [] = []
-rule_branches g pred args many steps r (rule ∷ rules) = rule_branch g pred args many steps r (call_cells args r rules) rule ∷ rule_branches g pred args many steps r rules
+rule_branches g pred args many steps r (rule ∷ rules) = rule_branch g pred args many steps r (call_cells args r rules) rule
+    ∷ rule_branches g pred args many steps r rules
 
 -- The rules of a predicate; none where there is no such predicate.
 abbrev pub rules_of : Option Pred → List Rule
@@ -341,7 +342,8 @@ first_looks r (v ∷ vs) = 1 + links r.bound v
 -- A query offers a branch for each rule of its predicate; its first argument is looked at.
 abbrev pub ask : Game → ℕ → List Value → Bool → List Step → Registers → World → Effect
 ask g pred args many steps r w =
-    Offers (Rules pred) (rule_branches g pred args many steps r (rules_of (slice_get g.program.preds pred))) (noted (Asked pred) (worked (first_looks r args) w))
+    Offers (Rules pred) (rule_branches g pred args many steps r (rules_of (slice_get g.program.preds pred)))
+    (noted (Asked pred) (worked (first_looks r args) w))
 
 -- The nodes and links of a whole value: a test of containment of the next variable, which is in no value, looks at all of them.
 abbrev pub whole_looks : Registers → Value → ℕ
@@ -400,7 +402,8 @@ changes g kind (Some a) steps w = Goes steps (worked (changing g.program kind a 
 -- A change of a place of a kind.
 abbrev pub change_place : Game → ℕ → Option PlaceKind → List Value → Bool → List Step → Registers → World → Act
 change_place g place None args sets steps r w = Fails w
-change_place g place (Some kind) args sets steps r w = changes g kind (change_of kind place sets (map (resolved r.bound) args)) steps (worked (change_looks kind r args) w)
+change_place g place (Some kind) args sets steps r w = changes g kind (change_of kind place sets (map (resolved r.bound) args)) steps
+    (worked (change_looks kind r args) w)
 
 -- A query of a closure, looked up, or of another value, which fails.
 abbrev pub ask_body : Game → Values → Option ClosureBody → List Value → Bool → List Step → Registers → World → Effect
@@ -452,7 +455,8 @@ takes_line g (b ∷ bytes) into r w =
 -- What is gathered of the answers of goals, and taken out as a whole behind them.
 abbrev pub gathers : Game → Whole → Term → List Goal → Term → List Value → ℕ → List Step → Registers → World → Effect
 gathers g whole term goals into env t steps r w =
-    Offers Gathers (enter 10 0 r (goals_at env t goals ++ Keep r.next_tag term env ∷ []) ∷ TakeOut r.next_tag whole (value_of g.program env into) (path_of steps (inside 0 r)) ∷ []) (opened r.next_tag w)
+    Offers Gathers (enter 10 0 r (goals_at env t goals ++ Keep r.next_tag term env ∷ [])
+    ∷ TakeOut r.next_tag whole (value_of g.program env into) (path_of steps (inside 0 r)) ∷ []) (opened r.next_tag w)
 
 -- What a goal does whose terms were written, among these values of the variables of its rule, with the tag t that its (just) cuts to, and the steps behind it.
 abbrev pub effect : Game → Goal-F Goal → List Value → ℕ → List Step → Registers → World → Effect
@@ -465,7 +469,8 @@ effect g (Test kind a) env t steps r w = let v = value_of g.program env a in Act
 effect g (Ask pred args many) env t steps r w = ask g pred (map (value_of g.program env) args) many steps r w
 effect g (Holds place args many) env t steps r w = ask_place g place (slice_get (kinds_of g.program) place) (map (value_of g.program env) args) many steps r w
 effect g (IsObject a many) env t steps r w = ask_objects g None (value_of g.program env a ∷ []) many steps r w
-effect g (Now place args sets) env t steps r w = Acts (change_place g place (slice_get (kinds_of g.program) place) (map (value_of g.program env) args) sets steps r w)
+effect g (Now place args sets) env t steps r w = Acts (change_place g place (slice_get (kinds_of g.program) place)
+    (map (value_of g.program env) args) sets steps r w)
 effect g (Query a b many) env t steps r w =
     let v = value_of g.program env a in
     ask_closure g (walk r.bound v) (map (value_of g.program env) (option_terms b)) many steps r (worked (looked_up r v) w)
@@ -495,7 +500,8 @@ effect g (Compare op a b) env t steps r w =
 effect g (Random a b c) env t steps r w =
     let v = value_of g.program env a in
     let u = value_of g.program env b in
-    Acts (throws (of_numbers (thrown (die g.dice w.dice)) (walk r.bound v) (walk r.bound u)) (value_of g.program env c) r (worked (looked_up r v + looked_up r u) w))
+    Acts (throws (of_numbers (thrown (die g.dice w.dice)) (walk r.bound v) (walk r.bound u)) (value_of g.program env c) r
+    (worked (looked_up r v + looked_up r u) w))
 effect g (SplitWord a b) env t steps r w =
     let v = value_of g.program env a in
     Acts (splits g (letters_in_word g.program.words (walk r.bound v)) (value_of g.program env b) r (worked (looked_up r v) w))

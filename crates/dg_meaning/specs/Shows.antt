@@ -63,7 +63,8 @@ pub record ShowsInputFault (g : Game) (typed : List ℕ) (limits : Limits) (byte
   pub is_given : HasGiven typed left given
   pub goes_on : (run g typed goals).ending ≡ StepLimit
   pub no_more : taken_by g typed goals ≤ given
-  pub reads : ((run g typed (goals + 1)).ending ≡ InputEnded) ⊎ ((given ≤ taken_by g typed (goals + 1)) × (taken_by g typed goals < taken_by g typed (goals + 1)))
+  pub reads : ((run g typed (goals + 1)).ending ≡ InputEnded) ⊎ ((given ≤ taken_by g typed (goals + 1)) ×
+      (taken_by g typed goals < taken_by g typed (goals + 1)))
 
 -- A text that a run may be about to write: what shows it, or what is written where it was broken off.
 pub data MayWrite (g : Game) (typed : List ℕ) (limits : Limits) (bytes : List ℕ) : Type 0 where

@@ -45,7 +45,10 @@ start_world g typed =
 
 -- The query of the entry point.
 abbrev pub start_path : Game → Path
-start_path g = record { steps = Do (Ask g.program.entry [] false) [] 0 ∷ []; registers = record { next_tag = 1; stoppable = None; bound = []; next_var = 0; heap = 0; trail = 0 } }
+start_path g = record {
+  steps = Do (Ask g.program.entry [] false) [] 0 ∷ [];
+  registers = record { next_tag = 1; stoppable = None; bound = []; next_var = 0; heap = 0; trail = 0 };
+}
 
 -- The run of a game on typed bytes, with a budget of n goals.
 unfoldable pub run : Game → List ℕ → ℕ → Run

@@ -53,12 +53,15 @@ UnifyingExtends = (S : Substitution) → (a b : Value) → IsSubstitution S → 
 
 -- Where it agrees, the two values are equal when they are resolved.
 abbrev pub UnifyingMakesEqual : Type 0
-UnifyingMakesEqual = (S : Substitution) → (a b : Value) → IsSubstitution S → (unify S a b).agrees ≡ true → resolved (unify S a b).subst a ≡ resolved (unify S a b).subst b
+UnifyingMakesEqual = (S : Substitution) → (a b : Value) → IsSubstitution S → (unify S a b).agrees ≡ true →
+    resolved (unify S a b).subst a ≡ resolved (unify S a b).subst b
 
 -- Where any assignment that obeys the substitution makes the two values equal, unification agrees, and the assignment obeys what it has bound. So a clash comes only where nothing makes them equal.
 abbrev pub UnifyingIsMostGeneral : Type 0
-UnifyingIsMostGeneral = (S : Substitution) → (a b : Value) → IsSubstitution S → (σ : Assignment) → Obeys σ S → under σ a ≡ under σ b → ((unify S a b).agrees ≡ true) × Obeys σ (unify S a b).subst
+UnifyingIsMostGeneral = (S : Substitution) → (a b : Value) → IsSubstitution S → (σ : Assignment) → Obeys σ S → under σ a ≡ under σ b →
+    ((unify S a b).agrees ≡ true) × Obeys σ (unify S a b).subst
 
 -- Values that are equal already unify, and nothing is bound.
 abbrev pub EqualValuesUnify : Type 0
-EqualValuesUnify = (S : Substitution) → (a b : Value) → IsSubstitution S → resolved S a ≡ resolved S b → ((unify S a b).agrees ≡ true) × ((unify S a b).subst ≡ S)
+EqualValuesUnify = (S : Substitution) → (a b : Value) → IsSubstitution S → resolved S a ≡ resolved S b → ((unify S a b).agrees ≡ true) ×
+    ((unify S a b).subst ≡ S)

@@ -33,7 +33,8 @@ pub fn engines_may_keep()
 
 /// A game whose run stays within the limits shows its whole transcript.
 pub fn runs_within_limits_are_whole()
-    ensures { (g : Game) → (typed : List ℕ) → (limits : Limits) → (bytes : List ℕ) → (outcome : Outcome) → (left : Option (List ℕ)) → IsWithin limits g typed limits.steps → Shows g typed limits bytes outcome left → ShowsRun g typed limits bytes outcome left }
+    ensures { (g : Game) → (typed : List ℕ) → (limits : Limits) → (bytes : List ℕ) → (outcome : Outcome) → (left : Option (List ℕ)) →
+        IsWithin limits g typed limits.steps → Shows g typed limits bytes outcome left → ShowsRun g typed limits bytes outcome left }
 {}
 
 /// A walk looks a value up until it is no bound variable, and a value is resolved by looking up each variable in it.

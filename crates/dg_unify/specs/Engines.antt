@@ -17,7 +17,8 @@ pub record Agrees (s : Store) (r : Registers) : Type 0 where
 -- The stores to which these choices go back, the newest first, are those of their marks, hold what stands behind them, and have these limits.
 abbrev pub GoBackTo : {Choice : Type 0} → (Choice → Mark) → (Choice → List Ref) → ℕ → ℕ → List Choice → List Saved → Type 0
 GoBackTo mark_of refs_of heap trail [] [] = Unit {0}
-GoBackTo mark_of refs_of heap trail (o ∷ os) (m ∷ ms) = (m.mark ≡ mark_of o) × All (Holds m.store) (refs_of o) × (m.store.heap_limit ≡ heap) × (m.store.trail_limit ≡ trail) × GoBackTo mark_of refs_of heap trail os ms
+GoBackTo mark_of refs_of heap trail (o ∷ os) (m ∷ ms) = (m.mark ≡ mark_of o) × All (Holds m.store) (refs_of o) × (m.store.heap_limit ≡ heap) ×
+    (m.store.trail_limit ≡ trail) × GoBackTo mark_of refs_of heap trail os ms
 GoBackTo mark_of refs_of heap trail os ms = ⊥
 
 -- A mark that stands, in front of these, gives back a store that holds these Refs, and what it held is held still.

@@ -39,4 +39,5 @@ fence_for_new fence now = if eqb (now.slots - fence.slots) (now.vars - fence.var
 -- Where it stands when the variable n is bound to a value with variables below t: where the variable was before it and the value isn't, more variables come before it.
 abbrev pub fence_for_link : Fence → ℕ → ℕ → Fence → Fence
 fence_for_link fence n t now =
-    if nat_le fence.vars n || nat_le t fence.vars then record fence { reach = max fence.reach t } else (if nat_lt (max fence.reach t) now.vars then record { slots = fence.slots; vars = max fence.reach t; reach = max fence.reach t } else now)
+    if nat_le fence.vars n || nat_le t fence.vars then record fence { reach = max fence.reach t }
+    else (if nat_lt (max fence.reach t) now.vars then record { slots = fence.slots; vars = max fence.reach t; reach = max fence.reach t } else now)

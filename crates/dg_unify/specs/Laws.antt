@@ -36,12 +36,15 @@ var_slot go slots at (Some (slot.Letter c)) x e = absurd (cc e)
 -- where a variable stands
 pub place_of_var : (slots : List Slot) (n r x : ℕ) → value_at slots n r ≡ Some (Var x) → (r < 2147483648) × (slice_get slots r ≡ Some (slot.Var x))
 place_of_var slots zero r x h =
-    cond_both (nat_lt r 2147483648) None (Some (leaf (label_at (r - 2147483648)))) (λ (o : Option Value). o ≡ Some (Var x) → (r < 2147483648) × (slice_get slots r ≡ Some (slot.Var x))) (λ e k. absurd (cc k)) (λ e k. absurd (cc k)) h
+    cond_both (nat_lt r 2147483648) None (Some (leaf (label_at (r - 2147483648)))) (λ (o : Option Value). o ≡ Some (Var x) → (r < 2147483648) ×
+    (slice_get slots r ≡ Some (slot.Var x))) (λ e k. absurd (cc k)) (λ e k. absurd (cc k)) h
 place_of_var slots (suc n) r x h =
-    cond_both (nat_lt r 2147483648) (slot_value (value_at slots n) slots r (slice_get slots r)) (Some (leaf (label_at (r - 2147483648)))) (λ (o : Option Value). o ≡ Some (Var x) → (r < 2147483648) × (slice_get slots r ≡ Some (slot.Var x)))
+    cond_both (nat_lt r 2147483648) (slot_value (value_at slots n) slots r (slice_get slots r)) (Some (leaf (label_at (r - 2147483648))))
+    (λ (o : Option Value). o ≡ Some (Var x) → (r < 2147483648) × (slice_get slots r ≡ Some (slot.Var x)))
     (λ e k. (ltb-true r 2147483648 e, var_slot (value_at slots n) slots r (slice_get slots r) x k)) (λ e k. absurd (cc k)) h
 
-pub slots_younger : (slots : List Slot) (ls : List Link) (vars : ℕ) → Fits slots ls vars → (r q : Ref) (m n : ℕ) → value_in slots r.0 ≡ Some (Var m) → value_in slots q.0 ≡ Some (Var n) → r.0 < q.0 → m < n
+pub slots_younger : (slots : List Slot) (ls : List Link) (vars : ℕ) → Fits slots ls vars → (r q : Ref) (m n : ℕ) → value_in slots r.0 ≡ Some (Var m) →
+    value_in slots q.0 ≡ Some (Var n) → r.0 < q.0 → m < n
 slots_younger slots ls vars b r q m n hr hq lt =
     b.rising r.0 q.0 m n (place_of_var slots (length slots) r.0 m hr).1 (place_of_var slots (length slots) q.0 n hq).1 lt
 
@@ -51,7 +54,8 @@ some_within [] i x h = absurd (cc h)
 some_within (y ∷ slots) zero x h = omega arith
 some_within (y ∷ slots) (suc i) x h = omega (arith, some_within slots i x h)
 
-told_within : (go : ℕ → Option Value) (slots : List Slot) (i : ℕ) (v : Value) (o : Option Slot) → slice_get slots i ≡ o → slot_value go slots i o ≡ Some v → i < length slots
+told_within : (go : ℕ → Option Value) (slots : List Slot) (i : ℕ) (v : Value) (o : Option Slot) → slice_get slots i ≡ o →
+    slot_value go slots i o ≡ Some v → i < length slots
 told_within go slots i v None e h = absurd (cc h)
 told_within go slots i v (Some x) e h = some_within slots i x e
 
@@ -62,15 +66,18 @@ single_label : (k : ℕ) (v : Value) → Some (leaf (label_at k)) ≡ Some v →
 single_label k v e h = let same : leaf (label_at k) ≡ v = cc in absurd (cc (subst (λ (w : Value). is_single w ≡ false) (sym same) h))
 
 placed_at : (slots : List Slot) (n r : ℕ) (v : Value) → value_at slots n r ≡ Some v → is_single v ≡ false → r < length slots
-placed_at slots zero r v h k = cond_both (nat_lt r 2147483648) None (Some (leaf (label_at (r - 2147483648)))) (λ (o : Option Value). o ≡ Some v → r < length slots) (λ e j. absurd (cc j)) (λ e j. absurd (single_label (r - 2147483648) v j k)) h
+placed_at slots zero r v h k = cond_both (nat_lt r 2147483648) None (Some (leaf (label_at (r - 2147483648)))) (λ (o : Option Value). o ≡ Some v →
+    r < length slots) (λ e j. absurd (cc j)) (λ e j. absurd (single_label (r - 2147483648) v j k)) h
 placed_at slots (suc n) r v h k =
-    cond_both (nat_lt r 2147483648) (slot_value (value_at slots n) slots r (slice_get slots r)) (Some (leaf (label_at (r - 2147483648)))) (λ (o : Option Value). o ≡ Some v → r < length slots)
+    cond_both (nat_lt r 2147483648) (slot_value (value_at slots n) slots r (slice_get slots r)) (Some (leaf (label_at (r - 2147483648))))
+    (λ (o : Option Value). o ≡ Some v → r < length slots)
     (λ e j. get_within slots r (value_at slots n) v j) (λ e j. absurd (single_label (r - 2147483648) v j k)) h
 
 pub slots_placed : (slots : List Slot) (r : Ref) (v : Value) → value_in slots r.0 ≡ Some v → is_single v ≡ false → r.0 < length slots
 slots_placed slots r v h k = placed_at slots (length slots) r.0 v h k
 
-saves_within : (grows : Bool) (f : Fields) (c l v c' l' v' : ℕ) (ms : List Saved) → c ≤ c' → l ≤ l' → v ≤ v' → Saves grows f c l v ms → Saves grows f c' l' v' ms
+saves_within : (grows : Bool) (f : Fields) (c l v c' l' v' : ℕ) (ms : List Saved) → c ≤ c' → l ≤ l' → v ≤ v' → Saves grows f c l v ms →
+    Saves grows f c' l' v' ms
 saves_within grows f c l v c' l' v' [] ac al av h = tt
 saves_within grows f c l v c' l' v' (m ∷ ms) ac al av h = (omega (arith, h.0), omega (arith, h.1), omega (arith, h.2), h.3, h.4)
 

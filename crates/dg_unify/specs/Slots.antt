@@ -190,7 +190,8 @@ pub record GivesBack (grows : Bool) (f : Fields) (m : Saved) : Type 0 where
 -- Each of these marks, the newest first, is within the next newer one, and the newest within so many slots, bindings and variables.
 abbrev pub Saves : Bool → Fields → ℕ → ℕ → ℕ → List Saved → Type 0
 Saves grows f slots links vars [] = Unit {0}
-Saves grows f slots links vars (m ∷ ms) = (m.mark.slots ≤ slots) × (m.mark.links ≤ links) × (m.mark.vars ≤ vars) × GivesBack grows f m × Saves grows f m.mark.slots m.mark.links m.mark.vars ms
+Saves grows f slots links vars (m ∷ ms) = (m.mark.slots ≤ slots) × (m.mark.links ≤ links) × (m.mark.vars ≤ vars) × GivesBack grows f m ×
+    Saves grows f m.mark.slots m.mark.links m.mark.vars ms
 
 -- These marks stand.
 abbrev pub Stand : Bool → Fields → List Saved → Type 0

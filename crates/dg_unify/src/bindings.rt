@@ -80,7 +80,8 @@ pub trait Bindings {
         requires tail_in { Holds (meaning self.old) tail }
         ensures kept { Kept (meaning self.old) (meaning self.new) }
         ensures saved { (ms : List Saved) → saves self.old ms → saves self.new ms }
-        ensures made { MatchResult result (λ r. Made 3 (meaning self.old) (meaning self.new) r (pair (told (meaning self.old) head) (told (meaning self.old) tail))) (λ e. HeapFull 3 (meaning self.old) (meaning self.new) e) };
+        ensures made { MatchResult result (λ r. Made 3 (meaning self.old) (meaning self.new) r
+            (pair (told (meaning self.old) head) (told (meaning self.old) tail))) (λ e. HeapFull 3 (meaning self.old) (meaning self.new) e) };
 
     /// The closure of a place in the program, which takes three of the heap, and one for each captured value.
     fn closure(&mut self, place: u16, captured: &[Ref]) -> Result<Ref, Full>
@@ -88,20 +89,24 @@ pub trait Bindings {
         requires few { length captured.now ≤ 65535 }
         ensures kept { Kept (meaning self.old) (meaning self.new) }
         ensures saved { (ms : List Saved) → saves self.old ms → saves self.new ms }
-        ensures made { MatchResult result (λ r. Made (3 + length captured.now) (meaning self.old) (meaning self.new) r (Node (Closure place) (told_parts (meaning self.old) captured.now))) (λ e. HeapFull (3 + length captured.now) (meaning self.old) (meaning self.new) e) };
+        ensures made { MatchResult result (λ r. Made (3 + length captured.now) (meaning self.old) (meaning self.new) r
+            (Node (Closure place) (told_parts (meaning self.old) captured.now)))
+            (λ e. HeapFull (3 + length captured.now) (meaning self.old) (meaning self.new) e) };
 
     /// A word that isn't one of the program's, which takes three of the heap, and three for each letter.
     fn unknown(&mut self, spelling: &[u16]) -> Result<Ref, Full>
         requires short { length spelling.now ≤ 200 }
         ensures kept { Kept (meaning self.old) (meaning self.new) }
         ensures saved { (ms : List Saved) → saves self.old ms → saves self.new ms }
-        ensures made { MatchResult result (λ r. Made (3 + 3 * length spelling.now) (meaning self.old) (meaning self.new) r (leaf (Unknown spelling.now))) (λ e. HeapFull (3 + 3 * length spelling.now) (meaning self.old) (meaning self.new) e) };
+        ensures made { MatchResult result (λ r. Made (3 + 3 * length spelling.now) (meaning self.old) (meaning self.new) r
+            (leaf (Unknown spelling.now))) (λ e. HeapFull (3 + 3 * length spelling.now) (meaning self.old) (meaning self.new) e) };
 
     /// Takes so much of the heap.
     fn charge(&mut self, cells: u32) -> Result<(), Full>
         ensures kept { Kept (meaning self.old) (meaning self.new) }
         ensures saved { (ms : List Saved) → saves self.old ms → saves self.new ms }
-        ensures made { MatchResult result (λ _. Charged cells (meaning self.old) (meaning self.new)) (λ e. HeapFull cells (meaning self.old) (meaning self.new) e) };
+        ensures made { MatchResult result (λ _. Charged cells (meaning self.old) (meaning self.new))
+            (λ e. HeapFull cells (meaning self.old) (meaning self.new) e) };
 
     /// What a value is, looked up until it is no bound variable.
     fn walk(&self, at: Ref) -> View
@@ -112,7 +117,8 @@ pub trait Bindings {
     fn is_clear(&self, x: Ref, at: Ref) -> bool
         requires x_in { (n : ℕ) × (meaning self.now).value x ≡ Some (Var n) }
         requires at_in { Holds (meaning self.now) at }
-        ensures { (n : ℕ) → (meaning self.now).value x ≡ Some (Var n) → result ≡ true → contains n (resolved (meaning self.now).state.subst (told (meaning self.now) at)) ≡ false };
+        ensures { (n : ℕ) → (meaning self.now).value x ≡ Some (Var n) → result ≡ true →
+            contains n (resolved (meaning self.now).state.subst (told (meaning self.now) at)) ≡ false };
 
     /// The captured value of that number, from 0; none exactly where there is none.
     fn captured(&self, closure: Ref, at: u16) -> Option<Ref>
@@ -131,7 +137,9 @@ pub trait Bindings {
         ensures kept { Kept (meaning self.old) (meaning self.new) }
         ensures waits { waits self.new ≡ waits self.old }
         ensures saved { (ms : List Saved) → saves self.old ms → saves self.new ms }
-        ensures made { (x : ℕ) → (meaning self.old).value var ≡ Some (Var x) → MatchResult result (λ _. Bound (meaning self.old) (meaning self.new) x (told (meaning self.old) to)) (λ e. TrailFull (meaning self.old) (meaning self.new) x e) };
+        ensures made { (x : ℕ) → (meaning self.old).value var ≡ Some (Var x) →
+            MatchResult result (λ _. Bound (meaning self.old) (meaning self.new) x (told (meaning self.old) to))
+            (λ e. TrailFull (meaning self.old) (meaning self.new) x e) };
 
     /// A mark of the state.
     fn mark(&mut self) -> Mark
@@ -143,7 +151,8 @@ pub trait Bindings {
     fn undo(&mut self, to: Mark)
         requires { (s : Store) × (ms : List Saved) × saves self.old (record { mark = to; store = s } ∷ ms) }
         ensures back { (s : Store) → (ms : List Saved) → saves self.old (record { mark = to; store = s } ∷ ms) → Back s (meaning self.new) }
-        ensures saved { (s : Store) → (ms : List Saved) → saves self.old (record { mark = to; store = s } ∷ ms) → saves self.new (record { mark = to; store = s } ∷ ms) };
+        ensures saved { (s : Store) → (ms : List Saved) → saves self.old (record { mark = to; store = s } ∷ ms) →
+            saves self.new (record { mark = to; store = s } ∷ ms) };
 
     /// How many wait.
     fn waiting(&self) -> usize

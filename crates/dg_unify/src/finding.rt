@@ -30,7 +30,8 @@ pub fn put_behind<B: Bindings>(store: &mut B, wait: Wait)
 fn newest_above<B: Bindings>(store: &mut B, base: usize) -> Option<Wait>
     ensures same { B.meaning store.new ≡ B.meaning store.old }
     ensures saved { (ms : List Saved) → B.saves store.old ms → B.saves store.new ms }
-    ensures taken { (above below : List Waiting) → B.waits store.old ≡ above ++ below → length below ≡ base → TakesAbove above below (B.waits store.new) result }
+    ensures taken { (above below : List Waiting) → B.waits store.old ≡ above ++ below → length below ≡ base →
+        TakesAbove above below (B.waits store.new) result }
 {
     if store.waiting() == base {
         return None;
@@ -137,7 +138,8 @@ pub fn stands_in<B: Bindings>(store: &mut B, x: Ref, at: Ref) -> bool
     ensures same { B.meaning store.new ≡ B.meaning store.old }
     ensures saved { (ms : List Saved) → B.saves store.old ms → B.saves store.new ms }
     ensures waits { B.waits store.new ≡ B.waits store.old }
-    ensures found { (n : ℕ) → (B.meaning store.old).value x ≡ Some (Var n) → result ≡ contains n (resolved (B.meaning store.old).state.subst (told (B.meaning store.old) at)) }
+    ensures found { (n : ℕ) → (B.meaning store.old).value x ≡ Some (Var n) →
+        result ≡ contains n (resolved (B.meaning store.old).state.subst (told (B.meaning store.old) at)) }
 {
     if store.is_clear(x, at) {
         return false;

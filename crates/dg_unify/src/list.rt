@@ -32,7 +32,8 @@ pub struct ListBindings {
     waits: Vec<Wait>,
     ghost sound: { AreSound (record { slots = slots.items; log = log_of links; vars = vars_of links; since = since; heap = heap; trail = trail; heap_limit = heap_limit; trail_limit = trail_limit }) } by { are_sound_prop (record { slots = slots.items; log = log_of links; vars = vars_of links; since = since; heap = heap; trail = trail; heap_limit = heap_limit; trail_limit = trail_limit }) },
     ghost spacious: { length slots.items ≤ vec_capacity waits },
-    ghost fenced: { IsFenced slots.items (reverse (log_of links)) (vars_of links) fence } by { is_fenced_prop slots.items (reverse (log_of links)) (vars_of links) fence },
+    ghost fenced: { IsFenced slots.items (reverse (log_of links)) (vars_of links) fence } by { is_fenced_prop slots.items (reverse (log_of links))
+        (vars_of links) fence },
 }
 
 impl ListBindings {
@@ -44,7 +45,8 @@ impl ListBindings {
 
     /// An empty store, with the limits of heap and trail.
     pub fn new(alloc: Global, heap: u32, trail: u32) -> ListBindings
-        ensures means { ⟦<ListBindings as Bindings>⟧.meaning result ≡ store_of true (record { slots = []; log = []; vars = 0; since = 0; heap = 0; trail = 0; heap_limit = heap; trail_limit = trail }) }
+        ensures means { ⟦<ListBindings as Bindings>⟧.meaning result
+            ≡ store_of true (record { slots = []; log = []; vars = 0; since = 0; heap = 0; trail = 0; heap_limit = heap; trail_limit = trail }) }
     {
         ListBindings {
             slots: Vec::new(alloc),
@@ -190,7 +192,8 @@ impl ListBindings {
         ensures kept { Kept (store_of true (fields_of self.old)) (store_of true (fields_of self.new)) }
         ensures saved { (ms : List Saved) → Stand true (fields_of self.old) ms → Stand true (fields_of self.new) ms }
         ensures waits { self.new.waits ≡ self.old.waits }
-        ensures made { MatchResult result (λ _. Bound (store_of true (fields_of self.old)) (store_of true (fields_of self.new)) var (told_in (fields_of self.old) to)) (λ e. TrailFull (store_of true (fields_of self.old)) (store_of true (fields_of self.new)) var e) }
+        ensures made { MatchResult result (λ _. Bound (store_of true (fields_of self.old)) (store_of true (fields_of self.new)) var
+            (told_in (fields_of self.old) to)) (λ e. TrailFull (store_of true (fields_of self.old)) (store_of true (fields_of self.new)) var e) }
     {
         let more = trail_for(self.since, var);
         if self.trail_limit - self.trail < more {

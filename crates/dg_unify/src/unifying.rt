@@ -107,7 +107,8 @@ fn same_count<B: Bindings>(store: &B, c: Ref, d: Ref) -> bool
 fn same_top<B: Bindings>(store: &B, v: View, w: View) -> bool
     requires v_in { (f : Label) × (vs : Values) × Shows (B.meaning store.now) (Node f vs) v }
     requires w_in { (f : Label) × (vs : Values) × Shows (B.meaning store.now) (Node f vs) w }
-    ensures { (f g : Label) → (vs us : Values) → Shows (B.meaning store.now) (Node f vs) v → Shows (B.meaning store.now) (Node g us) w → result ≡ (same_label f g && as_many vs us) }
+    ensures { (f g : Label) → (vs us : Values) → Shows (B.meaning store.now) (Node f vs) v → Shows (B.meaning store.now) (Node g us) w →
+        result ≡ (same_label f g && as_many vs us) }
 {
     match v {
         View::Unbound(_) => false,
@@ -134,7 +135,8 @@ fn same_top<B: Bindings>(store: &B, v: View, w: View) -> bool
 fn compare<B: Bindings>(store: &B, v: View, w: View) -> Met
     requires v_in { (f : Label) × (vs : Values) × Shows (B.meaning store.now) (Node f vs) v }
     requires w_in { (f : Label) × (vs : Values) × Shows (B.meaning store.now) (Node f vs) w }
-    ensures { (f g : Label) → (vs us : Values) → Shows (B.meaning store.now) (Node f vs) v → Shows (B.meaning store.now) (Node g us) w → Compares (B.meaning store.now) f g vs us result }
+    ensures { (f g : Label) → (vs us : Values) → Shows (B.meaning store.now) (Node f vs) v → Shows (B.meaning store.now) (Node g us) w →
+        Compares (B.meaning store.now) f g vs us result }
 {
     if same_top(store, v, w) {
         Met::Goes(inner(v), inner(w))
@@ -159,7 +161,8 @@ fn link<B: Bindings>(store: &mut B, var: Ref, to: Ref) -> Result<bool, Full>
     ensures kept { Kept (B.meaning store.old) (B.meaning store.new) }
     ensures saved { (ms : List Saved) → B.saves store.old ms → B.saves store.new ms }
     ensures waits { B.waits store.new ≡ B.waits store.old }
-    ensures follows { (n : ℕ) → (B.meaning store.old).value var ≡ Some (Var n) → FollowsTurn (B.meaning store.old) (B.meaning store.new) (Binds n (walk (B.meaning store.old).state.subst (told (B.meaning store.old) to))) result }
+    ensures follows { (n : ℕ) → (B.meaning store.old).value var ≡ Some (Var n) →
+        FollowsTurn (B.meaning store.old) (B.meaning store.new) (Binds n (walk (B.meaning store.old).state.subst (told (B.meaning store.old) to))) result }
 {
     match store.bind(var, to) {
         Ok(()) => Ok(true),
@@ -174,7 +177,8 @@ fn tie<B: Bindings>(store: &mut B, x: Ref, y: Ref) -> Result<bool, Full>
     ensures kept { Kept (B.meaning store.old) (B.meaning store.new) }
     ensures saved { (ms : List Saved) → B.saves store.old ms → B.saves store.new ms }
     ensures waits { B.waits store.new ≡ B.waits store.old }
-    ensures follows { (m n : ℕ) → (B.meaning store.old).value x ≡ Some (Var m) → (B.meaning store.old).value y ≡ Some (Var n) → FollowsTurn (B.meaning store.old) (B.meaning store.new) (ties m n) result }
+    ensures follows { (m n : ℕ) → (B.meaning store.old).value x ≡ Some (Var m) → (B.meaning store.old).value y ≡ Some (Var n) →
+        FollowsTurn (B.meaning store.old) (B.meaning store.new) (ties m n) result }
 {
     if x.0 == y.0 {
         return Ok(true);
@@ -194,7 +198,9 @@ fn point<B: Bindings>(store: &mut B, x: Ref, to: Ref) -> Result<bool, Full>
     ensures kept { Kept (B.meaning store.old) (B.meaning store.new) }
     ensures saved { (ms : List Saved) → B.saves store.old ms → B.saves store.new ms }
     ensures waits { B.waits store.new ≡ B.waits store.old }
-    ensures follows { (n : ℕ) → (B.meaning store.old).value x ≡ Some (Var n) → FollowsTurn (B.meaning store.old) (B.meaning store.new) (binds (B.meaning store.old).state.subst n (walk (B.meaning store.old).state.subst (told (B.meaning store.old) to))) result }
+    ensures follows { (n : ℕ) → (B.meaning store.old).value x ≡ Some (Var n) →
+        FollowsTurn (B.meaning store.old) (B.meaning store.new)
+        (binds (B.meaning store.old).state.subst n (walk (B.meaning store.old).state.subst (told (B.meaning store.old) to))) result }
 {
     if stands_in(store, x, to) {
         return Ok(false);
@@ -282,7 +288,8 @@ fn solve<B: Bindings>(store: &mut B, a: Ref, b: Ref, p: Parts, q: Parts) -> Resu
     requires none_waits { B.waits store.old ≡ [] }
     ensures kept { Kept (B.meaning store.old) (B.meaning store.new) }
     ensures saved { (ms : List Saved) → B.saves store.old ms → B.saves store.new ms }
-    ensures follows { Follows (B.meaning store.old) (B.meaning store.new) (solved (B.meaning store.old).state.subst (side_by_side (values_of (B.meaning store.old) p) (values_of (B.meaning store.old) q))) result }
+    ensures follows { Follows (B.meaning store.old) (B.meaning store.new)
+        (solved (B.meaning store.old).state.subst (side_by_side (values_of (B.meaning store.old) p) (values_of (B.meaning store.old) q))) result }
 {
     let mut p = p;
     let mut q = q;
@@ -329,7 +336,8 @@ pub fn unify<B: Bindings>(store: &mut B, a: Ref, b: Ref) -> Result<bool, Full>
     requires b_in { Holds (B.meaning store.old) b }
     ensures kept { Kept (B.meaning store.old) (B.meaning store.new) }
     ensures saved { (ms : List Saved) → B.saves store.old ms → B.saves store.new ms }
-    ensures unified { Follows (B.meaning store.old) (B.meaning store.new) (unified (B.meaning store.old).state.subst (told (B.meaning store.old) a) (told (B.meaning store.old) b)) result }
+    ensures unified { Follows (B.meaning store.old) (B.meaning store.new)
+        (unified (B.meaning store.old).state.subst (told (B.meaning store.old) a) (told (B.meaning store.old) b)) result }
 {
     store.forget(0);
     match meet(store, a, b) {

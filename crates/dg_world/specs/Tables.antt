@@ -69,7 +69,8 @@ slot_in (Some table) n = slice_index_or table.slots n None
 -- The first slot from one on in which something is set; or there is none.
 abbrev pub IsFirstSlot : List (Option Simple) → ℕ → Option ℕ → Type 0
 IsFirstSlot slots from None = (n : ℕ) → from ≤ n → n < length slots → slice_index_or slots n None ≡ None
-IsFirstSlot slots from (Some first) = (from ≤ first) × (first < length slots) × (slice_index_or slots first None ≢ None) × ((n : ℕ) → from ≤ n → n < first → slice_index_or slots n None ≡ None)
+IsFirstSlot slots from (Some first) = (from ≤ first) × (first < length slots) × (slice_index_or slots first None ≢ None) ×
+    ((n : ℕ) → from ≤ n → n < first → slice_index_or slots n None ≡ None)
 
 -- The tables with something set in a slot of one of them.
 abbrev pub put_at : ℕ → ℕ → Option Simple → List Table → List Table
@@ -109,7 +110,8 @@ is_fresh c = false
 pub record AreTables (o : Outline) (facts : List Fact) (tables : List Table) (lists : List (List Cell)) (keep : ℕ) : Type 0 where
   pub kinds : map (λ (t : Table). t.kind) tables ≡ o.kinds
   pub widths : (place : ℕ) → (t : Table) → slice_get tables place ≡ Some t → length t.slots ≡ width_of t.kind o.objects
-  pub slots : (place n : ℕ) → (kind : PlaceKind) → IsKind o place kind → n < width_of kind o.objects → option_map simple_value (slot_in (slice_get tables place) n) ≡ value_at facts place n
+  pub slots : (place n : ℕ) → (kind : PlaceKind) → IsKind o place kind → n < width_of kind o.objects →
+      option_map simple_value (slot_in (slice_get tables place) n) ≡ value_at facts place n
   pub kept : lists ≡ stored_from 0 o.kinds facts
   pub limit : keep ≡ o.keep
   pub within : kept_size o.kinds facts ≤ o.keep

@@ -52,6 +52,7 @@ Fits place l w = (length (joined w.area.lists) - length (get_or w.area.lists pla
 
 -- A list of cells takes the place of what was kept; or an unbound variable stands in it; or it has no room.
 abbrev pub KeepsList : ℕ → List Cell → World → World → Result Bool KeepFull → Type 0
-KeepsList place l old new (Ok true) = (list_any is_fresh l ≡ false) × Fits place l old × (new ≡ record old { area = record old.area { lists = slice_set old.area.lists place l } })
+KeepsList place l old new (Ok true) = (list_any is_fresh l ≡ false) × Fits place l old ×
+    (new ≡ record old { area = record old.area { lists = slice_set old.area.lists place l } })
 KeepsList place l old new (Ok false) = (list_any is_fresh l ≡ true) × (new ≡ old)
 KeepsList place l old new (Err e) = (list_any is_fresh l ≡ false) × (Fits place l old → ⊥) × (new ≡ old)

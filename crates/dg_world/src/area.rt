@@ -56,7 +56,8 @@ fn move_to_end(row: &mut Vec<Cell>, from: usize, count: usize)
 // Moves the last cells of a row to a place in it.
 fn move_from_end(row: &mut Vec<Cell>, to: usize, count: usize)
     requires { to + count ≤ length row.old.items }
-    ensures items { row.new.items ≡ take to row.old.items ++ (drop (length row.old.items - count) row.old.items ++ take (length row.old.items - count - to) (drop to row.old.items)) }
+    ensures items { row.new.items ≡ take to row.old.items ++ (drop (length row.old.items - count) row.old.items
+        ++ take (length row.old.items - count - to) (drop to row.old.items)) }
     ensures room { vec_capacity row.new ≡ vec_capacity row.old }
 {
     row[to..].rotate_right(count);

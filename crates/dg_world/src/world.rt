@@ -111,7 +111,8 @@ impl World {
     /// Whether a flag is set: a global one, or that of an object.
     pub fn holds(&self, place: u16, object: u16) -> bool
         ensures flag { (o : Outline) → (facts : List Fact) → StandsFor self.now o facts → IsKind o place Flag → result ≡ is_some (value_at facts place 0) }
-        ensures object { (o : Outline) → (facts : List Fact) → StandsFor self.now o facts → IsKind o place ObjectFlag → object < o.objects → result ≡ is_some (value_at facts place object) }
+        ensures object { (o : Outline) → (facts : List Fact) → StandsFor self.now o facts → IsKind o place ObjectFlag → object < o.objects →
+            result ≡ is_some (value_at facts place object) }
     {
         let number = match self.kind_at(place) {
             Some(PlaceKind::Flag) => 0,
@@ -122,14 +123,16 @@ impl World {
 
     /// The value of an object.
     pub fn value(&self, place: u16, object: u16) -> Option<Simple>
-        ensures { (o : Outline) → (facts : List Fact) → StandsFor self.now o facts → HasValues o place → object < o.objects → option_map simple_value result ≡ value_at facts place object }
+        ensures { (o : Outline) → (facts : List Fact) → StandsFor self.now o facts → HasValues o place → object < o.objects →
+            option_map simple_value result ≡ value_at facts place object }
     {
         self.slot(place, object)
     }
 
     /// The cells of the value of a global variable.
     pub fn kept(&self, place: u16) -> Option<&[Cell]>
-        ensures { (o : Outline) → (facts : List Fact) → StandsFor self.now o facts → IsKind o place GlobalKind → option_copied result ≡ option_map cells_of (value_at facts place 0) }
+        ensures { (o : Outline) → (facts : List Fact) → StandsFor self.now o facts → IsKind o place GlobalKind →
+            option_copied result ≡ option_map cells_of (value_at facts place 0) }
     {
         let cells = self.area.get(place);
         if cells.is_empty() { None } else { Some(cells) }
@@ -171,7 +174,8 @@ impl World {
 
     // Sets the value of an object, if the place takes it.
     fn set_value(&mut self, place: u16, object: u16, value: Option<Simple>) -> bool
-        ensures { (o : Outline) → (facts : List Fact) → (a : Alteration) → StandsFor self.old o facts → Means o (Change.ObjectVar place object value) a → Changed o facts a self.old self.new (Ok result) }
+        ensures { (o : Outline) → (facts : List Fact) → (a : Alteration) → StandsFor self.old o facts →
+            Means o (Change.ObjectVar place object value) a → Changed o facts a self.old self.new (Ok result) }
     {
         if !self.takes(place, value) {
             return false;
@@ -182,7 +186,8 @@ impl World {
 
     // Keeps a value, or lets it go.
     fn set_global(&mut self, place: u16, cells: Option<&[Cell]>) -> Result<bool, KeepFull>
-        ensures { (o : Outline) → (facts : List Fact) → (a : Alteration) → StandsFor self.old o facts → Means o (Change.Global place cells.entry) a → Changed o facts a self.old self.new result }
+        ensures { (o : Outline) → (facts : List Fact) → (a : Alteration) → StandsFor self.old o facts → Means o (Change.Global place cells.entry) a →
+            Changed o facts a self.old self.new result }
     {
         match cells {
             Some(cells) => self.keep(place, cells),
@@ -195,7 +200,8 @@ impl World {
 
     /// Makes a change.
     pub fn change(&mut self, change: Change<'_>) -> Result<bool, KeepFull>
-        ensures { (o : Outline) → (facts : List Fact) → (a : Alteration) → StandsFor self.old o facts → Means o change.entry a → Changed o facts a self.old self.new result }
+        ensures { (o : Outline) → (facts : List Fact) → (a : Alteration) → StandsFor self.old o facts → Means o change.entry a →
+            Changed o facts a self.old self.new result }
     {
         match change {
             Change::Flag(place, on) => self.put(place, 0, flag(on)),
