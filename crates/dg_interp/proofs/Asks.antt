@@ -41,7 +41,7 @@ use Rattle.dg_interp.specs.Engine.{store_in, KeepsPlaces, HasPlace, IsPlace, Poi
 use Rattle.dg_unify.specs.Engines.{Agrees}
 use Rattle.dg_interp.proofs.Links.{SameBy, same_here, same_append, behind_new, at_same, frame_raise, frames_raise, frames_append, choices_same, back_same, stand_raise, stand_same}
 use Rattle.dg_interp.proofs.Stores.{kept_here, all_hold, values_kept, hold_front, front_same, appended_stretch}
-use Rattle.dg_interp.proofs.Begins.{back_limits}
+use Rattle.dg_interp.proofs.Kept.{back_limits}
 use Rattle.dg_interp.proofs.Places.{adds_on, adds_noted}
 use Rattle.dg_interp.proofs.Takes.{behind, taken_in, comes_of, adds_taken, terms_full}
 use Rattle.dg_interp.proofs.Turns.{all_first, all_rest}
@@ -190,10 +190,12 @@ module _ (old : Engine) (query : Query) (terms : List Term) (store1 : ListBindin
           holds = record {
             inside = record {
               program = st.at.inside.program;
+              entries = st.at.inside.entries;
               lives = st.at.inside.lives;
+              lives_are = st.at.inside.lives_are;
               saved = st.at.inside.saved;
               keeps = saved1 st.at.inside.saved st.at.inside.keeps;
-              choices = choices_now g st.at.inside.saved st.at.inside.lives st.at.inside.choices;
+              choices = choices_now g st.at.inside.saved st.at.inside.entries st.at.inside.choices;
               world = st.at.inside.world;
             };
             failed = asked [] (sym none ∙ are) g n w run st;
@@ -280,17 +282,21 @@ module _ (old : Engine) (query : Query) (terms : List Term) (store1 : ListBindin
               at = record {
                 inside = record {
                   program = st.at.inside.program;
+                  entries = st.at.inside.entries;
                   lives = st.at.inside.lives;
+                  lives_are = st.at.inside.lives_are;
                   saved = st.at.inside.saved;
                   keeps = saves_drops true (fields_of store2) (record { mark = place; store = s2 }) st.at.inside.saved (place_now st.at.inside.saved (saved1 st.at.inside.saved st.at.inside.keeps)).keeps;
-                  choices = subst (λ l. AreChoices g ys l os st.at.inside.saved st.at.inside.lives) (sym pushed_on)
-                      (choices_same g ys ys fs gs (length fs) (length ys) old.newest os st.at.inside.saved st.at.inside.lives refl (same_append fs old.here) failing_sound.base.choices (choices_now g st.at.inside.saved st.at.inside.lives st.at.inside.choices));
+                  choices = subst (λ l. AreChoices g ys l os st.at.inside.saved st.at.inside.entries) (sym pushed_on)
+                      (choices_same g ys ys fs gs (length fs) (length ys) old.newest os st.at.inside.saved st.at.inside.entries refl (same_append fs old.here) failing_sound.base.choices (choices_now g st.at.inside.saved st.at.inside.entries st.at.inside.choices));
                   world = st.at.inside.world;
                 };
                 ways = st.at.ways;
+                ways_are = st.at.ways_are;
                 registers = r;
                 agrees = agrees_now g n w run st;
                 tag = st.at.tag;
+                stop = st.at.stop;
               };
               back = record { mark = place; store = s2 };
               is = place_now st.at.inside.saved (saved1 st.at.inside.saved st.at.inside.keeps);

@@ -1,5 +1,5 @@
 -- A frame begins, in front of the branches that are left.
-use Rattle.std.proofs.Common.{◌≡◌, ℕ, ◌+◌, List, ◌∷◌, ◌++◌, refl, sym, ap, ◌∙◌, subst, arith, length, Bool, Bor}
+use Rattle.std.proofs.Common.{◌≡◌, ℕ, ◌+◌, List, [], ◌∷◌, ◌++◌, refl, sym, ap, ◌∙◌, subst, arith, length, Bool, Bor}
 use Rattle.std.specs.Prelude.{reverse}
 use Rattle.std.proofs.lemmas.List.{append-nil}
 use Rattle.std.specs.declared.vec.Vec.{Vec}
@@ -12,7 +12,8 @@ use Rattle.dg_meaning.specs.Transcript.{Run}
 use Rattle.dg_meaning.specs.Context.{Live, Way, stays, pushed}
 use Rattle.dg_meaning.specs.Keeps.{Stands, Tried}
 use Rattle.dg_meaning.proofs.Keeps.{has_happened}
-use Rattle.dg_unify.specs.Store.{State, Store, Saved, Kept, Charged}
+use Rattle.std.specs.List.{All}
+use Rattle.dg_unify.specs.Store.{State, Store, Saved, Holds, Kept, Charged}
 use Rattle.dg_unify.specs.declared.bindings.Full.{Full}
 use Rattle.dg_unify.specs.declared.bindings.Full.TheVariants as full
 use Rattle.dg_unify.specs.declared.bindings.Mark.{Mark as Place}
@@ -25,13 +26,12 @@ use Rattle.dg_interp.specs.declared.frames.Left.{Left}
 use Rattle.dg_interp.specs.declared.frames.Left.TheVariants.{Lists, Ways, Way as OneWay}
 use Rattle.dg_interp.specs.declared.engine.Engine.{Engine}
 use Rattle.dg_interp.specs.Terms.{Overflows}
-use Rattle.dg_interp.specs.Frames.{values_in, steps_behind, steps_at, kind_of, branches_of, AreChoices, IsFrame, IsLeft, StandOn, GoBackTo, BeginsWith, has_some, stays_with, cells_if}
+use Rattle.dg_interp.specs.Frames.{values_in, steps_behind, steps_at, kind_of, branches_of, AreChoices, IsFrame, IsLeft, IsNoPart, BeginsWith, has_some, stays_with, cells_if}
 use Rattle.dg_unify.specs.Engines.{Agrees}
 use Rattle.dg_interp.specs.Engine.{store_in, KeepsPlaces, HasPlace, Point, IsSound, BeginsAt, FullAt, WentOn, kept_if}
-use Rattle.dg_interp.proofs.Links.{same_here, at_same, branches_same}
-use Rattle.dg_interp.proofs.Stores.{all_hold, values_kept, hold_front}
-use Rattle.dg_interp.proofs.Kept.{cells_same, branches_stay, saved_if, kept_places, kept_stand, kept_back, kept_choices}
-use Rattle.dg_interp.proofs.Begins.{back_limits}
+use Rattle.dg_interp.proofs.Links.{same_here, at_same}
+use Rattle.dg_interp.proofs.Kept.{cells_same}
+use Rattle.dg_interp.proofs.Begun.{begun_values, begun_sound, begun_stands}
 
 -- ## The branches that are left begin with a frame
 
@@ -54,7 +54,7 @@ list_begins_at height behind env tag lists others goals list at split is =
     subst (λ b. BeginsWith height (record { goals = goals; env = env; tag = tag; mark = Nothing; behind = b }) (Lists env tag others) (Lists env tag lists)) (sym at) (list_begins height env tag lists others goals list split is)
 
 module _ (old : Engine) (frame : Frame) (others : Left) (b : Bool) (place : Place) (store1 : ListBindings) (choices : Vec Choice Global) (sound : IsSound old) (is : IsFrame (length old.frames.items) (length old.refs.items) frame)
-    (left : IsLeft (length old.frames.items) (length old.refs.items) others) (same_b : b ≡ stays_with others) (has : HasPlace old place) (k1 : Kept (store_in old.store) (store_in store1)) (saved1 : (ms : List Saved) → KeepsPlaces old.store ms → KeepsPlaces store1 ms) where
+    (left : IsLeft (length old.frames.items) (length old.refs.items) others) (plain : IsNoPart others) (same_b : b ≡ stays_with others) (has : HasPlace old place) (k1 : Kept (store_in old.store) (store_in store1)) (saved1 : (ms : List Saved) → KeepsPlaces old.store ms → KeepsPlaces store1 ms) where
   abbrev s : Store
   s = store_in old.store
 
@@ -71,10 +71,7 @@ module _ (old : Engine) (frame : Frame) (others : Left) (b : Bool) (place : Plac
   heap = cells_if b
 
   abbrev o : Choice
-  o = record { tag = old.newest; left = others; height = length fs; refs = length old.refs.items; place = place }
-
-  stand : StandOn fs (length fs) (length old.refs.items) old.newest (kept_if b o os)
-  stand = kept_stand b fs (length fs) (length old.refs.items) old.newest o os (omega arith) (omega arith) (omega arith) left same_b sound.base.frames sound.base.choices
+  o = record { tag = old.newest; left = others; height = length fs; refs = length old.refs.items; place = place; stoppable = old.stoppable }
 
   abbrev the_others : Game → Registers → List Branch
   the_others g r = branches_of g (values_in s old.refs.items) fs (length fs) others r
@@ -83,13 +80,13 @@ module _ (old : Engine) (frame : Frame) (others : Left) (b : Bool) (place : Plac
     abbrev from : Point
     from = BeginsAt all place old
 
-    abbrev lives_of : Game → Registers → List Live → List Way → List Live
-    lives_of g r lives ways = pushed (record { kind = kind_of all; tag = r.next_tag; others = the_others g r; height = 0; ways_on = ways }) lives
+    abbrev lives_now : Game → Registers → List Live → List Way → List Live
+    lives_now g r lives ways = pushed (record { kind = kind_of all; tag = r.next_tag; others = the_others g r; height = 0; ways_on = ways }) lives
 
-    stands : (g : Game) (n : ℕ) (w : World) (run : Run) (st : from g n w run) → Stands g (lives_of g st.at.registers st.at.inside.lives st.at.ways) st.at.ways (path_of (steps_at (values_in s old.refs.items) fs frame) (inside heap st.at.registers)) n (begun (inside heap st.at.registers) with.work w) run
+    stands : (g : Game) (n : ℕ) (w : World) (run : Run) (st : from g n w run) → Stands g (lives_now g st.at.registers st.at.inside.lives st.at.ways) st.at.ways (path_of (steps_at (values_in s old.refs.items) fs frame) (inside heap st.at.registers)) n (begun (inside heap st.at.registers) with.work w) run
     stands g n w run st =
         let r = st.at.registers in
-        subst (λ h. Stands g (lives_of g r st.at.inside.lives st.at.ways) st.at.ways (path_of (steps_at (values_in s old.refs.items) fs frame) (inside h r)) n (begun (inside h r) with.work w) run) (ap cells_if (sym same_b))
+        subst (λ h. Stands g (lives_now g r st.at.inside.lives st.at.ways) st.at.ways (path_of (steps_at (values_in s old.refs.items) fs frame) (inside h r)) n (begun (inside h r) with.work w) run) (ap cells_if (sym same_b))
         (subst (λ l. Tried g (kind_of all) r.next_tag 0 st.at.ways st.at.inside.lives l n w run) (with.branches g (values_in s old.refs.items) fs r) st.tried)
 
     pub frame_full : (e : Full) → Overflows heap s e → FullAt from s e
@@ -115,64 +112,26 @@ module _ (old : Engine) (frame : Frame) (others : Left) (b : Bool) (place : Plac
             since = omega (arith, a.since, ap (λ (t : State). t.since) now, ap (λ (t : State). t.vars) now);
           }
 
-      choices_now : (g : Game) (n : ℕ) (w : World) (run : Run) (st : from g n w run) → AreChoices g old.refs.items fs (reverse choices.items) (saved_if b st.back st.at.inside.saved) (lives_of g st.at.registers st.at.inside.lives st.at.ways)
-      choices_now g n w run st =
-          let r = st.at.registers in
-          let hold = hold_front st.back.store old.refs.items st.is.hold in
-          let are : the_others g r ≡ branches_of g (values_in st.back.store old.refs.items) fs (length fs) others r =
-          branches_same g (length fs) (length old.refs.items) (values_in st.back.store old.refs.items) (values_in s old.refs.items) fs fs others r left sound.base.frames
-          (values_kept (length old.refs.items) st.back.store s old.refs.items old.refs.items st.is.kept hold refl) (same_here (length fs) fs) in
-          subst (λ l. AreChoices g old.refs.items fs l (saved_if b st.back st.at.inside.saved) (lives_of g r st.at.inside.lives st.at.ways)) (sym kept)
-          (kept_choices g old.refs.items fs o os st.back st.at.inside.saved st.at.inside.lives r (kind_of all) st.at.ways (the_others g r) b (same_b ∙ sym (branches_stay g (values_in s old.refs.items) fs (length fs) others r) ∙ ap (λ k. stays k (the_others g r)) with.kind) are (sym with.kind) st.at.tag st.back_agrees hold st.is.place_is st.at.inside.choices)
+      no_refs : old.refs.items ≡ old.refs.items ++ []
+      no_refs = sym (append-nil old.refs.items)
 
-      new_sound : IsSound new
-      new_sound = record {
-        base = record {
-          program = sound.base.program;
-          hold = all_hold s s1 old.refs.items k1 sound.base.hold;
-          frames = sound.base.frames;
-          choices = subst (StandOn fs (length fs) (length old.refs.items) old.newest) (sym kept) stand;
-          places = record {
-            saved = saved_if b has.back has.saved;
-            keeps = saved1 _ (kept_places b old.store has.back has.saved has.is.keeps);
-            back_to = subst (λ l. GoBackTo old.refs.items s1.heap_limit s1.trail_limit l (saved_if b has.back has.saved)) (sym kept)
-                (kept_back b old.refs.items s1.heap_limit s1.trail_limit o os has.back has.saved has.is.place_is (hold_front has.back.store old.refs.items has.is.hold)
-                (sym (k1.heap_limit ∙ has.is.kept.heap_limit)) (sym (k1.trail_limit ∙ has.is.kept.trail_limit))
-                (back_limits old.refs.items s.heap_limit s.trail_limit s1.heap_limit s1.trail_limit os has.saved (sym k1.heap_limit) (sym k1.trail_limit) has.back_to));
-          };
-        };
-        room = sound.room;
-      }
+      none_held : All (Holds s1) []
+      none_held = λ i d lt. absurd (omega arith)
 
       pub frame_begun : WentOn from old new
       frame_begun = record {
-        ready = record { sound = new_sound; here = is };
+        ready = record { sound = begun_sound old others b place store1 old.refs old.made choices sound left plain same_b has k1 saved1 [] no_refs none_held kept frame; here = is };
         left = refl;
         limits = record { heap = k1.heap_limit; trail = k1.trail_limit };
         leads = λ g n w run st.
             let r = st.at.registers in
             let v = begun (inside heap r) with.work w in
             let same = at_same (length old.refs.items) (values_in s old.refs.items) (values_in s1 old.refs.items) fs fs (length fs) frame is
-            (values_kept (length old.refs.items) s s1 old.refs.items old.refs.items k1 (hold_front s old.refs.items sound.base.hold) refl) sound.base.frames (same_here (length fs) fs) in
+            (begun_values old others b place store1 old.refs old.made choices sound left plain same_b has k1 saved1 [] no_refs none_held kept) sound.base.frames (same_here (length fs) fs) in
             record {
               world = v;
               adds = record { prints_are = sym (append-nil (prints w.events)); typed = refl };
-              holds = record {
-                at = record {
-                  inside = record {
-                    program = st.at.inside.program;
-                    lives = lives_of g r st.at.inside.lives st.at.ways;
-                    saved = saved_if b st.back st.at.inside.saved;
-                    keeps = saved1 _ (kept_places b old.store st.back st.at.inside.saved st.is.keeps);
-                    choices = choices_now g n w run st;
-                    world = st.at.inside.world;
-                  };
-                  ways = st.at.ways;
-                  registers = inside heap r;
-                  agrees = agrees_now r st.at.agrees;
-                  tag = ap (λ k. k + 1) st.at.tag;
-                };
-                stands = subst (λ l. Stands g (lives_of g r st.at.inside.lives st.at.ways) st.at.ways (path_of l (inside heap r)) n v run) (sym same) (stands g n w run st);
-              };
+              holds = begun_stands old others b place store1 old.refs old.made choices sound left plain same_b has k1 saved1 [] no_refs none_held kept all with.kind g n w run st frame v (inside heap r) st.at.inside.world (agrees_now r st.at.agrees) (ap (λ i. i + 1) st.at.tag) refl
+                  (subst (λ l. Stands g (lives_now g r st.at.inside.lives st.at.ways) st.at.ways (path_of l (inside heap r)) n v run) (sym same) (stands g n w run st));
             };
       }

@@ -3,7 +3,6 @@ use Rattle.std.proofs.Common.{◌≡◌, ℕ, zero, suc, ◌+◌, ◌<◌, ◌�
 use Rattle.std.specs.Prelude.{reverse}
 use Rattle.std.specs.List.{All, zip}
 use Rattle.std.proofs.lemmas.List.{append-nil, length-map}
-use Rattle.std.proofs.lemmas.List.Elements.{All-append}
 use Rattle.std.specs.declared.vec.Vec.{Vec}
 use Rattle.std.specs.declared.alloc.Global.{Global}
 use Rattle.dg_base.specs.declared.program.Goal.{Goal}
@@ -13,8 +12,8 @@ use Rattle.dg_meaning.specs.Values.{Value, value_of}
 use Rattle.dg_meaning.specs.Substitutions.{IsSubstitution, Extends}
 use Rattle.dg_meaning.specs.Unify.{Unified, solve}
 use Rattle.dg_meaning.specs.World.{Game, World, prints}
-use Rattle.dg_meaning.specs.Path.{Step, Registers, Path, Branch, Enter, Clash, Rules as RulesOf, Moves}
-use Rattle.dg_meaning.specs.Moves.{begun, inside, path_of, choice_cells, begins as the_begins, enter_if, is_excluded, call_cells, unless_excluded, entering, older_bound, rule_steps, vars_of, new_vars, entered, match, matched, rule_branch, rule_branches}
+use Rattle.dg_meaning.specs.Path.{Step, Registers, Path, Branch, Enter, Clash, Plain, Rules as RulesOf, Moves}
+use Rattle.dg_meaning.specs.Moves.{begun, inside, enter, path_of, choice_cells, begins as the_begins, enter_if, is_excluded, call_cells, unless_excluded, entering, older_bound, rule_steps, vars_of, new_vars, entered, match, matched, rule_branch, rule_branches}
 use Rattle.dg_meaning.specs.Transcript.{Run}
 use Rattle.dg_meaning.specs.Context.{Way, Live}
 use Rattle.dg_meaning.specs.Keeps.{Stands, Began, Tried}
@@ -34,20 +33,21 @@ use Rattle.dg_interp.specs.declared.frames.Query.{Query}
 use Rattle.dg_interp.specs.declared.frames.Env.{Env}
 use Rattle.dg_interp.specs.declared.frames.Mark.TheVariants.{AnswerOf}
 use Rattle.dg_interp.specs.declared.frames.Frame.{Frame}
-use Rattle.dg_interp.specs.declared.frames.Left.TheVariants.{Rules, Way as OneWay}
+use Rattle.dg_interp.specs.declared.frames.Left.TheVariants.{Rules, Way as OneWay, Behind}
 use Rattle.dg_interp.specs.declared.frames.Choice.{Choice}
+use Rattle.dg_interp.specs.declared.frames.Left.{Left}
 use Rattle.dg_interp.specs.declared.engine.Engine.{Engine}
 use Rattle.dg_interp.specs.Terms.{Overflows}
 use Rattle.dg_interp.specs.Passing.{rules_from, IsFirst, IsCandidate}
 use Rattle.dg_interp.proofs.PassedRules.{rules_from_candidate}
 use Rattle.dg_meaning.specs.Selection.{first_excludes, from_candidate}
 use Rattle.dg_interp.specs.Rules.{rule_cells, matched_in, EntersRule, RuleFull}
-use Rattle.dg_interp.specs.Frames.{values_in, frame_steps, steps_behind, steps_at, branches_of, AreChoices, IsFrame, IsLeft, StandOn, GoBackTo}
+use Rattle.dg_interp.specs.Frames.{values_in, frame_steps, steps_behind, steps_at, kind_of, branches_of, AreChoices, IsFrame, IsLeft, StandOn, GoBackTo}
 use Rattle.dg_interp.specs.Engine.{store_in, KeepsPlaces, HasPlace, Point, IsSound, StandsAt, BeginsAt, FullAt, Adds, Then, SameLimits, WentOn, WentWrong, kept_if}
 use Rattle.dg_unify.specs.Engines.{Agrees}
-use Rattle.dg_interp.proofs.Links.{same_here, branches_same, behind_same, choices_same, back_same, frames_raise, stand_raise}
+use Rattle.dg_interp.proofs.Links.{SameBy, same_here, behind_same}
 use Rattle.dg_interp.proofs.Stores.{kept_on, all_hold, values_kept, hold_front, front_same, appended_stretch, values_count, trail_append, trail_older, made_is}
-use Rattle.dg_interp.proofs.Kept.{saved_if, kept_back, kept_choices}
+use Rattle.dg_interp.proofs.Begun.{begun_values, begun_sound, begun_stands, begun_fails}
 use Rattle.dg_interp.proofs.Turns.{all_first, all_rest, reverse_pop}
 
 -- ## Peaks
@@ -139,9 +139,6 @@ module _ (g : Game) (rule : Rule) (args : List Value) (heap : ℕ) (s s1 s2 : St
 pub kept_more : (b : Bool) (o : Choice) (xs ys : List Choice) → b ≡ true → ys ≡ xs ++ o ∷ [] → reverse ys ≡ kept_if b o (reverse xs)
 kept_more b o xs ys h e = reverse_pop ys xs o e ∙ ap (λ x. kept_if x o (reverse xs)) (sym h)
 
-pub back_limits : (refs : List Ref) (h t h' t' : ℕ) (os : List Choice) (ms : List Saved) → h ≡ h' → t ≡ t' → GoBackTo refs h t os ms → GoBackTo refs h' t' os ms
-back_limits refs h t h' t' os ms e e' b = subst (λ x. GoBackTo refs h' x os ms) e' (subst (λ x. GoBackTo refs x t os ms) e b)
-
 module _ (old : Engine) (query : Query) (args : Env) (rules others : Bor (List Rule)) (rule : Rule) (place : Place) (store1 : ListBindings) (choices : Vec Choice Global) (sound : IsSound old)
     (left : IsLeft (length old.frames.items) (length old.refs.items) (Rules query args rules)) (has : HasPlace old place) (split : rules.now ≡ rule ∷ others.now) (first : Option View) (is_first : IsFirst (store_in old.store) (values_in (store_in old.store) old.refs.items args) first) (candidate : IsCandidate (store_in old.store) (values_in (store_in old.store) old.refs.items args) rules.now)
     (k1 : Kept (store_in old.store) (store_in store1)) (saved1 : (ms : List Saved) → KeepsPlaces old.store ms → KeepsPlaces store1 ms) where
@@ -164,7 +161,7 @@ module _ (old : Engine) (query : Query) (args : Env) (rules others : Bor (List R
   heap = choice_cells args.len (rules_from first others.now)
 
   abbrev o : Choice
-  o = record { tag = old.newest; left = Rules query args others; height = length fs; refs = length xs; place = place }
+  o = record { tag = old.newest; left = Rules query args others; height = length fs; refs = length xs; place = place; stoppable = old.stoppable }
 
   abbrev from : Point
   from = BeginsAt (Rules query args rules) place old
@@ -181,14 +178,14 @@ module _ (old : Engine) (query : Query) (args : Env) (rules others : Bor (List R
   pub rule_built : IsBuiltRule rule
   rule_built = all_first IsBuiltRule rule others.now built_all
 
-  stand : StandOn fs (length fs) (length xs) old.newest (o ∷ os)
-  stand = (omega arith, omega arith, omega arith, ((all_rest IsBuiltRule rule others.now built_all, left.1), refl), sound.base.frames, sound.base.choices)
+  others_fit : IsLeft (length fs) (length xs) (Rules query args others)
+  others_fit = (all_rest IsBuiltRule rule others.now built_all, left.1)
 
   abbrev branches : Registers → Game → List Branch
   branches r g = rule_branches g query.pred the_args query.many steps r others.now
 
-  abbrev lives_of : Game → Registers → List Live → List Way → List Live
-  lives_of g r lives ways = record { kind = RulesOf query.pred; tag = r.next_tag; others = branches r g; height = 0; ways_on = ways } ∷ lives
+  abbrev lives_now : Game → Registers → List Live → List Way → List Live
+  lives_now g r lives ways = record { kind = RulesOf query.pred; tag = r.next_tag; others = branches r g; height = 0; ways_on = ways } ∷ lives
 
   abbrev behind_of : Game → Registers → Registers
   behind_of g r = matched (match g the_args rule r) r (entered g heap rule r)
@@ -211,10 +208,10 @@ module _ (old : Engine) (query : Query) (args : Env) (rules others : Bor (List R
       ap (λ h. rule_branch g query.pred the_args query.many steps r h rule) (same_heap r agrees)
       ∙ ap (λ b. unless_excluded b r (entering g the_args rule r) (branch r g)) (not_excluded r agrees)
 
-  begins : (g : Game) (n : ℕ) (w : World) (run : Run) (st : from g n w run) → Began g (lives_of g st.at.registers st.at.inside.lives st.at.ways) st.at.ways (branch st.at.registers g) n w run
+  begins : (g : Game) (n : ℕ) (w : World) (run : Run) (st : from g n w run) → Began g (lives_now g st.at.registers st.at.inside.lives st.at.ways) st.at.ways (branch st.at.registers g) n w run
   begins g n w run st =
       let r = st.at.registers in
-      subst (λ b. Began g (lives_of g r st.at.inside.lives st.at.ways) st.at.ways b n w run) (branch_is g r st.at.agrees)
+      subst (λ b. Began g (lives_now g r st.at.inside.lives st.at.ways) st.at.ways b n w run) (branch_is g r st.at.agrees)
       (subst (λ l. Tried g (RulesOf query.pred) r.next_tag 0 st.at.ways st.at.inside.lives (rule_branches g query.pred the_args query.many steps r l) n w run) split st.tried)
 
   sub : IsSubstitution s.state.subst
@@ -266,45 +263,17 @@ module _ (old : Engine) (query : Query) (args : Env) (rules others : Bor (List R
       abbrev ends : EntersRule old.program.now rule (values_in s1 xs args) s1 s2 xs ys found
       ends = enters old.program.now
 
-      front : take (length xs) ys ≡ take (length xs) xs
-      front = front_same xs ends.appended.made ys ends.appended.is
-
-      longer : length xs ≤ length ys
-      longer = omega (arith, ap length ends.appended.is, length-append xs ends.appended.made)
+      saved12 : (ms : List Saved) → KeepsPlaces old.store ms → KeepsPlaces store2 ms
+      saved12 ms h = saved2 ms (saved1 ms h)
 
       abbrev new : Frame → Engine
       new here = record old { store = store2; refs = refs2; choices = choices; made = made2; here = here }
 
-      saved_places : (back : Saved) (ms : List Saved) → KeepsPlaces old.store (back ∷ ms) → KeepsPlaces store2 (saved_if true back ms)
-      saved_places back ms h = saved2 (back ∷ ms) (saved1 (back ∷ ms) h)
+      values_now : SameBy (length xs) (values_in s xs) (values_in s2 ys)
+      values_now = begun_values old (Rules query args others) true place store2 refs2 made2 choices sound others_fit tt refl has k12 saved12 ends.appended.made ends.appended.is ends.appended.hold kept
 
       rule_sound : (here : Frame) → IsSound (new here)
-      rule_sound here = record {
-        base = record {
-          program = sound.base.program;
-          hold = subst (All (Holds s2)) (sym ends.appended.is) (All-append (Holds s2) xs ends.appended.made (all_hold s s2 xs k12 sound.base.hold) ends.appended.hold);
-          frames = frames_raise (length fs) (length xs) (length ys) fs longer sound.base.frames;
-          choices = subst (StandOn fs (length fs) (length ys) old.newest) (sym kept) (stand_raise fs (length fs) (length fs) (length xs) (length ys) old.newest old.newest (kept_if true o os) (omega arith) longer (omega arith) stand);
-          places = record {
-            saved = saved_if true has.back has.saved;
-            keeps = saved_places has.back has.saved has.is.keeps;
-            back_to = subst (λ l. GoBackTo ys s2.heap_limit s2.trail_limit l (saved_if true has.back has.saved)) (sym kept)
-                (kept_back true ys s2.heap_limit s2.trail_limit o os has.back has.saved has.is.place_is (subst (All (Holds has.back.store)) (sym front) (hold_front has.back.store xs has.is.hold))
-                (sym (k12.heap_limit ∙ has.is.kept.heap_limit)) (sym (k12.trail_limit ∙ has.is.kept.trail_limit))
-                (back_limits ys s.heap_limit s.trail_limit s2.heap_limit s2.trail_limit os has.saved (sym k12.heap_limit) (sym k12.trail_limit) (back_same xs ys fs (length fs) (length xs) old.newest s.heap_limit s.trail_limit os has.saved front sound.base.choices has.back_to)));
-          };
-        };
-        room = sound.room;
-      }
-
-      choices_now : (g : Game) (n : ℕ) (w : World) (run : Run) (st : from g n w run) → AreChoices g ys fs (reverse choices.items) (saved_if true st.back st.at.inside.saved) (lives_of g st.at.registers st.at.inside.lives st.at.ways)
-      choices_now g n w run st =
-          let r = st.at.registers in
-          let are : branches r g ≡ branches_of g (values_in st.back.store xs) fs (length fs) (Rules query args others) r =
-          branches_same g (length fs) (length xs) (values_in st.back.store xs) (values_in s xs) fs fs (Rules query args others) r (all_rest IsBuiltRule rule others.now built_all, left.1) sound.base.frames (values_kept (length xs) st.back.store s xs xs st.is.kept (hold_front st.back.store xs st.is.hold) refl) (same_here (length fs) fs) in
-          subst (λ l. AreChoices g ys fs l (saved_if true st.back st.at.inside.saved) (lives_of g r st.at.inside.lives st.at.ways)) (sym kept)
-          (choices_same g xs ys fs fs (length fs) (length xs) old.newest (kept_if true o os) (saved_if true st.back st.at.inside.saved) (lives_of g r st.at.inside.lives st.at.ways) front (same_here (length fs) fs) stand
-          (kept_choices g xs fs o os st.back st.at.inside.saved st.at.inside.lives r (RulesOf query.pred) st.at.ways (branches r g) true refl are refl st.at.tag st.back_agrees (hold_front st.back.store xs st.is.hold) st.is.place_is st.at.inside.choices))
+      rule_sound = begun_sound old (Rules query args others) true place store2 refs2 made2 choices sound others_fit tt refl has k12 saved12 ends.appended.made ends.appended.is ends.appended.hold kept
 
       adds_begun : (r : Registers) (work : ℕ) (w : World) → Adds [] w (begun r work w)
       adds_begun r work w = record { prints_are = sym (append-nil (prints w.events)); typed = refl }
@@ -325,17 +294,8 @@ module _ (old : Engine) (query : Query) (args : Env) (rules others : Bor (List R
             record {
               world = begun (behind_of g r) work w;
               adds = adds_begun (behind_of g r) work w;
-              holds = record {
-                inside = record {
-                  program = st.at.inside.program;
-                  lives = lives_of g r st.at.inside.lives st.at.ways;
-                  saved = saved_if true st.back st.at.inside.saved;
-                  keeps = saved_places st.back st.at.inside.saved st.is.keeps;
-                  choices = choices_now g n w run st;
-                  world = st.at.inside.world;
-                };
-                failed = subst (λ b. Began g (lives_of g r st.at.inside.lives st.at.ways) st.at.ways (enter_if b (path_of (rule_steps query.pred query.many (vars_of rule r) r.next_tag rule steps) (behind_of g r)) work) n w run) none (begins g n w run st);
-              };
+              holds = begun_fails old (Rules query args others) true place store2 refs2 made2 choices sound others_fit tt refl has k12 saved12 ends.appended.made ends.appended.is ends.appended.hold kept (Rules query args rules) refl g n w run st old.here (begun (behind_of g r) work w) st.at.inside.world
+                  (subst (λ b. Began g (lives_now g r st.at.inside.lives st.at.ways) st.at.ways (enter_if b (path_of (rule_steps query.pred query.many (vars_of rule r) r.next_tag rule steps) (behind_of g r)) work) n w run) none (begins g n w run st));
             };
       }
 
@@ -356,7 +316,7 @@ module _ (old : Engine) (query : Query) (args : Env) (rules others : Bor (List R
         same_steps : (g : Game) (r : Registers) → Agrees s r → r.next_tag ≡ old.newest → steps_at (values_in s2 ys) fs here ≡ rule_steps query.pred query.many (vars_of rule r) r.next_tag rule steps
         same_steps g r agrees tag =
             ap (λ vs. frame_steps vs goals.now old.newest (AnswerOf query) (steps_behind (values_in s2 ys) fs (length fs))) (values_made g r agrees)
-            ∙ ap (λ l. frame_steps (vars_of rule r) goals.now old.newest (AnswerOf query) l) (behind_same (length xs) (values_in s xs) (values_in s2 ys) fs fs (length fs) (length fs) (omega arith) (values_kept (length xs) s s2 xs ys k12 (hold_front s xs sound.base.hold) front) sound.base.frames (same_here (length fs) fs))
+            ∙ ap (λ l. frame_steps (vars_of rule r) goals.now old.newest (AnswerOf query) l) (behind_same (length xs) (values_in s xs) (values_in s2 ys) fs fs (length fs) (length fs) (omega arith) values_now sound.base.frames (same_here (length fs) fs))
             ∙ ap (λ (l : List Goal). frame_steps (vars_of rule r) l old.newest (AnswerOf query) steps) body
             ∙ ap (λ t. rule_steps query.pred query.many (vars_of rule r) t rule steps) (sym tag)
 
@@ -381,63 +341,55 @@ module _ (old : Engine) (query : Query) (args : Env) (rules others : Bor (List R
               record {
                 world = begun s' work w;
                 adds = adds_begun s' work w;
-                holds = record {
-                  at = record {
-                    inside = record {
-                      program = st.at.inside.program;
-                      lives = lives_of g r st.at.inside.lives st.at.ways;
-                      saved = saved_if true st.back st.at.inside.saved;
-                      keeps = saved_places st.back st.at.inside.saved st.is.keeps;
-                      choices = choices_now g n w run st;
-                      world = st.at.inside.world;
-                    };
-                    ways = st.at.ways;
-                    registers = s';
-                    agrees = rule_agrees g rule the_args heap s s1 s2 r st.at.agrees sub charged xs ys found (does g);
-                    tag = ap (λ k. k + 1) st.at.tag;
-                  };
-                  stands = subst (λ l. Stands g (lives_of g r st.at.inside.lives st.at.ways) st.at.ways (path_of l s') n (begun s' work w) run) (sym (same_steps g r st.at.agrees st.at.tag))
-                      (subst (λ b. Began g (lives_of g r st.at.inside.lives st.at.ways) st.at.ways (enter_if b (path_of (rule_steps query.pred query.many (vars_of rule r) r.next_tag rule steps) s') work) n w run) yes' (begins g n w run st));
-                };
+                holds = begun_stands old (Rules query args others) true place store2 refs2 made2 choices sound others_fit tt refl has k12 saved12 ends.appended.made ends.appended.is ends.appended.hold kept (Rules query args rules) refl g n w run st here (begun s' work w) s' st.at.inside.world
+                    (rule_agrees g rule the_args heap s s1 s2 r st.at.agrees sub charged xs ys found (does g)) (ap (λ i. i + 1) st.at.tag) refl
+                    (subst (λ l. Stands g (lives_now g r st.at.inside.lives st.at.ways) st.at.ways (path_of l s') n (begun s' work w) run) (sym (same_steps g r st.at.agrees st.at.tag))
+                    (subst (λ b. Began g (lives_now g r st.at.inside.lives st.at.ways) st.at.ways (enter_if b (path_of (rule_steps query.pred query.many (vars_of rule r) r.next_tag rule steps) s') work) n w run) yes' (begins g n w run st)));
               };
         }
 
 -- ## A way on
 
-way_begins : (old : Engine) (frame : Frame) (place : Place) (sound : IsSound old) (g : Game) (n : ℕ) (w : World) (run : Run) → BeginsAt (OneWay frame) place old g n w run → Then [] w (λ v. StandsAt (record old { here = frame }) g n v run)
-way_begins old frame place sound g n w run st =
-    let r = st.at.registers in
-    let steps = steps_at (values_in (store_in old.store) old.refs.items) old.frames.items frame in
-    let v = begun (inside 0 r) 0 w in
-    record {
-      world = v;
-      adds = record { prints_are = sym (append-nil (prints w.events)); typed = refl };
-      holds = record {
-        at = record {
-          inside = record {
-            program = st.at.inside.program;
-            lives = st.at.inside.lives;
-            saved = st.at.inside.saved;
-            keeps = saves_drops true (fields_of old.store) st.back st.at.inside.saved st.is.keeps;
-            choices = st.at.inside.choices;
-            world = st.at.inside.world;
+module _ (old : Engine) (left : Left) (frame : Frame) (place : Place) (sound : IsSound old) (is : IsFrame (length old.frames.items) (length old.refs.items) frame)
+    (alone : (g : Game) (values : Env → List Value) (fs : List Frame) (r : Registers) → branches_of g values fs (length old.frames.items) left r ≡ enter 0 0 r (steps_at values fs frame) ∷ []) (plain : kind_of left ≡ Plain) where
+  pub way_begun : WentOn (BeginsAt left place old) old (record old { here = frame })
+  way_begun = record {
+    ready = record { sound = record { base = sound.base; room = sound.room }; here = is };
+    left = refl;
+    limits = record { heap = refl; trail = refl };
+    leads = λ g n w run st.
+        let r = st.at.registers in
+        let v = begun (inside 0 r) 0 w in
+        record {
+          world = v;
+          adds = record { prints_are = sym (append-nil (prints w.events)); typed = refl };
+          holds = record {
+            at = record {
+              inside = record {
+                program = st.at.inside.program;
+                entries = st.at.inside.entries;
+                lives = st.at.inside.lives;
+                lives_are = st.at.inside.lives_are;
+                saved = st.at.inside.saved;
+                keeps = saves_drops true (fields_of old.store) st.back st.at.inside.saved st.is.keeps;
+                choices = st.at.inside.choices;
+                world = st.at.inside.world;
+              };
+              ways = st.at.ways;
+              ways_are = st.at.ways_are;
+              registers = inside 0 r;
+              agrees = record { bound = st.at.agrees.bound; vars = st.at.agrees.vars; heap = omega (arith, st.at.agrees.heap); trail = st.at.agrees.trail; since = st.at.agrees.since };
+              tag = ap (λ k. k + 1) st.at.tag;
+              stop = st.at.stop;
+            };
+            stands = subst (λ k. Tried g k r.next_tag 0 st.at.ways st.at.inside.lives (enter 0 0 r (steps_at (values_in (store_in old.store) old.refs.items) old.frames.items frame) ∷ []) n w run) plain
+                (subst (λ l. Tried g (kind_of left) r.next_tag 0 st.at.ways st.at.inside.lives l n w run) (alone g (values_in (store_in old.store) old.refs.items) old.frames.items r) st.tried);
           };
-          ways = st.at.ways;
-          registers = inside 0 r;
-          agrees = record { bound = st.at.agrees.bound; vars = st.at.agrees.vars; heap = omega (arith, st.at.agrees.heap); trail = st.at.agrees.trail; since = st.at.agrees.since };
-          tag = ap (λ k. k + 1) st.at.tag;
         };
-        stands = st.tried;
-      };
-    }
+  }
 
-pub way_begun : (old : Engine) (frame : Frame) (place : Place) → IsSound old → IsFrame (length old.frames.items) (length old.refs.items) frame → WentOn (BeginsAt (OneWay frame) place old) old (record old { here = frame })
-way_begun old frame place sound is = record {
-  ready = record {
-    sound = record { base = sound.base; room = sound.room };
-    here = is;
-  };
-  left = refl;
-  limits = record { heap = refl; trail = refl };
-  leads = λ g n w run st. way_begins old frame place sound g n w run st;
-}
+pub one_way_begun : (old : Engine) (frame : Frame) (place : Place) → IsSound old → IsFrame (length old.frames.items) (length old.refs.items) frame → WentOn (BeginsAt (OneWay frame) place old) old (record old { here = frame })
+one_way_begun old frame place sound is = way_begun old (OneWay frame) frame place sound is (λ g values fs r. refl) refl
+
+pub part_begun : (old : Engine) (frame : Frame) (cut : Option ℕ) (place : Place) → IsSound old → IsFrame (length old.frames.items) (length old.refs.items) frame → WentOn (BeginsAt (Behind frame cut) place old) old (record old { here = frame })
+part_begun old frame cut place sound is = way_begun old (Behind frame cut) frame place sound is (λ g values fs r. refl) refl

@@ -1,5 +1,5 @@
 -- The newest choice is tried again.
-use Rattle.std.proofs.Common.{◌≡◌, ℕ, ◌+◌, ◌<◌, ◌≤◌, List, [], ◌∷◌, ◌++◌, Bool, true, false, refl, sym, ap, ◌∙◌, subst, arith, length, take, length-take}
+use Rattle.std.proofs.Common.{◌≡◌, ℕ, ◌+◌, ◌<◌, ◌≤◌, List, [], ◌∷◌, ◌++◌, Bool, true, false, Some, None, refl, sym, ap, ◌∙◌, subst, arith, length, take, length-take}
 use Rattle.std.specs.Prelude.{reverse, Result as Answer, Ok, Err, IfOk, IfErr, OnOk, MatchResult}
 use Rattle.std.specs.List.{All}
 use Rattle.std.specs.declared.vec.Vec.{Vec}
@@ -8,9 +8,10 @@ use Rattle.dg_meaning.specs.World.{Game, World}
 use Rattle.dg_meaning.specs.Path.{Result, Failing}
 use Rattle.dg_meaning.specs.Transcript.{Run}
 use Rattle.dg_meaning.specs.Context.{Live}
-use Rattle.dg_meaning.specs.Keeps.{Finished, FailsTo, Resumed, Tried, tried_in}
+use Rattle.dg_meaning.specs.Keeps.{Failed, Finished, FailsTo, GoesBack as ComesBack, Resumed, Tried, tried_in}
 use Rattle.dg_meaning.proofs.Keeps.{failed, tries}
 use Rattle.dg_unify.specs.Store.{Store, State, Saved, Holds, Back}
+use Rattle.dg_unify.specs.Engines.{Agrees}
 use Rattle.dg_unify.specs.Laws.{saves_drops}
 use Rattle.dg_unify.specs.Listed.{fields_of}
 use Rattle.dg_unify.specs.declared.bindings.Ref.{Ref}
@@ -21,12 +22,12 @@ use Rattle.dg_unify.specs.declared.list.ListBindings.{ListBindings}
 use Rattle.dg_interp.specs.declared.frames.Frame.{Frame}
 use Rattle.dg_interp.specs.declared.frames.Choice.{Choice}
 use Rattle.dg_interp.specs.declared.engine.Engine.{Engine}
-use Rattle.dg_interp.specs.Frames.{values_in, kind_of, branches_of, IsChoice, AreChoices, AreFrames, IsLeft, StandOn, GoBackTo, left_in, stays_with, all_left}
-use Rattle.dg_interp.specs.Engine.{store_in, KeepsPlaces, InWorld, HasPlace, IsPlace, Point, IsSound, StandsAt, FailsAt, BeginsAt, Adds, Then, Leads, FullAt, SameLimits, WentOn, WentWrong, HasEndedSo, AtGoal, Branches, GoesBack, Tries, branches_left}
-use Rattle.dg_interp.proofs.Links.{same_take, branches_same, frames_take, stand_same, choices_same, back_same}
+use Rattle.dg_interp.specs.Frames.{values_in, kind_of, branches_of, cut_of, cut_if, lives_of, ways_of, IsChoice, AreChoices, AreFrames, IsLeft, IsNoted, StandOn, GoBackTo, left_in, stays_with, all_left}
+use Rattle.dg_interp.specs.Engine.{store_in, KeepsPlaces, InWorld, HasPlaces, Sound, Within, HasPlace, IsPlace, Cuts, Retries, Point, IsSound, StandsAt, FailsAt, BeginsAt, Adds, Then, Leads, FullAt, SameLimits, WentOn, WentWrong, HasEndedSo, AtGoal, Branches, GoesBack, Tries, branches_left}
+use Rattle.dg_interp.proofs.Links.{SameBy, same_take, branches_same, frames_take, stand_raise, stand_same, choices_same, back_same, cut_gone, cut_fewer}
 use Rattle.dg_interp.proofs.Stores.{all_hold, values_kept, take_all}
-use Rattle.dg_interp.proofs.Begins.{back_limits}
-use Rattle.dg_interp.proofs.Places.{went_further, went_wrong, adds_nothing, world_drops, world_tried, adds_on, adds_drops, adds_tried, leads_on, limits_on}
+use Rattle.dg_interp.proofs.Kept.{back_limits}
+use Rattle.dg_interp.proofs.Places.{went_further, went_wrong, cut_base, cut_inside, adds_nothing, world_drops, world_tried, adds_on, adds_drops, adds_tried, leads_on, limits_on}
 use Rattle.dg_interp.proofs.Turns.{reverse_pop}
 
 -- ## The store to which a choice goes back
@@ -55,23 +56,85 @@ module _ (old : Engine) (o : Choice) (choices : Vec Choice Global) (sound : IsSo
   was : reverse old.choices.items ≡ o ∷ os
   was = reverse_pop old.choices.items choices.items o popped
 
-  back_to : GoBackTo xs (store_in old.store).heap_limit (store_in old.store).trail_limit (o ∷ os) sound.base.places.saved
+  pub back_to : GoBackTo xs (store_in old.store).heap_limit (store_in old.store).trail_limit (o ∷ os) sound.base.places.saved
   back_to = subst (λ l. GoBackTo xs (store_in old.store).heap_limit (store_in old.store).trail_limit l sound.base.places.saved) was sound.base.places.back_to
 
   pub may_undo : KeptAt old.store o.place
   may_undo = kept_at old.store xs _ _ o os sound.base.places.saved back_to sound.base.places.keeps
 
-  stand : StandOn fs (length fs) (length xs) old.newest (o ∷ os)
+  pub stand : StandOn fs (length fs) (length xs) old.newest (o ∷ os)
   stand = subst (StandOn fs (length fs) (length xs) old.newest) was sound.base.choices
 
   pub fewer_left : all_left (reverse old.choices.items) ≡ 1 + left_in o.left + all_left os
   fewer_left = ap all_left was
 
+  -- ## A stoppable part in which a cut waits
+
+  popped_of : (ms : List Saved) → GoBackTo xs (store_in old.store).heap_limit (store_in old.store).trail_limit (o ∷ os) ms → KeepsPlaces old.store ms → HasPlaces old.store xs os
+  popped_of [] b h = absurd b
+  popped_of (m ∷ ms) b h = record { saved = ms; keeps = saves_drops true (fields_of old.store) m ms h; back_to = b.4 }
+
+  pub popped_base : Sound old.program.now old.store xs fs os old.newest
+  popped_base = record {
+    program = sound.base.program;
+    hold = sound.base.hold;
+    frames = sound.base.frames;
+    choices = stand_raise fs o.height (length fs) o.refs (length xs) o.tag old.newest os stand.0 stand.1 stand.2 stand.5;
+    places = popped_of sound.base.places.saved back_to sound.base.places.keeps;
+  }
+
+  module _ (t : ℕ) (rest : Vec Choice Global) (waits : Some t ≡ cut_of o.left) (cuts : Cuts t choices.items rest.items) where
+    abbrev dropped : Engine
+    dropped = record old { choices = rest }
+
+    from_part : (g : Game) (n : ℕ) (w : World) (run : Run) (program : old.program.now ≡ g.program) (world : InWorld w) (ms : List Saved) (es : List Live) (ls : List Live) → KeepsPlaces old.store ms → AreChoices g xs fs (o ∷ os) ms es → ls ≡ lives_of (o ∷ os) es → Failed g ls n w run → FailsAt dropped g n w run
+    from_part g n w run program world ms [] ls k h e f = absurd (no_lives g ms h) where
+      no_lives : (g : Game) (ms : List Saved) → AreChoices g xs fs (o ∷ os) ms [] → ⊥
+      no_lives g [] h = h
+      no_lives g (m ∷ ms) h = h
+    from_part g n w run program world [] (c ∷ cs) ls k h e f = absurd h
+    from_part g n w run program world (m ∷ ms) (c ∷ cs) ls k h e f =
+        let before : Within old.program.now old.store xs fs os g w = record {
+          program = program;
+          entries = cs;
+          lives = lives_of os cs;
+          lives_are = refl;
+          saved = ms;
+          keeps = saves_drops true (fields_of old.store) m ms k;
+          choices = h.1;
+          world = world;
+        } in
+        let noted = subst (IsNoted o.tag) (sym waits) stand.3.2 in
+        record {
+          inside = cut_inside t old.program.now old.store xs fs os (reverse rest.items) cuts g w w world before;
+          failed = subst (λ l. Failed g l n w run) (e ∙ ap (λ q. cut_if q (c ∷ lives_of os cs)) (sym waits) ∙ cut_gone t c (lives_of os cs) (omega (arith, noted, h.0.tag))) f;
+        }
+
+    pub part_dropped : WentWrong (FailsAt old) old dropped
+    part_dropped = record {
+      sound = record { base = cut_base t old.program.now old.store xs fs os (reverse rest.items) cuts old.newest popped_base; room = sound.room };
+      left = refl;
+      limits = record { heap = refl; trail = refl };
+      leads = λ g n w run st. record {
+        world = w;
+        adds = adds_nothing w;
+        holds = from_part g n w run st.inside.program st.inside.world st.inside.saved st.inside.entries st.inside.lives st.inside.keeps (subst (λ l. AreChoices g xs fs l st.inside.saved st.inside.entries) was st.inside.choices) (st.inside.lives_are ∙ ap (λ l. lives_of l st.inside.entries) was) st.failed;
+      };
+    }
+
+    part_fewer : branches_left dropped < branches_left old
+    part_fewer = let less = cut_fewer t os in omega (arith, ap all_left cuts, less, fewer_left)
+
+    pub part_retried : Retries (FailsAt old) (Some false) old dropped
+    part_retried = (part_dropped, part_fewer)
+
+  -- ## A choice that was not cut
+
   module _ (frames : Vec Frame Global) (refs : Vec Ref Global) (store : ListBindings) (cut : frames.items ≡ take o.height fs) (cut_refs : refs.items ≡ take o.refs xs)
       (back : (s : Store) (ms : List Saved) → KeepsPlaces old.store (record { mark = o.place; store = s } ∷ ms) → Back s (store_in store))
       (keeps : (s : Store) (ms : List Saved) → KeepsPlaces old.store (record { mark = o.place; store = s } ∷ ms) → KeepsPlaces store (record { mark = o.place; store = s } ∷ ms)) where
     abbrev mid : Engine
-    mid = record old { frames = frames; refs = refs; store = store; choices = choices; newest = o.tag }
+    mid = record old { frames = frames; refs = refs; store = store; choices = choices; newest = o.tag; stoppable = o.stoppable }
 
     count : length frames.items ≡ o.height
     count = ap length cut ∙ length-take o.height fs ∙ omega (arith, stand.0)
@@ -79,7 +142,7 @@ module _ (old : Engine) (o : Choice) (choices : Vec Choice Global) (sound : IsSo
     count_refs : length refs.items ≡ o.refs
     count_refs = ap length cut_refs ∙ length-take o.refs xs ∙ omega (arith, stand.1)
 
-    front : take o.refs refs.items ≡ take o.refs xs
+    pub front : take o.refs refs.items ≡ take o.refs xs
     front = ap (λ n. take n refs.items) (sym count_refs) ∙ take_all refs.items ∙ cut_refs
 
     -- what is known of a store that was kept
@@ -134,63 +197,84 @@ module _ (old : Engine) (o : Choice) (choices : Vec Choice Global) (sound : IsSo
     pub popped_stays : stays_with o.left ≡ true
     popped_stays = stand.3.1
 
-    begins : (g : Game) (m : Saved) (ms : List Saved) (c : Live) (cs : List Live) (n : ℕ) (w v : World) (run : Run) → InWorld v → Adds [] w v → old.program.now ≡ g.program → KeepsPlaces old.store (m ∷ ms) → IsChoice g xs fs o m c → AreChoices g xs fs os ms cs → Resumed g c cs n v run →
-        Then [] w (λ u. BeginsAt o.left o.place mid g n u run)
-    begins g m ms c cs n w v run still adds program kept is others resumed =
-        let r = is.registers in
-        let place = is_place m ms is.place is.hold kept in
-        let here = back m.store ms (same_saved old.store o.place m ms is.place kept) in
-        let values = values_kept o.refs m.store (store_in store) xs refs.items place.kept is.hold front in
-        let same : branches_of g (values_in (store_in store) refs.items) frames.items (length frames.items) o.left r ≡ branches_of g (values_in m.store xs) fs o.height o.left r =
-        ap (λ h. branches_of g (values_in (store_in store) refs.items) frames.items h o.left r) count
-        ∙ ap (λ l. branches_of g (values_in (store_in store) refs.items) l o.height o.left r) cut
-        ∙ branches_same g o.height o.refs (values_in m.store xs) (values_in (store_in store) refs.items) fs (take o.height fs) o.left r stand.3.0 stand.4 values (same_take fs o.height) in
-        record {
-          world = tried_in c.kind c.others v;
-          adds = adds_on w v (tried_in c.kind c.others v) [] [] adds (adds_tried c.kind c.others v);
-          holds = record {
-            at = record {
-              inside = record {
-                program = program;
-                lives = cs;
-                saved = ms;
-                keeps = saves_drops true (fields_of store) m ms place.keeps;
-                choices = subst (λ l. AreChoices g refs.items l os ms cs) (sym cut) (choices_same g xs refs.items fs (take o.height fs) o.height o.refs o.tag os ms cs front (same_take fs o.height) stand.5 others);
-                world = world_tried c.kind c.others v still;
-              };
-              ways = c.ways_on;
-              registers = r;
-              agrees = record {
-                bound = is.agrees.bound ∙ ap (λ (t : State). t.subst) (sym here.state);
-                vars = is.agrees.vars ∙ ap (λ (t : State). t.vars) (sym here.state);
-                heap = is.agrees.heap ∙ ap (λ (t : State). t.heap) (sym here.state);
-                trail = omega (arith, is.agrees.trail, ap (λ (t : State). t.trail) here.state);
-                since = omega (arith, is.agrees.since, ap (λ (t : State). t.since) here.state, ap (λ (t : State). t.vars) here.state);
-              };
-              tag = is.tag_at;
-            };
-            back = m;
-            is = place;
-            back_agrees = is.agrees;
-            tried =
-                let u = tried_in c.kind c.others v in
-                subst (λ l. Tried g (kind_of o.left) r.next_tag 0 c.ways_on cs l n u run) (is.others ∙ sym same)
-                (subst (λ k. Tried g k r.next_tag 0 c.ways_on cs c.others n u run) is.kind
-                (subst (λ t. Tried g c.kind t 0 c.ways_on cs c.others n u run) (is.tag ∙ sym is.tag_at)
-                (subst (λ i. Tried g c.kind c.tag i c.ways_on cs c.others n u run) is.height (tries g c cs n v run resumed))));
-          };
-        }
+    module _ (g : Game) (m : Saved) (ms : List Saved) (c : Live) (cs : List Live) (program : old.program.now ≡ g.program) (kept : KeepsPlaces old.store (m ∷ ms)) (is : IsChoice g xs fs o m (ways_of os cs) c) (others : AreChoices g xs fs os ms cs) where
+      abbrev pub popped_at : IsPlace mid o.place m ms
+      popped_at = is_place m ms is.place is.hold kept
 
-    pub begins_popped : Leads (FailsAt old) (BeginsAt o.left o.place mid)
-    begins_popped g n w run st = from st.inside.saved st.inside.lives st.inside.keeps (subst (λ l. AreChoices g xs fs l st.inside.saved st.inside.lives) was st.inside.choices) (failed g st.inside.lives n w run st.failed) where
-      from : (ms : List Saved) (cs : List Live) → KeepsPlaces old.store ms → AreChoices g xs fs (o ∷ os) ms cs → FailsTo g n w run cs → Then [] w (λ u. BeginsAt o.left o.place mid g n u run)
-      from [] cs k h f = absurd h
-      from (m ∷ ms) [] k h f = absurd h
-      from (m ∷ ms) (c ∷ cs) k h f = begins g m ms c cs n w f.world run (world_drops w f.world st.inside.world f.drops) (adds_drops w f.world f.drops) st.inside.program k h.0 h.1 f.resumed
+      abbrev pub popped_within : (v : World) → InWorld v → Within old.program.now store refs.items frames.items os g v
+      popped_within v world = record {
+        program = program;
+        entries = cs;
+        lives = lives_of os cs;
+        lives_are = refl;
+        saved = ms;
+        keeps = saves_drops true (fields_of store) m ms popped_at.keeps;
+        choices = subst (λ l. AreChoices g refs.items l os ms cs) (sym cut) (choices_same g xs refs.items fs (take o.height fs) o.height o.refs o.tag os ms cs front (same_take fs o.height) stand.5 others);
+        world = world;
+      }
+
+      pub popped_agrees : Agrees (store_in store) is.registers
+      popped_agrees =
+          let here = (back m.store ms (same_saved old.store o.place m ms is.place kept)).state in
+          record {
+            bound = is.agrees.bound ∙ ap (λ (t : State). t.subst) (sym here);
+            vars = is.agrees.vars ∙ ap (λ (t : State). t.vars) (sym here);
+            heap = is.agrees.heap ∙ ap (λ (t : State). t.heap) (sym here);
+            trail = omega (arith, is.agrees.trail, ap (λ (t : State). t.trail) here);
+            since = omega (arith, is.agrees.since, ap (λ (t : State). t.since) here, ap (λ (t : State). t.vars) here);
+          }
+
+      pub popped_values : SameBy o.refs (values_in m.store xs) (values_in (store_in store) refs.items)
+      popped_values = values_kept o.refs m.store (store_in store) xs refs.items popped_at.kept is.hold front
+
+      -- the branches that are left are those that the meaning has
+      pub popped_branches : c.others ≡ branches_of g (values_in (store_in store) refs.items) frames.items (length frames.items) o.left is.registers
+      popped_branches =
+          is.others
+          ∙ sym (ap (λ h. branches_of g (values_in (store_in store) refs.items) frames.items h o.left is.registers) count
+          ∙ ap (λ l. branches_of g (values_in (store_in store) refs.items) l o.height o.left is.registers) cut
+          ∙ branches_same g o.height o.refs (values_in m.store xs) (values_in (store_in store) refs.items) fs (take o.height fs) o.left is.registers stand.3.0 stand.4 popped_values (same_take fs o.height))
+
+      begins : (n : ℕ) (w v : World) (run : Run) → InWorld v → Adds [] w v → Resumed g c (lives_of os cs) n v run → Then [] w (λ u. BeginsAt o.left o.place mid g n u run)
+      begins n w v run still adds resumed =
+          let r = is.registers in
+          let u = tried_in c.kind c.others v in
+          record {
+            world = u;
+            adds = adds_on w v u [] [] adds (adds_tried c.kind c.others v);
+            holds = record {
+              at = record {
+                inside = popped_within u (world_tried c.kind c.others v still);
+                ways = c.ways_on;
+                ways_are = is.ways_on;
+                registers = r;
+                agrees = popped_agrees;
+                tag = is.tag_at;
+                stop = is.stop;
+              };
+              back = m;
+              is = popped_at;
+              back_agrees = is.agrees;
+              tried =
+                  subst (λ l. Tried g (kind_of o.left) r.next_tag 0 c.ways_on (lives_of os cs) l n u run) popped_branches
+                  (subst (λ k. Tried g k r.next_tag 0 c.ways_on (lives_of os cs) c.others n u run) is.kind
+                  (subst (λ t. Tried g c.kind t 0 c.ways_on (lives_of os cs) c.others n u run) (is.tag ∙ sym is.tag_at)
+                  (subst (λ i. Tried g c.kind c.tag i c.ways_on (lives_of os cs) c.others n u run) is.height (tries g c (lives_of os cs) n v run resumed))));
+            };
+          }
+
+    pub begins_popped : None ≡ cut_of o.left → Leads (FailsAt old) (BeginsAt o.left o.place mid)
+    begins_popped none g n w run st = from st.inside.saved st.inside.entries st.inside.lives st.inside.keeps (subst (λ l. AreChoices g xs fs l st.inside.saved st.inside.entries) was st.inside.choices) (st.inside.lives_are ∙ ap (λ l. lives_of l st.inside.entries) was) (failed g st.inside.lives n w run st.failed) where
+      from : (ms : List Saved) (es ls : List Live) → KeepsPlaces old.store ms → AreChoices g xs fs (o ∷ os) ms es → ls ≡ lives_of (o ∷ os) es → FailsTo g n w run ls → Then [] w (λ u. BeginsAt o.left o.place mid g n u run)
+      from [] es ls k h e f = absurd h
+      from (m ∷ ms) [] ls k h e f = absurd h
+      from (m ∷ ms) (c ∷ cs) ls k h e f =
+          let came : ComesBack g c (lives_of os cs) n w run = subst (λ l. FailsTo g n w run l) (e ∙ ap (λ q. cut_if q (c ∷ lives_of os cs)) (sym none)) f in
+          begins g m ms c cs st.inside.program k h.0 h.1 n w came.world run (world_drops w came.world st.inside.world came.drops) (adds_drops w came.world came.drops) came.resumed
 
 -- ## No choice is left
 
-no_choice : (os : List Choice) → length os ≡ 0 → reverse os ≡ []
+pub no_choice : (os : List Choice) → length os ≡ 0 → reverse os ≡ []
 no_choice [] e = refl
 no_choice (o ∷ os) e = absurd (omega arith)
 
@@ -201,9 +285,9 @@ module _ (old : Engine) (choices : Vec Choice Global) (empty : length old.choice
   pub none_popped : HasEndedSo (FailsAt old) Failing old (record old { choices = choices })
   none_popped = record {
     left = refl;
-    ends = λ g n w run st. from g n w run st.inside.saved st.inside.lives (subst (λ l. AreChoices g old.refs.items old.frames.items l st.inside.saved st.inside.lives) none st.inside.choices) (failed g st.inside.lives n w run st.failed);
+    ends = λ g n w run st. from g n w run st.inside.saved st.inside.entries (subst (λ l. AreChoices g old.refs.items old.frames.items l st.inside.saved st.inside.entries) none st.inside.choices) (subst (λ l. FailsTo g n w run l) (st.inside.lives_are ∙ ap (λ l. lives_of l st.inside.entries) none) (failed g st.inside.lives n w run st.failed));
   } where
-    from : (g : Game) (n : ℕ) (w : World) (run : Run) → (ms : List Saved) (cs : List Live) → AreChoices g old.refs.items old.frames.items [] ms cs → FailsTo g n w run cs → Then [] w (λ v. Finished n v Failing run)
+    from : (g : Game) (n : ℕ) (w : World) (run : Run) → (ms : List Saved) (cs : List Live) → AreChoices g old.refs.items old.frames.items [] ms cs → FailsTo g n w run (lives_of [] cs) → Then [] w (λ v. Finished n v Failing run)
     from g n w run [] [] h f = record { world = w; adds = adds_nothing w; holds = f }
     from g n w run [] (c ∷ cs) h f = absurd h
     from g n w run (m ∷ ms) cs h f = absurd h

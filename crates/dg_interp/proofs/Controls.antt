@@ -3,7 +3,7 @@ use Rattle.std.proofs.Common.{◌≡◌, ℕ, ◌+◌, ◌^◌, ◌<◌, ◌≤�
 use Rattle.std.specs.Prelude.{reverse, Result as Answer, Ok, Err, IfOk}
 use Rattle.std.specs.List.{All}
 use Rattle.dg_base.specs.declared.program.Goal.{Goal, out-Goal}
-use Rattle.dg_base.specs.declared.program.Goal.TheVariants.{Either, Once, Not, If, Forever, outs-Either, outs-Once, outs-Not, outs-If, outs-Forever}
+use Rattle.dg_base.specs.declared.program.Goal.TheVariants.{Either, Once, Not, If, Forever, Exhaust, Stoppable, outs-Either, outs-Once, outs-Not, outs-If, outs-Forever, outs-Exhaust, outs-Stoppable}
 use Rattle.dg_base.specs.declared.program.Goal.TheOpen as part
 use Rattle.dg_base.specs.Goals.{terms_held}
 use Rattle.dg_meaning.specs.Values.{Value}
@@ -23,7 +23,7 @@ use Rattle.dg_unify.specs.declared.list.ListBindings.{ListBindings}
 use Rattle.dg_interp.specs.declared.frames.Env.{Env}
 use Rattle.dg_interp.specs.declared.frames.Frame.{Frame}
 use Rattle.dg_interp.specs.declared.frames.Left.TheVariants.{Lists, Ways}
-use Rattle.dg_interp.specs.declared.frames.Mark.TheVariants.{Nothing, CutTo, RefuseTo}
+use Rattle.dg_interp.specs.declared.frames.Mark.TheVariants.{Nothing, CutTo, RefuseTo, Exhausted}
 use Rattle.dg_interp.specs.declared.engine.Engine.{Engine}
 use Rattle.dg_interp.specs.Frames.{values_in, mark_steps, steps_behind, steps_at, IsFrame, IsLeft}
 use Rattle.dg_unify.specs.Engines.{Agrees}
@@ -50,6 +50,12 @@ once_built goals h = built_inside (Once goals) [] (part.Once goals) (outs-Once g
 
 pub not_built : (goals : List Goal) → AreBuilt (Not goals ∷ []) → AreBuilt goals
 not_built goals h = built_inside (Not goals) [] (part.Not goals) (outs-Not goals) h
+
+pub exhaust_built : (goals : List Goal) → AreBuilt (Exhaust goals ∷ []) → AreBuilt goals
+exhaust_built goals h = built_inside (Exhaust goals) [] (part.Exhaust goals) (outs-Exhaust goals) h
+
+pub stoppable_built : (goals : List Goal) → AreBuilt (Stoppable goals ∷ []) → AreBuilt goals
+stoppable_built goals h = built_inside (Stoppable goals) [] (part.Stoppable goals) (outs-Stoppable goals) h
 
 pub if_built : (test first other : List Goal) → AreBuilt (If test first other ∷ []) → AreBuilt test × AreBuilt first × AreBuilt other
 if_built test first other h = three_built test first other (built_inside (If test first other) [] (part.If test first other) (outs-If test first other) h)
@@ -142,6 +148,13 @@ not_opens goals old =
     (λ g r w same tag.
     ap (λ f. outcome g f env t (steps_of old) r w) (outs-Not goals.now)
     ∙ ap (λ k. Chooses Plain r.next_tag (enter 10 0 r (goals_at env t goals.now ++ Refuse k ∷ [])) (enter 0 0 r (steps_of old) ∷ []) w) tag)
+
+-- ## All answers
+
+pub exhaust_opens : (goals : Bor (List Goal)) (old : Engine) → Leads (TakesAt (Exhaust goals.now) old) (OpensAt (Ways (record old.here { goals = goals; mark = Exhausted; behind = 0 }) old.here) old)
+exhaust_opens goals old =
+    let env = values_of old old.here.env in
+    opens (Exhaust goals.now) old (ap terms_held (outs-Exhaust goals.now)) _ refl (λ g r w same tag. ap (λ f. outcome g f env old.here.tag (steps_of old) r w) (outs-Exhaust goals.now))
 
 -- ## The endless choice
 
@@ -304,9 +317,11 @@ module _ (goals : Bor (List Goal)) (old : Engine) (ready : IsReady old) (all : b
               at = record {
                 inside = inside_kept _ _ saved st.at.inside.world st.at.inside;
                 ways = st.at.ways;
+                ways_are = st.at.ways_are;
                 registers = inside 10 r;
                 agrees = agrees_now r (agrees_here x old held_none g n w run st);
                 tag = ap (λ i. i + 1) st.at.tag;
+                stop = st.at.stop;
               };
               stands = subst (λ l. Stands g st.at.inside.lives st.at.ways (path_of l (inside 10 r)) n (begun (inside 10 r) 0 v) run) (ap (λ i. goals_at env old.here.tag goals.now ++ Cut i ∷ steps_of old) st.at.tag ∙ sym same_first) (once_stands g n w run st);
             };

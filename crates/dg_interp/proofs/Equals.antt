@@ -162,7 +162,7 @@ module _ (a b : Term) (old : Engine) (mid : Store) (ra rb : Ref) (store : ListBi
         record {
           world = v;
           adds = adds_bound g n w run st;
-          holds = stands_behind y old store stack ready k saved g n w v run st.at.inside.world st r (equal_agrees a b old mid ra rb sound made g n w run st (store_in store) found does) refl
+          holds = stands_behind y old store stack ready k saved g n w v run st.at.inside.world st r (equal_agrees a b old mid ra rb sound made g n w run st (store_in store) found does) refl refl
               (subst (λ o. Went g st.at.inside.lives st.at.ways n (goes_on_if o (steps_of old) r v) run) is (equal_comes a b old mid ra rb sound made g n w run st found does.agrees));
         };
   }

@@ -19,8 +19,7 @@ use Rattle.dg_interp.specs.declared.frames.Choice.{Choice}
 use Rattle.dg_interp.specs.declared.engine.Engine.{Engine}
 use Rattle.dg_interp.specs.Frames.{values_in, AreChoices, StandOn, GoBackTo}
 use Rattle.dg_interp.specs.Engine.{store_in, steps_of, IsSound, IsReady, TakesAt, StandsAt, FailsAt, Then, Leads, Ends, Cuts, WentOn}
-use Rattle.dg_interp.proofs.Links.{saved_older, choices_cut, back_cut, stand_cut}
-use Rattle.dg_interp.proofs.Places.{inside_in, keeps_older}
+use Rattle.dg_interp.proofs.Places.{inside_in, cut_base, cut_inside, ways_left}
 use Rattle.dg_interp.proofs.Takes.{behind, taken_in, comes_of, adds_taken}
 
 pub fails_taken : (old : Engine) → Leads (TakesAt Fail old) (FailsAt old)
@@ -47,25 +46,12 @@ module _ (old : Engine) (choices : Vec Choice Global) (ready : IsReady old) (cut
   abbrev new : Engine
   new = record old { choices = choices }
 
-  new_sound : IsSound new
-  new_sound = record {
-    base = record {
-      program = ready.sound.base.program;
-      hold = ready.sound.base.hold;
-      frames = ready.sound.base.frames;
-      choices = subst (StandOn old.frames.items (length old.frames.items) (length old.refs.items) old.newest) (sym cuts) (stand_cut old.frames.items t (length old.frames.items) (length old.refs.items) old.newest os ready.sound.base.choices);
-      places = record {
-        saved = saved_older t os ready.sound.base.places.saved;
-        keeps = keeps_older old.store t os ready.sound.base.places.saved ready.sound.base.places.keeps;
-        back_to = subst (λ l. GoBackTo old.refs.items (store_in old.store).heap_limit (store_in old.store).trail_limit l (saved_older t os ready.sound.base.places.saved)) (sym cuts) (back_cut t old.refs.items _ _ os ready.sound.base.places.saved ready.sound.base.places.back_to);
-      };
-    };
-    room = ready.sound.room;
-  }
-
   pub just_cut : WentOn (TakesAt Just old) old new
   just_cut = record {
-    ready = record { sound = new_sound; here = ready.here };
+    ready = record {
+      sound = record { base = cut_base t old.program.now old.store old.refs.items old.frames.items os (reverse choices.items) cuts old.newest ready.sound.base; room = ready.sound.room };
+      here = ready.here;
+    };
     left = refl;
     limits = record { heap = refl; trail = refl };
     leads = λ g n w run st.
@@ -77,18 +63,13 @@ module _ (old : Engine) (choices : Vec Choice Global) (ready : IsReady old) (cut
           adds = adds_taken r _ w;
           holds = record {
             at = record {
-              inside = record {
-                program = st.at.inside.program;
-                lives = cut_to t st.at.inside.lives;
-                saved = saved_older t os st.at.inside.saved;
-                keeps = keeps_older old.store t os st.at.inside.saved st.at.inside.keeps;
-                choices = subst (λ l. AreChoices g old.refs.items old.frames.items l (saved_older t os st.at.inside.saved) (cut_to t st.at.inside.lives)) (sym cuts) (choices_cut g t old.refs.items old.frames.items os st.at.inside.saved st.at.inside.lives st.at.inside.choices);
-                world = st.at.inside.world;
-              };
+              inside = cut_inside t old.program.now old.store old.refs.items old.frames.items os (reverse choices.items) cuts g w v st.at.inside.world st.at.inside;
               ways = st.at.ways;
+              ways_are = st.at.ways_are ∙ sym (ways_left t old.program.now old.store old.refs.items old.frames.items os (reverse choices.items) cuts g w st.at.inside);
               registers = r;
               agrees = record { bound = st.at.agrees.bound; vars = st.at.agrees.vars; heap = heap ∙ st.at.agrees.heap; trail = st.at.agrees.trail; since = st.at.agrees.since };
               tag = st.at.tag;
+              stop = st.at.stop;
             };
             stands = passes_cut g st.at.inside.lives st.at.ways t (steps_of old) r n v run
                 (subst (λ f. After g st.at.inside.lives st.at.ways n (outcome g f (values_in (store_in old.store) old.refs.items old.here.env) t (steps_of old) r v) run) outs-Just (comes_of Just old g n w run st));
@@ -110,9 +91,11 @@ prints_word name e g n w run st =
         at = record {
           inside = inside_in _ st.at.inside.world st.at.inside;
           ways = st.at.ways;
+          ways_are = st.at.ways_are;
           registers = r;
           agrees = record { bound = st.at.agrees.bound; vars = st.at.agrees.vars; heap = heap ∙ st.at.agrees.heap; trail = st.at.agrees.trail; since = st.at.agrees.since };
           tag = st.at.tag;
+          stop = st.at.stop;
         };
         stands = subst (λ f. After g st.at.inside.lives st.at.ways n (outcome g f (values_in (store_in e.store) e.refs.items e.here.env) e.here.tag (steps_of e) r v) run) (outs-Text name) (comes_of (Text name) e g n w run st);
       };

@@ -10,6 +10,7 @@ pub mod Stores
 pub mod BothLemmas
 pub mod Entering
 pub mod Kept
+pub mod Begun
 pub mod Begins
 pub mod Branches
 pub mod PassedRules
@@ -27,3 +28,5 @@ pub mod Equals
 pub mod BeginFrames
 pub mod Opens
 pub mod Controls
+pub mod Parts
+pub mod PartOpens

@@ -1,23 +1,23 @@
 -- Laws of linked frames and open choices.
 use Rattle.std.proofs.Common.{◌≡◌, ℕ, zero, suc, ◌+◌, ◌<◌, ◌≤◌, inl, inr, List, [], ◌∷◌, ◌++◌, Option, Some, None, refl, sym, ap, ◌∙◌, subst, arith, length, map, take, drop, length-append, length-take}
 use Rattle.std.specs.List.{All}
-use Rattle.std.specs.Prelude.{true, false, eqb, nat_lt, slice_get, if◌then◌else◌}
-use Rattle.std.proofs.lemmas.Bool.{cond_both, cond-true, cond-false, cases_lt, eq-eqb, ne_eqb}
+use Rattle.std.specs.Prelude.{true, false, min, eqb, nat_lt, slice_get, if◌then◌else◌}
+use Rattle.std.proofs.lemmas.Bool.{cond_both, cond-true, cond-false, cases_lt, eq-eqb, ne_eqb, ltb-true, ltb-false, lt-ltb, le-ltb}
 use Rattle.std.proofs.lemmas.List.{drop-take}
 use Rattle.dg_meaning.specs.Values.{Value}
 use Rattle.dg_meaning.specs.World.{Game}
 use Rattle.dg_meaning.specs.Path.{Step, Registers}
 use Rattle.dg_meaning.specs.Moves.{enter, list_branches, rule_branches}
-use Rattle.dg_meaning.specs.Context.{Live, cut_to}
+use Rattle.dg_meaning.specs.Context.{Live, Way as WayOn, cut_to}
 use Rattle.dg_unify.specs.Store.{Store, Saved, Holds, told}
 use Rattle.dg_unify.specs.declared.bindings.Ref.{Ref}
 use Rattle.dg_interp.specs.declared.frames.Env.{Env}
 use Rattle.dg_interp.specs.declared.frames.Frame.{Frame}
 use Rattle.dg_interp.specs.declared.frames.Left.{Left}
-use Rattle.dg_interp.specs.declared.frames.Left.TheVariants.{Rules, Lists, Ways, Way}
+use Rattle.dg_interp.specs.declared.frames.Left.TheVariants.{Rules, Lists, Ways, Way, Behind}
 use Rattle.dg_interp.specs.declared.frames.Choice.{Choice}
-use Rattle.dg_interp.specs.Frames.{stretch, values_in, frame_steps, found_steps, steps_below, steps_behind, steps_at, branches_of, IsChoice, AreChoices, EndsBy, IsFrame, AreFrames, IsLeft, StandOn, GoBackTo, floor_of, left_in, all_left}
-use Rattle.dg_interp.specs.Engine.{older_than}
+use Rattle.dg_interp.specs.Frames.{stretch, values_in, frame_steps, found_steps, steps_below, steps_behind, steps_at, kind_of, branches_of, cut_of, cut_if, lives_of, with_way, ways_of, IsNoPart, IsChoice, AreChoices, EndsBy, IsFrame, AreFrames, IsLeft, IsNoted, noting, StandOn, GoBackTo, floor_of, left_in, stays_with, all_left}
+use Rattle.dg_interp.specs.Engine.{waits_in, left_by, with_older, older_than}
 
 -- ## Stretches
 
@@ -166,6 +166,7 @@ left_raise h k m n (Rules query args rules) le le' s = (s.0, omega (arith, s.1))
 left_raise h k m n (Lists env tag lists) le le' s = (s.0, omega (arith, s.1))
 left_raise h k m n (Ways first other) le le' s = (frame_raise h k m n first le le' s.0, frame_raise h k m n other le le' s.1)
 left_raise h k m n (Way frame) le le' s = frame_raise h k m n frame le le' s
+left_raise h k m n (Behind frame cut) le le' s = frame_raise h k m n frame le le' s
 
 pub stand_raise : (fs : List Frame) (h k m n t u : ℕ) (os : List Choice) → h ≤ k → m ≤ n → t ≤ u → StandOn fs h m t os → StandOn fs k n u os
 stand_raise fs h k m n t u [] le le' le'' s = tt
@@ -190,9 +191,10 @@ branches_same g h m vs us fs gs (Ways first other) r is are same to =
     ap (λ s. enter 10 0 r s ∷ enter 0 0 r (steps_at us gs other) ∷ []) (at_same m vs us fs gs h first is.0 same are to)
     ∙ ap (λ s. enter 10 0 r (steps_at vs fs first) ∷ enter 0 0 r s ∷ []) (at_same m vs us fs gs h other is.1 same are to)
 branches_same g h m vs us fs gs (Way frame) r is are same to = ap (λ s. enter 0 0 r s ∷ []) (at_same m vs us fs gs h frame is same are to)
+branches_same g h m vs us fs gs (Behind frame cut) r is are same to = ap (λ s. enter 0 0 r s ∷ []) (at_same m vs us fs gs h frame is same are to)
 
-choice_same : (g : Game) (xs ys : List Ref) (fs gs : List Frame) (h m t : ℕ) (o : Choice) (os : List Choice) (s : Saved) (c : Live) → take m ys ≡ take m xs → SameTo h fs gs → StandOn fs h m t (o ∷ os) → IsChoice g xs fs o s c → IsChoice g ys gs o s c
-choice_same g xs ys fs gs h m t o os s c refs to st k =
+choice_same : (g : Game) (xs ys : List Ref) (fs gs : List Frame) (h m t : ℕ) (o : Choice) (os : List Choice) (s : Saved) (ws : List WayOn) (c : Live) → take m ys ≡ take m xs → SameTo h fs gs → StandOn fs h m t (o ∷ os) → IsChoice g xs fs o s ws c → IsChoice g ys gs o s ws c
+choice_same g xs ys fs gs h m t o os s ws c refs to st k =
     let few : take o.refs ys ≡ take o.refs xs = sym (take_of_take m o.refs ys st.1) ∙ ap (take o.refs) refs ∙ take_of_take m o.refs xs st.1 in
     record {
       registers = k.registers;
@@ -200,10 +202,12 @@ choice_same g xs ys fs gs h m t o os s c refs to st k =
       hold = subst (All (Holds s.store)) (sym few) k.hold;
       place = k.place;
       tag_at = k.tag_at;
+      stop = k.stop;
       kind = k.kind;
       tag = k.tag;
       others = k.others ∙ sym (branches_same g o.height o.refs (values_in s.store xs) (values_in s.store ys) fs gs o.left k.registers st.3.0 st.4 (values_same o.refs s.store xs ys few) (same_fewer o.height h fs gs st.0 to));
       height = k.height;
+      ways_on = k.ways_on;
     }
 
 -- the choices stay the same where the frames and Refs that they stand on do
@@ -214,7 +218,7 @@ choices_same g xs ys fs gs h m t [] (s ∷ ms) cs refs to st k = absurd k
 choices_same g xs ys fs gs h m t (o ∷ os) [] cs refs to st k = absurd k
 choices_same g xs ys fs gs h m t (o ∷ os) (s ∷ ms) [] refs to st k = absurd k
 choices_same g xs ys fs gs h m t (o ∷ os) (s ∷ ms) (c ∷ cs) refs to st k = (
-  choice_same g xs ys fs gs h m t o os s c refs to st k.0,
+  choice_same g xs ys fs gs h m t o os s (ways_of os cs) c refs to st k.0,
   choices_same g xs ys fs gs o.height o.refs o.tag os ms cs (sym (take_of_take m o.refs ys st.1) ∙ ap (take o.refs) refs ∙ take_of_take m o.refs xs st.1) (same_fewer o.height h fs gs st.0 to) st.5 k.1,
 )
 
@@ -228,43 +232,149 @@ back_same xs ys fs h m t heap trail (o ∷ os) (s ∷ ms) refs st k =
 
 -- ## Cuts
 
--- a cut drops as many places as choices
-abbrev pub saved_older : ℕ → List Choice → List Saved → List Saved
-saved_older t [] ms = ms
-saved_older t (o ∷ os) [] = []
-saved_older t (o ∷ os) (m ∷ ms) = if nat_lt o.tag t then m ∷ ms else saved_older t os ms
+left_in_case : (P : Option Choice → Type 0) (t : ℕ) (o : Choice) (left : Left) → ((frame : Frame) (cut : Option ℕ) → left ≡ Behind frame cut → P (Some (record o { left = Behind frame (noting t cut) }))) → (IsNoPart left → P None) → P (waits_in t o left)
+left_in_case P t o (Rules query args rules) waits gone = gone tt
+left_in_case P t o (Lists env tag lists) waits gone = gone tt
+left_in_case P t o (Ways first other) waits gone = gone tt
+left_in_case P t o (Way frame) waits gone = gone tt
+left_in_case P t o (Behind frame cut) waits gone = waits frame cut refl
 
-pub choices_cut : (g : Game) (t : ℕ) (refs : List Ref) (fs : List Frame) (os : List Choice) (ms : List Saved) (cs : List Live) → AreChoices g refs fs os ms cs → AreChoices g refs fs (older_than t os) (saved_older t os ms) (cut_to t cs)
+-- what is left of a choice, case by case: it is older, or the cut waits in it, or it is gone
+pub left_cases : (P : Option Choice → Type 0) (t : ℕ) (o : Choice) → (o.tag < t → P (Some o)) → ((frame : Frame) (cut : Option ℕ) → t ≤ o.tag → o.left ≡ Behind frame cut → P (Some (record o { left = Behind frame (noting t cut) }))) → (t ≤ o.tag → IsNoPart o.left → P None) → P (left_by t o)
+left_cases P t o older waits gone =
+    cond_both (nat_lt o.tag t) (Some o) (waits_in t o o.left) P (λ e. older (ltb-true o.tag t e))
+    (λ e. let ge : t ≤ o.tag = ltb-false o.tag t e in left_in_case P t o o.left (λ frame cut is. waits frame cut ge is) (λ plain. gone ge plain))
+
+pub plain_cut : (left : Left) → IsNoPart left → cut_of left ≡ None
+plain_cut (Rules query args rules) h = refl
+plain_cut (Lists env tag lists) h = refl
+plain_cut (Ways first other) h = refl
+plain_cut (Way frame) h = refl
+plain_cut (Behind frame cut) h = absurd h
+
+pub plain_way : (left : Left) (c : Live) (ws : List WayOn) → IsNoPart left → with_way left c ws ≡ ws
+plain_way (Rules query args rules) c ws h = refl
+plain_way (Lists env tag lists) c ws h = refl
+plain_way (Ways first other) c ws h = refl
+plain_way (Way frame) c ws h = refl
+plain_way (Behind frame cut) c ws h = absurd h
+
+-- of what stands in step with choices, what stands with those that a cut leaves
+abbrev pub with_rest : {A : Type 0} → Option Choice → List A → List A → List A
+with_rest None all rest = rest
+with_rest (Some o) all rest = all
+
+abbrev pub rest_older : {A : Type 0} → ℕ → List Choice → List A → List A
+rest_older t [] xs = xs
+rest_older t (o ∷ os) [] = []
+rest_older t (o ∷ os) (x ∷ xs) = with_rest (left_by t o) (x ∷ xs) (rest_older t os xs)
+
+choice_noted : (g : Game) (refs : List Ref) (fs : List Frame) (o : Choice) (m : Saved) (ws : List WayOn) (c : Live) (t : ℕ) (frame : Frame) (cut : Option ℕ) → o.left ≡ Behind frame cut → IsChoice g refs fs o m ws c → IsChoice g refs fs (record o { left = Behind frame (noting t cut) }) m ws c
+choice_noted g refs fs o m ws c t frame cut is k = record {
+  registers = k.registers;
+  agrees = k.agrees;
+  hold = k.hold;
+  place = k.place;
+  tag_at = k.tag_at;
+  stop = k.stop;
+  kind = k.kind ∙ ap kind_of is;
+  tag = k.tag;
+  others = k.others ∙ ap (λ l. branches_of g (values_in m.store refs) fs o.height l k.registers) is;
+  height = k.height;
+  ways_on = k.ways_on;
+}
+
+pub choices_cut : (g : Game) (t : ℕ) (refs : List Ref) (fs : List Frame) (os : List Choice) (ms : List Saved) (cs : List Live) → AreChoices g refs fs os ms cs → AreChoices g refs fs (older_than t os) (rest_older t os ms) (rest_older t os cs)
 choices_cut g t refs fs [] [] [] h = tt
 choices_cut g t refs fs [] [] (c ∷ cs) h = absurd h
 choices_cut g t refs fs [] (m ∷ ms) cs h = absurd h
 choices_cut g t refs fs (o ∷ os) [] cs h = absurd h
 choices_cut g t refs fs (o ∷ os) (m ∷ ms) [] h = absurd h
 choices_cut g t refs fs (o ∷ os) (m ∷ ms) (c ∷ cs) h =
-    let same : nat_lt c.tag t ≡ nat_lt o.tag t = ap (λ x. nat_lt x t) h.0.tag in
-    subst (λ b. AreChoices g refs fs (older_than t (o ∷ os)) (saved_older t (o ∷ os) (m ∷ ms)) (if b then c ∷ cs else cut_to t cs)) (sym same)
-    (elim (nat_lt o.tag t) as (λ b. AreChoices g refs fs (if b then o ∷ os else older_than t os) (if b then m ∷ ms else saved_older t os ms) (if b then c ∷ cs else cut_to t cs)) [ true ↦ h | false ↦ choices_cut g t refs fs os ms cs h.1 ])
+    left_cases (λ x. AreChoices g refs fs (with_older x os (older_than t os)) (with_rest x (m ∷ ms) (rest_older t os ms)) (with_rest x (c ∷ cs) (rest_older t os cs))) t o
+    (λ less. h) (λ frame cut ge is. (choice_noted g refs fs o m (ways_of os cs) c t frame cut is h.0, h.1)) (λ ge plain. choices_cut g t refs fs os ms cs h.1)
 
-pub back_cut : (t : ℕ) (refs : List Ref) (heap trail : ℕ) (os : List Choice) (ms : List Saved) → GoBackTo refs heap trail os ms → GoBackTo refs heap trail (older_than t os) (saved_older t os ms)
+cut_younger : (t u : ℕ) (cs : List Live) → t ≤ u → cut_to t (cut_to u cs) ≡ cut_to t cs
+cut_younger t u [] le = refl
+cut_younger t u (c ∷ cs) le =
+    cond_both (nat_lt c.tag u) (c ∷ cs) (cut_to u cs) (λ l. cut_to t l ≡ cut_to t (c ∷ cs)) (λ e. refl)
+    (λ e. cut_younger t u cs le ∙ sym (cond-false (nat_lt c.tag t) (c ∷ cs) (cut_to t cs) (le-ltb c.tag t (omega (arith, le, ltb-false c.tag u e)))))
+
+pub cut_older : (t u : ℕ) (cs : List Live) → u ≤ t → cut_to t (cut_to u cs) ≡ cut_to u cs
+cut_older t u [] le = refl
+cut_older t u (c ∷ cs) le =
+    cond_both (nat_lt c.tag u) (c ∷ cs) (cut_to u cs) (λ l. cut_to t l ≡ l)
+    (λ e. cond-true (nat_lt c.tag t) (c ∷ cs) (cut_to t cs) (lt-ltb c.tag t (omega (arith, le, ltb-true c.tag u e)))) (λ e. cut_older t u cs le)
+
+-- of two cuts the older one counts
+pub cut_twice : (t u : ℕ) (cs : List Live) → cut_to t (cut_to u cs) ≡ cut_to (min u t) cs
+cut_twice t u cs =
+    elim (cases_lt t u) [
+      | inl lt ↦ let e : min u t ≡ t = omega arith in cut_younger t u cs (omega arith) ∙ ap (λ k. cut_to k cs) (sym e)
+      | inr ge ↦ let e : min u t ≡ u = omega arith in cut_older t u cs ge ∙ ap (λ k. cut_to k cs) (sym e)
+    ]
+
+cut_noted : (t : ℕ) (cut : Option ℕ) (cs : List Live) → cut_if (noting t cut) cs ≡ cut_to t (cut_if cut cs)
+cut_noted t None cs = refl
+cut_noted t (Some u) cs = sym (cut_twice t u cs)
+
+older_stays : (t : ℕ) (cut : Option ℕ) (c : Live) (cs : List Live) → c.tag < t → cut_to t (cut_if cut (c ∷ cs)) ≡ cut_if cut (c ∷ cs)
+older_stays t None c cs less = cond-true (nat_lt c.tag t) (c ∷ cs) (cut_to t cs) (lt-ltb c.tag t less)
+older_stays t (Some u) c cs less =
+    cond_both (nat_lt c.tag u) (c ∷ cs) (cut_to u cs) (λ l. cut_to t l ≡ l) (λ e. cond-true (nat_lt c.tag t) (c ∷ cs) (cut_to t cs) (lt-ltb c.tag t less)) (λ e. cut_older t u cs (omega (arith, less, ltb-false c.tag u e)))
+
+pub cut_gone : (t : ℕ) (c : Live) (cs : List Live) → t ≤ c.tag → cut_to t (c ∷ cs) ≡ cut_to t cs
+cut_gone t c cs ge = cond-false (nat_lt c.tag t) (c ∷ cs) (cut_to t cs) (le-ltb c.tag t ge)
+
+-- the choices that are left are those of the meaning
+pub lives_cut : (g : Game) (t : ℕ) (refs : List Ref) (fs : List Frame) (os : List Choice) (ms : List Saved) (cs : List Live) → AreChoices g refs fs os ms cs → lives_of (older_than t os) (rest_older t os cs) ≡ cut_to t (lives_of os cs)
+lives_cut g t refs fs [] ms cs h = refl
+lives_cut g t refs fs (o ∷ os) [] cs h = absurd h
+lives_cut g t refs fs (o ∷ os) (m ∷ ms) [] h = absurd h
+lives_cut g t refs fs (o ∷ os) (m ∷ ms) (c ∷ cs) h =
+    let before = cut_to t (cut_if (cut_of o.left) (c ∷ lives_of os cs)) in
+    left_cases (λ x. lives_of (with_older x os (older_than t os)) (with_rest x (c ∷ cs) (rest_older t os cs)) ≡ before) t o
+    (λ less. sym (older_stays t (cut_of o.left) c (lives_of os cs) (omega (arith, less, h.0.tag))))
+    (λ frame cut ge is. cut_noted t cut (c ∷ lives_of os cs) ∙ ap (λ l. cut_to t (cut_if (cut_of l) (c ∷ lives_of os cs))) (sym is))
+    (λ ge plain. lives_cut g t refs fs os ms cs h.1 ∙ sym (ap (λ k. cut_to t (cut_if k (c ∷ lives_of os cs))) (plain_cut o.left plain) ∙ cut_gone t c (lives_of os cs) (omega (arith, ge, h.0.tag))))
+
+-- and all ways on are kept
+pub ways_cut : (g : Game) (t : ℕ) (refs : List Ref) (fs : List Frame) (os : List Choice) (ms : List Saved) (cs : List Live) → AreChoices g refs fs os ms cs → ways_of (older_than t os) (rest_older t os cs) ≡ ways_of os cs
+ways_cut g t refs fs [] ms cs h = refl
+ways_cut g t refs fs (o ∷ os) [] cs h = absurd h
+ways_cut g t refs fs (o ∷ os) (m ∷ ms) [] h = absurd h
+ways_cut g t refs fs (o ∷ os) (m ∷ ms) (c ∷ cs) h =
+    left_cases (λ x. ways_of (with_older x os (older_than t os)) (with_rest x (c ∷ cs) (rest_older t os cs)) ≡ with_way o.left c (ways_of os cs)) t o
+    (λ less. refl) (λ frame cut ge is. ap (λ l. with_way l c (ways_of os cs)) (sym is)) (λ ge plain. ways_cut g t refs fs os ms cs h.1 ∙ sym (plain_way o.left c (ways_of os cs) plain))
+
+pub back_cut : (t : ℕ) (refs : List Ref) (heap trail : ℕ) (os : List Choice) (ms : List Saved) → GoBackTo refs heap trail os ms → GoBackTo refs heap trail (older_than t os) (rest_older t os ms)
 back_cut t refs heap trail [] ms h = h
 back_cut t refs heap trail (o ∷ os) [] h = absurd h
 back_cut t refs heap trail (o ∷ os) (m ∷ ms) h =
-    elim (nat_lt o.tag t) as (λ b. GoBackTo refs heap trail (if b then o ∷ os else older_than t os) (if b then m ∷ ms else saved_older t os ms)) [ true ↦ h | false ↦ back_cut t refs heap trail os ms h.4 ]
+    left_cases (λ x. GoBackTo refs heap trail (with_older x os (older_than t os)) (with_rest x (m ∷ ms) (rest_older t os ms))) t o (λ less. h) (λ frame cut ge is. h) (λ ge plain. back_cut t refs heap trail os ms h.4)
 
 -- what holds of places holds of those that a cut leaves, where the newest may be forgotten
-pub keeps_cut : (P : List Saved → Type 0) → ((m : Saved) (ms : List Saved) → P (m ∷ ms) → P ms) → P [] → (t : ℕ) (os : List Choice) (ms : List Saved) → P ms → P (saved_older t os ms)
+pub keeps_cut : (P : List Saved → Type 0) → ((m : Saved) (ms : List Saved) → P (m ∷ ms) → P ms) → P [] → (t : ℕ) (os : List Choice) (ms : List Saved) → P ms → P (rest_older t os ms)
 keeps_cut P drops none t [] ms h = h
 keeps_cut P drops none t (o ∷ os) [] h = none
-keeps_cut P drops none t (o ∷ os) (m ∷ ms) h = cond_both (nat_lt o.tag t) (m ∷ ms) (saved_older t os ms) P (λ e. h) (λ e. keeps_cut P drops none t os ms (drops m ms h))
+keeps_cut P drops none t (o ∷ os) (m ∷ ms) h = left_cases (λ x. P (with_rest x (m ∷ ms) (rest_older t os ms))) t o (λ less. h) (λ frame cut ge is. h) (λ ge plain. keeps_cut P drops none t os ms (drops m ms h))
+
+noted_since : (tag t : ℕ) (cut : Option ℕ) → t ≤ tag → IsNoted tag (noting t cut)
+noted_since tag t None le = le
+noted_since tag t (Some u) le = omega (arith, le)
 
 pub stand_cut : (fs : List Frame) (t h m u : ℕ) (os : List Choice) → StandOn fs h m u os → StandOn fs h m u (older_than t os)
 stand_cut fs t h m u [] s = tt
 stand_cut fs t h m u (o ∷ os) s =
-    cond_both (nat_lt o.tag t) (o ∷ os) (older_than t os) (StandOn fs h m u) (λ e. s) (λ e. stand_cut fs t h m u os (stand_raise fs o.height h o.refs m o.tag u os s.0 s.1 s.2 s.5))
+    left_cases (λ x. StandOn fs h m u (with_older x os (older_than t os))) t o (λ less. s)
+    (λ frame cut ge is. (s.0, s.1, s.2, (subst (IsLeft o.height o.refs) is s.3.0, refl, noted_since o.tag t cut ge), s.4, s.5))
+    (λ ge plain. stand_cut fs t h m u os (stand_raise fs o.height h o.refs m o.tag u os s.0 s.1 s.2 s.5))
 
 pub cut_fewer : (t : ℕ) (os : List Choice) → all_left (older_than t os) ≤ all_left os
 cut_fewer t [] = omega arith
-cut_fewer t (o ∷ os) = cond_both (nat_lt o.tag t) (o ∷ os) (older_than t os) (λ l. all_left l ≤ 1 + left_in o.left + all_left os) (λ e. omega arith) (λ e. omega (arith, cut_fewer t os))
+cut_fewer t (o ∷ os) =
+    left_cases (λ x. all_left (with_older x os (older_than t os)) ≤ 1 + left_in o.left + all_left os) t o (λ less. omega arith)
+    (λ frame cut ge is. let one : left_in o.left ≡ 1 = ap left_in is in omega (arith, one)) (λ ge plain. omega (arith, cut_fewer t os))
 
 pub stand_floor : (fs : List Frame) (h k m t : ℕ) (os : List Choice) → floor_of os ≤ k → StandOn fs h m t os → StandOn fs k m t os
 stand_floor fs h k m t [] le s = tt

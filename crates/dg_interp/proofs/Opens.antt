@@ -30,7 +30,7 @@ use Rattle.dg_unify.specs.Engines.{Agrees}
 use Rattle.dg_interp.specs.Engine.{store_in, KeepsPlaces, HasPlace, IsPlace, BeginsAt, steps_of, IsSound, IsReady, TakesAt, OpensAt, IsPushed, Leads, SameLimits}
 use Rattle.dg_interp.proofs.Links.{same_here, same_append, same_values, behind_new, at_same, frame_raise, frames_append, choices_same, stand_raise, stand_same, branches_same}
 use Rattle.dg_interp.proofs.Stores.{kept_here, all_hold, values_kept, hold_front}
-use Rattle.dg_interp.proofs.Begins.{back_limits}
+use Rattle.dg_interp.proofs.Kept.{back_limits}
 use Rattle.dg_interp.proofs.Places.{inside_in, adds_nothing}
 use Rattle.dg_interp.proofs.Goals.{no_cells}
 use Rattle.dg_interp.proofs.Takes.{behind, taken_in, comes_of, adds_taken}
@@ -64,9 +64,11 @@ module _ (x : Goal) (old : Engine) (none : terms_held (out-Goal x) ≡ []) where
           at = record {
             inside = inside_in _ st.at.inside.world st.at.inside;
             ways = st.at.ways;
+            ways_are = st.at.ways_are;
             registers = r;
             agrees = agrees_here g n w run st;
             tag = st.at.tag;
+            stop = st.at.stop;
           };
           tried =
               let bs = branches_of g (values_in (store_in old.store) old.refs.items) old.frames.items (length old.frames.items) left r in
@@ -136,16 +138,20 @@ module _ (old : Engine) (frame : Frame) (frames : Vec Frame Global) (ready : IsR
     at = record {
       inside = record {
         program = st.at.inside.program;
+        entries = st.at.inside.entries;
         lives = st.at.inside.lives;
+        lives_are = st.at.inside.lives_are;
         saved = st.at.inside.saved;
         keeps = st.at.inside.keeps;
-        choices = subst (λ l. AreChoices g old.refs.items l os st.at.inside.saved st.at.inside.lives) (sym pushed_on) (choices_same g old.refs.items old.refs.items fs gs (length fs) n old.newest os st.at.inside.saved st.at.inside.lives refl (same_append fs frame) ready.sound.base.choices st.at.inside.choices);
+        choices = subst (λ l. AreChoices g old.refs.items l os st.at.inside.saved st.at.inside.entries) (sym pushed_on) (choices_same g old.refs.items old.refs.items fs gs (length fs) n old.newest os st.at.inside.saved st.at.inside.entries refl (same_append fs frame) ready.sound.base.choices st.at.inside.choices);
         world = st.at.inside.world;
       };
       ways = st.at.ways;
+      ways_are = st.at.ways_are;
       registers = st.at.registers;
       agrees = st.at.agrees;
       tag = st.at.tag;
+      stop = st.at.stop;
     };
     stands = subst (λ (l : List Step). Stands g st.at.inside.lives st.at.ways (path_of (Do x (vs old.here.env) old.here.tag ∷ l) st.at.registers) (suc k) w run) (sym (pushed_same old.here ready.here)) st.stands;
   }
@@ -207,16 +213,20 @@ module _ (old : Engine) (left : Left) (place : Place) (store : ListBindings) (re
       at = record {
         inside = record {
           program = st.at.inside.program;
+          entries = st.at.inside.entries;
           lives = st.at.inside.lives;
+          lives_are = st.at.inside.lives_are;
           saved = st.at.inside.saved;
           keeps = saves_drops true (fields_of store) (record { mark = place; store = t }) st.at.inside.saved (place_now st.at.inside.saved st.at.inside.keeps).keeps;
           choices = st.at.inside.choices;
           world = st.at.inside.world;
         };
         ways = st.at.ways;
+        ways_are = st.at.ways_are;
         registers = st.at.registers;
         agrees = agrees_now st.at.registers st.at.agrees;
         tag = st.at.tag;
+        stop = st.at.stop;
       };
       back = record { mark = place; store = t };
       is = place_now st.at.inside.saved st.at.inside.keeps;

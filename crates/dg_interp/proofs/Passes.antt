@@ -127,7 +127,9 @@ module _ (old : Engine) (query : Query) (args : Env) (place : Place) (sound : Is
       holds = record {
         inside = record {
           program = st.at.inside.program;
+          entries = st.at.inside.entries;
           lives = st.at.inside.lives;
+          lives_are = st.at.inside.lives_are;
           saved = st.at.inside.saved;
           keeps = saves_drops true (fields_of old.store) st.back st.at.inside.saved st.is.keeps;
           choices = st.at.inside.choices;

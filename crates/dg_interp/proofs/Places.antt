@@ -1,5 +1,5 @@
 -- Where an engine stands, and how it goes on from there.
-use Rattle.std.proofs.Common.{◌≡◌, ◌≢◌, ℕ, suc, ◌+◌, ◌-◌, ◌≤◌, List, [], ◌∷◌, ◌++◌, Some, Bool, true, false, refl, sym, ap, ◌∙◌, subst, arith, length, take, get_or, length-take, append_assoc}
+use Rattle.std.proofs.Common.{◌≡◌, ◌≢◌, ℕ, suc, ◌+◌, ◌-◌, ◌≤◌, List, [], ◌∷◌, ◌++◌, Option, Some, Bool, true, false, refl, sym, ap, ◌∙◌, subst, arith, length, take, get_or, length-take, append_assoc}
 use Rattle.std.specs.Prelude.{not, max, slice_get, reverse}
 use Rattle.std.proofs.lemmas.Option.{slice_get-get_or}
 use Rattle.std.proofs.lemmas.List.{append-nil}
@@ -8,14 +8,14 @@ use Rattle.std.specs.declared.alloc.Global.{Global}
 use Rattle.dg_base.specs.declared.program.CoreProgram.{CoreProgram}
 use Rattle.dg_base.specs.declared.run.Ending.TheVariants.{Done}
 use Rattle.dg_meaning.specs.World.{Game, World, Event, Print, Answered, Retried, HasFailed, prints, noted}
-use Rattle.dg_meaning.specs.Path.{Step, Answers, Cut, End, Branch, Kind, Plain, Rules, Shield, Gathers}
+use Rattle.dg_meaning.specs.Path.{Step, Answers, Cut, Registers, End, Branch, Kind, Plain, Rules, Shield, Gathers}
 use Rattle.dg_meaning.specs.Moves.{path_of, first_alone}
 use Rattle.dg_meaning.specs.Peaks.{Area, Heap, Trail, Aux, Keep}
 use Rattle.dg_meaning.specs.Transcript.{Run}
 use Rattle.dg_meaning.specs.Context.{Live, cut_to, Drops}
 use Rattle.dg_meaning.specs.Keeps.{Stands, Finished, tried_in}
 use Rattle.dg_meaning.proofs.Dropping.{prints_append, quiet_same}
-use Rattle.dg_meaning.proofs.Keeps.{passes_answer, passes_cut, passes_refuse, done}
+use Rattle.dg_meaning.proofs.Keeps.{passes_answer, passes_cut, passes_leave, passes_refuse, passes_back, done}
 use Rattle.dg_meaning.specs.Values.{Value}
 use Rattle.dg_unify.specs.Store.{Saved}
 use Rattle.dg_unify.specs.declared.bindings.Ref.{Ref}
@@ -25,14 +25,14 @@ use Rattle.dg_unify.specs.Listed.{fields_of}
 use Rattle.dg_unify.specs.declared.list.ListBindings.{ListBindings}
 use Rattle.dg_interp.specs.declared.frames.Query.{Query}
 use Rattle.dg_interp.specs.declared.frames.Mark.{Mark}
-use Rattle.dg_interp.specs.declared.frames.Mark.TheVariants.{Nothing, AnswerOf, CutTo, RefuseTo}
+use Rattle.dg_interp.specs.declared.frames.Mark.TheVariants.{Nothing, AnswerOf, CutTo, RefuseTo, Exhausted, LeavePart}
 use Rattle.dg_interp.specs.declared.frames.Frame.{Frame}
 use Rattle.dg_interp.specs.declared.frames.Choice.{Choice}
 use Rattle.dg_interp.specs.declared.engine.Engine.{Engine}
-use Rattle.dg_interp.specs.Frames.{values_in, mark_steps, frame_steps, steps_behind, steps_at, AreChoices, IsFrame, AreFrames, StandOn, GoBackTo, floor_of, all_left}
-use Rattle.dg_interp.specs.Engine.{store_in, limit_in, KeepsPlaces, InWorld, Within, On, IsSound, IsReady, Point, StandsAt, FailsAt, Adds, Then, Leads, Cuts, branches_left, SameLimits, WentOn, WentWrong, HasEndedSo, MarkPassed, Refused, FrameLeft, steps_of}
+use Rattle.dg_interp.specs.Frames.{values_in, mark_steps, frame_steps, steps_behind, steps_at, lives_of, ways_of, AreChoices, IsFrame, AreFrames, StandOn, GoBackTo, floor_of, all_left}
+use Rattle.dg_interp.specs.Engine.{store_in, limit_in, KeepsPlaces, InWorld, Within, On, There, Sound, IsSound, IsReady, Point, StandsAt, FailsAt, Adds, Then, Leads, older_than, Cuts, branches_left, SameLimits, WentOn, WentWrong, HasEndedSo, MarkPassed, Refused, FrameLeft, steps_of}
 use Rattle.dg_unify.specs.Engines.{Agrees}
-use Rattle.dg_interp.proofs.Links.{same_take, same_values, behind_same, behind_frame, behind_end, frames_take, choices_same, saved_older, choices_cut, back_cut, keeps_cut, stand_cut, stand_same, stand_floor, floor_within, cut_fewer}
+use Rattle.dg_interp.proofs.Links.{same_take, same_values, behind_same, behind_frame, behind_end, frames_take, choices_same, rest_older, choices_cut, lives_cut, ways_cut, back_cut, keeps_cut, stand_cut, stand_same, stand_floor, floor_within, cut_fewer}
 
 -- ## From world to world
 
@@ -61,14 +61,14 @@ world_tried Gathers (b ∷ bs) w is = is
 
 -- the same in another world
 abbrev pub inside_in : {p : CoreProgram} {s : ListBindings} {rs : List Ref} {fs : List Frame} {os : List Choice} {g : Game} {w : World} (v : World) → InWorld v → Within p s rs fs os g w → Within p s rs fs os g v
-inside_in v is i = record { program = i.program; lives = i.lives; saved = i.saved; keeps = i.keeps; choices = i.choices; world = is }
+inside_in v is i = record { program = i.program; entries = i.entries; lives = i.lives; lives_are = i.lives_are; saved = i.saved; keeps = i.keeps; choices = i.choices; world = is }
 
 -- and over a store that keeps its places
 abbrev pub inside_kept : {p : CoreProgram} {s : ListBindings} {rs : List Ref} {fs : List Frame} {os : List Choice} {g : Game} {w : World} (s' : ListBindings) (v : World) → ((ms : List Saved) → KeepsPlaces s ms → KeepsPlaces s' ms) → InWorld v → Within p s rs fs os g w → Within p s' rs fs os g v
-inside_kept s' v k is i = record { program = i.program; lives = i.lives; saved = i.saved; keeps = k i.saved i.keeps; choices = i.choices; world = is }
+inside_kept s' v k is i = record { program = i.program; entries = i.entries; lives = i.lives; lives_are = i.lives_are; saved = i.saved; keeps = k i.saved i.keeps; choices = i.choices; world = is }
 
-abbrev pub there_in : {p : CoreProgram} {s : ListBindings} {rs : List Ref} {fs : List Frame} {os : List Choice} {next : ℕ} {g : Game} {w : World} (v : World) → InWorld v → On p s rs fs os next g w → On p s rs fs os next g v
-there_in v is at = record { inside = inside_in v is at.inside; ways = at.ways; registers = at.registers; agrees = at.agrees; tag = at.tag }
+abbrev pub there_in : {p : CoreProgram} {s : ListBindings} {rs : List Ref} {fs : List Frame} {os : List Choice} {next : ℕ} {part : Option ℕ} {g : Game} {w : World} (v : World) → InWorld v → On p s rs fs os next part g w → On p s rs fs os next part g v
+there_in v is at = record { inside = inside_in v is at.inside; ways = at.ways; ways_are = at.ways_are; registers = at.registers; agrees = at.agrees; tag = at.tag; stop = at.stop }
 
 -- a call is noted
 pub adds_noted : (w : World) (e : Event) → prints (e ∷ []) ≡ [] → Adds [] w (noted e w)
@@ -108,9 +108,43 @@ limits_at old new same Keep = refl
 pub limits_on : (a b c : Engine) → SameLimits a b → SameLimits b c → SameLimits a c
 limits_on a b c h k = record { heap = k.heap ∙ h.heap; trail = k.trail ∙ h.trail }
 
+-- ## What a cut leaves
+
+pub keeps_older : (s : ListBindings) (t : ℕ) (os : List Choice) (ms : List Saved) → KeepsPlaces s ms → KeepsPlaces s (rest_older t os ms)
+keeps_older s t os ms h = keeps_cut (KeepsPlaces s) (λ m ms k. saves_drops true (fields_of s) m ms k) tt t os ms h
+
+module _ (t : ℕ) (p : CoreProgram) (s : ListBindings) (rs : List Ref) (fs : List Frame) (os os' : List Choice) (is : os' ≡ older_than t os) where
+  pub cut_base : (newest : ℕ) → Sound p s rs fs os newest → Sound p s rs fs os' newest
+  cut_base newest h = record {
+    program = h.program;
+    hold = h.hold;
+    frames = h.frames;
+    choices = subst (StandOn fs (length fs) (length rs) newest) (sym is) (stand_cut fs t (length fs) (length rs) newest os h.choices);
+    places = record {
+      saved = rest_older t os h.places.saved;
+      keeps = keeps_older s t os h.places.saved h.places.keeps;
+      back_to = subst (λ l. GoBackTo rs (store_in s).heap_limit (store_in s).trail_limit l (rest_older t os h.places.saved)) (sym is) (back_cut t rs _ _ os h.places.saved h.places.back_to);
+    };
+  }
+
+  abbrev pub cut_inside : (g : Game) (w v : World) → InWorld v → Within p s rs fs os g w → Within p s rs fs os' g v
+  cut_inside g w v world i = record {
+    program = i.program;
+    entries = rest_older t os i.entries;
+    lives = cut_to t i.lives;
+    lives_are = ap (cut_to t) i.lives_are ∙ sym (lives_cut g t rs fs os i.saved i.entries i.choices) ∙ ap (λ l. lives_of l (rest_older t os i.entries)) (sym is);
+    saved = rest_older t os i.saved;
+    keeps = keeps_older s t os i.saved i.keeps;
+    choices = subst (λ l. AreChoices g rs fs l (rest_older t os i.saved) (rest_older t os i.entries)) (sym is) (choices_cut g t rs fs os i.saved i.entries i.choices);
+    world = world;
+  }
+
+  pub ways_left : (g : Game) (w : World) (i : Within p s rs fs os g w) → ways_of os' (rest_older t os i.entries) ≡ ways_of os i.entries
+  ways_left g w i = ap (λ l. ways_of l (rest_older t os i.entries)) is ∙ ways_cut g t rs fs os i.saved i.entries i.choices
+
 -- ## The same place
 
-module _ (old new : Engine) (program : new.program.now ≡ old.program.now) (store : new.store ≡ old.store) (newest : new.newest ≡ old.newest) (steps : steps_of new ≡ steps_of old)
+module _ (old new : Engine) (program : new.program.now ≡ old.program.now) (store : new.store ≡ old.store) (newest : new.newest ≡ old.newest) (part : new.stoppable ≡ old.stoppable) (kept : new.choices ≡ old.choices) (steps : steps_of new ≡ steps_of old)
     (choices : (g : Game) (ms : List Saved) (cs : List Live) → AreChoices g old.refs.items old.frames.items (reverse old.choices.items) ms cs → AreChoices g new.refs.items new.frames.items (reverse new.choices.items) ms cs) where
   pub same_place : Leads (StandsAt old) (StandsAt new)
   same_place g n w run st = record {
@@ -120,16 +154,20 @@ module _ (old new : Engine) (program : new.program.now ≡ old.program.now) (sto
       at = record {
         inside = record {
           program = program ∙ st.at.inside.program;
+          entries = st.at.inside.entries;
           lives = st.at.inside.lives;
+          lives_are = st.at.inside.lives_are ∙ ap (λ (c : Vec Choice Global). lives_of (reverse c.items) st.at.inside.entries) (sym kept);
           saved = st.at.inside.saved;
           keeps = subst (λ s. KeepsPlaces s st.at.inside.saved) (sym store) st.at.inside.keeps;
-          choices = choices g st.at.inside.saved st.at.inside.lives st.at.inside.choices;
+          choices = choices g st.at.inside.saved st.at.inside.entries st.at.inside.choices;
           world = st.at.inside.world;
         };
         ways = st.at.ways;
+        ways_are = st.at.ways_are ∙ ap (λ (c : Vec Choice Global). ways_of (reverse c.items) st.at.inside.entries) (sym kept);
         registers = st.at.registers;
         agrees = subst (λ s. Agrees (store_in s) st.at.registers) (sym store) st.at.agrees;
         tag = st.at.tag ∙ ap (λ n. n + 1) (sym newest);
+        stop = st.at.stop ∙ sym part;
       };
       stands = subst (λ s. Stands g st.at.inside.lives st.at.ways (path_of s st.at.registers) n w run) (sym steps) st.stands;
     };
@@ -152,9 +190,6 @@ steps_done values fs f mark none is =
 
 abbrev pub marked_off : Engine → Engine
 marked_off e = record e { here = record e.here { mark = Nothing } }
-
-pub keeps_older : (s : ListBindings) (t : ℕ) (os : List Choice) (ms : List Saved) → KeepsPlaces s ms → KeepsPlaces s (saved_older t os ms)
-keeps_older s t os ms h = keeps_cut (KeepsPlaces s) (λ m ms k. saves_drops true (fields_of s) m ms k) tt t os ms h
 
 module _ (old : Engine) (ready : IsReady old) (none : old.here.goals.now ≡ []) where
   abbrev fs : List Frame
@@ -181,7 +216,7 @@ module _ (old : Engine) (ready : IsReady old) (none : old.here.goals.now ≡ [])
       ready = off_ready;
       left = refl;
       limits = record { heap = refl; trail = refl };
-      leads = same_place old (marked_off old) refl refl refl (off ∙ sym (steps_done values fs old.here Nothing none is)) (λ g ms cs h. h);
+      leads = same_place old (marked_off old) refl refl refl refl refl (off ∙ sym (steps_done values fs old.here Nothing none is)) (λ g ms cs h. h);
     };
     goals = none;
     mark = refl;
@@ -213,91 +248,80 @@ module _ (old : Engine) (ready : IsReady old) (none : old.here.goals.now ≡ [])
     fewer = omega arith;
   }
 
-  module _ (t : ℕ) (choices : Vec Choice Global) (cuts : Cuts t old.choices.items choices.items) where
-    abbrev new : Engine
-    new = record (marked_off old) { choices = choices }
-
-    cut_sound : IsSound new
-    cut_sound = record {
-      base = record {
-        program = ready.sound.base.program;
-        hold = ready.sound.base.hold;
-        frames = ready.sound.base.frames;
-        choices = subst (StandOn fs (length fs) (length old.refs.items) old.newest) (sym cuts) (stand_cut fs t (length fs) (length old.refs.items) old.newest (reverse old.choices.items) ready.sound.base.choices);
-        places = record {
-          saved = saved_older t (reverse old.choices.items) ready.sound.base.places.saved;
-          keeps = keeps_older old.store t (reverse old.choices.items) ready.sound.base.places.saved ready.sound.base.places.keeps;
-          back_to = subst (λ os. GoBackTo old.refs.items (store_in old.store).heap_limit (store_in old.store).trail_limit os (saved_older t (reverse old.choices.items) ready.sound.base.places.saved)) (sym cuts)
-              (back_cut t old.refs.items _ _ (reverse old.choices.items) ready.sound.base.places.saved ready.sound.base.places.back_to);
+  pub back_passed : old.here.mark ≡ Exhausted → Refused old (marked_off old)
+  back_passed is = record {
+    wrong = record {
+      sound = off_ready.sound;
+      left = refl;
+      limits = record { heap = refl; trail = refl };
+      leads = λ g n w run st. record {
+        world = w;
+        adds = adds_nothing w;
+        holds = record {
+          inside = inside_in w st.at.inside.world st.at.inside;
+          failed = passes_back g st.at.inside.lives st.at.ways [] st.at.registers n w run (subst (λ s. Stands g st.at.inside.lives st.at.ways (path_of s st.at.registers) n w run) (steps_done values fs old.here Exhausted none is) st.stands);
         };
       };
-      room = ready.sound.room;
-    }
+    };
+    fewer = omega arith;
+  }
+
+  module _ (t : ℕ) (choices : Vec Choice Global) (part : Option ℕ) (cuts : Cuts t old.choices.items choices.items) where
+    abbrev new : Engine
+    new = record (marked_off old) { choices = choices; stoppable = part }
 
     cut_ready : IsReady new
-    cut_ready = record { sound = cut_sound; here = record { built = ready.here.built; older = ready.here.older; env = ready.here.env } }
+    cut_ready = record {
+      sound = record { base = cut_base t old.program.now old.store old.refs.items fs (reverse old.choices.items) (reverse choices.items) cuts old.newest ready.sound.base; room = ready.sound.room };
+      here = record { built = ready.here.built; older = ready.here.older; env = ready.here.env };
+    }
 
     cut_less : branches_left new ≤ branches_left old
     cut_less = subst (λ os. all_left os ≤ branches_left old) (sym cuts) (cut_fewer t (reverse old.choices.items))
 
-    choices_older : (g : Game) (ms : List Saved) (cs : List Live) → AreChoices g old.refs.items fs (reverse old.choices.items) ms cs → AreChoices g old.refs.items fs (reverse choices.items) (saved_older t (reverse old.choices.items) ms) (cut_to t cs)
-    choices_older g ms cs h = subst (λ os. AreChoices g old.refs.items fs os (saved_older t (reverse old.choices.items) ms) (cut_to t cs)) (sym cuts) (choices_cut g t old.refs.items fs (reverse old.choices.items) ms cs h)
+    abbrev inside_left : (g : Game) (w v : World) → InWorld v → Within old.program.now old.store old.refs.items fs (reverse old.choices.items) g w → Within old.program.now old.store old.refs.items fs (reverse choices.items) g v
+    inside_left = cut_inside t old.program.now old.store old.refs.items fs (reverse old.choices.items) (reverse choices.items) cuts
 
-    cut_at : (g : Game) (n : ℕ) (w v : World) (run : Run) → InWorld v → (st : StandsAt old g n w run) → Stands g st.at.inside.lives st.at.ways (path_of (Cut t ∷ rest) st.at.registers) n v run → StandsAt new g n v run
-    cut_at g n w v run none_open st stands = record {
+    cut_at : (g : Game) (n : ℕ) (w v : World) (run : Run) → InWorld v → (at : There old (old.newest + 1) g w) (r : Registers) → Agrees (store_in old.store) r → r.next_tag ≡ old.newest + 1 → r.stoppable ≡ part → Stands g (cut_to t at.inside.lives) at.ways (path_of rest r) n v run → StandsAt new g n v run
+    cut_at g n w v run world at r agrees tag stop stands = record {
       at = record {
-        inside = record {
-          program = st.at.inside.program;
-          lives = cut_to t st.at.inside.lives;
-          saved = saved_older t (reverse old.choices.items) st.at.inside.saved;
-          keeps = keeps_older old.store t (reverse old.choices.items) st.at.inside.saved st.at.inside.keeps;
-          choices = choices_older g st.at.inside.saved st.at.inside.lives st.at.inside.choices;
-          world = none_open;
-        };
-        ways = st.at.ways;
-        registers = st.at.registers;
-        agrees = st.at.agrees;
-        tag = st.at.tag;
+        inside = inside_left g w v world at.inside;
+        ways = at.ways;
+        ways_are = at.ways_are ∙ sym (ways_left t old.program.now old.store old.refs.items fs (reverse old.choices.items) (reverse choices.items) cuts g w at.inside);
+        registers = r;
+        agrees = agrees;
+        tag = tag;
+        stop = stop;
       };
-      stands = subst (λ s. Stands g (cut_to t st.at.inside.lives) st.at.ways (path_of s st.at.registers) n v run) (sym off) (passes_cut g st.at.inside.lives st.at.ways t rest st.at.registers n v run stands);
+      stands = subst (λ s. Stands g (cut_to t at.inside.lives) at.ways (path_of s r) n v run) (sym off) stands;
     }
 
-    pub tag_passed : old.here.mark ≡ CutTo t → MarkPassed old new
-    tag_passed is = record {
-      went_on = record {
-        ready = cut_ready;
-        left = refl;
-        limits = record { heap = refl; trail = refl };
-        leads = λ g n w run st. record {
+    cut_passes : ((g : Game) (n : ℕ) (w : World) (run : Run) → StandsAt old g n w run → Then [] w (λ v. StandsAt new g n v run)) → MarkPassed old new
+    cut_passes leads = record { went_on = record { ready = cut_ready; left = refl; limits = record { heap = refl; trail = refl }; leads = leads }; goals = none; mark = refl; behind = refl; fewer = cut_less }
+
+    pub part_left : old.here.mark ≡ LeavePart t part → MarkPassed old new
+    part_left is = cut_passes
+        (λ g n w run st.
+        let r = st.at.registers in
+        let a = st.at.agrees in
+        record {
           world = w;
           adds = adds_nothing w;
-          holds = cut_at g n w w run st.at.inside.world st (subst (λ s. Stands g st.at.inside.lives st.at.ways (path_of s st.at.registers) n w run) (steps_done values fs old.here (CutTo t) none is) st.stands);
-        };
-      };
-      goals = none;
-      mark = refl;
-      behind = refl;
-      fewer = cut_less;
-    }
+          holds = cut_at g n w w run st.at.inside.world st.at (record r { stoppable = part }) (record { bound = a.bound; vars = a.vars; heap = a.heap; trail = a.trail; since = a.since }) st.at.tag refl
+              (passes_leave g st.at.inside.lives st.at.ways t part rest r n w run (subst (λ s. Stands g st.at.inside.lives st.at.ways (path_of s r) n w run) (steps_done values fs old.here (LeavePart t part) none is) st.stands));
+        })
 
     pub refused : old.here.mark ≡ RefuseTo t → Refused old new
     refused is = record {
       wrong = record {
-        sound = cut_sound;
+        sound = cut_ready.sound;
         left = refl;
         limits = record { heap = refl; trail = refl };
         leads = λ g n w run st. record {
           world = w;
           adds = adds_nothing w;
           holds = record {
-            inside = record {
-              program = st.at.inside.program;
-              lives = cut_to t st.at.inside.lives;
-              saved = saved_older t (reverse old.choices.items) st.at.inside.saved;
-              keeps = keeps_older old.store t (reverse old.choices.items) st.at.inside.saved st.at.inside.keeps;
-              choices = choices_older g st.at.inside.saved st.at.inside.lives st.at.inside.choices;
-              world = st.at.inside.world;
-            };
+            inside = inside_left g w w st.at.inside.world st.at.inside;
             failed = passes_refuse g st.at.inside.lives st.at.ways t [] st.at.registers n w run (subst (λ s. Stands g st.at.inside.lives st.at.ways (path_of s st.at.registers) n w run) (steps_done values fs old.here (RefuseTo t) none is) st.stands);
           };
         };
@@ -305,28 +329,29 @@ module _ (old : Engine) (ready : IsReady old) (none : old.here.goals.now ≡ [])
       fewer = cut_less;
     }
 
+  pub tag_passed : (t : ℕ) (choices : Vec Choice Global) → Cuts t old.choices.items choices.items → old.here.mark ≡ CutTo t → MarkPassed old (record (marked_off old) { choices = choices })
+  tag_passed t choices cuts is = cut_passes t choices old.stoppable cuts
+      (λ g n w run st. record {
+        world = w;
+        adds = adds_nothing w;
+        holds = cut_at t choices old.stoppable cuts g n w w run st.at.inside.world st.at st.at.registers st.at.agrees st.at.tag st.at.stop
+            (passes_cut g st.at.inside.lives st.at.ways t rest st.at.registers n w run (subst (λ s. Stands g st.at.inside.lives st.at.ways (path_of s st.at.registers) n w run) (steps_done values fs old.here (CutTo t) none is) st.stands));
+      })
+
   pub cut_passed : (query : Query) (choices : Vec Choice Global) → old.here.mark ≡ AnswerOf query → query.many ≡ false → Cuts old.here.tag old.choices.items choices.items → MarkPassed old (record (marked_off old) { choices = choices })
   cut_passed query choices is many cuts =
       let t = old.here.tag in
+      cut_passes t choices old.stoppable cuts
+      (λ g n w run st.
+      let was : steps_of old ≡ Answers query.pred ∷ Cut t ∷ rest = steps_done values fs old.here (AnswerOf query) none is ∙ ap (λ m. Answers query.pred ∷ first_alone m t rest) many in
+      let v = noted (Answered query.pred) w in
       record {
-        went_on = record {
-          ready = cut_ready t choices cuts;
-          left = refl;
-          limits = record { heap = refl; trail = refl };
-          leads = λ g n w run st.
-              let was : steps_of old ≡ Answers query.pred ∷ Cut t ∷ rest = steps_done values fs old.here (AnswerOf query) none is ∙ ap (λ m. Answers query.pred ∷ first_alone m t rest) many in
-              record {
-                world = noted (Answered query.pred) w;
-                adds = adds_noted w (Answered query.pred) refl;
-                holds = cut_at t choices cuts g n w (noted (Answered query.pred) w) run st.at.inside.world st
-                    (passes_answer g st.at.inside.lives st.at.ways query.pred (Cut t ∷ rest) st.at.registers n w run (subst (λ s. Stands g st.at.inside.lives st.at.ways (path_of s st.at.registers) n w run) was st.stands));
-              };
-        };
-        goals = none;
-        mark = refl;
-        behind = refl;
-        fewer = cut_less t choices cuts;
-      }
+        world = v;
+        adds = adds_noted w (Answered query.pred) refl;
+        holds = cut_at t choices old.stoppable cuts g n w v run st.at.inside.world st.at st.at.registers st.at.agrees st.at.tag st.at.stop
+            (passes_cut g st.at.inside.lives st.at.ways t rest st.at.registers n v run
+            (passes_answer g st.at.inside.lives st.at.ways query.pred (Cut t ∷ rest) st.at.registers n w run (subst (λ s. Stands g st.at.inside.lives st.at.ways (path_of s st.at.registers) n w run) was st.stands)));
+      })
 
 -- ## The frame behind
 
@@ -394,7 +419,7 @@ module _ (old : Engine) (frames : Vec Frame Global) (f : Frame) (needed : ℕ) (
       };
       left = refl;
       limits = record { heap = refl; trail = refl };
-      leads = same_place old left_at refl refl refl same choices_kept;
+      leads = same_place old left_at refl refl refl refl refl same choices_kept;
     };
     older = omega (arith, frame.older);
     fewer = omega arith;

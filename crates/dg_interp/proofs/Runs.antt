@@ -5,10 +5,10 @@ use Rattle.std.proofs.lemmas.List.{append-nil}
 use Rattle.dg_base.specs.declared.program.Goal.{Goal, out-Goal}
 use Rattle.dg_base.specs.declared.program.Goal as place
 use denote.Hole.Carrier.{out}
-use Rattle.dg_base.specs.declared.program.Goal.TheVariants.{Text, Print as PrintGoal, Quit}
+use Rattle.dg_base.specs.declared.program.Goal.TheVariants.{Text, Print as PrintGoal, Quit, Stop}
 use Rattle.dg_base.specs.declared.program.Term.{Term}
 use Rattle.dg_base.specs.declared.run.Ending.{Ending}
-use Rattle.dg_base.specs.declared.run.Ending.TheVariants.{Failed, StepLimit, Quit as Quit-Ending}
+use Rattle.dg_base.specs.declared.run.Ending.TheVariants.{Failed, StepLimit, Stopped, Quit as Quit-Ending}
 use Rattle.dg_base.specs.declared.run.RunFault.{RunFault}
 use Rattle.dg_base.specs.declared.run.RunFault.TheVariants.{Write, OutOfMemory}
 use Rattle.dg_meaning.specs.World.{Game, World, Event, Print, Piece, prints}
@@ -30,7 +30,7 @@ use Rattle.dg_base.specs.Written.{SinkView, Wrote, BrokeOff}
 use Rattle.dg_interp.specs.Spacer.{StandsFor, Added, growth}
 use Rattle.dg_interp.specs.Printing.{as_prints, growth_of, AddsAll}
 use Rattle.dg_interp.specs.Frames.{mark_steps, steps_behind, values_in}
-use Rattle.dg_interp.specs.Engine.{store_in, PassesLimit, IsAct, pieces_at, WrotePrinted, StandsAt, TakesAt, Then, FullAt, Taken, WentOn, HasEndedSo, Branches}
+use Rattle.dg_interp.specs.Engine.{store_in, PassesLimit, IsAct, pieces_at, WrotePrinted, StandsAt, TakesAt, Then, FullAt, Taken, WentOn, HasEndedSo, Branches, Stops}
 use Rattle.dg_interp.specs.Running.{HasText, Writes, Reaches, HasEnded, MeetsLimit, IsBroken, GoalDone, DoesGoal, outcome_of}
 use Rattle.dg_base.proofs.WrittenLemmas.{wrote_on, broke_first, broke_later}
 use Rattle.dg_interp.proofs.Places.{limits_at, adds_nothing, adds_on, adds_drops, limits_on}
@@ -107,13 +107,14 @@ run_limited e s k some none g w run start st text =
 
 -- ## One goal
 
--- all goals but these three are acts
-pub is_act : (x : Goal) → ((name : List ℕ) → x ≡ Text name → ⊥) → ((a : Term) → x ≡ PrintGoal a → ⊥) → (x ≡ Quit → ⊥) → IsAct (out-Goal x)
+-- all goals but these four are acts
+pub is_act : (x : Goal) → ((name : List ℕ) → x ≡ Text name → ⊥) → ((a : Term) → x ≡ PrintGoal a → ⊥) → (x ≡ Quit → ⊥) → (x ≡ Stop → ⊥) → IsAct (out-Goal x)
 unfolding out-Goal out
-is_act (place.Text name) text print quit = absurd (text name refl)
-is_act (place.Print a) text print quit = absurd (print a refl)
-is_act place.Quit text print quit = absurd (quit refl)
-is_act x text print quit = tt
+is_act (place.Text name) text print quit stop = absurd (text name refl)
+is_act (place.Print a) text print quit stop = absurd (print a refl)
+is_act place.Quit text print quit stop = absurd (quit refl)
+is_act place.Stop text print quit stop = absurd (stop refl)
+is_act x text print quit stop = tt
 
 module _ (x : Goal) (old mid : Engine) (s : Spacer) (k : SinkView) (some : 0 < length old.here.goals.now) (taken : Taken x old mid) where
   takes_here : (g : Game) (w : World) (run : Run) → StandsAt old g old.left w run → TakesAt x mid g mid.left w run
@@ -228,3 +229,9 @@ pub goal_quits : (x : Goal) (old mid : Engine) (s : Spacer) (k : SinkView) → T
 goal_quits x old mid s k taken is g w run start st text =
     finished_so (End Quit-Ending) Quit-Ending mid.left mid.left s k w run start text refl refl
     (quits mid g mid.left w run (subst (λ y. TakesAt y mid g mid.left w run) is (taken.takes g mid.left w run (subst (λ n. StandsAt old g n w run) taken.left st))))
+
+pub goal_stops : (x : Goal) (old mid new : Engine) (s : Spacer) (k : SinkView) → 0 < length old.here.goals.now → Taken x old mid → x ≡ Stop → Stops true mid new → GoalDone old new s s k k
+goal_stops x old between new s k some taken is h = goal_done x old between s k some taken new (subst (λ y. WentOn (TakesAt y between) between new) (sym is) h)
+
+pub goal_stopped : (x : Goal) (old mid new : Engine) (s : Spacer) (k : SinkView) → 0 < length old.here.goals.now → Taken x old mid → x ≡ Stop → Stops false mid new → Reaches old s k (HasEnded Stopped new.left s k)
+goal_stopped x old between new s k some taken is h = goal_ended x old between s k some taken new (End Stopped) Stopped refl (subst (λ y. HasEndedSo (TakesAt y between) (End Stopped) between new) (sym is) h)

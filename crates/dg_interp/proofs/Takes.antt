@@ -27,7 +27,7 @@ use Rattle.dg_interp.specs.Terms.{Overflows}
 use Rattle.dg_interp.specs.Frames.{values_in}
 use Rattle.dg_interp.specs.Engine.{store_in, KeepsPlaces, steps_of, IsSound, IsReady, TakesAt, FullAt, Adds}
 use Rattle.dg_interp.proofs.Stores.{all_hold}
-use Rattle.dg_interp.proofs.Begins.{back_limits}
+use Rattle.dg_interp.proofs.Kept.{back_limits}
 
 -- ## A goal
 

@@ -28,7 +28,7 @@ use Rattle.dg_interp.specs.declared.frames.Mark.TheVariants.{Nothing}
 use Rattle.dg_interp.specs.declared.frames.Frame.{Frame}
 use Rattle.dg_interp.specs.declared.frames.Choice.{Choice}
 use Rattle.dg_interp.specs.declared.engine.Engine.{Engine}
-use Rattle.dg_interp.specs.Frames.{values_in, frame_steps, steps_behind, steps_at, AreChoices, StandOn, GoBackTo}
+use Rattle.dg_interp.specs.Frames.{values_in, frame_steps, steps_behind, steps_at, AreChoices, lives_of, ways_of, StandOn, GoBackTo}
 use Rattle.dg_unify.specs.Engines.{Agrees}
 use Rattle.dg_interp.specs.Engine.{store_in, IsReady, StandsAt, Starts, Taken}
 use Rattle.dg_interp.proofs.Links.{behind_end}
@@ -98,7 +98,7 @@ empty heap trail = store_of true (record { slots = []; log = []; vars = 0; since
 
 module _ (program : Bor CoreProgram) (entry : Bor (List Goal)) (store : ListBindings) (refs : Vec Ref Global) (frames : Vec Frame Global) (choices : Vec Choice Global) (made : Vec Ref Global) (left heap trail : ℕ) (fits : left < 2 ^ 64) (built : IsBuilt program.now) (is : entry.now ≡ Ask program.now.entry [] false ∷ []) (means : store_in store ≡ empty heap trail) (no_refs : refs.items ≡ []) (no_frames : frames.items ≡ []) (no_choices : choices.items ≡ []) where
   abbrev e : Engine
-  e = record { program = program; store = store; refs = refs; frames = frames; choices = choices; made = made; here = record { goals = entry; env = record { from = 0; len = 0 }; tag = 0; mark = Nothing; behind = 0 }; newest = 0; left = left }
+  e = record { program = program; store = store; refs = refs; frames = frames; choices = choices; made = made; here = record { goals = entry; env = record { from = 0; len = 0 }; tag = 0; mark = Nothing; behind = 0 }; newest = 0; stoppable = None; left = left }
 
   none : reverse choices.items ≡ []
   none = ap reverse no_choices
@@ -114,16 +114,20 @@ module _ (program : Bor CoreProgram) (entry : Bor (List Goal)) (store : ListBind
     at = record {
       inside = record {
         program = sym same;
+        entries = [];
         lives = [];
+        lives_are = ap (λ l. lives_of l []) (sym none);
         saved = [];
         keeps = tt;
         choices = subst (λ l. AreChoices g refs.items frames.items l [] []) (sym none) tt;
         world = refl;
       };
       ways = [];
+      ways_are = ap (λ l. ways_of l []) (sym none);
       registers = (start_path g).registers;
       agrees = subst (λ s. Agrees s (start_path g).registers) (sym means) (record { bound = refl; vars = refl; heap = refl; trail = omega arith; since = omega arith });
       tag = refl;
+      stop = refl;
     };
     stands =
         subst (λ s. Stands g [] [] (path_of s (start_path g).registers) n (start_world g typed) (run g typed n)) (sym steps)

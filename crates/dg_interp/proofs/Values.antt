@@ -51,14 +51,16 @@ module _ (x : Goal) (old : Engine) (store : ListBindings) (made : Vec Ref Global
   pub grown_limits : SameLimits old grown
   grown_limits = record { heap = k.heap_limit; trail = k.trail_limit }
 
-  pub stands_behind : (g : Game) (n : ℕ) (w v : World) (run : Run) → InWorld v → (st : TakesAt x old g n w run) (r : Registers) → Agrees (store_in store) r → r.next_tag ≡ st.at.registers.next_tag → Stands g st.at.inside.lives st.at.ways (path_of (steps_of old) r) n v run → StandsAt grown g n v run
-  stands_behind g n w v run none_open st r agrees tag stands = record {
+  pub stands_behind : (g : Game) (n : ℕ) (w v : World) (run : Run) → InWorld v → (st : TakesAt x old g n w run) (r : Registers) → Agrees (store_in store) r → r.next_tag ≡ st.at.registers.next_tag → r.stoppable ≡ st.at.registers.stoppable → Stands g st.at.inside.lives st.at.ways (path_of (steps_of old) r) n v run → StandsAt grown g n v run
+  stands_behind g n w v run none_open st r agrees tag part stands = record {
     at = record {
       inside = inside_kept _ _ saved none_open st.at.inside;
       ways = st.at.ways;
+      ways_are = st.at.ways_are;
       registers = r;
       agrees = agrees;
       tag = tag ∙ st.at.tag;
+      stop = part ∙ st.at.stop;
     };
     stands = subst (λ s. Stands g st.at.inside.lives st.at.ways (path_of s r) n v run) (sym steps_same) stands;
   }
@@ -142,7 +144,7 @@ module _ (kind : TestKind) (term : Term) (old : Engine) (store : ListBindings) (
     leads = λ g n w run st. record {
       world = looked g n w run st;
       adds = adds_looked g n w run st;
-      holds = stands_behind x old store made ready k saved g n w (looked g n w run st) run (world_looked g n w run st) st (behind x old g n w run st) (agrees g n w run st) refl (comes_to g n w run st true is);
+      holds = stands_behind x old store made ready k saved g n w (looked g n w run st) run (world_looked g n w run st) st (behind x old g n w run st) (agrees g n w run st) refl refl (comes_to g n w run st true is);
     };
   }
 
@@ -220,7 +222,7 @@ module _ (term : Term) (old : Engine) (store : ListBindings) (made : Vec Ref Glo
       record {
         world = all_printed ps before;
         adds = record { prints_are = b.prints_are ∙ ap (λ l. l ++ map Piece ps) (a.prints_are ∙ append-nil (prints w.events)); typed = b.typed };
-        holds = stands_behind y old store made ready k saved g n w (all_printed ps before) run (world_printed ps before st.at.inside.world) st r (agrees_behind y term (print_held term) old store value written g n w run st) refl stands;
+        holds = stands_behind y old store made ready k saved g n w (all_printed ps before) run (world_printed ps before st.at.inside.world) st r (agrees_behind y term (print_held term) old store value written g n w run st) refl refl stands;
       }
 
   pub wrote_printed : WrotePrinted term value old new

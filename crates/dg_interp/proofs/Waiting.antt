@@ -46,9 +46,11 @@ module _ (mid : Engine) (store : ListBindings) (same : store_in store ≡ store_
     at = record {
       inside = inside_kept _ _ places st.at.inside.world st.at.inside;
       ways = st.at.ways;
+      ways_are = st.at.ways_are;
       registers = st.at.registers;
       agrees = subst (λ t. Agrees t st.at.registers) (sym same) st.at.agrees;
       tag = st.at.tag;
+      stop = st.at.stop;
     };
     stands = subst (λ t. Stands g st.at.inside.lives st.at.ways (path_of (steps_at (values_in t mid.refs.items) mid.frames.items mid.here) st.at.registers) n w run) (sym same) st.stands;
   }

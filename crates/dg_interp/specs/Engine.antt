@@ -2,12 +2,12 @@
 use Rattle.std.specs.Prelude.{ℕ, suc, ◌+◌, ◌^◌, ◌≡◌, ◌<◌, ◌≤◌, ◌++◌, nat_lt, List, [], ◌∷◌, Bool, true, false, length, map, reverse, Option, Some, None, if◌then◌else◌}
 use Rattle.std.specs.List.{All}
 use Rattle.dg_base.specs.declared.program.Goal.{Goal, Goal-F}
-use Rattle.dg_base.specs.declared.program.Goal.TheVariants.{Print as PrintGoal}
-use Rattle.dg_base.specs.declared.program.Goal.TheOpen.{Text, Print as PrintForm, Quit}
+use Rattle.dg_base.specs.declared.program.Goal.TheVariants.{Print as PrintGoal, Stop as StopGoal}
+use Rattle.dg_base.specs.declared.program.Goal.TheOpen.{Text, Print as PrintForm, Quit, Stop}
 use Rattle.dg_base.specs.declared.program.Term.{Term}
 use Rattle.dg_base.specs.declared.program.CoreProgram.{CoreProgram}
 use Rattle.dg_base.specs.declared.run.Ending.{Ending}
-use Rattle.dg_base.specs.declared.run.Ending.TheVariants.{Done as Done-Ending, Failed as Failed-Ending}
+use Rattle.dg_base.specs.declared.run.Ending.TheVariants.{Done as Done-Ending, Failed as Failed-Ending, Stopped}
 use Rattle.dg_meaning.specs.World.{Game, World, Print, Piece, prints}
 use Rattle.dg_meaning.specs.Substitutions.{resolved}
 use Rattle.dg_meaning.specs.Pieces.{pieces}
@@ -15,7 +15,7 @@ use Rattle.dg_meaning.specs.Path.{Step, Do, Registers, Result, Failing, End}
 use Rattle.dg_meaning.specs.Moves.{path_of}
 use Rattle.dg_meaning.specs.Transcript.{Run, run, start_world}
 use Rattle.dg_meaning.specs.Context.{Way, Live}
-use Rattle.dg_meaning.specs.Keeps.{Stands, Failed, Finished, Tried}
+use Rattle.dg_meaning.specs.Keeps.{Stands, Failed, Finished, Tried, WentOn as LeftPart}
 use Rattle.dg_meaning.specs.Peaks.{Area, Heap, Trail, greatest}
 use Rattle.dg_meaning.specs.Built.{IsBuilt, IsBuiltGoal, AreBuilt}
 use Rattle.dg_unify.specs.Store.{Store, Saved, Holds, told}
@@ -29,12 +29,13 @@ use Rattle.dg_unify.specs.declared.bindings.Mark.{Mark as Place}
 use Rattle.dg_unify.specs.declared.list.ListBindings.{ListBindings}
 use Rattle.dg_interp.specs.declared.frames.Mark.TheVariants.{Nothing}
 use Rattle.dg_interp.specs.declared.frames.Left.{Left}
+use Rattle.dg_interp.specs.declared.frames.Left.TheVariants.{Behind}
 use Rattle.dg_interp.specs.declared.frames.Frame.{Frame}
 use Rattle.dg_interp.specs.declared.frames.Choice.{Choice}
 use Rattle.dg_interp.specs.declared.engine.Engine.{Engine}
 use Rattle.dg_interp.specs.declared.engine.Settled.{Settled}
 use Rattle.dg_interp.specs.declared.engine.Settled.TheVariants as settled
-use Rattle.dg_interp.specs.Frames.{values_in, steps_at, kind_of, branches_of, AreChoices, IsFrame, AreFrames, StandOn, GoBackTo, all_left}
+use Rattle.dg_interp.specs.Frames.{values_in, steps_at, kind_of, branches_of, AreChoices, IsFrame, AreFrames, StandOn, GoBackTo, lives_of, ways_of, noting, all_left}
 
 -- ## What holds of an engine
 
@@ -87,27 +88,31 @@ steps_of e = steps_at (values_in (store_in e.store) e.refs.items) e.frames.items
 -- A program, a store, Refs, frames and choices are in this world, inside choices of the meaning.
 pub record Within (p : CoreProgram) (store : ListBindings) (refs : List Ref) (frames : List Frame) (os : List Choice) (g : Game) (w : World) : Type 0 where
   pub program : p ≡ g.program
+  pub entries : List Live
   pub lives : List Live
+  pub lives_are : lives ≡ lives_of os entries
   pub saved : List Saved
   pub keeps : KeepsPlaces store saved
-  pub choices : AreChoices g refs frames os saved lives
+  pub choices : AreChoices g refs frames os saved entries
   pub world : InWorld w
 
 -- The same of an engine.
 abbrev pub Inside : Engine → Game → World → Type 0
 Inside e g w = Within e.program.now e.store e.refs.items e.frames.items (reverse e.choices.items) g w
 
--- They are there on a path with these registers, on which the next choice has this tag.
-pub record On (p : CoreProgram) (store : ListBindings) (refs : List Ref) (frames : List Frame) (os : List Choice) (next : ℕ) (g : Game) (w : World) : Type 0 where
+-- They are there on a path with these registers, on which the next choice has this tag, inside this stoppable part.
+pub record On (p : CoreProgram) (store : ListBindings) (refs : List Ref) (frames : List Frame) (os : List Choice) (next : ℕ) (part : Option ℕ) (g : Game) (w : World) : Type 0 where
   pub inside : Within p store refs frames os g w
   pub ways : List Way
+  pub ways_are : ways ≡ ways_of os inside.entries
   pub registers : Registers
   pub agrees : Agrees (store_in store) registers
   pub tag : registers.next_tag ≡ next
+  pub stop : registers.stoppable ≡ part
 
 -- The same of an engine.
 abbrev pub There : Engine → ℕ → Game → World → Type 0
-There e next g w = On e.program.now e.store e.refs.items e.frames.items (reverse e.choices.items) next g w
+There e next g w = On e.program.now e.store e.refs.items e.frames.items (reverse e.choices.items) next e.stoppable g w
 
 -- The run comes from where the engine is, with so many goals left of its budget.
 pub record StandsAt (e : Engine) (g : Game) (n : ℕ) (w : World) (run : Run) : Type 0 where
@@ -170,10 +175,24 @@ pub record SameLimits (old new : Engine) : Type 0 where
   pub heap : (store_in new.store).heap_limit ≡ (store_in old.store).heap_limit
   pub trail : (store_in new.store).trail_limit ≡ (store_in old.store).trail_limit
 
+-- An open stoppable part stays where a cut is made that isn't younger, and the cut waits in it; no other choice does.
+abbrev pub waits_in : ℕ → Choice → Left → Option Choice
+waits_in t o (Behind frame cut) = Some (record o { left = Behind frame (noting t cut) })
+waits_in t o other = None
+
+-- What a cut to a tag leaves of a choice.
+abbrev pub left_by : ℕ → Choice → Option Choice
+left_by t o = if nat_lt o.tag t then Some o else waits_in t o o.left
+
+-- A choice that was left, with those behind it, or else what was left of these.
+abbrev pub with_older : Option Choice → List Choice → List Choice → List Choice
+with_older None os older = older
+with_older (Some o) os older = o ∷ os
+
 -- The choices that a cut to a tag leaves, the newest first.
 abbrev pub older_than : ℕ → List Choice → List Choice
 older_than t [] = []
-older_than t (o ∷ os) = if nat_lt o.tag t then o ∷ os else older_than t os
+older_than t (o ∷ os) = with_older (left_by t o) os (older_than t os)
 
 -- A cut to a tag was made.
 abbrev pub Cuts : ℕ → List Choice → List Choice → Type 0
@@ -262,6 +281,7 @@ abbrev pub IsAct : Goal-F Goal → Type 0
 IsAct (Text name) = ⊥
 IsAct (PrintForm a) = ⊥
 IsAct Quit = ⊥
+IsAct Stop = ⊥
 IsAct x = Unit {0}
 
 -- A goal was taken, and what it does is left to do.
@@ -324,10 +344,10 @@ pub record BeginsAt (left : Left) (place : Place) (e : Engine) (g : Game) (n : �
   pub back_agrees : Agrees back.store at.registers
   pub tried : Tried g (kind_of left) at.registers.next_tag 0 at.ways at.inside.lives (branches_of g (values_in (store_in e.store) e.refs.items) e.frames.items (length e.frames.items) left at.registers) n w run
 
--- A choice, where it stays, in front of others.
-abbrev pub kept_if : Bool → Choice → List Choice → List Choice
-kept_if false o os = os
-kept_if true o os = o ∷ os
+-- A choice, or what stands in step with it, in front of others where it stays.
+abbrev pub kept_if : {A : Type 0} → Bool → A → List A → List A
+kept_if false x xs = xs
+kept_if true x xs = x ∷ xs
 
 -- The newest choice was tried again: none was left, or its next branch has begun, or has failed where it began.
 abbrev pub Retries : Point → Option Bool → Engine → Engine → Type 0
@@ -349,3 +369,51 @@ pub record IsPushed (frame : Frame) (old new : Engine) : Type 0 where
 abbrev pub GoesBack : Point → Bool → Engine → Engine → Type 0
 GoesBack From true old new = WentOn From old new × (branches_left new < branches_left old)
 GoesBack From false old new = HasEndedSo From Failing old new
+
+-- ## Stops
+
+-- What the leaving of a stoppable part cuts to: its own tag, or what waits to be cut in it.
+abbrev pub leaving : ℕ → Option ℕ → ℕ
+leaving tag None = tag
+leaving tag (Some t) = t
+
+-- What goes on behind a stoppable part, where it is the one of a tag, and what its leaving cuts to.
+abbrev pub part_at : Bool → ℕ → Left → Option (Frame × ℕ)
+part_at same tag (Behind frame cut) = if same then Some (frame, leaving tag cut) else None
+part_at same tag other = None
+
+-- The run comes from a stop to a stoppable part, inside the choices of the engine.
+pub record StopsAt (s : ℕ) (e : Engine) (g : Game) (n : ℕ) (w : World) (run : Run) : Type 0 where
+  pub inside : Inside e g w
+  pub part_left : LeftPart g inside.lives (ways_of (reverse e.choices.items) inside.entries) s n w run
+
+-- The run comes from the same stop inside choices that are left.
+pub record StopsWithin (s : ℕ) (old new : Engine) : Type 0 where
+  pub sound : IsSound new
+  pub left : new.left ≡ old.left
+  pub limits : SameLimits old new
+  pub leads : Leads (StopsAt s old) (StopsAt s new)
+
+-- The same, with a choice fewer.
+pub record StopsFurther (s : ℕ) (old new : Engine) : Type 0 where
+  pub sound : IsSound new
+  pub left : new.left ≡ old.left
+  pub limits : SameLimits old new
+  pub leads : Leads (StopsAt s old) (StopsAt s new)
+  pub fewer : branches_left new < branches_left old
+
+-- A stop goes on behind its part, or to an older choice, or there is no choice.
+abbrev pub StopsOn : ℕ → Option Bool → Engine → Engine → Type 0
+StopsOn s None old new = HasEndedSo (StopsAt s old) (End Stopped) old new
+StopsOn s (Some true) old new = WentOn (StopsAt s old) old new
+StopsOn s (Some false) old new = StopsFurther s old new
+
+-- A stop has led behind its part, or there is no choice.
+abbrev pub StopsTo : ℕ → Bool → Engine → Engine → Type 0
+StopsTo s true old new = WentOn (StopsAt s old) old new
+StopsTo s false old new = HasEndedSo (StopsAt s old) (End Stopped) old new
+
+-- A stop was taken: the run goes on behind the innermost stoppable part, or has stopped.
+abbrev pub Stops : Bool → Engine → Engine → Type 0
+Stops true old new = WentOn (TakesAt StopGoal old) old new
+Stops false old new = HasEndedSo (TakesAt StopGoal old) (End Stopped) old new

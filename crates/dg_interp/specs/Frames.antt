@@ -1,22 +1,22 @@
 -- What the frames and choices of an engine are in the meaning. Hold it against the Dialog manual, chapter "Choice points".
-use Rattle.std.specs.Prelude.{ℕ, zero, suc, ◌+◌, ◌≡◌, ◌<◌, ◌≤◌, ◌++◌, eqb, List, [], ◌∷◌, Option, Some, None, Bool, true, false, length, map, take, drop, slice_get, if◌then◌else◌}
+use Rattle.std.specs.Prelude.{ℕ, zero, suc, ◌+◌, ◌≡◌, ◌<◌, ◌≤◌, ◌++◌, min, eqb, List, [], ◌∷◌, Option, Some, None, Bool, true, false, length, map, take, drop, slice_get, if◌then◌else◌}
 use Rattle.std.specs.List.{All}
 use Rattle.dg_base.specs.declared.program.Goal.{Goal}
 use Rattle.dg_meaning.specs.Values.{Value}
 use Rattle.dg_meaning.specs.World.{Game}
-use Rattle.dg_meaning.specs.Path.{Step, Answers, Cut, Refuse, Registers, Branch, Kind, Plain, Rules as RulesOf}
+use Rattle.dg_meaning.specs.Path.{Step, Answers, Cut, Refuse, Back, Leave, Registers, Branch, Kind, Plain, Rules as RulesOf}
 use Rattle.dg_meaning.specs.Moves.{goals_at, first_alone, enter, list_branches, rule_branches}
-use Rattle.dg_meaning.specs.Context.{Live}
+use Rattle.dg_meaning.specs.Context.{Live, Way as WayOn, cut_to}
 use Rattle.dg_meaning.specs.Built.{AreBuilt, IsBuiltRule}
 use Rattle.dg_unify.specs.Store.{Store, Saved, told, Holds}
 use Rattle.dg_unify.specs.Engines.{Agrees, GoBackTo as GoBack}
 use Rattle.dg_unify.specs.declared.bindings.Ref.{Ref}
 use Rattle.dg_interp.specs.declared.frames.Env.{Env}
 use Rattle.dg_interp.specs.declared.frames.Mark.{Mark}
-use Rattle.dg_interp.specs.declared.frames.Mark.TheVariants.{Nothing, AnswerOf, CutTo, RefuseTo}
+use Rattle.dg_interp.specs.declared.frames.Mark.TheVariants.{Nothing, AnswerOf, CutTo, RefuseTo, Exhausted, LeavePart}
 use Rattle.dg_interp.specs.declared.frames.Frame.{Frame}
 use Rattle.dg_interp.specs.declared.frames.Left.{Left}
-use Rattle.dg_interp.specs.declared.frames.Left.TheVariants.{Rules, Lists, Ways, Way}
+use Rattle.dg_interp.specs.declared.frames.Left.TheVariants.{Rules, Lists, Ways, Way, Behind}
 use Rattle.dg_interp.specs.declared.frames.Choice.{Choice}
 
 -- ## Values
@@ -37,6 +37,8 @@ mark_steps Nothing tag rest = rest
 mark_steps (AnswerOf query) tag rest = Answers query.pred ∷ first_alone query.many tag rest
 mark_steps (CutTo t) tag rest = Cut t ∷ rest
 mark_steps (RefuseTo t) tag rest = Refuse t ∷ []
+mark_steps Exhausted tag rest = Back ∷ []
+mark_steps (LeavePart t outer) tag rest = Leave t outer ∷ rest
 
 -- Goals among these values, the mark behind them, and the steps behind that.
 abbrev pub frame_steps : List Value → List Goal → ℕ → Mark → List Step → List Step
@@ -73,6 +75,7 @@ branches_of g values fs height (Rules query args rules) registers = rule_branche
 branches_of g values fs height (Lists env tag lists) registers = list_branches (values env) tag (steps_behind values fs height) registers lists.now
 branches_of g values fs height (Ways first other) registers = enter 10 0 registers (steps_at values fs first) ∷ enter 0 0 registers (steps_at values fs other) ∷ []
 branches_of g values fs height (Way frame) registers = enter 0 0 registers (steps_at values fs frame) ∷ []
+branches_of g values fs height (Behind frame cut) registers = enter 0 0 registers (steps_at values fs frame) ∷ []
 
 -- How many branches a choice has left.
 abbrev pub left_in : Left → ℕ
@@ -80,6 +83,7 @@ left_in (Rules query args rules) = length rules.now
 left_in (Lists env tag lists) = length lists.now
 left_in (Ways first other) = 2
 left_in (Way frame) = 1
+left_in (Behind frame cut) = 1
 
 -- There is something in a list.
 abbrev pub has_some : {A : Type 0} → List A → Bool
@@ -102,22 +106,54 @@ pub record BeginsWith (height : ℕ) (frame : Frame) (others left : Left) : Type
   pub work : ℕ
   pub branches : (g : Game) (values : Env → List Value) (fs : List Frame) (r : Registers) → branches_of g values fs height left r ≡ enter (cells_if (stays_with others)) work r (steps_at values fs frame) ∷ branches_of g values fs height others r
 
--- An engine's choice, which goes back to this store, is one of the meaning, outside gatherings.
-pub record IsChoice (g : Game) (refs : List Ref) (fs : List Frame) (o : Choice) (m : Saved) (c : Live) : Type 0 where
+-- These aren't the way on behind a stoppable part.
+abbrev pub IsNoPart : Left → Type 0
+IsNoPart (Behind frame cut) = ⊥
+IsNoPart other = Unit {0}
+
+-- The oldest tag that was cut inside an open stoppable part; the cut waits until the part is left.
+abbrev pub cut_of : Left → Option ℕ
+cut_of (Behind frame cut) = cut
+cut_of other = None
+
+-- Choices without those that a cut drops.
+abbrev pub cut_if : Option ℕ → List Live → List Live
+cut_if None cs = cs
+cut_if (Some t) cs = cut_to t cs
+
+-- The choices of the meaning that were not cut, where it keeps these of an engine's choices.
+abbrev pub lives_of : List Choice → List Live → List Live
+lives_of (o ∷ os) (c ∷ cs) = cut_if (cut_of o.left) (c ∷ lives_of os cs)
+lives_of os cs = []
+
+-- The way on behind a stoppable part, in front of others.
+abbrev pub with_way : Left → Live → List WayOn → List WayOn
+with_way (Behind frame cut) c ws = record { tag = c.tag; others = c.others; height = c.height } ∷ ws
+with_way other c ws = ws
+
+-- The ways on behind the stoppable parts among an engine's choices.
+abbrev pub ways_of : List Choice → List Live → List WayOn
+ways_of (o ∷ os) (c ∷ cs) = with_way o.left c (ways_of os cs)
+ways_of os cs = []
+
+-- An engine's choice, which goes back to this store, is one of the meaning, outside gatherings and inside these stoppable parts.
+pub record IsChoice (g : Game) (refs : List Ref) (fs : List Frame) (o : Choice) (m : Saved) (ws : List WayOn) (c : Live) : Type 0 where
   pub registers : Registers
   pub agrees : Agrees m.store registers
   pub hold : All (Holds m.store) (take o.refs refs)
   pub place : m.mark ≡ o.place
   pub tag_at : registers.next_tag ≡ o.tag
+  pub stop : registers.stoppable ≡ o.stoppable
   pub kind : c.kind ≡ kind_of o.left
   pub tag : c.tag ≡ o.tag
   pub others : c.others ≡ branches_of g (values_in m.store refs) fs o.height o.left registers
   pub height : c.height ≡ 0
+  pub ways_on : c.ways_on ≡ ws
 
 -- An engine's choices, the newest first, are those of the meaning.
 abbrev pub AreChoices : Game → List Ref → List Frame → List Choice → List Saved → List Live → Type 0
 AreChoices g refs fs [] [] [] = Unit {0}
-AreChoices g refs fs (o ∷ os) (m ∷ ms) (c ∷ cs) = IsChoice g refs fs o m c × AreChoices g refs fs os ms cs
+AreChoices g refs fs (o ∷ os) (m ∷ ms) (c ∷ cs) = IsChoice g refs fs o m (ways_of os cs) c × AreChoices g refs fs os ms cs
 AreChoices g refs fs os ms cs = ⊥
 
 -- ## What holds of them
@@ -142,11 +178,17 @@ IsLeft height n (Rules query args rules) = All IsBuiltRule rules.now × EndsBy n
 IsLeft height n (Lists env tag lists) = All AreBuilt lists.now × EndsBy n env
 IsLeft height n (Ways first other) = IsFrame height n first × IsFrame height n other
 IsLeft height n (Way frame) = IsFrame height n frame
+IsLeft height n (Behind frame cut) = IsFrame height n frame
+
+-- A cut that waits isn't younger than its stoppable part.
+abbrev pub IsNoted : ℕ → Option ℕ → Type 0
+IsNoted tag None = Unit {0}
+IsNoted tag (Some t) = t ≤ tag
 
 -- Choices, the newest first, stand on at most so many frames and Refs, and their tags are at most this.
 abbrev pub StandOn : List Frame → ℕ → ℕ → ℕ → List Choice → Type 0
 StandOn fs height refs tag [] = Unit {0}
-StandOn fs height refs tag (o ∷ os) = (o.height ≤ height) × (o.refs ≤ refs) × (o.tag ≤ tag) × (IsLeft o.height o.refs o.left × (stays_with o.left ≡ true)) × AreFrames o.height o.refs fs × StandOn fs o.height o.refs o.tag os
+StandOn fs height refs tag (o ∷ os) = (o.height ≤ height) × (o.refs ≤ refs) × (o.tag ≤ tag) × (IsLeft o.height o.refs o.left × (stays_with o.left ≡ true) × IsNoted o.tag (cut_of o.left)) × AreFrames o.height o.refs fs × StandOn fs o.height o.refs o.tag os
 
 -- The stores to which choices go back hold what stands behind them, and have these limits.
 abbrev pub GoBackTo : List Ref → ℕ → ℕ → List Choice → List Saved → Type 0
@@ -156,6 +198,11 @@ GoBackTo refs heap trail os ms = GoBack (λ o. o.place) (λ o. take o.refs refs)
 abbrev pub floor_of : List Choice → ℕ
 floor_of [] = 0
 floor_of (o ∷ os) = o.height
+
+-- A cut is noted, with one that waits already: the older one counts.
+abbrev pub noting : ℕ → Option ℕ → Option ℕ
+noting t None = Some t
+noting t (Some u) = Some (min u t)
 
 -- How many choices there are, and branches that they have left.
 abbrev pub all_left : List Choice → ℕ

@@ -7,8 +7,8 @@ ghost use Rattle.dg_interp.specs.declared.frames.Mark.TheVariants.{Nothing as No
 ghost use Rattle.dg_interp.specs.declared.frames.Left.TheVariants.{Rules, Lists, Ways, Way};
 ghost use Rattle.dg_unify.specs.declared.bindings.Full.TheVariants.{OutOfMemory as WantOfMemory};
 ghost use Rattle.dg_interp.specs.declared.frames.Left.{Left as TheLeft};
-ghost use Rattle.dg_interp.specs.Frames.{IsFrame, BeginsWith, IsLeft, stays_with, left_in, floor_of, stretch as the_stretch, values_in, EndsBy, cells_if};
-ghost use Rattle.dg_interp.specs.Engine.{Starts, IsSound, IsReady, StandsAt, FailsAt, TakesAt, BeginsAt, OpensAt, IsPushed, HasPlace, Cuts, Passes, Settles, FrameLeft, GoesToGoal, GoesBack, Retries, Taken, Branches, WentOn, Tries, FullAt, store_in, pieces_at, WrotePrinted, StaysBut, branches_left, KeepsPlaces, kept_if};
+ghost use Rattle.dg_interp.specs.Frames.{IsFrame, BeginsWith, IsNoPart, cut_of, noting, IsLeft, stays_with, left_in, floor_of, stretch as the_stretch, values_in, EndsBy, cells_if};
+ghost use Rattle.dg_interp.specs.Engine.{Starts, left_by, IsSound, IsReady, StandsAt, FailsAt, TakesAt, BeginsAt, OpensAt, IsPushed, HasPlace, Cuts, Passes, Settles, FrameLeft, GoesToGoal, GoesBack, Retries, Taken, Branches, WentOn, Tries, FullAt, store_in, pieces_at, WrotePrinted, StaysBut, branches_left, KeepsPlaces, kept_if};
 ghost use Rattle.dg_base.specs.declared.program.CoreProgram.{CoreProgram as Program};
 ghost use Rattle.dg_meaning.specs.Cells.{cells};
 ghost use Rattle.dg_meaning.specs.Closures.{HasNoClosure};
@@ -21,6 +21,7 @@ ghost use Rattle.dg_unify.specs.Store.{Saved, Kept, Holds, Charged};
 mod acting;
 mod control;
 mod passing;
+mod stopping;
 
 use crate::frames::{Choice, Env, Frame, Left, Mark, Query};
 use crate::matching::unify_all;
@@ -44,6 +45,7 @@ pub struct Engine<'p> {
     made: Vec<Ref>,
     here: Frame<'p>,
     newest: u64,
+    stoppable: Option<u64>,
     pub left: u64,
 }
 
@@ -55,15 +57,51 @@ pub enum Settled {
     Refused,
 }
 
-/// Drops the choices that aren't older than the tag.
+/// The older of two cuts, of which one may wait already.
+fn noted(cut: Option<u64>, tag: u64) -> Option<u64>
+    ensures { result ≡ noting tag cut }
+{
+    match cut {
+        None => Some(tag),
+        Some(older) => Some(older.min(tag)),
+    }
+}
+
+/// The cut that waits in an open stoppable part.
+fn waiting(left: Left<'_>) -> Option<u64>
+    ensures { result ≡ cut_of left.entry }
+{
+    match left {
+        Left::Behind(_, cut) => cut,
+        _ => None,
+    }
+}
+
+/// What a cut to a tag leaves of a choice.
+fn left_of(choice: Choice<'_>, tag: u64) -> Option<Choice<'_>>
+    ensures { result ≡ left_by tag choice.entry }
+{
+    if choice.tag < tag {
+        return Some(choice);
+    }
+    match choice.left {
+        Left::Behind(frame, cut) => Some(Choice {
+            left: Left::Behind(frame, noted(cut, tag)),
+            ..choice
+        }),
+        _ => None,
+    }
+}
+
+/// Drops the choices that aren't older than the tag, down to an open stoppable part, in which the cut waits.
 fn cut(choices: &mut Vec<Choice<'_>>, tag: u64)
     ensures { Cuts tag choices.old.items choices.new.items }
 {
-    while let Some(choice) = choices.last() {
-        if choice.tag < tag {
+    'newest: while let Some(choice) = choices.pop() {
+        if let Some(left) = left_of(choice, tag) {
+            choices.push_reserved(left);
             return;
         }
-        let _ = choices.pop();
     }
 }
 
@@ -213,6 +251,7 @@ impl<'p> Engine<'p> {
                 behind: 0,
             },
             newest: 0,
+            stoppable: None,
             left,
         }
     }
@@ -240,6 +279,12 @@ impl<'p> Engine<'p> {
             Mark::RefuseTo(tag) => {
                 cut(&mut self.choices, tag);
                 false
+            }
+            Mark::Exhausted => false,
+            Mark::LeavePart(tag, outer) => {
+                cut(&mut self.choices, tag);
+                self.stoppable = outer;
+                true
             }
         }
     }
@@ -326,6 +371,7 @@ impl<'p> Engine<'p> {
             height,
             refs,
             place,
+            stoppable: self.stoppable,
         };
         let cells = choice_cells(pass(first, others), args.len);
         if let Err(e) = keep(&mut self.store, &mut self.choices, choice, true, cells) {
@@ -387,6 +433,7 @@ impl<'p> Engine<'p> {
         requires frame { IsFrame (length self.old.frames.items) (length self.old.refs.items) frame }
         requires others { IsLeft (length self.old.frames.items) (length self.old.refs.items) others }
         requires stays { stays ≡ stays_with others }
+        requires plain { IsNoPart others }
         requires place { HasPlace self.old place }
         ensures begun { OnOk result ((all : TheLeft) → BeginsWith (length self.old.frames.items) frame.entry others.entry all → WentOn (BeginsAt all place self.old) self.old self.new) }
         ensures fewer { OnOk result (branches_left self.new ≤ branches_left self.old + 1 + left_in others.entry) }
@@ -401,6 +448,7 @@ impl<'p> Engine<'p> {
             height,
             refs,
             place,
+            stoppable: self.stoppable,
         };
         let cells = frame_cells(stays);
         if let Err(e) = keep(&mut self.store, &mut self.choices, choice, stays, cells) {
@@ -471,6 +519,10 @@ impl<'p> Engine<'p> {
                 self.here = frame;
                 Ok(true)
             }
+            Left::Behind(frame, _) => {
+                self.here = frame;
+                Ok(true)
+            }
         }
     }
 
@@ -484,10 +536,15 @@ impl<'p> Engine<'p> {
         match self.choices.pop() {
             None => Ok(None),
             Some(choice) => {
+                if let Some(tag) = waiting(choice.left) {
+                    cut(&mut self.choices, tag);
+                    return Ok(Some(false));
+                }
                 self.frames.truncate(choice.height);
                 self.refs.truncate(choice.refs);
                 self.store.undo(choice.place);
                 self.newest = choice.tag;
+                self.stoppable = choice.stoppable;
                 match self.begin(choice.left, choice.place) {
                     Ok(begun) => Ok(Some(begun)),
                     Err(e) => Err(e),

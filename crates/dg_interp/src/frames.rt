@@ -24,6 +24,8 @@ pub enum Mark {
     AnswerOf(Query),
     CutTo(u64),
     RefuseTo(u64),
+    Exhausted,
+    LeavePart(u64, Option<u64>),
 }
 
 /// Goals with the values of their rule's variables and the tag that their (just) cuts to, the mark behind them, and the
@@ -37,17 +39,19 @@ pub struct Frame<'p> {
     pub behind: usize,
 }
 
-/// The branches that a choice has left: rules of a query with its arguments, lists of goals, two ways on, or one.
+/// The branches that a choice has left: rules of a query with its arguments, lists of goals, two ways on, one, or the way on
+/// behind a stoppable part that is open, with the oldest tag that was cut inside it.
 #[derive(Clone, Copy, Drop)]
 pub enum Left<'p> {
     Rules(Query, Env, &'p [Rule]),
     Lists(Env, u64, &'p [Items<Goal>]),
     Ways(Frame<'p>, Frame<'p>),
     Way(Frame<'p>),
+    Behind(Frame<'p>, Option<u64>),
 }
 
-/// A choice with branches left, the numbers of frames and of Refs that stand behind them, and the place of the store to
-/// which they go back.
+/// A choice with branches left, the numbers of frames and of Refs that stand behind them, the place of the store to which
+/// they go back, and the stoppable part that they are in.
 #[derive(Clone, Copy, Drop)]
 pub struct Choice<'p> {
     pub tag: u64,
@@ -55,4 +59,5 @@ pub struct Choice<'p> {
     pub height: usize,
     pub refs: usize,
     pub place: Place,
+    pub stoppable: Option<u64>,
 }

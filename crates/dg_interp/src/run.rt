@@ -59,6 +59,13 @@ fn do_goal<K: Sink>(
             },
         },
         Goal::Quit => Ok(Some(Ending::Quit)),
+        Goal::Stop => {
+            if engine.stop() {
+                Ok(None)
+            } else {
+                Ok(Some(Ending::Stopped))
+            }
+        }
         goal => outcome(engine.act(goal, again)),
     }
 }

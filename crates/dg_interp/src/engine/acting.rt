@@ -39,6 +39,8 @@ impl<'p> Engine<'p> {
                 self.branch(test.as_slice(), first.as_slice(), other.as_slice())
             }
             Goal::Forever => self.forever(again),
+            Goal::Exhaust(goals) => self.exhaust(goals.as_slice()),
+            Goal::Stoppable(goals) => self.stoppable(goals.as_slice()),
             Goal::Just => Ok(self.just()),
             Goal::Fail => self.fail(),
             _ => unreachable!(),

@@ -1,6 +1,6 @@
 // Choices between goals.
 ghost use Rattle.std.specs.Prelude.{◌≡◌, ◌+◌, ◌<◌, ◌^◌, IfOk, IfErr, All};
-ghost use Rattle.dg_base.specs.declared.program.Goal.TheVariants.{Either as EitherGoal, Once as OnceGoal, Not as NotGoal, If as IfGoal, Forever as ForeverGoal};
+ghost use Rattle.dg_base.specs.declared.program.Goal.TheVariants.{Either as EitherGoal, Once as OnceGoal, Not as NotGoal, If as IfGoal, Forever as ForeverGoal, Exhaust as ExhaustGoal};
 ghost use Rattle.dg_meaning.specs.Built.{AreBuilt};
 ghost use Rattle.dg_interp.specs.Engine.{IsReady, TakesAt, Branches, FullAt, IsAgain, store_in};
 
@@ -61,6 +61,24 @@ impl<'p> Engine<'p> {
         let first = Frame {
             goals,
             mark: Mark::RefuseTo(self.newest + 1),
+            behind: 0,
+            ..self.here
+        };
+        self.open(Left::Ways(first, self.here))
+    }
+
+    /// Does goals for each of their answers, and goes on behind the last; false where the run has failed.
+    pub fn exhaust(&mut self, goals: &'p [Goal]) -> Result<bool, Full>
+        requires ready { IsReady self.old }
+        requires room { self.old.newest + 1 + self.old.left < 2 ^ 64 }
+        requires built { AreBuilt goals.now }
+        ensures done { IfOk result (λ found. Branches (TakesAt (ExhaustGoal goals.entry.now) self.old) found self.old self.new) }
+        ensures full { IfErr result (λ e. FullAt (TakesAt (ExhaustGoal goals.entry.now) self.old) (store_in self.old.store) e) }
+        ensures left { self.new.left ≡ self.old.left }
+    {
+        let first = Frame {
+            goals,
+            mark: Mark::Exhausted,
             behind: 0,
             ..self.here
         };

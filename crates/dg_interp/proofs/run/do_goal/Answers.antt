@@ -40,7 +40,7 @@ pub returns-in-Quit-clause-ok : goal.returns-in-Quit-clause-ok
 returns-in-Quit-clause-ok g c = goal_quits c.take_goal.result.now c.args.engine.now c.take_goal.new.self c.args.spacer.now _ c.take_goal.ensures.taken c.in-Quit.is
 
 pub act-requires-clause-act : goal.act-requires-clause-act
-act-requires-clause-act g c = is_act c.take_goal.result.now c.in_default.not-Text c.in_default.not-Print c.in_default.not-Quit
+act-requires-clause-act g c = is_act c.take_goal.result.now c.in_default.not-Text c.in_default.not-Print c.in_default.not-Quit c.in_default.not-Stop
 
 pub returns-in_default-clause-ok : goal.returns-in_default-clause-ok
 returns-in_default-clause-ok g c =

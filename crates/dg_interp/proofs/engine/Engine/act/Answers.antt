@@ -1,6 +1,6 @@
 use Rattle.dg_interp.proofs.Equals.{equal_plain}
 use Rattle.dg_interp.proofs.Values.{test_plain, ask_plain}
-use Rattle.dg_interp.proofs.Controls.{either_built, once_built, not_built, if_built}
+use Rattle.dg_interp.proofs.Controls.{either_built, once_built, not_built, exhaust_built, stoppable_built, if_built}
 use Rattle.dg_interp.proofs.engine.Engine.act.Goals as goal
 
 pub equal-requires-clause-plain : goal.equal-requires-clause-plain
@@ -23,3 +23,9 @@ not-requires-clause-built c = rw c.as_slice-in-Not.ensures (not_built c.in-Not.g
 
 pub branch-self-requires-clause-built : goal.branch-self-requires-clause-built
 branch-self-requires-clause-built c = rw c.as_slice-in-If.ensures (rw c.as_slice-in-If-2.ensures (rw c.as_slice-in-If-3.ensures (if_built c.in-If.test c.in-If.first c.in-If.other (rw c.in-If.is at c.requires.built))))
+
+pub exhaust-requires-clause-built : goal.exhaust-requires-clause-built
+exhaust-requires-clause-built c = rw c.as_slice-in-Exhaust.ensures (exhaust_built c.in-Exhaust.goals (rw c.in-Exhaust.is at c.requires.built))
+
+pub stoppable-requires-clause-built : goal.stoppable-requires-clause-built
+stoppable-requires-clause-built c = rw c.as_slice-in-Stoppable.ensures (stoppable_built c.in-Stoppable.goals (rw c.in-Stoppable.is at c.requires.built))

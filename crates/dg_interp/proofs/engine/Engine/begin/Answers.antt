@@ -1,6 +1,6 @@
 use Rattle.std.proofs.Common.{length}
 use Rattle.dg_interp.specs.declared.frames.Left.TheVariants.{Ways}
-use Rattle.dg_interp.proofs.Begins.{way_begun}
+use Rattle.dg_interp.proofs.Begins.{one_way_begun, part_begun}
 use Rattle.dg_interp.proofs.BeginFrames.{ways_begin}
 use Rattle.dg_interp.proofs.engine.Engine.begin.Goals as goal
 
@@ -23,7 +23,7 @@ pub returns-in-Err-begin_frame-clause-full : goal.returns-in-Err-begin_frame-cla
 returns-in-Err-begin_frame-clause-full c = rw c.in-Ways.is (c.in-Err-begin_frame.ensures.full (Ways c.in-Ways.first c.in-Ways.other) (ways_begin (length c.args.self.now.frames.items) c.in-Ways.first c.in-Ways.other))
 
 pub returns-in-Way-clause-tried : goal.returns-in-Way-clause-tried
-returns-in-Way-clause-tried c = rw c.in-Way.is (way_begun c.args.self.now c.in-Way.frame c.args.place c.requires.sound (rw c.in-Way.is at c.requires.left))
+returns-in-Way-clause-tried c = rw c.in-Way.is (one_way_begun c.args.self.now c.in-Way.frame c.args.place c.requires.sound (rw c.in-Way.is at c.requires.left))
 
 pub begin_rule-requires-clause-sound : goal.begin_rule-requires-clause-sound
 begin_rule-requires-clause-sound c = c.requires.sound
@@ -42,3 +42,6 @@ begin_frame-requires-clause-sound c = c.requires.sound
 
 pub begin_frame-requires-clause-place : goal.begin_frame-requires-clause-place
 begin_frame-requires-clause-place c = c.requires.place
+
+pub returns-in-Behind-clause-tried : goal.returns-in-Behind-clause-tried
+returns-in-Behind-clause-tried c = rw c.in-Behind.is (part_begun c.args.self.now c.in-Behind.frame c.in-Behind.field-1 c.args.place c.requires.sound (rw c.in-Behind.is at c.requires.left))

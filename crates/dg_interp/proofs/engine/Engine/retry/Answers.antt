@@ -1,7 +1,7 @@
 use Rattle.std.proofs.Common.{refl, arith}
 use Rattle.dg_interp.specs.Frames.{left_in}
 use Rattle.dg_interp.specs.Engine.{FailsAt, BeginsAt, store_in}
-use Rattle.dg_interp.proofs.Branches.{none_popped, popped_sound, popped_place, popped_limits, begins_popped, fewer_left, retried_from, full_from, popped_left, popped_stays, may_undo}
+use Rattle.dg_interp.proofs.Branches.{none_popped, popped_sound, popped_place, popped_limits, begins_popped, fewer_left, retried_from, full_from, popped_left, popped_stays, may_undo, part_retried}
 use Rattle.dg_interp.proofs.engine.Engine.retry.Goals as goal
 
 pub begin-requires-clause-sound : goal.begin-requires-clause-sound
@@ -16,19 +16,19 @@ returns-in-None-clause-retried c = none_popped c.args.self.now c.pop.new.self (o
 pub returns-in-Ok-clause-retried : goal.returns-in-Ok-clause-retried
 returns-in-Ok-clause-retried c =
     let o = c.in-Some.choice in
-    let mid = record c.args.self.now { frames = c.truncate.new.self; refs = c.truncate-in-Some.new.self; store = c.undo.new.self; choices = c.pop.new.self; newest = o.tag } in
+    let mid = record c.args.self.now { frames = c.truncate.new.self; refs = c.truncate-in-Some.new.self; store = c.undo.new.self; choices = c.pop.new.self; newest = o.tag; stoppable = o.stoppable } in
     retried_from (FailsAt c.args.self.now) (BeginsAt o.left o.place mid) c.args.self.now mid c.begin.new.self (left_in o.left) refl
     (popped_limits c.args.self.now o c.pop.new.self c.requires.sound c.in-Some.ensures.items c.truncate.new.self c.truncate-in-Some.new.self c.undo.new.self c.truncate.ensures.items c.truncate-in-Some.ensures.items c.undo.ensures.back c.undo.ensures.saved)
-    (begins_popped c.args.self.now o c.pop.new.self c.requires.sound c.in-Some.ensures.items c.truncate.new.self c.truncate-in-Some.new.self c.undo.new.self c.truncate.ensures.items c.truncate-in-Some.ensures.items c.undo.ensures.back c.undo.ensures.saved)
+    (begins_popped c.args.self.now o c.pop.new.self c.requires.sound c.in-Some.ensures.items c.truncate.new.self c.truncate-in-Some.new.self c.undo.new.self c.truncate.ensures.items c.truncate-in-Some.ensures.items c.undo.ensures.back c.undo.ensures.saved c.in_default.ensures)
     (fewer_left c.args.self.now o c.pop.new.self c.requires.sound c.in-Some.ensures.items) c.in-Ok.begun c.in-Ok.ensures.tried c.in-Ok.ensures.fewer
 
 pub returns-in-Err-clause-full : goal.returns-in-Err-clause-full
 returns-in-Err-clause-full c =
     let o = c.in-Some.choice in
-    let mid = record c.args.self.now { frames = c.truncate.new.self; refs = c.truncate-in-Some.new.self; store = c.undo.new.self; choices = c.pop.new.self; newest = o.tag } in
+    let mid = record c.args.self.now { frames = c.truncate.new.self; refs = c.truncate-in-Some.new.self; store = c.undo.new.self; choices = c.pop.new.self; newest = o.tag; stoppable = o.stoppable } in
     let limits = popped_limits c.args.self.now o c.pop.new.self c.requires.sound c.in-Some.ensures.items c.truncate.new.self c.truncate-in-Some.new.self c.undo.new.self c.truncate.ensures.items c.truncate-in-Some.ensures.items c.undo.ensures.back c.undo.ensures.saved in
     full_from (FailsAt c.args.self.now) (BeginsAt o.left o.place mid) (store_in c.args.self.now.store) (store_in c.undo.new.self) c.in-Err.e limits.heap limits.trail
-    (begins_popped c.args.self.now o c.pop.new.self c.requires.sound c.in-Some.ensures.items c.truncate.new.self c.truncate-in-Some.new.self c.undo.new.self c.truncate.ensures.items c.truncate-in-Some.ensures.items c.undo.ensures.back c.undo.ensures.saved)
+    (begins_popped c.args.self.now o c.pop.new.self c.requires.sound c.in-Some.ensures.items c.truncate.new.self c.truncate-in-Some.new.self c.undo.new.self c.truncate.ensures.items c.truncate-in-Some.ensures.items c.undo.ensures.back c.undo.ensures.saved c.in_default.ensures)
     c.in-Err.ensures.full
 
 pub begin-requires-clause-left : goal.begin-requires-clause-left
@@ -39,3 +39,6 @@ undo-requires c = may_undo c.args.self.now c.in-Some.choice c.pop.new.self c.req
 
 pub begin-requires-clause-some : goal.begin-requires-clause-some
 begin-requires-clause-some c = popped_stays c.args.self.now c.in-Some.choice c.pop.new.self c.requires.sound c.in-Some.ensures.items c.truncate.new.self c.truncate-in-Some.new.self c.undo.new.self c.truncate.ensures.items c.truncate-in-Some.ensures.items c.undo.ensures.back c.undo.ensures.saved
+
+pub returns-in-Some-waiting-clause-retried : goal.returns-in-Some-waiting-clause-retried
+returns-in-Some-waiting-clause-retried c = part_retried c.args.self.now c.in-Some.choice c.pop.new.self c.requires.sound c.in-Some.ensures.items c.in-Some-waiting.tag c.cut.new.choices c.in-Some-waiting.ensures c.cut.ensures
