@@ -3,11 +3,14 @@ use Rattle.std.proofs.Common.{◌≡◌, ℕ, ◌+◌, List, [], ◌∷◌, refl
 use Rattle.std.specs.Prelude.{reverse}
 use Rattle.std.specs.declared.vec.Vec.{Vec}
 use Rattle.std.specs.declared.alloc.Global.{Global}
-use Rattle.dg_base.specs.declared.program.Goal.TheVariants.{Text, Just, Fail, Quit, outs-Text, outs-Just, outs-Fail, outs-Quit}
+use Rattle.dg_base.specs.declared.program.Goal.TheVariants.{Text, Gap, Just, Fail, Quit, outs-Text, outs-Gap, outs-Just, outs-Fail, outs-Quit}
+use Rattle.dg_base.specs.declared.program.Goal.{Goal, out-Goal}
+use Rattle.dg_base.specs.declared.program.GapKind.{GapKind}
+use Rattle.dg_meaning.specs.Values.{Value}
 use Rattle.dg_base.specs.declared.run.Ending.TheVariants.{Quit as Quit-Ending}
-use Rattle.dg_meaning.specs.World.{Game, World, Piece, Prints}
-use Rattle.dg_meaning.specs.Path.{End}
-use Rattle.dg_meaning.specs.Moves.{printed, outcome}
+use Rattle.dg_meaning.specs.World.{Game, World, Print, Piece, GapOf, Prints}
+use Rattle.dg_meaning.specs.Path.{Step, Registers, End, Moves, GoesOn}
+use Rattle.dg_meaning.specs.Moves.{printed, outcome, path_of}
 use Rattle.dg_meaning.specs.Transcript.{Run}
 use Rattle.dg_meaning.specs.Context.{cut_to}
 use Rattle.dg_meaning.specs.Keeps.{After}
@@ -79,14 +82,16 @@ module _ (old : Engine) (choices : Vec Choice Global) (ready : IsReady old) (cut
 
 -- ## A word, and the end
 
-pub prints_word : (name : List ℕ) (e : Engine) (g : Game) (n : ℕ) (w : World) (run : Run) → TakesAt (Text name) e g n w run → Then (Piece name ∷ []) w (λ v. StandsAt e g n v run)
-prints_word name e g n w run st =
-    let r = behind (Text name) e g n w run st in
-    let v = taken_in (Text name) e g n w run st in
-    let heap : r.heap ≡ st.at.registers.heap = no_cells st.at.registers.heap _ (ap (λ f. cells g.program (terms_held f)) (outs-Text name)) in
+-- a goal without terms that prints one thing
+pub prints_one : (x : Goal) (e : Print) (old : Engine) → terms_held (out-Goal x) ≡ [] → ((g : Game) (env : List Value) (t : ℕ) (steps : List Step) (r : Registers) (w : World) → outcome g (out-Goal x) env t steps r w ≡ Moves (GoesOn (path_of steps r) (printed e w))) →
+    (g : Game) (n : ℕ) (w : World) (run : Run) → TakesAt x old g n w run → Then (e ∷ []) w (λ v. StandsAt old g n v run)
+prints_one x e old none is g n w run st =
+    let r = behind x old g n w run st in
+    let v = taken_in x old g n w run st in
+    let heap : r.heap ≡ st.at.registers.heap = no_cells st.at.registers.heap _ (ap (cells g.program) none) in
     record {
-      world = printed (Piece name) v;
-      adds = record { prints_are = prints_append w.events (Prints (Piece name) ∷ []); typed = refl };
+      world = printed e v;
+      adds = record { prints_are = prints_append w.events (Prints e ∷ []); typed = refl };
       holds = record {
         at = record {
           inside = inside_in _ st.at.inside.world st.at.inside;
@@ -97,9 +102,15 @@ prints_word name e g n w run st =
           tag = st.at.tag;
           stop = st.at.stop;
         };
-        stands = subst (λ f. After g st.at.inside.lives st.at.ways n (outcome g f (values_in (store_in e.store) e.refs.items e.here.env) e.here.tag (steps_of e) r v) run) (outs-Text name) (comes_of (Text name) e g n w run st);
+        stands = subst (λ m. After g st.at.inside.lives st.at.ways n m run) (is g (values_in (store_in old.store) old.refs.items old.here.env) old.here.tag (steps_of old) r v) (comes_of x old g n w run st);
       };
     }
+
+pub prints_word : (name : List ℕ) (old : Engine) (g : Game) (n : ℕ) (w : World) (run : Run) → TakesAt (Text name) old g n w run → Then (Piece name ∷ []) w (λ v. StandsAt old g n v run)
+prints_word name old = prints_one (Text name) (Piece name) old (ap terms_held (outs-Text name)) (λ g env t steps r w. ap (λ f. outcome g f env t steps r w) (outs-Text name))
+
+pub prints_gap : (kind : GapKind) (old : Engine) (g : Game) (n : ℕ) (w : World) (run : Run) → TakesAt (Gap kind) old g n w run → Then (GapOf kind ∷ []) w (λ v. StandsAt old g n v run)
+prints_gap kind old = prints_one (Gap kind) (GapOf kind) old (ap terms_held (outs-Gap kind)) (λ g env t steps r w. ap (λ f. outcome g f env t steps r w) (outs-Gap kind))
 
 pub quits : (e : Engine) → Ends (TakesAt Quit e) (End Quit-Ending)
 quits e g n w run st = record {

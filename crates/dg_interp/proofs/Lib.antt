@@ -1,4 +1,3 @@
-pub mod Pieces
 pub mod TermLemmas
 pub mod MatchLemmas
 pub mod TestLemmas

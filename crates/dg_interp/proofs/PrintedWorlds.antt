@@ -7,8 +7,8 @@ use Rattle.dg_meaning.specs.Moves.{printed, all_printed}
 use Rattle.dg_meaning.specs.Render.{nothing_met, render}
 use Rattle.dg_meaning.specs.OneRun.{Begins}
 use Rattle.dg_meaning.proofs.Dropping.{prints_append}
-use Rattle.dg_interp.specs.declared.spacer.Spacer.{Spacer}
-use Rattle.dg_interp.specs.Spacer.{StandsFor}
+use Rattle.dg_spacing.specs.declared.spacer.Spacer.{Spacer}
+use Rattle.dg_spacing.specs.Spacer.{StandsFor}
 use Rattle.dg_interp.specs.Printing.{as_prints, growth_of, AddsAll}
 use Rattle.dg_interp.specs.Running.{HasText}
 use Rattle.dg_interp.proofs.PrintLemmas.{render_append}

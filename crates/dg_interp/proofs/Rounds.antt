@@ -13,7 +13,7 @@ use Rattle.dg_meaning.specs.Peaks.{Area, Heap, Trail, greatest}
 use Rattle.dg_meaning.proofs.Keeps.{stands_happened}
 use Rattle.dg_unify.specs.declared.bindings.Full.{Full}
 use Rattle.dg_unify.specs.declared.bindings.Full.TheVariants as full
-use Rattle.dg_interp.specs.declared.spacer.Spacer.{Spacer}
+use Rattle.dg_spacing.specs.declared.spacer.Spacer.{Spacer}
 use Rattle.dg_interp.specs.declared.engine.Engine.{Engine}
 use Rattle.dg_base.specs.Written.{SinkView}
 use Rattle.dg_interp.specs.Engine.{PassesLimit, store_in, IsReady, StandsAt, Adds, Then, FullAt, HasEndedSo, AtGoal, GoesToGoal}

@@ -5,13 +5,14 @@ use Rattle.std.proofs.lemmas.List.{append-nil}
 use Rattle.dg_base.specs.declared.program.Goal.{Goal, out-Goal}
 use Rattle.dg_base.specs.declared.program.Goal as place
 use denote.Hole.Carrier.{out}
-use Rattle.dg_base.specs.declared.program.Goal.TheVariants.{Text, Print as PrintGoal, Quit, Stop}
+use Rattle.dg_base.specs.declared.program.Goal.TheVariants.{Text, Gap, Print as PrintGoal, Quit, Stop}
+use Rattle.dg_base.specs.declared.program.GapKind.{GapKind}
 use Rattle.dg_base.specs.declared.program.Term.{Term}
 use Rattle.dg_base.specs.declared.run.Ending.{Ending}
 use Rattle.dg_base.specs.declared.run.Ending.TheVariants.{Failed, StepLimit, Stopped, Quit as Quit-Ending}
 use Rattle.dg_base.specs.declared.run.RunFault.{RunFault}
 use Rattle.dg_base.specs.declared.run.RunFault.TheVariants.{Write, OutOfMemory}
-use Rattle.dg_meaning.specs.World.{Game, World, Event, Print, Piece, prints}
+use Rattle.dg_meaning.specs.World.{Game, World, Event, Print, Piece, GapOf, prints}
 use Rattle.dg_meaning.specs.Path.{Result as SearchResult, Failing, End}
 use Rattle.dg_meaning.specs.Moves.{path_of, goals_at}
 use Rattle.dg_meaning.specs.Render.{Met, nothing_met, met_from, met_behind, written, render, render_from}
@@ -24,17 +25,18 @@ use Rattle.dg_meaning.proofs.Keeps.{stands_happened, limited}
 use Rattle.dg_unify.specs.declared.bindings.Ref.{Ref}
 use Rattle.dg_unify.specs.declared.bindings.Full.{Full}
 use Rattle.dg_unify.specs.declared.bindings.Full.TheVariants as full
-use Rattle.dg_interp.specs.declared.spacer.Spacer.{Spacer}
+use Rattle.dg_spacing.specs.declared.spacer.Spacer.{Spacer}
 use Rattle.dg_interp.specs.declared.engine.Engine.{Engine}
 use Rattle.dg_base.specs.Written.{SinkView, Wrote, BrokeOff}
-use Rattle.dg_interp.specs.Spacer.{StandsFor, Added, growth}
-use Rattle.dg_interp.specs.Printing.{as_prints, growth_of, AddsAll}
+use Rattle.dg_spacing.specs.Spacer.{StandsFor}
+use Rattle.dg_meaning.specs.Growth.{growth}
+use Rattle.dg_interp.specs.Printing.{Added, as_prints, growth_of, AddsAll}
 use Rattle.dg_interp.specs.Frames.{mark_steps, steps_behind, values_in}
 use Rattle.dg_interp.specs.Engine.{store_in, PassesLimit, IsAct, pieces_at, WrotePrinted, StandsAt, TakesAt, Then, FullAt, Taken, WentOn, HasEndedSo, Branches, Stops}
 use Rattle.dg_interp.specs.Running.{HasText, Writes, Reaches, HasEnded, MeetsLimit, IsBroken, GoalDone, DoesGoal, outcome_of}
 use Rattle.dg_base.proofs.WrittenLemmas.{wrote_on, broke_first, broke_later}
 use Rattle.dg_interp.proofs.Places.{limits_at, adds_nothing, adds_on, adds_drops, limits_on}
-use Rattle.dg_interp.proofs.Goals.{prints_word, quits}
+use Rattle.dg_interp.proofs.Goals.{prints_word, prints_gap, quits}
 
 -- ## Text
 
@@ -107,14 +109,15 @@ run_limited e s k some none g w run start st text =
 
 -- ## One goal
 
--- all goals but these four are acts
-pub is_act : (x : Goal) → ((name : List ℕ) → x ≡ Text name → ⊥) → ((a : Term) → x ≡ PrintGoal a → ⊥) → (x ≡ Quit → ⊥) → (x ≡ Stop → ⊥) → IsAct (out-Goal x)
+-- all goals but these five are acts
+pub is_act : (x : Goal) → ((name : List ℕ) → x ≡ Text name → ⊥) → ((a : Term) → x ≡ PrintGoal a → ⊥) → (x ≡ Quit → ⊥) → (x ≡ Stop → ⊥) → ((kind : GapKind) → x ≡ Gap kind → ⊥) → IsAct (out-Goal x)
 unfolding out-Goal out
-is_act (place.Text name) text print quit stop = absurd (text name refl)
-is_act (place.Print a) text print quit stop = absurd (print a refl)
-is_act place.Quit text print quit stop = absurd (quit refl)
-is_act place.Stop text print quit stop = absurd (stop refl)
-is_act x text print quit stop = tt
+is_act (place.Text name) text print quit stop gap = absurd (text name refl)
+is_act (place.Print a) text print quit stop gap = absurd (print a refl)
+is_act place.Quit text print quit stop gap = absurd (quit refl)
+is_act place.Stop text print quit stop gap = absurd (stop refl)
+is_act (place.Gap kind) text print quit stop gap = absurd (gap kind refl)
+is_act x text print quit stop gap = tt
 
 module _ (x : Goal) (old mid : Engine) (s : Spacer) (k : SinkView) (some : 0 < length old.here.goals.now) (taken : Taken x old mid) where
   takes_here : (g : Game) (w : World) (run : Run) → StandsAt old g old.left w run → TakesAt x mid g mid.left w run
@@ -168,29 +171,35 @@ module _ (x : Goal) (old mid : Engine) (s : Spacer) (k : SinkView) (some : 0 < l
     here (Err full.Trail) = tt
     here (Err full.OutOfMemory) = goal_lost
 
--- ## A word
+-- ## One thing that is printed
 
-module _ (x : Goal) (name bytes : List ℕ) (old mid : Engine) (s s' : Spacer) (k k' : SinkView) (taken : Taken x old mid) (is : x ≡ Text name) (same : bytes ≡ name) where
-  word_then : (g : Game) (n : ℕ) (w : World) (run : Run) → StandsAt old g (suc n) w run → Then (Piece bytes ∷ []) w (λ v. StandsAt mid g n v run)
-  word_then g n w run st = prints_word bytes mid g n w run (subst (λ y. TakesAt y mid g n w run) (is ∙ ap Text (sym same)) (taken.takes g n w run st))
+module _ (x : Goal) (e : Print) (old mid : Engine) (s s' : Spacer) (k k' : SinkView) (taken : Taken x old mid) (prints_it : (g : Game) (n : ℕ) (w : World) (run : Run) → TakesAt x mid g n w run → Then (e ∷ []) w (λ v. StandsAt mid g n v run)) where
+  one_then : (g : Game) (n : ℕ) (w : World) (run : Run) → StandsAt old g (suc n) w run → Then (e ∷ []) w (λ v. StandsAt mid g n v run)
+  one_then g n w run st = prints_it g n w run (taken.takes g n w run st)
 
-  pub word_done : ((es : List Print) → StandsFor s es → Added (Piece bytes) es k k' s') → GoalDone old mid s s' k k'
-  word_done added = record {
+  pub one_done : ((es : List Print) → StandsFor s es → Added e es k k' s') → GoalDone old mid s s' k k'
+  one_done added = record {
     ready = taken.ready;
     limits = taken.limits;
     left = taken.left;
-    added = Piece bytes ∷ [];
-    leads = word_then;
-    writes = λ start es text. text_added s s' start k k' es (Piece bytes) text added;
+    added = e ∷ [];
+    leads = one_then;
+    writes = λ start es text. text_added s s' start k k' es e text added;
   }
 
-  pub word_lost : ((es : List Print) → StandsFor s es → BrokeOff k k' (growth es (Piece bytes))) → Reaches old s k (IsBroken Write s' k')
-  word_lost broke g w run start st text =
-      let t = word_then g mid.left w run (subst (λ n. StandsAt old g n w run) taken.left st) in
+  pub one_lost : ((es : List Print) → StandsFor s es → BrokeOff k k' (growth es e)) → Reaches old s k (IsBroken Write s' k')
+  one_lost broke g w run start st text =
+      let t = one_then g mid.left w run (subst (λ n. StandsAt old g n w run) taken.left st) in
       let h = t.holds in
-      let is : text_of t.world.events ≡ render (prints w.events) ++ growth (prints w.events) (Piece bytes) = ap render t.adds.prints_are ∙ render_grows (prints w.events) (Piece bytes) in
+      let is : text_of t.world.events ≡ render (prints w.events) ++ growth (prints w.events) e = ap render t.adds.prints_are ∙ render_grows (prints w.events) e in
       text_begins t.world.events run.world.events (stands_happened g h.at.inside.lives h.at.ways _ mid.left t.world run h.stands).events start k'
-      (subst (BrokeOff start k') (sym is) (broke_later start k k' (render (prints w.events)) (growth (prints w.events) (Piece bytes)) text.wrote (broke (prints w.events) text.stands)))
+      (subst (BrokeOff start k') (sym is) (broke_later start k k' (render (prints w.events)) (growth (prints w.events) e) text.wrote (broke (prints w.events) text.stands)))
+
+pub word_prints : (x : Goal) (name bytes : List ℕ) (e : Engine) → x ≡ Text name → bytes ≡ name → (g : Game) (n : ℕ) (w : World) (run : Run) → TakesAt x e g n w run → Then (Piece bytes ∷ []) w (λ v. StandsAt e g n v run)
+word_prints x name bytes e is same g n w run st = prints_word bytes e g n w run (subst (λ y. TakesAt y e g n w run) (is ∙ ap Text (sym same)) st)
+
+pub gap_prints : (x : Goal) (kind : GapKind) (p : Print) (e : Engine) → x ≡ Gap kind → p ≡ GapOf kind → (g : Game) (n : ℕ) (w : World) (run : Run) → TakesAt x e g n w run → Then (p ∷ []) w (λ v. StandsAt e g n v run)
+gap_prints x kind p e is same g n w run st = subst (λ q. Then (q ∷ []) w (λ v. StandsAt e g n v run)) (sym same) (prints_gap kind e g n w run (subst (λ y. TakesAt y e g n w run) is st))
 
 -- ## A printed value
 

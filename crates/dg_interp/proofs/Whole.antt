@@ -18,10 +18,11 @@ use Rattle.dg_meaning.specs.Render.{render}
 use Rattle.dg_meaning.specs.Transcript.{Run, run, start_world, text_of, line_of, no_memory_line, closing, closed, transcript}
 use Rattle.dg_meaning.specs.Shows.{IsLeft, ShowsLimit, ShowsNoMemory, MayWrite, whole, without_memory}
 use Rattle.dg_meaning.proofs.Search.{run_within}
-use Rattle.dg_interp.specs.declared.spacer.Spacer.{Spacer}
+use Rattle.dg_spacing.specs.declared.spacer.Spacer.{Spacer}
 use Rattle.dg_interp.specs.declared.engine.Engine.{Engine}
 use Rattle.dg_base.specs.Written.{SinkView, Wrote, BrokeOff}
-use Rattle.dg_interp.specs.Spacer.{StandsFor, ending_line}
+use Rattle.dg_spacing.specs.Spacer.{StandsFor}
+use Rattle.dg_meaning.specs.Growth.{ending_line}
 use Rattle.dg_interp.specs.Engine.{limit_in, store_in, Starts}
 use Rattle.dg_interp.specs.Running.{HasText, Reaches, HasEnded, MeetsLimit, Ended, HasPart, IsBroken}
 use Rattle.dg_interp.specs.Interpret.{game, ForTyped, HasShown, HasLostOutput, HasLostMemory}

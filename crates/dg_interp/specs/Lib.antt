@@ -1,4 +1,3 @@
-pub mod Spacer
 pub mod Terms
 pub mod Printing
 pub mod Rules

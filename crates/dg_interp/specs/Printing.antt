@@ -13,8 +13,9 @@ use Rattle.dg_unify.specs.declared.bindings.Ref.{Ref}
 use Rattle.dg_unify.specs.declared.bindings.View.{View}
 use Rattle.dg_unify.specs.declared.bindings.View.TheVariants as view
 use Rattle.dg_base.specs.declared.cells.Simple.TheVariants as simple
-use Rattle.dg_interp.specs.Spacer.{StandsFor}
-use Rattle.dg_interp.specs.declared.spacer.Spacer.{Spacer}
+use Rattle.dg_spacing.specs.Spacer.{StandsFor}
+use Rattle.dg_meaning.specs.Growth.{growth}
+use Rattle.dg_spacing.specs.declared.spacer.Spacer.{Spacer}
 use Rattle.dg_interp.specs.declared.printing.Next.{Next}
 use Rattle.dg_interp.specs.declared.printing.Next.TheVariants as next
 
@@ -44,6 +45,11 @@ end_pieces program v = codes "|" ∷ first_piece program v ∷ codes "]" ∷ []
 -- These pieces as things that are printed.
 abbrev pub as_prints : List (List ℕ) → List Print
 as_prints pieces = map Piece pieces
+
+-- One more thing was written.
+pub record Added (e : Print) (es : List Print) (old new : SinkView) (s : Spacer) : Type 0 where
+  pub stands : StandsFor s (es ++ e ∷ [])
+  pub wrote : Wrote old new (growth es e)
 
 -- The bytes by which the text grows with these pieces.
 abbrev pub growth_of : List Print → List (List ℕ) → List ℕ

@@ -11,10 +11,10 @@ use Rattle.dg_meaning.specs.OneRun.{Begins}
 use Rattle.dg_meaning.specs.Peaks.{Area, Heap, Trail, greatest}
 use Rattle.dg_unify.specs.declared.bindings.Full.{Full}
 use Rattle.dg_unify.specs.declared.bindings.Full.TheVariants as full
-use Rattle.dg_interp.specs.declared.spacer.Spacer.{Spacer}
+use Rattle.dg_spacing.specs.declared.spacer.Spacer.{Spacer}
 use Rattle.dg_interp.specs.declared.engine.Engine.{Engine}
 use Rattle.dg_base.specs.Written.{SinkView, Wrote, BrokeOff}
-use Rattle.dg_interp.specs.Spacer.{StandsFor}
+use Rattle.dg_spacing.specs.Spacer.{StandsFor}
 use Rattle.dg_interp.specs.Engine.{store_in, limit_in, IsReady, StandsAt, SameLimits, Then}
 
 -- Since the start the sink took the text of these things, and the spacer stands for them.

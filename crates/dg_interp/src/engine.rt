@@ -27,10 +27,10 @@ use crate::frames::{Choice, Env, Frame, Left, Mark, Query};
 use crate::matching::unify_all;
 use crate::passing::{choice_cells, pass};
 use crate::printing::print_value;
-use crate::spacer::Spacer;
 use crate::terms::{new_variables, write_both, write_term, write_terms};
 use crate::testing::test;
 use dg_base::{CoreProgram, Ending, Goal, Items, Rule, Sink, Term, TestKind, WriteFault};
+use dg_spacing::Spacer;
 use dg_unify::{Bindings, Full, ListBindings, Mark as Place, Ref, View, unify};
 use std::alloc::{AllocError, Global};
 

@@ -9,8 +9,8 @@ ghost use Rattle.dg_interp.specs.Interpret.{game, ForTyped, HasShown, HasBrokenO
 
 use crate::engine::Engine;
 use crate::run::run;
-use crate::spacer::Spacer;
 use dg_base::{CoreProgram, Ending, Goal, Items, Limits, Outcome, RunFault, Sink, Source};
+use dg_spacing::Spacer;
 use std::alloc::Global;
 
 fn line(ending: Ending) -> &'static [u8]

@@ -8,7 +8,6 @@ mod matching;
 mod passing;
 mod printing;
 mod run;
-mod spacer;
 mod terms;
 mod testing;
 

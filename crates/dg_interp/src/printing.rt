@@ -7,8 +7,8 @@ ghost use Rattle.dg_meaning.specs.Substitutions.{resolved};
 ghost use Rattle.dg_unify.specs.Store.{Saved, label_of, told, Holds, Shows, IsUnknownAt};
 ghost use Rattle.dg_interp.specs.Printing.{HasText, shows_nil, single_pieces, end_pieces, ref_of, Printed, PrintsNext};
 
-use crate::spacer::Spacer;
 use dg_base::{CoreProgram, Name, Simple, Sink, WriteFault};
+use dg_spacing::{Event, Spacer};
 use dg_unify::{Bindings, Parts, Ref, View, Wait};
 use itoa::Buffer;
 
@@ -23,7 +23,10 @@ pub enum Next {
 fn print_piece<K: Sink>(spacer: &mut Spacer, sink: &mut K, piece: &[u8]) -> Result<(), WriteFault>
     ensures { Printed (piece.now ∷ []) spacer.old spacer.new (K.view sink.old) (K.view sink.new) result }
 {
-    spacer.piece(sink, piece)
+    match spacer.event(sink, Event::Piece(piece)) {
+        Ok(()) => Ok(()),
+        Err(fault) => Err(fault),
+    }
 }
 
 // The text of a name; where there is none, nothing.
@@ -40,7 +43,10 @@ fn name_at(names: &[Name], at: u16) -> &[u8]
 fn print_object<K: Sink>(spacer: &mut Spacer, sink: &mut K, name: &[u8]) -> Result<(), WriteFault>
     ensures { Printed ((codes "#" ++ name.now) ∷ []) spacer.old spacer.new (K.view sink.old) (K.view sink.new) result }
 {
-    spacer.object(sink, name)
+    match spacer.object(sink, name) {
+        Ok(()) => Ok(()),
+        Err(fault) => Err(fault),
+    }
 }
 
 // A value without parts by its first piece.

@@ -2,10 +2,12 @@
 ghost use Rattle.std.specs.Prelude.{◌≡◌, ◌<◌, IfOk, IfErr, length, Option, Some, None};
 ghost use Rattle.dg_interp.specs.Engine.{IsReady};
 ghost use Rattle.dg_interp.specs.Running.{Reaches, IsBroken, Ended, DoesGoal, Does, limit_of, outcome_of};
+ghost use Rattle.dg_meaning.specs.World.{GapOf};
+ghost use Rattle.dg_spacing.specs.Gaps.{print_of};
 
 use crate::engine::Engine;
-use crate::spacer::Spacer;
-use dg_base::{Ending, Goal, RunFault, Sink};
+use dg_base::{Ending, GapKind, Goal, RunFault, Sink};
+use dg_spacing::{Event, Spacer};
 use dg_unify::Full;
 
 /// The ending of a run that met a limit.
@@ -33,6 +35,19 @@ fn outcome(done: Result<bool, Full>) -> Result<Option<Ending>, RunFault>
     }
 }
 
+/// What a goal of the gap prints.
+fn event_of(kind: GapKind) -> Event<'static>
+    ensures { print_of result ≡ GapOf kind }
+{
+    match kind {
+        GapKind::NoSpace => Event::NoSpace,
+        GapKind::Space => Event::Space,
+        GapKind::Line => Event::Line,
+        GapKind::Par => Event::Par,
+        GapKind::Upper => Event::Upper,
+    }
+}
+
 /// Takes the goal at hand and does it; the ending where the run is over.
 fn do_goal<K: Sink>(
     engine: &mut Engine<'_>,
@@ -47,7 +62,11 @@ fn do_goal<K: Sink>(
 {
     let again = engine.at_hand();
     match engine.take_goal() {
-        Goal::Text(name) => match spacer.piece(sink, name.as_slice()) {
+        Goal::Text(name) => match spacer.event(sink, Event::Piece(name.as_slice())) {
+            Ok(()) => Ok(None),
+            Err(_) => Err(RunFault::Write),
+        },
+        Goal::Gap(kind) => match spacer.event(sink, event_of(*kind)) {
             Ok(()) => Ok(None),
             Err(_) => Err(RunFault::Write),
         },

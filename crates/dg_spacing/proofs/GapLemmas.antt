@@ -175,6 +175,20 @@ pub text_broke : (s : Spacer) (a b c d : SinkView) (front : List ℕ) (n : ℕ) 
 text_broke s a b c d front n bytes e w₁ w₂ w₃ es h =
     subst (BrokeOff a d) (all_is s front n bytes es e h) (broke_later a c d (front ++ replicate n 32) (piece_text s.gap.upper bytes) (wrote_on a b c front (replicate n 32) w₁ w₂) w₃)
 
+-- ## The name of an object
+
+-- its first character is no letter
+pub same_mark : (up : Bool) (name : List ℕ) → piece_text up (35 ∷ name) ≡ 35 ∷ name
+same_mark true name = refl
+same_mark false name = refl
+
+plain_text : (bytes : List ℕ) → piece_text false bytes ≡ bytes
+plain_text [] = refl
+plain_text (b ∷ bs) = refl
+
+pub object_last : (before last : Option ℕ) (up : Bool) (name : List ℕ) → last ≡ last_of (Some 35) (piece_text false name) → last ≡ last_of before (piece_text up (35 ∷ name))
+object_last before last up name e = e ∙ ap (last_of (Some 35)) (plain_text name) ∙ sym (ap (last_of before) (same_mark up name))
+
 -- ## Spaces one by one
 
 pub one_more : (a b c : SinkView) (n : ℕ) → Wrote a b (replicate n 32) → Wrote b c (32 ∷ []) → Wrote a c (replicate (n + 1) 32)

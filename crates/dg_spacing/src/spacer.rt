@@ -1,5 +1,5 @@
 // The spacer: what is known of the text so far.
-ghost use Rattle.std.specs.Prelude.{◌≡◌, ◌++◌, List, [], ◌∷◌, OnOk, OnErr, replicate, if◌then◌else◌};
+ghost use Rattle.std.specs.Prelude.{◌≡◌, ◌++◌, List, [], ◌∷◌, OnOk, OnErr, codes, replicate, if◌then◌else◌};
 ghost use Rattle.dg_meaning.specs.World.{Print, Piece as PieceOf};
 ghost use Rattle.dg_meaning.specs.Render.{opens as is_opening, closes as is_closing, space_for, first_of, last_of, upper as capital_of};
 ghost use Rattle.dg_meaning.specs.Transcript.{newline_behind};
@@ -173,6 +173,27 @@ impl Spacer {
             return Err(fault);
         }
         self.last = last_of_text(self.last, self.gap.upper, piece);
+        self.gap = Gap::new();
+        Ok(())
+    }
+
+    /// Writes the name of an object as one piece, with a `#` in front.
+    pub fn object<K: Sink>(&mut self, sink: &mut K, name: &[u8]) -> Result<(), WriteFault>
+        ensures stands { OnOk result ((es : List Print) → StandsFor self.old es → StandsFor self.new (es ++ PieceOf (codes "#" ++ name.now) ∷ [])) }
+        ensures ok { OnOk result ((es : List Print) → StandsFor self.old es → Wrote (K.view sink.old) (K.view sink.new) (growth es (PieceOf (codes "#" ++ name.now)))) }
+        ensures err { OnErr result ((es : List Print) → StandsFor self.old es → BrokeOff (K.view sink.old) (K.view sink.new) (growth es (PieceOf (codes "#" ++ name.now)))) }
+    {
+        let (front, spaces) = separator(self.gap, self.last, b'#');
+        if let Err(fault) = write_all(sink, front) {
+            return Err(fault);
+        }
+        if let Err(fault) = write_spaces(sink, spaces) {
+            return Err(fault);
+        }
+        if let Err(fault) = write_both(sink, b"#", name) {
+            return Err(fault);
+        }
+        self.last = last_of_text(Some(b'#'), false, name);
         self.gap = Gap::new();
         Ok(())
     }

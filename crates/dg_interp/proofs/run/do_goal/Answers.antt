@@ -1,17 +1,33 @@
 use Rattle.std.proofs.Common.{subst}
 use Rattle.std.specs.Prelude.{Err}
 use Rattle.dg_base.specs.declared.program.Goal.TheVariants.{Print}
-use Rattle.dg_interp.proofs.Runs.{word_done, word_lost, value_done, value_lost, is_act, goal_does, goal_breaks, goal_quits}
+use Rattle.dg_interp.proofs.Runs.{one_done, one_lost, word_prints, gap_prints, value_done, value_lost, is_act, goal_does, goal_breaks, goal_quits, goal_stops, goal_stopped}
+use Rattle.dg_meaning.specs.World.{Piece}
+use Rattle.dg_spacing.specs.Gaps.{print_of}
 use Rattle.dg_interp.proofs.Values.{print_plain}
 use Rattle.dg_interp.specs.Printing.{AddsAll}
 use Rattle.dg_interp.proofs.Waiting.{wrote_still, pieces_still}
 use Rattle.dg_interp.proofs.run.do_goal.Goals as goal
 
 pub returns-in-Ok-clause-ok : goal.returns-in-Ok-clause-ok
-returns-in-Ok-clause-ok g c = word_done c.take_goal.result.now c.in-Text.name c.as_slice.result.now c.args.engine.now c.take_goal.new.self c.args.spacer.now c.piece.new.self _ _ c.take_goal.ensures.taken c.in-Text.is c.as_slice.ensures c.in-Ok.ensures.ok
+returns-in-Ok-clause-ok g c =
+    one_done c.take_goal.result.now (Piece c.as_slice.result.now) c.args.engine.now c.take_goal.new.self c.args.spacer.now c.event.new.self _ _ c.take_goal.ensures.taken (word_prints c.take_goal.result.now c.in-Text.name c.as_slice.result.now c.take_goal.new.self c.in-Text.is c.as_slice.ensures)
+    (λ es h. record { stands = c.in-Ok.ensures.stands es h; wrote = c.in-Ok.ensures.ok es h })
 
 pub returns-in-Err-clause-err : goal.returns-in-Err-clause-err
-returns-in-Err-clause-err g c = word_lost c.take_goal.result.now c.in-Text.name c.as_slice.result.now c.args.engine.now c.take_goal.new.self c.args.spacer.now c.piece.new.self _ _ c.take_goal.ensures.taken c.in-Text.is c.as_slice.ensures c.in-Err.ensures.err
+returns-in-Err-clause-err g c =
+    one_lost c.take_goal.result.now (Piece c.as_slice.result.now) c.args.engine.now c.take_goal.new.self c.args.spacer.now c.event.new.self _ _ c.take_goal.ensures.taken (word_prints c.take_goal.result.now c.in-Text.name c.as_slice.result.now c.take_goal.new.self c.in-Text.is c.as_slice.ensures)
+    c.in-Err.ensures.err
+
+pub returns-in-Ok-event-clause-ok : goal.returns-in-Ok-event-clause-ok
+returns-in-Ok-event-clause-ok g c =
+    one_done c.take_goal.result.now (print_of c.event_of.result) c.args.engine.now c.take_goal.new.self c.args.spacer.now c.event-in-Gap.new.self _ _ c.take_goal.ensures.taken (gap_prints c.take_goal.result.now c.in-Gap.kind (print_of c.event_of.result) c.take_goal.new.self c.in-Gap.is c.event_of.ensures)
+    (λ es h. record { stands = c.in-Ok-event.ensures.stands es h; wrote = c.in-Ok-event.ensures.ok es h })
+
+pub returns-in-Err-event-clause-err : goal.returns-in-Err-event-clause-err
+returns-in-Err-event-clause-err g c =
+    one_lost c.take_goal.result.now (print_of c.event_of.result) c.args.engine.now c.take_goal.new.self c.args.spacer.now c.event-in-Gap.new.self _ _ c.take_goal.ensures.taken (gap_prints c.take_goal.result.now c.in-Gap.kind (print_of c.event_of.result) c.take_goal.new.self c.in-Gap.is c.event_of.ensures)
+    c.in-Err-event.ensures.err
 
 pub returns-in-Err-write_printed-clause-ok : goal.returns-in-Err-write_printed-clause-ok
 returns-in-Err-write_printed-clause-ok g c =
@@ -40,7 +56,7 @@ pub returns-in-Quit-clause-ok : goal.returns-in-Quit-clause-ok
 returns-in-Quit-clause-ok g c = goal_quits c.take_goal.result.now c.args.engine.now c.take_goal.new.self c.args.spacer.now _ c.take_goal.ensures.taken c.in-Quit.is
 
 pub act-requires-clause-act : goal.act-requires-clause-act
-act-requires-clause-act g c = is_act c.take_goal.result.now c.in_default.not-Text c.in_default.not-Print c.in_default.not-Quit c.in_default.not-Stop
+act-requires-clause-act g c = is_act c.take_goal.result.now c.in_default.not-Text c.in_default.not-Print c.in_default.not-Quit c.in_default.not-Stop c.in_default.not-Gap
 
 pub returns-in_default-clause-ok : goal.returns-in_default-clause-ok
 returns-in_default-clause-ok g c =
@@ -48,3 +64,9 @@ returns-in_default-clause-ok g c =
 
 pub returns-in_default-clause-err : goal.returns-in_default-clause-err
 returns-in_default-clause-err g c = goal_breaks c.take_goal.result.now c.args.engine.now c.take_goal.new.self c.args.spacer.now _ c.requires.goal c.take_goal.ensures.taken c.act.result c.outcome-in_default.result c.outcome-in_default.ensures
+
+pub returns-then-stop-clause-ok : goal.returns-then-stop-clause-ok
+returns-then-stop-clause-ok g c = goal_stops c.take_goal.result.now c.args.engine.now c.take_goal.new.self c.stop.new.self c.args.spacer.now _ c.requires.goal c.take_goal.ensures.taken c.in-Stop.is (rw c.if-stop.true at c.stop.ensures)
+
+pub returns-else-stop-clause-ok : goal.returns-else-stop-clause-ok
+returns-else-stop-clause-ok g c = goal_stopped c.take_goal.result.now c.args.engine.now c.take_goal.new.self c.stop.new.self c.args.spacer.now _ c.requires.goal c.take_goal.ensures.taken c.in-Stop.is (rw c.if-stop.false at c.stop.ensures)
