@@ -187,7 +187,7 @@ module _ (code : Code) (limits : Limits) (m : Mid) (goals : List Goal) (end : En
       let on = did_mirrors g code m ps q lives ways v v1 w1 d i in
       let bound_is : made.bound ≡ m.state.subst = ma.bound ∙ i.agrees.bound in
       let mirrors : Mirrors g code m' (ps ++ qs) made lives ways v1 = record {
-        agrees = record { bound = bound_is; vars = ma.vars; heap = let x = ma.heap in let y = i.agrees.heap in omega (arith, x, y); trail = let x = i.agrees.trail in omega (arith, x, ma.trail); since = let x = ma.older in let y = i.agrees.since in omega (arith, x, y) };
+        agrees = record { bound = bound_is; vars = ma.vars; heap = let x = ma.heap in let y = i.agrees.heap in let z = ma.higher in omega (arith, x, y, z); trail = let x = i.agrees.trail in omega (arith, x, ma.trail); since = let x = ma.older in let y = i.agrees.since in omega (arith, x, y) };
         tag = ma.tag ∙ i.tag;
         choices_are = i.choices_are;
         below = i.below;
@@ -231,7 +231,7 @@ grows_in v (Ends e w) h = h
 grows_in v (FailsNow w) h = h
 grows_in v (Stops w) h = h
 
-effects_act : (q r : Registers) (t : ℕ) (steps : List Step) (v w : World) (a b : Effect) → AlikeEffects q r t steps v w a b → (a ≡ Acts (act_in a)) × Alike q r t steps v w (act_in a) (act_in b)
+pub effects_act : (q r : Registers) (t : ℕ) (steps : List Step) (v w : World) (a b : Effect) → AlikeEffects q r t steps v w a b → (a ≡ Acts (act_in a)) × Alike q r t steps v w (act_in a) (act_in b)
 effects_act q r t steps v w a b (alike x y h) = (refl, h)
 
 pub acts : {least : ℕ} → {ps : List Print} → (code : Code) (limits : Limits) (m : Mid) (a : Action) (ops : List Op) (goals : List Goal) (end : End) (rest : List Step) (g : Game) (n : ℕ) (w : World) (run : Run) → Stands code ops goals end → Behind code m.frames rest →

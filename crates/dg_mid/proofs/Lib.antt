@@ -14,3 +14,12 @@ pub mod Asks
 pub mod Simulation
 pub mod Whole
 pub mod Shown
+pub mod Heights
+pub mod Falling
+pub mod Pending
+pub mod Trails
+pub mod Law
+pub mod Shapes
+pub mod Shaped
+pub mod Charge
+pub mod Selects

@@ -6,3 +6,7 @@ pub mod Units
 pub mod Codes
 pub mod Reads
 pub mod Runs
+pub mod Heights
+pub mod Falling
+pub mod Potential
+pub mod Shapes

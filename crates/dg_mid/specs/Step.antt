@@ -241,7 +241,7 @@ keeps_within g size next = if nat_lt g.limits.keep size then Ended ending.KeepLi
 
 -- The machine behind values that were made, in these registers.
 abbrev pub made_in : Registers → Mid → Mid
-made_in r m = record m { state = record m.state { vars = r.next_var; heap = r.heap } }
+made_in r m = record m { state = record m.state { vars = r.next_var; heap = m.state.heap + (r.heap - m.state.heap) } }
 
 -- What an act leads to; the only steps that one goes on with are a cut of the rule.
 abbrev pub done : Setting → Act → Mid → Status

@@ -9,11 +9,10 @@ use Rattle.dg_meaning.specs.Letters.{copied}
 use Rattle.dg_meaning.specs.World.{Print}
 use Rattle.dg_meaning.specs.Cells.{cells, writing}
 use Rattle.dg_meaning.specs.Moves.{unifying}
-use Rattle.dg_meaning.specs.Path.{Act, Unifies}
+use Rattle.dg_meaning.specs.Path.{Act, Goes as GoesNow, Unifies, Stops}
 use Rattle.dg_unify.specs.Store.{State}
 use Rattle.dg_mid.specs.declared.code.Op.{Op}
 use Rattle.dg_mid.specs.declared.code.Op.TheVariants as op
-use Rattle.dg_mid.specs.declared.code.Action.TheVariants as action
 use Rattle.dg_mid.specs.Code.{block_at}
 use Rattle.dg_mid.specs.State.{Place, Frame, Call, Way, Goes, Calls, Stop, Choice, Mid, Status, Runs, Enters, Resumes, Fails, Ended, vars_of, cut_of, stop_to}
 use Rattle.dg_mid.specs.Actions.{terms_of, act_at, world_by}
@@ -82,15 +81,20 @@ abbrev pub unwound : Option ℕ → Mid → ℕ
 unwound None m = 0
 unwound (Some t) m = unwound_to (stop_to t m.stops) m
 
--- The choices that an instruction drops, and what it takes off the trail.
-abbrev pub drops : Op → Mid → ℕ
-drops (op.Do action.Just) m = dropped (cut_of m.frames) m.choices
-drops (op.Do action.Stop) m = unwound m.stop m
-drops op.Commit m = dropped_in m.inner m.choices
-drops op.Refuse m = dropped_in m.inner m.choices
-drops op.Leave m = dropped_in m.inner m.choices
-drops op.Return m = dropped_once m.frames m.choices
-drops x m = 0
+-- The choices that an act drops, and what it takes off the trail.
+abbrev pub dropped_by : Act → Mid → ℕ
+dropped_by (GoesNow (s ∷ steps) w) m = dropped (cut_of m.frames) m.choices
+dropped_by (Stops w) m = unwound m.stop m
+dropped_by act m = 0
+
+-- The same of an instruction.
+abbrev pub drops : Setting → Op → Mid → ℕ
+drops g (op.Do a) m = let m' = more (cells g.game.program (terms_of a)) m in dropped_by (act_at g.game [] a m') m'
+drops g op.Commit m = dropped_in m.inner m.choices
+drops g op.Refuse m = dropped_in m.inner m.choices
+drops g op.Leave m = dropped_in m.inner m.choices
+drops g op.Return m = dropped_once m.frames m.choices
+drops g x m = 0
 
 -- The entries of the trail that going back takes off.
 abbrev pub undone : List Choice → Mid → ℕ
@@ -102,7 +106,7 @@ undone (c ∷ cs) m = m.state.trail - c.state.trail
 -- What the code at hand costs: one for its step, with all that it does.
 abbrev pub units_of : Setting → List Print → List Op → Mid → ℕ
 units_of g ps [] m = 1
-units_of g ps (x ∷ ops) m = 1 + effort g ps x m + drops x m
+units_of g ps (x ∷ ops) m = 1 + effort g ps x m + drops g x m
 
 -- What going on costs.
 abbrev pub units_by : Setting → List Print → Way → Mid → ℕ
