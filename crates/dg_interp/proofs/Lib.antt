@@ -24,6 +24,7 @@ pub mod Whole
 pub mod PrintedWorlds
 pub mod Values
 pub mod Equals
+pub mod Compares
 pub mod BeginFrames
 pub mod Opens
 pub mod Controls

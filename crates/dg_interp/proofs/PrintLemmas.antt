@@ -220,17 +220,6 @@ list_stops s sound program r h t sp sp' a b e shows p =
     let rest = list_pieces program (parts_at s h t) in
     printed_as (codes "[" ∷ rest) (pieces program (value_at s r)) sp sp' a b (Err e) (ap (pieces program) (pair_at s sound r h t shows)) (printed_stop (codes "[" ∷ []) rest sp sp' a b e p)
 
--- behind the empty list stands its bracket
-pub nil_end : (s : Store) (program : CoreProgram) (w : Value) (v : View) → shows_nil v ≡ true → Shows s w v → end_pieces program w ≡ codes "]" ∷ []
-nil_end s program w (view.Unbound r) is h = absurd (let none : false ≡ true = is in cc)
-nil_end s program w (view.Simple (simple.Num n)) is h = absurd (let none : false ≡ true = is in cc)
-nil_end s program w (view.Simple (simple.Word n)) is h = absurd (let none : false ≡ true = is in cc)
-nil_end s program w (view.Simple (simple.Object n)) is h = absurd (let none : false ≡ true = is in cc)
-nil_end s program w (view.Simple simple.Nil) is h = ap (end_pieces program) h
-nil_end s program w (view.Pair a b) is h = absurd (let none : false ≡ true = is in cc)
-nil_end s program w (view.Closure place r) is h = absurd (let none : false ≡ true = is in cc)
-nil_end s program w (view.Unknown r) is h = absurd (let none : false ≡ true = is in cc)
-
 pub single_printed : (s : Store) (program : CoreProgram) (r : Ref) (sp sp' : Spacer) (a b : SinkView) (result : Result (Unit {0}) WriteFault) → IsSingle program (walked_to s r) (value_at s r) → Printed (single_pieces program (walked_to s r)) sp sp' a b result → Printed (pieces program (value_at s r)) sp sp' a b result
 single_printed s program r sp sp' a b result is p = printed_as (single_pieces program (walked_to s r)) (pieces program (value_at s r)) sp sp' a b result is.pieces_are p
 

@@ -95,6 +95,37 @@ module _ (x : Goal) (term : Term) (held : terms_held (out-Goal x) ≡ term ∷ [
 
 -- ## A test
 
+-- a goal that tests something, when its terms are written
+module _ (x : Goal) (old : Engine) (store : ListBindings) (made : Vec Ref Global) (ready : IsReady old) (k : Kept (store_in old.store) (store_in store)) (saved : (ms : List Saved) → KeepsPlaces old.store ms → KeepsPlaces store ms) (passed : Bool)
+    (agrees : (g : Game) (n : ℕ) (w : World) (run : Run) (st : TakesAt x old g n w run) → Agrees (store_in store) (behind x old g n w run st)) (work : (g : Game) (n : ℕ) (w : World) (run : Run) → TakesAt x old g n w run → ℕ)
+    (comes : (g : Game) (n : ℕ) (w : World) (run : Run) (st : TakesAt x old g n w run) → After g st.at.inside.lives st.at.ways n (Moves (goes_on_if passed (steps_of old) (behind x old g n w run st) (worked (work g n w run st) (taken_in x old g n w run st)))) run) where
+  abbrev looked : (g : Game) (n : ℕ) (w : World) (run : Run) → TakesAt x old g n w run → World
+  looked g n w run st = worked (work g n w run st) (taken_in x old g n w run st)
+
+  adds_looked : (g : Game) (n : ℕ) (w : World) (run : Run) (st : TakesAt x old g n w run) → Adds [] w (looked g n w run st)
+  adds_looked g n w run st = let a = adds_taken (behind x old g n w run st) (writing (terms_held (out-Goal x))) w in record { prints_are = a.prints_are; typed = refl }
+
+  pub passed_on : passed ≡ true → WentOn (TakesAt x old) old (grown x old store made ready k saved)
+  passed_on is = record {
+    ready = store_ready old store made k saved ready;
+    left = refl;
+    limits = grown_limits x old store made ready k saved;
+    leads = λ g n w run st. record {
+      world = looked g n w run st;
+      adds = adds_looked g n w run st;
+      holds = stands_behind x old store made ready k saved g n w (looked g n w run st) run st.at.inside.world st (behind x old g n w run st) (agrees g n w run st) refl refl
+          (subst (λ b. After g st.at.inside.lives st.at.ways n (Moves (goes_on_if b (steps_of old) (behind x old g n w run st) (looked g n w run st))) run) is (comes g n w run st));
+    };
+  }
+
+  pub not_passed : passed ≡ false → Leads (TakesAt x old) (FailsAt (grown x old store made ready k saved))
+  not_passed is g n w run st = record {
+    world = looked g n w run st;
+    adds = adds_looked g n w run st;
+    holds = fails_behind x old store made ready k saved g n w (looked g n w run st) run st.at.inside.world st
+        (subst (λ b. After g st.at.inside.lives st.at.ways n (Moves (goes_on_if b (steps_of old) (behind x old g n w run st) (looked g n w run st))) run) is (comes g n w run st));
+  }
+
 test_held : (kind : TestKind) (term : Term) → terms_held (out-Goal (Test kind term)) ≡ term ∷ []
 test_held kind term = ap terms_held (outs-Test kind term)
 
@@ -115,45 +146,26 @@ module _ (kind : TestKind) (term : Term) (old : Engine) (store : ListBindings) (
   agrees : (g : Game) (n : ℕ) (w : World) (run : Run) (st : TakesAt x old g n w run) → Agrees s (behind x old g n w run st)
   agrees = agrees_behind x term (test_held kind term) old store value written
 
-  looked : (g : Game) (n : ℕ) (w : World) (run : Run) (st : TakesAt x old g n w run) → World
-  looked g n w run st = worked (test_looks kind (value_of g.program env term) (behind x old g n w run st)) (taken_in x old g n w run st)
+  passed : Bool
+  passed = passes s.state.subst kind (told s value)
 
-  comes_to : (g : Game) (n : ℕ) (w : World) (run : Run) (st : TakesAt x old g n w run) (found : Bool) → found ≡ passes s.state.subst kind (told s value) → Went g st.at.inside.lives st.at.ways n (goes_on_if found (steps_of old) (behind x old g n w run st) (looked g n w run st)) run
-  unfolding looked
-  comes_to g n w run st found is =
+  comes : (g : Game) (n : ℕ) (w : World) (run : Run) (st : TakesAt x old g n w run) → After g st.at.inside.lives st.at.ways n (Moves (goes_on_if passed (steps_of old) (behind x old g n w run st) (worked (test_looks kind (value_of g.program env term) (behind x old g n w run st)) (taken_in x old g n w run st)))) run
+  unfolding passed
+  comes g n w run st =
       let r = behind x old g n w run st in
       let v = taken_in x old g n w run st in
-      let m : Bool → Outcome = λ b. Moves (goes_on_if b (steps_of old) r (looked g n w run st)) in
+      let m : Bool → Outcome = λ b. Moves (goes_on_if b (steps_of old) r (worked (test_looks kind (value_of g.program env term) r) v)) in
       let same : passes s.state.subst kind (told s value) ≡ passes r.bound kind (value_of g.program env term) =
       ap (λ S. passes S kind (told s value)) (sym (agrees g n w run st).bound) ∙ ap (λ o. passes r.bound kind (or_nil o)) (written g.program).value in
-      subst (λ q. After g st.at.inside.lives st.at.ways n q run) (ap (λ f. outcome g f env old.here.tag (steps_of old) r v) (outs-Test kind term) ∙ ap m (sym (is ∙ same))) (comes_of x old g n w run st)
-
-  adds_looked : (g : Game) (n : ℕ) (w : World) (run : Run) (st : TakesAt x old g n w run) → Adds [] w (looked g n w run st)
-  unfolding looked
-  adds_looked g n w run st = let a = adds_taken (behind x old g n w run st) (writing (terms_held (out-Goal x))) w in record { prints_are = a.prints_are; typed = refl }
-
-  world_looked : (g : Game) (n : ℕ) (w : World) (run : Run) (st : TakesAt x old g n w run) → InWorld (looked g n w run st)
-  unfolding looked
-  world_looked g n w run st = st.at.inside.world
+      subst (λ q. After g st.at.inside.lives st.at.ways n q run) (ap (λ f. outcome g f env old.here.tag (steps_of old) r v) (outs-Test kind term) ∙ ap m (sym same)) (comes_of x old g n w run st)
 
   pub test_passed : true ≡ passes s.state.subst kind (told s value) → WentOn (TakesAt x old) old (grown x old store made ready k saved)
-  test_passed is = record {
-    ready = store_ready old store made k saved ready;
-    left = refl;
-    limits = grown_limits x old store made ready k saved;
-    leads = λ g n w run st. record {
-      world = looked g n w run st;
-      adds = adds_looked g n w run st;
-      holds = stands_behind x old store made ready k saved g n w (looked g n w run st) run (world_looked g n w run st) st (behind x old g n w run st) (agrees g n w run st) refl refl (comes_to g n w run st true is);
-    };
-  }
+  unfolding passed
+  test_passed is = passed_on x old store made ready k saved passed agrees (λ g n w run st. test_looks kind (value_of g.program env term) (behind x old g n w run st)) comes (sym is)
 
   pub test_failed : false ≡ passes s.state.subst kind (told s value) → Leads (TakesAt x old) (FailsAt (grown x old store made ready k saved))
-  test_failed is g n w run st = record {
-    world = looked g n w run st;
-    adds = adds_looked g n w run st;
-    holds = fails_behind x old store made ready k saved g n w (looked g n w run st) run (world_looked g n w run st) st (comes_to g n w run st false is);
-  }
+  unfolding passed
+  test_failed is = not_passed x old store made ready k saved passed agrees (λ g n w run st. test_looks kind (value_of g.program env term) (behind x old g n w run st)) comes (sym is)
 
 pub test_plain : (kind : TestKind) (term : Term) → IsBuiltGoal (Test kind term) → HasNoClosure term
 test_plain kind term h = all_first HasNoClosure term [] (subst (λ f. All HasNoClosure (terms_held f)) (outs-Test kind term) h.1)

@@ -6,3 +6,4 @@ pub mod Engine
 pub mod Running
 pub mod Interpret
 pub mod Passing
+pub mod Comparing

@@ -1,6 +1,6 @@
 // Open choices and linked frames, in place of the search's recursion.
 ghost use Rattle.std.specs.Prelude.{◌≡◌, ◌≢◌, true, false, ◌+◌, ◌<◌, ◌≤◌, ◌^◌, IfOk, IfErr, OnOk, MatchResult, List, [], ◌∷◌, All, length, reverse, slice_get};
-ghost use Rattle.dg_base.specs.declared.program.Goal.TheVariants.{Ask, Print as PrintGoal, Equal as EqualGoal, Test as TestGoal, Fail as FailGoal, Just as JustGoal};
+ghost use Rattle.dg_base.specs.declared.program.Goal.TheVariants.{Ask, Print as PrintGoal, Equal as EqualGoal, Test as TestGoal, Compare as CompareGoal, Fail as FailGoal, Just as JustGoal};
 ghost use Rattle.dg_meaning.specs.Moves.{rules_of as the_rules};
 ghost use Rattle.dg_meaning.specs.Built.{IsBuilt};
 ghost use Rattle.dg_interp.specs.declared.frames.Mark.TheVariants.{Nothing as NoMark};
@@ -28,8 +28,10 @@ use crate::matching::unify_all;
 use crate::passing::{choice_cells, pass};
 use crate::printing::print_value;
 use crate::terms::{new_variables, write_both, write_term, write_terms};
-use crate::testing::test;
-use dg_base::{CoreProgram, Ending, Goal, Items, Rule, Sink, Term, TestKind, WriteFault};
+use crate::testing::{in_order, test};
+use dg_base::{
+    CompareOp, CoreProgram, Ending, Goal, Items, Rule, Sink, Term, TestKind, WriteFault,
+};
 use dg_spacing::Spacer;
 use dg_unify::{Bindings, Full, ListBindings, Mark as Place, Ref, View, unify};
 use std::alloc::{AllocError, Global};
@@ -725,6 +727,26 @@ impl<'p> Engine<'p> {
                 Ok(true) => Ok(true),
                 Ok(false) => self.back(),
             },
+        }
+    }
+
+    /// Compares two numbers; where they aren't two in this order, goes back.
+    pub fn compare(&mut self, op: CompareOp, a: &Term, b: &Term) -> Result<bool, Full>
+        requires ready { IsReady self.old }
+        requires plain { HasNoClosure a.now × HasNoClosure b.now }
+        ensures compared { IfOk result (λ found. Branches (TakesAt (CompareGoal op a.now b.now) self.old) found self.old self.new) }
+        ensures full { IfErr result (λ e. FullAt (TakesAt (CompareGoal op a.now b.now) self.old) (store_in self.old.store) e) }
+        ensures left { self.new.left ≡ self.old.left }
+    {
+        let env = stretch(&self.refs, self.here.env);
+        match write_both(&mut self.store, env, a, b, &mut self.made) {
+            Err(e) => Err(e),
+            Ok((first, second)) => {
+                if in_order(&self.store, op, first, second) {
+                    return Ok(true);
+                }
+                self.back()
+            }
         }
     }
 

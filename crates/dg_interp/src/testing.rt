@@ -3,9 +3,12 @@
 ghost use Rattle.std.specs.Prelude.{◌≡◌, List};
 ghost use Rattle.dg_meaning.specs.Values.{Value};
 ghost use Rattle.dg_meaning.specs.TypeTests.{top_passes, passes};
+ghost use Rattle.dg_meaning.specs.Numbers.{are_in_order};
+ghost use Rattle.dg_meaning.specs.Substitutions.{walk};
 ghost use Rattle.dg_unify.specs.Store.{Saved, told, Holds, Shows};
+ghost use Rattle.dg_interp.specs.Comparing.{order_of};
 
-use dg_base::{Simple, TestKind};
+use dg_base::{CompareOp, Simple, TestKind};
 use dg_unify::{Bindings, Ref, View, is_open};
 
 // Whether a value that was looked up passes a test by what stands at its top.
@@ -36,4 +39,25 @@ pub fn test<B: Bindings>(store: &mut B, kind: TestKind, value: Ref) -> bool
         TestKind::FullyBound => !is_open(store, value),
         _ => view_passes(kind, store.walk(value)),
     }
+}
+
+// Whether what was looked up are two numbers in an order.
+fn views_in_order(op: CompareOp, first: View, second: View) -> bool
+    ensures { result ≡ order_of op first second }
+{
+    match (first, second) {
+        (View::Simple(Simple::Num(m)), View::Simple(Simple::Num(n))) => match op {
+            CompareOp::Less => m < n,
+            CompareOp::Greater => n < m,
+        },
+        _ => false,
+    }
+}
+
+/// Whether two values are numbers in an order.
+pub fn in_order<B: Bindings>(store: &B, op: CompareOp, first: Ref, second: Ref) -> bool
+    requires { Holds (B.meaning store.now) first × Holds (B.meaning store.now) second }
+    ensures { result ≡ are_in_order op (walk (B.meaning store.now).state.subst (told (B.meaning store.now) first)) (walk (B.meaning store.now).state.subst (told (B.meaning store.now) second)) }
+{
+    views_in_order(op, store.walk(first), store.walk(second))
 }

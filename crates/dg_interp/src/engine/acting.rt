@@ -25,6 +25,7 @@ impl<'p> Engine<'p> {
         match goal {
             Goal::Equal(a, b) => self.equal(a, b),
             Goal::Test(kind, term) => self.test(*kind, term),
+            Goal::Compare(op, a, b) => self.compare(*op, a, b),
             Goal::Ask(pred, args, many) => {
                 let query = Query {
                     pred: *pred,

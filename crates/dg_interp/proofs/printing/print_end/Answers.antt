@@ -1,8 +1,8 @@
-use Rattle.std.proofs.Common.{rules, ◌≡◌, ◌∷◌, [], true, false}
+use Rattle.std.proofs.Common.{rules, ap, ◌≡◌, ◌∷◌, [], true, false}
 use Rattle.std.specs.Prelude.{codes}
 use Rattle.dg_meaning.specs.Pieces.{first_piece}
 use Rattle.dg_interp.specs.Printing.{end_pieces, shows_nil}
-use Rattle.dg_interp.proofs.PrintLemmas.{printed_as, other_shown, nil_end}
+use Rattle.dg_interp.proofs.PrintLemmas.{printed_as, other_shown, nil_shown}
 use Rattle.dg_interp.proofs.printing.print_end.Goals as goal
 
 pub returns : goal.returns
@@ -15,4 +15,4 @@ pub returns-then-is_nil : goal.returns-then-is_nil
 returns-then-is_nil g c = λ w shows.
     let program = c.args.program.now in
     let is : shows_nil c.args.tail ≡ true = search rules in
-    printed_as (codes "]" ∷ []) (end_pieces program w) _ _ _ _ c.print_piece.result (nil_end (g.B.Bindings.meaning c.args.store.now) program w c.args.tail is shows) c.print_piece.ensures
+    printed_as (codes "]" ∷ []) (end_pieces program w) _ _ _ _ c.print_piece.result (ap (end_pieces program) (nil_shown (g.B.Bindings.meaning c.args.store.now) w c.args.tail is shows)) c.print_piece.ensures

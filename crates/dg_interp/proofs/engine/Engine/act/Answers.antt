@@ -1,4 +1,5 @@
 use Rattle.dg_interp.proofs.Equals.{equal_plain}
+use Rattle.dg_interp.proofs.Compares.{compare_plain}
 use Rattle.dg_interp.proofs.Values.{test_plain, ask_plain}
 use Rattle.dg_interp.proofs.Controls.{either_built, once_built, not_built, exhaust_built, stoppable_built, if_built}
 use Rattle.dg_interp.proofs.engine.Engine.act.Goals as goal
@@ -29,3 +30,6 @@ exhaust-requires-clause-built c = rw c.as_slice-in-Exhaust.ensures (exhaust_buil
 
 pub stoppable-requires-clause-built : goal.stoppable-requires-clause-built
 stoppable-requires-clause-built c = rw c.as_slice-in-Stoppable.ensures (stoppable_built c.in-Stoppable.goals (rw c.in-Stoppable.is at c.requires.built))
+
+pub compare-requires-clause-plain : goal.compare-requires-clause-plain
+compare-requires-clause-plain c = compare_plain c.in-Compare.op c.in-Compare.a c.in-Compare.b (rw c.in-Compare.is at c.requires.form)
