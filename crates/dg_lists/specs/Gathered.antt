@@ -1,4 +1,4 @@
--- Gathered lists: a row of cells for each gathering that is open. Hold it against docs/LANGUAGE.md, "Limits", where it says what the values that are gathered count.
+-- Gathered lists: a row of cells for each gathering that is open. Hold it against docs/LANGUAGE.md, "Limits", on what gathered values count.
 use Rattle.std.specs.Prelude.{ℕ, ◌+◌, List, [], ◌∷◌, ◌++◌, Bool, length, take, drop, nat_eq, nat_le, ◌&&◌, sum_by}
 use Rattle.dg_base.specs.declared.cells.Cell.{Cell}
 

@@ -32,7 +32,11 @@ impl Model for Gather {
 
     ghost view = { λ g. record { rows = cut (reverse g.starts.items) g.cells.items; aux = g.aux } };
 
-    ghost invariant = { λ g. (is_stacked (reverse g.starts.items) g.cells.items ≡ true) × (gathered_size (cut (reverse g.starts.items) g.cells.items) ≤ g.aux) × (g.aux ≤ vec_capacity g.cells) × (g.aux ≤ 2 * vec_capacity g.starts + 1) };
+    ghost invariant = { λ g.
+        (is_stacked (reverse g.starts.items) g.cells.items ≡ true)
+        × (gathered_size (cut (reverse g.starts.items) g.cells.items) ≤ g.aux)
+        × (g.aux ≤ vec_capacity g.cells)
+        × (g.aux ≤ 2 * vec_capacity g.starts + 1) };
 }
 
 // The place of that number.

@@ -35,7 +35,8 @@ fn write_letters(cells: &[Cell], letters: &mut [u16])
 fn make_nothing<B: Bindings>(store: &mut B, cells: u32) -> Result<Ref, Full>
     ensures kept { Kept (B.meaning store.old) (B.meaning store.new) }
     ensures saved { (ms : List Saved) → B.saves store.old ms → B.saves store.new ms }
-    ensures made { MatchResult result (λ r. Made cells (B.meaning store.old) (B.meaning store.new) r (leaf Nil)) (λ e. HeapFull cells (B.meaning store.old) (B.meaning store.new) e) }
+    ensures made { MatchResult result (λ r. Made cells (B.meaning store.old) (B.meaning store.new) r (leaf Nil))
+        (λ e. HeapFull cells (B.meaning store.old) (B.meaning store.new) e) }
 {
     match store.charge(cells) {
         Err(e) => Err(e),
@@ -47,7 +48,8 @@ fn make_nothing<B: Bindings>(store: &mut B, cells: u32) -> Result<Ref, Full>
 fn make_word<B: Bindings>(store: &mut B, count: u16, behind: &[Cell]) -> Result<Ref, Full>
     ensures kept { Kept (B.meaning store.old) (B.meaning store.new) }
     ensures saved { (ms : List Saved) → B.saves store.old ms → B.saves store.new ms }
-    ensures made { MatchResult result (λ r. Made (3 + 3 * count) (B.meaning store.old) (B.meaning store.new) r (word_from count behind.now)) (λ e. HeapFull (3 + 3 * count) (B.meaning store.old) (B.meaning store.new) e) }
+    ensures made { MatchResult result (λ r. Made (3 + 3 * count) (B.meaning store.old) (B.meaning store.new) r (word_from count behind.now))
+        (λ e. HeapFull (3 + 3 * count) (B.meaning store.old) (B.meaning store.new) e) }
 {
     let letters = count as usize;
     if letters > 200 || letters > behind.len() {
@@ -63,7 +65,8 @@ fn make_pair<B: Bindings>(store: &mut B, stack: &[Ref]) -> Result<Ref, Full>
     requires { All (Holds (B.meaning store.old)) stack.now }
     ensures kept { Kept (B.meaning store.old) (B.meaning store.new) }
     ensures saved { (ms : List Saved) → B.saves store.old ms → B.saves store.new ms }
-    ensures made { MatchResult result (λ r. Made 3 (B.meaning store.old) (B.meaning store.new) r (pair_from (map (told (B.meaning store.old)) stack.now))) (λ e. HeapFull 3 (B.meaning store.old) (B.meaning store.new) e) }
+    ensures made { MatchResult result (λ r. Made 3 (B.meaning store.old) (B.meaning store.new) r (pair_from (map (told (B.meaning store.old)) stack.now)))
+        (λ e. HeapFull 3 (B.meaning store.old) (B.meaning store.new) e) }
 {
     match stack {
         [head, tail, ..] => store.pair(*head, *tail),
@@ -81,7 +84,9 @@ fn make_closure<B: Bindings>(
     requires { All (Holds (B.meaning store.old)) stack.now }
     ensures kept { Kept (B.meaning store.old) (B.meaning store.new) }
     ensures saved { (ms : List Saved) → B.saves store.old ms → B.saves store.new ms }
-    ensures made { MatchResult result (λ r. Made (3 + count) (B.meaning store.old) (B.meaning store.new) r (closure_from place count (map (told (B.meaning store.old)) stack.now))) (λ e. HeapFull (3 + count) (B.meaning store.old) (B.meaning store.new) e) }
+    ensures made { MatchResult result
+        (λ r. Made (3 + count) (B.meaning store.old) (B.meaning store.new) r (closure_from place count (map (told (B.meaning store.old)) stack.now)))
+        (λ e. HeapFull (3 + count) (B.meaning store.old) (B.meaning store.new) e) }
 {
     let captured = count as usize;
     if captured > stack.len() {
@@ -95,7 +100,8 @@ fn make<B: Bindings>(store: &mut B, cell: Cell, behind: &[Cell], stack: &[Ref]) 
     requires { All (Holds (B.meaning store.old)) stack.now }
     ensures kept { Kept (B.meaning store.old) (B.meaning store.new) }
     ensures saved { (ms : List Saved) → B.saves store.old ms → B.saves store.new ms }
-    ensures made { MatchResult result (λ r. MadeFrom cell behind.now stack.now (B.meaning store.old) (B.meaning store.new) r) (λ e. HeapFull (cell_weight cell) (B.meaning store.old) (B.meaning store.new) e) }
+    ensures made { MatchResult result (λ r. MadeFrom cell behind.now stack.now (B.meaning store.old) (B.meaning store.new) r)
+        (λ e. HeapFull (cell_weight cell) (B.meaning store.old) (B.meaning store.new) e) }
 {
     match cell {
         Cell::Num(n) => store.value(Simple::Num(n)),
@@ -147,7 +153,9 @@ fn read_cell<B: Bindings>(
     ensures kept { Kept (B.meaning store.old) (B.meaning store.new) }
     ensures saved { (ms : List Saved) → B.saves store.old ms → B.saves store.new ms }
     ensures within { IfOk result (λ t. t ≤ length row.new) }
-    ensures read { (start : Store) → HasRead start (B.meaning store.old) behind.now (drop top row.old) → MatchResult result (λ t. HasRead start (B.meaning store.new) (cell ∷ behind.now) (drop t row.new)) (λ e. Stopped (row_weight (cell ∷ behind.now)) start (B.meaning store.new) e) }
+    ensures read { (start : Store) → HasRead start (B.meaning store.old) behind.now (drop top row.old) → MatchResult result
+        (λ t. HasRead start (B.meaning store.new) (cell ∷ behind.now) (drop t row.new))
+        (λ e. Stopped (row_weight (cell ∷ behind.now)) start (B.meaning store.new) e) }
 {
     if let Cell::Char(_) = cell {
         return Ok(top);
@@ -181,7 +189,8 @@ fn read_cells<B: Bindings>(store: &mut B, cells: &[Cell], row: &mut [Ref]) -> Re
     ensures kept { Kept (B.meaning store.old) (B.meaning store.new) }
     ensures saved { (ms : List Saved) → B.saves store.old ms → B.saves store.new ms }
     ensures within { IfOk result (λ t. t ≤ length row.new) }
-    ensures read { MatchResult result (λ t. HasRead (B.meaning store.old) (B.meaning store.new) cells.now (drop t row.new)) (λ e. Stopped (row_weight cells.now) (B.meaning store.old) (B.meaning store.new) e) }
+    ensures read { MatchResult result (λ t. HasRead (B.meaning store.old) (B.meaning store.new) cells.now (drop t row.new))
+        (λ e. Stopped (row_weight cells.now) (B.meaning store.old) (B.meaning store.new) e) }
 {
     let mut top = row.len();
     let mut at = cells.len();
@@ -205,7 +214,8 @@ pub fn from_cells<B: Bindings>(
     requires { length cells.now ≤ length scratch.old }
     ensures kept { Kept (B.meaning store.old) (B.meaning store.new) }
     ensures saved { (ms : List Saved) → B.saves store.old ms → B.saves store.new ms }
-    ensures copied { (v : Value) → cells.now ≡ cells_of v → IsFormed v → MatchResult result (λ r. Copied (B.meaning store.old) (B.meaning store.new) v r) (λ e. Stopped (copy_cells v) (B.meaning store.old) (B.meaning store.new) e) }
+    ensures copied { (v : Value) → cells.now ≡ cells_of v → IsFormed v → MatchResult result (λ r. Copied (B.meaning store.old) (B.meaning store.new) v r)
+        (λ e. Stopped (copy_cells v) (B.meaning store.old) (B.meaning store.new) e) }
 {
     match read_cells(store, cells, scratch) {
         Err(e) => Err(e),
@@ -224,7 +234,8 @@ fn make_list<B: Bindings>(store: &mut B, elements: &[Ref]) -> Result<Ref, Full>
     requires { All (Holds (B.meaning store.old)) elements.now }
     ensures kept { Kept (B.meaning store.old) (B.meaning store.new) }
     ensures saved { (ms : List Saved) → B.saves store.old ms → B.saves store.new ms }
-    ensures made { MatchResult result (λ r. ListMade (B.meaning store.old) (B.meaning store.new) elements.now r) (λ e. Stopped (3 * length elements.now) (B.meaning store.old) (B.meaning store.new) e) }
+    ensures made { MatchResult result (λ r. ListMade (B.meaning store.old) (B.meaning store.new) elements.now r)
+        (λ e. Stopped (3 * length elements.now) (B.meaning store.old) (B.meaning store.new) e) }
 {
     let mut at = elements.len();
     let mut list = match store.value(Simple::Nil) {
@@ -250,7 +261,9 @@ pub fn list_from_cells<B: Bindings>(
     requires { length cells.now ≤ length scratch.old }
     ensures kept { Kept (B.meaning store.old) (B.meaning store.new) }
     ensures saved { (ms : List Saved) → B.saves store.old ms → B.saves store.new ms }
-    ensures copied { (vs : Values) → cells.now ≡ cells_of_all vs → AreFormed vs → MatchResult result (λ r. ListCopied (B.meaning store.old) (B.meaning store.new) vs r) (λ e. Stopped (all_copy_cells vs + 3 * length (values_of vs)) (B.meaning store.old) (B.meaning store.new) e) }
+    ensures copied { (vs : Values) → cells.now ≡ cells_of_all vs → AreFormed vs → MatchResult result
+        (λ r. ListCopied (B.meaning store.old) (B.meaning store.new) vs r)
+        (λ e. Stopped (all_copy_cells vs + 3 * length (values_of vs)) (B.meaning store.old) (B.meaning store.new) e) }
 {
     match read_cells(store, cells, scratch) {
         Err(e) => Err(e),

@@ -2,3 +2,5 @@ pub mod Encoded
 pub mod ClassLemmas
 pub mod CutLemmas
 pub mod CharLemmas
+pub mod LineLemmas
+pub mod WordLemmas

@@ -1,5 +1,5 @@
 -- Where the words of a line stand. Hold it against docs/LANGUAGE.md, "Typed lines and words", and dg_meaning/specs/Words.antt.
-use Rattle.std.specs.Prelude.{◌≡◌, ℕ, ◌-◌, ◌<◌, ◌≤◌, eqb, List, [], ◌∷◌, Option, Some, None, false, length, take, drop, slice_index}
+use Rattle.std.specs.Prelude.{◌≡◌, ℕ, ◌-◌, ◌<◌, ◌≤◌, eqb, List, [], ◌∷◌, Option, Some, None, false, length, take, drop, slice_index, map, encode_utf8_all}
 use Rattle.dg_meaning.specs.Words.{spellings_of}
 
 -- The word from one place to another of a line.
@@ -35,3 +35,7 @@ pub record IsWord (line : List ℕ) (at from to : ℕ) : Type 0 where
 abbrev pub IsNextWord : List ℕ → ℕ → Option (ℕ × ℕ) → Type 0
 IsNextWord line at None = spellings_of (drop at line) ≡ []
 IsNextWord line at (Some word) = IsWord line at word.0 word.1
+
+-- The words of the bytes of letters are the bytes of the words of the letters.
+abbrev pub WordsAreBytes : Type 0
+WordsAreBytes = (letters : List ℕ) → spellings_of (encode_utf8_all letters) ≡ map encode_utf8_all (spellings_of letters)

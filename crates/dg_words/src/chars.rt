@@ -25,7 +25,8 @@ fn tail_end(spelling: &[u8], at: usize) -> usize
 /// Where the character ends that begins at a place of a spelling in UTF-8; none exactly at its end.
 pub fn next_char(spelling: &[u8], at: usize) -> Option<usize>
     ensures none { IsNone result ↔ (length spelling.now ≤ at) }
-    ensures end { (before behind : List ℕ) (c : ℕ) → spelling.now ≡ encode_utf8_all before ++ (encode_utf8 c ++ encode_utf8_all behind) → at ≡ length (encode_utf8_all before) → result ≡ Some (at + length (encode_utf8 c)) }
+    ensures end { (before behind : List ℕ) (c : ℕ) → spelling.now ≡ encode_utf8_all before ++ (encode_utf8 c ++ encode_utf8_all behind) →
+        at ≡ length (encode_utf8_all before) → result ≡ Some (at + length (encode_utf8 c)) }
 {
     if at >= spelling.len() {
         return None;

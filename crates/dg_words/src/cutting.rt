@@ -1,7 +1,7 @@
 // The words of a line.
 ghost use Rattle.std.specs.Prelude.{◌≡◌, ◌≤◌, eqb, ◌||◌, length, drop};
 ghost use Rattle.dg_meaning.specs.Words.{is_alone};
-ghost use Rattle.dg_words.specs.Cutting.{SkipsTo, BeginsAt, EndsAt, IsNextWord};
+ghost use Rattle.dg_words.specs.Cutting.{SkipsTo, BeginsAt, EndsAt, IsNextWord, WordsAreBytes};
 
 // Whether a letter is a word of its own.
 fn is_alone(letter: u8) -> bool
@@ -57,3 +57,8 @@ pub fn next_word(line: &[u8], at: usize) -> Option<(usize, usize)>
     }
     Some((from, word_end(line, from)))
 }
+
+/// A line's words are the same by its bytes and by its letters.
+pub fn words_are_bytes()
+    ensures { WordsAreBytes }
+{}

@@ -5,8 +5,10 @@ mod chars;
 mod classes;
 mod cutting;
 mod joined;
+mod lines;
 
 pub use chars::next_char;
 pub use classes::{Class, classify};
-pub use cutting::next_word;
+pub use cutting::{next_word, words_are_bytes};
 pub use joined::{Joined, TooLong};
+pub use lines::take_line;

@@ -1,0 +1,96 @@
+// Typed lines, as they are taken.
+ghost use Rattle.std.specs.Prelude.{◌≡◌, ◌<◌, ◌≤◌, ◌++◌, ◌∷◌, [], ℕ, List, Some, IfOk, IfSome, length, take};
+ghost use Rattle.dg_meaning.specs.Words.{without_return};
+ghost use Rattle.dg_words.specs.Lines.{IsKept, TakesNext, TakesRest, TakesLine};
+ghost use Rattle.dg_base.specs.Causes.{HasCause};
+
+use dg_base::{Failed, Source};
+
+// Keeps a byte behind those that are kept, where there is room.
+fn keep(line: &mut [u8], kept: usize, byte: u8) -> usize
+    requires { kept ≤ length line.old }
+    ensures within { result ≤ length line.new }
+    ensures keeps { (front : List ℕ) → IsKept line.old kept front → IsKept line.new result (front ++ byte ∷ []) }
+{
+    if kept < line.len() {
+        line[kept] = byte;
+        kept + 1
+    } else {
+        kept
+    }
+}
+
+// The next byte of a line, which may have so many more; none at its end.
+fn next_byte<S: Source>(source: &mut S, room: u32) -> Result<Option<u8>, Failed>
+    ensures told { (typed : List ℕ) → (S.view source.old).left ≡ Some typed → TakesNext result room typed (S.view source.new).left }
+    ensures room { IfOk result (λ byte. IfSome byte (λ b. 0 < room)) }
+    ensures cause { HasCause (S.view source.old).faults (S.view source.new).faults result }
+{
+    if room == 0 {
+        return Ok(None);
+    }
+    let byte = match source.next() {
+        Err(failed) => return Err(failed),
+        Ok(None) => return Ok(None),
+        Ok(Some(byte)) => byte,
+    };
+    if byte == b'\n' {
+        return Ok(None);
+    }
+    Ok(Some(byte))
+}
+
+// The rest of a line behind its first byte, of which as many bytes are kept as there is room for.
+fn take_rest<S: Source>(source: &mut S, line: &mut [u8], first: u8) -> Result<usize, Failed>
+    ensures within { IfOk result (λ kept. kept ≤ length line.new) }
+    ensures told { (typed : List ℕ) → (S.view source.old).left ≡ Some typed → TakesRest result first typed line.new (S.view source.new).left }
+    ensures cause { HasCause (S.view source.old).faults (S.view source.new).faults result }
+{
+    let mut kept = 0;
+    let mut held = first;
+    let mut room = 65535;
+    loop {
+        match next_byte(source, room) {
+            Err(failed) => return Err(failed),
+            Ok(None) => return Ok(keep_last(line, kept, held)),
+            Ok(Some(byte)) => {
+                kept = keep(line, kept, held);
+                held = byte;
+                room -= 1;
+            }
+        }
+    }
+}
+
+// Keeps the last byte of a line, unless it is a carriage return.
+fn keep_last(line: &mut [u8], kept: usize, held: u8) -> usize
+    requires { kept ≤ length line.old }
+    ensures within { result ≤ length line.new }
+    ensures keeps { (front : List ℕ) → IsKept line.old kept front → IsKept line.new result (without_return (front ++ held ∷ [])) }
+{
+    if held == b'\r' {
+        kept
+    } else {
+        keep(line, kept, held)
+    }
+}
+
+/// Takes a typed line, of which as many bytes are kept as there is room for; none where no byte is left.
+pub fn take_line<S: Source>(source: &mut S, line: &mut [u8]) -> Result<Option<usize>, Failed>
+    ensures within { IfOk result (λ kept. IfSome kept (λ n. n ≤ length line.new)) }
+    ensures told { (typed : List ℕ) → (S.view source.old).left ≡ Some typed → TakesLine result typed line.new (S.view source.new).left }
+    ensures cause { HasCause (S.view source.old).faults (S.view source.new).faults result }
+{
+    let first = match source.next() {
+        Err(failed) => return Err(failed),
+        Ok(None) => return Ok(None),
+        Ok(Some(first)) => first,
+    };
+    if first == b'\n' {
+        return Ok(Some(0));
+    }
+    match take_rest(source, line, first) {
+        Ok(kept) => Ok(Some(kept)),
+        Err(failed) => Err(failed),
+    }
+}
