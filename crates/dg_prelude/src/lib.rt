@@ -1,0 +1,7 @@
+//! The rules that every program has.
+#![tactic(auto)]
+
+mod puts;
+mod rules;
+
+pub use rules::prelude;
