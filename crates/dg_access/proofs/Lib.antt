@@ -13,3 +13,5 @@ pub mod KeptLemmas
 pub mod LeftLemmas
 pub mod ComesLemmas
 pub mod FewLemmas
+pub mod BuildLemmas
+pub mod StepLemmas

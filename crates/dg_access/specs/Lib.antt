@@ -7,3 +7,4 @@ pub mod Rewritten
 pub mod Few
 pub mod Scopes
 pub mod State
+pub mod Building

@@ -10,8 +10,8 @@ ghost use Rattle.dg_access.specs.State.{setting_view};
 
 use crate::fresh::copied;
 use crate::numbers::free_number;
-use crate::plain::{body_of, both, one_stmt, plain_body, plain_head};
-use crate::puts::put_parts;
+use crate::plain::{Plain, plain_head, plain_parts_of};
+use crate::puts::{body_of, one_stmt};
 use crate::setting::Setting;
 use dg_base::{Body, Head, Item, ItemBody, Items, Stmt, Tree};
 use std::alloc::{AllocError, Global};
@@ -93,13 +93,8 @@ fn plain_rule(
     ensures head { IfOk result (λ new. head_view new.0 ≡ spec.plain_parts (setting_view setting.entry) 0 (head_view head.now)) }
     ensures body { IfOk result (λ new. body_view new.1 ≡ spec.rule_body (setting_view setting.entry) (head_view head.now) (body_view body.now)) }
 {
-    let mut first = 0;
-    let mut puts = Vec::new(alloc);
-    put_parts(alloc, setting, &mut first, head.parts.as_slice(), &mut puts)?;
-    let mut at = 0;
-    let head = plain_head(alloc, setting, &mut at, head);
-    let body = plain_body(alloc, setting, &mut at, body)?;
-    both(head, put_before(alloc, puts, body))
+    let Plain { head, puts, body } = plain_parts_of(alloc, setting, head, body)?;
+    Ok((head, put_before(alloc, puts, body)?))
 }
 
 fn as_rule(rule: (Head, Body)) -> ItemBody
@@ -143,8 +138,7 @@ fn plain_said(alloc: Global, topic: Option<&[u8]>, said: &ItemBody) -> Result<It
                 number,
                 declares: true,
             };
-            let mut at = 0;
-            plain_head(alloc, declaration, &mut at, head).map(ItemBody::Variable)
+            plain_head(alloc, declaration, head).map(ItemBody::Variable)
         }
     }
 }

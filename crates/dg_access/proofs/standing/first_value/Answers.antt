@@ -4,9 +4,9 @@ use Rattle.dg_base.specs.Tree.{parts_of}
 use Rattle.dg_base.specs.TreeView.{part_view}
 use Rattle.dg_access.specs.State.{first_or}
 use Rattle.dg_access.proofs.PartsLemmas.{first_else}
-use Rattle.dg_access.proofs.plain.first_value.Goals as goal
+use Rattle.dg_access.proofs.standing.first_value.Goals as goal
 
 pub loop-part-init : goal.loop-part-init
 loop-part-init c =
-    ap (λ (d : tree.Value). first_or (parts_of (map part_view c.args.parts.items)) d) c.no_value-first.ensures
-    ∙ first_else (parts_of (map part_view c.args.parts.items))
+    ap (λ (d : tree.Value). first_or (parts_of (map part_view c.args.parts)) d) c.no_value-first.ensures
+    ∙ first_else (parts_of (map part_view c.args.parts))
