@@ -124,10 +124,6 @@ changes_count c n (x ∷ cs) = omega (arith, changes_count c (n + new_in_parts x
 
 -- ---- values
 
--- what has no parts
-pub value_alone : (c : Setting) (w : Bool) (v p : Value) (s : Built) → new_in_value v ≡ 0 → plain_value c s.at v ≡ p → puts_of_value c s.at v ≡ [] → record s { values = s.values ++ p ∷ [] } ≡ after_value c w v s
-value_alone c w v p s e f g = rw e (rw f (rw g (rw (no_more s.at) (rw (no_puts w s.puts) refl))))
-
 pub list_built : (c : Setting) (w : Bool) (vs : Values) (k : ℕ) (s : Built) → k ≡ length (list_of_values (plain_values c s.at vs)) → closing c (close.List k) (after_values c w vs s) ≡ after_value c w (tree.plain_list vs) s
 list_built c w vs k s e =
     let l = list_of_values (plain_values c s.at vs) in
@@ -160,16 +156,10 @@ twice_built c ps k n s e f =
     ∙ nested_built c ps k (record s { puts = puts }) e
     ∙ rw (append-nil puts) refl
 
-pub no_values_built : (c : Setting) (w : Bool) (s : Built) → s ≡ after_values c w tree.no_values s
-no_values_built c w s = rw (no_more s.at) (rw (append-nil s.values) (rw (no_puts w s.puts) refl))
-
 pub values_built : (c : Setting) (w : Bool) (v : Value) (vs : Values) (s : Built) → after_values c w vs (after_value c w v s) ≡ after_values c w (tree.value v vs) s
 values_built c w v vs s =
     rw (two_more s.at (new_in_value v) (new_in_values vs)) (rw (append_assoc s.values (plain_value c s.at v ∷ []) (list_of_values (plain_values c (s.at + new_in_value v) vs)))
     (rw (two_puts w s.puts (puts_of_value c s.at v) (puts_of_values c (s.at + new_in_value v) vs)) refl))
-
-pub no_parts_built : (c : Setting) (w : Bool) (s : Built) → s ≡ after_parts c w tree.no_parts s
-no_parts_built c w s = rw (no_more s.at) (rw (append-nil s.parts) (rw (no_puts w s.puts) refl))
 
 pub word_built : (c : Setting) (w : Bool) (n : List ℕ) (ps : Parts) (s : Built) → after_parts c w ps (record s { parts = s.parts ++ tree.part_word n ∷ [] }) ≡ after_parts c w (tree.part (tree.part_word n) ps) s
 word_built c w n ps s = rw (nothing_more s.at (new_in_parts ps)) (rw (no_more s.at) (rw (append_assoc s.parts (tree.part_word n ∷ []) (list_of_parts (plain_parts c s.at ps))) refl))
@@ -181,9 +171,6 @@ part_built c w v ps s =
     (rw (two_puts w s.puts (puts_of_value c s.at v) (puts_of_parts c (s.at + new_in_value v) ps)) refl))))
 
 -- ---- statements
-
-pub text_built : (c : Setting) (w : List ℕ) (s : Built) → record s { stmts = s.stmts ++ tree.text w ∷ [] } ≡ after_stmt c (tree.text w) s
-text_built c w s = rw (no_more s.at) refl
 
 pub print_built : (c : Setting) (v : Value) (s : Built) → closing c close.Print (after_value c false v s) ≡ after_stmt c (tree.print v) s
 print_built c v s = let p = plain_value c s.at v in rw (init_push s.values p) (rw (last_push tree.current_topic s.values p) (rw (append-nil s.puts) refl))
@@ -219,9 +206,6 @@ stoppable_built c x s = let p = plain_stmt c s.at x in rw (init_push s.stmts p) 
 three_more : (a b c d : ℕ) → a + b + c + d ≡ a + (b + c + d)
 three_more a b c d = omega arith
 
-plus_more : (a b c : ℕ) → a + b + c ≡ a + (b + c)
-plus_more a b c = omega arith
-
 pub collect_built : (c : Setting) (v : Value) (b : Body) (into : Value) (s : Built) → closing c close.Collect (after_value c false into (after_body c b (after_value c false v s))) ≡ after_stmt c (tree.collect v b into) s
 collect_built c v b into s =
     let p = plain_value c s.at v in
@@ -244,14 +228,8 @@ select_built c mode b k s e = let l = list_of_branches (plain_body c s.at b) in 
 pub body_built : (c : Setting) (b : Body) (k : ℕ) (s : Built) → k ≡ length (list_of_branches (plain_body c s.at b)) → closing c (close.Body k) (after_branches c b s) ≡ after_body c b s
 body_built c b k s e = let l = list_of_branches (plain_body c s.at b) in rw (front_at s.branches l k e) (rw (behind_at s.branches l k e) (rw (branches_again (plain_body c s.at b)) refl))
 
-pub no_stmts_built : (c : Setting) (s : Built) → s ≡ after_stmts c tree.no_stmts s
-no_stmts_built c s = rw (no_more s.at) (rw (append-nil s.stmts) refl)
-
 pub stmts_built : (c : Setting) (x : Stmt) (ss : Stmts) (s : Built) → after_stmts c ss (after_stmt c x s) ≡ after_stmts c (tree.stmt x ss) s
 stmts_built c x ss s = rw (two_more s.at (new_in_stmt x) (new_in_stmts ss)) (rw (append_assoc s.stmts (plain_stmt c s.at x ∷ []) (list_of_stmts (plain_stmts c (s.at + new_in_stmt x) ss))) refl)
-
-pub no_branches_built : (c : Setting) (s : Built) → s ≡ after_branches c tree.no_branches s
-no_branches_built c s = rw (no_more s.at) (rw (append-nil s.branches) refl)
 
 pub branch_built : (c : Setting) (ss : Stmts) (b : Body) (k : ℕ) (s : Built) → k ≡ length (list_of_stmts (plain_stmts c s.at ss)) → after_branches c b (closing c (close.Branch k) (after_stmts c ss s)) ≡ after_branches c (tree.branch ss b) s
 branch_built c ss b k s e =
@@ -259,18 +237,12 @@ branch_built c ss b k s e =
     rw (front_at s.stmts l k e) (rw (behind_at s.stmts l k e) (rw (stmts_again (plain_stmts c s.at ss)) (rw (two_more s.at (new_in_stmts ss) (new_in_body b))
     (rw (append_assoc s.branches (plain_stmts c s.at ss ∷ []) (list_of_branches (plain_body c (s.at + new_in_stmts ss) b))) refl))))
 
-pub no_arms_built : (c : Setting) (s : Built) → s ≡ after_arms c tree.no_arms s
-no_arms_built c s = rw (no_more s.at) (rw (append-nil s.arms) refl)
-
 pub arm_built : (c : Setting) (a b : Body) (arms : Arms) (s : Built) → after_arms c arms (closing c close.Arm (after_body c b (after_body c a s))) ≡ after_arms c (tree.arm a b arms) s
 arm_built c a b arms s =
     let p = plain_body c s.at a in
     let q = plain_body c (s.at + new_in_body a) b in
     rw (init_push (s.bodies ++ p ∷ []) q) (rw (last_push tree.no_branches (s.bodies ++ p ∷ []) q) (rw (init_push s.bodies p) (rw (last_push tree.no_branches s.bodies p)
     (rw (three_more s.at (new_in_body a) (new_in_body b) (new_in_arms arms)) (rw (append_assoc s.arms ((p, q) ∷ []) (list_of_arms (plain_arms c (s.at + new_in_body a + new_in_body b) arms))) refl)))))
-
-pub no_changes_built : (c : Setting) (s : Built) → s ≡ after_changes c tree.no_changes s
-no_changes_built c s = rw (no_more s.at) (rw (append-nil s.changes) refl)
 
 pub change_built : (c : Setting) (ps : Parts) (set : Bool) (cs : Changes) (k : ℕ) (s : Built) → k ≡ length (list_of_parts (plain_parts c s.at ps)) → after_changes c cs (closing c (close.Change set k) (after_parts c false ps s)) ≡ after_changes c (tree.change ps set cs) s
 change_built c ps set cs k s e =

@@ -18,8 +18,8 @@ use Rattle.dg_base.specs.declared.tree.NowChange.{NowChange}
 use Rattle.dg_base.specs.declared.tree.Stmt
 use Rattle.dg_base.specs.declared.tree.Value
 use Rattle.dg_base.specs.declared.tree.Part
-use Rattle.dg_base.proofs.Views.{part_word_seen, value_seen, head_seen, body_seen, arm_seen, change_seen, plain_list_seen, tailed_list_seen, choice_seen, choice_else_seen}
-use Rattle.dg_access.specs.Plain.{Setting, new_in_value, new_in_parts, new_in_body, plain_value, puts_of_value, puts_of_parts, plain_values, plain_parts, plain_stmts, plain_body, plain_arms, plain_changes}
+use Rattle.dg_base.proofs.Views.{part_word_seen, value_seen, head_seen, body_seen, arm_seen, change_seen}
+use Rattle.dg_access.specs.Plain.{Setting, new_in_parts, new_in_body, puts_of_parts, plain_values, plain_parts, plain_stmts, plain_body, plain_arms, plain_changes}
 use Rattle.dg_access.specs.Building.{Built, after_value, list_of_values, after_values, list_of_parts, after_parts, after_stmt, list_of_stmts, after_stmts, list_of_branches, after_branches, after_body, list_of_arms, after_arms, list_of_changes, after_changes, asked, run, does, unbuilt, IsPutOff}
 use Rattle.dg_access.specs.declared.work.Work.{Work}
 use Rattle.dg_access.specs.declared.work.Work.TheVariants as work
@@ -27,7 +27,7 @@ use Rattle.dg_access.specs.declared.work.Close.{Close}
 use Rattle.dg_access.specs.declared.work.Close.TheVariants as close
 use Rattle.dg_access.specs.declared.work.Asking.{Asking}
 use Rattle.dg_access.proofs.Views.{each_branch}
-use Rattle.dg_access.proofs.BuildLemmas.{off, values_count, parts_count, stmts_count, branches_count, arms_count, changes_count, list_built, tailed_built, nested_built, twice_built, no_values_built, values_built, no_parts_built, word_built, part_built, query_built, if_built, else_built, body_built, no_stmts_built, stmts_built, no_branches_built, branch_built, no_arms_built, arm_built, no_changes_built, change_built, value_alone, rule_built, parts_again}
+use Rattle.dg_access.proofs.BuildLemmas.{off, values_count, parts_count, stmts_count, branches_count, arms_count, changes_count, list_built, tailed_built, nested_built, twice_built, values_built, word_built, part_built, query_built, if_built, else_built, body_built, stmts_built, branch_built, arm_built, change_built, rule_built, parts_again}
 
 -- where there was memory
 pub on_ok : {X E : Type 0} (r : Result X E) (A B : Type 0) → OnOk r A → (A → B) → OnOk r B
@@ -64,29 +64,17 @@ branches_many c n xs k e =
 
 -- ---- lists
 
-pub values_none : (w : Bool) (xs : List Value) (old : List Work) → xs ≡ [] → IsPutOff (λ c. after_values c w (values_of (map value_view xs))) old old
-values_none w xs old is = λ c s. ap (run c old) (no_values_built c w s ∙ ap (λ (l : List Value). after_values c w (values_of (map value_view l)) s) (sym is))
-
 pub values_off : (w : Bool) (xs : List Value) (x : Bor Value) (others : Bor (List Value)) (old new : List Work) → xs ≡ x.now ∷ others.now → new ≡ old ++ work.Values w others ∷ work.Value w x ∷ [] → IsPutOff (λ c. after_values c w (values_of (map value_view xs))) old new
 values_off w xs x others old new is put = λ c s. off c old new (work.Values w others ∷ work.Value w x ∷ []) s _ put (values_built c w (value_view x.now) (values_of (map value_view others.now)) s ∙ ap (λ (l : List Value). after_values c w (values_of (map value_view l)) s) (sym is))
 
-pub stmts_none : (xs : List Stmt) (old : List Work) → xs ≡ [] → IsPutOff (λ c. after_stmts c (stmts_of (map stmt_view xs))) old old
-stmts_none xs old is = λ c s. ap (run c old) (no_stmts_built c s ∙ ap (λ (l : List Stmt). after_stmts c (stmts_of (map stmt_view l)) s) (sym is))
-
 pub stmts_off : (xs : List Stmt) (x : Bor Stmt) (others : Bor (List Stmt)) (old new : List Work) → xs ≡ x.now ∷ others.now → new ≡ old ++ work.Stmts others ∷ work.Stmt x ∷ [] → IsPutOff (λ c. after_stmts c (stmts_of (map stmt_view xs))) old new
 stmts_off xs x others old new is put = λ c s. off c old new (work.Stmts others ∷ work.Stmt x ∷ []) s _ put (stmts_built c (stmt_view x.now) (stmts_of (map stmt_view others.now)) s ∙ ap (λ (l : List Stmt). after_stmts c (stmts_of (map stmt_view l)) s) (sym is))
-
-pub branches_none : (xs : List (List Stmt)) (old : List Work) → xs ≡ [] → IsPutOff (λ c. after_branches c (branches_view (map (map stmt_view) xs))) old old
-branches_none xs old is = λ c s. ap (run c old) (no_branches_built c s ∙ ap (λ (l : List (List Stmt)). after_branches c (branches_view (map (map stmt_view) l)) s) (sym is))
 
 pub branches_off : (xs : List (List Stmt)) (first : List Stmt) (x : Bor (List Stmt)) (others : Bor (List (List Stmt))) (k : ℕ) (old new : List Work) → xs ≡ first ∷ others.now → x.now ≡ first → k ≡ length first → new ≡ old ++ work.Branches others ∷ work.Close (close.Branch k) ∷ work.Stmts x ∷ [] → IsPutOff (λ c. after_branches c (branches_view (map (map stmt_view) xs))) old new
 branches_off xs first x others k old new is same count put = λ c s.
     off c old new (work.Branches others ∷ work.Close (close.Branch k) ∷ work.Stmts x ∷ []) s _ put
     (branch_built c (stmts_of (map stmt_view x.now)) (branches_view (map (map stmt_view) others.now)) k s (stmts_many c s.at x.now k (count ∙ ap length (sym same)))
     ∙ ap (λ (l : List (List Stmt)). after_branches c (branches_view (map (map stmt_view) l)) s) (ap (λ (f : List Stmt). f ∷ others.now) same ∙ sym is))
-
-pub arms_none : (xs : List Arm) (old : List Work) → xs ≡ [] → IsPutOff (λ c. after_arms c (arms_of (map arm_view xs))) old old
-arms_none xs old is = λ c s. ap (run c old) (no_arms_built c s ∙ ap (λ (l : List Arm). after_arms c (arms_of (map arm_view l)) s) (sym is))
 
 pub arms_off : (xs : List Arm) (x : Arm) (a b : Bor Body) (others : Bor (List Arm)) (old new : List Work) → xs ≡ x ∷ others.now → a.now ≡ x.condition → b.now ≡ x.body → new ≡ old ++ work.Arms others ∷ work.Close close.Arm ∷ work.Body b ∷ work.Body a ∷ [] → IsPutOff (λ c. after_arms c (arms_of (map arm_view xs))) old new
 arms_off xs x a b others old new is first second put = λ c s.
@@ -106,9 +94,6 @@ arms_two_off xs x a b others old middle new is first second put more =
 head_parts : (h : Head) (ps : List Part) → ps ≡ h.parts → parts_of (map part_view ps) ≡ head_view h
 head_parts h ps is = ap (λ (l : List Part). parts_of (map part_view l)) is ∙ sym (head_seen h)
 
-pub changes_none : (xs : List NowChange) (old : List Work) → xs ≡ [] → IsPutOff (λ c. after_changes c (changes_of (map change_view xs))) old old
-changes_none xs old is = λ c s. ap (run c old) (no_changes_built c s ∙ ap (λ (l : List NowChange). after_changes c (changes_of (map change_view l)) s) (sym is))
-
 pub changes_off : (xs : List NowChange) (x : NowChange) (ps : Bor (List Part)) (others : Bor (List NowChange)) (k : ℕ) (old new : List Work) → xs ≡ x ∷ others.now → ps.now ≡ x.head.parts → k ≡ length x.head.parts → new ≡ old ++ work.Changes others ∷ work.Close (close.Change x.set k) ∷ work.Parts false ps ∷ [] → IsPutOff (λ c. after_changes c (changes_of (map change_view xs))) old new
 changes_off xs x ps others k old new is same count put = λ c s.
     off c old new (work.Changes others ∷ work.Close (close.Change x.set k) ∷ work.Parts false ps ∷ []) s _ put
@@ -116,9 +101,6 @@ changes_off xs x ps others k old new is same count put = λ c s.
     ∙ ap (λ (l : tree.Parts). after_changes c (tree.change l x.set (changes_of (map change_view others.now))) s) (head_parts x.head ps.now same)
     ∙ ap (λ (l : tree.Parts × Bool). after_changes c (changes_of (l ∷ map change_view others.now)) s) (sym (change_seen x))
     ∙ ap (λ (l : List NowChange). after_changes c (changes_of (map change_view l)) s) (sym is))
-
-pub parts_none : (w : Bool) (xs : List Part) (c : Setting) (s : Built) → xs ≡ [] → s ≡ after_parts c w (parts_of (map part_view xs)) s
-parts_none w xs c s is = no_parts_built c w s ∙ ap (λ (l : List Part). after_parts c w (parts_of (map part_view l)) s) (sym is)
 
 pub part_off : (w : Bool) (xs : List Part) (p : Part) (v : Bor Value) (others : Bor (List Part)) (old new : List Work) → xs ≡ p ∷ others.now → p ≡ Part.Value v.now → new ≡ old ++ work.Parts w others ∷ work.Close close.Part ∷ work.Value w v ∷ [] → IsPutOff (λ c. after_parts c w (parts_of (map part_view xs))) old new
 part_off w xs p v others old new is seen put = λ c s.
@@ -210,30 +192,3 @@ head_run c h ps s same e =
     ap (λ (t : Built). parts_of t.parts) e
     ∙ parts_again (plain_parts c 0 (parts_of (map part_view ps.now)))
     ∙ ap (λ (l : tree.Parts). plain_parts c 0 l) (head_parts h ps.now same)
-
--- ---- what has no parts
-
-pub value_at_once : (c : Setting) (w : Bool) (x : Value) (form p : tree.Value) (old : List Work) (s t : Built) → value_view x ≡ form → new_in_value form ≡ 0 → plain_value c s.at form ≡ p → puts_of_value c s.at form ≡ [] → t ≡ record s { values = s.values ++ p ∷ [] } → run c old t ≡ run c old (after_value c w (value_view x) s)
-value_at_once c w x form p old s t seen few plain puts e = ap (run c old) (e ∙ value_alone c w form p s few plain puts ∙ ap (λ (y : tree.Value). after_value c w y s) (sym seen))
-
--- what comes to this value, however it is put before a body
-pub value_now : (c : Setting) (w u : Bool) (x : Value) (form : tree.Value) (old : List Work) (s t : Built) → value_view x ≡ form → after_value c u form s ≡ after_value c w form s → t ≡ after_value c u form s → run c old t ≡ run c old (after_value c w (value_view x) s)
-value_now c w u x form old s t seen same e = ap (run c old) (e ∙ same ∙ ap (λ (y : tree.Value). after_value c w y s) (sym seen))
-
-pub anonymous_same : (c : Setting) (w : Bool) (s : Built) → after_value c false tree.anonymous s ≡ after_value c w tree.anonymous s
-anonymous_same c true s = refl
-anonymous_same c false s = refl
-
-pub value_put : (c : Setting) (w : Bool) (x : Value) (form : tree.Value) (old new : List Work) (s : Built) → value_view x ≡ form → IsPutOff (λ d. after_value d w form) old new → run c new s ≡ run c old (after_value c w (value_view x) s)
-value_put c w x form old new s seen put = put c s ∙ ap (λ (y : tree.Value). run c old (after_value c w y s)) (sym seen)
-
-pub stmt_put : (c : Setting) (x : Stmt) (form : tree.Stmt) (old new : List Work) (s : Built) → stmt_view x ≡ form → IsPutOff (λ d. after_stmt d form) old new → run c new s ≡ run c old (after_stmt c (stmt_view x) s)
-stmt_put c x form old new s seen put = put c s ∙ ap (λ (y : tree.Stmt). run c old (after_stmt c y s)) (sym seen)
-
-pub list_seen : (vs : List Value) (tail : Option Value) → value_view (Value.List vs tail) ≡ list_view (map value_view vs) (option_map value_view tail)
-list_seen vs None = plain_list_seen vs
-list_seen vs (Some v) = tailed_list_seen vs v
-
-pub if_seen : (arms : List Arm) (other : Option Body) → stmt_view (Stmt.If arms other) ≡ choice_view (map arm_view arms) (option_map body_view other)
-if_seen arms None = choice_seen arms
-if_seen arms (Some b) = choice_else_seen arms b
