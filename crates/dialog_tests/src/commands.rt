@@ -73,7 +73,7 @@ const DOUBLED: &str =
     "(twice [] $X $X)\n(twice [$ | $N] $X $Y) (twice $N [$X | $X] $Y)\n(value $X $Y) (twice [0 0 0 0 0 0 0 0 0 0 0 0 0 0 0 0 0 0 0 0 0 0 0 0 0 0 0 0 0 0] [$X] $Y)\n(program entry point) (value $A $X) (value $B $Y) ($X = $Y) ($A = 1) (fully bound $X) $B\n";
 
 // The words of the command, the source, the status and the transcript.
-const TRANSCRIPTS: [(&str, &str, u8, &str); 20] = [
+const TRANSCRIPTS: [(&str, &str, u8, &str); 21] = [
     (
         "debug p.dg",
         "(program entry point) Hello, world!",
@@ -84,6 +84,7 @@ const TRANSCRIPTS: [(&str, &str, u8, &str); 20] = [
     ("debug p.dg --steps 4", ORDER, 3, "x\n[Step limit]\n"),
     ("debug p.dg --steps 6", ORDER, 3, "x y\n[Step limit]\n"),
     ("debug p.dg --steps 007", ORDER, 0, "x y z\n"),
+    ("debug p.dg --dice 1,2", ORDER, 0, "x y z\n"),
     ("debug p.dg", ANSWERS, 0, "1 2 done\n"),
     ("debug p.dg", FIRST_ANSWER, 0, "1 done\n"),
     ("debug p.dg", CUT, 0, "1 no\n"),
@@ -204,7 +205,7 @@ const REFUSALS: [(&str, &str, u8, &str); 19] = [
     ("debug p.dg --steps 1000000000001", ORDER, 2, USAGE),
     ("debug p.dg --heap 16000001", ORDER, 2, USAGE),
     ("debug p.dg --heap 1 --heap 1", ORDER, 2, USAGE),
-    ("debug p.dg --dice 1", ORDER, 2, USAGE),
+    ("debug p.dg --dice 65536", ORDER, 2, USAGE),
     ("build p.dg p.z8", ORDER, 2, USAGE),
     ("play p.dg", ORDER, 4, "p.dg: story too short\n"),
     ("play p.dg --heap 1", ORDER, 2, USAGE),

@@ -12,6 +12,7 @@ use Rattle.dg_base.specs.Tree.{Parts, Value, Values, Stmt, Stmts, Body, Arms, Sa
 use Rattle.dg_base.specs.Mentions.{Mentions, nothing, thing, closed, closures, join, of_parts, of_value, of_values, of_stmt, of_stmts, of_branches, of_arms, of_body, of_rule, things, names_in, weight_of, variable_in}
 use Rattle.dg_base.specs.Passing.{first_passing}
 use Rattle.dg_base.specs.declared.mentions.Role.TheVariants as role
+use Rattle.dg_names.specs.Among.{AreFirsts}
 use Rattle.dg_names.specs.Named.{firsts}
 use Rattle.dg_names.specs.Counts.{counted_in}
 use Rattle.dg_access.specs.Counts.{leaving, names_out, variables_of, is_full, counted_of, has_many_variables, queries_at, has_excess, are_many}
@@ -22,8 +23,7 @@ use Rattle.dg_lower.specs.Variables.{in_value, in_values, in_parts, in_stmt, in_
 use Rattle.dg_lower.specs.declared.forms.Zone.TheVariants.{Rewritten}
 use Rattle.dg_base.specs.Heads.{name_of}
 use Rattle.dg_base.specs.Names.{builtin_named}
-use Rattle.dg_lower.proofs.MemberLemmas.{firsts_have, filter_has, first_there, later_there}
-use Rattle.dialog_tool.proofs.FirstLemmas.{firsts_from, firsts_differ, no_more}
+use Rattle.dg_lower.proofs.MemberLemmas.{filter_has, first_there, later_there}
 use Rattle.dialog_tool.proofs.Never.{never}
 
 -- the names but for that of a closure's parameter
@@ -126,36 +126,40 @@ rule_out all ps b h k = counted_join all (of_parts false ps) (of_body false b) (
 
 -- ---- how many there are
 
-counted_or : (n : List ℕ) (ns : List (List ℕ)) (b : Bool) → bytes_eq n (codes "_") ≡ b → Contains ns n → Contains (codes "_" ∷ firsts (counted ns)) n
-counted_or n ns true e h = subst (λ (x : List ℕ). Contains (codes "_" ∷ firsts (counted ns)) x) (sym ((bytes_decides n (codes "_")).0 e)) (first_there (codes "_") (firsts (counted ns)))
-counted_or n ns false e h = later_there (codes "_") (firsts (counted ns)) n (firsts_have (counted ns) n (filter_has (λ m. not (bytes_eq m (codes "_"))) ns n (ap not e) h))
+-- names in order of first appearance are those that are given
+abbrev pub FirstsAreNames : Type 0
+FirstsAreNames = (names : List (List ℕ)) → AreFirsts names (firsts names)
 
-one_more : (ns : List (List ℕ)) → length (firsts ns) ≤ length (codes "_" ∷ firsts (counted ns))
-one_more ns = no_more (firsts ns) (codes "_" ∷ firsts (counted ns)) (firsts_differ ns) (λ n h. counted_or n ns (bytes_eq n (codes "_")) refl (firsts_from ns n h))
+counted_or : FirstsAreNames → (n : List ℕ) (ns : List (List ℕ)) (b : Bool) → bytes_eq n (codes "_") ≡ b → Contains ns n → Contains (codes "_" ∷ firsts (counted ns)) n
+counted_or law n ns true e h = subst (λ (x : List ℕ). Contains (codes "_" ∷ firsts (counted ns)) x) (sym ((bytes_decides n (codes "_")).0 e)) (first_there (codes "_") (firsts (counted ns)))
+counted_or law n ns false e h = later_there (codes "_") (firsts (counted ns)) n ((law (counted ns)).all n (filter_has (λ m. not (bytes_eq m (codes "_"))) ns n (ap not e) h))
+
+one_more : FirstsAreNames → (ns : List (List ℕ)) → length (firsts ns) ≤ length (codes "_" ∷ firsts (counted ns))
+one_more law ns = (law ns).fewest (codes "_" ∷ firsts (counted ns)) (λ n h. counted_or law n ns (bytes_eq n (codes "_")) refl h)
 
 not_over : (k : ℕ) → nat_lt 64 k ≡ false → k ≤ 64
 not_over k h = grind (arith, nat_tests, h)
 
-few_of : (all : List (List ℕ)) (ps : Parts) (b : Body) → are_parts Rewritten ps ≡ true → is_body Rewritten b ≡ true → nat_lt 64 (variables_of all (of_rule role.Rule ps b)) ≡ false → length (own.variables_of ps b) ≤ 65
-few_of all ps b h k few =
+few_of : FirstsAreNames → (all : List (List ℕ)) (ps : Parts) (b : Body) → are_parts Rewritten ps ≡ true → is_body Rewritten b ≡ true → nat_lt 64 (variables_of all (of_rule role.Rule ps b)) ≡ false → length (own.variables_of ps b) ≤ 65
+few_of law all ps b h k few =
     let small : length (firsts (counted (in_parts ps ++ in_body b))) ≤ 64 = subst (λ (l : List (List ℕ)). length (firsts l) ≤ 64) (rule_out all ps b h k) (not_over (variables_of all (of_rule role.Rule ps b)) few) in
-    omega (arith, one_more (in_parts ps ++ in_body b), small)
+    omega (arith, one_more law (in_parts ps ++ in_body b), small)
 
 rule_few : (said : Said) → has_excess said ≡ false → nat_lt 64 (variables_of (names_in variable_in (things (counted_of said))) (counted_of said)) ≡ false
 rule_few said h =
     (or_parts (is_full (names_in variable_in (things (counted_of said))) (counted_of said)) (list_any (is_full (names_in variable_in (things (counted_of said)))) (closures (counted_of said)))
     (or_parts (nat_lt 10000 (weight_of queries_at (things (counted_of said)))) (has_many_variables said) h).1).0
 
-item_few : (said : Said) → is_item Rewritten Rewritten said ≡ true → has_excess said ≡ false → HasFewVariables said
-item_few (tree.topic n) h e = tt
-item_few (tree.rule ps b) h e =
+item_few : FirstsAreNames → (said : Said) → is_item Rewritten Rewritten said ≡ true → has_excess said ≡ false → HasFewVariables said
+item_few law (tree.topic n) h e = tt
+item_few law (tree.rule ps b) h e =
     let each = and_parts (are_parts Rewritten ps) (is_body Rewritten b) (and_parts (is_headed (name_of ps)) (are_parts Rewritten ps && is_body Rewritten b) h).1 in
-    few_of _ ps b each.0 each.1 (rule_few (tree.rule ps b) e)
-item_few (tree.deny ps b) h e =
+    few_of law _ ps b each.0 each.1 (rule_few (tree.rule ps b) e)
+item_few law (tree.deny ps b) h e =
     let each = and_parts (are_parts Rewritten ps) (is_body Rewritten b) (and_parts (is_headed (name_of ps)) (are_parts Rewritten ps && is_body Rewritten b) h).1 in
-    few_of _ ps b each.0 each.1 (rule_few (tree.deny ps b) e)
-item_few (tree.access ps b) h e = tt
-item_few (tree.global_variable ps) h e = tt
+    few_of law _ ps b each.0 each.1 (rule_few (tree.deny ps b) e)
+item_few law (tree.access ps b) h e = tt
+item_few law (tree.global_variable ps) h e = tt
 
 -- where no item is the first at which a count passes, no item has too many
 first_is_few : (before : List Item) (i : Item) (is : List Item) → first_passing has_excess are_many before (i ∷ is) ≡ None → (has_excess i.said ≡ false) × (first_passing has_excess are_many (before ++ i ∷ []) is ≡ None)
@@ -165,9 +169,9 @@ first_is_few before i is h = here (has_excess i.said || are_many (before ++ i �
     here true e k = cc
     here false e k = ((or_parts (has_excess i.said) (are_many (before ++ i ∷ [])) e).0, k)
 
-pub items_few : (before is : List Item) → are_built is ≡ true → first_passing has_excess are_many before is ≡ None → All (λ (i : Item). HasFewVariables i.said) is
-items_few before [] h e = All-nil (λ (i : Item). HasFewVariables i.said)
-items_few before (i ∷ is) h e =
+pub items_few : FirstsAreNames → (before is : List Item) → are_built is ≡ true → first_passing has_excess are_many before is ≡ None → All (λ (i : Item). HasFewVariables i.said) is
+items_few law before [] h e = All-nil (λ (i : Item). HasFewVariables i.said)
+items_few law before (i ∷ is) h e =
     let built = and_parts (is_item Rewritten Rewritten i.said) (are_built is) h in
     let few = first_is_few before i is e in
-    All-cons (λ (j : Item). HasFewVariables j.said) i is (item_few i.said built.0 few.0) (items_few (before ++ i ∷ []) is built.1 few.1)
+    All-cons (λ (j : Item). HasFewVariables j.said) i is (item_few law i.said built.0 few.0) (items_few law (before ++ i ∷ []) is built.1 few.1)

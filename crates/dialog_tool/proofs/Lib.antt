@@ -1,6 +1,7 @@
 pub mod Never
 pub mod DigitLemmas
 pub mod DiceLemmas
+pub mod SeedLemmas
 pub mod OptionLemmas
 pub mod RewrittenLemmas
 pub mod CoreLemmas
@@ -8,13 +9,7 @@ pub mod SourceLemmas
 pub mod AnswerLemmas
 pub mod DecideLemmas
 pub mod PlayLemmas
-pub mod FirstLemmas
 pub mod FewLemmas
-pub mod KeptLemmas
+pub mod ComeLemmas
 pub mod MentionedLemmas
-pub mod NamesLemmas
-pub mod TextLemmas
-pub mod ReadableLemmas
-pub mod StretchLemmas
-pub mod LexedLemmas
 pub mod GivenLemmas

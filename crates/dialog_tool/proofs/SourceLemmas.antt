@@ -75,6 +75,10 @@ lowered_of named plain (Ok p) core entry none = rw entry (ap Ok core)
 lowered_of named plain (Err (fault.Refused r)) core entry none = rw none.0 (ap Err none.1)
 lowered_of named plain (Err fault.OutOfMemory) core entry none = tt
 
+pub ok_map : {A E : Type 0} (answer : Result A E) (P Q : A → Type 0) → ((a : A) → P a → Q a) → IfOk answer P → IfOk answer Q
+ok_map (Ok a) P Q f h = f a h
+ok_map (Err e) P Q f h = tt
+
 pub meets_ok : {A : Type 0} (P : Result A Refusal → Type 0) (Q : A → Type 0) (answer : Result A ReadFault) → ((a : A) → P (Ok a) → Q a) → Meets P answer → IfOk answer Q
 meets_ok P Q (Ok a) f h = f a h
 meets_ok P Q (Err e) f h = tt

@@ -155,7 +155,8 @@ pub data MayPrint (c : Call) (o : Outside) (text : List ℕ) : Type 0 where
   file_fault : (name : List ℕ) → LostFile c name → text ≡ file_fault_line name → MayPrint c o text
   no_memory : text ≡ no_memory_line → MayPrint c o text
 
--- What failed, at 5: the shelf, and out took the line that names the file; the input; or out within a text, of which it took a front. Where a room was told, the text is longer.
+-- What failed, at 5: the shelf, and out took the line that names the file; the input; or out within a text, of which it took a
+-- front. Where a room was told, the text is longer.
 pub data Fails (c : Call) (o : Outside) : Type 0 where
   shelf : (name : List ℕ) → LostFile c name → Wrote c.out c.out_after (file_fault_line name) → c.input_after ≡ c.input → Fails c o
   input : CutOffSource c o → Fails c o
@@ -163,7 +164,8 @@ pub data Fails (c : Call) (o : Outside) : Type 0 where
   out : (text : List ℕ) → MayPrint c o text → BrokeOff c.out c.out_after text → Fails c o
   story_out : (t : Task) → IsStory c o t → Rose c.out.faults c.out_after.faults → (IsSome c.input.left → LostOut c o t) → Fails c o
 
--- Where no memory was found, at 6: nothing ran, and out took the line that says so; or a source's run was broken off, and the line stands behind what it printed
+-- Where no memory was found, at 6: nothing ran, and out took the line that says so; or a source's run was broken off, and the line
+-- stands behind what it printed
 pub data Lacks (c : Call) (o : Outside) : Type 0 where
   nothing_ran : Wrote c.out c.out_after no_memory_line → c.input_after ≡ c.input → Lacks c o
   in_run : (t : Task) → (p : Core) → IsProgram c o t p → HasLostMemory (game_of c t p) o.typed (limits_of t) c.out c.out_after → Lacks c o
@@ -177,10 +179,12 @@ pub record Answers (c : Call) (result : ℕ) : Type 0 where
   pub kept : KeepsAll c.shelf.contents c.shelf_after.contents
   pub answer : Ends c outside result ⊎ (((result ≡ 5) × Fails c outside) ⊎ ((result ≡ 6) × Lacks c outside))
 
--- Which statuses come where: 2 exactly where the words are no command; 1 exactly where the source is refused, 0 and 3 where it is a program; 4 exactly where the file is no story, and of a story the status of its run's end.
+-- Which statuses come where: 2 exactly where the words are no command; 1 exactly where the source is refused, 0 and 3 where it is a
+-- program; 4 exactly where the file is no story, and of a story the status of its run's end.
 pub record Decides (c : Call) (result : ℕ) : Type 0 where
   pub no_command : c.command ≡ None → Comes 2 result
   pub refuses : (o : Outside) → c.shelf.contents ≡ Some o.contents → (t : Task) → (r : Refusal) → IsRefused c o t r → Comes 1 result
   pub runs : (o : Outside) → c.shelf.contents ≡ Some o.contents → (t : Task) → (p : Core) → IsProgram c o t p → (result ≡ 0) ⊎ Comes 3 result
   pub no_story : (o : Outside) → c.shelf.contents ≡ Some o.contents → (t : Task) → (r : StoryRefusal) → IsNoStory c o t r → Comes 4 result
-  pub plays : (o : Outside) → c.shelf.contents ≡ Some o.contents → c.input.left ≡ Some o.typed → (t : Task) → IsStory c o t → Comes (status_of_end (run_of c o t t.steps).end) result
+  pub plays : (o : Outside) → c.shelf.contents ≡ Some o.contents → c.input.left ≡ Some o.typed
+      → (t : Task) → IsStory c o t → Comes (status_of_end (run_of c o t t.steps).end) result

@@ -18,7 +18,16 @@ pub record Call : Type 0 where
 
 abbrev pub call : Option Command → List ℕ → ShelfView → ShelfView → SourceView → SourceView → SinkView → SinkView → Call
 call command dice shelf shelf_after input input_after out out_after =
-    record { command = command; dice = dice; shelf = shelf; shelf_after = shelf_after; input = input; input_after = input_after; out = out; out_after = out_after }
+    record {
+      command = command;
+      dice = dice;
+      shelf = shelf;
+      shelf_after = shelf_after;
+      input = input;
+      input_after = input_after;
+      out = out;
+      out_after = out_after;
+    }
 
 -- What a call may find: the contents of each name, and the bytes to be typed.
 pub record Outside : Type 0 where

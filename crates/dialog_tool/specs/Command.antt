@@ -10,7 +10,8 @@ use Rattle.dg_base.specs.declared.run.Limits.{Limits}
 abbrev pub texts : List (String Global) → List (List ℕ)
 texts words = map string_bytes words
 
--- A file's name and what the options say of its run: goals or instructions, cells of the heap, bindings to be undone, and dice in place of those that are handed in.
+-- A file's name and what the options say of its run: goals or instructions, cells of the heap, bindings to be undone, and dice in
+-- place of those that are handed in.
 pub record Task : Type 0 where
   pub name : List ℕ
   pub steps : ℕ
@@ -96,7 +97,10 @@ parts_of word = slice_split (λ c. nat_eq c 44) word
 
 -- the dice that a word writes: 1 to 1,024 numbers from 0 to 65,535, separated by single commas
 abbrev pub dice_of : List ℕ → Option (List ℕ)
-dice_of word = if nat_le (length (parts_of word)) 1024 && list_all (is_number 0 65535) (parts_of word) then Some (map (value_behind 0) (parts_of word)) else None
+dice_of word =
+    if nat_le (length (parts_of word)) 1024 && list_all (is_number 0 65535) (parts_of word)
+    then Some (map (value_behind 0) (parts_of word))
+    else None
 
 -- the dice in place of those that are handed in, if any
 abbrev pub own_dice : Option (List ℕ) → Option (Option (List ℕ))
@@ -113,11 +117,12 @@ task_from name steps heap trail dice = None
 -- the task that the options name, with so many steps where they name none
 abbrev pub task_of : ℕ → List ℕ → Values → Option Task
 task_of usual name values =
-    task_from name (number_or usual 1000000000000 values.steps) (number_or 1000000 16000000 values.heap) (number_or 200000 16000000 values.trail) (own_dice values.dice)
+    task_from name (number_or usual 1000000000000 values.steps) (number_or 1000000 16000000 values.heap)
+    (number_or 200000 16000000 values.trail) (own_dice values.dice)
 
--- a source is run as its options say; it has no dice
+-- a source is run as its options say
 abbrev pub debug_with : List ℕ → Values → Option Command
-debug_with name values = if is_some values.dice then None else option_map debug (task_of 100000000 name values)
+debug_with name values = option_map debug (task_of 100000000 name values)
 
 -- a story is played as its options say; it has no limits of heap and trail
 abbrev pub play_with : List ℕ → Values → Option Command

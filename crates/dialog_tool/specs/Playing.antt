@@ -35,4 +35,5 @@ TaskPlays answer c o t = Plays answer (story_of c o t) (start_of o t) t.steps c.
 -- the texts that a run may be writing: its output with the line of its end, or its output up to where the input failed with the line that says so
 pub data MayTell (c : Call) (o : Outside) (t : Task) (text : List ℕ) : Type 0 where
   whole : text ≡ played_text (run_of c o t t.steps) → MayTell c o t text
-  cut_off : (m : ℕ) → (rest : List ℕ) → StoppedAt (story_of c o t) (start_of o t) t.steps m rest → text ≡ with_end_line (run_of c o t m).state.output unread_line → MayTell c o t text
+  cut_off : (m : ℕ) → (rest : List ℕ) → StoppedAt (story_of c o t) (start_of o t) t.steps m rest
+      → text ≡ with_end_line (run_of c o t m).state.output unread_line → MayTell c o t text

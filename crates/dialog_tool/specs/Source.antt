@@ -39,7 +39,8 @@ Builds items (Err r) = (line : ℕ) × (first_unbuilt items ≡ Some line) × (r
 abbrev pub Lowers : Named → List Item → Result Core Refusal → Type 0
 Lowers named plain answer = answer ≡ (if has_entry plain then Ok (core_of named plain) else Err (refusal_at NoEntry 1))
 
--- What items are that were read: a count of the source passes, or a form isn't built yet, or a count passes once heads are plain, or the entry has no rule, or they are a program.
+-- What items are that were read: a count of the source passes, or a form isn't built yet, or a count passes once heads are plain, or
+-- the entry has no rule, or they are a program.
 abbrev pub Becomes : List Item → Result Core Refusal → Type 0
 Becomes items = Then (IsNamed items) (λ named. Then (Builds items) (λ all. Then (IsRewritten items) (Lowers named)))
 

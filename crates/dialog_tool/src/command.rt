@@ -136,7 +136,8 @@ fn cells_or(usual: u32, word: Option<&str>) -> Option<u32>
 }
 
 fn own_dice(alloc: Global, word: Option<&str>) -> Result<Option<Option<Vec<u16>>>, AllocError>
-    ensures dice { IfOk result (λ own. option_map (λ dice. option_map (λ d. d.items) dice) own ≡ spec.own_dice (option_map (λ w. w.now) word.entry)) }
+    ensures dice { IfOk result (λ own.
+        option_map (λ dice. option_map (λ d. d.items) dice) own ≡ spec.own_dice (option_map (λ w. w.now) word.entry)) }
     ensures some { IfOk result (λ own. IfSome own (λ dice. IfSome dice (λ d. 0 < length d.items))) }
 {
     let Some(word) = word else {
@@ -158,7 +159,11 @@ fn task_from<'a>(
 ) -> Option<Task<'a>>
     requires usual { usual < 2 ^ 60 }
     requires dice { IfSome dice (λ d. 0 < length d.items) }
-    ensures task { option_map task_view result ≡ spec.task_from name.now (spec.number_or usual 1000000000000 (values_view values.entry).steps) (spec.number_or 1000000 16000000 (values_view values.entry).heap) (spec.number_or 200000 16000000 (values_view values.entry).trail) (Some (option_map (λ d. d.items) dice)) }
+    ensures task { option_map task_view result ≡ spec.task_from name.now
+        (spec.number_or usual 1000000000000 (values_view values.entry).steps)
+        (spec.number_or 1000000 16000000 (values_view values.entry).heap)
+        (spec.number_or 200000 16000000 (values_view values.entry).trail)
+        (Some (option_map (λ d. d.items) dice)) }
     ensures dice { IfSome result HasDice }
 {
     let limits = Limits::debug();
@@ -200,9 +205,6 @@ fn debug<'a>(
     ensures command { IfOk result (λ command. option_map command_view command ≡ spec.debug_with name.now (values_view values.entry)) }
     ensures dice { IfOk result (λ command. IfSome command CommandHasDice) }
 {
-    if values.dice.is_some() {
-        return Ok(None);
-    }
     match task_of(alloc, USUAL_GOALS, name, values) {
         Ok(Some(task)) => Ok(Some(Command::Debug(task))),
         Ok(None) => Ok(None),

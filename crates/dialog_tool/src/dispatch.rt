@@ -55,7 +55,8 @@ fn run_source<S: Source, K: Sink>(
     requires own { HasDice task.now }
     requires dice { 0 < length dice.now }
     ensures { (before after : ShelfView) → IsFetched before after (task_view task.now) source.now →
-        Answers (call (Some (debug_command (task_view task.now))) dice.now before after (S.view input.old) (S.view input.new) (K.view out.old) (K.view out.new)) result }
+        Answers (call (Some (debug_command (task_view task.now))) dice.now before after
+        (S.view input.old) (S.view input.new) (K.view out.old) (K.view out.new)) result }
 {
     let program = match compile(alloc, source) {
         Ok(program) => program,
@@ -91,7 +92,8 @@ fn debug<F: Shelf, S: Source, K: Sink>(
 ) -> u8
     requires own { HasDice task.now }
     requires dice { 0 < length dice.now }
-    ensures { Answers (call (Some (debug_command (task_view task.now))) dice.now (F.view shelf.old) (F.view shelf.new) (S.view input.old) (S.view input.new) (K.view out.old) (K.view out.new)) result }
+    ensures { Answers (call (Some (debug_command (task_view task.now))) dice.now
+        (F.view shelf.old) (F.view shelf.new) (S.view input.old) (S.view input.new) (K.view out.old) (K.view out.new)) result }
 {
     match shelf.fetch(alloc, task.name, MOST_BYTES) {
         Ok(source) => run_source(alloc, task, &source, input, out, dice),
@@ -111,7 +113,8 @@ fn answer<F: Shelf, S: Source, K: Sink>(
     dice: &[u16],
 ) -> u8
     requires { 0 < length dice.now }
-    ensures { Answers (call (command_of (texts words.now)) dice.now (F.view shelf.old) (F.view shelf.new) (S.view input.old) (S.view input.new) (K.view out.old) (K.view out.new)) result }
+    ensures { Answers (call (command_of (texts words.now)) dice.now
+        (F.view shelf.old) (F.view shelf.new) (S.view input.old) (S.view input.new) (K.view out.old) (K.view out.new)) result }
 {
     match command_of(alloc, words) {
         Ok(Some(Command::Debug(task))) => debug(alloc, &task, shelf, input, out, dice),
@@ -133,8 +136,10 @@ pub fn tool<F: Shelf, S: Source, K: Sink>(
     dice: &[u16],
 ) -> u8
     requires { 0 < length dice.now }
-    ensures answers { Answers (call (command_of (texts words.now)) dice.now (F.view shelf.old) (F.view shelf.new) (S.view input.old) (S.view input.new) (K.view out.old) (K.view out.new)) result }
-    ensures decides { Decides (call (command_of (texts words.now)) dice.now (F.view shelf.old) (F.view shelf.new) (S.view input.old) (S.view input.new) (K.view out.old) (K.view out.new)) result }
+    ensures answers { Answers (call (command_of (texts words.now)) dice.now
+        (F.view shelf.old) (F.view shelf.new) (S.view input.old) (S.view input.new) (K.view out.old) (K.view out.new)) result }
+    ensures decides { Decides (call (command_of (texts words.now)) dice.now
+        (F.view shelf.old) (F.view shelf.new) (S.view input.old) (S.view input.new) (K.view out.old) (K.view out.new)) result }
 {
     sources_have_one_answer();
     answer(alloc, words, shelf, input, out, dice)

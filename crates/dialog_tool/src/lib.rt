@@ -3,6 +3,7 @@
 
 mod adapters;
 mod command;
+mod dice;
 mod dispatch;
 mod lines;
 mod numbers;
@@ -10,4 +11,5 @@ mod playing;
 mod source;
 
 pub use adapters::{FileShelf, StdinSource, StdoutSink};
+pub use dice::dice_of;
 pub use dispatch::tool;

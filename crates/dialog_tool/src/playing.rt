@@ -52,7 +52,8 @@ fn play_file<S: Source, K: Sink>(
     requires own { HasDice task.now }
     requires dice { 0 < length dice.now }
     ensures { (before after : ShelfView) → IsFetched before after (task_view task.now) file.items →
-        Answers (call (Some (play_command (task_view task.now))) dice.now before after (S.view input.old) (S.view input.new) (K.view out.old) (K.view out.new)) result }
+        Answers (call (Some (play_command (task_view task.now))) dice.now before after
+        (S.view input.old) (S.view input.new) (K.view out.old) (K.view out.new)) result }
 {
     let mut player = match Player::load(alloc, file) {
         Ok(player) => player,
@@ -78,7 +79,8 @@ pub fn play<F: Shelf, S: Source, K: Sink>(
 ) -> u8
     requires own { HasDice task.now }
     requires dice { 0 < length dice.now }
-    ensures { Answers (call (Some (play_command (task_view task.now))) dice.now (F.view shelf.old) (F.view shelf.new) (S.view input.old) (S.view input.new) (K.view out.old) (K.view out.new)) result }
+    ensures { Answers (call (Some (play_command (task_view task.now))) dice.now
+        (F.view shelf.old) (F.view shelf.new) (S.view input.old) (S.view input.new) (K.view out.old) (K.view out.new)) result }
 {
     match shelf.fetch(alloc, task.name, MOST_BYTES) {
         Ok(file) => play_file(alloc, task, file, input, out, dice),

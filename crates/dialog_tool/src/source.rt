@@ -1,5 +1,5 @@
 // From the bytes of a source to its core program.
-ghost use Rattle.std.specs.Prelude.{◌≡◌, ℕ, List, None, Result, IfOk};
+ghost use Rattle.std.specs.Prelude.{◌≡◌, ℕ, List, None, Result, Ok, IfOk};
 ghost use Rattle.dg_access.specs.Rewritten.{IsRewritten};
 ghost use Rattle.dg_base.specs.Sound.{IsSound};
 ghost use Rattle.dg_base.specs.TreeView.{tree_view};
@@ -11,10 +11,10 @@ ghost use Rattle.dialog_tool.specs.Source.{Then, Lowers, Becomes, Compiles, Meet
 
 use dg_access::rewrite;
 use dg_base::{CoreProgram, Kind, ReadFault, Refusal, Tree};
-use dg_lex::{lex, tokens_are_one};
+use dg_lex::{lex, tokens_are_one, tokens_are_spelled};
 use dg_lower::{first_unbuilt, lower};
 use dg_names::Names;
-use dg_reader::{items_are_one, read};
+use dg_reader::{items_are_one, items_are_readable, read};
 use std::alloc::Global;
 
 fn not_built(line: u32) -> ReadFault
@@ -68,6 +68,7 @@ pub fn compile(alloc: Global, source: &[u8]) -> Result<CoreProgram, ReadFault>
     ensures built { IfOk result IsBuilt }
     ensures sound { IfOk result IsSound }
 {
+    programs_are_sound();
     let tokens = match lex(alloc, source) {
         Ok(tokens) => tokens,
         Err(fault) => return Err(fault),
@@ -77,6 +78,20 @@ pub fn compile(alloc: Global, source: &[u8]) -> Result<CoreProgram, ReadFault>
         Err(fault) => return Err(fault),
     };
     program_of(alloc, tree)
+}
+
+/// The program of a source is sound.
+pub fn programs_are_sound()
+    ensures { (source : List ℕ) (p : Core) → Compiles source (Ok p) → IsSound p }
+{
+    tokens_are_spelled();
+    items_are_readable();
+    dg_names::names_are_printable();
+    dg_names::mentions_are_among();
+    dg_names::names_are_few();
+    dg_names::firsts_are_names();
+    dg_access::mentions_come_from_the_source();
+    dg_lower::core_is_sound();
 }
 
 /// A source has one answer: its program, or why and at which line it is refused.

@@ -3,11 +3,10 @@ use Rattle.dg_access.specs.Rewritten.{IsRewritten}
 use Rattle.dg_base.specs.TreeView.{tree_view}
 use Rattle.dg_meaning.specs.Built.{IsBuilt}
 use Rattle.dg_names.specs.State.{names_view}
-use Rattle.dg_reader.proofs.FaultLemmas.{ok_map}
 use Rattle.dialog_tool.specs.Source.{Lowers}
 use Rattle.dialog_tool.proofs.RewrittenLemmas.{items_built, none_accesses}
 use Rattle.dialog_tool.proofs.CoreLemmas.{core_built}
-use Rattle.dialog_tool.proofs.SourceLemmas.{then_ok, then_err, lowered_of}
+use Rattle.dialog_tool.proofs.SourceLemmas.{then_ok, then_err, lowered_of, ok_map}
 use Rattle.dialog_tool.proofs.source.built_program.Goals as goal
 
 pub rewrite-requires : goal.rewrite-requires

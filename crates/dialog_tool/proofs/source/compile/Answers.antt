@@ -3,7 +3,6 @@ use Rattle.dg_base.specs.TreeView.{tree_view}
 use Rattle.dg_lex.specs.Tokens.{seen}
 use Rattle.dg_reader.specs.Read.{IsRead}
 use Rattle.dialog_tool.specs.Source.{Lexes, Becomes, Compiles}
-use Rattle.dialog_tool.proofs.GivenLemmas.{compiled_sound}
 use Rattle.dialog_tool.proofs.SourceLemmas.{then_ok, then_err, lexed_of, meets_ok}
 use Rattle.dialog_tool.proofs.source.compile.Goals as goal
 
@@ -22,6 +21,6 @@ returns-clause-program c =
 
 pub returns-clause-sound : goal.returns-clause-sound
 returns-clause-sound c =
-    meets_ok (Compiles c.args.source.now) _ c.program_of.result (compiled_sound c.args.source.now)
+    meets_ok (Compiles c.args.source.now) _ c.program_of.result (c.programs_are_sound.ensures c.args.source.now)
     (then_ok (Lexes c.args.source.now) _ (map seen c.deref.result.now) c.program_of.result (c.in-Ok.ensures.accepted, c.in-Ok.tokens.items, c.in-Ok.ensures.tokens, ap (map seen) c.deref.ensures.value)
     (then_ok (IsRead (map seen c.deref.result.now)) Becomes (tree_view c.in-Ok-read.tree) c.program_of.result c.in-Ok-read.ensures.tree c.program_of.ensures.program))
