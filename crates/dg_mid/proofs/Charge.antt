@@ -19,7 +19,7 @@ use Rattle.dg_meaning.specs.World.{Print}
 use Rattle.dg_mid.specs.Units.{units, units_of}
 use Rattle.dg_mid.specs.declared.code.Op.{Op}
 use Rattle.dg_meaning.proofs.Limits.{later_run}
-use Rattle.dg_mid.specs.Potential.{Tidy, AllEnter, Affords, HasEnded}
+use Rattle.dg_mid.specs.Potential.{Tidy, AllEnter, Affords, IsOver}
 use Rattle.dg_mid.proofs.Taking.{least_in}
 use Rattle.dg_mid.proofs.Whole.{is_at}
 use Rattle.dg_base.specs.declared.program.CoreProgram.{CoreProgram}
@@ -82,7 +82,7 @@ cases_lt a b = by (nat_lt a b) refl where
 
 -- ## Every step costs
 
-costs_one : (s : Setting) (ps : List Print) (now : Status) → HasEnded now ⊎ (1 ≤ units s ps now)
+costs_one : (s : Setting) (ps : List Print) (now : Status) → IsOver now ⊎ (1 ≤ units s ps now)
 costs_one s ps (Runs m) = inr (one m.ops) where
   one : (ops : List Op) → 1 ≤ units_of s ps ops m
   one [] = omega arith
@@ -93,14 +93,14 @@ costs_one s ps (Resumes (Calls call rules) m) = inr (omega arith)
 costs_one s ps (Fails m) = inr (omega arith)
 costs_one s ps (Ended e) = inl tt
 
-stays_ended : (s : Setting) (now : Status) → HasEnded now → HasEnded (step s now)
+stays_ended : (s : Setting) (now : Status) → IsOver now → IsOver (step s now)
 stays_ended s (Runs m) h = absurd h
 stays_ended s (Enters call m) h = absurd h
 stays_ended s (Resumes way m) h = absurd h
 stays_ended s (Fails m) h = absurd h
 stays_ended s (Ended e) h = tt
 
-steps_cost : (s : Setting) (typed : List ℕ) (k : ℕ) → HasEnded (after s typed k).now ⊎ (k ≤ (after s typed k).spent)
+steps_cost : (s : Setting) (typed : List ℕ) (k : ℕ) → IsOver (after s typed k).now ⊎ (k ≤ (after s typed k).spent)
 steps_cost s typed zero = inr (omega arith)
 steps_cost s typed (suc k) = elim (steps_cost s typed k) [
   | inl h ↦ inl (stays_ended s (after s typed k).now h)
@@ -128,7 +128,7 @@ module _ (g : Game) (code : Code) (limits : Limits) (codes : Codes g.program cod
   in_time k = let few = (affords set g.program codes tidy typed k).0.few in let work = paid_in_time k in omega (arith, few, work)
 
   -- so it moves on: after more steps than that it has taken a further goal or has ended
-  pub moves_on : (n k : ℕ) → 13 * (run g typed n).world.meters.work + 7 < k → HasEnded (after set typed k).now ⊎ (n < (after set typed k).goals)
+  pub moves_on : (n k : ℕ) → 13 * (run g typed n).world.meters.work + 7 < k → IsOver (after set typed k).now ⊎ (n < (after set typed k).goals)
   moves_on n k lt = elim (cases_lt n (after set typed k).goals) [
     | inl more ↦ inr more
     | inr few ↦ elim (steps_cost set typed k) [

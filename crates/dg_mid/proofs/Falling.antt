@@ -22,7 +22,7 @@ use Rattle.dg_mid.specs.declared.code.RuleCode.{RuleCode}
 use Rattle.dg_mid.specs.Code.{block_at, selected, excluded}
 use Rattle.dg_mid.specs.State.{Place, Frame, Call, Goes, Calls, Choice, Mid, Status, Runs, Enters, Resumes, Fails, Ended, cut_choices, vars_of}
 use Rattle.dg_mid.specs.Step.{Setting, done, made_in, gathers, without_gathering, taken_out, charged, unified, bound, trail_more, if_agreed, enters, begins, returned, returns, commits, refuses, leaves, keeps, new_frame, runs, entered, enter, resumed, goes_back, step, first_of, inside, passed, at_rule, at_goal, takes_goal}
-use Rattle.dg_mid.specs.Potential.{begins_goto, Tidy, HasEnded}
+use Rattle.dg_mid.specs.Potential.{begins_goto, Tidy, IsOver}
 use Rattle.dg_mid.specs.Actions.{registers_of, world_of, world_by, outside_in}
 use Rattle.dg_mid.specs.Falling.{jumping, frames_deep, deep, times, choices_left, left_at}
 
@@ -163,7 +163,7 @@ goes_back_less : (cs : List Choice) (m : Mid) → left_at (goes_back cs m) < 1 +
 goes_back_less [] m = omega arith
 goes_back_less (c ∷ cs) m = omega arith
 
-pub step_falls : (g : Setting) (now : Status) → Tidy g.code → takes_goal now ≡ false → (HasEnded now → ⊥) → left_at (step g now) < left_at now
+pub step_falls : (g : Setting) (now : Status) → Tidy g.code → takes_goal now ≡ false → (IsOver now → ⊥) → left_at (step g now) < left_at now
 step_falls g (Runs m) code e on = runs_less g m.ops m code e
 step_falls g (Enters call m) code e on = entered_less g call m.ops m
 step_falls g (Resumes (Goes b) m) code e on = resumed_less g b (block_at g.code b) m (code.earlier b)

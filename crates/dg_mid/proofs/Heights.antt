@@ -263,6 +263,7 @@ does_ordered g (op.LastAsk pred terms many) m o =
     charged_ordered g _ m _ (last_ordered g pred (values g m terms) many m.frames m' o' o'.named.frames_are)
 does_ordered g op.Take m o = passed_ordered m o
 does_ordered g (op.Branch alt) m o = charged_ordered g 10 m _ (inside_ordered (Goes alt) 0 m o tt)
+does_ordered g (op.Select site mode blocks behind) m o = o
 does_ordered g op.Once m o =
     let n = named_now m o in
     charged_ordered g 10 m _ (within_ordered (place_of m) (more 10 (passed m)) (more_ordered 10 (passed m) (passed_ordered m o)) (one_raise m.next_tag m.state.heap (m.next_tag + 1) (m.state.heap + 10) m.choices (place_of m) (omega arith) (omega arith) n))

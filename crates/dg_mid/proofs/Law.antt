@@ -1,6 +1,6 @@
 -- Each step is paid: by what the search counts there, or by what earlier steps have left.
 use Rattle.std.proofs.Common.{◌≡◌, ℕ, zero, suc, ◌+◌, ◌*◌, ◌<◌, ◌≤◌, List, [], ◌∷◌, Bool, true, false, Option, Some, None, refl, sym, ap, ◌∙◌, subst, arith, length, map}
-use Rattle.std.specs.Prelude.{◌-◌, nat_lt, if◌then◌else◌}
+use Rattle.std.specs.Prelude.{get_or, ◌-◌, nat_lt, if◌then◌else◌}
 use Rattle.std.specs.List.{zip}
 use Rattle.std.proofs.lemmas.Bool.{cond_both}
 use Rattle.dg_base.specs.declared.program.Term.{Term}
@@ -8,7 +8,7 @@ use Rattle.dg_meaning.specs.Values.{Num, Value, leaf, value_of}
 use Rattle.dg_meaning.specs.Unify.{Unified, Equations, solve}
 use Rattle.dg_meaning.specs.World.{World, Gathering, Print, Prints, gathered_size, gathered_at, gathered_with}
 use Rattle.dg_meaning.specs.Path.{Registers, Act, Goes as GoesNow, Tests, Unifies, Ends, Fails as FailsNow, Stops}
-use Rattle.dg_meaning.specs.Moves.{begun, behind_copy, copy_of, gives_number}
+use Rattle.dg_meaning.specs.Moves.{begun, selects, behind_copy, copy_of, gives_number}
 use Rattle.dg_meaning.specs.Copies.{list_of}
 use Rattle.dg_meaning.specs.Numbers.{total}
 use Rattle.dg_base.specs.declared.run.Ending.TheVariants as ending
@@ -454,6 +454,10 @@ module _ (g : Setting) (tidy : Tidy g.code) (rules : (pred : ℕ) → AllEnter g
   pays_op ps (op.LastAsk pred terms many) ops m b h w t ts le = charge _ b _ (record m { ops = ops }) _ (lasts_pays _ b pred (map (value_of g.game.program (vars_of m.frames)) terms) many m.frames (more (cells g.game.program terms) (record m { ops = ops })) refl h (omega (arith, le)))
   pays_op ps op.Take ops m b h w t ts le = follows _ b (passed (record m { ops = ops })) (passes_fine (record m { ops = ops }) h) ts (omega (arith, le))
   pays_op ps (op.Branch alt) ops m b h w t ts le = charge _ b 10 (record m { ops = ops }) _ (follows _ b (inside (Goes alt) 0 (record m { ops = ops })) (opens (record m { ops = ops }) (Goes alt) 0 h tt) ts (let x = open_costs (record m { ops = ops }) (Goes alt) 0 h in omega (arith, le, x)))
+  pays_op ps (op.Select site mode blocks behind) ops m b h w t ts le =
+      let c = selects g.game site mode (length blocks) (world_of [] (record m { ops = ops })) in
+      let at = get_or blocks c.branch behind in
+      record { fine = (h, tidy.blocks at); few = let d = due_block m.frames (block_at g.code at) (tidy.no_jumps at) in omega (arith, le, d) }
   pays_op ps op.Once ops m b h w t ts le =
       let q = passed (record m { ops = ops }) in
       charge _ b 10 (record m { ops = ops }) _ (follows _ b (within (place_of (record m { ops = ops })) (more 10 q)) (opens_place (more 10 q) (place_of m) (omega arith) (reaching m.next_tag m.choices h.lower) (passes_fine (record m { ops = ops }) h)) ts (let y = place_costs m (place_of m) in omega (arith, le, y)))

@@ -8,6 +8,7 @@ pub mod Acts
 pub mod Choices
 pub mod Backs
 pub mod Parts
+pub mod Chosen
 pub mod Excluded
 pub mod Calls
 pub mod Asks
@@ -23,3 +24,4 @@ pub mod Shapes
 pub mod Shaped
 pub mod Charge
 pub mod Selects
+pub mod Worked

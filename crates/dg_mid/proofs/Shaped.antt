@@ -1,6 +1,6 @@
 -- Each step keeps the shape of the open constructs.
 use Rattle.std.proofs.Common.{◌≡◌, ℕ, zero, suc, ◌+◌, ◌<◌, ◌≤◌, List, [], ◌∷◌, ◌++◌, Bool, true, false, Option, Some, None, refl, sym, ap, subst, arith, length, map}
-use Rattle.std.specs.Prelude.{nat_lt, eqb, ◌-◌}
+use Rattle.std.specs.Prelude.{get_or, nat_lt, eqb, ◌-◌}
 use Rattle.std.specs.List.{zip}
 use Rattle.std.proofs.lemmas.Bool.{cond_both, eq-eqb, eqb-true}
 use Rattle.dg_base.specs.declared.program.Goal.{Goal}
@@ -16,16 +16,18 @@ use Rattle.dg_mid.specs.declared.code.Op.{Op}
 use Rattle.dg_mid.specs.declared.code.Op.TheVariants as op
 use Rattle.dg_mid.specs.declared.code.Gathered.TheVariants as gathered
 use Rattle.dg_mid.specs.declared.code.RuleCode.{RuleCode}
-use Rattle.dg_mid.specs.Actions.{terms_of, act_at, outside_in}
+use Rattle.dg_mid.specs.Actions.{terms_of, act_at, world_of, outside_in}
 use Rattle.dg_mid.specs.declared.code.Code.{Code}
 use Rattle.dg_mid.specs.Code.{block_at, rules_at, selected, excluded}
 use Rattle.dg_mid.specs.State.{Place, Frame, Call, Way, Goes, Calls, Stop, Choice, Mid, Status, Runs, Enters, Resumes, Fails, Ended, vars_of, cut_of, place_of, cut_choices, stop_to}
 use Rattle.dg_mid.specs.Step.{Setting, done, made_in, gathers, without_gathering, taken_out, step, runs, charged, more, unified, bound, trail_more, if_agreed, if_passed, inside, passed, within, new_choice, enters, begins, asks, asks_last, last, first_of, returned, returns, commits, refuses, leaves, keeps, new_frame, new_stop, enter, entered, resumed, goes_on, goes_back, at_rule, call_of, shielded, gathering, stops, stops_at}
-use Rattle.dg_mid.specs.Codes.{End, Returns, Commits, Refuses, Backs, Leaves, Keeps, Stands, Others, last_list, more_lists, jumps, returns as stands_returns, commits as stands_commits, refuses as stands_refuses, backs, leaves as stands_leaves, keeps as stands_keeps, shields, collects, accumulates, finishes, acts, ask, last_ask, only, either, once, negates, branch, exhausts, forever}
+use Rattle.dg_mid.specs.Codes.{End, Returns, Commits, Refuses, Backs, Leaves, Keeps, Stands, Others, last_list, more_lists, jumps, returns as stands_returns, commits as stands_commits, refuses as stands_refuses, backs, leaves as stands_leaves, keeps as stands_keeps, shields, collects, accumulates, finishes, acts, ask, last_ask, only, either, selects, once, negates, branch, exhausts, forever}
 use Rattle.dg_mid.specs.Potential.{one_from, cut_from, pending, ChoicesFine, MidFine, StatusFine}
 use Rattle.dg_mid.specs.Shapes.{StopOlder, head_of, Fits, FitsCode, BlockFits, plain, retry, takes, FramesFit, StopCovers, ActiveAt, Active, AllTrails, RuleFits, RulesFit, CallFits, GoesFit, WayFits, ChoicesShaped, MidShaped, ShapedAt, RunShaped, StatusShaped}
 use Rattle.dg_mid.proofs.Pending.{one_falls, cut_falls}
 use Rattle.dg_mid.proofs.Backs.{goes_plainly}
+use Rattle.dg_mid.proofs.Chosen.{branch_stands}
+use Rattle.dg_meaning.specs.Moves.{selects as selecting}
 use Rattle.dg_mid.proofs.Shapes.{older_up, below_up, trails_up, trails_cut, trails_push, shaped_cut, covers_more, covers_less, active_moves, active_left, found}
 
 -- ## Parts of a machine
@@ -323,6 +325,9 @@ module _ (g : Setting) (answers : block_at g.code 0 ≡ op.Return ∷ []) (rules
       (chain, tag_s g.code m.frames m.inner m.choices m.stops m.stop m.next_tag (m.next_tag + 1) m.state.trail chain (omega arith) h, record { r = r; code_is = record { goals = list ++ goals'; end = end'; stands = s; fits = f }; frames_are = fit })
   runs_s m ops goals end chain r (either alt list second lists others goals' end' s o) fine h fit f =
       charge_s 10 (record m { ops = others }) _ (chain, push_s g.code (record m { ops = others }) (Goes alt) 0 chain h (record { r = r; block = others_fit g.code chain r m.inner alt (second ∷ lists) goals' end' f o; frames_are = fit }), record { r = r; code_is = record { goals = list ++ goals'; end = end'; stands = s; fits = f }; frames_are = fit })
+  runs_s m ops goals end chain r (selects site mode blocks lists behind others goals' end' bs s) fine h fit f =
+      let c = selecting g.game site mode (length blocks) (world_of [] (record m { ops = others })) in
+      (chain, h, record { r = r; code_is = record { goals = get_or lists c.branch [] ++ goals'; end = end'; stands = branch_stands g.code blocks lists behind c.branch goals' end' bs s; fits = f }; frames_are = fit })
   runs_s m ops goals end chain r (once inner others goals' end' s) fine h fit f =
       charge_s 10 (record m { ops = others }) _ (
         chain,

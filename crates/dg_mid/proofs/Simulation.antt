@@ -13,13 +13,14 @@ use Rattle.dg_mid.specs.Code.{block_at, selected}
 use Rattle.dg_mid.specs.State.{Way, Goes, Calls, Mid, Status, Runs, Enters, Resumes, Fails, Ended}
 use Rattle.dg_mid.specs.Step.{Setting, setting, runs, first_of, begins, goes_on as way_goes_on, at_goal, said_in, said_to, followed}
 use Rattle.dg_mid.specs.Units.{earned_of, earned_by}
-use Rattle.dg_mid.specs.Codes.{End, Stands, jumps, returns, commits, refuses, backs, leaves, keeps, finishes, acts, ask, last_ask, only, either, once, negates, branch, exhausts, shields, collects, accumulates, forever, Codes}
+use Rattle.dg_mid.specs.Codes.{End, Stands, jumps, returns, commits, refuses, backs, leaves, keeps, finishes, acts, ask, last_ask, only, either, selects, once, negates, branch, exhausts, shields, collects, accumulates, forever, Codes}
 use Rattle.dg_mid.specs.Reads.{silents, Behind, RunsAt, ResumesAt, Comes, before, Simulates}
 use Rattle.dg_mid.proofs.Here.{Here, steps_of, answers}
 use Rattle.dg_mid.proofs.Marks as marks
 use Rattle.dg_mid.proofs.Acts as acts_on
 use Rattle.dg_mid.proofs.Choices as choices
 use Rattle.dg_mid.proofs.Parts as parts
+use Rattle.dg_mid.proofs.Chosen as selects_on
 use Rattle.dg_mid.proofs.Backs as backs_on
 use Rattle.dg_mid.proofs.Calls.{rules_begin, enters_at, rule_open}
 use Rattle.dg_mid.proofs.Asks as asks_on
@@ -47,6 +48,7 @@ module _ (code : Code) (limits : Limits) (m : Mid) (ps : List Print) (rest : Lis
   runs_one {least = least} ops goals end (last_ask pred terms many others) h le = asks_on.last_ask code limits m ps others g n w run codes pred terms many rest h below le
   runs_one {least = least} ops goals end (only list others goals' end' s) h le = choices.only code limits m others goals' end' rest g n w run below list s h (omega (arith, le))
   runs_one {least = least} ops goals end (either alt list second lists others goals' end' s o) h le = choices.either code limits m others goals' end' rest g n w run below alt list second lists s o h (omega (arith, le))
+  runs_one {least = least} ops goals end (selects site mode blocks lists behind others goals' end' bs s) h le = selects_on.selects_so code limits m others goals' end' rest g n w run below site mode blocks lists behind bs s h (omega (arith, le))
   runs_one {least = least} ops goals end (once inner others goals' end' s) h le = choices.once code limits m others goals' end' rest g n w run below inner s h (omega (arith, le))
   runs_one {least = least} ops goals end (negates alt inner others goals' end' s o) h le = choices.negates code limits m others goals' end' rest g n w run below alt inner s o h (omega (arith, le))
   runs_one {least = least} ops goals end (branch alt tested first other others goals' end' s o) h le = choices.branch code limits m others goals' end' rest g n w run below alt tested first other s o h (omega (arith, le))

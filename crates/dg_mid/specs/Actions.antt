@@ -69,7 +69,14 @@ whole_of gathered.Sum = AsSum
 
 -- A machine's registers as the search has them.
 abbrev pub registers_of : Mid → Registers
-registers_of m = record { next_tag = m.next_tag; stoppable = m.stop; bound = m.state.subst; next_var = m.state.vars; heap = m.state.heap; trail = m.state.trail }
+registers_of m = record {
+  next_tag = m.next_tag;
+  stoppable = m.stop;
+  bound = m.state.subst;
+  next_var = m.state.vars;
+  heap = m.state.heap;
+  trail = m.state.trail;
+}
 
 -- The world as a machine has it that has printed this, where nothing is counted yet.
 abbrev pub world_of : List Print → Mid → World

@@ -3,6 +3,7 @@ use Rattle.std.specs.Prelude.{ℕ, ◌≡◌, List, [], ◌∷◌, ◌++◌, Boo
 use Rattle.dg_base.specs.declared.program.Goal.{Goal}
 use Rattle.dg_base.specs.declared.program.Goal.TheVariants as goal
 use Rattle.dg_base.specs.declared.program.Term.{Term}
+use Rattle.dg_base.specs.declared.program.Mode.{Mode}
 use Rattle.dg_base.specs.declared.program.Rule.{Rule}
 use Rattle.dg_base.specs.declared.program.CoreProgram.{CoreProgram}
 use Rattle.dg_meaning.specs.Moves.{rules_of}
@@ -27,7 +28,7 @@ pub data End : Type 0 where
   Keeps : (term : Term) → End
   Finishes : End
 
--- These instructions stand for these goals and what comes behind them; the code from a block on stands for the lists between (or) that are left, each with these goals behind it.
+-- These instructions stand for these goals and what comes behind them; the code from a block on stands for the lists between (or) that are left, each with these goals behind it; so does each of some blocks for each branch of a select.
 mutual
   pub data Stands (code : Code) : List Op → List Goal → End → Type 0 where
     -- the code lies at another place
@@ -45,12 +46,19 @@ mutual
     -- a query, which goes on at a block; the last of a rule needs none
     ask : (pred : ℕ) (terms : List Term) (many : Bool) (next : ℕ) (ops : List Op) (goals : List Goal) (end : End) →
         Stands code (block_at code next) goals end → Stands code (op.Ask pred terms many next ∷ ops) (goal.Ask pred terms many ∷ goals) end
-    last_ask : (pred : ℕ) (terms : List Term) (many : Bool) (ops : List Op) → Stands code (op.LastAsk pred terms many ∷ ops) (goal.Ask pred terms many ∷ []) Returns
+    last_ask : (pred : ℕ) (terms : List Term) (many : Bool) (ops : List Op) →
+        Stands code (op.LastAsk pred terms many ∷ ops) (goal.Ask pred terms many ∷ []) Returns
     -- a goal with inner ones
-    only : (list : List Goal) (ops : List Op) (goals : List Goal) (end : End) → Stands code ops (list ++ goals) end → Stands code (op.Take ∷ ops) (goal.Either (list ∷ []) ∷ goals) end
+    only : (list : List Goal) (ops : List Op) (goals : List Goal) (end : End) →
+        Stands code ops (list ++ goals) end → Stands code (op.Take ∷ ops) (goal.Either (list ∷ []) ∷ goals) end
     either : (alt : ℕ) (list second : List Goal) (lists : List (List Goal)) (ops : List Op) (goals : List Goal) (end : End) →
-        Stands code ops (list ++ goals) end → Others code alt (second ∷ lists) goals end → Stands code (op.Branch alt ∷ ops) (goal.Either (list ∷ second ∷ lists) ∷ goals) end
-    once : (inner : List Goal) (ops : List Op) (goals : List Goal) (end : End) → Stands code ops inner (Commits goals end) → Stands code (op.Once ∷ ops) (goal.Once inner ∷ goals) end
+        Stands code ops (list ++ goals) end → Others code alt (second ∷ lists) goals end →
+        Stands code (op.Branch alt ∷ ops) (goal.Either (list ∷ second ∷ lists) ∷ goals) end
+    selects : (site : ℕ) (mode : Mode) (blocks : List ℕ) (lists : List (List Goal)) (behind : ℕ) (ops : List Op) (goals : List Goal) (end : End) →
+        Branches code blocks lists goals end → Stands code (block_at code behind) goals end →
+        Stands code (op.Select site mode blocks behind ∷ ops) (goal.Select site mode lists ∷ goals) end
+    once : (inner : List Goal) (ops : List Op) (goals : List Goal) (end : End) →
+        Stands code ops inner (Commits goals end) → Stands code (op.Once ∷ ops) (goal.Once inner ∷ goals) end
     negates : (alt : ℕ) (inner : List Goal) (ops : List Op) (goals : List Goal) (end : End) →
         Stands code ops inner Refuses → Stands code (block_at code alt) goals end → Stands code (op.Try alt ∷ ops) (goal.Not inner ∷ goals) end
     branch : (alt : ℕ) (test first other : List Goal) (ops : List Op) (goals : List Goal) (end : End) →
@@ -59,7 +67,8 @@ mutual
     exhausts : (alt : ℕ) (inner : List Goal) (ops : List Op) (goals : List Goal) (end : End) →
         Stands code ops inner Backs → Stands code (block_at code alt) goals end → Stands code (op.Try alt ∷ ops) (goal.Exhaust inner ∷ goals) end
     shields : (alt : ℕ) (inner : List Goal) (ops : List Op) (goals : List Goal) (end : End) →
-        Stands code ops inner (Leaves goals end) → Stands code (block_at code alt) goals end → Stands code (op.Shield alt ∷ ops) (goal.Stoppable inner ∷ goals) end
+        Stands code ops inner (Leaves goals end) → Stands code (block_at code alt) goals end →
+        Stands code (op.Shield alt ∷ ops) (goal.Stoppable inner ∷ goals) end
     collects : (term into : Term) (alt : ℕ) (inner : List Goal) (ops others : List Op) (goals : List Goal) (end : End) →
         Stands code ops inner (Keeps term) → block_at code alt ≡ op.TakeOut gathered.List into ∷ others → Stands code others goals end →
         Stands code (op.Collect term into alt ∷ ops) (goal.Collect term inner into ∷ goals) end
@@ -74,6 +83,11 @@ mutual
     more_lists : (b alt : ℕ) (ops : List Op) (list second : List Goal) (lists : List (List Goal)) (goals : List Goal) (end : End) →
         block_at code b ≡ op.Retry alt ∷ ops → Stands code ops (list ++ goals) end → Others code alt (second ∷ lists) goals end →
         Others code b (list ∷ second ∷ lists) goals end
+
+  pub data Branches (code : Code) : List ℕ → List (List Goal) → List Goal → End → Type 0 where
+    no_branch : (goals : List Goal) (end : End) → Branches code [] [] goals end
+    a_branch : (b : ℕ) (blocks : List ℕ) (list : List Goal) (lists : List (List Goal)) (goals : List Goal) (end : End) →
+        Stands code (block_at code b) (list ++ goals) end → Branches code blocks lists goals end → Branches code (b ∷ blocks) (list ∷ lists) goals end
 
 -- ## Rules
 

@@ -10,3 +10,4 @@ pub mod Heights
 pub mod Falling
 pub mod Potential
 pub mod Shapes
+pub mod Laws

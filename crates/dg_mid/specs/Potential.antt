@@ -189,7 +189,8 @@ Reaching t (c ∷ cs) = c.place.tag ≤ t
 -- A status is fine: its code is tidy, and so is what stands behind it.
 abbrev pub StatusFine : Code → Status → Type 0
 StatusFine code (Runs m) = MidFine code m × OpsTidy code m.ops
-StatusFine code (Enters call m) = MidFine code m × CallFine code call m.frames m.next_tag × EntersRule m.ops × Reaching call.cut.tag m.choices × OpsTidy code m.ops
+StatusFine code (Enters call m) =
+    MidFine code m × CallFine code call m.frames m.next_tag × EntersRule m.ops × Reaching call.cut.tag m.choices × OpsTidy code m.ops
 StatusFine code (Resumes way m) = MidFine code m × WayFine code way m.frames m.next_tag
 StatusFine code (Fails m) = ChoicesFine code nothing m.state.trail m.choices
 StatusFine code (Ended e) = Unit {0}
@@ -202,12 +203,12 @@ pub record Affords (code : Code) (spent have : ℕ) (s : Status) : Type 0 where
   pub few : spent + potential s ≤ have
 
 -- A run has ended.
-abbrev pub HasEnded : Status → Type 0
-HasEnded (Runs m) = ⊥
-HasEnded (Enters call m) = ⊥
-HasEnded (Resumes way m) = ⊥
-HasEnded (Fails m) = ⊥
-HasEnded (Ended e) = Unit {0}
+abbrev pub IsOver : Status → Type 0
+IsOver (Runs m) = ⊥
+IsOver (Enters call m) = ⊥
+IsOver (Resumes way m) = ⊥
+IsOver (Fails m) = ⊥
+IsOver (Ended e) = Unit {0}
 
 -- What is left to pay for a selection: a rule that is entered pays for the next.
 abbrev pub left_for : Status → ℕ

@@ -91,7 +91,8 @@ pub record WayIs (code : Code) (ops : List Op) (frames : List Frame) (inner : Li
   pub registers : path.registers ≡ inside cells r
 
 -- The same at a block that keeps the choice first, with a further way; a list between (or) is work.
-pub record RetryIs (further : ℕ → Type 0) (code : Code) (b : ℕ) (frames : List Frame) (inner : List Place) (r : Registers) (path : Path) (work : ℕ) : Type 0 where
+pub record RetryIs (further : ℕ → Type 0) (code : Code) (b : ℕ) (frames : List Frame) (inner : List Place) (r : Registers) (path : Path)
+    (work : ℕ) : Type 0 where
   pub some : 1 ≤ work
   pub alt : ℕ
   pub ops : List Op
@@ -109,7 +110,8 @@ GoesAt code b frames inner r (TakeOut t whole into path ∷ others) = ⊥
 GoesAt code b frames inner r (Finds place o args path ∷ others) = ⊥
 
 -- Branches that are not begun are rules of a query, of which these are left from the first on that isn't excluded.
-pub record CallsAt (g : Game) (code : Code) (call : Call) (rules : List RuleCode) (frames : List Frame) (inner : List Place) (S : Substitution) (r : Registers) (kind : Kind) (others : List Branch) : Type 0 where
+pub record CallsAt (g : Game) (code : Code) (call : Call) (rules : List RuleCode) (frames : List Frame) (inner : List Place)
+    (S : Substitution) (r : Registers) (kind : Kind) (others : List Branch) : Type 0 where
   pub pred : ℕ
   pub rule : Rule
   pub left : List Rule
@@ -186,7 +188,8 @@ AreBelow t (m ∷ ms) = m.place.tag < t
 pub data AreChoices (g : Game) (code : Code) : List Choice → List Live → Type 0 where
   none : AreChoices g code [] []
   dead : (ms : List Choice) (c : Live) (cs : List Live) → AreClashes c.others → AreBelow c.tag ms → AreChoices g code ms cs → AreChoices g code ms (c ∷ cs)
-  kept : (m : Choice) (ms : List Choice) (c : Live) (cs : List Live) → IsChoice g code m c → AreBelow m.place.tag ms → AreChoices g code ms cs → AreChoices g code (m ∷ ms) (c ∷ cs)
+  kept : (m : Choice) (ms : List Choice) (c : Live) (cs : List Live) →
+      IsChoice g code m c → AreBelow m.place.tag ms → AreChoices g code ms cs → AreChoices g code (m ∷ ms) (c ∷ cs)
 
 -- ## Where a run is
 
@@ -195,7 +198,8 @@ abbrev pub outside_of : World → Outside
 outside_of w = record { typed = w.typed; dice = w.dice; facts = w.facts; sites = w.sites }
 
 -- A machine in this state, with so many choices opened, with these choices, stoppable parts and gatherings, and this outside, that has printed this, is where the search has these registers, choices and ways on, in this world.
-pub record MirrorsWith (g : Game) (code : Code) (state : State) (next_tag : ℕ) (choices : List Choice) (stops : List Stop) (stop : Option ℕ) (gathered : List Gathering) (outside : Outside) (ps : List Print) (r : Registers) (lives : List Live) (ways : List WayOn) (w : World) : Type 0 where
+pub record MirrorsWith (g : Game) (code : Code) (state : State) (next_tag : ℕ) (choices : List Choice) (stops : List Stop) (stop : Option ℕ)
+    (gathered : List Gathering) (outside : Outside) (ps : List Print) (r : Registers) (lives : List Live) (ways : List WayOn) (w : World) : Type 0 where
   pub agrees : Agrees state r
   pub tag : r.next_tag ≡ next_tag
   pub choices_are : AreChoices g code choices lives
@@ -307,5 +311,6 @@ before false n = n
 
 -- A step of the machine, which takes a goal of the budget or none, leads to where the same run comes from, with what it prints and what it earns done.
 abbrev pub Simulates : Setting → Status → Game → Type 0
-Simulates s now g = (least n : ℕ) (ps : List Print) (w : World) (run : Run) → At s now ps g (before (takes_goal now) n) w run → least ≤ work_at now w run + earned s ps now →
+Simulates s now g = (least n : ℕ) (ps : List Print) (w : World) (run : Run) →
+    At s now ps g (before (takes_goal now) n) w run → least ≤ work_at now w run + earned s ps now →
     Comes least (followed ps (said s now)) s (step s now) g n run

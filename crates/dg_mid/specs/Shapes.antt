@@ -45,8 +45,10 @@ pub record FitsCode (code : Code) (ops : List Op) (chain r : List ℕ) (inner : 
 -- So does a block with which a choice goes on.
 pub data BlockFits (code : Code) (chain r : List ℕ) (inner : List Place) : ℕ → Type 0 where
   plain : (b : ℕ) → FitsCode code (block_at code b) chain r inner → BlockFits code chain r inner b
-  retry : (b alt : ℕ) (ops : List Op) → block_at code b ≡ op.Retry alt ∷ ops → FitsCode code ops chain r inner → BlockFits code chain r inner alt → BlockFits code chain r inner b
-  takes : (b : ℕ) (whole : Gathered) (into : Term) (ops : List Op) → block_at code b ≡ op.TakeOut whole into ∷ ops → FitsCode code ops chain r inner → BlockFits code chain r inner b
+  retry : (b alt : ℕ) (ops : List Op) → block_at code b ≡ op.Retry alt ∷ ops → FitsCode code ops chain r inner →
+      BlockFits code chain r inner alt → BlockFits code chain r inner b
+  takes : (b : ℕ) (whole : Gathered) (into : Term) (ops : List Op) → block_at code b ≡ op.TakeOut whole into ∷ ops →
+      FitsCode code ops chain r inner → BlockFits code chain r inner b
 
 -- The frames fit where the newest was asked with this chain.
 abbrev pub FramesFit : Code → List Frame → List ℕ → Type 0
@@ -79,7 +81,8 @@ Pick false A B = B
 abbrev pub Active : Code → (ℕ → ℕ) → List ℕ → List Stop → Type 0
 Active code N [] stops = Unit {0}
 Active code N (t ∷ chain) [] = ⊥
-Active code N (t ∷ chain) (s ∷ ss) = Pick (eqb s.place.tag t) (StopFine code N chain s × Active code (pending s.frames s.inner) chain ss) (Active code N (t ∷ chain) ss)
+Active code N (t ∷ chain) (s ∷ ss) =
+    Pick (eqb s.place.tag t) (StopFine code N chain s × Active code (pending s.frames s.inner) chain ss) (Active code N (t ∷ chain) ss)
 
 -- The same, where it is decided whether the newest of the list is the innermost.
 abbrev pub ActiveAt : Code → (ℕ → ℕ) → ℕ → List ℕ → Stop → List Stop → Bool → Type 0
@@ -135,7 +138,8 @@ WayFits code (Goes b) frames inner chain = GoesFit code b frames inner chain
 WayFits code (Calls call rules) frames inner chain = CallFits code call frames inner chain × RulesFit code rules
 
 -- The open stoppable parts are a chain, where so many choices were opened and so many bindings are on the trail.
-pub record ShapedWith (code : Code) (frames : List Frame) (inner : List Place) (choices : List Choice) (stops : List Stop) (stop : Option ℕ) (t trail : ℕ) (chain : List ℕ) : Type 0 where
+pub record ShapedWith (code : Code) (frames : List Frame) (inner : List Place) (choices : List Choice) (stops : List Stop) (stop : Option ℕ)
+    (t trail : ℕ) (chain : List ℕ) : Type 0 where
   pub active : Active code (pending frames inner) chain stops
   pub stop_is : stop ≡ head_of chain
   pub older : StopOlder t (head_of chain)
@@ -145,10 +149,13 @@ pub record ShapedWith (code : Code) (frames : List Frame) (inner : List Place) (
 -- So it is at each choice.
 abbrev pub ChoicesShaped : Code → List Choice → Type 0
 ChoicesShaped code [] = Unit {0}
-ChoicesShaped code (c ∷ cs) = ((chain : List ℕ) × ShapedWith code c.frames c.inner cs c.stops c.stop c.place.tag c.state.trail chain × WayFits code c.way c.frames c.inner chain) × ChoicesShaped code cs
+ChoicesShaped code (c ∷ cs) =
+    ((chain : List ℕ) × ShapedWith code c.frames c.inner cs c.stops c.stop c.place.tag c.state.trail chain ×
+    WayFits code c.way c.frames c.inner chain) × ChoicesShaped code cs
 
 -- So it is here and at each choice.
-pub record MidShaped (code : Code) (frames : List Frame) (inner : List Place) (choices : List Choice) (stops : List Stop) (stop : Option ℕ) (t trail : ℕ) (chain : List ℕ) : Type 0 where
+pub record MidShaped (code : Code) (frames : List Frame) (inner : List Place) (choices : List Choice) (stops : List Stop) (stop : Option ℕ)
+    (t trail : ℕ) (chain : List ℕ) : Type 0 where
   pub here : ShapedWith code frames inner choices stops stop t trail chain
   pub choices_are : ChoicesShaped code choices
 

@@ -1,5 +1,5 @@
 -- What one instruction does, with its limits. Hold it against the Dialog manual, chapters "Choice points", "Control flow" and "Beyond the program".
-use Rattle.std.specs.Prelude.{ℕ, zero, suc, ◌+◌, ◌++◌, ◌-◌, nat_lt, List, [], ◌∷◌, Option, Some, None, Bool, true, false, length, map, drop, if◌then◌else◌}
+use Rattle.std.specs.Prelude.{ℕ, zero, suc, ◌+◌, ◌++◌, ◌-◌, nat_lt, List, [], ◌∷◌, Option, Some, None, Bool, true, false, length, map, get_or, drop, if◌then◌else◌}
 use Rattle.std.specs.List.{zip, slice_get}
 use Rattle.dg_base.specs.declared.program.Term.{Term}
 use Rattle.dg_base.specs.declared.run.Limits.{Limits}
@@ -10,7 +10,8 @@ use Rattle.dg_meaning.specs.Unify.{Unified, solve}
 use Rattle.dg_meaning.specs.World.{Game, Print, Gathering, gathered_size, gathered_at, gathered_with, gathered_without}
 use Rattle.dg_meaning.specs.Path.{Registers, Act, Goes, Tests, Unifies, Ends, Fails as FailsNow, Stops}
 use Rattle.dg_meaning.specs.Cells.{cells}
-use Rattle.dg_meaning.specs.Moves.{new_vars, made_since, takes_out}
+use Rattle.dg_meaning.specs.Moves.{new_vars, made_since, takes_out, selects, selected as picked}
+use Rattle.dg_meaning.specs.Choosing.{Choice as Chosen}
 use Rattle.dg_unify.specs.Store.{State, trail_of, marked}
 use Rattle.dg_mid.specs.declared.code.Op.{Op}
 use Rattle.dg_mid.specs.declared.code.Op.TheVariants as op
@@ -256,17 +257,29 @@ done g (Ends e w) m = Ended e
 done g (FailsNow w) m = Fails (outside_in w m)
 done g (Stops w) m = stops g m.stop (outside_in w m)
 
+-- The machine at the block of the branch that a select has chosen.
+abbrev pub at_choice : Setting → Chosen → ℕ → List ℕ → ℕ → Mid → Mid
+at_choice g c site blocks behind m = record (outside_in (picked site c (world_of [] m)) m) { ops = block_at g.code (get_or blocks c.branch behind) }
+
 -- What an instruction leads to, where the machine is behind it.
 abbrev pub does : Setting → Op → Mid → Status
 does g (op.Do a) m = let n = cells g.game.program (terms_of a) in charged g n m (done g (act_at g.game [] a (more n m)) (more n m))
-does g (op.Ask pred terms many next) m = let n = cells g.game.program terms in charged g n m (asks g pred (call_of (values g m terms) many next (more n m)) (more n m))
-does g (op.LastAsk pred terms many) m = let n = cells g.game.program terms in charged g n m (last g pred (values g m terms) many m.frames (more n m))
+does g (op.Ask pred terms many next) m =
+    let n = cells g.game.program terms in
+    charged g n m (asks g pred (call_of (values g m terms) many next (more n m)) (more n m))
+does g (op.LastAsk pred terms many) m =
+    let n = cells g.game.program terms in
+    charged g n m (last g pred (values g m terms) many m.frames (more n m))
 does g op.Take m = Runs (passed m)
 does g (op.Branch alt) m = charged g 10 m (Runs (inside (Goes alt) 0 m))
+does g (op.Select site mode blocks behind) m = Runs (at_choice g (selects g.game site mode (length blocks) (world_of [] m)) site blocks behind m)
 does g op.Once m = charged g 10 m (Runs (within (place_of m) (more 10 (passed m))))
 does g (op.Try alt) m = charged g 10 m (Runs (within (place_of m) (inside (Goes alt) 0 m)))
 does g (op.Shield alt) m = charged g 10 m (Runs (shielded alt m))
-does g (op.Collect term into alt) m = let n = cells g.game.program (term ∷ into ∷ []) in charged g n m (charged g 10 (more n m) (gathers g (gathering alt (more n m)).gathered (Runs (gathering alt (more n m)))))
+does g (op.Collect term into alt) m =
+    let n = cells g.game.program (term ∷ into ∷ []) in
+    let m' = gathering alt (more n m) in
+    charged g n m (charged g 10 (more n m) (gathers g m'.gathered (Runs m')))
 does g (op.Retry alt) m = Fails m
 does g (op.TakeOut whole into) m = Fails m
 does g op.Commit m = commits m.inner m
@@ -347,6 +360,7 @@ is_goal (op.Ask pred terms many next) = true
 is_goal (op.LastAsk pred terms many) = true
 is_goal op.Take = true
 is_goal (op.Branch alt) = true
+is_goal (op.Select site mode blocks behind) = true
 is_goal op.Once = true
 is_goal (op.Try alt) = true
 is_goal (op.Shield alt) = true

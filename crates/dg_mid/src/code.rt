@@ -1,6 +1,6 @@
 // The instructions, and what they stand in.
 
-use dg_base::{ArithOp, CompareOp, GapKind, Items, Name, Term, TestKind};
+use dg_base::{ArithOp, CompareOp, GapKind, Items, Mode, Name, Term, TestKind};
 
 /// What is done at once: a goal with no goals in it that makes no choice.
 #[derive(Drop)]
@@ -44,6 +44,8 @@ pub enum Op {
     Take,
     /// A choice whose other way is a block.
     Branch(u32),
+    /// A (select) of a site, which goes on at the block of the branch that it chooses, and without one at the last block.
+    Select(u16, Mode, Items<u32>, u32),
     /// An inner construct whose first answer is taken.
     Once,
     /// An inner construct, and a choice whose other way is a block.

@@ -1,0 +1,45 @@
+-- What holds of all register code. Hold it against the Dialog manual, chapters "Choice points" and "Output", and docs/LANGUAGE.md, "Limits".
+use Rattle.std.specs.Prelude.{ℕ, ◌+◌, ◌*◌, ◌≡◌, ◌<◌, ◌≤◌, ◌⊎◌, List, false}
+use Rattle.dg_base.specs.declared.run.Limits.{Limits}
+use Rattle.dg_meaning.specs.World.{Game}
+use Rattle.dg_meaning.specs.Transcript.{run}
+use Rattle.dg_mid.specs.declared.code.Code.{Code}
+use Rattle.dg_mid.specs.State.{Status}
+use Rattle.dg_mid.specs.Step.{Setting, setting, step, takes_goal}
+use Rattle.dg_mid.specs.Codes.{Codes}
+use Rattle.dg_mid.specs.Runs.{after, IsAt, ShowsAll}
+use Rattle.dg_mid.specs.Heights.{StatusOrdered}
+use Rattle.dg_mid.specs.Falling.{left_at}
+use Rattle.dg_mid.specs.Potential.{Tidy, IsOver}
+
+-- Where code stands for the program of a game, each run of the game comes from where the machine is after so many steps.
+abbrev pub RunsAsSearched : Type 0
+RunsAsSearched = (g : Game) (code : Code) (limits : Limits) → Codes g.program code → (typed : List ℕ) (k : ℕ) →
+    IsAt (setting g code limits) g typed (after (setting g code limits) typed k)
+
+-- Where code stands for the program of a game, what it prints shows the game.
+abbrev pub CodeShows : Type 0
+CodeShows = (g : Game) (code : Code) (limits : Limits) → Codes g.program code → (typed : List ℕ) → ShowsAll (setting g code limits) g typed
+
+-- In every run of any code, heights order places as tags do.
+abbrev pub HeightsOrder : Type 0
+HeightsOrder = (s : Setting) (typed : List ℕ) (k : ℕ) → StatusOrdered (after s typed k).now
+
+-- In tidy code a number falls at each step that takes no goal, until the run has ended.
+abbrev pub Falls : Type 0
+Falls = (s : Setting) (now : Status) → Tidy s.code → takes_goal now ≡ false → (IsOver now → ⊥) → left_at (step s now) < left_at now
+
+-- What the steps of tidy code have cost is within the work of the goals that were taken.
+abbrev pub CostsItsWork : Type 0
+CostsItsWork = (g : Game) (code : Code) (limits : Limits) → Codes g.program code → Tidy code → (typed : List ℕ) (k : ℕ) →
+    let p = after (setting g code limits) typed k in p.spent ≤ 13 * (run g typed p.goals).world.meters.work + 7
+
+-- Rules are looked at no more often than that work says, and once.
+abbrev pub LooksItsWork : Type 0
+LooksItsWork = (g : Game) (code : Code) (limits : Limits) → Codes g.program code → Tidy code → (typed : List ℕ) (k : ℕ) →
+    let p = after (setting g code limits) typed k in p.looks ≤ 1 + (run g typed p.goals).world.meters.work
+
+-- After more steps than the work of n goals allows, a further goal has been taken or the run has ended.
+abbrev pub MovesOn : Type 0
+MovesOn = (g : Game) (code : Code) (limits : Limits) → Codes g.program code → Tidy code → (typed : List ℕ) (n k : ℕ) →
+    13 * (run g typed n).world.meters.work + 7 < k → let p = after (setting g code limits) typed k in IsOver p.now ⊎ (n < p.goals)
