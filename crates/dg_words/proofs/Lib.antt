@@ -4,3 +4,4 @@ pub mod CutLemmas
 pub mod CharLemmas
 pub mod LineLemmas
 pub mod WordLemmas
+pub mod LetterLemmas

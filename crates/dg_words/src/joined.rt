@@ -30,8 +30,8 @@ impl Model for Joined {
     ghost invariant = { λ j. (j.len ≤ 4 * j.count) × (j.count ≤ 200) × (j.count ≡ count_by begins (take j.len j.bytes)) };
 }
 
-// Puts bytes behind the first so many of a row.
-fn put_behind(row: &mut [u8], len: usize, bytes: &[u8])
+/// Puts bytes behind the first so many of a row.
+pub fn put_behind(row: &mut [u8], len: usize, bytes: &[u8])
     requires { len + length bytes.now ≤ length row.old }
     ensures { take (len + length bytes.now) row.new ≡ take len row.old ++ bytes.now }
 {

@@ -5,10 +5,13 @@ mod chars;
 mod classes;
 mod cutting;
 mod joined;
+mod letters;
+mod line;
 mod lines;
 
 pub use chars::next_char;
 pub use classes::{Class, classify};
 pub use cutting::{next_word, words_are_bytes};
 pub use joined::{Joined, TooLong};
+pub use line::Line;
 pub use lines::take_line;
