@@ -1,11 +1,11 @@
 -- Numbers and words by their bytes, and by their letters.
-use Rattle.std.proofs.Common.{◌≡◌, ℕ, zero, suc, ◌+◌, ◌-◌, ◌*◌, ◌<◌, ◌≤◌, List, [], ◌∷◌, ◌++◌, Option, Some, None, Bool, true, false, refl, sym, ap, ◌∙◌, subst, arith, length, drop}
+use Rattle.std.proofs.Common.{◌≡◌, ℕ, suc, ◌+◌, ◌-◌, ◌*◌, ◌<◌, ◌≤◌, List, [], ◌∷◌, ◌++◌, Option, Some, None, Bool, true, false, refl, sym, ap, ◌∙◌, arith, length, drop}
 use Rattle.std.specs.Prelude.{eqb, nat_le, ◌&&◌, if◌then◌else◌, encode_utf8_all, slice_index}
 use Rattle.std.specs.Str.{bytes_eq}
 use Rattle.std.specs.List.{slice_index_or}
 use Rattle.std.proofs.Math.Utf8.{encode}
 use Rattle.std.specs.List.{list_all}
-use Rattle.std.proofs.lemmas.Bool.{lt-leb, le-leb}
+use Rattle.std.proofs.lemmas.Bool.{lt-leb}
 use Rattle.std.proofs.lemmas.List.{drop_more}
 use Rattle.dg_meaning.specs.Values.{Num, Word, Unknown, Value, leaf}
 use Rattle.dg_meaning.specs.Unify.{same_spelling}

@@ -1,5 +1,5 @@
 -- How the words of letters go on.
-use Rattle.std.proofs.Common.{◌≡◌, ℕ, zero, suc, ◌+◌, ◌-◌, ◌<◌, ◌≤◌, List, [], ◌∷◌, ◌++◌, Bool, true, false, refl, sym, ap, ◌∙◌, subst, arith, length, take, drop, length-drop}
+use Rattle.std.proofs.Common.{◌≡◌, ℕ, ◌+◌, ◌-◌, ◌<◌, List, [], ◌∷◌, ◌++◌, Bool, true, false, refl, sym, ap, ◌∙◌, arith, length, take, drop, length-drop}
 use Rattle.std.specs.Prelude.{eqb, ◌||◌, if◌then◌else◌, slice_index}
 use Rattle.std.proofs.lemmas.List.{drop_more, take_more, get_or-drop}
 use Rattle.dg_meaning.specs.Words.{is_alone, if_spelled, spellings_behind, spellings_of}

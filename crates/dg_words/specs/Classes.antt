@@ -1,5 +1,5 @@
 -- What a spelling is, by its bytes. Hold it against dg_meaning/specs/Words.antt.
-use Rattle.std.specs.Prelude.{◌≡◌, ℕ, zero, suc, ◌+◌, List, [], ◌∷◌, Option, Some, None, if◌then◌else◌}
+use Rattle.std.specs.Prelude.{ℕ, suc, List, [], ◌∷◌, Option, Some, None, if◌then◌else◌}
 use Rattle.dg_meaning.specs.Values.{Num, Word, Unknown, Value, leaf}
 use Rattle.dg_meaning.specs.Unify.{same_spelling}
 use Rattle.dg_meaning.specs.Words.{is_number, number_behind}

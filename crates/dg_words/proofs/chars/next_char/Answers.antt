@@ -1,4 +1,4 @@
-use Rattle.std.proofs.Common.{◌∙◌, sym, ap, arith, Some}
+use Rattle.std.proofs.Common.{◌∙◌, ap, arith, Some}
 use Rattle.dg_words.proofs.CharLemmas.{ends_at, is_within}
 use Rattle.dg_words.proofs.chars.next_char.Goals as goal
 

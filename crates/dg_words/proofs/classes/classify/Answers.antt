@@ -1,4 +1,4 @@
-use Rattle.std.proofs.Common.{◌∙◌, sym, arith, Some, None, Fits}
+use Rattle.std.proofs.Common.{◌∙◌, sym, arith, Some, None}
 use Rattle.dg_words.proofs.ClassLemmas.{place_below, is_a_number, is_a_word}
 use Rattle.dg_words.proofs.classes.classify.Goals as goal
 

@@ -1,4 +1,3 @@
-use Rattle.std.proofs.Common.{◌∙◌, arith, subst, ap}
 use Rattle.dg_words.proofs.ClassLemmas.{too_large}
 use Rattle.dg_words.proofs.classes.number_of.Goals as goal
 

@@ -1,4 +1,3 @@
-use Rattle.std.proofs.Common.{◌≡◌, ◌≤◌, drop}
 use Rattle.dg_words.proofs.ClassLemmas.{Digits}
 use Rattle.dg_words.proofs.classes.number_of.Given as goal
 

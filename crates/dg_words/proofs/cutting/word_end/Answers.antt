@@ -1,4 +1,4 @@
-use Rattle.std.proofs.Common.{◌∙◌, sym, arith, ap}
+use Rattle.std.proofs.Common.{◌∙◌, sym, arith}
 use Rattle.dg_words.proofs.CutLemmas.{goes_on}
 use Rattle.dg_words.proofs.cutting.word_end.Goals as goal
 

@@ -1,4 +1,4 @@
-use Rattle.std.proofs.Common.{◌≡◌, length, ◌-◌}
+use Rattle.std.proofs.Common.{length, ◌-◌}
 use Rattle.dg_words.proofs.LetterLemmas.{KeepsLetters}
 use Rattle.dg_words.proofs.letters.keep_letters.Given as goal
 

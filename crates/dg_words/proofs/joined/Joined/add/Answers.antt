@@ -1,4 +1,4 @@
-use Rattle.std.proofs.Common.{◌≡◌, ◌≤◌, ◌*◌, ◌+◌, ◌∙◌, sym, ap, arith, length, take}
+use Rattle.std.proofs.Common.{◌∙◌, ap, arith, length, take}
 use Rattle.std.specs.Prelude.{count_by}
 use Rattle.dg_words.specs.Chars.{begins}
 use Rattle.dg_words.proofs.CharLemmas.{counted, count_both}

@@ -1,4 +1,4 @@
-use Rattle.std.proofs.Common.{◌≡◌, ◌∙◌, ap, subst, length, take, rules, Option, Ok, Some, ℕ}
+use Rattle.std.proofs.Common.{◌≡◌, ◌∙◌, ap, subst, length, take, rules, Option, Ok, ℕ}
 use Rattle.std.specs.Prelude.{encode_utf8_all}
 use Rattle.dg_words.specs.Lines.{TakesLine}
 use Rattle.dg_words.proofs.LetterLemmas.{line_kept}
