@@ -1,6 +1,6 @@
 -- What becomes of a store and its stack when a cell is read.
-use Rattle.std.proofs.Common.{◌++◌, ◌-◌, append-nil, ◌≡◌, ℕ, zero, suc, ◌+◌, ◌*◌, ◌<◌, ◌≤◌, List, [], ◌∷◌, refl, sym, ap, ◌∙◌, subst, arith, length, take, drop, map, Option, Some, Result, Ok, Err, length-drop}
-use Rattle.std.specs.Prelude.{MatchResult, Bool, true, nat_le, if◌then◌else◌}
+use Rattle.std.proofs.Common.{◌++◌, ◌-◌, append-nil, ◌≡◌, ℕ, zero, suc, ◌+◌, ◌*◌, ◌<◌, ◌≤◌, List, [], ◌∷◌, refl, sym, ap, ◌∙◌, subst, arith, length, take, drop, map, Some, Result, Ok, Err, length-drop}
+use Rattle.std.specs.Prelude.{MatchResult, if◌then◌else◌}
 use Rattle.std.specs.List.{All}
 use Rattle.std.proofs.lemmas.Bool.{le-leb}
 use Rattle.std.proofs.lemmas.List.{take-map, drop-map, length-map, length-take-le}
@@ -11,12 +11,12 @@ use Rattle.dg_meaning.specs.Values.{Closure, Nil, Value, Values, Node, leaf, pai
 use Rattle.dg_meaning.specs.ValueCells.{cells_of, cells_of_all}
 use Rattle.dg_meaning.specs.Copies.{list_of, values_of, vars_in, vars_in_all, copy_from, copies_from, copy_cells, all_copy_cells}
 use Rattle.dg_lists.specs.Formed.{IsFormed, AreFormed}
-use Rattle.dg_unify.specs.Store.{State, Store, told, told_parts, Holds, Kept, Charged, Made, Fresh, HeapFull}
+use Rattle.dg_unify.specs.Store.{State, Store, told, told_parts, Holds, Kept, Charged, Made, HeapFull}
 use Rattle.dg_unify.specs.declared.bindings.Ref.{Ref}
 use Rattle.dg_unify.specs.declared.bindings.Full.{Full}
 use Rattle.dg_unify.specs.declared.bindings.Full.TheVariants as full
 use Rattle.dg_unify.proofs.StoreLemmas.{kept_on, kept_holds, kept_told, holds_some, holds_told, told_is}
-use Rattle.dg_lists.specs.Reading.{closure_from, value_from, parts_taken, cell_vars, cell_weight, row_vars, row_weight, in_front, values_read, Grew, Lacks, Stopped, MadeFrom, HasRead, Copied, ListMade, ListCopied}
+use Rattle.dg_lists.specs.Reading.{closure_from, value_from, parts_taken, cell_vars, cell_weight, row_vars, row_weight, in_front, values_read, Grew, Stopped, MadeFrom, HasRead, Copied, ListMade, ListCopied}
 use Rattle.dg_lists.proofs.ReadLemmas.{count_same, vars_again, all_vars_again, weight_again, all_weight_again, read_value, read_values}
 
 -- ## Captured values

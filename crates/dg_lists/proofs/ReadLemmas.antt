@@ -1,14 +1,14 @@
 -- Cells that were written of values are read as copies of them.
-use Rattle.std.proofs.Common.{◌≡◌, ℕ, zero, suc, ◌+◌, ◌*◌, ◌<◌, ◌≤◌, List, [], ◌∷◌, ◌++◌, refl, sym, ap, ◌∙◌, subst, arith, length, take, drop, map, length-append, append_assoc, append-nil}
-use Rattle.std.specs.Prelude.{Bool, true, false, nat_le, ◌&&◌, if◌then◌else◌}
+use Rattle.std.proofs.Common.{◌≡◌, ℕ, suc, ◌+◌, ◌≤◌, List, [], ◌∷◌, ◌++◌, refl, sym, ap, ◌∙◌, arith, length, take, drop, map, length-append, append_assoc, append-nil}
+use Rattle.std.specs.Prelude.{nat_le, ◌&&◌, if◌then◌else◌}
 use Rattle.std.proofs.lemmas.Bool.{le-leb}
-use Rattle.std.proofs.lemmas.List.{take_at, drop_at, map-append, length-map}
+use Rattle.std.proofs.lemmas.List.{take_at, drop_at, length-map}
 use Rattle.dg_base.specs.declared.cells.Cell.{Cell}
 use Rattle.dg_base.specs.declared.cells.Cell.TheVariants as cell
-use Rattle.dg_meaning.specs.Values.{Label, Num, Word, Unknown, Object, Nil, Pair, Closure, Value, Var, Node, Values, NoMore, More, leaf, pair, parts_of}
+use Rattle.dg_meaning.specs.Values.{Label, Num, Word, Unknown, Object, Nil, Pair, Closure, Value, Var, Node, Values, NoMore, More, leaf, parts_of}
 use Rattle.dg_meaning.specs.ValueCells.{count_of, label_cells, cells_of, cells_of_all}
 use Rattle.dg_meaning.specs.Copies.{values_of, vars_in, vars_in_all, copy_from, copies_from, label_weight, copy_cells, all_copy_cells}
-use Rattle.dg_lists.specs.Formed.{Fits, IsFormed, AreFormed}
+use Rattle.dg_lists.specs.Formed.{IsFormed, AreFormed}
 use Rattle.dg_lists.specs.Reading.{letter, word_from, closure_from, pair_from, row_vars, row_weight, values_read}
 
 parts_again : (vs : Values) → parts_of (values_of vs) ≡ vs

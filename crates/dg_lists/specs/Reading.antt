@@ -1,5 +1,5 @@
 -- What a row of cells is read as, from its end on. Hold it against dg_meaning/specs/ValueCells.antt.
-use Rattle.std.specs.Prelude.{◌≡◌, ℕ, ◌+◌, ◌*◌, ◌<◌, ◌≤◌, List, [], ◌∷◌, Option, Some, Bool, true, false, nat_le, ◌&&◌, if◌then◌else◌, IsTrue, map, take, drop, length}
+use Rattle.std.specs.Prelude.{◌≡◌, ℕ, ◌+◌, ◌*◌, ◌<◌, ◌≤◌, List, [], ◌∷◌, Some, nat_le, ◌&&◌, if◌then◌else◌, IsTrue, map, take, drop, length}
 use Rattle.std.specs.List.{All}
 use Rattle.dg_base.specs.declared.cells.Cell.{Cell}
 use Rattle.dg_base.specs.declared.cells.Cell.TheVariants as cell

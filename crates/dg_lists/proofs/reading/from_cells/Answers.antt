@@ -1,5 +1,4 @@
-use Rattle.std.proofs.Common.{◌≡◌, ◌∙◌, ◌+◌, ◌∷◌, [], sym, subst, ap, arith, length, drop, length-drop}
-use Rattle.dg_unify.specs.declared.bindings.Ref.{Ref}
+use Rattle.std.proofs.Common.{◌≡◌, ◌∙◌, ◌+◌, [], sym, subst, ap, arith, length, drop, length-drop}
 use Rattle.dg_lists.specs.Reading.{Stopped, Copied}
 use Rattle.dg_lists.proofs.MakeLemmas.{read_one, weight_of_one, same_first}
 use Rattle.dg_lists.proofs.reading.from_cells.Goals as goal

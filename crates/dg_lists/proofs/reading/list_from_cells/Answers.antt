@@ -1,8 +1,7 @@
-use Rattle.std.proofs.Common.{◌≡◌, ◌∙◌, ◌-◌, ◌*◌, ◌+◌, ◌≤◌, sym, subst, ap, arith, length, drop, length-drop}
+use Rattle.std.proofs.Common.{◌-◌, ◌*◌, ◌+◌, subst, arith, length, drop, length-drop}
 use Rattle.std.proofs.lemmas.List.{take_all}
-use Rattle.dg_meaning.specs.Values.{Values}
 use Rattle.dg_meaning.specs.Copies.{all_copy_cells, values_of}
-use Rattle.dg_lists.specs.Reading.{Stopped, HasRead}
+use Rattle.dg_lists.specs.Reading.{Stopped}
 use Rattle.dg_lists.proofs.MakeLemmas.{weight_of_all, stopped_more, list_result}
 use Rattle.dg_lists.proofs.reading.list_from_cells.Goals as goal
 

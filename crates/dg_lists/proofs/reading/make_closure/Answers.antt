@@ -1,4 +1,4 @@
-use Rattle.std.proofs.Common.{◌≡◌, arith, rules, take}
+use Rattle.std.proofs.Common.{arith, rules}
 use Rattle.dg_lists.proofs.MakeLemmas.{closure_made}
 use Rattle.dg_lists.proofs.reading.make_closure.Goals as goal
 

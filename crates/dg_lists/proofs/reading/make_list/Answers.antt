@@ -1,4 +1,4 @@
-use Rattle.std.proofs.Common.{◌≡◌, ◌∙◌, ◌+◌, ◌-◌, ◌∷◌, sym, subst, ap, arith, drop}
+use Rattle.std.proofs.Common.{◌∙◌, ◌+◌, ◌-◌, ◌∷◌, sym, subst, ap, arith, drop}
 use Rattle.dg_unify.proofs.StoreLemmas.{kept_holds}
 use Rattle.dg_lists.specs.Reading.{ListMade}
 use Rattle.dg_lists.proofs.MakeLemmas.{list_on, element_holds, back_one}

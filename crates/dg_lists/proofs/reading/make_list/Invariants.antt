@@ -1,4 +1,4 @@
-use Rattle.std.proofs.Common.{◌≡◌, ◌≤◌, List, drop, length}
+use Rattle.std.proofs.Common.{◌≤◌, List, drop, length}
 use Rattle.dg_unify.specs.Store.{Saved}
 use Rattle.dg_lists.specs.Reading.{ListMade}
 use Rattle.dg_lists.proofs.reading.make_list.Given as goal

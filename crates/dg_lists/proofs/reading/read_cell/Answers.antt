@@ -1,6 +1,4 @@
-use Rattle.std.proofs.Common.{◌≡◌, ◌-◌, ◌∙◌, ◌∷◌, sym, subst, ap, arith, length, drop, length-drop}
-use Rattle.dg_base.specs.declared.cells.Cell.{Cell}
-use Rattle.dg_base.specs.declared.cells.Cell.TheVariants as cell
+use Rattle.std.proofs.Common.{◌-◌, ◌∙◌, ◌∷◌, sym, subst, ap, arith, length, drop, length-drop}
 use Rattle.dg_lists.specs.Reading.{HasRead, MadeFrom, row_vars, row_weight, cell_weight}
 use Rattle.std.proofs.lemmas.List.{take_all}
 use Rattle.dg_lists.proofs.MakeLemmas.{stopped, read_on, no_letter}

@@ -1,4 +1,4 @@
-use Rattle.std.proofs.Common.{◌-◌, ◌∙◌, ap, arith, sym, subst, drop, ◌∷◌}
+use Rattle.std.proofs.Common.{◌-◌, ◌∙◌, arith, sym, subst, drop}
 use Rattle.dg_lists.specs.Reading.{HasRead, row_weight, Stopped}
 use Rattle.dg_lists.proofs.MakeLemmas.{stopped_more, weight_within, back_one}
 use Rattle.dg_lists.proofs.reading.read_cells.Goals as goal

@@ -1,4 +1,4 @@
-use Rattle.std.proofs.Common.{◌≡◌, ◌≤◌, List, drop, length}
+use Rattle.std.proofs.Common.{◌≤◌, List, drop, length}
 use Rattle.dg_unify.specs.Store.{Saved}
 use Rattle.dg_lists.specs.Reading.{HasRead}
 use Rattle.dg_lists.proofs.reading.read_cells.Given as goal

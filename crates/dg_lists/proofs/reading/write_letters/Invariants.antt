@@ -1,4 +1,4 @@
-use Rattle.std.proofs.Common.{◌≡◌, ◌≤◌, length, map, take}
+use Rattle.std.proofs.Common.{◌≡◌, map, take}
 use Rattle.dg_lists.specs.Reading.{letter}
 use Rattle.dg_lists.proofs.reading.write_letters.Given as goal
 

@@ -1,7 +1,7 @@
 use Rattle.std.proofs.Common.{◌≡◌, ◌<◌, ◌++◌, ◌∙◌, sym, ap, subst, arith, rules, length, length-append}
 use Rattle.std.specs.Prelude.{reverse}
 use Rattle.dg_lists.specs.Gathered.{Gathered, gathered_size, added}
-use Rattle.dg_lists.proofs.Stacks.{size_of_rows, Adds, adds}
+use Rattle.dg_lists.proofs.Stacks.{size_of_rows, adds}
 use Rattle.dg_lists.proofs.gather.Gather.add.Goals as goal
 
 pub unwrap-requires : goal.unwrap-requires

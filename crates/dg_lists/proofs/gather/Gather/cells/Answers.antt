@@ -1,4 +1,4 @@
-use Rattle.std.proofs.Common.{◌≡◌, ◌+◌, ◌∙◌, sym, ap, arith, length, drop, Some, slice_get, slice_index}
+use Rattle.std.proofs.Common.{◌∙◌, sym, ap, arith, length, drop, Some, slice_get, slice_index}
 use Rattle.dg_lists.specs.Gathered.{Gathered}
 use Rattle.dg_lists.proofs.Stacks.{length-rows, newest}
 use Rattle.dg_lists.proofs.gather.Gather.cells.Goals as goal

@@ -1,4 +1,4 @@
-use Rattle.std.proofs.Common.{◌≡◌, ◌+◌, ◌-◌, ◌<◌, ◌≤◌, ◌∙◌, sym, ap, arith, length, drop, length-drop}
+use Rattle.std.proofs.Common.{◌≡◌, ◌+◌, ◌-◌, ◌∙◌, ap, arith, length, drop, length-drop}
 use Rattle.dg_lists.specs.Gathered.{Gathered}
 use Rattle.dg_lists.proofs.Stacks.{drop_one}
 use Rattle.dg_lists.proofs.gather.Gather.drop_to.Goals as goal
