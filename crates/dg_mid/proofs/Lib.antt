@@ -25,3 +25,4 @@ pub mod Shaped
 pub mod Charge
 pub mod Selects
 pub mod Worked
+pub mod WritingLemmas

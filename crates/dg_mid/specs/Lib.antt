@@ -11,3 +11,4 @@ pub mod Falling
 pub mod Potential
 pub mod Shapes
 pub mod Laws
+pub mod Writing
