@@ -78,7 +78,10 @@ no_stmt = tree.group tree.no_branches
 
 abbrev pub closing : Setting → Close → Built → Built
 closing c (close.List k) s = record s { values = front k s.values ++ tree.plain_list (values_of (behind k s.values)) ∷ [] }
-closing c (close.Tailed k) s = record s { values = front k (init s.values) ++ tree.tailed_list (values_of (behind k (init s.values))) (last_or tree.current_topic s.values) ∷ [] }
+closing c (close.Tailed k) s = record s {
+  values = front k (init s.values)
+      ++ tree.tailed_list (values_of (behind k (init s.values))) (last_or tree.current_topic s.values) ∷ [];
+}
 closing c close.Closure s = record s { bodies = init s.bodies; values = s.values ++ tree.closure (last_or tree.no_branches s.bodies) ∷ [] }
 closing c (close.Nested k) s = record s { parts = front k s.parts; values = s.values ++ standing_for c (parts_of (behind k s.parts)) ∷ [] }
 closing c (close.Put k n) s = record s { at = n; parts = front k s.parts; puts = s.puts ++ tree.ask_all (parts_of (behind k s.parts)) ∷ [] }
@@ -88,15 +91,34 @@ closing c (close.Query a k) s = record s { parts = front k s.parts; stmts = s.st
 closing c (close.Wrapped w) s = record s { bodies = init s.bodies; stmts = s.stmts ++ wrapped w (last_or tree.no_branches s.bodies) ∷ [] }
 closing c (close.Now k) s = record s { changes = front k s.changes; stmts = s.stmts ++ tree.now (changes_of (behind k s.changes)) ∷ [] }
 closing c (close.If k) s = record s { arms = front k s.arms; stmts = s.stmts ++ tree.choice (arms_of (behind k s.arms)) ∷ [] }
-closing c (close.IfElse k) s = record s { arms = front k s.arms; bodies = init s.bodies; stmts = s.stmts ++ tree.choice_else (arms_of (behind k s.arms)) (last_or tree.no_branches s.bodies) ∷ [] }
+closing c (close.IfElse k) s = record s {
+  arms = front k s.arms;
+  bodies = init s.bodies;
+  stmts = s.stmts
+      ++ tree.choice_else (arms_of (behind k s.arms)) (last_or tree.no_branches s.bodies) ∷ [];
+}
 closing c close.Exhaust s = record s { stmts = init s.stmts ++ tree.exhaust (last_or no_stmt s.stmts) ∷ [] }
 closing c close.Stoppable s = record s { stmts = init s.stmts ++ tree.stoppable (last_or no_stmt s.stmts) ∷ [] }
-closing c close.Collect s = record s { values = init (init s.values); bodies = init s.bodies; stmts = s.stmts ++ tree.collect (last_or tree.current_topic (init s.values)) (last_or tree.no_branches s.bodies) (last_or tree.current_topic s.values) ∷ [] }
-closing c close.Accumulate s = record s { values = init (init s.values); bodies = init s.bodies; stmts = s.stmts ++ tree.accumulate (last_or tree.current_topic (init s.values)) (last_or tree.no_branches s.bodies) (last_or tree.current_topic s.values) ∷ [] }
+closing c close.Collect s = record s {
+  values = init (init s.values);
+  bodies = init s.bodies;
+  stmts = s.stmts
+      ++ tree.collect (last_or tree.current_topic (init s.values)) (last_or tree.no_branches s.bodies) (last_or tree.current_topic s.values) ∷ [];
+}
+closing c close.Accumulate s = record s {
+  values = init (init s.values);
+  bodies = init s.bodies;
+  stmts = s.stmts
+      ++ tree.accumulate (last_or tree.current_topic (init s.values)) (last_or tree.no_branches s.bodies) (last_or tree.current_topic s.values) ∷ [];
+}
 closing c (close.Select mode k) s = record s { branches = front k s.branches; stmts = s.stmts ++ tree.select mode (branches_of (behind k s.branches)) ∷ [] }
 closing c (close.Branch k) s = record s { stmts = front k s.stmts; branches = s.branches ++ stmts_of (behind k s.stmts) ∷ [] }
 closing c (close.Body k) s = record s { branches = front k s.branches; bodies = s.bodies ++ branches_of (behind k s.branches) ∷ [] }
-closing c close.Arm s = record s { bodies = init (init s.bodies); arms = s.arms ++ (last_or tree.no_branches (init s.bodies), last_or tree.no_branches s.bodies) ∷ [] }
+closing c close.Arm s = record s {
+  bodies = init (init s.bodies);
+  arms = s.arms
+      ++ (last_or tree.no_branches (init s.bodies), last_or tree.no_branches s.bodies) ∷ [];
+}
 closing c (close.Change set k) s = record s { parts = front k s.parts; changes = s.changes ++ (parts_of (behind k s.parts), set) ∷ [] }
 
 -- ---- a part of the tree that is looked at
@@ -107,21 +129,36 @@ only_if true xs = xs
 only_if false xs = []
 
 abbrev pub after_value : Setting → Bool → Value → Built → Built
-after_value c puts v s = record s { at = s.at + new_in_value v; values = s.values ++ plain_value c s.at v ∷ []; puts = s.puts ++ only_if puts (puts_of_value c s.at v) }
+after_value c puts v s = record s {
+  at = s.at + new_in_value v;
+  values = s.values ++ plain_value c s.at v ∷ [];
+  puts = s.puts
+      ++ only_if puts (puts_of_value c s.at v);
+}
 
 abbrev pub list_of_values : Values → List Value
 list_of_values tree.no_values = []
 list_of_values (tree.value v vs) = v ∷ list_of_values vs
 
 abbrev pub after_values : Setting → Bool → Values → Built → Built
-after_values c puts vs s = record s { at = s.at + new_in_values vs; values = s.values ++ list_of_values (plain_values c s.at vs); puts = s.puts ++ only_if puts (puts_of_values c s.at vs) }
+after_values c puts vs s = record s {
+  at = s.at + new_in_values vs;
+  values = s.values ++ list_of_values (plain_values c s.at vs);
+  puts = s.puts
+      ++ only_if puts (puts_of_values c s.at vs);
+}
 
 abbrev pub list_of_parts : Parts → List Part
 list_of_parts tree.no_parts = []
 list_of_parts (tree.part p ps) = p ∷ list_of_parts ps
 
 abbrev pub after_parts : Setting → Bool → Parts → Built → Built
-after_parts c puts ps s = record s { at = s.at + new_in_parts ps; parts = s.parts ++ list_of_parts (plain_parts c s.at ps); puts = s.puts ++ only_if puts (puts_of_parts c s.at ps) }
+after_parts c puts ps s = record s {
+  at = s.at + new_in_parts ps;
+  parts = s.parts ++ list_of_parts (plain_parts c s.at ps);
+  puts = s.puts
+      ++ only_if puts (puts_of_parts c s.at ps);
+}
 
 abbrev pub after_stmt : Setting → Stmt → Built → Built
 after_stmt c x s = record s { at = s.at + new_in_stmt x; stmts = s.stmts ++ plain_stmt c s.at x ∷ [] }

@@ -102,4 +102,5 @@ has_excess said = nat_lt 10000 (weight_of queries_at (things (counted_of said)))
 
 -- A count in all passes its number: rules, closures, select sites or nodes.
 abbrev pub are_many : List Item → Bool
-are_many is = let ts = counted_among is in nat_lt 16000 (weight_of rules_at ts) || (nat_lt 16000 (weight_of closures_at ts) || (nat_lt 500 (weight_of selects_at ts) || nat_lt 2000000 (weight_of nodes_at ts)))
+are_many is = let ts = counted_among is in nat_lt 16000 (weight_of rules_at ts)
+    || (nat_lt 16000 (weight_of closures_at ts) || (nat_lt 500 (weight_of selects_at ts) || nat_lt 2000000 (weight_of nodes_at ts)))

@@ -137,8 +137,10 @@ abbrev mutual
   plain_stmt c n (tree.choice_else arms b) = tree.choice_else (plain_arms c n arms) (plain_body c (n + new_in_arms arms) b)
   plain_stmt c n (tree.exhaust s) = tree.exhaust (plain_stmt c n s)
   plain_stmt c n (tree.stoppable s) = tree.stoppable (plain_stmt c n s)
-  plain_stmt c n (tree.collect v b into) = tree.collect (plain_value c n v) (plain_body c (n + new_in_value v) b) (plain_value c (n + new_in_value v + new_in_body b) into)
-  plain_stmt c n (tree.accumulate v b into) = tree.accumulate (plain_value c n v) (plain_body c (n + new_in_value v) b) (plain_value c (n + new_in_value v + new_in_body b) into)
+  plain_stmt c n (tree.collect v b into) = tree.collect (plain_value c n v) (plain_body c (n + new_in_value v) b)
+      (plain_value c (n + new_in_value v + new_in_body b) into)
+  plain_stmt c n (tree.accumulate v b into) = tree.accumulate (plain_value c n v) (plain_body c (n + new_in_value v) b)
+      (plain_value c (n + new_in_value v + new_in_body b) into)
   plain_stmt c n (tree.select mode b) = tree.select mode (plain_body c n b)
   plain_stmt c n (tree.first_answer b) = tree.first_answer (plain_body c n b)
 
@@ -162,7 +164,8 @@ abbrev mutual
 
 -- The parts of `($S = @word)`, of a variable and a word.
 abbrev pub test_parts : List ℕ → List ℕ → Parts
-test_parts name w = tree.part (tree.part_value (tree.variable name)) (tree.part (tree.part_word (codes "=")) (tree.part (tree.part_value (tree.dict_word w)) tree.no_parts))
+test_parts name w = tree.part (tree.part_value (tree.variable name))
+    (tree.part (tree.part_word (codes "=")) (tree.part (tree.part_value (tree.dict_word w)) tree.no_parts))
 
 -- A branch for each word.
 abbrev pub word_branches : List ℕ → List (List ℕ) → Body

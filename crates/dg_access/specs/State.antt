@@ -70,4 +70,5 @@ stack_of (s ∷ ss) = stack_of ss ++ scope_view s.items ∷ []
 
 -- What was met was noted, and this says whether a scope is full there.
 abbrev pub IsNoted : (List ℕ → ℕ) → Met → Scopes → Scopes → Bool → Type 0
-IsNoted total m old new over = (ms : List Met) → scopes.passes total (m ∷ ms) (scope_view old.inner.items) (stack_of old.outer.items) ≡ (over || scopes.passes total ms (scope_view new.inner.items) (stack_of new.outer.items))
+IsNoted total m old new over = (ms : List Met) → scopes.passes total (m ∷ ms) (scope_view old.inner.items) (stack_of old.outer.items)
+    ≡ (over || scopes.passes total ms (scope_view new.inner.items) (stack_of new.outer.items))

@@ -151,7 +151,8 @@ fn counted_mentions(alloc: Global, said: &ItemBody) -> Result<Vec<Mention<'_>>, 
 
 // Adds an item: whether a count passes its number there.
 fn add_item(alloc: Global, counts: &mut Counts, said: &ItemBody) -> Result<bool, AllocError>
-    ensures over { IfOk result (λ over. over ≡ (spec.has_excess (said_view said.now) || scopes.has_many (behind (counts_view counts.old) (said_view said.now)))) }
+    ensures over { IfOk result (λ over. over ≡ (spec.has_excess (said_view said.now)
+        || scopes.has_many (behind (counts_view counts.old) (said_view said.now)))) }
     ensures behind { OnOk result (counts_view counts.new ≡ behind (counts_view counts.old) (said_view said.now)) }
 {
     let mentions = counted_mentions(alloc, said)?;

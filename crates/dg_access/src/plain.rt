@@ -87,7 +87,8 @@ pub fn plain_parts_of(
 ) -> Result<Plain, AllocError>
     ensures head { IfOk result (λ new. head_view new.head ≡ spec.plain_parts (setting_view setting.entry) 0 (head_view head.now)) }
     ensures puts { IfOk result (λ new. map stmt_view new.puts.items ≡ spec.puts_of_parts (setting_view setting.entry) 0 (head_view head.now)) }
-    ensures body { IfOk result (λ new. body_view new.body ≡ spec.plain_body (setting_view setting.entry) (spec.new_in_parts (head_view head.now)) (body_view body.now)) }
+    ensures body { IfOk result (λ new. body_view new.body ≡ spec.plain_body (setting_view setting.entry) (spec.new_in_parts (head_view head.now))
+        (body_view body.now)) }
 {
     let parts = head.parts.as_slice();
     let left = work_of(alloc, parts, body)?;

@@ -49,7 +49,8 @@ fn put_off_gathering<'a>(
     body: &'a Body,
     into: &'a Value,
 ) -> Result<(), AllocError>
-    ensures { OnOk result (left.new.items ≡ left.old.items ++ Work.Close close ∷ Work.Value false into.entry ∷ Work.Body body.entry ∷ Work.Value false value.entry ∷ []) }
+    ensures { OnOk result (left.new.items ≡ left.old.items ++ Work.Close close ∷ Work.Value false into.entry ∷ Work.Body body.entry
+        ∷ Work.Value false value.entry ∷ []) }
 {
     left.push(Work::Close(close))?;
     left.push(Work::Value(false, into))?;
@@ -100,7 +101,10 @@ fn put_value(built: &mut Built, value: Value) -> Result<(), AllocError>
 }
 
 fn put_word(alloc: Global, built: &mut Built, word: &[u8]) -> Result<(), AllocError>
-    ensures { OnOk result (built_view built.new ≡ record (built_view built.old) { parts = map part_view built.old.parts.items ++ tree.part_word word.now ∷ [] }) }
+    ensures { OnOk result (built_view built.new ≡ record (built_view built.old) {
+      parts = map part_view built.old.parts.items
+          ++ tree.part_word word.now ∷ [];
+    }) }
 {
     built.parts.push(Part::Word(copied(alloc, word)?))?;
     Ok(())
@@ -144,7 +148,8 @@ fn look_list<'a>(
     values: &'a [Value],
     tail: &'a Option<Boxed<Value>>,
 ) -> Result<(), AllocError>
-    ensures { OnOk result (IsPutOff (λ c. after_value c puts (list_view (map value_view values.now) (option_map value_view tail.now))) left.old.items left.new.items) }
+    ensures { OnOk result (IsPutOff (λ c. after_value c puts
+        (list_view (map value_view values.now) (option_map value_view tail.now))) left.old.items left.new.items) }
 {
     match tail {
         None => put_off(left, Close::List(values.len()), Work::Values(puts, values)),
@@ -164,7 +169,8 @@ fn look_nested<'a>(
     puts: bool,
     parts: &'a [Part],
 ) -> Result<(), AllocError>
-    ensures { OnOk result ((c : spec.Setting) (s : building.Built) → s.at ≡ number → run c left.new.items s ≡ run c left.old.items (after_value c puts (tree.nested (parts_of (map part_view parts.now))) s)) }
+    ensures { OnOk result ((c : spec.Setting) (s : building.Built) → s.at ≡ number →
+        run c left.new.items s ≡ run c left.old.items (after_value c puts (tree.nested (parts_of (map part_view parts.now))) s)) }
 {
     put_off(left, Close::Nested(parts.len()), Work::Parts(false, parts))?;
     if puts {
@@ -185,7 +191,8 @@ fn look_value<'a>(
     puts: bool,
     value: &'a Value,
 ) -> Result<(), AllocError>
-    ensures { OnOk result (IsStep (setting_view setting.entry) (after_value (setting_view setting.entry) puts (value_view value.now)) left.old.items left.new.items built.old built.new) }
+    ensures { OnOk result (IsStep (setting_view setting.entry)
+        (after_value (setting_view setting.entry) puts (value_view value.now)) left.old.items left.new.items built.old built.new) }
 {
     match value {
         Value::Num(number) => put_value(built, Value::Num(*number)),
@@ -226,7 +233,8 @@ fn look_parts<'a>(
     puts: bool,
     parts: &'a [Part],
 ) -> Result<(), AllocError>
-    ensures { OnOk result (IsStep (setting_view setting.entry) (after_parts (setting_view setting.entry) puts (parts_of (map part_view parts.now))) left.old.items left.new.items built.old built.new) }
+    ensures { OnOk result (IsStep (setting_view setting.entry)
+        (after_parts (setting_view setting.entry) puts (parts_of (map part_view parts.now))) left.old.items left.new.items built.old built.new) }
 {
     match parts {
         [] => Ok(()),
@@ -342,7 +350,8 @@ fn look_stmt<'a>(
     built: &mut Built,
     stmt: &'a Stmt,
 ) -> Result<(), AllocError>
-    ensures { OnOk result (IsStep (setting_view setting.entry) (after_stmt (setting_view setting.entry) (stmt_view stmt.now)) left.old.items left.new.items built.old built.new) }
+    ensures { OnOk result (IsStep (setting_view setting.entry)
+        (after_stmt (setting_view setting.entry) (stmt_view stmt.now)) left.old.items left.new.items built.old built.new) }
 {
     match stmt {
         Stmt::Text(word) => {
@@ -388,7 +397,8 @@ pub fn step<'a>(
     built: &mut Built,
     work: Work<'a>,
 ) -> Result<(), AllocError>
-    ensures { OnOk result (IsStep (setting_view setting.entry) (does (setting_view setting.entry) work.entry) left.old.items left.new.items built.old built.new) }
+    ensures { OnOk result (IsStep (setting_view setting.entry)
+        (does (setting_view setting.entry) work.entry) left.old.items left.new.items built.old built.new) }
 {
     match work {
         Work::Close(construct) => close(alloc, setting, built, construct),

@@ -41,7 +41,8 @@ fn add_mention<'a>(
     totals: &mut IndexMap<&'a [u8], usize>,
     mention: Mention<'a>,
 ) -> Result<(), AllocError>
-    ensures { OnOk result ((n : List ℕ) → total_in totals.new n ≡ total_in totals.old n + times n (names_in variable_in (thing_at (mention_view mention.entry)))) }
+    ensures { OnOk result ((n : List ℕ) → total_in totals.new n
+        ≡ total_in totals.old n + times n (names_in variable_in (thing_at (mention_view mention.entry)))) }
 {
     if let Mention::Variable(name) = mention {
         add_name(totals, name)?;

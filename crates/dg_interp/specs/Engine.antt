@@ -101,7 +101,8 @@ abbrev pub Inside : Engine → Game → World → Type 0
 Inside e g w = Within e.program.now e.store e.refs.items e.frames.items (reverse e.choices.items) g w
 
 -- They are there on a path with these registers, on which the next choice has this tag, inside this stoppable part.
-pub record On (p : CoreProgram) (store : ListBindings) (refs : List Ref) (frames : List Frame) (os : List Choice) (next : ℕ) (part : Option ℕ) (g : Game) (w : World) : Type 0 where
+pub record On (p : CoreProgram) (store : ListBindings) (refs : List Ref) (frames : List Frame) (os : List Choice) (next : ℕ) (part : Option ℕ)
+    (g : Game) (w : World) : Type 0 where
   pub inside : Within p store refs frames os g w
   pub ways : List Way
   pub ways_are : ways ≡ ways_of os inside.entries
@@ -268,7 +269,8 @@ GoesToGoal From (Some other) old new = ⊥
 -- The run comes from this goal, in front of where the engine is.
 pub record TakesAt (x : Goal) (e : Engine) (g : Game) (n : ℕ) (w : World) (run : Run) : Type 0 where
   pub at : There e (e.newest + 1) g w
-  pub stands : Stands g at.inside.lives at.ways (path_of (Do x (values_in (store_in e.store) e.refs.items e.here.env) e.here.tag ∷ steps_of e) at.registers) (suc n) w run
+  pub stands : Stands g at.inside.lives at.ways (path_of (Do x (values_in (store_in e.store) e.refs.items e.here.env) e.here.tag
+      ∷ steps_of e) at.registers) (suc n) w run
 
 -- A frame that goes on where the engine is, with this goal in front.
 pub record IsAgain (x : Goal) (again : Frame) (e : Engine) : Type 0 where
@@ -312,7 +314,8 @@ pub record WrotePrinted (term : Term) (value : Ref) (old new : Engine) : Type 0 
   pub left : new.left ≡ old.left
   pub limits : SameLimits old new
   pub holds : Holds (store_in new.store) value
-  pub leads : (g : Game) (n : ℕ) (w : World) (run : Run) → TakesAt (PrintGoal term) old g n w run → Then (map Piece (pieces_at new value)) w (λ v. StandsAt new g n v run)
+  pub leads : (g : Game) (n : ℕ) (w : World) (run : Run) → TakesAt (PrintGoal term) old g n w run →
+      Then (map Piece (pieces_at new value)) w (λ v. StandsAt new g n v run)
 
 -- ## Branches
 
@@ -343,7 +346,8 @@ pub record BeginsAt (left : Left) (place : Place) (e : Engine) (g : Game) (n : �
   pub back : Saved
   pub is : IsPlace e place back at.inside.saved
   pub back_agrees : Agrees back.store at.registers
-  pub tried : Tried g (kind_of left) at.registers.next_tag 0 at.ways at.inside.lives (branches_of g (values_in (store_in e.store) e.refs.items) e.frames.items (length e.frames.items) left at.registers) n w run
+  pub tried : Tried g (kind_of left) at.registers.next_tag 0 at.ways at.inside.lives
+      (branches_of g (values_in (store_in e.store) e.refs.items) e.frames.items (length e.frames.items) left at.registers) n w run
 
 -- A choice, or what stands in step with it, in front of others where it stays.
 abbrev pub kept_if : {A : Type 0} → Bool → A → List A → List A
@@ -358,7 +362,8 @@ Retries From (Some begun) old new = Tries From begun old new × (branches_left n
 -- The run comes from the first of these branches, in a choice that opens where the engine is.
 pub record OpensAt (left : Left) (e : Engine) (g : Game) (n : ℕ) (w : World) (run : Run) : Type 0 where
   pub at : There e (e.newest + 1) g w
-  pub tried : Tried g (kind_of left) at.registers.next_tag 0 at.ways at.inside.lives (branches_of g (values_in (store_in e.store) e.refs.items) e.frames.items (length e.frames.items) left at.registers) n w run
+  pub tried : Tried g (kind_of left) at.registers.next_tag 0 at.ways at.inside.lives
+      (branches_of g (values_in (store_in e.store) e.refs.items) e.frames.items (length e.frames.items) left at.registers) n w run
 
 -- A frame was put behind the others; all else is as it was.
 pub record IsPushed (frame : Frame) (old new : Engine) : Type 0 where

@@ -71,9 +71,11 @@ kind_of other = Plain
 
 -- The branches that a choice has left, on so many frames.
 abbrev pub branches_of : Game → (Env → List Value) → List Frame → ℕ → Left → Registers → List Branch
-branches_of g values fs height (Rules query args rules) registers = rule_branches g query.pred (values args) query.many (steps_behind values fs height) registers rules.now
+branches_of g values fs height (Rules query args rules) registers = rule_branches g query.pred (values args) query.many
+    (steps_behind values fs height) registers rules.now
 branches_of g values fs height (Lists env tag lists) registers = list_branches (values env) tag (steps_behind values fs height) registers lists.now
-branches_of g values fs height (Ways first other) registers = enter 10 0 registers (steps_at values fs first) ∷ enter 0 0 registers (steps_at values fs other) ∷ []
+branches_of g values fs height (Ways first other) registers = enter 10 0 registers (steps_at values fs first)
+    ∷ enter 0 0 registers (steps_at values fs other) ∷ []
 branches_of g values fs height (Way frame) registers = enter 0 0 registers (steps_at values fs frame) ∷ []
 branches_of g values fs height (Behind frame cut) registers = enter 0 0 registers (steps_at values fs frame) ∷ []
 
@@ -104,7 +106,8 @@ cells_if false = 0
 pub record BeginsWith (height : ℕ) (frame : Frame) (others left : Left) : Type 0 where
   pub kind : kind_of others ≡ kind_of left
   pub work : ℕ
-  pub branches : (g : Game) (values : Env → List Value) (fs : List Frame) (r : Registers) → branches_of g values fs height left r ≡ enter (cells_if (stays_with others)) work r (steps_at values fs frame) ∷ branches_of g values fs height others r
+  pub branches : (g : Game) (values : Env → List Value) (fs : List Frame) (r : Registers) →
+      branches_of g values fs height left r ≡ enter (cells_if (stays_with others)) work r (steps_at values fs frame) ∷ branches_of g values fs height others r
 
 -- These aren't the way on behind a stoppable part.
 abbrev pub IsNoPart : Left → Type 0
@@ -188,7 +191,9 @@ IsNoted tag (Some t) = t ≤ tag
 -- Choices, the newest first, stand on at most so many frames and Refs, and their tags are at most this.
 abbrev pub StandOn : List Frame → ℕ → ℕ → ℕ → List Choice → Type 0
 StandOn fs height refs tag [] = Unit {0}
-StandOn fs height refs tag (o ∷ os) = (o.height ≤ height) × (o.refs ≤ refs) × (o.tag ≤ tag) × (IsLeft o.height o.refs o.left × (stays_with o.left ≡ true) × IsNoted o.tag (cut_of o.left)) × AreFrames o.height o.refs fs × StandOn fs o.height o.refs o.tag os
+StandOn fs height refs tag (o ∷ os) = (o.height ≤ height) × (o.refs ≤ refs) × (o.tag ≤ tag) ×
+    (IsLeft o.height o.refs o.left × (stays_with o.left ≡ true) × IsNoted o.tag (cut_of o.left)) × AreFrames o.height o.refs fs ×
+    StandOn fs o.height o.refs o.tag os
 
 -- The stores to which choices go back hold what stands behind them, and have these limits.
 abbrev pub GoBackTo : List Ref → ℕ → ℕ → List Choice → List Saved → Type 0

@@ -36,13 +36,15 @@ pub record EntersRule (program : CoreProgram) (rule : Rule) (args : List Value) 
 -- It came to no end: heap or trail is full only where all of it would pass the limit.
 abbrev pub RuleFull : CoreProgram → Rule → List Value → Store → Full → Type 0
 RuleFull program rule args s full.Heap = s.heap_limit < s.state.heap + rule_cells program rule
-RuleFull program rule args s full.Trail = s.trail_limit + trail_of s.state.since s.state.subst < s.state.trail + trail_of s.state.since (matched_in program rule args s).subst
+RuleFull program rule args s full.Trail = s.trail_limit + trail_of s.state.since s.state.subst < s.state.trail + trail_of s.state.since
+    (matched_in program rule args s).subst
 RuleFull program rule args s full.OutOfMemory = Unit {0}
 
 -- ## Arguments
 
 -- The values of the arguments of a query were put behind some Refs, among these values of variables.
-pub record ArgsWritten (program : CoreProgram) (values : List Value) (terms : List Term) (old new : Store) (before behind : List Ref) (args : Env) : Type 0 where
+pub record ArgsWritten (program : CoreProgram) (values : List Value) (terms : List Term) (old new : Store) (before behind : List Ref)
+    (args : Env) : Type 0 where
   pub written : Written (cells program terms) (map (value_of program values) terms) old new before behind
   pub from : args.from ≡ length before
   pub count : args.len ≡ length written.appended.made

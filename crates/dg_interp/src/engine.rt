@@ -181,7 +181,10 @@ fn enter(
     requires plain { All HasNoClosure rule.now.head }
     ensures kept { Kept (store_in store.old) (store_in store.new) }
     ensures saved { (ms : List Saved) → KeepsPlaces store.old ms → KeepsPlaces store.new ms }
-    ensures entered { (program : Program) → MatchResult result (λ found. EntersRule program rule.now (values_in (store_in store.old) refs.old.items args) (store_in store.old) (store_in store.new) refs.old.items refs.new.items found) (λ e. RuleFull program rule.now (values_in (store_in store.old) refs.old.items args) (store_in store.old) e) }
+    ensures entered { (program : Program) → MatchResult result
+        (λ found. EntersRule program rule.now (values_in (store_in store.old) refs.old.items args) (store_in store.old)
+        (store_in store.new) refs.old.items refs.new.items found)
+        (λ e. RuleFull program rule.now (values_in (store_in store.old) refs.old.items args) (store_in store.old) e) }
 {
     store.charge(6)?;
     let from = refs.len();
@@ -206,7 +209,9 @@ fn write_args(
     requires plain { All HasNoClosure terms.now }
     ensures kept { Kept (store_in store.old) (store_in store.new) }
     ensures saved { (ms : List Saved) → KeepsPlaces store.old ms → KeepsPlaces store.new ms }
-    ensures written { (program : Program) → MatchResult result (λ args. ArgsWritten program (values_in (store_in store.old) refs.old.items env) terms.now (store_in store.old) (store_in store.new) refs.old.items refs.new.items args) (λ e. Overflows (cells program terms.now) (store_in store.old) e) }
+    ensures written { (program : Program) → MatchResult result
+        (λ args. ArgsWritten program (values_in (store_in store.old) refs.old.items env) terms.now (store_in store.old)
+        (store_in store.new) refs.old.items refs.new.items args) (λ e. Overflows (cells program terms.now) (store_in store.old) e) }
 {
     made.clear();
     match write_terms(store, stretch(refs, env), terms, made) {
@@ -437,9 +442,11 @@ impl<'p> Engine<'p> {
         requires stays { stays ≡ stays_with others }
         requires plain { IsNoPart others }
         requires place { HasPlace self.old place }
-        ensures begun { OnOk result ((all : TheLeft) → BeginsWith (length self.old.frames.items) frame.entry others.entry all → WentOn (BeginsAt all place self.old) self.old self.new) }
+        ensures begun { OnOk result ((all : TheLeft) → BeginsWith (length self.old.frames.items) frame.entry others.entry all →
+            WentOn (BeginsAt all place self.old) self.old self.new) }
         ensures fewer { OnOk result (branches_left self.new ≤ branches_left self.old + 1 + left_in others.entry) }
-        ensures full { IfErr result (λ e. (all : TheLeft) → BeginsWith (length self.old.frames.items) frame.entry others.entry all → FullAt (BeginsAt all place self.old) (store_in self.old.store) e) }
+        ensures full { IfErr result (λ e. (all : TheLeft) → BeginsWith (length self.old.frames.items) frame.entry others.entry all →
+            FullAt (BeginsAt all place self.old) (store_in self.old.store) e) }
         ensures left { self.new.left ≡ self.old.left }
     {
         let height = self.frames.len();

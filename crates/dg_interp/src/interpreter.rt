@@ -37,8 +37,10 @@ fn write_run<K: Sink>(
     sink: &mut K,
 ) -> Result<Outcome, RunFault>
     requires starts { Starts program.now limits.now.steps limits.now.heap limits.now.trail engine.old }
-    ensures shows { IfOk result (λ outcome. (dice : List ℕ) (typed : List ℕ) (told : Option (List ℕ)) → IsLeft told typed → HasShown (game program.now dice) typed limits.now outcome told (K.view sink.old) (K.view sink.new)) }
-    ensures err { IfErr result (λ fault. (dice : List ℕ) (typed : List ℕ) (told : Option (List ℕ)) → IsLeft told typed → HasBrokenOff fault (game program.now dice) typed limits.now told (K.view sink.old) (K.view sink.new)) }
+    ensures shows { IfOk result (λ outcome. (dice : List ℕ) (typed : List ℕ) (told : Option (List ℕ)) → IsLeft told typed →
+        HasShown (game program.now dice) typed limits.now outcome told (K.view sink.old) (K.view sink.new)) }
+    ensures err { IfErr result (λ fault. (dice : List ℕ) (typed : List ℕ) (told : Option (List ℕ)) → IsLeft told typed →
+        HasBrokenOff fault (game program.now dice) typed limits.now told (K.view sink.old) (K.view sink.new)) }
     ensures reads { IsErrOf result RunFault.Read → ⊥ }
 {
     let mut spacer = Spacer::new();
@@ -70,8 +72,10 @@ pub fn interpret<S: Source, K: Sink>(
 ) -> Result<Outcome, RunFault>
     requires dice { 0 < length dice.now }
     requires built { IsBuilt program.now }
-    ensures shows { IfOk result (λ outcome. ForTyped (S.view source.old).left (λ typed. HasShown (game program.now dice.now) typed limits.now outcome (S.view source.new).left (K.view sink.old) (K.view sink.new))) }
-    ensures err { IfErr result (λ fault. ForTyped (S.view source.old).left (λ typed. HasBrokenOff fault (game program.now dice.now) typed limits.now (S.view source.new).left (K.view sink.old) (K.view sink.new))) }
+    ensures shows { IfOk result (λ outcome. ForTyped (S.view source.old).left
+        (λ typed. HasShown (game program.now dice.now) typed limits.now outcome (S.view source.new).left (K.view sink.old) (K.view sink.new))) }
+    ensures err { IfErr result (λ fault. ForTyped (S.view source.old).left
+        (λ typed. HasBrokenOff fault (game program.now dice.now) typed limits.now (S.view source.new).left (K.view sink.old) (K.view sink.new))) }
     ensures read { IsErrOf result RunFault.Read → Rose (S.view source.old).faults (S.view source.new).faults }
     ensures later { (S.view source.old).faults ≤ (S.view source.new).faults }
 {

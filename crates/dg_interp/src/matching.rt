@@ -14,7 +14,8 @@ pub fn unify_all<B: Bindings>(store: &mut B, args: &[Ref], head: &[Ref]) -> Resu
     requires head { All (Holds (B.meaning store.old)) head.now }
     ensures kept { Kept (B.meaning store.old) (B.meaning store.new) }
     ensures saved { (ms : List Saved) → B.saves store.old ms → B.saves store.new ms }
-    ensures unified { Follows (B.meaning store.old) (B.meaning store.new) (solve (B.meaning store.old).state.subst (zip (map (told (B.meaning store.old)) args.now) (map (told (B.meaning store.old)) head.now))) result }
+    ensures unified { Follows (B.meaning store.old) (B.meaning store.new)
+        (solve (B.meaning store.old).state.subst (zip (map (told (B.meaning store.old)) args.now) (map (told (B.meaning store.old)) head.now))) result }
 {
     let mut at = 0;
     'pairs: while at < args.len() && at < head.len() {

@@ -110,7 +110,8 @@ fn print_unknown<B: Bindings, K: Sink>(
     word: Ref,
 ) -> Result<(), WriteFault>
     requires { (spelling : List ℕ) × IsUnknownAt (B.meaning store.now) word spelling }
-    ensures { (spelling : List ℕ) → IsUnknownAt (B.meaning store.now) word spelling → Printed (word_text spelling ∷ []) spacer.old spacer.new (K.view sink.old) (K.view sink.new) result }
+    ensures { (spelling : List ℕ) → IsUnknownAt (B.meaning store.now) word spelling →
+        Printed (word_text spelling ∷ []) spacer.old spacer.new (K.view sink.old) (K.view sink.new) result }
 {
     let mut buffer = [0; 800];
     let len = text_into(store, word, &mut buffer);
@@ -126,7 +127,8 @@ fn print_first<B: Bindings, K: Sink>(
     value: View,
 ) -> Result<(), WriteFault>
     requires { (w : Value) × Shows (B.meaning store.now) w value }
-    ensures { (w : Value) → Shows (B.meaning store.now) w value → Printed (first_piece program.now w ∷ []) spacer.old spacer.new (K.view sink.old) (K.view sink.new) result }
+    ensures { (w : Value) → Shows (B.meaning store.now) w value →
+        Printed (first_piece program.now w ∷ []) spacer.old spacer.new (K.view sink.old) (K.view sink.new) result }
 {
     match value {
         View::Unbound(_) => print_piece(spacer, sink, b"$"),
@@ -166,7 +168,8 @@ fn print_single<B: Bindings, K: Sink>(
     value: View,
 ) -> Result<(), WriteFault>
     requires { (w : Value) × Shows (B.meaning store.now) w value }
-    ensures { (w : Value) → Shows (B.meaning store.now) w value → Printed (single_pieces program.now w) spacer.old spacer.new (K.view sink.old) (K.view sink.new) result }
+    ensures { (w : Value) → Shows (B.meaning store.now) w value →
+        Printed (single_pieces program.now w) spacer.old spacer.new (K.view sink.old) (K.view sink.new) result }
 {
     if is_nil(value) {
         return print_nil(spacer, sink);
@@ -183,7 +186,8 @@ fn print_tail<B: Bindings, K: Sink>(
     tail: View,
 ) -> Result<(), WriteFault>
     requires { (w : Value) × Shows (B.meaning store.now) w tail }
-    ensures { (w : Value) → Shows (B.meaning store.now) w tail → Printed (codes "|" ∷ first_piece program.now w ∷ codes "]" ∷ []) spacer.old spacer.new (K.view sink.old) (K.view sink.new) result }
+    ensures { (w : Value) → Shows (B.meaning store.now) w tail →
+        Printed (codes "|" ∷ first_piece program.now w ∷ codes "]" ∷ []) spacer.old spacer.new (K.view sink.old) (K.view sink.new) result }
 {
     match print_piece(spacer, sink, b"|") {
         Err(fault) => Err(fault),
@@ -203,7 +207,8 @@ fn print_end<B: Bindings, K: Sink>(
     tail: View,
 ) -> Result<(), WriteFault>
     requires { (w : Value) × Shows (B.meaning store.now) w tail }
-    ensures { (w : Value) → Shows (B.meaning store.now) w tail → Printed (end_pieces program.now w) spacer.old spacer.new (K.view sink.old) (K.view sink.new) result }
+    ensures { (w : Value) → Shows (B.meaning store.now) w tail →
+        Printed (end_pieces program.now w) spacer.old spacer.new (K.view sink.old) (K.view sink.new) result }
 {
     if is_nil(tail) {
         return print_piece(spacer, sink, b"]");
@@ -255,7 +260,8 @@ pub fn print_value<B: Bindings, K: Sink>(
     requires { Holds (B.meaning store.old) value }
     ensures same { B.meaning store.new ≡ B.meaning store.old }
     ensures saved { (ms : List Saved) → B.saves store.old ms → B.saves store.new ms }
-    ensures printed { Printed (pieces program.now (resolved (B.meaning store.old).state.subst (told (B.meaning store.old) value))) spacer.old spacer.new (K.view sink.old) (K.view sink.new) result }
+    ensures printed { Printed (pieces program.now (resolved (B.meaning store.old).state.subst
+        (told (B.meaning store.old) value))) spacer.old spacer.new (K.view sink.old) (K.view sink.new) result }
 {
     store.forget(0);
     let mut next = Next::Value(value);

@@ -17,7 +17,8 @@ fn write_var<B: Bindings>(store: &mut B, env: &[Ref], var: u16) -> Result<Ref, F
     requires { All (Holds (B.meaning store.old)) env.now }
     ensures kept { Kept (B.meaning store.old) (B.meaning store.new) }
     ensures saved { (ms : List Saved) → B.saves store.old ms → B.saves store.new ms }
-    ensures written { MatchResult result (λ r. Made 0 (B.meaning store.old) (B.meaning store.new) r (value_in (map (told (B.meaning store.old)) env.now) var)) (λ e. Overflows 0 (B.meaning store.old) e) }
+    ensures written { MatchResult result (λ r. Made 0 (B.meaning store.old) (B.meaning store.new) r
+        (value_in (map (told (B.meaning store.old)) env.now) var)) (λ e. Overflows 0 (B.meaning store.old) e) }
 {
     match env.get(var as usize) {
         Some(value) => Ok(*value),
@@ -32,7 +33,9 @@ fn write_leaf<B: Bindings>(store: &mut B, env: &[Ref], term: &Term) -> Result<Re
     requires no_pair { IsNoPair (out-Term term.now) }
     ensures kept { Kept (B.meaning store.old) (B.meaning store.new) }
     ensures saved { (ms : List Saved) → B.saves store.old ms → B.saves store.new ms }
-    ensures written { (program : CoreProgram) → MatchResult result (λ r. Made (cells program (term.now ∷ [])) (B.meaning store.old) (B.meaning store.new) r (value_of program (map (told (B.meaning store.old)) env.now) term.now)) (λ e. Overflows (cells program (term.now ∷ [])) (B.meaning store.old) e) }
+    ensures written { (program : CoreProgram) → MatchResult result
+        (λ r. Made (cells program (term.now ∷ [])) (B.meaning store.old) (B.meaning store.new) r
+        (value_of program (map (told (B.meaning store.old)) env.now) term.now)) (λ e. Overflows (cells program (term.now ∷ [])) (B.meaning store.old) e) }
 {
     match term {
         Term::Num(n) => store.value(Simple::Num(*n)),
@@ -57,7 +60,9 @@ fn write_heads<'t, B: Bindings>(
     requires plain { HasNoClosure term.now }
     ensures kept { Kept (B.meaning store.old) (B.meaning store.new) }
     ensures saved { (ms : List Saved) → B.saves store.old ms → B.saves store.new ms }
-    ensures written { (program : CoreProgram) → MatchResult result (λ last. HeadsWritten program (map (told (B.meaning store.old)) env.now) term.now last.now (B.meaning store.old) (B.meaning store.new) to.old.items to.new.items) (λ e. Overflows (cells program (term.now ∷ [])) (B.meaning store.old) e) }
+    ensures written { (program : CoreProgram) → MatchResult result
+        (λ last. HeadsWritten program (map (told (B.meaning store.old)) env.now) term.now last.now (B.meaning store.old)
+        (B.meaning store.new) to.old.items to.new.items) (λ e. Overflows (cells program (term.now ∷ [])) (B.meaning store.old) e) }
     ensures plain { IfOk result (λ last. HasNoClosure last.now) }
     ensures no_pair { IfOk result (λ last. IsNoPair (out-Term last.now)) }
 {
@@ -88,7 +93,9 @@ fn write_pairs<B: Bindings>(
     requires tail { Holds (B.meaning store.old) tail }
     ensures kept { Kept (B.meaning store.old) (B.meaning store.new) }
     ensures saved { (ms : List Saved) → B.saves store.old ms → B.saves store.new ms }
-    ensures written { MatchResult result (λ r. Made (3 * (length from.old.items - height)) (B.meaning store.old) (B.meaning store.new) r (listed (map (told (B.meaning store.old)) (drop height from.old.items)) (told (B.meaning store.old) tail))) (λ e. Overflows (3 * (length from.old.items - height)) (B.meaning store.old) e) }
+    ensures written { MatchResult result (λ r. Made (3 * (length from.old.items - height)) (B.meaning store.old) (B.meaning store.new) r
+        (listed (map (told (B.meaning store.old)) (drop height from.old.items)) (told (B.meaning store.old) tail)))
+        (λ e. Overflows (3 * (length from.old.items - height)) (B.meaning store.old) e) }
     ensures taken { OnOk result (from.new.items ≡ take height from.old.items) }
 {
     let mut list = tail;
@@ -117,7 +124,9 @@ pub fn write_term<B: Bindings>(
     requires plain { HasNoClosure term.now }
     ensures kept { Kept (B.meaning store.old) (B.meaning store.new) }
     ensures saved { (ms : List Saved) → B.saves store.old ms → B.saves store.new ms }
-    ensures written { (program : CoreProgram) → MatchResult result (λ r. Made (cells program (term.now ∷ [])) (B.meaning store.old) (B.meaning store.new) r (value_of program (map (told (B.meaning store.old)) env.now) term.now)) (λ e. Overflows (cells program (term.now ∷ [])) (B.meaning store.old) e) }
+    ensures written { (program : CoreProgram) → MatchResult result
+        (λ r. Made (cells program (term.now ∷ [])) (B.meaning store.old) (B.meaning store.new) r
+        (value_of program (map (told (B.meaning store.old)) env.now) term.now)) (λ e. Overflows (cells program (term.now ∷ [])) (B.meaning store.old) e) }
     ensures stack { OnOk result (stack.new.items ≡ stack.old.items) }
 {
     let height = stack.len();
@@ -141,7 +150,9 @@ pub fn write_terms<B: Bindings>(
     requires plain { All HasNoClosure terms.now }
     ensures kept { Kept (B.meaning store.old) (B.meaning store.new) }
     ensures saved { (ms : List Saved) → B.saves store.old ms → B.saves store.new ms }
-    ensures written { (program : CoreProgram) → MatchResult result (λ _. Written (cells program terms.now) (map (value_of program (map (told (B.meaning store.old)) env.now)) terms.now) (B.meaning store.old) (B.meaning store.new) to.old.items to.new.items) (λ e. Overflows (cells program terms.now) (B.meaning store.old) e) }
+    ensures written { (program : CoreProgram) → MatchResult result
+        (λ _. Written (cells program terms.now) (map (value_of program (map (told (B.meaning store.old)) env.now)) terms.now) (B.meaning store.old)
+        (B.meaning store.new) to.old.items to.new.items) (λ e. Overflows (cells program terms.now) (B.meaning store.old) e) }
 {
     'terms: for term in terms {
         match write_term(store, env, term, to) {
@@ -160,7 +171,8 @@ pub fn write_terms<B: Bindings>(
 pub fn new_variables<B: Bindings>(store: &mut B, count: u16, to: &mut Vec<Ref>) -> Result<(), Full>
     ensures kept { Kept (B.meaning store.old) (B.meaning store.new) }
     ensures saved { (ms : List Saved) → B.saves store.old ms → B.saves store.new ms }
-    ensures made { MatchResult result (λ _. MadeVars count (B.meaning store.old) (B.meaning store.new) to.old.items to.new.items) (λ e. Overflows count (B.meaning store.old) e) }
+    ensures made { MatchResult result (λ _. MadeVars count (B.meaning store.old) (B.meaning store.new) to.old.items to.new.items)
+        (λ e. Overflows count (B.meaning store.old) e) }
 {
     'variables: for _ in 0..count {
         match store.fresh() {
@@ -187,7 +199,9 @@ pub fn write_both<B: Bindings>(
     requires plain { HasNoClosure a.now × HasNoClosure b.now }
     ensures kept { Kept (B.meaning store.old) (B.meaning store.new) }
     ensures saved { (ms : List Saved) → B.saves store.old ms → B.saves store.new ms }
-    ensures written { (program : CoreProgram) → MatchResult result (λ both. BothMade program a.now b.now (map (told (B.meaning store.old)) env.now) (B.meaning store.old) (B.meaning store.new) both.0 both.1) (λ e. Overflows (cells program (a.now ∷ b.now ∷ [])) (B.meaning store.old) e) }
+    ensures written { (program : CoreProgram) → MatchResult result
+        (λ both. BothMade program a.now b.now (map (told (B.meaning store.old)) env.now) (B.meaning store.old) (B.meaning store.new) both.0 both.1)
+        (λ e. Overflows (cells program (a.now ∷ b.now ∷ [])) (B.meaning store.old) e) }
 {
     match write_term(store, env, a, stack) {
         Err(e) => Err(e),

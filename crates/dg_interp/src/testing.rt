@@ -57,7 +57,8 @@ fn views_in_order(op: CompareOp, first: View, second: View) -> bool
 /// Whether two values are numbers in an order.
 pub fn in_order<B: Bindings>(store: &B, op: CompareOp, first: Ref, second: Ref) -> bool
     requires { Holds (B.meaning store.now) first × Holds (B.meaning store.now) second }
-    ensures { result ≡ are_in_order op (walk (B.meaning store.now).state.subst (told (B.meaning store.now) first)) (walk (B.meaning store.now).state.subst (told (B.meaning store.now) second)) }
+    ensures { result ≡ are_in_order op (walk (B.meaning store.now).state.subst (told (B.meaning store.now) first))
+        (walk (B.meaning store.now).state.subst (told (B.meaning store.now) second)) }
 {
     views_in_order(op, store.walk(first), store.walk(second))
 }

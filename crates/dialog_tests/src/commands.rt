@@ -2,7 +2,7 @@
 ghost use Rattle.std.specs.Prelude.{◌≡◌, IfOk, length};
 
 use dg_base::{ByteSink, ByteSource, MapShelf, Sink, Source, SureShelf, SureSink, SureSource};
-use dialog_tool::{StdinSource, StdoutSink, tool};
+use dialog_tool::{StdinSource, StdoutSink, dice_of, tool};
 use std::alloc::Global;
 use std::process::Abort;
 use std::test::Fail;
@@ -421,12 +421,21 @@ fn failing_objects_are_named(rt: HostRuntime) -> Result<(), Fail> {
 
 #[test]
 fn streams_pass_bytes_on(rt: HostRuntime) -> Result<(), Fail> {
-    let mut input = StdinSource::new(b"ab".as_slice());
+    let mut input = StdinSource::new(b"a\0b".as_slice());
     assert_eq!(rt; input.next(), Ok(Some(b'a')));
+    assert_eq!(rt; input.next(), Ok(Some(0)));
     assert_eq!(rt; input.next(), Ok(Some(b'b')));
     assert_eq!(rt; input.next(), Ok(None));
     let mut out = StdoutSink::new(Vec::new(rt.alloc()));
     assert_eq!(rt; out.put(b""), Ok(0));
     assert_eq!(rt; out.put(b"xyz"), Ok(3));
+    Ok(())
+}
+
+#[test]
+fn dice_come_from_a_seed(rt: HostRuntime) -> Result<(), Fail> {
+    let dice = dice_of(rt.alloc(), 42)?;
+    assert_eq!(rt; dice.len(), 1024);
+    assert_eq!(rt; dice.first(), Some(&695));
     Ok(())
 }
