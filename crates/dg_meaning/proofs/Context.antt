@@ -52,7 +52,7 @@ cut_pushed : (t : ℕ) (c : Live) (cs : List Live) → t ≤ c.tag → cut_to t 
 cut_pushed t c cs le =
     cond_both (stays c.kind c.others) (c ∷ cs) cs (λ l. cut_to t l ≡ cut_to t cs) (λ e. cond-false (nat_lt c.tag t) (c ∷ cs) (cut_to t cs) (le-ltb c.tag t le)) (λ e. refl)
 
-holds_older : (t u : ℕ) (ctx : List Around) → Older u ctx → Holds ctx t → t < u
+pub holds_older : (t u : ℕ) (ctx : List Around) → Older u ctx → Holds ctx t → t < u
 holds_older t u [] o h = absurd h
 holds_older t u (InBranch k v others ∷ ctx) o (inl e) = omega (arith, o.0)
 holds_older t u (InBranch k v others ∷ ctx) o (inr h) = holds_older t u ctx o.1 h
@@ -219,7 +219,7 @@ fails s ctx n w sound o = fails_within s (length ctx) ctx n w (omega arith) soun
 
 -- ## Stopping
 
-shield_older : (t u : ℕ) (ctx : List Around) → Older u ctx → Shielded ctx t → t < u
+pub shield_older : (t u : ℕ) (ctx : List Around) → Older u ctx → Shielded ctx t → t < u
 shield_older t u [] o h = absurd h
 shield_older t u (InBranch Shield v others ∷ ctx) o (inl e) = omega (arith, o.0)
 shield_older t u (InBranch Shield v others ∷ ctx) o (inr h) = shield_older t u ctx o.1 h
@@ -243,20 +243,20 @@ abbrev pub Held : List Around → ℕ → Option ℕ → Type 0
 Held ctx t None = Unit {0}
 Held ctx t (Some c) = (t < c) ⊎ Holds ctx c
 
-held_min : (ctx : List Around) (t c u : ℕ) → Holds ctx u → (t < c) ⊎ Holds ctx c → (t < min c u) ⊎ Holds ctx (min c u)
+pub held_min : (ctx : List Around) (t c u : ℕ) → Holds ctx u → (t < c) ⊎ Holds ctx c → (t < min c u) ⊎ Holds ctx (min c u)
 held_min ctx t c u h held =
     elim (cases_lt c u) [
       | inl lt ↦ let m : c ≡ min c u = omega arith in subst (λ x. (t < x) ⊎ Holds ctx x) m held
       | inr ge ↦ let m : u ≡ min c u = omega arith in inr (subst (Holds ctx) m h)
     ]
 
-held_outside : (k : Kind) (u : ℕ) (others : List Branch) (ctx : List Around) (t : ℕ) (c : Option ℕ) → t < u → Held (InBranch k u others ∷ ctx) t c → Held ctx t c
+pub held_outside : (k : Kind) (u : ℕ) (others : List Branch) (ctx : List Around) (t : ℕ) (c : Option ℕ) → t < u → Held (InBranch k u others ∷ ctx) t c → Held ctx t c
 held_outside k u others ctx t None lt h = tt
 held_outside k u others ctx t (Some c) lt (inl h) = inl h
 held_outside k u others ctx t (Some c) lt (inr (inl e)) = inl (omega arith)
 held_outside k u others ctx t (Some c) lt (inr (inr h)) = inr h
 
-held_plain : (u : ℕ) (others : List Branch) (ctx : List Around) (t : ℕ) (c : Option ℕ) → Held (InBranch Shield u others ∷ ctx) t c → Held (InBranch Plain u [] ∷ ctx) t c
+pub held_plain : (u : ℕ) (others : List Branch) (ctx : List Around) (t : ℕ) (c : Option ℕ) → Held (InBranch Shield u others ∷ ctx) t c → Held (InBranch Plain u [] ∷ ctx) t c
 held_plain u others ctx t None h = tt
 held_plain u others ctx t (Some c) h = h
 

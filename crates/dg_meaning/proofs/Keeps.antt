@@ -371,14 +371,14 @@ cut_done g t (Some c) cs ws path n w run st =
     st
 
 -- the tags of the cut are around
-cut_in : (ctx : List Around) (t : ℕ) (cut : Option ℕ) (steps : List Step) → Held ctx t cut → StepsIn ctx steps → StepsIn ctx (cut_first t cut steps)
+pub cut_in : (ctx : List Around) (t : ℕ) (cut : Option ℕ) (steps : List Step) → Held ctx t cut → StepsIn ctx steps → StepsIn ctx (cut_first t cut steps)
 cut_in ctx t None steps held h = h
 cut_in ctx t (Some c) steps held h =
     cond_both (nat_lt c t) (Cut c ∷ steps) steps (StepsIn ctx)
     (λ e. let lt = ltb-true c t e in (elim held [ inl past ↦ absurd (omega arith) | inr x ↦ x ], h))
     (λ e. h)
 
-cut_bound : (t : ℕ) (cut : Option ℕ) (path : Path) → IsBound path → IsBound (record path { steps = cut_first t cut path.steps })
+pub cut_bound : (t : ℕ) (cut : Option ℕ) (path : Path) → IsBound path → IsBound (record path { steps = cut_first t cut path.steps })
 cut_bound t None path h = h
 cut_bound t (Some c) path h =
     cond_both (nat_lt c t) (Cut c ∷ path.steps) path.steps (λ (l : List Step). IsBound (record path { steps = l }))

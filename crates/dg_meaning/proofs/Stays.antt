@@ -1,5 +1,5 @@
 -- What goals and branches do to the world: it only grows, and its gatherings stay, but for those that a goal opens.
-use Rattle.std.proofs.Common.{◌≡◌, ℕ, ◌+◌, subst, List, [], ◌∷◌, Option, Some, None, Bool, refl, ap, ◌∙◌, length, map}
+use Rattle.std.proofs.Common.{◌≡◌, ℕ, ◌++◌, ◌+◌, arith, subst, List, [], ◌∷◌, Option, Some, None, Bool, refl, ap, ◌∙◌, length, map}
 use Rattle.std.specs.Prelude.{slice_get}
 use Rattle.std.specs.List.{sum_by}
 use Rattle.dg_base.specs.declared.program.Goal.{Goal, Goal-F}
@@ -17,7 +17,8 @@ use Rattle.dg_meaning.specs.Numbers.{total}
 use Rattle.dg_meaning.specs.Words.{behind_first}
 use Rattle.dg_meaning.specs.Facts.{Alteration, value_at, kinds_of}
 use Rattle.dg_meaning.specs.Changes.{found, change_of, changed, changing}
-use Rattle.dg_meaning.specs.World.{Game, World, Gathering, Print, Piece, GapOf, SpacesOf, Asked, noted, worked, gathered_at, dropped}
+use Rattle.dg_meaning.specs.OneAnswer.{passes}
+use Rattle.dg_meaning.specs.World.{Game, World, Gathering, Event, Prints, Answered, Retried, HasFailed, Print, Piece, GapOf, SpacesOf, Asked, noted, worked, gathered_at, dropped}
 use Rattle.dg_meaning.specs.Pieces.{pieces}
 use Rattle.dg_meaning.specs.Path.{Step, Registers, Whole, AsList, AsSum, Branch, Enter, Clash, TakeOut, Finds, Gathers, Act, Goes, Tests, Unifies, Ends, Fails, Stops, Effect, Acts, Offers}
 use Rattle.dg_meaning.specs.Moves.{printed, all_printed, begun, spaces, gives_number, reads, reads_if_set, finds, finds_if_set, takes_out, beginning, ask_object, ask_objects, ask_place, change_place, changes, change_looks, ask_body, ask_closure, selects, throws, splits, joins, takes_line, looked_up, first_looks, whole_looks, effect}
@@ -27,24 +28,43 @@ use Rattle.dg_meaning.proofs.OneRun.{grows_same, grows_on, noted_grows, worked_g
 
 -- ## Worlds
 
+-- no answer was told
+abbrev pub SameAnswers : World → World → Type 0
+SameAnswers w v = (q : ℕ) → passes q v.events ≡ passes q w.events
+
 pub record Stays (w v : World) : Type 0 where
   pub grows : Grows w v
   pub gathered : v.gathered ≡ w.gathered
+  pub answers : SameAnswers w v
+
+pub passes_append : (q : ℕ) (xs ys : List Event) → passes q (xs ++ ys) ≡ passes q xs + passes q ys
+passes_append q [] ys = omega arith
+passes_append q (Prints e ∷ xs) ys = passes_append q xs ys
+passes_append q (Asked p ∷ xs) ys = passes_append q xs ys
+passes_append q (Answered p ∷ xs) ys = omega (arith, passes_append q xs ys)
+passes_append q (Retried p ∷ xs) ys = passes_append q xs ys
+passes_append q (HasFailed p ∷ xs) ys = passes_append q xs ys
+
+pub same_answers : (w : World) → SameAnswers w w
+same_answers w q = refl
+
+pub answers_on : (w v u : World) → SameAnswers w v → SameAnswers v u → SameAnswers w u
+answers_on w v u a b q = b q ∙ a q
 
 stays_same : (w : World) → Stays w w
-stays_same w = record { grows = grows_same w; gathered = refl }
+stays_same w = record { grows = grows_same w; gathered = refl; answers = same_answers w }
 
 pub stays_on : (w v u : World) → Stays w v → Stays v u → Stays w u
-stays_on w v u a b = record { grows = grows_on w v u a.grows b.grows; gathered = b.gathered ∙ a.gathered }
+stays_on w v u a b = record { grows = grows_on w v u a.grows b.grows; gathered = b.gathered ∙ a.gathered; answers = answers_on w v u a.answers b.answers }
 
 pub stays_worked : (n : ℕ) (w : World) → Stays w (worked n w)
-stays_worked n w = record { grows = worked_grows n w; gathered = refl }
+stays_worked n w = record { grows = worked_grows n w; gathered = refl; answers = same_answers w }
 
 pub stays_begun : (r : Registers) (n : ℕ) (w : World) → Stays w (begun r n w)
-stays_begun r n w = record { grows = begun_grows r n w; gathered = refl }
+stays_begun r n w = record { grows = begun_grows r n w; gathered = refl; answers = same_answers w }
 
 stays_printed : (e : Print) (w : World) → Stays w (printed e w)
-stays_printed e w = record { grows = printed_grows e w; gathered = refl }
+stays_printed e w = record { grows = printed_grows e w; gathered = refl; answers = λ q. omega (arith, passes_append q w.events (Prints e ∷ [])) }
 
 stays_all_printed : (pieces : List (List ℕ)) (w : World) → Stays w (all_printed pieces w)
 stays_all_printed [] w = stays_same w
@@ -70,14 +90,14 @@ world_for (Offers k bs w) = w
 abbrev pub EffectStays : ℕ → World → Effect → Type 0
 EffectStays t w (Acts a) = Stays w (world_in a)
 EffectStays t w (Offers Gathers [] v) = ⊥
-EffectStays t w (Offers Gathers (b ∷ bs) v) = Grows w v × (tags_of v.gathered ≡ t ∷ tags_of w.gathered)
+EffectStays t w (Offers Gathers (b ∷ bs) v) = Grows w v × (tags_of v.gathered ≡ t ∷ tags_of w.gathered) × SameAnswers w v
 EffectStays t w (Offers k bs v) = Stays w v
 
 -- behind something that stays as well
 effect_on : (t : ℕ) (w v : World) → Stays w v → (e : Effect) → EffectStays t v e → EffectStays t w e
 effect_on t w v s (Acts a) h = stays_on w v (world_in a) s h
 effect_on t w v s (Offers Gathers [] u) h = absurd h
-effect_on t w v s (Offers Gathers (b ∷ bs) u) h = (grows_on w v u s.grows h.0, h.1 ∙ ap (λ (l : List Gathering). t ∷ tags_of l) s.gathered)
+effect_on t w v s (Offers Gathers (b ∷ bs) u) h = (grows_on w v u s.grows h.0, h.1 ∙ ap (λ (l : List Gathering). t ∷ tags_of l) s.gathered, answers_on w v u s.answers h.2)
 effect_on t w v s (Offers k bs u) h = stays_on w v u s h
 
 -- ## Values that are made
@@ -92,7 +112,7 @@ number_stays (Some n) into r w = stays_same w
 
 throws_stays : (n : Option ℕ) (into : Value) (r : Registers) (w : World) → Stays w (world_in (throws n into r w))
 throws_stays None into r w = stays_same w
-throws_stays (Some n) into r w = record { grows = drew_grows 1 w; gathered = refl }
+throws_stays (Some n) into r w = record { grows = drew_grows 1 w; gathered = refl; answers = same_answers w }
 
 reads_stays : (args : List Value) (r : Registers) (v : Value) (w : World) → Stays w (world_in (reads args r v w))
 reads_stays [] r v w = stays_same w
@@ -117,7 +137,7 @@ takes_out_stays AsSum into vs r w = stays_on w (begun r (length vs) w) _ (stays_
 
 changes_stays : (g : Game) (kind : PlaceKind) (a : Option Alteration) (steps : List Step) (w : World) → Stays w (world_in (changes g kind a steps w))
 changes_stays g kind None steps w = stays_same w
-changes_stays g kind (Some a) steps w = stays_on w (changed g.program a w) _ (record { grows = changed_grows g.program a w; gathered = refl }) (stays_worked (changing g.program kind a w.facts) (changed g.program a w))
+changes_stays g kind (Some a) steps w = stays_on w (changed g.program a w) _ (record { grows = changed_grows g.program a w; gathered = refl; answers = same_answers w }) (stays_worked (changing g.program kind a w.facts) (changed g.program a w))
 
 place_stays : (g : Game) (place : ℕ) (kind : Option PlaceKind) (args : List Value) (sets : Bool) (steps : List Step) (r : Registers) (w : World) → Stays w (world_in (change_place g place kind args sets steps r w))
 place_stays g place None args sets steps r w = stays_same w
@@ -138,7 +158,7 @@ line_stays g w [] e into r = stays_same w
 line_stays g w (b ∷ bytes) e into r =
     let u = record w { typed = behind_first (b ∷ bytes) } in
     let grown : Grows w u = subst (λ (l : List ℕ). Grows w (record w { typed = behind_first l })) e (line_grows w) in
-    stays_on w u _ (record { grows = grown; gathered = refl }) (stays_on u (printed (GapOf Line) u) _ (stays_printed (GapOf Line) u) (stays_worked _ (printed (GapOf Line) u)))
+    stays_on w u _ (record { grows = grown; gathered = refl; answers = same_answers w }) (stays_on u (printed (GapOf Line) u) _ (stays_printed (GapOf Line) u) (stays_worked _ (printed (GapOf Line) u)))
 
 -- ## Queries
 
@@ -180,7 +200,7 @@ effect_stays g (GapN a) env t steps r w = let v = value_of g.program env a in le
 effect_stays g (Test kind a) env t steps r w = stays_worked _ w
 effect_stays g (Ask pred args many) env t steps r w =
     let v = worked (first_looks r (map (value_of g.program env) args)) w in
-    stays_on w v (noted (Asked pred) v) (stays_worked _ w) (record { grows = noted_grows (Asked pred) v; gathered = refl })
+    stays_on w v (noted (Asked pred) v) (stays_worked _ w) (record { grows = noted_grows (Asked pred) v; gathered = refl; answers = λ q. omega (arith, passes_append q v.events (Asked pred ∷ [])) })
 effect_stays g (Holds place args many) env t steps r w = asked_stays r.next_tag g place (slice_get (kinds_of g.program) place) (map (value_of g.program env) args) many steps r w
 effect_stays g (IsObject a many) env t steps r w = objects_stay r.next_tag g None (value_of g.program env a ∷ []) many steps r w
 effect_stays g (Now place args sets) env t steps r w = place_stays g place (slice_get (kinds_of g.program) place) (map (value_of g.program env) args) sets steps r w
@@ -189,9 +209,9 @@ effect_stays g (Query a b many) env t steps r w =
     let args = map (value_of g.program env) (option_terms b) in
     let u = worked (looked_up r v) w in
     effect_on r.next_tag w u (stays_worked (looked_up r v) w) (ask_closure g (walk r.bound v) args many steps r u) (closure_stays r.next_tag g (walk r.bound v) args many steps r u)
-effect_stays g (Select site mode lists) env t steps r w = record { grows = selected_grows site (selects g site mode (length lists) w) w; gathered = refl }
-effect_stays g (Collect term goals into) env t steps r w = (gathering_grows _ w, refl)
-effect_stays g (Accumulate term goals into) env t steps r w = (gathering_grows _ w, refl)
+effect_stays g (Select site mode lists) env t steps r w = record { grows = selected_grows site (selects g site mode (length lists) w) w; gathered = refl; answers = same_answers w }
+effect_stays g (Collect term goals into) env t steps r w = (gathering_grows _ w, refl, same_answers w)
+effect_stays g (Accumulate term goals into) env t steps r w = (gathering_grows _ w, refl, same_answers w)
 effect_stays g (Arith op a b c) env t steps r w = stays_on w (worked _ w) _ (stays_worked _ w) (number_stays _ _ r (worked _ w))
 effect_stays g (Compare op a b) env t steps r w = stays_worked _ w
 effect_stays g (Random a b c) env t steps r w = stays_on w (worked _ w) _ (stays_worked _ w) (throws_stays _ _ r (worked _ w))
@@ -219,3 +239,9 @@ before_grows (TakeOut t whole into path) w = dropped_grows t w
 before_grows (Enter path work) w = grows_same w
 before_grows (Clash r work) w = grows_same w
 before_grows (Finds place o args path) w = grows_same w
+
+pub before_answers : (b : Branch) (w : World) → SameAnswers w (world_before b w)
+before_answers (TakeOut t whole into path) w = same_answers w
+before_answers (Enter path work) w = same_answers w
+before_answers (Clash r work) w = same_answers w
+before_answers (Finds place o args path) w = same_answers w

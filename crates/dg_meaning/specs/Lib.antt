@@ -31,3 +31,4 @@ pub mod Built
 pub mod Context
 pub mod Keeps
 pub mod Excluding
+pub mod OneAnswer
