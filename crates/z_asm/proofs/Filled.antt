@@ -1,13 +1,12 @@
 -- An op with its names filled in is one of the table again, of the same length.
-use Rattle.std.proofs.Common.{◌≡◌, ℕ, zero, suc, ◌+◌, ◌-◌, ◌*◌, ◌/◌, ◌%◌, ◌<◌, ◌≤◌, ◌⊎◌, inl, inr, ⊎_elim, Bool, true, false, List, [], ◌∷◌, ◌++◌, length, Option, Some, None, Result, Ok, refl, sym, ap, ◌∙◌, subst, arith, length-append}
+use Rattle.std.proofs.Common.{◌≡◌, ℕ, suc, ◌+◌, ◌-◌, ◌<◌, ◌≤◌, ⊎_elim, Bool, true, false, List, ◌++◌, length, Option, Some, None, refl, sym, ap, ◌∙◌, subst, arith, length-append}
 use Rattle.std.specs.Prelude.{pos, nat_lt}
-use lib.IntN.{ℤ, ◌+ℤ◌, ◌-ℤ◌, negsuc}
+use lib.IntN.{ℤ, negsuc}
 use Rattle.std.proofs.lemmas.Int.{ints}
 use Rattle.z_model.specs.declared.op.Form.{Form}
 use Rattle.z_model.specs.declared.op.Form.TheVariants as forms
 use Rattle.z_model.specs.declared.op.Operand.{Operand}
 use Rattle.z_model.specs.declared.op.Operand.TheVariants as operands
-use Rattle.z_model.specs.declared.op.Operands.{Operands}
 use Rattle.z_model.specs.declared.op.OperandType.{OperandType}
 use Rattle.z_model.specs.declared.op.OperandType.TheVariants.{Large, Small, Variable, Omitted}
 use Rattle.z_model.specs.declared.op.OperandTypes.{OperandTypes}

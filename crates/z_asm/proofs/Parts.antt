@@ -1,14 +1,13 @@
 -- The parts of a story, as they are written one behind another.
-use Rattle.std.proofs.Common.{◌≡◌, ℕ, zero, suc, ◌+◌, ◌-◌, ◌*◌, ◌/◌, ◌%◌, ◌<◌, ◌≤◌, Bool, true, false, List, [], ◌∷◌, ◌++◌, length, map, drop, get_or, replicate, sum, Option, Some, None, Result, Ok, refl, sym, ap, ◌∙◌, subst, arith, append_assoc, length-append}
-use Rattle.std.proofs.lemmas.List.{at_drop_more, drop_more, length-replicate}
+use Rattle.std.proofs.Common.{◌≡◌, ℕ, ◌+◌, ◌-◌, ◌%◌, ◌<◌, ◌≤◌, true, false, List, [], ◌∷◌, ◌++◌, length, map, drop, get_or, replicate, sum, None, refl, sym, ap, ◌∙◌, subst, arith, append_assoc, length-append}
+use Rattle.std.proofs.lemmas.List.{at_drop_more, drop_more}
 use Rattle.z_model.specs.declared.table.Instr.TheVariants as instrs
 use Rattle.z_model.specs.declared.table.One.TheVariants as one
 use Rattle.z_model.specs.declared.table.Zero.TheVariants as none
 use Rattle.z_model.specs.Decode.{count_of, counted}
 use Rattle.z_model.specs.Table.{rows_of}
 use Rattle.z_model.specs.Spelling.{IsOfTable}
-use Rattle.z_code.specs.declared.target.LOp.{LOp}
-use Rattle.z_code.specs.Targets.{Names, ops_size, label_from, spot_of, ops_bytes}
+use Rattle.z_code.specs.Targets.{Names, label_from, spot_of, ops_bytes}
 use Rattle.z_code.specs.Open.{Counts, AreOpen}
 use Rattle.z_text.specs.Encode.{string_of, IsTextOf, IsPrintable}
 use Rattle.z_text.specs.Codes.{codes_from}
@@ -17,13 +16,13 @@ use Rattle.z_asm.specs.declared.image.Code.{Code}
 use Rattle.z_asm.specs.declared.image.Image.{Image}
 use Rattle.z_asm.specs.declared.layout.Plan.{Plan}
 use Rattle.z_asm.specs.declared.layout.Addresses.{Addresses}
-use Rattle.z_asm.specs.Layout.{code_bytes, code_size, aligned, places_from, end_from, laid, packed, table_bytes, table_places, names_in}
+use Rattle.z_asm.specs.Layout.{code_bytes, code_size, aligned, end_from, laid, table_bytes, names_in}
 use Rattle.z_asm.specs.Header.{header_bytes}
-use Rattle.z_asm.specs.Story.{base_of, dictionary_of, dictionary, first_of, front_of, call_first, then_quit, first_ops, string_bytes, strings_of, string_sizes, routines_from, end_of, addresses_of, names_of, string_part, code_part, readable_bytes, all_strings, all_routines, bytes_behind, header_of, story_of}
-use Rattle.z_asm.specs.Conditions.{counts_of, IsCode, AreCodes, ArePrintable, IsImage}
+use Rattle.z_asm.specs.Story.{base_of, dictionary_of, dictionary, first_of, front_of, call_first, then_quit, first_ops, string_bytes, strings_of, string_sizes, routines_from, end_of, names_of, string_part, code_part, readable_bytes, all_strings, all_routines, bytes_behind, story_of}
+use Rattle.z_asm.specs.Conditions.{counts_of, AreCodes, ArePrintable, IsImage}
 use Rattle.z_asm.specs.Filled.{AreWords, AreFilled, IsWritable, AreWritable}
 use Rattle.z_asm.specs.Plan.{IsPlan}
-use Rattle.z_asm.proofs.Layouts.{aligned_most, end_most, padded_long, HaveSizes, laid_long, packed_below, table_below}
+use Rattle.z_asm.proofs.Layouts.{end_most, padded_long, HaveSizes, laid_long, packed_below, table_below}
 use Rattle.z_asm.proofs.Placing.{filled_all, filled_long}
 
 -- ---- texts

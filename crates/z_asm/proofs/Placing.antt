@@ -1,18 +1,17 @@
 -- Instructions whose bytes stand in a story are placed there.
-use Rattle.std.proofs.Common.{◌≡◌, ℕ, zero, suc, ◌+◌, ◌-◌, ◌<◌, ◌≤◌, ◌⊎◌, inl, inr, ⊎_elim, Bool, true, false, List, [], ◌∷◌, ◌++◌, length, Option, Some, None, Result, Ok, refl, sym, ap, ◌∙◌, subst, arith, length-append}
-use Rattle.std.specs.Prelude.{◌==◌, if◌then◌else◌}
-use Rattle.std.proofs.lemmas.Bool.{eqb-true, eqb-false, eq-eqb, ne_eqb}
+use Rattle.std.proofs.Common.{◌≡◌, ℕ, ◌+◌, ◌≤◌, ◌⊎◌, inl, inr, ⊎_elim, Bool, true, false, List, [], ◌∷◌, length, Option, Some, None, Ok, refl, sym, ap, ◌∙◌, subst, arith, length-append}
+use Rattle.std.specs.Prelude.{◌==◌}
+use Rattle.std.proofs.lemmas.Bool.{eqb-false, eq-eqb, ne_eqb}
 use Rattle.z_model.specs.declared.op.Op.{Op}
 use Rattle.z_model.specs.Decode.{text_at}
-use Rattle.z_model.specs.Spelling.{spelling, Stands, IsInstruction, FitsText}
+use Rattle.z_model.specs.Spelling.{spelling, Stands, FitsText}
 use Rattle.z_model.proofs.Again.{front_stands, rest_stands}
 use Rattle.z_code.specs.declared.target.LOp.{LOp}
 use Rattle.z_code.specs.declared.target.LOp.TheVariants as lops
 use Rattle.z_code.specs.declared.target.Target.{Target}
 use Rattle.z_code.specs.declared.target.Target.TheVariants as targets
-use Rattle.z_model.specs.declared.op.Operand.{Operand}
 use Rattle.z_model.specs.declared.op.Branch.{Branch}
-use Rattle.z_code.specs.Targets.{Names, op_size, ops_size, label_from, ops_bytes, nth, filled, IsNear, NearTarget, NearLabel, Fits, Placed}
+use Rattle.z_code.specs.Targets.{Names, ops_size, label_from, ops_bytes, nth, filled, IsNear, NearTarget, NearLabel, Fits, Placed}
 use Rattle.z_code.specs.Open.{Counts, HasLabel, OpenIf, OpenBranch, IsOpen, AreOpen}
 use Rattle.z_asm.specs.Filled.{AreWords, FillsIn, AreFilled}
 use Rattle.z_asm.proofs.Filled.{still_op, still_long, branch_long, target_long}

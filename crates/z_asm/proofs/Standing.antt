@@ -1,27 +1,27 @@
 -- What stands in an assembled story.
-use Rattle.std.proofs.Common.{◌≡◌, ◌≢◌, ℕ, zero, suc, ◌+◌, ◌-◌, ◌*◌, ◌/◌, ◌%◌, ◌<◌, ◌≤◌, Bool, true, false, List, [], ◌∷◌, ◌++◌, length, map, drop, take, replicate, sum, Option, Some, None, refl, sym, ap, ◌∙◌, subst, arith, inl, inr, ⊎_elim, append_assoc, length-append}
-use Rattle.std.specs.Prelude.{slice_get, slice_index, nat_lt, ◌==◌, ◌||◌, not, if◌then◌else◌}
-use Rattle.std.proofs.lemmas.Bool.{le-ltb, lt-ltb, eq-eqb, ne_eqb, cases_lt}
+use Rattle.std.proofs.Common.{◌≡◌, ℕ, zero, suc, ◌+◌, ◌-◌, ◌*◌, ◌/◌, ◌%◌, ◌<◌, ◌≤◌, Bool, true, false, List, [], ◌∷◌, ◌++◌, length, map, drop, take, replicate, sum, Some, None, refl, sym, ap, ◌∙◌, subst, arith, append_assoc, length-append}
+use Rattle.std.specs.Prelude.{slice_get, slice_index, ◌==◌, if◌then◌else◌}
+use Rattle.std.proofs.lemmas.Bool.{le-ltb, lt-ltb, eq-eqb, ne_eqb}
 use Rattle.std.proofs.lemmas.List.{length-replicate}
 use Rattle.std.proofs.lemmas.Option.{same_Some}
 use Rattle.std.proofs.Math.Seq.{take-length}
 use Rattle.z_model.specs.Spelling.{Stands}
-use Rattle.z_model.specs.Story.{refusal_of, header_word, start_of, globals_of, base_of as story_base, length_of, memory_of, checksum_of, layout_of, is_too_long, has_bad_length, has_bad_map}
+use Rattle.z_model.specs.Story.{refusal_of, header_word, start_of, globals_of, base_of as story_base, length_of, memory_of, checksum_of}
 use Rattle.z_code.specs.Targets.{Names, label_from, spot_of, ops_bytes, Placed}
-use Rattle.z_text.specs.Encode.{string_of, IsTextOf}
+use Rattle.z_text.specs.Encode.{string_of}
 use Rattle.z_text.specs.Codes.{codes_from}
 use Rattle.z_text.proofs.TextCodes.{text_codes}
 use Rattle.z_asm.specs.declared.image.Code.{Code}
 use Rattle.z_asm.specs.declared.image.Table.{Table}
 use Rattle.z_asm.specs.declared.image.Image.{Image}
-use Rattle.z_asm.specs.Layout.{code_bytes, code_size, aligned, places_from, end_from, laid, packed, table_bytes, table_places, names_in}
-use Rattle.z_asm.specs.Header.{globals, header_bytes}
-use Rattle.z_asm.specs.Story.{base_of, dictionary_of, dictionary, first_of, front_of, first_ops, string_bytes, strings_of, string_sizes, routines_from, end_of, addresses_of, names_of, string_part, code_part, readable_bytes, all_strings, all_routines, bytes_behind, header_of, story_of}
-use Rattle.z_asm.specs.Conditions.{counts_of, IsCode, AreCodes, IsImage}
-use Rattle.z_asm.specs.Filled.{AreWords, AreFilled, IsWritable, AreWritable}
-use Rattle.z_asm.specs.Assembled.{HasTable, HasText, HasCode, HasHeader, IsAssembled}
-use Rattle.z_asm.proofs.Layouts.{aligned_most, aligned_is, end_most, padded_long, HaveSizes, laid_long}
-use Rattle.z_asm.proofs.Parts.{image_words, codes_writable, codes_sized, strings_sized, first_filled, front_long, strings_long, routines_long}
+use Rattle.z_asm.specs.Layout.{code_bytes, code_size, aligned, places_from, laid, packed, table_bytes, table_places}
+use Rattle.z_asm.specs.Header.{header_bytes}
+use Rattle.z_asm.specs.Story.{base_of, dictionary, first_of, front_of, first_ops, string_bytes, strings_of, string_sizes, routines_from, end_of, names_of, string_part, code_part, readable_bytes, all_strings, all_routines, bytes_behind, header_of, story_of}
+use Rattle.z_asm.specs.Conditions.{counts_of, AreCodes, IsImage}
+use Rattle.z_asm.specs.Filled.{AreWords, IsWritable, AreWritable}
+use Rattle.z_asm.specs.Assembled.{HasTable, HasText, HasCode, IsAssembled}
+use Rattle.z_asm.proofs.Layouts.{aligned_most, aligned_is, end_most, HaveSizes, laid_long}
+use Rattle.z_asm.proofs.Parts.{image_words, codes_writable, codes_sized, strings_sized, first_filled, front_long}
 use Rattle.z_asm.proofs.Placing.{placed_by}
 
 -- ---- lists that stand in others

@@ -1,8 +1,8 @@
 -- What an assembled story has: each table, string and routine at its address, a header, and first instructions.
-use Rattle.std.specs.Prelude.{◌≡◌, ℕ, ◌+◌, ◌*◌, ◌<◌, ◌≤◌, List, length, Some, None, true, false, slice_get}
+use Rattle.std.specs.Prelude.{◌≡◌, ℕ, ◌+◌, ◌*◌, ◌≤◌, List, length, Some, None, true, false, slice_get}
 use Rattle.z_model.specs.Spelling.{Stands}
 use Rattle.z_model.specs.Story.{refusal_of, start_of, globals_of, base_of as story_base, length_of, layout_of}
-use Rattle.z_code.specs.Targets.{Names, label_from, Placed}
+use Rattle.z_code.specs.Targets.{label_from, Placed}
 use Rattle.z_text.specs.Encode.{string_of, IsTextOf}
 use Rattle.z_asm.specs.declared.image.Code.{Code}
 use Rattle.z_asm.specs.declared.image.Table.{Table}

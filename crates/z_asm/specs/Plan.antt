@@ -1,5 +1,5 @@
 -- A plan of a story: where everything of its image stands.
-use Rattle.std.specs.Prelude.{◌≡◌, ℕ, ◌+◌, ◌≤◌, List, map}
+use Rattle.std.specs.Prelude.{◌≡◌, ℕ, ◌≤◌, List, map}
 use Rattle.z_asm.specs.declared.image.Image.{Image}
 use Rattle.z_asm.specs.declared.layout.Plan.{Plan}
 use Rattle.z_asm.specs.Layout.{places_from, end_from, packed}

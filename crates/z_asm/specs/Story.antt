@@ -1,5 +1,5 @@
 -- The story of an image, byte by byte (Z-Machine Standard 1.1, sections 1.1, 1.2, 5.2, 11.1 and 13.2).
-use Rattle.std.specs.Prelude.{ℕ, ◌+◌, ◌-◌, ◌*◌, ◌/◌, ◌%◌, ◌<◌, ◌⊎◌, List, [], ◌∷◌, ◌++◌, map, length, sum, replicate, Option, Some, None, true, false}
+use Rattle.std.specs.Prelude.{ℕ, ◌+◌, ◌-◌, ◌%◌, ◌<◌, ◌⊎◌, List, [], ◌∷◌, ◌++◌, map, length, sum, replicate, Some, None, true, false}
 use Rattle.z_model.specs.declared.op.Form.TheVariants as forms
 use Rattle.z_model.specs.declared.op.Operand.{Operand}
 use Rattle.z_model.specs.declared.op.Operand.TheVariants as operands
@@ -12,7 +12,6 @@ use Rattle.z_code.specs.Targets.{Names, label_from, ops_bytes}
 use Rattle.z_text.specs.Encode.{string_of}
 use Rattle.z_text.specs.Codes.{codes_from}
 use Rattle.z_asm.specs.declared.image.Code.{Code}
-use Rattle.z_asm.specs.declared.image.Table.{Table}
 use Rattle.z_asm.specs.declared.image.Image.{Image}
 use Rattle.z_asm.specs.declared.layout.Addresses.{Addresses}
 use Rattle.z_asm.specs.Header.{header_bytes}

@@ -5,7 +5,9 @@ mod decoding;
 mod encoding;
 mod target;
 
-pub use decoding::{decode, decode_op};
+pub use decoding::{
+    decode, decode_extended, decode_long, decode_op, decode_short, decode_variable,
+};
 pub use encoding::encode_op;
 pub use target::{LOp, Spot, Target};
 pub use z_model::{Branch, Form, Found, Op, Operand, Operands};

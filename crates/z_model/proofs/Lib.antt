@@ -12,3 +12,4 @@ pub mod NoInstruction
 pub mod Kept
 pub mod Standing
 pub mod Worked
+pub mod Parts

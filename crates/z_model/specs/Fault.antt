@@ -1,7 +1,8 @@
 -- The numbers and texts of the faults, which are this project's own; the standard leaves an error's report to the interpreter.
 use Rattle.std.specs.Prelude.{ℕ, List, codes}
 use Rattle.z_model.specs.declared.fault.ZFault.{ZFault}
-use Rattle.z_model.specs.declared.fault.ZFault.TheVariants.{BadOpcode, OffEnd, BadAddress, BadWrite, StackEmpty, StackFull, BadLocal, DivideByZero, BadCall, BadString, BadCharacter, BadReturn, Unsupported}
+use Rattle.z_model.specs.declared.fault.ZFault.TheVariants.{BadOpcode, OffEnd, BadAddress, BadWrite, StackEmpty, StackFull, BadLocal, DivideByZero}
+use Rattle.z_model.specs.declared.fault.ZFault.TheVariants.{BadCall, BadString, BadCharacter, BadReturn, Unsupported, BadObject, BadProperty}
 
 -- the number that is printed
 abbrev pub number_of : ZFault → ℕ
@@ -18,6 +19,8 @@ number_of BadString = 59
 number_of BadCharacter = 60
 number_of BadReturn = 61
 number_of Unsupported = 62
+number_of BadObject = 63
+number_of BadProperty = 64
 
 -- its text, for a reader of the error
 abbrev pub text_of_fault : ZFault → List ℕ
@@ -34,3 +37,5 @@ text_of_fault BadString = codes "a string without an end, or with an abbreviatio
 text_of_fault BadCharacter = codes "a character that is not printed"
 text_of_fault BadReturn = codes "a return from the opening routine"
 text_of_fault Unsupported = codes "reading into a parse buffer is not supported"
+text_of_fault BadObject = codes "no such object or attribute, or a chain of siblings without an end"
+text_of_fault BadProperty = codes "no such property, or one that is too long or out of order"

@@ -9,6 +9,9 @@ pub mod Text
 pub mod Typed
 pub mod Memory
 pub mod Words
+pub mod Objects
+pub mod Properties
+pub mod Tables
 pub mod Machine
 pub mod Numbers
 pub mod Flow
@@ -16,5 +19,6 @@ pub mod Effects
 pub mod Step
 pub mod Run
 pub mod Laws
+pub mod Parts
 pub mod Story
 pub mod Closing

@@ -21,6 +21,8 @@ pub enum ZFault {
     BadCharacter,
     BadReturn,
     Unsupported,
+    BadObject,
+    BadProperty,
 }
 
 impl ZFault {
@@ -42,6 +44,8 @@ impl ZFault {
             ZFault::BadCharacter => 60,
             ZFault::BadReturn => 61,
             ZFault::Unsupported => 62,
+            ZFault::BadObject => 63,
+            ZFault::BadProperty => 64,
         }
     }
 }
@@ -64,6 +68,9 @@ impl fmt::Display for ZFault {
             ZFault::BadCharacter => "a character that is not printed",
             ZFault::BadReturn => "a return from the opening routine",
             ZFault::Unsupported => "reading into a parse buffer is not supported",
+            ZFault::BadObject =>
+                "no such object or attribute, or a chain of siblings without an end",
+            ZFault::BadProperty => "no such property, or one that is too long or out of order",
         })
     }
 }

@@ -4,6 +4,7 @@
 mod end;
 mod fault;
 mod op;
+mod property;
 mod story;
 mod table;
 mod text;
@@ -16,6 +17,7 @@ ghost use Rattle.z_model.specs.Undecoded.{Undecoded};
 ghost use Rattle.z_model.specs.declared.op.Op.{Op};
 ghost use Rattle.z_model.specs.Run.{ZGiven, ZState};
 ghost use Rattle.z_model.specs.Machine.{Machine};
+ghost use Rattle.z_model.specs.Parts.{RunsStay};
 ghost use Rattle.z_model.specs.Laws.{RunLaws, IsLaid, KeepsCode, CodeStays, StandsOn, IsDone, IsTextless, InARow};
 ghost use Rattle.z_model.specs.declared.story.Layout.{Layout};
 
@@ -23,6 +25,7 @@ pub use dg_base::{EXTRA, find_place};
 pub use end::{Args, Effect, Halt, ZEnd};
 pub use fault::ZFault;
 pub use op::{Branch, Form, Found, Op, Operand, OperandType, OperandTypes, Operands};
+pub use property::Property;
 pub use story::{Header, Layout, StoryRefusal, read_header};
 pub use table::{Extended, Instr, Kind, One, Row, Several, Two, Zero, find_row};
 pub use text::{Alphabet, PUNCTUATION, Reading, code_of};
@@ -46,6 +49,11 @@ pub fn written_again()
 /// A run of k + j steps is one of k and then one of j, and what was printed stays.
 pub fn runs_in_pieces()
     ensures { (w : ZGiven) (s : ZState) → RunLaws w s }
+{}
+
+/// A run by a part of a table that doesn't break is the run by the whole table.
+pub fn runs_stay()
+    ensures { (w : ZGiven) (s : ZState) → RunsStay w s }
 {}
 
 /// A step keeps the code of a story, and so does a run.

@@ -35,12 +35,14 @@ MayBeLeft (Ok (Some (AtFault fault at))) left = Unit {0}
 MayBeLeft (Err e) left = Unit {0}
 
 -- The rest of an effect was done.
-pub record Finished (w : ZGiven) (effect : Effect) (old : Machine) (typed : List ℕ) (drawn : ℕ) (halt : Option Halt) (new : Machine) (left : Option (List ℕ)) (drawn' : ℕ) : Type 0 where
+pub record Finished (w : ZGiven) (effect : Effect) (old : Machine) (typed : List ℕ) (drawn : ℕ)
+    (halt : Option Halt) (new : Machine) (left : Option (List ℕ)) (drawn' : ℕ) : Type 0 where
   pub behind : List ℕ
   pub left_is : left ≡ Some behind
   pub last : Machine
   pub same : SameIfOn halt last new
-  pub is : (before : Machine) (output : List ℕ) → effect_on w (state before typed drawn output) effect old ≡ next_of halt (state last behind drawn' (output ++ text_of effect old))
+  pub is : (before : Machine) (output : List ℕ) →
+      effect_on w (state before typed drawn output) effect old ≡ next_of halt (state last behind drawn' (output ++ text_of effect old))
 
 -- The source failed in the line that an effect takes.
 pub record Unfinished (w : ZGiven) (effect : Effect) (old : Machine) (typed : List ℕ) (drawn : ℕ) (left : Option (List ℕ)) : Type 0 where

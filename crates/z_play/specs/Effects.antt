@@ -1,10 +1,13 @@
 -- What is left to do of an instruction once the outside has done its part, and that it can't fail.
-use Rattle.std.specs.Prelude.{◌≡◌, ◌+◌, ◌%◌, IsOk, true, Result, Ok, Err}
+use Rattle.std.specs.Prelude.{ℕ, ◌≡◌, ◌+◌, ◌%◌, IsOk, true, Result, Ok, Err}
 use Rattle.z_model.specs.declared.fault.ZFault.{ZFault}
 use Rattle.z_model.specs.declared.story.Layout.{Layout}
 use Rattle.z_model.specs.declared.end.Effect.{Effect}
 use Rattle.z_model.specs.declared.end.Effect.TheVariants.{Goes, PrintsCode, PrintsUnicode, PrintsNumber, PrintsText, PrintsLine, Draws, Reads, Quits}
-use Rattle.z_model.specs.Machine.{Machine, stored_if}
+use Rattle.z_model.specs.declared.op.Found.{Found}
+use Rattle.z_model.specs.Decode.{◌>>=◌}
+use Rattle.z_model.specs.Step.{do_instr}
+use Rattle.z_model.specs.Machine.{Machine, stored_if, values_of}
 use Rattle.z_model.specs.Memory.{is_writable, have_right}
 use Rattle.z_model.specs.Flow.{returned}
 use Rattle.z_model.specs.Zscii.{is_character}
@@ -18,8 +21,13 @@ CanFinish (PrintsNumber x) layout m = Unit {0}
 CanFinish (PrintsText at) layout m = Unit {0}
 CanFinish (PrintsLine at) layout m = IsOk (returned layout m 1)
 CanFinish Draws layout m = Unit {0}
-CanFinish (Reads buffer most store) layout m = (have_right (is_writable layout) ((buffer + 1) % 65536) (most + 1) ≡ true) × IsOk (stored_if layout m store 13)
+CanFinish (Reads buffer most store) layout m =
+    (have_right (is_writable layout) ((buffer + 1) % 65536) (most + 1) ≡ true) × IsOk (stored_if layout m store 13)
 CanFinish Quits layout m = Unit {0}
+
+-- What an instruction does, where one was found: its operands are taken, and then it is done.
+abbrev pub acted : Layout → ℕ → Machine → Result Found ZFault → Result (Effect × Machine) ZFault
+acted layout word m r = r >>= λ found. values_of layout m found.op.operands >>= λ a. do_instr layout word found.row.instr found.op found.end a.0 a.1
 
 -- what the table gives, where a function answers with an effect and leaves the machine
 abbrev pub GivesEffect : Result Effect ZFault → Layout → Machine → Result (Effect × Machine) ZFault → Type 0

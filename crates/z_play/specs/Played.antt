@@ -18,12 +18,14 @@ pub record Played (r : ZRun) (end : ZEnd) (left : Option (List ℕ)) (old new : 
   pub left_is : left ≡ Some r.state.typed
   pub wrote : Wrote old new (played_text r)
 
--- The input failed behind m of n instructions, with these bytes left: so many instructions don't end the run, they took no more bytes than were taken, and one more ends for want of a byte, or takes at least those and more than before.
+-- The input failed behind m of n instructions, with these bytes left: so many instructions don't end the run, they took no more bytes than were taken,
+-- and one more ends for want of a byte, or takes at least those and more than before.
 pub record StoppedAt (w : ZGiven) (s : ZState) (n m : ℕ) (rest : List ℕ) : Type 0 where
   pub below : m < n
   pub limit : (zrun w m s).end ≡ ends.StepLimit
   pub within : length rest ≤ length (zrun w m s).state.typed
-  pub beyond : ((zrun w (m + 1) s).end ≡ ends.InputEnded) ⊎ ((length (zrun w (m + 1) s).state.typed ≤ length rest) × (length (zrun w (m + 1) s).state.typed < length (zrun w m s).state.typed))
+  pub beyond : ((zrun w (m + 1) s).end ≡ ends.InputEnded)
+      ⊎ ((length (zrun w (m + 1) s).state.typed ≤ length rest) × (length (zrun w (m + 1) s).state.typed < length (zrun w m s).state.typed))
 
 -- The input failed; the sink took the output until then, and the line that says so.
 pub record InputFailed (w : ZGiven) (s : ZState) (n : ℕ) (left : Option (List ℕ)) (old new : SinkView) : Type 0 where
@@ -33,7 +35,8 @@ pub record InputFailed (w : ZGiven) (s : ZState) (n : ℕ) (left : Option (List 
   pub stopped : StoppedAt w s n m rest
   pub wrote : Wrote old new (with_end_line (zrun w m s).state.output unread_line)
 
--- The output failed in what one instruction prints: the m before it don't end the run, the sink took what they print, and the typed bytes are left that they leave.
+-- The output failed in what one instruction prints: the m before it don't end the run, the sink took what they print,
+-- and the typed bytes are left that they leave.
 pub record PrintUnwritten (w : ZGiven) (s : ZState) (n : ℕ) (left : Option (List ℕ)) (old new : SinkView) : Type 0 where
   pub m : ℕ
   pub below : m < n

@@ -1,6 +1,7 @@
 // The machine's arrays, and its variables.
 ghost use Rattle.std.specs.Prelude.{◌≡◌, ◌<◌, ◌≤◌, ◌-◌, ℕ, Option};
-ghost use Rattle.z_model.specs.Machine.{pushed, popped, variable_of, stored, stored_if, held_in, placed, value_of, value_if, values_of, local_set, local_of, global_of};
+ghost use Rattle.z_model.specs.Machine.{pushed, popped, variable_of, stored, stored_if, held_in, placed};
+ghost use Rattle.z_model.specs.Machine.{value_of, value_if, values_of, local_set, local_of, global_of};
 ghost use Rattle.z_play.specs.View.{machine, Sound, Gives, Sets, Kept};
 ghost use Rattle.z_play.specs.Top.{top_of};
 ghost use Rattle.z_play.specs.Faults.{fault_of};
@@ -32,7 +33,7 @@ pub struct Engine {
 
 impl Engine {
     #[tactic(auto, unfolding(z_model::specs::Machine::pushed))]
-    #[inline]
+    #[inline(always)]
     pub fn push(&mut self, x: u16) -> Result<(), ZFault>
         requires { Sound self.old }
         ensures kept { Kept self.old self.new }
@@ -47,7 +48,7 @@ impl Engine {
     }
 
     #[tactic(auto, unfolding(z_model::specs::Machine::popped))]
-    #[inline]
+    #[inline(always)]
     pub fn pop(&mut self) -> Result<u16, ZFault>
         requires { Sound self.old }
         ensures kept { Kept self.old self.new }
@@ -61,7 +62,7 @@ impl Engine {
     }
 
     // The value of a local.
-    #[inline]
+    #[inline(always)]
     fn local(&self, v: u8) -> Result<u16, ZFault>
         requires sound { Sound self.now }
         requires is_local { (0 < v) × (v < 16) }
@@ -75,7 +76,7 @@ impl Engine {
         }
     }
 
-    #[inline]
+    #[inline(always)]
     fn set_local(&mut self, v: u8, x: u16) -> Result<(), ZFault>
         requires sound { Sound self.old }
         requires is_local { (0 < v) × (v < 16) }
@@ -92,7 +93,7 @@ impl Engine {
         }
     }
 
-    #[inline]
+    #[inline(always)]
     fn global(&self, v: u8) -> u16
         requires sound { Sound self.now }
         requires is_global { 16 ≤ v }
@@ -104,7 +105,7 @@ impl Engine {
 
     // The value of a variable; 0 takes a word from the stack.
     #[tactic(auto, unfolding(z_model::specs::Machine::variable_of))]
-    #[inline]
+    #[inline(always)]
     pub fn variable(&mut self, v: u8) -> Result<u16, ZFault>
         requires { Sound self.old }
         ensures kept { Kept self.old self.new }
@@ -120,7 +121,7 @@ impl Engine {
     }
 
     #[tactic(auto, unfolding(z_model::specs::Machine::stored))]
-    #[inline]
+    #[inline(always)]
     pub fn store(&mut self, v: u8, x: u16) -> Result<(), ZFault>
         requires { Sound self.old }
         ensures kept { Kept self.old self.new }
@@ -140,7 +141,7 @@ impl Engine {
     }
 
     #[tactic(auto, unfolding(z_model::specs::Machine::stored_if))]
-    #[inline]
+    #[inline(always)]
     pub fn store_if(&mut self, store: Option<u8>, x: u16) -> Result<(), ZFault>
         requires { Sound self.old }
         ensures kept { Kept self.old self.new }
@@ -239,7 +240,7 @@ impl Engine {
     }
 
     #[tactic(auto, unfolding(z_model::specs::Machine::value_of))]
-    #[inline]
+    #[inline(always)]
     fn value(&mut self, operand: Operand) -> Result<u16, ZFault>
         requires { Sound self.old }
         ensures kept { Kept self.old self.new }
@@ -253,7 +254,7 @@ impl Engine {
     }
 
     #[tactic(auto, unfolding(z_model::specs::Machine::value_if))]
-    #[inline]
+    #[inline(always)]
     fn value_if(&mut self, there: bool, operand: Operand) -> Result<u16, ZFault>
         requires { Sound self.old }
         ensures kept { Kept self.old self.new }
@@ -264,7 +265,7 @@ impl Engine {
 
     /// The values of the operands, from left to right.
     #[tactic(auto, unfolding(z_model::specs::Machine::values_of))]
-    #[inline]
+    #[inline(always)]
     pub fn values(&mut self, operands: &Operands) -> Result<Args, ZFault>
         requires { Sound self.old }
         ensures kept { Kept self.old self.new }

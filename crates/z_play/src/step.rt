@@ -5,17 +5,18 @@ ghost use Rattle.z_model.specs.Table.{rows_of};
 ghost use Rattle.z_model.specs.Memory.{guarded, is_writable, with_byte, with_word, have_right};
 ghost use Rattle.z_model.specs.Machine.{Machine, pushed, placed};
 ghost use Rattle.z_model.specs.Flow.{branched, called, returned, jumped, at_pc};
-ghost use Rattle.z_model.specs.Effects.{goes, answers, answers_or, written, fault_in, printed, prints_line, adds, adds_and_tests, pulls, returns_popped, most_typed, reads, random_of};
+ghost use Rattle.z_model.specs.Effects.{goes, answers, answers_or, written, fault_in, printed, prints_line};
+ghost use Rattle.z_model.specs.Effects.{adds, adds_and_tests, pulls, returns_popped, most_typed, reads, random_of};
 ghost use Rattle.z_model.specs.Step.{do_two, do_one, do_zero, do_several, do_extended, do_instr, machine_step};
 ghost use Rattle.z_model.specs.Run.{line_read};
 ghost use Rattle.z_play.specs.View.{machine, Sound, Sets, Kept};
-ghost use Rattle.z_play.specs.Effects.{CanFinish, GivesEffect};
+ghost use Rattle.z_play.specs.Effects.{CanFinish, GivesEffect, acted};
 
 use crate::arith::{divide, equals_one, is_less, modulo, signed};
 use crate::engine::Engine;
 use crate::memory::{may_write_all, read_byte, read_word, write_byte, write_typed, write_word};
 use crate::text::{find_fault, is_character, is_printed};
-use z_code::decode;
+use z_code::{Found, decode};
 use z_model::{
     Args, Branch, Effect, Extended, Instr, One, Op, Several, Two, ZFault, Zero, bytes_of,
 };
@@ -176,7 +177,8 @@ impl Engine {
     fn store_word(&mut self, end: u32, at: u16, word: u16) -> Result<Effect, ZFault>
         requires { Sound self.old }
         ensures kept { Kept self.old self.new }
-        ensures written { GivesEffect result self.old.layout (machine self.new) (written (machine self.old) end (with_word (guarded self.old.layout (machine self.old).memory) at word)) }
+        ensures written { GivesEffect result self.old.layout (machine self.new)
+            (written (machine self.old) end (with_word (guarded self.old.layout (machine self.old).memory) at word)) }
     {
         write_word(&mut self.memory, self.layout, at, word)?;
         self.pc = end;
@@ -186,7 +188,8 @@ impl Engine {
     fn store_byte(&mut self, end: u32, at: u16, byte: u8) -> Result<Effect, ZFault>
         requires { Sound self.old }
         ensures kept { Kept self.old self.new }
-        ensures written { GivesEffect result self.old.layout (machine self.new) (written (machine self.old) end (with_byte (guarded self.old.layout (machine self.old).memory) at byte)) }
+        ensures written { GivesEffect result self.old.layout (machine self.new)
+            (written (machine self.old) end (with_byte (guarded self.old.layout (machine self.old).memory) at byte)) }
     {
         write_byte(&mut self.memory, self.layout, at, byte)?;
         self.pc = end;
@@ -322,6 +325,7 @@ impl Engine {
 
 impl Engine {
     #[tactic(auto, unfolding(z_model::specs::Step::do_two))]
+    #[inline(always)]
     fn do_two(&mut self, instr: Two, op: &Op, end: u32, a: &Args) -> Result<Effect, ZFault>
         requires sound { Sound self.old }
         requires near { end ≤ 524288 }
@@ -356,6 +360,7 @@ impl Engine {
     }
 
     #[tactic(auto, unfolding(z_model::specs::Step::do_one))]
+    #[inline(always)]
     fn do_one(&mut self, instr: One, op: &Op, end: u32, a: &Args) -> Result<Effect, ZFault>
         requires sound { Sound self.old }
         requires near { end ≤ 524288 }
@@ -379,6 +384,7 @@ impl Engine {
     }
 
     #[tactic(auto, unfolding(z_model::specs::Step::do_zero))]
+    #[inline(always)]
     fn do_zero(&mut self, instr: Zero, op: &Op, end: u32, a: &Args) -> Result<Effect, ZFault>
         requires sound { Sound self.old }
         ensures kept { Kept self.old self.new }
@@ -408,6 +414,7 @@ impl Engine {
     }
 
     #[tactic(auto, unfolding(z_model::specs::Step::do_several))]
+    #[inline(always)]
     fn do_several(
         &mut self,
         word: u16,
@@ -439,6 +446,7 @@ impl Engine {
     }
 
     #[tactic(auto, unfolding(z_model::specs::Step::do_extended))]
+    #[inline(always)]
     fn do_extended(
         &mut self,
         instr: Extended,
@@ -456,6 +464,7 @@ impl Engine {
     }
 
     #[tactic(auto, unfolding(z_model::specs::Step::do_instr))]
+    #[inline(always)]
     fn do_instr(
         &mut self,
         word: u16,
@@ -478,6 +487,19 @@ impl Engine {
         }
     }
 
+    // Does an instruction, where one was found.
+    #[inline(always)]
+    fn act(&mut self, word: u16, found: Result<Found, ZFault>) -> Result<Effect, ZFault>
+        requires sound { Sound self.old }
+        requires near { IfOk found (λ f. f.end ≤ length self.old.memory.items) }
+        ensures kept { Kept self.old self.new }
+        ensures acted { GivesEffect result self.old.layout (machine self.new) (acted self.old.layout word (machine self.old) found) }
+    {
+        let found = found?;
+        let args = self.values(&found.op.operands)?;
+        self.do_instr(word, found.row.instr, &found.op, found.end as u32, &args)
+    }
+
     /// One instruction; a word is the next of the dice.
     #[tactic(auto, unfolding(z_model::specs::Step::machine_step))]
     pub fn step(&mut self, word: u16) -> Result<Effect, ZFault>
@@ -485,8 +507,7 @@ impl Engine {
         ensures kept { Kept self.old self.new }
         ensures stepped { GivesEffect result self.old.layout (machine self.new) (machine_step rows_of self.old.layout word (machine self.old)) }
     {
-        let found = decode(&self.memory, self.pc as usize)?;
-        let args = self.values(&found.op.operands)?;
-        self.do_instr(word, found.row.instr, &found.op, found.end as u32, &args)
+        let found = decode(&self.memory, self.pc as usize);
+        self.act(word, found)
     }
 }

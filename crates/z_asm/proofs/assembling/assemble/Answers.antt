@@ -1,7 +1,4 @@
-use Rattle.std.proofs.Common.{◌≡◌, ◌+◌, ◌%◌, ℕ, List, ◌++◌, length, drop, sum, ap, sym, subst, ◌∙◌, arith}
-use Rattle.z_asm.specs.Header.{header_bytes}
-use Rattle.z_asm.specs.Layout.{aligned}
-use Rattle.z_asm.specs.Story.{end_of}
+use Rattle.std.proofs.Common.{ℕ, List, length, ap, sym, subst, ◌∙◌, arith}
 use Rattle.z_asm.proofs.Parts.{whole_long, story_is}
 use Rattle.z_asm.specs.Assembled.{IsAssembled}
 use Rattle.z_asm.proofs.Standing.{assembled}

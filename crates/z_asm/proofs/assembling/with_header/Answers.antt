@@ -1,4 +1,4 @@
-use Rattle.std.proofs.Common.{◌≡◌, ℕ, List, ◌++◌, ◌%◌, ◌+◌, length, drop, sum, ap, ◌∙◌}
+use Rattle.std.proofs.Common.{ℕ, List, ◌++◌, ◌+◌, length, drop, ap, ◌∙◌}
 use Rattle.std.proofs.lemmas.List.{take_rest}
 use Rattle.z_asm.specs.Header.{header_bytes}
 use Rattle.z_asm.proofs.assembling.with_header.Goals as goal

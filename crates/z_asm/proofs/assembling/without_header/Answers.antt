@@ -1,4 +1,4 @@
-use Rattle.std.proofs.Common.{◌≡◌, ◌<◌, ◌≤◌, ℕ, List, ◌++◌, length, map, sym, ap, ◌∙◌, subst, arith}
+use Rattle.std.proofs.Common.{◌≡◌, ℕ, List, ◌++◌, length, map, sym, ap, ◌∙◌, subst, arith}
 use Rattle.z_asm.specs.declared.image.Code.{Code}
 use Rattle.z_asm.specs.Layout.{code_size, end_from, laid, names_in}
 use Rattle.z_asm.specs.Story.{strings_of, string_sizes, string_part, code_part, routines_from, end_of}

@@ -1,4 +1,4 @@
-use Rattle.std.proofs.Common.{ℕ, List, length, arith}
+use Rattle.std.proofs.Common.{length, arith}
 use Rattle.z_asm.proofs.Layouts.{too_far}
 use Rattle.z_asm.proofs.layout.place_texts.Goals as goal
 

@@ -1,6 +1,6 @@
 use Rattle.std.proofs.Common.{rules}
 use Rattle.z_model.specs.Decode.{variable_at}
-use Rattle.z_code.proofs.decoding.variable.Goals as goal
+use Rattle.z_code.proofs.decoding.decode_variable.Goals as goal
 
 pub returns-in_err-row-clause-variable : goal.returns-in_err-row-clause-variable
 unfolding variable_at
