@@ -1,0 +1,17 @@
+pub mod PredLemmas
+pub mod MemberLemmas
+pub mod SelectLemmas
+pub mod MakingLemmas
+pub mod MakeLemmas
+pub mod PlaceLemmas
+pub mod FactLemmas
+pub mod DropLemmas
+pub mod HeadLemmas
+pub mod FitLemmas
+pub mod AskLemmas
+pub mod HoldLemmas
+pub mod TermLemmas
+pub mod SiteLemmas
+pub mod GoalLemmas
+pub mod StartLemmas
+pub mod SoundLemmas

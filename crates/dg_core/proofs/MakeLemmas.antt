@@ -1,0 +1,302 @@
+-- What each part of a body comes to makes the same goals.
+use Rattle.std.proofs.Common.{◌≡◌, ◌+◌, ◌*◌, ◌-◌, ◌<◌, ◌≤◌, ℕ, List, [], ◌∷◌, ◌++◌, false, Option, Some, None, Bor, length, map, get_or, take, drop, reverse, refl, sym, ◌∙◌, ap, subst, arith, append_assoc}
+use Rattle.std.proofs.Math.Seq.{take-length}
+use Rattle.std.specs.Option.{option_map}
+use Rattle.std.specs.Prelude.{Result, Ok, Err, OnOk, IfOk}
+use Rattle.std.proofs.lemmas.List.{append-nil}
+use Rattle.dg_base.specs.Mentions.{of_stmt, of_stmts, of_body, of_branches, of_arms, join}
+use Rattle.dg_base.specs.Tree as tree
+use Rattle.dg_base.specs.Tree.{stmts_of, arms_of}
+use Rattle.dg_base.specs.TreeView.{value_view, stmt_view, body_view, arm_view, branches_view, choice_view}
+use Rattle.dg_base.specs.Walk.{stmt_size, stmts_size, branches_size, arms_size}
+use Rattle.dg_base.specs.declared.program.Goal.{Goal}
+use Rattle.dg_base.specs.declared.program.Goal.TheVariants as goal
+use Rattle.dg_base.specs.declared.program.Mode.{Mode}
+use Rattle.dg_base.specs.declared.tree.Arm.{Arm}
+use Rattle.dg_base.specs.declared.tree.Body.{Body}
+use Rattle.dg_base.specs.declared.tree.Stmt
+use Rattle.dg_base.specs.declared.tree.Stmt.{Stmt}
+use Rattle.dg_base.specs.declared.tree.Value.{Value}
+use Rattle.dg_base.proofs.Views.{body_seen, choice_seen, choice_else_seen}
+use Rattle.dg_core.specs.Goals.{Scope, selects, unit, stmt_goals, goals_of, lists, arm_goals}
+use Rattle.dg_core.specs.Making.{Made, with_more, with_goals, otherwise, selects_otherwise, other_weight, goal_behind, goals_behind, goal_weight, goals_weight, Takes, ComesTo}
+use Rattle.dg_core.specs.declared.goals.Close.{Close}
+use Rattle.dg_core.specs.declared.goals.GoalWork.{GoalWork}
+use Rattle.dg_core.proofs.MakingLemmas.{takes, comes, push_two, push_four, reverse_push}
+use Rattle.dg_core.proofs.SelectLemmas.{selects_join, gathering_counted}
+
+pub on_ok : {A E : Type 0} {P Q : Type 0} (r : Result A E) → (P → Q) → OnOk r P → OnOk r Q
+on_ok (Ok a) f h = f h
+on_ok (Err e) f h = h
+
+pub none_of : {A : Type 0} (xs : List A) → length xs < 1 → xs ≡ []
+none_of [] h = refl
+none_of (x ∷ xs) h = absurd (omega (arith, h))
+
+pub parted : {A : Type 0} (xs : List A) (x : A) → 1 ≤ length xs → x ≡ get_or xs 0 x → xs ≡ x ∷ take (length xs - 1) (drop 1 xs)
+parted [] x some is = absurd (omega arith)
+parted (y ∷ ys) x some is =
+    let rest : length (y ∷ ys) - 1 ≡ length ys = omega arith in
+    ap (λ h. h ∷ ys) (sym is) ∙ ap (λ l. x ∷ l) (sym (ap (λ (k : ℕ). take k ys) rest ∙ take-length ys))
+
+pub one_of : {A : Type 0} (xs : List A) (x y : A) → 1 ≤ length xs → length xs < 2 → x ≡ get_or xs 0 x → y ≡ x → xs ≡ y ∷ []
+one_of [] x y some few is same = absurd (omega (arith, some))
+one_of (z ∷ []) x y some few is same = ap (λ a. a ∷ []) (sym (same ∙ is))
+one_of (z ∷ w ∷ xs) x y some few is same = absurd (omega (arith, few))
+
+pub nothing_put : {A : Type 0} (xs : List A) → xs ≡ xs ++ []
+nothing_put xs = sym (append-nil xs)
+
+more_none : {A : Type 0} (xss : List (List A)) → with_more [] xss ≡ xss
+more_none [] = refl
+more_none (xs ∷ xss) = ap (λ l. l ∷ xss) (append-nil xs)
+
+more_more : {A : Type 0} (a b : List A) (xss : List (List A)) → with_more b (with_more a xss) ≡ with_more (a ++ b) xss
+more_more a b [] = refl
+more_more a b (xs ∷ xss) = ap (λ l. l ∷ xss) (append_assoc xs a b)
+
+abbrev make : List (List Goal) → List (List (List Goal)) → ℕ → Made
+make g l k = record { goals = g; lists = l; sites = k }
+
+same_made : (g g' : List (List Goal)) (l l' : List (List (List Goal))) (k k' : ℕ) → g ≡ g' → l ≡ l' → k ≡ k' → make g l k ≡ make g' l' k'
+same_made g g' l l' k k' e f h =
+    ap (λ (x : List (List Goal)). make x l k) e
+    ∙ ap (λ (x : List (List (List Goal))). make g' x k) f
+    ∙ ap (λ (x : ℕ). make g' l' x) h
+
+-- no goals make nothing
+no_goals : (k : ℕ) (m : Made) → k ≡ 0 → m ≡ with_goals [] k m
+no_goals k m e = sym (same_made _ _ _ _ _ _ (more_none m.goals) refl (omega (arith, e)))
+
+-- ---- statements in a row
+
+pub stmts_none : (s : Scope) (m : Made) (ss : Bor (List Stmt)) → ss.now ≡ [] → m ≡ goal_behind s (GoalWork.Stmts ss) m
+stmts_none s m ss e = no_goals 0 m refl ∙ ap (λ (l : List Stmt). let all = stmts_of (map stmt_view l) in with_goals (goals_of s m.sites all) (selects (of_stmts false all)) m) (sym e)
+
+pub stmts_make : (s : Scope) (m : Made) (ss : Bor (List Stmt)) (x : Bor Stmt) (others : Bor (List Stmt)) → ss.now ≡ x.now ∷ others.now → goals_behind s (GoalWork.Stmts others ∷ GoalWork.Stmt x ∷ []) m ≡ goal_behind s (GoalWork.Stmts ss) m
+stmts_make s m ss x others e =
+    let rest = stmts_of (map stmt_view others.now) in
+    let k = selects (of_stmt false (stmt_view x.now)) in
+    same_made _ _ _ _ _ _ (more_more (stmt_goals s m.sites (stmt_view x.now)) (goals_of s (m.sites + k) rest) m.goals) refl (omega (arith, selects_join (of_stmt false (stmt_view x.now)) (of_stmts false rest)))
+    ∙ ap (λ (l : List Stmt). let all = stmts_of (map stmt_view l) in with_goals (goals_of s m.sites all) (selects (of_stmts false all)) m) (sym e)
+
+pub stmts_weigh : (ss : Bor (List Stmt)) (x : Bor Stmt) (others : Bor (List Stmt)) → ss.now ≡ x.now ∷ others.now → goals_weight (GoalWork.Stmts others ∷ GoalWork.Stmt x ∷ []) < goal_weight (GoalWork.Stmts ss)
+stmts_weigh ss x others e = let is = ap (λ (l : List Stmt). stmts_size (stmts_of (map stmt_view l))) e in omega (arith, is)
+
+pub stmts_weigh_none : (ss : Bor (List Stmt)) → ss.now ≡ [] → goals_weight [] < goal_weight (GoalWork.Stmts ss)
+stmts_weigh_none ss e = let is = ap (λ (l : List Stmt). stmts_size (stmts_of (map stmt_view l))) e in omega (arith, is)
+
+-- ---- branches
+
+abbrev branched : Scope → Made → tree.Body → Made
+branched s m all = make m.goals (with_more (lists s m.sites all) m.lists) (m.sites + selects (of_branches false all))
+
+pub branches_none : (s : Scope) (m : Made) (bs : Bor (List (List Stmt))) → bs.now ≡ [] → m ≡ goal_behind s (GoalWork.Branches bs) m
+branches_none s m bs e =
+    sym (same_made _ _ _ _ _ _ refl (more_none m.lists) (omega arith))
+    ∙ ap (λ (l : List (List Stmt)). branched s m (branches_view (map (map stmt_view) l))) (sym e)
+
+pub branches_weigh_none : (bs : Bor (List (List Stmt))) → bs.now ≡ [] → goals_weight [] < goal_weight (GoalWork.Branches bs)
+branches_weigh_none bs e = let is = ap (λ (l : List (List Stmt)). branches_size (branches_view (map (map stmt_view) l))) e in omega (arith, is)
+
+pub branches_make : (s : Scope) (m : Made) (bs : Bor (List (List Stmt))) (first : List Stmt) (b : Bor (List Stmt)) (others : Bor (List (List Stmt))) → bs.now ≡ first ∷ others.now → b.now ≡ first → goals_behind s (GoalWork.Branches others ∷ GoalWork.Branch ∷ GoalWork.Stmts b ∷ GoalWork.Begin ∷ []) m ≡ goal_behind s (GoalWork.Branches bs) m
+branches_make s m bs first b others e same =
+    let here = stmts_of (map stmt_view b.now) in
+    let rest = branches_view (map (map stmt_view) others.now) in
+    let k = selects (of_stmts false here) in
+    same_made _ _ _ _ _ _ refl (more_more (goals_of s m.sites here ∷ []) (lists s (m.sites + k) rest) m.lists) (omega (arith, selects_join (of_stmts false here) (of_branches false rest)))
+    ∙ ap (λ (l : List (List Stmt)). branched s m (branches_view (map (map stmt_view) l))) (ap (λ (ss : List Stmt). ss ∷ others.now) same ∙ sym e)
+
+pub branches_weigh : (bs : Bor (List (List Stmt))) (first : List Stmt) (b : Bor (List Stmt)) (others : Bor (List (List Stmt))) → bs.now ≡ first ∷ others.now → b.now ≡ first → goals_weight (GoalWork.Branches others ∷ GoalWork.Branch ∷ GoalWork.Stmts b ∷ GoalWork.Begin ∷ []) < goal_weight (GoalWork.Branches bs)
+branches_weigh bs first b others e same =
+    let is = ap (λ (l : List (List Stmt)). branches_size (branches_view (map (map stmt_view) l))) (e ∙ ap (λ (ss : List Stmt). ss ∷ others.now) (sym same)) in
+    omega (arith, is)
+
+-- ---- a body
+
+abbrev bodied : Scope → Made → tree.Body → Made
+bodied s m b = with_goals (unit (lists s m.sites b)) (selects (of_body false b)) m
+
+body_is : (b : Bor Body) (bs : List (List Stmt)) → b.now.branches ≡ bs → body_view b.now ≡ branches_view (map (map stmt_view) bs)
+body_is b bs e = body_seen b.now ∙ ap (λ (l : List (List Stmt)). branches_view (map (map stmt_view) l)) e
+
+pub body_none : (s : Scope) (m : Made) (b : Bor Body) → b.now.branches ≡ [] → m ≡ goal_behind s (GoalWork.Body b) m
+body_none s m b e = no_goals 0 m refl ∙ ap (bodied s m) (sym (body_is b [] e))
+
+pub body_weighs_none : (b : Bor Body) → goals_weight [] < goal_weight (GoalWork.Body b)
+body_weighs_none b = omega arith
+
+pub body_one : (s : Scope) (m : Made) (b : Bor Body) (ss : Bor (List Stmt)) → b.now.branches ≡ ss.now ∷ [] → goals_behind s (GoalWork.Stmts ss ∷ []) m ≡ goal_behind s (GoalWork.Body b) m
+body_one s m b ss e =
+    let here = stmts_of (map stmt_view ss.now) in
+    same_made _ _ _ _ _ _ refl refl (omega (arith, selects_join (of_stmts false here) (of_branches false tree.no_branches)))
+    ∙ ap (bodied s m) (sym (body_is b (ss.now ∷ []) e))
+
+pub body_weighs_one : (b : Bor Body) (ss : Bor (List Stmt)) → b.now.branches ≡ ss.now ∷ [] → goals_weight (GoalWork.Stmts ss ∷ []) < goal_weight (GoalWork.Body b)
+body_weighs_one b ss e = let is = ap branches_size (body_is b (ss.now ∷ []) e) in omega (arith, is)
+
+many_lists : (s : Scope) (n : ℕ) (bs : List (List Stmt)) → 2 ≤ length bs → goal.Either (lists s n (branches_view (map (map stmt_view) bs))) ∷ [] ≡ unit (lists s n (branches_view (map (map stmt_view) bs)))
+many_lists s n [] many = absurd (omega (arith, many))
+many_lists s n (b ∷ []) many = absurd (omega (arith, many))
+many_lists s n (a ∷ b ∷ bs) many = refl
+
+pub body_many : (s : Scope) (m : Made) (b : Bor Body) (bs : Bor (List (List Stmt))) → b.now.branches ≡ bs.now → 2 ≤ length bs.now → goals_behind s (GoalWork.End Close.Either ∷ GoalWork.Branches bs ∷ GoalWork.BeginLists ∷ []) m ≡ goal_behind s (GoalWork.Body b) m
+body_many s m b bs e many =
+    same_made _ _ _ _ _ _ (ap (λ (l : List Goal). with_more l m.goals) (many_lists s m.sites bs.now many)) refl refl
+    ∙ ap (bodied s m) (sym (body_is b bs.now e))
+
+pub body_weighs_many : (b : Bor Body) (bs : Bor (List (List Stmt))) → b.now.branches ≡ bs.now → goals_weight (GoalWork.End Close.Either ∷ GoalWork.Branches bs ∷ GoalWork.BeginLists ∷ []) < goal_weight (GoalWork.Body b)
+body_weighs_many b bs e = let is = ap branches_size (body_is b bs.now e) in omega (arith, is)
+
+-- ---- conditions
+
+abbrev armed : Scope → Made → Option Body → tree.Arms → Made
+armed s m other all =
+    let behind = m.sites + selects (of_arms false all) in
+    make (with_more (arm_goals s m.sites all (otherwise s behind other)) m.goals) m.lists (behind + selects_otherwise other)
+
+pub arms_none : (s : Scope) (m : Made) (arms : Bor (List Arm)) (other : Bor (Option Body)) → arms.now ≡ [] → other.now ≡ None → m ≡ goal_behind s (GoalWork.Arms arms other) m
+arms_none s m arms other e f =
+    sym (same_made _ _ _ _ _ _ (more_none m.goals) refl (omega arith))
+    ∙ ap (λ (o : Option Body). armed s m o tree.no_arms) (sym f)
+    ∙ ap (λ (l : List Arm). armed s m other.now (arms_of (map arm_view l))) (sym e)
+
+arms_weight_none : (arms : Bor (List Arm)) → arms.now ≡ [] → arms_size (arms_of (map arm_view arms.now)) ≡ 1
+arms_weight_none arms e = ap (λ (l : List Arm). arms_size (arms_of (map arm_view l))) e
+
+pub arms_weigh_none : (arms : Bor (List Arm)) (other : Bor (Option Body)) → arms.now ≡ [] → other.now ≡ None → goals_weight [] < goal_weight (GoalWork.Arms arms other)
+arms_weigh_none arms other e f = omega (arith, arms_weight_none arms e, ap other_weight f)
+
+pub arms_other : (s : Scope) (m : Made) (arms : Bor (List Arm)) (other : Bor (Option Body)) (b : Bor Body) → arms.now ≡ [] → other.now ≡ Some b.now → goals_behind s (GoalWork.Body b ∷ []) m ≡ goal_behind s (GoalWork.Arms arms other) m
+arms_other s m arms other b e f =
+    let zero_more : m.sites ≡ m.sites + 0 = omega arith in
+    same_made _ _ _ _ _ _ (ap (λ (k : ℕ). with_more (unit (lists s k (body_view b.now))) m.goals) zero_more) refl (omega arith)
+    ∙ ap (λ (o : Option Body). armed s m o tree.no_arms) (sym f)
+    ∙ ap (λ (l : List Arm). armed s m other.now (arms_of (map arm_view l))) (sym e)
+
+pub arms_weigh_other : (arms : Bor (List Arm)) (other : Bor (Option Body)) (b : Bor Body) → arms.now ≡ [] → other.now ≡ Some b.now → goals_weight (GoalWork.Body b ∷ []) < goal_weight (GoalWork.Arms arms other)
+arms_weigh_other arms other b e f = omega (arith, arms_weight_none arms e, ap other_weight f)
+
+abbrev put_of : Bor (List Arm) → Bor (Option Body) → Bor Body → Bor Body → List GoalWork
+put_of others other c b = GoalWork.End Close.If ∷ GoalWork.Arms others other ∷ GoalWork.Begin ∷ GoalWork.Body b ∷ GoalWork.Begin ∷ GoalWork.Body c ∷ GoalWork.Begin ∷ []
+
+arms_are : (arms : Bor (List Arm)) (a : Arm) (c b : Bor Body) (others : Bor (List Arm)) → arms.now ≡ a ∷ others.now → arm_view a ≡ (body_view c.now, body_view b.now) → arms_of (map arm_view arms.now) ≡ tree.arm (body_view c.now) (body_view b.now) (arms_of (map arm_view others.now))
+arms_are arms a c b others e seen = ap arms_of (ap (map arm_view) e ∙ ap (λ (x : tree.Body × tree.Body). x ∷ map arm_view others.now) seen)
+
+pub arms_make : (s : Scope) (m : Made) (arms : Bor (List Arm)) (other : Bor (Option Body)) (a : Arm) (c b : Bor Body) (others : Bor (List Arm)) → arms.now ≡ a ∷ others.now → arm_view a ≡ (body_view c.now, body_view b.now) → goals_behind s (put_of others other c b) m ≡ goal_behind s (GoalWork.Arms arms other) m
+arms_make s m arms other a c b others e seen =
+    let rest = arms_of (map arm_view others.now) in
+    let i = m.sites + selects (of_body false (body_view c.now)) in
+    let j = i + selects (of_body false (body_view b.now)) in
+    let all = tree.arm (body_view c.now) (body_view b.now) rest in
+    let one = selects_join (of_body false (body_view c.now)) (join (of_body false (body_view b.now)) (of_arms false rest)) in
+    let two = selects_join (of_body false (body_view b.now)) (of_arms false rest) in
+    let ends : j + selects (of_arms false rest) ≡ m.sites + selects (of_arms false all) = omega (arith, one, two) in
+    same_made _ _ _ _ _ _
+    (ap (λ (k : ℕ). with_more (arm_goals s m.sites all (otherwise s k other.now)) m.goals) ends) refl (ap (λ (k : ℕ). k + selects_otherwise other.now) ends)
+    ∙ ap (armed s m other.now) (sym (arms_are arms a c b others e seen))
+
+pub arms_weigh : (arms : Bor (List Arm)) (other : Bor (Option Body)) (a : Arm) (c b : Bor Body) (others : Bor (List Arm)) → arms.now ≡ a ∷ others.now → arm_view a ≡ (body_view c.now, body_view b.now) → goals_weight (put_of others other c b) < goal_weight (GoalWork.Arms arms other)
+arms_weigh arms other a c b others e seen = let is = ap arms_size (arms_are arms a c b others e seen) in omega (arith, is)
+
+-- ---- statements that hold others
+
+-- a statement by what it is
+pub stmt_is : (s : Scope) (x : Bor Stmt) (y : tree.Stmt) (old new ws : List GoalWork) (before after : Made) → stmt_view x.now ≡ y → new ≡ old ++ ws → goals_behind s ws after ≡ with_goals (stmt_goals s before.sites y) (selects (of_stmt false y)) before → goals_weight ws < 3 * stmt_size y → Takes s (GoalWork.Stmt x) old new before after
+stmt_is s x y old new ws before after is e h k =
+    takes s old new ws (GoalWork.Stmt x) before after e
+    (h ∙ ap (λ (z : tree.Stmt). with_goals (stmt_goals s before.sites z) (selects (of_stmt false z)) before) (sym is))
+    (let size = ap stmt_size is in omega (arith, k, size))
+
+-- a statement that makes goals at once
+pub stmt_adds : (s : Scope) (x : Bor Stmt) (y : tree.Stmt) (old : List GoalWork) (before after : Made) (gs : List Goal) → stmt_view x.now ≡ y → after ≡ record before { goals = with_more gs before.goals } → gs ≡ stmt_goals s before.sites y → selects (of_stmt false y) ≡ 0 → 0 < stmt_size y → Takes s (GoalWork.Stmt x) old old before after
+stmt_adds s x y old before after gs is e same none some =
+    stmt_is s x y old old [] before after is (nothing_put old)
+    (e ∙ same_made _ _ _ _ _ _ (ap (λ (l : List Goal). with_more l before.goals) same) refl (omega (arith, none)))
+    (omega (arith, some))
+
+-- a statement with goals of which something is made
+pub collect_makes : (s : Scope) (m : Made) (v : Bor Value) (b : Bor Body) (into : Bor Value) → goals_behind s (GoalWork.End (Close.Collect v into) ∷ GoalWork.Body b ∷ GoalWork.Begin ∷ []) m ≡ with_goals (stmt_goals s m.sites (tree.collect (value_view v.now) (body_view b.now) (value_view into.now))) (selects (of_stmt false (tree.collect (value_view v.now) (body_view b.now) (value_view into.now)))) m
+collect_makes s m v b into = same_made _ _ _ _ _ _ refl refl (omega (arith, gathering_counted (value_view v.now) (body_view b.now) (value_view into.now)))
+
+pub accumulate_makes : (s : Scope) (m : Made) (v : Bor Value) (b : Bor Body) (into : Bor Value) → goals_behind s (GoalWork.End (Close.Accumulate v into) ∷ GoalWork.Body b ∷ GoalWork.Begin ∷ []) m ≡ with_goals (stmt_goals s m.sites (tree.accumulate (value_view v.now) (body_view b.now) (value_view into.now))) (selects (of_stmt false (tree.accumulate (value_view v.now) (body_view b.now) (value_view into.now)))) m
+accumulate_makes s m v b into = same_made _ _ _ _ _ _ refl refl (omega (arith, gathering_counted (value_view v.now) (body_view b.now) (value_view into.now)))
+
+pub select_makes : (s : Scope) (m after : Made) (site : ℕ) (mode : Mode) (bs : Bor (List (List Stmt))) → after ≡ record m { sites = m.sites + 1 } → site ≡ m.sites → goals_behind s (GoalWork.End (Close.Select site mode) ∷ GoalWork.Branches bs ∷ GoalWork.BeginLists ∷ []) after ≡ with_goals (stmt_goals s m.sites (tree.select mode (branches_view (map (map stmt_view) bs.now)))) (selects (of_stmt false (tree.select mode (branches_view (map (map stmt_view) bs.now))))) m
+select_makes s m after site mode bs e is =
+    ap (goals_behind s (GoalWork.End (Close.Select site mode) ∷ GoalWork.Branches bs ∷ GoalWork.BeginLists ∷ [])) e
+    ∙ same_made _ _ _ _ _ _ (ap (λ (k : ℕ). with_more (goal.Select k mode (lists s (m.sites + 1) (branches_view (map (map stmt_view) bs.now))) ∷ []) m.goals) is) refl (omega arith)
+
+pub choice_is : (x : Stmt) (arms : List Arm) (other : Option Body) → x ≡ Stmt.If arms other → stmt_view x ≡ choice_view (map arm_view arms) (option_map body_view other)
+choice_is x arms None e = ap stmt_view e ∙ choice_seen arms
+choice_is x arms (Some b) e = ap stmt_view e ∙ choice_else_seen arms b
+
+pub choice_makes : (s : Scope) (m : Made) (arms : Bor (List Arm)) (other : Bor (Option Body)) (o : Option Body) → other.now ≡ o → goals_behind s (GoalWork.Arms arms other ∷ []) m ≡ with_goals (stmt_goals s m.sites (choice_view (map arm_view arms.now) (option_map body_view o))) (selects (of_stmt false (choice_view (map arm_view arms.now) (option_map body_view o)))) m
+choice_makes s m arms other None e = ap (λ (x : Option Body). armed s m x (arms_of (map arm_view arms.now))) e ∙ same_made _ _ _ _ _ _ refl refl (omega arith)
+choice_makes s m arms other (Some b) e =
+    ap (λ (x : Option Body). armed s m x (arms_of (map arm_view arms.now))) e
+    ∙ same_made _ _ _ _ _ _ refl refl (omega (arith, selects_join (of_arms false (arms_of (map arm_view arms.now))) (of_body false (body_view b))))
+
+pub choice_weighs : (arms : Bor (List Arm)) (other : Bor (Option Body)) (o : Option Body) → other.now ≡ o → goals_weight (GoalWork.Arms arms other ∷ []) < 3 * stmt_size (choice_view (map arm_view arms.now) (option_map body_view o))
+choice_weighs arms other None e = omega (arith, ap other_weight e)
+choice_weighs arms other (Some b) e = omega (arith, ap other_weight e)
+
+-- a part that is looked at, by what it is
+pub takes_is : (s : Scope) (w v : GoalWork) (old new : List GoalWork) (before after : Made) → w ≡ v → Takes s v old new before after → Takes s w old new before after
+takes_is s w v old new before after is h = subst (λ (x : GoalWork). Takes s x old new before after) (sym is) h
+
+pub takes_apart : (s : Scope) (w v : GoalWork) (old new : List GoalWork) (m : Made) → w ≡ v → ComesTo v old new → Takes s w old new m m
+takes_apart s w v old new m is h = takes_is s w v old new m m is (record { behind = h.behind s m; weight = h.weight })
+
+pub takes_now : (s : Scope) (w v : GoalWork) (old : List GoalWork) (before after : Made) → w ≡ v → after ≡ goal_behind s v before → 0 < goal_weight v → Takes s w old old before after
+takes_now s w v old before after is e some = takes_is s w v old old before after is (takes s old old [] v before after (nothing_put old) e some)
+
+-- a list that begins
+pub begun : {A : Type 0} (old new : List (List A)) → new ≡ old ++ [] ∷ [] → reverse new ≡ [] ∷ reverse old
+begun old new e = ap reverse e ∙ reverse_push old []
+
+-- ---- what is put in the place of a part
+
+pub stmts_come : (old a new : List GoalWork) (ss : Bor (List Stmt)) (x : Bor Stmt) (others : Bor (List Stmt)) → a ≡ old ++ GoalWork.Stmts others ∷ [] → new ≡ a ++ GoalWork.Stmt x ∷ [] → ss.now ≡ x.now ∷ others.now → ComesTo (GoalWork.Stmts ss) old new
+stmts_come old a new ss x others e f is =
+    comes old new (GoalWork.Stmts others ∷ GoalWork.Stmt x ∷ []) (GoalWork.Stmts ss) (push_two old a new (GoalWork.Stmts others) (GoalWork.Stmt x) e f) (λ s m. stmts_make s m ss x others is) (stmts_weigh ss x others is)
+
+pub branches_come : (old a b c new : List GoalWork) (bs : Bor (List (List Stmt))) (first : List Stmt) (ss : Bor (List Stmt)) (others : Bor (List (List Stmt))) → a ≡ old ++ GoalWork.Branches others ∷ [] → b ≡ a ++ GoalWork.Branch ∷ [] → c ≡ b ++ GoalWork.Stmts ss ∷ [] → new ≡ c ++ GoalWork.Begin ∷ [] → bs.now ≡ first ∷ others.now → ss.now ≡ first → ComesTo (GoalWork.Branches bs) old new
+branches_come old a b c new bs first ss others e f g h is same =
+    comes old new (GoalWork.Branches others ∷ GoalWork.Branch ∷ GoalWork.Stmts ss ∷ GoalWork.Begin ∷ []) (GoalWork.Branches bs)
+    (push_four old a b c new (GoalWork.Branches others) GoalWork.Branch (GoalWork.Stmts ss) GoalWork.Begin e f g h)
+    (λ s m. branches_make s m bs first ss others is same) (branches_weigh bs first ss others is same)
+
+pub body_comes_one : (old new : List GoalWork) (b : Bor Body) (ss : Bor (List Stmt)) → new ≡ old ++ GoalWork.Stmts ss ∷ [] → b.now.branches ≡ ss.now ∷ [] → ComesTo (GoalWork.Body b) old new
+body_comes_one old new b ss e is = comes old new (GoalWork.Stmts ss ∷ []) (GoalWork.Body b) e (λ s m. body_one s m b ss is) (body_weighs_one b ss is)
+
+pub body_comes_many : (old new : List GoalWork) (b : Bor Body) (bs : Bor (List (List Stmt))) → new ≡ old ++ GoalWork.End Close.Either ∷ GoalWork.Branches bs ∷ GoalWork.BeginLists ∷ [] → b.now.branches ≡ bs.now → 2 ≤ length bs.now → ComesTo (GoalWork.Body b) old new
+body_comes_many old new b bs e is many = comes old new (GoalWork.End Close.Either ∷ GoalWork.Branches bs ∷ GoalWork.BeginLists ∷ []) (GoalWork.Body b) e (λ s m. body_many s m b bs is many) (body_weighs_many b bs is)
+
+pub arms_come_other : (old new : List GoalWork) (arms : Bor (List Arm)) (other : Bor (Option Body)) (b : Bor Body) → new ≡ old ++ GoalWork.Body b ∷ [] → arms.now ≡ [] → other.now ≡ Some b.now → ComesTo (GoalWork.Arms arms other) old new
+arms_come_other old new arms other b e none is = comes old new (GoalWork.Body b ∷ []) (GoalWork.Arms arms other) e (λ s m. arms_other s m arms other b none is) (arms_weigh_other arms other b none is)
+
+pub arms_come : (old new : List GoalWork) (arms : Bor (List Arm)) (other rest : Bor (Option Body)) (a : Arm) (c b : Bor Body) (others : Bor (List Arm)) → new ≡ old ++ GoalWork.End Close.If ∷ GoalWork.Arms others rest ∷ GoalWork.Begin ∷ GoalWork.Body b ∷ GoalWork.Begin ∷ GoalWork.Body c ∷ GoalWork.Begin ∷ [] → rest.now ≡ other.now → arms.now ≡ a ∷ others.now → arm_view a ≡ (body_view c.now, body_view b.now) → ComesTo (GoalWork.Arms arms other) old new
+arms_come old new arms other rest a c b others e same is seen =
+    comes old new (put_of others rest c b) (GoalWork.Arms arms other) e
+    (λ s m. arms_make s m arms rest a c b others is seen ∙ ap (λ (o : Option Body). armed s m o (arms_of (map arm_view arms.now))) same)
+    (let weight = ap other_weight same in let less = arms_weigh arms rest a c b others is seen in omega (arith, weight, less))
+
+-- a statement with one part in it
+pub stmt_puts : (s : Scope) (x : Bor Stmt) (y : tree.Stmt) (old new : List GoalWork) (before after : Made) (w : GoalWork) → new ≡ old ++ w ∷ [] → stmt_view x.now ≡ y → goal_behind s w after ≡ with_goals (stmt_goals s before.sites y) (selects (of_stmt false y)) before → goal_weight w < 3 * stmt_size y → Takes s (GoalWork.Stmt x) old new before after
+stmt_puts s x y old new before after w e is h k = stmt_is s x y old new (w ∷ []) before after is e h (omega (arith, k))
+
+pub collect_taken : (s : Scope) (x : Bor Stmt) (old new : List GoalWork) (m : Made) (v : Bor Value) (b : Bor Body) (into : Bor Value) → new ≡ old ++ GoalWork.End (Close.Collect v into) ∷ GoalWork.Body b ∷ GoalWork.Begin ∷ [] → stmt_view x.now ≡ tree.collect (value_view v.now) (body_view b.now) (value_view into.now) → Takes s (GoalWork.Stmt x) old new m m
+collect_taken s x old new m v b into e is = stmt_is s x (tree.collect (value_view v.now) (body_view b.now) (value_view into.now)) old new (GoalWork.End (Close.Collect v into) ∷ GoalWork.Body b ∷ GoalWork.Begin ∷ []) m m is e (collect_makes s m v b into) (omega arith)
+
+pub accumulate_taken : (s : Scope) (x : Bor Stmt) (old new : List GoalWork) (m : Made) (v : Bor Value) (b : Bor Body) (into : Bor Value) → new ≡ old ++ GoalWork.End (Close.Accumulate v into) ∷ GoalWork.Body b ∷ GoalWork.Begin ∷ [] → stmt_view x.now ≡ tree.accumulate (value_view v.now) (body_view b.now) (value_view into.now) → Takes s (GoalWork.Stmt x) old new m m
+accumulate_taken s x old new m v b into e is = stmt_is s x (tree.accumulate (value_view v.now) (body_view b.now) (value_view into.now)) old new (GoalWork.End (Close.Accumulate v into) ∷ GoalWork.Body b ∷ GoalWork.Begin ∷ []) m m is e (accumulate_makes s m v b into) (omega arith)
+
+pub choice_taken : (s : Scope) (x : Bor Stmt) (old new : List GoalWork) (m : Made) (arms : List Arm) (o : Option Body) (lent : Bor (List Arm)) (other : Bor (Option Body)) → new ≡ old ++ GoalWork.Arms lent other ∷ [] → x.now ≡ Stmt.If arms o → lent.now ≡ arms → other.now ≡ o → Takes s (GoalWork.Stmt x) old new m m
+choice_taken s x old new m arms o lent other e is same rest =
+    stmt_is s x (choice_view (map arm_view lent.now) (option_map body_view o)) old new (GoalWork.Arms lent other ∷ []) m m
+    (choice_is x.now arms o is ∙ ap (λ (l : List Arm). choice_view (map arm_view l) (option_map body_view o)) (sym same)) e (choice_makes s m lent other o rest) (choice_weighs lent other o rest)
+
+pub if_ok : {A E : Type 0} {P Q : A → Type 0} (r : Result A E) → ((x : A) → P x → Q x) → IfOk r P → IfOk r Q
+if_ok (Ok a) f h = f a h
+if_ok (Err e) f h = h

@@ -1,0 +1,465 @@
+-- The core program of a tree that is given is sound.
+use Rattle.std.proofs.Common.{◌≡◌, ◌+◌, ◌<◌, ◌≤◌, ℕ, ◌⊎◌, inl, inr, zero, suc, List, [], ◌∷◌, ◌++◌, ◌||◌, ◌&&◌, Bool, true, false, not, Option, Some, None, length, map, get_or, refl, sym, ◌∙◌, ap, subst, arith}
+use Rattle.std.specs.Prelude.{◌≢◌, filter, if◌then◌else◌, min, position, slice_get, Result, Ok, Err, IfOk}
+use Rattle.std.specs.List.{All, Contains, flat_map}
+use Rattle.std.specs.Str.{bytes_eq}
+use Rattle.std.specs.Cmp.Lexicographic.{bytes_decides}
+use Rattle.std.proofs.lemmas.List.{length-map, get_or-map}
+use Rattle.std.proofs.lemmas.Bool.{and_parts}
+use Rattle.std.proofs.lemmas.List.Quantifiers.{position-Some}
+use Rattle.std.proofs.lemmas.Option.{slice_get-get_or}
+use Rattle.dg_base.specs.declared.program.PlaceKind.{PlaceKind}
+use Rattle.dg_base.specs.declared.program.PlaceKind.TheVariants.{Parent, Global}
+use Rattle.dg_base.specs.declared.refusal.Kind.TheVariants.{NoEntry}
+use Rattle.dg_base.specs.declared.refusal.Refusal.{Refusal}
+use Rattle.dg_core.proofs.FitLemmas.{all_declarable, declared_other}
+use Rattle.dg_core.proofs.StartLemmas.{MayBegin, fact_start, parts_hold, starts_sound, starts_distinct, declared_one_start}
+use Rattle.std.proofs.lemmas.List.Concat.{flat_map-append}
+use Rattle.std.proofs.lemmas.List.Elements.{All-nil, All-cons, All-append, All-head, All-tail, All-weaker, All-contains, Contains-append_left, Contains-append_right}
+use Rattle.dg_base.specs.Goals.{goals_of}
+use Rattle.dg_base.specs.Heads.{name_of}
+use Rattle.dg_base.specs.Mentions.{Thing, query, of_said, of_rule, of_parts, of_body, things, things_in, mentioned, names_in, variable, variable_in}
+use Rattle.dg_base.specs.Names.{builtin_named}
+use Rattle.dg_base.specs.Sound.{IsSound, IsName, IsPredOf, IsRuleOf, IsGoalOf, IsTermOf, IsClosureOf, IsPlaceOf, IsStartOf, SameSite, all_goals}
+use Rattle.dg_base.specs.Tree as tree
+use Rattle.dg_base.specs.Tree.{Parts, Body, Said, Item}
+use Rattle.dg_base.specs.declared.mentions.Role.TheVariants as role
+use Rattle.dg_base.specs.declared.program.CoreProgram.{CoreProgram as Core}
+use Rattle.dg_base.specs.declared.program.Goal.{Goal, out-Goal}
+use Rattle.dg_base.specs.declared.program.Goal.TheVariants as goal
+use Rattle.dg_base.specs.declared.program.Goal.TheOpen as form
+use Rattle.dg_base.specs.declared.program.Place.{Place}
+use Rattle.dg_base.specs.declared.program.Pred.{Pred}
+use Rattle.dg_base.specs.declared.program.Rule.{Rule}
+use Rattle.dg_base.specs.declared.refusal.ReadFault.{ReadFault}
+use Rattle.dg_names.specs.Among.{IsAmong, HasPred}
+use Rattle.dg_names.specs.Named.{Named, firsts}
+use Rattle.dg_core.specs.Core.{outside, scope_of, rule_of, failing, rules_in, rules_from, selects_of, all_selects, pred_of, without_facts, entry_name, core_of, is_rule_for, has_entry, with_rules, rules_of, rules_at, rules_named, starts_from, declared_start, refusal_of, IsLowered}
+use Rattle.dg_core.specs.Given.{IsFit, IsFitItem, IsGiven}
+use Rattle.dg_core.specs.Goals.{Scope, number_in, unit, lists, selects}
+use Rattle.dg_core.specs.Places.{Placed, is_among, parent_name, place_names, placed_of, declaration_in, declarations, declared_names, changed_in, kind_by, kind_of, values_named, values_in, are_fact, is_empty, is_no_fact, is_bad, declared_behind, first_bad}
+use Rattle.dg_core.specs.Variables.{variables_of}
+use Rattle.dg_core.proofs.AskLemmas.{query_fits, place_in, place_fits, parents_fit, entry_fits}
+use Rattle.dg_core.proofs.GoalLemmas.{AreMade, made_none, made_join, body_made, goal_made}
+use Rattle.dg_core.proofs.HoldLemmas.{Hold, front, back, from_all, all_front, all_behind}
+use Rattle.dg_core.proofs.MemberLemmas.{alone_there, first_there, later_there, there_cases, nowhere, firsts_have}
+use Rattle.dg_core.proofs.PlaceLemmas.{IsPlaced, changed_there}
+use Rattle.dg_core.proofs.SiteLemmas.{AreSited, sited_none, sited_join, sited_wider}
+use Rattle.dg_core.proofs.TermLemmas.{number_below, IsGround, IsKnown, parts_sound}
+
+-- ---- what is known of the things of an item
+
+-- what is asked of each thing of all items
+record Asked (names : Named) (placed : List (List ℕ)) (ts : List Thing) : Type 0 where
+  among : All (IsAmong names) ts
+  fit : All IsFit ts
+  changed : All (IsPlaced placed) ts
+
+known_at : (s : Scope) (t : Thing) → IsAmong s.names t → IsFit t → IsPlaced s.places t → ((n : List ℕ) → Contains (variable_in t) n → Contains s.variables n) → IsKnown s t
+known_at s (variable n) a f p v = v n (alone_there n)
+known_at s (query (role.Changed set) ps) a f p v = p
+known_at s t a f p v = (a, f)
+
+known_all : (s : Scope) (ts : List Thing) → All (IsAmong s.names) ts → All IsFit ts → All (IsPlaced s.places) ts → ((n : List ℕ) → Contains (names_in variable_in ts) n → Contains s.variables n) → All (IsKnown s) ts
+known_all s [] a f p v = All-nil (IsKnown s)
+known_all s (t ∷ ts) a f p v =
+    All-cons (IsKnown s) t ts
+    (known_at s t (All-head (IsAmong s.names) t ts a) (All-head IsFit t ts f) (All-head (IsPlaced s.places) t ts p) (λ n k. v n (Contains-append_left (variable_in t) (names_in variable_in ts) n k)))
+    (known_all s ts (All-tail (IsAmong s.names) t ts a) (All-tail IsFit t ts f) (All-tail (IsPlaced s.places) t ts p) (λ n k. v n (Contains-append_right (variable_in t) (names_in variable_in ts) n k)))
+
+-- ---- rules
+
+all_vars : (n : ℕ) → n ≤ 65 → min n 65535 ≡ n
+all_vars n h = omega arith
+
+few_vars : (n : ℕ) → n ≤ 65 → min n 65535 ≤ 65
+few_vars n h = omega arith
+
+abbrev vars_of : Parts → Body → ℕ
+vars_of ps b = min (length (variables_of ps b)) 65535
+
+ground : (names : Named) (items : List Item) (ps : Parts) (b : Body) → IsGiven names items → length (variables_of ps b) ≤ 65 → IsGround (core_of names items) (vars_of ps b) (scope_of (outside names items) ps b)
+ground names items ps b g few = record {
+  words = λ w there. number_below w names.words there g.few_words;
+  objects = λ n there. number_below n names.objects there g.few_objects;
+  variables = λ n there. subst (λ (k : ℕ). number_in (variables_of ps b) n < k) (sym (all_vars (length (variables_of ps b)) few)) (number_below n (variables_of ps b) there (let many : length (variables_of ps b) ≤ 65535 = omega arith in many));
+  preds = λ qs there. query_fits names items (scope_of (outside names items) ps b) qs there g.few_preds;
+  places = λ qs there. place_fits names items (scope_of (outside names items) ps b) qs g there;
+  parents = parents_fit names items;
+}
+
+known_rule : (names : Named) (items : List Item) (ps : Parts) (b : Body) → Asked names (place_names items) (things (of_rule role.Rule ps b)) → Hold (IsKnown (scope_of (outside names items) ps b)) (of_rule role.Rule ps b)
+known_rule names items ps b a =
+    let s = scope_of (outside names items) ps b in
+    let ts = things (of_rule role.Rule ps b) in
+    from_all (IsKnown s) (of_rule role.Rule ps b) (known_all s ts a.among a.fit a.changed (λ n k. firsts_have (names_in variable_in ts) n k))
+
+rule_made : (names : Named) (items : List Item) (n : ℕ) (ps : Parts) (b : Body) (behind : List Goal) → IsGiven names items → Asked names (place_names items) (things (of_rule role.Rule ps b)) → length (variables_of ps b) ≤ 65 → n + selects (of_body false b) ≤ all_selects items → AreMade (core_of names items) (vars_of ps b) (n + selects (of_body false b)) (n + selects (of_body false b)) behind → AreMade (core_of names items) (vars_of ps b) n (n + selects (of_body false b)) (rule_of (outside names items) n ps b behind).body
+rule_made names items n ps b behind g a few e k =
+    let s = scope_of (outside names items) ps b in
+    let h = known_rule names items ps b a in
+    made_join (core_of names items) (vars_of ps b) n (n + selects (of_body false b)) (n + selects (of_body false b)) (unit (lists s n b)) behind
+    (body_made (core_of names items) (vars_of ps b) s n b (ground names items ps b g few) (back (IsKnown s) (of_parts false ps) (of_body false b) h.1) e) k
+
+rule_sound : (names : Named) (items : List Item) (n : ℕ) (ps : Parts) (b : Body) (behind : List Goal) → IsGiven names items → Asked names (place_names items) (things (of_rule role.Rule ps b)) → length (variables_of ps b) ≤ 65 → n + selects (of_body false b) ≤ all_selects items → AreMade (core_of names items) (vars_of ps b) (n + selects (of_body false b)) (n + selects (of_body false b)) behind → IsRuleOf (core_of names items) (rule_of (outside names items) n ps b behind)
+rule_sound names items n ps b behind g a few e k =
+    let s = scope_of (outside names items) ps b in
+    let h = known_rule names items ps b a in
+    record {
+      few = few_vars (length (variables_of ps b)) few;
+      head = parts_sound (core_of names items) (vars_of ps b) s false ps (ground names items ps b g few) (front (IsKnown s) (of_parts false ps) (of_body false b) h.1);
+      body = (rule_made names items n ps b behind g a few e k).sound;
+    }
+
+failing_made : (p : Core) (vars n : ℕ) → AreMade p vars n n failing
+failing_made p vars n =
+    made_join p vars n n n (goal.Just ∷ []) (goal.Fail ∷ [])
+    (goal_made p vars n n goal.Just form.Just goal.outs-Just tt (All-nil (IsTermOf p vars)) tt (All-nil (IsGoalOf p vars)) (sited_none n n (omega arith)))
+    (goal_made p vars n n goal.Fail form.Fail goal.outs-Fail tt (All-nil (IsTermOf p vars)) tt (All-nil (IsGoalOf p vars)) (sited_none n n (omega arith)))
+
+given : (p : Core) (same : Bool) (r : Rule) → IsRuleOf p r → All (IsRuleOf p) (if same then r ∷ [] else [])
+given p true r h = All-cons (IsRuleOf p) r [] h (All-nil (IsRuleOf p))
+given p false r h = All-nil (IsRuleOf p)
+
+item_sound : (names : Named) (items : List Item) (n : ℕ) (name : List ℕ) (said : Said) → IsGiven names items → Asked names (place_names items) (things_in said) → IsFitItem said → n + selects_of said ≤ all_selects items → All (IsRuleOf (core_of names items)) (rules_in (outside names items) n name said)
+item_sound names items n name (tree.topic w) g a few e = All-nil (IsRuleOf (core_of names items))
+item_sound names items n name (tree.rule ps b) g a few e =
+    given (core_of names items) (bytes_eq (name_of ps) name) (rule_of (outside names items) n ps b []) (rule_sound names items n ps b [] g a few e (made_none (core_of names items) (vars_of ps b) _ _ (omega arith)))
+item_sound names items n name (tree.deny ps b) g a few e =
+    given (core_of names items) (bytes_eq (name_of ps) name) (rule_of (outside names items) n ps b failing) (rule_sound names items n ps b failing g a few e (failing_made (core_of names items) (vars_of ps b) _))
+item_sound names items n name (tree.access ps b) g a few e = All-nil (IsRuleOf (core_of names items))
+item_sound names items n name (tree.global_variable ps) g a few e = All-nil (IsRuleOf (core_of names items))
+
+-- what is asked of the things of items, from an item on
+asked_front : (names : Named) (placed : List (List ℕ)) (i : Item) (is : List Item) → Asked names placed (mentioned (i ∷ is)) → Asked names placed (things_in i.said)
+asked_front names placed i is a = record {
+  among = all_front (IsAmong names) (things_in i.said) (mentioned is) a.among;
+  fit = all_front IsFit (things_in i.said) (mentioned is) a.fit;
+  changed = all_front (IsPlaced placed) (things_in i.said) (mentioned is) a.changed;
+}
+
+asked_behind : (names : Named) (placed : List (List ℕ)) (i : Item) (is : List Item) → Asked names placed (mentioned (i ∷ is)) → Asked names placed (mentioned is)
+asked_behind names placed i is a = record {
+  among = all_behind (IsAmong names) (things_in i.said) (mentioned is) a.among;
+  fit = all_behind IsFit (things_in i.said) (mentioned is) a.fit;
+  changed = all_behind (IsPlaced placed) (things_in i.said) (mentioned is) a.changed;
+}
+
+items_sound : (names : Named) (items : List Item) (n : ℕ) (name : List ℕ) (is : List Item) → IsGiven names items → Asked names (place_names items) (mentioned is) → All (λ (i : Item). IsFitItem i.said) is → n + all_selects is ≤ all_selects items → All (IsRuleOf (core_of names items)) (rules_from (outside names items) n name is)
+items_sound names items n name [] g a few e = All-nil (IsRuleOf (core_of names items))
+items_sound names items n name (i ∷ is) g a few e =
+    All-append (IsRuleOf (core_of names items)) (rules_in (outside names items) n name i.said) (rules_from (outside names items) (n + selects_of i.said) name is)
+    (item_sound names items n name i.said g (asked_front names (place_names items) i is a) (All-head (λ (j : Item). IsFitItem j.said) i is few) (omega (arith, e)))
+    (items_sound names items (n + selects_of i.said) name is g (asked_behind names (place_names items) i is a) (All-tail (λ (j : Item). IsFitItem j.said) i is few) (omega (arith, e)))
+
+all_asked : (names : Named) (items : List Item) → IsGiven names items → Asked names (place_names items) (mentioned items)
+all_asked names items g = record { among = g.things; fit = g.fit; changed = changed_there items }
+
+kept : (p : Core) (b : Bool) (rs : List Rule) → All (IsRuleOf p) rs → All (IsRuleOf p) (if b then [] else rs)
+kept p true rs h = All-nil (IsRuleOf p)
+kept p false rs h = h
+
+preds_sound : (names : Named) (items : List Item) (ns : List (List ℕ)) → IsGiven names items → All IsName ns → All (IsPredOf (core_of names items)) (map (without_facts (place_names items)) (map (pred_of (outside names items) items) ns))
+preds_sound names items [] g m = All-nil (IsPredOf (core_of names items))
+preds_sound names items (n ∷ ns) g m =
+    let q = pred_of (outside names items) items n in
+    let here : IsPredOf (core_of names items) (without_facts (place_names items) q) = record {
+      name = All-head IsName n ns m;
+      rules = kept (core_of names items) _ q.rules (items_sound names items 0 n items g (all_asked names items g) g.items (omega arith));
+    } in
+    All-cons (IsPredOf (core_of names items)) (without_facts (place_names items) q) (map (without_facts (place_names items)) (map (pred_of (outside names items) items) ns)) here (preds_sound names items ns g (All-tail IsName n ns m))
+
+-- ---- sites
+
+-- the goals that an item gives
+abbrev body_in : Scope → ℕ → Said → List Goal
+body_in around n (tree.rule ps b) = (rule_of around n ps b []).body
+body_in around n (tree.deny ps b) = (rule_of around n ps b failing).body
+body_in around n said = []
+
+abbrev goals_from : Scope → ℕ → List Item → List Goal
+goals_from around n [] = []
+goals_from around n (i ∷ is) = goals_of (body_in around n i.said) ++ goals_from around (n + selects_of i.said) is
+
+item_sited : (names : Named) (items : List Item) (n : ℕ) (said : Said) → IsGiven names items → Asked names (place_names items) (things_in said) → IsFitItem said → n + selects_of said ≤ all_selects items → AreSited n (n + selects_of said) (goals_of (body_in (outside names items) n said))
+item_sited names items n (tree.topic w) g a few e = sited_none n _ (omega arith)
+item_sited names items n (tree.rule ps b) g a few e = (rule_made names items n ps b [] g a few e (made_none (core_of names items) (vars_of ps b) _ _ (omega arith))).sited
+item_sited names items n (tree.deny ps b) g a few e = (rule_made names items n ps b failing g a few e (failing_made (core_of names items) (vars_of ps b) _)).sited
+item_sited names items n (tree.access ps b) g a few e = sited_none n _ (omega arith)
+item_sited names items n (tree.global_variable ps) g a few e = sited_none n _ (omega arith)
+
+items_sited : (names : Named) (items : List Item) (n : ℕ) (is : List Item) → IsGiven names items → Asked names (place_names items) (mentioned is) → All (λ (i : Item). IsFitItem i.said) is → n + all_selects is ≤ all_selects items → AreSited n (n + all_selects is) (goals_from (outside names items) n is)
+items_sited names items n [] g a few e = sited_none n _ (omega arith)
+items_sited names items n (i ∷ is) g a few e =
+    let k = n + selects_of i.said in
+    sited_wider n (k + all_selects is) n _ _ (omega arith) (omega arith)
+    (sited_join n k (k + all_selects is) (goals_of (body_in (outside names items) n i.said)) (goals_from (outside names items) k is)
+    (item_sited names items n i.said g (asked_front names (place_names items) i is a) (All-head (λ (j : Item). IsFitItem j.said) i is few) (omega (arith, e)))
+    (items_sited names items k is g (asked_behind names (place_names items) i is a) (All-tail (λ (j : Item). IsFitItem j.said) i is few) (omega (arith, e))))
+
+-- ---- each goal of the program is one of these
+
+abbrev Has : List Goal → Goal → Type 0
+Has gs a = Contains gs a
+
+all_had : (gs hs : List Goal) → All (Has (gs ++ hs)) gs
+all_had [] hs = All-nil (Has ([] ++ hs))
+all_had (g ∷ gs) hs = All-cons (Has (g ∷ (gs ++ hs))) g gs (first_there g (gs ++ hs)) (All-weaker (Has (gs ++ hs)) (Has (g ∷ (gs ++ hs))) (λ a h. Contains-append_right (g ∷ []) (gs ++ hs) a h) gs (all_had gs hs))
+
+had_behind : (gs hs xs : List Goal) → All (Has hs) xs → All (Has (gs ++ hs)) xs
+had_behind gs hs xs h = All-weaker (Has hs) (Has (gs ++ hs)) (λ a k. Contains-append_right gs hs a k) xs h
+
+abbrev rule_goals : List Rule → List Goal
+rule_goals rs = flat_map (λ (r : Rule). goals_of r.body) rs
+
+one_rule_had : (b : Bool) (r : Rule) (hs : List Goal) → All (Has (goals_of r.body ++ hs)) (rule_goals (if b then r ∷ [] else []))
+one_rule_had true r hs = All-append (Has (goals_of r.body ++ hs)) (goals_of r.body) [] (all_had (goals_of r.body) hs) (All-nil (Has (goals_of r.body ++ hs)))
+one_rule_had false r hs = All-nil (Has (goals_of r.body ++ hs))
+
+item_had : (around : Scope) (n : ℕ) (name : List ℕ) (said : Said) (hs : List Goal) → All (Has (goals_of (body_in around n said) ++ hs)) (rule_goals (rules_in around n name said))
+item_had around n name (tree.topic w) hs = All-nil (Has hs)
+item_had around n name (tree.rule ps b) hs = one_rule_had (bytes_eq (name_of ps) name) (rule_of around n ps b []) hs
+item_had around n name (tree.deny ps b) hs = one_rule_had (bytes_eq (name_of ps) name) (rule_of around n ps b failing) hs
+item_had around n name (tree.access ps b) hs = All-nil (Has hs)
+item_had around n name (tree.global_variable ps) hs = All-nil (Has hs)
+
+rules_had : (around : Scope) (n : ℕ) (name : List ℕ) (is : List Item) → All (Has (goals_from around n is)) (rule_goals (rules_from around n name is))
+rules_had around n name [] = All-nil (Has [])
+rules_had around n name (i ∷ is) =
+    let k = n + selects_of i.said in
+    let all = goals_from around n (i ∷ is) in
+    subst (All (Has all)) (sym (flat_map-append (λ (r : Rule). goals_of r.body) (rules_in around n name i.said) (rules_from around k name is)))
+    (All-append (Has all) (rule_goals (rules_in around n name i.said)) (rule_goals (rules_from around k name is)) (item_had around n name i.said (goals_from around k is))
+    (had_behind (goals_of (body_in around n i.said)) (goals_from around k is) (rule_goals (rules_from around k name is)) (rules_had around k name is)))
+
+kept_had : (gs : List Goal) (b : Bool) (rs : List Rule) → All (Has gs) (rule_goals rs) → All (Has gs) (rule_goals (if b then [] else rs))
+kept_had gs true rs h = All-nil (Has gs)
+kept_had gs false rs h = h
+
+preds_had : (names : Named) (items : List Item) (ns : List (List ℕ)) → All (Has (goals_from (outside names items) 0 items)) (flat_map (λ (q : Pred). rule_goals q.rules) (map (without_facts (place_names items)) (map (pred_of (outside names items) items) ns)))
+preds_had names items [] = All-nil (Has (goals_from (outside names items) 0 items))
+preds_had names items (n ∷ ns) =
+    let all = goals_from (outside names items) 0 items in
+    let rules = rules_from (outside names items) 0 n items in
+    All-append (Has all) (rule_goals (without_facts (place_names items) (pred_of (outside names items) items n)).rules) (flat_map (λ (q : Pred). rule_goals q.rules) (map (without_facts (place_names items)) (map (pred_of (outside names items) items) ns)))
+    (kept_had all _ rules (rules_had (outside names items) 0 n items)) (preds_had names items ns)
+
+program_sites : (names : Named) (items : List Item) → IsGiven names items → (a b : Goal) → Contains (all_goals (core_of names items)) a → Contains (all_goals (core_of names items)) b → SameSite (out-Goal a) (out-Goal b)
+program_sites names items g a b there other =
+    let all = goals_from (outside names items) 0 items in
+    let sited = items_sited names items 0 items g (all_asked names items g) g.items (omega arith) in
+    let has : All (Has all) (all_goals (core_of names items)) = All-append (Has all) (flat_map (λ (q : Pred). rule_goals q.rules) (core_of names items).preds) [] (preds_had names items names.preds) (All-nil (Has all)) in
+    sited.same a b (All-contains (Has all) (all_goals (core_of names items)) a has there) (All-contains (Has all) (all_goals (core_of names items)) b has other)
+
+-- ---- the entry
+
+entry_in : (names : Named) (said : Said) → All (IsAmong names) (things_in said) → is_rule_for entry_name said ≡ true → Contains names.preds entry_name
+entry_in names (tree.topic n) m e = cc
+entry_in names (tree.rule ps b) m e = subst (λ (n : List ℕ). HasPred names n (builtin_named n)) ((bytes_decides (name_of ps) entry_name).0 e) (All-head (IsAmong names) (query role.Rule ps) _ m)
+entry_in names (tree.deny ps b) m e = subst (λ (n : List ℕ). HasPred names n (builtin_named n)) ((bytes_decides (name_of ps) entry_name).0 e) (All-head (IsAmong names) (query role.Rule ps) _ m)
+entry_in names (tree.access ps b) m e = cc
+entry_in names (tree.global_variable ps) m e = cc
+
+entry_there : (names : Named) (is : List Item) → All (IsAmong names) (mentioned is) → has_entry is ≡ true → Contains names.preds entry_name
+entry_there names [] m e = cc
+entry_there names (i ∷ is) m e = here (is_rule_for entry_name i.said) refl e (λ k. entry_there names is (all_behind (IsAmong names) (things_in i.said) (mentioned is) m) k)
+  where
+    here : (b : Bool) → is_rule_for entry_name i.said ≡ b → (b || has_entry is) ≡ true → (has_entry is ≡ true → Contains names.preds entry_name) → Contains names.preds entry_name
+    here true q k rest = entry_in names i.said (all_front (IsAmong names) (things_in i.said) (mentioned is) m) q
+    here false q k rest = rest k
+
+-- ---- facts
+
+abbrev IsFact : Placed → Said → Type 0
+IsFact p (tree.rule ps b) = is_no_fact p ps b ≡ false
+IsFact p (tree.deny ps b) = is_no_fact p ps b ≡ false
+IsFact p said = Unit {0}
+
+fact_at : (p : Placed) (before : List (List ℕ)) (said : Said) → is_bad p before said ≡ false → IsFact p said
+fact_at p before (tree.rule ps b) e = e
+fact_at p before (tree.deny ps b) e = e
+fact_at p before (tree.topic n) e = tt
+fact_at p before (tree.access ps b) e = tt
+fact_at p before (tree.global_variable ps) e = tt
+
+facts_of : (p : Placed) (before : List (List ℕ)) (is : List Item) → first_bad p before is ≡ None → All (λ (i : Item). IsFact p i.said) is
+facts_of p before [] e = All-nil (λ (i : Item). IsFact p i.said)
+facts_of p before (i ∷ is) e = here (is_bad p before i.said) refl e (λ k. facts_of p (declared_behind before i.said) is k)
+  where
+    here : (b : Bool) → is_bad p before i.said ≡ b → (if b then Some i.line else first_bad p (declared_behind before i.said) is) ≡ None → (first_bad p (declared_behind before i.said) is ≡ None → All (λ (j : Item). IsFact p j.said) is) → All (λ (j : Item). IsFact p j.said) (i ∷ is)
+    here true q k rest = cc
+    here false q k rest = All-cons (λ (j : Item). IsFact p j.said) i is (fact_at p before i.said q) (rest k)
+
+second : (a b : Bool) → a ≡ true → (a && not b) ≡ false → b ≡ true
+second true true e f = refl
+second true false e f = sym f
+second false b e f = cc
+
+among_there : (n : List ℕ) (ns : List (List ℕ)) → Contains ns n → is_among n ns ≡ true
+among_there n [] h = absurd (nowhere n h)
+among_there n (m ∷ ns) h = here (bytes_eq n m) refl (there_cases m ns n h) (λ k. among_there n ns k)
+  where
+    here : (b : Bool) → bytes_eq n m ≡ b → (m ≡ n) ⊎ Contains ns n → (Contains ns n → is_among n ns ≡ true) → (b || is_among n ns) ≡ true
+    here true q k rest = refl
+    here false q (inl k) rest = absurd (let no : true ≡ false = sym ((bytes_decides n m).1 (sym k)) ∙ q in cc)
+    here false q (inr k) rest = rest k
+
+rule_begins : (names : Named) (items : List Item) (n : ℕ) (name : List ℕ) (ps : Parts) (b : Body) (behind : List Goal) (t : Bool) → bytes_eq (name_of ps) name ≡ t → IsGiven names items → Contains (place_names items) name → Asked names (place_names items) (things (of_rule role.Rule ps b)) → length (variables_of ps b) ≤ 65 → is_no_fact (placed_of items) ps b ≡ false → All (MayBegin (core_of names items) (kind_of (declared_names items) name)) (if t then rule_of (outside names items) n ps b behind ∷ [] else [])
+rule_begins names items n name ps b behind false q g there a few e = All-nil (MayBegin (core_of names items) (kind_of (declared_names items) name))
+rule_begins names items n name ps b behind true q g there a few e =
+    let s = scope_of (outside names items) ps b in
+    let same = (bytes_decides (name_of ps) name).0 q in
+    let placed : is_among (name_of ps) (place_names items) ≡ true = among_there (name_of ps) (place_names items) (subst (Contains (place_names items)) (sym same) there) in
+    let fact = (and_parts (is_empty b) (are_fact (kind_of (declared_names items) (name_of ps)) (values_in ps)) (second (is_among (name_of ps) (place_names items)) _ placed e)).1 in
+    let h = known_rule names items ps b a in
+    let begin = fact_start (core_of names items) (vars_of ps b) s (kind_of (declared_names items) (name_of ps)) (values_in ps) fact (ground names items ps b g few) (parts_hold s ps (front (IsKnown s) (of_parts false ps) (of_body false b) h.1)) in
+    let r = rule_of (outside names items) n ps b behind in
+    All-cons (MayBegin (core_of names items) (kind_of (declared_names items) name)) r [] (subst (λ (m : List ℕ). MayBegin (core_of names items) (kind_of (declared_names items) m) r) same begin) (All-nil (MayBegin (core_of names items) (kind_of (declared_names items) name)))
+
+item_begins : (names : Named) (items : List Item) (n : ℕ) (name : List ℕ) (said : Said) → IsGiven names items → Contains (place_names items) name → Asked names (place_names items) (things_in said) → IsFitItem said → IsFact (placed_of items) said → All (MayBegin (core_of names items) (kind_of (declared_names items) name)) (rules_in (outside names items) n name said)
+item_begins names items n name (tree.topic w) g there a few e = All-nil (MayBegin (core_of names items) (kind_of (declared_names items) name))
+item_begins names items n name (tree.rule ps b) g there a few e = rule_begins names items n name ps b [] (bytes_eq (name_of ps) name) refl g there a few e
+item_begins names items n name (tree.deny ps b) g there a few e = rule_begins names items n name ps b failing (bytes_eq (name_of ps) name) refl g there a few e
+item_begins names items n name (tree.access ps b) g there a few e = All-nil (MayBegin (core_of names items) (kind_of (declared_names items) name))
+item_begins names items n name (tree.global_variable ps) g there a few e = All-nil (MayBegin (core_of names items) (kind_of (declared_names items) name))
+
+items_begin : (names : Named) (items : List Item) (n : ℕ) (name : List ℕ) (is : List Item) → IsGiven names items → Contains (place_names items) name → Asked names (place_names items) (mentioned is) → All (λ (i : Item). IsFitItem i.said) is → All (λ (i : Item). IsFact (placed_of items) i.said) is → All (MayBegin (core_of names items) (kind_of (declared_names items) name)) (rules_from (outside names items) n name is)
+items_begin names items n name [] g there a few e = All-nil (MayBegin (core_of names items) (kind_of (declared_names items) name))
+items_begin names items n name (i ∷ is) g there a few e =
+    All-append (MayBegin (core_of names items) (kind_of (declared_names items) name)) (rules_in (outside names items) n name i.said) (rules_from (outside names items) (n + selects_of i.said) name is)
+    (item_begins names items n name i.said g there (asked_front names (place_names items) i is a) (All-head (λ (j : Item). IsFitItem j.said) i is few) (All-head (λ (j : Item). IsFact (placed_of items) j.said) i is e))
+    (items_begin names items (n + selects_of i.said) name is g there (asked_behind names (place_names items) i is a) (All-tail (λ (j : Item). IsFitItem j.said) i is few) (All-tail (λ (j : Item). IsFact (placed_of items) j.said) i is e))
+
+-- ---- the rules of the predicate with a name
+
+get_or_same : (qs : List Pred) (k : ℕ) (d e : Pred) → k < length qs → get_or qs k e ≡ get_or qs k d
+get_or_same [] k d e h = absurd (omega (arith, h))
+get_or_same (q ∷ qs) zero d e h = refl
+get_or_same (q ∷ qs) (suc k) d e h = get_or_same qs k d e (omega (arith, h))
+
+-- a predicate has the rules of its name
+abbrev IsOwn : Scope → List Item → Pred → Type 0
+IsOwn around items q = q.rules ≡ rules_from around 0 q.name items
+
+all_own : (around : Scope) (items : List Item) (ns : List (List ℕ)) → All (IsOwn around items) (map (pred_of around items) ns)
+all_own around items [] = All-nil (IsOwn around items)
+all_own around items (n ∷ ns) = All-cons (IsOwn around items) (pred_of around items n) (map (pred_of around items) ns) refl (all_own around items ns)
+
+rules_found : (P : Rule → Type 0) (around : Scope) (items : List Item) (name : List ℕ) (qs : List Pred) (k : ℕ) → All (IsOwn around items) qs → All P (rules_from around 0 name items) → (k < length (map (λ (q : Pred). q.name) qs)) × (bytes_eq name (get_or (map (λ (q : Pred). q.name) qs) k name) ≡ true) → All P (rules_of (slice_get qs k))
+rules_found P around items name qs k own h found =
+    let below : k < length qs = subst (λ (i : ℕ). k < i) (length-map qs (λ (q : Pred). q.name)) found.0 in
+    let d = pred_of around items name in
+    let q = get_or qs k d in
+    let same : name ≡ q.name = (bytes_decides name (get_or (map (λ (q : Pred). q.name) qs) k name)).0 found.1 ∙ get_or-map (λ (q : Pred). q.name) qs k d name below in
+    let rules : q.rules ≡ rules_from around 0 name items = All-contains (IsOwn around items) qs q own (k, below, get_or_same qs k d q below) ∙ ap (λ (m : List ℕ). rules_from around 0 m items) (sym same) in
+    subst (λ (o : Option Pred). All P (rules_of o)) (sym (slice_get-get_or qs k d below)) (subst (All P) (sym rules) h)
+
+named_rules : (P : Rule → Type 0) (around : Scope) (items : List Item) (name : List ℕ) (qs : List Pred) → All (IsOwn around items) qs → All P (rules_from around 0 name items) → All P (rules_named name qs)
+named_rules P around items name qs own h = here (position (bytes_eq name) (map (λ (q : Pred). q.name) qs)) refl
+  where
+    here : (o : Option ℕ) → position (bytes_eq name) (map (λ (q : Pred). q.name) qs) ≡ o → All P (rules_at qs o)
+    here None e = All-nil P
+    here (Some k) e = let found = position-Some (bytes_eq name) (map (λ (q : Pred). q.name) qs) k name e in rules_found P around items name qs k own h (found.0, found.1)
+
+-- ---- places
+
+outside_ground : (names : Named) (items : List Item) → IsGiven names items → IsGround (core_of names items) 0 (outside names items)
+outside_ground names items g = record {
+  words = λ w there. number_below w names.words there g.few_words;
+  objects = λ n there. number_below n names.objects there g.few_objects;
+  variables = λ n there. absurd (nowhere n there);
+  preds = λ qs there. query_fits names items (outside names items) qs there g.few_preds;
+  places = λ qs there. place_fits names items (outside names items) qs g there;
+  parents = parents_fit names items;
+}
+
+heads_hold : (names : Named) (is : List Item) → All (IsAmong names) (mentioned is) → All (λ (ps : Parts). Hold (IsAmong names) (of_parts false ps)) (declarations is)
+heads_hold names [] h = All-nil (λ (ps : Parts). Hold (IsAmong names) (of_parts false ps))
+heads_hold names (i ∷ is) h =
+    All-append (λ (ps : Parts). Hold (IsAmong names) (of_parts false ps)) (declaration_in i.said) (declarations is) (one i.said (all_front (IsAmong names) (things_in i.said) (mentioned is) h)) (heads_hold names is (all_behind (IsAmong names) (things_in i.said) (mentioned is) h))
+  where
+    one : (said : Said) → All (IsAmong names) (things_in said) → All (λ (ps : Parts). Hold (IsAmong names) (of_parts false ps)) (declaration_in said)
+    one (tree.global_variable ps) k = All-cons (λ (qs : Parts). Hold (IsAmong names) (of_parts false qs)) ps [] (from_all (IsAmong names) (of_said (tree.global_variable ps)) k).1 (All-nil (λ (qs : Parts). Hold (IsAmong names) (of_parts false qs)))
+    one (tree.topic n) k = All-nil (λ (qs : Parts). Hold (IsAmong names) (of_parts false qs))
+    one (tree.rule ps b) k = All-nil (λ (qs : Parts). Hold (IsAmong names) (of_parts false qs))
+    one (tree.deny ps b) k = All-nil (λ (qs : Parts). Hold (IsAmong names) (of_parts false qs))
+    one (tree.access ps b) k = All-nil (λ (qs : Parts). Hold (IsAmong names) (of_parts false qs))
+
+place_sound : (names : Named) (items : List Item) (n : List ℕ) → IsGiven names items → first_bad (placed_of items) [] items ≡ None → Contains (place_names items) n → IsPlaceOf (core_of names items) (place_in names items n)
+place_sound names items n g e there = here (is_among n (declared_names items)) refl
+  where
+    here : (b : Bool) → is_among n (declared_names items) ≡ b → IsPlaceOf (core_of names items) (record { kind = kind_of (declared_names items) n; start = if b then declared_start (outside names items) n (declarations items) else starts_from [] (rules_named n (with_rules names items).preds) })
+    here true q =
+        let one = declared_one_start (core_of names items) (outside names items) n (declarations items) (all_declarable items g.items) (heads_hold names items g.things) (outside_ground names items g) in
+        let kind : kind_of (declared_names items) n ≡ Global = ap (λ (b : Bool). if b then Parent else (if is_among n (declared_names items) then Global else kind_by (values_named n))) (declared_other items names n g q) ∙ ap (λ (b : Bool). if b then Global else kind_by (values_named n)) q in
+        record { starts = subst (λ (k : PlaceKind). All (IsStartOf (core_of names items) k) (declared_start (outside names items) n (declarations items))) (sym kind) one.starts; once = one.once }
+    here false q =
+        let kind = kind_of (declared_names items) n in
+        let begin = named_rules (MayBegin (core_of names items) kind) (outside names items) items n (with_rules names items).preds (all_own (outside names items) items names.preds)
+        (items_begin names items 0 n items g there (all_asked names items g) g.items (facts_of (placed_of items) [] items e)) in
+        record { starts = starts_sound (core_of names items) kind [] (rules_named n (with_rules names items).preds) begin; once = starts_distinct [] (rules_named n (with_rules names items).preds) }
+
+places_sound : (names : Named) (items : List Item) (ns : List (List ℕ)) → ((n : List ℕ) → Contains ns n → Contains (place_names items) n) → IsGiven names items → first_bad (placed_of items) [] items ≡ None → All (IsPlaceOf (core_of names items)) (map (place_in names items) ns)
+places_sound names items [] h g e = All-nil (IsPlaceOf (core_of names items))
+places_sound names items (n ∷ ns) h g e =
+    All-cons (IsPlaceOf (core_of names items)) (place_in names items n) (map (place_in names items) ns) (place_sound names items n g e (h n (first_there n ns)))
+    (places_sound names items ns (λ m k. h m (later_there n ns m k)) g e)
+
+no_parent_by : (k : ℕ) → kind_by k ≡ Parent → ⊥
+no_parent_by zero e = cc
+no_parent_by (suc zero) e = cc
+no_parent_by (suc (suc k)) e = cc
+
+no_parent : (declared : List (List ℕ)) (n : List ℕ) → not (bytes_eq n parent_name) ≡ true → kind_of declared n ≡ Parent → ⊥
+no_parent declared n h = here (bytes_eq parent_name n) refl (is_among n declared)
+  where
+    here : (b : Bool) → bytes_eq parent_name n ≡ b → (d : Bool) → (if b then Parent else (if d then Global else kind_by (values_named n))) ≡ Parent → ⊥
+    here true q d e = let no : false ≡ true = sym (ap not ((bytes_decides n parent_name).1 (sym ((bytes_decides parent_name n).0 q)))) ∙ h in cc
+    here false q true e = cc
+    here false q false e = no_parent_by (values_named n) e
+
+others_kept : (names : Named) (items : List Item) (ns : List (List ℕ)) → All (λ (place : Place). place.kind ≢ Parent) (map (place_in names items) (filter (λ (m : List ℕ). not (bytes_eq m parent_name)) ns))
+others_kept names items [] = All-nil (λ (place : Place). place.kind ≢ Parent)
+others_kept names items (n ∷ ns) = here (not (bytes_eq n parent_name)) refl (others_kept names items ns)
+  where
+    here : (b : Bool) → not (bytes_eq n parent_name) ≡ b → All (λ (place : Place). place.kind ≢ Parent) (map (place_in names items) (filter (λ (m : List ℕ). not (bytes_eq m parent_name)) ns)) → All (λ (place : Place). place.kind ≢ Parent) (map (place_in names items) (if b then n ∷ filter (λ (m : List ℕ). not (bytes_eq m parent_name)) ns else filter (λ (m : List ℕ). not (bytes_eq m parent_name)) ns))
+    here true q rest = All-cons (λ (place : Place). place.kind ≢ Parent) (place_in names items n) (map (place_in names items) (filter (λ (m : List ℕ). not (bytes_eq m parent_name)) ns)) (no_parent (declared_names items) n q) rest
+    here false q rest = rest
+
+-- ---- the whole program
+
+abbrev o_none : Option ℕ
+o_none = None
+
+not_refused : (items : List Item) (o : Option ℕ) → refusal_of items o ≡ None → (o ≡ None) × (has_entry items ≡ true)
+not_refused items (Some line) e = cc
+not_refused items None e = here (has_entry items) refl e
+  where
+    here : (b : Bool) → has_entry items ≡ b → if◌then◌else◌ {A = Option Refusal} b None (Some (record { kind = NoEntry; line = 1 })) ≡ None → (o_none ≡ None) × (has_entry items ≡ true)
+    here true q k = (refl, q)
+    here false q k = cc
+
+pub core_sound : (names : Named) (items : List Item) → IsGiven names items → refusal_of items (first_bad (placed_of items) [] items) ≡ None → IsSound (core_of names items)
+core_sound names items g r =
+    let each = not_refused items (first_bad (placed_of items) [] items) r in
+    let p = core_of names items in
+    record {
+      preds = preds_sound names items names.preds g g.preds;
+      closures = All-nil (IsClosureOf p);
+      places = places_sound names items (place_names items) (λ n k. k) g each.0;
+      parent = (refl, others_kept names items (firsts (map name_of (declarations items) ++ names_in changed_in (mentioned items))));
+      objects = g.objects;
+      words = g.words;
+      words_differ = g.words_differ;
+      sites = program_sites names items g;
+      entry = entry_fits names items (entry_there names items g.things each.1) g.few_preds;
+      few_preds = let few : length (map (without_facts (place_names items)) (map (pred_of (outside names items) items) names.preds)) ≤ 65535 = rw length-map (rw length-map g.few_preds) in few;
+      few_closures = omega arith;
+      few_places = let few : length (map (place_in names items) (place_names items)) ≤ 65535 = rw length-map g.few_places in few;
+      few_objects = g.few_objects;
+      few_words = g.few_words;
+    }
+
+pub result_sound : (names : Named) (items : List Item) (r : Result Core ReadFault) → IsGiven names items → IfOk r (λ core. IsLowered names items (Ok core)) → IfOk r IsSound
+result_sound names items (Ok core) given is = subst IsSound (sym is.1) (core_sound names items given is.0)
+result_sound names items (Err fault) given is = is

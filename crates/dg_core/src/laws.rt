@@ -1,0 +1,29 @@
+// What the definitions alone say.
+ghost use Rattle.std.specs.Prelude.{◌≡◌, ◌≤◌, List, [], None, length, slice_get, Contains};
+ghost use Rattle.dg_base.specs.Heads.{name_of};
+ghost use Rattle.dg_base.specs.Sound.{FitsHeads, IsEntry, IsSound};
+ghost use Rattle.dg_base.specs.Tree.{Parts, Item};
+ghost use Rattle.dg_names.specs.Named.{Named};
+ghost use Rattle.dg_core.specs.Core.{core_of, entry_name, refusal_of};
+ghost use Rattle.dg_core.specs.Given.{IsGiven};
+ghost use Rattle.dg_core.specs.Goals.{Scope, number_in, terms_of};
+ghost use Rattle.dg_core.specs.Places.{placed_of, first_bad};
+
+/// A query of a predicate among the names has as many terms as the heads of its rules.
+pub fn queries_fit()
+    ensures { (names : Named) (items : List Item) (scope : Scope) (ps : Parts) → Contains names.preds (name_of ps) →
+        length names.preds ≤ 65535 →
+        FitsHeads (length (terms_of scope ps)) (slice_get (core_of names items).preds (number_in names.preds (name_of ps))) }
+{}
+
+/// Where the entry is among the names, it is a predicate without parameters.
+pub fn entry_fits()
+    ensures { (names : Named) (items : List Item) → Contains names.preds entry_name → length names.preds ≤ 65535 →
+        IsEntry (slice_get (core_of names items).preds (core_of names items).entry) }
+{}
+
+/// The core program of a tree with its names is sound, where they come from a source that was read and nothing is refused.
+pub fn core_is_sound()
+    ensures { (names : Named) (items : List Item) → IsGiven names items →
+        refusal_of items (first_bad (placed_of items) [] items) ≡ None → IsSound (core_of names items) }
+{}

@@ -1,0 +1,18 @@
+//! From a rewritten tree to the core program.
+#![tactic(auto)]
+
+mod facts;
+mod forms;
+mod goals;
+mod laws;
+mod places;
+mod program;
+mod queries;
+mod scope;
+mod starts;
+mod terms;
+mod variables;
+
+pub use forms::first_unbuilt;
+pub use laws::{core_is_sound, entry_fits, queries_fit};
+pub use program::lower;

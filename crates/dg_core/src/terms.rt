@@ -1,0 +1,221 @@
+// From values to terms.
+ghost use Rattle.std.specs.Prelude.{◌≡◌, ◌+◌, ◌<◌, ◌++◌, ◌∷◌, [], map, position, reverse, IfOk, OnOk};
+ghost use Rattle.std.specs.Option.{option_map};
+ghost use Rattle.std.specs.Str.{bytes_eq};
+ghost use Rattle.dg_base.specs.Tree.{parts_of, values_of};
+ghost use Rattle.dg_base.specs.TreeView.{part_view, value_view, head_view};
+ghost use Rattle.dg_names.specs.State.{seen, listed as names_listed};
+ghost use Rattle.dg_core.specs.Goals as spec;
+ghost use Rattle.dg_core.specs.Making.{paired, last_term, term_behind, terms_behind, term_weight, terms_weight};
+ghost use Rattle.dg_core.specs.View.{scope_view, values_view};
+
+use crate::facts::values_in;
+use crate::places::place_in;
+use crate::scope::Scope;
+use dg_base::{Boxed, Head, Items, Part, Term, Value};
+use indexmap::IndexSet;
+use std::alloc::{AllocError, Global};
+
+/// A place as a number, and 0 where there is none.
+pub fn number_of(place: Option<usize>) -> u16
+    ensures { result ≡ spec.in_16_bits (spec.or_zero place) }
+{
+    match place {
+        Some(at) if at <= 65535 => at as u16,
+        _ => 0,
+    }
+}
+
+/// The number of a name among names.
+pub fn number_in(names: &IndexSet<Vec<u8>>, name: &[u8]) -> u16
+    ensures { result ≡ spec.number_in (names_listed names.now) name.now }
+{
+    number_of(place_in(names, name))
+}
+
+fn place_of(names: &[&[u8]], name: &[u8]) -> Option<usize>
+    ensures { result ≡ position (bytes_eq name.now) (seen names.now) }
+{
+    for at in 0..names.len() {
+        if name == names[at] {
+            return Some(at);
+        }
+    }
+    None
+}
+
+fn variable(scope: &Scope<'_>, name: &[u8]) -> u16
+    ensures { result ≡ spec.number_in (scope_view scope.now).variables name.now }
+{
+    number_of(place_of(scope.variables.as_slice(), name))
+}
+
+/// What is left of a value: a value, elements in front of a tail, or a pair to be made of the last two terms.
+#[derive(Clone, Copy)]
+pub enum TermWork<'a> {
+    Value(&'a Value),
+    Values(&'a [Value], &'a Option<Boxed<Value>>),
+    Pair,
+}
+
+// Makes a pair of the last two terms.
+fn pair(alloc: Global, terms: &mut Items<Term>) -> Result<(), AllocError>
+    ensures { OnOk result (reverse terms.new ≡ paired (reverse terms.old)) }
+{
+    if let Some(tail) = terms.pop() {
+        if let Some(first) = terms.pop() {
+            let pair = Term::Pair(Boxed::new(alloc, first)?, Boxed::new(alloc, tail)?);
+            terms.push(pair)?;
+        }
+    }
+    Ok(())
+}
+
+// The last of these terms.
+fn last_of(terms: Items<Term>) -> Term
+    ensures { result ≡ last_term (reverse terms) }
+{
+    let mut terms = terms;
+    match terms.pop() {
+        Some(term) => term,
+        None => Term::Nil,
+    }
+}
+
+fn put_list<'a>(
+    left: &mut Items<TermWork<'a>>,
+    values: &'a [Value],
+    tail: &'a Option<Boxed<Value>>,
+) -> Result<(), AllocError>
+    ensures { OnOk result (left.new ≡ left.old ++ TermWork.Values values.entry tail.entry ∷ []) }
+{
+    left.push(TermWork::Values(values, tail))
+}
+
+fn put_value<'a>(left: &mut Items<TermWork<'a>>, value: &'a Value) -> Result<(), AllocError>
+    ensures { OnOk result (left.new ≡ left.old ++ TermWork.Value value.entry ∷ []) }
+{
+    left.push(TermWork::Value(value))
+}
+
+// Puts on what is left a pair of a first element and the others in front of a tail.
+fn put_first<'a>(
+    left: &mut Items<TermWork<'a>>,
+    first: &'a Value,
+    others: &'a [Value],
+    tail: &'a Option<Boxed<Value>>,
+) -> Result<(), AllocError>
+    ensures { OnOk result (left.new ≡ left.old ++ TermWork.Pair ∷ TermWork.Values others.entry tail.entry ∷ TermWork.Value first.entry ∷ []) }
+{
+    left.push(TermWork::Pair)?;
+    left.push(TermWork::Values(others, tail))?;
+    left.push(TermWork::Value(first))
+}
+
+fn take_value<'a>(
+    scope: &Scope<'_>,
+    left: &mut Items<TermWork<'a>>,
+    terms: &mut Items<Term>,
+    value: &'a Value,
+) -> Result<(), AllocError>
+    ensures behind { OnOk result (terms_behind (scope_view scope.now) left.new (reverse terms.new)
+        ≡ terms_behind (scope_view scope.now) left.old (spec.term_of (scope_view scope.now) (value_view value.now) ∷ reverse terms.old)) }
+    ensures weight { OnOk result (terms_weight left.new < term_weight (TermWork.Value value.entry) + terms_weight left.old) }
+{
+    match value {
+        Value::Num(number) => terms.push(Term::Num(*number)),
+        Value::Word(word) => terms.push(Term::Word(number_in(&scope.names.words, word.as_slice()))),
+        Value::Object(name) => {
+            terms.push(Term::Object(number_in(&scope.names.objects, name.as_slice())))
+        }
+        Value::Var(name) => terms.push(Term::Var(variable(scope, name.as_slice()))),
+        Value::List(values, tail) => {
+            put_list(left, values.as_slice(), tail)?;
+            Ok(())
+        }
+        Value::Topic | Value::Any | Value::Closure(_) | Value::Query(_) | Value::Words(_) => {
+            terms.push(Term::Nil)
+        }
+    }
+}
+
+fn take_values<'a>(
+    scope: &Scope<'_>,
+    left: &mut Items<TermWork<'a>>,
+    terms: &mut Items<Term>,
+    values: &'a [Value],
+    tail: &'a Option<Boxed<Value>>,
+) -> Result<(), AllocError>
+    ensures behind { OnOk result (terms_behind (scope_view scope.now) left.new (reverse terms.new)
+        ≡ terms_behind (scope_view scope.now) left.old (term_behind (scope_view scope.now) (TermWork.Values values.entry tail.entry) (reverse terms.old))) }
+    ensures weight { OnOk result (terms_weight left.new < term_weight (TermWork.Values values.entry tail.entry) + terms_weight left.old) }
+{
+    match values {
+        [first, others @ ..] => {
+            put_first(left, first, others, tail)?;
+            Ok(())
+        }
+        [] => match tail {
+            Some(tail) => {
+                put_value(left, tail.get())?;
+                Ok(())
+            }
+            None => terms.push(Term::Nil),
+        },
+    }
+}
+
+// Looks at one part of what is left.
+fn take<'a>(
+    alloc: Global,
+    scope: &Scope<'_>,
+    left: &mut Items<TermWork<'a>>,
+    terms: &mut Items<Term>,
+    work: TermWork<'a>,
+) -> Result<(), AllocError>
+    ensures behind { OnOk result (terms_behind (scope_view scope.now) left.new (reverse terms.new)
+        ≡ terms_behind (scope_view scope.now) left.old (term_behind (scope_view scope.now) work.entry (reverse terms.old))) }
+    ensures weight { OnOk result (terms_weight left.new < term_weight work.entry + terms_weight left.old) }
+{
+    match work {
+        TermWork::Value(value) => take_value(scope, left, terms, value),
+        TermWork::Values(values, tail) => take_values(scope, left, terms, values, tail),
+        TermWork::Pair => pair(alloc, terms),
+    }
+}
+
+/// The term of a value.
+pub fn term_of(alloc: Global, scope: &Scope<'_>, value: &Value) -> Result<Term, AllocError>
+    ensures { IfOk result (λ term. term ≡ spec.term_of (scope_view scope.now) (value_view value.now)) }
+{
+    let mut left = Items::new(alloc);
+    left.push(TermWork::Value(value))?;
+    let mut terms = Items::new(alloc);
+    while let Some(work) = left.pop() {
+        take(alloc, scope, &mut left, &mut terms, work)?;
+    }
+    Ok(last_of(terms))
+}
+
+/// The terms of values.
+pub fn terms_of_values(
+    alloc: Global,
+    scope: &Scope<'_>,
+    values: &[&Value],
+) -> Result<Items<Term>, AllocError>
+    ensures { IfOk result (λ terms. terms ≡ spec.terms_of_values (scope_view scope.now) (values_view values.now)) }
+{
+    let mut terms = Items::new(alloc);
+    for value in values {
+        terms.push(term_of(alloc, scope, value)?)?;
+    }
+    Ok(terms)
+}
+
+/// The terms of a head or a query.
+pub fn terms_of(alloc: Global, scope: &Scope<'_>, head: &Head) -> Result<Items<Term>, AllocError>
+    ensures { IfOk result (λ terms. terms ≡ spec.terms_of (scope_view scope.now) (head_view head.now)) }
+{
+    let values = values_in(alloc, head.parts.as_slice())?;
+    terms_of_values(alloc, scope, values.as_slice())
+}
