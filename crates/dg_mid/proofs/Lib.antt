@@ -26,3 +26,4 @@ pub mod Charge
 pub mod Selects
 pub mod Worked
 pub mod WritingLemmas
+pub mod Opening

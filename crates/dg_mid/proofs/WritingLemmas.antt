@@ -16,7 +16,7 @@ use Rattle.dg_mid.specs.declared.code.Code.{Code}
 use Rattle.dg_mid.specs.Code.{block_at, ops_of}
 use Rattle.dg_mid.specs.Actions.{goal_of}
 use Rattle.dg_mid.specs.Codes.{End, Returns, Stands, returns, acts, ask, last_ask}
-use Rattle.dg_mid.specs.Writing.{PutsFirst}
+use Rattle.dg_mid.specs.Writing.{PutsFirst, Lands}
 
 -- ## Lists
 
@@ -42,14 +42,17 @@ made_begins blocks now block is = record { behind = block ∷ []; is = is }
 pub puts_act : (blocks : List Block) (x : Action) (ops new : List Op) → new ≡ ops ++ op.Do x ∷ [] → PutsFirst (goal_of x ∷ []) blocks blocks (reverse ops) (reverse new)
 puts_act blocks x ops new e rest end s code begins = subst (λ l. Stands code l (goal_of x ∷ rest) end) (sym (ap reverse e ∙ reverse_put ops (op.Do x))) (acts x (reverse ops) rest end (s code begins))
 
-pub puts_ask : (old now : List Block) (pred : ℕ) (terms : List Term) (many : Bool) (ops new : List Op) (next : ℕ) → now ≡ old ++ record { ops = reverse ops } ∷ [] → next ≡ length old → new ≡ op.Ask pred terms many next ∷ [] → PutsFirst (goal.Ask pred terms many ∷ []) old now (reverse ops) (reverse new)
-puts_ask old now pred terms many ops new next made is e rest end s code begins =
-    subst (λ l. Stands code (reverse l) (goal.Ask pred terms many ∷ rest) end) (sym e)
-    (ask pred terms many next [] rest end (subst (λ l. Stands code l rest end) (sym (block_made old now (reverse ops) next code made is begins)) (s code (begins_on old now code.blocks (made_begins old now _ made) begins))))
+pub puts_ask : (old now : List Block) (pred : ℕ) (terms : List Term) (many : Bool) (ops new : List Op) (next : ℕ) → Lands old now (reverse ops) next → new ≡ op.Ask pred terms many next ∷ [] → PutsFirst (goal.Ask pred terms many ∷ []) old now (reverse ops) (reverse new)
+puts_ask old now pred terms many ops new next lands e rest end s code begins =
+    subst (λ l. Stands code (reverse l) (goal.Ask pred terms many ∷ rest) end) (sym e) (ask pred terms many next [] rest end (lands rest end s code begins))
 
 pub if_ok_map : {A E : Type 0} (r : Result A E) (P Q : A → Type 0) → ((x : A) → P x → Q x) → IfOk r P → IfOk r Q
 if_ok_map (Ok x) P Q f h = f x h
 if_ok_map (Err e) P Q f h = h
+
+pub if_ok_both : {A E : Type 0} (r : Result A E) (P Q R : A → Type 0) → ((x : A) → P x → Q x → R x) → IfOk r P → IfOk r Q → IfOk r R
+if_ok_both (Ok x) P Q R f h k = f x h k
+if_ok_both (Err e) P Q R f h k = h
 
 -- an answer alone stands for no goal
 only_returns : (code : Code) (rest : List Goal) (end : End) → Stands code (op.Return ∷ []) rest end → (rest ≡ []) × (end ≡ Returns)

@@ -1,11 +1,17 @@
 -- What code that is being written stands for: it is written from the last goal to the first, and what was written stays. Hold it against the Dialog manual, chapter "Choice points".
-use Rattle.std.specs.Prelude.{List, ◌++◌}
+use Rattle.std.specs.Prelude.{ℕ, List, [], ◌∷◌, ◌++◌, ◌≡◌, reverse}
 use Rattle.dg_base.specs.declared.program.Goal.{Goal}
 use Rattle.dg_meaning.specs.OneRun.{Begins}
 use Rattle.dg_mid.specs.declared.code.Op.{Op}
 use Rattle.dg_mid.specs.declared.code.Block.{Block}
 use Rattle.dg_mid.specs.declared.code.Code.{Code}
+use Rattle.dg_mid.specs.declared.writing.Level.{Level}
+use Rattle.dg_mid.specs.declared.writing.Level.TheVariants as level
+use Rattle.dg_mid.specs.declared.writing.Work.{Work}
+use Rattle.dg_mid.specs.Code.{block_at}
 use Rattle.dg_mid.specs.Codes.{End, Stands}
+
+-- ## Growing
 
 -- In every code that begins with these blocks, the instructions stand for the goals and what comes behind them.
 abbrev pub StandsFor : List Block → List Op → List Goal → End → Type 0
@@ -14,3 +20,39 @@ StandsFor blocks ops goals end = (code : Code) → Begins blocks code.blocks →
 -- Whatever the old instructions stand for, the new ones stand for these goals in front of it.
 abbrev pub PutsFirst : List Goal → List Block → List Block → List Op → List Op → Type 0
 PutsFirst goals old new before after = (rest : List Goal) (end : End) → StandsFor old before rest end → StandsFor new after (goals ++ rest) end
+
+-- In every code that begins with these blocks, the block stands for the goals and what comes behind them.
+abbrev pub BlockFor : List Block → ℕ → List Goal → End → Type 0
+BlockFor blocks b goals end = (code : Code) → Begins blocks code.blocks → Stands code (block_at code b) goals end
+
+-- Whatever the instructions stand for, the block does.
+abbrev pub Lands : List Block → List Block → List Op → ℕ → Type 0
+Lands old new ops b = (rest : List Goal) (end : End) → StandsFor old ops rest end → BlockFor new b rest end
+
+-- ## What is open
+
+-- An instruction in front of code that stands for goals, with what comes behind them, makes code for others.
+abbrev pub Wraps : List Block → Op → List Goal → End → List Goal → End → Type 0
+Wraps blocks x goals end outer behind = (code : Code) → Begins blocks code.blocks → (ops : List Op) → Stands code ops goals end → Stands code (x ∷ ops) outer behind
+
+-- Code for these goals comes, by what is open, the next first, to code for those that are wanted.
+abbrev pub Leads : List Block → List Level → List Goal → End → List Goal → End → Type 0
+Leads blocks [] goals end wanted last = (goals ≡ wanted) × (end ≡ last)
+Leads blocks (level.Inner x others ∷ levels) goals end wanted last =
+    (outer : List Goal) × (behind : End) × Wraps blocks x goals end outer behind × Leads blocks levels (others ++ outer) behind wanted last
+
+-- What is being written comes to code for the goals that are wanted.
+pub record ComesTo (blocks : List Block) (work : Work) (wanted : List Goal) (last : End) : Type 0 where
+  pub rest : List Goal
+  pub end : End
+  pub stands : StandsFor blocks (reverse work.ops.items) rest end
+  pub leads : Leads blocks (reverse work.levels) (work.goals ++ rest) end wanted last
+
+-- Blocks are only added, and what is being written comes to what it did.
+pub record Moves (old : List Block) (before : Work) (new : List Block) (after : Work) : Type 0 where
+  pub blocks : Begins old new
+  pub comes : (wanted : List Goal) (last : End) → ComesTo old before wanted last → ComesTo new after wanted last
+
+-- What is being written, with one more goal to write first.
+abbrev pub with_goal : Goal → Work → Work
+with_goal g work = record work { goals = work.goals ++ g ∷ [] }

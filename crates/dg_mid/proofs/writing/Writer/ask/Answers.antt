@@ -11,4 +11,4 @@ returns-then-returns_at_once-clause-first c =
 
 pub returns-in-Ok-clause-first : goal.returns-in-Ok-clause-first
 returns-in-Ok-clause-first c =
-    if_ok_map c.one-in-Ok.result _ _ (λ new e. puts_ask c.args.self.now.blocks c.finish.new.self.blocks c.args.pred c.args.terms c.args.many c.args.ops.items new.items c.in-Ok.next c.in-Ok.ensures.made c.in-Ok.ensures.number e) c.one-in-Ok.ensures
+    if_ok_map c.one-in-Ok.result _ _ (λ new e. puts_ask c.args.self.now.blocks c.finish.new.self.blocks c.args.pred c.args.terms c.args.many c.args.ops.items new.items c.in-Ok.next c.in-Ok.ensures.lands e) c.one-in-Ok.ensures

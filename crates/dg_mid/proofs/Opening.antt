@@ -1,0 +1,173 @@
+-- What is open while code is written.
+use Rattle.std.proofs.Common.{◌≡◌, ℕ, List, [], ◌∷◌, ◌++◌, refl, sym, ap, ◌∙◌, subst, length, append_assoc}
+use Rattle.std.specs.Prelude.{reverse}
+use Rattle.std.proofs.lemmas.List.{append-nil, reverse-append}
+use Rattle.dg_base.specs.declared.program.Goal.{Goal}
+use Rattle.dg_base.specs.declared.program.Goal.TheVariants as goal
+use Rattle.dg_meaning.specs.OneRun.{Begins}
+use Rattle.dg_meaning.proofs.OneRun.{begins_on}
+use Rattle.dg_mid.specs.declared.code.Op.{Op}
+use Rattle.dg_mid.specs.declared.code.Op.TheVariants as op
+use Rattle.dg_mid.specs.declared.code.Block.{Block}
+use Rattle.dg_mid.specs.declared.code.Code.{Code}
+use Rattle.dg_mid.specs.declared.writing.Level.{Level}
+use Rattle.dg_mid.specs.declared.writing.Level.TheVariants as level
+use Rattle.dg_mid.specs.declared.writing.Work.{Work}
+use Rattle.dg_mid.specs.Code.{block_at}
+use Rattle.dg_mid.specs.Codes.{End, Refuses, Backs, Commits, Leaves, Stands, jumps, commits, refuses, backs, leaves, once, negates, exhausts, shields}
+use Rattle.dg_mid.specs.Writing.{StandsFor, PutsFirst, BlockFor, Lands, Wraps, Leads, ComesTo, Moves, with_goal}
+use Rattle.dg_mid.proofs.WritingLemmas.{reverse_put, block_made, made_begins}
+
+-- ## Blocks
+
+pub begins_here : (blocks : List Block) → Begins blocks blocks
+begins_here blocks = record { behind = []; is = sym (append-nil blocks) }
+
+pub lands_block : (old now : List Block) (ops : List Op) (b : ℕ) → now ≡ old ++ record { ops = ops } ∷ [] → b ≡ length old → Lands old now ops b
+lands_block old now ops b made is rest end s code begins =
+    subst (λ l. Stands code l rest end) (sym (block_made old now ops b code made is begins)) (s code (begins_on old now code.blocks (made_begins old now _ made) begins))
+
+of_jump : (code : Code) (b : ℕ) (rest : List Goal) (end : End) → Stands code (op.Goto b ∷ []) rest end → Stands code (block_at code b) rest end
+of_jump code b rest end (jumps c ops goals e h) = h
+
+pub lands_jump : (blocks : List Block) (ops : List Op) (b : ℕ) → ops ≡ op.Goto b ∷ [] → Lands blocks blocks (reverse ops) b
+lands_jump blocks ops b e rest end s code begins = of_jump code b rest end (subst (λ l. Stands code (reverse l) rest end) e (s code begins))
+
+-- ## Levels
+
+pub leads_later : (old new : List Block) → Begins old new → (levels : List Level) (goals : List Goal) (end : End) (wanted : List Goal) (last : End) →
+    Leads old levels goals end wanted last → Leads new levels goals end wanted last
+leads_later old new on [] goals end wanted last h = h
+leads_later old new on (level.Inner x others ∷ levels) goals end wanted last h =
+    (h.0, h.1, λ code begins. h.2 code (begins_on old new code.blocks on begins), leads_later old new on levels (others ++ h.0) h.1 wanted last h.3)
+
+-- what is open stays so where one goal goes in front
+with_leads : (old new : List Block) (before : Work) (g : Goal) (rest : List Goal) (end : End) (wanted : List Goal) (last : End) → Begins old new →
+    Leads old (reverse before.levels) ((before.goals ++ g ∷ []) ++ rest) end wanted last → Leads new (reverse before.levels) (before.goals ++ g ∷ rest) end wanted last
+with_leads old new before g rest end wanted last on h =
+    leads_later old new on (reverse before.levels) (before.goals ++ g ∷ rest) end wanted last
+    (subst (λ l. Leads old (reverse before.levels) l end wanted last) (append_assoc before.goals (g ∷ []) rest) h)
+
+pub puts_moves : (old new : List Block) (before after : Work) (g : Goal) → after.goals ≡ before.goals → after.levels ≡ before.levels → Begins old new →
+    PutsFirst (g ∷ []) old new (reverse before.ops.items) (reverse after.ops.items) → Moves old (with_goal g before) new after
+puts_moves old new before after g same still on put = record {
+  blocks = on;
+  comes = λ wanted last h. record {
+    rest = g ∷ h.rest;
+    end = h.end;
+    stands = put h.rest h.end h.stands;
+    leads = subst (λ l. Leads new (reverse l) (after.goals ++ g ∷ h.rest) h.end wanted last) (sym still)
+        (subst (λ l. Leads new (reverse before.levels) (l ++ g ∷ h.rest) h.end wanted last) (sym same) (with_leads old new before g h.rest h.end wanted last on h.leads));
+  };
+}
+
+-- What is inside a construct, and the instruction in front of it, stand for the construct.
+pub record Opened (new : List Block) (ops : List Op) (x : Op) (inner : List Goal) (g : Goal) (rest : List Goal) (end : End) : Type 0 where
+  pub goals : List Goal
+  pub behind : End
+  pub stands : StandsFor new ops goals behind
+  pub wraps : Wraps new x (inner ++ goals) behind (g ∷ rest) end
+
+pub opens : (old new : List Block) (before after : Work) (ops : List Op) (g : Goal) (x : Op) (inner : List Goal) → Begins old new → after.ops.items ≡ ops → after.goals ≡ inner →
+    after.levels ≡ before.levels ++ level.Inner x before.goals ∷ [] →
+    ((rest : List Goal) (end : End) → StandsFor old (reverse before.ops.items) rest end → Opened new (reverse ops) x inner g rest end) → Moves old (with_goal g before) new after
+opens old new before after ops g x inner on ops_are goals_are levels_are opened = record {
+  blocks = on;
+  comes = λ wanted last h.
+      let o = opened h.rest h.end h.stands in
+      record {
+        rest = o.goals;
+        end = o.behind;
+        stands = subst (λ l. StandsFor new (reverse l) o.goals o.behind) (sym ops_are) o.stands;
+        leads = subst (λ l. Leads new l (after.goals ++ o.goals) o.behind wanted last) (sym (ap reverse levels_are ∙ reverse-append before.levels (level.Inner x before.goals ∷ [])))
+            (subst (λ l. Leads new (level.Inner x before.goals ∷ reverse before.levels) (l ++ o.goals) o.behind wanted last) (sym goals_are)
+            (g ∷ h.rest, h.end, o.wraps, with_leads old new before g h.rest h.end wanted last on h.leads));
+      };
+}
+
+pub closes : (blocks : List Block) (before after : Work) (x : Op) (others : List Goal) → before.goals ≡ [] → after.ops.items ≡ before.ops.items ++ x ∷ [] → after.goals ≡ others → after.levels ≡ before.levels →
+    Moves blocks (record before { levels = before.levels ++ level.Inner x others ∷ [] }) blocks after
+closes blocks before after x others none ops_are goals_are levels_are = record {
+  blocks = begins_here blocks;
+  comes = λ wanted last h.
+      let closed : Leads blocks (level.Inner x others ∷ reverse before.levels) h.rest h.end wanted last =
+      subst (λ l. Leads blocks l h.rest h.end wanted last) (reverse-append before.levels (level.Inner x others ∷ []))
+      (subst (λ l. Leads blocks (reverse (before.levels ++ level.Inner x others ∷ [])) (l ++ h.rest) h.end wanted last) none h.leads) in
+      record {
+        rest = closed.0;
+        end = closed.1;
+        stands = λ code begins. subst (λ l. Stands code l closed.0 closed.1) (sym (ap reverse ops_are ∙ reverse_put before.ops.items x)) (closed.2 code begins (reverse before.ops.items) (h.stands code begins));
+        leads = subst (λ l. Leads blocks (reverse l) (after.goals ++ closed.0) closed.1 wanted last) (sym levels_are)
+            (subst (λ l. Leads blocks (reverse before.levels) (l ++ closed.0) closed.1 wanted last) (sym goals_are) closed.3);
+      };
+}
+
+-- ## Constructs
+
+pub open_not : (old new : List Block) (ops only : List Op) (inner : List Goal) (alt : ℕ) → Lands old new (reverse ops) alt → only ≡ op.Refuse ∷ [] →
+    (rest : List Goal) (end : End) → StandsFor old (reverse ops) rest end → Opened new (reverse only) (op.Try alt) inner (goal.Not inner) rest end
+open_not old new ops only inner alt lands e rest end h = record {
+  goals = [];
+  behind = Refuses;
+  stands = λ code begins. subst (λ l. Stands code (reverse l) [] Refuses) (sym e) (refuses []);
+  wraps = λ code begins xs s. negates alt inner xs rest end (subst (λ l. Stands code xs l Refuses) (append-nil inner) s) (lands rest end h code begins);
+}
+
+pub open_exhaust : (old new : List Block) (ops only : List Op) (inner : List Goal) (alt : ℕ) → Lands old new (reverse ops) alt → only ≡ op.Back ∷ [] →
+    (rest : List Goal) (end : End) → StandsFor old (reverse ops) rest end → Opened new (reverse only) (op.Try alt) inner (goal.Exhaust inner) rest end
+open_exhaust old new ops only inner alt lands e rest end h = record {
+  goals = [];
+  behind = Backs;
+  stands = λ code begins. subst (λ l. Stands code (reverse l) [] Backs) (sym e) (backs []);
+  wraps = λ code begins xs s. exhausts alt inner xs rest end (subst (λ l. Stands code xs l Backs) (append-nil inner) s) (lands rest end h code begins);
+}
+
+pub open_once : (blocks : List Block) (ops put : List Op) (inner : List Goal) → put ≡ ops ++ op.Commit ∷ [] →
+    (rest : List Goal) (end : End) → StandsFor blocks (reverse ops) rest end → Opened blocks (reverse put) op.Once inner (goal.Once inner) rest end
+open_once blocks ops put inner e rest end h = record {
+  goals = [];
+  behind = Commits rest end;
+  stands = λ code begins. subst (λ l. Stands code l [] (Commits rest end)) (sym (ap reverse e ∙ reverse_put ops op.Commit)) (commits (reverse ops) rest end (h code begins));
+  wraps = λ code begins xs s. once inner xs rest end (subst (λ l. Stands code xs l (Commits rest end)) (append-nil inner) s);
+}
+
+pub open_stoppable : (old new : List Block) (ops jump put : List Op) (inner : List Goal) (alt : ℕ) → Lands old new (reverse ops) alt → jump ≡ op.Goto alt ∷ [] → put ≡ jump ++ op.Leave ∷ [] →
+    (rest : List Goal) (end : End) → StandsFor old (reverse ops) rest end → Opened new (reverse put) (op.Shield alt) inner (goal.Stoppable inner) rest end
+open_stoppable old new ops jump put inner alt lands e e' rest end h = record {
+  goals = [];
+  behind = Leaves rest end;
+  stands = λ code begins. subst (λ l. Stands code l [] (Leaves rest end)) (sym (ap reverse (e' ∙ ap (λ l. l ++ op.Leave ∷ []) e))) (leaves (op.Goto alt ∷ []) rest end (jumps alt [] rest end (lands rest end h code begins)));
+  wraps = λ code begins xs s. shields alt inner xs rest end (subst (λ l. Stands code xs l (Leaves rest end)) (append-nil inner) s) (lands rest end h code begins);
+}
+
+-- ## Turns
+
+-- So much is kept from turn to turn: blocks are only added, and what is being written comes to the goals.
+abbrev pub Carries : List Block → List Op → List Goal → List Block → Work → Type 0
+Carries first ops goals now work =
+    Begins first now × ((rest : List Goal) (end : End) → StandsFor first (reverse ops) rest end → ComesTo now work (goals ++ rest) end)
+
+pub carries_on : (first : List Block) (ops : List Op) (goals : List Goal) (old new : List Block) (work before after : Work) → Carries first ops goals old work → work ≡ before → Moves old before new after →
+    Carries first ops goals new after
+carries_on first ops goals old new work before after h e m =
+    (begins_on first old new h.0 m.blocks, λ rest end s. m.comes (goals ++ rest) end (subst (λ w. ComesTo old w (goals ++ rest) end) e (h.1 rest end s)))
+
+pub carries_to : (first : List Block) (ops : List Op) (goals : List Goal) (new now : List Block) (after work : Work) → Carries first ops goals new after → now ≡ new → work ≡ after → Carries first ops goals now work
+carries_to first ops goals new now after work h e e' = subst (λ b. Carries first ops goals b work) (sym e) (subst (Carries first ops goals new) (sym e') h)
+
+pub carries_first : (blocks : List Block) (work : Work) → work.levels ≡ [] → Carries blocks work.ops.items work.goals blocks work
+carries_first blocks work none = (
+  begins_here blocks,
+  λ rest end s. record {
+    rest = rest;
+    end = end;
+    stands = s;
+    leads = subst (λ l. Leads blocks (reverse l) (work.goals ++ rest) end (work.goals ++ rest) end) (sym none) (refl, refl);
+  },
+)
+
+pub ends_written : (blocks : List Block) (work : Work) (wanted : List Goal) (last : End) → work.goals ≡ [] → work.levels ≡ [] → ComesTo blocks work wanted last → StandsFor blocks (reverse work.ops.items) wanted last
+ends_written blocks work wanted last none no_levels h =
+    let is : (h.rest ≡ wanted) × (h.end ≡ last) =
+    subst (λ l. Leads blocks (reverse l) h.rest h.end wanted last) no_levels (subst (λ l. Leads blocks (reverse work.levels) (l ++ h.rest) h.end wanted last) none h.leads) in
+    subst (λ l. StandsFor blocks (reverse work.ops.items) l last) is.0 (subst (λ e. StandsFor blocks (reverse work.ops.items) h.rest e) is.1 h.stands)
