@@ -27,3 +27,4 @@ pub mod Selects
 pub mod Worked
 pub mod WritingLemmas
 pub mod Opening
+pub mod Rules

@@ -1,6 +1,6 @@
 -- What is open while code is written.
 use Rattle.std.proofs.Common.{◌≡◌, ℕ, List, [], ◌∷◌, ◌++◌, refl, sym, ap, ◌∙◌, subst, length, append_assoc}
-use Rattle.std.specs.Prelude.{reverse}
+use Rattle.std.specs.Prelude.{reverse, Option, Some, None}
 use Rattle.std.proofs.lemmas.List.{append-nil, reverse-append}
 use Rattle.dg_base.specs.declared.program.Goal.{Goal}
 use Rattle.dg_base.specs.declared.program.Goal.TheVariants as goal
@@ -14,8 +14,8 @@ use Rattle.dg_mid.specs.declared.writing.Level.{Level}
 use Rattle.dg_mid.specs.declared.writing.Level.TheVariants as level
 use Rattle.dg_mid.specs.declared.writing.Work.{Work}
 use Rattle.dg_mid.specs.Code.{block_at}
-use Rattle.dg_mid.specs.Codes.{End, Refuses, Backs, Commits, Leaves, Stands, jumps, commits, refuses, backs, leaves, once, negates, exhausts, shields}
-use Rattle.dg_mid.specs.Writing.{StandsFor, PutsFirst, BlockFor, Lands, Wraps, Leads, ComesTo, Moves, with_goal}
+use Rattle.dg_mid.specs.Codes.{End, Refuses, Backs, Commits, Leaves, Stands, jumps, commits, refuses, backs, leaves, once, negates, branch, exhausts, shields}
+use Rattle.dg_mid.specs.Writing.{StandsFor, PutsFirst, Lands, Wraps, Leads, ComesTo, Moves, TailFor, Shares, tail_ops, with_goal, with_level}
 use Rattle.dg_mid.proofs.WritingLemmas.{reverse_put, block_made, made_begins}
 
 -- ## Blocks
@@ -33,6 +33,18 @@ of_jump code b rest end (jumps c ops goals e h) = h
 pub lands_jump : (blocks : List Block) (ops : List Op) (b : ℕ) → ops ≡ op.Goto b ∷ [] → Lands blocks blocks (reverse ops) b
 lands_jump blocks ops b e rest end s code begins = of_jump code b rest end (subst (λ l. Stands code (reverse l) rest end) e (s code begins))
 
+tail_later : (old new : List Block) → Begins old new → (tail : Option ℕ) (rest : List Goal) (end : End) → TailFor old tail rest end → TailFor new tail rest end
+tail_later old new on None rest end h = λ code begins. h code (begins_on old new code.blocks on begins)
+tail_later old new on (Some b) rest end h = λ code begins. h code (begins_on old new code.blocks on begins)
+
+-- what a way ends with, once more
+pub tail_stands : (blocks : List Block) (tail : Option ℕ) (ops : List Op) (rest : List Goal) (end : End) → ops ≡ tail_ops tail → TailFor blocks tail rest end → StandsFor blocks (reverse ops) rest end
+tail_stands blocks None ops rest end e h = λ code begins. subst (λ l. Stands code (reverse l) rest end) (sym e) (h code begins)
+tail_stands blocks (Some b) ops rest end e h = λ code begins. subst (λ l. Stands code (reverse l) rest end) (sym e) (jumps b [] rest end (h code begins))
+
+pub shares_return : (blocks : List Block) (ops : List Op) → ops ≡ op.Return ∷ [] → Shares blocks blocks (reverse ops) None
+shares_return blocks ops e rest end s code begins = subst (λ l. Stands code (reverse l) rest end) e (s code begins)
+
 -- ## Levels
 
 pub leads_later : (old new : List Block) → Begins old new → (levels : List Level) (goals : List Goal) (end : End) (wanted : List Goal) (last : End) →
@@ -40,6 +52,8 @@ pub leads_later : (old new : List Block) → Begins old new → (levels : List L
 leads_later old new on [] goals end wanted last h = h
 leads_later old new on (level.Inner x others ∷ levels) goals end wanted last h =
     (h.0, h.1, λ code begins. h.2 code (begins_on old new code.blocks on begins), leads_later old new on levels (others ++ h.0) h.1 wanted last h.3)
+leads_later old new on (level.Other test first tail others ∷ levels) goals end wanted last h =
+    (h.0, h.1, h.2, tail_later old new on tail h.1 end h.3, leads_later old new on levels (others ++ goal.If test first h.0 ∷ h.1) end wanted last h.4)
 
 -- what is open stays so where one goal goes in front
 with_leads : (old new : List Block) (before : Work) (g : Goal) (rest : List Goal) (end : End) (wanted : List Goal) (last : End) → Begins old new →
@@ -86,7 +100,7 @@ opens old new before after ops g x inner on ops_are goals_are levels_are opened 
 }
 
 pub closes : (blocks : List Block) (before after : Work) (x : Op) (others : List Goal) → before.goals ≡ [] → after.ops.items ≡ before.ops.items ++ x ∷ [] → after.goals ≡ others → after.levels ≡ before.levels →
-    Moves blocks (record before { levels = before.levels ++ level.Inner x others ∷ [] }) blocks after
+    Moves blocks (with_level (level.Inner x others) before) blocks after
 closes blocks before after x others none ops_are goals_are levels_are = record {
   blocks = begins_here blocks;
   comes = λ wanted last h.
@@ -138,6 +152,57 @@ open_stoppable old new ops jump put inner alt lands e e' rest end h = record {
   behind = Leaves rest end;
   stands = λ code begins. subst (λ l. Stands code l [] (Leaves rest end)) (sym (ap reverse (e' ∙ ap (λ l. l ++ op.Leave ∷ []) e))) (leaves (op.Goto alt ∷ []) rest end (jumps alt [] rest end (lands rest end h code begins)));
   wraps = λ code begins xs s. shields alt inner xs rest end (subst (λ l. Stands code xs l (Leaves rest end)) (append-nil inner) s) (lands rest end h code begins);
+}
+
+-- ## Conditions
+
+pub opens_if : (old new : List Block) (before after : Work) (ops : List Op) (test first other : List Goal) (tail : Option ℕ) → Begins old new → Shares old new (reverse before.ops.items) tail → ops ≡ tail_ops tail →
+    after.ops.items ≡ ops → after.goals ≡ other → after.levels ≡ before.levels ++ level.Other test first tail before.goals ∷ [] → Moves old (with_goal (goal.If test first other) before) new after
+opens_if old new before after ops test first other tail on shares e ops_are goals_are levels_are = record {
+  blocks = on;
+  comes = λ wanted last h.
+      let t : TailFor new tail h.rest h.end = shares h.rest h.end h.stands in
+      record {
+        rest = h.rest;
+        end = h.end;
+        stands = tail_stands new tail after.ops.items h.rest h.end (ops_are ∙ e) t;
+        leads = subst (λ l. Leads new l (after.goals ++ h.rest) h.end wanted last) (sym (ap reverse levels_are ∙ reverse-append before.levels (level.Other test first tail before.goals ∷ [])))
+            (subst (λ l. Leads new (level.Other test first tail before.goals ∷ reverse before.levels) (l ++ h.rest) h.end wanted last) (sym goals_are)
+            (other, h.rest, refl, t, with_leads old new before (goal.If test first other) h.rest h.end wanted last on h.leads));
+      };
+}
+
+pub closes_other : (old new : List Block) (before after : Work) (ops : List Op) (test first others : List Goal) (tail : Option ℕ) (alt : ℕ) → before.goals ≡ [] → Begins old new → Lands old new (reverse before.ops.items) alt → ops ≡ tail_ops tail →
+    after.ops.items ≡ ops → after.goals ≡ first → after.levels ≡ (before.levels ++ level.Inner (op.Try alt) others ∷ []) ++ level.Inner op.Commit test ∷ [] → Moves old (with_level (level.Other test first tail others) before) new after
+closes_other old new before after ops test first others tail alt none on lands e ops_are goals_are levels_are = record {
+  blocks = on;
+  comes = λ wanted last h.
+      let closed : Leads old (level.Other test first tail others ∷ reverse before.levels) h.rest h.end wanted last =
+      subst (λ l. Leads old l h.rest h.end wanted last) (reverse-append before.levels (level.Other test first tail others ∷ []))
+      (subst (λ l. Leads old (reverse (before.levels ++ level.Other test first tail others ∷ [])) (l ++ h.rest) h.end wanted last) none h.leads) in
+      let rest : List Goal = closed.1 in
+      let there = lands h.rest h.end h.stands in
+      let levels : reverse after.levels ≡ level.Inner op.Commit test ∷ level.Inner (op.Try alt) others ∷ reverse before.levels =
+      ap reverse levels_are ∙ reverse-append (before.levels ++ level.Inner (op.Try alt) others ∷ []) (level.Inner op.Commit test ∷ [])
+      ∙ ap (λ l. level.Inner op.Commit test ∷ l) (reverse-append before.levels (level.Inner (op.Try alt) others ∷ [])) in
+      record {
+        rest = rest;
+        end = h.end;
+        stands = tail_stands new tail after.ops.items rest h.end (ops_are ∙ e) (tail_later old new on tail rest h.end closed.3);
+        leads = subst (λ l. Leads new l (after.goals ++ rest) h.end wanted last) (sym levels)
+            (subst (λ l. Leads new (level.Inner op.Commit test ∷ level.Inner (op.Try alt) others ∷ reverse before.levels) (l ++ rest) h.end wanted last) (sym goals_are) (
+              [],
+              Commits (first ++ rest) h.end,
+              λ code begins xs s. commits xs (first ++ rest) h.end s,
+              (
+                goal.If test first closed.0 ∷ rest,
+                h.end,
+                λ code begins xs s. branch alt test first closed.0 xs rest h.end (subst (λ l. Stands code xs l (Commits (first ++ rest) h.end)) (append-nil test) s)
+                    (subst (λ l. Stands code (block_at code alt) l h.end) closed.2 (there code begins)),
+                leads_later old new on (reverse before.levels) (others ++ goal.If test first closed.0 ∷ rest) h.end wanted last closed.4,
+              ),
+            ));
+      };
 }
 
 -- ## Turns

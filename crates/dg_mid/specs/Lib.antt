@@ -12,3 +12,4 @@ pub mod Potential
 pub mod Shapes
 pub mod Laws
 pub mod Writing
+pub mod Coded

@@ -1,15 +1,22 @@
 -- What code that is being written stands for: it is written from the last goal to the first, and what was written stays. Hold it against the Dialog manual, chapter "Choice points".
-use Rattle.std.specs.Prelude.{ℕ, List, [], ◌∷◌, ◌++◌, ◌≡◌, reverse}
+use Rattle.std.specs.Prelude.{ℕ, List, [], ◌∷◌, ◌++◌, ◌≡◌, Option, Some, None, false, reverse}
+use Rattle.std.specs.List.{slice_get}
 use Rattle.dg_base.specs.declared.program.Goal.{Goal}
+use Rattle.dg_base.specs.declared.program.Goal.TheVariants as goal
+use Rattle.dg_base.specs.declared.program.Rule.{Rule}
+use Rattle.dg_base.specs.declared.program.Pred.{Pred}
 use Rattle.dg_meaning.specs.OneRun.{Begins}
+use Rattle.dg_meaning.specs.Moves.{rules_of}
 use Rattle.dg_mid.specs.declared.code.Op.{Op}
+use Rattle.dg_mid.specs.declared.code.Op.TheVariants as op
 use Rattle.dg_mid.specs.declared.code.Block.{Block}
+use Rattle.dg_mid.specs.declared.code.RuleCode.{RuleCode}
 use Rattle.dg_mid.specs.declared.code.Code.{Code}
 use Rattle.dg_mid.specs.declared.writing.Level.{Level}
 use Rattle.dg_mid.specs.declared.writing.Level.TheVariants as level
 use Rattle.dg_mid.specs.declared.writing.Work.{Work}
-use Rattle.dg_mid.specs.Code.{block_at}
-use Rattle.dg_mid.specs.Codes.{End, Stands}
+use Rattle.dg_mid.specs.Code.{block_at, codes_of}
+use Rattle.dg_mid.specs.Codes.{End, Stands, RuleStands, RulesStand}
 
 -- ## Growing
 
@@ -29,6 +36,20 @@ BlockFor blocks b goals end = (code : Code) → Begins blocks code.blocks → St
 abbrev pub Lands : List Block → List Block → List Op → ℕ → Type 0
 Lands old new ops b = (rest : List Goal) (end : End) → StandsFor old ops rest end → BlockFor new b rest end
 
+-- What two ways end with stands for these goals: the answer of a rule, or a block.
+abbrev pub TailFor : List Block → Option ℕ → List Goal → End → Type 0
+TailFor blocks None goals end = StandsFor blocks (op.Return ∷ []) goals end
+TailFor blocks (Some b) goals end = BlockFor blocks b goals end
+
+-- Whatever the instructions stand for, what two ways end with does.
+abbrev pub Shares : List Block → List Block → List Op → Option ℕ → Type 0
+Shares old new ops tail = (rest : List Goal) (end : End) → StandsFor old ops rest end → TailFor new tail rest end
+
+-- The instructions of what a way ends with.
+abbrev pub tail_ops : Option ℕ → List Op
+tail_ops None = op.Return ∷ []
+tail_ops (Some b) = op.Goto b ∷ []
+
 -- ## What is open
 
 -- An instruction in front of code that stands for goals, with what comes behind them, makes code for others.
@@ -40,6 +61,8 @@ abbrev pub Leads : List Block → List Level → List Goal → End → List Goal
 Leads blocks [] goals end wanted last = (goals ≡ wanted) × (end ≡ last)
 Leads blocks (level.Inner x others ∷ levels) goals end wanted last =
     (outer : List Goal) × (behind : End) × Wraps blocks x goals end outer behind × Leads blocks levels (others ++ outer) behind wanted last
+Leads blocks (level.Other test first tail others ∷ levels) goals end wanted last =
+    (other : List Goal) × (rest : List Goal) × (goals ≡ other ++ rest) × TailFor blocks tail rest end × Leads blocks levels (others ++ goal.If test first other ∷ rest) end wanted last
 
 -- What is being written comes to code for the goals that are wanted.
 pub record ComesTo (blocks : List Block) (work : Work) (wanted : List Goal) (last : End) : Type 0 where
@@ -56,3 +79,26 @@ pub record Moves (old : List Block) (before : Work) (new : List Block) (after : 
 -- What is being written, with one more goal to write first.
 abbrev pub with_goal : Goal → Work → Work
 with_goal g work = record work { goals = work.goals ++ g ∷ [] }
+
+-- What is being written, with one more level that goes on next.
+abbrev pub with_level : Level → Work → Work
+with_level l work = record work { levels = work.levels ++ l ∷ [] }
+
+-- ## Rules
+
+-- In every code that begins with these blocks, the code of a rule stands for it.
+abbrev pub RuleFor : List Block → RuleCode → Rule → Type 0
+RuleFor blocks c rule = (code : Code) → Begins blocks code.blocks → RuleStands code c rule
+
+-- So it is for each of some rules.
+abbrev pub RulesFor : List Block → List RuleCode → List Rule → Type 0
+RulesFor blocks codes rules = (code : Code) → Begins blocks code.blocks → RulesStand code codes rules
+
+-- So it is for the rules of each predicate.
+abbrev pub PredsFor : List Block → List (List RuleCode) → List Pred → Type 0
+PredsFor blocks codes preds =
+    (code : Code) → Begins blocks code.blocks → (pred : ℕ) → RulesStand code (codes_of (slice_get codes pred)) (rules_of (slice_get preds pred))
+
+-- The first blocks of a program: the answer of a rule, the query of the entry, and the end of the run.
+abbrev pub starting : ℕ → List Block
+starting entry = record { ops = op.Return ∷ [] } ∷ record { ops = op.Ask entry [] false 2 ∷ [] } ∷ record { ops = op.Done ∷ [] } ∷ []

@@ -3,6 +3,7 @@
 
 mod code;
 mod laws;
+mod programs;
 mod writing;
 
 pub use code::{Action, Block, Code, Gathered, Key, Op, RuleCode};
@@ -10,4 +11,5 @@ pub use laws::{
     code_costs_its_work, code_moves_on, code_runs_as_searched, code_shows_the_game,
     heights_order_places, steps_come_to_a_goal,
 };
-pub use writing::Writer;
+pub use programs::to_mid;
+pub use writing::{Level, Work, Writer};

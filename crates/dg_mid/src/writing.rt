@@ -7,10 +7,13 @@ ghost use Rattle.dg_mid.specs.Actions.{goal_of};
 ghost use Rattle.dg_mid.specs.declared.code.Block.{Block};
 ghost use Rattle.dg_mid.specs.declared.code.Op.TheVariants as op;
 ghost use Rattle.dg_mid.specs.declared.writing.Level.TheVariants as level;
-ghost use Rattle.dg_mid.specs.Writing.{PutsFirst, Lands, Moves, with_goal};
+ghost use Rattle.dg_mid.specs.Writing.{PutsFirst, Lands, Moves, with_goal, with_level, Shares, tail_ops, RuleFor, RulesFor, PredsFor, starting};
+ghost use Rattle.dg_mid.specs.Code.{label_of, first_label};
+ghost use Rattle.dg_meaning.specs.Selection.{label_at};
+ghost use Rattle.dg_base.specs.declared.program.Term.{out-Term};
 
-use crate::code::{Action, Block, Op};
-use dg_base::{Goal, Items, Term};
+use crate::code::{Action, Block, Key, Op, RuleCode};
+use dg_base::{Goal, Items, Pred, Rule, Term};
 use std::alloc::{AllocError, Global};
 
 /// The blocks that were written so far. Instructions in front of them stand in reverse order while they grow.
@@ -25,6 +28,8 @@ pub struct Writer {
 pub enum Level {
     /// The instruction goes in front, and then these goals.
     Inner(Op, Items<Goal>),
+    /// The goals at hand are the other way of a condition: its test, its first way, what both ways end with, and the goals in front of it.
+    Other(Items<Goal>, Items<Goal>, Option<u32>, Items<Goal>),
 }
 
 /// What is being written: instructions in reverse order, the goals in front of them, and what comes behind those, the next last.
@@ -118,7 +123,7 @@ impl Writer {
             match work.goals.pop() {
                 Some(goal) => work = self.goal(goal, work)?,
                 None => match work.levels.pop() {
-                    Some(level) => work = close(level, work)?,
+                    Some(level) => work = self.close(level, work)?,
                     None => return Ok(work.ops),
                 },
             }
@@ -136,6 +141,7 @@ impl Writer {
             Goal::Exhaust(inner) => self.exhausting(inner, work),
             Goal::Once(inner) => self.first_answer(inner, work),
             Goal::Stoppable(inner) => self.stoppable(inner, work),
+            Goal::If(test, first, other) => self.condition(test, first, other, work),
             other => self.plain(other, work),
         }
     }
@@ -206,6 +212,141 @@ impl Writer {
         let ops = with(ops, Op::Leave)?;
         Ok(open(Op::Shield(alt), goals, levels, inner, ops)?)
     }
+
+    /// Opens a condition, at its other way.
+    fn condition(
+        &mut self,
+        test: Items<Goal>,
+        first: Items<Goal>,
+        other: Items<Goal>,
+        work: Work,
+    ) -> Result<Work, AllocError>
+        ensures { IfOk result (λ new. Moves self.old.blocks (with_goal (goal.If test first other) work) self.new.blocks new) }
+    {
+        let Work { ops, goals, levels } = work;
+        let tail = self.shared(ops)?;
+        let ops = again(self.alloc, tail)?;
+        Ok(at_other(test, first, tail, goals, levels, other, ops)?)
+    }
+
+    /// The goals at hand are written; the next level goes on.
+    fn close(&mut self, level: Level, work: Work) -> Result<Work, AllocError>
+        ensures { work.goals ≡ [] → IfOk result (λ new. Moves self.old.blocks (with_level level work) self.new.blocks new) }
+    {
+        match level {
+            Level::Inner(op, others) => leave(op, others, work),
+            Level::Other(test, first, tail, others) => self.first_way(
+                test, first, tail, others, work,
+            ),
+        }
+    }
+
+    /// The other way of a condition is written: it is a block, and the first way and the test come next.
+    fn first_way(
+        &mut self,
+        test: Items<Goal>,
+        first: Items<Goal>,
+        tail: Option<u32>,
+        others: Items<Goal>,
+        work: Work,
+    ) -> Result<Work, AllocError>
+        ensures { work.goals ≡ [] → IfOk result (λ new. Moves self.old.blocks (with_level (level.Other test first tail others) work) self.new.blocks new) }
+    {
+        let Work {
+            ops,
+            goals: _goals,
+            levels,
+        } = work;
+        let alt = self.finish(ops)?;
+        let ops = again(self.alloc, tail)?;
+        Ok(at_first(alt, test, first, others, levels, ops)?)
+    }
+
+    /// What two ways end with: the answer of a rule, or a block.
+    fn shared(&mut self, ops: Vec<Op>) -> Result<Option<u32>, AllocError>
+        ensures blocks { OnOk result (Begins self.old.blocks self.new.blocks) }
+        ensures shares { IfOk result (λ tail. Shares self.old.blocks self.new.blocks (reverse ops.items) tail) }
+    {
+        if returns_at_once(ops.as_slice()) {
+            return Ok(None);
+        }
+        Ok(Some(self.finish(ops)?))
+    }
+
+    /// Begins the code of a program: block 0 answers a rule, block 1 asks the entry, and then the run is done.
+    pub fn start(alloc: Global, entry: u16) -> Result<Writer, AllocError>
+        ensures { IfOk result (λ new. new.blocks ≡ starting entry) }
+    {
+        let mut writer = Writer::new(alloc);
+        let _answer = writer.block(one(alloc, Op::Return)?)?;
+        let _start = writer.block(one(alloc, Op::Ask(entry, Items::new(alloc), false, 2))?)?;
+        let _done = writer.block(one(alloc, Op::Done)?)?;
+        Ok(writer)
+    }
+
+    /// The blocks.
+    pub fn blocks(self) -> Items<Block>
+        ensures { result ≡ self.blocks }
+    {
+        let Writer {
+            alloc: _alloc,
+            blocks,
+        } = self;
+        blocks
+    }
+
+    /// Writes a rule.
+    fn rule(&mut self, rule: Rule) -> Result<RuleCode, AllocError>
+        ensures blocks { OnOk result (Begins self.old.blocks self.new.blocks) }
+        ensures stands { IfOk result (λ c. RuleFor self.new.blocks c rule) }
+    {
+        let Rule { vars, head, body } = rule;
+        let key = key_of(head.as_slice());
+        let end = one(self.alloc, Op::Return)?;
+        let ops = self.write(body, end)?;
+        let ops = with(ops, Op::Enter(vars, head))?;
+        let block = self.block(ops)?;
+        Ok(RuleCode { key, block })
+    }
+
+    /// Writes rules.
+    fn rules(&mut self, rules: Items<Rule>) -> Result<Items<RuleCode>, AllocError>
+        ensures blocks { OnOk result (Begins self.old.blocks self.new.blocks) }
+        ensures stand { IfOk result (λ codes. RulesFor self.new.blocks codes rules) }
+    {
+        let mut rules = rules;
+        let mut codes = Vec::new(self.alloc);
+        for _turn in 0..u64::MAX {
+            let Some(rule) = rules.pop() else {
+                codes.reverse();
+                return Ok(Items::from_vec(codes));
+            };
+            codes.push(self.rule(rule)?)?;
+        }
+        Err(AllocError)
+    }
+
+    /// Writes the rules of each predicate.
+    pub fn preds(&mut self, preds: Items<Pred>) -> Result<Items<Items<RuleCode>>, AllocError>
+        ensures blocks { OnOk result (Begins self.old.blocks self.new.blocks) }
+        ensures stand { IfOk result (λ codes. PredsFor self.new.blocks codes preds) }
+    {
+        let mut preds = preds;
+        let mut codes = Vec::new(self.alloc);
+        for _turn in 0..u64::MAX {
+            let Some(pred) = preds.pop() else {
+                codes.reverse();
+                return Ok(Items::from_vec(codes));
+            };
+            let Pred {
+                name: _name,
+                from_source: _from_source,
+                rules,
+            } = pred;
+            codes.push(self.rules(rules)?)?;
+        }
+        Err(AllocError)
+    }
 }
 
 /// What is inside a construct is written next, and then the instruction in front of it.
@@ -229,20 +370,101 @@ fn open(
     })
 }
 
-/// The goals at hand are written; the next level goes on.
-fn close(level: Level, work: Work) -> Result<Work, AllocError>
-    ensures { work.goals ≡ [] → IfOk result (λ new. (blocks : List Block) → Moves blocks (record work { levels = work.levels ++ level ∷ [] }) blocks new) }
+/// What is inside a construct is written; the instruction in front of it comes next.
+fn leave(op: Op, others: Items<Goal>, work: Work) -> Result<Work, AllocError>
+    ensures { work.goals ≡ [] → IfOk result (λ new. (blocks : List Block) → Moves blocks (with_level (level.Inner op others) work) blocks new) }
 {
     let Work {
         ops,
         goals: _goals,
         levels,
     } = work;
-    match level {
-        Level::Inner(op, goals) => {
-            let ops = with(ops, op)?;
-            Ok(Work { ops, goals, levels })
-        }
+    let ops = with(ops, op)?;
+    Ok(Work {
+        ops,
+        goals: others,
+        levels,
+    })
+}
+
+/// The other way of a condition is written next.
+fn at_other(
+    test: Items<Goal>,
+    first: Items<Goal>,
+    tail: Option<u32>,
+    goals: Items<Goal>,
+    levels: Items<Level>,
+    other: Items<Goal>,
+    ops: Vec<Op>,
+) -> Result<Work, AllocError>
+    ensures ops { IfOk result (λ new. new.ops.items ≡ ops.items) }
+    ensures goals { IfOk result (λ new. new.goals ≡ other) }
+    ensures levels { IfOk result (λ new. new.levels ≡ levels ++ level.Other test first tail goals ∷ []) }
+{
+    let mut levels = levels;
+    levels.push(Level::Other(test, first, tail, goals))?;
+    Ok(Work {
+        ops,
+        goals: other,
+        levels,
+    })
+}
+
+/// The first way of a condition is written next, and then its test.
+fn at_first(
+    alt: u32,
+    test: Items<Goal>,
+    first: Items<Goal>,
+    others: Items<Goal>,
+    levels: Items<Level>,
+    ops: Vec<Op>,
+) -> Result<Work, AllocError>
+    ensures ops { IfOk result (λ new. new.ops.items ≡ ops.items) }
+    ensures goals { IfOk result (λ new. new.goals ≡ first) }
+    ensures levels { IfOk result (λ new. new.levels ≡ (levels ++ level.Inner (op.Try alt) others ∷ []) ++ level.Inner op.Commit test ∷ []) }
+{
+    let mut levels = levels;
+    levels.push(Level::Inner(Op::Try(alt), others))?;
+    levels.push(Level::Inner(Op::Commit, test))?;
+    Ok(Work {
+        ops,
+        goals: first,
+        levels,
+    })
+}
+
+/// What a way ends with, once more.
+fn again(alloc: Global, tail: Option<u32>) -> Result<Vec<Op>, AllocError>
+    ensures { IfOk result (λ new. new.items ≡ tail_ops tail) }
+{
+    match tail {
+        None => one(alloc, Op::Return),
+        Some(b) => one(alloc, Op::Goto(b)),
+    }
+}
+
+/// The key of a rule with this head.
+fn key_of(head: &[Term]) -> Key
+    ensures { label_of result ≡ first_label head.now }
+{
+    match head.first() {
+        None => Key::Any,
+        Some(term) => key_at(term),
+    }
+}
+
+/// What is at the top of each value of a term.
+fn key_at(term: &Term) -> Key
+    ensures { label_of result ≡ label_at (out-Term term.now) }
+{
+    match term {
+        Term::Num(n) => Key::Num(*n),
+        Term::Word(n) => Key::Word(*n),
+        Term::Object(n) => Key::Object(*n),
+        Term::Nil => Key::Nil,
+        Term::Var(_) => Key::Any,
+        Term::Pair(_, _) => Key::Pair,
+        Term::Closure(n) => Key::Closure(*n),
     }
 }
 

@@ -2,7 +2,6 @@ use Rattle.std.proofs.Common.{rules, ◌≡◌, ◌∷◌, []}
 use Rattle.std.proofs.lemmas.Grind.{common_steps}
 use Rattle.dg_mid.specs.declared.code.Op.TheVariants as op
 use Rattle.std.specs.Prelude.{reverse}
-use Rattle.dg_mid.specs.Writing.{Lands}
 use Rattle.dg_mid.proofs.WritingLemmas.{if_ok_both}
 use Rattle.dg_mid.proofs.Opening.{lands_block, lands_jump}
 use Rattle.dg_mid.proofs.writing.Writer.finish.Goals as goal

@@ -1,6 +1,4 @@
-use Rattle.std.proofs.Common.{rules, ◌≡◌, List, [], ◌∷◌, ◌++◌, ap, ◌∙◌}
-use Rattle.dg_base.specs.declared.program.Goal.{Goal}
-use Rattle.dg_mid.specs.declared.writing.Level.{Level}
+use Rattle.std.proofs.Common.{rules, ◌≡◌, [], ◌∷◌, ◌++◌, ap, ◌∙◌}
 use Rattle.dg_mid.specs.declared.writing.Work.{Work}
 use Rattle.dg_mid.specs.declared.writing.Writer.{Writer}
 use Rattle.dg_mid.specs.Writing.{with_goal}
@@ -34,7 +32,7 @@ loop-turn-preserved c =
           let before : Work = record c.loop-turn.work { goals = c.pop.new.self; levels = w.pop-in-None.new.self ++ w.in-Some-pop.level ∷ [] } in
           let is : c.loop-turn.work ≡ before =
           ap (λ l. record c.loop-turn.work { goals = l }) goals ∙ ap (λ l. record c.loop-turn.work { goals = c.pop.new.self; levels = l }) w.in-Some-pop.ensures in
-          let on : Carries blocks ops c.args.goals c.loop-turn.self.blocks w.in_ok-work-in-Some-pop.work =
-          carries_on blocks ops c.args.goals c.loop-turn.self.blocks c.loop-turn.self.blocks c.loop-turn.work before w.in_ok-work-in-Some-pop.work c.loop-turn.invariant is (w.in_ok-work-in-Some-pop.ensures none c.loop-turn.self.blocks) in
-          carries_to blocks ops c.args.goals c.loop-turn.self.blocks c.match-pop.self.blocks w.in_ok-work-in-Some-pop.work c.match-pop.work on (ap (λ (s : Writer). s.blocks) w.self-is) w.work-is
+          let on : Carries blocks ops c.args.goals w.close.new.self.blocks w.in_ok-work-in-Some-pop.work =
+          carries_on blocks ops c.args.goals c.loop-turn.self.blocks w.close.new.self.blocks c.loop-turn.work before w.in_ok-work-in-Some-pop.work c.loop-turn.invariant is (w.in_ok-work-in-Some-pop.ensures none) in
+          carries_to blocks ops c.args.goals w.close.new.self.blocks c.match-pop.self.blocks w.in_ok-work-in-Some-pop.work c.match-pop.work on (ap (λ (s : Writer). s.blocks) w.self-is) w.work-is
     ]

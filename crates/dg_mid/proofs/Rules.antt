@@ -1,0 +1,102 @@
+-- The code of rules, written from the last rule to the first.
+use Rattle.std.proofs.Common.{◌≡◌, ℕ, zero, suc, List, [], ◌∷◌, ◌++◌, sym, ap, ◌∙◌, subst, length, append_assoc}
+use Rattle.std.specs.Prelude.{reverse, false}
+use Rattle.std.specs.List.{slice_get}
+use Rattle.std.proofs.lemmas.List.{append-nil, reverse-append}
+use Rattle.dg_base.specs.declared.program.Goal.TheVariants as goal
+use Rattle.dg_base.specs.declared.program.Rule.{Rule}
+use Rattle.dg_base.specs.declared.program.Pred.{Pred}
+use Rattle.dg_base.specs.declared.program.CoreProgram.{CoreProgram}
+use Rattle.dg_meaning.specs.OneRun.{Begins}
+use Rattle.dg_meaning.specs.Moves.{rules_of}
+use Rattle.dg_meaning.proofs.OneRun.{begins_on}
+use Rattle.dg_mid.specs.declared.code.Op.{Op}
+use Rattle.dg_mid.specs.declared.code.Op.TheVariants as op
+use Rattle.dg_mid.specs.declared.code.Block.{Block}
+use Rattle.dg_mid.specs.declared.code.RuleCode.{RuleCode}
+use Rattle.dg_mid.specs.declared.code.Code.{Code}
+use Rattle.dg_mid.specs.Code.{codes_of, ops_of, label_of, first_label}
+use Rattle.dg_mid.specs.Codes.{Returns, Finishes, Stands, returns, finishes, ask, RulesStand, Codes}
+use Rattle.dg_mid.specs.Writing.{PutsFirst, RuleFor, RulesFor, PredsFor, starting}
+use Rattle.dg_mid.proofs.WritingLemmas.{reverse_put, block_made, made_begins}
+use Rattle.dg_mid.proofs.Opening.{begins_here}
+
+pub rule_stands : (old mid now : List Block) (rule : Rule) (c : RuleCode) (only ops put : List Op) → only ≡ op.Return ∷ [] → PutsFirst rule.body old mid (reverse only) (reverse ops) → put ≡ ops ++ op.Enter rule.vars rule.head ∷ [] →
+    now ≡ mid ++ record { ops = reverse put } ∷ [] → c.block ≡ length mid → label_of c.key ≡ first_label rule.head → RuleFor now c rule
+rule_stands old mid now rule c only ops put only_is puts e made is key code begins = record {
+  ops = reverse ops;
+  block = block_made mid now (reverse put) c.block code made is begins ∙ ap reverse e ∙ reverse_put ops (op.Enter rule.vars rule.head);
+  body = subst (λ l. Stands code (reverse ops) l Returns) (append-nil rule.body)
+      (puts [] Returns (λ k b. subst (λ l. Stands k (reverse l) [] Returns) (sym only_is) (returns [])) code (begins_on mid now code.blocks (made_begins mid now _ made) begins));
+  key_is = key;
+}
+
+-- Of these rules, those behind the ones that are left have code.
+pub record RulesDone (first now : List Block) (all left : List Rule) (codes : List RuleCode) : Type 0 where
+  pub blocks : Begins first now
+  pub done : List Rule
+  pub is : all ≡ left ++ done
+  pub stands : RulesFor now (reverse codes) done
+
+pub rules_begun : (blocks : List Block) (all : List Rule) (codes : List RuleCode) → codes ≡ [] → RulesDone blocks blocks all all codes
+rules_begun blocks all codes none = record {
+  blocks = begins_here blocks;
+  done = [];
+  is = sym (append-nil all);
+  stands = λ code begins. subst (λ l. RulesStand code (reverse l) []) (sym none) tt;
+}
+
+pub rules_more : (first old now : List Block) (all left others : List Rule) (rule : Rule) (codes more : List RuleCode) (c : RuleCode) → RulesDone first old all left codes → left ≡ others ++ rule ∷ [] → Begins old now → RuleFor now c rule → more ≡ codes ++ c ∷ [] →
+    RulesDone first now all others more
+rules_more first old now all left others rule codes more c h e on f put = record {
+  blocks = begins_on first old now h.blocks on;
+  done = rule ∷ h.done;
+  is = h.is ∙ ap (λ l. l ++ h.done) e ∙ append_assoc others (rule ∷ []) h.done;
+  stands = λ code begins. subst (λ l. RulesStand code l (rule ∷ h.done)) (sym (ap reverse put ∙ reverse-append codes (c ∷ []))) (f code begins, h.stands code (begins_on old now code.blocks on begins));
+}
+
+pub rules_all : (first now : List Block) (all left : List Rule) (codes : List RuleCode) → RulesDone first now all left codes → left ≡ [] → RulesFor now (reverse codes) all
+rules_all first now all left codes h none code begins = subst (RulesStand code (reverse codes)) (sym (h.is ∙ ap (λ l. l ++ h.done) none)) (h.stands code begins)
+
+-- The same for predicates.
+pub record PredsDone (first now : List Block) (all left : List Pred) (codes : List (List RuleCode)) : Type 0 where
+  pub blocks : Begins first now
+  pub done : List Pred
+  pub is : all ≡ left ++ done
+  pub stands : PredsFor now (reverse codes) done
+
+pub preds_begun : (blocks : List Block) (all : List Pred) (codes : List (List RuleCode)) → codes ≡ [] → PredsDone blocks blocks all all codes
+preds_begun blocks all codes none = record {
+  blocks = begins_here blocks;
+  done = [];
+  is = sym (append-nil all);
+  stands = λ code begins pred. subst (λ l. RulesStand code (codes_of (slice_get (reverse l) pred)) []) (sym none) tt;
+}
+
+one_more : (code : Code) (codes : List (List RuleCode)) (preds : List Pred) (c : List RuleCode) (p : Pred) → RulesStand code c p.rules → ((n : ℕ) → RulesStand code (codes_of (slice_get codes n)) (rules_of (slice_get preds n))) →
+    (n : ℕ) → RulesStand code (codes_of (slice_get (c ∷ codes) n)) (rules_of (slice_get (p ∷ preds) n))
+one_more code codes preds c p f h zero = f
+one_more code codes preds c p f h (suc n) = h n
+
+pub preds_more : (first old now : List Block) (all left others : List Pred) (p : Pred) (codes more : List (List RuleCode)) (c : List RuleCode) → PredsDone first old all left codes → left ≡ others ++ p ∷ [] → Begins old now → RulesFor now c p.rules →
+    more ≡ codes ++ c ∷ [] → PredsDone first now all others more
+preds_more first old now all left others p codes more c h e on f put = record {
+  blocks = begins_on first old now h.blocks on;
+  done = p ∷ h.done;
+  is = h.is ∙ ap (λ l. l ++ h.done) e ∙ append_assoc others (p ∷ []) h.done;
+  stands = λ code begins n. subst (λ l. RulesStand code (codes_of (slice_get l n)) (rules_of (slice_get (p ∷ h.done) n))) (sym (ap reverse put ∙ reverse-append codes (c ∷ [])))
+      (one_more code (reverse codes) h.done c p (f code begins) (h.stands code (begins_on old now code.blocks on begins)) n);
+}
+
+pub preds_all : (first now : List Block) (all left : List Pred) (codes : List (List RuleCode)) → PredsDone first now all left codes → left ≡ [] → PredsFor now (reverse codes) all
+preds_all first now all left codes h none code begins n = subst (λ l. RulesStand code (codes_of (slice_get (reverse codes) n)) (rules_of (slice_get l n))) (sym (h.is ∙ ap (λ l. l ++ h.done) none)) (h.stands code begins n)
+
+pub codes_made : (program : CoreProgram) (code : Code) (first : List Block) → first ≡ starting program.entry → Begins first code.blocks → PredsFor code.blocks code.preds program.preds → Codes program code
+codes_made program code first begun on preds =
+    let blocks : code.blocks ≡ starting program.entry ++ on.behind = on.is ∙ ap (λ l. l ++ on.behind) begun in
+    record {
+      rules = preds code (begins_here code.blocks);
+      answers = ap (λ l. ops_of (slice_get l 0)) blocks;
+      starts = subst (λ l. Stands code l (goal.Ask program.entry [] false ∷ []) Finishes) (sym (ap (λ l. ops_of (slice_get l 1)) blocks))
+          (ask program.entry [] false 2 [] [] Finishes (subst (λ l. Stands code l [] Finishes) (sym (ap (λ l. ops_of (slice_get l 2)) blocks)) (finishes [])));
+    }

@@ -1,0 +1,31 @@
+// The register code of a program.
+ghost use Rattle.std.specs.Prelude.{IfOk};
+ghost use Rattle.dg_mid.specs.Codes.{Codes};
+ghost use Rattle.dg_mid.specs.Coded.{IsCoded};
+
+use crate::code::Code;
+use crate::writing::Writer;
+use dg_base::CoreProgram;
+use std::alloc::{AllocError, Global};
+
+/// The register code of a program whose goals have code.
+pub fn to_mid(program: CoreProgram, alloc: Global) -> Result<Code, AllocError>
+    requires { IsCoded program }
+    ensures { IfOk result (λ code. Codes program code) }
+{
+    let CoreProgram {
+        preds,
+        closures: _closures,
+        places: _places,
+        objects: _objects,
+        words: _words,
+        sites: _sites,
+        entry,
+    } = program;
+    let mut writer = Writer::start(alloc, entry)?;
+    let preds = writer.preds(preds)?;
+    Ok(Code {
+        blocks: writer.blocks(),
+        preds,
+    })
+}
