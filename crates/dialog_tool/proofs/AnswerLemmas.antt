@@ -1,5 +1,5 @@
 -- From what the parts of a call did to its answer.
-use Rattle.std.proofs.Common.{◌≡◌, ◌<◌, ◌⊎◌, inl, inr, ℕ, zero, suc, List, [], ◌∷◌, length, true, Option, Some, None, Ok, Err, IsTrue, refl, sym, ap, subst, arith}
+use Rattle.std.proofs.Common.{◌≡◌, ◌<◌, ◌⊎◌, inl, inr, ℕ, zero, suc, List, [], ◌∷◌, length, Bool, true, Option, Some, None, Ok, Err, IsTrue, refl, sym, ap, subst, arith}
 use Rattle.std.specs.Prelude.{IsSome, nat_lt}
 use Rattle.std.proofs.lemmas.Bool.Decides.{nat_tests}
 use Rattle.dg_base.specs.Causes.{Rose}
@@ -9,13 +9,15 @@ use Rattle.dg_base.specs.declared.refusal.Refusal.{Refusal}
 use Rattle.dg_base.specs.declared.refusal.Kind.TheVariants.{SourceTooLong}
 use Rattle.dg_base.specs.declared.run.Outcome.{Outcome}
 use Rattle.dg_meaning.specs.Transcript.{no_memory_line}
+use Rattle.dg_single.specs.Singles.{AreSingles}
 use Rattle.dg_interp.specs.Interpret.{ForTyped, HasShown, HasLostInput, HasLostOutput, HasLostMemory}
 use Rattle.z_model.specs.Story.{refusal_of}
 use Rattle.z_model.specs.declared.story.StoryRefusal.{StoryRefusal}
 use Rattle.z_model.specs.declared.story.StoryRefusal.TheVariants.{BadLength}
-use Rattle.dialog_tool.specs.Command.{debug, play, Task, limits_of}
+use Rattle.dialog_tool.specs.Command.{Command, debug, play, singles, Task, limits_of, file_named, source_named}
 use Rattle.dialog_tool.specs.Call.{Call, Outside, Finds, IsAsTold, IsFetched}
 use Rattle.dialog_tool.specs.Lines.{Says, said, unsaid, usage_line, refusal_line, story_line, file_fault_line}
+use Rattle.dialog_tool.specs.Report.{report}
 use Rattle.dialog_tool.specs.Source.{Compiles, refusal_at}
 use Rattle.dialog_tool.specs.Answers
 use Rattle.dialog_tool.proofs.Never.{never}
@@ -60,9 +62,9 @@ pub says_usage : (c : Call) (o : Outside) (result : ℕ) → Found c o → c.com
 says_usage c o result f none shelf input (said e w) = ended c o result f (Answers.misused e (record { none = none; wrote = w; shelf_stays = shelf; input_stays = input }))
 says_usage c o result f none shelf input (unsaid e b) = failed c o result f e (Answers.out usage_line (Answers.usage none refl) b)
 
-pub says_refusal : (c : Call) (o : Outside) (result : ℕ) → Found c o → (t : Task) (r : Refusal) → Answers.IsRefused c o t r → c.input_after ≡ c.input → Says 1 (refusal_line t.name r) c.out c.out_after result → Answers.Answers c result
-says_refusal c o result f t r is same (said e w) = ended c o result f (Answers.refused e (record { task = t; refusal = r; is = is; wrote = w; input_stays = same }))
-says_refusal c o result f t r is same (unsaid e b) = failed c o result f e (Answers.out (refusal_line t.name r) (Answers.refusal t r is refl) b)
+pub says_refusal : (c : Call) (o : Outside) (result : ℕ) → Found c o → (name : List ℕ) (r : Refusal) → Answers.IsRefused c o name r → c.input_after ≡ c.input → Says 1 (refusal_line name r) c.out c.out_after result → Answers.Answers c result
+says_refusal c o result f name r is same (said e w) = ended c o result f (Answers.refused e (record { name = name; refusal = r; is = is; wrote = w; input_stays = same }))
+says_refusal c o result f name r is same (unsaid e b) = failed c o result f e (Answers.out (refusal_line name r) (Answers.refusal name r is refl) b)
 
 pub says_no_story : (c : Call) (o : Outside) (result : ℕ) → Found c o → (t : Task) (r : StoryRefusal) → Answers.IsNoStory c o t r → c.input_after ≡ c.input → Says 4 (story_line t.name r) c.out c.out_after result → Answers.Answers c result
 says_no_story c o result f t r is same (said e w) = ended c o result f (Answers.refused_story e (record { task = t; refusal = r; is = is; wrote = w; input_stays = same }))
@@ -76,35 +78,35 @@ pub says_no_memory : (c : Call) (o : Outside) (result : ℕ) → Found c o → c
 says_no_memory c o result f same (said e w) = lacked c o result f e (Answers.nothing_ran w same)
 says_no_memory c o result f same (unsaid e b) = failed c o result f e (Answers.out no_memory_line (Answers.no_memory refl) b)
 
--- ## The file of a task
+-- ## The file of a name
 
--- what is found where a task's file is told
-pub record HasFile (c : Call) (t : Task) (file : List ℕ) : Type 0 where
+-- what is found where a file is told
+pub record HasFile (c : Call) (name file : List ℕ) : Type 0 where
   pub contents : List ℕ → Option (List ℕ)
   pub told : IsAsTold c.shelf.contents contents
   pub kept : KeepsAll c.shelf.contents c.shelf_after.contents
-  pub is : file ≡ held (contents t.name)
+  pub is : file ≡ held (contents name)
 
 abbrev pub outside : (List ℕ → Option (List ℕ)) → List ℕ → Outside
 outside contents typed = record { contents = contents; typed = typed }
 
 -- the outside of a call that finds a file, for bytes as they are told
-abbrev pub outside_of : (c : Call) (t : Task) (file : List ℕ) → HasFile c t file → Outside
-outside_of c t file h = outside h.contents (any_typed c.input.left).0
+abbrev pub outside_of : (c : Call) (name file : List ℕ) → HasFile c name file → Outside
+outside_of c name file h = outside h.contents (any_typed c.input.left).0
 
-pub found_file : (c : Call) (t : Task) (file : List ℕ) (h : HasFile c t file) → Found c (outside_of c t file h)
-found_file c t file h = record { found = record { contents = h.told; typed = (any_typed c.input.left).1 }; kept = h.kept }
+pub found_file : (c : Call) (name file : List ℕ) (h : HasFile c name file) → Found c (outside_of c name file h)
+found_file c name file h = record { found = record { contents = h.told; typed = (any_typed c.input.left).1 }; kept = h.kept }
 
-pub refused_in : (c : Call) (t : Task) (file : List ℕ) (r : Refusal) → c.command ≡ Some (debug t) → (h : HasFile c t file) → Compiles file (Err r) → Answers.IsRefused c (outside_of c t file h) t r
-refused_in c t file r words h is = record { words = words; compiles = subst (λ (l : List ℕ). Compiles l (Err r)) h.is is }
+pub refused_in : (c : Call) (name file : List ℕ) (r : Refusal) → source_named c.command ≡ Some name → (h : HasFile c name file) → Compiles file (Err r) → Answers.IsRefused c (outside_of c name file h) name r
+refused_in c name file r words h is = record { words = words; compiles = subst (λ (l : List ℕ). Compiles l (Err r)) h.is is }
 
-pub no_story_in : (c : Call) (t : Task) (file : List ℕ) (r : StoryRefusal) → c.command ≡ Some (play t) → (h : HasFile c t file) → refusal_of file ≡ Some r → Answers.IsNoStory c (outside_of c t file h) t r
+pub no_story_in : (c : Call) (t : Task) (file : List ℕ) (r : StoryRefusal) → c.command ≡ Some (play t) → (h : HasFile c t.name file) → refusal_of file ≡ Some r → Answers.IsNoStory c (outside_of c t.name file h) t r
 no_story_in c t file r words h is = record { words = words; refused = subst (λ (l : List ℕ). refusal_of l ≡ Some r) h.is is }
 
 -- a shelf that gave a file, or one that is longer than so much
-pub file_here : (c : Call) (t : Task) (file : List ℕ) → IsFetched c.shelf c.shelf_after t file → HasFile c t file
-file_here c t file h =
-    let some = some_contents c.shelf.contents (λ told. file ≡ held (told t.name)) (λ name. Some file) refl h.told in
+pub file_here : (c : Call) (name file : List ℕ) → IsFetched c.shelf c.shelf_after name file → HasFile c name file
+file_here c name file h =
+    let some = some_contents c.shelf.contents (λ told. file ≡ held (told name)) (λ any. Some file) refl h.told in
     record { contents = some.0; told = some.1; kept = h.kept; is = some.2 }
 
 zeros : ℕ → List ℕ
@@ -116,11 +118,11 @@ unfolding zeros
 zeros_many zero = refl
 zeros_many (suc n) = ap suc (zeros_many n)
 
-pub long_here : (c : Call) (t : Task) (most : ℕ) → KeepsAll c.shelf.contents c.shelf_after.contents → WhereTold c.shelf.contents (λ told. most < length (held (told t.name))) → (file : List ℕ) × (most < length file) × HasFile c t file
-long_here c t most kept h =
+pub long_here : (c : Call) (name : List ℕ) (most : ℕ) → KeepsAll c.shelf.contents c.shelf_after.contents → WhereTold c.shelf.contents (λ told. most < length (held (told name))) → (file : List ℕ) × (most < length file) × HasFile c name file
+long_here c name most kept h =
     let long : most < length (zeros (suc most)) = omega (arith, zeros_many (suc most)) in
-    let some = some_contents c.shelf.contents (λ told. most < length (held (told t.name))) (λ name. Some (zeros (suc most))) long h in
-    (held (some.0 t.name), some.2, record { contents = some.0; told = some.1; kept = kept; is = refl })
+    let some = some_contents c.shelf.contents (λ told. most < length (held (told name))) (λ any. Some (zeros (suc most))) long h in
+    (held (some.0 name), some.2, record { contents = some.0; told = some.1; kept = kept; is = refl })
 
 -- a shelf that gave nothing
 pub nothing_here : (c : Call) → KeepsAll c.shelf.contents c.shelf_after.contents → (o : Outside) × Found c o
@@ -134,40 +136,58 @@ nothing_here c kept =
 
 -- ## A source's run
 
-program : (c : Call) (t : Task) (file : List ℕ) (p : Core) (typed : List ℕ) → c.command ≡ Some (debug t) → (h : HasFile c t file) → Compiles file (Ok p) → Answers.IsProgram c (outside h.contents typed) t p
+program : (c : Call) (t : Task) (file : List ℕ) (p : Core) (typed : List ℕ) → c.command ≡ Some (debug t) → (h : HasFile c t.name file) → Compiles file (Ok p) → Answers.IsProgram c (outside h.contents typed) t p
 program c t file p typed words h is = record { words = words; compiles = subst (λ (l : List ℕ). Compiles l (Ok p)) h.is is }
 
-pub run_ends : (c : Call) (t : Task) (file : List ℕ) (result : ℕ) → c.command ≡ Some (debug t) → IsFetched c.shelf c.shelf_after t file → (p : Core) (outcome : Outcome) → Compiles file (Ok p) → result ≡ Answers.status_of outcome.ending
+pub run_ends : (c : Call) (t : Task) (file : List ℕ) (result : ℕ) → c.command ≡ Some (debug t) → IsFetched c.shelf c.shelf_after t.name file → (p : Core) (outcome : Outcome) → Compiles file (Ok p) → result ≡ Answers.status_of outcome.ending
     → ForTyped c.input.left (λ typed. HasShown (Answers.game_of c t p) typed (limits_of t) outcome c.input_after.left c.out c.out_after) → Answers.Answers c result
 run_ends c t file result words f p outcome is e shown =
-    let h = file_here c t file f in
+    let h = file_here c t.name file f in
     let s = some_typed c.input.left _ shown in
     ended c (outside h.contents s.0) result (record { found = record { contents = h.told; typed = s.1 }; kept = h.kept })
     (Answers.ran (record { task = t; program = p; is = program c t file p s.0 words h is; outcome = outcome; shown = s.2; is_status = e }))
 
-pub run_unread : (c : Call) (t : Task) (file : List ℕ) (result : ℕ) → c.command ≡ Some (debug t) → IsFetched c.shelf c.shelf_after t file → (p : Core) → Compiles file (Ok p) → result ≡ 5 → Rose c.input.faults c.input_after.faults
+pub run_unread : (c : Call) (t : Task) (file : List ℕ) (result : ℕ) → c.command ≡ Some (debug t) → IsFetched c.shelf c.shelf_after t.name file → (p : Core) → Compiles file (Ok p) → result ≡ 5 → Rose c.input.faults c.input_after.faults
     → ForTyped c.input.left (λ typed. HasLostInput (Answers.game_of c t p) typed (limits_of t) c.input_after.left c.out c.out_after) → Answers.Answers c result
 run_unread c t file result words f p is e rose lost =
-    let h = file_here c t file f in
+    let h = file_here c t.name file f in
     let s = some_typed c.input.left _ lost in
     failed c (outside h.contents s.0) result (record { found = record { contents = h.told; typed = s.1 }; kept = h.kept }) e
     (Answers.input (record { rose = rose; task = t; program = p; is = program c t file p s.0 words h is; lost = s.2 }))
 
-pub run_unwritten : (c : Call) (t : Task) (file : List ℕ) (result : ℕ) → c.command ≡ Some (debug t) → IsFetched c.shelf c.shelf_after t file → (p : Core) → Compiles file (Ok p) → result ≡ 5
+pub run_unwritten : (c : Call) (t : Task) (file : List ℕ) (result : ℕ) → c.command ≡ Some (debug t) → IsFetched c.shelf c.shelf_after t.name file → (p : Core) → Compiles file (Ok p) → result ≡ 5
     → ForTyped c.input.left (λ typed. HasLostOutput (Answers.game_of c t p) typed (limits_of t) c.out c.out_after) → Answers.Answers c result
 run_unwritten c t file result words f p is e lost =
-    let h = file_here c t file f in
+    let h = file_here c t.name file f in
     let s = some_typed c.input.left _ lost in
     failed c (outside h.contents s.0) result (record { found = record { contents = h.told; typed = s.1 }; kept = h.kept }) e
     (Answers.out s.2.bytes (Answers.shown t p (program c t file p s.0 words h is) s.2.may_write) s.2.broke)
 
-pub run_short : (c : Call) (t : Task) (file : List ℕ) (result : ℕ) → c.command ≡ Some (debug t) → IsFetched c.shelf c.shelf_after t file → (p : Core) → Compiles file (Ok p) → result ≡ 6
+pub run_short : (c : Call) (t : Task) (file : List ℕ) (result : ℕ) → c.command ≡ Some (debug t) → IsFetched c.shelf c.shelf_after t.name file → (p : Core) → Compiles file (Ok p) → result ≡ 6
     → ForTyped c.input.left (λ typed. HasLostMemory (Answers.game_of c t p) typed (limits_of t) c.out c.out_after) → Answers.Answers c result
 run_short c t file result words f p is e lost =
-    let h = file_here c t file f in
+    let h = file_here c t.name file f in
     let s = some_typed c.input.left _ lost in
     lacked c (outside h.contents s.0) result (record { found = record { contents = h.told; typed = s.1 }; kept = h.kept }) e
     (Answers.in_run t p (program c t file p s.0 words h is) s.2)
+
+-- ## The report on a source
+
+pub says_report : (c : Call) (name file : List ℕ) (result : ℕ) → c.command ≡ Some (singles name) → IsFetched c.shelf c.shelf_after name file → (p : Core) → Compiles file (Ok p) → (set : List Bool) → AreSingles p.preds set
+    → c.input_after ≡ c.input → Says 0 (report p set) c.out c.out_after result → Answers.Answers c result
+says_report c name file result words f p is set single same says = by_says says
+  where
+    h : HasFile c name file
+    h = file_here c name file f
+
+    reported : Answers.IsReported c (outside_of c name file h) name p
+    reported = record { words = words; compiles = subst (λ (l : List ℕ). Compiles l (Ok p)) h.is is }
+
+    by_says : Says 0 (report p set) c.out c.out_after result → Answers.Answers c result
+    by_says (said e w) = ended c (outside_of c name file h) result (found_file c name file h)
+        (Answers.listed e (record { name = name; program = p; is = reported; set = set; single = single; wrote = w; input_stays = same }))
+    by_says (unsaid e b) = failed c (outside_of c name file h) result (found_file c name file h) e
+        (Answers.out (report p set) (Answers.listing name p reported set single refl) b)
 
 -- ## Where nothing runs
 
@@ -189,33 +209,40 @@ no_room c result kept same says = let n = nothing_here c kept in says_no_memory 
 pub no_room_first : (c : Call) (result : ℕ) → c.shelf_after ≡ c.shelf → c.input_after ≡ c.input → Says 6 no_memory_line c.out c.out_after result → Answers.Answers c result
 no_room_first c result shelf same says = no_room c result (subst (λ (s : ShelfView). KeepsAll c.shelf.contents s.contents) (sym shelf) (keeps_same c.shelf.contents)) same says
 
+-- the source that a command names is its file
+pub source_is_file : (command : Option Command) (name : List ℕ) → source_named command ≡ Some name → file_named command ≡ Some name
+source_is_file None name h = h
+source_is_file (Some (debug t)) name h = h
+source_is_file (Some (play t)) name h = cc
+source_is_file (Some (singles n)) name h = h
+
 -- the shelf failed
-pub file_lost : (c : Call) (t : Task) (result : ℕ) → (c.command ≡ Some (debug t)) ⊎ (c.command ≡ Some (play t)) → KeepsAll c.shelf.contents c.shelf_after.contents → Rose c.shelf.faults c.shelf_after.faults
-    → (IsTrue c.shelf.sure → WhereTold c.shelf.contents (λ contents. IsSome (contents t.name) → ⊥)) → c.input_after ≡ c.input → Says 5 (file_fault_line t.name) c.out c.out_after result → Answers.Answers c result
-file_lost c t result words kept rose missing same says =
+pub file_lost : (c : Call) (name : List ℕ) (result : ℕ) → file_named c.command ≡ Some name → KeepsAll c.shelf.contents c.shelf_after.contents → Rose c.shelf.faults c.shelf_after.faults
+    → (IsTrue c.shelf.sure → WhereTold c.shelf.contents (λ contents. IsSome (contents name) → ⊥)) → c.input_after ≡ c.input → Says 5 (file_fault_line name) c.out c.out_after result → Answers.Answers c result
+file_lost c name result words kept rose missing same says =
     let n = nothing_here c kept in
-    says_fault c n.0 result n.1 t.name (record { words = (t, words, refl); rose = rose; missing = missing }) same says
+    says_fault c n.0 result n.1 name (record { words = words; rose = rose; missing = missing }) same says
 
 -- the source is refused
-pub source_refused : (c : Call) (t : Task) (file : List ℕ) (result : ℕ) (r : Refusal) → c.command ≡ Some (debug t) → IsFetched c.shelf c.shelf_after t file → Compiles file (Err r) → c.input_after ≡ c.input
-    → Says 1 (refusal_line t.name r) c.out c.out_after result → Answers.Answers c result
-source_refused c t file result r words f is same says =
-    let h = file_here c t file f in
-    says_refusal c (outside_of c t file h) result (found_file c t file h) t r (refused_in c t file r words h is) same says
+pub source_refused : (c : Call) (name file : List ℕ) (result : ℕ) (r : Refusal) → source_named c.command ≡ Some name → IsFetched c.shelf c.shelf_after name file → Compiles file (Err r) → c.input_after ≡ c.input
+    → Says 1 (refusal_line name r) c.out c.out_after result → Answers.Answers c result
+source_refused c name file result r words f is same says =
+    let h = file_here c name file f in
+    says_refusal c (outside_of c name file h) result (found_file c name file h) name r (refused_in c name file r words h is) same says
 
 -- the source is too long
-pub source_long : (c : Call) (t : Task) (result : ℕ) (r : Refusal) → c.command ≡ Some (debug t) → KeepsAll c.shelf.contents c.shelf_after.contents → WhereTold c.shelf.contents (λ told. 1048576 < length (held (told t.name)))
-    → r ≡ refusal_at SourceTooLong 1 → c.input_after ≡ c.input → Says 1 (refusal_line t.name r) c.out c.out_after result → Answers.Answers c result
-source_long c t result r words kept more e same says =
-    let long = long_here c t 1048576 kept more in
-    says_refusal c (outside_of c t long.0 long.2) result (found_file c t long.0 long.2) t r (refused_in c t long.0 r words long.2 (rw e (too_long long.0 long.1))) same says
+pub source_long : (c : Call) (name : List ℕ) (result : ℕ) (r : Refusal) → source_named c.command ≡ Some name → KeepsAll c.shelf.contents c.shelf_after.contents → WhereTold c.shelf.contents (λ told. 1048576 < length (held (told name)))
+    → r ≡ refusal_at SourceTooLong 1 → c.input_after ≡ c.input → Says 1 (refusal_line name r) c.out c.out_after result → Answers.Answers c result
+source_long c name result r words kept more e same says =
+    let long = long_here c name 1048576 kept more in
+    says_refusal c (outside_of c name long.0 long.2) result (found_file c name long.0 long.2) name r (refused_in c name long.0 r words long.2 (rw e (too_long long.0 long.1))) same says
 
 -- the file is no story
-pub story_refused : (c : Call) (t : Task) (file : List ℕ) (result : ℕ) (r : StoryRefusal) → c.command ≡ Some (play t) → IsFetched c.shelf c.shelf_after t file → refusal_of file ≡ Some r → c.input_after ≡ c.input
+pub story_refused : (c : Call) (t : Task) (file : List ℕ) (result : ℕ) (r : StoryRefusal) → c.command ≡ Some (play t) → IsFetched c.shelf c.shelf_after t.name file → refusal_of file ≡ Some r → c.input_after ≡ c.input
     → Says 4 (story_line t.name r) c.out c.out_after result → Answers.Answers c result
 story_refused c t file result r words f is same says =
-    let h = file_here c t file f in
-    says_no_story c (outside_of c t file h) result (found_file c t file h) t r (no_story_in c t file r words h is) same says
+    let h = file_here c t.name file f in
+    says_no_story c (outside_of c t.name file h) result (found_file c t.name file h) t r (no_story_in c t file r words h is) same says
 
 long_story : (file : List ℕ) → 524288 < length file → refusal_of file ≡ Some BadLength
 unfolding refusal_of
@@ -225,5 +252,5 @@ long_story file more = let test : nat_lt 524288 (length file) ≡ true = grind (
 pub story_long : (c : Call) (t : Task) (result : ℕ) → c.command ≡ Some (play t) → KeepsAll c.shelf.contents c.shelf_after.contents → WhereTold c.shelf.contents (λ told. 524288 < length (held (told t.name)))
     → c.input_after ≡ c.input → Says 4 (story_line t.name BadLength) c.out c.out_after result → Answers.Answers c result
 story_long c t result words kept more same says =
-    let long = long_here c t 524288 kept more in
-    says_no_story c (outside_of c t long.0 long.2) result (found_file c t long.0 long.2) t BadLength (no_story_in c t long.0 BadLength words long.2 (long_story long.0 long.1)) same says
+    let long = long_here c t.name 524288 kept more in
+    says_no_story c (outside_of c t.name long.0 long.2) result (found_file c t.name long.0 long.2) t BadLength (no_story_in c t long.0 BadLength words long.2 (long_story long.0 long.1)) same says

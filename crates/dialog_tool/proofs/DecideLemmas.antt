@@ -7,11 +7,11 @@ use Rattle.dg_base.specs.declared.run.Ending.{Ending}
 use Rattle.dg_base.specs.declared.run.Ending.TheVariants.{Done, Quit, Failed, Stopped, InputEnded, StepLimit, HeapLimit, TrailLimit, AuxLimit, KeepLimit}
 use Rattle.z_model.specs.Story.{refusal_of}
 use Rattle.z_model.specs.declared.story.StoryRefusal.{StoryRefusal}
-use Rattle.dialog_tool.specs.Command.{debug, play, Task}
-use Rattle.dialog_tool.specs.Call.{Call, Outside, IsAsTold, file_of}
+use Rattle.dialog_tool.specs.Command.{debug, play, singles, Command, Task, source_named}
+use Rattle.dialog_tool.specs.Call.{Call, Outside, IsAsTold, file_at, file_of}
 use Rattle.dialog_tool.specs.Playing.{status_of_end, run_of}
 use Rattle.dialog_tool.specs.Source.{Compiles}
-use Rattle.dialog_tool.specs.Answers.{Answers, Comes, Decides, Ends, Fails, Lacks, status_of, misused, refused, ran, refused_story, played, IsProgram, IsRefused, IsStory, IsNoStory}
+use Rattle.dialog_tool.specs.Answers.{Answers, Comes, Decides, Ends, Fails, Lacks, status_of, misused, refused, ran, listed, refused_story, played, IsProgram, IsReported, IsRefused, IsStory, IsNoStory}
 
 -- ## What is told is one
 
@@ -25,23 +25,39 @@ as_told (Some x) a b e h = let same : x ≡ a = cc in sym same ∙ h
 is_some : {A : Type 0} (told : Option A) (a : A) → told ≡ Some a → IsSome told
 is_some told a e = subst IsSome (sym e) refl
 
-same_task : (c : Call) (t u : Task) → c.command ≡ Some (debug t) → c.command ≡ Some (debug u) → t ≡ u
-same_task c t u h k = let same = sym h ∙ k in cc
-
 same_story : (c : Call) (t u : Task) → c.command ≡ Some (play t) → c.command ≡ Some (play u) → t ≡ u
 same_story c t u h k = let same = sym h ∙ k in cc
 
-no_words : {A : Type 0} (c : Call) (t : Task) → c.command ≡ None → c.command ≡ Some (debug t) → A
-no_words c t h k = let no = sym h ∙ k in cc
-
-no_story_words : {A : Type 0} (c : Call) (t : Task) → c.command ≡ None → c.command ≡ Some (play t) → A
-no_story_words c t h k = let no = sym h ∙ k in cc
+no_words : {A : Type 0} (c : Call) (x : Command) → c.command ≡ None → c.command ≡ Some x → A
+no_words c x h k = let no = sym h ∙ k in cc
 
 other_words : {A : Type 0} (c : Call) (t u : Task) → c.command ≡ Some (debug t) → c.command ≡ Some (play u) → A
 other_words c t u h k = let no = sym h ∙ k in cc
 
-same_file : (o p : Outside) (t u : Task) → o.contents ≡ p.contents → t ≡ u → file_of o t ≡ file_of p u
-same_file o p t u h k = ap (λ (contents : List ℕ → Option (List ℕ)). file_of (outside contents o.typed) t) h ∙ ap (file_of p) k
+no_report : {A : Type 0} (c : Call) (t : Task) (name : List ℕ) → c.command ≡ Some (debug t) → c.command ≡ Some (singles name) → A
+no_report c t name h k = let no = sym h ∙ k in cc
+
+no_story_report : {A : Type 0} (c : Call) (t : Task) (name : List ℕ) → c.command ≡ Some (play t) → c.command ≡ Some (singles name) → A
+no_story_report c t name h k = let no = sym h ∙ k in cc
+
+-- what names one source names no other, and what names none names none
+same_name : (c : Call) (x y : List ℕ) → source_named c.command ≡ Some x → source_named c.command ≡ Some y → x ≡ y
+same_name c x y h k = let same = sym h ∙ k in cc
+
+source_of_run : (c : Call) (t : Task) → c.command ≡ Some (debug t) → source_named c.command ≡ Some t.name
+source_of_run c t h = ap source_named h
+
+source_of_report : (c : Call) (name : List ℕ) → c.command ≡ Some (singles name) → source_named c.command ≡ Some name
+source_of_report c name h = ap source_named h
+
+no_source : {A : Type 0} (c : Call) (name : List ℕ) → c.command ≡ None → source_named c.command ≡ Some name → A
+no_source c name h k = let no = sym (ap source_named h) ∙ k in cc
+
+no_source_played : {A : Type 0} (c : Call) (t : Task) (name : List ℕ) → c.command ≡ Some (play t) → source_named c.command ≡ Some name → A
+no_source_played c t name h k = let no = sym (ap source_named h) ∙ k in cc
+
+same_file : (o p : Outside) (x y : List ℕ) → o.contents ≡ p.contents → x ≡ y → file_at o x ≡ file_at p y
+same_file o p x y h k = ap (λ (contents : List ℕ → Option (List ℕ)). file_at (outside contents o.typed) x) h ∙ ap (file_at p) k
 
 -- ## Statuses
 
@@ -79,46 +95,65 @@ apart one a b p r same h k = let no = one b (Ok p) (Err r) (subst (λ (l : List 
 
 none_ends : (c : Call) (o : Outside) (result : ℕ) → c.command ≡ None → Ends c o result → result ≡ 2
 none_ends c o result none (misused e m) = e
-none_ends c o result none (refused e h) = no_words c h.task none h.is.words
-none_ends c o result none (ran h) = no_words c h.task none h.is.words
-none_ends c o result none (refused_story e h) = no_story_words c h.task none h.is.words
-none_ends c o result none (played h) = no_story_words c h.task none h.is.words
+none_ends c o result none (refused e h) = no_source c h.name none h.is.words
+none_ends c o result none (ran h) = no_words c (debug h.task) none h.is.words
+none_ends c o result none (listed e h) = no_words c (singles h.name) none h.is.words
+none_ends c o result none (refused_story e h) = no_words c (play h.task) none h.is.words
+none_ends c o result none (played h) = no_words c (play h.task) none h.is.words
 
-refused_ends : (c : Call) (o p : Outside) (result : ℕ) (t : Task) (r : Refusal) → ((source : List ℕ) (x y : Result Core Refusal) → Compiles source x → Compiles source y → x ≡ y)
-    → p.contents ≡ o.contents → IsRefused c o t r → Ends c p result → result ≡ 1
-refused_ends c o p result t r one same is (misused e m) = no_words c t m.none is.words
-refused_ends c o p result t r one same is (refused e h) = e
-refused_ends c o p result t r one same is (ran h) = apart one (file_of p h.task) (file_of o t) h.program r (same_file p o h.task t same (same_task c h.task t h.is.words is.words)) h.is.compiles is.compiles
-refused_ends c o p result t r one same is (refused_story e h) = other_words c t h.task is.words h.is.words
-refused_ends c o p result t r one same is (played h) = other_words c t h.task is.words h.is.words
+refused_ends : (c : Call) (o p : Outside) (result : ℕ) (name : List ℕ) (r : Refusal) → ((source : List ℕ) (x y : Result Core Refusal) → Compiles source x → Compiles source y → x ≡ y)
+    → p.contents ≡ o.contents → IsRefused c o name r → Ends c p result → result ≡ 1
+refused_ends c o p result name r one same is (misused e m) = no_source c name m.none is.words
+refused_ends c o p result name r one same is (refused e h) = e
+refused_ends c o p result name r one same is (ran h) =
+    apart one (file_of p h.task) (file_at o name) h.program r (same_file p o h.task.name name same (same_name c h.task.name name (source_of_run c h.task h.is.words) is.words)) h.is.compiles is.compiles
+refused_ends c o p result name r one same is (listed e h) =
+    apart one (file_at p h.name) (file_at o name) h.program r (same_file p o h.name name same (same_name c h.name name (source_of_report c h.name h.is.words) is.words)) h.is.compiles is.compiles
+refused_ends c o p result name r one same is (refused_story e h) = no_source_played c h.task name h.is.words is.words
+refused_ends c o p result name r one same is (played h) = no_source_played c h.task name h.is.words is.words
 
 program_ends : (c : Call) (o p : Outside) (result : ℕ) (t : Task) (q : Core) → ((source : List ℕ) (x y : Result Core Refusal) → Compiles source x → Compiles source y → x ≡ y)
     → p.contents ≡ o.contents → IsProgram c o t q → Ends c p result → (result ≡ 0) ⊎ (result ≡ 3)
-program_ends c o p result t q one same is (misused e m) = no_words c t m.none is.words
-program_ends c o p result t q one same is (refused e h) = apart one (file_of o t) (file_of p h.task) q h.refusal (sym (same_file p o h.task t same (same_task c h.task t h.is.words is.words))) is.compiles h.is.compiles
+program_ends c o p result t q one same is (misused e m) = no_words c (debug t) m.none is.words
+program_ends c o p result t q one same is (refused e h) =
+    apart one (file_of o t) (file_at p h.name) q h.refusal (sym (same_file p o h.name t.name same (same_name c h.name t.name h.is.words (source_of_run c t is.words)))) is.compiles h.is.compiles
 program_ends c o p result t q one same is (ran h) = which (status_ends h.outcome.ending)
   where
     which : (status_of h.outcome.ending ≡ 0) ⊎ (status_of h.outcome.ending ≡ 3) → (result ≡ 0) ⊎ (result ≡ 3)
     which (inl zero) = inl (h.is_status ∙ zero)
     which (inr three) = inr (h.is_status ∙ three)
+program_ends c o p result t q one same is (listed e h) = inl e
 program_ends c o p result t q one same is (refused_story e h) = other_words c t h.task is.words h.is.words
 program_ends c o p result t q one same is (played h) = other_words c t h.task is.words h.is.words
+
+reported_ends : (c : Call) (o p : Outside) (result : ℕ) (name : List ℕ) (q : Core) → ((source : List ℕ) (x y : Result Core Refusal) → Compiles source x → Compiles source y → x ≡ y)
+    → p.contents ≡ o.contents → IsReported c o name q → Ends c p result → result ≡ 0
+reported_ends c o p result name q one same is (misused e m) = no_words c (singles name) m.none is.words
+reported_ends c o p result name q one same is (refused e h) =
+    apart one (file_at o name) (file_at p h.name) q h.refusal (sym (same_file p o h.name name same (same_name c h.name name h.is.words (source_of_report c name is.words)))) is.compiles h.is.compiles
+reported_ends c o p result name q one same is (ran h) = no_report c h.task name h.is.words is.words
+reported_ends c o p result name q one same is (listed e h) = e
+reported_ends c o p result name q one same is (refused_story e h) = no_story_report c h.task name h.is.words is.words
+reported_ends c o p result name q one same is (played h) = no_story_report c h.task name h.is.words is.words
 
 -- no file is a story and none
 story_apart : {A : Type 0} (a b : List ℕ) (r : StoryRefusal) → a ≡ b → refusal_of a ≡ None → refusal_of b ≡ Some r → A
 story_apart a b r same h k = let no = sym h ∙ ap refusal_of same ∙ k in cc
 
 no_story_ends : (c : Call) (o p : Outside) (result : ℕ) (t : Task) (r : StoryRefusal) → p.contents ≡ o.contents → IsNoStory c o t r → Ends c p result → result ≡ 4
-no_story_ends c o p result t r same is (misused e m) = no_story_words c t m.none is.words
-no_story_ends c o p result t r same is (refused e h) = other_words c h.task t h.is.words is.words
+no_story_ends c o p result t r same is (misused e m) = no_words c (play t) m.none is.words
+no_story_ends c o p result t r same is (refused e h) = no_source_played c t h.name is.words h.is.words
 no_story_ends c o p result t r same is (ran h) = other_words c h.task t h.is.words is.words
+no_story_ends c o p result t r same is (listed e h) = no_story_report c t h.name is.words h.is.words
 no_story_ends c o p result t r same is (refused_story e h) = e
-no_story_ends c o p result t r same is (played h) = story_apart (file_of p h.task) (file_of o t) r (same_file p o h.task t same (same_story c h.task t h.is.words is.words)) h.is.accepted is.refused
+no_story_ends c o p result t r same is (played h) =
+    story_apart (file_of p h.task) (file_of o t) r (same_file p o h.task.name t.name same (ap (λ (u : Task). u.name) (same_story c h.task t h.is.words is.words))) h.is.accepted is.refused
 
 played_ends : (c : Call) (o p : Outside) (result : ℕ) (t : Task) → c.input.left ≡ Some o.typed → p ≡ o → IsStory c o t → Ends c p result → result ≡ status_of_end (run_of c o t t.steps).end
-played_ends c o p result t told same is (misused e m) = no_story_words c t m.none is.words
-played_ends c o p result t told same is (refused e h) = other_words c h.task t h.is.words is.words
+played_ends c o p result t told same is (misused e m) = no_words c (play t) m.none is.words
+played_ends c o p result t told same is (refused e h) = no_source_played c t h.name is.words h.is.words
 played_ends c o p result t told same is (ran h) = other_words c h.task t h.is.words is.words
+played_ends c o p result t told same is (listed e h) = no_story_report c t h.name is.words h.is.words
 played_ends c o p result t told same is (refused_story e h) = story_apart (file_of o t) (file_of p h.task) h.refusal (ap (λ (q : Outside). file_of q t) (sym same) ∙ ap (file_of p) (same_story c t h.task is.words h.is.words)) is.accepted h.is.refused
 played_ends c o p result t told same is (played h) =
     h.is_status ∙ ap status_of_end ((h.played (is_some c.input.left o.typed told)).ends)
@@ -130,8 +165,9 @@ decided c result one a =
     let contents : (o : Outside) → c.shelf.contents ≡ Some o.contents → a.outside.contents ≡ o.contents = λ o told. sym (as_told c.shelf.contents o.contents a.outside.contents told a.found.contents) in
     record {
       no_command = λ none. comes c a.outside result 2 (none_ends c a.outside result none) a.answer;
-      refuses = λ o told t r is. comes c a.outside result 1 (refused_ends c o a.outside result t r one (contents o told) is) a.answer;
+      refuses = λ o told name r is. comes c a.outside result 1 (refused_ends c o a.outside result name r one (contents o told) is) a.answer;
       runs = λ o told t p is. runs_so c a.outside result (program_ends c o a.outside result t p one (contents o told) is) a.answer;
+      lists = λ o told name p is. comes c a.outside result 0 (reported_ends c o a.outside result name p one (contents o told) is) a.answer;
       no_story = λ o told t r is. comes c a.outside result 4 (no_story_ends c o a.outside result t r (contents o told) is) a.answer;
       plays = λ o told typed t is.
           let both : a.outside ≡ o = outside_is a.outside o (contents o told) (sym (as_told c.input.left o.typed a.outside.typed typed a.found.typed)) in

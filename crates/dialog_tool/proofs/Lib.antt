@@ -1,4 +1,5 @@
 pub mod Never
+pub mod ReportLemmas
 pub mod DigitLemmas
 pub mod DiceLemmas
 pub mod SeedLemmas

@@ -1,5 +1,5 @@
 -- The answers of the program, one by one: hold them against the table of statuses in man/dialog.1.
-use Rattle.std.specs.Prelude.{◌≡◌, ◌⊎◌, ℕ, List, Some, None, IsTrue, IsSome, Ok, Err}
+use Rattle.std.specs.Prelude.{◌≡◌, ◌⊎◌, ℕ, List, Some, None, Bool, IsTrue, IsSome, Ok, Err}
 use Rattle.dg_base.specs.Causes.{Rose}
 use Rattle.dg_base.specs.Shelves.{WhereTold, KeepsAll}
 use Rattle.dg_base.specs.Written.{Wrote, BrokeOff}
@@ -16,10 +16,12 @@ use Rattle.dg_interp.specs.Interpret.{game, HasShown, HasLostInput, HasLostMemor
 use Rattle.z_model.specs.Story.{refusal_of}
 use Rattle.z_model.specs.declared.end.ZEnd.{ZEnd}
 use Rattle.z_model.specs.declared.story.StoryRefusal.{StoryRefusal}
-use Rattle.dialog_tool.specs.Command.{debug, play, Task, limits_of}
-use Rattle.dialog_tool.specs.Call.{Call, Outside, Finds, file_of, dice_for}
+use Rattle.dg_single.specs.Singles.{AreSingles}
+use Rattle.dialog_tool.specs.Command.{debug, play, singles, Task, limits_of, file_named, source_named}
+use Rattle.dialog_tool.specs.Call.{Call, Outside, Finds, file_at, file_of, dice_for}
 use Rattle.dialog_tool.specs.Lines.{usage_line, refusal_line, story_line, file_fault_line}
 use Rattle.dialog_tool.specs.Playing.{run_of, status_of_end, TaskPlays, MayTell}
+use Rattle.dialog_tool.specs.Report.{report}
 use Rattle.dialog_tool.specs.Source.{Compiles}
 
 -- ---- statuses
@@ -48,10 +50,15 @@ pub record IsProgram (c : Call) (o : Outside) (t : Task) (p : Core) : Type 0 whe
   pub words : c.command ≡ Some (debug t)
   pub compiles : Compiles (file_of o t) (Ok p)
 
--- The words run a source, and it is refused.
-pub record IsRefused (c : Call) (o : Outside) (t : Task) (r : Refusal) : Type 0 where
-  pub words : c.command ≡ Some (debug t)
-  pub compiles : Compiles (file_of o t) (Err r)
+-- The words list the predicates of a source, and it is this program.
+pub record IsReported (c : Call) (o : Outside) (name : List ℕ) (p : Core) : Type 0 where
+  pub words : c.command ≡ Some (singles name)
+  pub compiles : Compiles (file_at o name) (Ok p)
+
+-- The words name a source, and it is refused.
+pub record IsRefused (c : Call) (o : Outside) (name : List ℕ) (r : Refusal) : Type 0 where
+  pub words : source_named c.command ≡ Some name
+  pub compiles : Compiles (file_at o name) (Err r)
 
 -- The words play a file, and it is a story.
 pub record IsStory (c : Call) (o : Outside) (t : Task) : Type 0 where
@@ -69,7 +76,7 @@ game_of c t p = game p (dice_for c t)
 
 -- The shelf failed at the file of the words; one that is sure fails only where it has no such file.
 pub record LostFile (c : Call) (name : List ℕ) : Type 0 where
-  pub words : (t : Task) × ((c.command ≡ Some (debug t)) ⊎ (c.command ≡ Some (play t))) × (name ≡ t.name)
+  pub words : file_named c.command ≡ Some name
   pub rose : Rose c.shelf.faults c.shelf_after.faults
   pub missing : IsTrue c.shelf.sure → WhereTold c.shelf.contents (λ contents. IsSome (contents name) → ⊥)
 
@@ -84,10 +91,10 @@ pub record Misused (c : Call) : Type 0 where
 
 -- 1: the source is refused, and out took the line that says so
 pub record RefusedSource (c : Call) (o : Outside) : Type 0 where
-  pub task : Task
+  pub name : List ℕ
   pub refusal : Refusal
-  pub is : IsRefused c o task refusal
-  pub wrote : Wrote c.out c.out_after (refusal_line task.name refusal)
+  pub is : IsRefused c o name refusal
+  pub wrote : Wrote c.out c.out_after (refusal_line name refusal)
   pub input_stays : c.input_after ≡ c.input
 
 -- 0 and 3: the source is a program, and out took a text that shows a run of it on the typed bytes
@@ -115,11 +122,22 @@ pub record PlayedStory (c : Call) (o : Outside) (status : ℕ) : Type 0 where
   pub is_status : status ≡ status_of_end end
   pub played : IsSome c.input.left → TaskPlays (Ok end) c o task
 
+-- 0: the source is a program, and out took the report on its predicates, of which those of the set are single
+pub record ListedSource (c : Call) (o : Outside) : Type 0 where
+  pub name : List ℕ
+  pub program : Core
+  pub is : IsReported c o name program
+  pub set : List Bool
+  pub single : AreSingles program.preds set
+  pub wrote : Wrote c.out c.out_after (report program set)
+  pub input_stays : c.input_after ≡ c.input
+
 -- what a call comes to where nothing fails
 pub data Ends (c : Call) (o : Outside) (result : ℕ) : Type 0 where
   misused : result ≡ 2 → Misused c → Ends c o result
   refused : result ≡ 1 → RefusedSource c o → Ends c o result
   ran : RanSource c o result → Ends c o result
+  listed : result ≡ 0 → ListedSource c o → Ends c o result
   refused_story : result ≡ 4 → RefusedStory c o → Ends c o result
   played : PlayedStory c o result → Ends c o result
 
@@ -149,8 +167,9 @@ pub record LostOut (c : Call) (o : Outside) (t : Task) : Type 0 where
 -- the texts that a call may be writing when out fails, but for those of a story
 pub data MayPrint (c : Call) (o : Outside) (text : List ℕ) : Type 0 where
   usage : c.command ≡ None → text ≡ usage_line → MayPrint c o text
-  refusal : (t : Task) → (r : Refusal) → IsRefused c o t r → text ≡ refusal_line t.name r → MayPrint c o text
+  refusal : (name : List ℕ) → (r : Refusal) → IsRefused c o name r → text ≡ refusal_line name r → MayPrint c o text
   shown : (t : Task) → (p : Core) → IsProgram c o t p → MayWrite (game_of c t p) o.typed (limits_of t) text → MayPrint c o text
+  listing : (name : List ℕ) → (p : Core) → IsReported c o name p → (set : List Bool) → AreSingles p.preds set → text ≡ report p set → MayPrint c o text
   story_refusal : (t : Task) → (r : StoryRefusal) → IsNoStory c o t r → text ≡ story_line t.name r → MayPrint c o text
   file_fault : (name : List ℕ) → LostFile c name → text ≡ file_fault_line name → MayPrint c o text
   no_memory : text ≡ no_memory_line → MayPrint c o text
@@ -180,11 +199,12 @@ pub record Answers (c : Call) (result : ℕ) : Type 0 where
   pub answer : Ends c outside result ⊎ (((result ≡ 5) × Fails c outside) ⊎ ((result ≡ 6) × Lacks c outside))
 
 -- Which statuses come where: 2 exactly where the words are no command; 1 exactly where the source is refused, 0 and 3 where it is a
--- program; 4 exactly where the file is no story, and of a story the status of its run's end.
+-- program that is run, 0 where its predicates are listed; 4 exactly where the file is no story, and of a story the status of its run's end.
 pub record Decides (c : Call) (result : ℕ) : Type 0 where
   pub no_command : c.command ≡ None → Comes 2 result
-  pub refuses : (o : Outside) → c.shelf.contents ≡ Some o.contents → (t : Task) → (r : Refusal) → IsRefused c o t r → Comes 1 result
+  pub refuses : (o : Outside) → c.shelf.contents ≡ Some o.contents → (name : List ℕ) → (r : Refusal) → IsRefused c o name r → Comes 1 result
   pub runs : (o : Outside) → c.shelf.contents ≡ Some o.contents → (t : Task) → (p : Core) → IsProgram c o t p → (result ≡ 0) ⊎ Comes 3 result
+  pub lists : (o : Outside) → c.shelf.contents ≡ Some o.contents → (name : List ℕ) → (p : Core) → IsReported c o name p → Comes 0 result
   pub no_story : (o : Outside) → c.shelf.contents ≡ Some o.contents → (t : Task) → (r : StoryRefusal) → IsNoStory c o t r → Comes 4 result
   pub plays : (o : Outside) → c.shelf.contents ≡ Some o.contents → c.input.left ≡ Some o.typed
       → (t : Task) → IsStory c o t → Comes (status_of_end (run_of c o t t.steps).end) result

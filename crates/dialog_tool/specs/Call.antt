@@ -44,15 +44,19 @@ pub record Finds (c : Call) (o : Outside) : Type 0 where
   pub contents : IsAsTold c.shelf.contents o.contents
   pub typed : IsAsTold c.input.left o.typed
 
+-- the bytes of a file
+abbrev pub file_at : Outside → List ℕ → List ℕ
+file_at o name = held (o.contents name)
+
 -- the bytes of a task's file
 abbrev pub file_of : Outside → Task → List ℕ
-file_of o t = held (o.contents t.name)
+file_of o t = file_at o t.name
 
 -- the dice that are thrown for a task
 abbrev pub dice_for : Call → Task → List ℕ
 dice_for c t = thrown t.dice c.dice
 
 -- A shelf's file is this, as far as the shelf tells, and it keeps what it holds.
-pub record IsFetched (before after : ShelfView) (t : Task) (file : List ℕ) : Type 0 where
-  pub told : WhereTold before.contents (λ contents. file ≡ held (contents t.name))
+pub record IsFetched (before after : ShelfView) (name file : List ℕ) : Type 0 where
+  pub told : WhereTold before.contents (λ contents. file ≡ held (contents name))
   pub kept : KeepsAll before.contents after.contents

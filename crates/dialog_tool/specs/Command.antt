@@ -19,10 +19,11 @@ pub record Task : Type 0 where
   pub trail : ℕ
   pub dice : Option (List ℕ)
 
--- what is to be done: a source is run, or a story is played
+-- what is to be done: a source is run, a story is played, or the predicates of the source in a file are listed
 pub data Command : Type 0 where
   debug : Task → Command
   play : Task → Command
+  singles : List ℕ → Command
 
 -- a file name isn't empty and doesn't begin with two dashes
 abbrev pub is_file_name : List ℕ → Bool
@@ -128,6 +129,11 @@ debug_with name values = option_map debug (task_of 100000000 name values)
 abbrev pub play_with : List ℕ → Values → Option Command
 play_with name values = if is_some values.heap || is_some values.trail then None else option_map play (task_of 1000000000 name values)
 
+-- the predicates of a source are listed; there are no options
+abbrev pub singles_with : List ℕ → List (List ℕ) → Option Command
+singles_with name [] = Some (singles name)
+singles_with name (option ∷ others) = None
+
 -- the limits of a task
 abbrev pub limits_of : Task → Limits
 limits_of task = record { steps = task.steps; heap = task.heap; trail = task.trail; aux = 100000; keep = 10000 }
@@ -137,7 +143,36 @@ abbrev pub thrown : Option (List ℕ) → List ℕ → List ℕ
 thrown None handed = handed
 thrown (Some dice) handed = dice
 
+-- ---- files
+
+-- the file that a command names
+abbrev pub file_named : Option Command → Option (List ℕ)
+file_named None = None
+file_named (Some (debug t)) = Some t.name
+file_named (Some (play t)) = Some t.name
+file_named (Some (singles name)) = Some name
+
+-- the source that a command names
+abbrev pub source_named : Option Command → Option (List ℕ)
+source_named None = None
+source_named (Some (debug t)) = Some t.name
+source_named (Some (play t)) = None
+source_named (Some (singles name)) = Some name
+
 -- ---- the words
+
+-- the command of this word, with options
+abbrev pub with_options : List ℕ → List ℕ → List (List ℕ) → Option Command
+with_options command name options =
+    if bytes_eq command (codes "debug") then option_and_then (debug_with name) (values_of options)
+    else if bytes_eq command (codes "play") then option_and_then (play_with name) (values_of options)
+    else None
+
+-- the command of this word
+abbrev pub command_named : List ℕ → List ℕ → List (List ℕ) → Option Command
+command_named command name options =
+    if bytes_eq command (codes "singles") then singles_with name options
+    else with_options command name options
 
 -- the command that these words are
 abbrev pub command_of : List (List ℕ) → Option Command
@@ -145,6 +180,4 @@ command_of [] = None
 command_of (command ∷ []) = None
 command_of (command ∷ name ∷ options) =
     if not (is_file_name name) then None
-    else if bytes_eq command (codes "debug") then option_and_then (debug_with name) (values_of options)
-    else if bytes_eq command (codes "play") then option_and_then (play_with name) (values_of options)
-    else None
+    else command_named command name options

@@ -5,4 +5,5 @@ pub mod Source
 pub mod Lines
 pub mod Call
 pub mod Playing
+pub mod Report
 pub mod Answers

@@ -28,11 +28,12 @@ pub struct Task<'a> {
     pub dice: Option<Vec<u16>>,
 }
 
-/// What is to be done: a source is run, or a story is played.
+/// What is to be done: a source is run, a story is played, or the predicates of the source in a file are listed.
 #[derive(Drop)]
 pub enum Command<'a> {
     Debug(Task<'a>),
     Play(Task<'a>),
+    Singles(&'a str),
 }
 
 // The words behind the options.
@@ -230,6 +231,53 @@ fn play<'a>(
     }
 }
 
+fn singles<'a>(name: &'a str, options: &[String]) -> Option<Command<'a>>
+    ensures command { option_map command_view result ≡ spec.singles_with name.now (texts options.now) }
+    ensures dice { IfSome result CommandHasDice }
+{
+    if options.is_empty() {
+        Some(Command::Singles(name))
+    } else {
+        None
+    }
+}
+
+// The command with options that this word names.
+fn with_options<'a>(
+    alloc: Global,
+    command: &str,
+    name: &'a str,
+    options: &[String],
+) -> Result<Option<Command<'a>>, AllocError>
+    ensures command { IfOk result (λ made. option_map command_view made ≡ spec.with_options command.now name.now (texts options.now)) }
+    ensures dice { IfOk result (λ made. IfSome made CommandHasDice) }
+{
+    let Some(values) = values_of(options) else {
+        return Ok(None);
+    };
+    match command {
+        "debug" => debug(alloc, name, values),
+        "play" => play(alloc, name, values),
+        _ => Ok(None),
+    }
+}
+
+// The command that this word names.
+fn command_named<'a>(
+    alloc: Global,
+    command: &str,
+    name: &'a str,
+    options: &[String],
+) -> Result<Option<Command<'a>>, AllocError>
+    ensures command { IfOk result (λ made. option_map command_view made ≡ spec.command_named command.now name.now (texts options.now)) }
+    ensures dice { IfOk result (λ made. IfSome made CommandHasDice) }
+{
+    match command {
+        "singles" => Ok(singles(name, options)),
+        _ => with_options(alloc, command, name, options),
+    }
+}
+
 /// The command that these words are.
 pub fn command_of(alloc: Global, words: &[String]) -> Result<Option<Command<'_>>, AllocError>
     ensures command { IfOk result (λ command. option_map command_view command ≡ spec.command_of (texts words.now)) }
@@ -242,12 +290,5 @@ pub fn command_of(alloc: Global, words: &[String]) -> Result<Option<Command<'_>>
     if !is_file_name(name) {
         return Ok(None);
     }
-    let Some(values) = values_of(options) else {
-        return Ok(None);
-    };
-    match command.as_str() {
-        "debug" => debug(alloc, name, values),
-        "play" => play(alloc, name, values),
-        _ => Ok(None),
-    }
+    command_named(alloc, command.as_str(), name, options)
 }

@@ -1,23 +1,23 @@
 // The top call: what the words of a command line ask for is done, and the exit status says how it went.
-ghost use Rattle.std.specs.Prelude.{◌≡◌, ◌<◌, length, Some};
+ghost use Rattle.std.specs.Prelude.{◌≡◌, ◌<◌, ℕ, List, length, Some, Ok};
 ghost use Rattle.dg_base.specs.Shelves.{ShelfView};
+ghost use Rattle.dg_base.specs.Sound.{IsSound};
+ghost use Rattle.dg_meaning.specs.Built.{IsBuilt};
 ghost use Rattle.dialog_tool.specs.Answers.{status_of, Answers, Decides};
 ghost use Rattle.dialog_tool.specs.Call.{call, IsFetched};
 ghost use Rattle.dialog_tool.specs.Command.{texts, command_of, debug as debug_command, limits_of};
 ghost use Rattle.dialog_tool.specs.CommandView.{task_view, HasDice};
-ghost use Rattle.dialog_tool.specs.Source.{refusal_at};
+ghost use Rattle.dialog_tool.specs.Source.{Compiles};
 
 use crate::command::{Command, Task, command_of};
-use crate::lines::{DONE, FAULT, LIMIT, NO_MEMORY, file_fault, no_memory, refuse, usage};
+use crate::lines::{DONE, FAULT, LIMIT, NO_MEMORY, no_memory, usage};
+use crate::listing::list_file;
 use crate::playing::{play, thrown};
-use crate::source::{compile, sources_have_one_answer};
-use dg_base::{
-    Ending, Kind, Limits, ReadFault, Refusal, RunFault, Shelf, ShelfFault, Sink, Source,
-};
+use crate::reading::program_in;
+use crate::source::sources_have_one_answer;
+use dg_base::{CoreProgram, Ending, Limits, RunFault, Shelf, Sink, Source};
 use dg_interp::interpret;
 use std::alloc::Global;
-
-const MOST_BYTES: usize = 1_048_576;
 
 fn status_of(ending: Ending) -> u8
     ensures { result ≡ status_of ending }
@@ -43,41 +43,29 @@ fn limits_of(task: &Task<'_>) -> Limits
     }
 }
 
-// Reads and runs a source.
-fn run_source<S: Source, K: Sink>(
+// Runs the program of a source.
+fn run_program<S: Source, K: Sink>(
     alloc: Global,
     task: &Task<'_>,
-    source: &[u8],
+    program: &CoreProgram,
     input: &mut S,
     out: &mut K,
     dice: &[u16],
 ) -> u8
+    requires built { IsBuilt program.now }
+    requires sound { IsSound program.now }
     requires own { HasDice task.now }
     requires dice { 0 < length dice.now }
-    ensures { (before after : ShelfView) → IsFetched before after (task_view task.now) source.now →
+    ensures { (before after : ShelfView) → (file : List ℕ) → IsFetched before after task.now.name.now file → Compiles file (Ok program.now) →
         Answers (call (Some (debug_command (task_view task.now))) dice.now before after
         (S.view input.old) (S.view input.new) (K.view out.old) (K.view out.new)) result }
 {
-    let program = match compile(alloc, source) {
-        Ok(program) => program,
-        Err(ReadFault::Refused(refusal)) => return refuse(task.name, &refusal, out),
-        Err(ReadFault::OutOfMemory) => return no_memory(out),
-    };
     let dice = thrown(&task.dice, dice);
-    match interpret(alloc, &program, &limits_of(task), input, dice, out) {
+    match interpret(alloc, program, &limits_of(task), input, dice, out) {
         Ok(outcome) => status_of(outcome.ending),
         Err(RunFault::Read) => FAULT,
         Err(RunFault::Write) => FAULT,
         Err(RunFault::OutOfMemory) => NO_MEMORY,
-    }
-}
-
-fn too_long() -> Refusal
-    ensures { result ≡ refusal_at Kind.SourceTooLong 1 }
-{
-    Refusal {
-        kind: Kind::SourceTooLong,
-        line: 1,
     }
 }
 
@@ -95,11 +83,9 @@ fn debug<F: Shelf, S: Source, K: Sink>(
     ensures { Answers (call (Some (debug_command (task_view task.now))) dice.now
         (F.view shelf.old) (F.view shelf.new) (S.view input.old) (S.view input.new) (K.view out.old) (K.view out.new)) result }
 {
-    match shelf.fetch(alloc, task.name, MOST_BYTES) {
-        Ok(source) => run_source(alloc, task, &source, input, out, dice),
-        Err(ShelfFault::TooLong) => refuse(task.name, &too_long(), out),
-        Err(ShelfFault::Failed) => file_fault(task.name, out),
-        Err(ShelfFault::OutOfMemory) => no_memory(out),
+    match program_in(alloc, task.name, shelf, out) {
+        Ok(program) => run_program(alloc, task, &program, input, out, dice),
+        Err(status) => status,
     }
 }
 
@@ -119,12 +105,13 @@ fn answer<F: Shelf, S: Source, K: Sink>(
     match command_of(alloc, words) {
         Ok(Some(Command::Debug(task))) => debug(alloc, &task, shelf, input, out, dice),
         Ok(Some(Command::Play(task))) => play(alloc, &task, shelf, input, out, dice),
+        Ok(Some(Command::Singles(name))) => list_file(alloc, name, shelf, out),
         Ok(None) => usage(out),
         Err(_) => no_memory(out),
     }
 }
 
-/// Does what the words behind the program's name ask for, and answers the exit status: 0 the run ended, 1 the source is refused,
+/// Does what the words behind the program's name ask for, and answers the exit status: 0 the run ended or the report is written, 1 the source is refused,
 /// 2 the words are no command, 3 a limit was met, 4 the story is refused or broke, 5 the shelf, the input or the output failed,
 /// 6 memory ran out.
 pub fn tool<F: Shelf, S: Source, K: Sink>(

@@ -6,8 +6,10 @@ mod command;
 mod dice;
 mod dispatch;
 mod lines;
+mod listing;
 mod numbers;
 mod playing;
+mod reading;
 mod source;
 
 pub use adapters::{FileShelf, StdinSource, StdoutSink};

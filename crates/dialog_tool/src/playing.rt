@@ -51,7 +51,7 @@ fn play_file<S: Source, K: Sink>(
 ) -> u8
     requires own { HasDice task.now }
     requires dice { 0 < length dice.now }
-    ensures { (before after : ShelfView) → IsFetched before after (task_view task.now) file.items →
+    ensures { (before after : ShelfView) → IsFetched before after task.now.name.now file.items →
         Answers (call (Some (play_command (task_view task.now))) dice.now before after
         (S.view input.old) (S.view input.new) (K.view out.old) (K.view out.new)) result }
 {

@@ -1,18 +1,14 @@
-use Rattle.std.proofs.Common.{inl, refl}
+use Rattle.std.proofs.Common.{Some, subst}
+use Rattle.dg_base.specs.Written.{SinkView}
+use Rattle.dialog_tool.specs.Answers.{Answers}
+use Rattle.dialog_tool.specs.Call.{call}
+use Rattle.dialog_tool.specs.Command.{debug as debug_command}
 use Rattle.dialog_tool.specs.CommandView.{task_view}
-use Rattle.dialog_tool.proofs.AnswerLemmas.{source_long, file_lost, no_room}
 use Rattle.dialog_tool.proofs.dispatch.debug.Goals as goal
 
-pub returns-in-Err-TooLong : goal.returns-in-Err-TooLong
-returns-in-Err-TooLong g c =
-    let long = rw c.in-Err-TooLong.field-0-is at c.in-Err-TooLong.ensures.too_long in
-    source_long _ (task_view c.args.task.now) _ c.too_long.result refl c.in-Err-TooLong.ensures.kept (long refl) c.too_long.ensures refl c.refuse.ensures
-
-pub returns-in-Err-Failed : goal.returns-in-Err-Failed
-returns-in-Err-Failed g c =
-    let failed = rw c.in-Err-Failed.field-0-is at c.in-Err-Failed.ensures.failed in
-    let missing = rw c.in-Err-Failed.field-0-is at c.in-Err-Failed.ensures.sure in
-    file_lost _ (task_view c.args.task.now) _ (inl refl) c.in-Err-Failed.ensures.kept (failed refl) (λ sure. missing sure refl) refl c.file_fault.ensures
-
-pub returns-in-Err-OutOfMemory : goal.returns-in-Err-OutOfMemory
-returns-in-Err-OutOfMemory g c = no_room _ _ c.in-Err-OutOfMemory.ensures.kept refl c.no_memory.ensures
+pub returns-in-Ok : goal.returns-in-Ok
+returns-in-Ok g c =
+    let from = c.in-Ok.ensures.program in
+    let runs = c.run_program.ensures (g.F.Shelf.view c.args.shelf.now) (g.F.Shelf.view c.program_in.new.shelf) from.0 from.1 from.2 in
+    subst (λ (before : SinkView). Answers (call (Some (debug_command (task_view c.args.task.now))) c.args.dice.now (g.F.Shelf.view c.args.shelf.now) (g.F.Shelf.view c.program_in.new.shelf)
+    (g.S.Source.view c.args.input.now) (g.S.Source.view c.run_program.new.input) before (g.K.Sink.view c.run_program.new.out)) c.run_program.result) c.in-Ok.ensures.silent runs
