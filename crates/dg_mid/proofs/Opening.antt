@@ -14,8 +14,8 @@ use Rattle.dg_mid.specs.declared.writing.Level.{Level}
 use Rattle.dg_mid.specs.declared.writing.Level.TheVariants as level
 use Rattle.dg_mid.specs.declared.writing.Work.{Work}
 use Rattle.dg_mid.specs.Code.{block_at}
-use Rattle.dg_mid.specs.Codes.{End, Refuses, Backs, Commits, Leaves, Stands, jumps, commits, refuses, backs, leaves, once, negates, branch, exhausts, shields}
-use Rattle.dg_mid.specs.Writing.{StandsFor, PutsFirst, Lands, Wraps, Leads, ComesTo, Moves, TailFor, Shares, tail_ops, with_goal, with_level}
+use Rattle.dg_mid.specs.Codes.{End, Refuses, Backs, Commits, Leaves, Stands, jumps, commits, refuses, backs, leaves, once, negates, branch, exhausts, shields, forever, only, either, Others, last_list, more_lists}
+use Rattle.dg_mid.specs.Writing.{StandsFor, PutsFirst, Lands, Wraps, Leads, ComesTo, Moves, TailFor, Shares, OthersFor, ListLands, after_list, tail_ops, with_goal, with_level}
 use Rattle.dg_mid.proofs.WritingLemmas.{reverse_put, block_made, made_begins}
 
 -- ## Blocks
@@ -37,6 +37,10 @@ tail_later : (old new : List Block) → Begins old new → (tail : Option ℕ) (
 tail_later old new on None rest end h = λ code begins. h code (begins_on old new code.blocks on begins)
 tail_later old new on (Some b) rest end h = λ code begins. h code (begins_on old new code.blocks on begins)
 
+others_later : (old new : List Block) → Begins old new → (alt : Option ℕ) (lists : List (List Goal)) (rest : List Goal) (end : End) → OthersFor old alt lists rest end → OthersFor new alt lists rest end
+others_later old new on None lists rest end h = h
+others_later old new on (Some b) lists rest end h = λ code begins. h code (begins_on old new code.blocks on begins)
+
 -- what a way ends with, once more
 pub tail_stands : (blocks : List Block) (tail : Option ℕ) (ops : List Op) (rest : List Goal) (end : End) → ops ≡ tail_ops tail → TailFor blocks tail rest end → StandsFor blocks (reverse ops) rest end
 tail_stands blocks None ops rest end e h = λ code begins. subst (λ l. Stands code (reverse l) rest end) (sym e) (h code begins)
@@ -54,6 +58,8 @@ leads_later old new on (level.Inner x others ∷ levels) goals end wanted last h
     (h.0, h.1, λ code begins. h.2 code (begins_on old new code.blocks on begins), leads_later old new on levels (others ++ h.0) h.1 wanted last h.3)
 leads_later old new on (level.Other test first tail others ∷ levels) goals end wanted last h =
     (h.0, h.1, h.2, tail_later old new on tail h.1 end h.3, leads_later old new on levels (others ++ goal.If test first h.0 ∷ h.1) end wanted last h.4)
+leads_later old new on (level.Lists left alt tail others ∷ levels) goals end wanted last h =
+    (h.0, h.1, h.2, h.3, others_later old new on alt h.2 h.1 end h.4, tail_later old new on tail h.1 end h.5, leads_later old new on levels (others ++ goal.Either (left ++ h.0 ∷ h.2) ∷ h.1) end wanted last h.6)
 
 -- what is open stays so where one goal goes in front
 with_leads : (old new : List Block) (before : Work) (g : Goal) (rest : List Goal) (end : End) (wanted : List Goal) (last : End) → Begins old new →
@@ -118,18 +124,18 @@ closes blocks before after x others none ops_are goals_are levels_are = record {
 
 -- ## Constructs
 
-pub open_not : (old new : List Block) (ops only : List Op) (inner : List Goal) (alt : ℕ) → Lands old new (reverse ops) alt → only ≡ op.Refuse ∷ [] →
-    (rest : List Goal) (end : End) → StandsFor old (reverse ops) rest end → Opened new (reverse only) (op.Try alt) inner (goal.Not inner) rest end
-open_not old new ops only inner alt lands e rest end h = record {
+pub open_not : (old new : List Block) (ops alone : List Op) (inner : List Goal) (alt : ℕ) → Lands old new (reverse ops) alt → alone ≡ op.Refuse ∷ [] →
+    (rest : List Goal) (end : End) → StandsFor old (reverse ops) rest end → Opened new (reverse alone) (op.Try alt) inner (goal.Not inner) rest end
+open_not old new ops alone inner alt lands e rest end h = record {
   goals = [];
   behind = Refuses;
   stands = λ code begins. subst (λ l. Stands code (reverse l) [] Refuses) (sym e) (refuses []);
   wraps = λ code begins xs s. negates alt inner xs rest end (subst (λ l. Stands code xs l Refuses) (append-nil inner) s) (lands rest end h code begins);
 }
 
-pub open_exhaust : (old new : List Block) (ops only : List Op) (inner : List Goal) (alt : ℕ) → Lands old new (reverse ops) alt → only ≡ op.Back ∷ [] →
-    (rest : List Goal) (end : End) → StandsFor old (reverse ops) rest end → Opened new (reverse only) (op.Try alt) inner (goal.Exhaust inner) rest end
-open_exhaust old new ops only inner alt lands e rest end h = record {
+pub open_exhaust : (old new : List Block) (ops alone : List Op) (inner : List Goal) (alt : ℕ) → Lands old new (reverse ops) alt → alone ≡ op.Back ∷ [] →
+    (rest : List Goal) (end : End) → StandsFor old (reverse ops) rest end → Opened new (reverse alone) (op.Try alt) inner (goal.Exhaust inner) rest end
+open_exhaust old new ops alone inner alt lands e rest end h = record {
   goals = [];
   behind = Backs;
   stands = λ code begins. subst (λ l. Stands code (reverse l) [] Backs) (sym e) (backs []);
@@ -153,6 +159,14 @@ open_stoppable old new ops jump put inner alt lands e e' rest end h = record {
   stands = λ code begins. subst (λ l. Stands code l [] (Leaves rest end)) (sym (ap reverse (e' ∙ ap (λ l. l ++ op.Leave ∷ []) e))) (leaves (op.Goto alt ∷ []) rest end (jumps alt [] rest end (lands rest end h code begins)));
   wraps = λ code begins xs s. shields alt inner xs rest end (subst (λ l. Stands code xs l (Leaves rest end)) (append-nil inner) s) (lands rest end h code begins);
 }
+
+pub puts_forever : (old new : List Block) (ops put jump : List Op) (n b : ℕ) → n ≡ b → put ≡ ops ++ op.Branch n ∷ [] → new ≡ old ++ record { ops = reverse put } ∷ [] → b ≡ length old → jump ≡ op.Goto b ∷ [] →
+    PutsFirst (goal.Forever ∷ []) old new (reverse ops) (reverse jump)
+puts_forever old new ops put jump n b same e made is e' rest end h code begins =
+    let there : block_at code b ≡ op.Branch b ∷ reverse ops = block_made old new (reverse put) b code made is begins ∙ ap reverse e ∙ reverse_put ops (op.Branch n) ∙ ap (λ k. op.Branch k ∷ reverse ops) same in
+    let behind : Stands code (reverse ops) rest end = h code (begins_on old new code.blocks (made_begins old new _ made) begins) in
+    subst (λ l. Stands code (reverse l) (goal.Forever ∷ rest) end) (sym e')
+    (jumps b [] (goal.Forever ∷ rest) end (subst (λ l. Stands code l (goal.Forever ∷ rest) end) (sym there) (forever b (reverse ops) rest end there behind)))
 
 -- ## Conditions
 
@@ -202,6 +216,87 @@ closes_other old new before after ops test first others tail alt none on lands e
                 leads_later old new on (reverse before.levels) (others ++ goal.If test first closed.0 ∷ rest) h.end wanted last closed.4,
               ),
             ));
+      };
+}
+
+-- ## Lists of a choice
+
+pub open_only : (blocks : List Block) (ops : List Op) (list : List Goal) (rest : List Goal) (end : End) → StandsFor blocks (reverse ops) rest end → Opened blocks (reverse ops) op.Take list (goal.Either (list ∷ [])) rest end
+open_only blocks ops list rest end h = record {
+  goals = rest;
+  behind = end;
+  stands = h;
+  wraps = λ code begins xs s. only list xs rest end s;
+}
+
+pub opens_lists : (old new : List Block) (before after : Work) (ops : List Op) (left : List (List Goal)) (list : List Goal) (tail : Option ℕ) → Begins old new → Shares old new (reverse before.ops.items) tail → ops ≡ tail_ops tail →
+    after.ops.items ≡ ops → after.goals ≡ list → after.levels ≡ before.levels ++ level.Lists left None tail before.goals ∷ [] → Moves old (with_goal (goal.Either (left ++ list ∷ [])) before) new after
+opens_lists old new before after ops left list tail on shares e ops_are goals_are levels_are = record {
+  blocks = on;
+  comes = λ wanted last h.
+      let t : TailFor new tail h.rest h.end = shares h.rest h.end h.stands in
+      record {
+        rest = h.rest;
+        end = h.end;
+        stands = tail_stands new tail after.ops.items h.rest h.end (ops_are ∙ e) t;
+        leads = subst (λ l. Leads new l (after.goals ++ h.rest) h.end wanted last) (sym (ap reverse levels_are ∙ reverse-append before.levels (level.Lists left None tail before.goals ∷ [])))
+            (subst (λ l. Leads new (level.Lists left None tail before.goals ∷ reverse before.levels) (l ++ h.rest) h.end wanted last) (sym goals_are)
+            (list, h.rest, [], refl, refl, t, with_leads old new before (goal.Either (left ++ list ∷ [])) h.rest h.end wanted last on h.leads));
+      };
+}
+
+either_of : (code : Code) (b : ℕ) (list : List Goal) (lists : List (List Goal)) (xs : List Op) (rest : List Goal) (end : End) → Stands code xs (list ++ rest) end → Others code b lists rest end → Stands code (op.Branch b ∷ xs) (goal.Either (list ∷ lists) ∷ rest) end
+either_of code b list lists xs rest end s (last_list c l goals e h) = either b list l [] xs rest end s (last_list b l rest end h)
+either_of code b list lists xs rest end s (more_lists c alt ops l second more goals e at h k) = either b list l (second ∷ more) xs rest end s (more_lists b alt ops l second more rest end at h k)
+
+more_of : (code : Code) (b alt : ℕ) (xs : List Op) (list : List Goal) (lists : List (List Goal)) (rest : List Goal) (end : End) → block_at code b ≡ op.Retry alt ∷ xs → Stands code xs (list ++ rest) end → Others code alt lists rest end → Others code b (list ∷ lists) rest end
+more_of code b alt xs list lists rest end at s (last_list c l goals e h) = more_lists b alt xs list l [] rest end at s (last_list alt l rest end h)
+more_of code b alt xs list lists rest end at s (more_lists c next ops l second more goals e there h k) = more_lists b alt xs list l (second ∷ more) rest end at s (more_lists alt next ops l second more rest end there h k)
+
+pub last_lands : (old new : List Block) (ops : List Op) (b : ℕ) → Lands old new ops b → ListLands old new ops None b
+last_lands old new ops b lands list lists rest end h none = λ code begins. subst (λ l. Others code b (list ∷ l) rest end) (sym none) (last_list b list rest end (lands (list ++ rest) end h code begins))
+
+pub retry_lands : (old new : List Block) (ops put : List Op) (next b : ℕ) → put ≡ ops ++ op.Retry next ∷ [] → new ≡ old ++ record { ops = reverse put } ∷ [] → b ≡ length old → ListLands old new (reverse ops) (Some next) b
+retry_lands old new ops put next b e made is list lists rest end h o = λ code begins.
+    let before = begins_on old new code.blocks (made_begins old new _ made) begins in
+    more_of code b next (reverse ops) list lists rest end (block_made old new (reverse put) b code made is begins ∙ ap reverse e ∙ reverse_put ops (op.Retry next)) (h code before) (o code before)
+
+pub after_first : (left : List (List Goal)) (b : ℕ) (tail : Option ℕ) (others : List Goal) → left ≡ [] → after_list left b tail others ≡ level.Inner (op.Branch b) others
+after_first left b tail others e = ap (λ l. after_list l b tail others) e
+
+pub after_others : (left : List (List Goal)) (b : ℕ) (tail : Option ℕ) (others : List Goal) → (left ≡ [] → ⊥) → after_list left b tail others ≡ level.Lists left (Some b) tail others
+after_others [] b tail others some = absurd (some refl)
+after_others (list ∷ lists) b tail others some = refl
+
+after_leads : (new : List Block) (left : List (List Goal)) (list : List Goal) (b : ℕ) (tail : Option ℕ) (others : List Goal) (levels : List Level) (lists : List (List Goal)) (rest : List Goal) (end : End) (wanted : List Goal) (last : End) →
+    OthersFor new (Some b) lists rest end → TailFor new tail rest end → Leads new levels (others ++ goal.Either (left ++ list ∷ lists) ∷ rest) end wanted last →
+    Leads new (after_list left b tail others ∷ levels) (list ++ rest) end wanted last
+after_leads new [] list b tail others levels lists rest end wanted last o t l =
+    (goal.Either (list ∷ lists) ∷ rest, end, λ code begins xs s. either_of code b list lists xs rest end s (o code begins), l)
+after_leads new (p ∷ ps) list b tail others levels lists rest end wanted last o t l = (list, rest, lists, refl, o, t, l)
+
+pub closes_list : (old new : List Block) (before after : Work) (ops : List Op) (left popped : List (List Goal)) (list : List Goal) (alt tail : Option ℕ) (others : List Goal) (b : ℕ) → before.goals ≡ [] → left ≡ popped ++ list ∷ [] → Begins old new →
+    ListLands old new (reverse before.ops.items) alt b → ops ≡ tail_ops tail → after.ops.items ≡ ops → after.goals ≡ list → after.levels ≡ before.levels ++ after_list popped b tail others ∷ [] → Moves old (with_level (level.Lists left alt tail others) before) new after
+closes_list old new before after ops left popped list alt tail others b none split on lands e ops_are goals_are levels_are = record {
+  blocks = on;
+  comes = λ wanted last h.
+      let closed : Leads old (level.Lists left alt tail others ∷ reverse before.levels) h.rest h.end wanted last =
+      subst (λ l. Leads old l h.rest h.end wanted last) (reverse-append before.levels (level.Lists left alt tail others ∷ []))
+      (subst (λ l. Leads old (reverse (before.levels ++ level.Lists left alt tail others ∷ [])) (l ++ h.rest) h.end wanted last) none h.leads) in
+      let rest : List Goal = closed.1 in
+      let lists : List (List Goal) = closed.0 ∷ closed.2 in
+      let o : OthersFor new (Some b) lists rest h.end = lands closed.0 closed.2 rest h.end (subst (λ l. StandsFor old (reverse before.ops.items) l h.end) closed.3 h.stands) closed.4 in
+      let t : TailFor new tail rest h.end = tail_later old new on tail rest h.end closed.5 in
+      let l : Leads new (reverse before.levels) (others ++ goal.Either (popped ++ list ∷ lists) ∷ rest) h.end wanted last =
+      subst (λ k. Leads new (reverse before.levels) (others ++ goal.Either k ∷ rest) h.end wanted last) (ap (λ k. k ++ lists) split ∙ append_assoc popped (list ∷ []) lists)
+      (leads_later old new on (reverse before.levels) (others ++ goal.Either (left ++ lists) ∷ rest) h.end wanted last closed.6) in
+      record {
+        rest = rest;
+        end = h.end;
+        stands = tail_stands new tail after.ops.items rest h.end (ops_are ∙ e) t;
+        leads = subst (λ k. Leads new k (after.goals ++ rest) h.end wanted last) (sym (ap reverse levels_are ∙ reverse-append before.levels (after_list popped b tail others ∷ [])))
+            (subst (λ k. Leads new (after_list popped b tail others ∷ reverse before.levels) (k ++ rest) h.end wanted last) (sym goals_are)
+            (after_leads new popped list b tail others (reverse before.levels) lists rest h.end wanted last o t l));
       };
 }
 

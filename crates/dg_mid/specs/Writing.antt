@@ -16,7 +16,7 @@ use Rattle.dg_mid.specs.declared.writing.Level.{Level}
 use Rattle.dg_mid.specs.declared.writing.Level.TheVariants as level
 use Rattle.dg_mid.specs.declared.writing.Work.{Work}
 use Rattle.dg_mid.specs.Code.{block_at, codes_of}
-use Rattle.dg_mid.specs.Codes.{End, Stands, RuleStands, RulesStand}
+use Rattle.dg_mid.specs.Codes.{End, Stands, RuleStands, RulesStand, Others}
 
 -- ## Growing
 
@@ -50,6 +50,21 @@ abbrev pub tail_ops : Option ℕ → List Op
 tail_ops None = op.Return ∷ []
 tail_ops (Some b) = op.Goto b ∷ []
 
+-- The code from a block on stands for these lists of a choice, each with the goals behind it; without a block there are none.
+abbrev pub OthersFor : List Block → Option ℕ → List (List Goal) → List Goal → End → Type 0
+OthersFor blocks None lists goals end = lists ≡ []
+OthersFor blocks (Some b) lists goals end = (code : Code) → Begins blocks code.blocks → Others code b lists goals end
+
+-- Whatever list the instructions stand for, the code from the block on stands for it and the lists behind it.
+abbrev pub ListLands : List Block → List Block → List Op → Option ℕ → ℕ → Type 0
+ListLands old new ops alt b =
+    (list : List Goal) (lists : List (List Goal)) (rest : List Goal) (end : End) → StandsFor old ops (list ++ rest) end → OthersFor old alt lists rest end → OthersFor new (Some b) (list ∷ lists) rest end
+
+-- What comes behind a list of a choice: the choice itself where it is the first, else the lists in front of it.
+abbrev pub after_list : List (List Goal) → ℕ → Option ℕ → List Goal → Level
+after_list [] b tail others = level.Inner (op.Branch b) others
+after_list (list ∷ lists) b tail others = level.Lists (list ∷ lists) (Some b) tail others
+
 -- ## What is open
 
 -- An instruction in front of code that stands for goals, with what comes behind them, makes code for others.
@@ -63,6 +78,9 @@ Leads blocks (level.Inner x others ∷ levels) goals end wanted last =
     (outer : List Goal) × (behind : End) × Wraps blocks x goals end outer behind × Leads blocks levels (others ++ outer) behind wanted last
 Leads blocks (level.Other test first tail others ∷ levels) goals end wanted last =
     (other : List Goal) × (rest : List Goal) × (goals ≡ other ++ rest) × TailFor blocks tail rest end × Leads blocks levels (others ++ goal.If test first other ∷ rest) end wanted last
+Leads blocks (level.Lists left alt tail others ∷ levels) goals end wanted last =
+    (list : List Goal) × (rest : List Goal) × (lists : List (List Goal)) × (goals ≡ list ++ rest) × OthersFor blocks alt lists rest end × TailFor blocks tail rest end
+    × Leads blocks levels (others ++ goal.Either (left ++ list ∷ lists) ∷ rest) end wanted last
 
 -- What is being written comes to code for the goals that are wanted.
 pub record ComesTo (blocks : List Block) (work : Work) (wanted : List Goal) (last : End) : Type 0 where

@@ -7,7 +7,7 @@ ghost use Rattle.dg_mid.specs.Actions.{goal_of};
 ghost use Rattle.dg_mid.specs.declared.code.Block.{Block};
 ghost use Rattle.dg_mid.specs.declared.code.Op.TheVariants as op;
 ghost use Rattle.dg_mid.specs.declared.writing.Level.TheVariants as level;
-ghost use Rattle.dg_mid.specs.Writing.{PutsFirst, Lands, Moves, with_goal, with_level, Shares, tail_ops, RuleFor, RulesFor, PredsFor, starting};
+ghost use Rattle.dg_mid.specs.Writing.{PutsFirst, Lands, Moves, with_goal, with_level, Shares, tail_ops, RuleFor, RulesFor, PredsFor, starting, ListLands, after_list};
 ghost use Rattle.dg_mid.specs.Code.{label_of, first_label};
 ghost use Rattle.dg_meaning.specs.Selection.{label_at};
 ghost use Rattle.dg_base.specs.declared.program.Term.{out-Term};
@@ -30,6 +30,8 @@ pub enum Level {
     Inner(Op, Items<Goal>),
     /// The goals at hand are the other way of a condition: its test, its first way, what both ways end with, and the goals in front of it.
     Other(Items<Goal>, Items<Goal>, Option<u32>, Items<Goal>),
+    /// The goals at hand are a list of an (or): the lists in front of it, the block of the next one, what all end with, and the goals in front.
+    Lists(Items<Items<Goal>>, Option<u32>, Option<u32>, Items<Goal>),
 }
 
 /// What is being written: instructions in reverse order, the goals in front of them, and what comes behind those, the next last.
@@ -141,6 +143,8 @@ impl Writer {
             Goal::Exhaust(inner) => self.exhausting(inner, work),
             Goal::Once(inner) => self.first_answer(inner, work),
             Goal::Stoppable(inner) => self.stoppable(inner, work),
+            Goal::Forever => self.endless(work),
+            Goal::Either(lists) => self.choice(lists, work),
             Goal::If(test, first, other) => self.condition(test, first, other, work),
             other => self.plain(other, work),
         }
@@ -213,6 +217,20 @@ impl Writer {
         Ok(open(Op::Shield(alt), goals, levels, inner, ops)?)
     }
 
+    /// Writes an endless choice: a block that begins with a choice of itself.
+    fn endless(&mut self, work: Work) -> Result<Work, AllocError>
+        ensures { IfOk result (λ new. Moves self.old.blocks (with_goal goal.Forever work) self.new.blocks new) }
+    {
+        let Work { ops, goals, levels } = work;
+        let Ok(number) = u32::try_from(self.blocks.len()) else {
+            return Err(AllocError);
+        };
+        let ops = with(ops, Op::Branch(number))?;
+        let b = self.block(ops)?;
+        let ops = one(self.alloc, Op::Goto(b))?;
+        Ok(Work { ops, goals, levels })
+    }
+
     /// Opens a condition, at its other way.
     fn condition(
         &mut self,
@@ -235,10 +253,85 @@ impl Writer {
     {
         match level {
             Level::Inner(op, others) => leave(op, others, work),
+            Level::Lists(left, alt, tail, others) => self.next_list(left, alt, tail, others, work),
             Level::Other(test, first, tail, others) => self.first_way(
                 test, first, tail, others, work,
             ),
         }
+    }
+
+    /// Opens a choice between lists of goals, at the last one.
+    fn choice(&mut self, lists: Items<Items<Goal>>, work: Work) -> Result<Work, AllocError>
+        ensures { IfOk result (λ new. Moves self.old.blocks (with_goal (goal.Either lists) work) self.new.blocks new) }
+    {
+        let mut left = lists;
+        let Some(last) = left.pop() else {
+            return Err(AllocError);
+        };
+        if left.is_empty() {
+            return only_list(last, work);
+        }
+        self.last_list(left, last, work)
+    }
+
+    /// Opens the last of several lists.
+    fn last_list(
+        &mut self,
+        left: Items<Items<Goal>>,
+        last: Items<Goal>,
+        work: Work,
+    ) -> Result<Work, AllocError>
+        ensures { IfOk result (λ new. Moves self.old.blocks (with_goal (goal.Either (left ++ last ∷ [])) work) self.new.blocks new) }
+    {
+        let Work { ops, goals, levels } = work;
+        let tail = self.shared(ops)?;
+        let ops = again(self.alloc, tail)?;
+        Ok(at_list(left, None, tail, goals, levels, last, ops)?)
+    }
+
+    /// A list of a choice is written: it is a block, and the list in front of it comes next.
+    fn next_list(
+        &mut self,
+        left: Items<Items<Goal>>,
+        alt: Option<u32>,
+        tail: Option<u32>,
+        others: Items<Goal>,
+        work: Work,
+    ) -> Result<Work, AllocError>
+        ensures { work.goals ≡ [] → IfOk result (λ new. Moves self.old.blocks (with_level (level.Lists left alt tail others) work) self.new.blocks new) }
+    {
+        let Work {
+            ops,
+            goals: _goals,
+            levels,
+        } = work;
+        let b = self.list_block(alt, ops)?;
+        let mut left = left;
+        let Some(list) = left.pop() else {
+            return Err(AllocError);
+        };
+        let ops = again(self.alloc, tail)?;
+        Ok(at_next(left, b, tail, others, levels, list, ops)?)
+    }
+
+    /// Makes a block of a list of a choice; where a list follows, the choice is kept.
+    fn list_block(&mut self, alt: Option<u32>, ops: Vec<Op>) -> Result<u32, AllocError>
+        ensures blocks { OnOk result (Begins self.old.blocks self.new.blocks) }
+        ensures lands { IfOk result (λ b. ListLands self.old.blocks self.new.blocks (reverse ops.items) alt b) }
+    {
+        match alt {
+            None => Ok(self.finish(ops)?),
+            Some(next) => Ok(self.retry_block(next, ops)?),
+        }
+    }
+
+    /// Makes a block that keeps its choice.
+    fn retry_block(&mut self, next: u32, ops: Vec<Op>) -> Result<u32, AllocError>
+        ensures blocks { OnOk result (Begins self.old.blocks self.new.blocks) }
+        ensures lands { IfOk result (λ b. ListLands self.old.blocks self.new.blocks (reverse ops.items) (Some next) b) }
+    {
+        let ops = with(ops, Op::Retry(next))?;
+        Ok(self.block(ops)?)
     }
 
     /// The other way of a condition is written: it is a block, and the first way and the test come next.
@@ -431,6 +524,57 @@ fn at_first(
         goals: first,
         levels,
     })
+}
+
+/// Opens the only list of a choice.
+fn only_list(list: Items<Goal>, work: Work) -> Result<Work, AllocError>
+    ensures { IfOk result (λ new. (blocks : List Block) → Moves blocks (with_goal (goal.Either (list ∷ [])) work) blocks new) }
+{
+    let Work { ops, goals, levels } = work;
+    Ok(open(Op::Take, goals, levels, list, ops)?)
+}
+
+/// A list of a choice is written next, where others are in front of it.
+fn at_list(
+    left: Items<Items<Goal>>,
+    alt: Option<u32>,
+    tail: Option<u32>,
+    others: Items<Goal>,
+    levels: Items<Level>,
+    list: Items<Goal>,
+    ops: Vec<Op>,
+) -> Result<Work, AllocError>
+    ensures ops { IfOk result (λ new. new.ops.items ≡ ops.items) }
+    ensures goals { IfOk result (λ new. new.goals ≡ list) }
+    ensures levels { IfOk result (λ new. new.levels ≡ levels ++ level.Lists left alt tail others ∷ []) }
+{
+    let mut levels = levels;
+    levels.push(Level::Lists(left, alt, tail, others))?;
+    Ok(Work {
+        ops,
+        goals: list,
+        levels,
+    })
+}
+
+/// A list of a choice is written next, the first one behind the choice itself.
+fn at_next(
+    left: Items<Items<Goal>>,
+    b: u32,
+    tail: Option<u32>,
+    others: Items<Goal>,
+    levels: Items<Level>,
+    list: Items<Goal>,
+    ops: Vec<Op>,
+) -> Result<Work, AllocError>
+    ensures ops { IfOk result (λ new. new.ops.items ≡ ops.items) }
+    ensures goals { IfOk result (λ new. new.goals ≡ list) }
+    ensures levels { IfOk result (λ new. new.levels ≡ levels ++ after_list left b tail others ∷ []) }
+{
+    if left.is_empty() {
+        return Ok(open(Op::Branch(b), others, levels, list, ops)?);
+    }
+    Ok(at_list(left, Some(b), tail, others, levels, list, ops)?)
 }
 
 /// What a way ends with, once more.
