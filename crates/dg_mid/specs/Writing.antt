@@ -58,7 +58,8 @@ OthersFor blocks (Some b) lists goals end = (code : Code) → Begins blocks code
 -- Whatever list the instructions stand for, the code from the block on stands for it and the lists behind it.
 abbrev pub ListLands : List Block → List Block → List Op → Option ℕ → ℕ → Type 0
 ListLands old new ops alt b =
-    (list : List Goal) (lists : List (List Goal)) (rest : List Goal) (end : End) → StandsFor old ops (list ++ rest) end → OthersFor old alt lists rest end → OthersFor new (Some b) (list ∷ lists) rest end
+    (list : List Goal) (lists : List (List Goal)) (rest : List Goal) (end : End) → StandsFor old ops (list ++ rest) end →
+    OthersFor old alt lists rest end → OthersFor new (Some b) (list ∷ lists) rest end
 
 -- What comes behind a list of a choice: the choice itself where it is the first, else the lists in front of it.
 abbrev pub after_list : List (List Goal) → ℕ → Option ℕ → List Goal → Level
@@ -69,7 +70,8 @@ after_list (list ∷ lists) b tail others = level.Lists (list ∷ lists) (Some b
 
 -- An instruction in front of code that stands for goals, with what comes behind them, makes code for others.
 abbrev pub Wraps : List Block → Op → List Goal → End → List Goal → End → Type 0
-Wraps blocks x goals end outer behind = (code : Code) → Begins blocks code.blocks → (ops : List Op) → Stands code ops goals end → Stands code (x ∷ ops) outer behind
+Wraps blocks x goals end outer behind =
+    (code : Code) → Begins blocks code.blocks → (ops : List Op) → Stands code ops goals end → Stands code (x ∷ ops) outer behind
 
 -- Code for these goals comes, by what is open, the next first, to code for those that are wanted.
 abbrev pub Leads : List Block → List Level → List Goal → End → List Goal → End → Type 0
@@ -77,9 +79,11 @@ Leads blocks [] goals end wanted last = (goals ≡ wanted) × (end ≡ last)
 Leads blocks (level.Inner x others ∷ levels) goals end wanted last =
     (outer : List Goal) × (behind : End) × Wraps blocks x goals end outer behind × Leads blocks levels (others ++ outer) behind wanted last
 Leads blocks (level.Other test first tail others ∷ levels) goals end wanted last =
-    (other : List Goal) × (rest : List Goal) × (goals ≡ other ++ rest) × TailFor blocks tail rest end × Leads blocks levels (others ++ goal.If test first other ∷ rest) end wanted last
+    (other : List Goal) × (rest : List Goal) × (goals ≡ other ++ rest) × TailFor blocks tail rest end
+    × Leads blocks levels (others ++ goal.If test first other ∷ rest) end wanted last
 Leads blocks (level.Lists left alt tail others ∷ levels) goals end wanted last =
-    (list : List Goal) × (rest : List Goal) × (lists : List (List Goal)) × (goals ≡ list ++ rest) × OthersFor blocks alt lists rest end × TailFor blocks tail rest end
+    (list : List Goal) × (rest : List Goal) × (lists : List (List Goal)) × (goals ≡ list ++ rest)
+    × OthersFor blocks alt lists rest end × TailFor blocks tail rest end
     × Leads blocks levels (others ++ goal.Either (left ++ list ∷ lists) ∷ rest) end wanted last
 
 -- What is being written comes to code for the goals that are wanted.
