@@ -73,7 +73,7 @@ const DOUBLED: &str =
     "(twice [] $X $X)\n(twice [$ | $N] $X $Y) (twice $N [$X | $X] $Y)\n(value $X $Y) (twice [0 0 0 0 0 0 0 0 0 0 0 0 0 0 0 0 0 0 0 0 0 0 0 0 0 0 0 0 0 0] [$X] $Y)\n(program entry point) (value $A $X) (value $B $Y) ($X = $Y) ($A = 1) (fully bound $X) $B\n";
 
 // The words of the command, the source, the status and the transcript.
-const TRANSCRIPTS: [(&str, &str, u8, &str); 21] = [
+const TRANSCRIPTS: [(&str, &str, u8, &str); 22] = [
     (
         "debug p.dg",
         "(program entry point) Hello, world!",
@@ -125,6 +125,12 @@ const TRANSCRIPTS: [(&str, &str, u8, &str); 21] = [
         0,
         "[Failed]\n",
     ),
+    (
+        "singles p.dg",
+        CUT,
+        0,
+        "single (p)\nmany (q $)\nsingle (program entry point)\n",
+    ),
 ];
 
 #[test]
@@ -144,7 +150,7 @@ fn sources_give_their_transcript(rt: HostRuntime) -> Result<(), Fail> {
 }
 
 // The words of the command, the source, the status and the line.
-const REFUSALS: [(&str, &str, u8, &str); 19] = [
+const REFUSALS: [(&str, &str, u8, &str); 20] = [
     (
         "debug p.dg",
         "",
@@ -206,6 +212,7 @@ const REFUSALS: [(&str, &str, u8, &str); 19] = [
     ("debug p.dg --heap 16000001", ORDER, 2, USAGE),
     ("debug p.dg --heap 1 --heap 1", ORDER, 2, USAGE),
     ("debug p.dg --dice 65536", ORDER, 2, USAGE),
+    ("singles p.dg --steps 5", ORDER, 2, USAGE),
     ("build p.dg p.z8", ORDER, 2, USAGE),
     ("play p.dg", ORDER, 4, "p.dg: story too short\n"),
     ("play p.dg --heap 1", ORDER, 2, USAGE),
