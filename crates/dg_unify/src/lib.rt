@@ -14,7 +14,7 @@ mod slots;
 mod unifying;
 
 pub use bindings::{Bindings, Full, Mark, Ref, View};
-pub use finding::is_open;
+pub use finding::{is_open, put_behind};
 pub use list::ListBindings;
-pub use parts::{Parts, Wait};
+pub use parts::{Front, Parts, Wait, inner, split, variable_of};
 pub use unifying::unify;

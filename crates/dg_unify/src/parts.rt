@@ -1,10 +1,10 @@
 // The parts of values, one after another.
 
 ghost use Rattle.std.specs.Prelude.{◌≡◌, ℕ};
-ghost use Rattle.dg_meaning.specs.Values.{Label, Node, Values};
+ghost use Rattle.dg_meaning.specs.Values.{Value, Values};
 ghost use Rattle.dg_unify.specs.Store.{Store, Shows, IsClosureAt};
 ghost use Rattle.dg_unify.specs.declared.parts.Parts.TheVariants as form;
-ghost use Rattle.dg_unify.specs.Parts.{AreIn, SplitsInto, IsRest, ShowsInner, IsVariable};
+ghost use Rattle.dg_unify.specs.Parts.{parts_in, AreIn, SplitsInto, IsRest, ShowsInner, IsVariable};
 
 use crate::bindings::{Bindings, Ref, View};
 
@@ -97,7 +97,7 @@ pub fn variable_of(view: View) -> Option<Ref>
 
 /// The parts of a value; a variable has none.
 pub fn inner(view: View) -> Parts
-    ensures { (s : Store) (f : Label) (vs : Values) → Shows s (Node f vs) view → ShowsInner s vs result }
+    ensures { (s : Store) (w : Value) → Shows s w view → ShowsInner s (parts_in w) result }
 {
     match view {
         View::Unbound(_) => Parts::Nothing,

@@ -1,4 +1,5 @@
 use Rattle.std.proofs.Common.{refl, sym, subst, ◌∙◌}
+use Rattle.dg_meaning.specs.Values.{Node}
 use Rattle.dg_unify.specs.Store.{Shows}
 use Rattle.dg_unify.specs.Finds.{finds_at}
 use Rattle.dg_unify.proofs.StoreLemmas.{walked_to}
@@ -26,5 +27,5 @@ returns-in-None g c = λ o hx.
       label = node.f;
       parts = node.vs;
       is = node.is;
-      shows = c.inner.ensures s node.f node.vs (subst (λ w. Shows s w c.walk-view.result) node.is c.walk-view.ensures);
+      shows = c.inner.ensures s (Node node.f node.vs) (subst (λ w. Shows s w c.walk-view.result) node.is c.walk-view.ensures);
     }
