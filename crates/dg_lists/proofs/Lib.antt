@@ -1,3 +1,4 @@
 pub mod Stacks
 pub mod ReadLemmas
+pub mod WriteLemmas
 pub mod MakeLemmas

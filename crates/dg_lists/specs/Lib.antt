@@ -1,3 +1,4 @@
 pub mod Gathered
 pub mod Formed
 pub mod Reading
+pub mod Writing

@@ -4,7 +4,9 @@
 mod gather;
 mod numbers;
 mod reading;
+mod writing;
 
 pub use gather::{AuxFull, Gather, GatherMark};
 pub use numbers::{arith, compare};
 pub use reading::{from_cells, list_from_cells};
+pub use writing::{fully_bound, to_cells};
