@@ -27,4 +27,5 @@ pub mod Selects
 pub mod Worked
 pub mod WritingLemmas
 pub mod Opening
+pub mod Selecting
 pub mod Rules

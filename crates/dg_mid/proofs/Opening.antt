@@ -4,18 +4,21 @@ use Rattle.std.specs.Prelude.{reverse, Option, Some, None}
 use Rattle.std.proofs.lemmas.List.{append-nil, reverse-append}
 use Rattle.dg_base.specs.declared.program.Goal.{Goal}
 use Rattle.dg_base.specs.declared.program.Goal.TheVariants as goal
+use Rattle.dg_base.specs.declared.program.Term.{Term}
 use Rattle.dg_meaning.specs.OneRun.{Begins}
 use Rattle.dg_meaning.proofs.OneRun.{begins_on}
 use Rattle.dg_mid.specs.declared.code.Op.{Op}
 use Rattle.dg_mid.specs.declared.code.Op.TheVariants as op
+use Rattle.dg_mid.specs.declared.code.Gathered.{Gathered}
+use Rattle.dg_mid.specs.declared.code.Gathered.TheVariants as gathered
 use Rattle.dg_mid.specs.declared.code.Block.{Block}
 use Rattle.dg_mid.specs.declared.code.Code.{Code}
 use Rattle.dg_mid.specs.declared.writing.Level.{Level}
 use Rattle.dg_mid.specs.declared.writing.Level.TheVariants as level
 use Rattle.dg_mid.specs.declared.writing.Work.{Work}
 use Rattle.dg_mid.specs.Code.{block_at}
-use Rattle.dg_mid.specs.Codes.{End, Refuses, Backs, Commits, Leaves, Stands, jumps, commits, refuses, backs, leaves, once, negates, branch, exhausts, shields, forever, only, either, Others, last_list, more_lists}
-use Rattle.dg_mid.specs.Writing.{StandsFor, PutsFirst, Lands, Wraps, Leads, ComesTo, Moves, TailFor, Shares, OthersFor, ListLands, after_list, tail_ops, with_goal, with_level}
+use Rattle.dg_mid.specs.Codes.{End, Refuses, Backs, Commits, Leaves, Keeps, Stands, jumps, commits, refuses, backs, leaves, keeps, collects, accumulates, once, negates, branch, exhausts, shields, forever, only, either, Others, last_list, more_lists}
+use Rattle.dg_mid.specs.Writing.{StandsFor, PutsFirst, Lands, Wraps, Leads, ComesTo, Moves, TailFor, Shares, OthersFor, ListLands, after_list, tail_ops, with_goal, with_level, gathers}
 use Rattle.dg_mid.proofs.WritingLemmas.{reverse_put, block_made, made_begins}
 
 -- ## Blocks
@@ -33,7 +36,7 @@ of_jump code b rest end (jumps c ops goals e h) = h
 pub lands_jump : (blocks : List Block) (ops : List Op) (b : ℕ) → ops ≡ op.Goto b ∷ [] → Lands blocks blocks (reverse ops) b
 lands_jump blocks ops b e rest end s code begins = of_jump code b rest end (subst (λ l. Stands code (reverse l) rest end) e (s code begins))
 
-tail_later : (old new : List Block) → Begins old new → (tail : Option ℕ) (rest : List Goal) (end : End) → TailFor old tail rest end → TailFor new tail rest end
+pub tail_later : (old new : List Block) → Begins old new → (tail : Option ℕ) (rest : List Goal) (end : End) → TailFor old tail rest end → TailFor new tail rest end
 tail_later old new on None rest end h = λ code begins. h code (begins_on old new code.blocks on begins)
 tail_later old new on (Some b) rest end h = λ code begins. h code (begins_on old new code.blocks on begins)
 
@@ -58,11 +61,21 @@ leads_later old new on (level.Inner x others ∷ levels) goals end wanted last h
     (h.0, h.1, λ code begins. h.2 code (begins_on old new code.blocks on begins), leads_later old new on levels (others ++ h.0) h.1 wanted last h.3)
 leads_later old new on (level.Other test first tail others ∷ levels) goals end wanted last h =
     (h.0, h.1, h.2, tail_later old new on tail h.1 end h.3, leads_later old new on levels (others ++ goal.If test first h.0 ∷ h.1) end wanted last h.4)
+leads_later old new on (level.Branches s others ∷ levels) goals end wanted last h = (
+  h.0,
+  h.1,
+  h.2,
+  h.3,
+  λ code begins. h.4 code (begins_on old new code.blocks on begins),
+  tail_later old new on s.tail h.1 end h.5,
+  λ code begins. h.6 code (begins_on old new code.blocks on begins),
+  leads_later old new on levels (others ++ goal.Select s.site s.mode (s.left ++ h.0 ∷ h.2) ∷ h.1) end wanted last h.7,
+)
 leads_later old new on (level.Lists left alt tail others ∷ levels) goals end wanted last h =
     (h.0, h.1, h.2, h.3, others_later old new on alt h.2 h.1 end h.4, tail_later old new on tail h.1 end h.5, leads_later old new on levels (others ++ goal.Either (left ++ h.0 ∷ h.2) ∷ h.1) end wanted last h.6)
 
 -- what is open stays so where one goal goes in front
-with_leads : (old new : List Block) (before : Work) (g : Goal) (rest : List Goal) (end : End) (wanted : List Goal) (last : End) → Begins old new →
+pub with_leads : (old new : List Block) (before : Work) (g : Goal) (rest : List Goal) (end : End) (wanted : List Goal) (last : End) → Begins old new →
     Leads old (reverse before.levels) ((before.goals ++ g ∷ []) ++ rest) end wanted last → Leads new (reverse before.levels) (before.goals ++ g ∷ rest) end wanted last
 with_leads old new before g rest end wanted last on h =
     leads_later old new on (reverse before.levels) (before.goals ++ g ∷ rest) end wanted last
@@ -158,6 +171,26 @@ open_stoppable old new ops jump put inner alt lands e e' rest end h = record {
   behind = Leaves rest end;
   stands = λ code begins. subst (λ l. Stands code l [] (Leaves rest end)) (sym (ap reverse (e' ∙ ap (λ l. l ++ op.Leave ∷ []) e))) (leaves (op.Goto alt ∷ []) rest end (jumps alt [] rest end (lands rest end h code begins)));
   wraps = λ code begins xs s. shields alt inner xs rest end (subst (λ l. Stands code xs l (Leaves rest end)) (append-nil inner) s) (lands rest end h code begins);
+}
+
+stands_gathering : (code : Code) (whole : Gathered) (term into : Term) (alt : ℕ) (inner : List Goal) (xs others : List Op) (goals : List Goal) (end : End) →
+    Stands code xs inner (Keeps term) → block_at code alt ≡ op.TakeOut whole into ∷ others → Stands code others goals end →
+    Stands code (op.Collect term into alt ∷ xs) (gathers whole term inner into ∷ goals) end
+stands_gathering code gathered.List term into alt inner xs others goals end s at h = collects term into alt inner xs others goals end s at h
+stands_gathering code gathered.Sum term into alt inner xs others goals end s at h = accumulates term into alt inner xs others goals end s at h
+
+pub open_gathering : (old new : List Block) (ops put alone : List Op) (whole : Gathered) (term kept into taken : Term) (inner : List Goal) (alt : ℕ) → kept ≡ term → taken ≡ into →
+    put ≡ ops ++ op.TakeOut whole taken ∷ [] → new ≡ old ++ record { ops = reverse put } ∷ [] → alt ≡ length old → alone ≡ op.Keep kept ∷ [] →
+    (rest : List Goal) (end : End) → StandsFor old (reverse ops) rest end → Opened new (reverse alone) (op.Collect term into alt) inner (gathers whole term inner into) rest end
+open_gathering old new ops put alone whole term kept into taken inner alt same same' e made is e' rest end h = record {
+  goals = [];
+  behind = Keeps term;
+  stands = λ code begins. subst (λ l. Stands code (reverse l) [] (Keeps term)) (sym (e' ∙ ap (λ t. op.Keep t ∷ []) same)) (keeps term []);
+  wraps = λ code begins xs s.
+      let there : block_at code alt ≡ op.TakeOut whole into ∷ reverse ops =
+      block_made old new (reverse put) alt code made is begins ∙ ap reverse e ∙ reverse_put ops (op.TakeOut whole taken) ∙ ap (λ t. op.TakeOut whole t ∷ reverse ops) same' in
+      stands_gathering code whole term into alt inner xs (reverse ops) rest end (subst (λ l. Stands code xs l (Keeps term)) (append-nil inner) s) there
+      (h code (begins_on old new code.blocks (made_begins old new _ made) begins));
 }
 
 pub puts_forever : (old new : List Block) (ops put jump : List Op) (n b : ℕ) → n ≡ b → put ≡ ops ++ op.Branch n ∷ [] → new ≡ old ++ record { ops = reverse put } ∷ [] → b ≡ length old → jump ≡ op.Goto b ∷ [] →

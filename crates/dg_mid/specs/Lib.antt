@@ -13,3 +13,4 @@ pub mod Shapes
 pub mod Laws
 pub mod Writing
 pub mod Coded
+pub mod Copying

@@ -3,6 +3,7 @@ use Rattle.std.specs.Prelude.{ℕ, List, [], ◌∷◌, ◌++◌, ◌≡◌, Opt
 use Rattle.std.specs.List.{slice_get}
 use Rattle.dg_base.specs.declared.program.Goal.{Goal}
 use Rattle.dg_base.specs.declared.program.Goal.TheVariants as goal
+use Rattle.dg_base.specs.declared.program.Term.{Term}
 use Rattle.dg_base.specs.declared.program.Rule.{Rule}
 use Rattle.dg_base.specs.declared.program.Pred.{Pred}
 use Rattle.dg_meaning.specs.OneRun.{Begins}
@@ -10,13 +11,16 @@ use Rattle.dg_meaning.specs.Moves.{rules_of}
 use Rattle.dg_mid.specs.declared.code.Op.{Op}
 use Rattle.dg_mid.specs.declared.code.Op.TheVariants as op
 use Rattle.dg_mid.specs.declared.code.Block.{Block}
+use Rattle.dg_mid.specs.declared.code.Gathered.{Gathered}
+use Rattle.dg_mid.specs.declared.code.Gathered.TheVariants as gathered
 use Rattle.dg_mid.specs.declared.code.RuleCode.{RuleCode}
 use Rattle.dg_mid.specs.declared.code.Code.{Code}
 use Rattle.dg_mid.specs.declared.writing.Level.{Level}
 use Rattle.dg_mid.specs.declared.writing.Level.TheVariants as level
 use Rattle.dg_mid.specs.declared.writing.Work.{Work}
+use Rattle.dg_mid.specs.declared.branches.Branching.{Branching}
 use Rattle.dg_mid.specs.Code.{block_at, codes_of}
-use Rattle.dg_mid.specs.Codes.{End, Stands, RuleStands, RulesStand, Others}
+use Rattle.dg_mid.specs.Codes.{End, Stands, RuleStands, RulesStand, Others, Branches}
 
 -- ## Growing
 
@@ -66,6 +70,15 @@ abbrev pub after_list : List (List Goal) → ℕ → Option ℕ → List Goal �
 after_list [] b tail others = level.Inner (op.Branch b) others
 after_list (list ∷ lists) b tail others = level.Lists (list ∷ lists) (Some b) tail others
 
+-- Each of some blocks stands for its branch of a select with the goals behind it.
+abbrev pub BranchesFor : List Block → List ℕ → List (List Goal) → List Goal → End → Type 0
+BranchesFor blocks bs lists goals end = (code : Code) → Begins blocks code.blocks → Branches code bs lists goals end
+
+-- The goal that gathers.
+abbrev pub gathers : Gathered → Term → List Goal → Term → Goal
+gathers gathered.List term inner into = goal.Collect term inner into
+gathers gathered.Sum term inner into = goal.Accumulate term inner into
+
 -- ## What is open
 
 -- An instruction in front of code that stands for goals, with what comes behind them, makes code for others.
@@ -85,6 +98,20 @@ Leads blocks (level.Lists left alt tail others ∷ levels) goals end wanted last
     (list : List Goal) × (rest : List Goal) × (lists : List (List Goal)) × (goals ≡ list ++ rest)
     × OthersFor blocks alt lists rest end × TailFor blocks tail rest end
     × Leads blocks levels (others ++ goal.Either (left ++ list ∷ lists) ∷ rest) end wanted last
+Leads blocks (level.Branches s others ∷ levels) goals end wanted last =
+    (list : List Goal) × (rest : List Goal) × (lists : List (List Goal)) × (goals ≡ list ++ rest)
+    × BranchesFor blocks (reverse s.blocks.items) lists rest end × TailFor blocks s.tail rest end × BlockFor blocks s.behind rest end
+    × Leads blocks levels (others ++ goal.Select s.site s.mode (s.left ++ list ∷ lists) ∷ rest) end wanted last
+
+-- A select with the goals in front of it, of which some branches are written, comes to code for the goals that are wanted.
+pub record AtBranch (blocks : List Block) (s : Branching) (others : List Goal) (levels : List Level) (wanted : List Goal) (last : End) : Type 0 where
+  pub lists : List (List Goal)
+  pub rest : List Goal
+  pub end : End
+  pub branches : BranchesFor blocks (reverse s.blocks.items) lists rest end
+  pub tail : TailFor blocks s.tail rest end
+  pub behind : BlockFor blocks s.behind rest end
+  pub leads : Leads blocks levels (others ++ goal.Select s.site s.mode (s.left ++ lists) ∷ rest) end wanted last
 
 -- What is being written comes to code for the goals that are wanted.
 pub record ComesTo (blocks : List Block) (work : Work) (wanted : List Goal) (last : End) : Type 0 where

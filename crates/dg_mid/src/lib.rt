@@ -1,11 +1,14 @@
 //! Register code: what the goals of a program become for a machine.
 #![tactic(auto)]
 
+mod branches;
 mod code;
 mod laws;
 mod programs;
+mod terms;
 mod writing;
 
+pub use branches::Branching;
 pub use code::{Action, Block, Code, Gathered, Key, Op, RuleCode};
 pub use laws::{
     code_costs_its_work, code_moves_on, code_runs_as_searched, code_shows_the_game,

@@ -7,20 +7,22 @@ ghost use Rattle.dg_mid.specs.Actions.{goal_of};
 ghost use Rattle.dg_mid.specs.declared.code.Block.{Block};
 ghost use Rattle.dg_mid.specs.declared.code.Op.TheVariants as op;
 ghost use Rattle.dg_mid.specs.declared.writing.Level.TheVariants as level;
-ghost use Rattle.dg_mid.specs.Writing.{PutsFirst, Lands, Moves, with_goal, with_level, Shares, tail_ops, RuleFor, RulesFor, PredsFor, starting, ListLands, after_list};
+ghost use Rattle.dg_mid.specs.Writing.{PutsFirst, Lands, Moves, with_goal, with_level, gathers, Shares, tail_ops, RuleFor, RulesFor, PredsFor, starting, ListLands, after_list};
 ghost use Rattle.dg_mid.specs.Code.{label_of, first_label};
 ghost use Rattle.dg_meaning.specs.Selection.{label_at};
 ghost use Rattle.dg_base.specs.declared.program.Term.{out-Term};
 
-use crate::code::{Action, Block, Key, Op, RuleCode};
+use crate::branches::Branching;
+use crate::code::{Action, Block, Gathered, Key, Op, RuleCode};
+use crate::terms::copy;
 use dg_base::{Goal, Items, Pred, Rule, Term};
 use std::alloc::{AllocError, Global};
 
 /// The blocks that were written so far. Instructions in front of them stand in reverse order while they grow.
 #[derive(Drop)]
 pub struct Writer {
-    alloc: Global,
-    blocks: Items<Block>,
+    pub alloc: Global,
+    pub blocks: Items<Block>,
 }
 
 /// What comes when the goals at hand are written.
@@ -32,6 +34,8 @@ pub enum Level {
     Other(Items<Goal>, Items<Goal>, Option<u32>, Items<Goal>),
     /// The goals at hand are a list of an (or): the lists in front of it, the block of the next one, what all end with, and the goals in front.
     Lists(Items<Items<Goal>>, Option<u32>, Option<u32>, Items<Goal>),
+    /// The goals at hand are a branch of a select, with the goals in front of it.
+    Branches(Branching, Items<Goal>),
 }
 
 /// What is being written: instructions in reverse order, the goals in front of them, and what comes behind those, the next last.
@@ -146,6 +150,13 @@ impl Writer {
             Goal::Forever => self.endless(work),
             Goal::Either(lists) => self.choice(lists, work),
             Goal::If(test, first, other) => self.condition(test, first, other, work),
+            Goal::Select(site, mode, lists) => self.select(site, mode, lists, work),
+            Goal::Collect(term, inner, into) => {
+                self.gathering(Gathered::List, term, inner, into, work)
+            }
+            Goal::Accumulate(term, inner, into) => {
+                self.gathering(Gathered::Sum, term, inner, into, work)
+            }
             other => self.plain(other, work),
         }
     }
@@ -217,6 +228,24 @@ impl Writer {
         Ok(open(Op::Shield(alt), goals, levels, inner, ops)?)
     }
 
+    /// Opens goals of whose answers a value is gathered.
+    fn gathering(
+        &mut self,
+        whole: Gathered,
+        term: Term,
+        inner: Items<Goal>,
+        into: Term,
+        work: Work,
+    ) -> Result<Work, AllocError>
+        ensures { IfOk result (λ new. Moves self.old.blocks (with_goal (gathers whole term inner into) work) self.new.blocks new) }
+    {
+        let Work { ops, goals, levels } = work;
+        let ops = with(ops, Op::TakeOut(whole, copy(self.alloc, &into)?))?;
+        let alt = self.block(ops)?;
+        let ops = one(self.alloc, Op::Keep(copy(self.alloc, &term)?))?;
+        Ok(open(Op::Collect(term, into, alt), goals, levels, inner, ops)?)
+    }
+
     /// Writes an endless choice: a block that begins with a choice of itself.
     fn endless(&mut self, work: Work) -> Result<Work, AllocError>
         ensures { IfOk result (λ new. Moves self.old.blocks (with_goal goal.Forever work) self.new.blocks new) }
@@ -257,6 +286,7 @@ impl Writer {
             Level::Other(test, first, tail, others) => self.first_way(
                 test, first, tail, others, work,
             ),
+            Level::Branches(select, others) => self.next_branch(select, others, work),
         }
     }
 
@@ -356,7 +386,7 @@ impl Writer {
     }
 
     /// What two ways end with: the answer of a rule, or a block.
-    fn shared(&mut self, ops: Vec<Op>) -> Result<Option<u32>, AllocError>
+    pub fn shared(&mut self, ops: Vec<Op>) -> Result<Option<u32>, AllocError>
         ensures blocks { OnOk result (Begins self.old.blocks self.new.blocks) }
         ensures shares { IfOk result (λ tail. Shares self.old.blocks self.new.blocks (reverse ops.items) tail) }
     {
@@ -578,7 +608,7 @@ fn at_next(
 }
 
 /// What a way ends with, once more.
-fn again(alloc: Global, tail: Option<u32>) -> Result<Vec<Op>, AllocError>
+pub fn again(alloc: Global, tail: Option<u32>) -> Result<Vec<Op>, AllocError>
     ensures { IfOk result (λ new. new.items ≡ tail_ops tail) }
 {
     match tail {
@@ -659,7 +689,7 @@ fn returns_at_once(ops: &[Op]) -> bool
 }
 
 /// One instruction.
-fn one(alloc: Global, op: Op) -> Result<Vec<Op>, AllocError>
+pub fn one(alloc: Global, op: Op) -> Result<Vec<Op>, AllocError>
     ensures { IfOk result (λ new. new.items ≡ op ∷ []) }
 {
     let mut ops = Vec::new(alloc);

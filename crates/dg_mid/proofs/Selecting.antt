@@ -1,0 +1,108 @@
+-- The branches of a select, written from the last to the first.
+use Rattle.std.proofs.Common.{◌≡◌, ℕ, List, [], ◌∷◌, ◌++◌, length, refl, sym, ap, ◌∙◌, subst, append_assoc}
+use Rattle.std.specs.Prelude.{reverse, None}
+use Rattle.std.proofs.lemmas.List.{append-nil, reverse-append}
+use Rattle.dg_base.specs.declared.program.Goal.{Goal}
+use Rattle.dg_base.specs.declared.program.Goal.TheVariants as goal
+use Rattle.dg_meaning.specs.OneRun.{Begins}
+use Rattle.dg_meaning.proofs.OneRun.{begins_on}
+use Rattle.dg_mid.specs.declared.code.Op.{Op}
+use Rattle.dg_mid.specs.declared.code.Op.TheVariants as op
+use Rattle.dg_mid.specs.declared.code.Block.{Block}
+use Rattle.dg_mid.specs.declared.writing.Level.{Level}
+use Rattle.dg_mid.specs.declared.writing.Level.TheVariants as level
+use Rattle.dg_mid.specs.declared.writing.Work.{Work}
+use Rattle.dg_mid.specs.declared.branches.Branching.{Branching}
+use Rattle.dg_mid.specs.Codes.{End, Stands, selects, Branches, no_branch, a_branch}
+use Rattle.dg_mid.specs.Writing.{Lands, Leads, ComesTo, Moves, TailFor, BlockFor, Shares, AtBranch, tail_ops, with_goal, with_level}
+use Rattle.dg_mid.proofs.Opening.{tail_stands, tail_later, leads_later, with_leads, lands_block}
+
+pub at_next : (blocks : List Block) (s : Branching) (popped : List (List Goal)) (list others : List Goal) (levels : List Level) (after : Work) → s.left ≡ popped ++ list ∷ [] →
+    after.ops.items ≡ tail_ops s.tail → after.goals ≡ list → after.levels ≡ levels ++ level.Branches (record s { left = popped }) others ∷ [] →
+    (wanted : List Goal) (last : End) → AtBranch blocks s others (reverse levels) wanted last → ComesTo blocks after wanted last
+at_next blocks s popped list others levels after split ops_are goals_are levels_are wanted last h =
+    let t : Branching = record s { left = popped } in
+    record {
+      rest = h.rest;
+      end = h.end;
+      stands = tail_stands blocks s.tail after.ops.items h.rest h.end ops_are h.tail;
+      leads = subst (λ l. Leads blocks l (after.goals ++ h.rest) h.end wanted last) (sym (ap reverse levels_are ∙ reverse-append levels (level.Branches t others ∷ [])))
+          (subst (λ l. Leads blocks (level.Branches t others ∷ reverse levels) (l ++ h.rest) h.end wanted last) (sym goals_are) (
+            list,
+            h.rest,
+            h.lists,
+            refl,
+            h.branches,
+            h.tail,
+            h.behind,
+            subst (λ l. Leads blocks (reverse levels) (others ++ goal.Select s.site s.mode l ∷ h.rest) h.end wanted last) (ap (λ l. l ++ h.lists) split ∙ append_assoc popped (list ∷ []) h.lists) h.leads,
+          ));
+    }
+
+pub at_end : (blocks : List Block) (s : Branching) (others : List Goal) (levels : List Level) (after : Work) → s.left ≡ [] →
+    after.ops.items ≡ op.Select s.site s.mode (reverse s.blocks.items) s.behind ∷ [] → after.goals ≡ others → after.levels ≡ levels →
+    (wanted : List Goal) (last : End) → AtBranch blocks s others (reverse levels) wanted last → ComesTo blocks after wanted last
+at_end blocks s others levels after none ops_are goals_are levels_are wanted last h =
+    let rest : List Goal = goal.Select s.site s.mode h.lists ∷ h.rest in
+    record {
+      rest = rest;
+      end = h.end;
+      stands = λ code begins. subst (λ l. Stands code (reverse l) rest h.end) (sym ops_are)
+          (selects s.site s.mode (reverse s.blocks.items) h.lists s.behind [] h.rest h.end (h.branches code begins) (h.behind code begins));
+      leads = subst (λ l. Leads blocks (reverse l) (after.goals ++ rest) h.end wanted last) (sym levels_are)
+          (subst (λ l. Leads blocks (reverse levels) (l ++ rest) h.end wanted last) (sym goals_are)
+          (subst (λ l. Leads blocks (reverse levels) (others ++ goal.Select s.site s.mode (l ++ h.lists) ∷ h.rest) h.end wanted last) none h.leads));
+    }
+
+pub tail_lands : (old new : List Block) (ops : List Op) (b : ℕ) → ops ≡ op.Return ∷ [] → new ≡ old ++ record { ops = reverse ops } ∷ [] → b ≡ length old →
+    (rest : List Goal) (end : End) → TailFor old None rest end → BlockFor new b rest end
+tail_lands old new ops b e made is rest end h =
+    lands_block old new (reverse ops) b made is rest end (λ code begins. subst (λ l. Stands code (reverse l) rest end) (sym e) (h code begins))
+
+pub opens_select : (old mid new : List Block) (before after : Work) (s : Branching) → s.blocks.items ≡ [] → Begins old mid → Begins mid new → Shares old mid (reverse before.ops.items) s.tail →
+    ((rest : List Goal) (end : End) → TailFor mid s.tail rest end → BlockFor new s.behind rest end) →
+    ((wanted : List Goal) (last : End) → AtBranch new s before.goals (reverse before.levels) wanted last → ComesTo new after wanted last) →
+    Moves old (with_goal (goal.Select s.site s.mode s.left) before) new after
+opens_select old mid new before after s none on on' shares behind comes =
+    let begins : Begins old new = begins_on old mid new on on' in
+    record {
+      blocks = begins;
+      comes = λ wanted last h.
+          let t : TailFor mid s.tail h.rest h.end = shares h.rest h.end h.stands in
+          comes wanted last (record {
+            lists = [];
+            rest = h.rest;
+            end = h.end;
+            branches = λ code begun. subst (λ l. Branches code (reverse l) [] h.rest h.end) (sym none) (no_branch h.rest h.end);
+            tail = tail_later mid new on' s.tail h.rest h.end t;
+            behind = behind h.rest h.end t;
+            leads = subst (λ l. Leads new (reverse before.levels) (before.goals ++ goal.Select s.site s.mode l ∷ h.rest) h.end wanted last) (sym (append-nil s.left))
+                (with_leads old new before (goal.Select s.site s.mode s.left) h.rest h.end wanted last begins h.leads);
+          });
+    }
+
+pub closes_branch : (old new : List Block) (before after : Work) (s t : Branching) (others : List Goal) (b : ℕ) → before.goals ≡ [] → Begins old new → Lands old new (reverse before.ops.items) b →
+    t.blocks.items ≡ s.blocks.items ++ b ∷ [] →
+    ((wanted : List Goal) (last : End) → AtBranch new (record s { blocks = t.blocks }) others (reverse before.levels) wanted last → ComesTo new after wanted last) →
+    Moves old (with_level (level.Branches s others) before) new after
+closes_branch old new before after s t others b none on lands put comes = record {
+  blocks = on;
+  comes = λ wanted last h.
+      let closed : Leads old (level.Branches s others ∷ reverse before.levels) h.rest h.end wanted last =
+      subst (λ l. Leads old l h.rest h.end wanted last) (reverse-append before.levels (level.Branches s others ∷ []))
+      (subst (λ l. Leads old (reverse (before.levels ++ level.Branches s others ∷ [])) (l ++ h.rest) h.end wanted last) none h.leads) in
+      let list : List Goal = closed.0 in
+      let rest : List Goal = closed.1 in
+      let lists : List (List Goal) = closed.2 in
+      let there : BlockFor new b (list ++ rest) h.end = subst (λ l. BlockFor new b l h.end) closed.3 (lands h.rest h.end h.stands) in
+      comes wanted last (record {
+        lists = list ∷ lists;
+        rest = rest;
+        end = h.end;
+        branches = λ code begins. subst (λ l. Branches code l (list ∷ lists) rest h.end) (sym (ap reverse put ∙ reverse-append s.blocks.items (b ∷ [])))
+            (a_branch b (reverse s.blocks.items) list lists rest h.end (there code begins) (closed.4 code (begins_on old new code.blocks on begins)));
+        tail = tail_later old new on s.tail rest h.end closed.5;
+        behind = λ code begins. closed.6 code (begins_on old new code.blocks on begins);
+        leads = leads_later old new on (reverse before.levels) (others ++ goal.Select s.site s.mode (s.left ++ list ∷ lists) ∷ rest) h.end wanted last closed.7;
+      });
+}
