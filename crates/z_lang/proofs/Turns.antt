@@ -11,7 +11,7 @@ use Rattle.z_model.specs.Run.{ZGiven, ZState, ZRun, zrun}
 use Rattle.z_lang.specs.Leads.{Leads, Ends}
 use Rattle.z_lang.proofs.Stretches.{leads_none, leads_then}
 use Rattle.z_lang.specs.Turns.{Turn, To, Over, Turning, Reaches, here, on, printed_by}
-use Rattle.z_lang.specs.WholeRuns.{Within, IsOver, Shown, Does, IsTurn}
+use Rattle.z_lang.specs.WholeRuns.{Within, IsOver, Shown, Does, IsTurn, AreTurns, WholeRuns}
 
 -- ---- before the end of a stretch
 
@@ -178,3 +178,15 @@ module _ {E A : Type 0} (w : ZGiven) (ended : E → ZEnd) (t : Turning E A) (Rep
       let e' : turn.count + (k - c.count - turn.count) ≡ k - c.count = omega arith in
       let same : zrun w k z ≡ run_at (ended end) d.0 = ap (λ (i : ℕ). zrun w i z) (sym e) ∙ c.leads.by (k - c.count) ∙ ap (λ (i : ℕ). zrun w i c.there) (sym e') ∙ d.2.by (k - c.count - turn.count) in
       (ap (λ (x : ZRun). x.end) same, ap (λ (x : ZRun). x.state.output) same ∙ d.1)
+
+-- ---- numbered boundaries
+
+pub numbered : (w : ZGiven) (t : Turning ZEnd ℕ) (at : ℕ → ZState) → AreTurns w t at → WholeRuns w t at
+numbered w t at turns = record {
+  shows = λ k a. shows w (λ end. end) t (λ b z. z ≡ at b) turn k a (at a) refl;
+  suffices = λ k a b n r le. suffices w (λ end. end) t (λ b z. z ≡ at b) turn k {a = a} {b = b} {n = n} (at a) refl r le;
+  ends_by = λ k a b n end bytes r next le. ends_by w (λ end. end) t (λ b z. z ≡ at b) turn k {a = a} {b = b} {n = n} end bytes (at a) refl r next le;
+}
+  where
+    turn : (a : ℕ) (z : ZState) → z ≡ at a → IsTurn w (λ end. end) t (λ b z. z ≡ at b) a z
+    turn a z e = subst (λ (x : ZState). IsTurn w (λ end. end) t (λ b y. y ≡ at b) a x) (sym e) (turns a)

@@ -1,9 +1,9 @@
 -- Whole runs that go from one boundary to the next: what any number of instructions shows of them.
-use Rattle.std.specs.Prelude.{◌≡◌, ℕ, ◌≤◌, ◌⊎◌, List}
+use Rattle.std.specs.Prelude.{◌≡◌, ℕ, ◌+◌, ◌≤◌, ◌⊎◌, List}
 use Rattle.z_model.specs.declared.end.ZEnd.{ZEnd}
 use Rattle.z_model.specs.declared.end.ZEnd.TheVariants as ends
 use Rattle.dg_base.specs.Begins.{Begins}
-use Rattle.z_model.specs.Run.{ZGiven, ZState, ZRun}
+use Rattle.z_model.specs.Run.{ZGiven, ZState, ZRun, zrun}
 use Rattle.z_lang.specs.Leads.{Leads, Ends}
 use Rattle.z_lang.specs.Turns.{Turn, To, Over, Turning, Reaches, printed_by}
 
@@ -40,3 +40,17 @@ pub record IsTurn {E A : Type 0} (w : ZGiven) (ended : E → ZEnd) (t : Turning 
   pub some : 1 ≤ count
   pub most : count ≤ t.cost a
   pub does : Does w ended Rep (t.next a) count z
+
+-- ---- boundaries that are numbered, as those of one run can be
+
+-- Each numbered boundary's turn is the player's, from its state.
+abbrev pub AreTurns : ZGiven → Turning ZEnd ℕ → (ℕ → ZState) → Type 0
+AreTurns w t at = (a : ℕ) → IsTurn w (λ end. end) t (λ b z. z ≡ at b) a (at a)
+
+-- What any number of instructions has written lies between two boundaries; as many as the turns cost suffice to come to a boundary, and with its own
+-- turn to an end.
+pub record WholeRuns (w : ZGiven) (t : Turning ZEnd ℕ) (at : ℕ → ZState) : Type 0 where
+  pub shows : (k a : ℕ) → Shown (λ end. end) t a (zrun w k (at a))
+  pub suffices : (k a b n : ℕ) → Reaches t a n b → n ≤ k → Begins (t.out b) (zrun w k (at a)).state.output
+  pub ends_by : (k a b n : ℕ) (end : ZEnd) (bytes : List ℕ) → Reaches t a n b → t.next b ≡ Over end bytes → n + t.cost b ≤ k →
+      ((zrun w k (at a)).end ≡ end) × ((zrun w k (at a)).state.output ≡ bytes)

@@ -19,7 +19,10 @@ ghost use Rattle.z_lang.specs.Sizes.{TakesBytes};
 ghost use Rattle.z_lang.specs.Standing.{ListStands, RoutinesFollow};
 ghost use Rattle.z_lang.specs.declared.act.Routine.{Routine};
 ghost use Rattle.z_code.specs.Targets.{Names};
-ghost use Rattle.z_model.specs.Run.{ZGiven};
+ghost use Rattle.z_lang.specs.Turns.{Turning};
+ghost use Rattle.z_lang.specs.WholeRuns.{AreTurns, WholeRuns};
+ghost use Rattle.z_model.specs.Run.{ZGiven, ZState};
+ghost use Rattle.z_model.specs.declared.end.ZEnd.{ZEnd};
 
 pub use act::{Act, Args, Atom, Comparison, Function, Print, Routine, Test, Width};
 pub use emit::compile;
@@ -61,4 +64,9 @@ pub fn labels_lead()
 pub fn constructs_run()
     ensures { (p : Program) (f w : ℕ) (body : List Act) (t : Test) (l e : ℕ) (first other more : List Act) (s s' : State) (n : ℕ) →
         ConstructsRun p f w body t l e first other more s s' n }
+{}
+
+/// A run that goes from one boundary to the next shows, at any number of instructions, no more and no less than its boundaries do.
+pub fn whole_runs()
+    ensures { (w : ZGiven) (t : Turning ZEnd ℕ) (at : ℕ → ZState) → AreTurns w t at → WholeRuns w t at }
 {}
