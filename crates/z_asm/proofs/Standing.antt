@@ -86,12 +86,12 @@ mapped f [] k x e = absurd (cc)
 mapped f (y ∷ xs) zero x e = ap (λ z. Some (f z)) (same_Some y x e)
 mapped f (y ∷ xs) (suc k) x e = mapped f xs k x e
 
-within : {A : Type 0} (xs : List A) (k : ℕ) (x : A) → slice_get xs k ≡ Some x → k < length xs
+pub within : {A : Type 0} (xs : List A) (k : ℕ) (x : A) → slice_get xs k ≡ Some x → k < length xs
 within [] k x e = absurd (cc)
 within (y ∷ xs) zero x e = omega arith
 within (y ∷ xs) (suc k) x e = let r = within xs k x e in omega arith
 
-many : {A B : Type 0} (f : A → B) (xs : List A) → length (map f xs) ≡ length xs
+pub many : {A B : Type 0} (f : A → B) (xs : List A) → length (map f xs) ≡ length xs
 many f [] = refl
 many f (x ∷ xs) = ap suc (many f xs)
 

@@ -1,0 +1,4 @@
+pub mod Images
+pub mod Addresses
+pub mod Unbroken
+pub mod Playing

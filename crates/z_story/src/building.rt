@@ -1,0 +1,64 @@
+// Routines, compiled and assembled.
+ghost use Rattle.std.specs.Prelude.{◌≡◌, map, IfOk, IsErrOf};
+ghost use Rattle.z_asm.specs.declared.layout.AsmFault.TheVariants.{OutOfMemory};
+ghost use Rattle.z_asm.specs.Story.{story_of, IsTooLarge};
+ghost use Rattle.z_story.specs.Parts.{AreParts, code_of, image_of};
+ghost use Rattle.z_story.specs.Does.{StoryDoes};
+
+use sqlite_items::Items;
+use std::alloc::{AllocError, Global};
+use z_asm::{AsmFault, Code, Image, Table, assemble};
+use z_lang::{Routine, acts_take_bytes, bodies_open, compile};
+
+/// Tables, the texts of strings, and routines as acts, each named by its number.
+#[derive(Drop)]
+pub struct Parts {
+    pub tables: Items<Table>,
+    pub strings: Items<Items<u8>>,
+    pub routines: Items<Routine>,
+}
+
+fn codes_of(alloc: Global, routines: &[Routine]) -> Result<Items<Code>, AllocError>
+    ensures { IfOk result (λ codes. codes ≡ map code_of routines.now) }
+{
+    let mut codes = Items::new(alloc);
+    for routine in routines {
+        let ops = Items::from_vec(compile(alloc, routine)?);
+        codes.push(Code {
+            locals: routine.locals,
+            ops,
+        })?;
+    }
+    Ok(codes)
+}
+
+fn compiled(alloc: Global, parts: Parts) -> Result<Image, AllocError>
+    ensures { IfOk result (λ image. image ≡ image_of parts) }
+{
+    let Parts {
+        tables,
+        strings,
+        routines,
+    } = parts;
+    let routines = codes_of(alloc, routines.as_slice())?;
+    Ok(Image {
+        tables,
+        strings,
+        routines,
+    })
+}
+
+/// The story of some parts, which plays routine 0.
+pub fn build(alloc: Global, parts: Parts) -> Result<Vec<u8>, AsmFault>
+    requires { AreParts parts }
+    ensures story { IfOk result (λ story. story.items ≡ story_of (image_of parts)) }
+    ensures fits { IfOk result (λ _. IsTooLarge (image_of parts) → ⊥) }
+    ensures large { IsErrOf result AsmFault.TooLarge → IsTooLarge (image_of parts) }
+    ensures does { IfOk result (λ story. StoryDoes parts story.items) }
+{
+    bodies_open();
+    acts_take_bytes();
+    crate::routines_do();
+    let image = compiled(alloc, parts)?;
+    assemble(alloc, &image)
+}
