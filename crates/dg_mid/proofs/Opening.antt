@@ -1,5 +1,5 @@
 -- What is open while code is written.
-use Rattle.std.proofs.Common.{◌≡◌, ℕ, List, [], ◌∷◌, ◌++◌, refl, sym, ap, ◌∙◌, subst, length, append_assoc}
+use Rattle.std.proofs.Common.{◌≡◌, ℕ, ◌<◌, arith, List, [], ◌∷◌, ◌++◌, refl, sym, ap, ◌∙◌, subst, length, append_assoc}
 use Rattle.std.specs.Prelude.{reverse, Option, Some, None}
 use Rattle.std.proofs.lemmas.List.{append-nil, reverse-append}
 use Rattle.dg_base.specs.declared.program.Goal.{Goal}
@@ -18,23 +18,31 @@ use Rattle.dg_mid.specs.declared.writing.Level.TheVariants as level
 use Rattle.dg_mid.specs.declared.writing.Work.{Work}
 use Rattle.dg_mid.specs.Code.{block_at}
 use Rattle.dg_mid.specs.Codes.{End, Refuses, Backs, Commits, Leaves, Keeps, Stands, jumps, commits, refuses, backs, leaves, keeps, collects, accumulates, once, negates, branch, exhausts, shields, forever, only, either, Others, last_list, more_lists}
-use Rattle.dg_mid.specs.Writing.{StandsFor, PutsFirst, Lands, Wraps, Leads, ComesTo, Moves, TailFor, Shares, OthersFor, ListLands, after_list, tail_ops, with_goal, with_level, gathers}
-use Rattle.dg_mid.proofs.WritingLemmas.{reverse_put, block_made, made_begins}
+use Rattle.dg_mid.specs.Tidying.{BlocksTidy, DoesMore, Neat, IsPlain, TailTidy, LevelTidy, LevelsTidy, WorkTidy, LandsTidy}
+use Rattle.dg_mid.specs.Writing.{StandsFor, BlockFor, PutsFirst, Lands, Wraps, Leads, ComesTo, Moves, TailFor, Shares, OthersFor, ListLands, after_list, tail_ops, with_goal, with_level, gathers}
+use Rattle.dg_mid.specs.Potential.{begins_return, begins_goto, OpsTidy}
+use Rattle.dg_mid.proofs.WritingLemmas.{reverse_put, block_made, made_begins, tail_neat_later, levels_later, neat_put, neat_tail, plain_return, no_answer_back, blocks_put, there_put, more_put, lands_neat, jump_neat, block_neat}
 
 -- ## Blocks
 
 pub begins_here : (blocks : List Block) → Begins blocks blocks
 begins_here blocks = record { behind = []; is = sym (append-nil blocks) }
 
-pub lands_block : (old now : List Block) (ops : List Op) (b : ℕ) → now ≡ old ++ record { ops = ops } ∷ [] → b ≡ length old → Lands old now ops b
-lands_block old now ops b made is rest end s code begins =
+pub block_stands : (old now : List Block) (ops : List Op) (b : ℕ) → now ≡ old ++ record { ops = ops } ∷ [] → b ≡ length old → (rest : List Goal) (end : End) → StandsFor old ops rest end → BlockFor now b rest end
+block_stands old now ops b made is rest end s code begins =
     subst (λ l. Stands code l rest end) (sym (block_made old now ops b code made is begins)) (s code (begins_on old now code.blocks (made_begins old now _ made) begins))
+
+pub lands_block : (old now : List Block) (ops : List Op) (b : ℕ) → now ≡ old ++ record { ops = reverse ops } ∷ [] → b ≡ length old → ((c : ℕ) → ops ≡ op.Goto c ∷ [] → ⊥) → Lands old now (reverse ops) b
+lands_block old now ops b made is not = record { stands = block_stands old now (reverse ops) b made is; neat = lands_neat old now ops b made is not }
 
 of_jump : (code : Code) (b : ℕ) (rest : List Goal) (end : End) → Stands code (op.Goto b ∷ []) rest end → Stands code (block_at code b) rest end
 of_jump code b rest end (jumps c ops goals e h) = h
 
 pub lands_jump : (blocks : List Block) (ops : List Op) (b : ℕ) → ops ≡ op.Goto b ∷ [] → Lands blocks blocks (reverse ops) b
-lands_jump blocks ops b e rest end s code begins = of_jump code b rest end (subst (λ l. Stands code (reverse l) rest end) e (s code begins))
+lands_jump blocks ops b e = record {
+  stands = λ rest end s code begins. of_jump code b rest end (subst (λ l. Stands code (reverse l) rest end) e (s code begins));
+  neat = jump_neat blocks ops b e;
+}
 
 pub tail_later : (old new : List Block) → Begins old new → (tail : Option ℕ) (rest : List Goal) (end : End) → TailFor old tail rest end → TailFor new tail rest end
 tail_later old new on None rest end h = λ code begins. h code (begins_on old new code.blocks on begins)
@@ -50,7 +58,13 @@ tail_stands blocks None ops rest end e h = λ code begins. subst (λ l. Stands c
 tail_stands blocks (Some b) ops rest end e h = λ code begins. subst (λ l. Stands code (reverse l) rest end) (sym e) (jumps b [] rest end (h code begins))
 
 pub shares_return : (blocks : List Block) (ops : List Op) → ops ≡ op.Return ∷ [] → Shares blocks blocks (reverse ops) None
-shares_return blocks ops e rest end s code begins = subst (λ l. Stands code (reverse l) rest end) e (s code begins)
+shares_return blocks ops e = record { stands = λ rest end s code begins. subst (λ l. Stands code (reverse l) rest end) e (s code begins); neat = λ h. (h.blocks_are, tt) }
+
+pub shares_block : (old new : List Block) (ops : List Op) (b : ℕ) → Lands old new (reverse ops) b → (ops ≡ op.Return ∷ [] → ⊥) → Shares old new (reverse ops) (Some b)
+shares_block old new ops b lands not = record {
+  stands = lands.stands;
+  neat = λ h. let l : LandsTidy new (reverse ops) b = lands.neat h in (l.blocks_are, l.more (no_answer_back old ops not h.first));
+}
 
 -- ## Levels
 
@@ -85,10 +99,11 @@ pub puts_moves : (old new : List Block) (before after : Work) (g : Goal) → aft
     PutsFirst (g ∷ []) old new (reverse before.ops.items) (reverse after.ops.items) → Moves old (with_goal g before) new after
 puts_moves old new before after g same still on put = record {
   blocks = on;
+  neat = λ h. record { neat = put.neat h.neat; levels = subst (λ l. LevelsTidy new (reverse l)) (sym still) (levels_later old new on (reverse before.levels) h.levels) };
   comes = λ wanted last h. record {
     rest = g ∷ h.rest;
     end = h.end;
-    stands = put h.rest h.end h.stands;
+    stands = put.stands h.rest h.end h.stands;
     leads = subst (λ l. Leads new (reverse l) (after.goals ++ g ∷ h.rest) h.end wanted last) (sym still)
         (subst (λ l. Leads new (reverse before.levels) (l ++ g ∷ h.rest) h.end wanted last) (sym same) (with_leads old new before g h.rest h.end wanted last on h.leads));
   };
@@ -102,10 +117,14 @@ pub record Opened (new : List Block) (ops : List Op) (x : Op) (inner : List Goal
   pub wraps : Wraps new x (inner ++ goals) behind (g ∷ rest) end
 
 pub opens : (old new : List Block) (before after : Work) (ops : List Op) (g : Goal) (x : Op) (inner : List Goal) → Begins old new → after.ops.items ≡ ops → after.goals ≡ inner →
-    after.levels ≡ before.levels ++ level.Inner x before.goals ∷ [] →
+    after.levels ≡ before.levels ++ level.Inner x before.goals ∷ [] → IsPlain x → (Neat old (reverse before.ops.items) → Neat new (reverse ops)) →
     ((rest : List Goal) (end : End) → StandsFor old (reverse before.ops.items) rest end → Opened new (reverse ops) x inner g rest end) → Moves old (with_goal g before) new after
-opens old new before after ops g x inner on ops_are goals_are levels_are opened = record {
+opens old new before after ops g x inner on ops_are goals_are levels_are plain good opened = record {
   blocks = on;
+  neat = λ h. record {
+    neat = subst (λ l. Neat new (reverse l)) (sym ops_are) (good h.neat);
+    levels = subst (LevelsTidy new) (sym (ap reverse levels_are ∙ reverse-append before.levels (level.Inner x before.goals ∷ []))) (plain, levels_later old new on (reverse before.levels) h.levels);
+  };
   comes = λ wanted last h.
       let o = opened h.rest h.end h.stands in
       record {
@@ -122,6 +141,9 @@ pub closes : (blocks : List Block) (before after : Work) (x : Op) (others : List
     Moves blocks (with_level (level.Inner x others) before) blocks after
 closes blocks before after x others none ops_are goals_are levels_are = record {
   blocks = begins_here blocks;
+  neat = λ h.
+      let l : LevelsTidy blocks (level.Inner x others ∷ reverse before.levels) = subst (LevelsTidy blocks) (reverse-append before.levels (level.Inner x others ∷ [])) h.levels in
+      record { neat = neat_put blocks before.ops.items after.ops.items x ops_are l.0 h.neat; levels = subst (λ k. LevelsTidy blocks (reverse k)) (sym levels_are) l.1 };
   comes = λ wanted last h.
       let closed : Leads blocks (level.Inner x others ∷ reverse before.levels) h.rest h.end wanted last =
       subst (λ l. Leads blocks l h.rest h.end wanted last) (reverse-append before.levels (level.Inner x others ∷ []))
@@ -143,7 +165,7 @@ open_not old new ops alone inner alt lands e rest end h = record {
   goals = [];
   behind = Refuses;
   stands = λ code begins. subst (λ l. Stands code (reverse l) [] Refuses) (sym e) (refuses []);
-  wraps = λ code begins xs s. negates alt inner xs rest end (subst (λ l. Stands code xs l Refuses) (append-nil inner) s) (lands rest end h code begins);
+  wraps = λ code begins xs s. negates alt inner xs rest end (subst (λ l. Stands code xs l Refuses) (append-nil inner) s) (lands.stands rest end h code begins);
 }
 
 pub open_exhaust : (old new : List Block) (ops alone : List Op) (inner : List Goal) (alt : ℕ) → Lands old new (reverse ops) alt → alone ≡ op.Back ∷ [] →
@@ -152,7 +174,7 @@ open_exhaust old new ops alone inner alt lands e rest end h = record {
   goals = [];
   behind = Backs;
   stands = λ code begins. subst (λ l. Stands code (reverse l) [] Backs) (sym e) (backs []);
-  wraps = λ code begins xs s. exhausts alt inner xs rest end (subst (λ l. Stands code xs l Backs) (append-nil inner) s) (lands rest end h code begins);
+  wraps = λ code begins xs s. exhausts alt inner xs rest end (subst (λ l. Stands code xs l Backs) (append-nil inner) s) (lands.stands rest end h code begins);
 }
 
 pub open_once : (blocks : List Block) (ops put : List Op) (inner : List Goal) → put ≡ ops ++ op.Commit ∷ [] →
@@ -169,9 +191,12 @@ pub open_stoppable : (old new : List Block) (ops jump put : List Op) (inner : Li
 open_stoppable old new ops jump put inner alt lands e e' rest end h = record {
   goals = [];
   behind = Leaves rest end;
-  stands = λ code begins. subst (λ l. Stands code l [] (Leaves rest end)) (sym (ap reverse (e' ∙ ap (λ l. l ++ op.Leave ∷ []) e))) (leaves (op.Goto alt ∷ []) rest end (jumps alt [] rest end (lands rest end h code begins)));
-  wraps = λ code begins xs s. shields alt inner xs rest end (subst (λ l. Stands code xs l (Leaves rest end)) (append-nil inner) s) (lands rest end h code begins);
+  stands = λ code begins. subst (λ l. Stands code l [] (Leaves rest end)) (sym (ap reverse (e' ∙ ap (λ l. l ++ op.Leave ∷ []) e))) (leaves (op.Goto alt ∷ []) rest end (jumps alt [] rest end (lands.stands rest end h code begins)));
+  wraps = λ code begins xs s. shields alt inner xs rest end (subst (λ l. Stands code xs l (Leaves rest end)) (append-nil inner) s) (lands.stands rest end h code begins);
 }
+
+pub neat_leave : (new : List Block) (jump put : List Op) (alt : ℕ) → jump ≡ op.Goto alt ∷ [] → put ≡ jump ++ op.Leave ∷ [] → BlocksTidy new → Neat new (reverse put)
+neat_leave new jump put alt e e' h = subst (λ l. Neat new (reverse l)) (sym (e' ∙ ap (λ l. l ++ op.Leave ∷ []) e)) (record { blocks_are = h; first = tt; queries = λ code begins. (tt, (tt, tt)) })
 
 stands_gathering : (code : Code) (whole : Gathered) (term into : Term) (alt : ℕ) (inner : List Goal) (xs others : List Op) (goals : List Goal) (end : End) →
     Stands code xs inner (Keeps term) → block_at code alt ≡ op.TakeOut whole into ∷ others → Stands code others goals end →
@@ -195,11 +220,16 @@ open_gathering old new ops put alone whole term kept into taken inner alt same s
 
 pub puts_forever : (old new : List Block) (ops put jump : List Op) (n b : ℕ) → n ≡ b → put ≡ ops ++ op.Branch n ∷ [] → new ≡ old ++ record { ops = reverse put } ∷ [] → b ≡ length old → jump ≡ op.Goto b ∷ [] →
     PutsFirst (goal.Forever ∷ []) old new (reverse ops) (reverse jump)
-puts_forever old new ops put jump n b same e made is e' rest end h code begins =
-    let there : block_at code b ≡ op.Branch b ∷ reverse ops = block_made old new (reverse put) b code made is begins ∙ ap reverse e ∙ reverse_put ops (op.Branch n) ∙ ap (λ k. op.Branch k ∷ reverse ops) same in
-    let behind : Stands code (reverse ops) rest end = h code (begins_on old new code.blocks (made_begins old new _ made) begins) in
-    subst (λ l. Stands code (reverse l) (goal.Forever ∷ rest) end) (sym e')
-    (jumps b [] (goal.Forever ∷ rest) end (subst (λ l. Stands code l (goal.Forever ∷ rest) end) (sym there) (forever b (reverse ops) rest end there behind)))
+puts_forever old new ops put jump n b same e made is e' = record {
+  stands = λ rest end h code begins.
+      let there : block_at code b ≡ op.Branch b ∷ reverse ops = block_made old new (reverse put) b code made is begins ∙ ap reverse e ∙ reverse_put ops (op.Branch n) ∙ ap (λ k. op.Branch k ∷ reverse ops) same in
+      let behind : Stands code (reverse ops) rest end = h code (begins_on old new code.blocks (made_begins old new _ made) begins) in
+      subst (λ l. Stands code (reverse l) (goal.Forever ∷ rest) end) (sym e')
+      (jumps b [] (goal.Forever ∷ rest) end (subst (λ l. Stands code l (goal.Forever ∷ rest) end) (sym there) (forever b (reverse ops) rest end there behind)));
+  neat = λ h.
+      let more : DoesMore new b = more_put old new (reverse put) b made is (ap begins_return (ap reverse e ∙ reverse_put ops (op.Branch n)) ∙ plain_return (op.Branch n) (reverse ops) tt) in
+      neat_tail new (Some b) jump e' (block_neat old new ops put (op.Branch n) e made tt h) more;
+}
 
 -- ## Conditions
 
@@ -207,8 +237,14 @@ pub opens_if : (old new : List Block) (before after : Work) (ops : List Op) (tes
     after.ops.items ≡ ops → after.goals ≡ other → after.levels ≡ before.levels ++ level.Other test first tail before.goals ∷ [] → Moves old (with_goal (goal.If test first other) before) new after
 opens_if old new before after ops test first other tail on shares e ops_are goals_are levels_are = record {
   blocks = on;
+  neat = λ h.
+      let s : BlocksTidy new × TailTidy new tail = shares.neat h.neat in
+      record {
+        neat = neat_tail new tail after.ops.items (ops_are ∙ e) s.0 s.1;
+        levels = subst (LevelsTidy new) (sym (ap reverse levels_are ∙ reverse-append before.levels (level.Other test first tail before.goals ∷ []))) (s.1, levels_later old new on (reverse before.levels) h.levels);
+      };
   comes = λ wanted last h.
-      let t : TailFor new tail h.rest h.end = shares h.rest h.end h.stands in
+      let t : TailFor new tail h.rest h.end = shares.stands h.rest h.end h.stands in
       record {
         rest = h.rest;
         end = h.end;
@@ -223,12 +259,21 @@ pub closes_other : (old new : List Block) (before after : Work) (ops : List Op) 
     after.ops.items ≡ ops → after.goals ≡ first → after.levels ≡ (before.levels ++ level.Inner (op.Try alt) others ∷ []) ++ level.Inner op.Commit test ∷ [] → Moves old (with_level (level.Other test first tail others) before) new after
 closes_other old new before after ops test first others tail alt none on lands e ops_are goals_are levels_are = record {
   blocks = on;
+  neat = λ h.
+      let l : LevelsTidy old (level.Other test first tail others ∷ reverse before.levels) = subst (LevelsTidy old) (reverse-append before.levels (level.Other test first tail others ∷ [])) h.levels in
+      let levels : reverse after.levels ≡ level.Inner op.Commit test ∷ level.Inner (op.Try alt) others ∷ reverse before.levels =
+      ap reverse levels_are ∙ reverse-append (before.levels ++ level.Inner (op.Try alt) others ∷ []) (level.Inner op.Commit test ∷ [])
+      ∙ ap (λ k. level.Inner op.Commit test ∷ k) (reverse-append before.levels (level.Inner (op.Try alt) others ∷ [])) in
+      record {
+        neat = neat_tail new tail after.ops.items (ops_are ∙ e) (lands.neat h.neat).blocks_are (tail_neat_later old new on tail l.0);
+        levels = subst (LevelsTidy new) (sym levels) (tt, (tt, levels_later old new on (reverse before.levels) l.1));
+      };
   comes = λ wanted last h.
       let closed : Leads old (level.Other test first tail others ∷ reverse before.levels) h.rest h.end wanted last =
       subst (λ l. Leads old l h.rest h.end wanted last) (reverse-append before.levels (level.Other test first tail others ∷ []))
       (subst (λ l. Leads old (reverse (before.levels ++ level.Other test first tail others ∷ [])) (l ++ h.rest) h.end wanted last) none h.leads) in
       let rest : List Goal = closed.1 in
-      let there = lands h.rest h.end h.stands in
+      let there = lands.stands h.rest h.end h.stands in
       let levels : reverse after.levels ≡ level.Inner op.Commit test ∷ level.Inner (op.Try alt) others ∷ reverse before.levels =
       ap reverse levels_are ∙ reverse-append (before.levels ++ level.Inner (op.Try alt) others ∷ []) (level.Inner op.Commit test ∷ [])
       ∙ ap (λ l. level.Inner op.Commit test ∷ l) (reverse-append before.levels (level.Inner (op.Try alt) others ∷ [])) in
@@ -266,8 +311,14 @@ pub opens_lists : (old new : List Block) (before after : Work) (ops : List Op) (
     after.ops.items ≡ ops → after.goals ≡ list → after.levels ≡ before.levels ++ level.Lists left None tail before.goals ∷ [] → Moves old (with_goal (goal.Either (left ++ list ∷ [])) before) new after
 opens_lists old new before after ops left list tail on shares e ops_are goals_are levels_are = record {
   blocks = on;
+  neat = λ h.
+      let s : BlocksTidy new × TailTidy new tail = shares.neat h.neat in
+      record {
+        neat = neat_tail new tail after.ops.items (ops_are ∙ e) s.0 s.1;
+        levels = subst (LevelsTidy new) (sym (ap reverse levels_are ∙ reverse-append before.levels (level.Lists left None tail before.goals ∷ []))) ((tt, s.1), levels_later old new on (reverse before.levels) h.levels);
+      };
   comes = λ wanted last h.
-      let t : TailFor new tail h.rest h.end = shares h.rest h.end h.stands in
+      let t : TailFor new tail h.rest h.end = shares.stands h.rest h.end h.stands in
       record {
         rest = h.rest;
         end = h.end;
@@ -287,12 +338,26 @@ more_of code b alt xs list lists rest end at s (last_list c l goals e h) = more_
 more_of code b alt xs list lists rest end at s (more_lists c next ops l second more goals e there h k) = more_lists b alt xs list l (second ∷ more) rest end at s (more_lists alt next ops l second more rest end there h k)
 
 pub last_lands : (old new : List Block) (ops : List Op) (b : ℕ) → Lands old new ops b → ListLands old new ops None b
-last_lands old new ops b lands list lists rest end h none = λ code begins. subst (λ l. Others code b (list ∷ l) rest end) (sym none) (last_list b list rest end (lands (list ++ rest) end h code begins))
+last_lands old new ops b lands = record {
+  stands = λ list lists rest end h none code begins. subst (λ l. Others code b (list ∷ l) rest end) (sym none) (last_list b list rest end (lands.stands (list ++ rest) end h code begins));
+  neat = λ h _. let l : LandsTidy new ops b = lands.neat h in (l.blocks_are, l.there);
+}
+
+retried : (next alt : ℕ) (ops rest : List Op) (n : ℕ) → op.Retry next ∷ ops ≡ op.Retry alt ∷ rest → next < n → alt < n
+retried next alt ops rest n e lt = let same : next ≡ alt = cc in omega arith
 
 pub retry_lands : (old new : List Block) (ops put : List Op) (next b : ℕ) → put ≡ ops ++ op.Retry next ∷ [] → new ≡ old ++ record { ops = reverse put } ∷ [] → b ≡ length old → ListLands old new (reverse ops) (Some next) b
-retry_lands old new ops put next b e made is list lists rest end h o = λ code begins.
-    let before = begins_on old new code.blocks (made_begins old new _ made) begins in
-    more_of code b next (reverse ops) list lists rest end (block_made old new (reverse put) b code made is begins ∙ ap reverse e ∙ reverse_put ops (op.Retry next)) (h code before) (o code before)
+retry_lands old new ops put next b e made is = record {
+  stands = λ list lists rest end h o code begins.
+      let before = begins_on old new code.blocks (made_begins old new _ made) begins in
+      more_of code b next (reverse ops) list lists rest end (block_made old new (reverse put) b code made is begins ∙ ap reverse e ∙ reverse_put ops (op.Retry next)) (h code before) (o code before);
+  neat = λ h t. (
+    let front : reverse put ≡ op.Retry next ∷ reverse ops = ap reverse e ∙ reverse_put ops (op.Retry next) in
+        blocks_put old new (reverse put) made (ap begins_goto front) (λ code begins. subst (OpsTidy code) (sym front) (tt, h.queries code begins))
+        (λ alt rest e'. retried next alt (reverse ops) rest (length old) (sym front ∙ e') t) h.blocks_are,
+    there_put old new (reverse put) b made is,
+  );
+}
 
 pub after_first : (left : List (List Goal)) (b : ℕ) (tail : Option ℕ) (others : List Goal) → left ≡ [] → after_list left b tail others ≡ level.Inner (op.Branch b) others
 after_first left b tail others e = ap (λ l. after_list l b tail others) e
@@ -308,17 +373,30 @@ after_leads new [] list b tail others levels lists rest end wanted last o t l =
     (goal.Either (list ∷ lists) ∷ rest, end, λ code begins xs s. either_of code b list lists xs rest end s (o code begins), l)
 after_leads new (p ∷ ps) list b tail others levels lists rest end wanted last o t l = (list, rest, lists, refl, o, t, l)
 
+after_neat : (new : List Block) (left : List (List Goal)) (b : ℕ) (tail : Option ℕ) (others : List Goal) → b < length new → TailTidy new tail → LevelTidy new (after_list left b tail others)
+after_neat new [] b tail others there t = tt
+after_neat new (p ∷ ps) b tail others there t = (there, t)
+
 pub closes_list : (old new : List Block) (before after : Work) (ops : List Op) (left popped : List (List Goal)) (list : List Goal) (alt tail : Option ℕ) (others : List Goal) (b : ℕ) → before.goals ≡ [] → left ≡ popped ++ list ∷ [] → Begins old new →
     ListLands old new (reverse before.ops.items) alt b → ops ≡ tail_ops tail → after.ops.items ≡ ops → after.goals ≡ list → after.levels ≡ before.levels ++ after_list popped b tail others ∷ [] → Moves old (with_level (level.Lists left alt tail others) before) new after
 closes_list old new before after ops left popped list alt tail others b none split on lands e ops_are goals_are levels_are = record {
   blocks = on;
+  neat = λ h.
+      let l : LevelsTidy old (level.Lists left alt tail others ∷ reverse before.levels) = subst (LevelsTidy old) (reverse-append before.levels (level.Lists left alt tail others ∷ [])) h.levels in
+      let made : BlocksTidy new × (b < length new) = lands.neat h.neat l.0.0 in
+      let t : TailTidy new tail = tail_neat_later old new on tail l.0.1 in
+      record {
+        neat = neat_tail new tail after.ops.items (ops_are ∙ e) made.0 t;
+        levels = subst (LevelsTidy new) (sym (ap reverse levels_are ∙ reverse-append before.levels (after_list popped b tail others ∷ [])))
+            (after_neat new popped b tail others made.1 t, levels_later old new on (reverse before.levels) l.1);
+      };
   comes = λ wanted last h.
       let closed : Leads old (level.Lists left alt tail others ∷ reverse before.levels) h.rest h.end wanted last =
       subst (λ l. Leads old l h.rest h.end wanted last) (reverse-append before.levels (level.Lists left alt tail others ∷ []))
       (subst (λ l. Leads old (reverse (before.levels ++ level.Lists left alt tail others ∷ [])) (l ++ h.rest) h.end wanted last) none h.leads) in
       let rest : List Goal = closed.1 in
       let lists : List (List Goal) = closed.0 ∷ closed.2 in
-      let o : OthersFor new (Some b) lists rest h.end = lands closed.0 closed.2 rest h.end (subst (λ l. StandsFor old (reverse before.ops.items) l h.end) closed.3 h.stands) closed.4 in
+      let o : OthersFor new (Some b) lists rest h.end = lands.stands closed.0 closed.2 rest h.end (subst (λ l. StandsFor old (reverse before.ops.items) l h.end) closed.3 h.stands) closed.4 in
       let t : TailFor new tail rest h.end = tail_later old new on tail rest h.end closed.5 in
       let l : Leads new (reverse before.levels) (others ++ goal.Either (popped ++ list ∷ lists) ∷ rest) h.end wanted last =
       subst (λ k. Leads new (reverse before.levels) (others ++ goal.Either k ∷ rest) h.end wanted last) (ap (λ k. k ++ lists) split ∙ append_assoc popped (list ∷ []) lists)
@@ -335,15 +413,16 @@ closes_list old new before after ops left popped list alt tail others b none spl
 
 -- ## Turns
 
--- So much is kept from turn to turn: blocks are only added, and what is being written comes to the goals.
+-- So much is kept from turn to turn: blocks are only added, and what is being written comes to the goals and stays tidy.
 abbrev pub Carries : List Block → List Op → List Goal → List Block → Work → Type 0
 Carries first ops goals now work =
     Begins first now × ((rest : List Goal) (end : End) → StandsFor first (reverse ops) rest end → ComesTo now work (goals ++ rest) end)
+    × (Neat first (reverse ops) → WorkTidy now work)
 
 pub carries_on : (first : List Block) (ops : List Op) (goals : List Goal) (old new : List Block) (work before after : Work) → Carries first ops goals old work → work ≡ before → Moves old before new after →
     Carries first ops goals new after
 carries_on first ops goals old new work before after h e m =
-    (begins_on first old new h.0 m.blocks, λ rest end s. m.comes (goals ++ rest) end (subst (λ w. ComesTo old w (goals ++ rest) end) e (h.1 rest end s)))
+    (begins_on first old new h.0 m.blocks, λ rest end s. m.comes (goals ++ rest) end (subst (λ w. ComesTo old w (goals ++ rest) end) e (h.1 rest end s)), λ n. m.neat (subst (WorkTidy old) e (h.2 n)))
 
 pub carries_to : (first : List Block) (ops : List Op) (goals : List Goal) (new now : List Block) (after work : Work) → Carries first ops goals new after → now ≡ new → work ≡ after → Carries first ops goals now work
 carries_to first ops goals new now after work h e e' = subst (λ b. Carries first ops goals b work) (sym e) (subst (Carries first ops goals new) (sym e') h)
@@ -357,6 +436,7 @@ carries_first blocks work none = (
     stands = s;
     leads = subst (λ l. Leads blocks (reverse l) (work.goals ++ rest) end (work.goals ++ rest) end) (sym none) (refl, refl);
   },
+  λ n. record { neat = n; levels = subst (λ l. LevelsTidy blocks (reverse l)) (sym none) tt },
 )
 
 pub ends_written : (blocks : List Block) (work : Work) (wanted : List Goal) (last : End) → work.goals ≡ [] → work.levels ≡ [] → ComesTo blocks work wanted last → StandsFor blocks (reverse work.ops.items) wanted last

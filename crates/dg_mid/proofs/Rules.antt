@@ -1,6 +1,8 @@
 -- The code of rules, written from the last rule to the first.
-use Rattle.std.proofs.Common.{◌≡◌, ℕ, zero, suc, List, [], ◌∷◌, ◌++◌, sym, ap, ◌∙◌, subst, length, append_assoc}
-use Rattle.std.specs.Prelude.{reverse, false}
+use Rattle.std.proofs.Common.{◌≡◌, ◌<◌, ◌≤◌, ℕ, zero, suc, arith, inl, inr, List, [], ◌∷◌, ◌++◌, sym, ap, ◌∙◌, subst, length, append_assoc}
+use Rattle.std.specs.Prelude.{reverse, false, None}
+use Rattle.std.proofs.lemmas.Bool.{cases_lt}
+use Rattle.std.proofs.lemmas.Option.{slice_get_past}
 use Rattle.std.specs.List.{slice_get}
 use Rattle.std.proofs.lemmas.List.{append-nil, reverse-append}
 use Rattle.dg_base.specs.declared.program.Goal.TheVariants as goal
@@ -15,10 +17,12 @@ use Rattle.dg_mid.specs.declared.code.Op.TheVariants as op
 use Rattle.dg_mid.specs.declared.code.Block.{Block}
 use Rattle.dg_mid.specs.declared.code.RuleCode.{RuleCode}
 use Rattle.dg_mid.specs.declared.code.Code.{Code}
-use Rattle.dg_mid.specs.Code.{codes_of, ops_of, label_of, first_label}
+use Rattle.dg_mid.specs.Code.{block_at, codes_of, ops_of, label_of, first_label}
 use Rattle.dg_mid.specs.Codes.{Returns, Finishes, Stands, returns, finishes, ask, RulesStand, Codes}
+use Rattle.dg_mid.specs.Tidying.{BlockTidy, BlocksTidy}
+use Rattle.dg_mid.specs.Potential.{begins_goto, begins_return, OpsTidy, Tidy}
 use Rattle.dg_mid.specs.Writing.{PutsFirst, RuleFor, RulesFor, PredsFor, starting}
-use Rattle.dg_mid.proofs.WritingLemmas.{reverse_put, block_made, made_begins}
+use Rattle.dg_mid.proofs.WritingLemmas.{reverse_put, block_made, made_begins, neat_tail, block_neat}
 use Rattle.dg_mid.proofs.Opening.{begins_here}
 
 pub rule_stands : (old mid now : List Block) (rule : Rule) (c : RuleCode) (only ops put : List Op) → only ≡ op.Return ∷ [] → PutsFirst rule.body old mid (reverse only) (reverse ops) → put ≡ ops ++ op.Enter rule.vars rule.head ∷ [] →
@@ -27,13 +31,18 @@ rule_stands old mid now rule c only ops put only_is puts e made is key code begi
   ops = reverse ops;
   block = block_made mid now (reverse put) c.block code made is begins ∙ ap reverse e ∙ reverse_put ops (op.Enter rule.vars rule.head);
   body = subst (λ l. Stands code (reverse ops) l Returns) (append-nil rule.body)
-      (puts [] Returns (λ k b. subst (λ l. Stands k (reverse l) [] Returns) (sym only_is) (returns [])) code (begins_on mid now code.blocks (made_begins mid now _ made) begins));
+      (puts.stands [] Returns (λ k b. subst (λ l. Stands k (reverse l) [] Returns) (sym only_is) (returns [])) code (begins_on mid now code.blocks (made_begins mid now _ made) begins));
   key_is = key;
 }
 
--- Of these rules, those behind the ones that are left have code.
+pub rule_neat : (old mid now : List Block) (rule : Rule) (only ops put : List Op) → only ≡ op.Return ∷ [] → PutsFirst rule.body old mid (reverse only) (reverse ops) → put ≡ ops ++ op.Enter rule.vars rule.head ∷ [] →
+    now ≡ mid ++ record { ops = reverse put } ∷ [] → BlocksTidy old → BlocksTidy now
+rule_neat old mid now rule only ops put only_is puts e made h = block_neat mid now ops put (op.Enter rule.vars rule.head) e made tt (puts.neat (neat_tail old None only only_is h tt))
+
+-- Of these rules, those behind the ones that are left have code, and blocks stay tidy.
 pub record RulesDone (first now : List Block) (all left : List Rule) (codes : List RuleCode) : Type 0 where
   pub blocks : Begins first now
+  pub neat : BlocksTidy first → BlocksTidy now
   pub done : List Rule
   pub is : all ≡ left ++ done
   pub stands : RulesFor now (reverse codes) done
@@ -41,15 +50,17 @@ pub record RulesDone (first now : List Block) (all left : List Rule) (codes : Li
 pub rules_begun : (blocks : List Block) (all : List Rule) (codes : List RuleCode) → codes ≡ [] → RulesDone blocks blocks all all codes
 rules_begun blocks all codes none = record {
   blocks = begins_here blocks;
+  neat = λ h. h;
   done = [];
   is = sym (append-nil all);
   stands = λ code begins. subst (λ l. RulesStand code (reverse l) []) (sym none) tt;
 }
 
-pub rules_more : (first old now : List Block) (all left others : List Rule) (rule : Rule) (codes more : List RuleCode) (c : RuleCode) → RulesDone first old all left codes → left ≡ others ++ rule ∷ [] → Begins old now → RuleFor now c rule → more ≡ codes ++ c ∷ [] →
+pub rules_more : (first old now : List Block) (all left others : List Rule) (rule : Rule) (codes more : List RuleCode) (c : RuleCode) → RulesDone first old all left codes → left ≡ others ++ rule ∷ [] → Begins old now → (BlocksTidy old → BlocksTidy now) → RuleFor now c rule → more ≡ codes ++ c ∷ [] →
     RulesDone first now all others more
-rules_more first old now all left others rule codes more c h e on f put = record {
+rules_more first old now all left others rule codes more c h e on neat f put = record {
   blocks = begins_on first old now h.blocks on;
+  neat = λ n. neat (h.neat n);
   done = rule ∷ h.done;
   is = h.is ∙ ap (λ l. l ++ h.done) e ∙ append_assoc others (rule ∷ []) h.done;
   stands = λ code begins. subst (λ l. RulesStand code l (rule ∷ h.done)) (sym (ap reverse put ∙ reverse-append codes (c ∷ []))) (f code begins, h.stands code (begins_on old now code.blocks on begins));
@@ -61,6 +72,7 @@ rules_all first now all left codes h none code begins = subst (RulesStand code (
 -- The same for predicates.
 pub record PredsDone (first now : List Block) (all left : List Pred) (codes : List (List RuleCode)) : Type 0 where
   pub blocks : Begins first now
+  pub neat : BlocksTidy first → BlocksTidy now
   pub done : List Pred
   pub is : all ≡ left ++ done
   pub stands : PredsFor now (reverse codes) done
@@ -68,6 +80,7 @@ pub record PredsDone (first now : List Block) (all left : List Pred) (codes : Li
 pub preds_begun : (blocks : List Block) (all : List Pred) (codes : List (List RuleCode)) → codes ≡ [] → PredsDone blocks blocks all all codes
 preds_begun blocks all codes none = record {
   blocks = begins_here blocks;
+  neat = λ h. h;
   done = [];
   is = sym (append-nil all);
   stands = λ code begins pred. subst (λ l. RulesStand code (codes_of (slice_get (reverse l) pred)) []) (sym none) tt;
@@ -78,10 +91,11 @@ one_more : (code : Code) (codes : List (List RuleCode)) (preds : List Pred) (c :
 one_more code codes preds c p f h zero = f
 one_more code codes preds c p f h (suc n) = h n
 
-pub preds_more : (first old now : List Block) (all left others : List Pred) (p : Pred) (codes more : List (List RuleCode)) (c : List RuleCode) → PredsDone first old all left codes → left ≡ others ++ p ∷ [] → Begins old now → RulesFor now c p.rules →
+pub preds_more : (first old now : List Block) (all left others : List Pred) (p : Pred) (codes more : List (List RuleCode)) (c : List RuleCode) → PredsDone first old all left codes → left ≡ others ++ p ∷ [] → Begins old now → (BlocksTidy old → BlocksTidy now) → RulesFor now c p.rules →
     more ≡ codes ++ c ∷ [] → PredsDone first now all others more
-preds_more first old now all left others p codes more c h e on f put = record {
+preds_more first old now all left others p codes more c h e on neat f put = record {
   blocks = begins_on first old now h.blocks on;
+  neat = λ n. neat (h.neat n);
   done = p ∷ h.done;
   is = h.is ∙ ap (λ l. l ++ h.done) e ∙ append_assoc others (p ∷ []) h.done;
   stands = λ code begins n. subst (λ l. RulesStand code (codes_of (slice_get l n)) (rules_of (slice_get (p ∷ h.done) n))) (sym (ap reverse put ∙ reverse-append codes (c ∷ [])))
@@ -100,3 +114,39 @@ codes_made program code first begun on preds =
       starts = subst (λ l. Stands code l (goal.Ask program.entry [] false ∷ []) Finishes) (sym (ap (λ l. ops_of (slice_get l 1)) blocks))
           (ask program.entry [] false 2 [] [] Finishes (subst (λ l. Stands code l [] Finishes) (sym (ap (λ l. ops_of (slice_get l 2)) blocks)) (finishes [])));
     }
+
+-- ## Tidy programs
+
+starts_neat : (entry : ℕ) (code : Code) → Begins (starting entry) code.blocks → (b : ℕ) → b < 3 → BlockTidy code b
+starts_neat entry code on zero lt =
+    let at : block_at code 0 ≡ op.Return ∷ [] = ap (λ l. ops_of (slice_get l 0)) on.is in
+    record { no_jump = ap begins_goto at; queries = subst (OpsTidy code) (sym at) (tt, tt); earlier = λ alt ops e. let x : op.Return ∷ [] ≡ op.Retry alt ∷ ops = sym at ∙ e in cc }
+starts_neat entry code on (suc zero) lt =
+    let at : block_at code 1 ≡ op.Ask entry [] false 2 ∷ [] = ap (λ l. ops_of (slice_get l 1)) on.is in
+    let behind : block_at code 2 ≡ op.Done ∷ [] = ap (λ l. ops_of (slice_get l 2)) on.is in
+    record {
+      no_jump = ap begins_goto at;
+      queries = subst (OpsTidy code) (sym at) (ap begins_return behind, tt);
+      earlier = λ alt ops e. let x : op.Ask entry [] false 2 ∷ [] ≡ op.Retry alt ∷ ops = sym at ∙ e in cc;
+    }
+starts_neat entry code on (suc (suc zero)) lt =
+    let at : block_at code 2 ≡ op.Done ∷ [] = ap (λ l. ops_of (slice_get l 2)) on.is in
+    record { no_jump = ap begins_goto at; queries = subst (OpsTidy code) (sym at) (tt, tt); earlier = λ alt ops e. let x : op.Done ∷ [] ≡ op.Retry alt ∷ ops = sym at ∙ e in cc }
+starts_neat entry code on (suc (suc (suc b))) lt = absurd (omega arith)
+
+pub starting_neat : (entry : ℕ) → BlocksTidy (starting entry)
+starting_neat entry code on b lt = starts_neat entry code on b lt
+
+no_block : (code : Code) (b : ℕ) → length code.blocks ≤ b → block_at code b ≡ []
+no_block code b past = ap ops_of (slice_get_past code.blocks b past)
+
+tidy_at : (code : Code) → BlocksTidy code.blocks → (b : ℕ) → BlockTidy code b
+tidy_at code h b = elim (cases_lt b (length code.blocks)) [
+  | inl within ↦ h code (begins_here code.blocks) b within
+  | inr past ↦
+      let at : block_at code b ≡ [] = no_block code b past in
+      record { no_jump = ap begins_goto at; queries = subst (OpsTidy code) (sym at) tt; earlier = λ alt ops e. let x : [] ≡ op.Retry alt ∷ ops = sym at ∙ e in cc }
+]
+
+pub tidy_made : (code : Code) → BlocksTidy code.blocks → Tidy code
+tidy_made code h = record { no_jumps = λ b. (tidy_at code h b).no_jump; blocks = λ b. (tidy_at code h b).queries; earlier = λ b alt ops e. (tidy_at code h b).earlier alt ops e }

@@ -1,6 +1,6 @@
 -- The branches of a select, written from the last to the first.
 use Rattle.std.proofs.Common.{◌≡◌, ℕ, List, [], ◌∷◌, ◌++◌, length, refl, sym, ap, ◌∙◌, subst, append_assoc}
-use Rattle.std.specs.Prelude.{reverse, None}
+use Rattle.std.specs.Prelude.{reverse, Some, None}
 use Rattle.std.proofs.lemmas.List.{append-nil, reverse-append}
 use Rattle.dg_base.specs.declared.program.Goal.{Goal}
 use Rattle.dg_base.specs.declared.program.Goal.TheVariants as goal
@@ -13,9 +13,12 @@ use Rattle.dg_mid.specs.declared.writing.Level.{Level}
 use Rattle.dg_mid.specs.declared.writing.Level.TheVariants as level
 use Rattle.dg_mid.specs.declared.writing.Work.{Work}
 use Rattle.dg_mid.specs.declared.branches.Branching.{Branching}
+use Rattle.dg_mid.specs.Potential.{begins_goto, OpsTidy}
 use Rattle.dg_mid.specs.Codes.{End, Stands, selects, Branches, no_branch, a_branch}
-use Rattle.dg_mid.specs.Writing.{Lands, Leads, ComesTo, Moves, TailFor, BlockFor, Shares, AtBranch, tail_ops, with_goal, with_level}
-use Rattle.dg_mid.proofs.Opening.{tail_stands, tail_later, leads_later, with_leads, lands_block}
+use Rattle.dg_mid.specs.Tidying.{BlocksTidy, TailTidy, LevelsTidy, WorkTidy, LandsTidy}
+use Rattle.dg_mid.specs.Writing.{Lands, Leads, ComesTo, Moves, TailFor, BlockFor, Shares, EndsAt, AtBranch, tail_ops, with_goal, with_level}
+use Rattle.dg_mid.proofs.WritingLemmas.{tail_neat_later, levels_later, neat_alone, neat_tail, blocks_put}
+use Rattle.dg_mid.proofs.Opening.{tail_stands, tail_later, leads_later, with_leads, block_stands}
 
 pub at_next : (blocks : List Block) (s : Branching) (popped : List (List Goal)) (list others : List Goal) (levels : List Level) (after : Work) → s.left ≡ popped ++ list ∷ [] →
     after.ops.items ≡ tail_ops s.tail → after.goals ≡ list → after.levels ≡ levels ++ level.Branches (record s { left = popped }) others ∷ [] →
@@ -54,28 +57,55 @@ at_end blocks s others levels after none ops_are goals_are levels_are wanted las
           (subst (λ l. Leads blocks (reverse levels) (others ++ goal.Select s.site s.mode (l ++ h.lists) ∷ h.rest) h.end wanted last) none h.leads));
     }
 
-pub tail_lands : (old new : List Block) (ops : List Op) (b : ℕ) → ops ≡ op.Return ∷ [] → new ≡ old ++ record { ops = reverse ops } ∷ [] → b ≡ length old →
-    (rest : List Goal) (end : End) → TailFor old None rest end → BlockFor new b rest end
-tail_lands old new ops b e made is rest end h =
-    lands_block old new (reverse ops) b made is rest end (λ code begins. subst (λ l. Stands code (reverse l) rest end) (sym e) (h code begins))
+no_retry_here : (alt : ℕ) (rest : List Op) → op.Return ∷ [] ≡ op.Retry alt ∷ rest → ⊥
+no_retry_here alt rest e = cc
+
+pub tail_lands : (old new : List Block) (ops : List Op) (b : ℕ) → ops ≡ op.Return ∷ [] → new ≡ old ++ record { ops = reverse ops } ∷ [] → b ≡ length old → EndsAt old new None b
+tail_lands old new ops b e made is = record {
+  stands = λ rest end h. block_stands old new (reverse ops) b made is rest end (λ code begins. subst (λ l. Stands code (reverse l) rest end) (sym e) (h code begins));
+  neat = λ h. blocks_put old new (reverse ops) made (ap (λ l. begins_goto (reverse l)) e) (λ code begins. subst (λ l. OpsTidy code (reverse l)) (sym e) (tt, tt))
+      (λ alt rest e'. absurd (no_retry_here alt rest (sym (ap reverse e) ∙ e'))) h;
+}
+
+pub tail_is : (blocks : List Block) (b : ℕ) → EndsAt blocks blocks (Some b) b
+tail_is blocks b = record { stands = λ rest end h. h; neat = λ h. h }
+
+-- tidy where a branch is next, and where all are written
+pub neat_next : (blocks : List Block) (s t : Branching) (others : List Goal) (levels : List Level) (after : Work) → t.tail ≡ s.tail → after.ops.items ≡ tail_ops s.tail → after.levels ≡ levels ++ level.Branches t others ∷ [] →
+    BlocksTidy blocks → TailTidy blocks s.tail → LevelsTidy blocks (reverse levels) → WorkTidy blocks after
+neat_next blocks s t others levels after same ops_are levels_are h tail l = record {
+  neat = neat_tail blocks s.tail after.ops.items ops_are h tail;
+  levels = subst (LevelsTidy blocks) (sym (ap reverse levels_are ∙ reverse-append levels (level.Branches t others ∷ []))) (subst (TailTidy blocks) (sym same) tail, l);
+}
+
+pub neat_end : (blocks : List Block) (s : Branching) (levels : List Level) (after : Work) → after.ops.items ≡ op.Select s.site s.mode (reverse s.blocks.items) s.behind ∷ [] → after.levels ≡ levels →
+    BlocksTidy blocks → LevelsTidy blocks (reverse levels) → WorkTidy blocks after
+neat_end blocks s levels after ops_are levels_are h l = record {
+  neat = neat_alone blocks after.ops.items (op.Select s.site s.mode (reverse s.blocks.items) s.behind) ops_are tt h;
+  levels = subst (λ k. LevelsTidy blocks (reverse k)) (sym levels_are) l;
+}
 
 pub opens_select : (old mid new : List Block) (before after : Work) (s : Branching) → s.blocks.items ≡ [] → Begins old mid → Begins mid new → Shares old mid (reverse before.ops.items) s.tail →
-    ((rest : List Goal) (end : End) → TailFor mid s.tail rest end → BlockFor new s.behind rest end) →
+    EndsAt mid new s.tail s.behind →
     ((wanted : List Goal) (last : End) → AtBranch new s before.goals (reverse before.levels) wanted last → ComesTo new after wanted last) →
+    (BlocksTidy new → TailTidy new s.tail → LevelsTidy new (reverse before.levels) → WorkTidy new after) →
     Moves old (with_goal (goal.Select s.site s.mode s.left) before) new after
-opens_select old mid new before after s none on on' shares behind comes =
+opens_select old mid new before after s none on on' shares ends comes good =
     let begins : Begins old new = begins_on old mid new on on' in
     record {
       blocks = begins;
+      neat = λ h.
+          let n : BlocksTidy mid × TailTidy mid s.tail = shares.neat h.neat in
+          good (ends.neat n.0) (tail_neat_later mid new on' s.tail n.1) (levels_later old new begins (reverse before.levels) h.levels);
       comes = λ wanted last h.
-          let t : TailFor mid s.tail h.rest h.end = shares h.rest h.end h.stands in
+          let t : TailFor mid s.tail h.rest h.end = shares.stands h.rest h.end h.stands in
           comes wanted last (record {
             lists = [];
             rest = h.rest;
             end = h.end;
             branches = λ code begun. subst (λ l. Branches code (reverse l) [] h.rest h.end) (sym none) (no_branch h.rest h.end);
             tail = tail_later mid new on' s.tail h.rest h.end t;
-            behind = behind h.rest h.end t;
+            behind = ends.stands h.rest h.end t;
             leads = subst (λ l. Leads new (reverse before.levels) (before.goals ++ goal.Select s.site s.mode l ∷ h.rest) h.end wanted last) (sym (append-nil s.left))
                 (with_leads old new before (goal.Select s.site s.mode s.left) h.rest h.end wanted last begins h.leads);
           });
@@ -84,9 +114,14 @@ opens_select old mid new before after s none on on' shares behind comes =
 pub closes_branch : (old new : List Block) (before after : Work) (s t : Branching) (others : List Goal) (b : ℕ) → before.goals ≡ [] → Begins old new → Lands old new (reverse before.ops.items) b →
     t.blocks.items ≡ s.blocks.items ++ b ∷ [] →
     ((wanted : List Goal) (last : End) → AtBranch new (record s { blocks = t.blocks }) others (reverse before.levels) wanted last → ComesTo new after wanted last) →
+    (BlocksTidy new → TailTidy new s.tail → LevelsTidy new (reverse before.levels) → WorkTidy new after) →
     Moves old (with_level (level.Branches s others) before) new after
-closes_branch old new before after s t others b none on lands put comes = record {
+closes_branch old new before after s t others b none on lands put comes good = record {
   blocks = on;
+  neat = λ h.
+      let l : LevelsTidy old (level.Branches s others ∷ reverse before.levels) = subst (LevelsTidy old) (reverse-append before.levels (level.Branches s others ∷ [])) h.levels in
+      let made : LandsTidy new (reverse before.ops.items) b = lands.neat h.neat in
+      good made.blocks_are (tail_neat_later old new on s.tail l.0) (levels_later old new on (reverse before.levels) l.1);
   comes = λ wanted last h.
       let closed : Leads old (level.Branches s others ∷ reverse before.levels) h.rest h.end wanted last =
       subst (λ l. Leads old l h.rest h.end wanted last) (reverse-append before.levels (level.Branches s others ∷ []))
@@ -94,7 +129,7 @@ closes_branch old new before after s t others b none on lands put comes = record
       let list : List Goal = closed.0 in
       let rest : List Goal = closed.1 in
       let lists : List (List Goal) = closed.2 in
-      let there : BlockFor new b (list ++ rest) h.end = subst (λ l. BlockFor new b l h.end) closed.3 (lands h.rest h.end h.stands) in
+      let there : BlockFor new b (list ++ rest) h.end = subst (λ l. BlockFor new b l h.end) closed.3 (lands.stands h.rest h.end h.stands) in
       comes wanted last (record {
         lists = list ∷ lists;
         rest = rest;

@@ -11,6 +11,7 @@ pub mod Falling
 pub mod Potential
 pub mod Shapes
 pub mod Laws
+pub mod Tidying
 pub mod Writing
 pub mod Coded
 pub mod Copying

@@ -20,6 +20,7 @@ use Rattle.dg_mid.specs.declared.writing.Level.TheVariants as level
 use Rattle.dg_mid.specs.declared.writing.Work.{Work}
 use Rattle.dg_mid.specs.declared.branches.Branching.{Branching}
 use Rattle.dg_mid.specs.Code.{block_at, codes_of}
+use Rattle.dg_mid.specs.Tidying.{BlocksTidy, Neat, LandsTidy, TailTidy, IsThere, WorkTidy}
 use Rattle.dg_mid.specs.Codes.{End, Stands, RuleStands, RulesStand, Others, Branches}
 
 -- ## Growing
@@ -28,26 +29,34 @@ use Rattle.dg_mid.specs.Codes.{End, Stands, RuleStands, RulesStand, Others, Bran
 abbrev pub StandsFor : List Block → List Op → List Goal → End → Type 0
 StandsFor blocks ops goals end = (code : Code) → Begins blocks code.blocks → Stands code ops goals end
 
--- Whatever the old instructions stand for, the new ones stand for these goals in front of it.
-abbrev pub PutsFirst : List Goal → List Block → List Block → List Op → List Op → Type 0
-PutsFirst goals old new before after = (rest : List Goal) (end : End) → StandsFor old before rest end → StandsFor new after (goals ++ rest) end
+-- Whatever the old instructions stand for, the new ones stand for these goals in front of it; they stay tidy.
+pub record PutsFirst (goals : List Goal) (old new : List Block) (before after : List Op) : Type 0 where
+  pub stands : (rest : List Goal) (end : End) → StandsFor old before rest end → StandsFor new after (goals ++ rest) end
+  pub neat : Neat old before → Neat new after
 
 -- In every code that begins with these blocks, the block stands for the goals and what comes behind them.
 abbrev pub BlockFor : List Block → ℕ → List Goal → End → Type 0
 BlockFor blocks b goals end = (code : Code) → Begins blocks code.blocks → Stands code (block_at code b) goals end
 
--- Whatever the instructions stand for, the block does.
-abbrev pub Lands : List Block → List Block → List Op → ℕ → Type 0
-Lands old new ops b = (rest : List Goal) (end : End) → StandsFor old ops rest end → BlockFor new b rest end
+-- Whatever the instructions stand for, the block does; it is tidy where they are.
+pub record Lands (old new : List Block) (ops : List Op) (b : ℕ) : Type 0 where
+  pub stands : (rest : List Goal) (end : End) → StandsFor old ops rest end → BlockFor new b rest end
+  pub neat : Neat old ops → LandsTidy new ops b
 
 -- What two ways end with stands for these goals: the answer of a rule, or a block.
 abbrev pub TailFor : List Block → Option ℕ → List Goal → End → Type 0
 TailFor blocks None goals end = StandsFor blocks (op.Return ∷ []) goals end
 TailFor blocks (Some b) goals end = BlockFor blocks b goals end
 
--- Whatever the instructions stand for, what two ways end with does.
-abbrev pub Shares : List Block → List Block → List Op → Option ℕ → Type 0
-Shares old new ops tail = (rest : List Goal) (end : End) → StandsFor old ops rest end → TailFor new tail rest end
+-- Whatever the instructions stand for, what two ways end with does; it is tidy where they are.
+pub record Shares (old new : List Block) (ops : List Op) (tail : Option ℕ) : Type 0 where
+  pub stands : (rest : List Goal) (end : End) → StandsFor old ops rest end → TailFor new tail rest end
+  pub neat : Neat old ops → BlocksTidy new × TailTidy new tail
+
+-- The block stands for what two ways end with; the blocks stay tidy.
+pub record EndsAt (old new : List Block) (tail : Option ℕ) (b : ℕ) : Type 0 where
+  pub stands : (rest : List Goal) (end : End) → TailFor old tail rest end → BlockFor new b rest end
+  pub neat : BlocksTidy old → BlocksTidy new
 
 -- The instructions of what a way ends with.
 abbrev pub tail_ops : Option ℕ → List Op
@@ -59,11 +68,11 @@ abbrev pub OthersFor : List Block → Option ℕ → List (List Goal) → List G
 OthersFor blocks None lists goals end = lists ≡ []
 OthersFor blocks (Some b) lists goals end = (code : Code) → Begins blocks code.blocks → Others code b lists goals end
 
--- Whatever list the instructions stand for, the code from the block on stands for it and the lists behind it.
-abbrev pub ListLands : List Block → List Block → List Op → Option ℕ → ℕ → Type 0
-ListLands old new ops alt b =
-    (list : List Goal) (lists : List (List Goal)) (rest : List Goal) (end : End) → StandsFor old ops (list ++ rest) end →
-    OthersFor old alt lists rest end → OthersFor new (Some b) (list ∷ lists) rest end
+-- Whatever list the instructions stand for, the code from the block on stands for it and the lists behind it; it is tidy where they are.
+pub record ListLands (old new : List Block) (ops : List Op) (alt : Option ℕ) (b : ℕ) : Type 0 where
+  pub stands : (list : List Goal) (lists : List (List Goal)) (rest : List Goal) (end : End) → StandsFor old ops (list ++ rest) end →
+      OthersFor old alt lists rest end → OthersFor new (Some b) (list ∷ lists) rest end
+  pub neat : Neat old ops → IsThere old alt → BlocksTidy new × IsThere new (Some b)
 
 -- What comes behind a list of a choice: the choice itself where it is the first, else the lists in front of it.
 abbrev pub after_list : List (List Goal) → ℕ → Option ℕ → List Goal → Level
@@ -120,9 +129,10 @@ pub record ComesTo (blocks : List Block) (work : Work) (wanted : List Goal) (las
   pub stands : StandsFor blocks (reverse work.ops.items) rest end
   pub leads : Leads blocks (reverse work.levels) (work.goals ++ rest) end wanted last
 
--- Blocks are only added, and what is being written comes to what it did.
+-- Blocks are only added, and what is being written comes to what it did and stays tidy.
 pub record Moves (old : List Block) (before : Work) (new : List Block) (after : Work) : Type 0 where
   pub blocks : Begins old new
+  pub neat : WorkTidy old before → WorkTidy new after
   pub comes : (wanted : List Goal) (last : End) → ComesTo old before wanted last → ComesTo new after wanted last
 
 -- What is being written, with one more goal to write first.

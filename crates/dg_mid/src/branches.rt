@@ -7,7 +7,8 @@ ghost use Rattle.dg_mid.specs.Codes.{End};
 ghost use Rattle.dg_mid.specs.declared.code.Block.{Block};
 ghost use Rattle.dg_mid.specs.declared.code.Op.TheVariants as op;
 ghost use Rattle.dg_mid.specs.declared.writing.Level.TheVariants as level;
-ghost use Rattle.dg_mid.specs.Writing.{AtBranch, BlockFor, ComesTo, Moves, TailFor, with_goal, with_level};
+ghost use Rattle.dg_mid.specs.Tidying.{BlocksTidy, LevelsTidy, TailTidy, WorkTidy};
+ghost use Rattle.dg_mid.specs.Writing.{AtBranch, ComesTo, EndsAt, Moves, with_goal, with_level};
 
 use crate::code::Op;
 use crate::writing::{Level, Work, Writer, again, one};
@@ -73,7 +74,7 @@ impl Writer {
     /// The block of what two ways end with.
     fn tail_block(&mut self, tail: Option<u32>) -> Result<u32, AllocError>
         ensures blocks { OnOk result (Begins self.old.blocks self.new.blocks) }
-        ensures stands { IfOk result (λ b. (rest : List Goal) (end : End) → TailFor self.old.blocks tail rest end → BlockFor self.new.blocks b rest end) }
+        ensures lands { IfOk result (λ b. EndsAt self.old.blocks self.new.blocks tail b) }
     {
         match tail {
             Some(b) => Ok(b),
@@ -92,8 +93,10 @@ fn at_branch(
     others: Items<Goal>,
     levels: Items<Level>,
 ) -> Result<Work, AllocError>
-    ensures { IfOk result (λ new. (blocks : List Block) (wanted : List Goal) (last : End) →
+    ensures comes { IfOk result (λ new. (blocks : List Block) (wanted : List Goal) (last : End) →
         AtBranch blocks select others (reverse levels) wanted last → ComesTo blocks new wanted last) }
+    ensures neat { IfOk result (λ new. (blocks : List Block) →
+        BlocksTidy blocks → TailTidy blocks select.tail → LevelsTidy blocks (reverse levels) → WorkTidy blocks new) }
 {
     let mut select = select;
     let Some(list) = select.left.pop() else {

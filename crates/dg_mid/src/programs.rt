@@ -2,6 +2,7 @@
 ghost use Rattle.std.specs.Prelude.{IfOk};
 ghost use Rattle.dg_mid.specs.Codes.{Codes};
 ghost use Rattle.dg_mid.specs.Coded.{IsCoded};
+ghost use Rattle.dg_mid.specs.Potential.{Tidy};
 
 use crate::code::Code;
 use crate::writing::Writer;
@@ -11,7 +12,8 @@ use std::alloc::{AllocError, Global};
 /// The register code of a program whose goals have code.
 pub fn to_mid(program: CoreProgram, alloc: Global) -> Result<Code, AllocError>
     requires { IsCoded program }
-    ensures { IfOk result (λ code. Codes program code) }
+    ensures codes { IfOk result (λ code. Codes program code) }
+    ensures tidy { IfOk result (λ code. Tidy code) }
 {
     let CoreProgram {
         preds,

@@ -1,5 +1,5 @@
 // Code that is written from the last goal to the first.
-ghost use Rattle.std.specs.Prelude.{List, ◌≡◌, ◌++◌, true, [], ◌∷◌, IfOk, OnOk, MatchOption, length, reverse};
+ghost use Rattle.std.specs.Prelude.{ℕ, List, ◌≡◌, ◌↔◌, ◌++◌, IsTrue, [], ◌∷◌, IfOk, OnOk, MatchOption, length, reverse};
 ghost use Rattle.std.specs.Option.{IfSome};
 ghost use Rattle.dg_base.specs.declared.program.Goal.TheVariants as goal;
 ghost use Rattle.dg_meaning.specs.OneRun.{Begins};
@@ -7,6 +7,7 @@ ghost use Rattle.dg_mid.specs.Actions.{goal_of};
 ghost use Rattle.dg_mid.specs.declared.code.Block.{Block};
 ghost use Rattle.dg_mid.specs.declared.code.Op.TheVariants as op;
 ghost use Rattle.dg_mid.specs.declared.writing.Level.TheVariants as level;
+ghost use Rattle.dg_mid.specs.Tidying.{BlocksTidy};
 ghost use Rattle.dg_mid.specs.Writing.{PutsFirst, Lands, Moves, with_goal, with_level, gathers, Shares, tail_ops, RuleFor, RulesFor, PredsFor, starting, ListLands, after_list};
 ghost use Rattle.dg_mid.specs.Code.{label_of, first_label};
 ghost use Rattle.dg_meaning.specs.Selection.{label_at};
@@ -422,6 +423,7 @@ impl Writer {
     fn rule(&mut self, rule: Rule) -> Result<RuleCode, AllocError>
         ensures blocks { OnOk result (Begins self.old.blocks self.new.blocks) }
         ensures stands { IfOk result (λ c. RuleFor self.new.blocks c rule) }
+        ensures neat { OnOk result (BlocksTidy self.old.blocks → BlocksTidy self.new.blocks) }
     {
         let Rule { vars, head, body } = rule;
         let key = key_of(head.as_slice());
@@ -436,6 +438,7 @@ impl Writer {
     fn rules(&mut self, rules: Items<Rule>) -> Result<Items<RuleCode>, AllocError>
         ensures blocks { OnOk result (Begins self.old.blocks self.new.blocks) }
         ensures stand { IfOk result (λ codes. RulesFor self.new.blocks codes rules) }
+        ensures neat { OnOk result (BlocksTidy self.old.blocks → BlocksTidy self.new.blocks) }
     {
         let mut rules = rules;
         let mut codes = Vec::new(self.alloc);
@@ -453,6 +456,7 @@ impl Writer {
     pub fn preds(&mut self, preds: Items<Pred>) -> Result<Items<Items<RuleCode>>, AllocError>
         ensures blocks { OnOk result (Begins self.old.blocks self.new.blocks) }
         ensures stand { IfOk result (λ codes. PredsFor self.new.blocks codes preds) }
+        ensures neat { OnOk result (BlocksTidy self.old.blocks → BlocksTidy self.new.blocks) }
     {
         let mut preds = preds;
         let mut codes = Vec::new(self.alloc);
@@ -670,7 +674,7 @@ fn action_of(goal: Goal) -> Option<Action>
 
 /// The block of a jump that stands alone.
 fn jump_of(ops: &[Op]) -> Option<u32>
-    ensures { MatchOption result Unit (λ b. ops.now ≡ op.Goto b ∷ []) }
+    ensures { MatchOption result ((b : ℕ) → ops.now ≡ op.Goto b ∷ [] → ⊥) (λ b. ops.now ≡ op.Goto b ∷ []) }
 {
     match ops {
         [Op::Goto(b)] => Some(*b),
@@ -680,7 +684,7 @@ fn jump_of(ops: &[Op]) -> Option<u32>
 
 /// Whether instructions are the answer of a rule alone.
 fn returns_at_once(ops: &[Op]) -> bool
-    ensures { result ≡ true → ops.now ≡ op.Return ∷ [] }
+    ensures { IsTrue result ↔ (ops.now ≡ op.Return ∷ []) }
 {
     match ops {
         [Op::Return] => true,

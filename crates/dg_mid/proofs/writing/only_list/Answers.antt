@@ -6,5 +6,5 @@ use Rattle.dg_mid.proofs.writing.only_list.Goals as goal
 
 pub returns : goal.returns
 returns c blocks =
-    opens blocks blocks c.args.work c.in_ok-open.field-0 c.args.work.ops.items (goals.Either (c.args.list ∷ [])) op.Take c.args.list (begins_here blocks) c.in_ok-open.ensures.ops c.in_ok-open.ensures.goals c.in_ok-open.ensures.levels
+    opens blocks blocks c.args.work c.in_ok-open.field-0 c.args.work.ops.items (goals.Either (c.args.list ∷ [])) op.Take c.args.list (begins_here blocks) c.in_ok-open.ensures.ops c.in_ok-open.ensures.goals c.in_ok-open.ensures.levels tt (λ h. h)
     (open_only blocks c.args.work.ops.items c.args.list)

@@ -1,7 +1,7 @@
-use Rattle.std.proofs.Common.{rules, ◌≡◌, ◌∷◌, []}
+use Rattle.std.proofs.Common.{rules, ◌∙◌, ◌≡◌, ◌∷◌, []}
 use Rattle.std.proofs.lemmas.Grind.{common_steps}
 use Rattle.dg_mid.specs.declared.code.Op.TheVariants as op
-use Rattle.dg_mid.proofs.WritingLemmas.{puts_ask, puts_last, if_ok_map}
+use Rattle.dg_mid.proofs.WritingLemmas.{untrue, puts_ask, puts_last, if_ok_map}
 use Rattle.dg_mid.proofs.writing.Writer.ask.Goals as goal
 
 pub returns-then-returns_at_once-clause-first : goal.returns-then-returns_at_once-clause-first
@@ -11,4 +11,4 @@ returns-then-returns_at_once-clause-first c =
 
 pub returns-in-Ok-clause-first : goal.returns-in-Ok-clause-first
 returns-in-Ok-clause-first c =
-    if_ok_map c.one-in-Ok.result _ _ (λ new e. puts_ask c.args.self.now.blocks c.finish.new.self.blocks c.args.pred c.args.terms c.args.many c.args.ops.items new.items c.in-Ok.next c.in-Ok.ensures.lands e) c.one-in-Ok.ensures
+    if_ok_map c.one-in-Ok.result _ _ (λ new e. puts_ask c.args.self.now.blocks c.finish.new.self.blocks c.args.pred c.args.terms c.args.many c.args.ops.items new.items c.in-Ok.next c.in-Ok.ensures.lands (λ alone. untrue (c.if-returns_at_once.ensures.1 (c.as_slice.ensures.value ∙ alone))) e) c.one-in-Ok.ensures

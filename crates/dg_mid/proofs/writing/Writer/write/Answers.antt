@@ -10,10 +10,13 @@ pub loop-turn-init : goal.loop-turn-init
 loop-turn-init c = carries_first c.args.self.now.blocks _ c.new.ensures
 
 pub returns-in-None-pop-clause-first : goal.returns-in-None-pop-clause-first
-returns-in-None-pop-clause-first c rest end s =
+returns-in-None-pop-clause-first c =
     let none : c.loop-turn.work.goals ≡ [] = search rules in
     let no_levels : c.loop-turn.work.levels ≡ [] = search rules in
-    ends_written c.loop-turn.self.blocks c.loop-turn.work (c.args.goals ++ rest) end none no_levels (c.loop-turn.invariant.1 rest end s)
+    record {
+      stands = λ rest end s. ends_written c.loop-turn.self.blocks c.loop-turn.work (c.args.goals ++ rest) end none no_levels (c.loop-turn.invariant.1 rest end s);
+      neat = λ h. (c.loop-turn.invariant.2 h).neat;
+    }
 
 pub loop-turn-preserved : goal.loop-turn-preserved
 loop-turn-preserved c =
