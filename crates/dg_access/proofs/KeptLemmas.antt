@@ -1,5 +1,5 @@
 -- What holds of what an item mentions, and of what it mentions with a plain head.
-use Rattle.std.proofs.Common.{◌≡◌, ◌+◌, ℕ, List, [], ◌∷◌, ◌++◌, Bool, true, false, Option, Some, None, codes, refl, sym, ◌∙◌, ap}
+use Rattle.std.proofs.Common.{◌≡◌, ◌+◌, ℕ, List, [], ◌∷◌, ◌++◌, Bool, true, false, Option, Some, None, codes, refl, sym, ◌∙◌, ap, subst}
 use Rattle.std.specs.Prelude.{if◌then◌else◌}
 use Rattle.std.specs.List.{All}
 use Rattle.std.proofs.lemmas.List.Elements.{All-nil, All-cons, All-head, All-tail, All-append}
@@ -88,6 +88,9 @@ is_same (number n) = true
 is_same (word w) = true
 is_same (object n) = true
 is_same (text w) = true
+is_same (other f) = true
+is_same (select n) = true
+is_same closure = true
 is_same t = false
 
 -- what holds of a `*`, of the topic, or of nothing
@@ -126,6 +129,13 @@ stands_kept : (Q : Thing → Type 0) (declares b : Bool) (ps : Parts) → (decla
 stands_kept Q true b ps k h = k refl
 stands_kept Q false b ps k h = h
 
+branches_kept : (c : Setting) (n : ℕ) (b : Body) → branches_in (plain_body c n b) ≡ branches_in b
+branches_kept c n tree.no_branches = refl
+branches_kept c n (tree.branch ss b) = ap (λ (m : ℕ). m + 1) (branches_kept c (n + new_in_stmts ss) b)
+
+select_kept : (c : Setting) (P Q : Thing → Type 0) (k : Carries c P Q) (n : ℕ) (b : Body) → P (select (branches_in b)) → Q (select (branches_in (plain_body c n b)))
+select_kept c P Q k n b h = subst (λ (m : ℕ). Q (select m)) (sym (branches_kept c n b)) (k.same (select (branches_in b)) refl h)
+
 mutual
   pub value_kept : (c : Setting) (P Q : Thing → Type 0) (k : Carries c P Q) (a b : Bool) (n : ℕ) (v : Value) → Hold P (of_value a v) → Hold Q (of_value b (plain_value c n v))
   value_kept c P Q k a b n (tree.num m) h = (k.same (number m) refl h.0, tt)
@@ -137,7 +147,7 @@ mutual
   value_kept c P Q k a b n (tree.plain_list vs) h = (k.free (other form.List) refl, values_kept c P Q k a b n vs h.1)
   value_kept c P Q k a b n (tree.tailed_list vs v) h =
       (k.free (other form.List) refl, both Q (of_values b (plain_values c n vs)) _ (values_kept c P Q k a b n vs (front P (of_values a vs) (of_value a v) h.1)) (value_kept c P Q k a b (n + new_in_values vs) v (back P (of_values a vs) (of_value a v) h.1)))
-  value_kept c P Q k a b n (tree.closure s) h = (k.free closure refl, (k.free (branches _) refl, body_kept c P Q k a b n s h.1.1), tt)
+  value_kept c P Q k a b n (tree.closure s) h = (k.same closure refl h.0, (k.free (branches _) refl, body_kept c P Q k a b n s h.1.1), tt)
   value_kept c P Q k a b n (tree.nested ps) h =
       stands_kept Q c.declares b (plain_parts c n ps) (λ e. (k.nested e ps (plain_parts c n ps) (sym (named c n ps)) h.0, inner_kept c P Q k a b n ps h.1)) (first_kept Q b (plain_parts c n ps) (k.free (other form.List) refl) (nested_kept c P Q k a b n ps h.1))
   value_kept c P Q k a b n (tree.word_choice ws) h = (k.free (variable _) refl, tt)
@@ -169,34 +179,34 @@ mutual
 
   stmt_kept : (c : Setting) (P Q : Thing → Type 0) (k : Carries c P Q) (a b : Bool) (n : ℕ) (s : Stmt) → Hold P (of_stmt a s) → Hold Q (of_stmt b (plain_stmt c n s))
   stmt_kept c P Q k a b n (tree.text w) h = (k.same (text w) refl h.0, tt)
-  stmt_kept c P Q k a b n (tree.print v) h = (k.free (other form.Print) refl, value_kept c P Q k a b n v h.1)
+  stmt_kept c P Q k a b n (tree.print v) h = (k.same (other form.Print) refl h.0, value_kept c P Q k a b n v h.1)
   stmt_kept c P Q k a b n (tree.ask ps) h = (k.again role.Asked ps (plain_parts c n ps) refl (sym (named c n ps)) h.0, parts_kept c P Q k a b n ps h.1)
   stmt_kept c P Q k a b n (tree.ask_all ps) h = (k.again role.AskedAll ps (plain_parts c n ps) refl (sym (named c n ps)) h.0, parts_kept c P Q k a b n ps h.1)
   stmt_kept c P Q k a b n (tree.ask_not ps) h = (k.again role.AskedNot ps (plain_parts c n ps) refl (sym (named c n ps)) h.0, parts_kept c P Q k a b n ps h.1)
   stmt_kept c P Q k a b n (tree.group s) h = (k.free (other form.Group) refl, (k.free (branches _) refl, body_kept c P Q k a b n s h.1.1))
-  stmt_kept c P Q k a b n (tree.not_group s) h = (k.free (other form.NotGroup) refl, (k.free (branches _) refl, body_kept c P Q k a b n s h.1.1))
-  stmt_kept c P Q k a b n (tree.now cs) h = (k.free (other form.Now) refl, changes_kept c P Q k a b n cs h.1)
-  stmt_kept c P Q k a b n (tree.choice arms) h = (k.free (other form.If) refl, arms_kept c P Q k a b n arms h.1)
+  stmt_kept c P Q k a b n (tree.not_group s) h = (k.same (other form.NotGroup) refl h.0, (k.free (branches _) refl, body_kept c P Q k a b n s h.1.1))
+  stmt_kept c P Q k a b n (tree.now cs) h = (k.same (other form.Now) refl h.0, changes_kept c P Q k a b n cs h.1)
+  stmt_kept c P Q k a b n (tree.choice arms) h = (k.same (other form.If) refl h.0, arms_kept c P Q k a b n arms h.1)
   stmt_kept c P Q k a b n (tree.choice_else arms s) h =
-      (k.free (other form.If) refl, both Q (of_arms b (plain_arms c n arms)) _ (arms_kept c P Q k a b n arms (front P (of_arms a arms) (of_body a s) h.1)) (k.free (branches _) refl, body_kept c P Q k a b (n + new_in_arms arms) s (back P (of_arms a arms) (of_body a s) h.1).1))
-  stmt_kept c P Q k a b n (tree.exhaust s) h = (k.free (other form.Exhaust) refl, stmt_kept c P Q k a b n s h.1)
-  stmt_kept c P Q k a b n (tree.stoppable s) h = (k.free (other form.Stoppable) refl, stmt_kept c P Q k a b n s h.1)
+      (k.same (other form.If) refl h.0, both Q (of_arms b (plain_arms c n arms)) _ (arms_kept c P Q k a b n arms (front P (of_arms a arms) (of_body a s) h.1)) (k.free (branches _) refl, body_kept c P Q k a b (n + new_in_arms arms) s (back P (of_arms a arms) (of_body a s) h.1).1))
+  stmt_kept c P Q k a b n (tree.exhaust s) h = (k.same (other form.Exhaust) refl h.0, stmt_kept c P Q k a b n s h.1)
+  stmt_kept c P Q k a b n (tree.stoppable s) h = (k.same (other form.Stoppable) refl h.0, stmt_kept c P Q k a b n s h.1)
   stmt_kept c P Q k a b n (tree.collect v s into) h =
       let rest = back P (of_value a v) (join (of_body a s) (of_value a into)) h.1 in
       let body = front P (of_body a s) (of_value a into) rest in (
-        k.free (other form.Collect) refl,
+        k.same (other form.Collect) refl h.0,
         three Q (of_value b (plain_value c n v)) (of_body b (plain_body c (n + new_in_value v) s)) (of_value b (plain_value c (n + new_in_value v + new_in_body s) into))
             (value_kept c P Q k a b n v (front P (of_value a v) (join (of_body a s) (of_value a into)) h.1)) (k.free (branches _) refl, body_kept c P Q k a b (n + new_in_value v) s body.1) (value_kept c P Q k a b (n + new_in_value v + new_in_body s) into (back P (of_body a s) (of_value a into) rest)),
       )
   stmt_kept c P Q k a b n (tree.accumulate v s into) h =
       let rest = back P (of_value a v) (join (of_body a s) (of_value a into)) h.1 in
       let body = front P (of_body a s) (of_value a into) rest in (
-        k.free (other form.Accumulate) refl,
+        k.same (other form.Accumulate) refl h.0,
         three Q (of_value b (plain_value c n v)) (of_body b (plain_body c (n + new_in_value v) s)) (of_value b (plain_value c (n + new_in_value v + new_in_body s) into))
             (value_kept c P Q k a b n v (front P (of_value a v) (join (of_body a s) (of_value a into)) h.1)) (k.free (branches _) refl, body_kept c P Q k a b (n + new_in_value v) s body.1) (value_kept c P Q k a b (n + new_in_value v + new_in_body s) into (back P (of_body a s) (of_value a into) rest)),
       )
-  stmt_kept c P Q k a b n (tree.select mode s) h = (k.free (select _) refl, body_kept c P Q k a b n s h.1)
-  stmt_kept c P Q k a b n (tree.first_answer s) h = (k.free (other form.First) refl, (k.free (branches _) refl, body_kept c P Q k a b n s h.1.1))
+  stmt_kept c P Q k a b n (tree.select mode s) h = (select_kept c P Q k n s h.0, body_kept c P Q k a b n s h.1)
+  stmt_kept c P Q k a b n (tree.first_answer s) h = (k.same (other form.First) refl h.0, (k.free (branches _) refl, body_kept c P Q k a b n s h.1.1))
 
   stmts_kept : (c : Setting) (P Q : Thing → Type 0) (k : Carries c P Q) (a b : Bool) (n : ℕ) (ss : Stmts) → Hold P (of_stmts a ss) → Hold Q (of_stmts b (plain_stmts c n ss))
   stmts_kept c P Q k a b n tree.no_stmts h = tt

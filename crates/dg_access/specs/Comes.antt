@@ -3,18 +3,18 @@ use Rattle.std.specs.Prelude.{◌≡◌, ℕ, List, Bool, true, false, None, cod
 use Rattle.std.specs.List.{All, Contains}
 use Rattle.dg_base.specs.Heads.{name_of}
 use Rattle.dg_base.specs.Tree.{Parts, Item}
-use Rattle.dg_base.specs.Mentions.{Thing, topic_line, query, word, object, unnamed, variable, word_choice, other, branches, select, closure, mentioned}
+use Rattle.dg_base.specs.Mentions.{Thing, topic_line, query, word, object, unnamed, variable, word_choice, other, branches, mentioned}
+use Rattle.dg_base.specs.declared.mentions.Form.TheVariants as form
 use Rattle.dg_base.specs.declared.mentions.Role.{Role}
 use Rattle.dg_base.specs.declared.mentions.Role.TheVariants as role
 use Rattle.dg_access.specs.Items.{plain_items}
 
--- A variable, a body, or a form that has no name.
+-- A variable, a list, braces, or a body.
 abbrev pub is_free : Thing → Bool
 is_free (variable n) = true
-is_free (other form) = true
+is_free (other form.List) = true
+is_free (other form.Group) = true
 is_free (branches n) = true
-is_free (select n) = true
-is_free closure = true
 is_free t = false
 
 -- A thing comes from these: it is free or stands among them, is the topic of a line, a query with other parts, a query that stood as a value, an anonymous variable or a word of a choice; or it is the equation that tests a choice.
