@@ -15,3 +15,4 @@ pub mod SiteLemmas
 pub mod GoalLemmas
 pub mod StartLemmas
 pub mod SoundLemmas
+pub mod BuiltLemmas

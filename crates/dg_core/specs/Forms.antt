@@ -1,9 +1,9 @@
 -- The forms of a source that can't be run yet: hold them against docs/LANGUAGE.md, "What runs today".
-use Rattle.std.specs.Prelude.{ℕ, ◌||◌, List, [], ◌∷◌, Bool, true, false, Option, Some, None, if◌then◌else◌}
-use Rattle.std.specs.List.{list_any}
+use Rattle.std.specs.Prelude.{◌≡◌, ℕ, ◌||◌, List, [], ◌∷◌, Bool, true, false, Option, Some, None, if◌then◌else◌}
+use Rattle.std.specs.List.{All, list_any}
 use Rattle.std.specs.Option.{is_some}
 use Rattle.dg_base.specs.Heads.{name_of}
-use Rattle.dg_base.specs.Mentions.{Thing, query, other, select, closure, things_in}
+use Rattle.dg_base.specs.Mentions.{Thing, query, other, select, closure, things_in, mentioned}
 use Rattle.dg_base.specs.Names.{keywords, prelude_names, name_among, builtin_named}
 use Rattle.dg_base.specs.Tree.{Item}
 use Rattle.dg_base.specs.declared.mentions.Form.TheVariants as form
@@ -57,3 +57,11 @@ is_unbuilt t = false
 abbrev pub first_unbuilt : List Item → Option ℕ
 first_unbuilt [] = None
 first_unbuilt (i ∷ is) = if list_any is_unbuilt (things_in i.said) then Some i.line else first_unbuilt is
+
+-- A thing that can be run.
+abbrev pub IsRun : Thing → Type 0
+IsRun t = is_unbuilt t ≡ false
+
+-- Items that mention only what can be run.
+abbrev pub AreRun : List Item → Type 0
+AreRun is = All IsRun (mentioned is)

@@ -3,8 +3,10 @@ ghost use Rattle.std.specs.Prelude.{◌≡◌, ◌≤◌, List, [], None, length
 ghost use Rattle.dg_base.specs.Heads.{name_of};
 ghost use Rattle.dg_base.specs.Sound.{FitsHeads, IsEntry, IsSound};
 ghost use Rattle.dg_base.specs.Tree.{Parts, Item};
+ghost use Rattle.dg_meaning.specs.Built.{IsBuilt};
 ghost use Rattle.dg_names.specs.Named.{Named};
 ghost use Rattle.dg_core.specs.Core.{core_of, entry_name, refusal_of};
+ghost use Rattle.dg_core.specs.Forms.{AreRun, first_unbuilt};
 ghost use Rattle.dg_core.specs.Given.{IsGiven};
 ghost use Rattle.dg_core.specs.Goals.{Scope, number_in, terms_of};
 ghost use Rattle.dg_core.specs.Places.{placed_of, first_bad};
@@ -26,4 +28,14 @@ pub fn entry_fits()
 pub fn core_is_sound()
     ensures { (names : Named) (items : List Item) → IsGiven names items →
         refusal_of items (first_bad (placed_of items) [] items) ≡ None → IsSound (core_of names items) }
+{}
+
+/// All that a source mentions can be run, where no item of it is the first that can't.
+pub fn sources_are_run()
+    ensures { (items : List Item) → first_unbuilt items ≡ None → AreRun items }
+{}
+
+/// The goals of a tree that mentions only what can be run are those that the interpreter runs.
+pub fn goals_are_built()
+    ensures { (names : Named) (items : List Item) → AreRun items → IsBuilt (core_of names items) }
 {}

@@ -14,5 +14,5 @@ mod terms;
 mod variables;
 
 pub use forms::first_unbuilt;
-pub use laws::{core_is_sound, entry_fits, queries_fit};
+pub use laws::{core_is_sound, entry_fits, goals_are_built, queries_fit, sources_are_run};
 pub use program::lower;
