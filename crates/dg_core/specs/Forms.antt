@@ -14,16 +14,13 @@ use Rattle.dg_base.specs.declared.names.Builtin.TheVariants as built_in
 -- A built-in query that isn't built yet.
 abbrev pub is_unbuilt_query : Builtin → Bool
 is_unbuilt_query (built_in.Arith op) = true
-is_unbuilt_query (built_in.Compare op) = true
 is_unbuilt_query built_in.Random = true
 is_unbuilt_query built_in.Object = true
-is_unbuilt_query built_in.Stop = true
 is_unbuilt_query built_in.Query = true
 is_unbuilt_query built_in.QueryWith = true
 is_unbuilt_query built_in.GetInput = true
 is_unbuilt_query built_in.SplitWord = true
 is_unbuilt_query built_in.JoinWords = true
-is_unbuilt_query (built_in.Gap kind) = true
 is_unbuilt_query built_in.Spaces = true
 is_unbuilt_query built_in.HasParent = true
 is_unbuilt_query b = false
@@ -44,8 +41,6 @@ is_unbuilt (query role.Access ps) = true
 is_unbuilt (query role.Declared ps) = true
 is_unbuilt (query (role.Changed set) ps) = true
 is_unbuilt (query other_role ps) = is_unbuilt_name (name_of ps) (builtin_named (name_of ps))
-is_unbuilt (other form.Exhaust) = true
-is_unbuilt (other form.Stoppable) = true
 is_unbuilt (other form.Collect) = true
 is_unbuilt (other form.Accumulate) = true
 is_unbuilt (other form.Now) = true

@@ -19,8 +19,9 @@ fn is_unbuilt_query(builtin: Builtin) -> bool
     ensures { result ≡ spec.is_unbuilt_query builtin }
 {
     match builtin {
-        Builtin::Equal | Builtin::Test(_) | Builtin::Fail => false,
-        Builtin::Just | Builtin::Quit | Builtin::RepeatForever => false,
+        Builtin::Equal | Builtin::Test(_) | Builtin::Compare(_) | Builtin::Gap(_) => false,
+        Builtin::Fail | Builtin::Just | Builtin::Stop | Builtin::Quit => false,
+        Builtin::RepeatForever => false,
         _ => true,
     }
 }
@@ -56,7 +57,6 @@ fn is_unbuilt(mention: Mention<'_>) -> bool
 {
     match mention {
         Mention::Query(role, head) => is_unbuilt_role(role, head),
-        Mention::Other(Form::Exhaust) | Mention::Other(Form::Stoppable) => true,
         Mention::Other(Form::Collect) | Mention::Other(Form::Accumulate) => true,
         Mention::Other(Form::Now) | Mention::Select(_) | Mention::Opened => true,
         _ => false,

@@ -5,6 +5,7 @@ mod facts;
 mod forms;
 mod goals;
 mod laws;
+mod letting;
 mod places;
 mod program;
 mod queries;
@@ -15,4 +16,5 @@ mod variables;
 
 pub use forms::first_unbuilt;
 pub use laws::{core_is_sound, entry_fits, goals_are_built, queries_fit, sources_are_run};
+pub use letting::let_go;
 pub use program::lower;

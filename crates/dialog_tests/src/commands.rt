@@ -72,8 +72,12 @@ const NESTED: &str = "(q 1)\n(q 2)\n(p (q $X)) $X\n(program entry point) *(p 2)\
 const DOUBLED: &str =
     "(twice [] $X $X)\n(twice [$ | $N] $X $Y) (twice $N [$X | $X] $Y)\n(value $X $Y) (twice [0 0 0 0 0 0 0 0 0 0 0 0 0 0 0 0 0 0 0 0 0 0 0 0 0 0 0 0 0 0] [$X] $Y)\n(program entry point) (value $A $X) (value $B $Y) ($X = $Y) ($A = 1) (fully bound $X) $B\n";
 
+const PARTS: &str =
+    "(program entry point) (stoppable) { a (stop) b } (line) (exhaust) { { c (or) d } } (1 < 2) e";
+
 // The words of the command, the source, the status and the transcript.
-const TRANSCRIPTS: [(&str, &str, u8, &str); 22] = [
+const TRANSCRIPTS: [(&str, &str, u8, &str); 23] = [
+    ("debug p.dg", PARTS, 0, "a\nc d e\n"),
     (
         "debug p.dg",
         "(program entry point) Hello, world!",

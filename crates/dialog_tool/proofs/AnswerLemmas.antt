@@ -1,5 +1,5 @@
 -- From what the parts of a call did to its answer.
-use Rattle.std.proofs.Common.{◌≡◌, ◌<◌, ◌⊎◌, inl, inr, ℕ, zero, suc, List, [], ◌∷◌, length, Bool, true, Option, Some, None, Ok, Err, IsTrue, refl, sym, ap, subst, arith}
+use Rattle.std.proofs.Common.{◌≡◌, ◌<◌, inl, inr, ℕ, zero, suc, List, [], ◌∷◌, length, Bool, true, Option, Some, None, Ok, Err, IsTrue, refl, sym, ap, subst, arith}
 use Rattle.std.specs.Prelude.{IsSome, nat_lt}
 use Rattle.std.proofs.lemmas.Bool.Decides.{nat_tests}
 use Rattle.dg_base.specs.Causes.{Rose}

@@ -4,13 +4,11 @@ pub mod DigitLemmas
 pub mod DiceLemmas
 pub mod SeedLemmas
 pub mod OptionLemmas
-pub mod RewrittenLemmas
-pub mod CoreLemmas
 pub mod SourceLemmas
 pub mod AnswerLemmas
 pub mod DecideLemmas
 pub mod PlayLemmas
+pub mod RunLemmas
 pub mod FewLemmas
 pub mod ComeLemmas
-pub mod MentionedLemmas
 pub mod GivenLemmas

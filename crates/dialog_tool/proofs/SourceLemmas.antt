@@ -1,5 +1,5 @@
 -- The steps of a source, and that it has one answer.
-use Rattle.std.proofs.Common.{◌≡◌, ◌<◌, ◌⊎◌, inl, inr, ℕ, List, length, map, true, false, Some, Result, Ok, Err, refl, sym, ◌∙◌, ap, subst, arith}
+use Rattle.std.proofs.Common.{◌≡◌, ◌<◌, ◌⊎◌, inl, inr, ℕ, List, length, map, true, Some, Result, Ok, Err, refl, sym, ◌∙◌, ap, subst, arith}
 use Rattle.std.specs.Prelude.{nat_lt, IfOk, IfErr}
 use Rattle.std.proofs.lemmas.Bool.Decides.{nat_tests}
 use Rattle.dg_base.specs.Tree.{Item}
@@ -8,7 +8,7 @@ use Rattle.dg_base.specs.declared.program.CoreProgram.{CoreProgram as Core}
 use Rattle.dg_base.specs.declared.refusal.ReadFault.{ReadFault}
 use Rattle.dg_base.specs.declared.refusal.ReadFault.TheVariants as fault
 use Rattle.dg_base.specs.declared.refusal.Refusal.{Refusal}
-use Rattle.dg_base.specs.declared.refusal.Kind.TheVariants.{NoEntry, SourceTooLong}
+use Rattle.dg_base.specs.declared.refusal.Kind.TheVariants.{SourceTooLong}
 use Rattle.dg_lex.specs.Bad.{refusal_of}
 use Rattle.dg_lex.specs.Tokens.{IsLexed, Seen, seen}
 use Rattle.dg_lex.specs.declared.token.Token.{Token}
@@ -16,8 +16,8 @@ use Rattle.dg_reader.specs.Read.{IsRead}
 use Rattle.dg_names.specs.Named.{Named}
 use Rattle.dg_names.specs.Counts.{IsNamed}
 use Rattle.dg_access.specs.Rewritten.{IsRewritten}
-use Rattle.dg_lower.specs.Core.{core_of, has_entry}
-use Rattle.dialog_tool.specs.Source.{Then, refused, given, refusal_at, Lexes, Builds, Lowers, Compiles, Meets}
+use Rattle.dg_core.specs.Core.{IsLowered}
+use Rattle.dialog_tool.specs.Source.{Then, refused, given, refusal_at, Lexes, Builds, Compiles, Meets}
 
 -- ## Steps
 
@@ -54,8 +54,11 @@ builds_one items (Ok a) (Err s) h k = let no = sym h ∙ k.1 in cc
 builds_one items (Err r) (Ok b) h k = let no = sym k ∙ h.1 in cc
 builds_one items (Err r) (Err s) h k = let line : h.0 ≡ k.0 = let same = sym h.1 ∙ k.1 in cc in ap Err (h.2 ∙ ap (λ l. refusal_at _ l) line ∙ sym k.2)
 
-lowers_one : (named : Named) (plain : List Item) → IsOne (Lowers named plain)
-lowers_one named plain x y h k = h ∙ sym k
+lowers_one : (named : Named) (plain : List Item) → IsOne (IsLowered named plain)
+lowers_one named plain (Ok p) (Ok q) h k = ap Ok (h.1 ∙ sym k.1)
+lowers_one named plain (Ok p) (Err s) h k = let no = sym h.0 ∙ k in cc
+lowers_one named plain (Err r) (Ok q) h k = let no = sym k.0 ∙ h in cc
+lowers_one named plain (Err r) (Err s) h k = let same = sym h ∙ k in cc
 
 pub compiles_one : (source : List ℕ) → ((source : List ℕ) (ts us : List Token) → IsLexed source ts → IsLexed source us → map seen ts ≡ map seen us)
     → ((ts : List Seen) → IsOne (IsRead ts)) → ((is : List Item) → IsOne (IsNamed is)) → ((is : List Item) → IsOne (IsRewritten is)) → IsOne (Compiles source)
@@ -69,15 +72,10 @@ pub lexed_of : (source : List ℕ) (f : ReadFault) → (f ≡ fault.OutOfMemory)
 lexed_of source f (inl e) = rw e tt
 lexed_of source f (inr h) = rw h.2 h.1
 
-pub lowered_of : (named : Named) (plain : List Item) (answer : Result Core ReadFault) → IfOk answer (λ p. p ≡ core_of named plain) → IfOk answer (λ p. has_entry plain ≡ true)
-    → IfErr answer (IsFault (λ r. (has_entry plain ≡ false) × (r ≡ refusal_at NoEntry 1))) → Meets (Lowers named plain) answer
-lowered_of named plain (Ok p) core entry none = rw entry (ap Ok core)
-lowered_of named plain (Err (fault.Refused r)) core entry none = rw none.0 (ap Err none.1)
-lowered_of named plain (Err fault.OutOfMemory) core entry none = tt
-
-pub ok_map : {A E : Type 0} (answer : Result A E) (P Q : A → Type 0) → ((a : A) → P a → Q a) → IfOk answer P → IfOk answer Q
-ok_map (Ok a) P Q f h = f a h
-ok_map (Err e) P Q f h = tt
+pub lowered_of : (named : Named) (plain : List Item) (answer : Result Core ReadFault) → IfOk answer (λ p. IsLowered named plain (Ok p)) → IfErr answer (IsFault (λ r. IsLowered named plain (Err r))) → Meets (IsLowered named plain) answer
+lowered_of named plain (Ok p) ok err = ok
+lowered_of named plain (Err (fault.Refused r)) ok err = err
+lowered_of named plain (Err fault.OutOfMemory) ok err = tt
 
 pub meets_ok : {A : Type 0} (P : Result A Refusal → Type 0) (Q : A → Type 0) (answer : Result A ReadFault) → ((a : A) → P (Ok a) → Q a) → Meets P answer → IfOk answer Q
 meets_ok P Q (Ok a) f h = f a h

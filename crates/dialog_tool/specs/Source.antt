@@ -1,21 +1,20 @@
 -- What a source is: a program, or refused. Hold the order of the causes against docs/REFUSALS.md.
-use Rattle.std.specs.Prelude.{◌≡◌, ℕ, List, map, Some, None, Result, Ok, Err, if◌then◌else◌}
+use Rattle.std.specs.Prelude.{◌≡◌, ℕ, List, map, Some, None, Result, Ok, Err}
 use Rattle.dg_base.specs.Tree.{Item}
 use Rattle.dg_base.specs.declared.program.CoreProgram.{CoreProgram as Core}
 use Rattle.dg_base.specs.declared.refusal.Refusal.{Refusal}
 use Rattle.dg_base.specs.declared.refusal.ReadFault.{ReadFault}
 use Rattle.dg_base.specs.declared.refusal.ReadFault.TheVariants as fault
 use Rattle.dg_base.specs.declared.refusal.Kind.{Kind}
-use Rattle.dg_base.specs.declared.refusal.Kind.TheVariants.{NotBuiltYet, NoEntry}
+use Rattle.dg_base.specs.declared.refusal.Kind.TheVariants.{NotBuiltYet}
 use Rattle.dg_lex.specs.Bad.{refusal_of}
 use Rattle.dg_lex.specs.Tokens.{IsLexed, Seen, seen}
 use Rattle.dg_lex.specs.declared.token.Token.{Token}
 use Rattle.dg_reader.specs.Read.{IsRead}
 use Rattle.dg_names.specs.Counts.{IsNamed}
-use Rattle.dg_names.specs.Named.{Named}
 use Rattle.dg_access.specs.Rewritten.{IsRewritten}
-use Rattle.dg_lower.specs.Core.{core_of, has_entry}
-use Rattle.dg_lower.specs.Forms.{first_unbuilt}
+use Rattle.dg_core.specs.Core.{IsLowered}
+use Rattle.dg_core.specs.Forms.{first_unbuilt}
 
 -- One step behind another: the first refuses, and that is the answer; or it gives what the second answers on.
 pub data Then {A B : Type 0} (P : Result A Refusal → Type 0) (Q : A → Result B Refusal → Type 0) (answer : Result B Refusal) : Type 0 where
@@ -35,14 +34,10 @@ abbrev pub Builds : List Item → Result (Unit {0}) Refusal → Type 0
 Builds items (Ok all) = first_unbuilt items ≡ None
 Builds items (Err r) = (line : ℕ) × (first_unbuilt items ≡ Some line) × (r ≡ refusal_at NotBuiltYet line)
 
--- the program of these names and items with plain heads, unless the entry has no rule
-abbrev pub Lowers : Named → List Item → Result Core Refusal → Type 0
-Lowers named plain answer = answer ≡ (if has_entry plain then Ok (core_of named plain) else Err (refusal_at NoEntry 1))
-
 -- What items are that were read: a count of the source passes, or a form isn't built yet, or a count passes once heads are plain, or
--- the entry has no rule, or they are a program.
+-- an initial value is bad, or the entry has no rule, or they are a program.
 abbrev pub Becomes : List Item → Result Core Refusal → Type 0
-Becomes items = Then (IsNamed items) (λ named. Then (Builds items) (λ all. Then (IsRewritten items) (Lowers named)))
+Becomes items = Then (IsNamed items) (λ named. Then (Builds items) (λ all. Then (IsRewritten items) (IsLowered named)))
 
 -- What a source is: it is too long or has a bad character, or its tokens are no items, or what its items are.
 abbrev pub Compiles : List ℕ → Result Core Refusal → Type 0

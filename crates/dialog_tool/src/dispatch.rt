@@ -16,6 +16,7 @@ use crate::playing::{play, thrown};
 use crate::reading::program_in;
 use crate::source::sources_have_one_answer;
 use dg_base::{CoreProgram, Ending, Limits, RunFault, Shelf, Sink, Source};
+use dg_core::let_go;
 use dg_interp::interpret;
 use std::alloc::Global;
 
@@ -84,7 +85,11 @@ fn debug<F: Shelf, S: Source, K: Sink>(
         (F.view shelf.old) (F.view shelf.new) (S.view input.old) (S.view input.new) (K.view out.old) (K.view out.new)) result }
 {
     match program_in(alloc, task.name, shelf, out) {
-        Ok(program) => run_program(alloc, task, &program, input, out, dice),
+        Ok(program) => {
+            let status = run_program(alloc, task, &program, input, out, dice);
+            let_go(alloc, program);
+            status
+        }
         Err(status) => status,
     }
 }

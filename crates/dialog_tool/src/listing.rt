@@ -13,6 +13,7 @@ ghost use Rattle.dialog_tool.specs.Source.{Compiles};
 use crate::lines::{DONE, FAULT, no_memory};
 use crate::reading::program_in;
 use dg_base::{CoreProgram, Pred, Shelf, Sink, write_all};
+use dg_core::let_go;
 use dg_single::singles;
 use std::alloc::{AllocError, Global};
 
@@ -95,7 +96,11 @@ pub fn list_file<F: Shelf, K: Sink>(alloc: Global, name: &str, shelf: &mut F, ou
         Answers (call (Some (singles_command name.now)) dice (F.view shelf.old) (F.view shelf.new) input input (K.view out.old) (K.view out.new)) result }
 {
     match program_in(alloc, name, shelf, out) {
-        Ok(program) => list(alloc, &program, out),
+        Ok(program) => {
+            let status = list(alloc, &program, out);
+            let_go(alloc, program);
+            status
+        }
         Err(status) => status,
     }
 }

@@ -1,18 +1,20 @@
 // From the bytes of a source to its core program.
-ghost use Rattle.std.specs.Prelude.{◌≡◌, ℕ, List, None, Result, Ok, IfOk};
+ghost use Rattle.std.specs.Prelude.{◌≡◌, ℕ, List, None, Result, Ok, Err, IfOk, IfErr};
 ghost use Rattle.dg_access.specs.Rewritten.{IsRewritten};
+ghost use Rattle.dg_base.specs.Faults.{IsFault};
 ghost use Rattle.dg_base.specs.Sound.{IsSound};
 ghost use Rattle.dg_base.specs.TreeView.{tree_view};
 ghost use Rattle.dg_base.specs.declared.program.CoreProgram.{CoreProgram as Core};
-ghost use Rattle.dg_lower.specs.Forms.{first_unbuilt};
+ghost use Rattle.dg_core.specs.Core.{IsLowered};
+ghost use Rattle.dg_core.specs.Forms.{first_unbuilt};
 ghost use Rattle.dg_meaning.specs.Built.{IsBuilt};
 ghost use Rattle.dg_names.specs.State.{names_view};
-ghost use Rattle.dialog_tool.specs.Source.{Then, Lowers, Becomes, Compiles, Meets, refusal_at};
+ghost use Rattle.dialog_tool.specs.Source.{Then, Builds, Becomes, Compiles, Meets, refusal_at};
 
 use dg_access::rewrite;
 use dg_base::{CoreProgram, Kind, ReadFault, Refusal, Tree};
+use dg_core::{first_unbuilt, lower, sources_are_run};
 use dg_lex::{lex, tokens_are_one, tokens_are_spelled};
-use dg_lower::{first_unbuilt, lower};
 use dg_names::Names;
 use dg_reader::{items_are_one, items_are_readable, read};
 use std::alloc::Global;
@@ -26,15 +28,26 @@ fn not_built(line: u32) -> ReadFault
     })
 }
 
+// Whether all forms of a tree are built.
+fn check_built(alloc: Global, tree: &Tree) -> Result<(), ReadFault>
+    ensures built { IfOk result (λ _. first_unbuilt (tree_view tree.now) ≡ None) }
+    ensures refused { IfErr result (IsFault (λ r. Builds (tree_view tree.now) (Err r))) }
+{
+    match first_unbuilt(alloc, tree)? {
+        None => Ok(()),
+        Some(line) => Err(not_built(line)),
+    }
+}
+
 // A function of its own, since each place that lets go of names is proved field by field.
 fn let_go(_names: Names) {}
 
 // The core program of a tree whose forms are all built.
 fn built_program(alloc: Global, tree: Tree, names: Names) -> Result<CoreProgram, ReadFault>
     requires { first_unbuilt (tree_view tree) ≡ None }
-    ensures program { Meets (Then (IsRewritten (tree_view tree)) (Lowers (names_view names))) result }
-    ensures built { IfOk result IsBuilt }
+    ensures { Meets (Then (IsRewritten (tree_view tree)) (IsLowered (names_view names))) result }
 {
+    sources_are_run();
     match rewrite(alloc, tree, &names) {
         Ok(plain) => lower(alloc, plain, names),
         Err(fault) => {
@@ -46,18 +59,17 @@ fn built_program(alloc: Global, tree: Tree, names: Names) -> Result<CoreProgram,
 
 // The core program of a tree, or why it is refused.
 fn program_of(alloc: Global, tree: Tree) -> Result<CoreProgram, ReadFault>
-    ensures program { Meets (Becomes (tree_view tree)) result }
-    ensures built { IfOk result IsBuilt }
+    ensures { Meets (Becomes (tree_view tree)) result }
 {
     let names = match Names::of(alloc, &tree) {
         Ok(names) => names,
         Err(fault) => return Err(fault),
     };
-    match first_unbuilt(&tree) {
-        None => built_program(alloc, tree, names),
-        Some(line) => {
+    match check_built(alloc, &tree) {
+        Ok(()) => built_program(alloc, tree, names),
+        Err(fault) => {
             let_go(names);
-            Err(not_built(line))
+            Err(fault)
         }
     }
 }
@@ -80,9 +92,10 @@ pub fn compile(alloc: Global, source: &[u8]) -> Result<CoreProgram, ReadFault>
     program_of(alloc, tree)
 }
 
-/// The program of a source is sound.
+/// The program of a source is sound, and made of what the interpreter runs.
 pub fn programs_are_sound()
-    ensures { (source : List ℕ) (p : Core) → Compiles source (Ok p) → IsSound p }
+    ensures sound { (source : List ℕ) (p : Core) → Compiles source (Ok p) → IsSound p }
+    ensures built { (source : List ℕ) (p : Core) → Compiles source (Ok p) → IsBuilt p }
 {
     tokens_are_spelled();
     items_are_readable();
@@ -91,7 +104,11 @@ pub fn programs_are_sound()
     dg_names::names_are_few();
     dg_names::firsts_are_names();
     dg_access::mentions_come_from_the_source();
-    dg_lower::core_is_sound();
+    dg_access::variables_are_few();
+    dg_access::variables_are_named();
+    sources_are_run();
+    dg_core::core_is_sound();
+    dg_core::goals_are_built();
 }
 
 /// A source has one answer: its program, or why and at which line it is refused.
