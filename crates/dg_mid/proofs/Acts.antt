@@ -138,7 +138,7 @@ module _ (set : Setting) (m : Mid) (goals : List Goal) (end : End) (rest : List 
       went (omega (arith, le)))
 
 -- what a unification reaches has been reached in the run
-unified_reaches : (g : Game) (es : Equations) (steps : List Step) (q : Registers) (lives : List Live) (ways : List WayOn) (n : ℕ) (v : World) (run : Run) → Went g lives ways n (unified es steps q v) run → (q.heap ≤ run.world.meters.heap) × Grows v run.world
+pub unified_reaches : (g : Game) (es : Equations) (steps : List Step) (q : Registers) (lives : List Live) (ways : List WayOn) (n : ℕ) (v : World) (run : Run) → Went g lives ways n (unified es steps q v) run → (q.heap ≤ run.world.meters.heap) × Grows v run.world
 unified_reaches g es steps q lives ways n v run h =
     let u = solve q.bound es in
     let q' : Registers = bound_by u (length (made_since q.bound u.subst)) q in

@@ -1,5 +1,6 @@
 -- A goal that is done at once does the same where the search is and where a machine is.
-use Rattle.std.proofs.Common.{◌≡◌, ℕ, ◌+◌, ◌≤◌, List, [], ◌∷◌, ◌++◌, Bool, Option, Some, None, refl, sym, ap, ◌∙◌, subst, arith, append_assoc, map}
+use Rattle.std.proofs.Common.{◌≡◌, ℕ, ◌+◌, ◌≤◌, List, [], ◌∷◌, ◌++◌, Bool, true, Option, Some, None, refl, sym, ap, ◌∙◌, subst, arith, append_assoc, map}
+use Rattle.std.specs.Prelude.{slice_get}
 use Rattle.std.proofs.lemmas.List.{append-nil}
 use Rattle.dg_base.specs.declared.program.GapKind.TheVariants.{Line}
 use Rattle.dg_base.specs.declared.program.PlaceKind.{PlaceKind}
@@ -8,23 +9,26 @@ use Rattle.dg_base.specs.declared.program.TestKind.{TestKind}
 use Rattle.dg_base.specs.declared.program.TestKind.TheVariants as kind
 use Rattle.dg_base.specs.declared.run.Ending.TheVariants.{Quit as Quit-Ending, InputEnded}
 use Rattle.dg_base.specs.declared.program.CoreProgram.{CoreProgram}
-use Rattle.dg_meaning.specs.Values.{Num, Value, Var, Node, value_of}
+use Rattle.dg_meaning.specs.Values.{Num, Object, Value, Var, Node, value_of}
 use Rattle.dg_meaning.specs.Substitutions.{Substitution, walk, resolved}
 use Rattle.dg_meaning.specs.Unify.{Equations}
-use Rattle.dg_meaning.specs.Facts.{Fact, Alteration, kinds_of, kept_size, altered}
+use Rattle.dg_meaning.specs.Facts.{Fact, Alteration, value_at, kinds_of, kept_size, altered}
 use Rattle.dg_meaning.specs.Choosing.{Picks}
 use Rattle.dg_meaning.specs.World.{Game, World, Gathering, Meters, Event, Print, Piece, GapOf, SpacesOf, Prints, prints, worked, drew}
-use Rattle.dg_meaning.specs.Changes.{changed, changing, change_of}
+use Rattle.dg_meaning.specs.Changes.{found, changed, changing, change_of}
 use Rattle.dg_meaning.specs.Pieces.{pieces}
-use Rattle.dg_meaning.specs.Path.{Step, Cut, Registers, Act, Goes, Tests, Unifies, Ends, Fails as FailsNow, Stops, Effect, Acts, Whole, AsList, AsSum}
-use Rattle.dg_meaning.specs.Moves.{begun, printed, all_printed, gives, gives_number, spaces, changes, change_place, change_looks, throws, splits, joins, takes_line, takes_out, effect, whole_looks, test_looks}
+use Rattle.dg_meaning.specs.Path.{Step, Cut, Registers, Act, Goes, Tests, Unifies, Ends, Fails as FailsNow, Stops, Effect, Acts, Offers, Plain, Whole, AsList, AsSum}
+use Rattle.dg_meaning.specs.Moves.{begun, behind_copy, object_branches, numbers, looked_up, reads, reads_if_set, finds, finds_if_set, ask_object, ask_objects, ask_place, printed, all_printed, gives, gives_number, spaces, changes, change_place, change_looks, throws, splits, joins, takes_line, takes_out, effect, whole_looks, test_looks}
 use Rattle.dg_meaning.specs.Numbers.{total}
 use Rattle.dg_meaning.specs.Words.{behind_first}
 use Rattle.dg_meaning.specs.Render.{nothing_met, met_from, written, characters}
+use Rattle.dg_meaning.specs.Letters.{copied}
+use Rattle.dg_meaning.specs.OneRun.{Grows}
+use Rattle.dg_meaning.proofs.OneRun.{grows_same, grows_on, worked_grows, begun_grows}
 use Rattle.dg_meaning.proofs.Dropping.{prints_append}
 use Rattle.dg_mid.specs.declared.code.Action.{Action}
 use Rattle.dg_mid.specs.declared.code.Action.TheVariants as action
-use Rattle.dg_mid.specs.Actions.{form_of}
+use Rattle.dg_mid.specs.Actions.{form_of, asked, world_by, said_by}
 use Rattle.dg_mid.specs.State.{Outside}
 use Rattle.dg_mid.specs.Reads.{outside_of}
 
@@ -109,6 +113,17 @@ pub data Alike (q r : Registers) (t : ℕ) (steps : List Step) (v w : World) : A
 -- the same of effects
 pub data AlikeEffects (q r : Registers) (t : ℕ) (steps : List Step) (v w : World) : Effect → Effect → Type 0 where
   alike : (a b : Act) → Alike q r t steps v w a b → AlikeEffects q r t steps v w (Acts a) (Acts b)
+
+-- the same of an act that prints nothing
+pub record AtOnce (q r : Registers) (t : ℕ) (steps : List Step) (v w : World) (a b : Act) : Type 0 where
+  pub alike : Alike q r t steps v w a b
+  pub silent : said_by b ≡ prints w.events
+  pub grows : Grows v (world_by a)
+
+-- the same of a query of a place or of all objects
+pub data AlikeAsked (q r : Registers) (t : ℕ) (steps : List Step) (v w : World) (place : Option ℕ) (args : List Value) (many : Bool) (objects : List ℕ) : Effect → Effect → Type 0 where
+  at_once : (a b : Act) → AtOnce q r t steps v w a b → AlikeAsked q r t steps v w place args many objects (Acts a) (Acts b)
+  in_turn : (i : ℕ) → AlikeAsked q r t steps v w place args many objects (Offers Plain (object_branches place args many steps q objects) (worked i v)) (Offers Plain (object_branches place args true [] r objects) (worked i w))
 
 abbrev pub regs : ℕ → Option ℕ → Substitution → ℕ → ℕ → ℕ → Registers
 regs n s S x h k = record { next_tag = n; stoppable = s; bound = S; next_var = x; heap = h; trail = k }
@@ -216,3 +231,70 @@ module _ (n : ℕ) (s : Option ℕ) (S : Substitution) (x h k h' k' : ℕ) (es e
   pub takes_alike : (whole : Whole) (into : Value) (vs : List Value) → Same (takes_out whole into vs q v) (takes_out whole into vs r w)
   takes_alike AsList into vs = unifies _ _ _ _ _ (record { tag = refl; stop = refl; bound = refl; trail = refl; here_bound = refl; vars = refl; older = omega arith; heap = omega arith; higher = omega arith }) (did_begun q r _ v v w w nothing)
   takes_alike AsSum into vs = number_alike (total vs) into _ _ (did_begun q r _ v v w w nothing)
+
+  -- ## Places and objects
+
+  abbrev Once : Act → Act → Type 0
+  Once a b = AtOnce q r t steps v w a b
+
+  copied_here : (y : Value) → MadeAlike q r (behind_copy y q) (behind_copy y r)
+  copied_here y = record { tag = refl; stop = refl; bound = refl; trail = refl; here_bound = refl; vars = refl; older = omega arith; heap = omega arith; higher = omega arith }
+
+  reads_alike : (args : List Value) (y : Value) (i : ℕ) → Once (reads args q y (worked i v)) (reads args r y (worked i w))
+  reads_alike [] y i = record { alike = tests true _ _ (looked i); silent = refl; grows = worked_grows i v }
+  reads_alike (a ∷ args) y i = record {
+    alike = unifies _ _ _ _ _ (copied_here y) (did_worked (copied y) v (worked i v) w (worked i w) (looked i));
+    silent = refl;
+    grows = grows_on v (worked i v) _ (worked_grows i v) (worked_grows (copied y) (worked i v));
+  }
+
+  fails_once : (i : ℕ) → Once (FailsNow (worked i v)) (FailsNow (worked i w))
+  fails_once i = record { alike = fails _ _ (looked i); silent = refl; grows = worked_grows i v }
+
+  set_alike : (args : List Value) (o : Option Value) (i : ℕ) → Once (reads_if_set args q o (worked i v)) (reads_if_set args r o (worked i w))
+  set_alike args None i = fails_once i
+  set_alike args (Some y) i = reads_alike args y i
+
+  reads_now : (args : List Value) (y : Value) → Once (reads args q y v) (reads args r y w)
+  reads_now [] y = record { alike = tests true v w nothing; silent = refl; grows = grows_same v }
+  reads_now (a ∷ args) y = record { alike = unifies _ _ _ _ _ (copied_here y) (looked (copied y)); silent = refl; grows = worked_grows (copied y) v }
+
+  set_now : (args : List Value) (o : Option Value) → Once (reads_if_set args q o v) (reads_if_set args r o w)
+  set_now args None = record { alike = fails v w nothing; silent = refl; grows = grows_same v }
+  set_now args (Some y) = reads_now args y
+
+  abbrev Asks : Game → Option ℕ → List Value → Bool → Effect → Effect → Type 0
+  Asks g p args many a b = AlikeAsked q r t steps v w p args many (numbers 0 g.program.objects) a b
+
+  object_alike : (g : Game) (p : Option ℕ) (u y : Value) (args : List Value) (many : Bool) (i : ℕ) → Asks g p (y ∷ args) many (ask_object g p u y args many steps q (worked i v)) (ask_object g p u y args true [] r (worked i w))
+  object_alike g p (Var z) y args many i = in_turn i
+  object_alike g p (Node (Object o) vs) y args many i = at_once _ _ (set_alike args (found facts p o) i)
+  object_alike g p u y args many i = at_once _ _ (fails_once i)
+
+  objects_alike : (g : Game) (p : Option ℕ) (args : List Value) (many : Bool) → Asks g p args many (ask_objects g p args many steps q v) (ask_objects g p args true [] r w)
+  objects_alike g p [] many = at_once _ _ (record { alike = fails v w nothing; silent = refl; grows = grows_same v })
+  objects_alike g p (y ∷ args) many = object_alike g p (walk S y) y args many (looked_up q y)
+
+  place_asked : (g : Game) (p : ℕ) (kind : Option PlaceKind) (args : List Value) (many : Bool) → Asks g (Some p) args many (ask_place g p kind args many steps q v) (ask_place g p kind args true [] r w)
+  place_asked g p None args many = at_once _ _ (record { alike = fails v w nothing; silent = refl; grows = grows_same v })
+  place_asked g p (Some place.Flag) args many = at_once _ _ (record { alike = tests _ v w nothing; silent = refl; grows = grows_same v })
+  place_asked g p (Some place.Global) args many = at_once _ _ (set_now args (value_at facts p 0))
+  place_asked g p (Some kind) args many = objects_alike g (Some p) args many
+
+  pub asked_alike : (g : Game) (p : Option ℕ) (args : List Value) (many : Bool) → Asks g p args many (asked g p args many steps q v) (asked g p args true [] r w)
+  asked_alike g (Some p) args many = place_asked g p (slice_get (kinds_of g.program) p) args many
+  asked_alike g None args many = objects_alike g None args many
+
+  finds_alike : (args : List Value) (o : ℕ) (y : Value) → Once (finds args o q y (begun q 1 v)) (finds args o r y (begun r 1 w))
+  finds_alike [] o y = record { alike = fails _ _ (did_begun q r 1 v v w w nothing); silent = refl; grows = begun_grows q 1 v }
+  finds_alike (a ∷ []) o y = record { alike = unifies _ _ _ _ _ made_here (did_begun q r 1 v v w w nothing); silent = refl; grows = begun_grows q 1 v }
+  finds_alike (a ∷ b ∷ args) o y = record {
+    alike = unifies _ _ _ _ _ (copied_here y) (did_worked (copied y) v (begun q 1 v) w (begun r 1 w) (did_begun q r 1 v v w w nothing));
+    silent = refl;
+    grows = grows_on v (begun q 1 v) _ (begun_grows q 1 v) (worked_grows (copied y) (begun q 1 v));
+  }
+
+  -- an object is tried
+  pub found_alike : (args : List Value) (o : ℕ) (y : Option Value) → Once (finds_if_set args o q y (begun q 1 v)) (finds_if_set args o r y (begun r 1 w))
+  found_alike args o None = record { alike = fails _ _ (did_begun q r 1 v v w w nothing); silent = refl; grows = begun_grows q 1 v }
+  found_alike args o (Some y) = finds_alike args o y

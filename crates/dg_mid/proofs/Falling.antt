@@ -9,9 +9,11 @@ use Rattle.dg_meaning.specs.Values.{Value, value_of}
 use Rattle.dg_meaning.specs.Cells.{cells}
 use Rattle.dg_meaning.specs.Substitutions.{resolved}
 use Rattle.dg_meaning.specs.Unify.{Unified, Equations, solve}
-use Rattle.dg_meaning.specs.World.{World, Gathering, gathered_size, gathered_at, gathered_with}
+use Rattle.dg_meaning.specs.World.{World, worked, Gathering, gathered_size, gathered_at, gathered_with}
 use Rattle.dg_meaning.specs.Numbers.{total}
-use Rattle.dg_meaning.specs.Moves.{begun, behind_copy, copy_of, gives_number}
+use Rattle.dg_meaning.specs.Moves.{begun, behind_copy, copy_of, finds_if_set, gives_number}
+use Rattle.dg_meaning.specs.Letters.{copied}
+use Rattle.dg_meaning.specs.Changes.{found}
 use Rattle.dg_meaning.specs.Copies.{list_of}
 use Rattle.dg_meaning.specs.Path.{Registers, Unifies}
 use Rattle.dg_mid.specs.declared.code.Op.{Op}
@@ -20,8 +22,8 @@ use Rattle.dg_mid.specs.declared.code.Gathered.{Gathered}
 use Rattle.dg_mid.specs.declared.code.Gathered.TheVariants as gathered
 use Rattle.dg_mid.specs.declared.code.RuleCode.{RuleCode}
 use Rattle.dg_mid.specs.Code.{block_at, selected, excluded}
-use Rattle.dg_mid.specs.State.{Place, Frame, Call, Goes, Calls, Choice, Mid, Status, Runs, Enters, Resumes, Fails, Ended, cut_choices, vars_of}
-use Rattle.dg_mid.specs.Step.{Setting, done, made_in, gathers, without_gathering, taken_out, charged, unified, bound, trail_more, if_agreed, enters, begins, returned, returns, commits, refuses, leaves, keeps, new_frame, runs, entered, enter, resumed, goes_back, step, first_of, inside, passed, at_rule, at_goal, takes_goal}
+use Rattle.dg_mid.specs.State.{Place, Frame, Call, Find, Goes, Calls, Tries, Choice, Mid, Status, Runs, Enters, Resumes, Fails, Ended, place_of, inner_for, cut_choices, vars_of}
+use Rattle.dg_mid.specs.Step.{Setting, trying, tries, done, made_in, gathers, without_gathering, taken_out, charged, unified, bound, trail_more, if_agreed, enters, begins, returned, returns, commits, refuses, leaves, keeps, new_frame, runs, entered, enter, resumed, goes_back, step, first_of, inside, passed, at_rule, at_goal, takes_goal}
 use Rattle.dg_mid.specs.Potential.{begins_goto, Tidy, IsOver}
 use Rattle.dg_mid.specs.Actions.{registers_of, world_of, world_by, outside_in}
 use Rattle.dg_mid.specs.Falling.{jumping, frames_deep, deep, times, choices_left, left_at}
@@ -163,10 +165,34 @@ goes_back_less : (cs : List Choice) (m : Mid) → left_at (goes_back cs m) < 1 +
 goes_back_less [] m = omega arith
 goes_back_less (c ∷ cs) m = omega arith
 
+found_less : (g : Setting) (args : List Value) (o : ℕ) (y : Option Value) (r : Registers) (w : World) (m : Mid) (k : ℕ) → 1 + choices_left m.choices < k → 2 * deep m.frames m.inner + 2 + jumping m.ops + choices_left m.choices < k → left_at (done g (finds_if_set args o r y w) m) < k
+found_less g args o None r w m k a h = a
+found_less g [] o (Some y) r w m k a h = a
+found_less g (v ∷ []) o (Some y) r w m k a h = made_less g r _ w m k a h
+found_less g (v ∷ u ∷ args) o (Some y) r w m k a h = made_less g (behind_copy y r) _ (worked (copied y) w) m k a h
+
+inner_more : (many : Bool) (p : Place) (inner : List Place) → length (inner_for many p inner) ≤ 1 + length inner
+inner_more true p inner = omega arith
+inner_more false p inner = omega arith
+
+tries_less : (g : Setting) (f : Find) (os : List ℕ) (m : Mid) → left_at (tries g f os m) < left_at (Resumes (Tries f os) m)
+tries_less g f [] m = omega arith
+tries_less g f (o ∷ []) m =
+    let m' = trying g f [] m in
+    let one = jumping_one (block_at g.code f.next) in
+    let few = inner_more f.many (place_of m) m.inner in
+    found_less g f.args o (found m.outside.facts f.place o) (registers_of m') (begun (registers_of m') 1 (world_of [] m')) m' _ (omega arith) (omega (arith, one, few))
+tries_less g f (o ∷ p ∷ os) m =
+    let m' = trying g f (p ∷ os) m in
+    let one = jumping_one (block_at g.code f.next) in
+    let few = inner_more f.many (place_of m) m.inner in
+    charged_less g (10 + length f.args) m _ _ (found_less g f.args o (found m.outside.facts f.place o) (registers_of m') (begun (registers_of m') 1 (world_of [] m')) m' _ (omega arith) (omega (arith, one, few)))
+
 pub step_falls : (g : Setting) (now : Status) → Tidy g.code → takes_goal now ≡ false → (IsOver now → ⊥) → left_at (step g now) < left_at now
 step_falls g (Runs m) code e on = runs_less g m.ops m code e
 step_falls g (Enters call m) code e on = entered_less g call m.ops m
 step_falls g (Resumes (Goes b) m) code e on = resumed_less g b (block_at g.code b) m (code.earlier b)
 step_falls g (Resumes (Calls call rules) m) code e on = begins_less g call rules m
+step_falls g (Resumes (Tries f os) m) code e on = tries_less g f os m
 step_falls g (Fails m) code e on = goes_back_less m.choices m
 step_falls g (Ended x) code e on = absurd (on tt)

@@ -9,15 +9,15 @@ use Rattle.dg_meaning.specs.Values.{Value, value_of}
 use Rattle.dg_meaning.specs.Cells.{cells}
 use Rattle.dg_meaning.specs.Unify.{Unified, solve}
 use Rattle.dg_meaning.specs.World.{Gathering, gathered_size, gathered_with}
-use Rattle.dg_meaning.specs.Path.{Act, Goes as GoesNow, Tests, Unifies, Ends, Fails as FailsNow, Stops}
+use Rattle.dg_meaning.specs.Path.{Act, Goes as GoesNow, Tests, Unifies, Ends, Fails as FailsNow, Stops, Effect, Acts, Offers}
 use Rattle.dg_mid.specs.declared.code.Op.{Op}
 use Rattle.dg_mid.specs.declared.code.Op.TheVariants as op
 use Rattle.dg_mid.specs.declared.code.RuleCode.{RuleCode}
 use Rattle.dg_mid.specs.Code.{block_at, rules_at, selected}
-use Rattle.dg_mid.specs.State.{Place, Frame, Call, Way, Goes, Calls, Stop, Choice, Mid, Status, Runs, Enters, Resumes, Fails, Ended, cut_of, place_of, cut_choices, stop_to}
-use Rattle.dg_mid.specs.Step.{Setting, gathering, done, made_in, keeps_within, gathers, without_gathering, taken_out, charged, unified, bound, trail_more, if_agreed, if_passed, enters, begins, asks, asks_last, last, returned, returns, commits, refuses, leaves, keeps, stops, stops_at, new_frame, does, runs, entered, enter, resumed, goes_on, goes_back, step, first_of, call_of, values, more, inside, passed, within, shielded, cut_to, at_rule}
+use Rattle.dg_mid.specs.State.{Place, Frame, Call, Find, Way, Goes, Calls, Tries, Stop, Choice, Mid, Status, Runs, Enters, Resumes, Fails, Ended, cut_of, place_of, inner_for, cut_choices, stop_to}
+use Rattle.dg_mid.specs.Step.{Setting, seeks, trying, trying_cells, tries, gathering, done, made_in, keeps_within, gathers, without_gathering, taken_out, charged, unified, bound, trail_more, if_agreed, if_passed, enters, begins, asks, asks_last, last, returned, returns, commits, refuses, leaves, keeps, stops, stops_at, new_frame, does, runs, entered, enter, resumed, goes_on, goes_back, step, first_of, call_of, values, more, inside, passed, within, shielded, cut_to, at_rule}
 use Rattle.dg_mid.specs.Runs.{after}
-use Rattle.dg_mid.specs.Actions.{terms_of, act_at, outside_in}
+use Rattle.dg_mid.specs.Actions.{terms_of, act_at, asked_at, found_at, outside_in}
 use Rattle.dg_mid.specs.Heights.{AgreeAll, IsNamed, PlacesNamed, FramesNamed, StopsNamed, WayNamed, AreNamed, ChoicesNamed, IsOrdered, MidOrdered, StatusOrdered}
 
 -- ## Names among other choices
@@ -253,6 +253,10 @@ done_ordered g (Ends e w) m o = tt
 done_ordered g (FailsNow w) m o = o.choices
 done_ordered g (Stops w) m o = stops_ordered g m.stop (outside_in w m) o
 
+seeks_ordered : (g : Setting) (f : Find) (e : Effect) (m : Mid) → MidOrdered m → StatusOrdered (seeks g f e m)
+seeks_ordered g f (Acts act) m o = done_ordered g act m o
+seeks_ordered g f (Offers k bs w) m o = (o, tt)
+
 does_ordered : (g : Setting) (x : Op) (m : Mid) → MidOrdered m → StatusOrdered (does g x m)
 does_ordered g (op.Do a) m o = let k = cells g.game.program (terms_of a) in charged_ordered g k m _ (done_ordered g (act_at g.game [] a (more k m)) (more k m) (more_ordered k m o))
 does_ordered g (op.Ask pred terms many next) m o =
@@ -261,6 +265,11 @@ does_ordered g (op.Ask pred terms many next) m o =
 does_ordered g (op.LastAsk pred terms many) m o =
     let m' = more (cells g.game.program terms) m in let o' = more_ordered (cells g.game.program terms) m o in
     charged_ordered g _ m _ (last_ordered g pred (values g m terms) many m.frames m' o' o'.named.frames_are)
+does_ordered g (op.Find place terms many next) m o =
+    let k = cells g.game.program terms in
+    let m' = more k m in
+    let f : Find = record { place = place; args = values g m terms; many = many; next = next } in
+    charged_ordered g k m _ (seeks_ordered g f (asked_at g.game [] place f.args m') m' (more_ordered k m o))
 does_ordered g op.Take m o = passed_ordered m o
 does_ordered g (op.Branch alt) m o = charged_ordered g 10 m _ (inside_ordered (Goes alt) 0 m o tt)
 does_ordered g (op.Select site mode blocks behind) m o = o
@@ -308,9 +317,24 @@ resumed_ordered g (op.Retry alt ∷ ops) m o = charged_ordered g 10 m _ (inside_
 resumed_ordered g (op.TakeOut whole into ∷ ops) m o = let m' = passed (without_gathering (record m { ops = ops })) in done_ordered g (taken_out g [] whole into (record m { ops = ops })) m' (passed_ordered m o)
 resumed_ordered g ops m o = passed_ordered m o
 
+-- where an object is tried there may be one more inner construct
+wanted_ordered : (many : Bool) (p : Place) (m : Mid) (inner : List Place) → m.inner ≡ inner → MidOrdered m → IsNamed m.next_tag m.state.heap m.choices p → MidOrdered (record m { inner = inner_for many p inner })
+wanted_ordered true p m inner e o n = record { named = record { frames_are = o.named.frames_are; inner_are = subst (PlacesNamed m.next_tag m.state.heap m.choices) e o.named.inner_are; stops_are = o.named.stops_are }; choices = o.choices }
+wanted_ordered false p m inner e o n = record { named = record { frames_are = o.named.frames_are; inner_are = (n, subst (PlacesNamed m.next_tag m.state.heap m.choices) e o.named.inner_are); stops_are = o.named.stops_are }; choices = o.choices }
+
+trying_ordered : (g : Setting) (f : Find) (os : List ℕ) (m : Mid) → MidOrdered m → MidOrdered (trying g f os m)
+trying_ordered g f [] m o = wanted_ordered f.many (place_of m) (record (passed m) { ops = block_at g.code f.next }) m.inner refl (passed_ordered m o) (one_raise m.next_tag m.state.heap (m.next_tag + 1) m.state.heap m.choices (place_of m) (omega arith) (omega arith) (named_now m o))
+trying_ordered g f (p ∷ os) m o =
+    wanted_ordered f.many (place_of m) (record (inside (Tries f (p ∷ os)) (length f.args) m) { ops = block_at g.code f.next }) m.inner refl (inside_ordered (Tries f (p ∷ os)) (length f.args) m o tt) (inside_named (Tries f (p ∷ os)) (length f.args) m (place_of m) (named_now m o))
+
+tries_ordered : (g : Setting) (f : Find) (os : List ℕ) (m : Mid) → MidOrdered m → StatusOrdered (tries g f os m)
+tries_ordered g f [] m o = o.choices
+tries_ordered g f (i ∷ os) m o = charged_ordered g (trying_cells f os) m _ (done_ordered g (found_at [] f i (trying g f os m)) (trying g f os m) (trying_ordered g f os m o))
+
 goes_on_ordered : (g : Setting) (way : Way) (m : Mid) → MidOrdered m → WayNamed m.next_tag m.state.heap m.choices way → StatusOrdered (goes_on g way m)
 goes_on_ordered g (Goes b) m o n = resumed_ordered g (block_at g.code b) m o
 goes_on_ordered g (Calls call rules) m o n = begins_ordered g call rules m o n
+goes_on_ordered g (Tries f os) m o n = tries_ordered g f os m o
 
 goes_back_ordered : (cs : List Choice) (m : Mid) → ChoicesNamed m.next_tag m.state.heap cs → StatusOrdered (goes_back cs m)
 goes_back_ordered [] m n = tt

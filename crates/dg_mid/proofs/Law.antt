@@ -4,11 +4,13 @@ use Rattle.std.specs.Prelude.{get_or, ◌-◌, nat_lt, if◌then◌else◌}
 use Rattle.std.specs.List.{zip}
 use Rattle.std.proofs.lemmas.Bool.{cond_both}
 use Rattle.dg_base.specs.declared.program.Term.{Term}
-use Rattle.dg_meaning.specs.Values.{Num, Value, leaf, value_of}
+use Rattle.dg_meaning.specs.Values.{Num, Object, Value, leaf, value_of}
 use Rattle.dg_meaning.specs.Unify.{Unified, Equations, solve}
-use Rattle.dg_meaning.specs.World.{World, Gathering, Print, Prints, gathered_size, gathered_at, gathered_with}
-use Rattle.dg_meaning.specs.Path.{Registers, Act, Goes as GoesNow, Tests, Unifies, Ends, Fails as FailsNow, Stops}
-use Rattle.dg_meaning.specs.Moves.{begun, selects, behind_copy, copy_of, gives_number}
+use Rattle.dg_meaning.specs.World.{World, worked, Gathering, Print, Prints, gathered_size, gathered_at, gathered_with}
+use Rattle.dg_meaning.specs.Path.{Registers, Act, Goes as GoesNow, Tests, Unifies, Ends, Fails as FailsNow, Stops, Effect}
+use Rattle.dg_meaning.specs.Moves.{begun, numbers, selects, behind_copy, copy_of, finds_if_set, gives_number}
+use Rattle.dg_meaning.specs.Letters.{copied}
+use Rattle.dg_meaning.specs.Changes.{found}
 use Rattle.dg_meaning.specs.Copies.{list_of}
 use Rattle.dg_meaning.specs.Numbers.{total}
 use Rattle.dg_base.specs.declared.run.Ending.TheVariants as ending
@@ -20,14 +22,14 @@ use Rattle.dg_mid.specs.declared.code.Gathered.TheVariants as gathered
 use Rattle.dg_mid.specs.declared.code.RuleCode.{RuleCode}
 use Rattle.dg_mid.specs.declared.code.Code.{Code}
 use Rattle.dg_mid.specs.Code.{block_at, rules_at, selected, excluded}
-use Rattle.dg_mid.specs.State.{Place, Frame, Call, Way, Goes, Calls, Stop, Choice, Mid, Status, Runs, Enters, Resumes, Fails, Ended, vars_of, cut_of, place_of, cut_choices, stop_to}
-use Rattle.dg_mid.specs.Step.{Setting, done, made_in, gathers, gathering, without_gathering, taken_out, step, runs, does, charged, more, unified, bound, trail_more, if_agreed, if_passed, inside, passed, within, cut_to, enters, begins, asks, asks_last, last, first_of, returned, returns, commits, refuses, leaves, keeps, new_frame, enter, entered, resumed, goes_on, goes_back, at_rule, is_goal, call_of, shielded, gathering, stopped, stops, stops_at}
-use Rattle.dg_mid.specs.Units.{units, units_of, earned, earned_of, earned_by, effort, entering, drops, dropped, dropped_in, dropped_once, undone, unwound, unwound_to, one_if, act_work, dropped_by, resuming, units_by}
+use Rattle.dg_mid.specs.State.{Place, Frame, Call, Find, Way, Goes, Calls, Tries, Stop, Choice, Mid, Status, Runs, Enters, Resumes, Fails, Ended, vars_of, cut_of, place_of, inner_for, cut_choices, stop_to}
+use Rattle.dg_mid.specs.Step.{Setting, values, seeks, trying, tries, done, made_in, gathers, gathering, without_gathering, taken_out, step, runs, does, charged, more, unified, bound, trail_more, if_agreed, if_passed, inside, passed, within, cut_to, enters, begins, asks, asks_last, last, first_of, returned, returns, commits, refuses, leaves, keeps, new_frame, enter, entered, resumed, goes_on, goes_back, at_rule, is_goal, call_of, shielded, gathering, stopped, stops, stops_at}
+use Rattle.dg_mid.specs.Units.{units, units_of, earned, earned_of, earned_by, effort, entering, drops, dropped, dropped_in, dropped_once, undone, unwound, unwound_to, one_if, act_work, effect_work, found_work, dropped_by, resuming, units_by}
 use Rattle.dg_mid.specs.Potential.{cut_from, pending, all_pending, nothing, is_goto, is_return, returning, due_at, due, stored, potential, begins_goto, begins_return, OpTidy, OpsTidy, EntersRule, AllEnter, Tidy, CutsFirst, MayAnswer, FramesTidy, Lower, CallFine, WayFine, ChoicesFine, FineWith, MidFine, Reaching, StatusFine, Affords}
 use Rattle.dg_mid.proofs.Pending.{one_gone, cut_falls, pending_falls, Fewer, all_fewer, choices_fewer, nothing_fewer, choices_trail, cut_fine, cut_pending, cut_lower, cut_length, WithPlace, with_fewer, executed, opened, opened_fine}
 use Rattle.dg_mid.specs.Actions.{terms_of, act_at, registers_of, world_of, world_by, outside_in}
 use Rattle.dg_mid.proofs.Trails.{few_trailed}
-use Rattle.dg_mid.proofs.Alike.{Alike, goes, cuts, tests, unifies as unifies', quits, lacks_input, fails as fails', stops as stops', action_alike}
+use Rattle.dg_mid.proofs.Alike.{Alike, goes, cuts, tests, unifies as unifies', quits, lacks_input, fails as fails', stops as stops', action_alike, AlikeAsked, at_once, in_turn, asked_alike}
 use Rattle.dg_mid.proofs.Acts.{nothing_counted, effects_act}
 
 -- ## What is due
@@ -442,6 +444,14 @@ module _ (g : Setting) (tidy : Tidy g.code) (rules : (pred : ℕ) → AllEnter g
       let vs = gathered_at m.next_tag m.gathered in
       number_pays 1 b (total vs) (value_of g.game.program (vars_of m.frames) into) (begun (registers_of m') (length vs) (world_of ps m')) m' h t (omega (arith, le)) (begun (registers_of m') (length vs) (world_of [] m'))
 
+  -- a query of a place pays with its work
+  seeks_pays : (c b : ℕ) (m : Mid) (ps : List Print) (f : Find) (t : ℕ) (x y : Effect) → AlikeAsked (registers_of m) (registers_of m) t [] (world_of ps m) (world_of [] m) f.place f.args true (numbers 0 g.game.program.objects) x y → MidFine g.code m → MayStop g.code m → OpsTidy g.code m.ops →
+      c + 16 + stored (pending m.frames m.inner) m.choices m.state.trail + 2 * effect_work x ≤ b → Affords g.code (1 + (c + effect_work x) + 0) b (seeks g f y m)
+  seeks_pays c b m ps f t x y (at_once a a' h) fine s ts le =
+      let p = act_pays c b m ps t a a' h.alike fine s ts le in
+      record { fine = p.fine; few = let z = p.few in omega (arith, z) }
+  seeks_pays c b m ps f t x y (in_turn i) fine s ts le = record { fine = (fine, tt); few = omega (arith, le) }
+
   pays_op : (ps : List Print) (x : Op) (ops : List Op) (m : Mid) (b : ℕ) → MidFine g.code m → MayStop g.code m → OpTidy g.code x → OpsTidy g.code ops → due_at m.frames x + stored (pending m.frames m.inner) m.choices m.state.trail + 13 * (one_if (is_goal x) + effort g ps x m) ≤ b →
       Affords g.code (1 + effort g ps x m + drops g x m) b (does g x (record m { ops = ops }))
   pays_op ps (op.Do a) ops m b h w t ts le =
@@ -452,6 +462,12 @@ module _ (g : Setting) (tidy : Tidy g.code) (rules : (pred : ℕ) → AllEnter g
       charge _ b k (record m { ops = ops }) _ (record { fine = p.fine; few = let z = p.few in let y = drops_same (act_at g.game [] a (more k m)) ops (more k m) in omega (arith, z, y) })
   pays_op ps (op.Ask pred terms many next) ops m b h w t ts le = charge _ b _ (record m { ops = ops }) _ (asks_pays _ b pred (call_of (map (value_of g.game.program (vars_of m.frames)) terms) many next (more (cells g.game.program terms) (record m { ops = ops }))) (more (cells g.game.program terms) (record m { ops = ops })) h refl (λ e. absurd (let k : false ≡ true = sym t ∙ e in cc (k))) (omega (arith, le)))
   pays_op ps (op.LastAsk pred terms many) ops m b h w t ts le = charge _ b _ (record m { ops = ops }) _ (lasts_pays _ b pred (map (value_of g.game.program (vars_of m.frames)) terms) many m.frames (more (cells g.game.program terms) (record m { ops = ops })) refl h (omega (arith, le)))
+  pays_op ps (op.Find place terms many next) ops m b h w t ts le =
+      let k = cells g.game.program terms in
+      let m1 = more k (record m { ops = ops }) in
+      let f : Find = record { place = place; args = values g m terms; many = many; next = next } in
+      let same = asked_alike m.next_tag m.stop m.state.subst m.state.vars m1.state.heap m1.state.trail m1.state.heap m1.state.trail (map Prints ps) [] m.gathered nothing_counted nothing_counted m.outside.typed m.outside.dice m.outside.facts m.outside.sites (cut_of m.frames).tag [] g.game place f.args true in
+      charge _ b k (record m { ops = ops }) _ (seeks_pays (writing terms) b m1 ps f (cut_of m.frames).tag _ _ same h (λ t' e s ss x. let u = w t' e s ss x in record { fewer = u.fewer; trail = u.trail; fine = u.fine }) ts (omega (arith, le)))
   pays_op ps op.Take ops m b h w t ts le = follows _ b (passed (record m { ops = ops })) (passes_fine (record m { ops = ops }) h) ts (omega (arith, le))
   pays_op ps (op.Branch alt) ops m b h w t ts le = charge _ b 10 (record m { ops = ops }) _ (follows _ b (inside (Goes alt) 0 (record m { ops = ops })) (opens (record m { ops = ops }) (Goes alt) 0 h tt) ts (let x = open_costs (record m { ops = ops }) (Goes alt) 0 h in omega (arith, le, x)))
   pays_op ps (op.Select site mode blocks behind) ops m b h w t ts le =
@@ -491,9 +507,39 @@ module _ (g : Setting) (tidy : Tidy g.code) (rules : (pred : ℕ) → AllEnter g
   resumed_pays b ps (op.TakeOut whole into ∷ ops) m h t le = taken_pays b ps whole into (record m { ops = ops }) (passes_fine m h) t.1 (omega (arith, le))
   resumed_pays b ps (x ∷ ops) m h t le = goes_pays b (record m { ops = x ∷ ops }) h t (omega (arith, le))
 
+  found_pays : (b : ℕ) (args : List Value) (o : ℕ) (y : Option Value) (w v : World) (m : Mid) → MidFine g.code m → OpsTidy g.code m.ops → 1 ≤ w.meters.work → stored (pending m.frames m.inner) m.choices m.state.trail + 13 * act_work (finds_if_set args o (registers_of m) y w) ≤ b →
+      Affords g.code (1 + act_work (finds_if_set args o (registers_of m) y w)) b (done g (finds_if_set args o (registers_of m) y v) m)
+  found_pays b args o None w v m h t one le = fails _ b (outside_in v m) m.frames m.inner h.choices_are (omega (arith, le, one))
+  found_pays b [] o (Some y) w v m h t one le = fails _ b (outside_in v m) m.frames m.inner h.choices_are (omega (arith, le, one))
+  found_pays b (a ∷ []) o (Some y) w v m h t one le = made_pays _ b ((a, leaf (Object o)) ∷ []) (registers_of m) v m refl h t (omega (arith, le, one))
+  found_pays b (a ∷ a' ∷ args) o (Some y) w v m h t one le =
+      made_pays _ b ((a, leaf (Object o)) ∷ (a', copy_of y (registers_of m)) ∷ []) (behind_copy y (registers_of m)) (worked (copied y) v) m refl h t (omega (arith, le, one))
+
+  -- the machine where an object is tried
+  wanted_pays : (many : Bool) (p : Place) (m : Mid) → p.tag < m.next_tag → Reaching p.tag m.choices → MidFine g.code m → (inner : List Place) → m.inner ≡ inner →
+      MidFine g.code (record m { inner = inner_for many p inner }) × (stored (pending m.frames (inner_for many p inner)) m.choices m.state.trail ≤ 3 + stored (pending m.frames inner) m.choices m.state.trail)
+  wanted_pays true p m lt r h inner e = (subst (λ l. FineWith g.code m.frames l m.choices m.next_tag m.state.trail) e h, omega arith)
+  wanted_pays false p m lt r h inner e =
+      (subst (λ l. FineWith g.code m.frames (p ∷ l) m.choices m.next_tag m.state.trail) e (opens_place m p lt r h), let y = subst (λ l. all_pending (pending m.frames (p ∷ l)) m.choices ≤ suc (all_pending (pending m.frames l) m.choices)) e (place_costs m p) in omega (arith, y))
+
+  tries_pays : (b : ℕ) (ps : List Print) (f : Find) (os : List ℕ) (m : Mid) → MidFine g.code m → 8 + stored (pending m.frames m.inner) m.choices m.state.trail + 13 * found_work g ps f os m ≤ b → Affords g.code (1 + found_work g ps f os m) b (tries g f os m)
+  tries_pays b ps f [] m h le = fails 1 b m m.frames m.inner h.choices_are (omega (arith, le))
+  tries_pays b ps f (o ∷ []) m h le =
+      let m1 : Mid = record (passed m) { ops = block_at g.code f.next } in
+      let m' = trying g f [] m in
+      let p = wanted_pays f.many (place_of m) m1 (omega arith) (reaching m.next_tag m.choices h.lower) (passes_fine m h) m.inner refl in
+      found_pays b f.args o (found m.outside.facts f.place o) (begun (registers_of m') 1 (world_of ps m')) (begun (registers_of m') 1 (world_of [] m')) m' p.0 (tidy.blocks f.next) (omega arith) (let x = p.1 in omega (arith, le, x))
+  tries_pays b ps f (o ∷ i ∷ os) m h le =
+      let m1 : Mid = record (inside (Tries f (i ∷ os)) (length f.args) m) { ops = block_at g.code f.next } in
+      let m' = trying g f (i ∷ os) m in
+      let p = wanted_pays f.many (place_of m) m1 (omega arith) (omega arith) (opens m (Tries f (i ∷ os)) (length f.args) h tt) m.inner refl in
+      charge _ b (10 + length f.args) m _ (found_pays b f.args o (found m.outside.facts f.place o) (begun (registers_of m') 1 (world_of ps m')) (begun (registers_of m') 1 (world_of [] m')) m' p.0 (tidy.blocks f.next) (omega arith)
+      (let x = p.1 in let y = open_costs m (Tries f (i ∷ os)) (length f.args) h in omega (arith, le, x, y)))
+
   way_pays : (b : ℕ) (ps : List Print) (way : Way) (m : Mid) → MidFine g.code m → WayFine g.code way m.frames m.next_tag → 8 + stored (pending m.frames m.inner) m.choices m.state.trail + 13 * earned_by g ps way m ≤ b → Affords g.code (units_by g ps way m) b (goes_on g way m)
   way_pays b ps (Goes k) m h w le = resumed_pays b ps (block_at g.code k) m h (tidy.blocks k) le
   way_pays b ps (Calls call rules) m h w le = begins_pays 1 b call rules m h w.0 w.2 w.1 (omega (arith, le))
+  way_pays b ps (Tries f os) m h w le = tries_pays b ps f os m h le
 
   back_pays : (b : ℕ) (cs : List Choice) (m : Mid) → ChoicesFine g.code nothing m.state.trail cs → 4 + stored nothing cs m.state.trail ≤ b → Affords g.code (1 + undone cs m) b (goes_back cs m)
   back_pays b [] m h le = record { fine = tt; few = omega (arith, le) }

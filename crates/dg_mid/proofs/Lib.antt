@@ -12,6 +12,7 @@ pub mod Chosen
 pub mod Excluded
 pub mod Calls
 pub mod Asks
+pub mod Finding
 pub mod Simulation
 pub mod Whole
 pub mod Shown

@@ -1,6 +1,6 @@
 -- What is open while code is written.
 use Rattle.std.proofs.Common.{◌≡◌, ℕ, ◌<◌, arith, List, [], ◌∷◌, ◌++◌, refl, sym, ap, ◌∙◌, subst, length, append_assoc}
-use Rattle.std.specs.Prelude.{reverse, Option, Some, None}
+use Rattle.std.specs.Prelude.{reverse, Option, Some, None, Bool, true, false}
 use Rattle.std.proofs.lemmas.List.{append-nil, reverse-append}
 use Rattle.dg_base.specs.declared.program.Goal.{Goal}
 use Rattle.dg_base.specs.declared.program.Goal.TheVariants as goal
@@ -17,11 +17,11 @@ use Rattle.dg_mid.specs.declared.writing.Level.{Level}
 use Rattle.dg_mid.specs.declared.writing.Level.TheVariants as level
 use Rattle.dg_mid.specs.declared.writing.Work.{Work}
 use Rattle.dg_mid.specs.Code.{block_at}
-use Rattle.dg_mid.specs.Codes.{End, Refuses, Backs, Commits, Leaves, Keeps, Stands, jumps, commits, refuses, backs, leaves, keeps, collects, accumulates, once, negates, branch, exhausts, shields, forever, only, either, Others, last_list, more_lists}
+use Rattle.dg_mid.specs.Codes.{End, Refuses, Backs, Commits, Leaves, Keeps, Stands, found_goals, found_end, jumps, commits, refuses, backs, leaves, keeps, collects, accumulates, once, negates, branch, exhausts, shields, forever, only, either, Others, last_list, more_lists}
 use Rattle.dg_mid.specs.Tidying.{BlocksTidy, DoesMore, Neat, IsPlain, TailTidy, LevelTidy, LevelsTidy, WorkTidy, LandsTidy}
-use Rattle.dg_mid.specs.Writing.{StandsFor, BlockFor, PutsFirst, Lands, Wraps, Leads, ComesTo, Moves, TailFor, Shares, OthersFor, ListLands, after_list, tail_ops, with_goal, with_level, gathers}
+use Rattle.dg_mid.specs.Writing.{StandsFor, BlockFor, FoundAt, PutsFirst, Lands, Wraps, Leads, ComesTo, Moves, TailFor, Shares, OthersFor, ListLands, after_list, tail_ops, with_goal, with_level, gathers}
 use Rattle.dg_mid.specs.Potential.{begins_return, begins_goto, OpsTidy}
-use Rattle.dg_mid.proofs.WritingLemmas.{reverse_put, block_made, made_begins, tail_neat_later, levels_later, neat_put, neat_tail, plain_return, no_answer_back, blocks_put, there_put, more_put, lands_neat, jump_neat, block_neat}
+use Rattle.dg_mid.proofs.WritingLemmas.{reverse_put, block_made, made_begins, tail_neat_later, levels_later, neat_put, neat_tail, plain_first, plain_query, plain_return, no_answer_back, blocks_put, there_put, more_put, lands_neat, jump_neat, block_neat}
 
 -- ## Blocks
 
@@ -230,6 +230,42 @@ puts_forever old new ops put jump n b same e made is e' = record {
       let more : DoesMore new b = more_put old new (reverse put) b made is (ap begins_return (ap reverse e ∙ reverse_put ops (op.Branch n)) ∙ plain_return (op.Branch n) (reverse ops) tt) in
       neat_tail new (Some b) jump e' (block_neat old new ops put (op.Branch n) e made tt h) more;
 }
+
+-- ## Objects
+
+no_retry_here : (ops : List Op) (alt : ℕ) (rest : List Op) → op.Commit ∷ ops ≡ op.Retry alt ∷ rest → ⊥
+no_retry_here ops alt rest e = cc
+
+pub found_here : (blocks : List Block) (b : ℕ) → FoundAt blocks blocks true b b
+found_here blocks b = record { blocks = begins_here blocks; stands = λ rest end h. h; neat = λ h. h }
+
+pub found_once : (old new : List Block) (jump put : List Op) (behind b : ℕ) → jump ≡ op.Goto behind ∷ [] → put ≡ jump ++ op.Commit ∷ [] → new ≡ old ++ record { ops = reverse put } ∷ [] → b ≡ length old → FoundAt old new false behind b
+found_once old new jump put behind b e e' made is =
+    let front : reverse put ≡ op.Commit ∷ op.Goto behind ∷ [] = ap reverse (e' ∙ ap (λ l. l ++ op.Commit ∷ []) e) in
+    record {
+      blocks = made_begins old new _ made;
+      stands = λ rest end h code begins. subst (λ l. Stands code l [] (Commits rest end)) (sym (block_made old new (reverse put) b code made is begins ∙ front))
+          (commits (op.Goto behind ∷ []) rest end (jumps behind [] rest end (h code (begins_on old new code.blocks (made_begins old new _ made) begins))));
+      neat = λ h. blocks_put old new (reverse put) made (ap begins_goto front) (λ code begins. subst (OpsTidy code) (sym front) (tt, (tt, tt)))
+          (λ alt rest e''. absurd (no_retry_here (op.Goto behind ∷ []) alt rest (sym front ∙ e''))) h;
+    }
+
+pub puts_find : (old mid new : List Block) (ops jump put : List Op) (x : Op) (g : Goal) (behind b : ℕ) (many : Bool) → IsPlain x →
+    ((code : Code) (xs : List Op) (goals : List Goal) (end : End) → Stands code xs goals end → Stands code (block_at code b) (found_goals many goals) (found_end many goals end) → Stands code (x ∷ xs) (g ∷ goals) end) →
+    Lands old mid (reverse ops) behind → FoundAt mid new many behind b → jump ≡ op.Goto behind ∷ [] → put ≡ jump ++ x ∷ [] → PutsFirst (g ∷ []) old new (reverse ops) (reverse put)
+puts_find old mid new ops jump put x g behind b many plain wraps lands found e e' =
+    let front : reverse put ≡ x ∷ op.Goto behind ∷ [] = ap reverse (e' ∙ ap (λ l. l ++ x ∷ []) e) in
+    record {
+      stands = λ rest end h code begins.
+          let there = lands.stands rest end h in
+          subst (λ l. Stands code l (g ∷ rest) end) (sym front)
+          (wraps code (op.Goto behind ∷ []) rest end (jumps behind [] rest end (there code (begins_on mid new code.blocks found.blocks begins))) (found.stands rest end there code begins));
+      neat = λ h. subst (Neat new) (sym front) (record {
+        blocks_are = found.neat (lands.neat h).blocks_are;
+        first = plain_first new x (op.Goto behind ∷ []) plain;
+        queries = λ code begins. (plain_query code x plain, (tt, tt));
+      });
+    }
 
 -- ## Conditions
 

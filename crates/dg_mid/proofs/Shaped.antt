@@ -10,20 +10,20 @@ use Rattle.dg_meaning.specs.Values.{Value, value_of}
 use Rattle.dg_meaning.specs.Unify.{Unified, solve}
 use Rattle.dg_base.specs.declared.run.Ending.TheVariants as ending
 use Rattle.dg_meaning.specs.World.{Gathering, gathered_size, gathered_with}
-use Rattle.dg_meaning.specs.Path.{Act, Goes as GoesNow, Tests, Unifies, Ends, Fails as FailsNow, Stops}
+use Rattle.dg_meaning.specs.Path.{Act, Goes as GoesNow, Tests, Unifies, Ends, Fails as FailsNow, Stops, Effect, Acts, Offers}
 use Rattle.dg_meaning.specs.Cells.{cells}
 use Rattle.dg_mid.specs.declared.code.Op.{Op}
 use Rattle.dg_mid.specs.declared.code.Op.TheVariants as op
 use Rattle.dg_mid.specs.declared.code.Gathered.TheVariants as gathered
 use Rattle.dg_mid.specs.declared.code.RuleCode.{RuleCode}
-use Rattle.dg_mid.specs.Actions.{terms_of, act_at, world_of, outside_in}
+use Rattle.dg_mid.specs.Actions.{terms_of, act_at, asked_at, found_at, world_of, outside_in}
 use Rattle.dg_mid.specs.declared.code.Code.{Code}
 use Rattle.dg_mid.specs.Code.{block_at, rules_at, selected, excluded}
-use Rattle.dg_mid.specs.State.{Place, Frame, Call, Way, Goes, Calls, Stop, Choice, Mid, Status, Runs, Enters, Resumes, Fails, Ended, vars_of, cut_of, place_of, cut_choices, stop_to}
-use Rattle.dg_mid.specs.Step.{Setting, done, made_in, gathers, without_gathering, taken_out, step, runs, charged, more, unified, bound, trail_more, if_agreed, if_passed, inside, passed, within, new_choice, enters, begins, asks, asks_last, last, first_of, returned, returns, commits, refuses, leaves, keeps, new_frame, new_stop, enter, entered, resumed, goes_on, goes_back, at_rule, call_of, shielded, gathering, stops, stops_at}
-use Rattle.dg_mid.specs.Codes.{End, Returns, Commits, Refuses, Backs, Leaves, Keeps, Stands, Others, last_list, more_lists, jumps, returns as stands_returns, commits as stands_commits, refuses as stands_refuses, backs, leaves as stands_leaves, keeps as stands_keeps, shields, collects, accumulates, finishes, acts, ask, last_ask, only, either, selects, once, negates, branch, exhausts, forever}
+use Rattle.dg_mid.specs.State.{Place, Frame, Call, Find, Way, Goes, Calls, Tries, Stop, Choice, Mid, Status, Runs, Enters, Resumes, Fails, Ended, vars_of, cut_of, place_of, inner_for, cut_choices, stop_to}
+use Rattle.dg_mid.specs.Step.{Setting, values, does, seeks, trying, tries, done, made_in, gathers, without_gathering, taken_out, step, runs, charged, more, unified, bound, trail_more, if_agreed, if_passed, inside, passed, within, new_choice, enters, begins, asks, asks_last, last, first_of, returned, returns, commits, refuses, leaves, keeps, new_frame, new_stop, enter, entered, resumed, goes_on, goes_back, at_rule, call_of, shielded, gathering, stops, stops_at}
+use Rattle.dg_mid.specs.Codes.{End, Returns, Commits, Refuses, Backs, Leaves, Keeps, Stands, Others, last_list, more_lists, jumps, returns as stands_returns, commits as stands_commits, refuses as stands_refuses, backs, leaves as stands_leaves, keeps as stands_keeps, shields, collects, accumulates, finishes, acts, ask, last_ask, holds, objects, found_goals, found_end, only, either, selects, once, negates, branch, exhausts, forever}
 use Rattle.dg_mid.specs.Potential.{one_from, cut_from, pending, ChoicesFine, MidFine, StatusFine}
-use Rattle.dg_mid.specs.Shapes.{StopOlder, head_of, Fits, FitsCode, BlockFits, plain, retry, takes, FramesFit, StopCovers, ActiveAt, Active, AllTrails, RuleFits, RulesFit, CallFits, GoesFit, WayFits, ChoicesShaped, MidShaped, ShapedAt, RunShaped, StatusShaped}
+use Rattle.dg_mid.specs.Shapes.{StopOlder, head_of, Fits, FitsCode, BlockFits, plain, retry, takes, FramesFit, StopCovers, ActiveAt, Active, AllTrails, RuleFits, RulesFit, CallFits, GoesFit, TriesFit, WayFits, ChoicesShaped, MidShaped, ShapedAt, RunShaped, StatusShaped}
 use Rattle.dg_mid.proofs.Pending.{one_falls, cut_falls}
 use Rattle.dg_mid.proofs.Backs.{goes_plainly}
 use Rattle.dg_mid.proofs.Chosen.{branch_stands}
@@ -295,6 +295,16 @@ module _ (g : Setting) (answers : block_at g.code 0 ≡ op.Return ∷ []) (rules
     fits_empty : (N : List Place) → m.inner ≡ N → MidShaped g.code m.frames N m.choices m.stops m.stop m.next_tag m.state.trail chain
     fits_empty N e = subst (λ l. MidShaped g.code m.frames l m.choices m.stops m.stop m.next_tag m.state.trail chain) e h
 
+  seeks_s : (f : Find) (e : Effect) (m : Mid) (goals : List Goal) (end : End) (chain r : List ℕ) → Stands g.code m.ops goals end → Stands g.code (block_at g.code f.next) (found_goals f.many goals) (found_end f.many goals end) → ShapedAt g.code m chain → FramesFit g.code m.frames r → Fits chain r end m.inner → StatusShaped g.code (seeks g f e m)
+  seeks_s f (Acts act) m goals end chain r s o h fit fits = done_s act m goals end chain r s h fit fits
+  seeks_s f (Offers k bs w) m goals end chain r s o h fit fits = (chain, h, record { r = r; goals = goals; end = end; stands = o; fits = fits; frames_are = fit })
+
+  finds_s : (place : Option ℕ) (terms : List Term) (many : Bool) (next : ℕ) (m : Mid) (goals : List Goal) (end : End) (chain r : List ℕ) → Stands g.code m.ops goals end → Stands g.code (block_at g.code next) (found_goals many goals) (found_end many goals end) → ShapedAt g.code m chain → FramesFit g.code m.frames r → Fits chain r end m.inner → StatusShaped g.code (does g (op.Find place terms many next) m)
+  finds_s place terms many next m goals end chain r s o h fit fits =
+      let k = cells g.game.program terms in
+      let f : Find = record { place = place; args = values g m terms; many = many; next = next } in
+      charge_s k m _ (seeks_s f (asked_at g.game [] place f.args (more k m)) (more k m) goals end chain r s o h fit fits)
+
   runs_s : (m : Mid) (ops : List Op) (goals : List Goal) (end : End) (chain r : List ℕ) → Stands g.code ops goals end → MidFine g.code m → ShapedAt g.code m chain → FramesFit g.code m.frames r → Fits chain r end m.inner → StatusShaped g.code (runs g ops m)
   runs_s m ops goals end chain r (jumps b others goals' end' s) fine h fit f = (chain, h, record { r = r; code_is = record { goals = goals; end = end; stands = s; fits = f }; frames_are = fit })
   runs_s m ops goals end chain r (stands_returns others) fine h fit f = returns_s m.frames (record m { ops = others }) chain r (fits_empty m others chain r fine h fit [] f.0) fit f.1
@@ -321,6 +331,8 @@ module _ (g : Setting) (answers : block_at g.code 0 ≡ op.Return ∷ []) (rules
       (record { r = r; next = record { goals = goals'; end = end'; stands = s; fits = f }; frames_are = fit; older = h.here.older }))
   runs_s m ops goals end chain r (last_ask pred terms many others) fine h fit f =
       charge_s _ (record m { ops = others }) _ (last_s pred (map (value_of g.game.program (vars_of m.frames)) terms) many m.frames (more (cells g.game.program terms) (record m { ops = others })) chain r refl (fits_empty m others chain r fine h fit [] f.0) fit f.1)
+  runs_s m ops goals end chain r (holds place terms many next others goals' end' s o) fine h fit f = finds_s (Some place) terms many next (record m { ops = others }) goals' end' chain r s o h fit f
+  runs_s m ops goals end chain r (objects term many next others goals' end' s o) fine h fit f = finds_s None (term ∷ []) many next (record m { ops = others }) goals' end' chain r s o h fit f
   runs_s m ops goals end chain r (only list others goals' end' s) fine h fit f =
       (chain, tag_s g.code m.frames m.inner m.choices m.stops m.stop m.next_tag (m.next_tag + 1) m.state.trail chain (omega arith) h, record { r = r; code_is = record { goals = list ++ goals'; end = end'; stands = s; fits = f }; frames_are = fit })
   runs_s m ops goals end chain r (either alt list second lists others goals' end' s o) fine h fit f =
@@ -371,9 +383,29 @@ module _ (g : Setting) (answers : block_at g.code 0 ≡ op.Return ∷ []) (rules
       subst (λ l. StatusShaped g.code (resumed g l m)) (sym e)
       (done_s (taken_out g [] whole into (record m { ops = ops })) m1 f.goals f.end chain r f.stands (tag_s g.code m.frames m.inner m.choices m.stops m.stop m.next_tag (m.next_tag + 1) m.state.trail chain (omega arith) h) fit f.fits)
 
+  wanted_fits : (many : Bool) (p : Place) (goals : List Goal) (end : End) (chain r : List ℕ) (inner : List Place) → StopOlder p.tag (head_of chain) → Fits chain r end inner → Fits chain r (found_end many goals end) (inner_for many p inner)
+  wanted_fits true p goals end chain r inner older f = f
+  wanted_fits false p goals end chain r inner older f = (older, f)
+
+  wanted_s : (many : Bool) (p : Place) (frames : List Frame) (inner : List Place) (cs : List Choice) (ss : List Stop) (S : Option ℕ) (t k : ℕ) (chain : List ℕ) → MidShaped g.code frames inner cs ss S t k chain → MidShaped g.code frames (inner_for many p inner) cs ss S t k chain
+  wanted_s true p frames inner cs ss S t k chain h = h
+  wanted_s false p frames inner cs ss S t k chain h = place_s g.code frames inner cs ss S t k chain p h
+
+  tried_s : (f : Find) (os : List ℕ) (m : Mid) (chain : List ℕ) → ShapedAt g.code m chain → TriesFit g.code f m.frames m.inner chain → StatusShaped g.code (tries g f os m)
+  tried_s f [] m chain h w = h.choices_are
+  tried_s f (o ∷ []) m chain h w =
+      done_s (found_at [] f o (trying g f [] m)) (trying g f [] m) (found_goals f.many w.goals) (found_end f.many w.goals w.end) chain w.r w.stands
+      (wanted_s f.many (place_of m) m.frames m.inner m.choices m.stops m.stop (m.next_tag + 1) m.state.trail chain (tag_s g.code m.frames m.inner m.choices m.stops m.stop m.next_tag (m.next_tag + 1) m.state.trail chain (omega arith) h))
+      w.frames_are (wanted_fits f.many (place_of m) w.goals w.end chain w.r m.inner h.here.older w.fits)
+  tried_s f (o ∷ i ∷ os) m chain h w =
+      charge_s (10 + length f.args) m _ (done_s (found_at [] f o (trying g f (i ∷ os) m)) (trying g f (i ∷ os) m) (found_goals f.many w.goals) (found_end f.many w.goals w.end) chain w.r w.stands
+      (wanted_s f.many (place_of m) m.frames m.inner (new_choice (Tries f (i ∷ os)) m ∷ m.choices) m.stops m.stop (m.next_tag + 1) m.state.trail chain (push_s g.code m (Tries f (i ∷ os)) (length f.args) chain h w))
+      w.frames_are (wanted_fits f.many (place_of m) w.goals w.end chain w.r m.inner h.here.older w.fits))
+
   way_s : (way : Way) (m : Mid) (chain : List ℕ) → ShapedAt g.code m chain → WayFits g.code way m.frames m.inner chain → StatusShaped g.code (goes_on g way m)
   way_s (Goes b) m chain h w = resumed_s b m chain w.r h w.frames_are w.block
   way_s (Calls call rs) m chain h w = begins_s call rs m chain h w.0 w.1
+  way_s (Tries f os) m chain h w = tried_s f os m chain h w
 
   back_s : (cs : List Choice) (m : Mid) → ChoicesShaped g.code cs → StatusShaped g.code (goes_back cs m)
   back_s [] m h = tt

@@ -10,10 +10,10 @@ use Rattle.dg_meaning.specs.Keeps.{Tried, open_at}
 use Rattle.dg_mid.specs.declared.code.Op.{Op}
 use Rattle.dg_mid.specs.declared.code.Code.{Code}
 use Rattle.dg_mid.specs.Code.{block_at, selected}
-use Rattle.dg_mid.specs.State.{Way, Goes, Calls, Mid, Status, Runs, Enters, Resumes, Fails, Ended}
+use Rattle.dg_mid.specs.State.{Way, Goes, Calls, Tries, Mid, Status, Runs, Enters, Resumes, Fails, Ended}
 use Rattle.dg_mid.specs.Step.{Setting, setting, runs, first_of, begins, goes_on as way_goes_on, at_goal, said_in, said_to, followed}
 use Rattle.dg_mid.specs.Units.{earned_of, earned_by}
-use Rattle.dg_mid.specs.Codes.{End, Stands, jumps, returns, commits, refuses, backs, leaves, keeps, finishes, acts, ask, last_ask, only, either, selects, once, negates, branch, exhausts, shields, collects, accumulates, forever, Codes}
+use Rattle.dg_mid.specs.Codes.{End, Stands, jumps, returns, commits, refuses, backs, leaves, keeps, finishes, acts, ask, last_ask, holds, objects, only, either, selects, once, negates, branch, exhausts, shields, collects, accumulates, forever, Codes}
 use Rattle.dg_mid.specs.Reads.{silents, Behind, RunsAt, ResumesAt, Comes, before, Simulates}
 use Rattle.dg_mid.proofs.Here.{Here, steps_of, answers}
 use Rattle.dg_mid.proofs.Marks as marks
@@ -24,6 +24,7 @@ use Rattle.dg_mid.proofs.Chosen as selects_on
 use Rattle.dg_mid.proofs.Backs as backs_on
 use Rattle.dg_mid.proofs.Calls.{rules_begin, enters_at, rule_open}
 use Rattle.dg_mid.proofs.Asks as asks_on
+use Rattle.dg_mid.proofs.Finding as finding
 
 -- what an instruction comes to
 abbrev Does : (least : ℕ) (ps : List Print) (set : Setting) (ops : List Op) (m : Mid) (g : Game) (n : ℕ) (run : Run) → Type 0
@@ -46,6 +47,8 @@ module _ (code : Code) (limits : Limits) (m : Mid) (ps : List Print) (rest : Lis
   runs_one {least = least} ops goals end (acts a others goals' end' s) h le = acts_on.acts code limits m a others goals' end' rest g n w run s below h le
   runs_one {least = least} ops goals end (ask pred terms many next others goals' end' s) h le = asks_on.ask code limits m ps others g n w run codes pred terms many (steps_of m goals' end' rest) h next goals' end' rest s below refl le
   runs_one {least = least} ops goals end (last_ask pred terms many others) h le = asks_on.last_ask code limits m ps others g n w run codes pred terms many rest h below le
+  runs_one {least = least} ops goals end (holds place terms many next others goals' end' s o) h le = finding.holds_so code limits m others goals' end' rest g n w run s below place terms many next o h le
+  runs_one {least = least} ops goals end (objects term many next others goals' end' s o) h le = finding.objects_so code limits m others goals' end' rest g n w run s below term many next o h le
   runs_one {least = least} ops goals end (only list others goals' end' s) h le = choices.only code limits m others goals' end' rest g n w run below list s h (omega (arith, le))
   runs_one {least = least} ops goals end (either alt list second lists others goals' end' s o) h le = choices.either code limits m others goals' end' rest g n w run below alt list second lists s o h (omega (arith, le))
   runs_one {least = least} ops goals end (selects site mode blocks lists behind others goals' end' bs s) h le = selects_on.selects_so code limits m others goals' end' rest g n w run below site mode blocks lists behind bs s h (omega (arith, le))
@@ -84,6 +87,8 @@ resumes_at {least = least} {ps = ps} code limits (Calls call rules) m g n w run 
     (subst (λ (k : Kind). Tried g k h.live.tag h.live.height h.live.ways_on h.lives h.live.others n w run) c.kind_is h.tried)) in
     subst (λ l. Comes least ps set (begins set call l m) g n run) (ap (λ S. selected (first_of S call) c.codes) i.agrees.bound ∙ sym c.rules_are)
     (rules_begin g code limits call c.pred c.answered c.after q c.sound m ps h.lives h.live.ways_on n run h.live.height c.reads c.cut height c.codes c.rule c.left w c.stand i tried (omega (arith, le)))
+resumes_at {least = least} {ps = ps} code limits (Tries f os) m g n w run h le =
+    finding.tries_on code limits g n w run f os m h.live h.lives h.registers h.mirrors h.tag h.way_is.0 h.height h.tried h.way_is.1 le
 
 pub simulates : (code : Code) (limits : Limits) (now : Status) (g : Game) → Codes g.program code → Simulates (setting g code limits) now g
 simulates code limits (Runs m) g codes least n ps w run h le = runs_at code limits m g n w run codes h le

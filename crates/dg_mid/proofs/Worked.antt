@@ -4,9 +4,7 @@ use Rattle.std.specs.Prelude.{codes, slice_get}
 use Rattle.std.specs.Fmt.{digits}
 use Rattle.dg_base.specs.declared.program.Goal as form
 use Rattle.dg_base.specs.declared.program.Term.TheBlock.{hidden-the_row-Term-0}
-use Rattle.dg_base.specs.declared.program.Goal.{Goal}
 use Rattle.dg_base.specs.declared.program.Term as place
-use Rattle.dg_base.specs.declared.program.Term.{Term}
 use Rattle.dg_base.specs.declared.program.Goal.TheVariants as goal
 use Rattle.dg_base.specs.declared.program.Term.TheVariants.{Num, Var}
 use Rattle.dg_base.specs.declared.run.Ending.TheVariants as ending

@@ -68,14 +68,14 @@ pub levels_later : (old new : List Block) → Begins old new → (levels : List 
 levels_later old new on [] h = h
 levels_later old new on (l ∷ levels) h = (level_later old new on l h.0, levels_later old new on levels h.1)
 
-plain_first : (blocks : List Block) (x : Op) (ops : List Op) → IsPlain x → FirstTidy blocks (x ∷ ops)
+pub plain_first : (blocks : List Block) (x : Op) (ops : List Op) → IsPlain x → FirstTidy blocks (x ∷ ops)
 plain_first blocks (op.Goto b) ops h = elim h [ ]
 plain_first blocks op.Return ops h = elim h [ ]
 plain_first blocks (op.Retry alt) ops h = elim h [ ]
 plain_first blocks (op.Ask pred terms many next) ops h = elim h [ ]
 plain_first blocks x ops h = tt
 
-plain_query : (code : Code) (x : Op) → IsPlain x → OpTidy code x
+pub plain_query : (code : Code) (x : Op) → IsPlain x → OpTidy code x
 plain_query code (op.Ask pred terms many next) h = elim h [ ]
 plain_query code x h = tt
 

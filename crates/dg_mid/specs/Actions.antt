@@ -1,18 +1,21 @@
 -- What is done at once: the act of a goal, in a machine. Hold it against the Dialog manual, chapters "Output" and "Control flow", and docs/LANGUAGE.md on equations.
-use Rattle.std.specs.Prelude.{List, [], map}
+use Rattle.std.specs.Prelude.{ℕ, List, [], Option, Some, None, Bool, true, map, slice_get}
+use Rattle.dg_meaning.specs.Values.{Value}
+use Rattle.dg_meaning.specs.Facts.{kinds_of}
+use Rattle.dg_meaning.specs.Changes.{found}
 use Rattle.dg_base.specs.declared.program.Goal.{Goal, Goal-F}
 use Rattle.dg_base.specs.declared.program.Goal.TheVariants as goal
 use Rattle.dg_base.specs.declared.program.Goal.TheOpen as form
 use Rattle.dg_base.specs.declared.program.Term.{Term}
 use Rattle.dg_base.specs.Goals.{terms_held}
 use Rattle.dg_meaning.specs.World.{Game, World, Print, Prints, prints}
-use Rattle.dg_meaning.specs.Path.{Registers, Act, Goes, Tests, Unifies, Ends, Fails as FailsNow, Stops, Effect, Acts, Offers, Whole, AsList, AsSum}
-use Rattle.dg_meaning.specs.Moves.{effect}
+use Rattle.dg_meaning.specs.Path.{Step, Registers, Act, Goes, Tests, Unifies, Ends, Fails as FailsNow, Stops, Effect, Acts, Offers, Whole, AsList, AsSum}
+use Rattle.dg_meaning.specs.Moves.{begun, finds_if_set, ask_objects, ask_place, effect}
 use Rattle.dg_mid.specs.declared.code.Action.{Action}
 use Rattle.dg_mid.specs.declared.code.Action.TheVariants as action
 use Rattle.dg_mid.specs.declared.code.Gathered.{Gathered}
 use Rattle.dg_mid.specs.declared.code.Gathered.TheVariants as gathered
-use Rattle.dg_mid.specs.State.{Mid, vars_of, cut_of}
+use Rattle.dg_mid.specs.State.{Find, Mid, vars_of, cut_of}
 
 -- ## Goals
 
@@ -98,6 +101,19 @@ act_in (Offers k bs w) = FailsNow w
 -- An action does what its goal does, in the machine's registers and world.
 abbrev pub act_at : Game → List Print → Action → Mid → Act
 act_at g ps a m = act_in (effect g (form_of a) (vars_of m.frames) (cut_of m.frames).tag [] (registers_of m) (world_of ps m))
+
+-- What a query of a place does, or without one a query of all objects.
+abbrev pub asked : Game → Option ℕ → List Value → Bool → List Step → Registers → World → Effect
+asked g (Some place) args many steps r w = ask_place g place (slice_get (kinds_of g.program) place) args many steps r w
+asked g None args many steps r w = ask_objects g None args many steps r w
+
+-- The same in a machine.
+abbrev pub asked_at : Game → List Print → Option ℕ → List Value → Mid → Effect
+asked_at g ps place args m = asked g place args true [] (registers_of m) (world_of ps m)
+
+-- An object is tried in a machine.
+abbrev pub found_at : List Print → Find → ℕ → Mid → Act
+found_at ps f o m = finds_if_set f.args o (registers_of m) (found m.outside.facts f.place o) (begun (registers_of m) 1 (world_of ps m))
 
 -- The world that an act leaves.
 abbrev pub world_by : Act → World

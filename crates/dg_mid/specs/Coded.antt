@@ -2,17 +2,15 @@
 use Rattle.std.specs.Prelude.{◌≤◌, length}
 use Rattle.std.specs.List.{All}
 use Rattle.dg_base.specs.declared.program.Goal.{Goal, Goal-F, out-Goal}
-use Rattle.dg_base.specs.declared.program.Goal.TheOpen.{Holds, Query, IsObject, Either}
+use Rattle.dg_base.specs.declared.program.Goal.TheOpen.{Query, Either}
 use Rattle.dg_base.specs.declared.program.Rule.{Rule}
 use Rattle.dg_base.specs.declared.program.Pred.{Pred}
 use Rattle.dg_base.specs.declared.program.CoreProgram.{CoreProgram}
 use Rattle.dg_base.specs.Goals.{goals_of}
 
--- Code is written for every goal but queries of the world, of objects and of closures, and choices without a list.
+-- Code is written for every goal but queries of closures and choices without a list.
 abbrev pub HasCode : Goal-F Goal → Type 0
-HasCode (Holds place args many) = ⊥
 HasCode (Query a b many) = ⊥
-HasCode (IsObject a many) = ⊥
 HasCode (Either lists) = 1 ≤ length lists
 HasCode _ = Unit {0}
 

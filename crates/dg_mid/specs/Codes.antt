@@ -1,5 +1,5 @@
 -- Which code stands for which goals. Hold it against the Dialog manual, chapters "Choice points" and "Control flow".
-use Rattle.std.specs.Prelude.{ℕ, ◌≡◌, List, [], ◌∷◌, ◌++◌, Bool, false, slice_get}
+use Rattle.std.specs.Prelude.{ℕ, ◌≡◌, List, [], ◌∷◌, ◌++◌, Bool, true, false, Some, None, slice_get}
 use Rattle.dg_base.specs.declared.program.Goal.{Goal}
 use Rattle.dg_base.specs.declared.program.Goal.TheVariants as goal
 use Rattle.dg_base.specs.declared.program.Term.{Term}
@@ -28,6 +28,15 @@ pub data End : Type 0 where
   Keeps : (term : Term) → End
   Finishes : End
 
+-- The goals where an object is found, and what comes behind them: where one answer is wanted an inner construct is left first.
+abbrev pub found_goals : Bool → List Goal → List Goal
+found_goals true goals = goals
+found_goals false goals = []
+
+abbrev pub found_end : Bool → List Goal → End → End
+found_end true goals end = end
+found_end false goals end = Commits goals end
+
 -- These instructions stand for these goals and what comes behind them; the code from a block on stands for the lists between (or) that are left, each with these goals behind it; so does each of some blocks for each branch of a select.
 mutual
   pub data Stands (code : Code) : List Op → List Goal → End → Type 0 where
@@ -48,6 +57,13 @@ mutual
         Stands code (block_at code next) goals end → Stands code (op.Ask pred terms many next ∷ ops) (goal.Ask pred terms many ∷ goals) end
     last_ask : (pred : ℕ) (terms : List Term) (many : Bool) (ops : List Op) →
         Stands code (op.LastAsk pred terms many ∷ ops) (goal.Ask pred terms many ∷ []) Returns
+    -- a query of a place of the world, and of all objects, which goes on at a block where an object is found
+    holds : (place : ℕ) (terms : List Term) (many : Bool) (next : ℕ) (ops : List Op) (goals : List Goal) (end : End) →
+        Stands code ops goals end → Stands code (block_at code next) (found_goals many goals) (found_end many goals end) →
+        Stands code (op.Find (Some place) terms many next ∷ ops) (goal.Holds place terms many ∷ goals) end
+    objects : (term : Term) (many : Bool) (next : ℕ) (ops : List Op) (goals : List Goal) (end : End) →
+        Stands code ops goals end → Stands code (block_at code next) (found_goals many goals) (found_end many goals end) →
+        Stands code (op.Find None (term ∷ []) many next ∷ ops) (goal.IsObject term many ∷ goals) end
     -- a goal with inner ones
     only : (list : List Goal) (ops : List Op) (goals : List Goal) (end : End) →
         Stands code ops (list ++ goals) end → Stands code (op.Take ∷ ops) (goal.Either (list ∷ []) ∷ goals) end

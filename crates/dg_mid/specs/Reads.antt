@@ -9,7 +9,7 @@ use Rattle.dg_meaning.specs.Values.{Value, value_of}
 use Rattle.dg_meaning.specs.Substitutions.{Substitution, IsSubstitution}
 use Rattle.dg_meaning.specs.World.{Game, World, Gathering, Print, prints}
 use Rattle.dg_meaning.specs.Path.{Step, Answers, Cut, Refuse, Back, Keep, Leave, Registers, Path, Branch, Enter, Clash, TakeOut, Finds, Kind, Plain, Rules, Result}
-use Rattle.dg_meaning.specs.Moves.{path_of, goals_at, first_alone, inside, is_excluded, rule_branch, rule_branches}
+use Rattle.dg_meaning.specs.Moves.{path_of, goals_at, first_alone, inside, object_branches, is_excluded, rule_branch, rule_branches}
 use Rattle.dg_meaning.specs.Transcript.{Run, run_of, ending_of}
 use Rattle.dg_meaning.specs.Search.{answer}
 use Rattle.dg_meaning.specs.Context.{Way as WayOn, Live}
@@ -22,11 +22,11 @@ use Rattle.dg_mid.specs.declared.code.Gathered.{Gathered}
 use Rattle.dg_mid.specs.declared.code.RuleCode.{RuleCode}
 use Rattle.dg_mid.specs.declared.code.Code.{Code}
 use Rattle.dg_mid.specs.Code.{block_at, selected}
-use Rattle.dg_mid.specs.State.{Place, Frame, Call, Way, Goes, Calls, Stop, Choice, Outside, Mid, Status, Runs, Enters, Resumes, Fails, Ended, vars_of, cut_of}
+use Rattle.dg_mid.specs.State.{Place, Frame, Call, Find, Way, Goes, Calls, Tries, Stop, Choice, Outside, Mid, Status, Runs, Enters, Resumes, Fails, Ended, vars_of, cut_of}
 use Rattle.dg_mid.specs.Actions.{whole_of}
 use Rattle.dg_mid.specs.Step.{Setting, first_of, step, said, followed, takes_goal}
 use Rattle.dg_mid.specs.Units.{earned}
-use Rattle.dg_mid.specs.Codes.{End, Returns, Commits, Refuses, Backs, Leaves, Keeps, Finishes, Stands, RulesStand}
+use Rattle.dg_mid.specs.Codes.{End, Returns, Commits, Refuses, Backs, Leaves, Keeps, Finishes, found_goals, found_end, Stands, RulesStand}
 
 -- ## Steps
 
@@ -136,10 +136,21 @@ pub record TakesAt (g : Game) (code : Code) (b : ℕ) (frames : List Frame) (inn
   pub block : block_at code b ≡ op.TakeOut whole into ∷ ops
   pub way : WayIs code ops frames inner r 0 path
 
+-- The branches that are not begun try these objects, and go on at a block.
+pub record TriesAt (code : Code) (f : Find) (objects : List ℕ) (frames : List Frame) (inner : List Place) (r : Registers) (others : List Branch) : Type 0 where
+  pub goals : List Goal
+  pub end : End
+  pub rest : List Step
+  pub stands : Stands code (block_at code f.next) (found_goals f.many goals) (found_end f.many goals end)
+  pub below : Behind code frames rest
+  pub others_are : others ≡ object_branches f.place f.args f.many
+      (goals_at (vars_of frames) (cut_of frames).tag goals ++ end_steps end (vars_of frames) (cut_of frames).tag inner rest) r objects
+
 -- What a choice goes on with is the branches that are not begun.
 abbrev pub WayOf : Game → Code → Way → List Frame → List Place → Substitution → Registers → Kind → List Branch → Type 0
 WayOf g code (Goes b) frames inner S r kind others = (kind ≡ Plain) × (GoesAt code b frames inner r others ⊎ TakesAt g code b frames inner r others)
 WayOf g code (Calls call rules) frames inner S r kind others = CallsAt g code call rules frames inner S r kind others
+WayOf g code (Tries f objects) frames inner S r kind others = (kind ≡ Plain) × TriesAt code f objects frames inner r others
 
 -- A machine's stoppable part is one around the search.
 pub record IsStop (code : Code) (s : Stop) (way : WayOn) : Type 0 where

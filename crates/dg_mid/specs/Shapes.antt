@@ -8,8 +8,8 @@ use Rattle.dg_mid.specs.declared.code.Gathered.{Gathered}
 use Rattle.dg_mid.specs.declared.code.RuleCode.{RuleCode}
 use Rattle.dg_mid.specs.declared.code.Code.{Code}
 use Rattle.dg_mid.specs.Code.{block_at}
-use Rattle.dg_mid.specs.Codes.{End, Returns, Commits, Refuses, Backs, Leaves, Keeps, Finishes, Stands}
-use Rattle.dg_mid.specs.State.{Place, Frame, Call, Way, Goes, Calls, Stop, Choice, Mid, Status, Runs, Enters, Resumes, Fails, Ended}
+use Rattle.dg_mid.specs.Codes.{End, Returns, Commits, Refuses, Backs, Leaves, Keeps, Finishes, found_goals, found_end, Stands}
+use Rattle.dg_mid.specs.State.{Place, Frame, Call, Find, Way, Goes, Calls, Tries, Stop, Choice, Mid, Status, Runs, Enters, Resumes, Fails, Ended}
 use Rattle.dg_mid.specs.Potential.{pending, FramesTidy}
 
 -- The innermost stoppable part, where there is one, is older than a tag.
@@ -132,10 +132,20 @@ pub record GoesFit (code : Code) (b : ℕ) (frames : List Frame) (inner : List P
   pub block : BlockFits code chain r inner b
   pub frames_are : FramesFit code frames r
 
+-- A choice of objects goes on at code that fits.
+pub record TriesFit (code : Code) (f : Find) (frames : List Frame) (inner : List Place) (chain : List ℕ) : Type 0 where
+  pub r : List ℕ
+  pub goals : List Goal
+  pub end : End
+  pub stands : Stands code (block_at code f.next) (found_goals f.many goals) (found_end f.many goals end)
+  pub fits : Fits chain r end inner
+  pub frames_are : FramesFit code frames r
+
 -- What a choice goes on with fits.
 abbrev pub WayFits : Code → Way → List Frame → List Place → List ℕ → Type 0
 WayFits code (Goes b) frames inner chain = GoesFit code b frames inner chain
 WayFits code (Calls call rules) frames inner chain = CallFits code call frames inner chain × RulesFit code rules
+WayFits code (Tries f objects) frames inner chain = TriesFit code f frames inner chain
 
 -- The open stoppable parts are a chain, where so many choices were opened and so many bindings are on the trail.
 pub record ShapedWith (code : Code) (frames : List Frame) (inner : List Place) (choices : List Choice) (stops : List Stop) (stop : Option ℕ)

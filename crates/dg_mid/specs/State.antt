@@ -1,5 +1,5 @@
 -- What a machine is in while it runs register code. Hold it against the Dialog manual, chapters "Choice points" and "Control flow".
-use Rattle.std.specs.Prelude.{ℕ, List, [], ◌∷◌, Option, Some, None, Bool, nat_lt, eqb, if◌then◌else◌}
+use Rattle.std.specs.Prelude.{ℕ, List, [], ◌∷◌, Option, Some, None, Bool, true, false, nat_lt, eqb, if◌then◌else◌}
 use Rattle.dg_base.specs.declared.run.Ending.{Ending}
 use Rattle.dg_meaning.specs.Values.{Value}
 use Rattle.dg_meaning.specs.Choosing.{Picks}
@@ -30,10 +30,18 @@ pub record Call : Type 0 where
   pub next : ℕ
   pub cut : Place
 
--- What a choice goes on with: a block, or further rules of a query, of which the first isn't excluded.
+-- A query of the objects at a place, or without one of all objects: its arguments, whether all its answers are wanted, and the block behind an object that is found.
+pub record Find : Type 0 where
+  pub place : Option ℕ
+  pub args : List Value
+  pub many : Bool
+  pub next : ℕ
+
+-- What a choice goes on with: a block, further rules of a query, of which the first isn't excluded, or further objects to be tried.
 pub data Way : Type 0 where
   Goes : (block : ℕ) → Way
   Calls : (call : Call) → (rules : List RuleCode) → Way
+  Tries : (find : Find) → (objects : List ℕ) → Way
 
 -- Where it goes on behind a stoppable part: its place, the block behind it with its frames and inner constructs, the state of the store there, and how many gatherings are open there.
 pub record Stop : Type 0 where
@@ -98,6 +106,11 @@ cut_of (f ∷ fs) = f.cut
 -- The place of a choice that opens now.
 abbrev pub place_of : Mid → Place
 place_of m = record { tag = m.next_tag; height = m.state.heap; outer = m.stop }
+
+-- The inner constructs where an object is found: one more, where one answer is wanted.
+abbrev pub inner_for : Bool → Place → List Place → List Place
+inner_for true p inner = inner
+inner_for false p inner = p ∷ inner
 
 -- The choices older than a place.
 abbrev pub cut_choices : Place → List Choice → List Choice

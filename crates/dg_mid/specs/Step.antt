@@ -8,9 +8,9 @@ use Rattle.dg_meaning.specs.Values.{Value, value_of}
 use Rattle.dg_meaning.specs.Substitutions.{Substitution, walk, resolved}
 use Rattle.dg_meaning.specs.Unify.{Unified, solve}
 use Rattle.dg_meaning.specs.World.{Game, Print, Gathering, gathered_size, gathered_at, gathered_with, gathered_without}
-use Rattle.dg_meaning.specs.Path.{Registers, Act, Goes, Tests, Unifies, Ends, Fails as FailsNow, Stops}
+use Rattle.dg_meaning.specs.Path.{Registers, Act, Goes, Tests, Unifies, Ends, Fails as FailsNow, Stops, Effect, Acts, Offers}
 use Rattle.dg_meaning.specs.Cells.{cells}
-use Rattle.dg_meaning.specs.Moves.{new_vars, made_since, takes_out, selects, selected as picked}
+use Rattle.dg_meaning.specs.Moves.{new_vars, made_since, numbers, takes_out, selects, selected as picked}
 use Rattle.dg_meaning.specs.Choosing.{Choice as Chosen}
 use Rattle.dg_unify.specs.Store.{State, trail_of, marked}
 use Rattle.dg_mid.specs.declared.code.Op.{Op}
@@ -19,8 +19,8 @@ use Rattle.dg_mid.specs.declared.code.Gathered.{Gathered}
 use Rattle.dg_mid.specs.declared.code.RuleCode.{RuleCode}
 use Rattle.dg_mid.specs.declared.code.Code.{Code}
 use Rattle.dg_mid.specs.Code.{block_at, rules_at, selected}
-use Rattle.dg_mid.specs.State.{Place, Frame, Call, Way, Goes, Calls, Stop, Choice, Mid, Status, Runs, Enters, Resumes, Fails, Ended, vars_of, cut_of, place_of, cut_choices, stop_to}
-use Rattle.dg_mid.specs.Actions.{terms_of, whole_of, registers_of, world_of, act_at, said_by, outside_in}
+use Rattle.dg_mid.specs.State.{Place, Frame, Call, Find, Way, Goes, Calls, Tries, Stop, Choice, Mid, Status, Runs, Enters, Resumes, Fails, Ended, vars_of, cut_of, place_of, inner_for, cut_choices, stop_to}
+use Rattle.dg_mid.specs.Actions.{terms_of, whole_of, registers_of, world_of, act_at, asked_at, found_at, said_by, outside_in}
 
 -- What stays the same: the game, for what its program prints, captures and keeps, and for its dice, its code, and the limits.
 pub record Setting : Type 0 where
@@ -261,6 +261,11 @@ done g (Stops w) m = stops g m.stop (outside_in w m)
 abbrev pub at_choice : Setting → Chosen → ℕ → List ℕ → ℕ → Mid → Mid
 at_choice g c site blocks behind m = record (outside_in (picked site c (world_of [] m)) m) { ops = block_at g.code (get_or blocks c.branch behind) }
 
+-- A query of objects is answered at once, or the objects are tried in turn.
+abbrev pub seeks : Setting → Find → Effect → Mid → Status
+seeks g f (Acts act) m = done g act m
+seeks g f (Offers k bs w) m = Resumes (Tries f (numbers 0 g.game.program.objects)) m
+
 -- What an instruction leads to, where the machine is behind it.
 abbrev pub does : Setting → Op → Mid → Status
 does g (op.Do a) m = let n = cells g.game.program (terms_of a) in charged g n m (done g (act_at g.game [] a (more n m)) (more n m))
@@ -270,6 +275,10 @@ does g (op.Ask pred terms many next) m =
 does g (op.LastAsk pred terms many) m =
     let n = cells g.game.program terms in
     charged g n m (last g pred (values g m terms) many m.frames (more n m))
+does g (op.Find place terms many next) m =
+    let n = cells g.game.program terms in
+    let f : Find = record { place = place; args = values g m terms; many = many; next = next } in
+    charged g n m (seeks g f (asked_at g.game [] place f.args (more n m)) (more n m))
 does g op.Take m = Runs (passed m)
 does g (op.Branch alt) m = charged g 10 m (Runs (inside (Goes alt) 0 m))
 does g (op.Select site mode blocks behind) m = Runs (at_choice g (selects g.game site mode (length blocks) (world_of [] m)) site blocks behind m)
@@ -333,10 +342,26 @@ resumed g (op.Retry alt ∷ ops) m = charged g 10 m (Runs (inside (Goes alt) 0 (
 resumed g (op.TakeOut whole into ∷ ops) m = let m' = passed (without_gathering (record m { ops = ops })) in done g (taken_out g [] whole into m) m'
 resumed g ops m = Runs (passed (record m { ops = ops }))
 
+-- The machine at a block, inside the choice of further objects, where there are any.
+abbrev pub trying : Setting → Find → List ℕ → Mid → Mid
+trying g f [] m = record (passed m) { ops = block_at g.code f.next; inner = inner_for f.many (place_of m) m.inner }
+trying g f (o ∷ os) m = record (inside (Tries f (o ∷ os)) (length f.args) m) { ops = block_at g.code f.next; inner = inner_for f.many (place_of m) m.inner }
+
+-- The heap that this takes.
+abbrev pub trying_cells : Find → List ℕ → ℕ
+trying_cells f [] = 0
+trying_cells f (o ∷ os) = 10 + length f.args
+
+-- The first of some objects is tried.
+abbrev pub tries : Setting → Find → List ℕ → Mid → Status
+tries g f [] m = Fails m
+tries g f (o ∷ os) m = charged g (trying_cells f os) m (done g (found_at [] f o (trying g f os m)) (trying g f os m))
+
 -- A choice goes on.
 abbrev pub goes_on : Setting → Way → Mid → Status
 goes_on g (Goes b) m = resumed g (block_at g.code b) m
 goes_on g (Calls call rules) m = begins g call rules m
+goes_on g (Tries f objects) m = tries g f objects m
 
 -- A failure goes back to the newest choice; without one the run has failed.
 abbrev pub goes_back : List Choice → Mid → Status
@@ -358,6 +383,7 @@ abbrev pub is_goal : Op → Bool
 is_goal (op.Do a) = true
 is_goal (op.Ask pred terms many next) = true
 is_goal (op.LastAsk pred terms many) = true
+is_goal (op.Find place terms many next) = true
 is_goal op.Take = true
 is_goal (op.Branch alt) = true
 is_goal (op.Select site mode blocks behind) = true

@@ -9,14 +9,14 @@ use Rattle.dg_meaning.specs.Letters.{copied}
 use Rattle.dg_meaning.specs.World.{Print}
 use Rattle.dg_meaning.specs.Cells.{cells, writing}
 use Rattle.dg_meaning.specs.Moves.{unifying}
-use Rattle.dg_meaning.specs.Path.{Act, Goes as GoesNow, Unifies, Stops}
+use Rattle.dg_meaning.specs.Path.{Act, Goes as GoesNow, Unifies, Stops, Effect, Acts, Offers}
 use Rattle.dg_unify.specs.Store.{State}
 use Rattle.dg_mid.specs.declared.code.Op.{Op}
 use Rattle.dg_mid.specs.declared.code.Op.TheVariants as op
 use Rattle.dg_mid.specs.Code.{block_at}
-use Rattle.dg_mid.specs.State.{Place, Frame, Call, Way, Goes, Calls, Stop, Choice, Mid, Status, Runs, Enters, Resumes, Fails, Ended, vars_of, cut_of, stop_to}
-use Rattle.dg_mid.specs.Actions.{terms_of, act_at, world_by}
-use Rattle.dg_mid.specs.Step.{Setting, more, is_goal, new_frame, taken_out}
+use Rattle.dg_mid.specs.State.{Place, Frame, Call, Find, Way, Goes, Calls, Tries, Stop, Choice, Mid, Status, Runs, Enters, Resumes, Fails, Ended, vars_of, cut_of, stop_to}
+use Rattle.dg_mid.specs.Actions.{terms_of, act_at, asked_at, found_at, world_by}
+use Rattle.dg_mid.specs.Step.{Setting, more, is_goal, new_frame, values, trying, taken_out}
 
 -- ## What the search counts
 
@@ -24,6 +24,16 @@ use Rattle.dg_mid.specs.Step.{Setting, more, is_goal, new_frame, taken_out}
 abbrev pub act_work : Act → ℕ
 act_work (Unifies made es w) = w.meters.work + unifying made.bound es
 act_work act = (world_by act).meters.work
+
+-- The same of an effect; branches that are offered are begun later.
+abbrev pub effect_work : Effect → ℕ
+effect_work (Acts act) = act_work act
+effect_work (Offers k bs w) = w.meters.work
+
+-- The work of trying the first of some objects.
+abbrev pub found_work : Setting → List Print → Find → List ℕ → Mid → ℕ
+found_work g ps f [] m = 0
+found_work g ps f (o ∷ os) m = act_work (found_at ps f o (trying g f os m))
 
 -- The work of gathering a value inside these constructs: it is looked through and copied; without one nothing gathers.
 abbrev pub gathering_work : List Place → State → Value → ℕ
@@ -35,6 +45,8 @@ abbrev pub effort : Setting → List Print → Op → Mid → ℕ
 effort g ps (op.Do a) m = writing (terms_of a) + act_work (act_at g.game ps a (more (cells g.game.program (terms_of a)) m))
 effort g ps (op.Ask pred terms many next) m = writing terms
 effort g ps (op.LastAsk pred terms many) m = writing terms
+effort g ps (op.Find place terms many next) m =
+    writing terms + effect_work (asked_at g.game ps place (values g m terms) (more (cells g.game.program terms) m))
 effort g ps (op.Collect term into alt) m = writing (term ∷ into ∷ [])
 effort g ps (op.Keep term) m = gathering_work m.inner m.state (value_of g.game.program (vars_of m.frames) term)
 effort g ps x m = 0
@@ -112,6 +124,7 @@ units_of g ps (x ∷ ops) m = 1 + effort g ps x m + drops g x m
 abbrev pub units_by : Setting → List Print → Way → Mid → ℕ
 units_by g ps (Goes b) m = 1 + resuming g ps (block_at g.code b) m
 units_by g ps (Calls call rules) m = 1
+units_by g ps (Tries f objects) m = 1 + found_work g ps f objects m
 
 -- What a step costs an engine, behind what was printed: 1 at least, until it has ended.
 abbrev pub units : Setting → List Print → Status → ℕ
@@ -135,6 +148,7 @@ earned_of g ps (x ∷ ops) m = one_if (is_goal x) + effort g ps x m
 abbrev pub earned_by : Setting → List Print → Way → Mid → ℕ
 earned_by g ps (Goes b) m = resuming g ps (block_at g.code b) m
 earned_by g ps (Calls call rules) m = 0
+earned_by g ps (Tries f objects) m = found_work g ps f objects m
 
 -- What the search adds to the work at a step, at least.
 abbrev pub earned : Setting → List Print → Status → ℕ
@@ -157,6 +171,7 @@ abbrev pub selects_on : Way → ℕ
 selects_on (Goes b) = 0
 selects_on (Calls call []) = 0
 selects_on (Calls call (r ∷ rs)) = 1
+selects_on (Tries f objects) = 0
 
 -- Whether a step looks at rules.
 abbrev pub selects : Status → ℕ

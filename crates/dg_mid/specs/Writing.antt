@@ -1,5 +1,5 @@
 -- What code that is being written stands for: it is written from the last goal to the first, and what was written stays. Hold it against the Dialog manual, chapter "Choice points".
-use Rattle.std.specs.Prelude.{ℕ, List, [], ◌∷◌, ◌++◌, ◌≡◌, Option, Some, None, false, reverse}
+use Rattle.std.specs.Prelude.{ℕ, List, [], ◌∷◌, ◌++◌, ◌≡◌, Option, Some, None, Bool, false, reverse}
 use Rattle.std.specs.List.{slice_get}
 use Rattle.dg_base.specs.declared.program.Goal.{Goal}
 use Rattle.dg_base.specs.declared.program.Goal.TheVariants as goal
@@ -21,7 +21,7 @@ use Rattle.dg_mid.specs.declared.writing.Work.{Work}
 use Rattle.dg_mid.specs.declared.branches.Branching.{Branching}
 use Rattle.dg_mid.specs.Code.{block_at, codes_of}
 use Rattle.dg_mid.specs.Tidying.{BlocksTidy, Neat, LandsTidy, TailTidy, IsThere, WorkTidy}
-use Rattle.dg_mid.specs.Codes.{End, Stands, RuleStands, RulesStand, Others, Branches}
+use Rattle.dg_mid.specs.Codes.{End, Stands, RuleStands, RulesStand, Others, Branches, found_goals, found_end}
 
 -- ## Growing
 
@@ -52,6 +52,12 @@ TailFor blocks (Some b) goals end = BlockFor blocks b goals end
 pub record Shares (old new : List Block) (ops : List Op) (tail : Option ℕ) : Type 0 where
   pub stands : (rest : List Goal) (end : End) → StandsFor old ops rest end → TailFor new tail rest end
   pub neat : Neat old ops → BlocksTidy new × TailTidy new tail
+
+-- Where a block stands for goals, another stands for them where an object is found; the blocks stay tidy.
+pub record FoundAt (old new : List Block) (many : Bool) (behind b : ℕ) : Type 0 where
+  pub blocks : Begins old new
+  pub stands : (rest : List Goal) (end : End) → BlockFor old behind rest end → BlockFor new b (found_goals many rest) (found_end many rest end)
+  pub neat : BlocksTidy old → BlocksTidy new
 
 -- The block stands for what two ways end with; the blocks stay tidy.
 pub record EndsAt (old new : List Block) (tail : Option ℕ) (b : ℕ) : Type 0 where

@@ -40,6 +40,8 @@ pub enum Op {
     Ask(u16, Items<Term>, bool, u32),
     /// The last query of a rule, which goes on where the rule does.
     LastAsk(u16, Items<Term>, bool),
+    /// A query of a place of the world, or without one of all objects, by these arguments, for all its answers or for one. Where it is answered at once it goes on behind it, and for each object that it finds at a block.
+    Find(Option<u16>, Items<Term>, bool, u32),
     /// An (or) of one list.
     Take,
     /// A choice whose other way is a block.

@@ -4,6 +4,7 @@
 mod branches;
 mod code;
 mod laws;
+mod places;
 mod programs;
 mod terms;
 mod writing;

@@ -151,6 +151,8 @@ impl Writer {
             Goal::Forever => self.endless(work),
             Goal::Either(lists) => self.choice(lists, work),
             Goal::If(test, first, other) => self.condition(test, first, other, work),
+            Goal::Holds(place, terms, many) => self.holds(place, terms, many, work),
+            Goal::IsObject(term, many) => self.is_object(term, many, work),
             Goal::Select(site, mode, lists) => self.select(site, mode, lists, work),
             Goal::Collect(term, inner, into) => {
                 self.gathering(Gathered::List, term, inner, into, work)
@@ -704,7 +706,7 @@ pub fn one(alloc: Global, op: Op) -> Result<Vec<Op>, AllocError>
 }
 
 /// The instructions with one more.
-fn with(ops: Vec<Op>, op: Op) -> Result<Vec<Op>, AllocError>
+pub fn with(ops: Vec<Op>, op: Op) -> Result<Vec<Op>, AllocError>
     ensures { IfOk result (λ new. new.items ≡ ops.items ++ op ∷ []) }
 {
     let mut ops = ops;
