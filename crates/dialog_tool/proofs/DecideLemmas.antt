@@ -156,7 +156,7 @@ played_ends c o p result t told same is (ran h) = other_words c h.task t h.is.wo
 played_ends c o p result t told same is (listed e h) = no_story_report c t h.name is.words h.is.words
 played_ends c o p result t told same is (refused_story e h) = story_apart (file_of o t) (file_of p h.task) h.refusal (ap (λ (q : Outside). file_of q t) (sym same) ∙ ap (file_of p) (same_story c t h.task is.words h.is.words)) is.accepted h.is.refused
 played_ends c o p result t told same is (played h) =
-    h.is_status ∙ ap status_of_end ((h.played (is_some c.input.left o.typed told)).ends)
+    h.is_status ∙ ap status_of_end (h.played.plays.ends)
     ∙ ap (λ (q : Outside). status_of_end (run_of c q h.task h.task.steps).end) same
     ∙ ap (λ (u : Task). status_of_end (run_of c o u u.steps).end) (same_story c h.task t h.is.words is.words)
 

@@ -1,5 +1,5 @@
 -- From a player's run of a loaded story to the answer of the call.
-use Rattle.std.proofs.Common.{◌≡◌, inl, inr, ℕ, List, Option, Some, None, Result, Ok, Err, refl, subst}
+use Rattle.std.proofs.Common.{◌≡◌, inl, inr, ℕ, List, Option, Some, None, Result, Ok, Err, refl, sym, subst}
 use Rattle.std.specs.Prelude.{IsSome}
 use Rattle.dg_base.specs.Causes.{Rose}
 use Rattle.dg_base.specs.Written.{SinkView}
@@ -8,15 +8,16 @@ use Rattle.dg_base.specs.declared.run.Fault.TheVariants.{Read, Write}
 use Rattle.z_model.specs.declared.end.ZEnd.{ZEnd}
 use Rattle.z_model.specs.Run.{ZGiven, ZState}
 use Rattle.z_model.specs.Story.{refusal_of, given_of, start_state}
-use Rattle.z_play.specs.Played.{Plays}
+use Rattle.z_play.specs.Played.{Plays, PlaysSome}
 use Rattle.z_play.specs.Ready.{IsLoaded}
 use Rattle.z_play.proofs.Lines.{print_cut}
 use Rattle.z_play.proofs.Written.{broke_whole}
 use Rattle.dialog_tool.specs.Command.{play, Task}
-use Rattle.dialog_tool.specs.Call.{Call, Outside, IsFetched, dice_for}
+use Rattle.dialog_tool.specs.Call.{Call, Outside, IsAsTold, IsFetched, dice_for}
 use Rattle.dialog_tool.specs.Playing.{status_of_end, story_of, start_of, TaskPlays, whole, cut_off}
 use Rattle.dialog_tool.specs.Answers
-use Rattle.dialog_tool.proofs.AnswerLemmas.{HasFile, file_here, outside_of, found_file, any_typed, ended, failed}
+use Rattle.dialog_tool.proofs.AnswerLemmas.{HasFile, Found, file_here, outside, ended, failed}
+use Rattle.dialog_tool.proofs.Never.{never}
 
 -- a loaded story runs as its file
 pub file_plays : (file story : List ℕ) → IsLoaded file story → (answer : Result ZEnd Fault) (dice typed : List ℕ) (n : ℕ) (left : Option (List ℕ)) (old new : SinkView)
@@ -25,41 +26,99 @@ file_plays file story h answer dice typed n left old new p =
     subst (λ (w : ZGiven). Plays answer w (start_state file typed) n left old new) (h.given dice)
     (subst (λ (s : ZState). Plays answer (given_of story dice) s n left old new) (h.start typed) p)
 
--- what the player says of a task's run, where the input tells its bytes
-abbrev pub RunPlays : Result ZEnd Fault → Call → Task → List ℕ → Type 0
-RunPlays answer c t file = (typed : List ℕ) → c.input.left ≡ Some typed → Plays answer (given_of file (dice_for c t)) (start_state file typed) t.steps c.input_after.left c.out c.out_after
+-- what the player says of a task's run
+pub record RunPlays (answer : Result ZEnd Fault) (c : Call) (t : Task) (file : List ℕ) : Type 0 where
+  pub told : (typed : List ℕ) → c.input.left ≡ Some typed → Plays answer (given_of file (dice_for c t)) (start_state file typed) t.steps c.input_after.left c.out c.out_after
+  pub untold : PlaysSome answer (given_of file (dice_for c t)) file t.steps c.out c.out_after
 
-told_plays : (answer : Result ZEnd Fault) (c : Call) (t : Task) (file : List ℕ) (h : HasFile c t.name file) → RunPlays answer c t file → IsSome c.input.left → TaskPlays answer c (outside_of c t.name file h) t
-told_plays answer c t file h plays is =
-    let typed = any_typed c.input.left in
-    subst (λ (l : List ℕ). Plays answer (given_of l (dice_for c t)) (start_state l typed.0) t.steps c.input_after.left c.out c.out_after) h.is (plays typed.0 (typed.2 is))
+pub file_plays_some : (file story : List ℕ) → IsLoaded file story → (answer : Result ZEnd Fault) (dice : List ℕ) (n : ℕ) (old new : SinkView) → PlaysSome answer (given_of story dice) story n old new → PlaysSome answer (given_of file dice) file n old new
+file_plays_some file story h answer dice n old new p = record { typed = p.typed; left = p.left; plays = file_plays file story h answer dice p.typed n (Some p.left) old new p.plays }
 
-story : (c : Call) (t : Task) (file : List ℕ) → c.command ≡ Some (play t) → (h : HasFile c t.name file) → refusal_of file ≡ None → Answers.IsStory c (outside_of c t.name file h) t
-story c t file words h accepted = record { words = words; accepted = subst (λ (l : List ℕ). refusal_of l ≡ None) h.is accepted }
+-- the typed bytes that a run left are some
+left_some : (answer : Result ZEnd Fault) (w : ZGiven) (s : ZState) (n : ℕ) (left : Option (List ℕ)) (old new : SinkView) → Plays answer w s n left old new → (rest : List ℕ) × (left ≡ Some rest)
+left_some (Ok end) w s n left old new p = (_, p.left_is)
+left_some (Err Read) w s n left old new p = (p.rest, p.left_is)
+left_some (Err Write) w s n left old new (inl p) = (_, p.left_is)
+left_some (Err Write) w s n left old new (inr (inl p)) = (_, p.left_is)
+left_some (Err Write) w s n left old new (inr (inr p)) = (p.rest, p.left_is)
+
+-- typed bytes as far as the input tells them, and what a run of them left
+record SomePlays (answer : Result ZEnd Fault) (c : Call) (t : Task) (file : List ℕ) : Type 0 where
+  typed : List ℕ
+  as_told : IsAsTold c.input.left typed
+  left : List ℕ
+  told : IsSome c.input.left → c.input_after.left ≡ Some left
+  plays : Plays answer (given_of file (dice_for c t)) (start_state file typed) t.steps (Some left) c.out c.out_after
+
+some_plays : (answer : Result ZEnd Fault) (c : Call) (t : Task) (file : List ℕ) → RunPlays answer c t file → SomePlays answer c t file
+some_plays answer c t file r = here c.input.left refl
+  where
+    here : (l : Option (List ℕ)) → c.input.left ≡ l → SomePlays answer c t file
+    here (Some typed) e =
+        let p = r.told typed e in
+        let rest = left_some answer _ _ t.steps c.input_after.left c.out c.out_after p in
+        record {
+          typed = typed;
+          as_told = subst (λ (l : Option (List ℕ)). IsAsTold l typed) (sym e) refl;
+          left = rest.0;
+          told = λ is. rest.1;
+          plays = subst (λ (l : Option (List ℕ)). Plays answer (given_of file (dice_for c t)) (start_state file typed) t.steps l c.out c.out_after) rest.1 p;
+        }
+    here None e = record {
+      typed = r.untold.typed;
+      as_told = subst (λ (l : Option (List ℕ)). IsAsTold l r.untold.typed) (sym e) tt;
+      left = r.untold.left;
+      told = λ is. never (subst (λ (l : Option (List ℕ)). IsSome l) e is);
+      plays = r.untold.plays;
+    }
+
+-- the outside of a call that plays a file, with these typed bytes
+abbrev outside_at : (c : Call) (t : Task) (file : List ℕ) → HasFile c t.name file → List ℕ → Outside
+outside_at c t file h typed = outside h.contents typed
+
+found_at : (c : Call) (t : Task) (file : List ℕ) (h : HasFile c t.name file) (typed : List ℕ) → IsAsTold c.input.left typed → Found c (outside_at c t file h typed)
+found_at c t file h typed told = record { found = record { contents = h.told; typed = told }; kept = h.kept }
+
+task_plays : (answer : Result ZEnd Fault) (c : Call) (t : Task) (file : List ℕ) (h : HasFile c t.name file) (p : SomePlays answer c t file) → TaskPlays answer c (outside_at c t file h p.typed) t
+task_plays answer c t file h p = record {
+  left = p.left;
+  told = p.told;
+  plays = subst (λ (l : List ℕ). Plays answer (given_of l (dice_for c t)) (start_state l p.typed) t.steps (Some p.left) c.out c.out_after) h.is p.plays;
+}
+
+story : (c : Call) (t : Task) (file : List ℕ) (typed : List ℕ) → c.command ≡ Some (play t) → (h : HasFile c t.name file) → refusal_of file ≡ None → Answers.IsStory c (outside_at c t file h typed) t
+story c t file typed words h accepted = record { words = words; accepted = subst (λ (l : List ℕ). refusal_of l ≡ None) h.is accepted }
 
 -- out failed within the run or within the line behind it
 lost_out : (c : Call) (o : Outside) (t : Task) → TaskPlays (Err Write) c o t → Answers.LostOut c o t
-lost_out c o t (inl s) = record { text = _; may_tell = whole refl; broke = print_cut (story_of c o t) (start_of o t) t.steps c.input_after.left c.out c.out_after s }
-lost_out c o t (inr (inl s)) = record { text = _; may_tell = whole refl; broke = broke_whole c.out c.out_after _ _ s.cut }
-lost_out c o t (inr (inr s)) = record { text = _; may_tell = cut_off s.m s.rest s.stopped refl; broke = broke_whole c.out c.out_after _ _ s.cut }
+lost_out c o t p = here p.plays
+  where
+    here : Plays (Err Write) (story_of c o t) (start_of o t) t.steps (Some p.left) c.out c.out_after → Answers.LostOut c o t
+    here (inl s) = record { text = _; may_tell = whole refl; broke = print_cut (story_of c o t) (start_of o t) t.steps (Some p.left) c.out c.out_after s; played = p }
+    here (inr (inl s)) = record { text = _; may_tell = whole refl; broke = broke_whole c.out c.out_after _ _ s.cut; played = p }
+    here (inr (inr s)) = record { text = _; may_tell = cut_off s.m s.rest s.stopped refl; broke = broke_whole c.out c.out_after _ _ s.cut; played = p }
 
 pub play_ends : (c : Call) (t : Task) (file : List ℕ) (result : ℕ) → c.command ≡ Some (play t) → IsFetched c.shelf c.shelf_after t.name file → refusal_of file ≡ None → (end : ZEnd) → result ≡ status_of_end end
     → RunPlays (Ok end) c t file → Answers.Answers c result
 play_ends c t file result words f accepted end e plays =
     let h = file_here c t.name file f in
-    ended c (outside_of c t.name file h) result (found_file c t.name file h)
-    (Answers.played (record { task = t; is = story c t file words h accepted; end = end; is_status = e; played = told_plays (Ok end) c t file h plays }))
+    let p = some_plays (Ok end) c t file plays in
+    ended c (outside_at c t file h p.typed) result (found_at c t file h p.typed p.as_told)
+    (Answers.played (record { task = t; is = story c t file p.typed words h accepted; end = end; is_status = e; played = task_plays (Ok end) c t file h p }))
 
 pub play_unread : (c : Call) (t : Task) (file : List ℕ) (result : ℕ) → c.command ≡ Some (play t) → IsFetched c.shelf c.shelf_after t.name file → refusal_of file ≡ None → result ≡ 5 → Rose c.input.faults c.input_after.faults
     → RunPlays (Err Read) c t file → Answers.Answers c result
 play_unread c t file result words f accepted e rose plays =
     let h = file_here c t.name file f in
-    failed c (outside_of c t.name file h) result (found_file c t.name file h) e
-    (Answers.story_input (record { rose = rose; task = t; is = story c t file words h accepted; lost = told_plays (Err Read) c t file h plays }))
+    let p = some_plays (Err Read) c t file plays in
+    failed c (outside_at c t file h p.typed) result (found_at c t file h p.typed p.as_told) e
+    (Answers.story_input (record { rose = rose; task = t; is = story c t file p.typed words h accepted; lost = task_plays (Err Read) c t file h p }))
 
 pub play_unwritten : (c : Call) (t : Task) (file : List ℕ) (result : ℕ) → c.command ≡ Some (play t) → IsFetched c.shelf c.shelf_after t.name file → refusal_of file ≡ None → result ≡ 5 → Rose c.out.faults c.out_after.faults
     → RunPlays (Err Write) c t file → Answers.Answers c result
 play_unwritten c t file result words f accepted e rose plays =
     let h = file_here c t.name file f in
-    failed c (outside_of c t.name file h) result (found_file c t.name file h) e
-    (Answers.story_out t (story c t file words h accepted) rose (λ is. lost_out c (outside_of c t.name file h) t (told_plays (Err Write) c t file h plays is)))
+    let p = some_plays (Err Write) c t file plays in
+    let o = outside_at c t file h p.typed in
+    failed c o result (found_at c t file h p.typed p.as_told) e
+    (Answers.story_out t (story c t file p.typed words h accepted) rose (lost_out c o t (task_plays (Err Write) c t file h p)))

@@ -8,7 +8,7 @@ use Rattle.dg_base.specs.declared.refusal.Refusal.{Refusal}
 use Rattle.dg_base.specs.declared.run.Ending.{Ending}
 use Rattle.dg_base.specs.declared.run.Ending.TheVariants.{Done, Quit, Failed, Stopped, InputEnded, StepLimit, HeapLimit, TrailLimit, AuxLimit, KeepLimit}
 use Rattle.dg_base.specs.declared.run.Outcome.{Outcome}
-use Rattle.dg_base.specs.declared.run.Fault.TheVariants.{Read}
+use Rattle.dg_base.specs.declared.run.Fault.TheVariants.{Read, Write}
 use Rattle.dg_meaning.specs.World.{Game}
 use Rattle.dg_meaning.specs.Shows.{MayWrite}
 use Rattle.dg_meaning.specs.Transcript.{no_memory_line}
@@ -114,13 +114,13 @@ pub record RefusedStory (c : Call) (o : Outside) : Type 0 where
   pub wrote : Wrote c.out c.out_after (story_line task.name refusal)
   pub input_stays : c.input_after ≡ c.input
 
--- 0, 3 and 4: the file is a story and its run ended; where the input tells its bytes, out took the run's output with the line of its end
+-- 0, 3 and 4: the file is a story and its run ended, and out took the run's output with the line of its end
 pub record PlayedStory (c : Call) (o : Outside) (status : ℕ) : Type 0 where
   pub task : Task
   pub is : IsStory c o task
   pub end : ZEnd
   pub is_status : status ≡ status_of_end end
-  pub played : IsSome c.input.left → TaskPlays (Ok end) c o task
+  pub played : TaskPlays (Ok end) c o task
 
 -- 0: the source is a program, and out took the report on its predicates, of which those of the set are single
 pub record ListedSource (c : Call) (o : Outside) : Type 0 where
@@ -151,18 +151,19 @@ pub record CutOffSource (c : Call) (o : Outside) : Type 0 where
   pub is : IsProgram c o task program
   pub lost : HasLostInput (game_of c task program) o.typed (limits_of task) c.input_after.left c.out c.out_after
 
--- 5: the input failed in a story's run, and where it tells its bytes, out took the output up to there with the line that says so
+-- 5: the input failed in a story's run, and out took the output up to there with the line that says so
 pub record CutOffStory (c : Call) (o : Outside) : Type 0 where
   pub rose : Rose c.input.faults c.input_after.faults
   pub task : Task
   pub is : IsStory c o task
-  pub lost : IsSome c.input.left → TaskPlays (Err Read) c o task
+  pub lost : TaskPlays (Err Read) c o task
 
 -- out failed within what a story's run may be writing
 pub record LostOut (c : Call) (o : Outside) (t : Task) : Type 0 where
   pub text : List ℕ
   pub may_tell : MayTell c o t text
   pub broke : BrokeOff c.out c.out_after text
+  pub played : TaskPlays (Err Write) c o t
 
 -- the texts that a call may be writing when out fails, but for those of a story
 pub data MayPrint (c : Call) (o : Outside) (text : List ℕ) : Type 0 where
@@ -181,7 +182,7 @@ pub data Fails (c : Call) (o : Outside) : Type 0 where
   input : CutOffSource c o → Fails c o
   story_input : CutOffStory c o → Fails c o
   out : (text : List ℕ) → MayPrint c o text → BrokeOff c.out c.out_after text → Fails c o
-  story_out : (t : Task) → IsStory c o t → Rose c.out.faults c.out_after.faults → (IsSome c.input.left → LostOut c o t) → Fails c o
+  story_out : (t : Task) → IsStory c o t → Rose c.out.faults c.out_after.faults → LostOut c o t → Fails c o
 
 -- Where no memory was found, at 6: nothing ran, and out took the line that says so; or a source's run was broken off, and the line
 -- stands behind what it printed

@@ -1,5 +1,5 @@
 -- The run of a story that the words play: hold the statuses against man/dialog.1, and what a run is against docs/STORIES.md.
-use Rattle.std.specs.Prelude.{◌≡◌, ℕ, List, Result}
+use Rattle.std.specs.Prelude.{◌≡◌, ℕ, List, Some, IsSome, Result}
 use Rattle.dg_base.specs.declared.run.Fault.{Fault}
 use Rattle.z_model.specs.declared.end.ZEnd.{ZEnd}
 use Rattle.z_model.specs.declared.end.ZEnd.TheVariants as ends
@@ -28,9 +28,12 @@ start_of o t = start_state (file_of o t) o.typed
 abbrev pub run_of : Call → Outside → Task → ℕ → ZRun
 run_of c o t n = zrun (story_of c o t) n (start_of o t)
 
--- what a run of the task's instructions did, by the player's answer
-abbrev pub TaskPlays : Result ZEnd Fault → Call → Outside → Task → Type 0
-TaskPlays answer c o t = Plays answer (story_of c o t) (start_of o t) t.steps c.input_after.left c.out c.out_after
+-- What a run of the task's instructions did, by the player's answer, and which of the typed bytes it left: those that the input tells
+-- behind it, where it told its bytes.
+pub record TaskPlays (answer : Result ZEnd Fault) (c : Call) (o : Outside) (t : Task) : Type 0 where
+  pub left : List ℕ
+  pub told : IsSome c.input.left → c.input_after.left ≡ Some left
+  pub plays : Plays answer (story_of c o t) (start_of o t) t.steps (Some left) c.out c.out_after
 
 -- the texts that a run may be writing: its output with the line of its end, or its output up to where the input failed with the line that says so
 pub data MayTell (c : Call) (o : Outside) (t : Task) (text : List ℕ) : Type 0 where
