@@ -9,7 +9,7 @@ use Rattle.dg_meaning.specs.World.{Game, World, prints}
 use Rattle.dg_meaning.specs.Path.{Registers, Branch, Moves, GoesOn}
 use Rattle.dg_meaning.specs.Moves.{begun, inside, enter, path_of, goals_at, list_branches}
 use Rattle.dg_meaning.specs.Transcript.{Run}
-use Rattle.dg_meaning.specs.Context.{Live, Way, stays, pushed}
+use Rattle.dg_meaning.specs.Context.{Live, Way, pushed}
 use Rattle.dg_meaning.specs.Keeps.{Stands, Tried}
 use Rattle.dg_meaning.proofs.Keeps.{has_happened}
 use Rattle.std.specs.List.{All}
@@ -26,7 +26,7 @@ use Rattle.dg_interp.specs.declared.frames.Left.{Left}
 use Rattle.dg_interp.specs.declared.frames.Left.TheVariants.{Lists, Ways, Way as OneWay}
 use Rattle.dg_interp.specs.declared.engine.Engine.{Engine}
 use Rattle.dg_interp.specs.Terms.{Overflows}
-use Rattle.dg_interp.specs.Frames.{values_in, steps_behind, steps_at, kind_of, branches_of, AreChoices, IsFrame, IsLeft, IsNoPart, BeginsWith, has_some, stays_with, cells_if}
+use Rattle.dg_interp.specs.Frames.{values_in, steps_behind, steps_at, kind_of, branches_of, IsFrame, IsLeft, IsNoPart, BeginsWith, has_some, stays_with, cells_if}
 use Rattle.dg_unify.specs.Engines.{Agrees}
 use Rattle.dg_interp.specs.Engine.{store_in, KeepsPlaces, HasPlace, Point, IsSound, BeginsAt, FullAt, WentOn, kept_if}
 use Rattle.dg_interp.proofs.Links.{same_here, at_same}

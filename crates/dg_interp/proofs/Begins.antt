@@ -1,5 +1,5 @@
 -- A rule of a query begins, or fails where it begins.
-use Rattle.std.proofs.Common.{◌≡◌, ℕ, zero, suc, ◌+◌, ◌<◌, ◌≤◌, List, [], ◌∷◌, ◌++◌, Bool, true, false, Option, refl, sym, ap, ◌∙◌, subst, arith, length, length-append, map, take, Bor}
+use Rattle.std.proofs.Common.{◌≡◌, ℕ, zero, suc, ◌+◌, ◌<◌, ◌≤◌, List, [], ◌∷◌, ◌++◌, Bool, true, false, Option, refl, sym, ap, ◌∙◌, subst, arith, length, length-append, map, Bor}
 use Rattle.std.specs.Prelude.{reverse}
 use Rattle.std.specs.List.{All, zip}
 use Rattle.std.proofs.lemmas.List.{append-nil, length-map}
@@ -20,7 +20,7 @@ use Rattle.dg_meaning.specs.Keeps.{Stands, Began, Tried}
 use Rattle.dg_meaning.specs.Built.{AreBuilt, IsBuiltRule}
 use Rattle.dg_meaning.proofs.Keeps.{has_happened}
 use Rattle.dg_meaning.proofs.Solving.{solve_extends}
-use Rattle.dg_unify.specs.Store.{Store, State, Saved, Holds, Kept, Charged, told, trail_of}
+use Rattle.dg_unify.specs.Store.{Store, State, Saved, Kept, Charged, told, trail_of}
 use Rattle.dg_unify.specs.Laws.{saves_drops}
 use Rattle.dg_unify.specs.Listed.{fields_of}
 use Rattle.dg_unify.specs.declared.bindings.Ref.{Ref}
@@ -42,11 +42,11 @@ use Rattle.dg_interp.specs.Passing.{rules_from, IsFirst, IsCandidate}
 use Rattle.dg_interp.proofs.PassedRules.{rules_from_candidate}
 use Rattle.dg_meaning.specs.Selection.{first_excludes, from_candidate}
 use Rattle.dg_interp.specs.Rules.{rule_cells, matched_in, EntersRule, RuleFull}
-use Rattle.dg_interp.specs.Frames.{values_in, frame_steps, steps_behind, steps_at, kind_of, branches_of, AreChoices, IsFrame, IsLeft, StandOn, GoBackTo}
-use Rattle.dg_interp.specs.Engine.{store_in, KeepsPlaces, HasPlace, Point, IsSound, StandsAt, BeginsAt, FullAt, Adds, Then, SameLimits, WentOn, WentWrong, kept_if}
+use Rattle.dg_interp.specs.Frames.{values_in, frame_steps, steps_behind, steps_at, kind_of, branches_of, IsFrame, IsLeft}
+use Rattle.dg_interp.specs.Engine.{store_in, KeepsPlaces, HasPlace, Point, IsSound, BeginsAt, FullAt, Adds, SameLimits, WentOn, WentWrong, kept_if}
 use Rattle.dg_unify.specs.Engines.{Agrees}
 use Rattle.dg_interp.proofs.Links.{SameBy, same_here, behind_same}
-use Rattle.dg_interp.proofs.Stores.{kept_on, all_hold, values_kept, hold_front, front_same, appended_stretch, values_count, trail_append, trail_older, made_is}
+use Rattle.dg_interp.proofs.Stores.{kept_on, values_kept, hold_front, appended_stretch, values_count, trail_append, trail_older, made_is}
 use Rattle.dg_interp.proofs.Begun.{begun_values, begun_sound, begun_stands, begun_fails}
 use Rattle.dg_interp.proofs.Turns.{all_first, all_rest, reverse_pop}
 

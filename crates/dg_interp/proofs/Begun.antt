@@ -1,12 +1,12 @@
 -- A branch begins with these cells and new Refs, and its choice is kept where it stays.
-use Rattle.std.proofs.Common.{◌≡◌, ℕ, ◌+◌, ◌≤◌, List, [], ◌∷◌, ◌++◌, Bool, refl, sym, ap, ◌∙◌, subst, arith, length, take, length-append}
+use Rattle.std.proofs.Common.{◌≡◌, ℕ, ◌+◌, ◌≤◌, List, ◌++◌, Bool, refl, sym, ap, ◌∙◌, subst, arith, length, take, length-append}
 use Rattle.std.proofs.lemmas.List.Elements.{All-append}
 use Rattle.std.specs.Prelude.{reverse}
 use Rattle.std.specs.List.{All}
 use Rattle.std.specs.declared.vec.Vec.{Vec}
 use Rattle.std.specs.declared.alloc.Global.{Global}
 use Rattle.dg_meaning.specs.World.{Game, World}
-use Rattle.dg_meaning.specs.Path.{Registers, Branch, Kind}
+use Rattle.dg_meaning.specs.Path.{Registers, Branch}
 use Rattle.dg_meaning.specs.Moves.{path_of}
 use Rattle.dg_meaning.specs.Transcript.{Run}
 use Rattle.dg_meaning.specs.Context.{Live, stays, pushed}
@@ -20,9 +20,9 @@ use Rattle.dg_interp.specs.declared.frames.Frame.{Frame}
 use Rattle.dg_interp.specs.declared.frames.Left.{Left}
 use Rattle.dg_interp.specs.declared.frames.Choice.{Choice}
 use Rattle.dg_interp.specs.declared.engine.Engine.{Engine}
-use Rattle.dg_interp.specs.Frames.{values_in, steps_behind, kind_of, branches_of, lives_of, ways_of, AreChoices, IsFrame, IsLeft, IsNoPart, StandOn, GoBackTo, stays_with}
+use Rattle.dg_interp.specs.Frames.{values_in, kind_of, branches_of, lives_of, ways_of, AreChoices, IsLeft, IsNoPart, StandOn, GoBackTo, stays_with}
 use Rattle.dg_interp.specs.Engine.{store_in, KeepsPlaces, HasPlace, InWorld, Within, IsSound, StandsAt, FailsAt, BeginsAt, SameLimits, steps_of, kept_if}
-use Rattle.dg_interp.proofs.Links.{SameBy, same_here, branches_same, behind_same, choices_same, back_same, frames_raise, stand_raise}
+use Rattle.dg_interp.proofs.Links.{SameBy, same_here, branches_same, choices_same, back_same, frames_raise, stand_raise}
 use Rattle.dg_interp.proofs.Stores.{all_hold, values_kept, hold_front, front_same}
 use Rattle.dg_interp.proofs.Kept.{kept_places, kept_stand, kept_back, back_limits, kept_choices, kept_lives, kept_ways, branches_stay}
 

@@ -1,5 +1,5 @@
 -- What a comparison comes to.
-use Rattle.std.proofs.Common.{◌≡◌, ℕ, ◌+◌, List, [], ◌∷◌, Bool, true, false, refl, sym, ap, ◌∙◌, subst, arith}
+use Rattle.std.proofs.Common.{◌≡◌, ℕ, ◌+◌, List, [], ◌∷◌, Bool, true, false, sym, ap, ◌∙◌, subst, arith}
 use Rattle.std.specs.List.{All}
 use Rattle.std.specs.declared.vec.Vec.{Vec}
 use Rattle.std.specs.declared.alloc.Global.{Global}
@@ -17,7 +17,7 @@ use Rattle.dg_meaning.specs.Substitutions.{walk}
 use Rattle.dg_meaning.specs.Numbers.{are_in_order}
 use Rattle.dg_meaning.specs.World.{Game, World, worked}
 use Rattle.dg_meaning.specs.Cells.{cells}
-use Rattle.dg_meaning.specs.Path.{Registers, Moves}
+use Rattle.dg_meaning.specs.Path.{Moves}
 use Rattle.dg_meaning.specs.Moves.{goes_on_if, looked_up, outcome}
 use Rattle.dg_meaning.specs.Transcript.{Run}
 use Rattle.dg_meaning.specs.Keeps.{After}

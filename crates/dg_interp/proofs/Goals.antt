@@ -1,5 +1,5 @@
 -- What the goals without terms come to.
-use Rattle.std.proofs.Common.{◌≡◌, ℕ, ◌+◌, List, [], ◌∷◌, refl, sym, ap, ◌∙◌, subst, arith, length}
+use Rattle.std.proofs.Common.{◌≡◌, ℕ, ◌+◌, List, [], ◌∷◌, refl, sym, ap, ◌∙◌, subst, arith}
 use Rattle.std.specs.Prelude.{reverse}
 use Rattle.std.specs.declared.vec.Vec.{Vec}
 use Rattle.std.specs.declared.alloc.Global.{Global}
@@ -12,7 +12,6 @@ use Rattle.dg_meaning.specs.World.{Game, World, Print, Piece, GapOf, Prints}
 use Rattle.dg_meaning.specs.Path.{Step, Registers, End, Moves, GoesOn}
 use Rattle.dg_meaning.specs.Moves.{printed, outcome, path_of}
 use Rattle.dg_meaning.specs.Transcript.{Run}
-use Rattle.dg_meaning.specs.Context.{cut_to}
 use Rattle.dg_meaning.specs.Keeps.{After}
 use Rattle.dg_meaning.proofs.Dropping.{prints_append}
 use Rattle.dg_meaning.proofs.Keeps.{passes_cut}
@@ -20,8 +19,8 @@ use Rattle.dg_meaning.specs.Cells.{cells}
 use Rattle.dg_base.specs.Goals.{terms_held}
 use Rattle.dg_interp.specs.declared.frames.Choice.{Choice}
 use Rattle.dg_interp.specs.declared.engine.Engine.{Engine}
-use Rattle.dg_interp.specs.Frames.{values_in, AreChoices, StandOn, GoBackTo}
-use Rattle.dg_interp.specs.Engine.{store_in, steps_of, IsSound, IsReady, TakesAt, StandsAt, FailsAt, Then, Leads, Ends, Cuts, WentOn}
+use Rattle.dg_interp.specs.Frames.{values_in}
+use Rattle.dg_interp.specs.Engine.{store_in, steps_of, IsReady, TakesAt, StandsAt, FailsAt, Then, Leads, Ends, Cuts, WentOn}
 use Rattle.dg_interp.proofs.Places.{inside_in, cut_base, cut_inside, ways_left}
 use Rattle.dg_interp.proofs.Takes.{behind, taken_in, comes_of, adds_taken}
 

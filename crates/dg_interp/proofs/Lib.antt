@@ -30,3 +30,7 @@ pub mod Opens
 pub mod Controls
 pub mod Parts
 pub mod PartOpens
+pub mod Giving
+pub mod Ariths
+pub mod ThreeLemmas
+pub mod Spaces

@@ -1,7 +1,7 @@
 -- Laws of linked frames and open choices.
 use Rattle.std.proofs.Common.{◌≡◌, ℕ, zero, suc, ◌+◌, ◌<◌, ◌≤◌, inl, inr, List, [], ◌∷◌, ◌++◌, Option, Some, None, refl, sym, ap, ◌∙◌, subst, arith, length, map, take, drop, length-append, length-take}
 use Rattle.std.specs.List.{All}
-use Rattle.std.specs.Prelude.{true, false, min, eqb, nat_lt, slice_get, if◌then◌else◌}
+use Rattle.std.specs.Prelude.{min, eqb, nat_lt, slice_get, if◌then◌else◌}
 use Rattle.std.proofs.lemmas.Bool.{cond_both, cond-true, cond-false, cases_lt, eq-eqb, ne_eqb, ltb-true, ltb-false, lt-ltb, le-ltb}
 use Rattle.std.proofs.lemmas.List.{drop-take}
 use Rattle.dg_meaning.specs.Values.{Value}
@@ -16,7 +16,7 @@ use Rattle.dg_interp.specs.declared.frames.Frame.{Frame}
 use Rattle.dg_interp.specs.declared.frames.Left.{Left}
 use Rattle.dg_interp.specs.declared.frames.Left.TheVariants.{Rules, Lists, Ways, Way, Behind}
 use Rattle.dg_interp.specs.declared.frames.Choice.{Choice}
-use Rattle.dg_interp.specs.Frames.{stretch, values_in, frame_steps, found_steps, steps_below, steps_behind, steps_at, kind_of, branches_of, cut_of, cut_if, lives_of, with_way, ways_of, IsNoPart, IsChoice, AreChoices, EndsBy, IsFrame, AreFrames, IsLeft, IsNoted, noting, StandOn, GoBackTo, floor_of, left_in, stays_with, all_left}
+use Rattle.dg_interp.specs.Frames.{stretch, values_in, frame_steps, found_steps, steps_below, steps_behind, steps_at, kind_of, branches_of, cut_of, cut_if, lives_of, with_way, ways_of, IsNoPart, IsChoice, AreChoices, EndsBy, IsFrame, AreFrames, IsLeft, IsNoted, noting, StandOn, GoBackTo, floor_of, left_in, all_left}
 use Rattle.dg_interp.specs.Engine.{waits_in, left_by, with_older, older_than}
 
 -- ## Stretches

@@ -1,27 +1,22 @@
 -- A stoppable part opens.
-use Rattle.std.proofs.Common.{◌≡◌, ◌≢◌, ℕ, suc, ◌+◌, ◌^◌, ◌<◌, ◌≤◌, List, [], ◌∷◌, ◌++◌, Bool, true, false, Option, Some, None, refl, sym, ap, ◌∙◌, subst, arith, length, take, length-append, Bor}
-use Rattle.std.specs.Prelude.{eqb, reverse, if◌then◌else◌}
+use Rattle.std.proofs.Common.{◌≡◌, ℕ, ◌+◌, ◌^◌, ◌<◌, List, [], ◌∷◌, ◌++◌, Some, None, refl, sym, ap, ◌∙◌, subst, arith, length, Bor}
+use Rattle.std.specs.Prelude.{reverse}
 use Rattle.std.specs.List.{All}
-use Rattle.std.proofs.lemmas.Bool.{cond_both, cond-true, cond-false, eqb-true, eq-eqb}
 use Rattle.std.specs.declared.vec.Vec.{Vec}
 use Rattle.std.specs.declared.alloc.Global.{Global}
-use Rattle.dg_base.specs.declared.program.CoreProgram.{CoreProgram}
-use Rattle.dg_base.specs.declared.run.Ending.TheVariants.{Stopped}
-use Rattle.dg_base.specs.declared.program.Goal.TheVariants.{Stop, Stoppable, outs-Stop, outs-Stoppable}
+use Rattle.dg_base.specs.declared.program.Goal.TheVariants.{Stoppable, outs-Stoppable}
 use Rattle.dg_meaning.specs.Values.{Value}
 use Rattle.dg_meaning.specs.World.{Game, World}
-use Rattle.dg_meaning.specs.Path.{Leave, Registers, Branch, Plain, Enter, End, Moves}
-use Rattle.dg_meaning.specs.Moves.{begun, inside, enter, path_of, goals_at, outcome, stop}
+use Rattle.dg_meaning.specs.Path.{Leave, Registers, Branch, Plain}
+use Rattle.dg_meaning.specs.Moves.{begun, inside, enter, path_of, goals_at, outcome}
 use Rattle.dg_meaning.specs.Transcript.{Run}
-use Rattle.dg_meaning.specs.Context.{Live, Way as WayOn, cut_to, way_to}
-use Rattle.dg_meaning.specs.Keeps.{Stands, After, WentOn as LeftPart}
-use Rattle.dg_meaning.proofs.Keeps.{stands_happened, stops_on}
-use Rattle.dg_meaning.specs.Cells.{cells, writing}
+use Rattle.dg_meaning.specs.Context.{Live, Way as WayOn}
+use Rattle.dg_meaning.specs.Keeps.{Stands, After}
+use Rattle.dg_meaning.proofs.Keeps.{stands_happened}
+use Rattle.dg_meaning.specs.Cells.{writing}
 use Rattle.dg_base.specs.Goals.{terms_held}
 use Rattle.dg_base.specs.declared.program.Goal.{Goal, out-Goal}
-use Rattle.dg_unify.specs.Store.{Store, State, Saved, Holds, Kept, Back, Charged, HeapFull, marked}
-use Rattle.dg_unify.specs.Laws.{saves_drops}
-use Rattle.dg_unify.specs.Listed.{fields_of}
+use Rattle.dg_unify.specs.Store.{Store, State, Saved, Holds, Kept, Charged, HeapFull, marked}
 use Rattle.dg_unify.specs.Engines.{Agrees}
 use Rattle.dg_unify.specs.declared.bindings.Ref.{Ref}
 use Rattle.dg_unify.specs.declared.bindings.Full.{Full}
@@ -30,20 +25,16 @@ use Rattle.dg_unify.specs.declared.bindings.Mark.{Mark as Place}
 use Rattle.dg_unify.specs.declared.list.ListBindings.{ListBindings}
 use Rattle.dg_interp.specs.declared.frames.Frame.{Frame}
 use Rattle.dg_interp.specs.declared.frames.Mark.TheVariants.{LeavePart}
-use Rattle.dg_interp.specs.declared.frames.Left.{Left}
-use Rattle.dg_interp.specs.declared.frames.Left.TheVariants.{Rules, Lists, Ways, Way, Behind}
+use Rattle.dg_interp.specs.declared.frames.Left.TheVariants.{Behind}
 use Rattle.dg_interp.specs.declared.frames.Choice.{Choice}
 use Rattle.dg_interp.specs.declared.engine.Engine.{Engine}
-use Rattle.dg_interp.specs.Frames.{values_in, steps_at, branches_of, cut_of, cut_if, lives_of, with_way, ways_of, IsChoice, AreChoices, IsFrame, IsLeft, IsNoted, StandOn, GoBackTo, all_left}
-use Rattle.dg_interp.specs.Engine.{store_in, KeepsPlaces, InWorld, Within, Inside, IsSound, IsReady, Sound, StandsAt, TakesAt, Then, Leads, Cuts, branches_left, WentOn, StopsAt, StopsFurther, StopsOn, Stops, leaving, part_at, FullAt, steps_of}
-use Rattle.dg_interp.proofs.Links.{same_here, at_same, stand_raise, cut_gone, cut_older, cut_fewer, rest_older}
-use Rattle.dg_interp.proofs.Places.{adds_nothing, adds_drops, world_drops, leads_on, limits_on, cut_base, cut_inside, ways_left, inside_in}
+use Rattle.dg_interp.specs.Frames.{values_in, steps_at, lives_of, ways_of, IsChoice, AreChoices, IsFrame, StandOn, GoBackTo}
+use Rattle.dg_interp.specs.Engine.{store_in, KeepsPlaces, IsReady, TakesAt, WentOn, FullAt, steps_of}
+use Rattle.dg_interp.proofs.Links.{same_here, at_same, stand_raise}
 use Rattle.dg_interp.proofs.Stores.{kept_on, all_hold, values_kept, hold_front}
 use Rattle.dg_interp.proofs.Kept.{back_limits}
 use Rattle.dg_interp.proofs.Opens.{agrees_here}
 use Rattle.dg_interp.proofs.Controls.{values_of, behind_all}
-use Rattle.dg_interp.proofs.Turns.{reverse_pop}
-use Rattle.dg_interp.proofs.Goals.{no_cells}
 use Rattle.dg_interp.proofs.Takes.{behind, taken_in, comes_of, adds_taken}
 
 -- ## A stoppable part opens

@@ -5,7 +5,7 @@ use Rattle.std.proofs.lemmas.List.{append-nil}
 use Rattle.dg_base.specs.declared.program.Goal.{Goal, out-Goal}
 use Rattle.dg_base.specs.declared.program.Goal as place
 use denote.Hole.Carrier.{out}
-use Rattle.dg_base.specs.declared.program.Goal.TheVariants.{Text, Gap, Print as PrintGoal, Quit, Stop}
+use Rattle.dg_base.specs.declared.program.Goal.TheVariants.{Text, Gap, GapN, Print as PrintGoal, Quit, Stop}
 use Rattle.dg_base.specs.declared.program.GapKind.{GapKind}
 use Rattle.dg_base.specs.declared.program.Term.{Term}
 use Rattle.dg_base.specs.declared.run.Ending.{Ending}
@@ -48,7 +48,7 @@ pub render_append : (xs ys : List Print) → render (xs ++ ys) ≡ render xs ++ 
 unfolding render
 render_append xs ys = render_more nothing_met xs ys
 
-render_grows : (es : List Print) (e : Print) → render (es ++ e ∷ []) ≡ render es ++ growth es e
+pub render_grows : (es : List Print) (e : Print) → render (es ++ e ∷ []) ≡ render es ++ growth es e
 render_grows es e = render_append es (e ∷ []) ∙ ap (λ l. render es ++ l) (append-nil (growth es e))
 
 -- what was written of a run's text so far
@@ -61,7 +61,7 @@ text_begins part whole h a b broke =
 pub text_same : (s : Spacer) (start now : SinkView) (xs ys : List Print) → ys ≡ xs ++ [] → HasText s start now xs → HasText s start now ys
 text_same s start now xs ys e h = subst (HasText s start now) (sym (e ∙ append-nil xs)) h
 
-text_added : (s s' : Spacer) (start before now : SinkView) (es : List Print) (e : Print) → HasText s start before es → ((xs : List Print) → StandsFor s xs → Added e xs before now s') → HasText s' start now (es ++ e ∷ [])
+pub text_added : (s s' : Spacer) (start before now : SinkView) (es : List Print) (e : Print) → HasText s start before es → ((xs : List Print) → StandsFor s xs → Added e xs before now s') → HasText s' start now (es ++ e ∷ [])
 text_added s s' start before now es e h f =
     let a = f es h.stands in
     record { stands = a.stands; wrote = subst (Wrote start now) (sym (render_grows es e)) (wrote_on start before now (render es) (growth es e) h.wrote a.wrote) }
@@ -109,15 +109,16 @@ run_limited e s k some none g w run start st text =
 
 -- ## One goal
 
--- all goals but these five are acts
-pub is_act : (x : Goal) → ((name : List ℕ) → x ≡ Text name → ⊥) → ((a : Term) → x ≡ PrintGoal a → ⊥) → (x ≡ Quit → ⊥) → (x ≡ Stop → ⊥) → ((kind : GapKind) → x ≡ Gap kind → ⊥) → IsAct (out-Goal x)
+-- all goals but these six are acts
+pub is_act : (x : Goal) → ((name : List ℕ) → x ≡ Text name → ⊥) → ((a : Term) → x ≡ PrintGoal a → ⊥) → (x ≡ Quit → ⊥) → (x ≡ Stop → ⊥) → ((kind : GapKind) → x ≡ Gap kind → ⊥) → ((a : Term) → x ≡ GapN a → ⊥) → IsAct (out-Goal x)
 unfolding out-Goal out
-is_act (place.Text name) text print quit stop gap = absurd (text name refl)
-is_act (place.Print a) text print quit stop gap = absurd (print a refl)
-is_act place.Quit text print quit stop gap = absurd (quit refl)
-is_act place.Stop text print quit stop gap = absurd (stop refl)
-is_act (place.Gap kind) text print quit stop gap = absurd (gap kind refl)
-is_act x text print quit stop gap = tt
+is_act (place.Text name) text print quit stop gap spaces = absurd (text name refl)
+is_act (place.Print a) text print quit stop gap spaces = absurd (print a refl)
+is_act place.Quit text print quit stop gap spaces = absurd (quit refl)
+is_act place.Stop text print quit stop gap spaces = absurd (stop refl)
+is_act (place.Gap kind) text print quit stop gap spaces = absurd (gap kind refl)
+is_act (place.GapN a) text print quit stop gap spaces = absurd (spaces a refl)
+is_act x text print quit stop gap spaces = tt
 
 module _ (x : Goal) (old mid : Engine) (s : Spacer) (k : SinkView) (some : 0 < length old.here.goals.now) (taken : Taken x old mid) where
   takes_here : (g : Game) (w : World) (run : Run) → StandsAt old g old.left w run → TakesAt x mid g mid.left w run

@@ -3,7 +3,7 @@ use Rattle.std.specs.Prelude.{ℕ, suc, ◌+◌, ◌^◌, ◌≡◌, ◌<◌, �
 use Rattle.std.specs.List.{All}
 use Rattle.dg_base.specs.declared.program.Goal.{Goal, Goal-F}
 use Rattle.dg_base.specs.declared.program.Goal.TheVariants.{Print as PrintGoal, Stop as StopGoal}
-use Rattle.dg_base.specs.declared.program.Goal.TheOpen.{Text, Print as PrintForm, Gap, Quit, Stop}
+use Rattle.dg_base.specs.declared.program.Goal.TheOpen.{Text, Print as PrintForm, Gap, GapN, Quit, Stop}
 use Rattle.dg_base.specs.declared.program.Term.{Term}
 use Rattle.dg_base.specs.declared.program.CoreProgram.{CoreProgram}
 use Rattle.dg_base.specs.declared.run.Ending.{Ending}
@@ -285,6 +285,7 @@ IsAct (PrintForm a) = ⊥
 IsAct Quit = ⊥
 IsAct Stop = ⊥
 IsAct (Gap kind) = ⊥
+IsAct (GapN a) = ⊥
 IsAct x = Unit {0}
 
 -- A goal was taken, and what it does is left to do.

@@ -7,3 +7,4 @@ pub mod Running
 pub mod Interpret
 pub mod Passing
 pub mod Comparing
+pub mod Giving

@@ -27,6 +27,17 @@ pub record BothMade (program : CoreProgram) (a b : Term) (env : List Value) (old
   pub left_in : Holds new left
   pub right_in : Holds new right
 
+-- Three terms were written, one after another.
+pub record ThreeMade (program : CoreProgram) (a b c : Term) (env : List Value) (old new : Store) (refs : Ref × Ref × Ref) : Type 0 where
+  pub kept : Kept old new
+  pub state : new.state ≡ record old.state { heap = old.state.heap + cells program (a ∷ b ∷ c ∷ []) }
+  pub first_is : told new refs.0 ≡ value_of program env a
+  pub second_is : told new refs.1 ≡ value_of program env b
+  pub third_is : told new refs.2 ≡ value_of program env c
+  pub first_in : Holds new refs.0
+  pub second_in : Holds new refs.1
+  pub third_in : Holds new refs.2
+
 -- ## Lists of Refs
 
 -- Refs of these values were put behind a list.

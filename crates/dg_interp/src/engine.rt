@@ -20,6 +20,7 @@ ghost use Rattle.dg_unify.specs.Store.{Saved, Kept, Holds, Charged};
 
 mod acting;
 mod control;
+mod giving;
 mod passing;
 mod stopping;
 

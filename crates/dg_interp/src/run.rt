@@ -1,12 +1,15 @@
 // Goals, one after another.
 ghost use Rattle.std.specs.Prelude.{◌≡◌, ◌<◌, IfOk, IfErr, length, Option, Some, None};
-ghost use Rattle.dg_interp.specs.Engine.{IsReady};
+ghost use Rattle.dg_base.specs.declared.program.Goal.TheVariants.{GapN as GapNGoal};
+ghost use Rattle.dg_meaning.specs.Closures.{HasNoClosure};
+ghost use Rattle.dg_interp.specs.declared.engine.Engine.{Engine as TheEngine};
+ghost use Rattle.dg_interp.specs.Engine.{IsReady, Taken};
 ghost use Rattle.dg_interp.specs.Running.{Reaches, IsBroken, Ended, DoesGoal, Does, limit_of, outcome_of};
 ghost use Rattle.dg_meaning.specs.World.{GapOf};
 ghost use Rattle.dg_spacing.specs.Gaps.{print_of};
 
 use crate::engine::Engine;
-use dg_base::{Ending, GapKind, Goal, RunFault, Sink};
+use dg_base::{Ending, GapKind, Goal, RunFault, Sink, Term};
 use dg_spacing::{Event, Spacer};
 use dg_unify::Full;
 
@@ -48,6 +51,30 @@ fn event_of(kind: GapKind) -> Event<'static>
     }
 }
 
+/// Prints as many spaces as a goal says that was taken; the ending where the run is over.
+fn print_spaces<K: Sink>(
+    engine: &mut Engine<'_>,
+    spacer: &mut Spacer,
+    sink: &mut K,
+    term: &Term,
+) -> Result<Option<Ending>, RunFault>
+    requires ready { IsReady engine.old }
+    requires plain { HasNoClosure term.now }
+    ensures ok { (old : TheEngine) → 0 < length old.here.goals.now → Taken (GapNGoal term.now) old engine.old →
+        IfOk result (λ ending. DoesGoal ending old engine.new spacer.old spacer.new (K.view sink.old) (K.view sink.new)) }
+    ensures err { (old : TheEngine) → 0 < length old.here.goals.now → Taken (GapNGoal term.now) old engine.old →
+        IfErr result (λ fault. Reaches old spacer.old (K.view sink.old) (IsBroken fault spacer.new (K.view sink.new))) }
+{
+    match engine.spaces(term) {
+        Err(full) => outcome(Err(full)),
+        Ok(None) => outcome(engine.back()),
+        Ok(Some(count)) => match spacer.event(sink, Event::Spaces(count)) {
+            Ok(()) => Ok(None),
+            Err(_) => Err(RunFault::Write),
+        },
+    }
+}
+
 /// Takes the goal at hand and does it; the ending where the run is over.
 fn do_goal<K: Sink>(
     engine: &mut Engine<'_>,
@@ -77,6 +104,7 @@ fn do_goal<K: Sink>(
                 Err(_) => Err(RunFault::Write),
             },
         },
+        Goal::GapN(term) => print_spaces(engine, spacer, sink, term),
         Goal::Quit => Ok(Some(Ending::Quit)),
         Goal::Stop => {
             if engine.stop() {

@@ -7,7 +7,7 @@ ghost use Rattle.dg_meaning.specs.Values.{value_of, value_of_var as value_in};
 ghost use Rattle.dg_meaning.specs.Cells.{cells};
 ghost use Rattle.dg_meaning.specs.Closures.{HasNoClosure};
 ghost use Rattle.dg_unify.specs.Store.{Saved, told, Holds, Kept, Made};
-ghost use Rattle.dg_interp.specs.Terms.{Overflows, BothMade, Written, MadeVars, IsNoPair, listed, HeadsWritten};
+ghost use Rattle.dg_interp.specs.Terms.{Overflows, BothMade, ThreeMade, Written, MadeVars, IsNoPair, listed, HeadsWritten};
 
 use dg_base::{Simple, Term};
 use dg_unify::{Bindings, Full, Ref};
@@ -208,6 +208,32 @@ pub fn write_both<B: Bindings>(
         Ok(left) => match write_term(store, env, b, stack) {
             Err(e) => Err(e),
             Ok(right) => Ok((left, right)),
+        },
+    }
+}
+
+/// The values of three terms, one written after another.
+pub fn write_three<B: Bindings>(
+    store: &mut B,
+    env: &[Ref],
+    a: &Term,
+    b: &Term,
+    c: &Term,
+    stack: &mut Vec<Ref>,
+) -> Result<(Ref, Ref, Ref), Full>
+    requires env { All (Holds (B.meaning store.old)) env.now }
+    requires plain { HasNoClosure a.now × HasNoClosure b.now × HasNoClosure c.now }
+    ensures kept { Kept (B.meaning store.old) (B.meaning store.new) }
+    ensures saved { (ms : List Saved) → B.saves store.old ms → B.saves store.new ms }
+    ensures written { (program : CoreProgram) → MatchResult result
+        (λ refs. ThreeMade program a.now b.now c.now (map (told (B.meaning store.old)) env.now) (B.meaning store.old) (B.meaning store.new) refs)
+        (λ e. Overflows (cells program (a.now ∷ b.now ∷ c.now ∷ [])) (B.meaning store.old) e) }
+{
+    match write_both(store, env, a, b, stack) {
+        Err(e) => Err(e),
+        Ok((first, second)) => match write_term(store, env, c, stack) {
+            Err(e) => Err(e),
+            Ok(third) => Ok((first, second, third)),
         },
     }
 }

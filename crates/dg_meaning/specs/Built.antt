@@ -2,18 +2,19 @@
 use Rattle.std.specs.Prelude.{List}
 use Rattle.std.specs.List.{All}
 use Rattle.dg_base.specs.declared.program.Goal.{Goal, Goal-F, out-Goal}
-use Rattle.dg_base.specs.declared.program.Goal.TheOpen.{Text, Print, Gap, Equal, Ask, Either, Once, Not, If, Just, Fail, Stop, Quit, Forever, Exhaust, Stoppable, Compare, Test}
+use Rattle.dg_base.specs.declared.program.Goal.TheOpen.{Text, Print, Gap, GapN, Equal, Ask, Either, Once, Not, If, Just, Fail, Stop, Quit, Forever, Exhaust, Stoppable, Compare, Test, Arith}
 use Rattle.dg_base.specs.declared.program.Rule.{Rule}
 use Rattle.dg_base.specs.declared.program.Pred.{Pred}
 use Rattle.dg_base.specs.declared.program.CoreProgram.{CoreProgram}
 use Rattle.dg_base.specs.Goals.{terms_held, goals_of}
 use Rattle.dg_meaning.specs.Closures.{HasNoClosure}
 
--- Text, a printed value, a gap, an equation, a query, a choice between goals, a first answer, a negation, a condition, a cut, a failure, an end, an endless choice, a test, a comparison, all answers of goals, a stoppable part, and a stop.
+-- Text, a printed value, a gap, spaces, an equation, a query, a choice between goals, a first answer, a negation, a condition, a cut, a failure, an end, an endless choice, a test, a comparison, a calculation, all answers of goals, a stoppable part, and a stop.
 abbrev pub IsForm : Goal-F Goal → Type 0
 IsForm (Text name) = Unit {0}
 IsForm (Print a) = Unit {0}
 IsForm (Gap kind) = Unit {0}
+IsForm (GapN a) = Unit {0}
 IsForm (Equal a b) = Unit {0}
 IsForm (Ask pred args many) = Unit {0}
 IsForm (Either lists) = Unit {0}
@@ -26,6 +27,7 @@ IsForm Quit = Unit {0}
 IsForm Forever = Unit {0}
 IsForm (Test kind a) = Unit {0}
 IsForm (Compare op a b) = Unit {0}
+IsForm (Arith op a b c) = Unit {0}
 IsForm (Exhaust goals) = Unit {0}
 IsForm (Stoppable goals) = Unit {0}
 IsForm Stop = Unit {0}

@@ -26,6 +26,7 @@ impl<'p> Engine<'p> {
             Goal::Equal(a, b) => self.equal(a, b),
             Goal::Test(kind, term) => self.test(*kind, term),
             Goal::Compare(op, a, b) => self.compare(*op, a, b),
+            Goal::Arith(op, a, b, into) => self.arith(*op, a, b, into),
             Goal::Ask(pred, args, many) => {
                 let query = Query {
                     pred: *pred,

@@ -5,6 +5,7 @@ use Rattle.dg_interp.proofs.Runs.{one_done, one_lost, word_prints, gap_prints, v
 use Rattle.dg_meaning.specs.World.{Piece}
 use Rattle.dg_spacing.specs.Gaps.{print_of}
 use Rattle.dg_interp.proofs.Values.{print_plain}
+use Rattle.dg_interp.proofs.Spaces.{spaces_plain}
 use Rattle.dg_interp.specs.Printing.{AddsAll}
 use Rattle.dg_interp.proofs.Waiting.{wrote_still, pieces_still}
 use Rattle.dg_interp.proofs.run.do_goal.Goals as goal
@@ -56,7 +57,7 @@ pub returns-in-Quit-clause-ok : goal.returns-in-Quit-clause-ok
 returns-in-Quit-clause-ok g c = goal_quits c.take_goal.result.now c.args.engine.now c.take_goal.new.self c.args.spacer.now _ c.take_goal.ensures.taken c.in-Quit.is
 
 pub act-requires-clause-act : goal.act-requires-clause-act
-act-requires-clause-act g c = is_act c.take_goal.result.now c.in_default.not-Text c.in_default.not-Print c.in_default.not-Quit c.in_default.not-Stop c.in_default.not-Gap
+act-requires-clause-act g c = is_act c.take_goal.result.now c.in_default.not-Text c.in_default.not-Print c.in_default.not-Quit c.in_default.not-Stop c.in_default.not-Gap c.in_default.not-GapN
 
 pub returns-in_default-clause-ok : goal.returns-in_default-clause-ok
 returns-in_default-clause-ok g c =
@@ -70,3 +71,12 @@ returns-then-stop-clause-ok g c = goal_stops c.take_goal.result.now c.args.engin
 
 pub returns-else-stop-clause-ok : goal.returns-else-stop-clause-ok
 returns-else-stop-clause-ok g c = goal_stopped c.take_goal.result.now c.args.engine.now c.take_goal.new.self c.stop.new.self c.args.spacer.now _ c.requires.goal c.take_goal.ensures.taken c.in-Stop.is (rw c.if-stop.false at c.stop.ensures)
+
+pub print_spaces-requires-clause-plain : goal.print_spaces-requires-clause-plain
+print_spaces-requires-clause-plain g c = spaces_plain c.in-GapN.term (rw c.in-GapN.is at c.take_goal.ensures.taken.built)
+
+pub returns-in-GapN-clause-ok : goal.returns-in-GapN-clause-ok
+returns-in-GapN-clause-ok g c = c.print_spaces.ensures.ok c.args.engine.now c.requires.goal (rw c.in-GapN.is at c.take_goal.ensures.taken)
+
+pub returns-in-GapN-clause-err : goal.returns-in-GapN-clause-err
+returns-in-GapN-clause-err g c = c.print_spaces.ensures.err c.args.engine.now c.requires.goal (rw c.in-GapN.is at c.take_goal.ensures.taken)

@@ -1,5 +1,6 @@
 use Rattle.dg_interp.proofs.Equals.{equal_plain}
 use Rattle.dg_interp.proofs.Compares.{compare_plain}
+use Rattle.dg_interp.proofs.Ariths.{arith_plain}
 use Rattle.dg_interp.proofs.Values.{test_plain, ask_plain}
 use Rattle.dg_interp.proofs.Controls.{either_built, once_built, not_built, exhaust_built, stoppable_built, if_built}
 use Rattle.dg_interp.proofs.engine.Engine.act.Goals as goal
@@ -33,3 +34,6 @@ stoppable-requires-clause-built c = rw c.as_slice-in-Stoppable.ensures (stoppabl
 
 pub compare-requires-clause-plain : goal.compare-requires-clause-plain
 compare-requires-clause-plain c = compare_plain c.in-Compare.op c.in-Compare.a c.in-Compare.b (rw c.in-Compare.is at c.requires.form)
+
+pub arith-requires-clause-plain : goal.arith-requires-clause-plain
+arith-requires-clause-plain c = arith_plain c.in-Arith.op c.in-Arith.a c.in-Arith.b c.in-Arith.into (rw c.in-Arith.is at c.requires.form)

@@ -1,4 +1,3 @@
-use Rattle.dg_interp.specs.Engine.{TakesAt, StopsAt}
 use Rattle.dg_interp.proofs.Parts.{stop_outside, stop_made}
 use Rattle.dg_interp.proofs.engine.Engine.stop.Goals as goal
 

@@ -1,5 +1,4 @@
 use Rattle.std.proofs.Common.{rules, ◌≡◌, ◌+◌, Some, length, arith}
-use Rattle.std.specs.Prelude.{reverse}
 use Rattle.dg_base.specs.declared.program.Goal.TheVariants.{Stoppable}
 use Rattle.dg_interp.specs.declared.frames.Mark.TheVariants.{LeavePart}
 use Rattle.dg_interp.specs.Frames.{IsFrame}

@@ -1,0 +1,50 @@
+// Numbers among values.
+
+ghost use Rattle.std.specs.Prelude.{◌≡◌, Some, List};
+ghost use Rattle.dg_meaning.specs.Values.{Value, Num, leaf};
+ghost use Rattle.dg_meaning.specs.Numbers.{of_numbers, calculated};
+ghost use Rattle.dg_meaning.specs.Substitutions.{walk};
+ghost use Rattle.dg_unify.specs.Store.{Saved, Kept, told, Holds, Shows};
+ghost use Rattle.dg_interp.specs.Giving.{number_in};
+
+use dg_base::{ArithOp, Simple};
+use dg_lists::arith;
+use dg_unify::{Bindings, Ref, View};
+
+/// The number that is shown, if it is one.
+pub fn number_of(view: View) -> Option<u16>
+    ensures { (s : Rattle.dg_unify.specs.Store.Store) (w : Value) → Shows s w view → result ≡ number_in w }
+{
+    match view {
+        View::Simple(Simple::Num(n)) => Some(n),
+        _ => None,
+    }
+}
+
+/// What an operation makes of two values, if both are numbers and it makes one.
+pub fn calculate<B: Bindings>(store: &B, op: ArithOp, a: Ref, b: Ref) -> Option<u16>
+    requires { Holds (B.meaning store.now) a × Holds (B.meaning store.now) b }
+    ensures { result ≡ of_numbers (calculated op) (walk (B.meaning store.now).state.subst (told (B.meaning store.now) a))
+        (walk (B.meaning store.now).state.subst (told (B.meaning store.now) b)) }
+{
+    match number_of(store.walk(a)) {
+        None => None,
+        Some(m) => match number_of(store.walk(b)) {
+            None => None,
+            Some(n) => arith(op, m, n),
+        },
+    }
+}
+
+/// A number in a store.
+pub fn number<B: Bindings>(store: &mut B, n: u16) -> Ref
+    ensures kept { Kept (B.meaning store.old) (B.meaning store.new) }
+    ensures saved { (ms : List Saved) → B.saves store.old ms → B.saves store.new ms }
+    ensures same { (B.meaning store.new).state ≡ (B.meaning store.old).state }
+    ensures made { (B.meaning store.new).value result ≡ Some (leaf (Num n)) }
+{
+    match store.value(Simple::Num(n)) {
+        Ok(made) => made,
+        Err(_) => unreachable!(),
+    }
+}
