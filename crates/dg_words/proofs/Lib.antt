@@ -5,3 +5,4 @@ pub mod CharLemmas
 pub mod LineLemmas
 pub mod WordLemmas
 pub mod LetterLemmas
+pub mod Decoded

@@ -4,6 +4,7 @@
 mod chars;
 mod classes;
 mod cutting;
+mod decoding;
 mod joined;
 mod letters;
 mod line;
@@ -12,6 +13,7 @@ mod lines;
 pub use chars::next_char;
 pub use classes::{Class, classify};
 pub use cutting::{next_word, words_are_bytes};
+pub use decoding::read_letters;
 pub use joined::{Joined, TooLong};
 pub use line::Line;
 pub use lines::take_line;
