@@ -37,12 +37,12 @@ use Rattle.dg_interp.specs.declared.engine.Engine.{Engine}
 use Rattle.dg_interp.specs.Rules.{ArgsWritten}
 use Rattle.dg_interp.specs.Terms.{Overflows, Written}
 use Rattle.dg_interp.specs.Frames.{stretch, values_in, steps_behind, AreChoices, AreFrames, IsLeft, StandOn, GoBackTo}
-use Rattle.dg_interp.specs.Engine.{store_in, KeepsPlaces, HasPlace, IsPlace, Point, IsSound, IsReady, TakesAt, FailsAt, BeginsAt, FullAt, Adds, Leads, SameLimits, steps_of}
+use Rattle.dg_interp.specs.Engine.{store_in, open_in, KeepsPlaces, HasPlace, IsPlace, Point, IsSound, IsReady, TakesAt, FailsAt, BeginsAt, FullAt, Adds, Leads, SameLimits, steps_of}
 use Rattle.dg_unify.specs.Engines.{Agrees}
 use Rattle.dg_interp.proofs.Links.{SameBy, same_here, same_append, behind_new, at_same, frame_raise, frames_raise, frames_append, choices_same, back_same, stand_raise, stand_same}
 use Rattle.dg_interp.proofs.Stores.{kept_here, all_hold, values_kept, hold_front, front_same, appended_stretch}
 use Rattle.dg_interp.proofs.Kept.{back_limits}
-use Rattle.dg_interp.proofs.Places.{adds_on, adds_noted}
+use Rattle.dg_interp.proofs.Places.{open_still, adds_on, adds_noted}
 use Rattle.dg_interp.proofs.Takes.{behind, taken_in, comes_of, adds_taken, terms_full}
 use Rattle.dg_interp.proofs.Turns.{all_first, all_rest}
 
@@ -154,7 +154,7 @@ module _ (old : Engine) (query : Query) (terms : List Term) (store1 : ListBindin
     failing = record old { store = store1; refs = refs1; made = made1 }
 
     pub ask_limits : SameLimits old failing
-    ask_limits = record { heap = k1.heap_limit; trail = k1.trail_limit }
+    ask_limits = record { heap = k1.heap_limit; trail = k1.trail_limit; aux = refl; keep = refl }
 
     failing_keeps : KeepsPlaces store1 ready.sound.base.places.saved
     failing_keeps = saved1 ready.sound.base.places.saved ready.sound.base.places.keeps
@@ -232,7 +232,7 @@ module _ (old : Engine) (query : Query) (terms : List Term) (store1 : ListBindin
       asking_place = record { back = record { mark = place; store = s2 }; saved = ready.sound.base.places.saved; is = place_now ready.sound.base.places.saved failing_keeps; back_to = back_now }
 
       pub asking_limits : SameLimits old asking
-      asking_limits = record { heap = k2.heap_limit ∙ k1.heap_limit; trail = k2.trail_limit ∙ k1.trail_limit }
+      asking_limits = record { heap = k2.heap_limit ∙ k1.heap_limit; trail = k2.trail_limit ∙ k1.trail_limit; aux = refl; keep = refl }
 
       pub asking_sound : old.newest + 1 + old.left < 2 ^ 64 → IsSound asking
       asking_sound room = record {
@@ -305,8 +305,8 @@ module _ (old : Engine) (query : Query) (terms : List Term) (store1 : ListBindin
                   let same : rule_branches g query.pred (values_in s2 ys args) query.many (steps_behind (values_in s2 ys) frames.items (length frames.items)) r rules.now ≡ branches g n w run st rules.now =
                   ap (λ l. rule_branches g query.pred (values_in s2 ys args) query.many l r rules.now) steps_now
                   ∙ ap (λ vs. rule_branches g query.pred vs query.many (steps_of old) r rules.now) (values2 args (omega (arith, there.from, there.count, ap length there.written.appended.is, length-append xs made))) in
-                  subst (λ l. Tried g (RulesOf query.pred) r.next_tag 0 st.at.ways st.at.inside.lives l n (asked_in g n w run st) run) (sym same)
-                  (subst (λ i. Tried g (RulesOf query.pred) r.next_tag i st.at.ways st.at.inside.lives (branches g n w run st rules.now) n (asked_in g n w run st) run) (ap length st.at.inside.world)
+                  subst (λ l. Tried g (RulesOf query.pred) r.next_tag (open_in old) st.at.ways st.at.inside.lives l n (asked_in g n w run st) run) (sym same)
+                  (subst (λ i. Tried g (RulesOf query.pred) r.next_tag i st.at.ways st.at.inside.lives (branches g n w run st rules.now) n (asked_in g n w run st) run) (sym (open_still old.outside g w st.at.inside.world))
                   (chosen_rules g st.at.inside.lives st.at.ways n run query.pred r.next_tag (branches g n w run st rules.now) (asked_in g n w run st) (asked rules.now are g n w run st)));
             };
           }

@@ -28,7 +28,7 @@ use Rattle.dg_interp.specs.declared.engine.Engine.{Engine}
 use Rattle.dg_interp.specs.Terms.{Overflows}
 use Rattle.dg_interp.specs.Frames.{values_in, steps_behind, steps_at, kind_of, branches_of, IsFrame, IsLeft, IsNoPart, BeginsWith, has_some, stays_with, cells_if}
 use Rattle.dg_unify.specs.Engines.{Agrees}
-use Rattle.dg_interp.specs.Engine.{store_in, KeepsPlaces, HasPlace, Point, IsSound, BeginsAt, FullAt, WentOn, kept_if}
+use Rattle.dg_interp.specs.Engine.{store_in, KeepsPlaces, HasPlace, Point, IsSound, BeginsAt, FullAt, WentOn, open_in, kept_if}
 use Rattle.dg_interp.proofs.Links.{same_here, at_same}
 use Rattle.dg_interp.proofs.Kept.{cells_same}
 use Rattle.dg_interp.proofs.Begun.{begun_values, begun_sound, begun_stands}
@@ -71,7 +71,7 @@ module _ (old : Engine) (frame : Frame) (others : Left) (b : Bool) (place : Plac
   heap = cells_if b
 
   abbrev o : Choice
-  o = record { tag = old.newest; left = others; height = length fs; refs = length old.refs.items; place = place; stoppable = old.stoppable }
+  o = record { tag = old.newest; left = others; height = length fs; refs = length old.refs.items; gathered = open_in old; place = place; stoppable = old.stoppable }
 
   abbrev the_others : Game → Registers → List Branch
   the_others g r = branches_of g (values_in s old.refs.items) fs (length fs) others r
@@ -81,13 +81,13 @@ module _ (old : Engine) (frame : Frame) (others : Left) (b : Bool) (place : Plac
     from = BeginsAt all place old
 
     abbrev lives_now : Game → Registers → List Live → List Way → List Live
-    lives_now g r lives ways = pushed (record { kind = kind_of all; tag = r.next_tag; others = the_others g r; height = 0; ways_on = ways }) lives
+    lives_now g r lives ways = pushed (record { kind = kind_of all; tag = r.next_tag; others = the_others g r; height = open_in old; ways_on = ways }) lives
 
     stands : (g : Game) (n : ℕ) (w : World) (run : Run) (st : from g n w run) → Stands g (lives_now g st.at.registers st.at.inside.lives st.at.ways) st.at.ways (path_of (steps_at (values_in s old.refs.items) fs frame) (inside heap st.at.registers)) n (begun (inside heap st.at.registers) with.work w) run
     stands g n w run st =
         let r = st.at.registers in
         subst (λ h. Stands g (lives_now g r st.at.inside.lives st.at.ways) st.at.ways (path_of (steps_at (values_in s old.refs.items) fs frame) (inside h r)) n (begun (inside h r) with.work w) run) (ap cells_if (sym same_b))
-        (subst (λ l. Tried g (kind_of all) r.next_tag 0 st.at.ways st.at.inside.lives l n w run) (with.branches g (values_in s old.refs.items) fs r) st.tried)
+        (subst (λ l. Tried g (kind_of all) r.next_tag (open_in old) st.at.ways st.at.inside.lives l n w run) (with.branches g (values_in s old.refs.items) fs r) st.tried)
 
     pub frame_full : (e : Full) → Overflows heap s e → FullAt from s e
     frame_full full.Heap h = λ g n w run st.
@@ -122,7 +122,7 @@ module _ (old : Engine) (frame : Frame) (others : Left) (b : Bool) (place : Plac
       frame_begun = record {
         ready = record { sound = begun_sound old others b place store1 old.refs old.made choices sound left plain same_b has k1 saved1 [] no_refs none_held kept frame; here = is };
         left = refl;
-        limits = record { heap = k1.heap_limit; trail = k1.trail_limit };
+        limits = record { heap = k1.heap_limit; trail = k1.trail_limit; aux = refl; keep = refl };
         leads = λ g n w run st.
             let r = st.at.registers in
             let v = begun (inside heap r) with.work w in

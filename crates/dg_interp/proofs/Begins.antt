@@ -43,7 +43,7 @@ use Rattle.dg_interp.proofs.PassedRules.{rules_from_candidate}
 use Rattle.dg_meaning.specs.Selection.{first_excludes, from_candidate}
 use Rattle.dg_interp.specs.Rules.{rule_cells, matched_in, EntersRule, RuleFull}
 use Rattle.dg_interp.specs.Frames.{values_in, frame_steps, steps_behind, steps_at, kind_of, branches_of, IsFrame, IsLeft}
-use Rattle.dg_interp.specs.Engine.{store_in, KeepsPlaces, HasPlace, Point, IsSound, BeginsAt, FullAt, Adds, SameLimits, WentOn, WentWrong, kept_if}
+use Rattle.dg_interp.specs.Engine.{store_in, KeepsPlaces, HasPlace, Point, IsSound, BeginsAt, FullAt, Adds, SameLimits, WentOn, WentWrong, kept_if, open_in}
 use Rattle.dg_unify.specs.Engines.{Agrees}
 use Rattle.dg_interp.proofs.Links.{SameBy, same_here, behind_same}
 use Rattle.dg_interp.proofs.Stores.{kept_on, values_kept, hold_front, appended_stretch, values_count, trail_append, trail_older, made_is}
@@ -161,7 +161,7 @@ module _ (old : Engine) (query : Query) (args : Env) (rules others : Bor (List R
   heap = choice_cells args.len (rules_from first others.now)
 
   abbrev o : Choice
-  o = record { tag = old.newest; left = Rules query args others; height = length fs; refs = length xs; place = place; stoppable = old.stoppable }
+  o = record { tag = old.newest; left = Rules query args others; height = length fs; refs = length xs; gathered = open_in old; place = place; stoppable = old.stoppable }
 
   abbrev from : Point
   from = BeginsAt (Rules query args rules) place old
@@ -185,7 +185,7 @@ module _ (old : Engine) (query : Query) (args : Env) (rules others : Bor (List R
   branches r g = rule_branches g query.pred the_args query.many steps r others.now
 
   abbrev lives_now : Game → Registers → List Live → List Way → List Live
-  lives_now g r lives ways = record { kind = RulesOf query.pred; tag = r.next_tag; others = branches r g; height = 0; ways_on = ways } ∷ lives
+  lives_now g r lives ways = record { kind = RulesOf query.pred; tag = r.next_tag; others = branches r g; height = open_in old; ways_on = ways } ∷ lives
 
   abbrev behind_of : Game → Registers → Registers
   behind_of g r = matched (match g the_args rule r) r (entered g heap rule r)
@@ -212,7 +212,7 @@ module _ (old : Engine) (query : Query) (args : Env) (rules others : Bor (List R
   begins g n w run st =
       let r = st.at.registers in
       subst (λ b. Began g (lives_now g r st.at.inside.lives st.at.ways) st.at.ways b n w run) (branch_is g r st.at.agrees)
-      (subst (λ l. Tried g (RulesOf query.pred) r.next_tag 0 st.at.ways st.at.inside.lives (rule_branches g query.pred the_args query.many steps r l) n w run) split st.tried)
+      (subst (λ l. Tried g (RulesOf query.pred) r.next_tag (open_in old) st.at.ways st.at.inside.lives (rule_branches g query.pred the_args query.many steps r l) n w run) split st.tried)
 
   sub : IsSubstitution s.state.subst
   sub = old.store.sound.fits.sound
@@ -279,7 +279,7 @@ module _ (old : Engine) (query : Query) (args : Env) (rules others : Bor (List R
       adds_begun r work w = record { prints_are = sym (append-nil (prints w.events)); typed = refl }
 
       limits : (here : Frame) → SameLimits old (new here)
-      limits here = record { heap = k12.heap_limit; trail = k12.trail_limit }
+      limits here = record { heap = k12.heap_limit; trail = k12.trail_limit; aux = refl; keep = refl }
 
       -- its head doesn't match
       pub rule_wrong : found ≡ false → WentWrong from old (new old.here)
@@ -356,7 +356,7 @@ module _ (old : Engine) (left : Left) (frame : Frame) (place : Place) (sound : I
   way_begun = record {
     ready = record { sound = record { base = sound.base; room = sound.room }; here = is };
     left = refl;
-    limits = record { heap = refl; trail = refl };
+    limits = record { heap = refl; trail = refl; aux = refl; keep = refl };
     leads = λ g n w run st.
         let r = st.at.registers in
         let v = begun (inside 0 r) 0 w in
@@ -382,8 +382,8 @@ module _ (old : Engine) (left : Left) (frame : Frame) (place : Place) (sound : I
               tag = ap (λ k. k + 1) st.at.tag;
               stop = st.at.stop;
             };
-            stands = subst (λ k. Tried g k r.next_tag 0 st.at.ways st.at.inside.lives (enter 0 0 r (steps_at (values_in (store_in old.store) old.refs.items) old.frames.items frame) ∷ []) n w run) plain
-                (subst (λ l. Tried g (kind_of left) r.next_tag 0 st.at.ways st.at.inside.lives l n w run) (alone g (values_in (store_in old.store) old.refs.items) old.frames.items r) st.tried);
+            stands = subst (λ k. Tried g k r.next_tag (open_in old) st.at.ways st.at.inside.lives (enter 0 0 r (steps_at (values_in (store_in old.store) old.refs.items) old.frames.items frame) ∷ []) n w run) plain
+                (subst (λ l. Tried g (kind_of left) r.next_tag (open_in old) st.at.ways st.at.inside.lives l n w run) (alone g (values_in (store_in old.store) old.refs.items) old.frames.items r) st.tried);
           };
         };
   }

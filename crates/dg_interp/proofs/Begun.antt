@@ -21,14 +21,15 @@ use Rattle.dg_interp.specs.declared.frames.Left.{Left}
 use Rattle.dg_interp.specs.declared.frames.Choice.{Choice}
 use Rattle.dg_interp.specs.declared.engine.Engine.{Engine}
 use Rattle.dg_interp.specs.Frames.{values_in, kind_of, branches_of, lives_of, ways_of, AreChoices, IsLeft, IsNoPart, StandOn, GoBackTo, stays_with}
-use Rattle.dg_interp.specs.Engine.{store_in, KeepsPlaces, HasPlace, InWorld, Within, IsSound, StandsAt, FailsAt, BeginsAt, SameLimits, steps_of, kept_if}
+use Rattle.dg_interp.specs.Engine.{store_in, KeepsPlaces, HasPlace, Within, IsSound, StandsAt, FailsAt, BeginsAt, SameLimits, steps_of, kept_if, open_in}
+use Rattle.dg_interp.specs.Outside.{InWorld}
 use Rattle.dg_interp.proofs.Links.{SameBy, same_here, branches_same, choices_same, back_same, frames_raise, stand_raise}
 use Rattle.dg_interp.proofs.Stores.{all_hold, values_kept, hold_front, front_same}
 use Rattle.dg_interp.proofs.Kept.{kept_places, kept_stand, kept_back, back_limits, kept_choices, kept_lives, kept_ways, branches_stay}
 
 module _ (old : Engine) (left : Left) (b : Bool) (place : Place) (store1 : ListBindings) (refs1 made1 : Vec Ref Global) (choices : Vec Choice Global) (sound : IsSound old) (fits : IsLeft (length old.frames.items) (length old.refs.items) left) (plain : IsNoPart left) (same_b : b ≡ stays_with left)
     (has : HasPlace old place) (k : Kept (store_in old.store) (store_in store1)) (saved1 : (ms : List Saved) → KeepsPlaces old.store ms → KeepsPlaces store1 ms) (made : List Ref) (is : refs1.items ≡ old.refs.items ++ made) (hold : All (Holds (store_in store1)) made)
-    (kept : reverse choices.items ≡ kept_if b (record { tag = old.newest; left = left; height = length old.frames.items; refs = length old.refs.items; place = place; stoppable = old.stoppable }) (reverse old.choices.items)) where
+    (kept : reverse choices.items ≡ kept_if b (record { tag = old.newest; left = left; height = length old.frames.items; refs = length old.refs.items; gathered = open_in old; place = place; stoppable = old.stoppable }) (reverse old.choices.items)) where
   abbrev s : Store
   s = store_in old.store
 
@@ -48,7 +49,7 @@ module _ (old : Engine) (left : Left) (b : Bool) (place : Place) (store1 : ListB
   os = reverse old.choices.items
 
   abbrev o : Choice
-  o = record { tag = old.newest; left = left; height = length fs; refs = length xs; place = place; stoppable = old.stoppable }
+  o = record { tag = old.newest; left = left; height = length fs; refs = length xs; gathered = open_in old; place = place; stoppable = old.stoppable }
 
   -- the engine, with a frame at hand
   abbrev pub begun_engine : Frame → Engine
@@ -68,7 +69,7 @@ module _ (old : Engine) (left : Left) (b : Bool) (place : Place) (store1 : ListB
   stand = kept_stand b fs (length fs) (length xs) old.newest o os (omega arith) (omega arith) (omega arith) fits same_b plain sound.base.frames sound.base.choices
 
   pub begun_limits : (here : Frame) → SameLimits old (begun_engine here)
-  begun_limits here = record { heap = k.heap_limit; trail = k.trail_limit }
+  begun_limits here = record { heap = k.heap_limit; trail = k.trail_limit; aux = refl; keep = refl }
 
   pub begun_sound : (here : Frame) → IsSound (begun_engine here)
   begun_sound here = record {
@@ -98,7 +99,7 @@ module _ (old : Engine) (left : Left) (b : Bool) (place : Place) (store1 : ListB
 
     -- the choice that the meaning keeps
     abbrev pub begun_live : Live
-    begun_live = record { kind = kind_of all; tag = r.next_tag; others = others; height = 0; ways_on = st.at.ways }
+    begun_live = record { kind = kind_of all; tag = r.next_tag; others = others; height = open_in old; ways_on = st.at.ways }
 
     are : others ≡ branches_of g (values_in st.back.store xs) fs (length fs) left r
     are =
@@ -107,7 +108,7 @@ module _ (old : Engine) (left : Left) (b : Bool) (place : Place) (store1 : ListB
     stays_so : b ≡ stays (kind_of all) others
     stays_so = same_b ∙ sym (branches_stay g (values_in s xs) fs (length fs) left r) ∙ ap (λ q. stays q others) kind
 
-    abbrev inside_begun : (v : World) → InWorld v → Within old.program.now store1 ys fs (reverse choices.items) g v
+    abbrev inside_begun : (v : World) → InWorld old.outside g v → Within old.program.now old.outside store1 ys fs (reverse choices.items) g v
     inside_begun v world = record {
       program = st.at.inside.program;
       entries = kept_if b begun_live st.at.inside.entries;
@@ -117,12 +118,12 @@ module _ (old : Engine) (left : Left) (b : Bool) (place : Place) (store1 : ListB
       keeps = saved1 _ (kept_places b old.store st.back st.at.inside.saved st.is.keeps);
       choices = subst (λ l. AreChoices g ys fs l (kept_if b st.back st.at.inside.saved) (kept_if b begun_live st.at.inside.entries)) (sym kept)
           (choices_same g xs ys fs fs (length fs) (length xs) old.newest (kept_if b o os) (kept_if b st.back st.at.inside.saved) (kept_if b begun_live st.at.inside.entries) front (same_here (length fs) fs) stand
-          (kept_choices g xs fs o os st.back st.at.inside.saved st.at.inside.entries r (kind_of all) st.at.ways others b are (sym kind) st.at.tag st.at.stop st.at.ways_are st.back_agrees (hold_front st.back.store xs st.is.hold) st.is.place_is st.at.inside.choices));
+          (kept_choices g xs fs o os (open_in old) refl st.back st.at.inside.saved st.at.inside.entries r (kind_of all) st.at.ways others b are (sym kind) st.at.tag st.at.stop st.at.ways_are st.back_agrees (hold_front st.back.store xs st.is.hold) st.is.place_is st.at.inside.choices));
       world = world;
     }
 
     -- the run comes from where the engine is then
-    pub begun_stands : (here : Frame) (v : World) (r' : Registers) → InWorld v → Agrees s1 r' → r'.next_tag ≡ old.newest + 1 → r'.stoppable ≡ r.stoppable → Stands g (pushed begun_live st.at.inside.lives) st.at.ways (path_of (steps_of (begun_engine here)) r') n v run → StandsAt (begun_engine here) g n v run
+    pub begun_stands : (here : Frame) (v : World) (r' : Registers) → InWorld old.outside g v → Agrees s1 r' → r'.next_tag ≡ old.newest + 1 → r'.stoppable ≡ r.stoppable → Stands g (pushed begun_live st.at.inside.lives) st.at.ways (path_of (steps_of (begun_engine here)) r') n v run → StandsAt (begun_engine here) g n v run
     begun_stands here v r' world agrees tag part stands = record {
       at = record {
         inside = inside_begun v world;
@@ -137,5 +138,5 @@ module _ (old : Engine) (left : Left) (b : Bool) (place : Place) (store1 : ListB
     }
 
     -- or from its failure
-    pub begun_fails : (here : Frame) (v : World) → InWorld v → Failed g (pushed begun_live st.at.inside.lives) n v run → FailsAt (begun_engine here) g n v run
+    pub begun_fails : (here : Frame) (v : World) → InWorld old.outside g v → Failed g (pushed begun_live st.at.inside.lives) n v run → FailsAt (begun_engine here) g n v run
     begun_fails here v world failed = record { inside = inside_begun v world; failed = failed }

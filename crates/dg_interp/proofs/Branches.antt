@@ -7,8 +7,8 @@ use Rattle.std.specs.declared.alloc.Global.{Global}
 use Rattle.dg_meaning.specs.World.{Game, World}
 use Rattle.dg_meaning.specs.Path.{Result, Failing}
 use Rattle.dg_meaning.specs.Transcript.{Run}
-use Rattle.dg_meaning.specs.Context.{Live}
-use Rattle.dg_meaning.specs.Keeps.{Failed, Finished, FailsTo, GoesBack as ComesBack, Resumed, Tried, tried_in}
+use Rattle.dg_meaning.specs.Context.{Live, Drops}
+use Rattle.dg_meaning.specs.Keeps.{Failed, Finished, FailsTo, GoesBack as ComesBack, Resumed, Tried, open_at, tried_in}
 use Rattle.dg_meaning.proofs.Keeps.{failed, tries}
 use Rattle.dg_unify.specs.Store.{Store, State, Saved, Holds, Back}
 use Rattle.dg_unify.specs.Engines.{Agrees}
@@ -23,11 +23,13 @@ use Rattle.dg_interp.specs.declared.frames.Frame.{Frame}
 use Rattle.dg_interp.specs.declared.frames.Choice.{Choice}
 use Rattle.dg_interp.specs.declared.engine.Engine.{Engine}
 use Rattle.dg_interp.specs.Frames.{values_in, kind_of, branches_of, cut_of, cut_if, lives_of, ways_of, IsChoice, AreChoices, AreFrames, IsLeft, IsNoted, StandOn, GoBackTo, left_in, stays_with, all_left}
-use Rattle.dg_interp.specs.Engine.{store_in, KeepsPlaces, InWorld, HasPlaces, Sound, Within, HasPlace, IsPlace, Cuts, Retries, Point, IsSound, StandsAt, FailsAt, BeginsAt, Adds, Then, Leads, FullAt, SameLimits, WentOn, WentWrong, HasEndedSo, AtGoal, Branches, GoesBack, Tries, branches_left}
+use Rattle.dg_interp.specs.declared.outside.Outside.{Outside}
+use Rattle.dg_interp.specs.Outside.{InWorld, closed_to}
+use Rattle.dg_interp.specs.Engine.{store_in, KeepsPlaces, open_in, HasPlaces, Sound, Within, HasPlace, IsPlace, Cuts, Retries, Point, IsSound, StandsAt, FailsAt, BeginsAt, Adds, Then, Leads, FullAt, SameLimits, WentOn, WentWrong, HasEndedSo, AtGoal, Branches, GoesBack, Tries, branches_left}
 use Rattle.dg_interp.proofs.Links.{SameBy, same_take, branches_same, frames_take, stand_raise, stand_same, choices_same, back_same, cut_gone, cut_fewer}
 use Rattle.dg_interp.proofs.Stores.{all_hold, values_kept, take_all}
-use Rattle.dg_interp.proofs.Kept.{back_limits}
-use Rattle.dg_interp.proofs.Places.{went_further, went_wrong, cut_base, cut_inside, adds_nothing, world_drops, world_tried, adds_on, adds_drops, adds_tried, leads_on, limits_on}
+use Rattle.dg_interp.proofs.Kept.{back_limits, branches_open}
+use Rattle.dg_interp.proofs.Places.{went_further, went_wrong, cut_base, cut_inside, adds_nothing, world_closed, open_still, world_tried, adds_on, adds_drops, adds_tried, leads_on, limits_on}
 use Rattle.dg_interp.proofs.Turns.{reverse_pop}
 
 -- ## The store to which a choice goes back
@@ -87,14 +89,14 @@ module _ (old : Engine) (o : Choice) (choices : Vec Choice Global) (sound : IsSo
     abbrev dropped : Engine
     dropped = record old { choices = rest }
 
-    from_part : (g : Game) (n : ℕ) (w : World) (run : Run) (program : old.program.now ≡ g.program) (world : InWorld w) (ms : List Saved) (es : List Live) (ls : List Live) → KeepsPlaces old.store ms → AreChoices g xs fs (o ∷ os) ms es → ls ≡ lives_of (o ∷ os) es → Failed g ls n w run → FailsAt dropped g n w run
+    from_part : (g : Game) (n : ℕ) (w : World) (run : Run) (program : old.program.now ≡ g.program) (world : InWorld old.outside g w) (ms : List Saved) (es : List Live) (ls : List Live) → KeepsPlaces old.store ms → AreChoices g xs fs (o ∷ os) ms es → ls ≡ lives_of (o ∷ os) es → Failed g ls n w run → FailsAt dropped g n w run
     from_part g n w run program world ms [] ls k h e f = absurd (no_lives g ms h) where
       no_lives : (g : Game) (ms : List Saved) → AreChoices g xs fs (o ∷ os) ms [] → ⊥
       no_lives g [] h = h
       no_lives g (m ∷ ms) h = h
     from_part g n w run program world [] (c ∷ cs) ls k h e f = absurd h
     from_part g n w run program world (m ∷ ms) (c ∷ cs) ls k h e f =
-        let before : Within old.program.now old.store xs fs os g w = record {
+        let before : Within old.program.now old.outside old.store xs fs os g w = record {
           program = program;
           entries = cs;
           lives = lives_of os cs;
@@ -106,15 +108,15 @@ module _ (old : Engine) (o : Choice) (choices : Vec Choice Global) (sound : IsSo
         } in
         let noted = subst (IsNoted o.tag) (sym waits) stand.3.2 in
         record {
-          inside = cut_inside t old.program.now old.store xs fs os (reverse rest.items) cuts g w w world before;
+          inside = cut_inside t old.program.now old.outside old.store xs fs os (reverse rest.items) cuts g w w world before;
           failed = subst (λ l. Failed g l n w run) (e ∙ ap (λ q. cut_if q (c ∷ lives_of os cs)) (sym waits) ∙ cut_gone t c (lives_of os cs) (omega (arith, noted, h.0.tag))) f;
         }
 
     pub part_dropped : WentWrong (FailsAt old) old dropped
     part_dropped = record {
-      sound = record { base = cut_base t old.program.now old.store xs fs os (reverse rest.items) cuts old.newest popped_base; room = sound.room };
+      sound = record { base = cut_base t old.program.now old.outside old.store xs fs os (reverse rest.items) cuts old.newest popped_base; room = sound.room };
       left = refl;
-      limits = record { heap = refl; trail = refl };
+      limits = record { heap = refl; trail = refl; aux = refl; keep = refl };
       leads = λ g n w run st. record {
         world = w;
         adds = adds_nothing w;
@@ -130,11 +132,11 @@ module _ (old : Engine) (o : Choice) (choices : Vec Choice Global) (sound : IsSo
 
   -- ## A choice that was not cut
 
-  module _ (frames : Vec Frame Global) (refs : Vec Ref Global) (store : ListBindings) (cut : frames.items ≡ take o.height fs) (cut_refs : refs.items ≡ take o.refs xs)
+  module _ (frames : Vec Frame Global) (refs : Vec Ref Global) (out : Outside) (store : ListBindings) (cut : frames.items ≡ take o.height fs) (cut_refs : refs.items ≡ take o.refs xs) (closed : out ≡ closed_to o.gathered old.outside)
       (back : (s : Store) (ms : List Saved) → KeepsPlaces old.store (record { mark = o.place; store = s } ∷ ms) → Back s (store_in store))
       (keeps : (s : Store) (ms : List Saved) → KeepsPlaces old.store (record { mark = o.place; store = s } ∷ ms) → KeepsPlaces store (record { mark = o.place; store = s } ∷ ms)) where
     abbrev mid : Engine
-    mid = record old { frames = frames; refs = refs; store = store; choices = choices; newest = o.tag; stoppable = o.stoppable }
+    mid = record old { frames = frames; refs = refs; outside = out; store = store; choices = choices; newest = o.tag; stoppable = o.stoppable }
 
     count : length frames.items ≡ o.height
     count = ap length cut ∙ length-take o.height fs ∙ omega (arith, stand.0)
@@ -173,7 +175,7 @@ module _ (old : Engine) (o : Choice) (choices : Vec Choice Global) (sound : IsSo
 
     limits_of : (ms : List Saved) → GoBackTo xs (store_in old.store).heap_limit (store_in old.store).trail_limit (o ∷ os) ms → KeepsPlaces old.store ms → SameLimits old mid
     limits_of [] b h = absurd b
-    limits_of (m ∷ ms) b h = let is = is_place m ms b.0 b.1 h in record { heap = is.kept.heap_limit ∙ b.2; trail = is.kept.trail_limit ∙ b.3 }
+    limits_of (m ∷ ms) b h = let is = is_place m ms b.0 b.1 h in record { heap = is.kept.heap_limit ∙ b.2; trail = is.kept.trail_limit ∙ b.3; aux = ap (λ (x : Outside). x.gathered.aux) closed; keep = ap (λ (x : Outside). x.world.area.keep) closed }
 
     pub popped_limits : SameLimits old mid
     popped_limits = limits_of sound.base.places.saved back_to sound.base.places.keeps
@@ -201,7 +203,7 @@ module _ (old : Engine) (o : Choice) (choices : Vec Choice Global) (sound : IsSo
       abbrev pub popped_at : IsPlace mid o.place m ms
       popped_at = is_place m ms is.place is.hold kept
 
-      abbrev pub popped_within : (v : World) → InWorld v → Within old.program.now store refs.items frames.items os g v
+      abbrev pub popped_within : (v : World) → InWorld out g v → Within old.program.now out store refs.items frames.items os g v
       popped_within v world = record {
         program = program;
         entries = cs;
@@ -235,8 +237,12 @@ module _ (old : Engine) (o : Choice) (choices : Vec Choice Global) (sound : IsSo
           ∙ ap (λ l. branches_of g (values_in (store_in store) refs.items) l o.height o.left is.registers) cut
           ∙ branches_same g o.height o.refs (values_in m.store xs) (values_in (store_in store) refs.items) fs (take o.height fs) o.left is.registers stand.3.0 stand.4 popped_values (same_take fs o.height))
 
-      begins : (n : ℕ) (w v : World) (run : Run) → InWorld v → Adds [] w v → Resumed g c (lives_of os cs) n v run → Then [] w (λ u. BeginsAt o.left o.place mid g n u run)
-      begins n w v run still adds resumed =
+      -- gatherings that were opened since are dropped
+      pub popped_world : (w v : World) → InWorld old.outside g w → Drops w v → length v.gathered ≡ c.height → InWorld out g v
+      popped_world w v world drops count = subst (λ x. InWorld x g v) (sym closed) (world_closed old.outside g w v o.gathered world drops (count ∙ is.height))
+
+      begins : (n : ℕ) (w v : World) (run : Run) → InWorld out g v → length v.gathered ≡ c.height → Adds [] w v → Resumed g c (lives_of os cs) n v run → Then [] w (λ u. BeginsAt o.left o.place mid g n u run)
+      begins n w v run still count adds resumed =
           let r = is.registers in
           let u = tried_in c.kind c.others v in
           record {
@@ -244,7 +250,7 @@ module _ (old : Engine) (o : Choice) (choices : Vec Choice Global) (sound : IsSo
             adds = adds_on w v u [] [] adds (adds_tried c.kind c.others v);
             holds = record {
               at = record {
-                inside = popped_within u (world_tried c.kind c.others v still);
+                inside = popped_within u (world_tried out g c.kind c.others v still);
                 ways = c.ways_on;
                 ways_are = is.ways_on;
                 registers = r;
@@ -256,10 +262,10 @@ module _ (old : Engine) (o : Choice) (choices : Vec Choice Global) (sound : IsSo
               is = popped_at;
               back_agrees = is.agrees;
               tried =
-                  subst (λ l. Tried g (kind_of o.left) r.next_tag 0 c.ways_on (lives_of os cs) l n u run) popped_branches
-                  (subst (λ k. Tried g k r.next_tag 0 c.ways_on (lives_of os cs) c.others n u run) is.kind
-                  (subst (λ t. Tried g c.kind t 0 c.ways_on (lives_of os cs) c.others n u run) (is.tag ∙ sym is.tag_at)
-                  (subst (λ i. Tried g c.kind c.tag i c.ways_on (lives_of os cs) c.others n u run) is.height (tries g c (lives_of os cs) n v run resumed))));
+                  subst (λ l. Tried g (kind_of o.left) r.next_tag (open_in mid) c.ways_on (lives_of os cs) l n u run) popped_branches
+                  (subst (λ k. Tried g k r.next_tag (open_in mid) c.ways_on (lives_of os cs) c.others n u run) is.kind
+                  (subst (λ t. Tried g c.kind t (open_in mid) c.ways_on (lives_of os cs) c.others n u run) (is.tag ∙ sym is.tag_at)
+                  (subst (λ i. Tried g c.kind c.tag i c.ways_on (lives_of os cs) c.others n u run) (sym count ∙ sym (open_still out g v still)) (tries g c (lives_of os cs) n v run resumed))));
             };
           }
 
@@ -270,7 +276,9 @@ module _ (old : Engine) (o : Choice) (choices : Vec Choice Global) (sound : IsSo
       from (m ∷ ms) [] ls k h e f = absurd h
       from (m ∷ ms) (c ∷ cs) ls k h e f =
           let came : ComesBack g c (lives_of os cs) n w run = subst (λ l. FailsTo g n w run l) (e ∙ ap (λ q. cut_if q (c ∷ lives_of os cs)) (sym none)) f in
-          begins g m ms c cs st.inside.program k h.0 h.1 n w came.world run (world_drops w came.world st.inside.world came.drops) (adds_drops w came.world came.drops) came.resumed
+          let count : length came.world.gathered ≡ c.height = came.gatherings ∙ ap (λ bs. open_at bs c.height) h.0.others ∙ branches_open g (values_in m.store xs) fs o.height o.left h.0.registers c.height in
+          let still = popped_world g m ms c cs st.inside.program k h.0 h.1 w came.world st.inside.world came.drops count in
+          begins g m ms c cs st.inside.program k h.0 h.1 n w came.world run still count (adds_drops w came.world came.drops) came.resumed
 
 -- ## No choice is left
 

@@ -30,7 +30,7 @@ use Rattle.dg_unify.specs.Engines.{Agrees}
 use Rattle.dg_interp.specs.Engine.{store_in, KeepsPlaces, steps_of, IsReady, Point, TakesAt, OpensAt, IsSound, FailsAt, IsPushed, IsAgain, FullAt, Leads, SameLimits, WentOn, Branches}
 use Rattle.dg_interp.proofs.Links.{same_here, same_values, same_append, behind_same, at_same, stand_raise}
 use Rattle.dg_interp.proofs.Takes.{behind, taken_in, comes_of, adds_taken, store_sound}
-use Rattle.dg_interp.proofs.Places.{inside_in, inside_kept, adds_nothing}
+use Rattle.dg_interp.proofs.Places.{inside_in, inside_kept, adds_nothing, limits_on}
 use Rattle.dg_interp.proofs.Branches.{went_on_from, ended_from}
 use Rattle.dg_interp.proofs.Opens.{agrees_here, opens, pushed_behind, pushed_same, pushed_takes}
 use Rattle.dg_interp.proofs.Stores.{values_kept, hold_front}
@@ -87,7 +87,7 @@ pushed_means frame old new ready is p = subst (Behind frame old) (sym p.same) (r
       ap (λ (l : List Frame). steps_behind (values_of old) l k) p.frames
       ∙ behind_same (length old.refs.items) (values_of old) (values_of old) old.frames.items (old.frames.items ++ frame ∷ []) (length old.frames.items) k le (same_values (length old.refs.items) (values_of old)) ready.sound.base.frames (same_append old.frames.items frame);
   takes = pushed_takes old frame new.frames ready is p.frames;
-  limits = record { heap = refl; trail = refl };
+  limits = record { heap = refl; trail = refl; aux = refl; keep = refl };
 })
 
 pub pushed_leads : (x : Goal) (frame : Frame) (old new : Engine) → Behind frame old new → (B : Point) → Leads (TakesAt x new) B → Leads (TakesAt x old) B
@@ -135,7 +135,7 @@ twice goals old between new ready built p q =
           ∙ sym (ap (λ (e : Engine). goals_at (values_of e e.here.env) e.here.tag goals.now ++ steps_of new) q.same);
       older = c.older (length between.frames.items) (omega arith) ∙ here ∙ sym again;
       takes = λ x g n w run st. c.takes x g n w run (b.takes x g n w run st);
-      limits = record { heap = c.limits.heap ∙ b.limits.heap; trail = c.limits.trail ∙ b.limits.trail };
+      limits = limits_on old between new b.limits c.limits;
     }
 
 -- ## Negation
@@ -305,7 +305,7 @@ module _ (goals : Bor (List Goal)) (old : Engine) (ready : IsReady old) (all : b
         here = is;
       };
       left = refl;
-      limits = record { heap = k.heap_limit; trail = k.trail_limit };
+      limits = record { heap = k.heap_limit; trail = k.trail_limit; aux = refl; keep = refl };
       leads = λ g n w run st.
           let r = behind x old g n w run st in
           let v = taken_in x old g n w run st in

@@ -30,7 +30,8 @@ use Rattle.dg_unify.specs.declared.list.ListBindings.{ListBindings}
 use Rattle.dg_interp.specs.declared.engine.Engine.{Engine}
 use Rattle.dg_interp.specs.Terms.{Overflows}
 use Rattle.dg_interp.specs.Frames.{values_in}
-use Rattle.dg_interp.specs.Engine.{Point, store_in, KeepsPlaces, steps_of, There, IsReady, TakesAt, StandsAt, FailsAt, FullAt, Leads, SameLimits, WentOn, Branches, InWorld}
+use Rattle.dg_interp.specs.Engine.{Point, store_in, KeepsPlaces, steps_of, There, IsReady, TakesAt, StandsAt, FailsAt, FullAt, Leads, SameLimits, WentOn, Branches}
+use Rattle.dg_interp.specs.Outside.{InWorld}
 use Rattle.dg_interp.specs.Giving.{number_in, ActsAt, UnifiesAt, GivesAt}
 use Rattle.dg_interp.proofs.Stores.{trail_append, trail_within, made_is, values_kept, hold_front, told_kept}
 use Rattle.dg_interp.proofs.Places.{inside_kept, adds_nothing}
@@ -62,9 +63,9 @@ module _ (old : Engine) (store : ListBindings) (stack : Vec Ref Global) (ready :
       (values_kept (length old.refs.items) (store_in old.store) (store_in store) old.refs.items old.refs.items k (hold_front (store_in old.store) old.refs.items ready.sound.base.hold) refl) ready.sound.base.frames (same_here (length old.frames.items) old.frames.items)
 
   pub kept_limits : SameLimits old with_store
-  kept_limits = record { heap = k.heap_limit; trail = k.trail_limit }
+  kept_limits = record { heap = k.heap_limit; trail = k.trail_limit; aux = refl; keep = refl }
 
-  module _ (g : Game) (n : ℕ) (w v : World) (run : Run) (at : There old (old.newest + 1) g w) (world : InWorld v) where
+  module _ (g : Game) (n : ℕ) (w v : World) (run : Run) (at : There old (old.newest + 1) g w) (world : InWorld old.outside g v) where
     abbrev there_on : (r : Registers) → Agrees (store_in store) r → r.next_tag ≡ at.registers.next_tag → r.stoppable ≡ at.registers.stoppable → There with_store (old.newest + 1) g v
     there_on r agrees tag part = record {
       inside = inside_kept _ _ saved world at.inside;
@@ -86,7 +87,7 @@ module _ (old : Engine) (store : ListBindings) (stack : Vec Ref Global) (ready :
     fails_on h = record { inside = inside_kept _ _ saved world at.inside; failed = h }
 
 pub same_limits : (e : Engine) → SameLimits e e
-same_limits e = record { heap = refl; trail = refl }
+same_limits e = record { heap = refl; trail = refl; aux = refl; keep = refl }
 
 -- ## A goal whose terms are written
 

@@ -3,8 +3,11 @@ use Rattle.std.proofs.Common.{◌≡◌, ℕ, ◌+◌, ◌≤◌, List, [], ◌�
 use Rattle.std.specs.Prelude.{if◌then◌else◌}
 use Rattle.std.specs.List.{All}
 use Rattle.dg_meaning.specs.World.{Game}
-use Rattle.dg_meaning.specs.Path.{Registers, Branch, Kind, Plain}
-use Rattle.dg_meaning.specs.Moves.{list_branches, choice_cells}
+use Rattle.dg_base.specs.declared.program.Rule.{Rule}
+use Rattle.dg_base.specs.declared.program.Goal.{Goal}
+use Rattle.dg_meaning.specs.Path.{Step, Registers, Path, Branch, Kind, Plain}
+use Rattle.dg_meaning.specs.Moves.{enter_if, match, is_excluded, unless_excluded, rule_branches, list_branches, choice_cells}
+use Rattle.dg_meaning.specs.Keeps.{open_at}
 use Rattle.dg_meaning.specs.Values.{Value}
 use Rattle.dg_meaning.specs.Context.{Way, Live, stays, pushed}
 use Rattle.dg_unify.specs.Store.{Saved, Holds}
@@ -17,7 +20,7 @@ use Rattle.dg_interp.specs.declared.frames.Frame.{Frame}
 use Rattle.dg_interp.specs.declared.frames.Left.{Left}
 use Rattle.dg_interp.specs.declared.frames.Left.TheVariants.{Rules, Lists, Ways, Way as OneWay, Behind}
 use Rattle.dg_interp.specs.declared.frames.Choice.{Choice}
-use Rattle.dg_interp.specs.Frames.{values_in, kind_of, branches_of, AreChoices, AreFrames, IsLeft, StandOn, GoBackTo, IsNoPart, IsNoted, cut_if, lives_of, ways_of, left_in, all_left, has_some, stays_with, cells_if}
+use Rattle.dg_interp.specs.Frames.{values_in, steps_behind, kind_of, branches_of, AreChoices, AreFrames, IsLeft, StandOn, GoBackTo, IsNoPart, IsNoted, cut_if, lives_of, ways_of, left_in, all_left, has_some, stays_with, cells_if}
 use Rattle.dg_unify.specs.Engines.{Agrees}
 use Rattle.dg_interp.specs.Engine.{KeepsPlaces, kept_if}
 use Rattle.dg_interp.proofs.Links.{stand_raise, plain_cut, plain_way}
@@ -48,10 +51,31 @@ branches_stay g values fs height (Ways first other) r = refl
 branches_stay g values fs height (OneWay frame) r = refl
 branches_stay g values fs height (Behind frame cut) r = refl
 
-pub kept_choices : (g : Game) (refs : List Ref) (fs : List Frame) (o : Choice) (os : List Choice) (m : Saved) (ms : List Saved) (es : List Live) (r : Registers) (k : Kind) (ways : List Way) (bs : List Branch) (b : Bool) → bs ≡ branches_of g (values_in m.store refs) fs o.height o.left r → k ≡ kind_of o.left → r.next_tag ≡ o.tag → r.stoppable ≡ o.stoppable → ways ≡ ways_of os es →
-    Agrees m.store r → All (Holds m.store) (take o.refs refs) → m.mark ≡ o.place → AreChoices g refs fs os ms es → AreChoices g refs fs (kept_if b o os) (kept_if b m ms) (kept_if b (record { kind = k; tag = r.next_tag; others = bs; height = 0; ways_on = ways }) es)
-kept_choices g refs fs o os m ms es r k ways bs false are kind tag part on agrees hold place h = h
-kept_choices g refs fs o os m ms es r k ways bs true are kind tag part on agrees hold place h = (record { registers = r; agrees = agrees; hold = hold; place = place; tag_at = tag; stop = part; kind = kind; tag = tag; others = are; height = refl; ways_on = on }, h)
+rule_open : (excluded agrees : Bool) (r : Registers) (path : Path) (work h : ℕ) (bs : List Branch) → open_at (unless_excluded excluded r work (enter_if agrees path work) ∷ bs) h ≡ h
+rule_open true agrees r path work h bs = refl
+rule_open false true r path work h bs = refl
+rule_open false false r path work h bs = refl
+
+pub rules_open : (g : Game) (pred : ℕ) (args : List Value) (many : Bool) (steps : List Step) (r : Registers) (rules : List Rule) (h : ℕ) → open_at (rule_branches g pred args many steps r rules) h ≡ h
+rules_open g pred args many steps r [] h = refl
+rules_open g pred args many steps r (rule ∷ rules) h = rule_open (is_excluded args r rule) (match g args rule r).agrees r _ _ h _
+
+lists_open : (env : List Value) (tag : ℕ) (steps : List Step) (r : Registers) (lists : List (List Goal)) (h : ℕ) → open_at (list_branches env tag steps r lists) h ≡ h
+lists_open env tag steps r [] h = refl
+lists_open env tag steps r (x ∷ lists) h = refl
+
+-- none of the branches takes a gathering out
+pub branches_open : (g : Game) (values : Env → List Value) (fs : List Frame) (height : ℕ) (left : Left) (r : Registers) (h : ℕ) → open_at (branches_of g values fs height left r) h ≡ h
+branches_open g values fs height (Rules query args rules) r h = rules_open g query.pred (values args) query.many (steps_behind values fs height) r rules.now h
+branches_open g values fs height (Lists env tag lists) r h = lists_open (values env) tag (steps_behind values fs height) r lists.now h
+branches_open g values fs height (Ways first other) r h = refl
+branches_open g values fs height (OneWay frame) r h = refl
+branches_open g values fs height (Behind frame cut) r h = refl
+
+pub kept_choices : (g : Game) (refs : List Ref) (fs : List Frame) (o : Choice) (os : List Choice) (height : ℕ) → height ≡ o.gathered → (m : Saved) (ms : List Saved) (es : List Live) (r : Registers) (k : Kind) (ways : List Way) (bs : List Branch) (b : Bool) → bs ≡ branches_of g (values_in m.store refs) fs o.height o.left r → k ≡ kind_of o.left → r.next_tag ≡ o.tag → r.stoppable ≡ o.stoppable → ways ≡ ways_of os es →
+    Agrees m.store r → All (Holds m.store) (take o.refs refs) → m.mark ≡ o.place → AreChoices g refs fs os ms es → AreChoices g refs fs (kept_if b o os) (kept_if b m ms) (kept_if b (record { kind = k; tag = r.next_tag; others = bs; height = height; ways_on = ways }) es)
+kept_choices g refs fs o os height opened m ms es r k ways bs false are kind tag part on agrees hold place h = h
+kept_choices g refs fs o os height opened m ms es r k ways bs true are kind tag part on agrees hold place h = (record { registers = r; agrees = agrees; hold = hold; place = place; tag_at = tag; stop = part; kind = kind; tag = tag; others = are; height = opened; ways_on = on }, h)
 
 -- what the meaning keeps of the choices
 pub kept_lives : (b : Bool) (o : Choice) (os : List Choice) (c : Live) (es cs : List Live) → b ≡ stays c.kind c.others → IsNoPart o.left → cs ≡ lives_of os es → pushed c cs ≡ lives_of (kept_if b o os) (kept_if b c es)

@@ -34,3 +34,4 @@ pub mod Giving
 pub mod Ariths
 pub mod ThreeLemmas
 pub mod Spaces
+pub mod Starting

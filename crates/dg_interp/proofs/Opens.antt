@@ -27,11 +27,11 @@ use Rattle.dg_interp.specs.declared.frames.Left.{Left}
 use Rattle.dg_interp.specs.declared.engine.Engine.{Engine}
 use Rattle.dg_interp.specs.Frames.{values_in, steps_behind, steps_at, kind_of, branches_of, AreChoices, AreFrames, IsLeft, IsFrame, StandOn, GoBackTo}
 use Rattle.dg_unify.specs.Engines.{Agrees}
-use Rattle.dg_interp.specs.Engine.{store_in, KeepsPlaces, HasPlace, IsPlace, BeginsAt, steps_of, IsSound, IsReady, TakesAt, OpensAt, IsPushed, Leads, SameLimits}
+use Rattle.dg_interp.specs.Engine.{store_in, KeepsPlaces, HasPlace, IsPlace, BeginsAt, steps_of, IsSound, IsReady, TakesAt, OpensAt, open_in, IsPushed, Leads, SameLimits}
 use Rattle.dg_interp.proofs.Links.{same_here, same_append, same_values, behind_new, at_same, frame_raise, frames_append, choices_same, stand_raise, stand_same, branches_same}
 use Rattle.dg_interp.proofs.Stores.{kept_here, all_hold, values_kept, hold_front}
 use Rattle.dg_interp.proofs.Kept.{back_limits}
-use Rattle.dg_interp.proofs.Places.{inside_in, adds_nothing}
+use Rattle.dg_interp.proofs.Places.{inside_in, open_still, adds_nothing}
 use Rattle.dg_interp.proofs.Goals.{no_cells}
 use Rattle.dg_interp.proofs.Takes.{behind, taken_in, comes_of, adds_taken}
 
@@ -74,8 +74,8 @@ module _ (x : Goal) (old : Engine) (none : terms_held (out-Goal x) ≡ []) where
               let bs = branches_of g (values_in (store_in old.store) old.refs.items) old.frames.items (length old.frames.items) left r in
               let here : After g st.at.inside.lives st.at.ways n (choice Plain r.next_tag bs v) run =
               subst (λ m. After g st.at.inside.lives st.at.ways n m run) (is g r v st.at.inside.program st.at.tag ∙ ap (λ k. choice k r.next_tag bs v) plain) (comes_of x old g n w run st) in
-              subst (λ k. Tried g k r.next_tag 0 st.at.ways st.at.inside.lives bs n v run) (sym plain)
-              (subst (λ i. Tried g Plain r.next_tag i st.at.ways st.at.inside.lives bs n v run) (ap length st.at.inside.world) (chosen g st.at.inside.lives st.at.ways n run r.next_tag bs v here));
+              subst (λ k. Tried g k r.next_tag (open_in old) st.at.ways st.at.inside.lives bs n v run) (sym plain)
+              (subst (λ i. Tried g Plain r.next_tag i st.at.ways st.at.inside.lives bs n v run) (sym (open_still old.outside g w st.at.inside.world)) (chosen g st.at.inside.lives st.at.ways n run r.next_tag bs v here));
         };
       }
 
@@ -182,7 +182,7 @@ module _ (old : Engine) (left : Left) (place : Place) (store : ListBindings) (re
   opened_place = record { back = record { mark = place; store = t }; saved = ready.sound.base.places.saved; is = place_now ready.sound.base.places.saved ready.sound.base.places.keeps; back_to = back_now }
 
   pub opened_limits : SameLimits old opened
-  opened_limits = record { heap = k.heap_limit; trail = k.trail_limit }
+  opened_limits = record { heap = k.heap_limit; trail = k.trail_limit; aux = refl; keep = refl }
 
   pub opened_sound : old.newest + 1 + old.left < 2 ^ 64 → IsSound opened
   opened_sound room = record {
@@ -232,7 +232,7 @@ module _ (old : Engine) (left : Left) (place : Place) (store : ListBindings) (re
       is = place_now st.at.inside.saved st.at.inside.keeps;
       back_agrees = agrees_now st.at.registers st.at.agrees;
       tried =
-          subst (λ l. Tried g (kind_of left) st.at.registers.next_tag 0 st.at.ways st.at.inside.lives l n w run)
+          subst (λ l. Tried g (kind_of left) st.at.registers.next_tag (open_in old) st.at.ways st.at.inside.lives l n w run)
           (sym (branches_same g (length old.frames.items) (length refs) (values_in (store_in old.store) refs) (values_in t refs) old.frames.items old.frames.items left st.at.registers is ready.sound.base.frames
           (values_kept (length refs) (store_in old.store) t refs refs k (hold_front (store_in old.store) refs ready.sound.base.hold) refl) (same_here (length old.frames.items) old.frames.items))) st.tried;
     };

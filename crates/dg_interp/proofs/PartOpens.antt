@@ -29,8 +29,9 @@ use Rattle.dg_interp.specs.declared.frames.Left.TheVariants.{Behind}
 use Rattle.dg_interp.specs.declared.frames.Choice.{Choice}
 use Rattle.dg_interp.specs.declared.engine.Engine.{Engine}
 use Rattle.dg_interp.specs.Frames.{values_in, steps_at, lives_of, ways_of, IsChoice, AreChoices, IsFrame, StandOn, GoBackTo}
-use Rattle.dg_interp.specs.Engine.{store_in, KeepsPlaces, IsReady, TakesAt, WentOn, FullAt, steps_of}
+use Rattle.dg_interp.specs.Engine.{store_in, KeepsPlaces, IsReady, TakesAt, WentOn, FullAt, steps_of, open_in}
 use Rattle.dg_interp.proofs.Links.{same_here, at_same, stand_raise}
+use Rattle.dg_interp.proofs.Places.{open_still}
 use Rattle.dg_interp.proofs.Stores.{kept_on, all_hold, values_kept, hold_front}
 use Rattle.dg_interp.proofs.Kept.{back_limits}
 use Rattle.dg_interp.proofs.Opens.{agrees_here}
@@ -76,17 +77,17 @@ module _ (goals : Bor (List Goal)) (old : Engine) (ready : IsReady old) (all : b
   others r = enter 0 0 r (steps_of old) ∷ []
 
   abbrev live : Registers → List WayOn → Live
-  live r ws = record { kind = Plain; tag = r.next_tag; others = others r; height = 0; ways_on = ws }
+  live r ws = record { kind = Plain; tag = r.next_tag; others = others r; height = open_in old; ways_on = ws }
 
   abbrev way : Registers → WayOn
-  way r = record { tag = r.next_tag; others = others r; height = 0 }
+  way r = record { tag = r.next_tag; others = others r; height = open_in old }
 
   stands : (g : Game) (n : ℕ) (w : World) (run : Run) (st : TakesAt x old g n w run) →
       Stands g (live (behind x old g n w run st) st.at.ways ∷ st.at.inside.lives) (way (behind x old g n w run st) ∷ st.at.ways) (path_of (goals_at env old.here.tag goals.now ++ Leave (behind x old g n w run st).next_tag (behind x old g n w run st).stoppable ∷ steps_of old) (within_part (behind x old g n w run st))) n (begun (within_part (behind x old g n w run st)) 0 (taken_in x old g n w run st)) run
   stands g n w run st =
       let r = behind x old g n w run st in
       let v = taken_in x old g n w run st in
-      subst (λ h. Stands g (record { kind = Plain; tag = r.next_tag; others = others r; height = h; ways_on = st.at.ways } ∷ st.at.inside.lives) (record { tag = r.next_tag; others = others r; height = h } ∷ st.at.ways) (path_of (goals_at env old.here.tag goals.now ++ Leave r.next_tag r.stoppable ∷ steps_of old) (within_part r)) n (begun (within_part r) 0 v) run) (ap length st.at.inside.world)
+      subst (λ h. Stands g (record { kind = Plain; tag = r.next_tag; others = others r; height = h; ways_on = st.at.ways } ∷ st.at.inside.lives) (record { tag = r.next_tag; others = others r; height = h } ∷ st.at.ways) (path_of (goals_at env old.here.tag goals.now ++ Leave r.next_tag r.stoppable ∷ steps_of old) (within_part r)) n (begun (within_part r) 0 v) run) (sym (open_still old.outside g w st.at.inside.world))
       (subst (λ f. After g st.at.inside.lives st.at.ways n (outcome g f env old.here.tag (steps_of old) r v) run) (outs-Stoppable goals.now) (comes_of x old g n w run st))
 
   pub part_full : (e : Full) (u : Store) → HeapFull 10 s0 u e → FullAt (TakesAt x old) s e
@@ -99,12 +100,12 @@ module _ (goals : Bor (List Goal)) (old : Engine) (ready : IsReady old) (all : b
 
   module _ (store1 : ListBindings) (choices : Vec Choice Global) (k1 : Kept s0 (store_in store1)) (saved1 : (ms : List Saved) → KeepsPlaces store0 ms → KeepsPlaces store1 ms) (charged : Charged 10 s0 (store_in store1))
       (is : IsFrame (length fs) (length xs) (record old.here { goals = goals; mark = LeavePart t old.stoppable; behind = length fs })) (room : old.newest + 1 + old.left < 2 ^ 64)
-      (kept : reverse choices.items ≡ record { tag = t; left = Behind old.here None; height = length fs; refs = length xs; place = place; stoppable = old.stoppable } ∷ os) where
+      (kept : reverse choices.items ≡ record { tag = t; left = Behind old.here None; height = length fs; refs = length xs; gathered = open_in old; place = place; stoppable = old.stoppable } ∷ os) where
     abbrev s1 : Store
     s1 = store_in store1
 
     abbrev o : Choice
-    o = record { tag = t; left = Behind old.here None; height = length fs; refs = length xs; place = place; stoppable = old.stoppable }
+    o = record { tag = t; left = Behind old.here None; height = length fs; refs = length xs; gathered = open_in old; place = place; stoppable = old.stoppable }
 
     abbrev m : Saved
     m = record { mark = place; store = s0 }
@@ -186,7 +187,7 @@ module _ (goals : Bor (List Goal)) (old : Engine) (ready : IsReady old) (all : b
         here = is;
       };
       left = refl;
-      limits = record { heap = k.heap_limit; trail = k.trail_limit };
+      limits = record { heap = k.heap_limit; trail = k.trail_limit; aux = refl; keep = refl };
       leads = λ g n w run st.
           let r = behind x old g n w run st in
           let v = taken_in x old g n w run st in

@@ -14,6 +14,7 @@ use Rattle.dg_meaning.specs.Context.{Live, Way as WayOn, cut_to, way_to}
 use Rattle.dg_meaning.specs.Keeps.{Stands, After, WentOn as LeftPart}
 use Rattle.dg_meaning.proofs.Keeps.{stops_on}
 use Rattle.dg_unify.specs.Store.{Store, Saved, Back}
+use Rattle.dg_unify.specs.Engines.{Agrees}
 use Rattle.dg_unify.specs.Laws.{saves_drops}
 use Rattle.dg_unify.specs.Listed.{fields_of}
 use Rattle.dg_unify.specs.declared.bindings.Ref.{Ref}
@@ -24,12 +25,14 @@ use Rattle.dg_interp.specs.declared.frames.Left.TheVariants.{Rules, Lists, Ways,
 use Rattle.dg_interp.specs.declared.frames.Choice.{Choice}
 use Rattle.dg_interp.specs.declared.engine.Engine.{Engine}
 use Rattle.dg_interp.specs.Frames.{values_in, branches_of, cut_of, cut_if, lives_of, with_way, ways_of, IsChoice, AreChoices, IsLeft, IsNoted, StandOn, all_left}
-use Rattle.dg_interp.specs.Engine.{store_in, KeepsPlaces, InWorld, Within, IsSound, StandsAt, TakesAt, Then, Leads, Cuts, branches_left, WentOn, StopsAt, StopsWithin, StopsFurther, StopsOn, StopsTo, Stops, leaving, part_at, steps_of}
+use Rattle.dg_interp.specs.Engine.{store_in, KeepsPlaces, Within, IsSound, StandsAt, TakesAt, Then, Leads, Cuts, branches_left, WentOn, StopsAt, StopsWithin, StopsFurther, StopsOn, StopsTo, Stops, leaving, part_at, steps_of}
 use Rattle.dg_interp.proofs.Links.{cut_gone, cut_older, cut_fewer, rest_older}
-use Rattle.dg_interp.proofs.Places.{adds_nothing, adds_drops, world_drops, leads_on, leads_nowhere, limits_on, limits_here, cut_base, cut_inside, ways_left, inside_in}
+use Rattle.dg_interp.proofs.Places.{adds_nothing, adds_drops, leads_on, leads_nowhere, limits_on, limits_here, cut_base, cut_inside, ways_left, inside_in}
+use Rattle.dg_interp.specs.declared.outside.Outside.{Outside}
+use Rattle.dg_interp.specs.Outside.{InWorld, closed_to}
 use Rattle.dg_interp.proofs.Turns.{reverse_pop}
 use Rattle.dg_interp.proofs.Takes.{behind, taken_in, comes_of, adds_taken}
-use Rattle.dg_interp.proofs.Branches.{fewer_left, popped_base, popped_sound, popped_limits, popped_left, popped_branches, popped_within, popped_agrees, no_choice, went_on_from, ended_from}
+use Rattle.dg_interp.proofs.Branches.{fewer_left, popped_base, popped_sound, popped_limits, popped_left, popped_branches, popped_within, popped_world, popped_agrees, no_choice, went_on_from, ended_from}
 
 -- ## The newest choice
 
@@ -109,7 +112,7 @@ module _ (old : Engine) (o : Choice) (choices : Vec Choice Global) (sound : IsSo
     keeps : KeepsPlaces old.store (m ∷ ms)
     choice : IsChoice g xs fs o m (ways_of os cs) c
     others : AreChoices g xs fs os ms cs
-    world : InWorld w
+    world : InWorld old.outside g w
     went : LeftPart g (cut_if (cut_of o.left) (c ∷ lives_of os cs)) (with_way o.left c (ways_of os cs)) tag n w run
 
   stopped_in : (P : Game → ℕ → World → Run → Type 0) → ((g : Game) (n : ℕ) (w : World) (run : Run) (m : Saved) (ms : List Saved) (c : Live) (cs : List Live) → Stopping g n w run m ms c cs → P g n w run) → (g : Game) (n : ℕ) (w : World) (run : Run) → StopsAt tag old g n w run → P g n w run
@@ -140,7 +143,7 @@ module _ (old : Engine) (o : Choice) (choices : Vec Choice Global) (sound : IsSo
     abbrev lives : List Live
     lives = lives_of os cs
 
-    abbrev before : Within old.program.now old.store xs fs os g w
+    abbrev before : Within old.program.now old.outside old.store xs fs os g w
     before = record { program = st.program; entries = cs; lives = lives; lives_are = refl; saved = ms; keeps = saves_drops true (fields_of old.store) m ms st.keeps; choices = st.others; world = st.world }
 
     went_on : None ≡ part_at (eqb o.tag tag) tag o.left → (ls : List Live) (ws : List WayOn) → cut_to tag ls ≡ cut_to tag (cut_if (cut_of o.left) lives) → ws ≡ ways_of os cs → LeftPart g ls ws tag n w run
@@ -163,7 +166,7 @@ module _ (old : Engine) (o : Choice) (choices : Vec Choice Global) (sound : IsSo
   popped_on none free = record {
     sound = record { base = popped_base old o choices sound popped; room = sound.room };
     left = refl;
-    limits = record { heap = refl; trail = refl };
+    limits = record { heap = refl; trail = refl; aux = refl; keep = refl };
     leads = λ g n w run st. record {
       world = w;
       adds = adds_nothing w;
@@ -174,16 +177,16 @@ module _ (old : Engine) (o : Choice) (choices : Vec Choice Global) (sound : IsSo
 
   pub cut_on : None ≡ part_at (eqb o.tag tag) tag o.left → (t : ℕ) (rest : Vec Choice Global) → Some t ≡ cut_of o.left → Cuts t choices.items rest.items → StopsFurther tag old (record old { choices = rest })
   cut_on none t rest waits cuts = record {
-    sound = record { base = cut_base t old.program.now old.store xs fs os (reverse rest.items) cuts old.newest (popped_base old o choices sound popped); room = sound.room };
+    sound = record { base = cut_base t old.program.now old.outside old.store xs fs os (reverse rest.items) cuts old.newest (popped_base old o choices sound popped); room = sound.room };
     left = refl;
-    limits = record { heap = refl; trail = refl };
+    limits = record { heap = refl; trail = refl; aux = refl; keep = refl };
     leads = λ g n w run st. record {
       world = w;
       adds = adds_nothing w;
       holds = stopped_in (StopsAt tag (record old { choices = rest }))
           (λ g n w run m ms c cs x. record {
-            inside = cut_inside t old.program.now old.store xs fs os (reverse rest.items) cuts g w w x.world (before g n w run m ms c cs x);
-            part_left = went_on g n w run m ms c cs x none (cut_to t (lives_of os cs)) (ways_of (reverse rest.items) (rest_older t os cs)) (ap (λ k. cut_to tag (cut_if k (lives_of os cs))) waits) (ways_left t old.program.now old.store xs fs os (reverse rest.items) cuts g w (before g n w run m ms c cs x));
+            inside = cut_inside t old.program.now old.outside old.store xs fs os (reverse rest.items) cuts g w w x.world (before g n w run m ms c cs x);
+            part_left = went_on g n w run m ms c cs x none (cut_to t (lives_of os cs)) (ways_of (reverse rest.items) (rest_older t os cs)) (ap (λ k. cut_to tag (cut_if k (lives_of os cs))) waits) (ways_left t old.program.now old.outside old.store xs fs os (reverse rest.items) cuts g w (before g n w run m ms c cs x));
           }) g n w run st;
     };
     fewer = omega (arith, ap all_left cuts, cut_fewer t os, less);
@@ -191,12 +194,12 @@ module _ (old : Engine) (o : Choice) (choices : Vec Choice Global) (sound : IsSo
 
   -- ## The part to which the stop leads
 
-  module _ (frames : Vec Frame Global) (refs : Vec Ref Global) (store : ListBindings) (cut : frames.items ≡ take o.height fs) (cut_refs : refs.items ≡ take o.refs xs)
+  module _ (frames : Vec Frame Global) (refs : Vec Ref Global) (out : Outside) (store : ListBindings) (cut : frames.items ≡ take o.height fs) (cut_refs : refs.items ≡ take o.refs xs) (closed : out ≡ closed_to o.gathered old.outside)
       (back : (s : Store) (ms : List Saved) → KeepsPlaces old.store (record { mark = o.place; store = s } ∷ ms) → Back s (store_in store))
       (keeps : (s : Store) (ms : List Saved) → KeepsPlaces old.store (record { mark = o.place; store = s } ∷ ms) → KeepsPlaces store (record { mark = o.place; store = s } ∷ ms))
       (rest : Vec Choice Global) (p : Frame × ℕ) (found : Some p ≡ part_at (eqb o.tag tag) tag o.left) (cuts : Cuts p.1 choices.items rest.items) where
     abbrev final : Engine
-    final = record old { frames = frames; refs = refs; store = store; choices = rest; newest = o.tag; stoppable = o.stoppable; here = p.0 }
+    final = record old { frames = frames; refs = refs; outside = out; store = store; choices = rest; newest = o.tag; stoppable = o.stoppable; here = p.0 }
 
     part : IsPart (eqb o.tag tag) tag o.left p
     part = part_is (eqb o.tag tag) tag o.left p found
@@ -209,17 +212,18 @@ module _ (old : Engine) (o : Choice) (choices : Vec Choice Global) (sound : IsSo
         let q = st.went in
         let r = st.choice.registers in
         let v = begun (inside 0 r) 0 q.world in
-        let world = world_drops w q.world st.world q.drops in
-        let here : c.others ≡ enter 0 0 r (steps_of final) ∷ [] = popped_branches old o choices sound popped frames refs store cut cut_refs back keeps g m ms c cs st.program st.keeps st.choice st.others
+        let here : c.others ≡ enter 0 0 r (steps_of final) ∷ [] = popped_branches old o choices sound popped frames refs out store cut cut_refs closed back keeps g m ms c cs st.program st.keeps st.choice st.others
         ∙ ap (λ l. branches_of g (values_in (store_in store) refs.items) frames.items (length frames.items) l r) part.is in
         let same : way_to tag (with_way o.left c (ways_of os cs)) ≡ Some (record { tag = c.tag; others = c.others; height = c.height }, ways_of os cs) = ap (λ l. way_to tag (with_way l c (ways_of os cs))) part.is
         ∙ cond-true (eqb c.tag tag) (Some (record { tag = c.tag; others = c.others; height = c.height }, ways_of os cs)) (way_to tag (ways_of os cs)) (eq-eqb c.tag tag (st.choice.tag ∙ the_tag)) in
         let pairs : Some (q.way, q.outer) ≡ Some (record { tag = c.tag; others = c.others; height = c.height }, ways_of os cs) = sym q.is ∙ same in
         let pair : (q.way, q.outer) ≡ (record { tag = c.tag; others = c.others; height = c.height }, ways_of os cs) = cc in
+        let count : length q.world.gathered ≡ c.height = q.gatherings ∙ ap (λ (x : WayOn × List WayOn). x.0.height) pair in
+        let world = popped_world old o choices sound popped frames refs out store cut cut_refs closed back keeps g m ms c cs st.program st.keeps st.choice st.others w q.world st.world q.drops count in
         let outer : q.outer ≡ ways_of os cs = ap (λ (x : WayOn × List WayOn). x.1) pair in
         let others : q.way.others ≡ enter 0 0 r (steps_of final) ∷ [] = ap (λ (x : WayOn × List WayOn). x.0.others) pair ∙ here in
-        let inside0 = popped_within old o choices sound popped frames refs store cut cut_refs back keeps g m ms c cs st.program st.keeps st.choice st.others v world in
-        let agrees = popped_agrees old o choices sound popped frames refs store cut cut_refs back keeps g m ms c cs st.program st.keeps st.choice st.others in
+        let inside0 = popped_within old o choices sound popped frames refs out store cut cut_refs closed back keeps g m ms c cs st.program st.keeps st.choice st.others v world in
+        let agrees : Agrees (store_in store) r = popped_agrees old o choices sound popped frames refs out store cut cut_refs closed back keeps g m ms c cs st.program st.keeps st.choice st.others in
         let lives : cut_to tag (cut_if (cut_of o.left) (c ∷ lives_of os cs)) ≡ cut_to p.1 (lives_of os cs) = ap (λ l. cut_to tag (cut_if (cut_of l) (c ∷ lives_of os cs))) part.is
         ∙ cut_left tag part.cut c (lives_of os cs) (st.choice.tag ∙ the_tag) (subst (λ t. IsNoted t part.cut) the_tag (subst (λ l. IsNoted o.tag (cut_of l)) part.is stand.3.2)) ∙ ap (λ t. cut_to t (lives_of os cs)) (sym part.leaves) in
         let adds = adds_drops w q.world q.drops in
@@ -228,9 +232,9 @@ module _ (old : Engine) (o : Choice) (choices : Vec Choice Global) (sound : IsSo
           adds = record { prints_are = adds.prints_are; typed = adds.typed };
           holds = record {
             at = record {
-              inside = cut_inside p.1 old.program.now store refs.items frames.items os (reverse rest.items) cuts g v v world inside0;
+              inside = cut_inside p.1 old.program.now out store refs.items frames.items os (reverse rest.items) cuts g v v world inside0;
               ways = q.outer;
-              ways_are = outer ∙ sym (ways_left p.1 old.program.now store refs.items frames.items os (reverse rest.items) cuts g v inside0);
+              ways_are = outer ∙ sym (ways_left p.1 old.program.now out store refs.items frames.items os (reverse rest.items) cuts g v inside0);
               registers = inside 0 r;
               agrees = record { bound = agrees.bound; vars = agrees.vars; heap = omega (arith, agrees.heap); trail = agrees.trail; since = agrees.since };
               tag = ap (λ i. i + 1) st.choice.tag_at;
@@ -242,14 +246,14 @@ module _ (old : Engine) (o : Choice) (choices : Vec Choice Global) (sound : IsSo
 
     pub part_reached : WentOn (StopsAt tag old) old final
     part_reached =
-        let mid = popped_sound old o choices sound popped frames refs store cut cut_refs back keeps in
+        let mid = popped_sound old o choices sound popped frames refs out store cut cut_refs closed back keeps in
         record {
           ready = record {
-            sound = record { base = cut_base p.1 old.program.now store refs.items frames.items os (reverse rest.items) cuts o.tag mid.base; room = mid.room };
-            here = subst (IsLeft (length frames.items) (length refs.items)) part.is (popped_left old o choices sound popped frames refs store cut cut_refs back keeps);
+            sound = record { base = cut_base p.1 old.program.now out store refs.items frames.items os (reverse rest.items) cuts o.tag mid.base; room = mid.room };
+            here = subst (IsLeft (length frames.items) (length refs.items)) part.is (popped_left old o choices sound popped frames refs out store cut cut_refs closed back keeps);
           };
           left = refl;
-          limits = let l = popped_limits old o choices sound popped frames refs store cut cut_refs back keeps in record { heap = l.heap; trail = l.trail };
+          limits = let l = popped_limits old o choices sound popped frames refs out store cut cut_refs closed back keeps in record { heap = l.heap; trail = l.trail; aux = l.aux; keep = l.keep };
           leads = λ g n w run st. stopped_in (λ g n w run. Then [] w (λ v. StandsAt final g n v run)) gone_back g n w run st;
         }
 

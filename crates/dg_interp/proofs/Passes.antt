@@ -24,10 +24,12 @@ use Rattle.dg_interp.specs.declared.frames.Env.{Env}
 use Rattle.dg_interp.specs.declared.frames.Left.TheVariants.{Rules}
 use Rattle.dg_interp.specs.declared.engine.Engine.{Engine}
 use Rattle.dg_interp.specs.Frames.{values_in, steps_behind, IsLeft}
-use Rattle.dg_interp.specs.Engine.{store_in, Point, InWorld, IsSound, FailsAt, BeginsAt, Adds, Leads, WentWrong}
+use Rattle.dg_interp.specs.Outside.{InWorld}
+use Rattle.dg_interp.proofs.Kept.{rules_open}
+use Rattle.dg_interp.specs.Engine.{store_in, open_in, Point, IsSound, FailsAt, BeginsAt, Adds, Leads, WentWrong}
 use Rattle.dg_interp.specs.Passing.{rules_from, IsFirst, IsCandidate}
 use Rattle.dg_interp.proofs.PassedRules.{rules_from_candidate, from_is_candidate}
-use Rattle.dg_interp.proofs.Places.{there_in, world_drops, world_tried, adds_nothing, adds_on, adds_drops, adds_tried, adds_failed, leads_on, leads_nowhere, limits_here}
+use Rattle.dg_interp.proofs.Places.{there_in, world_still, world_tried, adds_nothing, adds_on, adds_drops, adds_tried, adds_failed, leads_on, leads_nowhere, limits_here}
 use Rattle.dg_interp.proofs.Turns.{all_rest}
 
 candidates_built : (S : _) (args : List Value) (rules : List Rule) → All IsBuiltRule rules → All IsBuiltRule (from_candidate S args rules)
@@ -57,9 +59,9 @@ module _ (old : Engine) (query : Query) (args : Env) (place : Place) (sound : Is
 
   -- where these branches are tried
   abbrev TriedAt : Game → Registers → List Way → List Live → List Rule → ℕ → World → Run → Type 0
-  TriedAt g r ways lives rules n w run = Tried g (RulesOf query.pred) r.next_tag 0 ways lives (rule_branches g query.pred the_args query.many steps r rules) n w run
+  TriedAt g r ways lives rules n w run = Tried g (RulesOf query.pred) r.next_tag (open_in old) ways lives (rule_branches g query.pred the_args query.many steps r rules) n w run
 
-  at_tried : (b b' : Bor (List Rule)) (rules : List Rule) (g : Game) (n : ℕ) (w v : World) (run : Run) → b'.now ≡ rules → InWorld v → (st : at b g n w run) → TriedAt g st.at.registers st.at.ways st.at.inside.lives rules n v run → at b' g n v run
+  at_tried : (b b' : Bor (List Rule)) (rules : List Rule) (g : Game) (n : ℕ) (w v : World) (run : Run) → b'.now ≡ rules → InWorld old.outside g v → (st : at b g n w run) → TriedAt g st.at.registers st.at.ways st.at.inside.lives rules n v run → at b' g n v run
   at_tried b b' rules g n w v run e is st tried = record {
     at = there_in v is st.at;
     back = st.back;
@@ -77,7 +79,7 @@ module _ (old : Engine) (query : Query) (args : Env) (place : Place) (sound : Is
       let r = st.at.registers in
       let work = entering g the_args rule r in
       let bs = rule_branches g query.pred the_args query.many steps r rules in
-      let c : Live = record { kind = RulesOf query.pred; tag = r.next_tag; others = bs; height = 0; ways_on = st.at.ways } in
+      let c : Live = record { kind = RulesOf query.pred; tag = r.next_tag; others = bs; height = open_in old; ways_on = st.at.ways } in
       let v = begun (inside 0 r) work w in
       let is : is_excluded the_args r rule ≡ true = ap (λ S. first_excludes S the_args rule.head) st.at.agrees.bound ∙ excluded in
       let wrong : Failed g (c ∷ st.at.inside.lives) n v run =
@@ -86,10 +88,11 @@ module _ (old : Engine) (query : Query) (args : Env) (place : Place) (sound : Is
       let begun_adds : Adds [] w v = record { prints_are = sym (append-nil (prints w.events)); typed = refl } in
       let dropped = adds_drops v f.world f.drops in
       let u = tried_in (RulesOf query.pred) bs f.world in
+      let still = world_still old.outside g v f.world st.at.inside.world f.drops (f.gatherings ∙ rules_open g query.pred the_args query.many steps r rules (open_in old)) in
       record {
         world = u;
         adds = adds_on w f.world u [] [] (adds_on w v f.world [] [] begun_adds dropped) (adds_tried (RulesOf query.pred) bs f.world);
-        holds = at_tried (bor b (rule ∷ rules)) (bor b rules) rules g n w u run refl (world_tried (RulesOf query.pred) bs f.world (world_drops v f.world st.at.inside.world f.drops)) st (tries g c st.at.inside.lives n f.world run f.resumed);
+        holds = at_tried (bor b (rule ∷ rules)) (bor b rules) rules g n w u run refl (world_tried old.outside g (RulesOf query.pred) bs f.world still) st (tries g c st.at.inside.lives n f.world run f.resumed);
       }
     where
       passed : (g : Game) (r : Registers) (rule : Rule) (heap : ℕ) → is_excluded the_args r rule ≡ true → rule_branch g query.pred the_args query.many steps r heap rule ≡ Clash (inside 0 r) (entering g the_args rule r)

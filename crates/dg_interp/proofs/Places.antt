@@ -1,8 +1,8 @@
 -- Where an engine stands, and how it goes on from there.
-use Rattle.std.proofs.Common.{◌≡◌, ◌≢◌, ℕ, suc, ◌+◌, ◌-◌, ◌≤◌, List, [], ◌∷◌, ◌++◌, Option, Some, Bool, true, false, refl, sym, ap, ◌∙◌, subst, arith, length, take, get_or, length-take, append_assoc}
+use Rattle.std.proofs.Common.{◌≡◌, ◌≢◌, ℕ, zero, suc, ◌+◌, ◌-◌, ◌≤◌, List, [], ◌∷◌, ◌++◌, Option, Some, Bool, true, false, refl, sym, ap, ◌∙◌, subst, arith, length, map, take, drop, get_or, length-take, append_assoc}
 use Rattle.std.specs.Prelude.{not, max, slice_get, reverse}
 use Rattle.std.proofs.lemmas.Option.{slice_get-get_or}
-use Rattle.std.proofs.lemmas.List.{append-nil}
+use Rattle.std.proofs.lemmas.List.{append-nil, length-map, length-drop, drop-map, drop_all}
 use Rattle.std.specs.declared.vec.Vec.{Vec}
 use Rattle.std.specs.declared.alloc.Global.{Global}
 use Rattle.dg_base.specs.declared.program.CoreProgram.{CoreProgram}
@@ -14,7 +14,7 @@ use Rattle.dg_meaning.specs.Peaks.{Area, Heap, Trail, Aux, Keep}
 use Rattle.dg_meaning.specs.Transcript.{Run}
 use Rattle.dg_meaning.specs.Context.{Live, cut_to, Drops}
 use Rattle.dg_meaning.specs.Keeps.{Stands, Finished, tried_in}
-use Rattle.dg_meaning.proofs.Dropping.{prints_append, quiet_same}
+use Rattle.dg_meaning.proofs.Dropping.{prints_append}
 use Rattle.dg_meaning.proofs.Keeps.{passes_answer, passes_cut, passes_leave, passes_refuse, passes_back, done}
 use Rattle.dg_meaning.specs.Values.{Value}
 use Rattle.dg_unify.specs.Store.{Saved}
@@ -30,7 +30,9 @@ use Rattle.dg_interp.specs.declared.frames.Frame.{Frame}
 use Rattle.dg_interp.specs.declared.frames.Choice.{Choice}
 use Rattle.dg_interp.specs.declared.engine.Engine.{Engine}
 use Rattle.dg_interp.specs.Frames.{values_in, mark_steps, frame_steps, steps_behind, steps_at, lives_of, ways_of, AreChoices, IsFrame, AreFrames, StandOn, GoBackTo, floor_of, all_left}
-use Rattle.dg_interp.specs.Engine.{store_in, limit_in, KeepsPlaces, InWorld, Within, On, There, Sound, IsReady, Point, StandsAt, FailsAt, Adds, Then, Leads, older_than, Cuts, branches_left, SameLimits, WentOn, WentWrong, HasEndedSo, MarkPassed, Refused, FrameLeft, steps_of}
+use Rattle.dg_interp.specs.Engine.{store_in, limit_in, KeepsPlaces, Within, On, There, Sound, IsReady, Point, StandsAt, FailsAt, Adds, Then, Leads, older_than, Cuts, branches_left, SameLimits, WentOn, WentWrong, HasEndedSo, MarkPassed, Refused, FrameLeft, steps_of}
+use Rattle.dg_interp.specs.declared.outside.Outside.{Outside}
+use Rattle.dg_interp.specs.Outside.{row_of, InWorld, closed_to}
 use Rattle.dg_unify.specs.Engines.{Agrees}
 use Rattle.dg_interp.proofs.Links.{same_take, same_values, behind_same, behind_frame, behind_end, frames_take, choices_same, rest_older, choices_cut, lives_cut, ways_cut, back_cut, keeps_cut, stand_cut, stand_same, stand_floor, floor_within, cut_fewer}
 
@@ -48,26 +50,50 @@ adds_on w v u xs ys a b = record {
 pub adds_drops : (w v : World) → Drops w v → Adds [] w v
 adds_drops w v d = record { prints_are = ap (λ (x : World). prints x.events) d.is ∙ sym (append-nil (prints w.events)); typed = ap (λ (x : World). x.typed) d.is }
 
--- no gathering is open that could be dropped
-pub world_drops : (w v : World) → InWorld w → Drops w v → InWorld v
-world_drops w v is d = ap (λ (x : World). x.gathered) (quiet_same w v is d) ∙ is
+dropped_to : {A : Type 0} (c h : ℕ) (xs : List A) → length (drop c xs) ≡ h → drop (length xs - h) xs ≡ drop c xs
+dropped_to c h [] e = drop_all (0 - h) [] (omega arith) ∙ sym (drop_all c [] (omega arith))
+dropped_to zero h (x ∷ xs) e = let none : length (x ∷ xs) - h ≡ 0 = omega (arith, e) in ap (λ n. drop n (x ∷ xs)) none
+dropped_to (suc c) h (x ∷ xs) e =
+    let more : length (x ∷ xs) - h ≡ suc (length xs - h) = omega (arith, e, length-drop c xs) in
+    ap (λ n. drop n (x ∷ xs)) more ∙ dropped_to c h xs e
 
-pub world_tried : (k : Kind) (bs : List Branch) (w : World) → InWorld w → InWorld (tried_in k bs w)
-world_tried k [] w is = is
-world_tried (Rules q) (b ∷ bs) w is = is
-world_tried Plain (b ∷ bs) w is = is
-world_tried Shield (b ∷ bs) w is = is
-world_tried Gathers (b ∷ bs) w is = is
+-- gatherings were dropped, down to so many
+pub world_closed : (out : Outside) (g : Game) (w v : World) (h : ℕ) → InWorld out g w → Drops w v → length v.gathered ≡ h → InWorld (closed_to h out) g v
+world_closed out g w v h is d count =
+    let rows = out.gathered.rows in
+    let left : length (drop d.count w.gathered) ≡ h = ap (λ (x : World). length x.gathered) (sym d.is) ∙ count in
+    let long : length rows ≡ length w.gathered = ap length is.1 ∙ length-map w.gathered row_of in
+    let same : drop (length rows - h) rows ≡ map row_of (drop d.count w.gathered) =
+    ap (drop (length rows - h)) is.1 ∙ drop-map row_of (length rows - h) w.gathered ∙ ap (λ n. map row_of (drop (n - h) w.gathered)) long ∙ ap (map row_of) (dropped_to d.count h w.gathered left) in
+    subst (InWorld (closed_to h out) g) (sym d.is) (is.0, same, is.2, is.3)
+
+pub open_still : (out : Outside) (g : Game) (w : World) → InWorld out g w → length out.gathered.rows ≡ length w.gathered
+open_still out g w is = ap length is.1 ∙ length-map w.gathered row_of
+
+-- as many are open as before
+pub world_still : (out : Outside) (g : Game) (w v : World) → InWorld out g w → Drops w v → length v.gathered ≡ length out.gathered.rows → InWorld out g v
+world_still out g w v is d count =
+    let rows = out.gathered.rows in
+    let none : length rows - length rows ≡ 0 = omega arith in
+    let same : closed_to (length rows) out ≡ out = ap (λ n. record out { gathered = record out.gathered { rows = drop n rows } }) none in
+    subst (λ o. InWorld o g v) same (world_closed out g w v (length rows) is d count)
+
+pub world_tried : (out : Outside) (g : Game) (k : Kind) (bs : List Branch) (w : World) → InWorld out g w → InWorld out g (tried_in k bs w)
+world_tried out g k [] w is = is
+world_tried out g (Rules q) (b ∷ bs) w is = is
+world_tried out g Plain (b ∷ bs) w is = is
+world_tried out g Shield (b ∷ bs) w is = is
+world_tried out g Gathers (b ∷ bs) w is = is
 
 -- the same in another world
-abbrev pub inside_in : {p : CoreProgram} {s : ListBindings} {rs : List Ref} {fs : List Frame} {os : List Choice} {g : Game} {w : World} (v : World) → InWorld v → Within p s rs fs os g w → Within p s rs fs os g v
+abbrev pub inside_in : {p : CoreProgram} {out : Outside} {s : ListBindings} {rs : List Ref} {fs : List Frame} {os : List Choice} {g : Game} {w : World} (v : World) → InWorld out g v → Within p out s rs fs os g w → Within p out s rs fs os g v
 inside_in v is i = record { program = i.program; entries = i.entries; lives = i.lives; lives_are = i.lives_are; saved = i.saved; keeps = i.keeps; choices = i.choices; world = is }
 
 -- and over a store that keeps its places
-abbrev pub inside_kept : {p : CoreProgram} {s : ListBindings} {rs : List Ref} {fs : List Frame} {os : List Choice} {g : Game} {w : World} (s' : ListBindings) (v : World) → ((ms : List Saved) → KeepsPlaces s ms → KeepsPlaces s' ms) → InWorld v → Within p s rs fs os g w → Within p s' rs fs os g v
+abbrev pub inside_kept : {p : CoreProgram} {out : Outside} {s : ListBindings} {rs : List Ref} {fs : List Frame} {os : List Choice} {g : Game} {w : World} (s' : ListBindings) (v : World) → ((ms : List Saved) → KeepsPlaces s ms → KeepsPlaces s' ms) → InWorld out g v → Within p out s rs fs os g w → Within p out s' rs fs os g v
 inside_kept s' v k is i = record { program = i.program; entries = i.entries; lives = i.lives; lives_are = i.lives_are; saved = i.saved; keeps = k i.saved i.keeps; choices = i.choices; world = is }
 
-abbrev pub there_in : {p : CoreProgram} {s : ListBindings} {rs : List Ref} {fs : List Frame} {os : List Choice} {next : ℕ} {part : Option ℕ} {g : Game} {w : World} (v : World) → InWorld v → On p s rs fs os next part g w → On p s rs fs os next part g v
+abbrev pub there_in : {p : CoreProgram} {out : Outside} {s : ListBindings} {rs : List Ref} {fs : List Frame} {os : List Choice} {next : ℕ} {part : Option ℕ} {g : Game} {w : World} (v : World) → InWorld out g v → On p out s rs fs os next part g w → On p out s rs fs os next part g v
 there_in v is at = record { inside = inside_in v is at.inside; ways = at.ways; ways_are = at.ways_are; registers = at.registers; agrees = at.agrees; tag = at.tag; stop = at.stop }
 
 -- a call is noted
@@ -97,23 +123,23 @@ pub leads_nowhere : (A : Point) → Leads A A
 leads_nowhere A g n w run h = record { world = w; adds = adds_nothing w; holds = h }
 
 pub limits_here : (e : Engine) → SameLimits e e
-limits_here e = record { heap = refl; trail = refl }
+limits_here e = record { heap = refl; trail = refl; aux = refl; keep = refl }
 
-pub limits_at : (old new : Engine) → SameLimits old new → (area : Area) → limit_in area (store_in new.store) ≡ limit_in area (store_in old.store)
+pub limits_at : (old new : Engine) → SameLimits old new → (area : Area) → limit_in area new ≡ limit_in area old
 limits_at old new same Heap = same.heap
 limits_at old new same Trail = same.trail
-limits_at old new same Aux = refl
-limits_at old new same Keep = refl
+limits_at old new same Aux = same.aux
+limits_at old new same Keep = same.keep
 
 pub limits_on : (a b c : Engine) → SameLimits a b → SameLimits b c → SameLimits a c
-limits_on a b c h k = record { heap = k.heap ∙ h.heap; trail = k.trail ∙ h.trail }
+limits_on a b c h k = record { heap = k.heap ∙ h.heap; trail = k.trail ∙ h.trail; aux = k.aux ∙ h.aux; keep = k.keep ∙ h.keep }
 
 -- ## What a cut leaves
 
 pub keeps_older : (s : ListBindings) (t : ℕ) (os : List Choice) (ms : List Saved) → KeepsPlaces s ms → KeepsPlaces s (rest_older t os ms)
 keeps_older s t os ms h = keeps_cut (KeepsPlaces s) (λ m ms k. saves_drops true (fields_of s) m ms k) tt t os ms h
 
-module _ (t : ℕ) (p : CoreProgram) (s : ListBindings) (rs : List Ref) (fs : List Frame) (os os' : List Choice) (is : os' ≡ older_than t os) where
+module _ (t : ℕ) (p : CoreProgram) (out : Outside) (s : ListBindings) (rs : List Ref) (fs : List Frame) (os os' : List Choice) (is : os' ≡ older_than t os) where
   pub cut_base : (newest : ℕ) → Sound p s rs fs os newest → Sound p s rs fs os' newest
   cut_base newest h = record {
     program = h.program;
@@ -127,7 +153,7 @@ module _ (t : ℕ) (p : CoreProgram) (s : ListBindings) (rs : List Ref) (fs : Li
     };
   }
 
-  abbrev pub cut_inside : (g : Game) (w v : World) → InWorld v → Within p s rs fs os g w → Within p s rs fs os' g v
+  abbrev pub cut_inside : (g : Game) (w v : World) → InWorld out g v → Within p out s rs fs os g w → Within p out s rs fs os' g v
   cut_inside g w v world i = record {
     program = i.program;
     entries = rest_older t os i.entries;
@@ -139,12 +165,12 @@ module _ (t : ℕ) (p : CoreProgram) (s : ListBindings) (rs : List Ref) (fs : Li
     world = world;
   }
 
-  pub ways_left : (g : Game) (w : World) (i : Within p s rs fs os g w) → ways_of os' (rest_older t os i.entries) ≡ ways_of os i.entries
+  pub ways_left : (g : Game) (w : World) (i : Within p out s rs fs os g w) → ways_of os' (rest_older t os i.entries) ≡ ways_of os i.entries
   ways_left g w i = ap (λ l. ways_of l (rest_older t os i.entries)) is ∙ ways_cut g t rs fs os i.saved i.entries i.choices
 
 -- ## The same place
 
-module _ (old new : Engine) (program : new.program.now ≡ old.program.now) (store : new.store ≡ old.store) (newest : new.newest ≡ old.newest) (part : new.stoppable ≡ old.stoppable) (kept : new.choices ≡ old.choices) (steps : steps_of new ≡ steps_of old)
+module _ (old new : Engine) (program : new.program.now ≡ old.program.now) (outside : new.outside ≡ old.outside) (store : new.store ≡ old.store) (newest : new.newest ≡ old.newest) (part : new.stoppable ≡ old.stoppable) (kept : new.choices ≡ old.choices) (steps : steps_of new ≡ steps_of old)
     (choices : (g : Game) (ms : List Saved) (cs : List Live) → AreChoices g old.refs.items old.frames.items (reverse old.choices.items) ms cs → AreChoices g new.refs.items new.frames.items (reverse new.choices.items) ms cs) where
   pub same_place : Leads (StandsAt old) (StandsAt new)
   same_place g n w run st = record {
@@ -160,7 +186,7 @@ module _ (old new : Engine) (program : new.program.now ≡ old.program.now) (sto
           saved = st.at.inside.saved;
           keeps = subst (λ s. KeepsPlaces s st.at.inside.saved) (sym store) st.at.inside.keeps;
           choices = choices g st.at.inside.saved st.at.inside.entries st.at.inside.choices;
-          world = st.at.inside.world;
+          world = subst (λ o. InWorld o g w) (sym outside) st.at.inside.world;
         };
         ways = st.at.ways;
         ways_are = st.at.ways_are ∙ ap (λ (c : Vec Choice Global). ways_of (reverse c.items) st.at.inside.entries) (sym kept);
@@ -215,8 +241,8 @@ module _ (old : Engine) (ready : IsReady old) (none : old.here.goals.now ≡ [])
     went_on = record {
       ready = off_ready;
       left = refl;
-      limits = record { heap = refl; trail = refl };
-      leads = same_place old (marked_off old) refl refl refl refl refl (off ∙ sym (steps_done values fs old.here Nothing none is)) (λ g ms cs h. h);
+      limits = record { heap = refl; trail = refl; aux = refl; keep = refl };
+      leads = same_place old (marked_off old) refl refl refl refl refl refl (off ∙ sym (steps_done values fs old.here Nothing none is)) (λ g ms cs h. h);
     };
     goals = none;
     mark = refl;
@@ -229,7 +255,7 @@ module _ (old : Engine) (ready : IsReady old) (none : old.here.goals.now ≡ [])
     went_on = record {
       ready = off_ready;
       left = refl;
-      limits = record { heap = refl; trail = refl };
+      limits = record { heap = refl; trail = refl; aux = refl; keep = refl };
       leads = λ g n w run st.
           let was : steps_of old ≡ Answers query.pred ∷ rest = steps_done values fs old.here (AnswerOf query) none is ∙ ap (λ m. Answers query.pred ∷ first_alone m old.here.tag rest) many in
           record {
@@ -253,7 +279,7 @@ module _ (old : Engine) (ready : IsReady old) (none : old.here.goals.now ≡ [])
     wrong = record {
       sound = off_ready.sound;
       left = refl;
-      limits = record { heap = refl; trail = refl };
+      limits = record { heap = refl; trail = refl; aux = refl; keep = refl };
       leads = λ g n w run st. record {
         world = w;
         adds = adds_nothing w;
@@ -272,22 +298,22 @@ module _ (old : Engine) (ready : IsReady old) (none : old.here.goals.now ≡ [])
 
     cut_ready : IsReady new
     cut_ready = record {
-      sound = record { base = cut_base t old.program.now old.store old.refs.items fs (reverse old.choices.items) (reverse choices.items) cuts old.newest ready.sound.base; room = ready.sound.room };
+      sound = record { base = cut_base t old.program.now old.outside old.store old.refs.items fs (reverse old.choices.items) (reverse choices.items) cuts old.newest ready.sound.base; room = ready.sound.room };
       here = record { built = ready.here.built; older = ready.here.older; env = ready.here.env };
     }
 
     cut_less : branches_left new ≤ branches_left old
     cut_less = subst (λ os. all_left os ≤ branches_left old) (sym cuts) (cut_fewer t (reverse old.choices.items))
 
-    abbrev inside_left : (g : Game) (w v : World) → InWorld v → Within old.program.now old.store old.refs.items fs (reverse old.choices.items) g w → Within old.program.now old.store old.refs.items fs (reverse choices.items) g v
-    inside_left = cut_inside t old.program.now old.store old.refs.items fs (reverse old.choices.items) (reverse choices.items) cuts
+    abbrev inside_left : (g : Game) (w v : World) → InWorld old.outside g v → Within old.program.now old.outside old.store old.refs.items fs (reverse old.choices.items) g w → Within old.program.now old.outside old.store old.refs.items fs (reverse choices.items) g v
+    inside_left = cut_inside t old.program.now old.outside old.store old.refs.items fs (reverse old.choices.items) (reverse choices.items) cuts
 
-    cut_at : (g : Game) (n : ℕ) (w v : World) (run : Run) → InWorld v → (at : There old (old.newest + 1) g w) (r : Registers) → Agrees (store_in old.store) r → r.next_tag ≡ old.newest + 1 → r.stoppable ≡ part → Stands g (cut_to t at.inside.lives) at.ways (path_of rest r) n v run → StandsAt new g n v run
+    cut_at : (g : Game) (n : ℕ) (w v : World) (run : Run) → InWorld old.outside g v → (at : There old (old.newest + 1) g w) (r : Registers) → Agrees (store_in old.store) r → r.next_tag ≡ old.newest + 1 → r.stoppable ≡ part → Stands g (cut_to t at.inside.lives) at.ways (path_of rest r) n v run → StandsAt new g n v run
     cut_at g n w v run world at r agrees tag stop stands = record {
       at = record {
         inside = inside_left g w v world at.inside;
         ways = at.ways;
-        ways_are = at.ways_are ∙ sym (ways_left t old.program.now old.store old.refs.items fs (reverse old.choices.items) (reverse choices.items) cuts g w at.inside);
+        ways_are = at.ways_are ∙ sym (ways_left t old.program.now old.outside old.store old.refs.items fs (reverse old.choices.items) (reverse choices.items) cuts g w at.inside);
         registers = r;
         agrees = agrees;
         tag = tag;
@@ -297,7 +323,7 @@ module _ (old : Engine) (ready : IsReady old) (none : old.here.goals.now ≡ [])
     }
 
     cut_passes : ((g : Game) (n : ℕ) (w : World) (run : Run) → StandsAt old g n w run → Then [] w (λ v. StandsAt new g n v run)) → MarkPassed old new
-    cut_passes leads = record { went_on = record { ready = cut_ready; left = refl; limits = record { heap = refl; trail = refl }; leads = leads }; goals = none; mark = refl; behind = refl; fewer = cut_less }
+    cut_passes leads = record { went_on = record { ready = cut_ready; left = refl; limits = record { heap = refl; trail = refl; aux = refl; keep = refl }; leads = leads }; goals = none; mark = refl; behind = refl; fewer = cut_less }
 
     pub part_left : old.here.mark ≡ LeavePart t part → MarkPassed old new
     part_left is = cut_passes
@@ -316,7 +342,7 @@ module _ (old : Engine) (ready : IsReady old) (none : old.here.goals.now ≡ [])
       wrong = record {
         sound = cut_ready.sound;
         left = refl;
-        limits = record { heap = refl; trail = refl };
+        limits = record { heap = refl; trail = refl; aux = refl; keep = refl };
         leads = λ g n w run st. record {
           world = w;
           adds = adds_nothing w;
@@ -418,8 +444,8 @@ module _ (old : Engine) (frames : Vec Frame Global) (f : Frame) (needed : ℕ) (
         here = record { built = frame.built; older = subst (λ (l : List Frame). f.behind ≤ length l) (sym kept) (omega (arith, need, count)); env = frame.env };
       };
       left = refl;
-      limits = record { heap = refl; trail = refl };
-      leads = same_place old left_at refl refl refl refl refl same choices_kept;
+      limits = record { heap = refl; trail = refl; aux = refl; keep = refl };
+      leads = same_place old left_at refl refl refl refl refl refl same choices_kept;
     };
     older = omega (arith, frame.older);
     fewer = omega arith;

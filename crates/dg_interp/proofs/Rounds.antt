@@ -2,24 +2,24 @@
 use Rattle.std.proofs.Common.{◌≡◌, ℕ, suc, ◌+◌, ◌<◌, [], ◌++◌, Option, Some, None, refl, sym, ap, ◌∙◌, subst, arith, length, append_assoc}
 use Rattle.std.specs.Prelude.{Result, IfOk, IfErr}
 use Rattle.dg_base.specs.declared.run.Ending.{Ending}
-use Rattle.dg_base.specs.declared.run.Ending.TheVariants.{Done, Failed, HeapLimit, TrailLimit}
+use Rattle.dg_base.specs.declared.run.Ending.TheVariants.{Done, Failed, HeapLimit, TrailLimit, AuxLimit, KeepLimit}
 use Rattle.dg_base.specs.declared.run.RunFault.{RunFault}
 use Rattle.dg_base.specs.declared.run.RunFault.TheVariants.{Read, Write, OutOfMemory}
 use Rattle.dg_meaning.specs.World.{Game, World, prints}
 use Rattle.dg_meaning.specs.Path.{Result as SearchResult, Failing, End}
 use Rattle.dg_meaning.specs.Transcript.{Run, ending_of}
 use Rattle.dg_meaning.specs.OneRun.{Begins}
-use Rattle.dg_meaning.specs.Peaks.{Area, Heap, Trail, greatest}
+use Rattle.dg_meaning.specs.Peaks.{Area, Heap, Trail, Aux, Keep, greatest}
 use Rattle.dg_meaning.proofs.Keeps.{stands_happened}
-use Rattle.dg_unify.specs.declared.bindings.Full.{Full}
-use Rattle.dg_unify.specs.declared.bindings.Full.TheVariants as full
+use Rattle.dg_interp.specs.declared.lack.Lack.{Lack}
+use Rattle.dg_interp.specs.Lacks.{area_of}
 use Rattle.dg_spacing.specs.declared.spacer.Spacer.{Spacer}
 use Rattle.dg_interp.specs.declared.engine.Engine.{Engine}
 use Rattle.dg_base.specs.Written.{SinkView}
-use Rattle.dg_interp.specs.Engine.{PassesLimit, store_in, IsReady, StandsAt, Adds, Then, FullAt, HasEndedSo, AtGoal, GoesToGoal}
-use Rattle.dg_interp.specs.Running.{HasText, Reaches, GoesOn, HasEnded, MeetsLimit, Ended, IsBroken, GoalDone, Does, limit_of}
+use Rattle.dg_interp.specs.Engine.{PassesLimit, limit_in, IsReady, StandsAt, Adds, Then, LacksIn, LackAt, HasEndedSo, AtGoal, GoesToGoal}
+use Rattle.dg_interp.specs.Running.{HasText, Reaches, GoesOn, HasEnded, MeetsLimit, Ended, IsBroken, GoalDone, Does, ending_at, limit_of}
 use Rattle.dg_interp.proofs.Places.{limits_at, adds_nothing, then_on, limits_on, limits_here}
-use Rattle.dg_interp.proofs.Runs.{writes_nothing, writes_on, finished_so, no_more}
+use Rattle.dg_interp.proofs.Runs.{ended_at, writes_nothing, writes_on, finished_so, no_more}
 
 -- ## Behind a goal
 
@@ -64,7 +64,7 @@ module _ (old mid new : Engine) (s s' : Spacer) (k k' : SinkView) (some : 0 < le
       let t = leads_here g w run st in
       record { part = t.world.events; until = (stands_happened g t.holds.at.inside.lives t.holds.at.ways _ mid.left t.world run t.holds.stands).events; text = text_here w t.world start t.adds text }
 
-  next_limit : (area : Area) (left : ℕ) → mid.left ≡ left → PassesLimit area (StandsAt mid) (store_in mid.store) → MeetsLimit area left old s s' k k'
+  next_limit : (area : Area) (left : ℕ) → mid.left ≡ left → PassesLimit area (StandsAt mid) (limit_in area mid) → MeetsLimit area left old s s' k k'
   next_limit area left same f = record {
     goals = 0;
     left_is = omega (arith, h.left, same);
@@ -75,19 +75,17 @@ module _ (old mid new : Engine) (s s' : Spacer) (k k' : SinkView) (some : 0 < le
     writes = h.writes;
   }
 
-  pub next_full : (e : Full) (r : Result Ending RunFault) → r ≡ limit_of e → new.left ≡ mid.left → FullAt (StandsAt mid) (store_in mid.store) e → IfOk r (λ ending. Ended ending new.left old s s' k k')
-  next_full e r is left f = subst (λ q. IfOk q (λ ending. Ended ending new.left old s s' k k')) (sym is) (here e f) where
-    here : (e : Full) → FullAt (StandsAt mid) (store_in mid.store) e → IfOk (limit_of e) (λ ending. Ended ending new.left old s s' k k')
-    here full.Heap f = next_limit Heap new.left (sym left) f
-    here full.Trail f = next_limit Trail new.left (sym left) f
-    here full.OutOfMemory f = tt
+  pub next_lacks : (lack : Lack) (r : Result Ending RunFault) → r ≡ limit_of lack → new.left ≡ mid.left → LackAt (StandsAt mid) mid lack → IfOk r (λ ending. Ended ending new.left old s s' k k')
+  next_lacks lack r is left f = subst (λ q. IfOk q (λ ending. Ended ending new.left old s s' k k')) (sym is) (here (area_of lack) f) where
+    here : (area : Option Area) → LacksIn area (StandsAt mid) mid → IfOk (ending_at area) (λ ending. Ended ending new.left old s s' k k')
+    here None f = tt
+    here (Some area) f = ended_at area new.left old s s' k k' (next_limit area new.left (sym left) f)
 
-  pub next_breaks : (e : Full) (r : Result Ending RunFault) → r ≡ limit_of e → IfErr r (λ fault. Reaches old s k (IsBroken fault s' k'))
-  next_breaks e r is = subst (λ q. IfErr q (λ fault. Reaches old s k (IsBroken fault s' k'))) (sym is) (here e) where
-    here : (e : Full) → IfErr (limit_of e) (λ fault. Reaches old s k (IsBroken fault s' k'))
-    here full.Heap = tt
-    here full.Trail = tt
-    here full.OutOfMemory = next_lost
+  pub next_breaks : (lack : Lack) (r : Result Ending RunFault) → r ≡ limit_of lack → IfErr r (λ fault. Reaches old s k (IsBroken fault s' k'))
+  next_breaks lack r is = subst (λ q. IfErr q (λ fault. Reaches old s k (IsBroken fault s' k'))) (sym is) (here (area_of lack)) where
+    here : (area : Option Area) → IfErr (ending_at area) (λ fault. Reaches old s k (IsBroken fault s' k'))
+    here None = next_lost
+    here (Some area) = tt
 
 -- ## On and on
 
@@ -162,4 +160,6 @@ module _ (a b : Engine) (s s' s'' : Spacer) (k k' k'' : SinkView) (h : GoesOn a 
   pub ended_further : (e : Ending) (left : ℕ) → Ended e left b s' s'' k' k'' → Ended e left a s s'' k k''
   ended_further HeapLimit left j = limit_further Heap left j
   ended_further TrailLimit left j = limit_further Trail left j
+  ended_further AuxLimit left j = limit_further Aux left j
+  ended_further KeepLimit left j = limit_further Keep left j
   ended_further e left j = ended_reaches e left j

@@ -1,5 +1,5 @@
 -- How goals add up to a run.
-use Rattle.std.proofs.Common.{◌≡◌, ℕ, suc, ◌<◌, List, [], ◌∷◌, ◌++◌, Bool, true, false, Option, refl, sym, ap, ◌∙◌, subst, arith, length, append_assoc, Ok, Err}
+use Rattle.std.proofs.Common.{◌≡◌, ℕ, suc, ◌<◌, List, [], ◌∷◌, ◌++◌, Bool, true, false, Option, Some, None, refl, sym, ap, ◌∙◌, subst, arith, length, append_assoc, Ok, Err}
 use Rattle.std.specs.Prelude.{Result, IfOk, IfErr}
 use Rattle.std.proofs.lemmas.List.{append-nil}
 use Rattle.dg_base.specs.declared.program.Goal.{Goal, out-Goal}
@@ -18,7 +18,7 @@ use Rattle.dg_meaning.specs.Moves.{path_of, goals_at}
 use Rattle.dg_meaning.specs.Render.{Met, nothing_met, met_from, met_behind, written, render, render_from}
 use Rattle.dg_meaning.specs.Transcript.{Run, ending_of, text_of}
 use Rattle.dg_meaning.specs.OneRun.{Begins}
-use Rattle.dg_meaning.specs.Peaks.{Area, Heap, Trail, greatest}
+use Rattle.dg_meaning.specs.Peaks.{Area, Heap, Trail, Aux, Keep, greatest, limit_ending}
 use Rattle.dg_meaning.specs.Keeps.{Stands, Finished}
 use Rattle.dg_meaning.proofs.Dropping.{prints_append}
 use Rattle.dg_meaning.proofs.Keeps.{stands_happened, limited}
@@ -32,8 +32,10 @@ use Rattle.dg_spacing.specs.Spacer.{StandsFor}
 use Rattle.dg_meaning.specs.Growth.{growth}
 use Rattle.dg_interp.specs.Printing.{Added, as_prints, growth_of, AddsAll}
 use Rattle.dg_interp.specs.Frames.{mark_steps, steps_behind, values_in}
-use Rattle.dg_interp.specs.Engine.{store_in, PassesLimit, IsAct, pieces_at, WrotePrinted, StandsAt, TakesAt, Then, FullAt, Taken, WentOn, HasEndedSo, Branches, Stops}
-use Rattle.dg_interp.specs.Running.{HasText, Writes, Reaches, HasEnded, MeetsLimit, IsBroken, GoalDone, DoesGoal, outcome_of}
+use Rattle.dg_interp.specs.declared.lack.Lack.{Lack}
+use Rattle.dg_interp.specs.Lacks.{lack_of, area_of, as_stored}
+use Rattle.dg_interp.specs.Engine.{store_in, limit_in, Point, LacksIn, LackAt, PassesLimit, IsAct, pieces_at, WrotePrinted, StandsAt, TakesAt, Then, FullAt, Taken, WentOn, HasEndedSo, Branches, Stops}
+use Rattle.dg_interp.specs.Running.{HasText, Writes, Reaches, HasEnded, MeetsLimit, Ended, IsBroken, GoalDone, DoesGoal, ending_at, over, outcome_of}
 use Rattle.dg_base.proofs.WrittenLemmas.{wrote_on, broke_first, broke_later}
 use Rattle.dg_interp.proofs.Places.{limits_at, adds_nothing, adds_on, adds_drops, limits_on}
 use Rattle.dg_interp.proofs.Goals.{prints_word, prints_gap, quits}
@@ -107,6 +109,29 @@ pub run_limited : (e : Engine) (s : Spacer) (k : SinkView) → 0 < length e.here
 run_limited e s k some none g w run start st text =
     finished_so (End StepLimit) StepLimit 0 e.left s k w run start text (sym none) refl (record { world = w; adds = adds_nothing w; holds = limited_at e g w run some (subst (λ n. StandsAt e g n w run) none st) })
 
+-- ## Limits
+
+-- what a store lacks
+pub lack_from : (From : Point) (e : Engine) (f : Full) → FullAt From (store_in e.store) f → LackAt From e (lack_of f)
+lack_from From e full.Heap h = h
+lack_from From e full.Trail h = h
+lack_from From e full.OutOfMemory h = h
+
+pub stored_done : (P : Bool → Type 0) (r : Result Bool Full) → IfOk r P → IfOk (as_stored r) P
+stored_done P (Ok done) h = h
+stored_done P (Err f) h = tt
+
+pub stored_lacks : (From : Point) (e : Engine) (r : Result Bool Full) → IfErr r (λ f. FullAt From (store_in e.store) f) → IfErr (as_stored r) (λ lack. LackAt From e lack)
+stored_lacks From e (Ok done) h = tt
+stored_lacks From e (Err f) h = lack_from From e f h
+
+-- the limit of an area was met
+pub ended_at : (area : Area) (left : ℕ) (old : Engine) (s s' : Spacer) (k k' : SinkView) → MeetsLimit area left old s s' k k' → Ended (limit_ending area) left old s s' k k'
+ended_at Heap left old s s' k k' h = h
+ended_at Trail left old s s' k k' h = h
+ended_at Aux left old s s' k k' h = h
+ended_at Keep left old s s' k k' h = h
+
 -- ## One goal
 
 -- all goals but these six are acts
@@ -142,7 +167,7 @@ module _ (x : Goal) (old mid : Engine) (s : Spacer) (k : SinkView) (some : 0 < l
   pub goal_lost : Reaches old s k (IsBroken OutOfMemory s k)
   goal_lost g w run start st text = record { part = w.events; until = (stands_happened g st.at.inside.lives st.at.ways _ old.left w run st.stands).events; text = text }
 
-  pub goal_limit : (area : Area) (left : ℕ) → mid.left ≡ left → PassesLimit area (TakesAt x mid) (store_in mid.store) → MeetsLimit area left old s s k k
+  pub goal_limit : (area : Area) (left : ℕ) → mid.left ≡ left → PassesLimit area (TakesAt x mid) (limit_in area mid) → MeetsLimit area left old s s k k
   goal_limit area left same h = record {
     goals = 0;
     left_is = omega (arith, taken.left, same);
@@ -153,24 +178,28 @@ module _ (x : Goal) (old mid : Engine) (s : Spacer) (k : SinkView) (some : 0 < l
     writes = writes_nothing s k;
   }
 
-  pub goal_does : (new : Engine) → new.left ≡ mid.left → (r : Result Bool Full) (result : Result (Option Ending) RunFault) → result ≡ outcome_of r → IfOk r (λ found. Branches (TakesAt x mid) found mid new) → IfErr r (λ e. FullAt (TakesAt x mid) (store_in mid.store) e) →
+  pub goal_does : (new : Engine) → new.left ≡ mid.left → (r : Result Bool Lack) (result : Result (Option Ending) RunFault) → result ≡ outcome_of r → IfOk r (λ found. Branches (TakesAt x mid) found mid new) → IfErr r (λ lack. LackAt (TakesAt x mid) mid lack) →
       IfOk result (λ ending. DoesGoal ending old new s s k k)
   goal_does new left r result is ok err = subst (λ q. IfOk q (λ ending. DoesGoal ending old new s s k k)) (sym is) (here r ok err) where
-    here : (r : Result Bool Full) → IfOk r (λ found. Branches (TakesAt x mid) found mid new) → IfErr r (λ e. FullAt (TakesAt x mid) (store_in mid.store) e) → IfOk (outcome_of r) (λ ending. DoesGoal ending old new s s k k)
+    lacks : (area : Option Area) → LacksIn area (TakesAt x mid) mid → IfOk (over (ending_at area)) (λ ending. DoesGoal ending old new s s k k)
+    lacks None h = tt
+    lacks (Some area) h = ended_at area new.left old s s k k (goal_limit area new.left (sym left) h)
+
+    here : (r : Result Bool Lack) → IfOk r (λ found. Branches (TakesAt x mid) found mid new) → IfErr r (λ lack. LackAt (TakesAt x mid) mid lack) → IfOk (outcome_of r) (λ ending. DoesGoal ending old new s s k k)
     here (Ok true) ok err = goal_done new ok
     here (Ok false) ok err = goal_ended new Failing Failed refl ok
-    here (Err full.Heap) ok err = goal_limit Heap new.left (sym left) err
-    here (Err full.Trail) ok err = goal_limit Trail new.left (sym left) err
-    here (Err full.OutOfMemory) ok err = tt
+    here (Err lack) ok err = lacks (area_of lack) err
 
-  pub goal_breaks : (r : Result Bool Full) (result : Result (Option Ending) RunFault) → result ≡ outcome_of r → IfErr result (λ fault. Reaches old s k (IsBroken fault s k))
+  pub goal_breaks : (r : Result Bool Lack) (result : Result (Option Ending) RunFault) → result ≡ outcome_of r → IfErr result (λ fault. Reaches old s k (IsBroken fault s k))
   goal_breaks r result is = subst (λ q. IfErr q (λ fault. Reaches old s k (IsBroken fault s k))) (sym is) (here r) where
-    here : (r : Result Bool Full) → IfErr (outcome_of r) (λ fault. Reaches old s k (IsBroken fault s k))
+    lacks : (area : Option Area) → IfErr (over (ending_at area)) (λ fault. Reaches old s k (IsBroken fault s k))
+    lacks None = goal_lost
+    lacks (Some area) = tt
+
+    here : (r : Result Bool Lack) → IfErr (outcome_of r) (λ fault. Reaches old s k (IsBroken fault s k))
     here (Ok true) = tt
     here (Ok false) = tt
-    here (Err full.Heap) = tt
-    here (Err full.Trail) = tt
-    here (Err full.OutOfMemory) = goal_lost
+    here (Err lack) = lacks (area_of lack)
 
 -- ## One thing that is printed
 

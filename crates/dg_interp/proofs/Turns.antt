@@ -9,6 +9,8 @@ use Rattle.dg_base.specs.declared.program.Goal.{Goal}
 use Rattle.dg_base.specs.declared.program.Goal.TheVariants.{Ask, outs-Ask}
 use Rattle.dg_base.specs.declared.program.Goal.TheOpen.{Ask as AskForm}
 use Rattle.dg_base.specs.declared.program.CoreProgram.{CoreProgram}
+use Rattle.dg_base.specs.declared.run.Limits.{Limits}
+use Rattle.dg_meaning.specs.Peaks.{Area, Heap, Trail, Aux, Keep, limit_of}
 use Rattle.dg_meaning.specs.Values.{Value}
 use Rattle.dg_meaning.specs.World.{Game}
 use Rattle.dg_meaning.specs.Path.{Do}
@@ -30,7 +32,9 @@ use Rattle.dg_interp.specs.declared.frames.Choice.{Choice}
 use Rattle.dg_interp.specs.declared.engine.Engine.{Engine}
 use Rattle.dg_interp.specs.Frames.{values_in, frame_steps, steps_behind, steps_at, AreChoices, lives_of, ways_of, StandOn, GoBackTo}
 use Rattle.dg_unify.specs.Engines.{Agrees}
-use Rattle.dg_interp.specs.Engine.{store_in, IsReady, StandsAt, Starts, Taken}
+use Rattle.dg_interp.specs.declared.outside.Outside.{Outside}
+use Rattle.dg_interp.specs.Outside.{StartsOutside}
+use Rattle.dg_interp.specs.Engine.{store_in, limit_in, IsReady, StandsAt, Starts, Taken}
 use Rattle.dg_interp.proofs.Links.{behind_end}
 
 -- ## Lists
@@ -76,7 +80,7 @@ module _ (old : Engine) (x : Goal) (goals : Bor (List Goal)) (left : ℕ) (ready
           here = record { built = built_rest x goals.now built; older = ready.here.older; env = ready.here.env };
         };
         left = less;
-        limits = record { heap = refl; trail = refl };
+        limits = record { heap = refl; trail = refl; aux = refl; keep = refl };
         room = omega (arith, ready.sound.room);
         built = built_goal x goals.now built;
         whole = built_alone x goals.now built;
@@ -96,9 +100,9 @@ entry_built pred = built_from (Ask pred [] false) (AskForm pred [] false) (outs-
 abbrev pub empty : ℕ → ℕ → Store
 empty heap trail = store_of true (record { slots = []; log = []; vars = 0; since = 0; heap = 0; trail = 0; heap_limit = heap; trail_limit = trail })
 
-module _ (program : Bor CoreProgram) (entry : Bor (List Goal)) (store : ListBindings) (refs : Vec Ref Global) (frames : Vec Frame Global) (choices : Vec Choice Global) (made : Vec Ref Global) (left heap trail : ℕ) (fits : left < 2 ^ 64) (built : IsBuilt program.now) (is : entry.now ≡ Ask program.now.entry [] false ∷ []) (means : store_in store ≡ empty heap trail) (no_refs : refs.items ≡ []) (no_frames : frames.items ≡ []) (no_choices : choices.items ≡ []) where
+module _ (program : Bor CoreProgram) (entry : Bor (List Goal)) (store : ListBindings) (refs : Vec Ref Global) (frames : Vec Frame Global) (choices : Vec Choice Global) (made : Vec Ref Global) (limits : Limits) (left heap trail : ℕ) (steps_are : limits.steps ≡ left) (heap_is : limits.heap ≡ heap) (trail_is : limits.trail ≡ trail) (outside : Outside) (dice : List ℕ) (fits : left < 2 ^ 64) (out : StartsOutside program.now limits dice outside) (built : IsBuilt program.now) (is : entry.now ≡ Ask program.now.entry [] false ∷ []) (means : store_in store ≡ empty heap trail) (no_refs : refs.items ≡ []) (no_frames : frames.items ≡ []) (no_choices : choices.items ≡ []) where
   abbrev e : Engine
-  e = record { program = program; store = store; refs = refs; frames = frames; choices = choices; made = made; here = record { goals = entry; env = record { from = 0; len = 0 }; tag = 0; mark = Nothing; behind = 0 }; newest = 0; stoppable = None; left = left }
+  e = record { program = program; outside = outside; store = store; refs = refs; frames = frames; choices = choices; made = made; here = record { goals = entry; env = record { from = 0; len = 0 }; tag = 0; mark = Nothing; behind = 0 }; newest = 0; stoppable = None; left = left }
 
   none : reverse choices.items ≡ []
   none = ap reverse no_choices
@@ -109,8 +113,8 @@ module _ (program : Bor CoreProgram) (entry : Bor (List Goal)) (store : ListBind
   steps : steps_at at frames.items e.here ≡ Do (Ask program.now.entry [] false) [] 0 ∷ []
   steps = ap (λ (l : List Goal). goals_at [] 0 l ++ steps_behind at frames.items 0) is ∙ ap (λ s. Do (Ask program.now.entry [] false) [] 0 ∷ s) (behind_end at frames.items)
 
-  stands : (g : Game) (n : ℕ) (typed : List ℕ) → g.program ≡ program.now → StandsAt e g n (start_world g typed) (run g typed n)
-  stands g n typed same = record {
+  stands : (g : Game) (n : ℕ) (typed : List ℕ) → g.program ≡ program.now → g.dice ≡ dice → StandsAt e g n (start_world g typed) (run g typed n)
+  stands g n typed same thrown = record {
     at = record {
       inside = record {
         program = sym same;
@@ -120,7 +124,7 @@ module _ (program : Bor CoreProgram) (entry : Bor (List Goal)) (store : ListBind
         saved = [];
         keeps = tt;
         choices = subst (λ l. AreChoices g refs.items frames.items l [] []) (sym none) tt;
-        world = refl;
+        world = out.stands g typed same thrown;
       };
       ways = [];
       ways_are = ap (λ l. ways_of l []) (sym none);
@@ -134,7 +138,13 @@ module _ (program : Bor CoreProgram) (entry : Bor (List Goal)) (store : ListBind
         (subst (λ (p : CoreProgram). Stands g [] [] (path_of (Do (Ask p.entry [] false) [] 0 ∷ []) (start_path g).registers) n (start_world g typed) (run g typed n)) same (starts g typed n));
   }
 
-  pub started : Starts program.now left heap trail e
+  limits_at : (area : Area) → limit_in area e ≡ limit_of area limits
+  limits_at Heap = ap (λ (s : Store). s.heap_limit) means ∙ sym heap_is
+  limits_at Trail = ap (λ (s : Store). s.trail_limit) means ∙ sym trail_is
+  limits_at Aux = out.aux
+  limits_at Keep = out.keep
+
+  pub started : Starts program.now limits dice e
   started = record {
     ready = record {
       sound = record {
@@ -150,8 +160,7 @@ module _ (program : Bor CoreProgram) (entry : Bor (List Goal)) (store : ListBind
       here = record { built = subst AreBuilt (sym is) (entry_built program.now.entry); older = omega arith; env = omega arith };
     };
     goal = subst (λ (l : List Goal). 0 < length l) (sym is) (omega arith);
-    left = refl;
-    heap_limit = ap (λ (s : Store). s.heap_limit) means;
-    trail_limit = ap (λ (s : Store). s.trail_limit) means;
+    left = sym steps_are;
+    limits_are = λ area. limits_at area;
     stands = stands;
   }

@@ -30,7 +30,9 @@ use Rattle.dg_interp.specs.declared.frames.Env.{Env}
 use Rattle.dg_interp.specs.declared.engine.Engine.{Engine}
 use Rattle.dg_interp.specs.Terms.{Overflows}
 use Rattle.dg_interp.specs.Frames.{stretch, values_in}
-use Rattle.dg_interp.specs.Engine.{store_in, KeepsPlaces, steps_of, IsReady, TakesAt, StandsAt, FailsAt, FullAt, Adds, Then, Leads, SameLimits, WentOn, pieces_at, WrotePrinted, InWorld}
+use Rattle.dg_interp.specs.Engine.{store_in, KeepsPlaces, steps_of, IsReady, TakesAt, StandsAt, FailsAt, FullAt, Adds, Then, Leads, SameLimits, WentOn, pieces_at, WrotePrinted}
+use Rattle.dg_interp.specs.declared.outside.Outside.{Outside}
+use Rattle.dg_interp.specs.Outside.{InWorld}
 use Rattle.dg_meaning.proofs.Dropping.{prints_append}
 use Rattle.dg_unify.specs.Engines.{Agrees}
 use Rattle.dg_interp.proofs.Places.{inside_kept, adds_nothing}
@@ -49,9 +51,9 @@ module _ (x : Goal) (old : Engine) (store : ListBindings) (made : Vec Ref Global
       (values_kept (length old.refs.items) (store_in old.store) (store_in store) old.refs.items old.refs.items k (hold_front (store_in old.store) old.refs.items ready.sound.base.hold) refl) ready.sound.base.frames (same_here (length old.frames.items) old.frames.items)
 
   pub grown_limits : SameLimits old grown
-  grown_limits = record { heap = k.heap_limit; trail = k.trail_limit }
+  grown_limits = record { heap = k.heap_limit; trail = k.trail_limit; aux = refl; keep = refl }
 
-  pub stands_behind : (g : Game) (n : ℕ) (w v : World) (run : Run) → InWorld v → (st : TakesAt x old g n w run) (r : Registers) → Agrees (store_in store) r → r.next_tag ≡ st.at.registers.next_tag → r.stoppable ≡ st.at.registers.stoppable → Stands g st.at.inside.lives st.at.ways (path_of (steps_of old) r) n v run → StandsAt grown g n v run
+  pub stands_behind : (g : Game) (n : ℕ) (w v : World) (run : Run) → InWorld old.outside g v → (st : TakesAt x old g n w run) (r : Registers) → Agrees (store_in store) r → r.next_tag ≡ st.at.registers.next_tag → r.stoppable ≡ st.at.registers.stoppable → Stands g st.at.inside.lives st.at.ways (path_of (steps_of old) r) n v run → StandsAt grown g n v run
   stands_behind g n w v run none_open st r agrees tag part stands = record {
     at = record {
       inside = inside_kept _ _ saved none_open st.at.inside;
@@ -65,7 +67,7 @@ module _ (x : Goal) (old : Engine) (store : ListBindings) (made : Vec Ref Global
     stands = subst (λ s. Stands g st.at.inside.lives st.at.ways (path_of s r) n v run) (sym steps_same) stands;
   }
 
-  pub fails_behind : (g : Game) (n : ℕ) (w v : World) (run : Run) → InWorld v → (st : TakesAt x old g n w run) → Failed g st.at.inside.lives n v run → FailsAt grown g n v run
+  pub fails_behind : (g : Game) (n : ℕ) (w v : World) (run : Run) → InWorld old.outside g v → (st : TakesAt x old g n w run) → Failed g st.at.inside.lives n v run → FailsAt grown g n v run
   fails_behind g n w v run none_open st h = record {
     inside = inside_kept _ _ saved none_open st.at.inside;
     failed = h;
@@ -194,9 +196,9 @@ adds_printed (p ∷ ps) w =
       typed = a.typed;
     }
 
-world_printed : (ps : List (List ℕ)) (w : World) → InWorld w → InWorld (all_printed ps w)
-world_printed [] w none_open = none_open
-world_printed (p ∷ ps) w none_open = world_printed ps (printed (Piece p) w) none_open
+world_printed : (out : Outside) (g : Game) (ps : List (List ℕ)) (w : World) → InWorld out g w → InWorld out g (all_printed ps w)
+world_printed out g [] w is = is
+world_printed out g (p ∷ ps) w is = world_printed out g ps (printed (Piece p) w) is
 
 module _ (term : Term) (old : Engine) (store : ListBindings) (made : Vec Ref Global) (value : Ref) (ready : IsReady old) (k : Kept (store_in old.store) (store_in store)) (saved : (ms : List Saved) → KeepsPlaces old.store ms → KeepsPlaces store ms)
     (written : (program : CoreProgram) → Made (cells program (term ∷ [])) (store_in old.store) (store_in store) value (value_of program (values_in (store_in old.store) old.refs.items old.here.env) term)) where
@@ -234,7 +236,7 @@ module _ (term : Term) (old : Engine) (store : ListBindings) (made : Vec Ref Glo
       record {
         world = all_printed ps before;
         adds = record { prints_are = b.prints_are ∙ ap (λ l. l ++ map Piece ps) (a.prints_are ∙ append-nil (prints w.events)); typed = b.typed };
-        holds = stands_behind y old store made ready k saved g n w (all_printed ps before) run (world_printed ps before st.at.inside.world) st r (agrees_behind y term (print_held term) old store value written g n w run st) refl refl stands;
+        holds = stands_behind y old store made ready k saved g n w (all_printed ps before) run (world_printed old.outside g ps before st.at.inside.world) st r (agrees_behind y term (print_held term) old store value written g n w run st) refl refl stands;
       }
 
   pub wrote_printed : WrotePrinted term value old new

@@ -62,6 +62,8 @@ module _ (mid : Engine) (store : ListBindings) (same : store_in store ≡ store_
     limits = record {
       heap = subst (λ t. t.heap_limit ≡ (store_in old.store).heap_limit) (sym same) h.limits.heap;
       trail = subst (λ t. t.trail_limit ≡ (store_in old.store).trail_limit) (sym same) h.limits.trail;
+      aux = h.limits.aux;
+      keep = h.limits.keep;
     };
     holds = subst (λ t. Holds t value) (sym same) h.holds;
     leads = λ g n w run st.

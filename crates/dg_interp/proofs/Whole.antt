@@ -3,9 +3,9 @@ use Rattle.std.proofs.Common.{◌≡◌, ℕ, suc, ◌-◌, ◌<◌, ◌≤◌, 
 use Rattle.std.proofs.lemmas.Bool.{cases_lt}
 use Rattle.std.proofs.lemmas.List.{append-nil}
 use Rattle.std.specs.Prelude.{Result, Ok, Err, IfOk, IfErr}
-use Rattle.dg_base.specs.declared.run.Ending.TheVariants.{HeapLimit, TrailLimit}
+use Rattle.dg_base.specs.declared.run.Ending.TheVariants.{HeapLimit, TrailLimit, AuxLimit, KeepLimit}
 use Rattle.dg_meaning.specs.OneRun.{Begins}
-use Rattle.dg_meaning.specs.Peaks.{Area, Heap, Trail, limit_of, limit_ending, peak}
+use Rattle.dg_meaning.specs.Peaks.{Area, Heap, Trail, Aux, Keep, limit_of, limit_ending, peak}
 use Rattle.dg_meaning.proofs.OneRun.{begins_same}
 use Rattle.dg_meaning.proofs.Limits.{later_run, limit_covers}
 use Rattle.dg_meaning.proofs.Dropping.{prints_append}
@@ -15,6 +15,8 @@ use Rattle.dg_base.specs.declared.run.RunFault.TheVariants.{Read, Write, OutOfMe
 use Rattle.dg_base.specs.declared.run.Limits.{Limits}
 use Rattle.dg_meaning.specs.World.{Game, World, Event, Print, prints}
 use Rattle.dg_meaning.specs.Render.{render}
+use Rattle.dg_meaning.specs.Facts.{kinds_of, kept_size, start_facts}
+use Rattle.dg_meaning.specs.Search.{search}
 use Rattle.dg_meaning.specs.Transcript.{Run, run, start_world, text_of, line_of, no_memory_line, closing, closed, transcript}
 use Rattle.dg_meaning.specs.Shows.{IsLeft, ShowsLimit, ShowsNoMemory, MayWrite, whole, without_memory}
 use Rattle.dg_meaning.proofs.Search.{run_within}
@@ -23,8 +25,11 @@ use Rattle.dg_interp.specs.declared.engine.Engine.{Engine}
 use Rattle.dg_base.specs.Written.{SinkView, Wrote, BrokeOff}
 use Rattle.dg_spacing.specs.Spacer.{StandsFor}
 use Rattle.dg_meaning.specs.Growth.{ending_line}
-use Rattle.dg_interp.specs.Engine.{limit_in, store_in, Starts}
-use Rattle.dg_interp.specs.Running.{HasText, Reaches, HasEnded, MeetsLimit, Ended, HasPart, IsBroken}
+use Rattle.dg_interp.specs.declared.lack.Lack.{Lack}
+use Rattle.dg_interp.specs.declared.lack.Lack.TheVariants as lack
+use Rattle.dg_interp.specs.Outside.{LacksAtStart}
+use Rattle.dg_interp.specs.Engine.{limit_in, Starts}
+use Rattle.dg_interp.specs.Running.{limit_of as ending_of_lack, HasText, Reaches, HasEnded, MeetsLimit, Ended, HasPart, IsBroken}
 use Rattle.dg_interp.specs.Interpret.{game, ForTyped, HasShown, HasLostOutput, HasLostMemory}
 use Rattle.dg_base.proofs.WrittenLemmas.{wrote_nothing, wrote_on, broke_first, broke_later}
 
@@ -70,7 +75,7 @@ the_part p q w h k b =
       | inr ge ↦ record { part = p; prints_are = refl; until = h; since = begins_shorter q p w k h ge }
     ]
 
-module _ (program : CoreProgram) (limits : Limits) (e : Engine) (starts : Starts program limits.steps limits.heap limits.trail e) (s s' : Spacer) (k k' : SinkView) (new : StandsFor s []) (dice typed : List ℕ) where
+module _ (program : CoreProgram) (limits : Limits) (e : Engine) (dice : List ℕ) (starts : Starts program limits dice e) (s s' : Spacer) (k k' : SinkView) (new : StandsFor s []) (typed : List ℕ) where
   abbrev g : Game
   g = game program dice
 
@@ -82,26 +87,26 @@ module _ (program : CoreProgram) (limits : Limits) (e : Engine) (starts : Starts
   no_text = record { stands = new; wrote = wrote_nothing k }
 
   reached : (P : World → Run → SinkView → Type 0) → Reaches e s k P → P (start_world g typed) r k
-  reached P h = subst (λ n. P (start_world g typed) (run g typed n) k) starts.left (h g (start_world g typed) (run g typed e.left) k (starts.stands g e.left typed refl) no_text)
+  reached P h = subst (λ n. P (start_world g typed) (run g typed n) k) starts.left (h g (start_world g typed) (run g typed e.left) k (starts.stands g e.left typed refl refl) no_text)
 
   -- ## A limit
 
   meets_within : (area : Area) (left : ℕ) → MeetsLimit area left e s s' k k' → left ≤ limits.steps
   meets_within area left m = omega (arith, m.left_is, starts.left)
 
-  module _ (area : Area) (left : ℕ) (m : MeetsLimit area left e s s' k k') (same : limit_in area (store_in e.store) ≡ limit_of area limits) where
+  module _ (area : Area) (left : ℕ) (m : MeetsLimit area left e s s' k k') (same : limit_in area e ≡ limit_of area limits) where
     abbrev whole_run : Run
     whole_run = run g typed (suc m.goals)
 
     part_is : IsPart m.added (run g typed m.goals).world.events whole_run.world.events
     part_is =
-        let t = m.until g (start_world g typed) whole_run (starts.stands g (suc m.goals) typed refl) in
-        let b = m.since g (start_world g typed) (run g typed m.goals) (starts.stands g m.goals typed refl) in
+        let t = m.until g (start_world g typed) whole_run (starts.stands g (suc m.goals) typed refl refl) in
+        let b = m.since g (start_world g typed) (run g typed m.goals) (starts.stands g m.goals typed refl refl) in
         subst (λ l. IsPart l (run g typed m.goals).world.events whole_run.world.events) t.adds.prints_are
         (the_part t.world.events (run g typed m.goals).world.events whole_run.world.events t.holds (later_run g typed m.goals (suc m.goals) (omega arith)).events (subst (Begins (prints (run g typed m.goals).world.events)) (sym t.adds.prints_are) b))
 
     passed_limit : limit_of area limits < peak area g typed (suc m.goals)
-    passed_limit = subst (λ n. n < peak area g typed (suc m.goals)) same (m.passed g (start_world g typed) whole_run (starts.stands g (suc m.goals) typed refl))
+    passed_limit = subst (λ n. n < peak area g typed (suc m.goals)) same (m.passed g (start_world g typed) whole_run (starts.stands g (suc m.goals) typed refl refl))
 
     taken_goals : limits.steps - left ≡ suc m.goals
     taken_goals = omega (arith, m.left_is, starts.left)
@@ -180,16 +185,22 @@ module _ (program : CoreProgram) (limits : Limits) (e : Engine) (starts : Starts
   pub left_within : (ending : Ending) (left : ℕ) → Ended ending left e s s' k k' → left ≤ limits.steps
   left_within HeapLimit left m = meets_within Heap left m
   left_within TrailLimit left m = meets_within Trail left m
+  left_within AuxLimit left m = meets_within Aux left m
+  left_within KeepLimit left m = meets_within Keep left m
   left_within ending left h = run_left ending left h
 
   pub has_shown : (k'' : SinkView) (ending : Ending) (left : ℕ) (told : Option (List ℕ)) → Ended ending left e s s' k k' → ((es : List Print) → StandsFor s' es → Wrote k' k'' (ending_line es (line_of ending))) → IsLeft told typed → HasShown g typed limits (record { ending = ending; goals = limits.steps - left }) told k k''
-  has_shown k'' HeapLimit left told m close is = limit_shown Heap left m starts.heap_limit k'' told close
-  has_shown k'' TrailLimit left told m close is = limit_shown Trail left m starts.trail_limit k'' told close
+  has_shown k'' HeapLimit left told m close is = limit_shown Heap left m (starts.limits_are Heap) k'' told close
+  has_shown k'' TrailLimit left told m close is = limit_shown Trail left m (starts.limits_are Trail) k'' told close
+  has_shown k'' AuxLimit left told m close is = limit_shown Aux left m (starts.limits_are Aux) k'' told close
+  has_shown k'' KeepLimit left told m close is = limit_shown Keep left m (starts.limits_are Keep) k'' told close
   has_shown k'' ending left told h close is = run_shown k'' ending left told h close is
 
   pub closing_lost : (k'' : SinkView) (ending : Ending) (left : ℕ) → Ended ending left e s s' k k' → ((es : List Print) → StandsFor s' es → BrokeOff k' k'' (ending_line es (line_of ending))) → HasLostOutput g typed limits k k''
-  closing_lost k'' HeapLimit left m close = limit_lost Heap left m starts.heap_limit k'' close
-  closing_lost k'' TrailLimit left m close = limit_lost Trail left m starts.trail_limit k'' close
+  closing_lost k'' HeapLimit left m close = limit_lost Heap left m (starts.limits_are Heap) k'' close
+  closing_lost k'' TrailLimit left m close = limit_lost Trail left m (starts.limits_are Trail) k'' close
+  closing_lost k'' AuxLimit left m close = limit_lost Aux left m (starts.limits_are Aux) k'' close
+  closing_lost k'' KeepLimit left m close = limit_lost Keep left m (starts.limits_are Keep) k'' close
   closing_lost k'' ending left h close = run_lost k'' ending left h close
 
   pub text_lost : Reaches e s k (IsBroken Write s' k') → HasLostOutput g typed limits k k'
@@ -222,6 +233,78 @@ module _ (program : CoreProgram) (limits : Limits) (e : Engine) (starts : Starts
         may_write = without_memory (shows_part x);
         broke = broke_later k k' k'' (text_of x.part) (ending_line (prints x.part) no_memory_line) x.text.wrote (close (prints x.part) x.text.stands);
       }
+
+-- ## What is lacking at the start
+
+module _ (program : CoreProgram) (limits : Limits) (dice typed : List ℕ) (s : Spacer) (new : StandsFor s []) (k k' : SinkView) where
+  abbrev the_game : Game
+  the_game = game program dice
+
+  nothing_taken : (run the_game typed 0).world ≡ start_world the_game typed
+  unfolding run search
+  nothing_taken = refl
+
+  nothing_written : Wrote k k (text_of [])
+  unfolding render
+  nothing_written = wrote_nothing k
+
+  start_shows : limits.keep < kept_size (kinds_of program) (start_facts program.places) → ShowsLimit the_game typed limits (closed [] (line_of KeepLimit)) (record { ending = KeepLimit; goals = 0 })
+  start_shows over =
+      let events : (run the_game typed 0).world.events ≡ [] = ap (λ (w : World). w.events) nothing_taken in
+      let passed : limits.keep < (run the_game typed 0).world.meters.keep = subst (λ (w : World). limits.keep < w.meters.keep) (sym nothing_taken) over in
+      let since : Begins (run the_game typed 0).world.events [] = subst (λ l. Begins l []) (sym events) (record { behind = []; is = refl }) in
+      record {
+        area = Keep;
+        ending = refl;
+        goals = omega arith;
+        passed = passed;
+        part = [];
+        text = refl;
+        until = record { behind = (run the_game typed 0).world.events; is = refl };
+        since = since;
+        none_before_the_first = λ none. refl;
+        covers = λ n le within. limit_covers the_game typed limits Keep 0 [] passed since n within;
+      }
+
+  pub start_shown : (l : Lack) (ending : Ending) (told : Option (List ℕ)) → LacksAtStart program limits.keep l → Ok ending ≡ ending_of_lack l → ((es : List Print) → StandsFor s es → Wrote k k' (ending_line es (line_of ending))) → HasShown the_game typed limits (record { ending = ending; goals = 0 }) told k k'
+  start_shown lack.Keep ending told over e close =
+      let same : KeepLimit ≡ ending = cc in
+      subst (λ x. HasShown the_game typed limits (record { ending = x; goals = 0 }) told k k') same
+      (record { bytes = closed [] (line_of KeepLimit); shows = inr (start_shows over); wrote = wrote_on k k k' (text_of []) (ending_line [] (line_of KeepLimit)) nothing_written (subst (λ x. Wrote k k' (ending_line [] (line_of x))) (sym same) (close [] new)) })
+  start_shown lack.OutOfMemory ending told over e close = absurd (cc)
+  start_shown lack.Heap ending told over e close = absurd over
+  start_shown lack.Trail ending told over e close = absurd over
+  start_shown lack.Aux ending told over e close = absurd over
+
+  pub start_lost : (l : Lack) (ending : Ending) → LacksAtStart program limits.keep l → Ok ending ≡ ending_of_lack l → ((es : List Print) → StandsFor s es → BrokeOff k k' (ending_line es (line_of ending))) → HasLostOutput the_game typed limits k k'
+  start_lost lack.Keep ending over e close =
+      let same : KeepLimit ≡ ending = cc in
+      record {
+        bytes = closed [] (line_of KeepLimit);
+        may_write = whole (record { ending = KeepLimit; goals = 0 }) None (inr (start_shows over));
+        broke = broke_later k k k' (text_of []) (ending_line [] (line_of KeepLimit)) nothing_written (subst (λ x. BrokeOff k k' (ending_line [] (line_of x))) (sym same) (close [] new));
+      }
+  start_lost lack.OutOfMemory ending over e close = absurd (cc)
+  start_lost lack.Heap ending over e close = absurd over
+  start_lost lack.Trail ending over e close = absurd over
+  start_lost lack.Aux ending over e close = absurd over
+
+  start_forgets : ShowsNoMemory the_game typed limits (closed [] no_memory_line)
+  start_forgets = record { part = []; text = refl; until = record { behind = (run the_game typed limits.steps).world.events; is = refl } }
+
+  pub start_memory : ((es : List Print) → StandsFor s es → Wrote k k' (ending_line es no_memory_line)) → HasLostMemory the_game typed limits k k'
+  start_memory close = record {
+    bytes = closed [] no_memory_line;
+    shows = start_forgets;
+    wrote = wrote_on k k k' (text_of []) (ending_line [] no_memory_line) nothing_written (close [] new);
+  }
+
+  pub start_memory_lost : ((es : List Print) → StandsFor s es → BrokeOff k k' (ending_line es no_memory_line)) → HasLostOutput the_game typed limits k k'
+  start_memory_lost close = record {
+    bytes = closed [] no_memory_line;
+    may_write = without_memory start_forgets;
+    broke = broke_later k k k' (text_of []) (ending_line [] no_memory_line) nothing_written (close [] new);
+  }
 
 -- for the typed bytes that are told, or for none
 pub for_typed : (told : Option (List ℕ)) (P : List ℕ → Type 0) → ((typed : List ℕ) → IsLeft told typed → P typed) → ForTyped told P

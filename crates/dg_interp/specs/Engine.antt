@@ -7,6 +7,7 @@ use Rattle.dg_base.specs.declared.program.Goal.TheOpen.{Text, Print as PrintForm
 use Rattle.dg_base.specs.declared.program.Term.{Term}
 use Rattle.dg_base.specs.declared.program.CoreProgram.{CoreProgram}
 use Rattle.dg_base.specs.declared.run.Ending.{Ending}
+use Rattle.dg_base.specs.declared.run.Limits.{Limits}
 use Rattle.dg_base.specs.declared.run.Ending.TheVariants.{Done as Done-Ending, Failed as Failed-Ending, Stopped}
 use Rattle.dg_meaning.specs.World.{Game, World, Print, Piece, prints}
 use Rattle.dg_meaning.specs.Substitutions.{resolved}
@@ -16,7 +17,7 @@ use Rattle.dg_meaning.specs.Moves.{path_of}
 use Rattle.dg_meaning.specs.Transcript.{Run, run, start_world}
 use Rattle.dg_meaning.specs.Context.{Way, Live}
 use Rattle.dg_meaning.specs.Keeps.{Stands, Failed, Finished, Tried, WentOn as LeftPart}
-use Rattle.dg_meaning.specs.Peaks.{Area, Heap, Trail, greatest}
+use Rattle.dg_meaning.specs.Peaks.{Area, Heap, Trail, Aux, Keep, greatest, limit_of}
 use Rattle.dg_meaning.specs.Built.{IsBuilt, IsBuiltGoal, AreBuilt}
 use Rattle.dg_unify.specs.Store.{Store, Saved, Holds, told}
 use Rattle.dg_unify.specs.Engines.{Agrees, IsPlace as IsPlaceOf}
@@ -33,6 +34,10 @@ use Rattle.dg_interp.specs.declared.frames.Left.TheVariants.{Behind}
 use Rattle.dg_interp.specs.declared.frames.Frame.{Frame}
 use Rattle.dg_interp.specs.declared.frames.Choice.{Choice}
 use Rattle.dg_interp.specs.declared.engine.Engine.{Engine}
+use Rattle.dg_interp.specs.declared.lack.Lack.{Lack}
+use Rattle.dg_interp.specs.declared.outside.Outside.{Outside}
+use Rattle.dg_interp.specs.Lacks.{area_of}
+use Rattle.dg_interp.specs.Outside.{InWorld}
 use Rattle.dg_interp.specs.declared.engine.Settled.{Settled}
 use Rattle.dg_interp.specs.declared.engine.Settled.TheVariants as settled
 use Rattle.dg_interp.specs.Frames.{values_in, steps_at, kind_of, branches_of, AreChoices, IsFrame, AreFrames, StandOn, GoBackTo, lives_of, ways_of, noting, all_left}
@@ -73,9 +78,9 @@ pub record IsReady (e : Engine) : Type 0 where
 
 -- ## What it stands for
 
--- What an engine has of a world: no gathering is open.
-abbrev pub InWorld : World → Type 0
-InWorld w = w.gathered ≡ []
+-- How many gatherings are open.
+abbrev pub open_in : Engine → ℕ
+open_in e = length e.outside.gathered.rows
 
 -- Where a run may be: the game, the goals left of its budget, its world, and all that it comes to.
 abbrev pub Point : Type 1
@@ -85,8 +90,9 @@ Point = Game → ℕ → World → Run → Type 0
 abbrev pub steps_of : Engine → List Step
 steps_of e = steps_at (values_in (store_in e.store) e.refs.items) e.frames.items e.here
 
--- A program, a store, Refs, frames and choices are in this world, inside choices of the meaning.
-pub record Within (p : CoreProgram) (store : ListBindings) (refs : List Ref) (frames : List Frame) (os : List Choice) (g : Game) (w : World) : Type 0 where
+-- A program, what is outside, a store, Refs, frames and choices are in this world, inside choices of the meaning.
+pub record Within (p : CoreProgram) (out : Outside) (store : ListBindings) (refs : List Ref) (frames : List Frame) (os : List Choice)
+    (g : Game) (w : World) : Type 0 where
   pub program : p ≡ g.program
   pub entries : List Live
   pub lives : List Live
@@ -94,16 +100,16 @@ pub record Within (p : CoreProgram) (store : ListBindings) (refs : List Ref) (fr
   pub saved : List Saved
   pub keeps : KeepsPlaces store saved
   pub choices : AreChoices g refs frames os saved entries
-  pub world : InWorld w
+  pub world : InWorld out g w
 
 -- The same of an engine.
 abbrev pub Inside : Engine → Game → World → Type 0
-Inside e g w = Within e.program.now e.store e.refs.items e.frames.items (reverse e.choices.items) g w
+Inside e g w = Within e.program.now e.outside e.store e.refs.items e.frames.items (reverse e.choices.items) g w
 
 -- They are there on a path with these registers, on which the next choice has this tag, inside this stoppable part.
-pub record On (p : CoreProgram) (store : ListBindings) (refs : List Ref) (frames : List Frame) (os : List Choice) (next : ℕ) (part : Option ℕ)
-    (g : Game) (w : World) : Type 0 where
-  pub inside : Within p store refs frames os g w
+pub record On (p : CoreProgram) (out : Outside) (store : ListBindings) (refs : List Ref) (frames : List Frame) (os : List Choice) (next : ℕ)
+    (part : Option ℕ) (g : Game) (w : World) : Type 0 where
+  pub inside : Within p out store refs frames os g w
   pub ways : List Way
   pub ways_are : ways ≡ ways_of os inside.entries
   pub registers : Registers
@@ -113,7 +119,7 @@ pub record On (p : CoreProgram) (store : ListBindings) (refs : List Ref) (frames
 
 -- The same of an engine.
 abbrev pub There : Engine → ℕ → Game → World → Type 0
-There e next g w = On e.program.now e.store e.refs.items e.frames.items (reverse e.choices.items) next e.stoppable g w
+There e next g w = On e.program.now e.outside e.store e.refs.items e.frames.items (reverse e.choices.items) next e.stoppable g w
 
 -- The run comes from where the engine is, with so many goals left of its budget.
 pub record StandsAt (e : Engine) (g : Game) (n : ℕ) (w : World) (run : Run) : Type 0 where
@@ -138,14 +144,20 @@ pub record Then (es : List Print) (w : World) (P : World → Type 0) : Type 0 wh
 
 -- ## What its parts do
 
--- It stands at the start of each run of the program, and its store has these limits.
-pub record Starts (program : CoreProgram) (n heap trail : ℕ) (e : Engine) : Type 0 where
+-- The limit that an engine has.
+abbrev pub limit_in : Area → Engine → ℕ
+limit_in Heap e = (store_in e.store).heap_limit
+limit_in Trail e = (store_in e.store).trail_limit
+limit_in Aux e = e.outside.gathered.aux
+limit_in Keep e = e.outside.world.area.keep
+
+-- It stands at the start of each run of the program with these dice words, and has these limits.
+pub record Starts (program : CoreProgram) (limits : Limits) (dice : List ℕ) (e : Engine) : Type 0 where
   pub ready : IsReady e
   pub goal : 0 < length e.here.goals.now
-  pub left : e.left ≡ n
-  pub heap_limit : (store_in e.store).heap_limit ≡ heap
-  pub trail_limit : (store_in e.store).trail_limit ≡ trail
-  pub stands : (g : Game) (n : ℕ) (typed : List ℕ) → g.program ≡ program → StandsAt e g n (start_world g typed) (run g typed n)
+  pub left : e.left ≡ limits.steps
+  pub limits_are : (area : Area) → limit_in area e ≡ limit_of area limits
+  pub stands : (g : Game) (n : ℕ) (typed : List ℕ) → g.program ≡ program → g.dice ≡ dice → StandsAt e g n (start_world g typed) (run g typed n)
 
 -- A run that comes from one point comes from the other, and nothing was printed.
 abbrev pub Leads : Point → Point → Type 0
@@ -155,26 +167,31 @@ Leads From To = (g : Game) (n : ℕ) (w : World) (run : Run) → From g n w run 
 abbrev pub Ends : Point → Result → Type 0
 Ends From result = Leads From (λ g n v run. Finished n v result run)
 
--- The limit that a store has.
-abbrev pub limit_in : Area → Store → ℕ
-limit_in Heap s = s.heap_limit
-limit_in Trail s = s.trail_limit
-limit_in other s = 0
+-- Each run that comes from there passes this limit of an area.
+abbrev pub PassesLimit : Area → Point → ℕ → Type 0
+PassesLimit area From limit = (g : Game) (n : ℕ) (w : World) (run : Run) → From g n w run → limit < greatest area run.world.meters
 
--- Each run that comes from there passes the limit of an area.
-abbrev pub PassesLimit : Area → Point → Store → Type 0
-PassesLimit area From s = (g : Game) (n : ℕ) (w : World) (run : Run) → From g n w run → limit_in area s < greatest area run.world.meters
-
--- A limit was met: each run that comes from there passes it.
+-- A limit of a store was met: each run that comes from there passes it.
 abbrev pub FullAt : Point → Store → Full → Type 0
-FullAt From s full.Heap = PassesLimit Heap From s
-FullAt From s full.Trail = PassesLimit Trail From s
+FullAt From s full.Heap = PassesLimit Heap From s.heap_limit
+FullAt From s full.Trail = PassesLimit Trail From s.trail_limit
 FullAt From s full.OutOfMemory = Unit {0}
+
+-- The limit of an area was met, if it is one that has a limit.
+abbrev pub LacksIn : Option Area → Point → Engine → Type 0
+LacksIn None From e = Unit {0}
+LacksIn (Some area) From e = PassesLimit area From (limit_in area e)
+
+-- What an engine lacks: each run that comes from there passes that limit.
+abbrev pub LackAt : Point → Engine → Lack → Type 0
+LackAt From e lack = LacksIn (area_of lack) From e
 
 -- The limits are the same.
 pub record SameLimits (old new : Engine) : Type 0 where
   pub heap : (store_in new.store).heap_limit ≡ (store_in old.store).heap_limit
   pub trail : (store_in new.store).trail_limit ≡ (store_in old.store).trail_limit
+  pub aux : new.outside.gathered.aux ≡ old.outside.gathered.aux
+  pub keep : new.outside.world.area.keep ≡ old.outside.world.area.keep
 
 -- An open stoppable part stays where a cut is made that isn't younger, and the cut waits in it; no other choice does.
 abbrev pub waits_in : ℕ → Choice → Left → Option Choice
@@ -347,7 +364,7 @@ pub record BeginsAt (left : Left) (place : Place) (e : Engine) (g : Game) (n : �
   pub back : Saved
   pub is : IsPlace e place back at.inside.saved
   pub back_agrees : Agrees back.store at.registers
-  pub tried : Tried g (kind_of left) at.registers.next_tag 0 at.ways at.inside.lives
+  pub tried : Tried g (kind_of left) at.registers.next_tag (open_in e) at.ways at.inside.lives
       (branches_of g (values_in (store_in e.store) e.refs.items) e.frames.items (length e.frames.items) left at.registers) n w run
 
 -- A choice, or what stands in step with it, in front of others where it stays.
@@ -363,7 +380,7 @@ Retries From (Some begun) old new = Tries From begun old new × (branches_left n
 -- The run comes from the first of these branches, in a choice that opens where the engine is.
 pub record OpensAt (left : Left) (e : Engine) (g : Game) (n : ℕ) (w : World) (run : Run) : Type 0 where
   pub at : There e (e.newest + 1) g w
-  pub tried : Tried g (kind_of left) at.registers.next_tag 0 at.ways at.inside.lives
+  pub tried : Tried g (kind_of left) at.registers.next_tag (open_in e) at.ways at.inside.lives
       (branches_of g (values_in (store_in e.store) e.refs.items) e.frames.items (length e.frames.items) left at.registers) n w run
 
 -- A frame was put behind the others; all else is as it was.

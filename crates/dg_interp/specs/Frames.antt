@@ -139,7 +139,7 @@ abbrev pub ways_of : List Choice → List Live → List WayOn
 ways_of (o ∷ os) (c ∷ cs) = with_way o.left c (ways_of os cs)
 ways_of os cs = []
 
--- An engine's choice, which goes back to this store, is one of the meaning, outside gatherings and inside these stoppable parts.
+-- An engine's choice, which goes back to this store, is one of the meaning, inside so many gatherings and these stoppable parts.
 pub record IsChoice (g : Game) (refs : List Ref) (fs : List Frame) (o : Choice) (m : Saved) (ws : List WayOn) (c : Live) : Type 0 where
   pub registers : Registers
   pub agrees : Agrees m.store registers
@@ -150,7 +150,7 @@ pub record IsChoice (g : Game) (refs : List Ref) (fs : List Frame) (o : Choice) 
   pub kind : c.kind ≡ kind_of o.left
   pub tag : c.tag ≡ o.tag
   pub others : c.others ≡ branches_of g (values_in m.store refs) fs o.height o.left registers
-  pub height : c.height ≡ 0
+  pub height : c.height ≡ o.gathered
   pub ways_on : c.ways_on ≡ ws
 
 -- An engine's choices, the newest first, are those of the meaning.

@@ -8,3 +8,5 @@ pub mod Interpret
 pub mod Passing
 pub mod Comparing
 pub mod Giving
+pub mod Lacks
+pub mod Outside

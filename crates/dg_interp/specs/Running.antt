@@ -1,21 +1,21 @@
 -- What an engine, a spacer and a sink come to together. Hold it against the Dialog manual, chapter "Output".
 use Rattle.std.specs.Prelude.{ℕ, suc, ◌+◌, ◌≡◌, ◌<◌, ◌++◌, List, Option, Some, None, Bool, true, false, Result, Ok, Err, length}
 use Rattle.dg_base.specs.declared.run.Ending.{Ending}
-use Rattle.dg_base.specs.declared.run.Ending.TheVariants.{Failed, HeapLimit, TrailLimit}
+use Rattle.dg_base.specs.declared.run.Ending.TheVariants.{Failed, HeapLimit, TrailLimit, AuxLimit, KeepLimit}
 use Rattle.dg_base.specs.declared.run.RunFault.{RunFault}
 use Rattle.dg_base.specs.declared.run.RunFault.TheVariants.{Read, Write, OutOfMemory}
 use Rattle.dg_meaning.specs.World.{Game, World, Event, Print, prints}
 use Rattle.dg_meaning.specs.Render.{render}
 use Rattle.dg_meaning.specs.Transcript.{Run, text_of}
 use Rattle.dg_meaning.specs.OneRun.{Begins}
-use Rattle.dg_meaning.specs.Peaks.{Area, Heap, Trail, greatest}
-use Rattle.dg_unify.specs.declared.bindings.Full.{Full}
-use Rattle.dg_unify.specs.declared.bindings.Full.TheVariants as full
+use Rattle.dg_meaning.specs.Peaks.{Area, Heap, Trail, Aux, Keep, greatest, limit_ending}
 use Rattle.dg_spacing.specs.declared.spacer.Spacer.{Spacer}
 use Rattle.dg_interp.specs.declared.engine.Engine.{Engine}
+use Rattle.dg_interp.specs.declared.lack.Lack.{Lack}
+use Rattle.dg_interp.specs.Lacks.{area_of}
 use Rattle.dg_base.specs.Written.{SinkView, Wrote, BrokeOff}
 use Rattle.dg_spacing.specs.Spacer.{StandsFor}
-use Rattle.dg_interp.specs.Engine.{store_in, limit_in, IsReady, StandsAt, SameLimits, Then}
+use Rattle.dg_interp.specs.Engine.{limit_in, IsReady, StandsAt, SameLimits, Then}
 
 -- Since the start the sink took the text of these things, and the spacer stands for them.
 pub record HasText (s : Spacer) (start now : SinkView) (es : List Print) : Type 0 where
@@ -62,7 +62,7 @@ pub record MeetsLimit (area : Area) (left : ℕ) (old : Engine) (s s' : Spacer) 
   pub goals : ℕ
   pub left_is : old.left ≡ suc goals + left
   pub added : List Print
-  pub passed : (g : Game) (w : World) (run : Run) → StandsAt old g (suc goals) w run → limit_in area (store_in old.store) < greatest area run.world.meters
+  pub passed : (g : Game) (w : World) (run : Run) → StandsAt old g (suc goals) w run → limit_in area old < greatest area run.world.meters
   pub until : (g : Game) (w : World) (run : Run) → StandsAt old g (suc goals) w run → Then added w (λ v. Begins v.events run.world.events)
   pub since : (g : Game) (w : World) (run : Run) → StandsAt old g goals w run → Begins (prints run.world.events) (prints w.events ++ added)
   pub writes : Writes s s' before now added
@@ -71,6 +71,8 @@ pub record MeetsLimit (area : Area) (left : ℕ) (old : Engine) (s s' : Spacer) 
 abbrev pub Ended : Ending → ℕ → Engine → Spacer → Spacer → SinkView → SinkView → Type 0
 Ended HeapLimit left old s s' before now = MeetsLimit Heap left old s s' before now
 Ended TrailLimit left old s s' before now = MeetsLimit Trail left old s s' before now
+Ended AuxLimit left old s s' before now = MeetsLimit Aux left old s s' before now
+Ended KeepLimit left old s s' before now = MeetsLimit Keep left old s s' before now
 Ended ending left old s s' before now = Reaches old s before (HasEnded ending left s' now)
 
 -- What was printed up to some moment of the run was written.
@@ -95,16 +97,21 @@ abbrev pub Does : Option Ending → Engine → Engine → Spacer → Spacer → 
 Does None old new s s' before now = GoesOn old new s s' before now × (old.left ≡ suc new.left)
 Does (Some ending) old new s s' before now = Ended ending new.left old s s' before now
 
--- The ending of a run that met a limit; want of memory is a fault.
-abbrev pub limit_of : Full → Result Ending RunFault
-limit_of full.Heap = Ok HeapLimit
-limit_of full.Trail = Ok TrailLimit
-limit_of full.OutOfMemory = Err OutOfMemory
+-- The ending of a run that met the limit of an area; want of memory is a fault.
+abbrev pub ending_at : Option Area → Result Ending RunFault
+ending_at None = Err OutOfMemory
+ending_at (Some area) = Ok (limit_ending area)
 
--- What a goal comes to whose branch has begun, or which has failed, or met a limit.
-abbrev pub outcome_of : Result Bool Full → Result (Option Ending) RunFault
+abbrev pub limit_of : Lack → Result Ending RunFault
+limit_of lack = ending_at (area_of lack)
+
+-- The run is over.
+abbrev pub over : Result Ending RunFault → Result (Option Ending) RunFault
+over (Ok ending) = Ok (Some ending)
+over (Err fault) = Err fault
+
+-- What a goal comes to whose branch has begun, or which has failed, or lacked something.
+abbrev pub outcome_of : Result Bool Lack → Result (Option Ending) RunFault
 outcome_of (Ok true) = Ok None
 outcome_of (Ok false) = Ok (Some Failed)
-outcome_of (Err full.Heap) = Ok (Some HeapLimit)
-outcome_of (Err full.Trail) = Ok (Some TrailLimit)
-outcome_of (Err full.OutOfMemory) = Err OutOfMemory
+outcome_of (Err lack) = over (limit_of lack)

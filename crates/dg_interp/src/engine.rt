@@ -1,5 +1,5 @@
 // Open choices and linked frames, in place of the search's recursion.
-ghost use Rattle.std.specs.Prelude.{◌≡◌, ◌≢◌, true, false, ◌+◌, ◌<◌, ◌≤◌, ◌^◌, IfOk, IfErr, OnOk, MatchResult, List, [], ◌∷◌, All, length, reverse, slice_get};
+ghost use Rattle.std.specs.Prelude.{◌≡◌, ◌≢◌, ℕ, true, false, ◌+◌, ◌<◌, ◌≤◌, ◌^◌, IfOk, IfErr, OnOk, MatchResult, List, [], ◌∷◌, All, length, reverse, slice_get};
 ghost use Rattle.dg_base.specs.declared.program.Goal.TheVariants.{Ask, Print as PrintGoal, Equal as EqualGoal, Test as TestGoal, Compare as CompareGoal, Fail as FailGoal, Just as JustGoal};
 ghost use Rattle.dg_meaning.specs.Moves.{rules_of as the_rules};
 ghost use Rattle.dg_meaning.specs.Built.{IsBuilt};
@@ -8,12 +8,14 @@ ghost use Rattle.dg_interp.specs.declared.frames.Left.TheVariants.{Rules, Lists,
 ghost use Rattle.dg_unify.specs.declared.bindings.Full.TheVariants.{OutOfMemory as WantOfMemory};
 ghost use Rattle.dg_interp.specs.declared.frames.Left.{Left as TheLeft};
 ghost use Rattle.dg_interp.specs.Frames.{IsFrame, BeginsWith, IsNoPart, cut_of, noting, IsLeft, stays_with, left_in, floor_of, stretch as the_stretch, values_in, EndsBy, cells_if};
-ghost use Rattle.dg_interp.specs.Engine.{Starts, left_by, IsSound, IsReady, StandsAt, FailsAt, TakesAt, BeginsAt, OpensAt, IsPushed, HasPlace, Cuts, Passes, Settles, FrameLeft, GoesToGoal, GoesBack, Retries, Taken, Branches, WentOn, Tries, FullAt, store_in, pieces_at, WrotePrinted, StaysBut, branches_left, KeepsPlaces, kept_if};
+ghost use Rattle.dg_interp.specs.Engine.{Starts, left_by, IsSound, IsReady, StandsAt, FailsAt, TakesAt, BeginsAt, OpensAt, IsPushed, HasPlace, Cuts, Passes, Settles, FrameLeft, GoesToGoal, GoesBack, Retries, Taken, Branches, WentOn, Tries, FullAt, LackAt, store_in, open_in, pieces_at, WrotePrinted, StaysBut, branches_left, KeepsPlaces, kept_if};
 ghost use Rattle.dg_base.specs.declared.program.CoreProgram.{CoreProgram as Program};
+ghost use Rattle.dg_base.specs.declared.run.Limits.{Limits as TheLimits};
 ghost use Rattle.dg_meaning.specs.Cells.{cells};
 ghost use Rattle.dg_meaning.specs.Closures.{HasNoClosure};
 ghost use Rattle.dg_interp.specs.Rules.{EntersRule, RuleFull, ArgsWritten};
 ghost use Rattle.dg_interp.specs.Terms.{Overflows};
+ghost use Rattle.dg_interp.specs.Outside.{StartsOutside};
 ghost use Rattle.dg_interp.specs.Passing.{IsFirst, IsCandidate};
 ghost use Rattle.dg_interp.specs.Printing.{Printed};
 ghost use Rattle.dg_unify.specs.Store.{Saved, Kept, Holds, Charged};
@@ -25,7 +27,9 @@ mod passing;
 mod stopping;
 
 use crate::frames::{Choice, Env, Frame, Left, Mark, Query};
+use crate::lack::{Lack, lacking};
 use crate::matching::unify_all;
+use crate::outside::Outside;
 use crate::passing::{choice_cells, pass};
 use crate::printing::print_value;
 use crate::terms::{new_variables, write_both, write_term, write_terms};
@@ -41,6 +45,7 @@ use std::alloc::{AllocError, Global};
 #[derive(Drop)]
 pub struct Engine<'p> {
     program: &'p CoreProgram,
+    outside: Outside<'p>,
     store: ListBindings,
     refs: Vec<Ref>,
     frames: Vec<Frame<'p>>,
@@ -239,13 +244,16 @@ impl<'p> Engine<'p> {
         left: u64,
         heap: u32,
         trail: u32,
+        outside: Outside<'p>,
     ) -> Engine<'p>
         requires built { IsBuilt program.now }
         requires entry { entry.now ≡ Ask program.now.entry [] false ∷ [] }
-        ensures starts { Starts program.now left heap trail result }
+        ensures starts { (limits : TheLimits) → (dice : List ℕ) → limits.steps ≡ left → limits.heap ≡ heap → limits.trail ≡ trail →
+            StartsOutside program.now limits dice outside.entry → Starts program.now limits dice result }
     {
         Engine {
             program,
+            outside,
             store: ListBindings::new(alloc, heap, trail),
             refs: Vec::new(alloc),
             frames: Vec::new(alloc),
@@ -262,6 +270,13 @@ impl<'p> Engine<'p> {
             stoppable: None,
             left,
         }
+    }
+
+    /// How many gatherings are open.
+    fn gatherings(&self) -> usize
+        ensures { result ≡ open_in self.now }
+    {
+        self.outside.gathered.height().0
     }
 
     /// Does the mark behind the goals at hand, of which none is left; false where what is negated was answered.
@@ -378,6 +393,7 @@ impl<'p> Engine<'p> {
             left: Left::Rules(query, args, others),
             height,
             refs,
+            gathered: self.gatherings(),
             place,
             stoppable: self.stoppable,
         };
@@ -457,6 +473,7 @@ impl<'p> Engine<'p> {
             left: others,
             height,
             refs,
+            gathered: self.gatherings(),
             place,
             stoppable: self.stoppable,
         };
@@ -552,6 +569,7 @@ impl<'p> Engine<'p> {
                 }
                 self.frames.truncate(choice.height);
                 self.refs.truncate(choice.refs);
+                self.outside.close_to(choice.gathered);
                 self.store.undo(choice.place);
                 self.newest = choice.tag;
                 self.stoppable = choice.stoppable;
@@ -581,10 +599,10 @@ impl<'p> Engine<'p> {
     }
 
     /// Goes on to the next goal; else the run has ended so.
-    pub fn next_goal(&mut self) -> Result<Option<Ending>, Full>
+    pub fn next_goal(&mut self) -> Result<Option<Ending>, Lack>
         requires ready { IsReady self.old }
         ensures next { IfOk result (λ ending. GoesToGoal (StandsAt self.old) ending self.old self.new) }
-        ensures full { IfErr result (λ e. FullAt (StandsAt self.old) (store_in self.old.store) e) }
+        ensures lacks { IfErr result (λ lack. LackAt (StandsAt self.old) self.old lack) }
         ensures left { self.new.left ≡ self.old.left }
     {
         'answers: loop {
@@ -592,7 +610,7 @@ impl<'p> Engine<'p> {
                 Settled::Goal => return Ok(None),
                 Settled::Done => return Ok(Some(Ending::Done)),
                 Settled::Refused => match self.back() {
-                    Err(e) => return Err(e),
+                    Err(full) => return Err(lacking(full)),
                     Ok(true) => {}
                     Ok(false) => return Ok(Some(Ending::Failed)),
                 },

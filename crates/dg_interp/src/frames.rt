@@ -50,14 +50,15 @@ pub enum Left<'p> {
     Behind(Frame<'p>, Option<u64>),
 }
 
-/// A choice with branches left, the numbers of frames and of Refs that stand behind them, the place of the store to which
-/// they go back, and the stoppable part that they are in.
+/// A choice with branches left, the numbers of frames, of Refs and of open gatherings that stand behind them, the place of
+/// the store to which they go back, and the stoppable part that they are in.
 #[derive(Clone, Copy, Drop)]
 pub struct Choice<'p> {
     pub tag: u64,
     pub left: Left<'p>,
     pub height: usize,
     pub refs: usize,
+    pub gathered: usize,
     pub place: Place,
     pub stoppable: Option<u64>,
 }

@@ -4,11 +4,15 @@ ghost use Rattle.dg_base.specs.Causes.{Rose};
 ghost use Rattle.dg_meaning.specs.Transcript.{line_of};
 ghost use Rattle.dg_meaning.specs.Built.{IsBuilt};
 ghost use Rattle.dg_meaning.specs.Shows.{IsLeft};
+ghost use Rattle.dg_base.specs.Sound.{IsSound};
 ghost use Rattle.dg_interp.specs.Engine.{Starts};
+ghost use Rattle.dg_interp.specs.Outside.{LacksAtStart};
 ghost use Rattle.dg_interp.specs.Interpret.{game, ForTyped, HasShown, HasBrokenOff};
 
 use crate::engine::Engine;
-use crate::run::run;
+use crate::lack::Lack;
+use crate::outside::Outside;
+use crate::run::{limit, run};
 use dg_base::{CoreProgram, Ending, Goal, Items, Limits, Outcome, RunFault, Sink, Source};
 use dg_spacing::Spacer;
 use std::alloc::Global;
@@ -29,18 +33,19 @@ fn line(ending: Ending) -> &'static [u8]
     }
 }
 
-/// Does a run from its start, and writes its text and its closing.
+/// Does a run from its start, and writes its text and its closing. The dice words are those of the engine.
 fn write_run<K: Sink>(
     program: &CoreProgram,
     limits: &Limits,
+    dice: &[u16],
     engine: &mut Engine<'_>,
     sink: &mut K,
 ) -> Result<Outcome, RunFault>
-    requires starts { Starts program.now limits.now.steps limits.now.heap limits.now.trail engine.old }
-    ensures shows { IfOk result (λ outcome. (dice : List ℕ) (typed : List ℕ) (told : Option (List ℕ)) → IsLeft told typed →
-        HasShown (game program.now dice) typed limits.now outcome told (K.view sink.old) (K.view sink.new)) }
-    ensures err { IfErr result (λ fault. (dice : List ℕ) (typed : List ℕ) (told : Option (List ℕ)) → IsLeft told typed →
-        HasBrokenOff fault (game program.now dice) typed limits.now told (K.view sink.old) (K.view sink.new)) }
+    requires starts { Starts program.now limits.now dice.now engine.old }
+    ensures shows { IfOk result (λ outcome. (typed : List ℕ) (told : Option (List ℕ)) → IsLeft told typed →
+        HasShown (game program.now dice.now) typed limits.now outcome told (K.view sink.old) (K.view sink.new)) }
+    ensures err { IfErr result (λ fault. (typed : List ℕ) (told : Option (List ℕ)) → IsLeft told typed →
+        HasBrokenOff fault (game program.now dice.now) typed limits.now told (K.view sink.old) (K.view sink.new)) }
     ensures reads { IsErrOf result RunFault.Read → ⊥ }
 {
     let mut spacer = Spacer::new();
@@ -61,6 +66,34 @@ fn write_run<K: Sink>(
     }
 }
 
+/// Closes the text of a run that lacks something before its first goal.
+fn write_lack<K: Sink>(
+    program: &CoreProgram,
+    limits: &Limits,
+    dice: &[u16],
+    lack: Lack,
+    sink: &mut K,
+) -> Result<Outcome, RunFault>
+    requires lacks { LacksAtStart program.now limits.now.keep lack }
+    ensures shows { IfOk result (λ outcome. (typed : List ℕ) → (told : Option (List ℕ)) →
+        HasShown (game program.now dice.now) typed limits.now outcome told (K.view sink.old) (K.view sink.new)) }
+    ensures err { IfErr result (λ fault. (typed : List ℕ) → (told : Option (List ℕ)) →
+        HasBrokenOff fault (game program.now dice.now) typed limits.now told (K.view sink.old) (K.view sink.new)) }
+    ensures reads { IsErrOf result RunFault.Read → ⊥ }
+{
+    let mut spacer = Spacer::new();
+    match limit(lack) {
+        Ok(ending) => match spacer.close(sink, line(ending)) {
+            Ok(()) => Ok(Outcome { ending, goals: 0 }),
+            Err(_) => Err(RunFault::Write),
+        },
+        Err(_) => match spacer.close(sink, b"[No memory]\n") {
+            Ok(()) => Err(RunFault::OutOfMemory),
+            Err(_) => Err(RunFault::Write),
+        },
+    }
+}
+
 /// Runs a program, and writes its transcript.
 pub fn interpret<S: Source, K: Sink>(
     alloc: Global,
@@ -72,6 +105,7 @@ pub fn interpret<S: Source, K: Sink>(
 ) -> Result<Outcome, RunFault>
     requires dice { 0 < length dice.now }
     requires built { IsBuilt program.now }
+    requires sound { IsSound program.now }
     ensures shows { IfOk result (λ outcome. ForTyped (S.view source.old).left
         (λ typed. HasShown (game program.now dice.now) typed limits.now outcome (S.view source.new).left (K.view sink.old) (K.view sink.new))) }
     ensures err { IfErr result (λ fault. ForTyped (S.view source.old).left
@@ -79,14 +113,20 @@ pub fn interpret<S: Source, K: Sink>(
     ensures read { IsErrOf result RunFault.Read → Rose (S.view source.old).faults (S.view source.new).faults }
     ensures later { (S.view source.old).faults ≤ (S.view source.new).faults }
 {
-    let entry = [Goal::Ask(program.entry, Items::new(alloc), false)];
-    let mut engine = Engine::new(
-        alloc,
-        program,
-        &entry,
-        limits.steps,
-        limits.heap,
-        limits.trail,
-    );
-    write_run(program, limits, &mut engine, sink)
+    match Outside::new(alloc, program, limits, dice) {
+        Err(lack) => write_lack(program, limits, dice, lack, sink),
+        Ok(outside) => {
+            let entry = [Goal::Ask(program.entry, Items::new(alloc), false)];
+            let mut engine = Engine::new(
+                alloc,
+                program,
+                &entry,
+                limits.steps,
+                limits.heap,
+                limits.trail,
+                outside,
+            );
+            write_run(program, limits, dice, &mut engine, sink)
+        }
+    }
 }

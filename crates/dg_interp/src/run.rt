@@ -9,29 +9,31 @@ ghost use Rattle.dg_meaning.specs.World.{GapOf};
 ghost use Rattle.dg_spacing.specs.Gaps.{print_of};
 
 use crate::engine::Engine;
+use crate::lack::{Lack, lacking, stored};
 use dg_base::{Ending, GapKind, Goal, RunFault, Sink, Term};
 use dg_spacing::{Event, Spacer};
-use dg_unify::Full;
 
-/// The ending of a run that met a limit.
-fn limit(full: Full) -> Result<Ending, RunFault>
-    ensures { result ≡ limit_of full }
+/// The ending of a run that lacks something.
+pub fn limit(lack: Lack) -> Result<Ending, RunFault>
+    ensures { result ≡ limit_of lack }
 {
-    match full {
-        Full::Heap => Ok(Ending::HeapLimit),
-        Full::Trail => Ok(Ending::TrailLimit),
-        Full::OutOfMemory => Err(RunFault::OutOfMemory),
+    match lack {
+        Lack::Heap => Ok(Ending::HeapLimit),
+        Lack::Trail => Ok(Ending::TrailLimit),
+        Lack::Aux => Ok(Ending::AuxLimit),
+        Lack::Keep => Ok(Ending::KeepLimit),
+        Lack::OutOfMemory => Err(RunFault::OutOfMemory),
     }
 }
 
-/// What a goal comes to whose branch has begun, or which has failed, or met a limit.
-fn outcome(done: Result<bool, Full>) -> Result<Option<Ending>, RunFault>
+/// What a goal comes to whose branch has begun, or which has failed, or lacked something.
+fn outcome(done: Result<bool, Lack>) -> Result<Option<Ending>, RunFault>
     ensures { result ≡ outcome_of done }
 {
     match done {
         Ok(true) => Ok(None),
         Ok(false) => Ok(Some(Ending::Failed)),
-        Err(full) => match limit(full) {
+        Err(lack) => match limit(lack) {
             Ok(ending) => Ok(Some(ending)),
             Err(fault) => Err(fault),
         },
@@ -66,8 +68,8 @@ fn print_spaces<K: Sink>(
         IfErr result (λ fault. Reaches old spacer.old (K.view sink.old) (IsBroken fault spacer.new (K.view sink.new))) }
 {
     match engine.spaces(term) {
-        Err(full) => outcome(Err(full)),
-        Ok(None) => outcome(engine.back()),
+        Err(full) => outcome(Err(lacking(full))),
+        Ok(None) => outcome(stored(engine.back())),
         Ok(Some(count)) => match spacer.event(sink, Event::Spaces(count)) {
             Ok(()) => Ok(None),
             Err(_) => Err(RunFault::Write),
@@ -98,7 +100,7 @@ fn do_goal<K: Sink>(
             Err(_) => Err(RunFault::Write),
         },
         Goal::Print(term) => match engine.write_printed(term) {
-            Err(full) => outcome(Err(full)),
+            Err(full) => outcome(Err(lacking(full))),
             Ok(value) => match engine.print(spacer, sink, value) {
                 Ok(()) => Ok(None),
                 Err(_) => Err(RunFault::Write),
@@ -134,7 +136,7 @@ fn turn<K: Sink>(
         Ok(Some(ending)) => Ok(Some(ending)),
         Ok(None) => match engine.next_goal() {
             Ok(ending) => Ok(ending),
-            Err(full) => match limit(full) {
+            Err(lack) => match limit(lack) {
                 Ok(ending) => Ok(Some(ending)),
                 Err(fault) => Err(fault),
             },

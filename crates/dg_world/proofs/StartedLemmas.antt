@@ -1,9 +1,10 @@
 -- What tables and kept lists stand for at the start.
-use Rattle.std.proofs.Common.{◌≡◌, ℕ, zero, suc, ◌+◌, ◌<◌, ◌≤◌, List, [], ◌∷◌, ◌++◌, Bool, true, false, cond, Option, Some, None, map, refl, sym, ap, ◌∙◌, subst, arith, length, get_or, take, drop, length-append, replicate}
-use Rattle.std.specs.Prelude.{nat_eq, ◌&&◌}
+use Rattle.std.proofs.Common.{◌≡◌, ℕ, zero, suc, ◌+◌, ◌<◌, ◌≤◌, List, [], ◌∷◌, ◌++◌, Bool, true, false, cond, Option, Some, None, map, refl, sym, ap, ◌∙◌, subst, arith, inl, inr, length, get_or, take, drop, length-append, replicate}
+use Rattle.std.specs.Prelude.{nat_eq, nat_le, ◌&&◌}
 use Rattle.std.specs.List.{slice_get, All}
 use Rattle.std.specs.Option.{option_map}
 use Rattle.std.proofs.Math.ListN.{set}
+use Rattle.std.proofs.lemmas.Bool.Decides.{leb_tells}
 use Rattle.std.proofs.lemmas.Bool.{cases_eq, eqb-true, eq-eqb, cond-true, cond-false}
 use Rattle.std.proofs.lemmas.List.{length-set, length-replicate, get_or-set_same, get_or-set_other, take-append-drop, take_all, map_more, take-map}
 use Rattle.std.proofs.lemmas.List.Elements.{All-head, All-tail}
@@ -217,14 +218,23 @@ front_fits ls i =
     let behind = joined (drop i ls) in
     omega (arith, ap (λ l. length (joined l)) (sym (take-append-drop i ls)), ap length (joined_append (take i ls) (drop i ls)), length-append (joined (take i ls)) behind)
 
+-- one place more
+pub next_joined : (places : List Place) (i : ℕ) (place : Place) → slice_get places i ≡ Some place → length (joined (map starting_cells (take (i + 1) places))) ≡ length (joined (map starting_cells (take i places))) + length (starting_cells place)
+next_joined places i place e =
+    let so_far = map starting_cells (take i places) in
+    let is : map starting_cells (take (i + 1) places) ≡ so_far ++ starting_cells place ∷ [] = map_more starting_cells places i place (slice_get_within places i place e) ∙ ap (λ (x : Place). so_far ++ starting_cells x ∷ []) (get_or_from_slice_get places i place place e) in
+    omega (arith, ap (λ l. length (joined l)) is, ap length (joined_push so_far (starting_cells place)), length-append (joined so_far) (starting_cells place))
+
+pub kept_at_start : (places : List Place) (objects : ℕ) → All (HasStarts objects) places → kept_size (kinds_of places) (start_facts places) ≡ length (joined (map starting_cells places))
+kept_at_start places objects fit = kept_is 0 (kinds_of places) (start_facts places) ∙ ap (λ l. length (joined l)) (sym (lists_at_start places objects fit))
+
+pub front_kept : (places : List Place) (objects i : ℕ) → All (HasStarts objects) places → length (joined (map starting_cells (take i places))) ≤ kept_size (kinds_of places) (start_facts places)
+front_kept places objects i fit =
+    omega (arith, front_fits (map starting_cells places) i, ap (λ l. length (joined l)) (take-map starting_cells i places), kept_at_start places objects fit)
+
+pub over_size : (size keep : ℕ) → keep < size → false ≡ nat_le size keep
+over_size size keep h = elim (leb_tells size keep) [ | inl within ↦ absurd (omega (arith, within.1, h)) | inr above ↦ sym above.0 ]
+
 pub next_fits : (places : List Place) (objects keep i : ℕ) (place : Place) → All (HasStarts objects) places → kept_size (kinds_of places) (start_facts places) ≤ keep → slice_get places i ≡ Some place
     → length (joined (map starting_cells (take i places))) + length (starting_cells place) ≤ keep
-next_fits places objects keep i place fit room e =
-    let so_far = map starting_cells (take i places) in
-    let lt = slice_get_within places i place e in
-    let is : map starting_cells (take (i + 1) places) ≡ so_far ++ starting_cells place ∷ [] = map_more starting_cells places i place lt ∙ ap (λ (x : Place). so_far ++ starting_cells x ∷ []) (get_or_from_slice_get places i place place e) in
-    let front = front_fits (map starting_cells places) (i + 1) in
-    let cut = ap (λ l. length (joined l)) (take-map starting_cells (i + 1) places ∙ is) in
-    let all = kept_is 0 (kinds_of places) (start_facts places) in
-    let same = ap (λ l. length (joined l)) (lists_at_start places objects fit) in
-    omega (arith, front, cut, all, same, room, ap length (joined_push so_far (starting_cells place)), length-append (joined so_far) (starting_cells place))
+next_fits places objects keep i place fit room e = omega (arith, front_kept places objects (i + 1) fit, next_joined places i place e, room)

@@ -1,5 +1,5 @@
 // The world: what is set at each place.
-ghost use Rattle.std.specs.Prelude.{◌≡◌, ℕ, ◌<◌, ◌≤◌, List, All, IfOk, Option, Some, None, Ok, is_some, slice_get, option_map, if◌then◌else◌};
+ghost use Rattle.std.specs.Prelude.{◌≡◌, ℕ, ◌<◌, ◌≤◌, List, All, IfOk, Option, Some, None, Ok, is_some, slice_get, option_map, nat_le, if◌then◌else◌};
 ghost use Rattle.std.specs.Option.{option_copied};
 ghost use Rattle.std.specs.List.{list_any};
 ghost use Rattle.dg_base.specs.declared.program.PlaceKind.{PlaceKind};
@@ -59,6 +59,27 @@ impl World {
             area.push(&cells)?;
         }
         Ok(World { tables, area })
+    }
+
+    /// Whether so many cells suffice for what starts kept at these places.
+    pub fn starts_within(
+        alloc: Global,
+        places: &[Place],
+        objects: u16,
+        keep: u32,
+    ) -> Result<bool, AllocError>
+        requires starts { All (HasStarts objects) places.now }
+        ensures { IfOk result (λ yes. yes ≡ nat_le (kept_size (outline_of places.now objects keep).kinds (start_facts places.now)) keep) }
+    {
+        let mut room = keep as usize;
+        for place in places {
+            let cells = cells_of_place(alloc, place)?;
+            if cells.len() > room {
+                return Ok(false);
+            }
+            room -= cells.len();
+        }
+        Ok(true)
     }
 
     // What is kept of a place.

@@ -2,16 +2,17 @@
 ghost use Rattle.std.specs.Prelude.{◌≡◌, ◌+◌, ◌<◌, ◌^◌, [], ◌∷◌, IfOk, IfErr};
 ghost use Rattle.dg_base.specs.declared.program.Goal.{out-Goal};
 ghost use Rattle.dg_meaning.specs.Built.{AreBuilt, IsBuiltGoal};
-ghost use Rattle.dg_interp.specs.Engine.{IsReady, TakesAt, Branches, FullAt, IsAct, IsAgain, store_in};
+ghost use Rattle.dg_interp.specs.Engine.{IsReady, TakesAt, Branches, FullAt, LackAt, IsAct, IsAgain, store_in};
 
 use super::Engine;
 use crate::frames::{Frame, Query};
+use crate::lack::{Lack, stored};
 use dg_base::Goal;
 use dg_unify::Full;
 
 impl<'p> Engine<'p> {
-    /// Does a goal that was taken from this frame; false where the run has failed.
-    pub fn act(&mut self, goal: &'p Goal, again: Frame<'p>) -> Result<bool, Full>
+    /// Does a goal that was taken from this frame, and needs room in its store alone; false where the run has failed.
+    fn act_on_store(&mut self, goal: &'p Goal, again: Frame<'p>) -> Result<bool, Full>
         requires ready { IsReady self.old }
         requires room { self.old.newest + 1 + self.old.left < 2 ^ 64 }
         requires built { AreBuilt (goal.now ∷ []) }
@@ -47,5 +48,20 @@ impl<'p> Engine<'p> {
             Goal::Fail => self.fail(),
             _ => unreachable!(),
         }
+    }
+
+    /// Does a goal that was taken from this frame; false where the run has failed.
+    pub fn act(&mut self, goal: &'p Goal, again: Frame<'p>) -> Result<bool, Lack>
+        requires ready { IsReady self.old }
+        requires room { self.old.newest + 1 + self.old.left < 2 ^ 64 }
+        requires built { AreBuilt (goal.now ∷ []) }
+        requires form { IsBuiltGoal goal.now }
+        requires act { IsAct (out-Goal goal.now) }
+        requires again { IsAgain goal.now again self.old }
+        ensures done { IfOk result (λ found. Branches (TakesAt goal.entry.now self.old) found self.old self.new) }
+        ensures lacks { IfErr result (λ lack. LackAt (TakesAt goal.entry.now self.old) self.old lack) }
+        ensures left { self.new.left ≡ self.old.left }
+    {
+        stored(self.act_on_store(goal, again))
     }
 }

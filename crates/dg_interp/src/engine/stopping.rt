@@ -46,6 +46,7 @@ impl<'p> Engine<'p> {
             left: Left::Behind(self.here, None),
             height: self.frames.len(),
             refs: self.refs.len(),
+            gathered: self.gatherings(),
             place,
             stoppable: outer,
         };
@@ -81,6 +82,7 @@ impl<'p> Engine<'p> {
                     cut(&mut self.choices, older);
                     self.frames.truncate(choice.height);
                     self.refs.truncate(choice.refs);
+                    self.outside.close_to(choice.gathered);
                     self.store.undo(choice.place);
                     self.newest = choice.tag;
                     self.stoppable = choice.stoppable;

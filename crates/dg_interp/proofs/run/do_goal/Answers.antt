@@ -1,7 +1,8 @@
 use Rattle.std.proofs.Common.{subst}
 use Rattle.std.specs.Prelude.{Err}
 use Rattle.dg_base.specs.declared.program.Goal.TheVariants.{Print}
-use Rattle.dg_interp.proofs.Runs.{one_done, one_lost, word_prints, gap_prints, value_done, value_lost, is_act, goal_does, goal_breaks, goal_quits, goal_stops, goal_stopped}
+use Rattle.dg_interp.specs.Engine.{TakesAt}
+use Rattle.dg_interp.proofs.Runs.{lack_from, one_done, one_lost, word_prints, gap_prints, value_done, value_lost, is_act, goal_does, goal_breaks, goal_quits, goal_stops, goal_stopped}
 use Rattle.dg_meaning.specs.World.{Piece}
 use Rattle.dg_spacing.specs.Gaps.{print_of}
 use Rattle.dg_interp.proofs.Values.{print_plain}
@@ -32,10 +33,10 @@ returns-in-Err-event-clause-err g c =
 
 pub returns-in-Err-write_printed-clause-ok : goal.returns-in-Err-write_printed-clause-ok
 returns-in-Err-write_printed-clause-ok g c =
-    goal_does (Print c.in-Print.term) c.args.engine.now c.take_goal.new.self c.args.spacer.now _ c.requires.goal (rw c.in-Print.is at c.take_goal.ensures.taken) c.write_printed.new.self c.write_printed.ensures.left (Err c.in-Err-write_printed.full) c.outcome.result c.outcome.ensures tt c.in-Err-write_printed.ensures.full
+    goal_does (Print c.in-Print.term) c.args.engine.now c.take_goal.new.self c.args.spacer.now _ c.requires.goal (rw c.in-Print.is at c.take_goal.ensures.taken) c.write_printed.new.self c.write_printed.ensures.left (Err c.lacking.result) c.outcome.result c.outcome.ensures tt (rw c.lacking.ensures (lack_from (TakesAt (Print c.in-Print.term) c.take_goal.new.self) c.take_goal.new.self c.in-Err-write_printed.full c.in-Err-write_printed.ensures.full))
 
 pub returns-in-Err-write_printed-clause-err : goal.returns-in-Err-write_printed-clause-err
-returns-in-Err-write_printed-clause-err g c = goal_breaks c.take_goal.result.now c.args.engine.now c.take_goal.new.self c.args.spacer.now _ c.requires.goal c.take_goal.ensures.taken (Err c.in-Err-write_printed.full) c.outcome.result c.outcome.ensures
+returns-in-Err-write_printed-clause-err g c = goal_breaks c.take_goal.result.now c.args.engine.now c.take_goal.new.self c.args.spacer.now _ c.requires.goal c.take_goal.ensures.taken (Err c.lacking.result) c.outcome.result c.outcome.ensures
 
 pub returns-in-Ok-print-clause-ok : goal.returns-in-Ok-print-clause-ok
 returns-in-Ok-print-clause-ok g c =
@@ -61,7 +62,7 @@ act-requires-clause-act g c = is_act c.take_goal.result.now c.in_default.not-Tex
 
 pub returns-in_default-clause-ok : goal.returns-in_default-clause-ok
 returns-in_default-clause-ok g c =
-    goal_does c.take_goal.result.now c.args.engine.now c.take_goal.new.self c.args.spacer.now _ c.requires.goal c.take_goal.ensures.taken c.act.new.self c.act.ensures.left c.act.result c.outcome-in_default.result c.outcome-in_default.ensures c.act.ensures.done c.act.ensures.full
+    goal_does c.take_goal.result.now c.args.engine.now c.take_goal.new.self c.args.spacer.now _ c.requires.goal c.take_goal.ensures.taken c.act.new.self c.act.ensures.left c.act.result c.outcome-in_default.result c.outcome-in_default.ensures c.act.ensures.done c.act.ensures.lacks
 
 pub returns-in_default-clause-err : goal.returns-in_default-clause-err
 returns-in_default-clause-err g c = goal_breaks c.take_goal.result.now c.args.engine.now c.take_goal.new.self c.args.spacer.now _ c.requires.goal c.take_goal.ensures.taken c.act.result c.outcome-in_default.result c.outcome-in_default.ensures

@@ -2,31 +2,35 @@ use Rattle.std.proofs.Common.{subst, ◌∙◌, None, Some}
 use Rattle.std.specs.Prelude.{Err}
 use Rattle.dg_base.specs.declared.program.Goal.TheVariants.{GapN}
 use Rattle.dg_meaning.specs.World.{SpacesOf}
-use Rattle.dg_interp.specs.Engine.{store_in, FailsAt, TakesAt}
+use Rattle.dg_interp.specs.Engine.{store_in, FailsAt, TakesAt, Branches}
 use Rattle.dg_interp.specs.Giving.{TellsSpaces}
 use Rattle.dg_interp.proofs.Branches.{full_made, back_made}
-use Rattle.dg_interp.proofs.Runs.{goal_does, goal_breaks}
+use Rattle.dg_interp.proofs.Runs.{lack_from, stored_done, stored_lacks, goal_does, goal_breaks}
 use Rattle.dg_interp.proofs.Spaces.{told_done, told_lost}
 use Rattle.dg_interp.proofs.run.print_spaces.Goals as goal
 
 pub returns-in-Err-clause-ok : goal.returns-in-Err-clause-ok
 returns-in-Err-clause-ok g c = λ old some taken.
-    goal_does (GapN c.args.term.now) old c.args.engine.now c.args.spacer.now _ some taken c.spaces.new.self c.spaces.ensures.left (Err c.in-Err.full) c.outcome.result c.outcome.ensures tt c.in-Err.ensures.full
+    goal_does (GapN c.args.term.now) old c.args.engine.now c.args.spacer.now _ some taken c.spaces.new.self c.spaces.ensures.left (Err c.lacking.result) c.outcome.result c.outcome.ensures tt (rw c.lacking.ensures (lack_from (TakesAt (GapN c.args.term.now) c.args.engine.now) c.args.engine.now c.in-Err.full c.in-Err.ensures.full))
 
 pub returns-in-Err-clause-err : goal.returns-in-Err-clause-err
-returns-in-Err-clause-err g c = λ old some taken. goal_breaks (GapN c.args.term.now) old c.args.engine.now c.args.spacer.now _ some taken (Err c.in-Err.full) c.outcome.result c.outcome.ensures
+returns-in-Err-clause-err g c = λ old some taken. goal_breaks (GapN c.args.term.now) old c.args.engine.now c.args.spacer.now _ some taken (Err c.lacking.result) c.outcome.result c.outcome.ensures
 
 pub returns-in-Ok-None-clause-ok : goal.returns-in-Ok-None-clause-ok
 returns-in-Ok-None-clause-ok g c = λ old some taken.
     let mid = c.args.engine.now in
     let e = c.spaces.new.self in
     let wrong : TellsSpaces c.args.term.now None mid e = subst (λ o. TellsSpaces c.args.term.now o mid e) c.in-Ok-None.field-0-is c.in-Ok-None.ensures.told in
-    goal_does (GapN c.args.term.now) old mid c.args.spacer.now _ some taken c.back.new.self (c.back.ensures.left ∙ c.spaces.ensures.left) c.back.result c.outcome-in-Ok-None.result c.outcome-in-Ok-None.ensures
-    (back_made (TakesAt (GapN c.args.term.now) mid) (FailsAt e) mid e c.back.new.self wrong.left wrong.limits wrong.leads c.back.result c.back.ensures.back)
-    (full_made (TakesAt (GapN c.args.term.now) mid) (FailsAt e) (store_in mid.store) (store_in e.store) c.back.result wrong.limits.heap wrong.limits.trail wrong.leads c.back.ensures.full)
+    goal_does (GapN c.args.term.now) old mid c.args.spacer.now _ some taken c.back.new.self (c.back.ensures.left ∙ c.spaces.ensures.left) c.stored.result c.outcome-in-Ok-None.result c.outcome-in-Ok-None.ensures
+    (rw c.stored.ensures
+    (stored_done (λ found. Branches (TakesAt (GapN c.args.term.now) mid) found mid c.back.new.self) c.back.result
+    (back_made (TakesAt (GapN c.args.term.now) mid) (FailsAt e) mid e c.back.new.self wrong.left wrong.limits wrong.leads c.back.result c.back.ensures.back)))
+    (rw c.stored.ensures
+    (stored_lacks (TakesAt (GapN c.args.term.now) mid) mid c.back.result
+    (full_made (TakesAt (GapN c.args.term.now) mid) (FailsAt e) (store_in mid.store) (store_in e.store) c.back.result wrong.limits.heap wrong.limits.trail wrong.leads c.back.ensures.full)))
 
 pub returns-in-Ok-None-clause-err : goal.returns-in-Ok-None-clause-err
-returns-in-Ok-None-clause-err g c = λ old some taken. goal_breaks (GapN c.args.term.now) old c.args.engine.now c.args.spacer.now _ some taken c.back.result c.outcome-in-Ok-None.result c.outcome-in-Ok-None.ensures
+returns-in-Ok-None-clause-err g c = λ old some taken. goal_breaks (GapN c.args.term.now) old c.args.engine.now c.args.spacer.now _ some taken c.stored.result c.outcome-in-Ok-None.result c.outcome-in-Ok-None.ensures
 
 pub back-requires : goal.back-requires
 back-requires g c =

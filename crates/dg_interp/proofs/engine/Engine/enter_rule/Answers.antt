@@ -25,7 +25,7 @@ returns-in-Ok-false-clause-tried c =
     let r : c.len-refs.result ≡ length c.args.self.now.refs.items = search rules in
     rule_wrong c.args.self.now c.args.query c.args.args c.args.rules _ c.rule-item.result c.args.place c.keep.new.store c.keep.new.choices c.requires.sound c.requires.left c.requires.place
     (first_and_rest all c.rule-item.result (length all - 1) c.requires.some c.rule-item.is (omega arith)) c.args.first c.requires.first c.requires.candidate c.keep.ensures.kept c.keep.ensures.saved (rw (c.choice_cells-cells.ensures ∙ ap (choice_cells c.args.args.len) c.pass.ensures) at c.in_default-keep.ensures.taken) c.enter.new.store c.enter.new.refs c.enter.new.head c.in-Ok-false.field-0
-    (rw h at (rw r at c.in_default-keep.ensures.choices)) c.enter.ensures.kept c.enter.ensures.saved c.in-Ok-false.ensures.entered c.in-Ok-false.field-0-test
+    (rw h at (rw r at (rw c.gatherings.ensures at c.in_default-keep.ensures.choices))) c.enter.ensures.kept c.enter.ensures.saved c.in-Ok-false.ensures.entered c.in-Ok-false.field-0-test
 
 pub returns-in-Ok-true-clause-tried : goal.returns-in-Ok-true-clause-tried
 returns-in-Ok-true-clause-tried c =
@@ -36,7 +36,7 @@ returns-in-Ok-true-clause-tried c =
     (rw r
     (rule_begun c.args.self.now c.args.query c.args.args c.args.rules _ c.rule-item.result c.args.place c.keep.new.store c.keep.new.choices c.requires.sound c.requires.left c.requires.place
     (first_and_rest all c.rule-item.result (length all - 1) c.requires.some c.rule-item.is (omega arith)) c.args.first c.requires.first c.requires.candidate c.keep.ensures.kept c.keep.ensures.saved (rw (c.choice_cells-cells.ensures ∙ ap (choice_cells c.args.args.len) c.pass.ensures) at c.in_default-keep.ensures.taken) c.enter.new.store c.enter.new.refs c.enter.new.head c.in-Ok-true.field-0
-    (rw h at (rw r at c.in_default-keep.ensures.choices)) c.enter.ensures.kept c.enter.ensures.saved c.in-Ok-true.ensures.entered c.as_slice.result c.as_slice.ensures c.in-Ok-true.field-0-test))
+    (rw h at (rw r at (rw c.gatherings.ensures at c.in_default-keep.ensures.choices))) c.enter.ensures.kept c.enter.ensures.saved c.in-Ok-true.ensures.entered c.as_slice.result c.as_slice.ensures c.in-Ok-true.field-0-test))
 
 pub enter-requires-clause-plain : goal.enter-requires-clause-plain
 enter-requires-clause-plain c =

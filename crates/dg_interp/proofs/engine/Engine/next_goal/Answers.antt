@@ -2,6 +2,7 @@ use Rattle.dg_base.specs.declared.run.Ending.TheVariants.{Done}
 use Rattle.dg_meaning.specs.Path.{Failing, End}
 use Rattle.dg_interp.specs.Engine.{FailsAt, StandsAt, store_in}
 use Rattle.dg_interp.proofs.Places.{went_nowhere, went_wrong}
+use Rattle.dg_interp.proofs.Runs.{lack_from}
 use Rattle.dg_interp.proofs.Branches.{at_goal_from, refused_on, ended_from, full_from}
 use Rattle.dg_interp.proofs.engine.Engine.next_goal.Goals as goal
 
@@ -16,10 +17,12 @@ returns-in-Done-clause-next c =
     let w = c.answers.invariant in
     ended_from (StandsAt c.args.self.now) (StandsAt c.answers.self) (End Done) c.args.self.now c.answers.self c.settle.new.self w.left w.leads c.in-Done.ensures.settles
 
-pub returns-in-Err-clause-full : goal.returns-in-Err-clause-full
-returns-in-Err-clause-full c =
+pub returns-in-Err-clause-lacks : goal.returns-in-Err-clause-lacks
+returns-in-Err-clause-lacks c =
     let w = went_wrong (StandsAt c.args.self.now) c.args.self.now c.answers.self c.settle.new.self c.answers.invariant c.in-Refused.ensures.settles.wrong in
-    full_from (StandsAt c.args.self.now) (FailsAt c.settle.new.self) (store_in c.args.self.now.store) (store_in c.settle.new.self.store) c.in-Err.e w.limits.heap w.limits.trail w.leads c.in-Err.ensures.full
+    rw c.lacking.ensures
+    (lack_from (StandsAt c.args.self.now) c.args.self.now c.in-Err.full
+    (full_from (StandsAt c.args.self.now) (FailsAt c.settle.new.self) (store_in c.args.self.now.store) (store_in c.settle.new.self.store) c.in-Err.full w.limits.heap w.limits.trail w.leads c.in-Err.ensures.full))
 
 pub returns-in-Ok-false-clause-next : goal.returns-in-Ok-false-clause-next
 returns-in-Ok-false-clause-next c =

@@ -17,4 +17,4 @@ undo-requires c = may_undo c.args.self.now c.in-Some.choice c.pop.new.self c.req
 
 pub returns-in-Some-part_of : goal.returns-in-Some-part_of
 returns-in-Some-part_of c =
-    part_reached c.args.self.now c.in-Some.choice c.pop.new.self c.requires.sound c.in-Some.ensures.items c.args.tag c.truncate.new.self c.truncate-in-Some-part_of.new.self c.undo.new.self c.truncate.ensures.items c.truncate-in-Some-part_of.ensures.items c.undo.ensures.back c.undo.ensures.saved c.cut-in-Some-part_of.new.choices (c.in-Some-part_of.frame, c.in-Some-part_of.older) c.in-Some-part_of.ensures c.cut-in-Some-part_of.ensures
+    part_reached c.args.self.now c.in-Some.choice c.pop.new.self c.requires.sound c.in-Some.ensures.items c.args.tag c.truncate.new.self c.truncate-in-Some-part_of.new.self c.close_to.new.self c.undo.new.self c.truncate.ensures.items c.truncate-in-Some-part_of.ensures.items c.close_to.ensures c.undo.ensures.back c.undo.ensures.saved c.cut-in-Some-part_of.new.choices (c.in-Some-part_of.frame, c.in-Some-part_of.older) c.in-Some-part_of.ensures c.cut-in-Some-part_of.ensures

@@ -37,4 +37,4 @@ returns-clause-done c =
     rw behind
     (went_on_from (TakesAt x old) (TakesAt x e) old e new c.push.ensures.left b.limits (pushed_leads x old.here old e b (TakesAt x e) (stays (TakesAt x e)))
     (part_opened c.args.goals e p.ready (pushed_here old e c.requires.ready p) c.mark-place.result c.mark-place.new.self c.mark-place.ensures.kept c.mark-place.ensures.same c.mark-place.ensures.saved c.charge.new.self c.push-2.new.self k.kept k.saved k.made is (pushed_room old.here old e p c.requires.room)
-    (reverse_pop c.push-2.new.self.items e.choices.items _ (rw at at (rw refs at c.in_default-push.ensures.items)))))
+    (reverse_pop c.push-2.new.self.items e.choices.items _ (rw at at (rw refs at (rw c.gatherings.ensures at c.in_default-push.ensures.items))))))

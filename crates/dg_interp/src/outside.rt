@@ -1,0 +1,98 @@
+// What a run has outside its store.
+ghost use Rattle.std.specs.Prelude.{◌≡◌, ◌<◌, ◌≤◌, IfOk, IfErr, All, length};
+ghost use Rattle.dg_base.specs.Sound.{IsSound};
+ghost use Rattle.dg_interp.specs.Outside.{closed_to, IsNewSite, StartsWorld, StartsOutside, LacksAtStart};
+
+use crate::lack::Lack;
+use dg_base::{CoreProgram, Limits};
+use dg_choose::{Dice, Site};
+use dg_lists::{Gather, GatherMark};
+use dg_world::World;
+use std::alloc::{AllocError, Global};
+
+/// The world, what is gathered, the dice, and what is kept of selects.
+#[derive(Drop)]
+pub struct Outside<'p> {
+    pub world: World,
+    pub gathered: Gather,
+    pub dice: Dice<'p>,
+    pub sites: Vec<Site>,
+}
+
+/// So many sites, at which nothing was picked.
+fn new_sites(alloc: Global, count: u16) -> Result<Vec<Site>, AllocError>
+    ensures { IfOk result (λ sites. All IsNewSite sites.items) }
+{
+    let mut sites = Vec::new(alloc);
+    for _ in 0..count {
+        sites.push(Site::new())?;
+    }
+    Ok(sites)
+}
+
+/// How many objects a program has.
+fn objects_of(program: &CoreProgram) -> u16
+    requires sound { IsSound program.now }
+    ensures { result ≡ length program.now.objects }
+{
+    program.objects.as_slice().len() as u16
+}
+
+/// The world at the start of a program.
+fn start_world(alloc: Global, program: &CoreProgram, keep: u32) -> Result<World, Lack>
+    requires sound { IsSound program.now }
+    ensures starts { IfOk result (StartsWorld program.now keep) }
+    ensures lacks { IfErr result (LacksAtStart program.now keep) }
+{
+    let objects = objects_of(program);
+    let places = program.places.as_slice();
+    match World::starts_within(alloc, places, objects, keep) {
+        Err(_) => Err(Lack::OutOfMemory),
+        Ok(false) => Err(Lack::Keep),
+        Ok(true) => match World::new(alloc, places, objects, keep) {
+            Err(_) => Err(Lack::OutOfMemory),
+            Ok(world) => Ok(world),
+        },
+    }
+}
+
+impl<'p> Outside<'p> {
+    /// What is outside at the start of a program.
+    pub fn new(
+        alloc: Global,
+        program: &CoreProgram,
+        limits: &Limits,
+        dice: &'p [u16],
+    ) -> Result<Outside<'p>, Lack>
+        requires sound { IsSound program.now }
+        requires dice { 0 < length dice.now }
+        ensures starts { IfOk result (StartsOutside program.now limits.now dice.now) }
+        ensures lacks { IfErr result (LacksAtStart program.now limits.now.keep) }
+    {
+        let world = match start_world(alloc, program, limits.keep) {
+            Ok(world) => world,
+            Err(lack) => return Err(lack),
+        };
+        let Ok(gathered) = Gather::new(alloc, limits.aux) else {
+            return Err(Lack::OutOfMemory);
+        };
+        let Ok(sites) = new_sites(alloc, program.sites) else {
+            return Err(Lack::OutOfMemory);
+        };
+        Ok(Outside {
+            world,
+            gathered,
+            dice: Dice::new(dice),
+            sites,
+        })
+    }
+
+    /// Drops the gatherings but for the first so many.
+    pub fn close_to(&mut self, height: usize)
+        ensures { self.new ≡ closed_to height self.old }
+    {
+        if height < self.gathered.height().0 {
+            self.gathered.drop_to(GatherMark(height));
+        }
+    }
+}
