@@ -35,7 +35,7 @@ fn runs_again_after_a_failing_sink(rt: HostRuntime) -> Result<(), Fail> {
     Ok(())
 }
 
-const FAULTS: [(&[u8], u8, ZFault, u32); 13] = [
+const FAULTS: [(&[u8], u8, ZFault, u32); 16] = [
     (&[0x00], 0, ZFault::BadOpcode, 544),
     (
         &[0xB4, 0xB4, 0xB4, 0xB4, 0xB4, 0xB4, 0xB4, 0x8F],
@@ -64,6 +64,14 @@ const FAULTS: [(&[u8], u8, ZFault, u32); 13] = [
     (&[0xE5, 0x7F, 0x1F], 0, ZFault::BadCharacter, 544),
     (&[0xB0], 0, ZFault::BadReturn, 544),
     (&[0xE4, 0x5F, 0x40, 0x41, 0x00], 0, ZFault::Unsupported, 544),
+    (&[0x0A, 0x00, 0x00, 0xC2], 0, ZFault::BadObject, 544),
+    (&[0xE3, 0x57, 0x01, 0x05, 0x00], 0, ZFault::BadProperty, 544),
+    (
+        &[0xF3, 0x5F, 0x03, 0x40, 0x8C, 0xFF, 0xFB],
+        0,
+        ZFault::BadStream,
+        544,
+    ),
 ];
 
 #[test]
@@ -74,6 +82,29 @@ fn each_fault_comes_with_its_place(rt: HostRuntime) -> Result<(), Fail> {
         let mut sink = SureSink::new(rt.alloc(), 100)?;
         let end = player.run(10000, &mut source, &[0], &mut sink)?;
         assert_eq!(rt; end, ZEnd::Broken(fault, at), "{fault}");
+    }
+    Ok(())
+}
+
+// Shifts 1 by four places and prints it, and prints how many codes went into the table at 64.
+const SHIFTS: [u8; 11] = [
+    0xBE, 0x02, 0x5F, 0x01, 0x04, 0x00, 0xE6, 0xBF, 0x00, 0xBB, 0xBA,
+];
+
+const TABLES: [u8; 19] = [
+    0xF3, 0x5F, 0x03, 0x40, 0xE6, 0x7F, 0x2A, 0xF3, 0x3F, 0xFF, 0xFD, 0x0F, 0x40, 0x00, 0x00, 0xE6,
+    0xBF, 0x00, 0xBA,
+];
+
+#[test]
+fn shifts_and_tables_answer(rt: HostRuntime) -> Result<(), Fail> {
+    for (code, text) in [(SHIFTS.as_slice(), "16\n"), (TABLES.as_slice(), "2")] {
+        let mut player = story(&rt, code, 0, 0)?;
+        let mut source = SureSource::new(vec![in rt.alloc(); 0u8; 0]?);
+        let mut sink = SureSink::new(rt.alloc(), 100)?;
+        let end = player.run(100, &mut source, &[0], &mut sink)?;
+        assert_eq!(rt; end, ZEnd::Quit);
+        assert_eq!(rt; sink.taken(), text.as_bytes());
     }
     Ok(())
 }

@@ -8,9 +8,18 @@ use Rattle.z_model.specs.declared.fault.ZFault.TheVariants.{BadObject, BadProper
 use Rattle.z_model.specs.declared.property.Property.{Property}
 use Rattle.z_model.specs.Decode.{◌>>=◌}
 use Rattle.z_model.specs.Memory.{Memory, byte_in, with_byte, word_in, with_bytes}
+use Rattle.z_full.specs.Calls.{SameRights}
 use Rattle.z_model.specs.Objects.{sibling_at, link_to}
 use Rattle.z_model.specs.Properties.{behind, property_at, property_from}
 use Rattle.z_model.specs.Tables.{entry_in, scanned, bytes_in, cleared, copied_on}
+
+-- What is left gives what the whole does, over the same rights.
+pub record GoesOn (first now : Memory) (whole left : Result Memory ZFault) : Type 0 where
+  pub goes : whole ≡ left
+  pub rights : SameRights first now
+
+pub rights_then : (a b c : Memory) → SameRights a b → SameRights b c → SameRights a c
+rights_then a b c p q = record { reads = q.reads ∙ p.reads; writes = q.writes ∙ p.writes }
 
 same_is : (n : ℕ) → eqb n n ≡ true
 same_is n = eq-eqb n n refl

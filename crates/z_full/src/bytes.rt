@@ -1,7 +1,7 @@
 // Bytes by their addresses.
 ghost use Rattle.std.specs.Prelude.{◌≡◌};
 ghost use Rattle.z_model.specs.Memory.{Memory, byte_in, with_byte, word_in, with_word};
-ghost use Rattle.z_full.specs.Calls.{Sets, Becomes};
+ghost use Rattle.z_full.specs.Calls.{Sets, Becomes, SameRights};
 
 use z_model::{ZFault, bytes_of, word_of};
 
@@ -16,7 +16,8 @@ pub trait Bytes {
 
     /// Sets the byte at an address; `BadWrite` where it may not be written, and nothing is changed then.
     fn write(&mut self, at: u16, byte: u8) -> Result<(), ZFault>
-        ensures { Becomes result (memory self.old) (memory self.new) (with_byte (memory self.old) at byte) };
+        ensures set { Becomes result (memory self.old) (memory self.new) (with_byte (memory self.old) at byte) }
+        ensures rights { SameRights (memory self.old) (memory self.new) };
 }
 
 /// The word at an address.
@@ -37,7 +38,8 @@ pub fn read_word<B: Bytes>(mem: &B, at: u16) -> Result<u16, ZFault>
 /// Sets the word at an address.
 #[tactic(auto, unfolding(z_model::specs::Memory::with_word))]
 pub fn write_word<B: Bytes>(mem: &mut B, at: u16, word: u16) -> Result<(), ZFault>
-    ensures { Sets result (B.memory mem.new) (with_word (B.memory mem.old) at word) }
+    ensures set { Sets result (B.memory mem.new) (with_word (B.memory mem.old) at word) }
+    ensures rights { SameRights (B.memory mem.old) (B.memory mem.new) }
 {
     let [high, low] = bytes_of(word);
     match mem.write(at, high) {

@@ -1,8 +1,8 @@
 // Objects: their tree and their attributes.
 ghost use Rattle.std.specs.Prelude.{◌≡◌, ◌==◌, ◌||◌, nat_lt, Some};
-ghost use Rattle.z_model.specs.Objects.{entry_at, parent_at, sibling_at, child_at, link_in, attribute_at, attribute_bit};
+ghost use Rattle.z_model.specs.Objects.{entry_at, parent_at, sibling_at, child_at, link_in, is_in, attribute_at, attribute_bit};
 ghost use Rattle.z_model.specs.Objects.{has_attribute, with_attribute, with_bit, link_to, passed_by, unchained, removed, inserted};
-ghost use Rattle.z_full.specs.Calls.{Sets};
+ghost use Rattle.z_full.specs.Calls.{Sets, SameRights};
 
 use crate::bytes::{Bytes, read_word, write_word};
 use z_model::ZFault;
@@ -67,6 +67,20 @@ pub fn child<B: Bytes>(mem: &B, objects: u16, n: u16) -> Result<u16, ZFault>
     link(mem, n, child_at(objects, n))
 }
 
+/// Whether the parent of an object is another; `BadObject` where one of them is object 0.
+#[tactic(auto, unfolding(z_model::specs::Objects::is_in, z_model::specs::Objects::some_object))]
+pub fn is_child<B: Bytes>(mem: &B, objects: u16, a: u16, b: u16) -> Result<bool, ZFault>
+    ensures { result ≡ is_in (B.memory mem.now) objects a b }
+{
+    if a == 0 || b == 0 {
+        return Err(ZFault::BadObject);
+    }
+    match read_word(mem, parent_at(objects, a)) {
+        Ok(parent) => Ok(parent == b),
+        Err(fault) => Err(fault),
+    }
+}
+
 // ---- attributes
 
 fn attribute_at(objects: u16, n: u16, at: u16) -> u16
@@ -116,7 +130,8 @@ pub fn set_attr<B: Bytes>(
     at: u16,
     on: bool,
 ) -> Result<(), ZFault>
-    ensures { Sets result (B.memory mem.new) (with_attribute (B.memory mem.old) objects n at on) }
+    ensures set { Sets result (B.memory mem.new) (with_attribute (B.memory mem.old) objects n at on) }
+    ensures rights { SameRights (B.memory mem.old) (B.memory mem.new) }
 {
     if is_bad(n, at) {
         return Err(ZFault::BadObject);
@@ -156,7 +171,8 @@ fn link_to<B: Bytes>(mem: &B, objects: u16, a: u16, from: u16) -> Result<Option<
 
 // Its sibling comes into its place there.
 fn pass_by<B: Bytes>(mem: &mut B, objects: u16, a: u16, place: u16) -> Result<(), ZFault>
-    ensures { Sets result (B.memory mem.new) (passed_by (B.memory mem.old) objects a (Some place)) }
+    ensures set { Sets result (B.memory mem.new) (passed_by (B.memory mem.old) objects a (Some place)) }
+    ensures rights { SameRights (B.memory mem.old) (B.memory mem.new) }
 {
     match read_word(mem, sibling_at(objects, a)) {
         Ok(next) => write_word(mem, place, next),
@@ -167,7 +183,8 @@ fn pass_by<B: Bytes>(mem: &mut B, objects: u16, a: u16, place: u16) -> Result<()
 // Takes an object out of the children of its parent, if it has one.
 #[tactic(auto, unfolding(z_model::specs::Objects::unchained))]
 fn unchain<B: Bytes>(mem: &mut B, objects: u16, a: u16, parent: u16) -> Result<(), ZFault>
-    ensures { Sets result (B.memory mem.new) (unchained (B.memory mem.old) objects a parent) }
+    ensures set { Sets result (B.memory mem.new) (unchained (B.memory mem.old) objects a parent) }
+    ensures rights { SameRights (B.memory mem.old) (B.memory mem.new) }
 {
     if parent == 0 {
         return Ok(());
@@ -183,7 +200,8 @@ fn unchain<B: Bytes>(mem: &mut B, objects: u16, a: u16, parent: u16) -> Result<(
 /// a chain of siblings has more than 65,535 links.
 #[tactic(auto, unfolding(z_model::specs::Objects::removed, z_model::specs::Objects::some_object))]
 pub fn remove<B: Bytes>(mem: &mut B, objects: u16, a: u16) -> Result<(), ZFault>
-    ensures { Sets result (B.memory mem.new) (removed (B.memory mem.old) objects a) }
+    ensures set { Sets result (B.memory mem.new) (removed (B.memory mem.old) objects a) }
+    ensures rights { SameRights (B.memory mem.old) (B.memory mem.new) }
 {
     if a == 0 {
         return Err(ZFault::BadObject);
@@ -198,7 +216,8 @@ pub fn remove<B: Bytes>(mem: &mut B, objects: u16, a: u16) -> Result<(), ZFault>
 /// siblings has more than 65,535 links.
 #[tactic(auto, unfolding(z_model::specs::Objects::inserted, z_model::specs::Objects::some_object))]
 pub fn insert<B: Bytes>(mem: &mut B, objects: u16, a: u16, b: u16) -> Result<(), ZFault>
-    ensures { Sets result (B.memory mem.new) (inserted (B.memory mem.old) objects a b) }
+    ensures set { Sets result (B.memory mem.new) (inserted (B.memory mem.old) objects a b) }
+    ensures rights { SameRights (B.memory mem.old) (B.memory mem.new) }
 {
     if b == 0 {
         return Err(ZFault::BadObject);

@@ -1,10 +1,10 @@
 // The properties of objects.
 ghost use Rattle.std.specs.Prelude.{◌≡◌};
-ghost use Rattle.z_model.specs.Properties.{behind, long_length, short_length, sized, below, property_at, property_from, first_place, property_of};
+ghost use Rattle.z_model.specs.Properties.{behind, long_length, short_length, sized, below, property_at, property_from, first_place, name_place, property_of};
 ghost use Rattle.z_model.specs.Properties.{value_at, value_or_default, property_value, place_or_zero, property_place};
 ghost use Rattle.z_model.specs.Properties.{number_at, number_behind, next_number, with_value, with_property, length_before};
 ghost use Rattle.z_model.specs.Objects.{entry_at};
-ghost use Rattle.z_full.specs.Calls.{Sets};
+ghost use Rattle.z_full.specs.Calls.{Sets, SameRights};
 
 use crate::bytes::{Bytes, read_word, write_word};
 use crate::objects::entry_at;
@@ -112,6 +112,21 @@ fn first_place<B: Bytes>(mem: &B, objects: u16, n: u16) -> Result<u16, ZFault>
     Ok(table.wrapping_add(1).wrapping_add(2 * words as u16))
 }
 
+/// Where the short name of an object stands, if it has one; `BadObject` for object 0.
+#[tactic(auto, unfolding(z_model::specs::Properties::name_place, z_model::specs::Objects::some_object))]
+pub fn name_addr<B: Bytes>(mem: &B, objects: u16, n: u16) -> Result<Option<u16>, ZFault>
+    ensures { result ≡ name_place (B.memory mem.now) objects n }
+{
+    if n == 0 {
+        return Err(ZFault::BadObject);
+    }
+    let table = read_word(mem, entry_at(objects, n).wrapping_add(12))?;
+    match mem.read(table)? {
+        0 => Ok(None),
+        _ => Ok(Some(table.wrapping_add(1))),
+    }
+}
+
 #[tactic(auto, unfolding(z_model::specs::Properties::property_of))]
 fn property_of<B: Bytes>(
     mem: &B,
@@ -196,7 +211,8 @@ pub fn next_prop<B: Bytes>(mem: &B, objects: u16, n: u16, p: u16) -> Result<u16,
 /// and where numbers don't fall.
 #[tactic(auto, unfolding(z_model::specs::Properties::with_property))]
 pub fn put_prop<B: Bytes>(mem: &mut B, objects: u16, n: u16, p: u16, x: u16) -> Result<(), ZFault>
-    ensures { Sets result (B.memory mem.new) (with_property (B.memory mem.old) objects n p x) }
+    ensures set { Sets result (B.memory mem.new) (with_property (B.memory mem.old) objects n p x) }
+    ensures rights { SameRights (B.memory mem.old) (B.memory mem.new) }
 {
     match property_of(mem, objects, n, p)? {
         Some(found) => set_value(mem, found, x),
@@ -205,7 +221,8 @@ pub fn put_prop<B: Bytes>(mem: &mut B, objects: u16, n: u16, p: u16, x: u16) -> 
 }
 
 fn set_value<B: Bytes>(mem: &mut B, p: Property, x: u16) -> Result<(), ZFault>
-    ensures { Sets result (B.memory mem.new) (with_value (B.memory mem.old) x (Some p)) }
+    ensures set { Sets result (B.memory mem.new) (with_value (B.memory mem.old) x (Some p)) }
+    ensures rights { SameRights (B.memory mem.old) (B.memory mem.new) }
 {
     match p.size {
         1 => {

@@ -2,7 +2,7 @@
 ghost use Rattle.std.specs.Prelude.{◌≡◌, ◌<◌, length};
 ghost use Rattle.z_model.specs.Memory.{with_bytes};
 ghost use Rattle.z_model.specs.Tables.{entry_in, scanned, scanned_or_zero, bytes_in, cleared, copied_on, copied_whole, size_of, copied};
-ghost use Rattle.z_full.specs.Calls.{Sets};
+ghost use Rattle.z_full.specs.Calls.{Sets, SameRights};
 
 use crate::bytes::{Bytes, read_word};
 use z_model::ZFault;
@@ -56,7 +56,8 @@ pub fn scan<B: Bytes>(mem: &B, x: u16, t: u16, n: u16, f: u16) -> Result<u16, ZF
 // ---- copying
 
 fn clear<B: Bytes>(mem: &mut B, from: u16, n: u16) -> Result<(), ZFault>
-    ensures { Sets result (B.memory mem.new) (cleared (B.memory mem.old) from n) }
+    ensures set { Sets result (B.memory mem.new) (cleared (B.memory mem.old) from n) }
+    ensures rights { SameRights (B.memory mem.old) (B.memory mem.new) }
 {
     let mut at = from;
     let mut more = n;
@@ -71,7 +72,8 @@ fn clear<B: Bytes>(mem: &mut B, from: u16, n: u16) -> Result<(), ZFault>
 }
 
 fn copy_on<B: Bytes>(mem: &mut B, from: u16, to: u16, n: u16) -> Result<(), ZFault>
-    ensures { Sets result (B.memory mem.new) (copied_on (B.memory mem.old) from to n) }
+    ensures set { Sets result (B.memory mem.new) (copied_on (B.memory mem.old) from to n) }
+    ensures rights { SameRights (B.memory mem.old) (B.memory mem.new) }
 {
     let mut a = from;
     let mut b = to;
@@ -105,8 +107,10 @@ fn read_bytes<B: Bytes>(mem: &B, from: u16, into: &mut [u8]) -> Result<(), ZFaul
     Ok(())
 }
 
-fn write_bytes<B: Bytes>(mem: &mut B, from: u16, bytes: &[u8]) -> Result<(), ZFault>
-    ensures { Sets result (B.memory mem.new) (with_bytes (B.memory mem.old) from bytes.now) }
+/// Sets the bytes from an address on.
+pub fn write_bytes<B: Bytes>(mem: &mut B, from: u16, bytes: &[u8]) -> Result<(), ZFault>
+    ensures set { Sets result (B.memory mem.new) (with_bytes (B.memory mem.old) from bytes.now) }
+    ensures rights { SameRights (B.memory mem.old) (B.memory mem.new) }
 {
     let mut at = from;
     for byte in bytes {
@@ -120,7 +124,8 @@ fn write_bytes<B: Bytes>(mem: &mut B, from: u16, bytes: &[u8]) -> Result<(), ZFa
 
 fn copy_whole<B: Bytes>(mem: &mut B, a: u16, b: u16, n: u16) -> Result<(), ZFault>
     requires { n < 32768 }
-    ensures { Sets result (B.memory mem.new) (copied_whole (B.memory mem.old) a b n) }
+    ensures set { Sets result (B.memory mem.new) (copied_whole (B.memory mem.old) a b n) }
+    ensures rights { SameRights (B.memory mem.old) (B.memory mem.new) }
 {
     let mut room = [0; 32768];
     let piece = &mut room[..n as usize];
@@ -140,7 +145,8 @@ fn size_of(n: u16) -> u16
 /// byte by byte, from the first on. With `b` of 0 the bytes at `a` become 0.
 #[tactic(auto, unfolding(z_model::specs::Tables::copied))]
 pub fn copy<B: Bytes>(mem: &mut B, a: u16, b: u16, n: u16) -> Result<(), ZFault>
-    ensures { Sets result (B.memory mem.new) (copied (B.memory mem.old) a b n) }
+    ensures set { Sets result (B.memory mem.new) (copied (B.memory mem.old) a b n) }
+    ensures rights { SameRights (B.memory mem.old) (B.memory mem.new) }
 {
     if b == 0 {
         return clear(mem, a, size_of(n));

@@ -1,5 +1,5 @@
 -- What the instructions of single acts do to the machine.
-use Rattle.std.proofs.Common.{◌≡◌, ℕ, ◌+◌, ◌*◌, ◌%◌, Bool, true, false, not, List, ◌++◌, Option, Some, None, Result, Ok, Err, refl, ap}
+use Rattle.std.proofs.Common.{◌≡◌, ℕ, ◌+◌, ◌*◌, ◌%◌, Bool, true, false, not, List, [], ◌++◌, Option, Some, None, Result, Ok, Err, refl, ap, ◌∙◌}
 use Rattle.std.specs.Prelude.{◌==◌, ◌||◌, if◌then◌else◌, int_lt, encode_utf8}
 use Rattle.std.proofs.lemmas.Option.{same_Some}
 use Rattle.z_model.specs.declared.fault.ZFault.{ZFault}
@@ -16,11 +16,12 @@ use Rattle.z_model.specs.declared.table.Several.TheVariants as several
 use Rattle.z_model.specs.declared.table.Extended.TheVariants as extended
 use Rattle.z_model.specs.declared.end.Args.{Args}
 use Rattle.z_model.specs.declared.end.Effect.{Effect}
-use Rattle.z_model.specs.declared.end.Effect.TheVariants.{Goes, PrintsCode, PrintsUnicode, PrintsText}
+use Rattle.z_model.specs.declared.end.OpenTable.{OpenTable}
+use Rattle.z_model.specs.declared.end.Effect.TheVariants.{Goes, PrintsCode, PrintsUnicode, PrintsNumber, PrintsText}
 use Rattle.z_model.specs.Zscii.{is_printed, is_character, code_bytes}
 use Rattle.z_model.specs.Table.{Rows}
 use Rattle.z_model.specs.Decode.{found, op_at}
-use Rattle.z_model.specs.Effects.{goes, answers, answers_or, written as written_by, printed as printed_by, unless}
+use Rattle.z_model.specs.Effects.{goes, answers, answers_or, written as written_by, printed as printed_by, unless, let_out}
 use Rattle.z_model.specs.Flow.{at_pc, branched, branch_taken, agrees}
 use Rattle.z_model.specs.Machine.{Machine, values_of, stored_if}
 use Rattle.z_model.specs.Memory.{Memory, guarded, byte_in, word_in, with_byte, with_word}
@@ -126,23 +127,28 @@ told z end text = On (record z { machine = at_pc z.machine end; output = z.outpu
 abbrev some_text : List ℕ → Option (List ℕ)
 some_text text = Some text
 
-pub prints_as : (w : ZGiven) (z : ZState) (k : Print) (op : Op) (end word x : ℕ) (text : List ℕ) → printed z.machine.memory k x ≡ Some text → next_by w z (do_instr w.layout word (print_instr k) op end (args_of 1 x 0 0 0) z.machine) ≡ told z end text
+-- where no table is open, what is printed goes out
+goes_out : (w : ZGiven) (z : ZState) (effect : Effect) (end : ℕ) → z.machine.tables ≡ [] → next_by w z (let_out w.layout z.machine.tables effect (at_pc z.machine end)) ≡ next_by w z (Ok (effect, at_pc z.machine end))
+unfolding let_out
+goes_out w z effect end none = ap (λ (ts : List OpenTable). next_by w z (let_out w.layout ts effect (at_pc z.machine end))) none
+
+pub prints_as : (w : ZGiven) (z : ZState) (k : Print) (op : Op) (end word x : ℕ) (text : List ℕ) → z.machine.tables ≡ [] → printed z.machine.memory k x ≡ Some text → next_by w z (do_instr w.layout word (print_instr k) op end (args_of 1 x 0 0 0) z.machine) ≡ told z end text
 unfolding do_instr do_several do_extended do_one printed printed_by
-prints_as w z prints.Code op end word x text e = by_test (is_printed x) e
+prints_as w z prints.Code op end word x text none e = by_test (is_printed x) e
   where
-    by_test : (b : Bool) → (if b then Some (code_bytes x) else None) ≡ some_text text → next_by w z (unless (if b then None else Some BadCharacter) (PrintsCode x) (at_pc z.machine end)) ≡ told z end text
-    by_test true h = ap (told z end) (same_Some _ text h)
+    by_test : (b : Bool) → (if b then Some (code_bytes x) else None) ≡ some_text text → next_by w z (unless (if b then None else Some BadCharacter) (let_out w.layout z.machine.tables (PrintsCode x) (at_pc z.machine end))) ≡ told z end text
+    by_test true h = goes_out w z (PrintsCode x) end none ∙ ap (told z end) (same_Some _ text h)
     by_test false h = absurd (cc)
-prints_as w z prints.Number op end word x text e = ap (told z end) (same_Some _ text e)
-prints_as w z prints.Unicode op end word x text e = by_test (is_character x) e
+prints_as w z prints.Number op end word x text none e = goes_out w z (PrintsNumber x) end none ∙ ap (told z end) (same_Some _ text e)
+prints_as w z prints.Unicode op end word x text none e = by_test (is_character x) e
   where
-    by_test : (b : Bool) → (if b then Some (encode_utf8 x) else None) ≡ some_text text → next_by w z (unless (if b then None else Some BadCharacter) (PrintsUnicode x) (at_pc z.machine end)) ≡ told z end text
-    by_test true h = ap (told z end) (same_Some _ text h)
+    by_test : (b : Bool) → (if b then Some (encode_utf8 x) else None) ≡ some_text text → next_by w z (unless (if b then None else Some BadCharacter) (let_out w.layout z.machine.tables (PrintsUnicode x) (at_pc z.machine end))) ≡ told z end text
+    by_test true h = goes_out w z (PrintsUnicode x) end none ∙ ap (told z end) (same_Some _ text h)
     by_test false h = absurd (cc)
-prints_as w z prints.Text op end word x text e = by_fault (print_fault (string_at z.machine.memory (8 * x))) e
+prints_as w z prints.Text op end word x text none e = by_fault (print_fault (string_at z.machine.memory (8 * x))) e
   where
-    by_fault : (o : Option ZFault) → text_unless o (text_bytes (string_at z.machine.memory (8 * x))) ≡ some_text text → next_by w z (unless o (PrintsText (8 * x)) (at_pc z.machine end)) ≡ told z end text
-    by_fault None h = ap (told z end) (same_Some _ text h)
+    by_fault : (o : Option ZFault) → text_unless o (text_bytes (string_at z.machine.memory (8 * x))) ≡ some_text text → next_by w z (unless o (let_out w.layout z.machine.tables (PrintsText (8 * x)) (at_pc z.machine end))) ≡ told z end text
+    by_fault None h = goes_out w z (PrintsText (8 * x)) end none ∙ ap (told z end) (same_Some _ text h)
     by_fault (Some fault) h = absurd (cc)
 
 -- ---- tests

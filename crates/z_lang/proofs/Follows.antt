@@ -293,7 +293,7 @@ module _ (p : Program) (story : List ℕ) (labels : ℕ → ℕ) (c : Context) (
       let t = bound (printed s.memory k x.x) _ s1 x.rest in
       let end = end_at pc (print_op k (operand a)) in
       by_row p story labels s c pc _ _ None (args_of 1 x.x 0 0 0) _ laid here (print_values p.world.layout (machine_at s c pc) k (operand a) x.x p.names labels end (target a) (operand_is p s c pc labels end a x.x x.is)) (print_rows k (operand a) p.names labels end (target a))
-      ∙ prints_as p.world (state_at s c pc) k _ end (word_at p.world s.drawn) x.x t.x t.is
+      ∙ prints_as p.world (state_at s c pc) k _ end (word_at p.world s.drawn) x.x t.x refl t.is
       ∙ ap (λ (u : State). on (state_at u c end)) (same_Some (with_output s t.x) s1 t.rest)
 
   pub random_step : (s s1 : State) (pc v : ℕ) (a : Atom) → Here p story labels s pc (variable_op 39 (one_of (operand a)) (Some v) None) (target a ∷ None ∷ None ∷ None ∷ []) None → does p (acts.Random v a) s ≡ Some s1 → zstep p.world (state_at s c pc) ≡ on (state_at s1 c (end_at pc (variable_op 39 (one_of (operand a)) (Some v) None)))

@@ -1,5 +1,5 @@
 -- What a step leaves of the code.
-use Rattle.std.proofs.Common.{◌≡◌, ◌≢◌, ℕ, zero, suc, ◌+◌, ◌-◌, ◌*◌, ◌/◌, ◌%◌, ◌<◌, ◌≤◌, Bool, true, false, cond, eqb, ltb, List, [], ◌∷◌, ◌++◌, length, Option, Some, None, Result, Ok, Err, IfOk, refl, sym, ap, ◌∙◌, arith, ◌⊎◌, inl, inr}
+use Rattle.std.proofs.Common.{◌≡◌, ◌≢◌, ℕ, zero, suc, ◌+◌, ◌-◌, ◌*◌, ◌/◌, ◌%◌, ◌<◌, ◌≤◌, Bool, true, false, cond, eqb, ltb, List, [], ◌∷◌, ◌++◌, length, drop, Option, Some, None, Result, Ok, Err, IfOk, refl, sym, ap, ◌∙◌, arith, ◌⊎◌, inl, inr}
 use Rattle.std.specs.Prelude.{slice_get}
 use Rattle.std.proofs.Math.ListN.{set}
 use Rattle.std.proofs.lemmas.List.{length-set, drop-set-lt}
@@ -14,8 +14,10 @@ use Rattle.z_model.specs.declared.op.Operand.{Operand}
 use Rattle.z_model.specs.declared.op.Operand.TheVariants as operands
 use Rattle.z_model.specs.declared.op.Operands.{Operands}
 use Rattle.z_model.specs.declared.end.Args.{Args}
+use Rattle.z_model.specs.declared.end.OpenTable.{OpenTable}
+use Rattle.z_model.specs.declared.property.Property.{Property}
 use Rattle.z_model.specs.declared.end.Effect.{Effect}
-use Rattle.z_model.specs.declared.end.Effect.TheVariants.{Goes, PrintsCode, PrintsUnicode, PrintsNumber, PrintsText, PrintsLine, Draws, Reads, Quits}
+use Rattle.z_model.specs.declared.end.Effect.TheVariants.{Goes, PrintsCode, PrintsUnicode, PrintsNumber, PrintsText, PrintsLine, Draws, Reads, ReadsKey, Quits}
 use Rattle.z_model.specs.declared.table.Instr.{Instr}
 use Rattle.z_model.specs.declared.table.Instr.TheVariants as instrs
 use Rattle.z_model.specs.declared.table.Two.{Two}
@@ -30,15 +32,21 @@ use Rattle.z_model.specs.declared.table.Extended.{Extended}
 use Rattle.z_model.specs.declared.table.Extended.TheVariants as extended
 use Rattle.z_model.specs.Table.{Rows}
 use Rattle.z_model.specs.Decode.{◌>>=◌, op_at}
-use Rattle.z_model.specs.Memory.{Memory, guarded, is_writable, with_byte, with_word, with_bytes}
+use Rattle.z_model.specs.Memory.{Memory, guarded, is_writable, byte_in, word_in, with_byte, with_word, with_bytes}
 use Rattle.z_model.specs.Machine.{Frame, Machine, pushed, popped, global_at, global_set, local_of, local_set, variable_of, stored, stored_if, held_in, placed, value_of, value_if, values_of}
 use Rattle.z_model.specs.Numbers.{signed_16}
-use Rattle.z_model.specs.Flow.{at_pc, address, jumped, return_to, returned, branch_taken, agrees, branched, local_count, entered, called}
-use Rattle.z_model.specs.Effects.{goes, answers, answers_or, written, fault_in, unless, printed, prints_line, added, adds, adds_and_tests, pulls, returns_popped, most_typed, reads, random_of}
+use Rattle.z_model.specs.Flow.{at_pc, address, jumped, return_to, returned, in_frames, thrown, branch_taken, agrees, branched, local_count, entered, called}
+use Rattle.z_model.specs.Objects.{parent_at, sibling_at, child_at, some_object, some_attribute, with_attribute, link_to, passed_by, unchained, removed, inserted}
+use Rattle.z_model.specs.Properties.{property_of, with_value, with_property, name_place}
+use Rattle.z_model.specs.Tables.{or_zero, size_of, bytes_in, cleared, copied_on, copied}
+use Rattle.z_model.specs.Streams.{codes_in, into_table, opened, closed, streamed}
+use Rattle.z_model.specs.Effects.{goes, answers, answers_or, written, tests_or, answers_and_tests, objects_in, answers_object, answers_place}
+use Rattle.z_model.specs.Effects.{fault_in, unless, let_out, printed, then_returned, prints_line, prints_text_if, prints_name}
+use Rattle.z_model.specs.Effects.{added, adds, adds_and_tests, pulls, returns_popped, most_typed, reads, reads_key, random_of}
 use Rattle.z_model.specs.Step.{do_two, do_one, do_zero, do_several, do_extended, do_instr, machine_step}
 use Rattle.z_model.specs.Text.{string_at, text_bytes}
 use Rattle.z_model.specs.Typed.{typed_line, typed_left}
-use Rattle.z_model.specs.Run.{ZGiven, ZState, Next, On, Ended, go_on, zstep, zrun, next_by, shown, effect_on, on_unless, line_taken, line_read, with_line, word_at}
+use Rattle.z_model.specs.Run.{ZGiven, ZState, Next, On, Ended, go_on, zstep, zrun, next_by, shown, effect_on, on_unless, line_taken, line_read, key_taken, key_code, with_line, word_at}
 use Rattle.z_model.specs.Laws.{IsLaid, KeepsCode, CodeStays, state_behind}
 
 -- ---- answers of which something holds
@@ -151,6 +159,72 @@ module _ (layout : Layout) (laid : IsLaid layout) where
   line_kept old mem buffer line k =
       if_bind (with_bytes mem ((buffer + 2) % 65536) line) _ (KeptBy old) (KeptBy old) (bytes_kept old mem ((buffer + 2) % 65536) line k) (λ first h. byte_kept old first ((buffer + 1) % 65536) (length line) h)
 
+  -- ---- objects, properties and tables
+
+  if_object : {A : Type 0} (n : ℕ) (r : Result A ZFault) (P : A → Type 0) → Gives r P → Gives (some_object n r) P
+  unfolding some_object
+  if_object n r P h = if_cond _ _ _ P refused h
+
+  if_attribute : {A : Type 0} (n a : ℕ) (r : Result A ZFault) (P : A → Type 0) → Gives r P → Gives (some_attribute n a r) P
+  unfolding some_attribute
+  if_attribute n a r P h = if_cond _ _ _ P refused h
+
+  module _ (old : List ℕ) where
+    attribute_kept : (mem : Memory) (objects n a : ℕ) (on : Bool) → KeptBy old mem → Gives (with_attribute mem objects n a on) (KeptBy old)
+    unfolding with_attribute
+    attribute_kept mem objects n a on k = if_attribute n a _ (KeptBy old) (if_any (byte_in mem _) _ (KeptBy old) (λ byte. byte_kept old mem _ _ k))
+
+    passed_kept : (mem : Memory) (objects a : ℕ) (place : Option ℕ) → KeptBy old mem → Gives (passed_by mem objects a place) (KeptBy old)
+    passed_kept mem objects a None k = given k
+    passed_kept mem objects a (Some place) k = if_any (word_in mem (sibling_at objects a)) _ (KeptBy old) (λ next. word_kept old mem place next k)
+
+    unchained_kept : (mem : Memory) (objects a parent : ℕ) → KeptBy old mem → Gives (unchained mem objects a parent) (KeptBy old)
+    unfolding unchained
+    unchained_kept mem objects a parent k = if_cond _ _ _ (KeptBy old) (given k) (if_any (link_to mem objects a 65536 _) _ (KeptBy old) (λ place. passed_kept mem objects a place k))
+
+    removed_kept : (mem : Memory) (objects a : ℕ) → KeptBy old mem → Gives (removed mem objects a) (KeptBy old)
+    unfolding removed
+    removed_kept mem objects a k =
+        if_object a _ (KeptBy old) (if_any (word_in mem (parent_at objects a)) _ (KeptBy old) (λ parent.
+        if_bind (unchained mem objects a parent) _ (KeptBy old) (KeptBy old) (unchained_kept mem objects a parent k) (λ out h.
+        if_bind (with_word out (parent_at objects a) 0) _ (KeptBy old) (KeptBy old) (word_kept old out (parent_at objects a) 0 h) (λ alone j.
+        word_kept old alone (sibling_at objects a) 0 j))))
+
+    inserted_kept : (mem : Memory) (objects a b : ℕ) → KeptBy old mem → Gives (inserted mem objects a b) (KeptBy old)
+    unfolding inserted
+    inserted_kept mem objects a b k =
+        if_object b _ (KeptBy old) (if_bind (removed mem objects a) _ (KeptBy old) (KeptBy old) (removed_kept mem objects a k) (λ out h.
+        if_any (word_in out (child_at objects b)) _ (KeptBy old) (λ first.
+        if_bind (with_word out (parent_at objects a) b) _ (KeptBy old) (KeptBy old) (word_kept old out (parent_at objects a) b h) (λ below j.
+        if_bind (with_word below (sibling_at objects a) first) _ (KeptBy old) (KeptBy old) (word_kept old below (sibling_at objects a) first j) (λ beside i.
+        word_kept old beside (child_at objects b) a i)))))
+
+    value_put : (mem : Memory) (x : ℕ) (found : Option Property) → KeptBy old mem → Gives (with_value mem x found) (KeptBy old)
+    value_put mem x None k = refused
+    value_put mem x (Some p) k = if_cond _ _ _ (KeptBy old) (byte_kept old mem p.at (x % 256) k) (if_cond _ _ _ (KeptBy old) (word_kept old mem p.at x k) refused)
+
+    property_kept : (mem : Memory) (objects n number x : ℕ) → KeptBy old mem → Gives (with_property mem objects n number x) (KeptBy old)
+    unfolding with_property
+    property_kept mem objects n number x k = if_any (property_of mem objects n number) _ (KeptBy old) (λ found. value_put mem x found k)
+
+    cleared_kept : (mem : Memory) (at n : ℕ) → KeptBy old mem → Gives (cleared mem at n) (KeptBy old)
+    unfolding cleared
+    cleared_kept mem at zero k = given k
+    cleared_kept mem at (suc more) k = if_bind (with_byte mem at 0) _ (KeptBy old) (KeptBy old) (byte_kept old mem at 0 k) (λ first h. cleared_kept first ((at + 1) % 65536) more h)
+
+    copied_on_kept : (mem : Memory) (a b n : ℕ) → KeptBy old mem → Gives (copied_on mem a b n) (KeptBy old)
+    unfolding copied_on
+    copied_on_kept mem a b zero k = given k
+    copied_on_kept mem a b (suc more) k =
+        if_any (byte_in mem a) _ (KeptBy old) (λ byte. if_bind (with_byte mem b byte) _ (KeptBy old) (KeptBy old) (byte_kept old mem b byte k) (λ first h.
+        copied_on_kept first ((a + 1) % 65536) ((b + 1) % 65536) more h))
+
+    copied_kept : (mem : Memory) (a b n : ℕ) → KeptBy old mem → Gives (copied mem a b n) (KeptBy old)
+    unfolding copied
+    copied_kept mem a b n k =
+        if_cond _ _ _ (KeptBy old) (cleared_kept mem a (size_of n) k) (
+        if_cond _ _ _ (KeptBy old) (if_any (bytes_in mem a n) _ (KeptBy old) (λ bytes. bytes_kept old mem b bytes k)) (copied_on_kept mem a b (size_of n) k))
+
   -- ---- the machine
 
   abbrev Kept : List ℕ → Machine → Type 0
@@ -227,6 +301,14 @@ module _ (layout : Layout) (laid : IsLaid layout) where
     unfolding returned
     returned_kept m x k = return_kept m m.callers x k
 
+    in_frames_kept : (m : Machine) (frames : List Frame) → Kept old m → Kept old (in_frames m frames)
+    in_frames_kept m [] k = k
+    in_frames_kept m (f ∷ fs) k = k
+
+    thrown_kept : (m : Machine) (x frame : ℕ) → Kept old m → Gives (thrown layout m x frame) (Kept old)
+    unfolding thrown
+    thrown_kept m x frame k = if_cond _ _ _ (Kept old) refused (returned_kept (in_frames m (drop (length m.callers - frame) (m.here ∷ m.callers))) x (in_frames_kept m (drop (length m.callers - frame) (m.here ∷ m.callers)) k))
+
     taken_kept : (m : Machine) (end : ℕ) (offset : ℤ) → Kept old m → Gives (branch_taken layout m end offset) (Kept old)
     unfolding branch_taken
     taken_kept m end (pos zero) k = returned_kept m 0 k
@@ -264,17 +346,67 @@ module _ (layout : Layout) (laid : IsLaid layout) where
     written_kept : (m : Machine) (end : ℕ) (r : Result Memory ZFault) → Gives r (KeptBy old) → Gives (written m end r) KeptBehind
     written_kept m end r h = if_bind r _ (KeptBy old) KeptBehind h (λ mem k. given k.code)
 
-    unless_kept : (fault : Option ZFault) (effect : Effect) (m : Machine) → Kept old m → Gives (unless fault effect m) KeptBehind
-    unless_kept None effect m k = given k
-    unless_kept (Some fault) effect m k = refused
+    tests_or_kept : (m : Machine) (end : ℕ) (b : Option Branch) (r : Result Bool ZFault) → Kept old m → Gives (tests_or layout m end b r) KeptBehind
+    tests_or_kept m end b r k = if_any r _ KeptBehind (λ test. goes_kept (branched layout m end b test) (branched_kept m end b test k))
 
-    printed_kept : (effect : Effect) (m : Machine) → Kept old m → Gives (printed effect m) KeptBehind
+    both_kept : (m : Machine) (end : ℕ) (store : Option ℕ) (b : Option Branch) (x : ℕ) (test : Bool) → Kept old m → Gives (answers_and_tests layout m end store b x test) KeptBehind
+    both_kept m end store b x test k = goes_kept _ (if_bind (stored_if layout m store x) _ (Kept old) (Kept old) (stored_if_kept m store x k) (λ after h. branched_kept after end b test h))
+
+    object_kept : (m : Machine) (end : ℕ) (store : Option ℕ) (b : Option Branch) (r : Result ℕ ZFault) → Kept old m → Gives (answers_object layout m end store b r) KeptBehind
+    object_kept m end store b r k = if_any r _ KeptBehind (λ x. both_kept m end store b x _ k)
+
+    place_kept : (m : Machine) (end : ℕ) (store : Option ℕ) (b : Option Branch) (r : Result (Option ℕ) ZFault) → Kept old m → Gives (answers_place layout m end store b r) KeptBehind
+    place_kept m end store b r k = if_any r _ KeptBehind (λ found. both_kept m end store b (or_zero found) _ k)
+
+    -- ---- printing, and tables into which it goes
+
+    story_kept : (m : Machine) → Kept old m → KeptBy old (guarded layout m.memory)
+    story_kept m k = record { rights = refl; code = k }
+
+    into_kept : (m : Machine) (t : OpenTable) (ts : List OpenTable) (codes : List ℕ) → Kept old m → Gives (into_table layout m t ts codes) (Kept old)
+    unfolding into_table
+    into_kept m t ts codes k = if_bind (with_bytes (guarded layout m.memory) ((t.at + 2 + t.count) % 65536) codes) _ (KeptBy old) (Kept old) (bytes_kept old (guarded layout m.memory) ((t.at + 2 + t.count) % 65536) codes (story_kept m k)) (λ mem h. given h.code)
+
+    closed_kept : (m : Machine) (tables : List OpenTable) → Kept old m → Gives (closed layout m tables) (Kept old)
+    closed_kept m [] k = given k
+    closed_kept m (t ∷ ts) k = if_bind (with_word (guarded layout m.memory) t.at t.count) _ (KeptBy old) (Kept old) (word_kept old (guarded layout m.memory) t.at t.count (story_kept m k)) (λ mem h. given h.code)
+
+    opened_kept : (m : Machine) (at : ℕ) → Kept old m → Gives (opened m at) (Kept old)
+    unfolding opened
+    opened_kept m at k = if_cond _ _ _ (Kept old) (given k) refused
+
+    streamed_kept : (m : Machine) (a : Args) → Kept old m → Gives (streamed layout m a) (Kept old)
+    unfolding streamed
+    streamed_kept m a k = if_cond _ _ _ (Kept old) (opened_kept m a.second k) (if_cond _ _ _ (Kept old) (closed_kept m m.tables k) (given k))
+
+    unless_kept : (fault : Option ZFault) (r : Result (Effect × Machine) ZFault) → Gives r KeptBehind → Gives (unless fault r) KeptBehind
+    unless_kept None r k = k
+    unless_kept (Some fault) r k = refused
+
+    out_kept : (tables : List OpenTable) (effect : Effect) (m : Machine) → Kept old m → Gives (let_out layout tables effect m) KeptBehind
+    unfolding let_out
+    out_kept [] effect m k = given k
+    out_kept (t ∷ ts) effect m k = goes_kept (into_table layout m t ts (codes_in effect m)) (into_kept m t ts (codes_in effect m) k)
+
+    printed_kept : (effect : Effect) (m : Machine) → Kept old m → Gives (printed layout effect m) KeptBehind
     unfolding printed
-    printed_kept effect m k = unless_kept (fault_in effect m) effect m k
+    printed_kept effect m k = unless_kept (fault_in effect m) (let_out layout m.tables effect m) (out_kept m.tables effect m k)
+
+    behind_kept : (tables : List OpenTable) (p : Effect × Machine) (after : Machine) → KeptBehind p → Kept old after → KeptBehind (then_returned tables p after)
+    behind_kept [] p after h k = h
+    behind_kept (t ∷ ts) p after h k = k
 
     line_printed_kept : (m : Machine) (at : ℕ) → Kept old m → Gives (prints_line layout m at) KeptBehind
     unfolding prints_line
-    line_printed_kept m at k = if_bind (printed (PrintsLine at) m) _ KeptBehind KeptBehind (printed_kept (PrintsLine at) m k) (λ p h. if_any (returned layout m 1) _ KeptBehind (λ after. given h))
+    line_printed_kept m at k = if_bind (printed layout (PrintsLine at) m) _ KeptBehind KeptBehind (printed_kept (PrintsLine at) m k) (λ p h. if_bind (returned layout p.1 1) _ (Kept old) KeptBehind (returned_kept p.1 1 h) (λ after j. given (behind_kept m.tables p after h j)))
+
+    text_printed_kept : (m : Machine) (found : Option ℕ) → Kept old m → Gives (prints_text_if layout m found) KeptBehind
+    text_printed_kept m None k = given k
+    text_printed_kept m (Some at) k = printed_kept (PrintsText at) m k
+
+    name_printed_kept : (m : Machine) (end n : ℕ) → Kept old m → Gives (prints_name layout m end n) KeptBehind
+    unfolding prints_name
+    name_printed_kept m end n k = if_any (name_place (guarded layout m.memory) (objects_in m) n) _ KeptBehind (λ found. text_printed_kept (at_pc m end) found k)
 
     added_kept : (m : Machine) (v by : ℕ) → Kept old m → Gives (added layout m v by) (KeptWith ℕ old)
     added_kept m v by k = if_any (held_in layout m v) _ (KeptWith ℕ old) (λ x. if_bind (placed layout m v ((x + by) % 65536)) _ (Kept old) (KeptWith ℕ old) (placed_kept m v ((x + by) % 65536) k) (λ after h. given h))
@@ -282,8 +414,8 @@ module _ (layout : Layout) (laid : IsLaid layout) where
     adds_kept : (m : Machine) (end v by : ℕ) → Kept old m → Gives (adds layout m end v by) KeptBehind
     adds_kept m end v by k = if_bind (added layout (at_pc m end) v by) _ (KeptWith ℕ old) KeptBehind (added_kept (at_pc m end) v by k) (λ p h. given h)
 
-    tests_kept : (m : Machine) (end : ℕ) (b : Option Branch) (v limit : ℕ) → Kept old m → Gives (adds_and_tests layout m end b v limit) KeptBehind
-    tests_kept m end b v limit k = if_bind (added layout m v 1) _ (KeptWith ℕ old) KeptBehind (added_kept m v 1 k) (λ p h. goes_kept (branched layout p.1 end b _) (branched_kept p.1 end b _ h))
+    tests_kept : (m : Machine) (end : ℕ) (b : Option Branch) (v by : ℕ) (test : ℕ → Bool) → Kept old m → Gives (adds_and_tests layout m end b v by test) KeptBehind
+    tests_kept m end b v by test k = if_bind (added layout m v by) _ (KeptWith ℕ old) KeptBehind (added_kept m v by k) (λ p h. goes_kept (branched layout p.1 end b _) (branched_kept p.1 end b _ h))
 
     pulls_kept : (m : Machine) (end v : ℕ) → Kept old m → Gives (pulls layout m end v) KeptBehind
     pulls_kept m end v k = if_bind (popped (at_pc m end)) _ (KeptWith ℕ old) KeptBehind (popped_kept (at_pc m end) k) (λ p h. goes_kept (placed layout p.1 v p.0) (placed_kept p.1 v p.0 h))
@@ -294,6 +426,10 @@ module _ (layout : Layout) (laid : IsLaid layout) where
     reads_kept : (m : Machine) (end : ℕ) (store : Option ℕ) (a : Args) → Kept old m → Gives (reads layout m end store a) KeptBehind
     unfolding reads
     reads_kept m end store a k = if_any (most_typed layout m a) _ KeptBehind (λ most. if_any (stored_if layout (at_pc m end) store 13) _ KeptBehind (λ after. given k))
+
+    key_kept : (m : Machine) (end : ℕ) (store : Option ℕ) → Kept old m → Gives (reads_key layout m end store) KeptBehind
+    unfolding reads_key
+    key_kept m end store k = if_any (stored_if layout (at_pc m end) store 13) _ KeptBehind (λ after. given k)
 
     random_kept : (word : ℕ) (m : Machine) (end : ℕ) (store : Option ℕ) (r : ℕ) → Kept old m → Gives (random_of layout word m end store r) KeptBehind
     unfolding random_of
@@ -313,17 +449,30 @@ module _ (layout : Layout) (laid : IsLaid layout) where
     here : KeepsCode layout m.memory m.memory
     here = same_kept m.memory
 
+    story : KeptBy m.memory (guarded layout m.memory)
+    story = guarded_kept m.memory
+
     two_kept : (i : Two) (op : Op) (end : ℕ) (a : Args) → Gives (do_two layout i op end a m) SameBehind
     unfolding do_two
     two_kept two.Je op end a = goes_kept m.memory (branched layout m end op.branch _) (branched_kept m.memory m end op.branch _ here)
     two_kept two.Jl op end a = goes_kept m.memory (branched layout m end op.branch _) (branched_kept m.memory m end op.branch _ here)
     two_kept two.Jg op end a = goes_kept m.memory (branched layout m end op.branch _) (branched_kept m.memory m end op.branch _ here)
-    two_kept two.IncChk op end a = tests_kept m.memory m end op.branch a.first a.second here
+    two_kept two.DecChk op end a = tests_kept m.memory m end op.branch a.first 65535 _ here
+    two_kept two.IncChk op end a = tests_kept m.memory m end op.branch a.first 1 _ here
+    two_kept two.Jin op end a = tests_or_kept m.memory m end op.branch _ here
+    two_kept two.Test op end a = goes_kept m.memory (branched layout m end op.branch _) (branched_kept m.memory m end op.branch _ here)
     two_kept two.Or op end a = answers_kept m.memory m end op.store _ here
     two_kept two.And op end a = answers_kept m.memory m end op.store _ here
+    two_kept two.TestAttr op end a = tests_or_kept m.memory m end op.branch _ here
+    two_kept two.SetAttr op end a = written_kept m.memory m end _ (attribute_kept m.memory (guarded layout m.memory) (objects_in m) a.first a.second true story)
+    two_kept two.ClearAttr op end a = written_kept m.memory m end _ (attribute_kept m.memory (guarded layout m.memory) (objects_in m) a.first a.second false story)
     two_kept two.Store op end a = goes_kept m.memory (placed layout (at_pc m end) a.first a.second) (placed_kept m.memory (at_pc m end) a.first a.second here)
+    two_kept two.InsertObj op end a = written_kept m.memory m end _ (inserted_kept m.memory (guarded layout m.memory) (objects_in m) a.first a.second story)
     two_kept two.Loadw op end a = answers_or_kept m.memory m end op.store _ here
     two_kept two.Loadb op end a = answers_or_kept m.memory m end op.store _ here
+    two_kept two.GetProp op end a = answers_or_kept m.memory m end op.store _ here
+    two_kept two.GetPropAddr op end a = answers_or_kept m.memory m end op.store _ here
+    two_kept two.GetNextProp op end a = answers_or_kept m.memory m end op.store _ here
     two_kept two.Add op end a = answers_kept m.memory m end op.store _ here
     two_kept two.Sub op end a = answers_kept m.memory m end op.store _ here
     two_kept two.Mul op end a = answers_kept m.memory m end op.store _ here
@@ -331,13 +480,22 @@ module _ (layout : Layout) (laid : IsLaid layout) where
     two_kept two.Mod op end a = answers_or_kept m.memory m end op.store _ here
     two_kept two.Call2s op end a = goes_kept m.memory (called layout m end op.store a) (called_kept m.memory m end op.store a here)
     two_kept two.Call2n op end a = goes_kept m.memory (called layout m end op.store a) (called_kept m.memory m end op.store a here)
+    two_kept two.SetColour op end a = given here
+    two_kept two.Throw op end a = goes_kept m.memory (thrown layout m a.first a.second) (thrown_kept m.memory m a.first a.second here)
 
     one_kept : (i : One) (op : Op) (end : ℕ) (a : Args) → Gives (do_one layout i op end a m) SameBehind
     unfolding do_one
     one_kept one.Jz op end a = goes_kept m.memory (branched layout m end op.branch _) (branched_kept m.memory m end op.branch _ here)
+    one_kept one.GetSibling op end a = object_kept m.memory m end op.store op.branch _ here
+    one_kept one.GetChild op end a = object_kept m.memory m end op.store op.branch _ here
+    one_kept one.GetParent op end a = answers_or_kept m.memory m end op.store _ here
+    one_kept one.GetPropLen op end a = answers_or_kept m.memory m end op.store _ here
     one_kept one.Inc op end a = adds_kept m.memory m end a.first 1 here
     one_kept one.Dec op end a = adds_kept m.memory m end a.first 65535 here
+    one_kept one.PrintAddr op end a = printed_kept m.memory (PrintsText a.first) (at_pc m end) here
     one_kept one.Call1s op end a = goes_kept m.memory (called layout m end op.store a) (called_kept m.memory m end op.store a here)
+    one_kept one.RemoveObj op end a = written_kept m.memory m end _ (removed_kept m.memory (guarded layout m.memory) (objects_in m) a.first story)
+    one_kept one.PrintObj op end a = name_printed_kept m.memory m end a.first here
     one_kept one.Ret op end a = goes_kept m.memory (returned layout m a.first) (returned_kept m.memory m a.first here)
     one_kept one.Jump op end a = goes_kept m.memory (jumped m end (signed_16 a.first)) (jumped_kept m.memory m end (signed_16 a.first) here)
     one_kept one.PrintPaddr op end a = printed_kept m.memory (PrintsText (8 * a.first)) (at_pc m end) here
@@ -352,25 +510,47 @@ module _ (layout : Layout) (laid : IsLaid layout) where
     zero_kept none.PrintRet op end a = line_printed_kept m.memory m (end - op.text) here
     zero_kept none.Nop op end a = given here
     zero_kept none.RetPopped op end a = returns_kept m.memory m here
+    zero_kept none.Catch op end a = answers_kept m.memory m end op.store _ here
     zero_kept none.Quit op end a = given here
     zero_kept none.NewLine op end a = printed_kept m.memory (PrintsCode 13) (at_pc m end) here
+    zero_kept none.Verify op end a = goes_kept m.memory (branched layout m end op.branch _) (branched_kept m.memory m end op.branch _ here)
+    zero_kept none.Piracy op end a = goes_kept m.memory (branched layout m end op.branch _) (branched_kept m.memory m end op.branch _ here)
 
     several_kept : (word : ℕ) (i : Several) (op : Op) (end : ℕ) (a : Args) → Gives (do_several layout word i op end a m) SameBehind
     unfolding do_several
     several_kept word several.CallVs op end a = goes_kept m.memory (called layout m end op.store a) (called_kept m.memory m end op.store a here)
     several_kept word several.Storew op end a = written_kept m.memory m end _ (word_kept m.memory (guarded layout m.memory) _ a.third (guarded_kept m.memory))
     several_kept word several.Storeb op end a = written_kept m.memory m end _ (byte_kept m.memory (guarded layout m.memory) _ (a.third % 256) (guarded_kept m.memory))
+    several_kept word several.PutProp op end a = written_kept m.memory m end _ (property_kept m.memory (guarded layout m.memory) (objects_in m) a.first a.second a.third story)
     several_kept word several.Aread op end a = reads_kept m.memory m end op.store a here
     several_kept word several.PrintChar op end a = printed_kept m.memory (PrintsCode a.first) (at_pc m end) here
     several_kept word several.PrintNum op end a = printed_kept m.memory (PrintsNumber a.first) (at_pc m end) here
     several_kept word several.Random op end a = random_kept m.memory word m end op.store a.first here
     several_kept word several.Push op end a = goes_kept m.memory (pushed (at_pc m end) a.first) (pushed_kept m.memory (at_pc m end) a.first here)
     several_kept word several.Pull op end a = pulls_kept m.memory m end a.first here
+    several_kept word several.SplitWindow op end a = given here
+    several_kept word several.SetWindow op end a = given here
+    several_kept word several.EraseWindow op end a = given here
+    several_kept word several.EraseLine op end a = given here
+    several_kept word several.SetCursor op end a = given here
+    several_kept word several.SetTextStyle op end a = given here
+    several_kept word several.BufferMode op end a = given here
+    several_kept word several.OutputStream op end a = goes_kept m.memory (streamed layout (at_pc m end) a) (streamed_kept m.memory (at_pc m end) a here)
+    several_kept word several.ReadChar op end a = key_kept m.memory m end op.store here
+    several_kept word several.ScanTable op end a = place_kept m.memory m end op.store op.branch _ here
     several_kept word several.Not op end a = answers_kept m.memory m end op.store _ here
     several_kept word several.CallVn op end a = goes_kept m.memory (called layout m end op.store a) (called_kept m.memory m end op.store a here)
+    several_kept word several.CopyTable op end a = written_kept m.memory m end _ (copied_kept m.memory (guarded layout m.memory) a.first a.second a.third story)
+    several_kept word several.CheckArgCount op end a = goes_kept m.memory (branched layout m end op.branch _) (branched_kept m.memory m end op.branch _ here)
 
     extended_kept : (i : Extended) (op : Op) (end : ℕ) (a : Args) → Gives (do_extended layout i op end a m) SameBehind
     unfolding do_extended
+    extended_kept extended.Save op end a = answers_kept m.memory m end op.store _ here
+    extended_kept extended.Restore op end a = answers_kept m.memory m end op.store _ here
+    extended_kept extended.LogShift op end a = answers_kept m.memory m end op.store _ here
+    extended_kept extended.ArtShift op end a = answers_kept m.memory m end op.store _ here
+    extended_kept extended.SaveUndo op end a = answers_kept m.memory m end op.store _ here
+    extended_kept extended.RestoreUndo op end a = answers_kept m.memory m end op.store _ here
     extended_kept extended.PrintUnicode op end a = printed_kept m.memory (PrintsUnicode a.first) (at_pc m end) here
 
     instr_kept : (word : ℕ) (i : Instr) (op : Op) (end : ℕ) (a : Args) → Gives (do_instr layout word i op end a m) SameBehind
@@ -412,6 +592,10 @@ module _ (w : ZGiven) (laid : IsLaid w.layout) where
   line_after s m buffer most store (byte ∷ typed) k =
       unless_after s (record s { typed = typed_left (byte ∷ typed) }) (line_read w.layout m buffer store (typed_line most (byte ∷ typed))) (read_kept s.machine.memory m buffer store (typed_line most (byte ∷ typed)) k)
 
+  key_after : (s : ZState) (m : Machine) (store : Option ℕ) (typed : List ℕ) → KeepsCode w.layout s.machine.memory m.memory → After s (state_behind (key_taken w s m store typed))
+  key_after s m store [] k = k
+  key_after s m store (byte ∷ typed) k = unless_after s (record s { typed = typed }) (stored_if w.layout m store (key_code byte)) (stored_if_kept w.layout laid s.machine.memory m store (key_code byte) k)
+
   effect_after : (s : ZState) (effect : Effect) (m : Machine) → KeepsCode w.layout s.machine.memory m.memory → After s (state_behind (effect_on w s effect m))
   effect_after s Goes m k = k
   effect_after s (PrintsCode c) m k = k
@@ -421,6 +605,7 @@ module _ (w : ZGiven) (laid : IsLaid w.layout) where
   effect_after s (PrintsLine at) m k = unless_after s (shown s m (text_bytes (string_at m.memory at) ++ 10 ∷ [])) (returned w.layout m 1) (returned_kept w.layout laid s.machine.memory m 1 k)
   effect_after s Draws m k = k
   effect_after s (Reads buffer most store) m k = line_after s m buffer most store s.typed k
+  effect_after s (ReadsKey store) m k = key_after s m store s.typed k
   effect_after s Quits m k = k
 
   next_after : (s : ZState) (r : Result (Effect × Machine) ZFault) → Gives r (λ p. KeepsCode w.layout s.machine.memory p.1.memory) → After s (state_behind (next_by w s r))

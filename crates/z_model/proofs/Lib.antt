@@ -13,3 +13,4 @@ pub mod Kept
 pub mod Standing
 pub mod Worked
 pub mod Parts
+pub mod Basic

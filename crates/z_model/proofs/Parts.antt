@@ -4,7 +4,7 @@ use Rattle.z_model.specs.declared.fault.ZFault.{ZFault}
 use Rattle.z_model.specs.declared.fault.ZFault.TheVariants.{BadOpcode}
 use Rattle.z_model.specs.declared.story.Layout.{Layout}
 use Rattle.z_model.specs.declared.end.Effect.{Effect}
-use Rattle.z_model.specs.declared.end.Effect.TheVariants.{Goes, PrintsCode, PrintsUnicode, PrintsNumber, PrintsText, PrintsLine, Draws, Reads, Quits}
+use Rattle.z_model.specs.declared.end.Effect.TheVariants.{Goes, PrintsCode, PrintsUnicode, PrintsNumber, PrintsText, PrintsLine, Draws, Reads, ReadsKey, Quits}
 use Rattle.z_model.specs.declared.table.Kind.{Kind}
 use Rattle.z_model.specs.declared.table.Kind.TheVariants as kinds
 use Rattle.z_model.specs.declared.table.Row.{Row}
@@ -13,7 +13,7 @@ use Rattle.z_model.specs.Table.{Rows, row_at}
 use Rattle.z_model.specs.Decode.{◌>>=◌, or_fault, byte_at, known, variable_row, body_at, long_at, short_at, variable_at, extended_at, op_at}
 use Rattle.z_model.specs.Machine.{Machine}
 use Rattle.z_model.specs.Step.{machine_step}
-use Rattle.z_model.specs.Run.{ZGiven, ZState, Next, On, Ended, ZRun, go_on, next_by, effect_on, line_taken, word_at, zstep, zrun}
+use Rattle.z_model.specs.Run.{ZGiven, ZState, Next, On, Ended, ZRun, go_on, next_by, effect_on, line_taken, key_taken, word_at, zstep, zrun}
 use Rattle.z_model.specs.Parts.{IsPartOf, IsBroken, RunsStay}
 
 -- An answer stays, unless it is a fault.
@@ -84,6 +84,10 @@ module _ (w : ZGiven) (rows : Rows) (within : IsPartOf w.rows rows) where
   line_same s m buffer most store [] = refl
   line_same s m buffer most store (byte ∷ typed) = refl
 
+  key_same : (s : ZState) (m : Machine) (store : Option ℕ) (typed : List ℕ) → key_taken (with_rows w rows) s m store typed ≡ key_taken w s m store typed
+  key_same s m store [] = refl
+  key_same s m store (byte ∷ typed) = refl
+
   -- the outside's part is the same
   effect_same : (s : ZState) (effect : Effect) (m : Machine) → effect_on (with_rows w rows) s effect m ≡ effect_on w s effect m
   effect_same s Goes m = refl
@@ -94,6 +98,7 @@ module _ (w : ZGiven) (rows : Rows) (within : IsPartOf w.rows rows) where
   effect_same s (PrintsLine at) m = refl
   effect_same s Draws m = refl
   effect_same s (Reads buffer most store) m = line_same s m buffer most store s.typed
+  effect_same s (ReadsKey store) m = key_same s m store s.typed
   effect_same s Quits m = refl
 
   next_same : (s : ZState) (r : Result (Effect × Machine) ZFault) → next_by (with_rows w rows) s r ≡ next_by w s r

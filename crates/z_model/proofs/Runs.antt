@@ -6,12 +6,12 @@ use Rattle.z_model.specs.declared.fault.ZFault.{ZFault}
 use Rattle.z_model.specs.declared.end.Halt.{Halt}
 use Rattle.z_model.specs.declared.end.Halt.TheVariants.{AtQuit, AtInput, AtFault}
 use Rattle.z_model.specs.declared.end.Effect.{Effect}
-use Rattle.z_model.specs.declared.end.Effect.TheVariants.{Goes, PrintsCode, PrintsUnicode, PrintsNumber, PrintsText, PrintsLine, Draws, Reads, Quits}
-use Rattle.z_model.specs.Machine.{Machine}
+use Rattle.z_model.specs.declared.end.Effect.TheVariants.{Goes, PrintsCode, PrintsUnicode, PrintsNumber, PrintsText, PrintsLine, Draws, Reads, ReadsKey, Quits}
+use Rattle.z_model.specs.Machine.{Machine, stored_if}
 use Rattle.z_model.specs.Numbers.{signed_16}
 use Rattle.z_model.specs.Flow.{returned}
 use Rattle.z_model.specs.Step.{machine_step}
-use Rattle.z_model.specs.Run.{ZState, ZGiven, Next, On, Ended, end_of, ZRun, go_on, zstep, zrun, next_by, shown, effect_on, on_unless, line_taken, line_read, word_at}
+use Rattle.z_model.specs.Run.{ZState, ZGiven, Next, On, Ended, end_of, ZRun, go_on, zstep, zrun, next_by, shown, effect_on, on_unless, line_taken, line_read, key_taken, key_code, word_at}
 use Rattle.z_model.specs.Typed.{typed_line, typed_left}
 use Rattle.z_model.specs.Text.{string_at, text_bytes}
 use Rattle.z_model.specs.Zscii.{code_bytes}
@@ -55,6 +55,10 @@ line_grows : (w : ZGiven) (s : ZState) (m : Machine) (buffer most : ℕ) (store 
 line_grows w s m buffer most store [] = same_begins s.output
 line_grows w s m buffer most store (byte ∷ typed) = unless_grows s (record s { typed = typed_left (byte ∷ typed) }) (line_read w.layout m buffer store (typed_line most (byte ∷ typed))) (same_begins s.output)
 
+key_grows : (w : ZGiven) (s : ZState) (m : Machine) (store : Option ℕ) (typed : List ℕ) → Begins s.output (state_of (key_taken w s m store typed)).output
+key_grows w s m store [] = same_begins s.output
+key_grows w s m store (byte ∷ typed) = unless_grows s (record s { typed = typed }) (stored_if w.layout m store (key_code byte)) (same_begins s.output)
+
 effect_grows : (w : ZGiven) (s : ZState) (effect : Effect) (m : Machine) → Begins s.output (state_of (effect_on w s effect m)).output
 effect_grows w s Goes m = same_begins s.output
 effect_grows w s (PrintsCode c) m = record { behind = code_bytes c; is = refl }
@@ -64,6 +68,7 @@ effect_grows w s (PrintsText at) m = record { behind = text_bytes (string_at m.m
 effect_grows w s (PrintsLine at) m = unless_grows s (shown s m (text_bytes (string_at m.memory at) ++ 10 ∷ [])) (returned w.layout m 1) (record { behind = text_bytes (string_at m.memory at) ++ 10 ∷ []; is = refl })
 effect_grows w s Draws m = same_begins s.output
 effect_grows w s (Reads buffer most store) m = line_grows w s m buffer most store s.typed
+effect_grows w s (ReadsKey store) m = key_grows w s m store s.typed
 effect_grows w s Quits m = same_begins s.output
 
 step_grows : (w : ZGiven) (s : ZState) (r : Result (Effect × Machine) ZFault) → Begins s.output (state_of (next_by w s r)).output

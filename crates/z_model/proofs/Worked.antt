@@ -14,7 +14,7 @@ use Rattle.z_model.specs.Typed.{line_within, left_within, without_return, typed_
 use Rattle.z_model.specs.Memory.{byte_in, with_byte, with_bytes, have_right}
 use Rattle.z_model.specs.Machine.{pushed, stored, stored_if, value_of, value_if, values_of}
 use Rattle.z_model.specs.Flow.{local_count, entered, called, returned}
-use Rattle.z_model.specs.Effects.{printed, most_typed, reads}
+use Rattle.z_model.specs.Effects.{let_out, printed, most_typed, reads}
 use Rattle.z_model.specs.Step.{do_one, do_zero, do_several, do_instr, machine_step}
 use Rattle.z_model.specs.Run.{ZGiven, ZRun, with_line, line_read, zstep, zrun}
 use Rattle.z_model.specs.Closing.{with_end_line, played_text}
@@ -32,7 +32,7 @@ run_of memory typed = zrun given 10 (record { machine = first_machine memory 0; 
 
 -- print "hi", new_line, quit
 hello : played_text (run_of (0xB2 ∷ 0xB5 ∷ 0xC5 ∷ 0xBB ∷ 0xBA ∷ []) []) ≡ codes "hi\n"
-unfolding zrun zstep machine_step op_at short_at body_at counted count_of operand_at store_at branch_at text_at text_end values_of value_if do_instr do_zero printed print_fault string_at codes_of read_character z_characters all_printed code_bytes with_end_line encode
+unfolding zrun zstep machine_step op_at short_at body_at counted count_of operand_at store_at branch_at text_at text_end values_of value_if do_instr do_zero printed let_out print_fault string_at codes_of read_character z_characters all_printed code_bytes with_end_line encode
 hello = refl
 
 -- no instruction of the table begins with 0
@@ -42,7 +42,7 @@ no_instruction = refl
 
 -- call_1n of the routine at 8, which prints "hi" and returns; then quit
 a_call : played_text (run_of (0x8F ∷ 0x00 ∷ 0x01 ∷ 0xBA ∷ 0 ∷ 0 ∷ 0 ∷ 0 ∷ 0x00 ∷ 0xB2 ∷ 0xB5 ∷ 0xC5 ∷ 0xB0 ∷ []) []) ≡ codes "hi"
-unfolding zrun zstep machine_step op_at short_at body_at counted count_of operand_at store_at branch_at text_at text_end values_of value_if value_of do_instr do_zero do_one called entered local_count returned stored_if printed print_fault string_at codes_of read_character z_characters all_printed code_bytes with_end_line encode
+unfolding zrun zstep machine_step op_at short_at body_at counted count_of operand_at store_at branch_at text_at text_end values_of value_if value_of do_instr do_zero do_one called entered local_count returned stored_if printed let_out print_fault string_at codes_of read_character z_characters all_printed code_bytes with_end_line encode
 a_call = refl
 
 -- aread into the buffer at 64, which has room for three; typed are É in two bytes, a capital, a letter and a byte that belongs to no character

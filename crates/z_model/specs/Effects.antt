@@ -1,19 +1,22 @@
--- What several instructions do: answers, printing, variables that operands name, reading and drawing (Z-Machine Standard 1.1, section 15).
-use Rattle.std.specs.Prelude.{ℕ, ◌+◌, ◌%◌, Option, Some, None, Result, Ok, Err, nat_lt, ◌==◌, ◌||◌, if◌then◌else◌, int_lt}
+-- What several instructions do: answers, printing, variables that operands name, objects and tables, reading and drawing (Z-Machine Standard 1.1, section 15).
+use Rattle.std.specs.Prelude.{ℕ, ◌+◌, ◌%◌, List, [], ◌∷◌, Option, Some, None, is_some, Result, Ok, Err, Bool, not, nat_lt, ◌==◌, ◌||◌, if◌then◌else◌, slice_index}
 use Rattle.z_model.specs.declared.fault.ZFault.{ZFault}
 use Rattle.z_model.specs.declared.fault.ZFault.TheVariants.{BadWrite, BadCharacter, Unsupported}
 use Rattle.z_model.specs.declared.op.Branch.{Branch}
 use Rattle.z_model.specs.declared.end.Args.{Args}
+use Rattle.z_model.specs.declared.end.OpenTable.{OpenTable}
 use Rattle.z_model.specs.declared.story.Layout.{Layout}
 use Rattle.z_model.specs.declared.end.Effect.{Effect}
-use Rattle.z_model.specs.declared.end.Effect.TheVariants.{Goes, PrintsCode, PrintsUnicode, PrintsNumber, PrintsText, PrintsLine, Draws, Reads, Quits}
+use Rattle.z_model.specs.declared.end.Effect.TheVariants.{Goes, PrintsCode, PrintsUnicode, PrintsNumber, PrintsText, PrintsLine, Draws, Reads, ReadsKey, Quits}
 use Rattle.z_model.specs.Decode.{◌>>=◌}
 use Rattle.z_model.specs.Zscii.{is_printed, is_character}
 use Rattle.z_model.specs.Text.{string_at, print_fault}
-use Rattle.z_model.specs.Memory.{Memory, guarded, is_writable, byte_in, have_right}
+use Rattle.z_model.specs.Memory.{Memory, word_of, guarded, is_writable, byte_in, have_right}
 use Rattle.z_model.specs.Machine.{Machine, popped, stored_if, held_in, placed}
-use Rattle.z_model.specs.Numbers.{signed_16}
 use Rattle.z_model.specs.Flow.{at_pc, returned, branched}
+use Rattle.z_model.specs.Tables.{usual_form, or_zero, scanned}
+use Rattle.z_model.specs.Properties.{name_place}
+use Rattle.z_model.specs.Streams.{codes_in, into_table}
 
 -- ---- answers
 
@@ -32,6 +35,32 @@ answers_or layout m end store r = r >>= λ x. answers layout m end store x
 abbrev pub written : Machine → ℕ → Result Memory ZFault → Result (Effect × Machine) ZFault
 written m end r = r >>= λ memory. Ok (Goes, record m { memory = memory.bytes; pc = end })
 
+-- a test, unless there is a fault
+abbrev pub tests_or : Layout → Machine → ℕ → Option Branch → Result Bool ZFault → Result (Effect × Machine) ZFault
+tests_or layout m end branch r = r >>= λ test. goes (branched layout m end branch test)
+
+-- an answer is stored, and then there is a test
+abbrev pub answers_and_tests : Layout → Machine → ℕ → Option ℕ → Option Branch → ℕ → Bool → Result (Effect × Machine) ZFault
+answers_and_tests layout m end store branch x test = goes (stored_if layout m store x >>= λ after. branched layout after end branch test)
+
+-- ---- objects and tables
+
+-- the address of the table of objects
+abbrev pub objects_in : Machine → ℕ
+objects_in m = word_of (slice_index m.memory 10) (slice_index m.memory 11)
+
+-- an object is stored, and it is tested whether it is one
+abbrev pub answers_object : Layout → Machine → ℕ → Option ℕ → Option Branch → Result ℕ ZFault → Result (Effect × Machine) ZFault
+answers_object layout m end store branch r = r >>= λ x. answers_and_tests layout m end store branch x (not (x == 0))
+
+-- a place is stored, or 0, and it is tested whether there is one
+abbrev pub answers_place : Layout → Machine → ℕ → Option ℕ → Option Branch → Result (Option ℕ) ZFault → Result (Effect × Machine) ZFault
+answers_place layout m end store branch r = r >>= λ found. answers_and_tests layout m end store branch (or_zero found) (is_some found)
+
+-- where a value stands in a table; the fourth operand is the form of its entries
+abbrev pub sought : Layout → Machine → Args → Result (Option ℕ) ZFault
+sought layout m a = scanned (guarded layout m.memory) a.first (if nat_lt 3 a.count then a.fourth else usual_form) a.third a.second
+
 -- ---- printing
 
 -- why what an effect prints may not be printed, if it may not
@@ -44,20 +73,40 @@ fault_in (PrintsText at) m = print_fault (string_at m.memory at)
 fault_in (PrintsLine at) m = print_fault (string_at m.memory at)
 fault_in Draws m = None
 fault_in (Reads buffer most store) m = None
+fault_in (ReadsKey store) m = None
 fault_in Quits m = None
 
--- an effect, unless there is a fault
-abbrev pub unless : Option ZFault → Effect → Machine → Result (Effect × Machine) ZFault
-unless None effect m = Ok (effect, m)
-unless (Some fault) effect m = Err fault
+-- this, unless there is a fault
+abbrev pub unless : Option ZFault → Result (Effect × Machine) ZFault → Result (Effect × Machine) ZFault
+unless None r = r
+unless (Some fault) r = Err fault
+
+-- What an effect prints goes out, or into the newest table where one is open.
+unfoldable pub let_out : Layout → List OpenTable → Effect → Machine → Result (Effect × Machine) ZFault
+let_out layout [] effect m = Ok (effect, m)
+let_out layout (t ∷ ts) effect m = goes (into_table layout m t ts (codes_in effect m))
 
 -- Each instruction that prints does so by this alone.
-unfoldable pub printed : Effect → Machine → Result (Effect × Machine) ZFault
-printed effect m = unless (fault_in effect m) effect m
+unfoldable pub printed : Layout → Effect → Machine → Result (Effect × Machine) ZFault
+printed layout effect m = unless (fault_in effect m) (let_out layout m.tables effect m)
 
--- the text is followed by a newline and a return, which is tried here and made once they are printed
+-- a return behind what is printed: it is tried here, and made once the text is out
+abbrev pub then_returned : List OpenTable → Effect × Machine → Machine → Effect × Machine
+then_returned [] p after = p
+then_returned (t ∷ ts) p after = (Goes, after)
+
+-- the text is followed by a newline and a return
 unfoldable pub prints_line : Layout → Machine → ℕ → Result (Effect × Machine) ZFault
-prints_line layout m at = printed (PrintsLine at) m >>= λ p. returned layout m 1 >>= λ after. Ok p
+prints_line layout m at = printed layout (PrintsLine at) m >>= λ p. returned layout p.1 1 >>= λ after. Ok (then_returned m.tables p after)
+
+-- a string, if there is one
+abbrev pub prints_text_if : Layout → Machine → Option ℕ → Result (Effect × Machine) ZFault
+prints_text_if layout m None = Ok (Goes, m)
+prints_text_if layout m (Some at) = printed layout (PrintsText at) m
+
+-- the short name of an object
+unfoldable pub prints_name : Layout → Machine → ℕ → ℕ → Result (Effect × Machine) ZFault
+prints_name layout m end n = name_place (guarded layout m.memory) (objects_in m) n >>= λ found. prints_text_if layout (at_pc m end) found
 
 -- ---- variables that operands name
 
@@ -72,9 +121,8 @@ abbrev pub adds : Layout → Machine → ℕ → ℕ → ℕ → Result (Effect 
 adds layout m end v by = added layout (at_pc m end) v by >>= λ p. Ok (Goes, p.1)
 
 -- its new value decides on the branch
-abbrev pub adds_and_tests : Layout → Machine → ℕ → Option Branch → ℕ → ℕ → Result (Effect × Machine) ZFault
-adds_and_tests layout m end branch v limit =
-    added layout m v 1 >>= λ p. goes (branched layout p.1 end branch (int_lt (signed_16 limit) (signed_16 p.0)))
+abbrev pub adds_and_tests : Layout → Machine → ℕ → Option Branch → ℕ → ℕ → (ℕ → Bool) → Result (Effect × Machine) ZFault
+adds_and_tests layout m end branch v by test = added layout m v by >>= λ p. goes (branched layout p.1 end branch (test p.0))
 
 -- a word is taken from the stack, and given to a variable that an operand names
 abbrev pub pulls : Layout → Machine → ℕ → ℕ → Result (Effect × Machine) ZFault
@@ -97,6 +145,10 @@ most_typed layout m a =
 unfoldable pub reads : Layout → Machine → ℕ → Option ℕ → Args → Result (Effect × Machine) ZFault
 reads layout m end store a =
     most_typed layout m a >>= λ most. stored_if layout (at_pc m end) store 13 >>= λ after. Ok (Reads a.first most store, at_pc m end)
+
+-- the same of a typed byte, whose code is stored
+unfoldable pub reads_key : Layout → Machine → ℕ → Option ℕ → Result (Effect × Machine) ZFault
+reads_key layout m end store = stored_if layout (at_pc m end) store 13 >>= λ after. Ok (ReadsKey store, at_pc m end)
 
 -- a number from 1 to r by the next dice word, or 0 where r isn't above 0
 unfoldable pub random_of : Layout → ℕ → Machine → ℕ → Option ℕ → ℕ → Result (Effect × Machine) ZFault

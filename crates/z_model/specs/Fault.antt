@@ -2,7 +2,7 @@
 use Rattle.std.specs.Prelude.{ℕ, List, codes}
 use Rattle.z_model.specs.declared.fault.ZFault.{ZFault}
 use Rattle.z_model.specs.declared.fault.ZFault.TheVariants.{BadOpcode, OffEnd, BadAddress, BadWrite, StackEmpty, StackFull, BadLocal, DivideByZero}
-use Rattle.z_model.specs.declared.fault.ZFault.TheVariants.{BadCall, BadString, BadCharacter, BadReturn, Unsupported, BadObject, BadProperty}
+use Rattle.z_model.specs.declared.fault.ZFault.TheVariants.{BadCall, BadString, BadCharacter, BadReturn, Unsupported, BadObject, BadProperty, BadStream}
 
 -- the number that is printed
 abbrev pub number_of : ZFault → ℕ
@@ -21,6 +21,7 @@ number_of BadReturn = 61
 number_of Unsupported = 62
 number_of BadObject = 63
 number_of BadProperty = 64
+number_of BadStream = 65
 
 -- its text, for a reader of the error
 abbrev pub text_of_fault : ZFault → List ℕ
@@ -39,3 +40,4 @@ text_of_fault BadReturn = codes "a return from the opening routine"
 text_of_fault Unsupported = codes "reading into a parse buffer is not supported"
 text_of_fault BadObject = codes "no such object or attribute, or a chain of siblings without an end"
 text_of_fault BadProperty = codes "no such property, or one that is too long or out of order"
+text_of_fault BadStream = codes "too many tables are open for output"

@@ -1,5 +1,5 @@
 -- Where the machine goes on: jumps, branches, returns and calls (Z-Machine Standard 1.1, sections 4.7, 6.3, 6.4 and 15).
-use Rattle.std.specs.Prelude.{ℕ, zero, suc, ◌+◌, ◌-◌, ◌*◌, List, [], ◌∷◌, length, take, Option, Some, None, Result, Ok, Err, Bool, true, false, nat_lt, ◌==◌, if◌then◌else◌, slice_get, pos}
+use Rattle.std.specs.Prelude.{ℕ, zero, suc, ◌+◌, ◌-◌, ◌*◌, List, [], ◌∷◌, length, take, drop, Option, Some, None, Result, Ok, Err, Bool, true, false, nat_lt, ◌==◌, ◌||◌, if◌then◌else◌, slice_get, pos}
 use lib.IntN.{ℤ, ◌+ℤ◌, ◌-ℤ◌, negsuc}
 use Rattle.z_model.specs.declared.fault.ZFault.{ZFault}
 use Rattle.z_model.specs.declared.fault.ZFault.TheVariants.{OffEnd, BadCall, StackFull, BadReturn}
@@ -32,6 +32,17 @@ return_to layout m (f ∷ fs) x = stored_if layout (record m { pc = m.here.back;
 
 unfoldable pub returned : Layout → Machine → ℕ → Result Machine ZFault
 returned layout m x = return_to layout m m.callers x
+
+-- the machine in the first of these frames, called by the others
+abbrev pub in_frames : Machine → List Frame → Machine
+in_frames m [] = m
+in_frames m (f ∷ fs) = record m { here = f; callers = fs }
+
+-- The frames above that of a number are dropped, and it returns an answer; the opening frame is 0.
+unfoldable pub thrown : Layout → Machine → ℕ → ℕ → Result Machine ZFault
+thrown layout m x frame =
+    if (frame == 0) || nat_lt (length m.callers) frame then Err BadReturn
+    else returned layout (in_frames m (drop (length m.callers - frame) (m.here ∷ m.callers))) x
 
 -- where a branch leads: offsets 0 and 1 return
 unfoldable pub branch_taken : Layout → Machine → ℕ → ℤ → Result Machine ZFault

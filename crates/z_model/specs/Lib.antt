@@ -15,10 +15,12 @@ pub mod Tables
 pub mod Machine
 pub mod Numbers
 pub mod Flow
+pub mod Streams
 pub mod Effects
 pub mod Step
 pub mod Run
 pub mod Laws
 pub mod Parts
+pub mod Basic
 pub mod Story
 pub mod Closing

@@ -6,11 +6,13 @@ use Rattle.z_model.specs.declared.op.Operand.{Operand}
 use Rattle.z_model.specs.declared.op.Operand.TheVariants as operands
 use Rattle.z_model.specs.declared.op.Operands.{Operands}
 use Rattle.z_model.specs.declared.end.Args.{Args}
+use Rattle.z_model.specs.declared.end.OpenTable.{OpenTable}
 use Rattle.z_model.specs.declared.story.Layout.{Layout}
 use Rattle.z_model.specs.Decode.{◌>>=◌, or_fault}
 use Rattle.z_model.specs.Memory.{word_of}
 
--- A routine that was called: where its caller goes on, which variable takes its answer, how many arguments it was given, its locals, and its stack with the top last.
+-- A routine that was called: where its caller goes on, which variable takes its answer, how many arguments it was given,
+-- its locals, and its stack with the top last.
 pub record Frame : Type 0 where
   pub back : ℕ
   pub store : Option ℕ
@@ -18,12 +20,7 @@ pub record Frame : Type 0 where
   pub locals : List ℕ
   pub stack : List ℕ
 
--- A table into which output goes, and how many codes went there; no instruction opens one yet.
-pub record OpenTable : Type 0 where
-  pub at : ℕ
-  pub count : ℕ
-
--- The memory, the address of the next instruction, the present frame, the callers with the newest first, and the open tables.
+-- The memory, the address of the next instruction, the present frame, the callers, and the tables into which output goes; the newest are first.
 pub record Machine : Type 0 where
   pub memory : List ℕ
   pub pc : ℕ

@@ -28,6 +28,10 @@ link_in mem n place = if n == 0 then Ok 0 else word_in mem place
 unfoldable pub some_object : {A : Type 0} → ℕ → Result A ZFault → Result A ZFault
 some_object n r = if n == 0 then Err BadObject else r
 
+-- whether the parent of an object is another
+unfoldable pub is_in : Memory → ℕ → ℕ → ℕ → Result Bool ZFault
+is_in mem objects a b = some_object a (some_object b (word_in mem (parent_at objects a) >>= λ parent. Ok (parent == b)))
+
 -- ---- attributes
 
 -- Attribute 0 is the top bit of the first byte; there are 48.

@@ -49,6 +49,13 @@ first_place mem objects n = some_object n (do
   words ← byte_in mem table
   Ok ((table + 1 + 2 * words) % 65536))
 
+-- where the short name of an object stands, if it has one; its end is marked in it
+unfoldable pub name_place : Memory → ℕ → ℕ → Result (Option ℕ) ZFault
+name_place mem objects n = some_object n (do
+  table ← word_in mem ((entry_at objects n + 12) % 65536)
+  words ← byte_in mem table
+  Ok (if words == 0 then None else Some ((table + 1) % 65536)))
+
 unfoldable pub property_of : Memory → ℕ → ℕ → ℕ → Result (Option Property) ZFault
 property_of mem objects n number = first_place mem objects n >>= λ place. property_from mem number 65 64 place
 

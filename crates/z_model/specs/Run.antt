@@ -1,5 +1,5 @@
 -- A step of the whole player, and a run of at most so many (Z-Machine Standard 1.1, section 5.5 on the start, section 7 on output, section 10 on input).
-use Rattle.std.specs.Prelude.{ℕ, zero, suc, ◌+◌, ◌%◌, List, [], ◌∷◌, ◌++◌, length, Option, Result, Ok, Err, slice_index, encode_utf8}
+use Rattle.std.specs.Prelude.{ℕ, zero, suc, ◌+◌, ◌%◌, List, [], ◌∷◌, ◌++◌, length, Option, Result, Ok, Err, nat_lt, ◌==◌, ◌&&◌, ◌||◌, if◌then◌else◌, slice_index, encode_utf8}
 use Rattle.std.specs.Fmt.{signed_decimal}
 use Rattle.z_model.specs.declared.fault.ZFault.{ZFault}
 use Rattle.z_model.specs.declared.story.Layout.{Layout}
@@ -8,7 +8,7 @@ use Rattle.z_model.specs.declared.end.Halt.TheVariants.{AtQuit, AtInput, AtFault
 use Rattle.z_model.specs.declared.end.ZEnd.{ZEnd}
 use Rattle.z_model.specs.declared.end.ZEnd.TheVariants as ends
 use Rattle.z_model.specs.declared.end.Effect.{Effect}
-use Rattle.z_model.specs.declared.end.Effect.TheVariants.{Goes, PrintsCode, PrintsUnicode, PrintsNumber, PrintsText, PrintsLine, Draws, Reads, Quits}
+use Rattle.z_model.specs.declared.end.Effect.TheVariants.{Goes, PrintsCode, PrintsUnicode, PrintsNumber, PrintsText, PrintsLine, Draws, Reads, ReadsKey, Quits}
 use Rattle.z_model.specs.Table.{Rows}
 use Rattle.z_model.specs.Decode.{◌>>=◌}
 use Rattle.z_model.specs.Zscii.{code_bytes}
@@ -75,6 +75,15 @@ line_taken w s m buffer most store [] = Ended AtInput (record s { machine = m })
 line_taken w s m buffer most store (byte ∷ typed) =
     on_unless s (record s { typed = typed_left (byte ∷ typed) }) (line_read w.layout m buffer store (typed_line most (byte ∷ typed)))
 
+-- the code of a typed byte: 13 ends a line, and what is no printed part of ASCII is a question mark
+abbrev pub key_code : ℕ → ℕ
+key_code byte = if (byte == 10) || (byte == 13) then 13 else if nat_lt 31 byte && nat_lt byte 127 then byte else 63
+
+-- a typed byte is taken, where one is left
+abbrev pub key_taken : ZGiven → ZState → Machine → Option ℕ → List ℕ → Next
+key_taken w s m store [] = Ended AtInput (record s { machine = m })
+key_taken w s m store (byte ∷ typed) = on_unless s (record s { typed = typed }) (stored_if w.layout m store (key_code byte))
+
 -- the outside's part of an instruction, behind which the machine is m
 abbrev pub effect_on : ZGiven → ZState → Effect → Machine → Next
 effect_on w s Goes m = On (record s { machine = m })
@@ -85,6 +94,7 @@ effect_on w s (PrintsText at) m = On (shown s m (text_bytes (string_at m.memory 
 effect_on w s (PrintsLine at) m = on_unless s (shown s m (text_bytes (string_at m.memory at) ++ 10 ∷ [])) (returned w.layout m 1)
 effect_on w s Draws m = On (record s { machine = m; drawn = next_drawn w s.drawn })
 effect_on w s (Reads buffer most store) m = line_taken w s m buffer most store s.typed
+effect_on w s (ReadsKey store) m = key_taken w s m store s.typed
 effect_on w s Quits m = Ended AtQuit (record s { machine = m })
 
 abbrev pub next_by : ZGiven → ZState → Result (Effect × Machine) ZFault → Next

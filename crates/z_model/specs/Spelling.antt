@@ -28,7 +28,10 @@ type_if true x = type_of_operand x
 type_if false x = Omitted
 
 abbrev pub types_in : Operands → OperandTypes
-types_in o = record { first = type_if (nat_lt 0 o.count) o.first; second = type_if (nat_lt 1 o.count) o.second; third = type_if (nat_lt 2 o.count) o.third; fourth = type_if (nat_lt 3 o.count) o.fourth }
+types_in o = record {
+  first = type_if (nat_lt 0 o.count) o.first; second = type_if (nat_lt 1 o.count) o.second;
+  third = type_if (nat_lt 2 o.count) o.third; fourth = type_if (nat_lt 3 o.count) o.fourth;
+}
 
 abbrev pub code : OperandType → ℕ
 code Large = 0
@@ -91,7 +94,8 @@ all_operand_bytes s o = operand_bytes s.first o.first ++ (operand_bytes s.second
 -- The bytes of an instruction, before its literal text.
 abbrev pub spelling : Op → List ℕ
 spelling op = let s = types_in op.operands in
-    head_bytes op.form op.number s ++ (operand_bytes s.first op.operands.first ++ (operand_bytes s.second op.operands.second ++ (operand_bytes s.third op.operands.third ++ (operand_bytes s.fourth op.operands.fourth ++ (store_bytes op.store ++ branch_bytes op.branch)))))
+    head_bytes op.form op.number s ++ (operand_bytes s.first op.operands.first ++ (operand_bytes s.second op.operands.second
+    ++ (operand_bytes s.third op.operands.third ++ (operand_bytes s.fourth op.operands.fourth ++ (store_bytes op.store ++ branch_bytes op.branch)))))
 
 -- ---- what has a spelling
 

@@ -36,7 +36,8 @@ is_too_long file = nat_lt 524288 (length file)
 abbrev pub has_bad_length : List ℕ → Bool
 has_bad_length file = nat_lt (length_of file) 64 || nat_lt (length file) (length_of file)
 
--- The globals lie, 480 bytes long, between 64 and the static base; the base is within the length and at most 65,534; the first instruction is behind the header and within the length.
+-- The globals lie, 480 bytes long, between 64 and the static base; the base is within the length and at most 65,534;
+-- the first instruction is behind the header and within the length.
 abbrev pub has_bad_map : List ℕ → Bool
 has_bad_map file =
     nat_lt (globals_of file) 64 || (nat_lt (base_of file) (globals_of file + 480)
@@ -82,7 +83,11 @@ pub record IsHeader (file : List ℕ) (h : Header) : Type 0 where
 
 -- at the first instruction, in the opening frame
 abbrev pub first_machine : List ℕ → ℕ → Machine
-first_machine memory start = record { memory = memory; pc = start; here = record { back = 0; store = None; args = 0; locals = []; stack = [] }; callers = []; tables = [] }
+first_machine memory start = record {
+  memory = memory; pc = start;
+  here = record { back = 0; store = None; args = 0; locals = []; stack = [] };
+  callers = []; tables = [];
+}
 
 abbrev pub given_of : List ℕ → List ℕ → ZGiven
 given_of file dice = record { rows = rows_of; layout = layout_of file; dice = dice }

@@ -46,17 +46,22 @@ two_rows =
     branches (instrs.Two two.Je) 2 4 ∷  -- 1
     branches (instrs.Two two.Jl) 2 2 ∷  -- 2
     branches (instrs.Two two.Jg) 2 2 ∷  -- 3
-    None ∷
+    branches (instrs.Two two.DecChk) 2 2 ∷  -- 4
     branches (instrs.Two two.IncChk) 2 2 ∷  -- 5
-    None ∷ None ∷
+    branches (instrs.Two two.Jin) 2 2 ∷  -- 6
+    branches (instrs.Two two.Test) 2 2 ∷  -- 7
     stores (instrs.Two two.Or) 2 2 ∷  -- 8
     stores (instrs.Two two.And) 2 2 ∷  -- 9
-    None ∷ None ∷ None ∷
+    branches (instrs.Two two.TestAttr) 2 2 ∷  -- 10
+    plain (instrs.Two two.SetAttr) 2 2 ∷  -- 11
+    plain (instrs.Two two.ClearAttr) 2 2 ∷  -- 12
     plain (instrs.Two two.Store) 2 2 ∷  -- 13
-    None ∷
+    plain (instrs.Two two.InsertObj) 2 2 ∷  -- 14
     stores (instrs.Two two.Loadw) 2 2 ∷  -- 15
     stores (instrs.Two two.Loadb) 2 2 ∷  -- 16
-    None ∷ None ∷ None ∷
+    stores (instrs.Two two.GetProp) 2 2 ∷  -- 17
+    stores (instrs.Two two.GetPropAddr) 2 2 ∷  -- 18
+    stores (instrs.Two two.GetNextProp) 2 2 ∷  -- 19
     stores (instrs.Two two.Add) 2 2 ∷  -- 20
     stores (instrs.Two two.Sub) 2 2 ∷  -- 21
     stores (instrs.Two two.Mul) 2 2 ∷  -- 22
@@ -64,19 +69,25 @@ two_rows =
     stores (instrs.Two two.Mod) 2 2 ∷  -- 24
     stores (instrs.Two two.Call2s) 2 2 ∷  -- 25
     plain (instrs.Two two.Call2n) 2 2 ∷  -- 26
-    None ∷ None ∷ None ∷ None ∷ None ∷
+    plain (instrs.Two two.SetColour) 2 2 ∷  -- 27
+    plain (instrs.Two two.Throw) 2 2 ∷  -- 28
+    None ∷ None ∷ None ∷
     []
 
 -- the rows with one operand, from 0 to 15
 abbrev pub one_rows : List (Option Row)
 one_rows =
     branches (instrs.One one.Jz) 1 1 ∷  -- 0
-    None ∷ None ∷ None ∷ None ∷
+    stores_and_branches (instrs.One one.GetSibling) 1 1 ∷  -- 1
+    stores_and_branches (instrs.One one.GetChild) 1 1 ∷  -- 2
+    stores (instrs.One one.GetParent) 1 1 ∷  -- 3
+    stores (instrs.One one.GetPropLen) 1 1 ∷  -- 4
     plain (instrs.One one.Inc) 1 1 ∷  -- 5
     plain (instrs.One one.Dec) 1 1 ∷  -- 6
-    None ∷
+    plain (instrs.One one.PrintAddr) 1 1 ∷  -- 7
     stores (instrs.One one.Call1s) 1 1 ∷  -- 8
-    None ∷ None ∷
+    plain (instrs.One one.RemoveObj) 1 1 ∷  -- 9
+    plain (instrs.One one.PrintObj) 1 1 ∷  -- 10
     plain (instrs.One one.Ret) 1 1 ∷  -- 11
     plain (instrs.One one.Jump) 1 1 ∷  -- 12
     plain (instrs.One one.PrintPaddr) 1 1 ∷  -- 13
@@ -94,10 +105,13 @@ zero_rows =
     plain (instrs.Zero zero.Nop) 0 0 ∷  -- 4
     None ∷ None ∷ None ∷
     plain (instrs.Zero zero.RetPopped) 0 0 ∷  -- 8
-    None ∷
+    stores (instrs.Zero zero.Catch) 0 0 ∷  -- 9
     plain (instrs.Zero zero.Quit) 0 0 ∷  -- 10
     plain (instrs.Zero zero.NewLine) 0 0 ∷  -- 11
-    None ∷ None ∷ None ∷ None ∷
+    None ∷
+    branches (instrs.Zero zero.Verify) 0 0 ∷  -- 13
+    None ∷
+    branches (instrs.Zero zero.Piracy) 0 0 ∷  -- 15
     []
 
 -- the rows with several operands, from 0 to 31
@@ -106,23 +120,44 @@ several_rows =
     stores (instrs.Several several.CallVs) 1 4 ∷  -- 0
     plain (instrs.Several several.Storew) 3 3 ∷  -- 1
     plain (instrs.Several several.Storeb) 3 3 ∷  -- 2
-    None ∷
+    plain (instrs.Several several.PutProp) 3 3 ∷  -- 3
     stores (instrs.Several several.Aread) 1 4 ∷  -- 4
     plain (instrs.Several several.PrintChar) 1 1 ∷  -- 5
     plain (instrs.Several several.PrintNum) 1 1 ∷  -- 6
     stores (instrs.Several several.Random) 1 1 ∷  -- 7
     plain (instrs.Several several.Push) 1 1 ∷  -- 8
     plain (instrs.Several several.Pull) 1 1 ∷  -- 9
-    None ∷ None ∷ None ∷ None ∷ None ∷ None ∷ None ∷ None ∷ None ∷ None ∷ None ∷ None ∷ None ∷ None ∷
+    plain (instrs.Several several.SplitWindow) 1 1 ∷  -- 10
+    plain (instrs.Several several.SetWindow) 1 1 ∷  -- 11
+    None ∷
+    plain (instrs.Several several.EraseWindow) 1 1 ∷  -- 13
+    plain (instrs.Several several.EraseLine) 1 1 ∷  -- 14
+    plain (instrs.Several several.SetCursor) 2 2 ∷  -- 15
+    None ∷
+    plain (instrs.Several several.SetTextStyle) 1 1 ∷  -- 17
+    plain (instrs.Several several.BufferMode) 1 1 ∷  -- 18
+    plain (instrs.Several several.OutputStream) 1 2 ∷  -- 19
+    None ∷ None ∷
+    stores (instrs.Several several.ReadChar) 1 3 ∷  -- 22
+    stores_and_branches (instrs.Several several.ScanTable) 3 4 ∷  -- 23
     stores (instrs.Several several.Not) 1 1 ∷  -- 24
     plain (instrs.Several several.CallVn) 1 4 ∷  -- 25
-    None ∷ None ∷ None ∷ None ∷ None ∷ None ∷
+    None ∷ None ∷ None ∷
+    plain (instrs.Several several.CopyTable) 3 3 ∷  -- 29
+    None ∷
+    branches (instrs.Several several.CheckArgCount) 1 1 ∷  -- 31
     []
 
 -- the rows of the extended form, from 0 to 11
 abbrev pub extended_rows : List (Option Row)
 extended_rows =
-    None ∷ None ∷ None ∷ None ∷ None ∷ None ∷ None ∷ None ∷ None ∷ None ∷ None ∷
+    stores (instrs.Extended extended.Save) 0 4 ∷  -- 0
+    stores (instrs.Extended extended.Restore) 0 4 ∷  -- 1
+    stores (instrs.Extended extended.LogShift) 2 2 ∷  -- 2
+    stores (instrs.Extended extended.ArtShift) 2 2 ∷  -- 3
+    None ∷ None ∷ None ∷ None ∷ None ∷
+    stores (instrs.Extended extended.SaveUndo) 0 0 ∷  -- 9
+    stores (instrs.Extended extended.RestoreUndo) 0 0 ∷  -- 10
     plain (instrs.Extended extended.PrintUnicode) 1 1 ∷  -- 11
     []
 

@@ -15,6 +15,10 @@ scanned mem x form (suc more) at = do
   entry ← entry_in mem form at
   if entry == x then Ok (Some at) else scanned mem x form more ((at + form % 128) % 65536)
 
+-- the form of an entry where none is given: a word, of two bytes
+abbrev pub usual_form : ℕ
+usual_form = 130
+
 abbrev pub or_zero : Option ℕ → ℕ
 or_zero None = 0
 or_zero (Some at) = at

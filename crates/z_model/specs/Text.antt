@@ -29,7 +29,9 @@ letter (Low high) z = Gives (32 * high + z)
 
 -- 0 is a space, 1 to 3 are abbreviations, 4 and 5 take the next one from A1 and A2.
 abbrev pub in_alphabet : Alphabet → ℕ → Reading
-in_alphabet alphabet z = if z == 0 then Gives 32 else if nat_lt z 4 then Refuses else if z == 4 then Turns Upper else if z == 5 then Turns Punctuation else letter alphabet z
+in_alphabet alphabet z =
+    if z == 0 then Gives 32 else if nat_lt z 4 then Refuses
+    else if z == 4 then Turns Upper else if z == 5 then Turns Punctuation else letter alphabet z
 
 unfoldable pub read_character : Alphabet → ℕ → Reading
 read_character Lower z = in_alphabet Lower z

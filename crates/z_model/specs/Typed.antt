@@ -1,4 +1,5 @@
--- Typed lines, as they are read into a buffer (Z-Machine Standard 1.1, section 15, aread, and section 10.1; which characters are kept is this project's profile).
+-- Typed lines, as they are read into a buffer (Z-Machine Standard 1.1, section 15, aread, and section 10.1;
+-- which characters are kept is this project's profile).
 use Rattle.std.specs.Prelude.{ℕ, zero, suc, List, [], ◌∷◌, take, map, Option, Some, None, unwrap_or, ◌==◌, if◌then◌else◌}
 use Rattle.dg_base.specs.Typed.{typed}
 use Rattle.dg_base.specs.Units.{units_of}

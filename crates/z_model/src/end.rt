@@ -28,6 +28,13 @@ pub struct Args {
     pub fourth: u16,
 }
 
+/// A table into which output goes: its address, and how many codes went there.
+#[derive(Clone, Copy, Debug, PartialEq, Eq)]
+pub struct OpenTable {
+    pub at: u16,
+    pub count: u16,
+}
+
 /// What an instruction asks of the outside, once it has changed the machine.
 #[derive(Clone, Copy, Debug, PartialEq, Eq)]
 pub enum Effect {
@@ -46,5 +53,7 @@ pub enum Effect {
     Draws,
     /// A typed line of at most so many characters into this buffer, and then a store of 13.
     Reads(u16, u8, Option<u8>),
+    /// A typed byte, and then a store of its code.
+    ReadsKey(Option<u8>),
     Quits,
 }

@@ -23,6 +23,7 @@ pub enum ZFault {
     Unsupported,
     BadObject,
     BadProperty,
+    BadStream,
 }
 
 impl ZFault {
@@ -46,6 +47,7 @@ impl ZFault {
             ZFault::Unsupported => 62,
             ZFault::BadObject => 63,
             ZFault::BadProperty => 64,
+            ZFault::BadStream => 65,
         }
     }
 }
@@ -71,6 +73,7 @@ impl fmt::Display for ZFault {
             ZFault::BadObject =>
                 "no such object or attribute, or a chain of siblings without an end",
             ZFault::BadProperty => "no such property, or one that is too long or out of order",
+            ZFault::BadStream => "too many tables are open for output",
         })
     }
 }

@@ -18,11 +18,12 @@ ghost use Rattle.z_model.specs.declared.op.Op.{Op};
 ghost use Rattle.z_model.specs.Run.{ZGiven, ZState};
 ghost use Rattle.z_model.specs.Machine.{Machine};
 ghost use Rattle.z_model.specs.Parts.{RunsStay};
+ghost use Rattle.z_model.specs.Basic.{BasicRunsStay};
 ghost use Rattle.z_model.specs.Laws.{RunLaws, IsLaid, KeepsCode, CodeStays, StandsOn, IsDone, IsTextless, InARow};
 ghost use Rattle.z_model.specs.declared.story.Layout.{Layout};
 
 pub use dg_base::{EXTRA, find_place};
-pub use end::{Args, Effect, Halt, ZEnd};
+pub use end::{Args, Effect, Halt, OpenTable, ZEnd};
 pub use fault::ZFault;
 pub use op::{Branch, Form, Found, Op, Operand, OperandType, OperandTypes, Operands};
 pub use property::Property;
@@ -56,6 +57,11 @@ pub fn runs_stay()
     ensures { (w : ZGiven) (s : ZState) → RunsStay w s }
 {}
 
+/// A run by the basic instructions that doesn't break is the run by all of them.
+pub fn basic_runs_stay()
+    ensures { (w : ZGiven) (s : ZState) → BasicRunsStay w s }
+{}
+
 /// A step keeps the code of a story, and so does a run.
 pub fn steps_keep_code()
     ensures { (w : ZGiven) (s : ZState) → IsLaid w.layout → CodeStays w s }
@@ -73,5 +79,6 @@ pub fn stands_is_done()
 
 /// Ops that are written one behind another are instructions one behind another.
 pub fn instructions_in_a_row()
-    ensures { (rows : Rows) (bytes : List ℕ) (at : ℕ) (ops : List Op) → All (IsTextless rows) ops → Stands bytes at (flat_map spelling ops) → InARow rows bytes at ops }
+    ensures { (rows : Rows) (bytes : List ℕ) (at : ℕ) (ops : List Op) → All (IsTextless rows) ops →
+        Stands bytes at (flat_map spelling ops) → InARow rows bytes at ops }
 {}

@@ -11,12 +11,22 @@ pub enum Two {
     Je,
     Jl,
     Jg,
+    DecChk,
     IncChk,
+    Jin,
+    Test,
     Or,
     And,
+    TestAttr,
+    SetAttr,
+    ClearAttr,
     Store,
+    InsertObj,
     Loadw,
     Loadb,
+    GetProp,
+    GetPropAddr,
+    GetNextProp,
     Add,
     Sub,
     Mul,
@@ -24,15 +34,24 @@ pub enum Two {
     Mod,
     Call2s,
     Call2n,
+    SetColour,
+    Throw,
 }
 
 /// The instructions with one operand, by their names in the standard.
 #[derive(Clone, Copy, Debug, PartialEq, Eq)]
 pub enum One {
     Jz,
+    GetSibling,
+    GetChild,
+    GetParent,
+    GetPropLen,
     Inc,
     Dec,
+    PrintAddr,
     Call1s,
+    RemoveObj,
+    PrintObj,
     Ret,
     Jump,
     PrintPaddr,
@@ -49,8 +68,11 @@ pub enum Zero {
     PrintRet,
     Nop,
     RetPopped,
+    Catch,
     Quit,
     NewLine,
+    Verify,
+    Piracy,
 }
 
 /// The instructions with several operands, by their names in the standard.
@@ -59,19 +81,38 @@ pub enum Several {
     CallVs,
     Storew,
     Storeb,
+    PutProp,
     Aread,
     PrintChar,
     PrintNum,
     Random,
     Push,
     Pull,
+    SplitWindow,
+    SetWindow,
+    EraseWindow,
+    EraseLine,
+    SetCursor,
+    SetTextStyle,
+    BufferMode,
+    OutputStream,
+    ReadChar,
+    ScanTable,
     Not,
     CallVn,
+    CopyTable,
+    CheckArgCount,
 }
 
 /// The instructions of the extended form, by their names in the standard.
 #[derive(Clone, Copy, Debug, PartialEq, Eq)]
 pub enum Extended {
+    Save,
+    Restore,
+    LogShift,
+    ArtShift,
+    SaveUndo,
+    RestoreUndo,
     PrintUnicode,
 }
 
@@ -142,22 +183,22 @@ pub const TWO: [Option<Row>; 32] = [
     row!(Two::Je, 2, 4, branch), // 1: branches where the first operand equals one of the others
     row!(Two::Jl, 2, 2, branch), // 2: branches where a is less than b, signed
     row!(Two::Jg, 2, 2, branch), // 3: branches where a is greater than b, signed
-    None,
+    row!(Two::DecChk, 2, 2, branch), // 4: takes 1 from variable a, branches where it is less than b then
     row!(Two::IncChk, 2, 2, branch), // 5: adds 1 to variable a, branches where it is greater than b then
-    None,
-    None,
+    row!(Two::Jin, 2, 2, branch), // 6: branches where the parent of object a is b
+    row!(Two::Test, 2, 2, branch), // 7: branches where a has all bits of b
     row!(Two::Or, 2, 2, store), // 8: stores the bits of a or b
     row!(Two::And, 2, 2, store), // 9: stores the bits of a and b
-    None,
-    None,
-    None,
+    row!(Two::TestAttr, 2, 2, branch), // 10: branches where object a has attribute b
+    row!(Two::SetAttr, 2, 2, nothing), // 11: gives object a attribute b
+    row!(Two::ClearAttr, 2, 2, nothing), // 12: takes attribute b from object a
     row!(Two::Store, 2, 2, nothing), // 13: sets variable a to b
-    None,
+    row!(Two::InsertObj, 2, 2, nothing), // 14: makes object a the first child of b
     row!(Two::Loadw, 2, 2, store), // 15: stores the word at a + 2b
     row!(Two::Loadb, 2, 2, store), // 16: stores the byte at a + b
-    None,
-    None,
-    None,
+    row!(Two::GetProp, 2, 2, store), // 17: stores property b of object a, or its default
+    row!(Two::GetPropAddr, 2, 2, store), // 18: stores the address of property b of object a, or 0
+    row!(Two::GetNextProp, 2, 2, store), // 19: stores the number of the property of object a behind b
     row!(Two::Add, 2, 2, store), // 20: stores a + b
     row!(Two::Sub, 2, 2, store), // 21: stores a - b
     row!(Two::Mul, 2, 2, store), // 22: stores a * b
@@ -165,8 +206,8 @@ pub const TWO: [Option<Row>; 32] = [
     row!(Two::Mod, 2, 2, store), // 24: stores the remainder of a / b, with a's sign
     row!(Two::Call2s, 2, 2, store), // 25: calls routine a with b, stores its answer
     row!(Two::Call2n, 2, 2, nothing), // 26: calls routine a with b
-    None,
-    None,
+    row!(Two::SetColour, 2, 2, nothing), // 27: does nothing
+    row!(Two::Throw, 2, 2, nothing), // 28: returns a from the frame with the number b
     None,
     None,
     None,
@@ -174,16 +215,16 @@ pub const TWO: [Option<Row>; 32] = [
 
 pub const ONE: [Option<Row>; 16] = [
     row!(One::Jz, 1, 1, branch), // 0: branches where a is 0
-    None,
-    None,
-    None,
-    None,
+    row!(One::GetSibling, 1, 1, store_and_branch), // 1: stores the sibling of object a, branches where it has one
+    row!(One::GetChild, 1, 1, store_and_branch), // 2: stores the first child of object a, branches where it has one
+    row!(One::GetParent, 1, 1, store), // 3: stores the parent of object a
+    row!(One::GetPropLen, 1, 1, store), // 4: stores the length of the property at a
     row!(One::Inc, 1, 1, nothing), // 5: adds 1 to variable a
     row!(One::Dec, 1, 1, nothing), // 6: takes 1 from variable a
-    None,
+    row!(One::PrintAddr, 1, 1, nothing), // 7: prints the string at a
     row!(One::Call1s, 1, 1, store), // 8: calls routine a, stores its answer
-    None,
-    None,
+    row!(One::RemoveObj, 1, 1, nothing), // 9: takes object a out of the tree
+    row!(One::PrintObj, 1, 1, nothing), // 10: prints the short name of object a
     row!(One::Ret, 1, 1, nothing), // 11: returns a
     row!(One::Jump, 1, 1, nothing), // 12: goes on at the offset a
     row!(One::PrintPaddr, 1, 1, nothing), // 13: prints the string at the packed address a
@@ -201,62 +242,62 @@ pub const ZERO: [Option<Row>; 16] = [
     None,
     None,
     row!(Zero::RetPopped, 0, 0, nothing), // 8: returns the word on top of the stack
-    None,
+    row!(Zero::Catch, 0, 0, store), // 9: stores the number of the present frame
     row!(Zero::Quit, 0, 0, nothing), // 10: ends the run
     row!(Zero::NewLine, 0, 0, nothing), // 11: prints a newline
     None,
+    row!(Zero::Verify, 0, 0, branch), // 13: branches where the checksum of the loaded file is right
     None,
-    None,
-    None,
+    row!(Zero::Piracy, 0, 0, branch), // 15: branches
 ];
 
 pub const SEVERAL: [Option<Row>; 32] = [
     row!(Several::CallVs, 1, 4, store), // 0: calls routine a with the others, stores its answer
     row!(Several::Storew, 3, 3, nothing), // 1: sets the word at a + 2b
     row!(Several::Storeb, 3, 3, nothing), // 2: sets the byte at a + b
-    None,
+    row!(Several::PutProp, 3, 3, nothing), // 3: sets property b of object a
     row!(Several::Aread, 1, 4, store), // 4: reads a typed line into the buffer a, stores 13
     row!(Several::PrintChar, 1, 1, nothing), // 5: prints the character with the code a
     row!(Several::PrintNum, 1, 1, nothing), // 6: prints a as a signed number
     row!(Several::Random, 1, 1, store), // 7: stores a number from 1 to a
     row!(Several::Push, 1, 1, nothing), // 8: pushes a
     row!(Several::Pull, 1, 1, nothing), // 9: sets variable a to the word on top of the stack, which it takes
+    row!(Several::SplitWindow, 1, 1, nothing), // 10: does nothing
+    row!(Several::SetWindow, 1, 1, nothing), // 11: does nothing
+    None,
+    row!(Several::EraseWindow, 1, 1, nothing), // 13: does nothing
+    row!(Several::EraseLine, 1, 1, nothing), // 14: does nothing
+    row!(Several::SetCursor, 2, 2, nothing), // 15: does nothing
+    None,
+    row!(Several::SetTextStyle, 1, 1, nothing), // 17: does nothing
+    row!(Several::BufferMode, 1, 1, nothing), // 18: does nothing
+    row!(Several::OutputStream, 1, 2, nothing), // 19: where a is 3, output goes into the table b; -3 closes it
     None,
     None,
-    None,
-    None,
-    None,
-    None,
-    None,
-    None,
-    None,
-    None,
-    None,
-    None,
-    None,
-    None,
+    row!(Several::ReadChar, 1, 3, store), // 22: takes a typed byte, stores its code
+    row!(Several::ScanTable, 3, 4, store_and_branch), // 23: stores where a is in the table b, branches where it is there
     row!(Several::Not, 1, 1, store), // 24: stores the bits of a turned over
     row!(Several::CallVn, 1, 4, nothing), // 25: calls routine a with the others
     None,
     None,
     None,
+    row!(Several::CopyTable, 3, 3, nothing), // 29: copies the bytes at a to b, or clears them
     None,
-    None,
-    None,
+    row!(Several::CheckArgCount, 1, 1, branch), // 31: branches where the routine was given a arguments at least
 ];
 
 pub const EXTENDED: [Option<Row>; 12] = [
+    row!(Extended::Save, 0, 4, store), // 0: stores 0
+    row!(Extended::Restore, 0, 4, store), // 1: stores 0
+    row!(Extended::LogShift, 2, 2, store), // 2: stores a shifted by b bits, to the right where b is below 0
+    row!(Extended::ArtShift, 2, 2, store), // 3: the same, filled with the sign
     None,
     None,
     None,
     None,
     None,
-    None,
-    None,
-    None,
-    None,
-    None,
-    None,
+    row!(Extended::SaveUndo, 0, 0, store), // 9: stores -1
+    row!(Extended::RestoreUndo, 0, 0, store), // 10: stores 0
     row!(Extended::PrintUnicode, 1, 1, nothing), // 11: prints the character U+a
 ];
 
@@ -287,12 +328,22 @@ impl Two {
             Two::Je => "je",
             Two::Jl => "jl",
             Two::Jg => "jg",
+            Two::DecChk => "dec_chk",
             Two::IncChk => "inc_chk",
+            Two::Jin => "jin",
+            Two::Test => "test",
             Two::Or => "or",
             Two::And => "and",
+            Two::TestAttr => "test_attr",
+            Two::SetAttr => "set_attr",
+            Two::ClearAttr => "clear_attr",
             Two::Store => "store",
+            Two::InsertObj => "insert_obj",
             Two::Loadw => "loadw",
             Two::Loadb => "loadb",
+            Two::GetProp => "get_prop",
+            Two::GetPropAddr => "get_prop_addr",
+            Two::GetNextProp => "get_next_prop",
             Two::Add => "add",
             Two::Sub => "sub",
             Two::Mul => "mul",
@@ -300,6 +351,8 @@ impl Two {
             Two::Mod => "mod",
             Two::Call2s => "call_2s",
             Two::Call2n => "call_2n",
+            Two::SetColour => "set_colour",
+            Two::Throw => "throw",
         }
     }
 }
@@ -311,9 +364,16 @@ impl One {
     {
         match self {
             One::Jz => "jz",
+            One::GetSibling => "get_sibling",
+            One::GetChild => "get_child",
+            One::GetParent => "get_parent",
+            One::GetPropLen => "get_prop_len",
             One::Inc => "inc",
             One::Dec => "dec",
+            One::PrintAddr => "print_addr",
             One::Call1s => "call_1s",
+            One::RemoveObj => "remove_obj",
+            One::PrintObj => "print_obj",
             One::Ret => "ret",
             One::Jump => "jump",
             One::PrintPaddr => "print_paddr",
@@ -335,8 +395,11 @@ impl Zero {
             Zero::PrintRet => "print_ret",
             Zero::Nop => "nop",
             Zero::RetPopped => "ret_popped",
+            Zero::Catch => "catch",
             Zero::Quit => "quit",
             Zero::NewLine => "new_line",
+            Zero::Verify => "verify",
+            Zero::Piracy => "piracy",
         }
     }
 }
@@ -350,14 +413,27 @@ impl Several {
             Several::CallVs => "call_vs",
             Several::Storew => "storew",
             Several::Storeb => "storeb",
+            Several::PutProp => "put_prop",
             Several::Aread => "aread",
             Several::PrintChar => "print_char",
             Several::PrintNum => "print_num",
             Several::Random => "random",
             Several::Push => "push",
             Several::Pull => "pull",
+            Several::SplitWindow => "split_window",
+            Several::SetWindow => "set_window",
+            Several::EraseWindow => "erase_window",
+            Several::EraseLine => "erase_line",
+            Several::SetCursor => "set_cursor",
+            Several::SetTextStyle => "set_text_style",
+            Several::BufferMode => "buffer_mode",
+            Several::OutputStream => "output_stream",
+            Several::ReadChar => "read_char",
+            Several::ScanTable => "scan_table",
             Several::Not => "not",
             Several::CallVn => "call_vn",
+            Several::CopyTable => "copy_table",
+            Several::CheckArgCount => "check_arg_count",
         }
     }
 }
@@ -368,6 +444,12 @@ impl Extended {
         ensures { result.now ≡ name_of_extended self }
     {
         match self {
+            Extended::Save => "save",
+            Extended::Restore => "restore",
+            Extended::LogShift => "log_shift",
+            Extended::ArtShift => "art_shift",
+            Extended::SaveUndo => "save_undo",
+            Extended::RestoreUndo => "restore_undo",
             Extended::PrintUnicode => "print_unicode",
         }
     }

@@ -10,18 +10,18 @@ use Rattle.z_model.specs.Machine.{words}
 use Rattle.z_model.specs.Flow.{entered, local_count, locals_from}
 use Rattle.z_play.specs.declared.engine.Called.{Called}
 use Rattle.z_play.specs.declared.engine.Engine.{Engine}
-use Rattle.z_play.specs.View.{callers_view, view_of, callers_of, stack_of, machine, Nested, Sound}
+use Rattle.z_play.specs.View.{callers_view, view_of, callers_of, stack_of, tables_of, machine, Nested, Sound}
 use Rattle.z_play.proofs.Views.{view_words}
 
 views_long : (fs : List Called) (stack : List ℕ) → length (callers_view fs stack) ≡ length fs
 views_long [] stack = refl
 views_long (f ∷ fs) stack = ap suc (views_long fs (take f.base stack))
 
-callers_long : (e : Engine) → Sound e → length (machine e).callers ≡ e.depth
+pub callers_long : (e : Engine) → Sound e → length (machine e).callers ≡ e.depth
 callers_long e sound = views_long (callers_of e) (take e.here.base (stack_of e)) ∙ omega (arith, length-reverse (take e.depth e.frames.items), length-take e.depth e.frames.items, sound.room, sound.depth)
 
 words_are : (e : Engine) → Sound e → words (machine e) ≡ e.top
-words_are e sound = omega (arith, view_words e.memory.items e.pc e.here (callers_of e) (stack_of e) sound.nested (omega (arith, sound.here, length-take e.top e.stack.items, sound.words, sound.top)), length-take e.top e.stack.items, sound.words, sound.top)
+words_are e sound = omega (arith, view_words e.memory.bytes.items e.pc e.here (callers_of e) (stack_of e) (tables_of e) sound.nested (omega (arith, sound.here, length-take e.top e.stack.items, sound.words, sound.top)), length-take e.top e.stack.items, sound.words, sound.top)
 
 module _ (e : Engine) (sound : Sound e) (end : ℕ) (store : Option ℕ) (a : Args) where
   pub too_deep : 8191 ≤ e.depth → entered (machine e) end store a ≡ Err StackFull
@@ -38,15 +38,15 @@ module _ (e : Engine) (sound : Sound e) (end : ℕ) (store : Option ℕ) (a : Ar
     pub frames_nested : Nested (reverse (take (e.depth + 1) (set e.frames.items e.depth e.here))) e.top
     frames_nested = rw frames_are (sound.here, sound.nested)
 
-    pub bad_call : (fault : ZFault) → local_count e.memory.items (8 * a.first) ≡ Err fault → entered (machine e) end store a ≡ Err fault
+    pub bad_call : (fault : ZFault) → local_count e.memory.bytes.items (8 * a.first) ≡ Err fault → entered (machine e) end store a ≡ Err fault
     unfolding entered
     bad_call fault bad = rw (deep_enough, bad) refl
 
-    pub too_many : (n : ℕ) → local_count e.memory.items (8 * a.first) ≡ Ok n → 65536 < e.top + n → entered (machine e) end store a ≡ Err StackFull
+    pub too_many : (n : ℕ) → local_count e.memory.bytes.items (8 * a.first) ≡ Ok n → 65536 < e.top + n → entered (machine e) end store a ≡ Err StackFull
     unfolding entered
     too_many n good big = rw (deep_enough, good, lt-ltb 65536 (words (machine e) + n) (omega (arith, words_are e sound))) refl
 
-    pub is_entered : (n : ℕ) → n ≤ 15 → local_count e.memory.items (8 * a.first) ≡ Ok n → e.top + n ≤ 65536 → (stack : List ℕ) → take (e.top + n) stack ≡ stack_of e ++ locals_from n a → entered (machine e) end store a ≡ Ok (view_of e.memory.items (8 * a.first + 1) (record { back = end; store = store; args = a.count - 1; base = e.top; locals = n }) (reverse (take (e.depth + 1) (set e.frames.items e.depth e.here))) (take (e.top + n) stack) [])
+    pub is_entered : (n : ℕ) → n ≤ 15 → local_count e.memory.bytes.items (8 * a.first) ≡ Ok n → e.top + n ≤ 65536 → (stack : List ℕ) → take (e.top + n) stack ≡ stack_of e ++ locals_from n a → entered (machine e) end store a ≡ Ok (view_of e.memory.bytes.items (8 * a.first + 1) (record { back = end; store = store; args = a.count - 1; base = e.top; locals = n }) (reverse (take (e.depth + 1) (set e.frames.items e.depth e.here))) (take (e.top + n) stack) (tables_of e))
     unfolding entered
     is_entered n few good fits stack is =
         let old : List ℕ = stack_of e in

@@ -7,14 +7,14 @@ use Rattle.z_model.specs.declared.story.Layout.{Layout}
 use Rattle.z_model.specs.declared.end.Halt.{Halt}
 use Rattle.z_model.specs.declared.end.Halt.TheVariants.{AtQuit, AtInput}
 use Rattle.z_model.specs.declared.end.Effect.{Effect}
-use Rattle.z_model.specs.declared.end.Effect.TheVariants.{Goes, PrintsCode, PrintsUnicode, PrintsNumber, PrintsText, PrintsLine, Draws, Reads, Quits}
+use Rattle.z_model.specs.declared.end.Effect.TheVariants.{Goes, PrintsCode, PrintsUnicode, PrintsNumber, PrintsText, PrintsLine, Draws, Reads, ReadsKey, Quits}
 use Rattle.z_model.specs.Decode.{◌>>=◌}
 use Rattle.z_model.specs.Machine.{Machine, pushed, local_set, global_set, stored, stored_if, words}
 use Rattle.std.proofs.Math.ListN.{set}
 use Rattle.z_model.specs.Memory.{Memory, guarded, is_writable, have_right, with_byte, with_bytes}
 use Rattle.z_model.specs.Flow.{returned}
 use Rattle.z_model.specs.Typed.{typed_bytes, typed_codes, typed_line, typed_left, left_within}
-use Rattle.z_model.specs.Run.{ZGiven, line_read, with_line, next_drawn}
+use Rattle.z_model.specs.Run.{ZGiven, line_read, with_line, next_drawn, key_code}
 use Rattle.z_play.specs.Effects.{CanFinish}
 use Rattle.z_play.specs.View.{Sets}
 use Rattle.z_play.specs.Lines.{StopsWithin}
@@ -103,6 +103,7 @@ IsPlain (PrintsText at) = Unit {0}
 IsPlain (PrintsLine at) = ⊥
 IsPlain Draws = ⊥
 IsPlain (Reads buffer most store) = ⊥
+IsPlain (ReadsKey store) = ⊥
 IsPlain Quits = ⊥
 
 pub finish_plain : (w : ZGiven) (effect : Effect) (m : Machine) (typed : List ℕ) (drawn : ℕ) (left : Option (List ℕ)) → IsPlain effect → left ≡ Some typed → Finished w effect m typed drawn None m left drawn
@@ -114,6 +115,7 @@ finish_plain w (PrintsText at) m typed drawn left p told = record { behind = typ
 finish_plain w (PrintsLine at) m typed drawn left p told = absurd p
 finish_plain w Draws m typed drawn left p told = absurd p
 finish_plain w (Reads buffer most store) m typed drawn left p told = absurd p
+finish_plain w (ReadsKey store) m typed drawn left p told = absurd p
 finish_plain w Quits m typed drawn left p told = absurd p
 
 -- ---- a reading
@@ -151,6 +153,24 @@ unfinished_reading w m buffer most store (b ∷ typed) drawn left may can stops 
     by_read : (x : Machine) → line_read w.layout m buffer store (typed_line most (b ∷ typed)) ≡ Ok x → Unfinished w (Reads buffer most store) m (b ∷ typed) drawn left
     by_read x e = record { prints_none = refl; rest = stops.rest; left_is = stops.is; most = stops.most; halt = None; last = x; behind = typed_left (b ∷ typed); beyond = (stops.least, left_less b typed); is = λ before output. rw e refl }
 
+-- ---- a typed byte
+
+pub no_key : (w : ZGiven) (m new : Machine) (store : Option ℕ) (typed : List ℕ) (drawn : ℕ) (left : Option (List ℕ)) → typed ≡ [] → left ≡ Some [] → Finished w (ReadsKey store) m typed drawn (Some AtInput) new left drawn
+no_key w m new store [] drawn left none told = record { behind = []; left_is = told; last = m; same = tt; is = λ before output. rw (append-nil output) refl }
+no_key w m new store (b ∷ typed) drawn left none told = absurd cc
+
+pub finish_key : (w : ZGiven) (m m' : Machine) (store : Option ℕ) (b : ℕ) (typed : List ℕ) (drawn : ℕ) (left : Option (List ℕ)) → left ≡ Some typed → stored_if w.layout m store (key_code b) ≡ Ok m' → Finished w (ReadsKey store) m (b ∷ typed) drawn None m' left drawn
+finish_key w m m' store b typed drawn left told e = record { behind = typed; left_is = told; last = m'; same = refl; is = λ before output. rw (e, append-nil output) refl }
+
+pub unfinished_key : (w : ZGiven) (m : Machine) (store : Option ℕ) (typed : List ℕ) (drawn : ℕ) (left : Option (List ℕ)) → ((x : ℕ) → IsOk (stored_if w.layout m store x)) → left ≡ Some typed → Unfinished w (ReadsKey store) m typed drawn left
+unfinished_key w m store [] drawn left can told = record { prints_none = refl; rest = []; left_is = told; most = omega arith; halt = Some AtInput; last = m; behind = []; beyond = tt; is = λ before output. refl }
+unfinished_key w m store (b ∷ typed) drawn left can told =
+    let stored = ok_is (stored_if w.layout m store (key_code b)) (can (key_code b)) in
+    by_store stored.0 stored.1
+  where
+    by_store : (x : Machine) → stored_if w.layout m store (key_code b) ≡ Ok x → Unfinished w (ReadsKey store) m (b ∷ typed) drawn left
+    by_store x e = record { prints_none = refl; rest = b ∷ typed; left_is = told; most = omega arith; halt = None; last = x; behind = typed; beyond = (omega arith, omega arith); is = λ before output. rw e refl }
+
 -- ---- every effect leads on
 
 pub finishes : {R : Type 0} (w : ZGiven) (effect : Effect) (m : Machine) (typed : List ℕ) (drawn : ℕ) → CanFinish effect w.layout m → ((halt : Option Halt) (new : Machine) (left : Option (List ℕ)) (drawn' : ℕ) → Finished w effect m typed drawn halt new left drawn' → R) → R
@@ -165,6 +185,10 @@ finishes w (Reads buffer most store) m [] drawn can k = k _ _ _ _ (finish_input 
 finishes w (Reads buffer most store) m (b ∷ typed) drawn can k =
     let read = ok_is (line_read w.layout m buffer store (typed_line most (b ∷ typed))) (read_ok w.layout m buffer most store (typed_line most (b ∷ typed)) can.0 can.1 (line_short most (b ∷ typed))) in
     k _ _ _ _ (finish_reading w m read.0 buffer most store (b ∷ typed) drawn (Some (typed_left (b ∷ typed))) (λ e. absurd cc) refl read.1)
+finishes w (ReadsKey store) m [] drawn can k = k _ _ _ _ (no_key w m m store [] drawn (Some []) refl refl)
+finishes w (ReadsKey store) m (b ∷ typed) drawn can k =
+    let stored = ok_is (stored_if w.layout m store (key_code b)) (can (key_code b)) in
+    k _ _ _ _ (finish_key w m stored.0 store b typed drawn (Some typed) refl stored.1)
 finishes w Quits m typed drawn can k = k _ _ _ _ (finish_quits w m typed drawn (Some typed) refl)
 
 -- ---- what a reading gives

@@ -1,4 +1,8 @@
 pub mod Stored
+pub mod Rights
+pub mod Collecting
+pub mod Throwing
+pub mod Tabling
 pub mod Views
 pub mod Returns
 pub mod Entered
@@ -6,7 +10,6 @@ pub mod Printable
 pub mod Written
 pub mod Reading
 pub mod Texts
-pub mod Bytes
 pub mod Finishing
 pub mod Going
 pub mod Loading

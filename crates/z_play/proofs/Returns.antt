@@ -1,18 +1,22 @@
 -- Returns and branches.
-use Rattle.std.proofs.Common.{◌≡◌, ℕ, zero, suc, List, [], ◌∷◌, Some, None, Result, Ok, Err, IsOk, refl}
-use Rattle.std.specs.Prelude.{pos}
+use Rattle.std.proofs.Common.{◌≡◌, ◌≢◌, ◌<◌, ◌≤◌, ◌⊎◌, inl, inr, ℕ, zero, suc, ◌+◌, ◌-◌, Bool, true, false, cond, eqb, List, [], ◌∷◌, length, drop, Some, None, Result, Ok, Err, IsOk, refl, ◌∙◌, arith}
+use Rattle.std.proofs.lemmas.Bool.{ne_eqb, le-ltb, lt-ltb}
+use Rattle.std.specs.Prelude.{pos, ◌||◌}
 use lib.IntN.{ℤ, negsuc}
 use Rattle.z_model.specs.declared.fault.ZFault.{ZFault}
 use Rattle.z_model.specs.declared.fault.ZFault.TheVariants.{BadReturn}
 use Rattle.z_model.specs.declared.end.Effect.{Effect}
-use Rattle.z_model.specs.declared.end.Effect.TheVariants.{PrintsLine}
+use Rattle.z_model.specs.declared.end.Effect.TheVariants.{Goes, PrintsLine}
 use Rattle.z_model.specs.declared.story.Layout.{Layout}
 use Rattle.z_model.specs.Machine.{Frame, Machine, stored_if}
-use Rattle.z_model.specs.Flow.{returned, return_to, branch_taken, jumped}
-use Rattle.z_model.specs.Effects.{printed, prints_line}
+use Rattle.z_model.specs.Flow.{returned, return_to, in_frames, thrown, branch_taken, jumped}
+use Rattle.z_model.specs.declared.end.OpenTable.{OpenTable}
+use Rattle.z_model.specs.Streams.{codes_in, into_table}
+use Rattle.z_model.specs.Effects.{goes, let_out, printed, then_returned, prints_line}
 use Rattle.z_model.specs.Decode.{◌>>=◌}
 use Rattle.z_model.specs.Text.{string_at, print_fault}
 use Rattle.z_play.specs.Faults.{fault_of}
+use Rattle.z_play.specs.Effects.{into_first, line_into}
 use Rattle.z_play.specs.declared.engine.Engine.{Engine}
 use Rattle.z_play.specs.View.{machine, left_to, Left, callers_of}
 
@@ -56,14 +60,77 @@ tried_well (Ok after) p may = (refl, refl)
 tried_well (Err fault) p may = absurd cc
 
 module _ (layout : Layout) (m : Machine) (at : ℕ) where
+  -- the text behind whose fault a newline and a return follow
+  abbrev line_let_out : List OpenTable → Result (Effect × Machine) ZFault
+  line_let_out tables = let_out layout tables (PrintsLine at) m >>= λ p. returned layout p.1 1 >>= λ after. Ok (then_returned tables p after)
+
+  none_open : (tables : List OpenTable) → tables ≡ [] → line_let_out tables ≡ (returned layout m 1 >>= λ after. Ok (PrintsLine at, m))
+  unfolding let_out
+  none_open [] e = refl
+  none_open (t ∷ ts) e = absurd cc
+
+  some_open : (tables : List OpenTable) → 0 < length tables → line_let_out tables ≡ (into_first layout m tables (codes_in (PrintsLine at) m) >>= λ after. goes (returned layout after 1))
+  unfolding let_out
+  some_open [] some = absurd (omega arith)
+  some_open (t ∷ ts) some = by_into (into_table layout m t ts (codes_in (PrintsLine at) m))
+    where
+      by_into : (r : Result Machine ZFault) → (goes r >>= λ p. returned layout p.1 1 >>= λ after. Ok (then_returned (t ∷ ts) p after)) ≡ (r >>= λ q. goes (returned layout q 1))
+      by_into (Ok q) = by_return (returned layout q 1)
+        where
+          by_return : (r : Result Machine ZFault) → (r >>= λ after. Ok (then_returned (t ∷ ts) (Goes, q) after)) ≡ goes r
+          by_return (Ok after) = refl
+          by_return (Err fault) = refl
+      by_into (Err fault) = refl
+
   pub line_refused : (fault : ZFault) → print_fault (string_at m.memory at) ≡ Some fault → prints_line layout m at ≡ Err fault
   unfolding prints_line printed
   line_refused fault bad = rw bad refl
 
-  pub line_kept : (fault : ZFault) → print_fault (string_at m.memory at) ≡ None → fault_of (returned layout m 1) ≡ Some fault → prints_line layout m at ≡ Err fault
+  pub line_kept : (fault : ZFault) → m.tables ≡ [] → print_fault (string_at m.memory at) ≡ None → fault_of (returned layout m 1) ≡ Some fault → prints_line layout m at ≡ Err fault
   unfolding prints_line printed
-  line_kept fault good bad = rw good (tried (returned layout m 1) (PrintsLine at, m) fault bad)
+  line_kept fault none good bad = rw good (none_open m.tables none ∙ tried (returned layout m 1) (PrintsLine at, m) fault bad)
 
-  pub line_prints : print_fault (string_at m.memory at) ≡ None → fault_of (returned layout m 1) ≡ None → (prints_line layout m at ≡ Ok (PrintsLine at, m)) × IsOk (returned layout m 1)
+  pub line_prints : m.tables ≡ [] → print_fault (string_at m.memory at) ≡ None → fault_of (returned layout m 1) ≡ None → (prints_line layout m at ≡ Ok (PrintsLine at, m)) × IsOk (returned layout m 1)
   unfolding prints_line printed
-  line_prints good may = rw good (tried_well (returned layout m 1) (PrintsLine at, m) may)
+  line_prints none good may =
+      let well = tried_well (returned layout m 1) (PrintsLine at, m) may in
+      rw good (none_open m.tables none ∙ well.0, well.1)
+
+  pub line_tabled : 0 < length m.tables → print_fault (string_at m.memory at) ≡ None → prints_line layout m at ≡ line_into layout m (PrintsLine at)
+  unfolding prints_line printed
+  line_tabled some good = rw good (some_open m.tables some)
+
+-- ---- what is let out
+
+pub nothing_open : (layout : Layout) (tables : List OpenTable) (effect : Effect) (m : Machine) → tables ≡ [] → let_out layout tables effect m ≡ Ok (effect, m)
+unfolding let_out
+nothing_open layout [] effect m e = refl
+nothing_open layout (t ∷ ts) effect m e = absurd cc
+
+pub table_open : (layout : Layout) (tables : List OpenTable) (effect : Effect) (m : Machine) → 0 < length tables → let_out layout tables effect m ≡ goes (into_first layout m tables (codes_in effect m))
+unfolding let_out
+table_open layout [] effect m some = absurd (omega arith)
+table_open layout (t ∷ ts) effect m some = refl
+
+-- ---- frames that are dropped
+
+pub one_dropped : (m : Machine) (frames : List Frame) (k : ℕ) → k + 1 < length frames → in_frames (in_frames m (drop k frames)) (in_frames m (drop k frames)).callers ≡ in_frames m (drop (k + 1) frames)
+one_dropped m [] k lt = absurd (omega arith)
+one_dropped m (f ∷ []) k lt = absurd (omega arith)
+one_dropped m (f ∷ g ∷ fs) zero lt = refl
+one_dropped m (f ∷ g ∷ fs) (suc k) lt =
+    let e : suc k + 1 ≡ suc (k + 1) = omega arith in
+    rw e (one_dropped m (g ∷ fs) k (omega arith))
+
+pub no_such_frame : (layout : Layout) (m : Machine) (x frame : ℕ) → (frame ≡ 0) ⊎ (length m.callers < frame) → thrown layout m x frame ≡ Err BadReturn
+unfolding thrown
+no_such_frame layout m x frame (inl e) = rw e refl
+no_such_frame layout m x frame (inr lt) = rw (lt-ltb (length m.callers) frame lt) (by_test (eqb frame 0))
+  where
+    by_test : (t : Bool) → cond (t || true) (Err BadReturn) (returned layout (in_frames m (drop (length m.callers - frame) (m.here ∷ m.callers))) x) ≡ Err BadReturn
+    by_test true = refl
+    by_test false = refl
+
+pub is_thrown : (layout : Layout) (m : Machine) (x frame : ℕ) → frame ≢ 0 → frame ≤ length m.callers → thrown layout m x frame ≡ returned layout (in_frames m (drop (length m.callers - frame) (m.here ∷ m.callers))) x
+unfolding thrown
+is_thrown layout m x frame some le = rw (ne_eqb frame 0 some, le-ltb (length m.callers) frame le) refl

@@ -5,7 +5,7 @@ use Rattle.dg_base.specs.declared.traits.Failed.{Failed}
 use Rattle.z_model.specs.declared.end.Halt.{Halt}
 use Rattle.z_model.specs.declared.end.Halt.TheVariants.{AtQuit, AtInput, AtFault}
 use Rattle.z_model.specs.declared.end.Effect.{Effect}
-use Rattle.z_model.specs.declared.end.Effect.TheVariants.{Goes, PrintsCode, PrintsUnicode, PrintsNumber, PrintsText, PrintsLine, Draws, Reads, Quits}
+use Rattle.z_model.specs.declared.end.Effect.TheVariants.{Goes, PrintsCode, PrintsUnicode, PrintsNumber, PrintsText, PrintsLine, Draws, Reads, ReadsKey, Quits}
 use Rattle.z_model.specs.Zscii.{code_bytes}
 use Rattle.z_model.specs.Text.{string_at, text_bytes}
 use Rattle.z_model.specs.Numbers.{signed_16}
@@ -24,6 +24,7 @@ text_of (PrintsText at) m = text_bytes (string_at m.memory at)
 text_of (PrintsLine at) m = text_bytes (string_at m.memory at) ++ 10 ∷ []
 text_of Draws m = []
 text_of (Reads buffer most store) m = []
+text_of (ReadsKey store) m = []
 text_of Quits m = []
 
 -- Where the source tells nothing, these bytes may be left behind an instruction: none where it ends for want of one.

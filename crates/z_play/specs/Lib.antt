@@ -1,3 +1,6 @@
+pub mod Collected
+pub mod Rights
+pub mod Story
 pub mod View
 pub mod Top
 pub mod Faults

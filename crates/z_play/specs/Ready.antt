@@ -5,7 +5,7 @@ use Rattle.z_model.specs.Story.{layout_of, start_of, memory_of, refusal_of, text
 use Rattle.z_play.specs.declared.engine.Engine.{Engine}
 use Rattle.z_play.specs.declared.player.LoadFault.{LoadFault}
 use Rattle.z_play.specs.declared.player.LoadFault.TheVariants.{Refused, OutOfMemory}
-use Rattle.z_play.specs.View.{Sound}
+use Rattle.z_play.specs.View.{Sound, layout_in}
 
 -- These bytes are the memory of the story that they are, and the parts of the layout lie in it.
 pub record IsStory (story : List ℕ) (start : ℕ) (layout : Layout) : Type 0 where
@@ -25,10 +25,10 @@ text_of_load OutOfMemory = codes "out of memory"
 -- The story is whole, and its engine is sound and as long.
 pub record IsReady (story : List ℕ) (start : ℕ) (e : Engine) : Type 0 where
   pub whole : memory_of story ≡ story
-  pub layout_is : e.layout ≡ layout_of story
+  pub layout_is : layout_in e ≡ layout_of story
   pub start_is : start ≡ start_of story
   pub sound : Sound e
-  pub same_size : length e.memory.items ≡ length story
+  pub same_size : length e.memory.bytes.items ≡ length story
 
 -- The file isn't refused, the story is its bytes up to its length, and its runs are the file's.
 pub record IsLoaded (file story : List ℕ) : Type 0 where

@@ -1,6 +1,6 @@
 // Words as numbers with a sign.
 ghost use Rattle.std.specs.Prelude.{◌≡◌, int_lt};
-ghost use Rattle.z_model.specs.Numbers.{signed_16, quotient, remainder, equals_one, word_from};
+ghost use Rattle.z_model.specs.Numbers.{signed_16, quotient, remainder, equals_one, word_from, left_by, right_by, log_shifted, art_shifted};
 
 use z_model::{Args, ZFault};
 
@@ -55,4 +55,40 @@ pub fn equals_one(a: &Args) -> bool
     ensures { result ≡ equals_one a.now }
 {
     a.first == a.second || a.count > 2 && a.first == a.third || a.count > 3 && a.first == a.fourth
+}
+
+fn shift_left(a: u16, n: u16) -> u16
+    ensures { result ≡ left_by a n }
+{
+    if n < 16 { a << n } else { 0 }
+}
+
+fn shift_right(a: u16, n: u16) -> u16
+    ensures { result ≡ right_by a n }
+{
+    if n < 16 { a >> n } else { 0 }
+}
+
+/// By a signed number, below 0 to the right, which fills with 0.
+pub fn log_shift(a: u16, n: u16) -> u16
+    ensures { result ≡ log_shifted a n }
+{
+    if n < 32768 {
+        shift_left(a, n)
+    } else {
+        shift_right(a, 65535 - n + 1)
+    }
+}
+
+/// The same, filled with the sign.
+pub fn art_shift(a: u16, n: u16) -> u16
+    ensures { result ≡ art_shifted a n }
+{
+    if n < 32768 {
+        shift_left(a, n)
+    } else if a < 32768 {
+        shift_right(a, 65535 - n + 1)
+    } else {
+        65535 - shift_right(65535 - a, 65535 - n + 1)
+    }
 }

@@ -2,11 +2,12 @@
 ghost use Rattle.std.specs.Prelude.{◌≡◌, ◌<◌, ◌≤◌, ◌-◌, ℕ, Option};
 ghost use Rattle.z_model.specs.Machine.{pushed, popped, variable_of, stored, stored_if, held_in, placed};
 ghost use Rattle.z_model.specs.Machine.{value_of, value_if, values_of, local_set, local_of, global_of};
-ghost use Rattle.z_play.specs.View.{machine, Sound, Gives, Sets, Kept};
+ghost use Rattle.z_play.specs.View.{machine, layout_in, Sound, Gives, Sets, Kept};
 ghost use Rattle.z_play.specs.Top.{top_of};
 ghost use Rattle.z_play.specs.Faults.{fault_of};
 
-use z_model::{Args, Layout, Operand, Operands, ZFault, bytes_of, word_of};
+use crate::memory::Story;
+use z_model::{Args, OpenTable, Operand, Operands, ZFault, bytes_of, word_of};
 
 /// A routine that was called: its locals and its words stand in the stack from `base` on.
 #[derive(Clone, Copy)]
@@ -18,17 +19,21 @@ pub struct Called {
     pub locals: usize,
 }
 
-/// The memory, and the frames and words of the routines in two arrays that never grow.
+/// The story, the frames and words of the routines in two arrays that never grow, and the tables
+/// into which output goes.
 #[derive(Drop)]
 pub struct Engine {
-    pub memory: Vec<u8>,
-    pub layout: Layout,
+    pub memory: Story,
+    pub globals: u16,
+    pub checksum_right: bool,
     pub pc: u32,
     pub here: Called,
     pub depth: usize,
     pub frames: Vec<Called>,
     pub top: usize,
     pub stack: Vec<u16>,
+    pub tables: [OpenTable; 16],
+    pub opened: usize,
 }
 
 impl Engine {
@@ -97,10 +102,10 @@ impl Engine {
     fn global(&self, v: u8) -> u16
         requires sound { Sound self.now }
         requires is_global { 16 ≤ v }
-        ensures { result ≡ global_of self.now.layout (machine self.now) v }
+        ensures { result ≡ global_of (layout_in self.now) (machine self.now) v }
     {
-        let at = self.layout.globals as usize + 2 * (v as usize - 16);
-        word_of(self.memory[at], self.memory[at + 1])
+        let at = self.globals as usize + 2 * (v as usize - 16);
+        word_of(self.memory.bytes[at], self.memory.bytes[at + 1])
     }
 
     // The value of a variable; 0 takes a word from the stack.
@@ -109,7 +114,7 @@ impl Engine {
     pub fn variable(&mut self, v: u8) -> Result<u16, ZFault>
         requires { Sound self.old }
         ensures kept { Kept self.old self.new }
-        ensures value { Gives result (machine self.new) (variable_of self.old.layout (machine self.old) v) }
+        ensures value { Gives result (machine self.new) (variable_of (layout_in self.old) (machine self.old) v) }
     {
         if v == 0 {
             self.pop()
@@ -125,7 +130,7 @@ impl Engine {
     pub fn store(&mut self, v: u8, x: u16) -> Result<(), ZFault>
         requires { Sound self.old }
         ensures kept { Kept self.old self.new }
-        ensures stored { Sets result (machine self.new) (stored self.old.layout (machine self.old) v x) }
+        ensures stored { Sets result (machine self.new) (stored (layout_in self.old) (machine self.old) v x) }
     {
         if v == 0 {
             return self.push(x);
@@ -133,10 +138,10 @@ impl Engine {
         if v < 16 {
             return self.set_local(v, x);
         }
-        let at = self.layout.globals as usize + 2 * (v as usize - 16);
+        let at = self.globals as usize + 2 * (v as usize - 16);
         let [high, low] = bytes_of(x);
-        self.memory[at] = high;
-        self.memory[at + 1] = low;
+        self.memory.bytes[at] = high;
+        self.memory.bytes[at + 1] = low;
         Ok(())
     }
 
@@ -145,7 +150,7 @@ impl Engine {
     pub fn store_if(&mut self, store: Option<u8>, x: u16) -> Result<(), ZFault>
         requires { Sound self.old }
         ensures kept { Kept self.old self.new }
-        ensures stored { Sets result (machine self.new) (stored_if self.old.layout (machine self.old) store x) }
+        ensures stored { Sets result (machine self.new) (stored_if (layout_in self.old) (machine self.old) store x) }
     {
         match store {
             Some(v) => self.store(v, x),
@@ -178,7 +183,7 @@ impl Engine {
     #[tactic(auto, unfolding(z_model::specs::Machine::stored, z_model::specs::Machine::stored_if))]
     pub fn store_fault(&self, store: Option<u8>) -> Option<ZFault>
         requires { Sound self.now }
-        ensures { (x : ℕ) → result ≡ fault_of (stored_if self.now.layout (machine self.now) store x) }
+        ensures { (x : ℕ) → result ≡ fault_of (stored_if (layout_in self.now) (machine self.now) store x) }
     {
         match store {
             None => None,
@@ -198,7 +203,7 @@ impl Engine {
     #[tactic(auto, unfolding(z_model::specs::Machine::held_in, z_model::specs::Machine::popped))]
     pub fn held(&self, v: u16) -> Result<u16, ZFault>
         requires { Sound self.now }
-        ensures { result ≡ held_in self.now.layout (machine self.now) v }
+        ensures { result ≡ held_in (layout_in self.now) (machine self.now) v }
     {
         if v == 0 {
             return self.topmost();
@@ -227,7 +232,7 @@ impl Engine {
     pub fn place(&mut self, v: u16, x: u16) -> Result<(), ZFault>
         requires { Sound self.old }
         ensures kept { Kept self.old self.new }
-        ensures placed { Sets result (machine self.new) (placed self.old.layout (machine self.old) v x) }
+        ensures placed { Sets result (machine self.new) (placed (layout_in self.old) (machine self.old) v x) }
     {
         if v == 0 {
             self.pop()?;
@@ -244,7 +249,7 @@ impl Engine {
     fn value(&mut self, operand: Operand) -> Result<u16, ZFault>
         requires { Sound self.old }
         ensures kept { Kept self.old self.new }
-        ensures value { Gives result (machine self.new) (value_of self.old.layout (machine self.old) operand) }
+        ensures value { Gives result (machine self.new) (value_of (layout_in self.old) (machine self.old) operand) }
     {
         match operand {
             Operand::Large(word) => Ok(word),
@@ -258,7 +263,7 @@ impl Engine {
     fn value_if(&mut self, there: bool, operand: Operand) -> Result<u16, ZFault>
         requires { Sound self.old }
         ensures kept { Kept self.old self.new }
-        ensures value { Gives result (machine self.new) (value_if self.old.layout (machine self.old) there operand) }
+        ensures value { Gives result (machine self.new) (value_if (layout_in self.old) (machine self.old) there operand) }
     {
         if there { self.value(operand) } else { Ok(0) }
     }
@@ -269,7 +274,7 @@ impl Engine {
     pub fn values(&mut self, operands: &Operands) -> Result<Args, ZFault>
         requires { Sound self.old }
         ensures kept { Kept self.old self.new }
-        ensures values { Gives result (machine self.new) (values_of self.old.layout (machine self.old) operands.now) }
+        ensures values { Gives result (machine self.new) (values_of (layout_in self.old) (machine self.old) operands.now) }
     {
         let count = operands.count;
         let first = self.value_if(0 < count, operands.first)?;

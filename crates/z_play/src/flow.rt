@@ -1,7 +1,7 @@
 // Where the machine goes on: jumps, branches, calls and returns.
 ghost use Rattle.std.specs.Prelude.{◌≡◌, ◌<◌, ◌≤◌, ◌+◌, ◌*◌, ◌++◌, take, IfOk, length, ℕ};
-ghost use Rattle.z_model.specs.Flow.{jumped, returned, branched, branch_taken, agrees, local_count, locals_from, entered, called};
-ghost use Rattle.z_play.specs.View.{machine, Sound, Sets, Kept, Left, SameArrays};
+ghost use Rattle.z_model.specs.Flow.{jumped, returned, in_frames, thrown, branched, branch_taken, agrees, local_count, locals_from, entered, called};
+ghost use Rattle.z_play.specs.View.{machine, layout_in, Sound, Sets, Kept, Left, SameArrays};
 ghost use Rattle.z_play.specs.Faults.{fault_of};
 
 use crate::engine::{Called, Engine};
@@ -65,7 +65,7 @@ impl Engine {
     pub fn give_back(&mut self, x: u16) -> Result<(), ZFault>
         requires { Sound self.old }
         ensures kept { Kept self.old self.new }
-        ensures returned { Sets result (machine self.new) (returned self.old.layout (machine self.old) x) }
+        ensures returned { Sets result (machine self.new) (returned (layout_in self.old) (machine self.old) x) }
     {
         if self.depth == 0 {
             return Err(ZFault::BadReturn);
@@ -91,12 +91,42 @@ impl Engine {
         self.here = self.frames[self.depth];
     }
 
+    // Drops the present frame, and goes on as its caller.
+    fn drop_frame(&mut self)
+        requires sound { Sound self.old }
+        requires called { 0 < self.old.depth }
+        ensures kept { Kept self.old self.new }
+        ensures dropped { in_frames (machine self.old) (machine self.old).callers ≡ machine self.new }
+        ensures depth { self.new.depth + 1 ≡ self.old.depth }
+    {
+        self.depth -= 1;
+        self.top = self.here.base;
+        self.here = self.frames[self.depth];
+    }
+
+    /// Drops the frames above that of a number, and returns from it.
+    #[tactic(auto, unfolding(z_model::specs::Flow::thrown))]
+    pub fn throw(&mut self, x: u16, frame: u16) -> Result<(), ZFault>
+        requires { Sound self.old }
+        ensures kept { Kept self.old self.new }
+        ensures thrown { Sets result (machine self.new) (thrown (layout_in self.old) (machine self.old) x frame) }
+    {
+        let frame = frame as usize;
+        if frame == 0 || self.depth < frame {
+            return Err(ZFault::BadReturn);
+        }
+        while frame < self.depth {
+            self.drop_frame();
+        }
+        self.give_back(x)
+    }
+
     // Why a return would fail, if it would.
     pub fn return_fault(&mut self) -> Option<ZFault>
         requires { Sound self.old }
         ensures kept { Kept self.old self.new }
         ensures same { machine self.new ≡ machine self.old }
-        ensures fault { (x : ℕ) → result ≡ fault_of (returned self.old.layout (machine self.old) x) }
+        ensures fault { (x : ℕ) → result ≡ fault_of (returned (layout_in self.old) (machine self.old) x) }
     {
         if self.depth == 0 {
             return Some(ZFault::BadReturn);
@@ -119,7 +149,7 @@ impl Engine {
         requires sound { Sound self.old }
         requires near { end ≤ 524288 }
         ensures kept { Kept self.old self.new }
-        ensures branched { Sets result (machine self.new) (branched self.old.layout (machine self.old) end branch test) }
+        ensures branched { Sets result (machine self.new) (branched (layout_in self.old) (machine self.old) end branch test) }
     {
         match branch {
             Some(branch) if holds(branch.when, test) => self.take_branch(end, branch.offset),
@@ -134,7 +164,7 @@ impl Engine {
         requires sound { Sound self.old }
         requires near { end ≤ 524288 }
         ensures kept { Kept self.old self.new }
-        ensures branched { Sets result (machine self.new) (branch_taken self.old.layout (machine self.old) end offset) }
+        ensures branched { Sets result (machine self.new) (branch_taken (layout_in self.old) (machine self.old) end offset) }
     {
         if offset == 0 {
             return self.give_back(0);
@@ -155,7 +185,7 @@ impl Engine {
             return Err(ZFault::StackFull);
         }
         let at = 8 * a.first as usize;
-        let locals = match count_locals(&self.memory, at) {
+        let locals = match count_locals(&self.memory.bytes, at) {
             Ok(locals) => locals,
             Err(fault) => return Err(fault),
         };
@@ -182,7 +212,7 @@ impl Engine {
     pub fn call(&mut self, end: u32, store: Option<u8>, a: &Args) -> Result<(), ZFault>
         requires { Sound self.old }
         ensures kept { Kept self.old self.new }
-        ensures called { Sets result (machine self.new) (called self.old.layout (machine self.old) end store a.now) }
+        ensures called { Sets result (machine self.new) (called (layout_in self.old) (machine self.old) end store a.now) }
     {
         if a.first == 0 {
             self.pc = end;

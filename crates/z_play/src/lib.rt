@@ -1,12 +1,15 @@
 //! A player of story files.
 #![tactic(auto)]
 
+mod acts;
 mod arith;
 mod engine;
 mod flow;
 mod memory;
+mod objects;
 mod output;
 mod player;
+mod printing;
 mod step;
 mod text;
 mod typed;

@@ -3,7 +3,7 @@ ghost use Rattle.std.specs.Prelude.{◌≡◌, ◌<◌, ◌++◌, ℕ, List, Som
 ghost use Rattle.z_model.specs.Run.{ZGiven, ZState, end_of};
 ghost use Rattle.z_model.specs.Closing.{is_open, end_line, newline_if, unread_line};
 ghost use Rattle.z_model.specs.Story.{refusal_of, first_machine, given_of, start_state, IsHeader};
-ghost use Rattle.z_play.specs.View.{machine, Sound, Kept};
+ghost use Rattle.z_play.specs.View.{machine, layout_in, Sound, Kept};
 ghost use Rattle.z_play.specs.Effects.{CanFinish};
 ghost use Rattle.dg_base.specs.Written.{SinkView, Wrote, BrokeOff};
 ghost use Rattle.z_play.specs.Scene.{Scene, scene, given_by, state};
@@ -15,15 +15,16 @@ ghost use Rattle.dg_base.specs.Causes.{HasCause};
 ghost use Rattle.dg_base.specs.Streams.{SourceView};
 
 use crate::engine::{Called, Engine};
+use crate::memory::Story;
 use crate::output::{write_code, write_line, write_number, write_text, write_unicode};
-use crate::typed::{keep_codes, take_line};
+use crate::typed::{code_of_key, keep_codes, take_line};
 use dg_base::{Failed, Fault, Sink, Source, WriteFault, write_all, write_pieces};
 use itoa::Buffer;
 use std::alloc::{AllocError, Global};
 use std::error::Error;
 use std::fmt;
 use std::marker::Model;
-use z_model::{Effect, Halt, Header, Layout, StoryRefusal, ZEnd, ZFault, read_header};
+use z_model::{Effect, Halt, Header, Layout, OpenTable, StoryRefusal, ZEnd, ZFault, read_header};
 
 /// Why a story isn't loaded.
 #[derive(Clone, Copy, Debug, PartialEq, Eq)]
@@ -61,6 +62,8 @@ const OPENING: Called = Called {
     locals: 0,
 };
 
+const CLOSED: OpenTable = OpenTable { at: 0, count: 0 };
+
 // Writes what an instruction prints.
 fn print<K: Sink>(
     engine: &Engine,
@@ -68,7 +71,7 @@ fn print<K: Sink>(
     begun: bool,
     sink: &mut K,
 ) -> Result<bool, WriteFault>
-    requires { CanFinish effect engine.now.layout (machine engine.now) }
+    requires { CanFinish effect (layout_in engine.now) (machine engine.now) }
     ensures ok { OnOk result (Wrote (K.view sink.old) (K.view sink.new) (text_of effect (machine engine.now))) }
     ensures begun { IfOk result (λ now. now ≡ is_open begun (text_of effect (machine engine.now))) }
     ensures err { OnErr result (BrokeOff (K.view sink.old) (K.view sink.new) (text_of effect (machine engine.now))) }
@@ -77,9 +80,13 @@ fn print<K: Sink>(
         Effect::PrintsCode(code) => write_code(sink, begun, code),
         Effect::PrintsUnicode(character) => write_unicode(sink, begun, character),
         Effect::PrintsNumber(word) => write_number(sink, begun, word),
-        Effect::PrintsText(at) => write_text(sink, begun, &engine.memory, at),
-        Effect::PrintsLine(at) => write_line(sink, begun, &engine.memory, at),
-        Effect::Goes | Effect::Draws | Effect::Reads(_, _, _) | Effect::Quits => Ok(begun),
+        Effect::PrintsText(at) => write_text(sink, begun, &engine.memory.bytes, at),
+        Effect::PrintsLine(at) => write_line(sink, begun, &engine.memory.bytes, at),
+        Effect::Goes
+        | Effect::Draws
+        | Effect::Reads(_, _, _)
+        | Effect::ReadsKey(_)
+        | Effect::Quits => Ok(begun),
     }
 }
 
@@ -92,13 +99,13 @@ fn read_line<S: Source>(
     source: &mut S,
 ) -> Result<Option<Halt>, Failed>
     requires sound { Sound engine.old }
-    requires can { CanFinish (Effect.Reads buffer most store) engine.old.layout (machine engine.old) }
+    requires can { CanFinish (Effect.Reads buffer most store) (layout_in engine.old) (machine engine.old) }
     ensures kept { Kept engine.old engine.new }
     ensures told { (dice typed : List ℕ) (drawn : ℕ) → (S.view source.old).left ≡ Some typed →
-        Finishes result (given_by engine.old.layout dice) (Effect.Reads buffer most store) (machine engine.old) typed drawn
+        Finishes result (given_by (layout_in engine.old) dice) (Effect.Reads buffer most store) (machine engine.old) typed drawn
         (machine engine.new) (S.view source.new).left drawn }
     ensures untold { (dice left : List ℕ) (drawn : ℕ) → MayBeLeft result left →
-        ((typed : List ℕ) × Finishes result (given_by engine.old.layout dice) (Effect.Reads buffer most store) (machine engine.old) typed drawn
+        ((typed : List ℕ) × Finishes result (given_by (layout_in engine.old) dice) (Effect.Reads buffer most store) (machine engine.old) typed drawn
         (machine engine.new) (Some left) drawn) }
     ensures cause { HasCause (S.view source.old).faults (S.view source.new).faults result }
 {
@@ -117,6 +124,33 @@ fn read_line<S: Source>(
     }
 }
 
+// Takes a typed byte, and stores its code.
+fn read_key<S: Source>(
+    engine: &mut Engine,
+    store: Option<u8>,
+    source: &mut S,
+) -> Result<Option<Halt>, Failed>
+    requires sound { Sound engine.old }
+    requires can { CanFinish (Effect.ReadsKey store) (layout_in engine.old) (machine engine.old) }
+    ensures kept { Kept engine.old engine.new }
+    ensures told { (dice typed : List ℕ) (drawn : ℕ) → (S.view source.old).left ≡ Some typed →
+        Finishes result (given_by (layout_in engine.old) dice) (Effect.ReadsKey store) (machine engine.old) typed drawn
+        (machine engine.new) (S.view source.new).left drawn }
+    ensures untold { (dice left : List ℕ) (drawn : ℕ) → MayBeLeft result left →
+        ((typed : List ℕ) × Finishes result (given_by (layout_in engine.old) dice) (Effect.ReadsKey store) (machine engine.old) typed drawn
+        (machine engine.new) (Some left) drawn) }
+    ensures cause { HasCause (S.view source.old).faults (S.view source.new).faults result }
+{
+    match source.next() {
+        Err(failed) => Err(failed),
+        Ok(None) => Ok(Some(Halt::AtInput)),
+        Ok(Some(byte)) => {
+            engine.store_if(store, code_of_key(byte)).unwrap();
+            Ok(None)
+        }
+    }
+}
+
 // Does what is left of an instruction.
 fn finish<S: Source>(
     engine: &mut Engine,
@@ -126,15 +160,15 @@ fn finish<S: Source>(
     source: &mut S,
 ) -> Result<Option<Halt>, Failed>
     requires sound { Sound engine.old }
-    requires can { CanFinish effect engine.old.layout (machine engine.old) }
+    requires can { CanFinish effect (layout_in engine.old) (machine engine.old) }
     requires drawn { drawn.old < length dice.now }
     ensures kept { Kept engine.old engine.new }
     ensures drawn { drawn.new < length dice.now }
     ensures told { (typed : List ℕ) → (S.view source.old).left ≡ Some typed →
-        Finishes result (given_by engine.old.layout dice.now) effect (machine engine.old) typed drawn.old
+        Finishes result (given_by (layout_in engine.old) dice.now) effect (machine engine.old) typed drawn.old
         (machine engine.new) (S.view source.new).left drawn.new }
     ensures untold { (left : List ℕ) → MayBeLeft result left →
-        ((typed : List ℕ) × Finishes result (given_by engine.old.layout dice.now) effect (machine engine.old) typed drawn.old
+        ((typed : List ℕ) × Finishes result (given_by (layout_in engine.old) dice.now) effect (machine engine.old) typed drawn.old
         (machine engine.new) (Some left) drawn.new) }
     ensures cause { HasCause (S.view source.old).faults (S.view source.new).faults result }
 {
@@ -148,6 +182,7 @@ fn finish<S: Source>(
             Ok(None)
         }
         Effect::Reads(buffer, most, store) => read_line(engine, buffer, most, store, source),
+        Effect::ReadsKey(store) => read_key(engine, store, source),
         Effect::Quits => Ok(Some(Halt::AtQuit)),
         Effect::Goes
         | Effect::PrintsCode(_)
@@ -170,10 +205,10 @@ fn advance<S: Source, K: Sink>(
     requires drawn { drawn.old < length dice.now }
     ensures kept { Kept engine.old engine.new }
     ensures drawn { drawn.new < length dice.now }
-    ensures told { (typed : List ℕ) → (S.view source.old).left ≡ Some typed → Advances result (given_by engine.old.layout dice.now) typed
+    ensures told { (typed : List ℕ) → (S.view source.old).left ≡ Some typed → Advances result (given_by (layout_in engine.old) dice.now) typed
         (scene (machine engine.old) drawn.old begun.old (S.view source.old).left (K.view sink.old))
         (scene (machine engine.new) drawn.new begun.new (S.view source.new).left (K.view sink.new)) }
-    ensures untold { (left : List ℕ) → MayBeLeft result left → ((typed : List ℕ) × Advances result (given_by engine.old.layout dice.now) typed
+    ensures untold { (left : List ℕ) → MayBeLeft result left → ((typed : List ℕ) × Advances result (given_by (layout_in engine.old) dice.now) typed
         (scene (machine engine.old) drawn.old begun.old (Some typed) (K.view sink.old))
         (scene (machine engine.new) drawn.new begun.new (Some left) (K.view sink.new))) }
     ensures causes { HasCauses (S.view source.old) (S.view source.new) (K.view sink.old) (K.view sink.new) result }
@@ -218,11 +253,11 @@ fn run_steps<S: Source, K: Sink>(
     requires dice { 0 < length dice.now }
     ensures kept { Kept engine.old engine.new }
     ensures told { (typed : List ℕ) → (S.view source.old).left ≡ Some typed → (drawn : ℕ) →
-        RunsOn result (given_by engine.old.layout dice.now) (state (machine engine.old) typed 0 []) steps
+        RunsOn result (given_by (layout_in engine.old) dice.now) (state (machine engine.old) typed 0 []) steps
         (scene (machine engine.old) 0 begun.old (S.view source.old).left (K.view sink.old))
         (scene (machine engine.new) drawn begun.new (S.view source.new).left (K.view sink.new)) }
     ensures untold { (drawn : ℕ) → ((typed : List ℕ) × (left : List ℕ) ×
-        RunsOn result (given_by engine.old.layout dice.now) (state (machine engine.old) typed 0 []) steps
+        RunsOn result (given_by (layout_in engine.old) dice.now) (state (machine engine.old) typed 0 []) steps
         (scene (machine engine.old) 0 begun.old (Some typed) (K.view sink.old))
         (scene (machine engine.new) drawn begun.new (Some left) (K.view sink.new))) }
     ensures causes { HasCauses (S.view source.old) (S.view source.new) (K.view sink.old) (K.view sink.new) result }
@@ -324,15 +359,16 @@ fn close_run<K: Sink>(ended: Result<ZEnd, Fault>, begun: bool, sink: &mut K) -> 
 // Goes back to the first instruction of a story.
 fn reset(engine: &mut Engine, story: &[u8], start: u32)
     requires sound { Sound engine.old }
-    requires size { length engine.old.memory.items ≡ length story.now }
+    requires size { length engine.old.memory.bytes.items ≡ length story.now }
     ensures kept { Kept engine.old engine.new }
     ensures first { machine engine.new ≡ first_machine story.now start }
 {
-    engine.memory.copy_from_slice(story);
+    engine.memory.bytes.copy_from_slice(story);
     engine.pc = start;
     engine.here = OPENING;
     engine.depth = 0;
     engine.top = 0;
+    engine.opened = 0;
 }
 
 impl Model for Player {
@@ -381,18 +417,24 @@ impl Player {
         requires { IsStory story.items start layout }
         ensures { IfOk result (λ p. p ≡ story.items) }
     {
-        let memory = Vec::from_slice(alloc, &story)?;
+        let bytes = Vec::from_slice(alloc, &story)?;
         let frames = vec![in alloc; OPENING; 8191]?;
         let stack = vec![in alloc; 0u16; 65536]?;
         let engine = Engine {
-            memory,
-            layout,
+            memory: Story {
+                bytes,
+                base: layout.base,
+            },
+            globals: layout.globals,
+            checksum_right: layout.checksum_right,
             pc: start,
             here: OPENING,
             depth: 0,
             frames,
             top: 0,
             stack,
+            tables: [CLOSED; 16],
+            opened: 0,
         };
         Ok(Player {
             story,

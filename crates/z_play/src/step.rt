@@ -1,25 +1,14 @@
-// One instruction.
-ghost use Rattle.std.specs.Prelude.{◌≡◌, ◌<◌, ◌≤◌, ◌+◌, ◌-◌, ◌*◌, ◌%◌, IfOk, None, length, true};
-ghost use Rattle.z_model.specs.declared.story.Layout.{Layout};
+// One instruction: the rows of the instruction table.
+ghost use Rattle.std.specs.Prelude.{◌≡◌, ◌≤◌, ◌+◌, ◌*◌, ◌%◌, IfOk, length};
 ghost use Rattle.z_model.specs.Table.{rows_of};
-ghost use Rattle.z_model.specs.Memory.{guarded, is_writable, with_byte, with_word, have_right};
-ghost use Rattle.z_model.specs.Machine.{Machine, pushed, placed};
-ghost use Rattle.z_model.specs.Flow.{branched, called, returned, jumped, at_pc};
-ghost use Rattle.z_model.specs.Effects.{goes, answers, answers_or, written, fault_in, printed, prints_line};
-ghost use Rattle.z_model.specs.Effects.{adds, adds_and_tests, pulls, returns_popped, most_typed, reads, random_of};
 ghost use Rattle.z_model.specs.Step.{do_two, do_one, do_zero, do_several, do_extended, do_instr, machine_step};
-ghost use Rattle.z_model.specs.Run.{line_read};
-ghost use Rattle.z_play.specs.View.{machine, Sound, Sets, Kept};
-ghost use Rattle.z_play.specs.Effects.{CanFinish, GivesEffect, acted};
+ghost use Rattle.z_play.specs.View.{machine, layout_in, Sound, Kept};
+ghost use Rattle.z_play.specs.Effects.{GivesEffect, acted};
 
-use crate::arith::{divide, equals_one, is_less, modulo, signed};
+use crate::arith::{art_shift, divide, equals_one, is_less, log_shift, modulo, signed};
 use crate::engine::Engine;
-use crate::memory::{may_write_all, read_byte, read_word, write_byte, write_typed, write_word};
-use crate::text::{find_fault, is_character, is_printed};
 use z_code::{Found, decode};
-use z_model::{
-    Args, Branch, Effect, Extended, Instr, One, Op, Several, Two, ZFault, Zero, bytes_of,
-};
+use z_model::{Args, Effect, Extended, Instr, One, Op, Several, Two, ZFault, Zero, bytes_of};
 
 // The address of a word in an array.
 #[inline]
@@ -29,300 +18,6 @@ fn word_place(array: u16, index: u16) -> u16
     array.wrapping_add(index.wrapping_mul(2))
 }
 
-// ---- what several instructions do
-
-impl Engine {
-    // Stores an answer, and goes on.
-    #[inline]
-    fn answer(&mut self, end: u32, store: Option<u8>, x: u16) -> Result<Effect, ZFault>
-        requires { Sound self.old }
-        ensures kept { Kept self.old self.new }
-        ensures answered { GivesEffect result self.old.layout (machine self.new) (answers self.old.layout (machine self.old) end store x) }
-    {
-        self.pc = end;
-        self.store_if(store, x)?;
-        Ok(Effect::Goes)
-    }
-
-    #[inline]
-    fn answer_or(
-        &mut self,
-        end: u32,
-        store: Option<u8>,
-        x: Result<u16, ZFault>,
-    ) -> Result<Effect, ZFault>
-        requires { Sound self.old }
-        ensures kept { Kept self.old self.new }
-        ensures answered { GivesEffect result self.old.layout (machine self.new) (answers_or self.old.layout (machine self.old) end store x) }
-    {
-        match x {
-            Ok(x) => self.answer(end, store, x),
-            Err(fault) => Err(fault),
-        }
-    }
-
-    #[inline(always)]
-    fn test(&mut self, end: u32, branch: Option<Branch>, test: bool) -> Result<Effect, ZFault>
-        requires sound { Sound self.old }
-        requires near { end ≤ 524288 }
-        ensures kept { Kept self.old self.new }
-        ensures branched { GivesEffect result self.old.layout (machine self.new) (goes (branched self.old.layout (machine self.old) end branch test)) }
-    {
-        self.branch(end, branch, test)?;
-        Ok(Effect::Goes)
-    }
-
-    #[inline(always)]
-    fn do_call(&mut self, end: u32, store: Option<u8>, a: &Args) -> Result<Effect, ZFault>
-        requires { Sound self.old }
-        ensures kept { Kept self.old self.new }
-        ensures called { GivesEffect result self.old.layout (machine self.new) (goes (called self.old.layout (machine self.old) end store a.now)) }
-    {
-        // A copy, so that the values need no place in memory where nothing is called.
-        let args = *a;
-        self.call(end, store, &args)?;
-        Ok(Effect::Goes)
-    }
-
-    #[inline]
-    fn do_return(&mut self, x: u16) -> Result<Effect, ZFault>
-        requires { Sound self.old }
-        ensures kept { Kept self.old self.new }
-        ensures returned { GivesEffect result self.old.layout (machine self.new) (goes (returned self.old.layout (machine self.old) x)) }
-    {
-        self.give_back(x)?;
-        Ok(Effect::Goes)
-    }
-
-    fn do_jump(&mut self, end: u32, offset: i16) -> Result<Effect, ZFault>
-        requires sound { Sound self.old }
-        requires near { end ≤ 524288 }
-        ensures kept { Kept self.old self.new }
-        ensures jumped { GivesEffect result self.old.layout (machine self.new) (goes (jumped (machine self.old) end offset)) }
-    {
-        self.jump(end, offset)?;
-        Ok(Effect::Goes)
-    }
-
-    fn do_place(&mut self, end: u32, v: u16, x: u16) -> Result<Effect, ZFault>
-        requires { Sound self.old }
-        ensures kept { Kept self.old self.new }
-        ensures placed { GivesEffect result self.old.layout (machine self.new) (goes (placed self.old.layout (at_pc (machine self.old) end) v x)) }
-    {
-        self.pc = end;
-        self.place(v, x)?;
-        Ok(Effect::Goes)
-    }
-
-    fn do_push(&mut self, end: u32, x: u16) -> Result<Effect, ZFault>
-        requires { Sound self.old }
-        ensures kept { Kept self.old self.new }
-        ensures pushed { GivesEffect result self.old.layout (machine self.new) (goes (pushed (at_pc (machine self.old) end) x)) }
-    {
-        self.pc = end;
-        self.push(x)?;
-        Ok(Effect::Goes)
-    }
-
-    fn do_pull(&mut self, end: u32, v: u16) -> Result<Effect, ZFault>
-        requires { Sound self.old }
-        ensures kept { Kept self.old self.new }
-        ensures pulled { GivesEffect result self.old.layout (machine self.new) (pulls self.old.layout (machine self.old) end v) }
-    {
-        self.pc = end;
-        let x = self.pop()?;
-        self.place(v, x)?;
-        Ok(Effect::Goes)
-    }
-
-    fn return_popped(&mut self) -> Result<Effect, ZFault>
-        requires { Sound self.old }
-        ensures kept { Kept self.old self.new }
-        ensures returned { GivesEffect result self.old.layout (machine self.new) (returns_popped self.old.layout (machine self.old)) }
-    {
-        let x = self.pop()?;
-        self.do_return(x)
-    }
-
-    // Adds to a variable that an operand names.
-    fn add_in_place(&mut self, end: u32, v: u16, by: u16) -> Result<Effect, ZFault>
-        requires { Sound self.old }
-        ensures kept { Kept self.old self.new }
-        ensures added { GivesEffect result self.old.layout (machine self.new) (adds self.old.layout (machine self.old) end v by) }
-    {
-        self.pc = end;
-        let x = self.held(v)?;
-        self.place(v, x.wrapping_add(by))?;
-        Ok(Effect::Goes)
-    }
-
-    fn add_and_test(
-        &mut self,
-        end: u32,
-        branch: Option<Branch>,
-        v: u16,
-        limit: u16,
-    ) -> Result<Effect, ZFault>
-        requires sound { Sound self.old }
-        requires near { end ≤ 524288 }
-        ensures kept { Kept self.old self.new }
-        ensures tested { GivesEffect result self.old.layout (machine self.new) (adds_and_tests self.old.layout (machine self.old) end branch v limit) }
-    {
-        let x = self.held(v)?;
-        let more = x.wrapping_add(1);
-        self.place(v, more)?;
-        self.test(end, branch, is_less(limit, more))
-    }
-
-    fn store_word(&mut self, end: u32, at: u16, word: u16) -> Result<Effect, ZFault>
-        requires { Sound self.old }
-        ensures kept { Kept self.old self.new }
-        ensures written { GivesEffect result self.old.layout (machine self.new)
-            (written (machine self.old) end (with_word (guarded self.old.layout (machine self.old).memory) at word)) }
-    {
-        write_word(&mut self.memory, self.layout, at, word)?;
-        self.pc = end;
-        Ok(Effect::Goes)
-    }
-
-    fn store_byte(&mut self, end: u32, at: u16, byte: u8) -> Result<Effect, ZFault>
-        requires { Sound self.old }
-        ensures kept { Kept self.old self.new }
-        ensures written { GivesEffect result self.old.layout (machine self.new)
-            (written (machine self.old) end (with_byte (guarded self.old.layout (machine self.old).memory) at byte)) }
-    {
-        write_byte(&mut self.memory, self.layout, at, byte)?;
-        self.pc = end;
-        Ok(Effect::Goes)
-    }
-
-    // Why what an effect prints may not be printed, if it may not.
-    #[inline]
-    fn print_fault(&self, effect: Effect) -> Option<ZFault>
-        ensures { result ≡ fault_in effect (machine self.now) }
-    {
-        let may = match effect {
-            Effect::PrintsCode(code) => is_printed(code),
-            Effect::PrintsUnicode(character) => is_character(character),
-            Effect::PrintsText(at) | Effect::PrintsLine(at) => {
-                return find_fault(&self.memory, at);
-            }
-            Effect::Goes
-            | Effect::PrintsNumber(_)
-            | Effect::Draws
-            | Effect::Reads(_, _, _)
-            | Effect::Quits => true,
-        };
-        if may {
-            None
-        } else {
-            Some(ZFault::BadCharacter)
-        }
-    }
-
-    // Prints, where what is printed may be, and goes on.
-    #[tactic(auto, unfolding(z_model::specs::Effects::printed))]
-    #[inline]
-    fn print(&mut self, end: u32, effect: Effect) -> Result<Effect, ZFault>
-        requires sound { Sound self.old }
-        requires plain { (layout : Layout) (m : Machine) → fault_in effect m ≡ None → CanFinish effect layout m }
-        ensures kept { Kept self.old self.new }
-        ensures printed { GivesEffect result self.old.layout (machine self.new) (printed effect (at_pc (machine self.old) end)) }
-    {
-        match self.print_fault(effect) {
-            Some(fault) => Err(fault),
-            None => {
-                self.pc = end;
-                Ok(effect)
-            }
-        }
-    }
-
-    #[tactic(auto, unfolding(z_model::specs::Effects::prints_line, z_model::specs::Effects::printed))]
-    fn print_line(&mut self, at: usize) -> Result<Effect, ZFault>
-        requires { Sound self.old }
-        ensures kept { Kept self.old self.new }
-        ensures prints { GivesEffect result self.old.layout (machine self.new) (prints_line self.old.layout (machine self.old) at) }
-    {
-        let effect = Effect::PrintsLine(at);
-        if let Some(fault) = self.print_fault(effect) {
-            return Err(fault);
-        }
-        match self.return_fault() {
-            Some(fault) => Err(fault),
-            None => Ok(effect),
-        }
-    }
-
-    #[tactic(auto, unfolding(z_model::specs::Effects::random_of))]
-    fn random(
-        &mut self,
-        word: u16,
-        end: u32,
-        store: Option<u8>,
-        range: u16,
-    ) -> Result<Effect, ZFault>
-        requires { Sound self.old }
-        ensures kept { Kept self.old self.new }
-        ensures drawn { GivesEffect result self.old.layout (machine self.new) (random_of self.old.layout word (machine self.old) end store range) }
-    {
-        if range == 0 || 32767 < range {
-            return self.answer(end, store, 0);
-        }
-        self.pc = end;
-        self.store_if(store, 1 + word % range)?;
-        Ok(Effect::Draws)
-    }
-
-    // How many characters a reading keeps, where its buffer allows it.
-    #[tactic(auto, unfolding(z_model::specs::Effects::most_typed))]
-    fn most_typed(&self, a: &Args) -> Result<u8, ZFault>
-        requires { Sound self.now }
-        ensures most { result ≡ most_typed self.now.layout (machine self.now) a.now }
-        ensures may { IfOk result (λ most. have_right (is_writable self.now.layout) ((a.now.first + 1) % 65536) (most + 1) ≡ true) }
-    {
-        if 0 < a.second {
-            return Err(ZFault::Unsupported);
-        }
-        let most = read_byte(&self.memory, a.first)?;
-        if may_write_all(self.layout, a.first.wrapping_add(1), most as u16 + 1) {
-            Ok(most)
-        } else {
-            Err(ZFault::BadWrite)
-        }
-    }
-
-    #[tactic(auto, unfolding(z_model::specs::Effects::reads))]
-    fn read(&mut self, end: u32, store: Option<u8>, a: &Args) -> Result<Effect, ZFault>
-        requires { Sound self.old }
-        ensures kept { Kept self.old self.new }
-        ensures reads { GivesEffect result self.old.layout (machine self.new) (reads self.old.layout (machine self.old) end store a.now) }
-    {
-        let most = self.most_typed(a)?;
-        self.pc = end;
-        match self.store_fault(store) {
-            Some(fault) => Err(fault),
-            None => Ok(Effect::Reads(a.first, most, store)),
-        }
-    }
-}
-
-impl Engine {
-    /// Ends a reading: the line goes into its buffer, and 13 is stored.
-    #[tactic(auto, unfolding(z_model::specs::Run::line_read))]
-    pub fn finish_read(&mut self, buffer: u16, store: Option<u8>, line: &[u8]) -> Result<(), ZFault>
-        requires sound { Sound self.old }
-        requires few { length line.now ≤ 255 }
-        ensures kept { Kept self.old self.new }
-        ensures read { Sets result (machine self.new) (line_read self.old.layout (machine self.old) buffer store line.now) }
-    {
-        write_typed(&mut self.memory, self.layout, buffer, line)?;
-        self.store_if(store, 13)
-    }
-}
-
-// ---- the rows of the instruction table
-
 impl Engine {
     #[tactic(auto, unfolding(z_model::specs::Step::do_two))]
     #[inline(always)]
@@ -330,7 +25,7 @@ impl Engine {
         requires sound { Sound self.old }
         requires near { end ≤ 524288 }
         ensures kept { Kept self.old self.new }
-        ensures done { GivesEffect result self.old.layout (machine self.new) (do_two self.old.layout instr op.now end a.now (machine self.old)) }
+        ensures done { GivesEffect result (layout_in self.old) (machine self.new) (do_two (layout_in self.old) instr op.now end a.now (machine self.old)) }
     {
         let x = a.first;
         let y = a.second;
@@ -338,24 +33,30 @@ impl Engine {
             Two::Je => self.test(end, op.branch, equals_one(a)),
             Two::Jl => self.test(end, op.branch, is_less(x, y)),
             Two::Jg => self.test(end, op.branch, is_less(y, x)),
-            Two::IncChk => self.add_and_test(end, op.branch, x, y),
+            Two::DecChk => self.dec_and_test(end, op.branch, x, y),
+            Two::IncChk => self.inc_and_test(end, op.branch, x, y),
+            Two::Jin => self.test_child(end, op.branch, x, y),
+            Two::Test => self.test(end, op.branch, x & y == y),
             Two::Or => self.answer(end, op.store, x | y),
             Two::And => self.answer(end, op.store, x & y),
+            Two::TestAttr => self.test_attribute(end, op.branch, x, y),
+            Two::SetAttr => self.set_attribute(end, x, y, true),
+            Two::ClearAttr => self.set_attribute(end, x, y, false),
             Two::Store => self.do_place(end, x, y),
-            Two::Loadw => {
-                let word = read_word(&self.memory, word_place(x, y));
-                self.answer_or(end, op.store, word)
-            }
-            Two::Loadb => {
-                let byte = read_byte(&self.memory, x.wrapping_add(y))?;
-                self.answer(end, op.store, byte as u16)
-            }
+            Two::InsertObj => self.insert_object(end, x, y),
+            Two::Loadw => self.load_word(end, op.store, word_place(x, y)),
+            Two::Loadb => self.load_byte(end, op.store, x.wrapping_add(y)),
+            Two::GetProp => self.load_property(end, op.store, x, y),
+            Two::GetPropAddr => self.load_property_place(end, op.store, x, y),
+            Two::GetNextProp => self.load_next_property(end, op.store, x, y),
             Two::Add => self.answer(end, op.store, x.wrapping_add(y)),
             Two::Sub => self.answer(end, op.store, x.wrapping_sub(y)),
             Two::Mul => self.answer(end, op.store, x.wrapping_mul(y)),
             Two::Div => self.answer_or(end, op.store, divide(x, y)),
             Two::Mod => self.answer_or(end, op.store, modulo(x, y)),
             Two::Call2s | Two::Call2n => self.do_call(end, op.store, a),
+            Two::SetColour => self.goes_on(end, Effect::Goes),
+            Two::Throw => self.do_throw(x, y),
         }
     }
 
@@ -365,13 +66,20 @@ impl Engine {
         requires sound { Sound self.old }
         requires near { end ≤ 524288 }
         ensures kept { Kept self.old self.new }
-        ensures done { GivesEffect result self.old.layout (machine self.new) (do_one self.old.layout instr op.now end a.now (machine self.old)) }
+        ensures done { GivesEffect result (layout_in self.old) (machine self.new) (do_one (layout_in self.old) instr op.now end a.now (machine self.old)) }
     {
         let x = a.first;
         match instr {
             One::Jz => self.test(end, op.branch, x == 0),
+            One::GetSibling => self.load_sibling(end, op, x),
+            One::GetChild => self.load_child(end, op, x),
+            One::GetParent => self.load_parent(end, op.store, x),
+            One::GetPropLen => self.load_property_length(end, op.store, x),
             One::Inc => self.add_in_place(end, x, 1),
             One::Dec => self.add_in_place(end, x, 65535),
+            One::PrintAddr => self.print(end, Effect::PrintsText(x as usize)),
+            One::RemoveObj => self.remove_object(end, x),
+            One::PrintObj => self.print_name(end, x),
             One::Call1s | One::Call1n => self.do_call(end, op.store, a),
             One::Ret => self.do_return(x),
             One::Jump => self.do_jump(end, signed(x)),
@@ -387,8 +95,9 @@ impl Engine {
     #[inline(always)]
     fn do_zero(&mut self, instr: Zero, op: &Op, end: u32, a: &Args) -> Result<Effect, ZFault>
         requires sound { Sound self.old }
+        requires near { end ≤ 524288 }
         ensures kept { Kept self.old self.new }
-        ensures done { GivesEffect result self.old.layout (machine self.new) (do_zero self.old.layout instr op.now end a.now (machine self.old)) }
+        ensures done { GivesEffect result (layout_in self.old) (machine self.new) (do_zero (layout_in self.old) instr op.now end a.now (machine self.old)) }
     {
         let text = (end as usize).saturating_sub(op.text);
         match instr {
@@ -398,19 +107,12 @@ impl Engine {
             Zero::PrintRet => self.print_line(text),
             Zero::Nop => self.goes_on(end, Effect::Goes),
             Zero::RetPopped => self.return_popped(),
+            Zero::Catch => self.catch_frame(end, op.store),
             Zero::Quit => self.goes_on(end, Effect::Quits),
             Zero::NewLine => self.print(end, Effect::PrintsCode(13)),
+            Zero::Verify => self.test(end, op.branch, self.checksum_right),
+            Zero::Piracy => self.test(end, op.branch, true),
         }
-    }
-
-    fn goes_on(&mut self, end: u32, effect: Effect) -> Result<Effect, ZFault>
-        requires sound { Sound self.old }
-        requires plain { (layout : Layout) (m : Machine) → CanFinish effect layout m }
-        ensures kept { Kept self.old self.new }
-        ensures goes { GivesEffect result self.old.layout (machine self.new) (Ok (effect, at_pc (machine self.old) end)) }
-    {
-        self.pc = end;
-        Ok(effect)
     }
 
     #[tactic(auto, unfolding(z_model::specs::Step::do_several))]
@@ -423,9 +125,11 @@ impl Engine {
         end: u32,
         a: &Args,
     ) -> Result<Effect, ZFault>
-        requires { Sound self.old }
+        requires sound { Sound self.old }
+        requires near { end ≤ 524288 }
         ensures kept { Kept self.old self.new }
-        ensures done { GivesEffect result self.old.layout (machine self.new) (do_several self.old.layout word instr op.now end a.now (machine self.old)) }
+        ensures done { GivesEffect result (layout_in self.old) (machine self.new)
+            (do_several (layout_in self.old) word instr op.now end a.now (machine self.old)) }
     {
         let x = a.first;
         match instr {
@@ -435,13 +139,26 @@ impl Engine {
                 let [_, low] = bytes_of(a.third);
                 self.store_byte(end, x.wrapping_add(a.second), low)
             }
+            Several::PutProp => self.set_property(end, x, a.second, a.third),
             Several::Aread => self.read(end, op.store, a),
             Several::PrintChar => self.print(end, Effect::PrintsCode(x)),
             Several::PrintNum => self.print(end, Effect::PrintsNumber(x)),
             Several::Random => self.random(word, end, op.store, x),
             Several::Push => self.do_push(end, x),
             Several::Pull => self.do_pull(end, x),
+            Several::SplitWindow
+            | Several::SetWindow
+            | Several::EraseWindow
+            | Several::EraseLine
+            | Several::SetCursor
+            | Several::SetTextStyle
+            | Several::BufferMode => self.goes_on(end, Effect::Goes),
+            Several::OutputStream => self.do_stream(end, a),
+            Several::ReadChar => self.read_key(end, op.store),
+            Several::ScanTable => self.search_table(end, op, a),
             Several::Not => self.answer(end, op.store, 65535 - x),
+            Several::CopyTable => self.copy_table(end, x, a.second, a.third),
+            Several::CheckArgCount => self.test(end, op.branch, x <= self.here.args as u16),
         }
     }
 
@@ -456,9 +173,15 @@ impl Engine {
     ) -> Result<Effect, ZFault>
         requires { Sound self.old }
         ensures kept { Kept self.old self.new }
-        ensures done { GivesEffect result self.old.layout (machine self.new) (do_extended self.old.layout instr op.now end a.now (machine self.old)) }
+        ensures done { GivesEffect result (layout_in self.old) (machine self.new) (do_extended (layout_in self.old) instr op.now end a.now (machine self.old)) }
     {
         match instr {
+            Extended::Save | Extended::Restore | Extended::RestoreUndo => self.answer(
+                end, op.store, 0,
+            ),
+            Extended::LogShift => self.answer(end, op.store, log_shift(a.first, a.second)),
+            Extended::ArtShift => self.answer(end, op.store, art_shift(a.first, a.second)),
+            Extended::SaveUndo => self.answer(end, op.store, 65535),
             Extended::PrintUnicode => self.print(end, Effect::PrintsUnicode(a.first)),
         }
     }
@@ -476,7 +199,8 @@ impl Engine {
         requires sound { Sound self.old }
         requires near { end ≤ 524288 }
         ensures kept { Kept self.old self.new }
-        ensures done { GivesEffect result self.old.layout (machine self.new) (do_instr self.old.layout word instr op.now end a.now (machine self.old)) }
+        ensures done { GivesEffect result (layout_in self.old) (machine self.new)
+            (do_instr (layout_in self.old) word instr op.now end a.now (machine self.old)) }
     {
         match instr {
             Instr::Two(instr) => self.do_two(instr, op, end, a),
@@ -491,9 +215,9 @@ impl Engine {
     #[inline(always)]
     fn act(&mut self, word: u16, found: Result<Found, ZFault>) -> Result<Effect, ZFault>
         requires sound { Sound self.old }
-        requires near { IfOk found (λ f. f.end ≤ length self.old.memory.items) }
+        requires near { IfOk found (λ f. f.end ≤ length self.old.memory.bytes.items) }
         ensures kept { Kept self.old self.new }
-        ensures acted { GivesEffect result self.old.layout (machine self.new) (acted self.old.layout word (machine self.old) found) }
+        ensures acted { GivesEffect result (layout_in self.old) (machine self.new) (acted (layout_in self.old) word (machine self.old) found) }
     {
         let found = found?;
         let args = self.values(&found.op.operands)?;
@@ -505,9 +229,9 @@ impl Engine {
     pub fn step(&mut self, word: u16) -> Result<Effect, ZFault>
         requires { Sound self.old }
         ensures kept { Kept self.old self.new }
-        ensures stepped { GivesEffect result self.old.layout (machine self.new) (machine_step rows_of self.old.layout word (machine self.old)) }
+        ensures stepped { GivesEffect result (layout_in self.old) (machine self.new) (machine_step rows_of (layout_in self.old) word (machine self.old)) }
     {
-        let found = decode(&self.memory, self.pc as usize);
+        let found = decode(&self.memory.bytes, self.pc as usize);
         self.act(word, found)
     }
 }

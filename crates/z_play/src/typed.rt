@@ -1,6 +1,7 @@
 // Typed lines.
 ghost use Rattle.std.specs.Prelude.{◌≡◌, ◌<◌, ◌≤◌, ◌++◌, ◌∷◌, [], ℕ, List, Some, IfOk, IfSome, length, take};
 ghost use Rattle.z_model.specs.Typed.{typed_code, typed_codes, without_return};
+ghost use Rattle.z_model.specs.Run.{key_code};
 ghost use Rattle.z_play.specs.Lines.{IsKept, TakesNext, TakesRest, TakesLine, MayFollow};
 ghost use Rattle.dg_base.specs.Causes.{HasCause};
 
@@ -16,6 +17,17 @@ fn code_of_unit(unit: Unit) -> u8
             None => b'?',
             Some(kept) => code_of(kept).unwrap_or(b'?'),
         },
+    }
+}
+
+/// The code of a typed byte: an end of a line, a printed part of ASCII, or a question mark.
+pub fn code_of_key(byte: u8) -> u16
+    ensures { result ≡ key_code byte }
+{
+    match byte {
+        b'\n' | b'\r' => 13,
+        32..=126 => byte as u16,
+        _ => 63,
     }
 }
 

@@ -1,6 +1,7 @@
 use Rattle.std.proofs.Common.{◌≡◌, ◌+◌, ◌-◌, ◌%◌, ◌<◌, ℕ, zero, suc, true, refl, sym, ◌∙◌, arith}
 use Rattle.z_model.specs.declared.story.Layout.{Layout}
 use Rattle.z_model.specs.Memory.{is_writable, have_right}
+use Rattle.z_play.specs.Rights.{based}
 use Rattle.z_play.proofs.memory.may_write_all.Goals as goal
 
 one_more : (layout : Layout) (a n : ℕ) → 0 < n → is_writable layout a ≡ true → have_right (is_writable layout) a n ≡ have_right (is_writable layout) ((a + 1) % 65536) (n - 1)
@@ -11,4 +12,4 @@ one_more layout a (suc n) some may =
     rw (may, less) refl
 
 pub loop-left-preserved : goal.loop-left-preserved
-loop-left-preserved c = sym (one_more c.args.layout c.loop-left.at c.loop-left.left c.loop-left-test.true (sym c.is_writable.ensures ∙ c.if-not-is_writable.false)) ∙ c.loop-left.invariant
+loop-left-preserved c = sym (one_more (based c.args.base) c.loop-left.at c.loop-left.left c.loop-left-test.true (sym c.is_writable.ensures ∙ c.if-not-is_writable.false)) ∙ c.loop-left.invariant

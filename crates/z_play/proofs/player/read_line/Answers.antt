@@ -1,7 +1,7 @@
 use Rattle.std.proofs.Common.{rules, ◌≡◌, ◌≤◌, ℕ, List, length, take, Option, [], Some, Ok, refl, sym, ◌∙◌, ap, subst, arith}
 use Rattle.z_model.specs.Run.{line_read}
 use Rattle.z_model.specs.Typed.{typed_line}
-use Rattle.z_play.specs.View.{machine}
+use Rattle.z_play.specs.View.{layout_in, machine}
 use Rattle.z_play.specs.Lines.{TakesLine, MayFollow}
 use Rattle.z_play.specs.Scene.{given_by}
 use Rattle.z_play.proofs.Codes.{line_kept}
@@ -11,15 +11,15 @@ use Rattle.z_play.proofs.player.read_line.Goals as goal
 pub unwrap-requires : goal.unwrap-requires
 unwrap-requires g c =
     let few : length (take c.keep_codes-count.result c.keep_codes-count.new.line) ≤ c.args.most = search rules in
-    sets_ok c.finish_read.result (machine c.finish_read.new.self) _ c.finish_read.ensures.read (read_ok c.args.engine.now.layout (machine c.args.engine.now) c.args.buffer c.args.most c.args.store (take c.keep_codes-count.result c.keep_codes-count.new.line) c.requires.can.0 c.requires.can.1 few)
+    sets_ok c.finish_read.result (machine c.finish_read.new.self) _ c.finish_read.ensures.read (read_ok (layout_in c.args.engine.now) (machine c.args.engine.now) c.args.buffer c.args.most c.args.store (take c.keep_codes-count.result c.keep_codes-count.new.line) c.requires.can.0 c.requires.can.1 few)
 
 pub returns-in-Err-clause-told : goal.returns-in-Err-clause-told
-returns-in-Err-clause-told g c = λ dice typed drawn told. unfinished_reading (given_by c.args.engine.now.layout dice) (machine c.args.engine.now) c.args.buffer c.args.most c.args.store typed drawn (g.S.Source.view c.take_line.new.source).left c.requires.can.0 c.requires.can.1 (c.in-Err.ensures.told typed told)
+returns-in-Err-clause-told g c = λ dice typed drawn told. unfinished_reading (given_by (layout_in c.args.engine.now) dice) (machine c.args.engine.now) c.args.buffer c.args.most c.args.store typed drawn (g.S.Source.view c.take_line.new.source).left c.requires.can.0 c.requires.can.1 (c.in-Err.ensures.told typed told)
 
 pub returns-in-Ok-None-clause-told : goal.returns-in-Ok-None-clause-told
 returns-in-Ok-None-clause-told g c = λ dice typed drawn told.
     let taken = subst (λ (o : Option ℕ). TakesLine (Ok o) typed c.take_line.new.line (g.S.Source.view c.take_line.new.source).left) c.in-Ok-None.field-0-is (c.in-Ok-None.ensures.told typed told) in
-    finish_input (given_by c.args.engine.now.layout dice) (machine c.args.engine.now) (machine c.args.engine.now) c.args.buffer c.args.most c.args.store typed drawn (g.S.Source.view c.take_line.new.source).left taken.0 taken.1
+    finish_input (given_by (layout_in c.args.engine.now) dice) (machine c.args.engine.now) (machine c.args.engine.now) c.args.buffer c.args.most c.args.store typed drawn (g.S.Source.view c.take_line.new.source).left taken.0 taken.1
 
 pub returns-in-Ok-Some-clause-told : goal.returns-in-Ok-Some-clause-told
 returns-in-Ok-Some-clause-told g c = λ dice typed drawn told.
@@ -30,17 +30,17 @@ returns-in-Ok-Some-clause-told g c = λ dice typed drawn told.
     let taken = subst (λ (o : Option ℕ). TakesLine (Ok o) typed c.take_line.new.line (g.S.Source.view c.take_line.new.source).left) c.in-Ok-Some.field-0-is (c.in-Ok-Some.ensures.told typed told) in
     let line : take c.keep_codes-count.result c.keep_codes-count.new.line ≡ typed_line c.args.most typed =
     line_kept c.args.most (take c.keep_codes-count.result c.keep_codes-count.new.line) c.keep_codes-count.new.line c.take_line.new.line (take c.in-Ok-Some.kept c.take_line.new.line) typed c.keep_codes-count.ensures.codes long (omega arith) taken.1 room in
-    let given = sets_given c.finish_read.result (machine c.finish_read.new.self) _ c.finish_read.ensures.read (read_ok c.args.engine.now.layout (machine c.args.engine.now) c.args.buffer c.args.most c.args.store (take c.keep_codes-count.result c.keep_codes-count.new.line) c.requires.can.0 c.requires.can.1 few) in
-    finish_reading (given_by c.args.engine.now.layout dice) (machine c.args.engine.now) (machine c.finish_read.new.self) c.args.buffer c.args.most c.args.store typed drawn (g.S.Source.view c.take_line.new.source).left taken.0 taken.2 (ap (λ (l : List ℕ). line_read c.args.engine.now.layout (machine c.args.engine.now) c.args.buffer c.args.store l) (sym line) ∙ given)
+    let given = sets_given c.finish_read.result (machine c.finish_read.new.self) _ c.finish_read.ensures.read (read_ok (layout_in c.args.engine.now) (machine c.args.engine.now) c.args.buffer c.args.most c.args.store (take c.keep_codes-count.result c.keep_codes-count.new.line) c.requires.can.0 c.requires.can.1 few) in
+    finish_reading (given_by (layout_in c.args.engine.now) dice) (machine c.args.engine.now) (machine c.finish_read.new.self) c.args.buffer c.args.most c.args.store typed drawn (g.S.Source.view c.take_line.new.source).left taken.0 taken.2 (ap (λ (l : List ℕ). line_read (layout_in c.args.engine.now) (machine c.args.engine.now) c.args.buffer c.args.store l) (sym line) ∙ given)
 
 pub returns-in-Err-clause-untold : goal.returns-in-Err-clause-untold
 returns-in-Err-clause-untold g c = λ dice left drawn may.
     let line = c.in-Err.ensures.untold left tt in
-    (line.0, unfinished_reading (given_by c.args.engine.now.layout dice) (machine c.args.engine.now) c.args.buffer c.args.most c.args.store line.0 drawn (Some left) c.requires.can.0 c.requires.can.1 line.1)
+    (line.0, unfinished_reading (given_by (layout_in c.args.engine.now) dice) (machine c.args.engine.now) c.args.buffer c.args.most c.args.store line.0 drawn (Some left) c.requires.can.0 c.requires.can.1 line.1)
 
 pub returns-in-Ok-None-clause-untold : goal.returns-in-Ok-None-clause-untold
 returns-in-Ok-None-clause-untold g c = λ dice left drawn none.
-    ([], finish_input (given_by c.args.engine.now.layout dice) (machine c.args.engine.now) (machine c.args.engine.now) c.args.buffer c.args.most c.args.store [] drawn (Some left) refl (ap Some none))
+    ([], finish_input (given_by (layout_in c.args.engine.now) dice) (machine c.args.engine.now) (machine c.args.engine.now) c.args.buffer c.args.most c.args.store [] drawn (Some left) refl (ap Some none))
 
 pub returns-in-Ok-Some-clause-untold : goal.returns-in-Ok-Some-clause-untold
 returns-in-Ok-Some-clause-untold g c = λ dice left drawn may.
@@ -53,5 +53,5 @@ returns-in-Ok-Some-clause-untold g c = λ dice left drawn may.
     let taken = subst (λ (o : Option ℕ). TakesLine (Ok o) source.0 c.take_line.new.line (Some left)) c.in-Ok-Some.field-0-is source.1 in
     let line : take c.keep_codes-count.result c.keep_codes-count.new.line ≡ typed_line c.args.most source.0 =
     line_kept c.args.most (take c.keep_codes-count.result c.keep_codes-count.new.line) c.keep_codes-count.new.line c.take_line.new.line (take c.in-Ok-Some.kept c.take_line.new.line) typed c.keep_codes-count.ensures.codes long (omega arith) taken.1 room in
-    let given = sets_given c.finish_read.result (machine c.finish_read.new.self) _ c.finish_read.ensures.read (read_ok c.args.engine.now.layout (machine c.args.engine.now) c.args.buffer c.args.most c.args.store (take c.keep_codes-count.result c.keep_codes-count.new.line) c.requires.can.0 c.requires.can.1 few) in
-    (typed, finish_reading (given_by c.args.engine.now.layout dice) (machine c.args.engine.now) (machine c.finish_read.new.self) c.args.buffer c.args.most c.args.store typed drawn (Some left) taken.0 taken.2 (ap (λ (l : List ℕ). line_read c.args.engine.now.layout (machine c.args.engine.now) c.args.buffer c.args.store l) (sym line) ∙ given))
+    let given = sets_given c.finish_read.result (machine c.finish_read.new.self) _ c.finish_read.ensures.read (read_ok (layout_in c.args.engine.now) (machine c.args.engine.now) c.args.buffer c.args.most c.args.store (take c.keep_codes-count.result c.keep_codes-count.new.line) c.requires.can.0 c.requires.can.1 few) in
+    (typed, finish_reading (given_by (layout_in c.args.engine.now) dice) (machine c.args.engine.now) (machine c.finish_read.new.self) c.args.buffer c.args.most c.args.store typed drawn (Some left) taken.0 taken.2 (ap (λ (l : List ℕ). line_read (layout_in c.args.engine.now) (machine c.args.engine.now) c.args.buffer c.args.store l) (sym line) ∙ given))

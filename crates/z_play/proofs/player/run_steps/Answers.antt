@@ -3,7 +3,7 @@ use Rattle.z_model.specs.declared.story.Layout.{Layout}
 use Rattle.z_model.specs.declared.end.Halt.{Halt}
 use Rattle.z_model.specs.declared.end.ZEnd.{ZEnd}
 use Rattle.z_model.specs.Run.{zrun}
-use Rattle.z_play.specs.View.{machine}
+use Rattle.z_play.specs.View.{layout_in, machine}
 use Rattle.z_play.specs.Scene.{scene, given_by, state}
 use Rattle.z_play.specs.Acting.{MayBeLeft}
 use Rattle.z_play.specs.Advancing.{Advances, RanTo}
@@ -17,8 +17,8 @@ loop-left-init g c = record {
   drawn = c.requires.dice;
   reads = omega arith;
   writes = omega arith;
-  going = λ typed told. going_first (given_by c.args.engine.now.layout c.args.dice.now) (machine c.args.engine.now) c.args.steps typed c.args.begun.now (g.S.Source.view c.args.source.now).left (g.K.Sink.view c.args.sink.now) told;
-  untold = λ left. (left, going_first (given_by c.args.engine.now.layout c.args.dice.now) (machine c.args.engine.now) c.args.steps left c.args.begun.now (Some left) (g.K.Sink.view c.args.sink.now) refl);
+  going = λ typed told. going_first (given_by (layout_in c.args.engine.now) c.args.dice.now) (machine c.args.engine.now) c.args.steps typed c.args.begun.now (g.S.Source.view c.args.source.now).left (g.K.Sink.view c.args.sink.now) told;
+  untold = λ left. (left, going_first (given_by (layout_in c.args.engine.now) c.args.dice.now) (machine c.args.engine.now) c.args.steps left c.args.begun.now (Some left) (g.K.Sink.view c.args.sink.now) refl);
 }
 
 pub advance-requires-clause-sound : goal.advance-requires-clause-sound
@@ -33,28 +33,28 @@ returns-in-Err-clause-kept g c = record { sound = c.in-Err.ensures.kept.sound; l
 pub returns-in-Err-clause-told : goal.returns-in-Err-clause-told
 returns-in-Err-clause-told g c = λ typed told drawn.
     let more : c.loop-left.left ≡ c.loop-left.left - 1 + 1 = omega (arith, c.loop-left-test.true) in
-    let here = less_left (given_by c.args.engine.now.layout c.args.dice.now) (state (machine c.args.engine.now) typed 0 []) c.args.steps c.loop-left.left (c.loop-left.left - 1) (scene (machine c.args.engine.now) 0 c.args.begun.now (g.S.Source.view c.args.source.now).left (g.K.Sink.view c.args.sink.now)) (scene (machine c.loop-left.engine) c.loop-left.drawn c.loop-left.begun (g.S.Source.view c.loop-left.source).left (g.K.Sink.view c.loop-left.sink)) more (c.loop-left.invariant.going typed told) in
+    let here = less_left (given_by (layout_in c.args.engine.now) c.args.dice.now) (state (machine c.args.engine.now) typed 0 []) c.args.steps c.loop-left.left (c.loop-left.left - 1) (scene (machine c.args.engine.now) 0 c.args.begun.now (g.S.Source.view c.args.source.now).left (g.K.Sink.view c.args.sink.now)) (scene (machine c.loop-left.engine) c.loop-left.drawn c.loop-left.begun (g.S.Source.view c.loop-left.source).left (g.K.Sink.view c.loop-left.sink)) more (c.loop-left.invariant.going typed told) in
     let stepped = subst (λ (l : Layout). Advances (Err c.in-Err.fault) (given_by l c.args.dice.now) here.typed (scene (machine c.loop-left.engine) c.loop-left.drawn c.loop-left.begun (g.S.Source.view c.loop-left.source).left (g.K.Sink.view c.loop-left.sink)) (scene (machine c.advance.new.engine) c.advance.new.drawn c.advance.new.begun (g.S.Source.view c.advance.new.source).left (g.K.Sink.view c.advance.new.sink))) c.loop-left.invariant.kept.layout (c.in-Err.ensures.told here.typed here.left_is) in
-    run_failed (given_by c.args.engine.now.layout c.args.dice.now) (state (machine c.args.engine.now) typed 0 []) c.args.steps (c.loop-left.left - 1) (scene (machine c.args.engine.now) 0 c.args.begun.now (g.S.Source.view c.args.source.now).left (g.K.Sink.view c.args.sink.now)) (scene (machine c.loop-left.engine) c.loop-left.drawn c.loop-left.begun (g.S.Source.view c.loop-left.source).left (g.K.Sink.view c.loop-left.sink)) (scene (machine c.advance.new.engine) c.advance.new.drawn c.advance.new.begun (g.S.Source.view c.advance.new.source).left (g.K.Sink.view c.advance.new.sink)) drawn c.in-Err.fault here stepped
+    run_failed (given_by (layout_in c.args.engine.now) c.args.dice.now) (state (machine c.args.engine.now) typed 0 []) c.args.steps (c.loop-left.left - 1) (scene (machine c.args.engine.now) 0 c.args.begun.now (g.S.Source.view c.args.source.now).left (g.K.Sink.view c.args.sink.now)) (scene (machine c.loop-left.engine) c.loop-left.drawn c.loop-left.begun (g.S.Source.view c.loop-left.source).left (g.K.Sink.view c.loop-left.sink)) (scene (machine c.advance.new.engine) c.advance.new.drawn c.advance.new.begun (g.S.Source.view c.advance.new.source).left (g.K.Sink.view c.advance.new.sink)) drawn c.in-Err.fault here stepped
 
 pub returns-in-Err-clause-untold : goal.returns-in-Err-clause-untold
 returns-in-Err-clause-untold g c = λ drawn.
     let source = c.in-Err.ensures.untold [] tt in
     let before = c.loop-left.invariant.untold source.0 in
     let more : c.loop-left.left ≡ c.loop-left.left - 1 + 1 = omega (arith, c.loop-left-test.true) in
-    let here = less_left (given_by c.args.engine.now.layout c.args.dice.now) (state (machine c.args.engine.now) before.0 0 []) c.args.steps c.loop-left.left (c.loop-left.left - 1)
+    let here = less_left (given_by (layout_in c.args.engine.now) c.args.dice.now) (state (machine c.args.engine.now) before.0 0 []) c.args.steps c.loop-left.left (c.loop-left.left - 1)
     (scene (machine c.args.engine.now) 0 c.args.begun.now (Some before.0) (g.K.Sink.view c.args.sink.now))
     (scene (machine c.loop-left.engine) c.loop-left.drawn c.loop-left.begun (Some source.0) (g.K.Sink.view c.loop-left.sink)) more before.1 in
-    let same = typed_is (given_by c.args.engine.now.layout c.args.dice.now) (state (machine c.args.engine.now) before.0 0 []) c.args.steps (c.loop-left.left - 1 + 1) (scene (machine c.args.engine.now) 0 c.args.begun.now (Some before.0) (g.K.Sink.view c.args.sink.now)) (machine c.loop-left.engine) c.loop-left.drawn c.loop-left.begun source.0 (g.K.Sink.view c.loop-left.sink) here in
+    let same = typed_is (given_by (layout_in c.args.engine.now) c.args.dice.now) (state (machine c.args.engine.now) before.0 0 []) c.args.steps (c.loop-left.left - 1 + 1) (scene (machine c.args.engine.now) 0 c.args.begun.now (Some before.0) (g.K.Sink.view c.args.sink.now)) (machine c.loop-left.engine) c.loop-left.drawn c.loop-left.begun source.0 (g.K.Sink.view c.loop-left.sink) here in
     let laid = subst (λ (l : Layout). Advances (Err c.in-Err.fault) (given_by l c.args.dice.now) source.0
     (scene (machine c.loop-left.engine) c.loop-left.drawn c.loop-left.begun (Some source.0) (g.K.Sink.view c.loop-left.sink))
     (scene (machine c.advance.new.engine) c.advance.new.drawn c.advance.new.begun (Some []) (g.K.Sink.view c.advance.new.sink))) c.loop-left.invariant.kept.layout source.1 in
-    let stepped = subst (λ (typed : List ℕ). Advances (Err c.in-Err.fault) (given_by c.args.engine.now.layout c.args.dice.now) typed
+    let stepped = subst (λ (typed : List ℕ). Advances (Err c.in-Err.fault) (given_by (layout_in c.args.engine.now) c.args.dice.now) typed
     (scene (machine c.loop-left.engine) c.loop-left.drawn c.loop-left.begun (Some source.0) (g.K.Sink.view c.loop-left.sink))
     (scene (machine c.advance.new.engine) c.advance.new.drawn c.advance.new.begun (Some []) (g.K.Sink.view c.advance.new.sink))) same laid in (
       before.0,
       [],
-      run_failed (given_by c.args.engine.now.layout c.args.dice.now) (state (machine c.args.engine.now) before.0 0 []) c.args.steps (c.loop-left.left - 1)
+      run_failed (given_by (layout_in c.args.engine.now) c.args.dice.now) (state (machine c.args.engine.now) before.0 0 []) c.args.steps (c.loop-left.left - 1)
           (scene (machine c.args.engine.now) 0 c.args.begun.now (Some before.0) (g.K.Sink.view c.args.sink.now))
           (scene (machine c.loop-left.engine) c.loop-left.drawn c.loop-left.begun (Some source.0) (g.K.Sink.view c.loop-left.sink))
           (scene (machine c.advance.new.engine) c.advance.new.drawn c.advance.new.begun (Some []) (g.K.Sink.view c.advance.new.sink)) drawn c.in-Err.fault here stepped,
@@ -69,35 +69,35 @@ returns-in-Some-clause-kept g c = record { sound = c.in-Ok.ensures.kept.sound; l
 pub returns-in-Some-clause-told : goal.returns-in-Some-clause-told
 returns-in-Some-clause-told g c = λ typed told drawn.
     let more : c.loop-left.left ≡ c.loop-left.left - 1 + 1 = omega (arith, c.loop-left-test.true) in
-    let here = less_left (given_by c.args.engine.now.layout c.args.dice.now) (state (machine c.args.engine.now) typed 0 []) c.args.steps c.loop-left.left (c.loop-left.left - 1) (scene (machine c.args.engine.now) 0 c.args.begun.now (g.S.Source.view c.args.source.now).left (g.K.Sink.view c.args.sink.now)) (scene (machine c.loop-left.engine) c.loop-left.drawn c.loop-left.begun (g.S.Source.view c.loop-left.source).left (g.K.Sink.view c.loop-left.sink)) more (c.loop-left.invariant.going typed told) in
+    let here = less_left (given_by (layout_in c.args.engine.now) c.args.dice.now) (state (machine c.args.engine.now) typed 0 []) c.args.steps c.loop-left.left (c.loop-left.left - 1) (scene (machine c.args.engine.now) 0 c.args.begun.now (g.S.Source.view c.args.source.now).left (g.K.Sink.view c.args.sink.now)) (scene (machine c.loop-left.engine) c.loop-left.drawn c.loop-left.begun (g.S.Source.view c.loop-left.source).left (g.K.Sink.view c.loop-left.sink)) more (c.loop-left.invariant.going typed told) in
     let stepped = subst (λ (l : Layout). Advances (Ok c.in-Ok.halt) (given_by l c.args.dice.now) here.typed (scene (machine c.loop-left.engine) c.loop-left.drawn c.loop-left.begun (g.S.Source.view c.loop-left.source).left (g.K.Sink.view c.loop-left.sink)) (scene (machine c.advance.new.engine) c.advance.new.drawn c.advance.new.begun (g.S.Source.view c.advance.new.source).left (g.K.Sink.view c.advance.new.sink))) c.loop-left.invariant.kept.layout (c.in-Ok.ensures.told here.typed here.left_is) in
-    let ended = subst (λ (h : Option Halt). Advances (Ok h) (given_by c.args.engine.now.layout c.args.dice.now) here.typed (scene (machine c.loop-left.engine) c.loop-left.drawn c.loop-left.begun (g.S.Source.view c.loop-left.source).left (g.K.Sink.view c.loop-left.sink)) (scene (machine c.advance.new.engine) c.advance.new.drawn c.advance.new.begun (g.S.Source.view c.advance.new.source).left (g.K.Sink.view c.advance.new.sink))) c.in-Some.is stepped in
-    subst (λ (end : ZEnd). RanTo (zrun (given_by c.args.engine.now.layout c.args.dice.now) c.args.steps (state (machine c.args.engine.now) typed 0 [])) end (scene (machine c.args.engine.now) 0 c.args.begun.now (g.S.Source.view c.args.source.now).left (g.K.Sink.view c.args.sink.now)) (scene (machine c.advance.new.engine) drawn c.advance.new.begun (g.S.Source.view c.advance.new.source).left (g.K.Sink.view c.advance.new.sink))) (sym c.end_as.ensures) (run_ended (given_by c.args.engine.now.layout c.args.dice.now) (state (machine c.args.engine.now) typed 0 []) c.args.steps (c.loop-left.left - 1) (scene (machine c.args.engine.now) 0 c.args.begun.now (g.S.Source.view c.args.source.now).left (g.K.Sink.view c.args.sink.now)) (scene (machine c.loop-left.engine) c.loop-left.drawn c.loop-left.begun (g.S.Source.view c.loop-left.source).left (g.K.Sink.view c.loop-left.sink)) (scene (machine c.advance.new.engine) c.advance.new.drawn c.advance.new.begun (g.S.Source.view c.advance.new.source).left (g.K.Sink.view c.advance.new.sink)) drawn c.in-Some.halt here ended)
+    let ended = subst (λ (h : Option Halt). Advances (Ok h) (given_by (layout_in c.args.engine.now) c.args.dice.now) here.typed (scene (machine c.loop-left.engine) c.loop-left.drawn c.loop-left.begun (g.S.Source.view c.loop-left.source).left (g.K.Sink.view c.loop-left.sink)) (scene (machine c.advance.new.engine) c.advance.new.drawn c.advance.new.begun (g.S.Source.view c.advance.new.source).left (g.K.Sink.view c.advance.new.sink))) c.in-Some.is stepped in
+    subst (λ (end : ZEnd). RanTo (zrun (given_by (layout_in c.args.engine.now) c.args.dice.now) c.args.steps (state (machine c.args.engine.now) typed 0 [])) end (scene (machine c.args.engine.now) 0 c.args.begun.now (g.S.Source.view c.args.source.now).left (g.K.Sink.view c.args.sink.now)) (scene (machine c.advance.new.engine) drawn c.advance.new.begun (g.S.Source.view c.advance.new.source).left (g.K.Sink.view c.advance.new.sink))) (sym c.end_as.ensures) (run_ended (given_by (layout_in c.args.engine.now) c.args.dice.now) (state (machine c.args.engine.now) typed 0 []) c.args.steps (c.loop-left.left - 1) (scene (machine c.args.engine.now) 0 c.args.begun.now (g.S.Source.view c.args.source.now).left (g.K.Sink.view c.args.sink.now)) (scene (machine c.loop-left.engine) c.loop-left.drawn c.loop-left.begun (g.S.Source.view c.loop-left.source).left (g.K.Sink.view c.loop-left.sink)) (scene (machine c.advance.new.engine) c.advance.new.drawn c.advance.new.begun (g.S.Source.view c.advance.new.source).left (g.K.Sink.view c.advance.new.sink)) drawn c.in-Some.halt here ended)
 
 pub returns-in-Some-clause-untold : goal.returns-in-Some-clause-untold
 returns-in-Some-clause-untold g c = λ drawn.
     let source = c.in-Ok.ensures.untold [] (nothing_left {E = Fault} (Ok c.in-Ok.halt)) in
     let before = c.loop-left.invariant.untold source.0 in
     let more : c.loop-left.left ≡ c.loop-left.left - 1 + 1 = omega (arith, c.loop-left-test.true) in
-    let here = less_left (given_by c.args.engine.now.layout c.args.dice.now) (state (machine c.args.engine.now) before.0 0 []) c.args.steps c.loop-left.left (c.loop-left.left - 1)
+    let here = less_left (given_by (layout_in c.args.engine.now) c.args.dice.now) (state (machine c.args.engine.now) before.0 0 []) c.args.steps c.loop-left.left (c.loop-left.left - 1)
     (scene (machine c.args.engine.now) 0 c.args.begun.now (Some before.0) (g.K.Sink.view c.args.sink.now))
     (scene (machine c.loop-left.engine) c.loop-left.drawn c.loop-left.begun (Some source.0) (g.K.Sink.view c.loop-left.sink)) more before.1 in
-    let same = typed_is (given_by c.args.engine.now.layout c.args.dice.now) (state (machine c.args.engine.now) before.0 0 []) c.args.steps (c.loop-left.left - 1 + 1) (scene (machine c.args.engine.now) 0 c.args.begun.now (Some before.0) (g.K.Sink.view c.args.sink.now)) (machine c.loop-left.engine) c.loop-left.drawn c.loop-left.begun source.0 (g.K.Sink.view c.loop-left.sink) here in
+    let same = typed_is (given_by (layout_in c.args.engine.now) c.args.dice.now) (state (machine c.args.engine.now) before.0 0 []) c.args.steps (c.loop-left.left - 1 + 1) (scene (machine c.args.engine.now) 0 c.args.begun.now (Some before.0) (g.K.Sink.view c.args.sink.now)) (machine c.loop-left.engine) c.loop-left.drawn c.loop-left.begun source.0 (g.K.Sink.view c.loop-left.sink) here in
     let laid = subst (λ (l : Layout). Advances (Ok c.in-Ok.halt) (given_by l c.args.dice.now) source.0
     (scene (machine c.loop-left.engine) c.loop-left.drawn c.loop-left.begun (Some source.0) (g.K.Sink.view c.loop-left.sink))
     (scene (machine c.advance.new.engine) c.advance.new.drawn c.advance.new.begun (Some []) (g.K.Sink.view c.advance.new.sink))) c.loop-left.invariant.kept.layout source.1 in
-    let stepped = subst (λ (typed : List ℕ). Advances (Ok c.in-Ok.halt) (given_by c.args.engine.now.layout c.args.dice.now) typed
+    let stepped = subst (λ (typed : List ℕ). Advances (Ok c.in-Ok.halt) (given_by (layout_in c.args.engine.now) c.args.dice.now) typed
     (scene (machine c.loop-left.engine) c.loop-left.drawn c.loop-left.begun (Some source.0) (g.K.Sink.view c.loop-left.sink))
     (scene (machine c.advance.new.engine) c.advance.new.drawn c.advance.new.begun (Some []) (g.K.Sink.view c.advance.new.sink))) same laid in
-    let ended = subst (λ (h : Option Halt). Advances (Ok h) (given_by c.args.engine.now.layout c.args.dice.now) here.typed
+    let ended = subst (λ (h : Option Halt). Advances (Ok h) (given_by (layout_in c.args.engine.now) c.args.dice.now) here.typed
     (scene (machine c.loop-left.engine) c.loop-left.drawn c.loop-left.begun (Some source.0) (g.K.Sink.view c.loop-left.sink))
     (scene (machine c.advance.new.engine) c.advance.new.drawn c.advance.new.begun (Some []) (g.K.Sink.view c.advance.new.sink))) c.in-Some.is stepped in (
       before.0,
       [],
-      subst (λ (end : ZEnd). RanTo (zrun (given_by c.args.engine.now.layout c.args.dice.now) c.args.steps (state (machine c.args.engine.now) before.0 0 [])) end
+      subst (λ (end : ZEnd). RanTo (zrun (given_by (layout_in c.args.engine.now) c.args.dice.now) c.args.steps (state (machine c.args.engine.now) before.0 0 [])) end
           (scene (machine c.args.engine.now) 0 c.args.begun.now (Some before.0) (g.K.Sink.view c.args.sink.now))
           (scene (machine c.advance.new.engine) drawn c.advance.new.begun (Some []) (g.K.Sink.view c.advance.new.sink))) (sym c.end_as.ensures)
-          (run_ended (given_by c.args.engine.now.layout c.args.dice.now) (state (machine c.args.engine.now) before.0 0 []) c.args.steps (c.loop-left.left - 1)
+          (run_ended (given_by (layout_in c.args.engine.now) c.args.dice.now) (state (machine c.args.engine.now) before.0 0 []) c.args.steps (c.loop-left.left - 1)
           (scene (machine c.args.engine.now) 0 c.args.begun.now (Some before.0) (g.K.Sink.view c.args.sink.now))
           (scene (machine c.loop-left.engine) c.loop-left.drawn c.loop-left.begun (Some source.0) (g.K.Sink.view c.loop-left.sink))
           (scene (machine c.advance.new.engine) c.advance.new.drawn c.advance.new.begun (Some []) (g.K.Sink.view c.advance.new.sink)) drawn c.in-Some.halt here ended),
@@ -114,29 +114,29 @@ loop-left-preserved g c = record {
   writes = omega (arith, c.loop-left.invariant.writes, c.in-Ok.ensures.causes.writes);
   going = λ typed told.
       let more : c.loop-left.left ≡ c.loop-left.left - 1 + 1 = omega (arith, c.loop-left-test.true) in
-      let here = less_left (given_by c.args.engine.now.layout c.args.dice.now) (state (machine c.args.engine.now) typed 0 []) c.args.steps c.loop-left.left (c.loop-left.left - 1) (scene (machine c.args.engine.now) 0 c.args.begun.now (g.S.Source.view c.args.source.now).left (g.K.Sink.view c.args.sink.now)) (scene (machine c.loop-left.engine) c.loop-left.drawn c.loop-left.begun (g.S.Source.view c.loop-left.source).left (g.K.Sink.view c.loop-left.sink)) more (c.loop-left.invariant.going typed told) in
+      let here = less_left (given_by (layout_in c.args.engine.now) c.args.dice.now) (state (machine c.args.engine.now) typed 0 []) c.args.steps c.loop-left.left (c.loop-left.left - 1) (scene (machine c.args.engine.now) 0 c.args.begun.now (g.S.Source.view c.args.source.now).left (g.K.Sink.view c.args.sink.now)) (scene (machine c.loop-left.engine) c.loop-left.drawn c.loop-left.begun (g.S.Source.view c.loop-left.source).left (g.K.Sink.view c.loop-left.sink)) more (c.loop-left.invariant.going typed told) in
       let stepped = subst (λ (l : Layout). Advances (Ok c.in-Ok.halt) (given_by l c.args.dice.now) here.typed (scene (machine c.loop-left.engine) c.loop-left.drawn c.loop-left.begun (g.S.Source.view c.loop-left.source).left (g.K.Sink.view c.loop-left.sink)) (scene (machine c.advance.new.engine) c.advance.new.drawn c.advance.new.begun (g.S.Source.view c.advance.new.source).left (g.K.Sink.view c.advance.new.sink))) c.loop-left.invariant.kept.layout (c.in-Ok.ensures.told here.typed here.left_is) in
-      let on = subst (λ (h : Option Halt). Advances (Ok h) (given_by c.args.engine.now.layout c.args.dice.now) here.typed (scene (machine c.loop-left.engine) c.loop-left.drawn c.loop-left.begun (g.S.Source.view c.loop-left.source).left (g.K.Sink.view c.loop-left.sink)) (scene (machine c.advance.new.engine) c.advance.new.drawn c.advance.new.begun (g.S.Source.view c.advance.new.source).left (g.K.Sink.view c.advance.new.sink))) c.in-None.is stepped in
-      going_on (given_by c.args.engine.now.layout c.args.dice.now) (state (machine c.args.engine.now) typed 0 []) c.args.steps (c.loop-left.left - 1) (scene (machine c.args.engine.now) 0 c.args.begun.now (g.S.Source.view c.args.source.now).left (g.K.Sink.view c.args.sink.now)) (scene (machine c.loop-left.engine) c.loop-left.drawn c.loop-left.begun (g.S.Source.view c.loop-left.source).left (g.K.Sink.view c.loop-left.sink)) (scene (machine c.advance.new.engine) c.advance.new.drawn c.advance.new.begun (g.S.Source.view c.advance.new.source).left (g.K.Sink.view c.advance.new.sink)) here on;
+      let on = subst (λ (h : Option Halt). Advances (Ok h) (given_by (layout_in c.args.engine.now) c.args.dice.now) here.typed (scene (machine c.loop-left.engine) c.loop-left.drawn c.loop-left.begun (g.S.Source.view c.loop-left.source).left (g.K.Sink.view c.loop-left.sink)) (scene (machine c.advance.new.engine) c.advance.new.drawn c.advance.new.begun (g.S.Source.view c.advance.new.source).left (g.K.Sink.view c.advance.new.sink))) c.in-None.is stepped in
+      going_on (given_by (layout_in c.args.engine.now) c.args.dice.now) (state (machine c.args.engine.now) typed 0 []) c.args.steps (c.loop-left.left - 1) (scene (machine c.args.engine.now) 0 c.args.begun.now (g.S.Source.view c.args.source.now).left (g.K.Sink.view c.args.sink.now)) (scene (machine c.loop-left.engine) c.loop-left.drawn c.loop-left.begun (g.S.Source.view c.loop-left.source).left (g.K.Sink.view c.loop-left.sink)) (scene (machine c.advance.new.engine) c.advance.new.drawn c.advance.new.begun (g.S.Source.view c.advance.new.source).left (g.K.Sink.view c.advance.new.sink)) here on;
   untold = λ left.
       let source = c.in-Ok.ensures.untold left (subst (λ (h : Option Halt). MayBeLeft {E = Fault} (Ok h) left) (sym c.in-None.is) tt) in
       let before = c.loop-left.invariant.untold source.0 in
       let more : c.loop-left.left ≡ c.loop-left.left - 1 + 1 = omega (arith, c.loop-left-test.true) in
-      let here = less_left (given_by c.args.engine.now.layout c.args.dice.now) (state (machine c.args.engine.now) before.0 0 []) c.args.steps c.loop-left.left (c.loop-left.left - 1)
+      let here = less_left (given_by (layout_in c.args.engine.now) c.args.dice.now) (state (machine c.args.engine.now) before.0 0 []) c.args.steps c.loop-left.left (c.loop-left.left - 1)
       (scene (machine c.args.engine.now) 0 c.args.begun.now (Some before.0) (g.K.Sink.view c.args.sink.now))
       (scene (machine c.loop-left.engine) c.loop-left.drawn c.loop-left.begun (Some source.0) (g.K.Sink.view c.loop-left.sink)) more before.1 in
-      let same = typed_is (given_by c.args.engine.now.layout c.args.dice.now) (state (machine c.args.engine.now) before.0 0 []) c.args.steps (c.loop-left.left - 1 + 1) (scene (machine c.args.engine.now) 0 c.args.begun.now (Some before.0) (g.K.Sink.view c.args.sink.now)) (machine c.loop-left.engine) c.loop-left.drawn c.loop-left.begun source.0 (g.K.Sink.view c.loop-left.sink) here in
+      let same = typed_is (given_by (layout_in c.args.engine.now) c.args.dice.now) (state (machine c.args.engine.now) before.0 0 []) c.args.steps (c.loop-left.left - 1 + 1) (scene (machine c.args.engine.now) 0 c.args.begun.now (Some before.0) (g.K.Sink.view c.args.sink.now)) (machine c.loop-left.engine) c.loop-left.drawn c.loop-left.begun source.0 (g.K.Sink.view c.loop-left.sink) here in
       let laid = subst (λ (l : Layout). Advances (Ok c.in-Ok.halt) (given_by l c.args.dice.now) source.0
       (scene (machine c.loop-left.engine) c.loop-left.drawn c.loop-left.begun (Some source.0) (g.K.Sink.view c.loop-left.sink))
       (scene (machine c.advance.new.engine) c.advance.new.drawn c.advance.new.begun (Some left) (g.K.Sink.view c.advance.new.sink))) c.loop-left.invariant.kept.layout source.1 in
-      let stepped = subst (λ (typed : List ℕ). Advances (Ok c.in-Ok.halt) (given_by c.args.engine.now.layout c.args.dice.now) typed
+      let stepped = subst (λ (typed : List ℕ). Advances (Ok c.in-Ok.halt) (given_by (layout_in c.args.engine.now) c.args.dice.now) typed
       (scene (machine c.loop-left.engine) c.loop-left.drawn c.loop-left.begun (Some source.0) (g.K.Sink.view c.loop-left.sink))
       (scene (machine c.advance.new.engine) c.advance.new.drawn c.advance.new.begun (Some left) (g.K.Sink.view c.advance.new.sink))) same laid in
-      let on = subst (λ (h : Option Halt). Advances (Ok h) (given_by c.args.engine.now.layout c.args.dice.now) here.typed
+      let on = subst (λ (h : Option Halt). Advances (Ok h) (given_by (layout_in c.args.engine.now) c.args.dice.now) here.typed
       (scene (machine c.loop-left.engine) c.loop-left.drawn c.loop-left.begun (Some source.0) (g.K.Sink.view c.loop-left.sink))
       (scene (machine c.advance.new.engine) c.advance.new.drawn c.advance.new.begun (Some left) (g.K.Sink.view c.advance.new.sink))) c.in-None.is stepped in (
         before.0,
-        going_on (given_by c.args.engine.now.layout c.args.dice.now) (state (machine c.args.engine.now) before.0 0 []) c.args.steps (c.loop-left.left - 1)
+        going_on (given_by (layout_in c.args.engine.now) c.args.dice.now) (state (machine c.args.engine.now) before.0 0 []) c.args.steps (c.loop-left.left - 1)
             (scene (machine c.args.engine.now) 0 c.args.begun.now (Some before.0) (g.K.Sink.view c.args.sink.now))
             (scene (machine c.loop-left.engine) c.loop-left.drawn c.loop-left.begun (Some source.0) (g.K.Sink.view c.loop-left.sink))
             (scene (machine c.advance.new.engine) c.advance.new.drawn c.advance.new.begun (Some left) (g.K.Sink.view c.advance.new.sink)) here on,
@@ -149,7 +149,7 @@ returns-clause-kept g c = c.loop-left.invariant.kept
 pub returns-clause-told : goal.returns-clause-told
 returns-clause-told g c = λ typed told drawn.
     let none : c.loop-left.left ≡ 0 = omega (arith, c.loop-left-test.false) in
-    run_limit (given_by c.args.engine.now.layout c.args.dice.now) (state (machine c.args.engine.now) typed 0 []) c.args.steps (scene (machine c.args.engine.now) 0 c.args.begun.now (g.S.Source.view c.args.source.now).left (g.K.Sink.view c.args.sink.now)) (scene (machine c.loop-left.engine) c.loop-left.drawn c.loop-left.begun (g.S.Source.view c.loop-left.source).left (g.K.Sink.view c.loop-left.sink)) drawn (subst (λ (k : ℕ). Going (given_by c.args.engine.now.layout c.args.dice.now) (state (machine c.args.engine.now) typed 0 []) c.args.steps k (scene (machine c.args.engine.now) 0 c.args.begun.now (g.S.Source.view c.args.source.now).left (g.K.Sink.view c.args.sink.now)) (scene (machine c.loop-left.engine) c.loop-left.drawn c.loop-left.begun (g.S.Source.view c.loop-left.source).left (g.K.Sink.view c.loop-left.sink))) none (c.loop-left.invariant.going typed told))
+    run_limit (given_by (layout_in c.args.engine.now) c.args.dice.now) (state (machine c.args.engine.now) typed 0 []) c.args.steps (scene (machine c.args.engine.now) 0 c.args.begun.now (g.S.Source.view c.args.source.now).left (g.K.Sink.view c.args.sink.now)) (scene (machine c.loop-left.engine) c.loop-left.drawn c.loop-left.begun (g.S.Source.view c.loop-left.source).left (g.K.Sink.view c.loop-left.sink)) drawn (subst (λ (k : ℕ). Going (given_by (layout_in c.args.engine.now) c.args.dice.now) (state (machine c.args.engine.now) typed 0 []) c.args.steps k (scene (machine c.args.engine.now) 0 c.args.begun.now (g.S.Source.view c.args.source.now).left (g.K.Sink.view c.args.sink.now)) (scene (machine c.loop-left.engine) c.loop-left.drawn c.loop-left.begun (g.S.Source.view c.loop-left.source).left (g.K.Sink.view c.loop-left.sink))) none (c.loop-left.invariant.going typed told))
 
 pub returns-clause-untold : goal.returns-clause-untold
 returns-clause-untold g c = λ drawn.
@@ -157,10 +157,10 @@ returns-clause-untold g c = λ drawn.
     let before = c.loop-left.invariant.untold [] in (
       before.0,
       [],
-      run_limit (given_by c.args.engine.now.layout c.args.dice.now) (state (machine c.args.engine.now) before.0 0 []) c.args.steps
+      run_limit (given_by (layout_in c.args.engine.now) c.args.dice.now) (state (machine c.args.engine.now) before.0 0 []) c.args.steps
           (scene (machine c.args.engine.now) 0 c.args.begun.now (Some before.0) (g.K.Sink.view c.args.sink.now))
           (scene (machine c.loop-left.engine) c.loop-left.drawn c.loop-left.begun (Some []) (g.K.Sink.view c.loop-left.sink)) drawn
-          (subst (λ (k : ℕ). Going (given_by c.args.engine.now.layout c.args.dice.now) (state (machine c.args.engine.now) before.0 0 []) c.args.steps k
+          (subst (λ (k : ℕ). Going (given_by (layout_in c.args.engine.now) c.args.dice.now) (state (machine c.args.engine.now) before.0 0 []) c.args.steps k
           (scene (machine c.args.engine.now) 0 c.args.begun.now (Some before.0) (g.K.Sink.view c.args.sink.now))
           (scene (machine c.loop-left.engine) c.loop-left.drawn c.loop-left.begun (Some []) (g.K.Sink.view c.loop-left.sink))) none before.1),
     )

@@ -35,6 +35,8 @@ returns-clause-kept c =
         top = omega arith;
         room = omega (arith, length-set c.args.self.now.frames.items c.args.self.now.depth c.args.self.now.here);
         depth = omega arith;
+        sixteen = c.requires.sound.sixteen;
+        opened = c.requires.sound.opened;
       };
       layout = refl;
       memory = refl;

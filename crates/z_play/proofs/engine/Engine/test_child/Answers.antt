@@ -1,0 +1,4 @@
+use Rattle.z_play.proofs.engine.Engine.test_child.Goals as goal
+
+pub returns-clause-done : goal.returns-clause-done
+returns-clause-done c = rw (c.is_child-test.ensures, c.objects.ensures) at c.test_or.ensures.tested
