@@ -17,10 +17,10 @@ use Rattle.dg_interp.proofs.Links.{SameBy, stretch_same}
 use Rattle.dg_interp.proofs.Turns.{all_first, all_rest}
 
 pub kept_here : (s : Store) → Kept s s
-kept_here s = record { values = λ r v e. e; places = omega arith; heap_limit = refl; trail_limit = refl; grows = refl }
+kept_here s = record { values = λ r v e. e; places = omega arith; words = λ at w e. e; heap_limit = refl; trail_limit = refl; grows = refl }
 
 pub kept_on : (s t u : Store) → Kept s t → Kept t u → Kept s u
-kept_on s t u h k = record { values = λ r v e. k.values r v (h.values r v e); places = omega (arith, h.places, k.places); heap_limit = k.heap_limit ∙ h.heap_limit; trail_limit = k.trail_limit ∙ h.trail_limit; grows = k.grows ∙ h.grows }
+kept_on s t u h k = record { values = λ r v e. k.values r v (h.values r v e); places = omega (arith, h.places, k.places); words = λ at w e. k.words at w (h.words at w e); heap_limit = k.heap_limit ∙ h.heap_limit; trail_limit = k.trail_limit ∙ h.trail_limit; grows = k.grows ∙ h.grows }
 
 told_from : (o p : Option Value) → IsTold o → ((v : Value) → o ≡ Some v → p ≡ Some v) → p ≡ o
 told_from None p h f = absurd h

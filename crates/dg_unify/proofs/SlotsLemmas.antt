@@ -10,7 +10,7 @@ use Rattle.dg_meaning.specs.Unifiers.{binding_of}
 use Rattle.dg_meaning.proofs.LookUps.{none_unbound, unbound_none, LooksUp, looks_up}
 use Rattle.dg_unify.specs.Store.{or_nil, IsTold}
 use Rattle.dg_unify.specs.Links.{to_of}
-use Rattle.dg_unify.specs.Slots.{pair_told, and_part, and_letter, captured_slot, letter_slot, captured_in, letters_in, closure_told, word_told, slot_value, ref_value, label_at, value_at, value_in, subst_of, AreTold, IsFew, Begins, is_marked, is_constant, Fits, captured_slots, letter_slots}
+use Rattle.dg_unify.specs.Slots.{pair_told, and_part, and_letter, captured_slot, letter_slot, captured_in, letters_in, closure_told, word_told, slot_value, ref_value, label_at, value_at, value_in, subst_of, AreTold, IsFew, Begins, is_marked, is_constant, Fits, captured_slots, letter_slots, word_slots}
 use Rattle.dg_unify.specs.declared.bindings.Ref.{Ref}
 use Rattle.dg_unify.specs.declared.slots.Slot.{Slot}
 use Rattle.dg_unify.specs.declared.slots.Slot.TheVariants as slot
@@ -289,6 +289,39 @@ pair_marks slots a b k is = λ h t e.
     let ek : k ≡ true = cc in
     let c = and_parts (is_constant slots a) (is_constant slots b) (sym is ∙ ek) in
     (ap (is_constant slots) (sym ea) ∙ c.0, ap (is_constant slots) (sym eb) ∙ c.1)
+
+-- slots that begin nothing
+pub fits_inner : (slots extra : List Slot) (ls : List Link) (vars : ℕ) → ArePlain extra → AreInner extra → Fits slots ls vars → length slots + length extra ≤ 2147483648 → Fits (slots ++ extra) ls vars
+fits_inner slots extra ls vars none inner b le = record {
+  sound = rw (subst_more slots extra ls b.told) b.sound;
+  told = told_more slots extra ls b.told;
+  once = b.once;
+  below = λ i n h. b.below i n (old_var slots extra none i n h);
+  few = λ i y h. elim (get_either slots extra i y h) [ inl e ↦ b.few i y e | inr e ↦ plain_few y (plain_at extra none e.0 y e.2) ];
+  rising = λ i j m n hi hj lt. b.rising i j m n (old_var slots extra none i m hi) (old_var slots extra none j n hj) lt;
+  whole = λ i y h begins. elim (get_either slots extra i y h) [
+    | inl e ↦ some_told (value_in (slots ++ extra) i) (or_nil (value_in slots i)) (in_more slots extra i (or_nil (value_in slots i)) (option_told (value_in slots i) (b.whole i y e begins)))
+    | inr e ↦ absurd (inner_at extra inner e.0 y e.2 begins)
+  ];
+  constant = λ i h t e.
+      let c : (is_constant slots h ≡ true) × (is_constant slots t ≡ true) =
+      elim (get_either slots extra i (slot.Pair h t true) e) [ inl k ↦ b.constant i h t k | inr k ↦ absurd (inner_at extra inner k.0 (slot.Pair h t true) k.2 tt) ] in
+      (constant_more slots extra h c.0, constant_more slots extra t c.1);
+  room = omega (arith, length-append slots extra);
+  fewer = omega (arith, length-append slots extra, b.fewer);
+}
+
+pub plain_words : (ws : List ℕ) → ArePlain (word_slots ws)
+plain_words [] = tt
+plain_words (w ∷ ws) = (tt, plain_words ws)
+
+pub inner_words : (ws : List ℕ) → AreInner (word_slots ws)
+inner_words [] = tt
+inner_words (w ∷ ws) = (λ h. h, inner_words ws)
+
+pub words_length : (ws : List ℕ) → length (word_slots ws) ≡ length ws
+words_length [] = refl
+words_length (w ∷ ws) = ap suc (words_length ws)
 
 pub fits_more : (slots extra : List Slot) (x : Slot) (ls : List Link) (vars : ℕ) → ArePlain (x ∷ extra) → AreInner extra → IsTold (value_in (slots ++ x ∷ extra) (length slots)) → MarksRightly slots x → Fits slots ls vars → length slots + length (x ∷ extra) ≤ 2147483648 → Fits (slots ++ x ∷ extra) ls vars
 fits_more slots extra x ls vars none inner is_told marks b le = record {

@@ -24,12 +24,13 @@ holds_told s r h = option_told (s.value r) h
 -- ## What a call keeps
 
 pub kept_same : (s : Store) → Kept s s
-kept_same s = record { values = λ r v h. h; places = omega arith; heap_limit = refl; trail_limit = refl; grows = refl }
+kept_same s = record { values = λ r v h. h; places = omega arith; words = λ at w h. h; heap_limit = refl; trail_limit = refl; grows = refl }
 
 pub kept_on : (s t u : Store) → Kept s t → Kept t u → Kept s u
 kept_on s t u k l = record {
   values = λ r v h. l.values r v (k.values r v h);
   places = omega (arith, k.places, l.places);
+  words = λ at w h. l.words at w (k.words at w h);
   heap_limit = l.heap_limit ∙ k.heap_limit;
   trail_limit = l.trail_limit ∙ k.trail_limit;
   grows = l.grows ∙ k.grows;

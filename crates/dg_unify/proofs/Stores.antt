@@ -1,13 +1,14 @@
 -- What a call leaves of a store that keeps slots and bindings, whether it grows or not.
-use Rattle.std.proofs.Common.{◌≡◌, ℕ, suc, ◌+◌, ◌<◌, ◌≤◌, List, [], ◌∷◌, ◌++◌, Bool, refl, sym, ap, ◌∙◌, arith, subst, Some, None, length, take, reverse, length-append, length-take, append-nil, get_or, All, Result, Ok, Err, MatchResult}
+use Rattle.std.proofs.Common.{◌≡◌, ℕ, zero, suc, ◌+◌, ◌<◌, ◌≤◌, List, [], ◌∷◌, ◌++◌, Bool, refl, sym, ap, ◌∙◌, arith, subst, Some, None, length, take, reverse, length-append, length-take, append-nil, append_assoc, get_or, All, Result, Ok, Err, MatchResult}
+use Rattle.std.specs.List.{slice_get}
 use Rattle.std.proofs.lemmas.List.{take_all, take-take, take-append-le}
 use Rattle.dg_meaning.specs.Values.{Value, Var, Node, Unknown, Closure, leaf, pair}
 use Rattle.dg_meaning.specs.Substitutions.{Substitution, walk, FitsFront}
 use Rattle.dg_meaning.proofs.Walks.{walked}
-use Rattle.dg_unify.specs.Store.{Store, Saved, or_nil, IsTold, Kept, Fresh, Made, MayBind, Bound, TrailFull, trail_for, Back}
+use Rattle.dg_unify.specs.Store.{Store, Saved, or_nil, IsTold, Kept, Fresh, Made, WordsAt, Blocked, MayBind, Bound, TrailFull, trail_for, Back}
 use Rattle.dg_unify.specs.declared.bindings.Full.{Full}
 use Rattle.dg_unify.specs.Links.{to_of}
-use Rattle.dg_unify.specs.Slots.{value_in, Fields, AreSound, store_of, fields_at, GivesBack, Saves, Stand, captured_slots, letter_slots}
+use Rattle.dg_unify.specs.Slots.{value_in, Fields, AreSound, store_of, fields_at, GivesBack, Saves, Stand, word_slot, captured_slots, letter_slots, word_slots}
 use Rattle.dg_unify.specs.Ends.{subst_in, told_in, EndsAt, MayLink}
 use Rattle.dg_unify.specs.declared.bindings.Ref.{Ref}
 use Rattle.dg_unify.specs.declared.bindings.Mark.{Mark}
@@ -16,7 +17,7 @@ use Rattle.dg_unify.specs.declared.slots.Slot.TheVariants as slot
 use Rattle.dg_unify.specs.declared.slots.Link.{Link}
 use Rattle.dg_unify.specs.Laws.{place_of_var}
 use Rattle.dg_unify.proofs.Lists.{reverse_snoc}
-use Rattle.dg_unify.proofs.SlotsLemmas.{in_more, subst_more, unbound_is_none, some_told, ArePlain, AreInner, MarksRightly, fits_more, fits_var, fits_link, read_is, new_slot, new_pair, new_closure, new_word, values_of, each_told}
+use Rattle.dg_unify.proofs.SlotsLemmas.{in_more, subst_more, unbound_is_none, some_told, ArePlain, AreInner, MarksRightly, fits_more, fits_inner, plain_words, inner_words, words_length, fits_var, fits_link, read_is, new_slot, new_pair, new_closure, new_word, values_of, each_told}
 
 -- ## More of what it keeps
 
@@ -33,10 +34,16 @@ grown_slots f f' extra es el eh et = record { slots = es; log = el ∙ sym (appe
 pub grown_links : (f f' : Fields) (links : List Link) → f'.slots ≡ f.slots → f'.log ≡ f.log ++ links → f'.heap_limit ≡ f.heap_limit → f'.trail_limit ≡ f.trail_limit → Grown f f' [] links
 grown_links f f' links es el eh et = record { slots = es ∙ sym (append-nil f.slots); log = el; heap_limit = eh; trail_limit = et }
 
+word_more : (slots extra : List Slot) (at w : ℕ) → word_slot (slice_get slots at) ≡ Some w → word_slot (slice_get (slots ++ extra) at) ≡ Some w
+word_more [] extra at w h = absurd (cc)
+word_more (x ∷ slots) extra zero w h = h
+word_more (x ∷ slots) extra (suc at) w h = word_more slots extra at w h
+
 pub kept_grown : (grows : Bool) (f f' : Fields) (extra : List Slot) (links : List Link) → Grown f f' extra links → Kept (store_of grows f) (store_of grows f')
 kept_grown grows f f' extra links g = record {
   values = λ r v h. subst (λ xs. value_in xs r.0 ≡ Some v) (sym g.slots) (in_more f.slots extra r.0 v h);
   places = omega (arith, ap length g.slots, length-append f.slots extra);
+  words = λ at w h. subst (λ xs. word_slot (slice_get xs at) ≡ Some w) (sym g.slots) (word_more f.slots extra at w h);
   heap_limit = g.heap_limit;
   trail_limit = g.trail_limit;
   grows = refl;
@@ -89,7 +96,7 @@ stand_marked grows f f' m ms sound ef em h =
 pub undone_back : (grows : Bool) (f f' : Fields) (to : Mark) (s : Store) (ms : List Saved) → f' ≡ fields_at f to → Stand grows f (record { mark = to; store = s } ∷ ms) → Back s (store_of grows f')
 undone_back grows f f' to s ms e h =
     let is : s ≡ store_of grows f' = h.3.store ∙ ap (store_of grows) (sym e) in
-    subst (λ t. Back s t) is (record { state = refl; kept = record { values = λ r v k. k; places = omega arith; heap_limit = refl; trail_limit = refl; grows = refl } })
+    subst (λ t. Back s t) is (record { state = refl; kept = record { values = λ r v k. k; places = omega arith; words = λ at w k. k; heap_limit = refl; trail_limit = refl; grows = refl } })
 
 pub undone_stand : (grows : Bool) (f f' : Fields) (to : Mark) (s : Store) (ms : List Saved) → f' ≡ fields_at f to → Stand grows f (record { mark = to; store = s } ∷ ms) → Stand grows f' (record { mark = to; store = s } ∷ ms)
 undone_stand grows f f' to s ms e h =
@@ -115,11 +122,13 @@ subst_grown f f' extra sound g =
     let e : f'.log ≡ f.log = g.log ∙ append-nil f.log in
     rw (g.slots, e) (subst_more f.slots extra (reverse f.log) sound.fits.told)
 
-pub fresh_made : (grows : Bool) (f f' : Fields) (r : Ref) → AreSound f → Grown f f' (slot.Var f.vars ∷ []) [] → f'.vars ≡ f.vars + 1 → f'.since ≡ f.since → f'.heap ≡ f.heap + 1 → f'.trail ≡ f.trail → f.heap + 1 ≤ f.heap_limit → value_in f'.slots r.0 ≡ Some (Var f.vars) → Fresh (store_of grows f) (store_of grows f') r
-fresh_made grows f f' r sound g ev es eh et fits value = record {
+pub fresh_made : (grows : Bool) (f f' : Fields) (r : Ref) → AreSound f → Grown f f' (slot.Var f.vars ∷ []) [] → f'.vars ≡ f.vars + 1 → f'.since ≡ f.since → f'.heap ≡ f.heap + 1 → f'.trail ≡ f.trail → f.heap + 1 ≤ f.heap_limit → value_in f'.slots r.0 ≡ Some (Var f.vars) → r.0 ≡ length f.slots → Fresh (store_of grows f) (store_of grows f') r
+fresh_made grows f f' r sound g ev es eh et fits value place = record {
   fits = fits;
   state = state_is grows f' (f.vars + 1) (subst_in f) f.since (f.heap + 1) f.trail ev (subst_grown f f' (slot.Var f.vars ∷ []) sound g) es eh et;
   value = value;
+  place = place;
+  next = omega (arith, ap length g.slots, length-append f.slots (slot.Var f.vars ∷ []));
 }
 
 pub value_made : (grows : Bool) (f f' : Fields) (n : ℕ) (extra : List Slot) (r : Ref) (v : Value) → AreSound f → Grown f f' extra [] → f'.vars ≡ f.vars → f'.since ≡ f.since → f'.heap ≡ f.heap + n → f'.trail ≡ f.trail → f.heap + n ≤ f.heap_limit → value_in f'.slots r.0 ≡ Some v → Made n (store_of grows f) (store_of grows f') r v
@@ -240,3 +249,35 @@ bind_is_var grows f var to m x read other = other m.x (read_is f.slots var.0 (sl
 pub bind_made : (grows : Bool) (f : Fields) (new : Store) (n : ℕ) (to end : Ref) → EndsAt f to end → (x : ℕ) → x ≡ n → (r : Result (Unit {0}) Full) → MatchResult r (λ _. Bound (store_of grows f) new n (told_in f end)) (λ e. TrailFull (store_of grows f) new n e) → MatchResult r (λ _. Bound (store_of grows f) new x (told_in f to)) (λ e. TrailFull (store_of grows f) new x e)
 bind_made grows f new n to end ends x is (Ok done) h = rw is (bound_end grows f new n to end ends h)
 bind_made grows f new n to end ends x is (Err e) h = rw is h
+
+-- ## Blocks
+
+pub words_sound : (f f' : Fields) (ws : List ℕ) → AreSound f → Grown f f' (word_slots ws) [] → f'.vars ≡ f.vars → length f.slots + length ws ≤ 2147483648 →
+    f'.heap ≤ f'.heap_limit → f'.trail ≡ f.trail → AreSound f'
+words_sound f f' ws sound g ev room heap et =
+    let e : f'.log ≡ f.log = g.log ∙ append-nil f.log in
+    record {
+      fits = rw (g.slots, e, ev) (fits_inner f.slots (word_slots ws) (reverse f.log) f.vars (plain_words ws) (inner_words ws) sound.fits (omega (arith, room, words_length ws)));
+      heap_fits = heap;
+      trail_fits = omega (arith, et, g.trail_limit, sound.trail_fits);
+    }
+
+word_behind : (before behind : List Slot) (w : ℕ) → word_slot (slice_get (before ++ slot.Captured (record { 0 = w }) ∷ behind) (length before)) ≡ Some w
+word_behind [] behind w = refl
+word_behind (x ∷ before) behind w = word_behind before behind w
+
+words_here : (grows : Bool) (f : Fields) (before : List Slot) (ws : List ℕ) (at : ℕ) → f.slots ≡ before ++ word_slots ws → at ≡ length before → WordsAt (store_of grows f) at ws
+words_here grows f before [] at e is = tt
+words_here grows f before (w ∷ ws) at e is =
+    let x = slot.Captured (record { 0 = w }) in (
+      ap (λ k. word_slot (slice_get f.slots k)) is ∙ ap (λ l. word_slot (slice_get l (length before))) e ∙ word_behind before (word_slots ws) w,
+      words_here grows f (before ++ x ∷ []) ws (suc at) (e ∙ sym (append_assoc before (x ∷ []) (word_slots ws))) (omega (arith, is, length-append before (x ∷ []))),
+    )
+
+pub block_made : (grows : Bool) (f f' : Fields) (ws : List ℕ) (at : ℕ) → AreSound f → Grown f f' (word_slots ws) [] → f'.vars ≡ f.vars → f'.since ≡ f.since →
+    f'.heap ≡ f.heap + length ws → f'.trail ≡ f.trail → f.heap + length ws ≤ f.heap_limit → at ≡ length f.slots → Blocked ws (store_of grows f) (store_of grows f') at
+block_made grows f f' ws at sound g ev es eh et fits is = record {
+  charged = record { fits = fits; state = state_is grows f' f.vars (subst_in f) f.since (f.heap + length ws) f.trail ev (subst_grown f f' (word_slots ws) sound g) es eh et };
+  words = words_here grows f' f.slots ws at g.slots is;
+  place = is;
+}

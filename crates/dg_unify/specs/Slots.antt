@@ -45,6 +45,11 @@ abbrev pub captured_slot : (ℕ → Option Value) → Option Slot → Option Val
 captured_slot go (Some (slot.Captured r)) = go r.0
 captured_slot go other = None
 
+-- A word of a block: a number in a slot that begins no value.
+abbrev pub word_slot : Option Slot → Option ℕ
+word_slot (Some (slot.Captured r)) = Some r.0
+word_slot other = None
+
 -- A letter.
 abbrev pub letter_slot : Option Slot → Option ℕ
 letter_slot (Some (slot.Letter c)) = Some c
@@ -158,6 +163,7 @@ store_of grows f = record {
   state = record { vars = f.vars; subst = subst_of f.slots (reverse f.log); since = f.since; heap = f.heap; trail = f.trail };
   value = λ r. value_in f.slots r.0;
   places = length f.slots;
+  word = λ at. word_slot (slice_get f.slots at);
   heap_limit = f.heap_limit;
   trail_limit = f.trail_limit;
   grows = grows;
@@ -208,3 +214,8 @@ captured_slots (r ∷ rs) = slot.Captured r ∷ captured_slots rs
 abbrev pub letter_slots : List ℕ → List Slot
 letter_slots [] = []
 letter_slots (c ∷ cs) = slot.Letter c ∷ letter_slots cs
+
+-- The slots of a block's words.
+abbrev pub word_slots : List ℕ → List Slot
+word_slots [] = []
+word_slots (w ∷ ws) = slot.Captured (record { 0 = w }) ∷ word_slots ws

@@ -22,11 +22,13 @@ pub record State : Type 0 where
   pub heap : ℕ
   pub trail : ℕ
 
--- A state, what each Ref stands for, a number above the Ref of each variable and of each value with parts, the limits of the counts, and whether the store grows, so that it may find no memory.
+-- A state, what each Ref stands for, a number above the Ref of each variable and of each value with parts, what the words of blocks read by their
+-- places, the limits of the counts, and whether the store grows, so that it may find no memory.
 pub record Store : Type 0 where
   pub state : State
   pub value : Ref → Option Value
   pub places : ℕ
+  pub word : ℕ → Option ℕ
   pub heap_limit : ℕ
   pub trail_limit : ℕ
   pub grows : Bool
@@ -65,10 +67,11 @@ abbrev pub is_single : Value → Bool
 is_single (Node f NoMore) = true
 is_single other = false
 
--- What stood for a value still stands for it, no place is lost, and the limits stay.
+-- What stood for a value still stands for it, no place is lost, words read as before, and the limits stay.
 pub record Kept (old new : Store) : Type 0 where
   pub values : (r : Ref) (v : Value) → old.value r ≡ Some v → new.value r ≡ Some v
   pub places : old.places ≤ new.places
+  pub words : (at w : ℕ) → old.word at ≡ Some w → new.word at ≡ Some w
   pub heap_limit : new.heap_limit ≡ old.heap_limit
   pub trail_limit : new.trail_limit ≡ old.trail_limit
   pub grows : new.grows ≡ old.grows
@@ -86,16 +89,29 @@ HeapFull n old new full.Heap = (old.heap_limit < old.state.heap + n) × (new.sta
 HeapFull n old new full.Trail = ⊥
 HeapFull n old new full.OutOfMemory = IsTrue old.grows × (old.state.heap + n ≤ old.heap_limit) × (new.state ≡ old.state)
 
--- A new variable, the youngest.
+-- A new variable, the youngest, at a place of its own behind those that were there, so that new variables in a row have places in a row.
 pub record Fresh (old new : Store) (r : Ref) : Type 0 where
   pub fits : old.state.heap + 1 ≤ old.heap_limit
   pub state : new.state ≡ record old.state { vars = old.state.vars + 1; heap = old.state.heap + 1 }
   pub value : new.value r ≡ Some (Var old.state.vars)
+  pub place : r.0 ≡ old.places
+  pub next : new.places ≡ old.places + 1
 
 -- A value that took n of the heap.
 pub record Made (n : ℕ) (old new : Store) (r : Ref) (v : Value) : Type 0 where
   pub charged : Charged n old new
   pub value : new.value r ≡ Some v
+
+-- These words stand at places in a row.
+abbrev pub WordsAt : Store → ℕ → List ℕ → Type 0
+WordsAt s at [] = Unit {0}
+WordsAt s at (w ∷ ws) = (s.word at ≡ Some w) × WordsAt s (suc at) ws
+
+-- A block of words was made at a place behind those that were there, and took one of the heap for each.
+pub record Blocked (ws : List ℕ) (old new : Store) (at : ℕ) : Type 0 where
+  pub charged : Charged (length ws) old new
+  pub words : WordsAt new at ws
+  pub place : at ≡ old.places
 
 -- The label of a value without parts.
 abbrev pub label_of : Simple → Label

@@ -1,6 +1,6 @@
 // Which variables are bound, and in which order they were bound.
 
-ghost use Rattle.std.specs.Prelude.{◌≡◌, ◌+◌, ◌<◌, ◌≤◌, [], ◌∷◌, ◌++◌, None, OnOk, OnErr, length, take, reverse};
+ghost use Rattle.std.specs.Prelude.{◌≡◌, ◌+◌, ◌<◌, ◌≤◌, [], ◌∷◌, ◌++◌, None, IfOk, OnOk, OnErr, length, take, reverse};
 ghost use Rattle.dg_unify.specs.Links.{to_of, Once, AreLinked};
 ghost use Rattle.dg_unify.specs.Props.{are_linked_prop};
 
@@ -17,7 +17,7 @@ pub struct Links {
 }
 
 impl Links {
-    ghost use Rattle.dg_unify.specs.Linked.{log_of, vars_of};
+    ghost use Rattle.dg_unify.specs.Linked.{log_of, vars_of, var_room, link_room, KeepsRoom};
 
     /// No variable and no binding.
     pub fn new(alloc: Global) -> Links
@@ -28,6 +28,18 @@ impl Links {
             to: Vec::new(alloc),
             log: Vec::new(alloc),
         }
+    }
+
+    /// The same, with room for so many variables and so many bindings.
+    pub fn with_room(alloc: Global, vars: usize, links: usize) -> Result<Links, AllocError>
+        ensures log { IfOk result (λ l. log_of l ≡ []) }
+        ensures vars { IfOk result (λ l. vars_of l ≡ 0) }
+        ensures var_room { IfOk result (λ l. vars ≤ var_room l) }
+        ensures link_room { IfOk result (λ l. links ≤ link_room l) }
+    {
+        let to = Vec::with_capacity(alloc, vars)?;
+        let log = Vec::with_capacity(alloc, links)?;
+        Ok(Links { to, log })
     }
 
     /// How many variables there are.
@@ -64,6 +76,16 @@ impl Links {
         }
     }
 
+    /// The same, where there is room.
+    pub fn add_var_reserved(&mut self)
+        requires { vars_of self.old < var_room self.old }
+        ensures vars { vars_of self.new ≡ vars_of self.old + 1 }
+        ensures log { log_of self.new ≡ log_of self.old }
+        ensures room { KeepsRoom self.old self.new }
+    {
+        self.to.push_reserved(None);
+    }
+
     /// Binds an unbound variable.
     pub fn bind(&mut self, var: u32, to: Ref) -> Result<(), AllocError>
         requires within { var < vars_of self.old }
@@ -81,6 +103,19 @@ impl Links {
         }
     }
 
+    /// The same, where there is room.
+    pub fn bind_reserved(&mut self, var: u32, to: Ref)
+        requires within { var < vars_of self.old }
+        requires unbound { to_of var (reverse (log_of self.old)) ≡ None }
+        requires room { length (log_of self.old) < link_room self.old }
+        ensures log { log_of self.new ≡ log_of self.old ++ record { var = var; to = to } ∷ [] }
+        ensures vars { vars_of self.new ≡ vars_of self.old }
+        ensures room { KeepsRoom self.old self.new }
+    {
+        self.log.push_reserved(Link { var, to });
+        self.to[var as usize] = Some(to);
+    }
+
     /// Takes back all bindings but so many, and all variables but so many, of which those are.
     pub fn undo(&mut self, links: usize, vars: usize)
         requires links_in { links ≤ length (log_of self.old) }
@@ -88,6 +123,7 @@ impl Links {
         requires once { Once vars (reverse (take links (log_of self.old))) }
         ensures log { log_of self.new ≡ take links (log_of self.old) }
         ensures vars { vars_of self.new ≡ vars }
+        ensures room { KeepsRoom self.old self.new }
     {
         self.unlink(links);
         self.to.truncate(vars);
@@ -98,6 +134,7 @@ impl Links {
         requires { links ≤ length (log_of self.old) }
         ensures log { log_of self.new ≡ take links (log_of self.old) }
         ensures vars { vars_of self.new ≡ vars_of self.old }
+        ensures room { KeepsRoom self.old self.new }
     {
         while self.log.len() > links {
             if let Some(link) = self.log.pop() {

@@ -40,7 +40,8 @@ pub fn place_for(slots: &mut Vec<Slot>, waits: &mut Vec<Wait>, count: usize) -> 
 /// Writes captured values, for which there is room.
 pub fn push_captured(slots: &mut Vec<Slot>, captured: &[Ref])
     requires { vec_len slots.old + length captured.now ≤ vec_capacity slots.old }
-    ensures { slots.new.items ≡ slots.old.items ++ captured_slots captured.now }
+    ensures items { slots.new.items ≡ slots.old.items ++ captured_slots captured.now }
+    ensures capacity { vec_capacity slots.new ≡ vec_capacity slots.old }
 {
     for value in captured {
         slots.push_reserved(Slot::Captured(*value));
@@ -50,7 +51,8 @@ pub fn push_captured(slots: &mut Vec<Slot>, captured: &[Ref])
 /// Writes letters, for which there is room.
 pub fn push_letters(slots: &mut Vec<Slot>, spelling: &[u16])
     requires { vec_len slots.old + length spelling.now ≤ vec_capacity slots.old }
-    ensures { slots.new.items ≡ slots.old.items ++ letter_slots spelling.now }
+    ensures items { slots.new.items ≡ slots.old.items ++ letter_slots spelling.now }
+    ensures capacity { vec_capacity slots.new ≡ vec_capacity slots.old }
 {
     for letter in spelling {
         slots.push_reserved(Slot::Letter(*letter));

@@ -6,4 +6,5 @@ abbrev pub invariant-loop-value : goal.invariant-loop-value
 invariant-loop-value l = record {
   items : l.slots.items ++ captured_slots (drop l.value-index l.captured) ≡ l.fn.slots.items ++ captured_slots l.captured;
   room : vec_len l.slots + (length l.captured - l.value-index) ≤ vec_capacity l.slots;
+  capacity : vec_capacity l.slots ≡ vec_capacity l.fn.slots;
 }

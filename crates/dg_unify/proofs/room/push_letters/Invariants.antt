@@ -6,4 +6,5 @@ abbrev pub invariant-loop-letter : goal.invariant-loop-letter
 invariant-loop-letter l = record {
   items : l.slots.items ++ letter_slots (drop l.letter-index l.spelling) ≡ l.fn.slots.items ++ letter_slots l.spelling;
   room : vec_len l.slots + (length l.spelling - l.letter-index) ≤ vec_capacity l.slots;
+  capacity : vec_capacity l.slots ≡ vec_capacity l.fn.slots;
 }

@@ -12,4 +12,5 @@ loop-self-preserved-in-Some c = record {
   within = omega (arith, c.in-Some.ensures.cases);
   log = take_less c.loop-self.self.log.items c.pop.new.self.items c.args.self.now.log.items (vec_len c.loop-self.self.log) (vec_len c.pop.new.self) c.loop-self.invariant.log c.in-Some.ensures.rest (omega (arith, c.in-Some.ensures.cases));
   vars = length-set c.loop-self.self.to.items c.in-Some.link.var None ∙ c.loop-self.invariant.vars;
+  room = record { vars = c.loop-self.invariant.room.vars; links = omega (arith, c.loop-self.invariant.room.links, c.in-Some.ensures.capacity) };
 }

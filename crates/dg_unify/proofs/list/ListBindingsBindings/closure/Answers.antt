@@ -17,7 +17,7 @@ invariant_of-self-in-Ok c =
     let f = fields_of c.args.self.now in
     let f' : Fields = record { slots = c.push_captured.new.slots.items; log = log_of c.args.self.now.links; vars = vars_of c.args.self.now.links; since = c.args.self.now.since; heap = c.args.self.now.heap + (3 + length c.args.captured.now); trail = c.args.self.now.trail; heap_limit = c.args.self.now.heap_limit; trail_limit = c.args.self.now.trail_limit } in
     let extra : List Slot = slot.Closure c.args.place (length c.args.captured.now) ∷ captured_slots c.args.captured.now in
-    let es : f'.slots ≡ f.slots ++ extra = c.push_captured.ensures ∙ (let e : c.push_reserved.new.self.items ≡ f.slots ++ slot.Closure c.args.place (length c.args.captured.now) ∷ [] = search (rules, common_steps) in ap (λ xs. xs ++ captured_slots c.args.captured.now) e ∙ append_assoc f.slots (slot.Closure c.args.place (length c.args.captured.now) ∷ []) (captured_slots c.args.captured.now)) in
+    let es : f'.slots ≡ f.slots ++ extra = c.push_captured.ensures.items ∙ (let e : c.push_reserved.new.self.items ≡ f.slots ++ slot.Closure c.args.place (length c.args.captured.now) ∷ [] = search (rules, common_steps) in ap (λ xs. xs ++ captured_slots c.args.captured.now) e ∙ append_assoc f.slots (slot.Closure c.args.place (length c.args.captured.now) ∷ []) (captured_slots c.args.captured.now)) in
     let el : f'.log ≡ f.log = refl in
     let g = grown_slots f f' extra es el refl refl in
     let v : Value = Node (Closure c.args.place) (told_parts (store_of true f) c.args.captured.now) in
@@ -33,7 +33,7 @@ returns-in-Ok-clause-kept c =
     let f = fields_of c.args.self.now in
     let f' : Fields = record { slots = c.push_captured.new.slots.items; log = log_of c.args.self.now.links; vars = vars_of c.args.self.now.links; since = c.args.self.now.since; heap = c.args.self.now.heap + (3 + length c.args.captured.now); trail = c.args.self.now.trail; heap_limit = c.args.self.now.heap_limit; trail_limit = c.args.self.now.trail_limit } in
     let extra : List Slot = slot.Closure c.args.place (length c.args.captured.now) ∷ captured_slots c.args.captured.now in
-    let es : f'.slots ≡ f.slots ++ extra = c.push_captured.ensures ∙ (let e : c.push_reserved.new.self.items ≡ f.slots ++ slot.Closure c.args.place (length c.args.captured.now) ∷ [] = search (rules, common_steps) in ap (λ xs. xs ++ captured_slots c.args.captured.now) e ∙ append_assoc f.slots (slot.Closure c.args.place (length c.args.captured.now) ∷ []) (captured_slots c.args.captured.now)) in
+    let es : f'.slots ≡ f.slots ++ extra = c.push_captured.ensures.items ∙ (let e : c.push_reserved.new.self.items ≡ f.slots ++ slot.Closure c.args.place (length c.args.captured.now) ∷ [] = search (rules, common_steps) in ap (λ xs. xs ++ captured_slots c.args.captured.now) e ∙ append_assoc f.slots (slot.Closure c.args.place (length c.args.captured.now) ∷ []) (captured_slots c.args.captured.now)) in
     let el : f'.log ≡ f.log = refl in
     let g = grown_slots f f' extra es el refl refl in
     kept_grown true f f' extra [] g
@@ -43,7 +43,7 @@ returns-in-Ok-clause-saved c = λ ms h.
     let f = fields_of c.args.self.now in
     let f' : Fields = record { slots = c.push_captured.new.slots.items; log = log_of c.args.self.now.links; vars = vars_of c.args.self.now.links; since = c.args.self.now.since; heap = c.args.self.now.heap + (3 + length c.args.captured.now); trail = c.args.self.now.trail; heap_limit = c.args.self.now.heap_limit; trail_limit = c.args.self.now.trail_limit } in
     let extra : List Slot = slot.Closure c.args.place (length c.args.captured.now) ∷ captured_slots c.args.captured.now in
-    let es : f'.slots ≡ f.slots ++ extra = c.push_captured.ensures ∙ (let e : c.push_reserved.new.self.items ≡ f.slots ++ slot.Closure c.args.place (length c.args.captured.now) ∷ [] = search (rules, common_steps) in ap (λ xs. xs ++ captured_slots c.args.captured.now) e ∙ append_assoc f.slots (slot.Closure c.args.place (length c.args.captured.now) ∷ []) (captured_slots c.args.captured.now)) in
+    let es : f'.slots ≡ f.slots ++ extra = c.push_captured.ensures.items ∙ (let e : c.push_reserved.new.self.items ≡ f.slots ++ slot.Closure c.args.place (length c.args.captured.now) ∷ [] = search (rules, common_steps) in ap (λ xs. xs ++ captured_slots c.args.captured.now) e ∙ append_assoc f.slots (slot.Closure c.args.place (length c.args.captured.now) ∷ []) (captured_slots c.args.captured.now)) in
     let el : f'.log ≡ f.log = refl in
     let g = grown_slots f f' extra es el refl refl in
     stand_grown true f f' extra [] ms g (omega arith) h
@@ -53,7 +53,7 @@ returns-in-Ok-clause-made c =
     let f = fields_of c.args.self.now in
     let f' : Fields = record { slots = c.push_captured.new.slots.items; log = log_of c.args.self.now.links; vars = vars_of c.args.self.now.links; since = c.args.self.now.since; heap = c.args.self.now.heap + (3 + length c.args.captured.now); trail = c.args.self.now.trail; heap_limit = c.args.self.now.heap_limit; trail_limit = c.args.self.now.trail_limit } in
     let extra : List Slot = slot.Closure c.args.place (length c.args.captured.now) ∷ captured_slots c.args.captured.now in
-    let es : f'.slots ≡ f.slots ++ extra = c.push_captured.ensures ∙ (let e : c.push_reserved.new.self.items ≡ f.slots ++ slot.Closure c.args.place (length c.args.captured.now) ∷ [] = search (rules, common_steps) in ap (λ xs. xs ++ captured_slots c.args.captured.now) e ∙ append_assoc f.slots (slot.Closure c.args.place (length c.args.captured.now) ∷ []) (captured_slots c.args.captured.now)) in
+    let es : f'.slots ≡ f.slots ++ extra = c.push_captured.ensures.items ∙ (let e : c.push_reserved.new.self.items ≡ f.slots ++ slot.Closure c.args.place (length c.args.captured.now) ∷ [] = search (rules, common_steps) in ap (λ xs. xs ++ captured_slots c.args.captured.now) e ∙ append_assoc f.slots (slot.Closure c.args.place (length c.args.captured.now) ∷ []) (captured_slots c.args.captured.now)) in
     let el : f'.log ≡ f.log = refl in
     let g = grown_slots f f' extra es el refl refl in
     value_made true f f' (3 + length c.args.captured.now) extra (record { 0 = c.in-Ok.at }) (Node (Closure c.args.place) (told_parts (store_of true f) c.args.captured.now)) c.args.self.now.sound g refl refl refl refl (omega (arith, c.args.self.now.sound.heap_fits)) (closure_at f.slots f'.slots c.args.place (length c.args.captured.now) c.args.captured.now c.in-Ok.at es refl (omega (arith, c.in-Ok.ensures.place)) (omega (arith, c.in-Ok.ensures.within)) c.requires.captured_in)

@@ -54,7 +54,7 @@ returns-else-is_err-clause-made c =
     let el : f'.log ≡ f.log = c.add_var.ensures.log in
     let g = grown_slots f f' extra es el refl refl in
     let ev : f'.vars ≡ f.vars + 1 = search rules in
-    fresh_made true f f' (record { 0 = c.in-Ok.at }) c.args.self.now.sound g ev refl refl refl (omega (arith, c.args.self.now.sound.heap_fits)) (var_at f.slots f'.slots f.vars c.in-Ok.at es (omega (arith, c.in-Ok.ensures.place)) (omega (arith, c.in-Ok.ensures.within)))
+    fresh_made true f f' (record { 0 = c.in-Ok.at }) c.args.self.now.sound g ev refl refl refl (omega (arith, c.args.self.now.sound.heap_fits)) (var_at f.slots f'.slots f.vars c.in-Ok.at es (omega (arith, c.in-Ok.ensures.place)) (omega (arith, c.in-Ok.ensures.within))) (omega (arith, c.in-Ok.ensures.place))
 
 pub returns-then-is_err-clause-made : goal.returns-then-is_err-clause-made
 returns-then-is_err-clause-made c =

@@ -16,7 +16,7 @@ invariant_of-self-in-Ok c =
     let f = fields_of c.args.self.now in
     let f' : Fields = record { slots = c.push_letters.new.slots.items; log = log_of c.args.self.now.links; vars = vars_of c.args.self.now.links; since = c.args.self.now.since; heap = c.args.self.now.heap + (3 + 3 * length c.args.spelling.now); trail = c.args.self.now.trail; heap_limit = c.args.self.now.heap_limit; trail_limit = c.args.self.now.trail_limit } in
     let extra : List Slot = slot.Unknown (length c.args.spelling.now) ∷ letter_slots c.args.spelling.now in
-    let es : f'.slots ≡ f.slots ++ extra = c.push_letters.ensures ∙ (let e : c.push_reserved.new.self.items ≡ f.slots ++ slot.Unknown (length c.args.spelling.now) ∷ [] = search (rules, common_steps) in ap (λ xs. xs ++ letter_slots c.args.spelling.now) e ∙ append_assoc f.slots (slot.Unknown (length c.args.spelling.now) ∷ []) (letter_slots c.args.spelling.now)) in
+    let es : f'.slots ≡ f.slots ++ extra = c.push_letters.ensures.items ∙ (let e : c.push_reserved.new.self.items ≡ f.slots ++ slot.Unknown (length c.args.spelling.now) ∷ [] = search (rules, common_steps) in ap (λ xs. xs ++ letter_slots c.args.spelling.now) e ∙ append_assoc f.slots (slot.Unknown (length c.args.spelling.now) ∷ []) (letter_slots c.args.spelling.now)) in
     let el : f'.log ≡ f.log = refl in
     let g = grown_slots f f' extra es el refl refl in
     let value : value_in f'.slots (length f.slots) ≡ Some (leaf (Unknown c.args.spelling.now)) = word_at f.slots f'.slots (length c.args.spelling.now) c.args.spelling.now (length f.slots) es refl refl (omega (arith, c.in-Ok.ensures.within)) in
@@ -31,7 +31,7 @@ returns-in-Ok-clause-kept c =
     let f = fields_of c.args.self.now in
     let f' : Fields = record { slots = c.push_letters.new.slots.items; log = log_of c.args.self.now.links; vars = vars_of c.args.self.now.links; since = c.args.self.now.since; heap = c.args.self.now.heap + (3 + 3 * length c.args.spelling.now); trail = c.args.self.now.trail; heap_limit = c.args.self.now.heap_limit; trail_limit = c.args.self.now.trail_limit } in
     let extra : List Slot = slot.Unknown (length c.args.spelling.now) ∷ letter_slots c.args.spelling.now in
-    let es : f'.slots ≡ f.slots ++ extra = c.push_letters.ensures ∙ (let e : c.push_reserved.new.self.items ≡ f.slots ++ slot.Unknown (length c.args.spelling.now) ∷ [] = search (rules, common_steps) in ap (λ xs. xs ++ letter_slots c.args.spelling.now) e ∙ append_assoc f.slots (slot.Unknown (length c.args.spelling.now) ∷ []) (letter_slots c.args.spelling.now)) in
+    let es : f'.slots ≡ f.slots ++ extra = c.push_letters.ensures.items ∙ (let e : c.push_reserved.new.self.items ≡ f.slots ++ slot.Unknown (length c.args.spelling.now) ∷ [] = search (rules, common_steps) in ap (λ xs. xs ++ letter_slots c.args.spelling.now) e ∙ append_assoc f.slots (slot.Unknown (length c.args.spelling.now) ∷ []) (letter_slots c.args.spelling.now)) in
     let el : f'.log ≡ f.log = refl in
     let g = grown_slots f f' extra es el refl refl in
     kept_grown true f f' extra [] g
@@ -41,7 +41,7 @@ returns-in-Ok-clause-saved c = λ ms h.
     let f = fields_of c.args.self.now in
     let f' : Fields = record { slots = c.push_letters.new.slots.items; log = log_of c.args.self.now.links; vars = vars_of c.args.self.now.links; since = c.args.self.now.since; heap = c.args.self.now.heap + (3 + 3 * length c.args.spelling.now); trail = c.args.self.now.trail; heap_limit = c.args.self.now.heap_limit; trail_limit = c.args.self.now.trail_limit } in
     let extra : List Slot = slot.Unknown (length c.args.spelling.now) ∷ letter_slots c.args.spelling.now in
-    let es : f'.slots ≡ f.slots ++ extra = c.push_letters.ensures ∙ (let e : c.push_reserved.new.self.items ≡ f.slots ++ slot.Unknown (length c.args.spelling.now) ∷ [] = search (rules, common_steps) in ap (λ xs. xs ++ letter_slots c.args.spelling.now) e ∙ append_assoc f.slots (slot.Unknown (length c.args.spelling.now) ∷ []) (letter_slots c.args.spelling.now)) in
+    let es : f'.slots ≡ f.slots ++ extra = c.push_letters.ensures.items ∙ (let e : c.push_reserved.new.self.items ≡ f.slots ++ slot.Unknown (length c.args.spelling.now) ∷ [] = search (rules, common_steps) in ap (λ xs. xs ++ letter_slots c.args.spelling.now) e ∙ append_assoc f.slots (slot.Unknown (length c.args.spelling.now) ∷ []) (letter_slots c.args.spelling.now)) in
     let el : f'.log ≡ f.log = refl in
     let g = grown_slots f f' extra es el refl refl in
     stand_grown true f f' extra [] ms g (omega arith) h
@@ -51,7 +51,7 @@ returns-in-Ok-clause-made c =
     let f = fields_of c.args.self.now in
     let f' : Fields = record { slots = c.push_letters.new.slots.items; log = log_of c.args.self.now.links; vars = vars_of c.args.self.now.links; since = c.args.self.now.since; heap = c.args.self.now.heap + (3 + 3 * length c.args.spelling.now); trail = c.args.self.now.trail; heap_limit = c.args.self.now.heap_limit; trail_limit = c.args.self.now.trail_limit } in
     let extra : List Slot = slot.Unknown (length c.args.spelling.now) ∷ letter_slots c.args.spelling.now in
-    let es : f'.slots ≡ f.slots ++ extra = c.push_letters.ensures ∙ (let e : c.push_reserved.new.self.items ≡ f.slots ++ slot.Unknown (length c.args.spelling.now) ∷ [] = search (rules, common_steps) in ap (λ xs. xs ++ letter_slots c.args.spelling.now) e ∙ append_assoc f.slots (slot.Unknown (length c.args.spelling.now) ∷ []) (letter_slots c.args.spelling.now)) in
+    let es : f'.slots ≡ f.slots ++ extra = c.push_letters.ensures.items ∙ (let e : c.push_reserved.new.self.items ≡ f.slots ++ slot.Unknown (length c.args.spelling.now) ∷ [] = search (rules, common_steps) in ap (λ xs. xs ++ letter_slots c.args.spelling.now) e ∙ append_assoc f.slots (slot.Unknown (length c.args.spelling.now) ∷ []) (letter_slots c.args.spelling.now)) in
     let el : f'.log ≡ f.log = refl in
     let g = grown_slots f f' extra es el refl refl in
     value_made true f f' (3 + 3 * length c.args.spelling.now) extra (record { 0 = c.in-Ok.at }) (leaf (Unknown c.args.spelling.now)) c.args.self.now.sound g refl refl refl refl (omega (arith, c.args.self.now.sound.heap_fits)) (word_at f.slots f'.slots (length c.args.spelling.now) c.args.spelling.now c.in-Ok.at es refl (omega (arith, c.in-Ok.ensures.place)) (omega (arith, c.in-Ok.ensures.within)))
