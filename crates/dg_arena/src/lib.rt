@@ -1,0 +1,7 @@
+//! A store of values and of blocks of words that takes its room once.
+#![tactic(auto)]
+
+mod arena;
+mod words;
+
+pub use arena::Arena;
