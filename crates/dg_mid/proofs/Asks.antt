@@ -1,5 +1,5 @@
 -- A predicate is asked.
-use Rattle.std.proofs.Common.{◌≡◌, ℕ, suc, ◌+◌, ◌<◌, ◌≤◌, List, [], ◌∷◌, Bool, true, false, refl, sym, ap, ◌∙◌, subst, arith, length}
+use Rattle.std.proofs.Common.{◌≡◌, ℕ, suc, ◌+◌, ◌<◌, ◌≤◌, List, [], ◌∷◌, ◌++◌, Bool, true, false, refl, sym, ap, ◌∙◌, subst, arith, length}
 use Rattle.std.specs.Prelude.{slice_get}
 use Rattle.dg_base.specs.declared.program.Goal.{Goal, Goal-F}
 use Rattle.dg_base.specs.declared.program.Goal.TheVariants as goal
@@ -23,8 +23,8 @@ use Rattle.dg_mid.specs.declared.code.Op.TheVariants as op
 use Rattle.dg_mid.specs.declared.code.RuleCode.{RuleCode}
 use Rattle.dg_mid.specs.declared.code.Code.{Code}
 use Rattle.dg_mid.specs.Code.{block_at, rules_at, selected}
-use Rattle.dg_mid.specs.State.{Place, Frame, Call, Mid, vars_of, cut_of}
-use Rattle.dg_mid.specs.Step.{Setting, setting, does, more, first_of, begins, asks, asks_last, last, values, call_of}
+use Rattle.dg_mid.specs.State.{Place, Frame, Call, Target, ToPred, Mid, vars_of, cut_of}
+use Rattle.dg_mid.specs.Step.{Setting, setting, does, more, first_of, begins, asks, calls, asks_last, last, values, call_of}
 use Rattle.dg_mid.specs.Codes.{End, Stands, Returns, returns, RulesStand, Codes}
 use Rattle.dg_mid.specs.Reads.{silents, Behind, Layer, Reads, Mirrors, Comes}
 use Rattle.dg_mid.proofs.Here.{Here, steps_of, nothing_more}
@@ -54,6 +54,27 @@ module _ (g : Game) (code : Code) (limits : Limits) (call : Call) (pred : ℕ) (
       After g lives ways n (choice (Rules pred) q.next_tag (rule_branches g pred call.args call.many (silents answered after) q (rules_of (slice_get g.program.preds pred))) w) run → least ≤ w.meters.work → Comes least ps set (asks set pred call m) g n run
   asks_on {least = least} stand w i a le =
       subst (λ S. Comes least ps set (begins set call (selected (first_of S call) (rules_at code pred)) m) g n run) i.agrees.bound (rules_asked (rules_at code pred) (rules_of (slice_get g.program.preds pred)) w stand i a le)
+
+-- ## The last query of a rule
+
+silents_twice : (ps qs : List ℕ) (steps : List Step) → silents ps (silents qs steps) ≡ silents (ps ++ qs) steps
+silents_twice [] qs steps = refl
+silents_twice (p ∷ ps) qs steps = ap (λ l. Answers p ∷ l) (silents_twice ps qs steps)
+
+module _ (code : Code) (the : Setting) (t : Target) (args : List Value) (many : Bool) (m : Mid) (ps : List Print) (steps : List Step) (g : Game) (n : ℕ) (run : Run) where
+  -- it comes from where the call goes on at a block with some frames
+  abbrev GoesOn : ℕ → Type 0
+  GoesOn least = (next : ℕ) (frames : List Frame) (inner : List Place) (answered : List ℕ) (after : List Step) → steps ≡ silents answered after → Reads code (block_at code next) frames inner after →
+      Comes least ps the (calls the t (call_of args many next m) (record m { frames = frames; inner = inner })) g n run
+
+  last_on : {least : ℕ} → GoesOn least → Reads code (block_at code 0) m.frames [] steps → (b : Bool) (fr : Frame) (fs : List Frame) (noted answered : List ℕ) (after : List Step) → Layer (Behind code fs) code (block_at code fr.next) (vars_of fs) (cut_of fs).tag fr.inner after →
+      steps ≡ silents noted (first_alone b fr.cut.tag (silents answered after)) → Comes least ps the (asks_last the t args many b fr fs m) g n run
+  last_on goes again true fr fs noted answered after layer e = goes fr.next fs fr.inner (noted ++ answered) after (e ∙ silents_twice noted answered after) layer
+  last_on goes again false fr fs noted answered after layer e = goes 0 m.frames [] [] steps refl again
+
+  pub last_from : {least : ℕ} → GoesOn least → Reads code (block_at code 0) m.frames [] steps → (frames : List Frame) → Behind code frames steps → Comes least ps the (last the t args many frames m) g n run
+  last_from goes again [] below = goes 0 m.frames [] [] steps refl again
+  last_from goes again (fr ∷ fs) below = last_on goes again fr.many fr fs below.noted below.answered below.after below.layer below.is
 
 -- ## The goal
 
@@ -117,14 +138,5 @@ module _ (code : Code) (limits : Limits) (m : Mid) (ps : List Print) (ops : List
   answers_then : Behind code m.frames steps → Reads code (block_at code 0) m.frames [] steps
   answers_then below = subst (λ l. Reads code l m.frames [] steps) (sym codes.answers) (record { goals = []; end = Returns; rest = steps; stands = returns []; below = below; is = refl })
 
-  last_on : {least : ℕ} → (b : Bool) (fr : Frame) (fs : List Frame) (p : ℕ) (answered : List ℕ) (after : List Step) → Layer (Behind code fs) code (block_at code fr.next) (vars_of fs) (cut_of fs).tag fr.inner after → steps ≡ Answers p ∷ first_alone b fr.cut.tag (silents answered after) →
-      Reads code (block_at code 0) m.frames [] steps → least ≤ w.meters.work + (1 + writing terms) → Comes least ps the (asks_last the pred args many b fr fs (more k m')) g n run
-  last_on {least = least} true fr fs p answered after layer e again le = goes_asked fr.next fs fr.inner (p ∷ answered) after e layer le
-  last_on {least = least} false fr fs p answered after layer e again le = goes_asked 0 m.frames [] [] steps refl again le
-
-  last_in : {least : ℕ} → (frames : List Frame) → Behind code frames steps → Reads code (block_at code 0) m.frames [] steps → least ≤ w.meters.work + (1 + writing terms) → Comes least ps the (last the pred args many frames (more k m')) g n run
-  last_in {least = least} [] below again le = goes_asked 0 m.frames [] [] steps refl again le
-  last_in {least = least} (fr ∷ fs) below again le = last_on fr.many fr fs below.pred below.answered below.after below.layer below.is again le
-
   pub last_ask : {least : ℕ} → Behind code m.frames steps → least ≤ w.meters.work + (1 + writing terms) → Comes least ps the (does the (op.LastAsk pred terms many) m') g n run
-  last_ask {least = least} below le = charge the [] k m' _ g n run full (last_in m.frames below (answers_then below) le)
+  last_ask {least = least} below le = charge the [] k m' _ g n run full (last_from code the (ToPred pred) args many (more k m') ps steps g n run (λ next frames inner answered after e reads. goes_asked next frames inner answered after e reads le) (answers_then below) m.frames below)

@@ -19,7 +19,7 @@ use Rattle.dg_mid.specs.Code.{block_at}
 use Rattle.dg_mid.specs.State.{Choice, Goes, Mid, Runs}
 use Rattle.dg_mid.specs.Step.{Setting, setting, passed, inside as inside_choice, resumed, goes_back}
 use Rattle.dg_mid.specs.Units.{resuming}
-use Rattle.dg_mid.specs.Codes.{End, Stands, jumps, returns, commits, refuses, backs, leaves, keeps, finishes, acts, ask, last_ask, holds, objects, only, either, selects, once, negates, branch, exhausts, shields, collects, accumulates, forever}
+use Rattle.dg_mid.specs.Codes.{End, Stands, jumps, returns, commits, refuses, backs, leaves, keeps, finishes, acts, ask, last_ask, query, last_query, holds, objects, only, either, selects, once, negates, branch, exhausts, shields, collects, accumulates, forever}
 use Rattle.dg_mid.specs.Reads.{AreChoices, none, dead, kept, AreClashes, WayIs, RetryIs, GoesAt, outside_of, Mirrors, Comes}
 use Rattle.dg_mid.proofs.Here.{nothing_more, prints_dropped, work_dropped}
 use Rattle.dg_mid.proofs.Marks.{goes_on, ends_here}
@@ -147,6 +147,8 @@ goes_plainly set ops goals end m (finishes rest) = (refl, λ ps. refl)
 goes_plainly set ops goals end m (acts a rest goals' end' s) = (refl, λ ps. refl)
 goes_plainly set ops goals end m (ask pred terms many next rest goals' end' s) = (refl, λ ps. refl)
 goes_plainly set ops goals end m (last_ask pred terms many rest) = (refl, λ ps. refl)
+goes_plainly set ops goals end m (query a b many next rest goals' end' s) = (refl, λ ps. refl)
+goes_plainly set ops goals end m (last_query a b many rest) = (refl, λ ps. refl)
 goes_plainly set ops goals end m (holds place terms many next rest goals' end' s o) = (refl, λ ps. refl)
 goes_plainly set ops goals end m (objects term many next rest goals' end' s o) = (refl, λ ps. refl)
 goes_plainly set ops goals end m (only list rest goals' end' s) = (refl, λ ps. refl)

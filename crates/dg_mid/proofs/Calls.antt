@@ -233,7 +233,7 @@ module _ (g : Game) (code : Code) (limits : Limits) (call : Call) (pred : ℕ) (
 -- ## A rule is entered
 
 -- what its match comes to
-match_on : {least : ℕ} → {ps : List Print} → (g : Game) (code : Code) (limits : Limits) (b : Bool) (m : Mid) (f : Frame) (path : Path) (work : ℕ) (lives : List Live) (ways : List WayOn) (n : ℕ) (w : World) (run : Run) →
+pub match_on : {least : ℕ} → {ps : List Print} → (g : Game) (code : Code) (limits : Limits) (b : Bool) (m : Mid) (f : Frame) (path : Path) (work : ℕ) (lives : List Live) (ways : List WayOn) (n : ℕ) (w : World) (run : Run) →
     Mirrors g code m ps path.registers lives ways w → Layer (Behind code (f ∷ m.frames)) code m.ops f.vars f.cut.tag [] path.steps → Began g lives ways (enter_if b path work) n w run →
     least ≤ w.meters.work + work → Comes least ps (setting g code limits) (if_agreed b m (Runs (record m { frames = f ∷ m.frames; inner = [] }))) g n run
 match_on {least = least} {ps = ps} g code limits true m f path work lives ways n w run i layer began le =
@@ -297,7 +297,7 @@ enters_at {least = least} {ps = ps} g code limits call m n w run h le =
       end = Returns;
       rest = Answers h.pred ∷ first_alone call.many call.cut.tag steps;
       stands = h.body;
-      below = record { pred = h.pred; answered = h.answered; after = h.after; layer = h.reads; is = refl };
+      below = record { noted = h.pred ∷ []; answered = h.answered; after = h.after; layer = h.reads; is = refl };
       is = ap (λ v. goals_at (new_vars rule.vars v) q.next_tag rule.body ++ Answers h.pred ∷ first_alone call.many q.next_tag steps) i.agrees.vars
           ∙ ap (λ t. goals_at (new_vars rule.vars m.state.vars) t rule.body ++ Answers h.pred ∷ first_alone call.many t steps) (sym h.cut);
     })

@@ -4,16 +4,18 @@ use Rattle.dg_base.specs.declared.run.Limits.{Limits}
 use Rattle.dg_meaning.specs.World.{Game}
 use Rattle.dg_meaning.specs.Transcript.{run}
 use Rattle.dg_mid.specs.declared.code.Code.{Code}
-use Rattle.std.proofs.Common.{Some}
+use Rattle.std.proofs.Common.{Option, Some, None}
 use Rattle.dg_mid.specs.State.{Mid, Status, Runs, Enters, Resumes, Fails, Ended, Goes, Calls, Tries}
 use Rattle.dg_mid.specs.Step.{Setting, step, setting}
 use Rattle.std.specs.Prelude.{slice_get, nat_lt}
 use Rattle.std.proofs.lemmas.Bool.{ltb-true, ltb-false}
 use Rattle.dg_base.specs.declared.program.Rule.{Rule}
+use Rattle.dg_base.specs.declared.program.ClosureBody.{ClosureBody}
+use Rattle.dg_mid.specs.declared.code.BodyCode.{BodyCode}
 use Rattle.dg_meaning.specs.Moves.{rules_of}
 use Rattle.dg_mid.specs.declared.code.RuleCode.{RuleCode}
 use Rattle.dg_mid.specs.Code.{rules_at}
-use Rattle.dg_mid.specs.Codes.{Codes, RulesStand}
+use Rattle.dg_mid.specs.Codes.{Codes, BodyStands, RulesStand}
 use Rattle.dg_mid.specs.Runs.{after}
 use Rattle.dg_meaning.specs.World.{Print}
 use Rattle.dg_mid.specs.Units.{units, units_of}
@@ -25,7 +27,7 @@ use Rattle.dg_mid.proofs.Whole.{is_at}
 use Rattle.dg_base.specs.declared.program.CoreProgram.{CoreProgram}
 use Rattle.dg_mid.specs.Code.{block_at}
 use Rattle.dg_mid.specs.Potential.{MidFine, StatusFine, pending}
-use Rattle.dg_mid.specs.Shapes.{RulesFit, ShapedAt, head_of, Active, StatusShaped}
+use Rattle.dg_mid.specs.Shapes.{RulesFit, MayBody, ShapedAt, head_of, Active, StatusShaped}
 use Rattle.dg_mid.proofs.Law.{due_most, Unwinds, MayStop, StatusMayStop, pays}
 use Rattle.dg_mid.proofs.Shapes.{found, unwinds}
 use Rattle.dg_mid.proofs.Shaped.{shaped}
@@ -38,6 +40,13 @@ all_enter code (c ∷ cs) [] h = absurd h
 all_enter code (c ∷ cs) (r ∷ rs) h =
     let others = all_enter code cs rs h.1 in
     ((record { vars = r.vars; head = r.head; rest = h.0.ops; is = h.0.block }, others.0), (record { vars = r.vars; head = r.head; rest = h.0.ops; body = r.body; is = h.0.block; stands = h.0.body }, others.1))
+
+-- code that stands for a body fits
+body_fits : (code : Code) (c : Option BodyCode) (closure : Option ClosureBody) → BodyStands code c closure → MayBody code c
+body_fits code None None h = tt
+body_fits code None (Some x) h = absurd h
+body_fits code (Some c) None h = absurd h
+body_fits code (Some c) (Some x) h = record { body = x.body; stands = h.1 }
 
 -- a part is stopped where it is open
 may_stop : (code : Code) (m : Mid) (chain : List ℕ) → MidFine code m → ShapedAt code m chain → MayStop code m
@@ -72,7 +81,7 @@ module _ (g : Setting) (program : CoreProgram) (codes : Codes program g.code) (t
       let p = after g typed n in
       let h = affords typed n in
       let k = pays g tidy (λ pred. (rules pred).0) p.prints p.now h.0.fine (status_may_stop g.code p.now h.0.fine h.1) in
-      (record { fine = k.fine; few = let x = h.0.few in let y = k.few in omega (arith, x, y) }, shaped g codes.answers (λ pred. (rules pred).1) p.now h.0.fine h.1)
+      (record { fine = k.fine; few = let x = h.0.few in let y = k.few in omega (arith, x, y) }, shaped g codes.answers (λ pred. (rules pred).1) (λ j. body_fits g.code (slice_get g.code.closures j) (slice_get program.closures j) (codes.bodies j)) p.now h.0.fine h.1)
 
 cases_lt : (a b : ℕ) → (a < b) ⊎ (b ≤ a)
 cases_lt a b = by (nat_lt a b) refl where

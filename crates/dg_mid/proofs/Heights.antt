@@ -4,6 +4,7 @@ use Rattle.std.specs.Prelude.{nat_lt, eqb, ◌-◌}
 use Rattle.std.specs.List.{zip}
 use Rattle.std.proofs.lemmas.Bool.{cond_both, ltb-true}
 use Rattle.dg_base.specs.declared.program.Term.{Term}
+use Rattle.dg_base.specs.Goals.{option_terms}
 use Rattle.dg_base.specs.declared.run.Ending.TheVariants as ending
 use Rattle.dg_meaning.specs.Values.{Value, value_of}
 use Rattle.dg_meaning.specs.Cells.{cells}
@@ -13,9 +14,10 @@ use Rattle.dg_meaning.specs.Path.{Act, Goes as GoesNow, Tests, Unifies, Ends, Fa
 use Rattle.dg_mid.specs.declared.code.Op.{Op}
 use Rattle.dg_mid.specs.declared.code.Op.TheVariants as op
 use Rattle.dg_mid.specs.declared.code.RuleCode.{RuleCode}
+use Rattle.dg_mid.specs.declared.code.BodyCode.{BodyCode}
 use Rattle.dg_mid.specs.Code.{block_at, rules_at, selected}
-use Rattle.dg_mid.specs.State.{Place, Frame, Call, Find, Way, Goes, Calls, Tries, Stop, Choice, Mid, Status, Runs, Enters, Resumes, Fails, Ended, cut_of, place_of, inner_for, cut_choices, stop_to}
-use Rattle.dg_mid.specs.Step.{Setting, seeks, trying, trying_cells, tries, gathering, done, made_in, keeps_within, gathers, without_gathering, taken_out, charged, unified, bound, trail_more, if_agreed, if_passed, enters, begins, asks, asks_last, last, returned, returns, commits, refuses, leaves, keeps, stops, stops_at, new_frame, does, runs, entered, enter, resumed, goes_on, goes_back, step, first_of, call_of, values, more, inside, passed, within, shielded, cut_to, at_rule}
+use Rattle.dg_mid.specs.State.{Place, Frame, Call, Target, ToPred, ToBody, Find, Way, Goes, Calls, Tries, Stop, Choice, Mid, Status, Runs, Enters, Resumes, Fails, Ended, cut_of, place_of, inner_for, cut_choices, stop_to}
+use Rattle.dg_mid.specs.Step.{Setting, parameter, body_frame, body_equations, enters_body, calls, queries, queries_last, asked_by, seeks, trying, trying_cells, tries, gathering, done, made_in, keeps_within, gathers, without_gathering, taken_out, charged, unified, bound, trail_more, if_agreed, if_passed, enters, begins, asks, asks_last, last, returned, returns, commits, refuses, leaves, keeps, stops, stops_at, new_frame, does, runs, entered, enter, resumed, goes_on, goes_back, step, first_of, call_of, values, more, inside, passed, within, shielded, cut_to, at_rule}
 use Rattle.dg_mid.specs.Runs.{after}
 use Rattle.dg_mid.specs.Actions.{terms_of, act_at, asked_at, found_at, outside_in}
 use Rattle.dg_mid.specs.Heights.{AgreeAll, IsNamed, PlacesNamed, FramesNamed, StopsNamed, WayNamed, AreNamed, ChoicesNamed, IsOrdered, MidOrdered, StatusOrdered}
@@ -157,12 +159,33 @@ begins_ordered g call (r ∷ rs) m o n = enters_ordered g call r (selected (firs
 asks_ordered : (g : Setting) (pred : ℕ) (call : Call) (m : Mid) → MidOrdered m → IsNamed m.next_tag m.state.heap m.choices call.cut → StatusOrdered (asks g pred call m)
 asks_ordered g pred call m o n = begins_ordered g call (selected (first_of m.state.subst call) (rules_at g.code pred)) m o n
 
-asks_last_ordered : (g : Setting) (pred : ℕ) (args : List Value) (many b : Bool) (f : Frame) (fs : List Frame) (m : Mid) → MidOrdered m → FramesNamed m.next_tag m.state.heap m.choices (f ∷ fs) → StatusOrdered (asks_last g pred args many b f fs m)
-asks_last_ordered g pred args many true f fs m o n = asks_ordered g pred (call_of args many f.next m) (record m { frames = fs; inner = f.inner }) (record { named = record { frames_are = n.2; inner_are = n.1; stops_are = o.named.stops_are }; choices = o.choices }) (named_now m o)
-asks_last_ordered g pred args many false f fs m o n = asks_ordered g pred (call_of args many 0 m) (record m { inner = [] }) (record { named = record { frames_are = o.named.frames_are; inner_are = tt; stops_are = o.named.stops_are }; choices = o.choices }) (named_now m o)
+opens_ordered : (g : Setting) (c : BodyCode) (captured : List Value) (call : Call) (m : Mid) → MidOrdered m → IsNamed m.next_tag m.state.heap m.choices call.cut → StatusOrdered (enters_body g c captured call m)
+opens_ordered g c captured call m o n =
+    let k = 6 + c.own + cells g.game.program (parameter captured call.args) in
+    let f = body_frame captured c.own call m in
+    let m' : Mid = record (passed m) { ops = block_at g.code c.block; state = record m.state { vars = m.state.vars + c.own; heap = m.state.heap + k } } in
+    let u = solve m.state.subst (body_equations g captured c.own call.args m.state.vars) in
+    let o' : MidOrdered m' = more_ordered k (passed m) (passed_ordered m o) in
+    charged_ordered g k m _ (unified_ordered g u m' (Runs (record (bound u m') { frames = f ∷ m.frames; inner = [] })) o'
+    (record {
+      named = record {
+        frames_are = (one_raise m.next_tag m.state.heap (m.next_tag + 1) (m.state.heap + k) m.choices call.cut (omega arith) (omega arith) n, o'.named.inner_are, o'.named.frames_are);
+        inner_are = tt;
+        stops_are = o'.named.stops_are;
+      };
+      choices = o'.choices;
+    }))
 
-last_ordered : (g : Setting) (pred : ℕ) (args : List Value) (many : Bool) (frames : List Frame) (m : Mid) → MidOrdered m → FramesNamed m.next_tag m.state.heap m.choices frames → StatusOrdered (last g pred args many frames m)
-last_ordered g pred args many [] m o n = asks_ordered g pred (call_of args many 0 m) (record m { inner = [] }) (record { named = record { frames_are = o.named.frames_are; inner_are = tt; stops_are = o.named.stops_are }; choices = o.choices }) (named_now m o)
+calls_ordered : (g : Setting) (t : Target) (call : Call) (m : Mid) → MidOrdered m → IsNamed m.next_tag m.state.heap m.choices call.cut → StatusOrdered (calls g t call m)
+calls_ordered g (ToPred pred) call m o n = asks_ordered g pred call m o n
+calls_ordered g (ToBody c captured) call m o n = opens_ordered g c captured call m o n
+
+asks_last_ordered : (g : Setting) (pred : Target) (args : List Value) (many b : Bool) (f : Frame) (fs : List Frame) (m : Mid) → MidOrdered m → FramesNamed m.next_tag m.state.heap m.choices (f ∷ fs) → StatusOrdered (asks_last g pred args many b f fs m)
+asks_last_ordered g pred args many true f fs m o n = calls_ordered g pred (call_of args many f.next m) (record m { frames = fs; inner = f.inner }) (record { named = record { frames_are = n.2; inner_are = n.1; stops_are = o.named.stops_are }; choices = o.choices }) (named_now m o)
+asks_last_ordered g pred args many false f fs m o n = calls_ordered g pred (call_of args many 0 m) (record m { inner = [] }) (record { named = record { frames_are = o.named.frames_are; inner_are = tt; stops_are = o.named.stops_are }; choices = o.choices }) (named_now m o)
+
+last_ordered : (g : Setting) (pred : Target) (args : List Value) (many : Bool) (frames : List Frame) (m : Mid) → MidOrdered m → FramesNamed m.next_tag m.state.heap m.choices frames → StatusOrdered (last g pred args many frames m)
+last_ordered g pred args many [] m o n = calls_ordered g pred (call_of args many 0 m) (record m { inner = [] }) (record { named = record { frames_are = o.named.frames_are; inner_are = tt; stops_are = o.named.stops_are }; choices = o.choices }) (named_now m o)
 last_ordered g pred args many (f ∷ fs) m o n = asks_last_ordered g pred args many f.many f fs m o n
 
 cut_ordered : (p : Place) (m : Mid) → MidOrdered m → MidOrdered (cut_to p m)
@@ -257,6 +280,14 @@ seeks_ordered : (g : Setting) (f : Find) (e : Effect) (m : Mid) → MidOrdered m
 seeks_ordered g f (Acts act) m o = done_ordered g act m o
 seeks_ordered g f (Offers k bs w) m o = (o, tt)
 
+queries_ordered : (g : Setting) (t : Option Target) (args : List Value) (many : Bool) (next : ℕ) (m : Mid) → MidOrdered m → StatusOrdered (queries g t args many next m)
+queries_ordered g None args many next m o = o.choices
+queries_ordered g (Some t) args many next m o = calls_ordered g t (call_of args many next m) m o (named_now m o)
+
+queries_last_ordered : (g : Setting) (t : Option Target) (args : List Value) (many : Bool) (m : Mid) → MidOrdered m → StatusOrdered (queries_last g t args many m)
+queries_last_ordered g None args many m o = o.choices
+queries_last_ordered g (Some t) args many m o = last_ordered g t args many m.frames m o o.named.frames_are
+
 does_ordered : (g : Setting) (x : Op) (m : Mid) → MidOrdered m → StatusOrdered (does g x m)
 does_ordered g (op.Do a) m o = let k = cells g.game.program (terms_of a) in charged_ordered g k m _ (done_ordered g (act_at g.game [] a (more k m)) (more k m) (more_ordered k m o))
 does_ordered g (op.Ask pred terms many next) m o =
@@ -264,7 +295,11 @@ does_ordered g (op.Ask pred terms many next) m o =
     charged_ordered g _ m _ (asks_ordered g pred (call_of (values g m terms) many next m') m' o' (named_now m' o'))
 does_ordered g (op.LastAsk pred terms many) m o =
     let m' = more (cells g.game.program terms) m in let o' = more_ordered (cells g.game.program terms) m o in
-    charged_ordered g _ m _ (last_ordered g pred (values g m terms) many m.frames m' o' o'.named.frames_are)
+    charged_ordered g _ m _ (last_ordered g (ToPred pred) (values g m terms) many m.frames m' o' o'.named.frames_are)
+does_ordered g (op.Query a b many next) m o =
+    let k = cells g.game.program (a ∷ option_terms b) in charged_ordered g k m _ (queries_ordered g (asked_by g a m) (values g m (option_terms b)) many next (more k m) (more_ordered k m o))
+does_ordered g (op.LastQuery a b many) m o =
+    let k = cells g.game.program (a ∷ option_terms b) in charged_ordered g k m _ (queries_last_ordered g (asked_by g a m) (values g m (option_terms b)) many (more k m) (more_ordered k m o))
 does_ordered g (op.Find place terms many next) m o =
     let k = cells g.game.program terms in
     let m' = more k m in

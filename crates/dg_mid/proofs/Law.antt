@@ -4,6 +4,9 @@ use Rattle.std.specs.Prelude.{get_or, ◌-◌, nat_lt, if◌then◌else◌}
 use Rattle.std.specs.List.{zip}
 use Rattle.std.proofs.lemmas.Bool.{cond_both}
 use Rattle.dg_base.specs.declared.program.Term.{Term}
+use Rattle.dg_base.specs.Goals.{option_terms}
+use Rattle.dg_meaning.specs.Substitutions.{links}
+use Rattle.dg_mid.specs.declared.code.BodyCode.{BodyCode}
 use Rattle.dg_meaning.specs.Values.{Num, Object, Value, leaf, value_of}
 use Rattle.dg_meaning.specs.Unify.{Unified, Equations, solve}
 use Rattle.dg_meaning.specs.World.{World, worked, Gathering, Print, Prints, gathered_size, gathered_at, gathered_with}
@@ -22,9 +25,9 @@ use Rattle.dg_mid.specs.declared.code.Gathered.TheVariants as gathered
 use Rattle.dg_mid.specs.declared.code.RuleCode.{RuleCode}
 use Rattle.dg_mid.specs.declared.code.Code.{Code}
 use Rattle.dg_mid.specs.Code.{block_at, rules_at, selected, excluded}
-use Rattle.dg_mid.specs.State.{Place, Frame, Call, Find, Way, Goes, Calls, Tries, Stop, Choice, Mid, Status, Runs, Enters, Resumes, Fails, Ended, vars_of, cut_of, place_of, inner_for, cut_choices, stop_to}
-use Rattle.dg_mid.specs.Step.{Setting, values, seeks, trying, tries, done, made_in, gathers, gathering, without_gathering, taken_out, step, runs, does, charged, more, unified, bound, trail_more, if_agreed, if_passed, inside, passed, within, cut_to, enters, begins, asks, asks_last, last, first_of, returned, returns, commits, refuses, leaves, keeps, new_frame, enter, entered, resumed, goes_on, goes_back, at_rule, is_goal, call_of, shielded, gathering, stopped, stops, stops_at}
-use Rattle.dg_mid.specs.Units.{units, units_of, earned, earned_of, earned_by, effort, entering, drops, dropped, dropped_in, dropped_once, undone, unwound, unwound_to, one_if, act_work, effect_work, found_work, dropped_by, resuming, units_by}
+use Rattle.dg_mid.specs.State.{Place, Frame, Call, Target, ToPred, ToBody, Find, Way, Goes, Calls, Tries, Stop, Choice, Mid, Status, Runs, Enters, Resumes, Fails, Ended, vars_of, cut_of, place_of, inner_for, cut_choices, stop_to}
+use Rattle.dg_mid.specs.Step.{Setting, parameter, body_frame, body_equations, enters_body, calls, queries, queries_last, asked_by, values, seeks, trying, tries, done, made_in, gathers, gathering, without_gathering, taken_out, step, runs, does, charged, more, unified, bound, trail_more, if_agreed, if_passed, inside, passed, within, cut_to, enters, begins, asks, asks_last, last, first_of, returned, returns, commits, refuses, leaves, keeps, new_frame, enter, entered, resumed, goes_on, goes_back, at_rule, is_goal, call_of, shielded, gathering, stopped, stops, stops_at}
+use Rattle.dg_mid.specs.Units.{units, units_of, earned, earned_of, earned_by, effort, entering, drops, dropped, dropped_in, dropped_once, undone, unwound, unwound_to, one_if, act_work, effect_work, found_work, body_work, query_work, dropped_by, resuming, units_by}
 use Rattle.dg_mid.specs.Potential.{cut_from, pending, all_pending, nothing, is_goto, is_return, returning, due_at, due, stored, potential, begins_goto, begins_return, OpTidy, OpsTidy, EntersRule, AllEnter, Tidy, CutsFirst, MayAnswer, FramesTidy, Lower, CallFine, WayFine, ChoicesFine, FineWith, MidFine, Reaching, StatusFine, Affords}
 use Rattle.dg_mid.proofs.Pending.{one_gone, cut_falls, pending_falls, Fewer, all_fewer, choices_fewer, nothing_fewer, choices_trail, cut_fine, cut_pending, cut_lower, cut_length, WithPlace, with_fewer, executed, opened, opened_fine}
 use Rattle.dg_mid.specs.Actions.{terms_of, act_at, registers_of, world_of, world_by, outside_in}
@@ -238,37 +241,6 @@ module _ (g : Setting) (tidy : Tidy g.code) (rules : (pred : ℕ) → AllEnter g
   asks_pays u b pred call m h t a le = begins_pays u b call (selected (first_of m.state.subst call) (rules_at g.code pred)) m h t a (all_selected (first_of m.state.subst call) (rules_at g.code pred) (rules pred)) le
 
   -- the frame that goes on is dropped, or it cuts
-  last_pays : (u b pred : ℕ) (args : List Value) (many yes : Bool) (f : Frame) (fs : List Frame) (m : Mid) → m.frames ≡ f ∷ fs → f.many ≡ yes → FineWith g.code (f ∷ fs) m.inner m.choices m.next_tag m.state.trail →
-      u + (7 + stored (pending (f ∷ fs) m.inner) m.choices m.state.trail) ≤ b → Affords g.code u b (asks_last g pred args many yes f fs m)
-  last_pays u b pred args many true f fs m is e h le =
-      let w : Fewer (pending fs f.inner) (pending (f ∷ fs) m.inner) = record {
-        less = λ u. omega arith;
-        gone = λ u v a. let x = pending_falls u v [] m.inner a in let y = cut_falls u v f.many f.cut a in omega (arith, x, y);
-      } in
-      asks_pays u b pred (call_of args many f.next m) (record m { frames = fs; inner = f.inner })
-      (fewer_fine (f ∷ fs) m.inner fs f.inner m.choices m.next_tag m.state.trail w h.frames_are.1 h) refl h.frames_are.0
-      (let x = all_fewer (pending fs f.inner) (pending (f ∷ fs) m.inner) m.choices w in omega (arith, le, x))
-  last_pays u b pred args many false f fs m is e h le =
-      let w = inner_gone (f ∷ fs) m.inner in
-      let here = fewer_fine (f ∷ fs) m.inner (f ∷ fs) [] m.choices m.next_tag m.state.trail w h.frames_are h in
-      asks_pays u b pred (call_of args many 0 m) (record m { inner = [] })
-      (subst (λ l. FineWith g.code l [] m.choices m.next_tag m.state.trail) (sym is) here) refl (λ x. subst CutsFirst (sym is) e)
-      (let x = all_fewer (pending (f ∷ fs) []) (pending (f ∷ fs) m.inner) m.choices w in
-      subst (λ l. u + (7 + stored (pending l []) m.choices m.state.trail) ≤ b) (sym is) (omega (arith, le, x)))
-
-  lasts_pays : (u b pred : ℕ) (args : List Value) (many : Bool) (frames : List Frame) (m : Mid) → m.frames ≡ frames → FineWith g.code frames m.inner m.choices m.next_tag m.state.trail →
-      u + (7 + stored (pending frames m.inner) m.choices m.state.trail) ≤ b → Affords g.code u b (last g pred args many frames m)
-  lasts_pays u b pred args many [] m is h le =
-      let w = inner_gone [] m.inner in
-      let here = fewer_fine [] m.inner [] [] m.choices m.next_tag m.state.trail w h.frames_are h in
-      asks_pays u b pred (call_of args many 0 m) (record m { inner = [] })
-      (subst (λ l. FineWith g.code l [] m.choices m.next_tag m.state.trail) (sym is) here) refl (λ x. subst CutsFirst (sym is) tt)
-      (let x = all_fewer (pending [] []) (pending [] m.inner) m.choices w in
-      subst (λ l. u + (7 + stored (pending l []) m.choices m.state.trail) ≤ b) (sym is) (omega (arith, le, x)))
-  lasts_pays u b pred args many (f ∷ fs) m is h le = last_pays u b pred args many f.many f fs m is refl h le
-
-  -- ## Rules
-
   frame_opens : (many : Bool) (p : Place) (frames : List Frame) (inner : List Place) (N' : ℕ → ℕ) (cs : List Choice) (trail : ℕ) → ((u : ℕ) → N' u ≡ cut_from u many p + pending frames inner u) → Reaching p.tag cs → ChoicesFine g.code (pending frames inner) trail cs →
       ChoicesFine g.code N' trail cs × (all_pending N' cs ≤ suc (all_pending (pending frames inner) cs))
   frame_opens true p frames inner N' [] trail is r h = (tt, let a = is 0 in omega (arith, a))
@@ -282,6 +254,67 @@ module _ (g : Setting) (tidy : Tidy g.code) (rules : (pred : ℕ) → AllEnter g
   no_cut : (t : ℕ) (many : Bool) (p : Place) → p.tag < t → cut_from t many p ≡ 0
   no_cut t true p lt = refl
   no_cut t false p lt = one_gone t p lt
+
+  -- a body is entered, and what is called pays with its work
+  opens_pays : (u b : ℕ) (c : BodyCode) (captured : List Value) (call : Call) (m : Mid) → MidFine g.code m → call.cut.tag ≡ m.next_tag → MayAnswer g.code call.next m.frames →
+      u + (7 + stored (pending m.frames m.inner) m.choices m.state.trail) + 12 * body_work g (ToBody c captured) call.args m.state.subst m.state.vars ≤ b → Affords g.code (u + body_work g (ToBody c captured) call.args m.state.subst m.state.vars) b (enters_body g c captured call m)
+  opens_pays u b c captured call m h t a le =
+      let w = body_work g (ToBody c captured) call.args m.state.subst m.state.vars in
+      let n = 6 + c.own + cells g.game.program (parameter captured call.args) in
+      let f = body_frame captured c.own call m in
+      let m' : Mid = record (passed m) { ops = block_at g.code c.block; state = record m.state { vars = m.state.vars + c.own; heap = m.state.heap + n } } in
+      let es : Equations = body_equations g captured c.own call.args m.state.vars in
+      let un = solve m.state.subst es in
+      let few = few_trailed m.state es in
+      let p = passes_fine m h in
+      let on = frame_opens call.many call.cut m.frames m.inner (pending (f ∷ m.frames) []) m.choices m.state.trail (λ u. omega arith) (subst (λ k. Reaching k m.choices) (sym t) (reaching m.next_tag m.choices h.lower)) h.choices_are in
+      charge (u + w) b n m (unified g un m' (Runs (record (bound un m') { frames = f ∷ m.frames; inner = [] })))
+      (unifies (u + w) b un m' (Runs (record (bound un m') { frames = f ∷ m.frames; inner = [] }))
+      (fails (u + w) b (bound un m') m.frames m.inner (choices_trail g.code (pending m.frames m.inner) m.state.trail (trail_more m.state un) m.choices (omega arith) h.choices_are) (omega (arith, le, few)))
+      (follows (u + w) b (record (bound un m') { frames = f ∷ m.frames; inner = [] })
+      (record {
+        newest = let x = no_cut (m.next_tag + 1) call.many call.cut (omega (arith, t)) in let y = p.newest in omega (arith, x, y);
+        lower = p.lower;
+        frames_are = (a, h.frames_are);
+        choices_are = choices_trail g.code (pending (f ∷ m.frames) []) m.state.trail (trail_more m.state un) m.choices (omega arith) on.0;
+      })
+      (tidy.blocks c.block) (let x = on.1 in omega (arith, le, few, x))))
+
+  calls_pays : (u b : ℕ) (t : Target) (call : Call) (m : Mid) → MidFine g.code m → call.cut.tag ≡ m.next_tag → MayAnswer g.code call.next m.frames →
+      u + (7 + stored (pending m.frames m.inner) m.choices m.state.trail) + 12 * body_work g t call.args m.state.subst m.state.vars ≤ b → Affords g.code (u + body_work g t call.args m.state.subst m.state.vars) b (calls g t call m)
+  calls_pays u b (ToPred pred) call m h t a le = let p = asks_pays u b pred call m h t a (omega (arith, le)) in record { fine = p.fine; few = let z = p.few in omega (arith, z) }
+  calls_pays u b (ToBody c captured) call m h t a le = opens_pays u b c captured call m h t a le
+
+  last_pays : (u b : ℕ) (pred : Target) (args : List Value) (many yes : Bool) (f : Frame) (fs : List Frame) (m : Mid) → m.frames ≡ f ∷ fs → f.many ≡ yes → FineWith g.code (f ∷ fs) m.inner m.choices m.next_tag m.state.trail →
+      u + (7 + stored (pending (f ∷ fs) m.inner) m.choices m.state.trail) + 12 * body_work g pred args m.state.subst m.state.vars ≤ b → Affords g.code (u + body_work g pred args m.state.subst m.state.vars) b (asks_last g pred args many yes f fs m)
+  last_pays u b pred args many true f fs m is e h le =
+      let w : Fewer (pending fs f.inner) (pending (f ∷ fs) m.inner) = record {
+        less = λ u. omega arith;
+        gone = λ u v a. let x = pending_falls u v [] m.inner a in let y = cut_falls u v f.many f.cut a in omega (arith, x, y);
+      } in
+      calls_pays u b pred (call_of args many f.next m) (record m { frames = fs; inner = f.inner })
+      (fewer_fine (f ∷ fs) m.inner fs f.inner m.choices m.next_tag m.state.trail w h.frames_are.1 h) refl h.frames_are.0
+      (let x = all_fewer (pending fs f.inner) (pending (f ∷ fs) m.inner) m.choices w in omega (arith, le, x))
+  last_pays u b pred args many false f fs m is e h le =
+      let w = inner_gone (f ∷ fs) m.inner in
+      let here = fewer_fine (f ∷ fs) m.inner (f ∷ fs) [] m.choices m.next_tag m.state.trail w h.frames_are h in
+      calls_pays u b pred (call_of args many 0 m) (record m { inner = [] })
+      (subst (λ l. FineWith g.code l [] m.choices m.next_tag m.state.trail) (sym is) here) refl (λ x. subst CutsFirst (sym is) e)
+      (let x = all_fewer (pending (f ∷ fs) []) (pending (f ∷ fs) m.inner) m.choices w in
+      subst (λ l. u + (7 + stored (pending l []) m.choices m.state.trail) + 12 * body_work g pred args m.state.subst m.state.vars ≤ b) (sym is) (omega (arith, le, x)))
+
+  lasts_pays : (u b : ℕ) (pred : Target) (args : List Value) (many : Bool) (frames : List Frame) (m : Mid) → m.frames ≡ frames → FineWith g.code frames m.inner m.choices m.next_tag m.state.trail →
+      u + (7 + stored (pending frames m.inner) m.choices m.state.trail) + 12 * body_work g pred args m.state.subst m.state.vars ≤ b → Affords g.code (u + body_work g pred args m.state.subst m.state.vars) b (last g pred args many frames m)
+  lasts_pays u b pred args many [] m is h le =
+      let w = inner_gone [] m.inner in
+      let here = fewer_fine [] m.inner [] [] m.choices m.next_tag m.state.trail w h.frames_are h in
+      calls_pays u b pred (call_of args many 0 m) (record m { inner = [] })
+      (subst (λ l. FineWith g.code l [] m.choices m.next_tag m.state.trail) (sym is) here) refl (λ x. subst CutsFirst (sym is) tt)
+      (let x = all_fewer (pending [] []) (pending [] m.inner) m.choices w in
+      subst (λ l. u + (7 + stored (pending l []) m.choices m.state.trail) + 12 * body_work g pred args m.state.subst m.state.vars ≤ b) (sym is) (omega (arith, le, x)))
+  lasts_pays u b pred args many (f ∷ fs) m is h le = last_pays u b pred args many f.many f fs m is refl h le
+
+  -- ## Rules
 
   rule_pays : (b vars : ℕ) (head : List Term) (call : Call) (m : Mid) → MidFine g.code m → CallFine g.code call m.frames m.next_tag → Reaching call.cut.tag m.choices → OpsTidy g.code m.ops →
       2 + stored (pending m.frames m.inner) m.choices m.state.trail + 13 * entering g call (op.Enter vars head ∷ []) m ≤ b → Affords g.code (1 + entering g call (op.Enter vars head ∷ []) m) b (enter g call vars head m)
@@ -444,6 +477,21 @@ module _ (g : Setting) (tidy : Tidy g.code) (rules : (pred : ℕ) → AllEnter g
       let vs = gathered_at m.next_tag m.gathered in
       number_pays 1 b (total vs) (value_of g.game.program (vars_of m.frames) into) (begun (registers_of m') (length vs) (world_of ps m')) m' h t (omega (arith, le)) (begun (registers_of m') (length vs) (world_of [] m'))
 
+  -- a query of a closure pays with its work
+  queries_pays : (u b : ℕ) (t : Option Target) (args : List Value) (many : Bool) (next : ℕ) (m : Mid) → MidFine g.code m → begins_return (block_at g.code next) ≡ false → u + (7 + stored (pending m.frames m.inner) m.choices m.state.trail) + 12 * query_work g t args m.state.subst m.state.vars ≤ b →
+      Affords g.code (u + query_work g t args m.state.subst m.state.vars + 0) b (queries g t args many next m)
+  queries_pays u b None args many next m h e le = fails _ b m m.frames m.inner h.choices_are (omega (arith, le))
+  queries_pays u b (Some t) args many next m h e le =
+      let p = calls_pays u b t (call_of args many next m) m h refl (λ e'. absurd (let k : false ≡ true = sym e ∙ e' in cc (k))) le in
+      record { fine = p.fine; few = let z = p.few in omega (arith, z) }
+
+  queries_last_pays : (u b : ℕ) (t : Option Target) (args : List Value) (many : Bool) (m : Mid) → MidFine g.code m → u + (7 + stored (pending m.frames m.inner) m.choices m.state.trail) + 12 * query_work g t args m.state.subst m.state.vars ≤ b →
+      Affords g.code (u + query_work g t args m.state.subst m.state.vars + 0) b (queries_last g t args many m)
+  queries_last_pays u b None args many m h le = fails _ b m m.frames m.inner h.choices_are (omega (arith, le))
+  queries_last_pays u b (Some t) args many m h le =
+      let p = lasts_pays u b t args many m.frames m refl h le in
+      record { fine = p.fine; few = let z = p.few in omega (arith, z) }
+
   -- a query of a place pays with its work
   seeks_pays : (c b : ℕ) (m : Mid) (ps : List Print) (f : Find) (t : ℕ) (x y : Effect) → AlikeAsked (registers_of m) (registers_of m) t [] (world_of ps m) (world_of [] m) f.place f.args true (numbers 0 g.game.program.objects) x y → MidFine g.code m → MayStop g.code m → OpsTidy g.code m.ops →
       c + 16 + stored (pending m.frames m.inner) m.choices m.state.trail + 2 * effect_work x ≤ b → Affords g.code (1 + (c + effect_work x) + 0) b (seeks g f y m)
@@ -461,7 +509,15 @@ module _ (g : Setting) (tidy : Tidy g.code) (rules : (pred : ℕ) → AllEnter g
       let p = act_pays (writing (terms_of a)) b m1 ps (cut_of m.frames).tag _ _ (effects_act (registers_of m1) (registers_of m1) (cut_of m.frames).tag [] (world_of ps m1) (world_of [] m1) _ _ same).1 h (λ t' e s ss f. let u = w t' e s ss f in record { fewer = u.fewer; trail = u.trail; fine = u.fine }) ts (omega (arith, le)) in
       charge _ b k (record m { ops = ops }) _ (record { fine = p.fine; few = let z = p.few in let y = drops_same (act_at g.game [] a (more k m)) ops (more k m) in omega (arith, z, y) })
   pays_op ps (op.Ask pred terms many next) ops m b h w t ts le = charge _ b _ (record m { ops = ops }) _ (asks_pays _ b pred (call_of (map (value_of g.game.program (vars_of m.frames)) terms) many next (more (cells g.game.program terms) (record m { ops = ops }))) (more (cells g.game.program terms) (record m { ops = ops })) h refl (λ e. absurd (let k : false ≡ true = sym t ∙ e in cc (k))) (omega (arith, le)))
-  pays_op ps (op.LastAsk pred terms many) ops m b h w t ts le = charge _ b _ (record m { ops = ops }) _ (lasts_pays _ b pred (map (value_of g.game.program (vars_of m.frames)) terms) many m.frames (more (cells g.game.program terms) (record m { ops = ops })) refl h (omega (arith, le)))
+  pays_op ps (op.LastAsk pred terms many) ops m b h w t ts le = charge _ b _ (record m { ops = ops }) _ (lasts_pays (1 + writing terms) b (ToPred pred) (map (value_of g.game.program (vars_of m.frames)) terms) many m.frames (more (cells g.game.program terms) (record m { ops = ops })) refl h (omega (arith, le)))
+  pays_op ps (op.Query a x many next) ops m b h w t ts le =
+      let k = cells g.game.program (a ∷ option_terms x) in
+      let p = queries_pays (1 + (writing (a ∷ option_terms x) + (1 + links m.state.subst (value_of g.game.program (vars_of m.frames) a)))) b (asked_by g a m) (values g m (option_terms x)) many next (more k (record m { ops = ops })) h t (omega (arith, le)) in
+      charge _ b k (record m { ops = ops }) _ (record { fine = p.fine; few = let z = p.few in omega (arith, z) })
+  pays_op ps (op.LastQuery a x many) ops m b h w t ts le =
+      let k = cells g.game.program (a ∷ option_terms x) in
+      let p = queries_last_pays (1 + (writing (a ∷ option_terms x) + (1 + links m.state.subst (value_of g.game.program (vars_of m.frames) a)))) b (asked_by g a m) (values g m (option_terms x)) many (more k (record m { ops = ops })) h (omega (arith, le)) in
+      charge _ b k (record m { ops = ops }) _ (record { fine = p.fine; few = let z = p.few in omega (arith, z) })
   pays_op ps (op.Find place terms many next) ops m b h w t ts le =
       let k = cells g.game.program terms in
       let m1 = more k (record m { ops = ops }) in

@@ -13,6 +13,7 @@ pub mod Excluded
 pub mod Calls
 pub mod Asks
 pub mod Finding
+pub mod Bodies
 pub mod Simulation
 pub mod Whole
 pub mod Shown

@@ -199,7 +199,7 @@ pub return : {least : ℕ} → {ps : List Print} → (set : Setting) (m : Mid) (
     Behind set.code frames rest → Here set.code m ps rest g n w run → least ≤ w.meters.work → Comes least ps set (returns set frames (record m { ops = ops })) g n run
 return {least = least} {ps = ps} set m ops [] rest g n w run below h le = fails_back set (record m { ops = ops }) [] g n w run (subst (λ l. Here set.code m ps l g n w run) below h) le
 return {least = least} {ps = ps} set m ops (f ∷ fs) rest g n w run below h le =
-    let a = answers set.code m ps (below.pred ∷ []) (first_alone f.many f.cut.tag (silents below.answered below.after)) g n w run (subst (λ l. Here set.code m ps l g n w run) below.is h) in
+    let a = answers set.code m ps below.noted (first_alone f.many f.cut.tag (silents below.answered below.after)) g n w run (subst (λ l. Here set.code m ps l g n w run) below.is h) in
     return_on set m ops f.many f fs below.answered below.after g n a.world run below.layer a.here (let x = a.work in omega (arith, le, x))
 
 pub finish : {least : ℕ} → {ps : List Print} → (set : Setting) (m : Mid) (g : Game) (n : ℕ) (w : World) (run : Run) → Here set.code m ps [] g n w run → least ≤ w.meters.work → Comes least ps set (Ended ending.Done) g n run

@@ -1,6 +1,6 @@
 -- The code of rules, written from the last rule to the first.
-use Rattle.std.proofs.Common.{◌≡◌, ◌<◌, ◌≤◌, ℕ, zero, suc, arith, inl, inr, List, [], ◌∷◌, ◌++◌, sym, ap, ◌∙◌, subst, length, append_assoc}
-use Rattle.std.specs.Prelude.{reverse, false, None}
+use Rattle.std.proofs.Common.{◌≡◌, ◌<◌, ◌≤◌, ℕ, zero, suc, arith, inl, inr, List, [], ◌∷◌, ◌++◌, refl, sym, ap, ◌∙◌, subst, length, append_assoc}
+use Rattle.std.specs.Prelude.{reverse, false, Some, None}
 use Rattle.std.proofs.lemmas.Bool.{cases_lt}
 use Rattle.std.proofs.lemmas.Option.{slice_get_past}
 use Rattle.std.specs.List.{slice_get}
@@ -8,6 +8,7 @@ use Rattle.std.proofs.lemmas.List.{append-nil, reverse-append}
 use Rattle.dg_base.specs.declared.program.Goal.TheVariants as goal
 use Rattle.dg_base.specs.declared.program.Rule.{Rule}
 use Rattle.dg_base.specs.declared.program.Pred.{Pred}
+use Rattle.dg_base.specs.declared.program.ClosureBody.{ClosureBody}
 use Rattle.dg_base.specs.declared.program.CoreProgram.{CoreProgram}
 use Rattle.dg_meaning.specs.OneRun.{Begins}
 use Rattle.dg_meaning.specs.Moves.{rules_of}
@@ -16,12 +17,13 @@ use Rattle.dg_mid.specs.declared.code.Op.{Op}
 use Rattle.dg_mid.specs.declared.code.Op.TheVariants as op
 use Rattle.dg_mid.specs.declared.code.Block.{Block}
 use Rattle.dg_mid.specs.declared.code.RuleCode.{RuleCode}
+use Rattle.dg_mid.specs.declared.code.BodyCode.{BodyCode}
 use Rattle.dg_mid.specs.declared.code.Code.{Code}
 use Rattle.dg_mid.specs.Code.{block_at, codes_of, ops_of, label_of, first_label}
-use Rattle.dg_mid.specs.Codes.{Returns, Finishes, Stands, returns, finishes, ask, RulesStand, Codes}
+use Rattle.dg_mid.specs.Codes.{Returns, Finishes, Stands, returns, finishes, ask, RulesStand, BodyStands, Codes}
 use Rattle.dg_mid.specs.Tidying.{BlockTidy, BlocksTidy}
 use Rattle.dg_mid.specs.Potential.{begins_goto, begins_return, OpsTidy, Tidy}
-use Rattle.dg_mid.specs.Writing.{PutsFirst, RuleFor, RulesFor, PredsFor, starting}
+use Rattle.dg_mid.specs.Writing.{StandsFor, Lands, PutsFirst, BodyFor, BodiesFor, RuleFor, RulesFor, PredsFor, starting}
 use Rattle.dg_mid.proofs.WritingLemmas.{reverse_put, block_made, made_begins, neat_tail, block_neat}
 use Rattle.dg_mid.proofs.Opening.{begins_here}
 
@@ -105,11 +107,60 @@ preds_more first old now all left others p codes more c h e on neat f put = reco
 pub preds_all : (first now : List Block) (all left : List Pred) (codes : List (List RuleCode)) → PredsDone first now all left codes → left ≡ [] → PredsFor now (reverse codes) all
 preds_all first now all left codes h none code begins n = subst (λ l. RulesStand code (codes_of (slice_get (reverse codes) n)) (rules_of (slice_get l n))) (sym (h.is ∙ ap (λ l. l ++ h.done) none)) (h.stands code begins n)
 
-pub codes_made : (program : CoreProgram) (code : Code) (first : List Block) → first ≡ starting program.entry → Begins first code.blocks → PredsFor code.blocks code.preds program.preds → Codes program code
-codes_made program code first begun on preds =
+-- The same for the bodies of closures.
+pub record BodiesDone (first now : List Block) (all left : List ClosureBody) (codes : List BodyCode) : Type 0 where
+  pub blocks : Begins first now
+  pub neat : BlocksTidy first → BlocksTidy now
+  pub done : List ClosureBody
+  pub is : all ≡ left ++ done
+  pub stands : BodiesFor now (reverse codes) done
+
+pub bodies_begun : (blocks : List Block) (all : List ClosureBody) (codes : List BodyCode) → codes ≡ [] → BodiesDone blocks blocks all all codes
+bodies_begun blocks all codes none = record {
+  blocks = begins_here blocks;
+  neat = λ h. h;
+  done = [];
+  is = sym (append-nil all);
+  stands = λ code begins n. subst (λ l. BodyStands code (slice_get (reverse l) n) None) (sym none) tt;
+}
+
+body_more : (code : Code) (codes : List BodyCode) (closures : List ClosureBody) (c : BodyCode) (x : ClosureBody) → BodyStands code (Some c) (Some x) → ((n : ℕ) → BodyStands code (slice_get codes n) (slice_get closures n)) →
+    (n : ℕ) → BodyStands code (slice_get (c ∷ codes) n) (slice_get (x ∷ closures) n)
+body_more code codes closures c x f h zero = f
+body_more code codes closures c x f h (suc n) = h n
+
+pub bodies_more : (first old now : List Block) (all left others : List ClosureBody) (x : ClosureBody) (codes more : List BodyCode) (c : BodyCode) → BodiesDone first old all left codes → left ≡ others ++ x ∷ [] → Begins old now → (BlocksTidy old → BlocksTidy now) → BodyFor now c x →
+    more ≡ codes ++ c ∷ [] → BodiesDone first now all others more
+bodies_more first old now all left others x codes more c h e on neat f put = record {
+  blocks = begins_on first old now h.blocks on;
+  neat = λ n. neat (h.neat n);
+  done = x ∷ h.done;
+  is = h.is ∙ ap (λ l. l ++ h.done) e ∙ append_assoc others (x ∷ []) h.done;
+  stands = λ code begins n. subst (λ l. BodyStands code (slice_get l n) (slice_get (x ∷ h.done) n)) (sym (ap reverse put ∙ reverse-append codes (c ∷ [])))
+      (body_more code (reverse codes) h.done c x (f code begins) (h.stands code (begins_on old now code.blocks on begins)) n);
+}
+
+pub bodies_all : (first now : List Block) (all left : List ClosureBody) (codes : List BodyCode) → BodiesDone first now all left codes → left ≡ [] → BodiesFor now (reverse codes) all
+bodies_all first now all left codes h none code begins n = subst (λ l. BodyStands code (slice_get (reverse codes) n) (slice_get l n)) (sym (h.is ∙ ap (λ l. l ++ h.done) none)) (h.stands code begins n)
+
+pub body_stands : (old mid now : List Block) (x : ClosureBody) (b : ℕ) (only ops : List Op) → only ≡ op.Return ∷ [] → PutsFirst x.body old mid (reverse only) (reverse ops) → Lands mid now (reverse ops) b → BodyFor now (record { own = x.own; block = b }) x
+body_stands old mid now x b only ops only_is puts lands code begins = (
+  refl,
+  lands.stands x.body Returns (subst (λ l. StandsFor mid (reverse ops) l Returns) (append-nil x.body) (puts.stands [] Returns (λ k begun. subst (λ l. Stands k (reverse l) [] Returns) (sym only_is) (returns [])))) code begins,
+)
+
+pub body_neat : (old mid now : List Block) (x : ClosureBody) (b : ℕ) (only ops : List Op) → only ≡ op.Return ∷ [] → PutsFirst x.body old mid (reverse only) (reverse ops) → Lands mid now (reverse ops) b → BlocksTidy old → BlocksTidy now
+body_neat old mid now x b only ops only_is puts lands h = (lands.neat (puts.neat (neat_tail old None only only_is h tt))).blocks_are
+
+pub preds_later : (old new : List Block) (codes : List (List RuleCode)) (preds : List Pred) → Begins old new → PredsFor old codes preds → PredsFor new codes preds
+preds_later old new codes preds on h code begins = h code (begins_on old new code.blocks on begins)
+
+pub codes_made : (program : CoreProgram) (code : Code) (first : List Block) → first ≡ starting program.entry → Begins first code.blocks → PredsFor code.blocks code.preds program.preds → BodiesFor code.blocks code.closures program.closures → Codes program code
+codes_made program code first begun on preds bodies =
     let blocks : code.blocks ≡ starting program.entry ++ on.behind = on.is ∙ ap (λ l. l ++ on.behind) begun in
     record {
       rules = preds code (begins_here code.blocks);
+      bodies = bodies code (begins_here code.blocks);
       answers = ap (λ l. ops_of (slice_get l 0)) blocks;
       starts = subst (λ l. Stands code l (goal.Ask program.entry [] false ∷ []) Finishes) (sym (ap (λ l. ops_of (slice_get l 1)) blocks))
           (ask program.entry [] false 2 [] [] Finishes (subst (λ l. Stands code l [] Finishes) (sym (ap (λ l. ops_of (slice_get l 2)) blocks)) (finishes [])));

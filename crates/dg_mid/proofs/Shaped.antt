@@ -1,12 +1,14 @@
 -- Each step keeps the shape of the open constructs.
 use Rattle.std.proofs.Common.{◌≡◌, ℕ, zero, suc, ◌+◌, ◌<◌, ◌≤◌, List, [], ◌∷◌, ◌++◌, Bool, true, false, Option, Some, None, refl, sym, ap, subst, arith, length, map}
-use Rattle.std.specs.Prelude.{get_or, nat_lt, eqb, ◌-◌}
+use Rattle.std.specs.Prelude.{slice_get, get_or, nat_lt, eqb, ◌-◌}
 use Rattle.std.specs.List.{zip}
 use Rattle.std.proofs.lemmas.Bool.{cond_both, eq-eqb, eqb-true}
 use Rattle.dg_base.specs.declared.program.Goal.{Goal}
 use Rattle.dg_base.specs.declared.program.Goal.TheVariants as goal
 use Rattle.dg_base.specs.declared.program.Term.{Term}
-use Rattle.dg_meaning.specs.Values.{Value, value_of}
+use Rattle.dg_meaning.specs.Values.{Closure, Value, Var, Node, Values, value_of}
+use Rattle.dg_meaning.specs.Substitutions.{walk}
+use Rattle.dg_base.specs.Goals.{option_terms}
 use Rattle.dg_meaning.specs.Unify.{Unified, solve}
 use Rattle.dg_base.specs.declared.run.Ending.TheVariants as ending
 use Rattle.dg_meaning.specs.World.{Gathering, gathered_size, gathered_with}
@@ -16,14 +18,15 @@ use Rattle.dg_mid.specs.declared.code.Op.{Op}
 use Rattle.dg_mid.specs.declared.code.Op.TheVariants as op
 use Rattle.dg_mid.specs.declared.code.Gathered.TheVariants as gathered
 use Rattle.dg_mid.specs.declared.code.RuleCode.{RuleCode}
+use Rattle.dg_mid.specs.declared.code.BodyCode.{BodyCode}
 use Rattle.dg_mid.specs.Actions.{terms_of, act_at, asked_at, found_at, world_of, outside_in}
 use Rattle.dg_mid.specs.declared.code.Code.{Code}
 use Rattle.dg_mid.specs.Code.{block_at, rules_at, selected, excluded}
-use Rattle.dg_mid.specs.State.{Place, Frame, Call, Find, Way, Goes, Calls, Tries, Stop, Choice, Mid, Status, Runs, Enters, Resumes, Fails, Ended, vars_of, cut_of, place_of, inner_for, cut_choices, stop_to}
-use Rattle.dg_mid.specs.Step.{Setting, values, does, seeks, trying, tries, done, made_in, gathers, without_gathering, taken_out, step, runs, charged, more, unified, bound, trail_more, if_agreed, if_passed, inside, passed, within, new_choice, enters, begins, asks, asks_last, last, first_of, returned, returns, commits, refuses, leaves, keeps, new_frame, new_stop, enter, entered, resumed, goes_on, goes_back, at_rule, call_of, shielded, gathering, stops, stops_at}
-use Rattle.dg_mid.specs.Codes.{End, Returns, Commits, Refuses, Backs, Leaves, Keeps, Stands, Others, last_list, more_lists, jumps, returns as stands_returns, commits as stands_commits, refuses as stands_refuses, backs, leaves as stands_leaves, keeps as stands_keeps, shields, collects, accumulates, finishes, acts, ask, last_ask, holds, objects, found_goals, found_end, only, either, selects, once, negates, branch, exhausts, forever}
+use Rattle.dg_mid.specs.State.{Place, Frame, Call, Target, ToPred, ToBody, Find, Way, Goes, Calls, Tries, Stop, Choice, Mid, Status, Runs, Enters, Resumes, Fails, Ended, vars_of, cut_of, place_of, inner_for, cut_choices, stop_to}
+use Rattle.dg_mid.specs.Step.{Setting, parameter, body_frame, body_equations, enters_body, calls, body_of, closure_at, queries, queries_last, asked_by, values, does, seeks, trying, tries, done, made_in, gathers, without_gathering, taken_out, step, runs, charged, more, unified, bound, trail_more, if_agreed, if_passed, inside, passed, within, new_choice, enters, begins, asks, asks_last, last, first_of, returned, returns, commits, refuses, leaves, keeps, new_frame, new_stop, enter, entered, resumed, goes_on, goes_back, at_rule, call_of, shielded, gathering, stops, stops_at}
+use Rattle.dg_mid.specs.Codes.{End, Returns, Commits, Refuses, Backs, Leaves, Keeps, Stands, Others, last_list, more_lists, jumps, returns as stands_returns, commits as stands_commits, refuses as stands_refuses, backs, leaves as stands_leaves, keeps as stands_keeps, shields, collects, accumulates, finishes, acts, ask, last_ask, query, last_query, holds, objects, found_goals, found_end, only, either, selects, once, negates, branch, exhausts, forever}
 use Rattle.dg_mid.specs.Potential.{one_from, cut_from, pending, ChoicesFine, MidFine, StatusFine}
-use Rattle.dg_mid.specs.Shapes.{StopOlder, head_of, Fits, FitsCode, BlockFits, plain, retry, takes, FramesFit, StopCovers, ActiveAt, Active, AllTrails, RuleFits, RulesFit, CallFits, GoesFit, TriesFit, WayFits, ChoicesShaped, MidShaped, ShapedAt, RunShaped, StatusShaped}
+use Rattle.dg_mid.specs.Shapes.{StopOlder, head_of, Fits, FitsCode, BlockFits, plain, retry, takes, FramesFit, StopCovers, ActiveAt, Active, AllTrails, RuleFits, RulesFit, BodyFits, MayBody, TargetFits, CallFits, GoesFit, TriesFit, WayFits, ChoicesShaped, MidShaped, ShapedAt, RunShaped, StatusShaped}
 use Rattle.dg_mid.proofs.Pending.{one_falls, cut_falls}
 use Rattle.dg_mid.proofs.Backs.{goes_plainly}
 use Rattle.dg_mid.proofs.Chosen.{branch_stands}
@@ -89,7 +92,7 @@ opened_s code f frames inner cs ss S t k chain h = lists_s code frames inner (re
 
 -- ## Steps
 
-module _ (g : Setting) (answers : block_at g.code 0 ≡ op.Return ∷ []) (rules : (pred : ℕ) → RulesFit g.code (rules_at g.code pred)) where
+module _ (g : Setting) (answers : block_at g.code 0 ≡ op.Return ∷ []) (rules : (pred : ℕ) → RulesFit g.code (rules_at g.code pred)) (bodies : (k : ℕ) → MayBody g.code (slice_get g.code.closures k)) where
   charge_s : (k : ℕ) (m : Mid) (next : Status) → StatusShaped g.code next → StatusShaped g.code (charged g k m next)
   charge_s zero m next h = h
   charge_s (suc k) m next h = cond_both (nat_lt g.limits.heap (m.state.heap + suc k)) (Ended ending.HeapLimit) next (StatusShaped g.code) (λ e. tt) (λ e. h)
@@ -121,26 +124,59 @@ module _ (g : Setting) (answers : block_at g.code 0 ≡ op.Return ∷ []) (rules
   asks_s : (pred : ℕ) (call : Call) (m : Mid) (chain : List ℕ) → ShapedAt g.code m chain → CallFits g.code call m.frames m.inner chain → StatusShaped g.code (asks g pred call m)
   asks_s pred call m chain h c = begins_s call (selected (first_of m.state.subst call) (rules_at g.code pred)) m chain h c (all_fit (first_of m.state.subst call) (rules_at g.code pred) (rules pred))
 
+  -- a body is entered
+  frame_s : (f : Frame) (m : Mid) (chain : List ℕ) → ShapedAt g.code m chain → MidShaped g.code (record f { inner = m.inner } ∷ m.frames) [] m.choices m.stops m.stop m.next_tag m.state.trail chain
+  frame_s f m chain h = opened_s g.code f m.frames m.inner m.choices m.stops m.stop m.next_tag m.state.trail chain h
+
+  opens_s : (c : BodyCode) (captured : List Value) (call : Call) (m : Mid) (chain : List ℕ) → ShapedAt g.code m chain → CallFits g.code call m.frames m.inner chain → BodyFits g.code c → StatusShaped g.code (enters_body g c captured call m)
+  opens_s c captured call m chain h cf s =
+      let n = 6 + c.own + cells g.game.program (parameter captured call.args) in
+      let f = body_frame captured c.own call m in
+      let m1 : Mid = record (passed m) { ops = block_at g.code c.block; state = record m.state { vars = m.state.vars + c.own; heap = m.state.heap + n } } in
+      let un = solve m.state.subst (body_equations g captured c.own call.args m.state.vars) in
+      let up = tag_s g.code (f ∷ m.frames) [] m.choices m.stops m.stop m.next_tag (m.next_tag + 1) (trail_more m.state un) chain (omega arith)
+      (trail_s g.code (f ∷ m.frames) [] m.choices m.stops m.stop m.next_tag m.state.trail (trail_more m.state un) chain (omega arith) (frame_s f m chain h)) in
+      charge_s n m _ (unify_s un m1 (Runs (record (bound un m1) { frames = f ∷ m.frames; inner = [] })) h.choices_are
+      (chain, up, record { r = chain; code_is = record { goals = s.body; end = Returns; stands = s.stands; fits = (refl, refl) }; frames_are = (cf.older, (cf.r, cf.next, cf.frames_are)) }))
+
+  calls_s : (t : Target) (call : Call) (m : Mid) (chain : List ℕ) → ShapedAt g.code m chain → CallFits g.code call m.frames m.inner chain → TargetFits g.code t → StatusShaped g.code (calls g t call m)
+  calls_s (ToPred pred) call m chain h c s = asks_s pred call m chain h c
+  calls_s (ToBody b captured) call m chain h c s = opens_s b captured call m chain h c s
+
+  -- what a value asks fits
+  abbrev MayTarget : Option Target → Type 0
+  MayTarget None = Unit {0}
+  MayTarget (Some t) = TargetFits g.code t
+
+  body_fits : (c : Option BodyCode) (parts : Values) → MayBody g.code c → MayTarget (body_of c parts)
+  body_fits None parts h = tt
+  body_fits (Some c) parts h = h
+
+  target_fits : (v : Value) → MayTarget (closure_at g.code v)
+  target_fits (Var x) = tt
+  target_fits (Node (Closure k) parts) = body_fits (slice_get g.code.closures k) parts (bodies k)
+  target_fits (Node f parts) = tt
+
   -- the block that answers
   answer_fits : (chain r : List ℕ) → chain ≡ r → FitsCode g.code (block_at g.code 0) chain r []
   answer_fits chain r e = record { goals = []; end = Returns; stands = subst (λ l. Stands g.code l [] Returns) (sym answers) (stands_returns []); fits = (refl, e) }
 
-  last_on_s : (yes : Bool) (pred : ℕ) (args : List Value) (many : Bool) (f : Frame) (fs : List Frame) (m : Mid) (chain r : List ℕ) → m.frames ≡ f ∷ fs → f.many ≡ yes → MidShaped g.code (f ∷ fs) [] m.choices m.stops m.stop m.next_tag m.state.trail chain → FramesFit g.code (f ∷ fs) r → chain ≡ r → StatusShaped g.code (asks_last g pred args many yes f fs m)
-  last_on_s true pred args many f fs m chain r is is_many h fit e =
-      asks_s pred (call_of args many f.next m) (record m { frames = fs; inner = f.inner }) chain
+  last_on_s : (yes : Bool) (pred : Target) (args : List Value) (many : Bool) (f : Frame) (fs : List Frame) (m : Mid) (chain r : List ℕ) → TargetFits g.code pred → m.frames ≡ f ∷ fs → f.many ≡ yes → MidShaped g.code (f ∷ fs) [] m.choices m.stops m.stop m.next_tag m.state.trail chain → FramesFit g.code (f ∷ fs) r → chain ≡ r → StatusShaped g.code (asks_last g pred args many yes f fs m)
+  last_on_s true pred args many f fs m chain r tf is is_many h fit e =
+      calls_s pred (call_of args many f.next m) (record m { frames = fs; inner = f.inner }) chain
       (same_s g.code (f ∷ fs) [] fs f.inner m.choices m.stops m.stop m.next_tag m.state.trail chain (λ u. let x = ap (λ y. cut_from u y f.cut) is_many in omega (arith, x)) h)
-      (record { r = fit.1.0; next = subst (λ l. FitsCode g.code (block_at g.code f.next) l fit.1.0 f.inner) (sym e) fit.1.1; frames_are = fit.1.2; older = h.here.older })
-  last_on_s false pred args many f fs m chain r is is_many h fit e =
-      asks_s pred (call_of args many 0 m) (record m { inner = [] }) chain
+      (record { r = fit.1.0; next = subst (λ l. FitsCode g.code (block_at g.code f.next) l fit.1.0 f.inner) (sym e) fit.1.1; frames_are = fit.1.2; older = h.here.older }) tf
+  last_on_s false pred args many f fs m chain r tf is is_many h fit e =
+      calls_s pred (call_of args many 0 m) (record m { inner = [] }) chain
       (subst (λ l. MidShaped g.code l [] m.choices m.stops m.stop m.next_tag m.state.trail chain) (sym is) h)
-      (record { r = r; next = answer_fits chain r e; frames_are = subst (λ l. FramesFit g.code l r) (sym is) fit; older = h.here.older })
+      (record { r = r; next = answer_fits chain r e; frames_are = subst (λ l. FramesFit g.code l r) (sym is) fit; older = h.here.older }) tf
 
-  last_s : (pred : ℕ) (args : List Value) (many : Bool) (frames : List Frame) (m : Mid) (chain r : List ℕ) → m.frames ≡ frames → MidShaped g.code frames [] m.choices m.stops m.stop m.next_tag m.state.trail chain → FramesFit g.code frames r → chain ≡ r → StatusShaped g.code (last g pred args many frames m)
-  last_s pred args many [] m chain r is h fit e =
-      asks_s pred (call_of args many 0 m) (record m { inner = [] }) chain
+  last_s : (pred : Target) (args : List Value) (many : Bool) (frames : List Frame) (m : Mid) (chain r : List ℕ) → TargetFits g.code pred → m.frames ≡ frames → MidShaped g.code frames [] m.choices m.stops m.stop m.next_tag m.state.trail chain → FramesFit g.code frames r → chain ≡ r → StatusShaped g.code (last g pred args many frames m)
+  last_s pred args many [] m chain r tf is h fit e =
+      calls_s pred (call_of args many 0 m) (record m { inner = [] }) chain
       (subst (λ l. MidShaped g.code l [] m.choices m.stops m.stop m.next_tag m.state.trail chain) (sym is) h)
-      (record { r = r; next = answer_fits chain r e; frames_are = subst (λ l. FramesFit g.code l r) (sym is) tt; older = h.here.older })
-  last_s pred args many (f ∷ fs) m chain r is h fit e = last_on_s f.many pred args many f fs m chain r is refl h fit e
+      (record { r = r; next = answer_fits chain r e; frames_are = subst (λ l. FramesFit g.code l r) (sym is) tt; older = h.here.older }) tf
+  last_s pred args many (f ∷ fs) m chain r tf is h fit e = last_on_s f.many pred args many f fs m chain r tf is refl h fit e
 
   -- answers
   return_s : (yes : Bool) (f : Frame) (fs : List Frame) (m : Mid) (chain r : List ℕ) → f.many ≡ yes → MidShaped g.code (f ∷ fs) [] m.choices m.stops m.stop m.next_tag m.state.trail chain → FramesFit g.code (f ∷ fs) r → chain ≡ r → StatusShaped g.code (Runs (returned g yes f fs m))
@@ -295,6 +331,14 @@ module _ (g : Setting) (answers : block_at g.code 0 ≡ op.Return ∷ []) (rules
     fits_empty : (N : List Place) → m.inner ≡ N → MidShaped g.code m.frames N m.choices m.stops m.stop m.next_tag m.state.trail chain
     fits_empty N e = subst (λ l. MidShaped g.code m.frames l m.choices m.stops m.stop m.next_tag m.state.trail chain) e h
 
+  queried_s : (t : Option Target) (args : List Value) (many : Bool) (next : ℕ) (m : Mid) (chain : List ℕ) → MayTarget t → ShapedAt g.code m chain → CallFits g.code (call_of args many next m) m.frames m.inner chain → StatusShaped g.code (queries g t args many next m)
+  queried_s None args many next m chain tf h c = h.choices_are
+  queried_s (Some t) args many next m chain tf h c = calls_s t (call_of args many next m) m chain h c tf
+
+  queried_last_s : (t : Option Target) (args : List Value) (many : Bool) (m : Mid) (chain r : List ℕ) → MayTarget t → MidShaped g.code m.frames [] m.choices m.stops m.stop m.next_tag m.state.trail chain → FramesFit g.code m.frames r → chain ≡ r → StatusShaped g.code (queries_last g t args many m)
+  queried_last_s None args many m chain r tf h fit e = h.choices_are
+  queried_last_s (Some t) args many m chain r tf h fit e = last_s t args many m.frames m chain r tf refl h fit e
+
   seeks_s : (f : Find) (e : Effect) (m : Mid) (goals : List Goal) (end : End) (chain r : List ℕ) → Stands g.code m.ops goals end → Stands g.code (block_at g.code f.next) (found_goals f.many goals) (found_end f.many goals end) → ShapedAt g.code m chain → FramesFit g.code m.frames r → Fits chain r end m.inner → StatusShaped g.code (seeks g f e m)
   seeks_s f (Acts act) m goals end chain r s o h fit fits = done_s act m goals end chain r s h fit fits
   seeks_s f (Offers k bs w) m goals end chain r s o h fit fits = (chain, h, record { r = r; goals = goals; end = end; stands = o; fits = fits; frames_are = fit })
@@ -330,7 +374,16 @@ module _ (g : Setting) (answers : block_at g.code 0 ≡ op.Return ∷ []) (rules
       charge_s _ (record m { ops = others }) _ (asks_s pred (call_of (map (value_of g.game.program (vars_of m.frames)) terms) many next (more (cells g.game.program terms) (record m { ops = others }))) (more (cells g.game.program terms) (record m { ops = others })) chain h
       (record { r = r; next = record { goals = goals'; end = end'; stands = s; fits = f }; frames_are = fit; older = h.here.older }))
   runs_s m ops goals end chain r (last_ask pred terms many others) fine h fit f =
-      charge_s _ (record m { ops = others }) _ (last_s pred (map (value_of g.game.program (vars_of m.frames)) terms) many m.frames (more (cells g.game.program terms) (record m { ops = others })) chain r refl (fits_empty m others chain r fine h fit [] f.0) fit f.1)
+      charge_s _ (record m { ops = others }) _ (last_s (ToPred pred) (map (value_of g.game.program (vars_of m.frames)) terms) many m.frames (more (cells g.game.program terms) (record m { ops = others })) chain r tt refl (fits_empty m others chain r fine h fit [] f.0) fit f.1)
+  runs_s m ops goals end chain r (query a b many next others goals' end' s) fine h fit f =
+      let k = cells g.game.program (a ∷ option_terms b) in
+      let m1 = more k (record m { ops = others }) in
+      charge_s k (record m { ops = others }) _ (queried_s (asked_by g a m) (values g m (option_terms b)) many next m1 chain (target_fits (walk m.state.subst (value_of g.game.program (vars_of m.frames) a))) h
+      (record { r = r; next = record { goals = goals'; end = end'; stands = s; fits = f }; frames_are = fit; older = h.here.older }))
+  runs_s m ops goals end chain r (last_query a b many others) fine h fit f =
+      let k = cells g.game.program (a ∷ option_terms b) in
+      charge_s k (record m { ops = others }) _ (queried_last_s (asked_by g a m) (values g m (option_terms b)) many (more k (record m { ops = others })) chain r (target_fits (walk m.state.subst (value_of g.game.program (vars_of m.frames) a)))
+      (fits_empty m others chain r fine h fit [] f.0) fit f.1)
   runs_s m ops goals end chain r (holds place terms many next others goals' end' s o) fine h fit f = finds_s (Some place) terms many next (record m { ops = others }) goals' end' chain r s o h fit f
   runs_s m ops goals end chain r (objects term many next others goals' end' s o) fine h fit f = finds_s None (term ∷ []) many next (record m { ops = others }) goals' end' chain r s o h fit f
   runs_s m ops goals end chain r (only list others goals' end' s) fine h fit f =

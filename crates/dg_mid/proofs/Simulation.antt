@@ -13,7 +13,7 @@ use Rattle.dg_mid.specs.Code.{block_at, selected}
 use Rattle.dg_mid.specs.State.{Way, Goes, Calls, Tries, Mid, Status, Runs, Enters, Resumes, Fails, Ended}
 use Rattle.dg_mid.specs.Step.{Setting, setting, runs, first_of, begins, goes_on as way_goes_on, at_goal, said_in, said_to, followed}
 use Rattle.dg_mid.specs.Units.{earned_of, earned_by}
-use Rattle.dg_mid.specs.Codes.{End, Stands, jumps, returns, commits, refuses, backs, leaves, keeps, finishes, acts, ask, last_ask, holds, objects, only, either, selects, once, negates, branch, exhausts, shields, collects, accumulates, forever, Codes}
+use Rattle.dg_mid.specs.Codes.{End, Stands, jumps, returns, commits, refuses, backs, leaves, keeps, finishes, acts, ask, last_ask, query, last_query, holds, objects, only, either, selects, once, negates, branch, exhausts, shields, collects, accumulates, forever, Codes}
 use Rattle.dg_mid.specs.Reads.{silents, Behind, RunsAt, ResumesAt, Comes, before, Simulates}
 use Rattle.dg_mid.proofs.Here.{Here, steps_of, answers}
 use Rattle.dg_mid.proofs.Marks as marks
@@ -24,6 +24,7 @@ use Rattle.dg_mid.proofs.Chosen as selects_on
 use Rattle.dg_mid.proofs.Backs as backs_on
 use Rattle.dg_mid.proofs.Calls.{rules_begin, enters_at, rule_open}
 use Rattle.dg_mid.proofs.Asks as asks_on
+use Rattle.dg_mid.proofs.Bodies as bodies
 use Rattle.dg_mid.proofs.Finding as finding
 
 -- what an instruction comes to
@@ -47,6 +48,8 @@ module _ (code : Code) (limits : Limits) (m : Mid) (ps : List Print) (rest : Lis
   runs_one {least = least} ops goals end (acts a others goals' end' s) h le = acts_on.acts code limits m a others goals' end' rest g n w run s below h le
   runs_one {least = least} ops goals end (ask pred terms many next others goals' end' s) h le = asks_on.ask code limits m ps others g n w run codes pred terms many (steps_of m goals' end' rest) h next goals' end' rest s below refl le
   runs_one {least = least} ops goals end (last_ask pred terms many others) h le = asks_on.last_ask code limits m ps others g n w run codes pred terms many rest h below le
+  runs_one {least = least} ops goals end (query a b many next others goals' end' s) h le = bodies.query_on code limits m ps others g n w run codes a b many (steps_of m goals' end' rest) h next goals' end' rest s below refl le
+  runs_one {least = least} ops goals end (last_query a b many others) h le = bodies.last_query_on code limits m ps others g n w run codes a b many rest h below le
   runs_one {least = least} ops goals end (holds place terms many next others goals' end' s o) h le = finding.holds_so code limits m others goals' end' rest g n w run s below place terms many next o h le
   runs_one {least = least} ops goals end (objects term many next others goals' end' s o) h le = finding.objects_so code limits m others goals' end' rest g n w run s below term many next o h le
   runs_one {least = least} ops goals end (only list others goals' end' s) h le = choices.only code limits m others goals' end' rest g n w run below list s h (omega (arith, le))

@@ -16,7 +16,7 @@ use Rattle.dg_mid.specs.declared.code.Code.{Code}
 use Rattle.dg_mid.specs.State.{Mid, Status, Runs, Enters, Resumes, Fails, Ended}
 use Rattle.dg_mid.specs.Step.{Setting, setting, step, said, followed, takes_goal, at_goal}
 use Rattle.dg_mid.specs.Units.{one_if, earned}
-use Rattle.dg_mid.specs.Codes.{Codes, End, Stands, jumps, returns, commits, refuses, backs, leaves, keeps, finishes, acts, ask, last_ask, holds, objects, only, either, selects, once, negates, branch, exhausts, shields, collects, accumulates, forever}
+use Rattle.dg_mid.specs.Codes.{Codes, End, Stands, jumps, returns, commits, refuses, backs, leaves, keeps, finishes, acts, ask, last_ask, query, last_query, holds, objects, only, either, selects, once, negates, branch, exhausts, shields, collects, accumulates, forever}
 use Rattle.dg_mid.specs.Reads.{none, At, before, Comes, RunsAt}
 use Rattle.dg_mid.specs.Runs.{start, Point, next, after, IsAt}
 use Rattle.dg_mid.proofs.Here.{Here, steps_of, answers, prints_dropped, followed_is}
@@ -75,6 +75,8 @@ module _ (g : Game) (code : Code) (limits : Limits) (codes : Codes g.program cod
   limited_one m ps ops goals end rest w r (acts a others goals' end' s) e h = limited g h.lives h.ways _ _ _ _ h.registers w r h.stands
   limited_one m ps ops goals end rest w r (ask pred terms many next others goals' end' s) e h = limited g h.lives h.ways _ _ _ _ h.registers w r h.stands
   limited_one m ps ops goals end rest w r (last_ask pred terms many others) e h = limited g h.lives h.ways _ _ _ _ h.registers w r h.stands
+  limited_one m ps ops goals end rest w r (query a b many next others goals' end' s) e h = limited g h.lives h.ways _ _ _ _ h.registers w r h.stands
+  limited_one m ps ops goals end rest w r (last_query a b many others) e h = limited g h.lives h.ways _ _ _ _ h.registers w r h.stands
   limited_one m ps ops goals end rest w r (holds place terms many next others goals' end' s o) e h = limited g h.lives h.ways _ _ _ _ h.registers w r h.stands
   limited_one m ps ops goals end rest w r (objects term many next others goals' end' s o) e h = limited g h.lives h.ways _ _ _ _ h.registers w r h.stands
   limited_one m ps ops goals end rest w r (only list others goals' end' s) e h = limited g h.lives h.ways _ _ _ _ h.registers w r h.stands

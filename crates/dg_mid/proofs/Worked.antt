@@ -54,11 +54,12 @@ code = record {
       ∷ block (op.Enter 0 (Num 1 ∷ []) ∷ op.Return ∷ [])
       ∷ block (op.Enter 0 (Num 2 ∷ []) ∷ op.Return ∷ []) ∷ [];
   preds = (record { key = key.Any; block = 3 } ∷ []) ∷ (record { key = key.Num 1; block = 5 } ∷ record { key = key.Num 2; block = 6 } ∷ []) ∷ [];
+  closures = [];
 }
 
 stands : Codes game.program code
 unfolding place.out-Term denote.Hole.Carrier.out
-stands = record { rules = rules; answers = refl; starts = ask 0 [] false 2 [] [] _ (finishes []) } where
+stands = record { rules = rules; bodies = λ n. tt; answers = refl; starts = ask 0 [] false 2 [] [] _ (finishes []) } where
   rules : (pred : ℕ) → RulesStand code (rules_at code pred) (rules_of (slice_get game.program.preds pred))
   rules zero = (record { ops = _; block = refl; body = ask 1 (Var 0 ∷ []) true 4 [] (goal.Print (Var 0) ∷ goal.Fail ∷ []) _ (acts (action.Print (Var 0)) _ _ _ (acts action.Fail _ _ _ (returns []))); key_is = refl }, tt)
   rules (suc zero) = (record { ops = _; block = refl; body = returns []; key_is = refl }, (record { ops = _; block = refl; body = returns []; key_is = refl }, tt))

@@ -16,7 +16,7 @@ use Rattle.dg_mid.specs.declared.code.Block.{Block}
 use Rattle.dg_mid.specs.declared.code.Code.{Code}
 use Rattle.dg_mid.specs.Code.{block_at, ops_of}
 use Rattle.dg_mid.specs.Actions.{goal_of}
-use Rattle.dg_mid.specs.Codes.{End, Returns, Stands, returns, acts, ask, last_ask}
+use Rattle.dg_mid.specs.Codes.{End, Returns, Stands, returns, acts, ask, last_ask, query, last_query}
 use Rattle.dg_mid.specs.declared.writing.Level.{Level}
 use Rattle.dg_mid.specs.declared.writing.Level.TheVariants as level
 use Rattle.dg_mid.specs.Potential.{begins_goto, begins_return, OpTidy, OpsTidy}
@@ -73,10 +73,12 @@ plain_first blocks (op.Goto b) ops h = elim h [ ]
 plain_first blocks op.Return ops h = elim h [ ]
 plain_first blocks (op.Retry alt) ops h = elim h [ ]
 plain_first blocks (op.Ask pred terms many next) ops h = elim h [ ]
+plain_first blocks (op.Query a b many next) ops h = elim h [ ]
 plain_first blocks x ops h = tt
 
 pub plain_query : (code : Code) (x : Op) → IsPlain x → OpTidy code x
 plain_query code (op.Ask pred terms many next) h = elim h [ ]
+plain_query code (op.Query a b many next) h = elim h [ ]
 plain_query code x h = tt
 
 plain_goto : (x : Op) (ops : List Op) → IsPlain x → begins_goto (x ∷ ops) ≡ false
@@ -213,4 +215,25 @@ puts_last old pred terms many ops new e e' = record {
       (subst (λ l. Stands code (op.LastAsk pred terms many ∷ []) (goal.Ask pred terms many ∷ l) end) (sym none.0)
       (subst (Stands code (op.LastAsk pred terms many ∷ []) (goal.Ask pred terms many ∷ [])) (sym none.1) (last_ask pred terms many [])));
   neat = λ h. neat_alone old new (op.LastAsk pred terms many) e' tt h.blocks_are;
+}
+
+-- ## Closures
+
+pub puts_query : (old now : List Block) (a : Term) (b : Option Term) (many : Bool) (ops new : List Op) (next : ℕ) → Lands old now (reverse ops) next → (ops ≡ op.Return ∷ [] → ⊥) → new ≡ op.Query a b many next ∷ [] → PutsFirst (goal.Query a b many ∷ []) old now (reverse ops) (reverse new)
+puts_query old now a b many ops new next lands not e = record {
+  stands = λ rest end s code begins. subst (λ l. Stands code (reverse l) (goal.Query a b many ∷ rest) end) (sym e) (query a b many next [] rest end (lands.stands rest end s code begins));
+  neat = λ h.
+      let l : LandsTidy now (reverse ops) next = lands.neat h in
+      let m : DoesMore now next = l.more (no_answer_back old ops not h.first) in
+      subst (λ k. Neat now (reverse k)) (sym e) (record { blocks_are = l.blocks_are; first = tt; queries = λ code begins. (m.more code begins, tt) });
+}
+
+pub puts_last_query : (old : List Block) (a : Term) (b : Option Term) (many : Bool) (ops new : List Op) → ops ≡ op.Return ∷ [] → new ≡ op.LastQuery a b many ∷ [] → PutsFirst (goal.Query a b many ∷ []) old old (reverse ops) (reverse new)
+puts_last_query old a b many ops new e e' = record {
+  stands = λ rest end s code begins.
+      let none = only_returns code rest end (subst (λ l. Stands code (reverse l) rest end) e (s code begins)) in
+      subst (λ l. Stands code (reverse l) (goal.Query a b many ∷ rest) end) (sym e')
+      (subst (λ l. Stands code (op.LastQuery a b many ∷ []) (goal.Query a b many ∷ l) end) (sym none.0)
+      (subst (Stands code (op.LastQuery a b many ∷ []) (goal.Query a b many ∷ [])) (sym none.1) (last_query a b many [])));
+  neat = λ h. neat_alone old new (op.LastQuery a b many) e' tt h.blocks_are;
 }

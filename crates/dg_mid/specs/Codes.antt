@@ -1,10 +1,11 @@
 -- Which code stands for which goals. Hold it against the Dialog manual, chapters "Choice points" and "Control flow".
-use Rattle.std.specs.Prelude.{ℕ, ◌≡◌, List, [], ◌∷◌, ◌++◌, Bool, true, false, Some, None, slice_get}
+use Rattle.std.specs.Prelude.{ℕ, ◌≡◌, List, [], ◌∷◌, ◌++◌, Bool, true, false, Option, Some, None, slice_get}
 use Rattle.dg_base.specs.declared.program.Goal.{Goal}
 use Rattle.dg_base.specs.declared.program.Goal.TheVariants as goal
 use Rattle.dg_base.specs.declared.program.Term.{Term}
 use Rattle.dg_base.specs.declared.program.Mode.{Mode}
 use Rattle.dg_base.specs.declared.program.Rule.{Rule}
+use Rattle.dg_base.specs.declared.program.ClosureBody.{ClosureBody}
 use Rattle.dg_base.specs.declared.program.CoreProgram.{CoreProgram}
 use Rattle.dg_meaning.specs.Moves.{rules_of}
 use Rattle.dg_mid.specs.declared.code.Op.{Op}
@@ -12,6 +13,7 @@ use Rattle.dg_mid.specs.declared.code.Op.TheVariants as op
 use Rattle.dg_mid.specs.declared.code.Action.{Action}
 use Rattle.dg_mid.specs.declared.code.Gathered.TheVariants as gathered
 use Rattle.dg_mid.specs.declared.code.RuleCode.{RuleCode}
+use Rattle.dg_mid.specs.declared.code.BodyCode.{BodyCode}
 use Rattle.dg_mid.specs.declared.code.Code.{Code}
 use Rattle.dg_mid.specs.Code.{block_at, rules_at, label_of, first_label}
 use Rattle.dg_mid.specs.Actions.{goal_of}
@@ -57,6 +59,11 @@ mutual
         Stands code (block_at code next) goals end → Stands code (op.Ask pred terms many next ∷ ops) (goal.Ask pred terms many ∷ goals) end
     last_ask : (pred : ℕ) (terms : List Term) (many : Bool) (ops : List Op) →
         Stands code (op.LastAsk pred terms many ∷ ops) (goal.Ask pred terms many ∷ []) Returns
+    -- a query of a closure, which goes on at a block; the last of a rule needs none
+    query : (a : Term) (b : Option Term) (many : Bool) (next : ℕ) (ops : List Op) (goals : List Goal) (end : End) →
+        Stands code (block_at code next) goals end → Stands code (op.Query a b many next ∷ ops) (goal.Query a b many ∷ goals) end
+    last_query : (a : Term) (b : Option Term) (many : Bool) (ops : List Op) →
+        Stands code (op.LastQuery a b many ∷ ops) (goal.Query a b many ∷ []) Returns
     -- a query of a place of the world, and of all objects, which goes on at a block where an object is found
     holds : (place : ℕ) (terms : List Term) (many : Bool) (next : ℕ) (ops : List Op) (goals : List Goal) (end : End) →
         Stands code ops goals end → Stands code (block_at code next) (found_goals many goals) (found_end many goals end) →
@@ -120,8 +127,15 @@ RulesStand code [] [] = Unit {0}
 RulesStand code (c ∷ cs) (rule ∷ rules) = RuleStands code c rule × RulesStand code cs rules
 RulesStand code cs rules = ⊥
 
--- The code stands for the program: for each of its rules, and from block 1 on for the query of its entry; block 0 answers a rule.
+-- The code of the body of a closure stands for it; without the one there is none of the other.
+abbrev pub BodyStands : Code → Option BodyCode → Option ClosureBody → Type 0
+BodyStands code None None = Unit {0}
+BodyStands code (Some c) (Some closure) = (c.own ≡ closure.own) × Stands code (block_at code c.block) closure.body Returns
+BodyStands code c closure = ⊥
+
+-- The code stands for the program: for each of its rules and closures, and from block 1 on for the query of its entry; block 0 answers a rule.
 pub record Codes (program : CoreProgram) (code : Code) : Type 0 where
   pub rules : (pred : ℕ) → RulesStand code (rules_at code pred) (rules_of (slice_get program.preds pred))
+  pub bodies : (n : ℕ) → BodyStands code (slice_get code.closures n) (slice_get program.closures n)
   pub answers : block_at code 0 ≡ op.Return ∷ []
   pub starts : Stands code (block_at code 1) (goal.Ask program.entry [] false ∷ []) Finishes

@@ -13,5 +13,4 @@ pub mod Shapes
 pub mod Laws
 pub mod Tidying
 pub mod Writing
-pub mod Coded
 pub mod Copying

@@ -96,6 +96,7 @@ begins_return (x ∷ ops) = is_return x
 -- A query goes on at more than an answer, else it is a last one.
 abbrev pub OpTidy : Code → Op → Type 0
 OpTidy code (op.Ask pred terms many next) = begins_return (block_at code next) ≡ false
+OpTidy code (op.Query a b many next) = begins_return (block_at code next) ≡ false
 OpTidy code x = Unit {0}
 
 -- So it is with each of some instructions.

@@ -58,13 +58,13 @@ pub record Layer (behind : List Step → Type 0) (code : Code) (ops : List Op) (
   pub below : behind rest
   pub is : steps ≡ goals_at env t goals ++ end_steps end env t inner rest
 
--- What stands behind the rule of the newest frame.
+-- What stands behind the rule of the newest frame; of the body of a closure no answer is noted.
 pub record Link (behind : List Step → Type 0) (code : Code) (f : Frame) (fs : List Frame) (rest : List Step) : Type 0 where
-  pub pred : ℕ
+  pub noted : List ℕ
   pub answered : List ℕ
   pub after : List Step
   pub layer : Layer behind code (block_at code f.next) (vars_of fs) (cut_of fs).tag f.inner after
-  pub is : rest ≡ Answers pred ∷ first_alone f.many f.cut.tag (silents answered after)
+  pub is : rest ≡ silents noted (first_alone f.many f.cut.tag (silents answered after))
 
 -- What stands behind the rules of some frames; behind the last of them it fails.
 abbrev pub Behind : Code → List Frame → List Step → Type 0

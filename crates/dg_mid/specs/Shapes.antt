@@ -6,10 +6,11 @@ use Rattle.dg_mid.specs.declared.code.Op.{Op}
 use Rattle.dg_mid.specs.declared.code.Op.TheVariants as op
 use Rattle.dg_mid.specs.declared.code.Gathered.{Gathered}
 use Rattle.dg_mid.specs.declared.code.RuleCode.{RuleCode}
+use Rattle.dg_mid.specs.declared.code.BodyCode.{BodyCode}
 use Rattle.dg_mid.specs.declared.code.Code.{Code}
 use Rattle.dg_mid.specs.Code.{block_at}
 use Rattle.dg_mid.specs.Codes.{End, Returns, Commits, Refuses, Backs, Leaves, Keeps, Finishes, found_goals, found_end, Stands}
-use Rattle.dg_mid.specs.State.{Place, Frame, Call, Find, Way, Goes, Calls, Tries, Stop, Choice, Mid, Status, Runs, Enters, Resumes, Fails, Ended}
+use Rattle.dg_mid.specs.State.{Place, Frame, Call, Target, ToPred, ToBody, Find, Way, Goes, Calls, Tries, Stop, Choice, Mid, Status, Runs, Enters, Resumes, Fails, Ended}
 use Rattle.dg_mid.specs.Potential.{pending, FramesTidy}
 
 -- The innermost stoppable part, where there is one, is older than a tag.
@@ -118,6 +119,20 @@ pub record RuleFits (code : Code) (ops : List Op) : Type 0 where
 abbrev pub RulesFit : Code → List RuleCode → Type 0
 RulesFit code [] = Unit {0}
 RulesFit code (r ∷ rs) = RuleFits code (block_at code r.block) × RulesFit code rs
+
+-- The code of the body of a closure, where there is one, stands for its goals.
+pub record BodyFits (code : Code) (c : BodyCode) : Type 0 where
+  pub body : List Goal
+  pub stands : Stands code (block_at code c.block) body Returns
+
+abbrev pub MayBody : Code → Option BodyCode → Type 0
+MayBody code None = Unit {0}
+MayBody code (Some c) = BodyFits code c
+
+-- So it is with what is asked.
+abbrev pub TargetFits : Code → Target → Type 0
+TargetFits code (ToPred pred) = Unit {0}
+TargetFits code (ToBody c captured) = BodyFits code c
 
 -- A call goes on at code that fits.
 pub record CallFits (code : Code) (call : Call) (frames : List Frame) (inner : List Place) (chain : List ℕ) : Type 0 where

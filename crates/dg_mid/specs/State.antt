@@ -8,6 +8,7 @@ use Rattle.dg_meaning.specs.World.{Gathering}
 use Rattle.dg_unify.specs.Store.{State}
 use Rattle.dg_mid.specs.declared.code.Op.{Op}
 use Rattle.dg_mid.specs.declared.code.RuleCode.{RuleCode}
+use Rattle.dg_mid.specs.declared.code.BodyCode.{BodyCode}
 
 -- A place to which a cut goes: how many choices were opened before it along the path, the height of the heap there, and the innermost stoppable part there. Heights order places as numbers do, and are what an engine keeps.
 pub record Place : Type 0 where
@@ -29,6 +30,11 @@ pub record Call : Type 0 where
   pub many : Bool
   pub next : ℕ
   pub cut : Place
+
+-- What is asked: a predicate, or the body of a closure with what it has captured.
+pub data Target : Type 0 where
+  ToPred : (pred : ℕ) → Target
+  ToBody : (body : BodyCode) → (captured : List Value) → Target
 
 -- A query of the objects at a place, or without one of all objects: its arguments, whether all its answers are wanted, and the block behind an object that is found.
 pub record Find : Type 0 where

@@ -2,11 +2,14 @@
 use Rattle.std.specs.Prelude.{ℕ, zero, suc, ◌+◌, ◌++◌, ◌-◌, nat_lt, List, [], ◌∷◌, Option, Some, None, Bool, true, false, length, map, get_or, drop, if◌then◌else◌}
 use Rattle.std.specs.List.{zip, slice_get}
 use Rattle.dg_base.specs.declared.program.Term.{Term}
+use Rattle.dg_base.specs.declared.program.Term.TheVariants.{Var}
+use Rattle.dg_base.specs.Goals.{option_terms}
 use Rattle.dg_base.specs.declared.run.Limits.{Limits}
 use Rattle.dg_base.specs.declared.run.Ending.TheVariants as ending
-use Rattle.dg_meaning.specs.Values.{Value, value_of}
+use Rattle.dg_meaning.specs.Values.{Closure, Value, Node, Values, value_of}
 use Rattle.dg_meaning.specs.Substitutions.{Substitution, walk, resolved}
-use Rattle.dg_meaning.specs.Unify.{Unified, solve}
+use Rattle.dg_meaning.specs.Unify.{Unified, Equations, solve}
+use Rattle.dg_meaning.specs.Copies.{values_of}
 use Rattle.dg_meaning.specs.World.{Game, Print, Gathering, gathered_size, gathered_at, gathered_with, gathered_without}
 use Rattle.dg_meaning.specs.Path.{Registers, Act, Goes, Tests, Unifies, Ends, Fails as FailsNow, Stops, Effect, Acts, Offers}
 use Rattle.dg_meaning.specs.Cells.{cells}
@@ -17,9 +20,10 @@ use Rattle.dg_mid.specs.declared.code.Op.{Op}
 use Rattle.dg_mid.specs.declared.code.Op.TheVariants as op
 use Rattle.dg_mid.specs.declared.code.Gathered.{Gathered}
 use Rattle.dg_mid.specs.declared.code.RuleCode.{RuleCode}
+use Rattle.dg_mid.specs.declared.code.BodyCode.{BodyCode}
 use Rattle.dg_mid.specs.declared.code.Code.{Code}
 use Rattle.dg_mid.specs.Code.{block_at, rules_at, selected}
-use Rattle.dg_mid.specs.State.{Place, Frame, Call, Find, Way, Goes, Calls, Tries, Stop, Choice, Mid, Status, Runs, Enters, Resumes, Fails, Ended, vars_of, cut_of, place_of, inner_for, cut_choices, stop_to}
+use Rattle.dg_mid.specs.State.{Place, Frame, Call, Target, ToPred, ToBody, Find, Way, Goes, Calls, Tries, Stop, Choice, Mid, Status, Runs, Enters, Resumes, Fails, Ended, vars_of, cut_of, place_of, inner_for, cut_choices, stop_to}
 use Rattle.dg_mid.specs.Actions.{terms_of, whole_of, registers_of, world_of, act_at, asked_at, found_at, said_by, outside_in}
 
 -- What stays the same: the game, for what its program prints, captures and keeps, and for its dice, its code, and the limits.
@@ -137,6 +141,42 @@ begins g call (r ∷ rs) m = enters g call r (selected (first_of m.state.subst c
 abbrev pub asks : Setting → ℕ → Call → Mid → Status
 asks g pred call m = begins g call (selected (first_of m.state.subst call) (rules_at g.code pred)) m
 
+-- The parameter of a body, the first of its own variables, where there is an argument.
+abbrev pub parameter : List Value → List Value → List Term
+parameter captured [] = []
+parameter captured (v ∷ vs) = Var (length captured) ∷ []
+
+-- The frame of a body that is entered.
+abbrev pub body_frame : List Value → ℕ → Call → Mid → Frame
+body_frame captured own call m = record { vars = captured ++ new_vars own m.state.vars; cut = call.cut; many = call.many; next = call.next; inner = m.inner }
+
+-- The arguments of a call beside the parameter of a body, whose new variables are numbered from this on.
+abbrev pub body_equations : Setting → List Value → ℕ → List Value → ℕ → Equations
+body_equations g captured own args next = zip args (map (value_of g.game.program (captured ++ new_vars own next)) (parameter captured args))
+
+-- The body of a closure is entered, inside a choice that has no way on: its variables are made, and the argument is unified with its parameter.
+abbrev pub enters_body : Setting → BodyCode → List Value → Call → Mid → Status
+enters_body g c captured call m =
+    let n = 6 + c.own + cells g.game.program (parameter captured call.args) in
+    let m' = record (passed m) { ops = block_at g.code c.block; state = record m.state { vars = m.state.vars + c.own; heap = m.state.heap + n } } in
+    let u = solve m.state.subst (body_equations g captured c.own call.args m.state.vars) in
+    charged g n m (unified g u m' (Runs (record (bound u m') { frames = body_frame captured c.own call m ∷ m.frames; inner = [] })))
+
+-- It is called.
+abbrev pub calls : Setting → Target → Call → Mid → Status
+calls g (ToPred pred) call m = asks g pred call m
+calls g (ToBody c captured) call m = enters_body g c captured call m
+
+-- The body of a closure, if there is one of its number.
+abbrev pub body_of : Option BodyCode → Values → Option Target
+body_of None parts = None
+body_of (Some c) parts = Some (ToBody c (values_of parts))
+
+-- What a value, looked up, asks: the body of a closure, or nothing.
+abbrev pub closure_at : Code → Value → Option Target
+closure_at code (Node (Closure place) parts) = body_of (slice_get code.closures place) parts
+closure_at code v = None
+
 -- The values of terms.
 abbrev pub values : Setting → Mid → List Term → List Value
 values g m terms = map (value_of g.game.program (vars_of m.frames)) terms
@@ -146,14 +186,14 @@ abbrev pub call_of : List Value → Bool → ℕ → Mid → Call
 call_of args many next m = record { args = args; many = many; next = next; cut = place_of m }
 
 -- The last query of a rule: it goes on where the rule does, or, where the rule still has to cut, at the block that answers a rule.
-abbrev pub asks_last : Setting → ℕ → List Value → Bool → Bool → Frame → List Frame → Mid → Status
-asks_last g pred args many true f fs m = asks g pred (call_of args many f.next m) (record m { frames = fs; inner = f.inner })
-asks_last g pred args many false f fs m = asks g pred (call_of args many 0 m) (record m { inner = [] })
+abbrev pub asks_last : Setting → Target → List Value → Bool → Bool → Frame → List Frame → Mid → Status
+asks_last g t args many true f fs m = calls g t (call_of args many f.next m) (record m { frames = fs; inner = f.inner })
+asks_last g t args many false f fs m = calls g t (call_of args many 0 m) (record m { inner = [] })
 
 -- The same with these frames.
-abbrev pub last : Setting → ℕ → List Value → Bool → List Frame → Mid → Status
-last g pred args many [] m = asks g pred (call_of args many 0 m) (record m { inner = [] })
-last g pred args many (f ∷ fs) m = asks_last g pred args many f.many f fs m
+abbrev pub last : Setting → Target → List Value → Bool → List Frame → Mid → Status
+last g t args many [] m = calls g t (call_of args many 0 m) (record m { inner = [] })
+last g t args many (f ∷ fs) m = asks_last g t args many f.many f fs m
 
 -- The machine behind the answer of a rule; the rule's other choices are cut where one answer is wanted.
 abbrev pub returned : Setting → Bool → Frame → List Frame → Mid → Mid
@@ -266,6 +306,20 @@ abbrev pub seeks : Setting → Find → Effect → Mid → Status
 seeks g f (Acts act) m = done g act m
 seeks g f (Offers k bs w) m = Resumes (Tries f (numbers 0 g.game.program.objects)) m
 
+-- What a value asks is called, and fails where it asks nothing.
+abbrev pub queries : Setting → Option Target → List Value → Bool → ℕ → Mid → Status
+queries g None args many next m = Fails m
+queries g (Some t) args many next m = calls g t (call_of args many next m) m
+
+-- The same of the last query of a rule.
+abbrev pub queries_last : Setting → Option Target → List Value → Bool → Mid → Status
+queries_last g None args many m = Fails m
+queries_last g (Some t) args many m = last g t args many m.frames m
+
+-- What a term asks.
+abbrev pub asked_by : Setting → Term → Mid → Option Target
+asked_by g a m = closure_at g.code (walk m.state.subst (value_of g.game.program (vars_of m.frames) a))
+
 -- What an instruction leads to, where the machine is behind it.
 abbrev pub does : Setting → Op → Mid → Status
 does g (op.Do a) m = let n = cells g.game.program (terms_of a) in charged g n m (done g (act_at g.game [] a (more n m)) (more n m))
@@ -274,7 +328,13 @@ does g (op.Ask pred terms many next) m =
     charged g n m (asks g pred (call_of (values g m terms) many next (more n m)) (more n m))
 does g (op.LastAsk pred terms many) m =
     let n = cells g.game.program terms in
-    charged g n m (last g pred (values g m terms) many m.frames (more n m))
+    charged g n m (last g (ToPred pred) (values g m terms) many m.frames (more n m))
+does g (op.Query a b many next) m =
+    let n = cells g.game.program (a ∷ option_terms b) in
+    charged g n m (queries g (asked_by g a m) (values g m (option_terms b)) many next (more n m))
+does g (op.LastQuery a b many) m =
+    let n = cells g.game.program (a ∷ option_terms b) in
+    charged g n m (queries_last g (asked_by g a m) (values g m (option_terms b)) many (more n m))
 does g (op.Find place terms many next) m =
     let n = cells g.game.program terms in
     let f : Find = record { place = place; args = values g m terms; many = many; next = next } in
@@ -383,6 +443,8 @@ abbrev pub is_goal : Op → Bool
 is_goal (op.Do a) = true
 is_goal (op.Ask pred terms many next) = true
 is_goal (op.LastAsk pred terms many) = true
+is_goal (op.Query a b many next) = true
+is_goal (op.LastQuery a b many) = true
 is_goal (op.Find place terms many next) = true
 is_goal op.Take = true
 is_goal (op.Branch alt) = true

@@ -49,6 +49,7 @@ IsPlain (op.Goto b) = ⊥
 IsPlain op.Return = ⊥
 IsPlain (op.Retry alt) = ⊥
 IsPlain (op.Ask pred terms many next) = ⊥
+IsPlain (op.Query a b many next) = ⊥
 IsPlain x = Unit {0}
 
 -- ## What is open

@@ -2,8 +2,9 @@
 use Rattle.std.specs.Prelude.{ℕ, ◌+◌, ◌-◌, nat_lt, List, [], ◌∷◌, Option, Some, None, Bool, true, false, map, if◌then◌else◌}
 use Rattle.std.specs.List.{zip}
 use Rattle.dg_base.specs.declared.program.Term.{Term}
+use Rattle.dg_base.specs.Goals.{option_terms}
 use Rattle.dg_meaning.specs.Values.{Value, value_of}
-use Rattle.dg_meaning.specs.Substitutions.{resolved}
+use Rattle.dg_meaning.specs.Substitutions.{Substitution, links, resolved}
 use Rattle.dg_meaning.specs.Unify.{Equations, looks}
 use Rattle.dg_meaning.specs.Letters.{copied}
 use Rattle.dg_meaning.specs.World.{Print}
@@ -14,9 +15,9 @@ use Rattle.dg_unify.specs.Store.{State}
 use Rattle.dg_mid.specs.declared.code.Op.{Op}
 use Rattle.dg_mid.specs.declared.code.Op.TheVariants as op
 use Rattle.dg_mid.specs.Code.{block_at}
-use Rattle.dg_mid.specs.State.{Place, Frame, Call, Find, Way, Goes, Calls, Tries, Stop, Choice, Mid, Status, Runs, Enters, Resumes, Fails, Ended, vars_of, cut_of, stop_to}
+use Rattle.dg_mid.specs.State.{Place, Frame, Call, Target, ToPred, ToBody, Find, Way, Goes, Calls, Tries, Stop, Choice, Mid, Status, Runs, Enters, Resumes, Fails, Ended, vars_of, cut_of, stop_to}
 use Rattle.dg_mid.specs.Actions.{terms_of, act_at, asked_at, found_at, world_by}
-use Rattle.dg_mid.specs.Step.{Setting, more, is_goal, new_frame, values, trying, taken_out}
+use Rattle.dg_mid.specs.Step.{Setting, more, is_goal, new_frame, values, parameter, body_equations, asked_by, trying, taken_out}
 
 -- ## What the search counts
 
@@ -35,6 +36,22 @@ abbrev pub found_work : Setting → List Print → Find → List ℕ → Mid →
 found_work g ps f [] m = 0
 found_work g ps f (o ∷ os) m = act_work (found_at ps f o (trying g f os m))
 
+-- The work of entering the body of a closure, whose new variables are numbered from this on.
+abbrev pub body_work : Setting → Target → List Value → Substitution → ℕ → ℕ
+body_work g (ToPred pred) args S next = 0
+body_work g (ToBody c captured) args S next = 1 + writing (parameter captured args) + unifying S (body_equations g captured c.own args next)
+
+-- The work of calling what a value asks.
+abbrev pub query_work : Setting → Option Target → List Value → Substitution → ℕ → ℕ
+query_work g None args S next = 0
+query_work g (Some t) args S next = body_work g t args S next
+
+-- The work of a query of a closure, whose value is looked up.
+abbrev pub asking_work : Setting → Term → Option Term → Mid → ℕ
+asking_work g a b m =
+    writing (a ∷ option_terms b) + (1 + links m.state.subst (value_of g.game.program (vars_of m.frames) a))
+    + query_work g (asked_by g a m) (values g m (option_terms b)) m.state.subst m.state.vars
+
 -- The work of gathering a value inside these constructs: it is looked through and copied; without one nothing gathers.
 abbrev pub gathering_work : List Place → State → Value → ℕ
 gathering_work [] s v = 0
@@ -45,6 +62,8 @@ abbrev pub effort : Setting → List Print → Op → Mid → ℕ
 effort g ps (op.Do a) m = writing (terms_of a) + act_work (act_at g.game ps a (more (cells g.game.program (terms_of a)) m))
 effort g ps (op.Ask pred terms many next) m = writing terms
 effort g ps (op.LastAsk pred terms many) m = writing terms
+effort g ps (op.Query a b many next) m = asking_work g a b m
+effort g ps (op.LastQuery a b many) m = asking_work g a b m
 effort g ps (op.Find place terms many next) m =
     writing terms + effect_work (asked_at g.game ps place (values g m terms) (more (cells g.game.program terms) m))
 effort g ps (op.Collect term into alt) m = writing (term ∷ into ∷ [])

@@ -6,6 +6,7 @@ use Rattle.dg_base.specs.declared.program.Goal.TheVariants as goal
 use Rattle.dg_base.specs.declared.program.Term.{Term}
 use Rattle.dg_base.specs.declared.program.Rule.{Rule}
 use Rattle.dg_base.specs.declared.program.Pred.{Pred}
+use Rattle.dg_base.specs.declared.program.ClosureBody.{ClosureBody}
 use Rattle.dg_meaning.specs.OneRun.{Begins}
 use Rattle.dg_meaning.specs.Moves.{rules_of}
 use Rattle.dg_mid.specs.declared.code.Op.{Op}
@@ -14,6 +15,7 @@ use Rattle.dg_mid.specs.declared.code.Block.{Block}
 use Rattle.dg_mid.specs.declared.code.Gathered.{Gathered}
 use Rattle.dg_mid.specs.declared.code.Gathered.TheVariants as gathered
 use Rattle.dg_mid.specs.declared.code.RuleCode.{RuleCode}
+use Rattle.dg_mid.specs.declared.code.BodyCode.{BodyCode}
 use Rattle.dg_mid.specs.declared.code.Code.{Code}
 use Rattle.dg_mid.specs.declared.writing.Level.{Level}
 use Rattle.dg_mid.specs.declared.writing.Level.TheVariants as level
@@ -21,7 +23,7 @@ use Rattle.dg_mid.specs.declared.writing.Work.{Work}
 use Rattle.dg_mid.specs.declared.branches.Branching.{Branching}
 use Rattle.dg_mid.specs.Code.{block_at, codes_of}
 use Rattle.dg_mid.specs.Tidying.{BlocksTidy, Neat, LandsTidy, TailTidy, IsThere, WorkTidy}
-use Rattle.dg_mid.specs.Codes.{End, Stands, RuleStands, RulesStand, Others, Branches, found_goals, found_end}
+use Rattle.dg_mid.specs.Codes.{End, Stands, RuleStands, RulesStand, Others, Branches, BodyStands, found_goals, found_end}
 
 -- ## Growing
 
@@ -163,6 +165,14 @@ RulesFor blocks codes rules = (code : Code) → Begins blocks code.blocks → Ru
 abbrev pub PredsFor : List Block → List (List RuleCode) → List Pred → Type 0
 PredsFor blocks codes preds =
     (code : Code) → Begins blocks code.blocks → (pred : ℕ) → RulesStand code (codes_of (slice_get codes pred)) (rules_of (slice_get preds pred))
+
+-- In every code that begins with these blocks, the code of the body of a closure stands for it.
+abbrev pub BodyFor : List Block → BodyCode → ClosureBody → Type 0
+BodyFor blocks c closure = (code : Code) → Begins blocks code.blocks → BodyStands code (Some c) (Some closure)
+
+-- So it is for each of some closures.
+abbrev pub BodiesFor : List Block → List BodyCode → List ClosureBody → Type 0
+BodiesFor blocks codes closures = (code : Code) → Begins blocks code.blocks → (n : ℕ) → BodyStands code (slice_get codes n) (slice_get closures n)
 
 -- The first blocks of a program: the answer of a rule, the query of the entry, and the end of the run.
 abbrev pub starting : ℕ → List Block

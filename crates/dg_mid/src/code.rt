@@ -40,6 +40,10 @@ pub enum Op {
     Ask(u16, Items<Term>, bool, u32),
     /// The last query of a rule, which goes on where the rule does.
     LastAsk(u16, Items<Term>, bool),
+    /// A query of a closure with this argument, if there is one, for all its answers or for one, that goes on at a block.
+    Query(Term, Option<Term>, bool, u32),
+    /// The last query of a rule, where it is one of a closure.
+    LastQuery(Term, Option<Term>, bool),
     /// A query of a place of the world, or without one of all objects, by these arguments, for all its answers or for one. Where it is answered at once it goes on behind it, and for each object that it finds at a block.
     Find(Option<u16>, Items<Term>, bool, u32),
     /// An (or) of one list.
@@ -105,9 +109,17 @@ pub struct RuleCode {
     pub block: u32,
 }
 
-/// The code of a program: its blocks, and for each predicate its rules. Block 0 answers a rule, block 1 asks the entry.
+/// The body of a closure: so many variables of its own, and the block of its code.
+#[derive(Clone, Copy, PartialEq, Eq, Debug)]
+pub struct BodyCode {
+    pub own: u16,
+    pub block: u32,
+}
+
+/// The code of a program: its blocks, for each predicate its rules, and the bodies of closures. Block 0 answers a rule, block 1 asks the entry.
 #[derive(Drop)]
 pub struct Code {
     pub blocks: Items<Block>,
     pub preds: Items<Items<RuleCode>>,
+    pub closures: Items<BodyCode>,
 }

@@ -2,6 +2,7 @@
 #![tactic(auto)]
 
 mod branches;
+mod closures;
 mod code;
 mod laws;
 mod places;
@@ -10,7 +11,7 @@ mod terms;
 mod writing;
 
 pub use branches::Branching;
-pub use code::{Action, Block, Code, Gathered, Key, Op, RuleCode};
+pub use code::{Action, Block, BodyCode, Code, Gathered, Key, Op, RuleCode};
 pub use laws::{
     code_costs_its_work, code_moves_on, code_runs_as_searched, code_shows_the_game,
     heights_order_places, steps_come_to_a_goal,

@@ -1,7 +1,7 @@
 // The register code of a program.
 ghost use Rattle.std.specs.Prelude.{IfOk};
 ghost use Rattle.dg_mid.specs.Codes.{Codes};
-ghost use Rattle.dg_mid.specs.Coded.{IsCoded};
+ghost use Rattle.dg_base.specs.Sound.{IsSound};
 ghost use Rattle.dg_mid.specs.Potential.{Tidy};
 
 use crate::code::Code;
@@ -9,15 +9,15 @@ use crate::writing::Writer;
 use dg_base::CoreProgram;
 use std::alloc::{AllocError, Global};
 
-/// The register code of a program whose goals have code.
+/// The register code of a sound program.
 pub fn to_mid(program: CoreProgram, alloc: Global) -> Result<Code, AllocError>
-    requires { IsCoded program }
+    requires { IsSound program }
     ensures codes { IfOk result (λ code. Codes program code) }
     ensures tidy { IfOk result (λ code. Tidy code) }
 {
     let CoreProgram {
         preds,
-        closures: _closures,
+        closures,
         places: _places,
         objects: _objects,
         words: _words,
@@ -26,8 +26,10 @@ pub fn to_mid(program: CoreProgram, alloc: Global) -> Result<Code, AllocError>
     } = program;
     let mut writer = Writer::start(alloc, entry)?;
     let preds = writer.preds(preds)?;
+    let closures = writer.bodies(closures)?;
     Ok(Code {
         blocks: writer.blocks(),
         preds,
+        closures,
     })
 }

@@ -151,6 +151,7 @@ impl Writer {
             Goal::Forever => self.endless(work),
             Goal::Either(lists) => self.choice(lists, work),
             Goal::If(test, first, other) => self.condition(test, first, other, work),
+            Goal::Query(a, b, many) => self.query_closure(a, b, many, work),
             Goal::Holds(place, terms, many) => self.holds(place, terms, many, work),
             Goal::IsObject(term, many) => self.is_object(term, many, work),
             Goal::Select(site, mode, lists) => self.select(site, mode, lists, work),
@@ -685,7 +686,7 @@ fn jump_of(ops: &[Op]) -> Option<u32>
 }
 
 /// Whether instructions are the answer of a rule alone.
-fn returns_at_once(ops: &[Op]) -> bool
+pub fn returns_at_once(ops: &[Op]) -> bool
     ensures { IsTrue result ↔ (ops.now ≡ op.Return ∷ []) }
 {
     match ops {
