@@ -1,6 +1,7 @@
 // Routines, compiled and assembled.
 ghost use Rattle.std.specs.Prelude.{◌≡◌, map, IfOk, IsErrOf};
 ghost use Rattle.z_asm.specs.declared.layout.AsmFault.TheVariants.{OutOfMemory};
+ghost use Rattle.z_asm.specs.Assembled.{IsAssembled};
 ghost use Rattle.z_asm.specs.Story.{story_of, IsTooLarge};
 ghost use Rattle.z_story.specs.Parts.{AreParts, code_of, image_of};
 ghost use Rattle.z_story.specs.Does.{StoryDoes};
@@ -54,6 +55,7 @@ pub fn build(alloc: Global, parts: Parts) -> Result<Vec<u8>, AsmFault>
     ensures story { IfOk result (λ story. story.items ≡ story_of (image_of parts)) }
     ensures fits { IfOk result (λ _. IsTooLarge (image_of parts) → ⊥) }
     ensures large { IsErrOf result AsmFault.TooLarge → IsTooLarge (image_of parts) }
+    ensures assembled { IfOk result (λ story. IsAssembled (image_of parts) story.items) }
     ensures does { IfOk result (λ story. StoryDoes parts story.items) }
 {
     bodies_open();
