@@ -1,39 +1,35 @@
-// Stories that are assembled from acts, and played.
+// Stories that are built of acts, and played.
 ghost use Rattle.std.specs.Prelude.{◌≡◌, ◌<◌, IfOk};
-ghost use Rattle.z_code.specs.Targets.{ops_size};
 ghost use Rattle.z_lang.specs.Code.{code};
 ghost use Rattle.z_lang.specs.Bodies.{AreFit};
-ghost use Rattle.z_asm.specs.Conditions.{IsImage};
+ghost use Rattle.z_lang.specs.Sizes.{body_bytes};
+ghost use Rattle.z_story.specs.Parts.{AreParts};
 
 use dg_base::{SureSink, SureSource};
 use sqlite_items::Items;
 use std::alloc::{AllocError, Global};
 use std::process::Abort;
 use std::test::Fail;
-use z_asm::{Code, Image, Table, assemble};
-use z_lang::{Act, Args, Atom, Comparison, Function, Print, Routine, Test, Width, compile};
+use z_asm::Table;
+use z_lang::{Act, Args, Atom, Comparison, Function, Print, Routine, Test, Width};
 use z_model::ZEnd;
 use z_play::Player;
+use z_story::{Parts, build};
 
-fn code_of(alloc: Global, locals: u8, body: &[Act]) -> Result<Code, AllocError>
-    ensures locals { IfOk result (λ c. c.locals ≡ locals) }
-    ensures ops { IfOk result (λ c. c.ops ≡ code body.now) }
+fn routine_of(alloc: Global, locals: u8, body: &[Act]) -> Result<Routine, AllocError>
+    ensures { IfOk result (λ r. r ≡ record { locals = locals; body = body.now }) }
 {
     let body = Items::from_vec(Vec::from_slice(alloc, body)?);
-    let ops = compile(alloc, &Routine { locals, body })?;
-    Ok(Code {
-        locals,
-        ops: Items::from_vec(ops),
-    })
+    Ok(Routine { locals, body })
 }
 
-// An image with a buffer of 20 characters, a text, and two routines, of which the second has two locals.
-fn image_of(alloc: Global, main: &[Act], other: &[Act]) -> Result<Image, AllocError>
+// A buffer of 20 characters, a text, and two routines, of which the second has two locals.
+fn parts_of(alloc: Global, main: &[Act], other: &[Act]) -> Result<Parts, AllocError>
     requires main { AreFit (record { routines = 2; tables = 1; texts = 1 }) (code main.now) main.now }
-    requires main_short { ops_size (code main.now) < 8000 }
+    requires main_short { body_bytes main.now < 8000 }
     requires other { AreFit (record { routines = 2; tables = 1; texts = 1 }) (code other.now) other.now }
-    requires other_short { ops_size (code other.now) < 8000 }
-    ensures { IfOk result (λ image. IsImage image) }
+    requires other_short { body_bytes other.now < 8000 }
+    ensures { IfOk result (λ parts. AreParts parts) }
 {
     let mut buffer = vec![in alloc; 0u8; 40]?;
     buffer[0] = 20;
@@ -47,9 +43,9 @@ fn image_of(alloc: Global, main: &[Act], other: &[Act]) -> Result<Image, AllocEr
     let mut strings = Items::new(alloc);
     strings.push(Items::from_vec(text))?;
     let mut routines = Items::new(alloc);
-    routines.push(code_of(alloc, 0, main)?)?;
-    routines.push(code_of(alloc, 2, other)?)?;
-    Ok(Image {
+    routines.push(routine_of(alloc, 0, main)?)?;
+    routines.push(routine_of(alloc, 2, other)?)?;
+    Ok(Parts {
         tables,
         strings,
         routines,
@@ -65,12 +61,12 @@ fn played(
     text: &str,
 ) -> Result<(), Fail>
     requires main { AreFit (record { routines = 2; tables = 1; texts = 1 }) (code main.now) main.now }
-    requires main_short { ops_size (code main.now) < 8000 }
+    requires main_short { body_bytes main.now < 8000 }
     requires other { AreFit (record { routines = 2; tables = 1; texts = 1 }) (code other.now) other.now }
-    requires other_short { ops_size (code other.now) < 8000 }
+    requires other_short { body_bytes other.now < 8000 }
 {
-    let image = image_of(alloc, main, other)?;
-    let mut player = Player::load(alloc, assemble(alloc, &image)?)?;
+    let parts = parts_of(alloc, main, other)?;
+    let mut player = Player::load(alloc, build(alloc, parts)?)?;
     let mut source = SureSource::new(b"Xyzzy\n".as_slice().to_vec(alloc)?);
     let mut sink = SureSink::new(alloc, 100)?;
     let end = player.run(100, &mut source, &[0], &mut sink)?;
@@ -90,7 +86,7 @@ const BUFFER: Atom = Atom::Table(0);
 const NOTHING: [Act; 1] = [Act::Return(ZERO)];
 
 #[test]
-fn assembled_stories_are_played(rt: HostRuntime) -> Result<(), Fail> {
+fn built_stories_are_played(rt: HostRuntime) -> Result<(), Fail> {
     let hello = [Act::Print(Print::Text, Atom::Text(0)), Act::Return(ZERO)];
     played(rt.alloc(), &rt, &hello, &NOTHING, "Hello")?;
     let is_zero = Test {

@@ -2,6 +2,7 @@
 ghost use Rattle.std.specs.Prelude.{All, IfOk};
 ghost use Rattle.dg_unify.specs.Store.{Holds, Kept};
 
+use dg_arena::Arena;
 use dg_base::Simple;
 use dg_unify::{Bindings, Full, ListBindings, Ref, View, unify};
 use std::alloc::{AllocError, Global};
@@ -169,5 +170,22 @@ fn closures_and_unknown_words_unify(rt: HostRuntime) -> Result<(), Fail> {
         unified(al, Tree::Unknown(97, 98), WORD),
         Ok((false, FREE, OTHER))
     );
+    Ok(())
+}
+
+#[test]
+fn an_arena_holds_values_and_blocks(rt: HostRuntime) -> Result<(), Fail> {
+    let al = rt.alloc();
+    let mut arena = Arena::new(al, 100, 100)?;
+    let block = arena.block(&[70_000, 7])?;
+    assert_eq!(rt; arena.word(block), 70_000);
+    let left = pair(al, X, TWO)?;
+    let right = pair(al, ONE, Y)?;
+    assert_eq!(rt;
+        answer(&mut arena, &left, &right),
+        Ok((true, IS_ONE, IS_TWO))
+    );
+    let mut full = Arena::new(al, 7, 100)?;
+    assert_eq!(rt; answer(&mut full, &left, &right), Err(Full::Heap));
     Ok(())
 }
