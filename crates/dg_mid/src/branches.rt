@@ -15,7 +15,8 @@ use crate::writing::{Level, Work, Writer, again, one};
 use dg_base::{Goal, Items, Mode};
 use std::alloc::{AllocError, Global};
 
-/// A select that is being written: its branches in front of those that are written, the blocks of these, the last first, what all end with, and the block behind.
+/// A select that is being written: its branches in front of those that are written, the blocks of these, the last first, what all end with, and the
+/// block behind.
 #[derive(Drop)]
 pub struct Branching {
     pub site: u16,

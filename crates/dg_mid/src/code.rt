@@ -44,7 +44,8 @@ pub enum Op {
     Query(Term, Option<Term>, bool, u32),
     /// The last query of a rule, where it is one of a closure.
     LastQuery(Term, Option<Term>, bool),
-    /// A query of a place of the world, or without one of all objects, by these arguments, for all its answers or for one. Where it is answered at once it goes on behind it, and for each object that it finds at a block.
+    /// A query of a place of the world, or without one of all objects, by these arguments, for all its answers or for one. Where it is answered at
+    /// once it goes on behind it, and for each object that it finds at a block.
     Find(Option<u16>, Items<Term>, bool, u32),
     /// An (or) of one list.
     Take,

@@ -5,6 +5,7 @@ mod branches;
 mod closures;
 mod code;
 mod laws;
+mod letting;
 mod places;
 mod programs;
 mod terms;
@@ -16,5 +17,6 @@ pub use laws::{
     code_costs_its_work, code_moves_on, code_runs_as_searched, code_shows_the_game,
     heights_order_places, steps_come_to_a_goal,
 };
+pub use letting::let_go;
 pub use programs::to_mid;
 pub use writing::{Level, Work, Writer};

@@ -5,6 +5,7 @@ ghost use Rattle.dg_base.specs.Sound.{IsSound};
 ghost use Rattle.dg_mid.specs.Potential.{Tidy};
 
 use crate::code::Code;
+use crate::letting::let_go_places;
 use crate::writing::Writer;
 use dg_base::CoreProgram;
 use std::alloc::{AllocError, Global};
@@ -18,12 +19,13 @@ pub fn to_mid(program: CoreProgram, alloc: Global) -> Result<Code, AllocError>
     let CoreProgram {
         preds,
         closures,
-        places: _places,
+        places,
         objects: _objects,
         words: _words,
         sites: _sites,
         entry,
     } = program;
+    let_go_places(alloc, places);
     let mut writer = Writer::start(alloc, entry)?;
     let preds = writer.preds(preds)?;
     let closures = writer.bodies(closures)?;

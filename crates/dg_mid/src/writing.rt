@@ -97,7 +97,8 @@ impl Writer {
         ops: Vec<Op>,
     ) -> Result<Vec<Op>, AllocError>
         ensures blocks { OnOk result (Begins self.old.blocks self.new.blocks) }
-        ensures first { IfOk result (λ new. PutsFirst (goal.Ask pred terms many ∷ []) self.old.blocks self.new.blocks (reverse ops.items) (reverse new.items)) }
+        ensures first { IfOk result (λ new. PutsFirst (goal.Ask pred terms many ∷ []) self.old.blocks self.new.blocks
+            (reverse ops.items) (reverse new.items)) }
     {
         if returns_at_once(ops.as_slice()) {
             return one(self.alloc, Op::LastAsk(pred, terms, many));
