@@ -1,4 +1,5 @@
--- What is done at once: the act of a goal, in a machine. Hold it against the Dialog manual, chapters "Output" and "Control flow", and docs/LANGUAGE.md on equations.
+-- What is done at once: the act of a goal, in a machine. Hold it against the Dialog manual, chapters "Output" and "Control flow", and
+-- docs/LANGUAGE.md on equations.
 use Rattle.std.specs.Prelude.{ℕ, List, [], Option, Some, None, Bool, true, map, slice_get}
 use Rattle.dg_meaning.specs.Values.{Value}
 use Rattle.dg_meaning.specs.Facts.{kinds_of}

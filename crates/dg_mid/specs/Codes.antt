@@ -20,7 +20,8 @@ use Rattle.dg_mid.specs.Actions.{goal_of}
 
 -- ## Goals
 
--- What comes behind goals: their rule is answered, an inner construct or a stoppable part is left and these goals follow, what is negated or exhausted was answered, a term is gathered, or the run is done.
+-- What comes behind goals: their rule is answered, an inner construct or a stoppable part is left and these goals follow, what is negated or
+-- exhausted was answered, a term is gathered, or the run is done.
 pub data End : Type 0 where
   Returns : End
   Commits : (goals : List Goal) → (end : End) → End
@@ -39,7 +40,8 @@ abbrev pub found_end : Bool → List Goal → End → End
 found_end true goals end = end
 found_end false goals end = Commits goals end
 
--- These instructions stand for these goals and what comes behind them; the code from a block on stands for the lists between (or) that are left, each with these goals behind it; so does each of some blocks for each branch of a select.
+-- These instructions stand for these goals and what comes behind them; the code from a block on stands for the lists between (or) that are left, each
+-- with these goals behind it; so does each of some blocks for each branch of a select.
 mutual
   pub data Stands (code : Code) : List Op → List Goal → End → Type 0 where
     -- the code lies at another place

@@ -35,7 +35,8 @@ abbrev pub silents : List ℕ → List Step → List Step
 silents [] steps = steps
 silents (q ∷ qs) steps = Answers q ∷ silents qs steps
 
--- The steps of what comes behind goals, among these values of variables, with the tag that (just) cuts to, in these inner constructs, where the others stand behind the rule's answer.
+-- The steps of what comes behind goals, among these values of variables, with the tag that (just) cuts to, in these inner constructs, where the
+-- others stand behind the rule's answer.
 abbrev pub end_steps : End → List Value → ℕ → List Place → List Step → List Step
 end_steps Returns env t inner rest = rest
 end_steps (Commits goals end) env t [] rest = Back ∷ []
@@ -208,7 +209,8 @@ pub data AreChoices (g : Game) (code : Code) : List Choice → List Live → Typ
 abbrev pub outside_of : World → Outside
 outside_of w = record { typed = w.typed; dice = w.dice; facts = w.facts; sites = w.sites }
 
--- A machine in this state, with so many choices opened, with these choices, stoppable parts and gatherings, and this outside, that has printed this, is where the search has these registers, choices and ways on, in this world.
+-- A machine in this state, with so many choices opened, with these choices, stoppable parts and gatherings, and this outside, that has printed this,
+-- is where the search has these registers, choices and ways on, in this world.
 pub record MirrorsWith (g : Game) (code : Code) (state : State) (next_tag : ℕ) (choices : List Choice) (stops : List Stop) (stop : Option ℕ)
     (gathered : List Gathering) (outside : Outside) (ps : List Print) (r : Registers) (lives : List Live) (ways : List WayOn) (w : World) : Type 0 where
   pub agrees : Agrees state r

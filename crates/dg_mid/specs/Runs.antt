@@ -28,7 +28,8 @@ start s typed = Runs (record {
   outside = outside_of (start_world s.game typed);
 })
 
--- Where a run of code is: the status, what was printed, how many goals were taken, what the steps have cost, how much of it is work of the search, and how often rules were looked at.
+-- Where a run of code is: the status, what was printed, how many goals were taken, what the steps have cost, how much of it is work of the search,
+-- and how often rules were looked at.
 pub record Point : Type 0 where
   pub now : Status
   pub prints : List Print

@@ -1,4 +1,5 @@
--- That the code at hand fits the open inner constructs, so that a stoppable part is left only by what stands in it. Hold it against the Dialog manual, chapter "Control flow", on (stoppable).
+-- That the code at hand fits the open inner constructs, so that a stoppable part is left only by what stands in it. Hold it against the Dialog
+-- manual, chapter "Control flow", on (stoppable).
 use Rattle.std.specs.Prelude.{ℕ, ◌+◌, ◌≡◌, ◌≤◌, ◌<◌, eqb, List, [], ◌∷◌, Option, Some, None, Bool, true, false}
 use Rattle.dg_base.specs.declared.program.Goal.{Goal}
 use Rattle.dg_base.specs.declared.program.Term.{Term}
@@ -23,7 +24,8 @@ abbrev pub head_of : List ℕ → Option ℕ
 head_of [] = None
 head_of (t ∷ chain) = Some t
 
--- What comes behind goals fits the open constructs, where the chain has the open stoppable parts, the innermost first, and r is the chain where the rule was asked.
+-- What comes behind goals fits the open constructs, where the chain has the open stoppable parts, the innermost first, and r is the chain where the
+-- rule was asked.
 abbrev pub Fits : List ℕ → List ℕ → End → List Place → Type 0
 Fits chain r Returns inner = (inner ≡ []) × (chain ≡ r)
 Fits chain r (Commits goals end) [] = ⊥

@@ -10,13 +10,15 @@ use Rattle.dg_mid.specs.declared.code.Op.{Op}
 use Rattle.dg_mid.specs.declared.code.RuleCode.{RuleCode}
 use Rattle.dg_mid.specs.declared.code.BodyCode.{BodyCode}
 
--- A place to which a cut goes: how many choices were opened before it along the path, the height of the heap there, and the innermost stoppable part there. Heights order places as numbers do, and are what an engine keeps.
+-- A place to which a cut goes: how many choices were opened before it along the path, the height of the heap there, and the innermost stoppable part
+-- there. Heights order places as numbers do, and are what an engine keeps.
 pub record Place : Type 0 where
   pub tag : ℕ
   pub height : ℕ
   pub outer : Option ℕ
 
--- A rule that is being run: the values of its variables, the place to which its (just) cuts, whether all its answers are wanted, the block behind its answer, and the inner constructs that are open there. The frames behind it are those of that block.
+-- A rule that is being run: the values of its variables, the place to which its (just) cuts, whether all its answers are wanted, the block behind its
+-- answer, and the inner constructs that are open there. The frames behind it are those of that block.
 pub record Frame : Type 0 where
   pub vars : List Value
   pub cut : Place
@@ -36,7 +38,8 @@ pub data Target : Type 0 where
   ToPred : (pred : ℕ) → Target
   ToBody : (body : BodyCode) → (captured : List Value) → Target
 
--- A query of the objects at a place, or without one of all objects: its arguments, whether all its answers are wanted, and the block behind an object that is found.
+-- A query of the objects at a place, or without one of all objects: its arguments, whether all its answers are wanted, and the block behind an object
+-- that is found.
 pub record Find : Type 0 where
   pub place : Option ℕ
   pub args : List Value
@@ -49,7 +52,8 @@ pub data Way : Type 0 where
   Calls : (call : Call) → (rules : List RuleCode) → Way
   Tries : (find : Find) → (objects : List ℕ) → Way
 
--- Where it goes on behind a stoppable part: its place, the block behind it with its frames and inner constructs, the state of the store there, and how many gatherings are open there.
+-- Where it goes on behind a stoppable part: its place, the block behind it with its frames and inner constructs, the state of the store there, and
+-- how many gatherings are open there.
 pub record Stop : Type 0 where
   pub place : Place
   pub block : ℕ
@@ -69,14 +73,17 @@ pub record Choice : Type 0 where
   pub height : ℕ
   pub state : State
 
--- What backtracking doesn't take back, beside what is gathered: the typed bytes left, how many dice words were drawn, what is set, and what is kept of each select.
+-- What backtracking doesn't take back, beside what is gathered: the typed bytes left, how many dice words were drawn, what is set, and what is kept
+-- of each select.
 pub record Outside : Type 0 where
   pub typed : List ℕ
   pub dice : ℕ
   pub facts : List Fact
   pub sites : List Picks
 
--- The code at hand, the frames with the newest first, the inner constructs that are open in the newest one, the choices, the stoppable parts around, the innermost of them that is still open, the open gatherings, how many choices were opened along the path, the state of the store, and what is outside.
+-- The code at hand, the frames with the newest first, the inner constructs that are open in the newest one, the choices, the stoppable parts around,
+-- the innermost of them that is still open, the open gatherings, how many choices were opened along the path, the state of the store, and what is
+-- outside.
 pub record Mid : Type 0 where
   pub ops : List Op
   pub frames : List Frame

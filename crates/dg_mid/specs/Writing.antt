@@ -1,4 +1,5 @@
--- What code that is being written stands for: it is written from the last goal to the first, and what was written stays. Hold it against the Dialog manual, chapter "Choice points".
+-- What code that is being written stands for: it is written from the last goal to the first, and what was written stays. Hold it against the Dialog
+-- manual, chapter "Choice points".
 use Rattle.std.specs.Prelude.{ℕ, List, [], ◌∷◌, ◌++◌, ◌≡◌, Option, Some, None, Bool, false, reverse}
 use Rattle.std.specs.List.{slice_get}
 use Rattle.dg_base.specs.declared.program.Goal.{Goal}
