@@ -17,9 +17,14 @@ mod totals;
 mod variables;
 mod work;
 
+pub use built::{Built, close, let_go, unbuilt};
+pub use fresh::{copied, take_number};
 pub use laws::{
     choices_differ, mentions_come_from_the_source, one_answer, unnamed_variables_differ,
     variables_are_few, variables_are_named,
 };
+pub use numbers::free_number;
 pub use rewriting::rewrite;
 pub use rules::plain_tree;
+pub use setting::Setting;
+pub use work::{Asking, Close, Wrap};

@@ -1,0 +1,5 @@
+pub mod Examples
+pub mod BuiltLemmas
+pub mod PlaceLemmas
+pub mod StepLemmas
+pub mod RuleLemmas

@@ -1,0 +1,221 @@
+// Items with access rules put in.
+ghost use Rattle.std.specs.Prelude.{◌≡◌, ◌++◌, ◌∷◌, [], None, length, map, IfOk, OnOk};
+ghost use Rattle.std.specs.Option.{option_to_list};
+ghost use Rattle.dg_base.specs.Heads.{name_of};
+ghost use Rattle.dg_base.specs.Tree as tree;
+ghost use Rattle.dg_base.specs.Tree.{changes_of};
+ghost use Rattle.dg_base.specs.TreeView.{body_view, head_view, change_view, said_view, item_view};
+ghost use Rattle.dg_expand.specs.Expanded as spec;
+ghost use Rattle.dg_expand.specs.Put.{level, in_item, put_body};
+ghost use Rattle.dg_expand.specs.Putting.{access_view, around, standing_in};
+
+use crate::expanding::{Heads, body_of, head_of, heads_of};
+use crate::place::{Access, Outer, Place, Uses, placed};
+use bumpalo::Bump;
+use dg_access::{copied, free_number};
+use dg_base::{Body, Head, Item, ItemBody, NowChange, name_of};
+use std::alloc::{AllocError, Global};
+
+fn access_of<'a>(
+    alloc: Global,
+    bump: &'a Bump,
+    head: &'a Head,
+    body: &'a Body,
+) -> Result<Access<'a>, AllocError>
+    ensures { IfOk result (λ new. access_view new ≡ record { name = name_of (head_view head.now); head = head_view head.now; body = body_view body.now }) }
+{
+    let name = name_of(alloc, head)?;
+    let name = bump.try_alloc_slice_copy(name.as_slice())?;
+    Ok(Access {
+        name,
+        head: head.parts.as_slice(),
+        body,
+    })
+}
+
+fn add_access<'a>(
+    alloc: Global,
+    bump: &'a Bump,
+    rules: &mut Vec<Access<'a>>,
+    said: &'a ItemBody,
+) -> Result<(), AllocError>
+    ensures { OnOk result (map access_view rules.new.items ≡ map access_view rules.old.items ++ spec.access_in (said_view said.now)) }
+{
+    if let ItemBody::Access(head, body) = said {
+        rules.push(access_of(alloc, bump, head, body)?)?;
+    }
+    Ok(())
+}
+
+/// The access rules of items, in order.
+pub fn access_rules<'a>(
+    alloc: Global,
+    bump: &'a Bump,
+    items: &'a [Item],
+) -> Result<Vec<Access<'a>>, AllocError>
+    ensures { IfOk result (λ rules. map access_view rules.items ≡ spec.access_rules (map item_view items.now)) }
+{
+    let mut rules = Vec::new(alloc);
+    for item in items {
+        add_access(alloc, bump, &mut rules, &item.body)?;
+    }
+    Ok(rules)
+}
+
+// In an item, with so many access rules one in the other.
+fn standing_in<'a>(uses: Uses<'a>, depth: usize) -> Result<&'a Place<'a>, AllocError>
+    ensures { IfOk result (λ new. around uses.entry new.now ≡ standing_in uses.entry depth) }
+{
+    placed(
+        uses.bump,
+        Place {
+            outer: Outer::Item,
+            params: &[],
+            args: &[],
+            depth,
+            use_number: None,
+            copy_number: None,
+            moved: false,
+            closed: false,
+        },
+    )
+}
+
+fn take_first(heads: &mut Vec<NowChange>) -> Option<NowChange>
+    ensures first { heads.old.items ≡ option_to_list result ++ heads.new.items }
+    ensures none { result ≡ None → heads.old.items ≡ [] }
+{
+    if heads.is_empty() {
+        return None;
+    }
+    Some(heads.remove(0))
+}
+
+fn signed(head: NowChange, body: Body) -> ItemBody
+    ensures { said_view result ≡ spec.signed head.set (head_view head.head) (body_view body) }
+{
+    let NowChange { head, set } = head;
+    if set {
+        ItemBody::Rule(head, body)
+    } else {
+        ItemBody::Deny(head, body)
+    }
+}
+
+// Adds a rule for each head, all of one body.
+fn add_rules<'a>(
+    alloc: Global,
+    uses: Uses<'a>,
+    at: &'a Place<'a>,
+    out: &mut Vec<Item>,
+    line: u32,
+    heads: Heads,
+    body: &'a Body,
+) -> Result<(), AllocError>
+    ensures { OnOk result (map item_view out.new.items ≡ map item_view out.old.items ++ spec.on_line line (spec.rules_of (changes_of (map change_view heads.heads.items))
+        (put_body (around uses.entry at.now).at (around uses.entry at.now).place heads.number (body_view body.now)).0)) }
+{
+    let Heads { mut heads, number } = heads;
+    for turn in 0..u64::MAX {
+        match take_first(&mut heads) {
+            Some(head) => {
+                let body = body_of(alloc, uses, at, number, body)?;
+                out.push(Item {
+                    line,
+                    body: signed(head, body),
+                })?;
+            }
+            None => return Ok(()),
+        }
+    }
+    Err(AllocError)
+}
+
+fn put_rule<'a>(
+    alloc: Global,
+    uses: Uses<'a>,
+    out: &mut Vec<Item>,
+    line: u32,
+    set: bool,
+    head: &'a Head,
+    body: &'a Body,
+) -> Result<(), AllocError>
+    ensures { OnOk result (map item_view out.new.items ≡ map item_view out.old.items ++ spec.on_line line
+        (spec.put_rule (level (map access_view uses.entry.rules.now) uses.entry.mark (length uses.entry.rules.now)) set (head_view head.now) (body_view body.now))) }
+{
+    let at = standing_in(uses, uses.rules.len())?;
+    let heads = heads_of(alloc, uses, at, set, head)?;
+    add_rules(alloc, uses, at, out, line, heads, body)
+}
+
+// A declaration stays as it stands.
+fn put_declaration<'a>(
+    alloc: Global,
+    uses: Uses<'a>,
+    out: &mut Vec<Item>,
+    line: u32,
+    head: &'a Head,
+) -> Result<(), AllocError>
+    ensures { OnOk result (map item_view out.new.items ≡ map item_view out.old.items ++ spec.on_line line
+        (tree.global_variable (spec.stay (head_view head.now)) ∷ [])) }
+{
+    let none = Uses {
+        bump: uses.bump,
+        rules: &[],
+        mark: 0,
+    };
+    let at = standing_in(none, 0)?;
+    let head = head_of(alloc, none, at, head)?;
+    out.push(Item {
+        line,
+        body: ItemBody::Variable(head),
+    })?;
+    Ok(())
+}
+
+fn put_topic(alloc: Global, out: &mut Vec<Item>, line: u32, name: &[u8]) -> Result<(), AllocError>
+    ensures { OnOk result (map item_view out.new.items ≡ map item_view out.old.items ++ spec.on_line line (tree.topic name.now ∷ [])) }
+{
+    out.push(Item {
+        line,
+        body: ItemBody::Topic(copied(alloc, name)?),
+    })?;
+    Ok(())
+}
+
+/// Adds what becomes of an item.
+pub fn put_item<'a>(
+    alloc: Global,
+    bump: &'a Bump,
+    rules: &'a [Access<'a>],
+    out: &mut Vec<Item>,
+    item: &'a Item,
+) -> Result<(), AllocError>
+    ensures { OnOk result (map item_view out.new.items ≡ map item_view out.old.items ++ spec.put_item (map access_view rules.now) (item_view item.now)) }
+{
+    let mark = free_number(alloc, &item.body)?;
+    let uses = Uses { bump, rules, mark };
+    match &item.body {
+        ItemBody::Topic(name) => put_topic(alloc, out, item.line, name.as_slice()),
+        ItemBody::Rule(head, body) => put_rule(alloc, uses, out, item.line, true, head, body),
+        ItemBody::Deny(head, body) => put_rule(alloc, uses, out, item.line, false, head, body),
+        ItemBody::Access(_, _) => Ok(()),
+        ItemBody::Variable(head) => put_declaration(alloc, uses, out, item.line, head),
+    }
+}
+
+/// The items with access rules put in.
+pub fn put_all<'a>(
+    alloc: Global,
+    bump: &'a Bump,
+    rules: &'a [Access<'a>],
+    items: &'a [Item],
+) -> Result<Vec<Item>, AllocError>
+    ensures { IfOk result (λ new. map item_view new.items ≡ spec.put_items (map access_view rules.now) (map item_view items.now)) }
+{
+    let mut out = Vec::new(alloc);
+    for item in items {
+        put_item(alloc, bump, rules, &mut out, item)?;
+    }
+    Ok(out)
+}
