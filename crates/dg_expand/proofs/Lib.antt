@@ -3,3 +3,4 @@ pub mod BuiltLemmas
 pub mod PlaceLemmas
 pub mod StepLemmas
 pub mod RuleLemmas
+pub mod RowLemmas

@@ -1,5 +1,5 @@
 -- The tree in which access rules are put in, or why it is refused: hold it against docs/LANGUAGE.md, "Access rules" and "Limits", and docs/REFUSALS.md.
-use Rattle.std.specs.Prelude.{◌≡◌, ℕ, ◌+◌, ◌||◌, List, [], ◌∷◌, ◌++◌, Bool, true, false, Option, Some, None, Result, Ok, Err, length, nat_lt, if◌then◌else◌}
+use Rattle.std.specs.Prelude.{ℕ, ◌+◌, ◌||◌, List, [], ◌∷◌, ◌++◌, Bool, true, false, Option, Some, None, length, nat_lt, if◌then◌else◌}
 use Rattle.std.specs.List.{list_any}
 use Rattle.std.specs.Option.{is_some}
 use Rattle.dg_base.specs.Heads.{name_of}
@@ -11,8 +11,6 @@ use Rattle.dg_base.specs.declared.mentions.Role.{Role}
 use Rattle.dg_base.specs.declared.mentions.Role.TheVariants as role
 use Rattle.dg_base.specs.declared.names.Builtin.{Builtin}
 use Rattle.dg_base.specs.declared.names.Builtin.TheVariants as builtin
-use Rattle.dg_base.specs.declared.refusal.Kind.TheVariants.{BadNow}
-use Rattle.dg_base.specs.declared.refusal.Refusal.{Refusal}
 use Rattle.dg_access.specs.Items.{free_number}
 use Rattle.dg_expand.specs.Put.{Access, Level, level, rule_for, in_item, one_change, put_parts, put_changes, put_body}
 
@@ -97,8 +95,3 @@ put_items rules (i ∷ is) = put_item rules i ++ put_items rules is
 abbrev pub first_bad : List Access → List Item → Option ℕ
 first_bad rules [] = None
 first_bad rules (i ∷ is) = if list_any (is_bad rules) (things_in i.said) then Some i.line else first_bad rules is
-
--- The items with access rules put in, or the first of them that changes what can't be changed.
-abbrev pub IsExpanded : List Item → Result (List Item) Refusal → Type 0
-IsExpanded is (Ok new) = (new ≡ put_items (access_rules is) is) × (first_bad (access_rules is) new ≡ None)
-IsExpanded is (Err r) = (line : ℕ) × (first_bad (access_rules is) (put_items (access_rules is) is) ≡ Some line) × (r ≡ record { kind = BadNow; line = line })

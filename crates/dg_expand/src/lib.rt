@@ -4,6 +4,7 @@
 mod answer;
 mod closed;
 mod expanding;
+mod loops;
 mod names;
 mod place;
 mod rules;
