@@ -1,5 +1,5 @@
 -- From goal to goal up to the end of a run.
-use Rattle.std.proofs.Common.{◌≡◌, ℕ, suc, ◌+◌, ◌<◌, [], ◌++◌, Option, Some, None, refl, sym, ap, ◌∙◌, subst, arith, length, append_assoc}
+use Rattle.std.proofs.Common.{◌≡◌, ℕ, suc, ◌+◌, ◌<◌, List, [], ◌++◌, Option, Some, None, Bool, false, refl, sym, ap, ◌∙◌, subst, arith, length, append_assoc}
 use Rattle.std.specs.Prelude.{Result, IfOk, IfErr}
 use Rattle.dg_base.specs.declared.run.Ending.{Ending}
 use Rattle.dg_base.specs.declared.run.Ending.TheVariants.{Done, Failed, HeapLimit, TrailLimit, AuxLimit, KeepLimit}
@@ -16,21 +16,53 @@ use Rattle.dg_interp.specs.Lacks.{area_of}
 use Rattle.dg_spacing.specs.declared.spacer.Spacer.{Spacer}
 use Rattle.dg_interp.specs.declared.engine.Engine.{Engine}
 use Rattle.dg_base.specs.Written.{SinkView}
-use Rattle.dg_interp.specs.Engine.{PassesLimit, limit_in, IsReady, StandsAt, Adds, Then, LacksIn, LackAt, HasEndedSo, AtGoal, GoesToGoal}
-use Rattle.dg_interp.specs.Running.{HasText, Reaches, GoesOn, HasEnded, MeetsLimit, Ended, IsBroken, GoalDone, Does, ending_at, limit_of}
-use Rattle.dg_interp.proofs.Places.{limits_at, adds_nothing, then_on, limits_on, limits_here}
-use Rattle.dg_interp.proofs.Runs.{ended_at, writes_nothing, writes_on, finished_so, no_more}
+use Rattle.dg_interp.specs.Engine.{PassesLimit, limit_in, IsReady, StandsAt, LacksIn, LackAt, HasEndedSo, AtGoal, GoesToGoal}
+use Rattle.dg_base.specs.Streams.{SourceView}
+use Rattle.dg_meaning.specs.Shows.{IsLeft}
+use Rattle.std.proofs.lemmas.List.{append-nil, append_cancel_left}
+use Rattle.dg_meaning.specs.World.{Print}
+use Rattle.dg_interp.specs.Running.{Gave, Awaits, Stretch, HasText, Reaches, GoesOn, HasEnded, MeetsLimit, Ended, IsBroken, GoalDone, Does, ending_at, limit_of}
+use Rattle.dg_interp.proofs.Places.{limits_at, adds_nothing, limits_on, limits_here}
+use Rattle.dg_interp.proofs.Runs.{gave_nothing, gave_on, stretched, ended_at, writes_nothing, writes_on, finished_so, no_more}
+
+-- ## From stretch to stretch
+
+pub stretch_on : (xs ys : List Print) (ts us : List ℕ) (w : World) (P Q : World → Type 0) → Stretch xs ts w P → ((v : World) → w.typed ≡ ts ++ v.typed → P v → Stretch ys us v Q) → Stretch (xs ++ ys) (ts ++ us) w Q
+stretch_on xs ys ts us w P Q a f =
+    let b = f a.world a.typed a.holds in
+    record {
+      world = b.world;
+      prints_are = b.prints_are ∙ ap (λ l. l ++ ys) a.prints_are ∙ append_assoc (prints w.events) xs ys;
+      typed = a.typed ∙ ap (λ l. ts ++ l) b.typed ∙ sym (append_assoc ts us b.world.typed);
+      holds = b.holds;
+    }
+
+-- what the first of two stretches awaits
+awaits_first : (a b : SourceView) (ended : Bool) (xs ys : List ℕ) (w : World) → Gave a b ys → Awaits b ended (xs ++ ys) w → Awaits a false xs w
+awaits_first a b ended xs ys w h k = record { rest = ys ++ k.rest; left = h.left k.rest k.left; is_over = tt; typed = k.typed ∙ append_assoc xs ys k.rest }
+
+-- and then the other
+awaits_then : (b : SourceView) (ended : Bool) (xs ys : List ℕ) (w v : World) → w.typed ≡ xs ++ v.typed → Awaits b ended (xs ++ ys) w → Awaits b ended ys v
+awaits_then b ended xs ys w v e k = record { rest = k.rest; left = k.left; is_over = k.is_over; typed = append_cancel_left xs v.typed (ys ++ k.rest) (sym e ∙ k.typed ∙ append_assoc xs ys k.rest) }
+
+-- a stretch that reads nothing behind another
+awaits_same : (b : SourceView) (ended : Bool) (xs : List ℕ) (w : World) → Awaits b ended xs w → Awaits b false xs w
+awaits_same b ended xs w k = record { rest = k.rest; left = k.left; is_over = tt; typed = k.typed }
+
+-- what is left behind a stretch
+left_behind : (b : SourceView) (ended : Bool) (xs : List ℕ) (w v : World) → w.typed ≡ xs ++ v.typed → Awaits b ended xs w → IsLeft b.left v.typed
+left_behind b ended xs w v e k = subst (IsLeft b.left) (append_cancel_left xs k.rest v.typed (sym k.typed ∙ e)) k.left
 
 -- ## Behind a goal
 
-module _ (old mid new : Engine) (s s' : Spacer) (k k' : SinkView) (some : 0 < length old.here.goals.now) (h : GoalDone old mid s s' k k') where
-  leads_here : (g : Game) (w : World) (run : Run) → StandsAt old g old.left w run → Then h.added w (λ v. StandsAt mid g mid.left v run)
-  leads_here g w run st = h.leads g mid.left w run (subst (λ n. StandsAt old g n w run) h.left st)
+module _ (old mid new : Engine) (s s' : Spacer) (k k' : SinkView) (i i' : SourceView) (some : 0 < length old.here.goals.now) (h : GoalDone old mid s s' k k' i i') where
+  leads_here : (g : Game) (w : World) (run : Run) → Awaits i' false h.taken w → StandsAt old g old.left w run → Stretch h.added h.taken w (λ v. StandsAt mid g mid.left v run)
+  leads_here g w run a st = h.leads g mid.left w run a (subst (λ n. StandsAt old g n w run) h.left st)
 
-  text_here : (w v : World) (start : SinkView) → Adds h.added w v → HasText s start k (prints w.events) → HasText s' start k' (prints v.events)
-  text_here w v start adds text = subst (HasText s' start k') (sym adds.prints_are) (h.writes start (prints w.events) text)
+  text_here : (w v : World) (start : SinkView) → prints v.events ≡ prints w.events ++ h.added → HasText s start k (prints w.events) → HasText s' start k' (prints v.events)
+  text_here w v start more text = subst (HasText s' start k') (sym more) (h.writes start (prints w.events) text)
 
-  next_goes_on : AtGoal (StandsAt mid) mid new → GoesOn old new s s' k k' × (old.left ≡ suc new.left)
+  next_goes_on : AtGoal (StandsAt mid) mid new → GoesOn old new s s' k k' i i' × (old.left ≡ suc new.left)
   next_goes_on a = (
     record {
       ready = a.went_on.ready;
@@ -39,70 +71,95 @@ module _ (old mid new : Engine) (s s' : Spacer) (k k' : SinkView) (some : 0 < le
       goals = 1;
       left = omega (arith, h.left, a.went_on.left);
       added = h.added ++ [];
-      leads = λ g n w run st.
+      taken = h.taken;
+      gave = h.gave;
+      leads = λ g n w run awaits st.
           let one : 1 + n ≡ suc n = omega arith in
-          then_on h.added [] w (λ v. StandsAt mid g n v run) (λ v. StandsAt new g n v run) (h.leads g n w run (subst (λ i. StandsAt old g i w run) one st)) (λ v at. a.went_on.leads g n v run at);
+          subst (λ l. Stretch (h.added ++ []) l w (λ v. StandsAt new g n v run)) (append-nil h.taken)
+          (stretch_on h.added [] h.taken [] w (λ v. StandsAt mid g n v run) (λ v. StandsAt new g n v run) (h.leads g n w run awaits (subst (λ i. StandsAt old g i w run) one st))
+          (λ v e at. stretched [] v (λ u. StandsAt new g n u run) (a.went_on.leads g n v run at)));
       writes = writes_on s s' s' k k' k' h.added [] h.writes (writes_nothing s' k');
     },
     h.left ∙ ap suc (sym a.went_on.left),
   )
 
-  next_ended : (result : SearchResult) (e : Ending) → e ≡ ending_of result → HasEndedSo (StandsAt mid) result mid new → Reaches old s k (HasEnded e new.left s' k')
-  next_ended result e is a g w run start st text =
-      let t = leads_here g w run st in
-      let x = finished_so result e mid.left new.left s' k' t.world run start (text_here w t.world start t.adds text) (sym a.left) is (a.ends g mid.left t.world run t.holds) in
-      record { world = x.world; typed = x.typed ∙ t.adds.typed; is = x.is; text = x.text }
+  -- whatever comes behind the goal, with what it took
+  behind_goal : (P : World → Run → SinkView → Type 0) → ((g : Game) (w v : World) (run : Run) (start : SinkView) → IsLeft i'.left v.typed → StandsAt mid g mid.left v run → HasText s' start k' (prints v.events) → P w run start) → Reaches old s k i i' P
+  behind_goal P f = record {
+    taken = h.taken;
+    ended = false;
+    gave = h.gave;
+    at_end = λ h. absurd (cc);
+    reaches = λ g w run start a st text.
+        let t = leads_here g w run a st in
+        f g w t.world run start (left_behind i' false h.taken w t.world t.typed a) t.holds (text_here w t.world start t.prints_are text);
+  }
 
-  pub next_ok : (ending : Option Ending) → GoesToGoal (StandsAt mid) ending mid new → Does ending old new s s' k k'
+  next_ended : (result : SearchResult) (e : Ending) → e ≡ ending_of result → HasEndedSo (StandsAt mid) result mid new → Reaches old s k i i' (HasEnded e new.left s' k' i')
+  next_ended result e is a =
+      behind_goal (HasEnded e new.left s' k' i')
+      (λ g w v run start left st text.
+      let x = finished_so result e mid.left new.left s' k' i' v run start left text (sym a.left) is (a.ends g mid.left v run st) in
+      record { world = x.world; typed = x.typed; is = x.is; text = x.text })
+
+  pub next_ok : (ending : Option Ending) → GoesToGoal (StandsAt mid) ending mid new → Does ending old new s s' k k' i i'
   next_ok None a = next_goes_on a
   next_ok (Some Done) a = next_ended (End Done) Done refl a
   next_ok (Some Failed) a = next_ended Failing Failed refl a
   next_ok (Some _) a = absurd a
 
-  next_lost : Reaches old s k (IsBroken OutOfMemory s' k')
-  next_lost g w run start st text =
-      let t = leads_here g w run st in
-      record { part = t.world.events; until = (stands_happened g t.holds.at.inside.lives t.holds.at.ways _ mid.left t.world run t.holds.stands).events; text = text_here w t.world start t.adds text }
+  next_lost : Reaches old s k i i' (IsBroken OutOfMemory s' k')
+  next_lost =
+      behind_goal (IsBroken OutOfMemory s' k')
+      (λ g w v run start left st text. record { part = v.events; until = (stands_happened g st.at.inside.lives st.at.ways _ mid.left v run st.stands).events; text = text })
 
-  next_limit : (area : Area) (left : ℕ) → mid.left ≡ left → PassesLimit area (StandsAt mid) (limit_in area mid) → MeetsLimit area left old s s' k k'
+  next_limit : (area : Area) (left : ℕ) → mid.left ≡ left → PassesLimit area (StandsAt mid) (limit_in area mid) → MeetsLimit area left old s s' k k' i i'
   next_limit area left same f = record {
     goals = 0;
     left_is = omega (arith, h.left, same);
     added = h.added;
-    passed = λ g w run st. let t = h.leads g 0 w run st in subst (λ n. n < greatest area run.world.meters) (limits_at old mid h.limits area) (f g 0 t.world run t.holds);
-    until = λ g w run st. let t = h.leads g 0 w run st in record { world = t.world; adds = t.adds; holds = (stands_happened g t.holds.at.inside.lives t.holds.at.ways _ 0 t.world run t.holds.stands).events };
-    since = λ g w run st. no_more old h.added g w run some st;
+    taken = h.taken;
+    gave = h.gave;
+    passed = λ g w run a st. let t = h.leads g 0 w run a st in subst (λ n. n < greatest area run.world.meters) (limits_at old mid h.limits area) (f g 0 t.world run t.holds);
+    until = λ g w run a st.
+        let t = h.leads g 0 w run a st in
+        record { world = t.world; prints_are = t.prints_are; typed = t.typed; holds = (stands_happened g t.holds.at.inside.lives t.holds.at.ways _ 0 t.world run t.holds.stands).events };
+    since = λ g w run a st. no_more old h.added g w run some st;
     writes = h.writes;
   }
 
-  pub next_lacks : (lack : Lack) (r : Result Ending RunFault) → r ≡ limit_of lack → new.left ≡ mid.left → LackAt (StandsAt mid) mid lack → IfOk r (λ ending. Ended ending new.left old s s' k k')
-  next_lacks lack r is left f = subst (λ q. IfOk q (λ ending. Ended ending new.left old s s' k k')) (sym is) (here (area_of lack) f) where
-    here : (area : Option Area) → LacksIn area (StandsAt mid) mid → IfOk (ending_at area) (λ ending. Ended ending new.left old s s' k k')
+  pub next_lacks : (lack : Lack) (r : Result Ending RunFault) → r ≡ limit_of lack → new.left ≡ mid.left → LackAt (StandsAt mid) mid lack → IfOk r (λ ending. Ended ending new.left old s s' k k' i i')
+  next_lacks lack r is left f = subst (λ q. IfOk q (λ ending. Ended ending new.left old s s' k k' i i')) (sym is) (here (area_of lack) f) where
+    here : (area : Option Area) → LacksIn area (StandsAt mid) mid → IfOk (ending_at area) (λ ending. Ended ending new.left old s s' k k' i i')
     here None f = tt
-    here (Some area) f = ended_at area new.left old s s' k k' (next_limit area new.left (sym left) f)
+    here (Some area) f = ended_at area new.left old s s' k k' i i' (next_limit area new.left (sym left) f)
 
-  pub next_breaks : (lack : Lack) (r : Result Ending RunFault) → r ≡ limit_of lack → IfErr r (λ fault. Reaches old s k (IsBroken fault s' k'))
-  next_breaks lack r is = subst (λ q. IfErr q (λ fault. Reaches old s k (IsBroken fault s' k'))) (sym is) (here (area_of lack)) where
-    here : (area : Option Area) → IfErr (ending_at area) (λ fault. Reaches old s k (IsBroken fault s' k'))
+  pub next_breaks : (lack : Lack) (r : Result Ending RunFault) → r ≡ limit_of lack → IfErr r (λ fault. Reaches old s k i i' (IsBroken fault s' k'))
+  next_breaks lack r is = subst (λ q. IfErr q (λ fault. Reaches old s k i i' (IsBroken fault s' k'))) (sym is) (here (area_of lack)) where
+    here : (area : Option Area) → IfErr (ending_at area) (λ fault. Reaches old s k i i' (IsBroken fault s' k'))
     here None = next_lost
     here (Some area) = tt
 
 -- ## On and on
 
-pub goes_nowhere : (e : Engine) (s : Spacer) (k : SinkView) → IsReady e → 0 < length e.here.goals.now → GoesOn e e s s k k
-goes_nowhere e s k ready goal = record {
+pub goes_nowhere : (e : Engine) (s : Spacer) (k : SinkView) (i : SourceView) → IsReady e → 0 < length e.here.goals.now → GoesOn e e s s k k i i
+goes_nowhere e s k i ready goal = record {
   ready = ready;
   goal = goal;
   limits = limits_here e;
   goals = 0;
   left = omega arith;
   added = [];
-  leads = λ g n w run st. let same : 0 + n ≡ n = omega arith in record { world = w; adds = adds_nothing w; holds = subst (λ i. StandsAt e g i w run) same st };
+  taken = [];
+  gave = gave_nothing i;
+  leads = λ g n w run a st.
+      let same : 0 + n ≡ n = omega arith in
+      stretched [] w (λ v. StandsAt e g n v run) (record { world = w; adds = adds_nothing w; holds = subst (λ i. StandsAt e g i w run) same st });
   writes = writes_nothing s k;
 }
 
-module _ (a b : Engine) (s s' s'' : Spacer) (k k' k'' : SinkView) (h : GoesOn a b s s' k k') where
-  pub goes_further : (c : Engine) → GoesOn b c s' s'' k' k'' → GoesOn a c s s'' k k''
+module _ (a b : Engine) (s s' s'' : Spacer) (k k' k'' : SinkView) (i i' i'' : SourceView) (h : GoesOn a b s s' k k' i i') where
+  pub goes_further : (c : Engine) → GoesOn b c s' s'' k' k'' i' i'' → GoesOn a c s s'' k k'' i i''
   goes_further c j = record {
     ready = j.ready;
     goal = j.goal;
@@ -110,54 +167,64 @@ module _ (a b : Engine) (s s' s'' : Spacer) (k k' k'' : SinkView) (h : GoesOn a 
     goals = h.goals + j.goals;
     left = omega (arith, h.left, j.left);
     added = h.added ++ j.added;
-    leads = λ g n w run st.
+    taken = h.taken ++ j.taken;
+    gave = gave_on i i' i'' h.taken j.taken h.gave j.gave;
+    leads = λ g n w run awaits st.
         let same : h.goals + j.goals + n ≡ h.goals + (j.goals + n) = omega arith in
-        then_on h.added j.added w (λ v. StandsAt b g (j.goals + n) v run) (λ v. StandsAt c g n v run) (h.leads g (j.goals + n) w run (subst (λ i. StandsAt a g i w run) same st)) (λ v at. j.leads g n v run at);
+        stretch_on h.added j.added h.taken j.taken w (λ v. StandsAt b g (j.goals + n) v run) (λ v. StandsAt c g n v run)
+        (h.leads g (j.goals + n) w run (awaits_first i' i'' false h.taken j.taken w j.gave awaits) (subst (λ i. StandsAt a g i w run) same st))
+        (λ v e at. j.leads g n v run (awaits_then i'' false h.taken j.taken w v e awaits) at);
     writes = writes_on s s' s'' k k' k'' h.added j.added h.writes j.writes;
   }
 
-  at_here : (g : Game) (w : World) (run : Run) → StandsAt a g a.left w run → Then h.added w (λ v. StandsAt b g b.left v run)
-  at_here g w run st = h.leads g b.left w run (subst (λ n. StandsAt a g n w run) h.left st)
+  has_text : (w v : World) (start : SinkView) → prints v.events ≡ prints w.events ++ h.added → HasText s start k (prints w.events) → HasText s' start k' (prints v.events)
+  has_text w v start more text = subst (HasText s' start k') (sym more) (h.writes start (prints w.events) text)
 
-  has_text : (w v : World) (start : SinkView) → Adds h.added w v → HasText s start k (prints w.events) → HasText s' start k' (prints v.events)
-  has_text w v start adds text = subst (HasText s' start k') (sym adds.prints_are) (h.writes start (prints w.events) text)
+  reaches_further : (P Q : World → Run → SinkView → Type 0) → ((w v : World) (run : Run) (start : SinkView) → P v run start → Q w run start) → Reaches b s' k' i' i'' P → Reaches a s k i i'' Q
+  reaches_further P Q f j = record {
+    taken = h.taken ++ j.taken;
+    ended = j.ended;
+    gave = gave_on i i' i'' h.taken j.taken h.gave j.gave;
+    at_end = j.at_end;
+    reaches = λ g w run start awaits st text.
+        let t = h.leads g b.left w run (awaits_first i' i'' j.ended h.taken j.taken w j.gave awaits) (subst (λ n. StandsAt a g n w run) h.left st) in
+        f w t.world run start (j.reaches g t.world run start (awaits_then i'' j.ended h.taken j.taken w t.world t.typed awaits) t.holds (has_text w t.world start t.prints_are text));
+  }
 
-  pub ended_reaches : (e : Ending) (n : ℕ) → Reaches b s' k' (HasEnded e n s'' k'') → Reaches a s k (HasEnded e n s'' k'')
-  ended_reaches e n j g w run start st text =
-      let t = at_here g w run st in
-      let y = j g t.world run start t.holds (has_text w t.world start t.adds text) in
-      record { world = y.world; typed = y.typed ∙ t.adds.typed; is = y.is; text = y.text }
+  pub ended_reaches : (e : Ending) (n : ℕ) → Reaches b s' k' i' i'' (HasEnded e n s'' k'' i'') → Reaches a s k i i'' (HasEnded e n s'' k'' i'')
+  ended_reaches e n = reaches_further (HasEnded e n s'' k'' i'') (HasEnded e n s'' k'' i'') (λ w v run start y. record { world = y.world; typed = y.typed; is = y.is; text = y.text })
 
-  pub broken_reaches : (fault : RunFault) → Reaches b s' k' (IsBroken fault s'' k'') → Reaches a s k (IsBroken fault s'' k'')
-  broken_reaches fault j g w run start st text = here fault (j g t.world run start t.holds (has_text w t.world start t.adds text)) where
-    t : Then h.added w (λ v. StandsAt b g b.left v run)
-    t = at_here g w run st
+  pub broken_reaches : (fault : RunFault) → Reaches b s' k' i' i'' (IsBroken fault s'' k'') → Reaches a s k i i'' (IsBroken fault s'' k'')
+  broken_reaches fault = reaches_further (IsBroken fault s'' k'') (IsBroken fault s'' k'') (λ w v run start y. here fault w v run start y) where
+    here : (fault : RunFault) (w v : World) (run : Run) (start : SinkView) → IsBroken fault s'' k'' v run start → IsBroken fault s'' k'' w run start
+    here Read w v run start x = x
+    here Write w v run start x = x
+    here OutOfMemory w v run start x = x
 
-    here : (fault : RunFault) → IsBroken fault s'' k'' t.world run start → IsBroken fault s'' k'' w run start
-    here Read x = x
-    here Write x = x
-    here OutOfMemory x = x
-
-  limit_further : (area : Area) (left : ℕ) → MeetsLimit area left b s' s'' k' k'' → MeetsLimit area left a s s'' k k''
+  limit_further : (area : Area) (left : ℕ) → MeetsLimit area left b s' s'' k' k'' i' i'' → MeetsLimit area left a s s'' k k'' i i''
   limit_further area left j =
       let behind : suc (h.goals + j.goals) ≡ h.goals + suc j.goals = omega arith in
       record {
         goals = h.goals + j.goals;
         left_is = omega (arith, h.left, j.left_is);
         added = h.added ++ j.added;
-        passed = λ g w run st.
-            let t = h.leads g (suc j.goals) w run (subst (λ i. StandsAt a g i w run) behind st) in
-            subst (λ n. n < greatest area run.world.meters) (limits_at a b h.limits area) (j.passed g t.world run t.holds);
-        until = λ g w run st.
-            then_on h.added j.added w (λ v. StandsAt b g (suc j.goals) v run) (λ v. Begins v.events run.world.events) (h.leads g (suc j.goals) w run (subst (λ i. StandsAt a g i w run) behind st)) (λ v at. j.until g v run at);
-        since = λ g w run st.
-            let t = h.leads g j.goals w run st in
-            let x = j.since g t.world run t.holds in
-            record { behind = x.behind; is = sym (append_assoc (prints w.events) h.added j.added) ∙ ap (λ l. l ++ j.added) (sym t.adds.prints_are) ∙ x.is };
+        taken = h.taken ++ j.taken;
+        gave = gave_on i i' i'' h.taken j.taken h.gave j.gave;
+        passed = λ g w run awaits st.
+            let t = h.leads g (suc j.goals) w run (awaits_first i' i'' false h.taken j.taken w j.gave awaits) (subst (λ i. StandsAt a g i w run) behind st) in
+            subst (λ n. n < greatest area run.world.meters) (limits_at a b h.limits area) (j.passed g t.world run (awaits_then i'' false h.taken j.taken w t.world t.typed awaits) t.holds);
+        until = λ g w run awaits st.
+            stretch_on h.added j.added h.taken j.taken w (λ v. StandsAt b g (suc j.goals) v run) (λ v. Begins v.events run.world.events)
+            (h.leads g (suc j.goals) w run (awaits_first i' i'' false h.taken j.taken w j.gave awaits) (subst (λ i. StandsAt a g i w run) behind st))
+            (λ v e at. j.until g v run (awaits_then i'' false h.taken j.taken w v e awaits) at);
+        since = λ g w run awaits st.
+            let t = h.leads g j.goals w run (awaits_first i' i'' false h.taken j.taken w j.gave awaits) st in
+            let x = j.since g t.world run (awaits_then i'' false h.taken j.taken w t.world t.typed awaits) t.holds in
+            record { behind = x.behind; is = sym (append_assoc (prints w.events) h.added j.added) ∙ ap (λ l. l ++ j.added) (sym t.prints_are) ∙ x.is };
         writes = writes_on s s' s'' k k' k'' h.added j.added h.writes j.writes;
       }
 
-  pub ended_further : (e : Ending) (left : ℕ) → Ended e left b s' s'' k' k'' → Ended e left a s s'' k k''
+  pub ended_further : (e : Ending) (left : ℕ) → Ended e left b s' s'' k' k'' i' i'' → Ended e left a s s'' k k'' i i''
   ended_further HeapLimit left j = limit_further Heap left j
   ended_further TrailLimit left j = limit_further Trail left j
   ended_further AuxLimit left j = limit_further Aux left j

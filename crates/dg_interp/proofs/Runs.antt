@@ -35,7 +35,9 @@ use Rattle.dg_interp.specs.Frames.{mark_steps, steps_behind, values_in}
 use Rattle.dg_interp.specs.declared.lack.Lack.{Lack}
 use Rattle.dg_interp.specs.Lacks.{lack_of, area_of, as_stored}
 use Rattle.dg_interp.specs.Engine.{store_in, limit_in, Point, LacksIn, LackAt, PassesLimit, IsAct, pieces_at, WrotePrinted, StandsAt, TakesAt, Then, FullAt, Taken, WentOn, HasEndedSo, Branches, Stops}
-use Rattle.dg_interp.specs.Running.{HasText, Writes, Reaches, HasEnded, MeetsLimit, Ended, IsBroken, GoalDone, DoesGoal, ending_at, over, outcome_of}
+use Rattle.dg_base.specs.Streams.{SourceView}
+use Rattle.dg_meaning.specs.Shows.{IsLeft}
+use Rattle.dg_interp.specs.Running.{HasText, Writes, Gave, Awaits, Stretch, Reaches, HasEnded, MeetsLimit, Ended, IsBroken, GoalDone, DoesGoal, ending_at, over, outcome_of}
 use Rattle.dg_base.proofs.WrittenLemmas.{wrote_on, broke_first, broke_later}
 use Rattle.dg_interp.proofs.Places.{limits_at, adds_nothing, adds_on, adds_drops, limits_on}
 use Rattle.dg_interp.proofs.Goals.{prints_word, prints_gap, quits}
@@ -76,15 +78,43 @@ writes_nothing s k start es h = subst (HasText s start k) (sym (append-nil es)) 
 pub writes_on : (s s' s'' : Spacer) (k k' k'' : SinkView) (xs ys : List Print) → Writes s s' k k' xs → Writes s' s'' k' k'' ys → Writes s s'' k k'' (xs ++ ys)
 writes_on s s' s'' k k' k'' xs ys a b start es h = subst (HasText s'' start k'') (append_assoc es xs ys) (b start (es ++ xs) (a start es h))
 
+-- ## Nothing is read
+
+pub gave_nothing : (i : SourceView) → Gave i i []
+gave_nothing i = record { left = λ rest h. h; later = omega arith }
+
+pub gave_on : (a b c : SourceView) (xs ys : List ℕ) → Gave a b xs → Gave b c ys → Gave a c (xs ++ ys)
+gave_on a b c xs ys h k = record {
+  left = λ rest is. subst (IsLeft a.left) (sym (append_assoc xs ys rest)) (h.left (ys ++ rest) (k.left rest is));
+  later = omega (arith, h.later, k.later);
+}
+
+-- what is left where nothing was read
+pub left_here : (i : SourceView) (ended : Bool) (w : World) → Awaits i ended [] w → IsLeft i.left w.typed
+left_here i ended w a = subst (IsLeft i.left) (sym a.typed) a.left
+
+-- a stretch that reads nothing
+pub stretched : (es : List Print) (w : World) (P : World → Type 0) → Then es w P → Stretch es [] w P
+stretched es w P t = record { world = t.world; prints_are = t.adds.prints_are; typed = sym t.adds.typed; holds = t.holds }
+
+pub reads_nothing : (e : Engine) (s : Spacer) (k : SinkView) (i : SourceView) (P : World → Run → SinkView → Type 0) → ((g : Game) (w : World) (run : Run) (start : SinkView) → IsLeft i.left w.typed → StandsAt e g e.left w run → HasText s start k (prints w.events) → P w run start) → Reaches e s k i i P
+reads_nothing e s k i P f = record {
+  taken = [];
+  ended = false;
+  gave = gave_nothing i;
+  at_end = λ h. absurd (cc);
+  reaches = λ g w run start a st text. f g w run start (left_here i false w a) st text;
+}
+
 -- ## Endings
 
-pub finished_so : (r : SearchResult) (e : Ending) (n m : ℕ) (s : Spacer) (k : SinkView) (w : World) (run : Run) (start : SinkView) → HasText s start k (prints w.events) → n ≡ m → e ≡ ending_of r → Then [] w (λ v. Finished n v r run) → HasEnded e m s k w run start
-finished_so r e n m s k w run start text same is t =
+pub finished_so : (r : SearchResult) (e : Ending) (n m : ℕ) (s : Spacer) (k : SinkView) (i : SourceView) (w : World) (run : Run) (start : SinkView) → IsLeft i.left w.typed → HasText s start k (prints w.events) → n ≡ m → e ≡ ending_of r → Then [] w (λ v. Finished n v r run) → HasEnded e m s k i w run start
+finished_so r e n m s k i w run start left text same is t =
     let f = t.holds in
     let adds = adds_on w t.world f.world [] [] t.adds (adds_drops t.world f.world f.drops) in
     record {
       world = f.world;
-      typed = adds.typed;
+      typed = subst (IsLeft i.left) (sym adds.typed) left;
       is = f.is ∙ ap (λ x. record { left = n; world = f.world; ending = x }) (sym is) ∙ ap (λ i. record { left = i; world = f.world; ending = e }) same;
       text = text_same s start k (prints w.events) (prints f.world.events) adds.prints_are text;
     }
@@ -105,9 +135,11 @@ no_more e added g w run some st =
     let same : prints run.world.events ≡ prints w.events = ap (λ (r : Run). prints r.world.events) f.is ∙ ap (λ (v : World). prints v.events) f.drops.is in
     record { behind = added; is = ap (λ l. l ++ added) (sym same) }
 
-pub run_limited : (e : Engine) (s : Spacer) (k : SinkView) → 0 < length e.here.goals.now → e.left ≡ 0 → Reaches e s k (HasEnded StepLimit e.left s k)
-run_limited e s k some none g w run start st text =
-    finished_so (End StepLimit) StepLimit 0 e.left s k w run start text (sym none) refl (record { world = w; adds = adds_nothing w; holds = limited_at e g w run some (subst (λ n. StandsAt e g n w run) none st) })
+pub run_limited : (e : Engine) (s : Spacer) (k : SinkView) (i : SourceView) → 0 < length e.here.goals.now → e.left ≡ 0 → Reaches e s k i i (HasEnded StepLimit e.left s k i)
+run_limited e s k i some none =
+    reads_nothing e s k i (HasEnded StepLimit e.left s k i)
+    (λ g w run start left st text.
+    finished_so (End StepLimit) StepLimit 0 e.left s k i w run start left text (sym none) refl (record { world = w; adds = adds_nothing w; holds = limited_at e g w run some (subst (λ n. StandsAt e g n w run) none st) }))
 
 -- ## Limits
 
@@ -126,11 +158,11 @@ stored_lacks From e (Ok done) h = tt
 stored_lacks From e (Err f) h = lack_from From e f h
 
 -- the limit of an area was met
-pub ended_at : (area : Area) (left : ℕ) (old : Engine) (s s' : Spacer) (k k' : SinkView) → MeetsLimit area left old s s' k k' → Ended (limit_ending area) left old s s' k k'
-ended_at Heap left old s s' k k' h = h
-ended_at Trail left old s s' k k' h = h
-ended_at Aux left old s s' k k' h = h
-ended_at Keep left old s s' k k' h = h
+pub ended_at : (area : Area) (left : ℕ) (old : Engine) (s s' : Spacer) (k k' : SinkView) (i i' : SourceView) → MeetsLimit area left old s s' k k' i i' → Ended (limit_ending area) left old s s' k k' i i'
+ended_at Heap left old s s' k k' i i' h = h
+ended_at Trail left old s s' k k' i i' h = h
+ended_at Aux left old s s' k k' i i' h = h
+ended_at Keep left old s s' k k' i i' h = h
 
 -- ## One goal
 
@@ -145,85 +177,93 @@ is_act (place.Gap kind) text print quit stop gap spaces = absurd (gap kind refl)
 is_act (place.GapN a) text print quit stop gap spaces = absurd (spaces a refl)
 is_act x text print quit stop gap spaces = tt
 
-module _ (x : Goal) (old mid : Engine) (s : Spacer) (k : SinkView) (some : 0 < length old.here.goals.now) (taken : Taken x old mid) where
+module _ (x : Goal) (old mid : Engine) (s : Spacer) (k : SinkView) (i : SourceView) (some : 0 < length old.here.goals.now) (taken : Taken x old mid) where
   takes_here : (g : Game) (w : World) (run : Run) → StandsAt old g old.left w run → TakesAt x mid g mid.left w run
   takes_here g w run st = taken.takes g mid.left w run (subst (λ n. StandsAt old g n w run) taken.left st)
 
   -- it has begun a branch, or goes on
-  pub goal_done : (new : Engine) → WentOn (TakesAt x mid) mid new → GoalDone old new s s k k
+  pub goal_done : (new : Engine) → WentOn (TakesAt x mid) mid new → GoalDone old new s s k k i i
   goal_done new h = record {
     ready = h.ready;
     limits = limits_on old mid new taken.limits h.limits;
     left = taken.left ∙ ap suc (sym h.left);
     added = [];
-    leads = λ g n w run st. h.leads g n w run (taken.takes g n w run st);
+    taken = [];
+    gave = gave_nothing i;
+    leads = λ g n w run a st. stretched [] w (λ v. StandsAt new g n v run) (h.leads g n w run (taken.takes g n w run st));
     writes = writes_nothing s k;
   }
 
-  pub goal_ended : (new : Engine) (result : SearchResult) (e : Ending) → e ≡ ending_of result → HasEndedSo (TakesAt x mid) result mid new → Reaches old s k (HasEnded e new.left s k)
-  goal_ended new result e is h g w run start st text = finished_so result e mid.left new.left s k w run start text (sym h.left) is (h.ends g mid.left w run (takes_here g w run st))
+  pub goal_ended : (new : Engine) (result : SearchResult) (e : Ending) → e ≡ ending_of result → HasEndedSo (TakesAt x mid) result mid new → Reaches old s k i i (HasEnded e new.left s k i)
+  goal_ended new result e is h =
+      reads_nothing old s k i (HasEnded e new.left s k i) (λ g w run start left st text. finished_so result e mid.left new.left s k i w run start left text (sym h.left) is (h.ends g mid.left w run (takes_here g w run st)))
 
   -- memory ran out before anything was written
-  pub goal_lost : Reaches old s k (IsBroken OutOfMemory s k)
-  goal_lost g w run start st text = record { part = w.events; until = (stands_happened g st.at.inside.lives st.at.ways _ old.left w run st.stands).events; text = text }
+  pub goal_lost : Reaches old s k i i (IsBroken OutOfMemory s k)
+  goal_lost = reads_nothing old s k i (IsBroken OutOfMemory s k) (λ g w run start left st text. record { part = w.events; until = (stands_happened g st.at.inside.lives st.at.ways _ old.left w run st.stands).events; text = text })
 
-  pub goal_limit : (area : Area) (left : ℕ) → mid.left ≡ left → PassesLimit area (TakesAt x mid) (limit_in area mid) → MeetsLimit area left old s s k k
+  pub goal_limit : (area : Area) (left : ℕ) → mid.left ≡ left → PassesLimit area (TakesAt x mid) (limit_in area mid) → MeetsLimit area left old s s k k i i
   goal_limit area left same h = record {
     goals = 0;
     left_is = omega (arith, taken.left, same);
     added = [];
-    passed = λ g w run st. subst (λ n. n < greatest area run.world.meters) (limits_at old mid taken.limits area) (h g 0 w run (taken.takes g 0 w run st));
-    until = λ g w run st. record { world = w; adds = adds_nothing w; holds = (stands_happened g st.at.inside.lives st.at.ways _ 1 w run st.stands).events };
-    since = λ g w run st. no_more old [] g w run some st;
+    taken = [];
+    gave = gave_nothing i;
+    passed = λ g w run a st. subst (λ n. n < greatest area run.world.meters) (limits_at old mid taken.limits area) (h g 0 w run (taken.takes g 0 w run st));
+    until = λ g w run a st. stretched [] w (λ v. Begins v.events run.world.events) (record { world = w; adds = adds_nothing w; holds = (stands_happened g st.at.inside.lives st.at.ways _ 1 w run st.stands).events });
+    since = λ g w run a st. no_more old [] g w run some st;
     writes = writes_nothing s k;
   }
 
   pub goal_does : (new : Engine) → new.left ≡ mid.left → (r : Result Bool Lack) (result : Result (Option Ending) RunFault) → result ≡ outcome_of r → IfOk r (λ found. Branches (TakesAt x mid) found mid new) → IfErr r (λ lack. LackAt (TakesAt x mid) mid lack) →
-      IfOk result (λ ending. DoesGoal ending old new s s k k)
-  goal_does new left r result is ok err = subst (λ q. IfOk q (λ ending. DoesGoal ending old new s s k k)) (sym is) (here r ok err) where
-    lacks : (area : Option Area) → LacksIn area (TakesAt x mid) mid → IfOk (over (ending_at area)) (λ ending. DoesGoal ending old new s s k k)
+      IfOk result (λ ending. DoesGoal ending old new s s k k i i)
+  goal_does new left r result is ok err = subst (λ q. IfOk q (λ ending. DoesGoal ending old new s s k k i i)) (sym is) (here r ok err) where
+    lacks : (area : Option Area) → LacksIn area (TakesAt x mid) mid → IfOk (over (ending_at area)) (λ ending. DoesGoal ending old new s s k k i i)
     lacks None h = tt
-    lacks (Some area) h = ended_at area new.left old s s k k (goal_limit area new.left (sym left) h)
+    lacks (Some area) h = ended_at area new.left old s s k k i i (goal_limit area new.left (sym left) h)
 
-    here : (r : Result Bool Lack) → IfOk r (λ found. Branches (TakesAt x mid) found mid new) → IfErr r (λ lack. LackAt (TakesAt x mid) mid lack) → IfOk (outcome_of r) (λ ending. DoesGoal ending old new s s k k)
+    here : (r : Result Bool Lack) → IfOk r (λ found. Branches (TakesAt x mid) found mid new) → IfErr r (λ lack. LackAt (TakesAt x mid) mid lack) → IfOk (outcome_of r) (λ ending. DoesGoal ending old new s s k k i i)
     here (Ok true) ok err = goal_done new ok
     here (Ok false) ok err = goal_ended new Failing Failed refl ok
     here (Err lack) ok err = lacks (area_of lack) err
 
-  pub goal_breaks : (r : Result Bool Lack) (result : Result (Option Ending) RunFault) → result ≡ outcome_of r → IfErr result (λ fault. Reaches old s k (IsBroken fault s k))
-  goal_breaks r result is = subst (λ q. IfErr q (λ fault. Reaches old s k (IsBroken fault s k))) (sym is) (here r) where
-    lacks : (area : Option Area) → IfErr (over (ending_at area)) (λ fault. Reaches old s k (IsBroken fault s k))
+  pub goal_breaks : (r : Result Bool Lack) (result : Result (Option Ending) RunFault) → result ≡ outcome_of r → IfErr result (λ fault. Reaches old s k i i (IsBroken fault s k))
+  goal_breaks r result is = subst (λ q. IfErr q (λ fault. Reaches old s k i i (IsBroken fault s k))) (sym is) (here r) where
+    lacks : (area : Option Area) → IfErr (over (ending_at area)) (λ fault. Reaches old s k i i (IsBroken fault s k))
     lacks None = goal_lost
     lacks (Some area) = tt
 
-    here : (r : Result Bool Lack) → IfErr (outcome_of r) (λ fault. Reaches old s k (IsBroken fault s k))
+    here : (r : Result Bool Lack) → IfErr (outcome_of r) (λ fault. Reaches old s k i i (IsBroken fault s k))
     here (Ok true) = tt
     here (Ok false) = tt
     here (Err lack) = lacks (area_of lack)
 
 -- ## One thing that is printed
 
-module _ (x : Goal) (e : Print) (old mid : Engine) (s s' : Spacer) (k k' : SinkView) (taken : Taken x old mid) (prints_it : (g : Game) (n : ℕ) (w : World) (run : Run) → TakesAt x mid g n w run → Then (e ∷ []) w (λ v. StandsAt mid g n v run)) where
+module _ (x : Goal) (e : Print) (old mid : Engine) (s s' : Spacer) (k k' : SinkView) (i : SourceView) (taken : Taken x old mid) (prints_it : (g : Game) (n : ℕ) (w : World) (run : Run) → TakesAt x mid g n w run → Then (e ∷ []) w (λ v. StandsAt mid g n v run)) where
   one_then : (g : Game) (n : ℕ) (w : World) (run : Run) → StandsAt old g (suc n) w run → Then (e ∷ []) w (λ v. StandsAt mid g n v run)
   one_then g n w run st = prints_it g n w run (taken.takes g n w run st)
 
-  pub one_done : ((es : List Print) → StandsFor s es → Added e es k k' s') → GoalDone old mid s s' k k'
+  pub one_done : ((es : List Print) → StandsFor s es → Added e es k k' s') → GoalDone old mid s s' k k' i i
   one_done added = record {
     ready = taken.ready;
     limits = taken.limits;
     left = taken.left;
     added = e ∷ [];
-    leads = one_then;
+    taken = [];
+    gave = gave_nothing i;
+    leads = λ g n w run a st. stretched (e ∷ []) w (λ v. StandsAt mid g n v run) (one_then g n w run st);
     writes = λ start es text. text_added s s' start k k' es e text added;
   }
 
-  pub one_lost : ((es : List Print) → StandsFor s es → BrokeOff k k' (growth es e)) → Reaches old s k (IsBroken Write s' k')
-  one_lost broke g w run start st text =
+  pub one_lost : ((es : List Print) → StandsFor s es → BrokeOff k k' (growth es e)) → Reaches old s k i i (IsBroken Write s' k')
+  one_lost broke = reads_nothing old s k i (IsBroken Write s' k')
+      (λ g w run start left st text.
       let t = one_then g mid.left w run (subst (λ n. StandsAt old g n w run) taken.left st) in
       let h = t.holds in
       let is : text_of t.world.events ≡ render (prints w.events) ++ growth (prints w.events) e = ap render t.adds.prints_are ∙ render_grows (prints w.events) e in
       text_begins t.world.events run.world.events (stands_happened g h.at.inside.lives h.at.ways _ mid.left t.world run h.stands).events start k'
-      (subst (BrokeOff start k') (sym is) (broke_later start k k' (render (prints w.events)) (growth (prints w.events) e) text.wrote (broke (prints w.events) text.stands)))
+      (subst (BrokeOff start k') (sym is) (broke_later start k k' (render (prints w.events)) (growth (prints w.events) e) text.wrote (broke (prints w.events) text.stands))))
 
 pub word_prints : (x : Goal) (name bytes : List ℕ) (e : Engine) → x ≡ Text name → bytes ≡ name → (g : Game) (n : ℕ) (w : World) (run : Run) → TakesAt x e g n w run → Then (Piece bytes ∷ []) w (λ v. StandsAt e g n v run)
 word_prints x name bytes e is same g n w run st = prints_word bytes e g n w run (subst (λ y. TakesAt y e g n w run) (is ∙ ap Text (sym same)) st)
@@ -238,39 +278,44 @@ text_grown ps s s' start before now es h f =
     let a = f es h.stands in
     record { stands = a.stands; wrote = subst (Wrote start now) (sym (render_append es (as_prints ps))) (wrote_on start before now (render es) (growth_of es ps) h.wrote a.wrote) }
 
-module _ (x : Goal) (term : Term) (value : Ref) (old mid new : Engine) (s s' : Spacer) (k k' : SinkView) (taken : Taken x old mid) (is : x ≡ PrintGoal term) (wrote : WrotePrinted term value mid new) where
+module _ (x : Goal) (term : Term) (value : Ref) (old mid new : Engine) (s s' : Spacer) (k k' : SinkView) (i : SourceView) (taken : Taken x old mid) (is : x ≡ PrintGoal term) (wrote : WrotePrinted term value mid new) where
   abbrev ps : List (List ℕ)
   ps = pieces_at new value
 
   printed_then : (g : Game) (n : ℕ) (w : World) (run : Run) → StandsAt old g (suc n) w run → Then (as_prints ps) w (λ v. StandsAt new g n v run)
   printed_then g n w run st = wrote.leads g n w run (subst (λ y. TakesAt y mid g n w run) is (taken.takes g n w run st))
 
-  pub value_done : AddsAll ps s s' k k' → GoalDone old new s s' k k'
+  pub value_done : AddsAll ps s s' k k' → GoalDone old new s s' k k' i i
   value_done added = record {
     ready = wrote.ready;
     limits = limits_on old mid new taken.limits wrote.limits;
     left = taken.left ∙ ap suc (sym wrote.left);
     added = as_prints ps;
-    leads = printed_then;
+    taken = [];
+    gave = gave_nothing i;
+    leads = λ g n w run a st. stretched (as_prints ps) w (λ v. StandsAt new g n v run) (printed_then g n w run st);
     writes = λ start es text. text_grown ps s s' start k k' es text added;
   }
 
-  pub value_lost : ((es : List Print) → StandsFor s es → BrokeOff k k' (growth_of es ps)) → Reaches old s k (IsBroken Write s' k')
-  value_lost broke g w run start st text =
+  pub value_lost : ((es : List Print) → StandsFor s es → BrokeOff k k' (growth_of es ps)) → Reaches old s k i i (IsBroken Write s' k')
+  value_lost broke = reads_nothing old s k i (IsBroken Write s' k')
+      (λ g w run start left st text.
       let t = printed_then g mid.left w run (subst (λ n. StandsAt old g n w run) taken.left st) in
       let h = t.holds in
       let es = prints w.events in
       let same : text_of t.world.events ≡ render es ++ growth_of es ps = ap render t.adds.prints_are ∙ render_append es (as_prints ps) in
       text_begins t.world.events run.world.events (stands_happened g h.at.inside.lives h.at.ways _ mid.left t.world run h.stands).events start k'
-      (subst (BrokeOff start k') (sym same) (broke_later start k k' (render es) (growth_of es ps) text.wrote (broke es text.stands)))
+      (subst (BrokeOff start k') (sym same) (broke_later start k k' (render es) (growth_of es ps) text.wrote (broke es text.stands))))
 
-pub goal_quits : (x : Goal) (old mid : Engine) (s : Spacer) (k : SinkView) → Taken x old mid → x ≡ Quit → Reaches old s k (HasEnded Quit-Ending mid.left s k)
-goal_quits x old mid s k taken is g w run start st text =
-    finished_so (End Quit-Ending) Quit-Ending mid.left mid.left s k w run start text refl refl
-    (quits mid g mid.left w run (subst (λ y. TakesAt y mid g mid.left w run) is (taken.takes g mid.left w run (subst (λ n. StandsAt old g n w run) taken.left st))))
+pub goal_quits : (x : Goal) (old mid : Engine) (s : Spacer) (k : SinkView) (i : SourceView) → Taken x old mid → x ≡ Quit → Reaches old s k i i (HasEnded Quit-Ending mid.left s k i)
+goal_quits x old mid s k i taken is =
+    reads_nothing old s k i (HasEnded Quit-Ending mid.left s k i)
+    (λ g w run start left st text.
+    finished_so (End Quit-Ending) Quit-Ending mid.left mid.left s k i w run start left text refl refl
+    (quits mid g mid.left w run (subst (λ y. TakesAt y mid g mid.left w run) is (taken.takes g mid.left w run (subst (λ n. StandsAt old g n w run) taken.left st)))))
 
-pub goal_stops : (x : Goal) (old mid new : Engine) (s : Spacer) (k : SinkView) → 0 < length old.here.goals.now → Taken x old mid → x ≡ Stop → Stops true mid new → GoalDone old new s s k k
-goal_stops x old between new s k some taken is h = goal_done x old between s k some taken new (subst (λ y. WentOn (TakesAt y between) between new) (sym is) h)
+pub goal_stops : (x : Goal) (old mid new : Engine) (s : Spacer) (k : SinkView) (i : SourceView) → 0 < length old.here.goals.now → Taken x old mid → x ≡ Stop → Stops true mid new → GoalDone old new s s k k i i
+goal_stops x old between new s k i some taken is h = goal_done x old between s k i some taken new (subst (λ y. WentOn (TakesAt y between) between new) (sym is) h)
 
-pub goal_stopped : (x : Goal) (old mid new : Engine) (s : Spacer) (k : SinkView) → 0 < length old.here.goals.now → Taken x old mid → x ≡ Stop → Stops false mid new → Reaches old s k (HasEnded Stopped new.left s k)
-goal_stopped x old between new s k some taken is h = goal_ended x old between s k some taken new (End Stopped) Stopped refl (subst (λ y. HasEndedSo (TakesAt y between) (End Stopped) between new) (sym is) h)
+pub goal_stopped : (x : Goal) (old mid new : Engine) (s : Spacer) (k : SinkView) (i : SourceView) → 0 < length old.here.goals.now → Taken x old mid → x ≡ Stop → Stops false mid new → Reaches old s k i i (HasEnded Stopped new.left s k i)
+goal_stopped x old between new s k i some taken is h = goal_ended x old between s k i some taken new (End Stopped) Stopped refl (subst (λ y. HasEndedSo (TakesAt y between) (End Stopped) between new) (sym is) h)

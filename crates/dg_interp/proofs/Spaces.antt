@@ -40,7 +40,8 @@ use Rattle.dg_interp.specs.Running.{GoalDone, Reaches, IsBroken}
 use Rattle.dg_interp.proofs.Turns.{all_first}
 use Rattle.dg_interp.proofs.Takes.{store_sound, store_ready}
 use Rattle.dg_interp.proofs.Places.{inside_in, limits_on}
-use Rattle.dg_interp.proofs.Runs.{text_added, text_begins, render_grows}
+use Rattle.dg_base.specs.Streams.{SourceView}
+use Rattle.dg_interp.proofs.Runs.{gave_nothing, stretched, reads_nothing, text_added, text_begins, render_grows}
 use Rattle.dg_interp.proofs.Giving.{with_store, steps_kept, kept_limits, written_acts}
 
 pub spaces_held : (term : Term) → terms_held (out-Goal (GapN term)) ≡ term ∷ []
@@ -116,24 +117,27 @@ module _ (term : Term) (old : Engine) (store : ListBindings) (stack : Vec Ref Gl
 
 -- ## Printing them
 
-module _ (x : Goal) (e : Print) (old mid new : Engine) (s s' : Spacer) (k k' : SinkView) (taken : Taken x old mid) (wrote : PrintsOne e x mid new) where
+module _ (x : Goal) (e : Print) (old mid new : Engine) (s s' : Spacer) (k k' : SinkView) (i : SourceView) (taken : Taken x old mid) (wrote : PrintsOne e x mid new) where
   then_one : (g : Game) (n : ℕ) (w : World) (run : Run) → StandsAt old g (suc n) w run → Then (e ∷ []) w (λ v. StandsAt new g n v run)
   then_one g n w run st = wrote.leads g n w run (taken.takes g n w run st)
 
-  pub told_done : ((es : List Print) → StandsFor s es → Added e es k k' s') → GoalDone old new s s' k k'
+  pub told_done : ((es : List Print) → StandsFor s es → Added e es k k' s') → GoalDone old new s s' k k' i i
   told_done added = record {
     ready = wrote.ready;
     limits = limits_on old mid new taken.limits wrote.limits;
     left = taken.left ∙ ap suc (sym wrote.left);
     added = e ∷ [];
-    leads = then_one;
+    taken = [];
+    gave = gave_nothing i;
+    leads = λ g n w run a st. stretched (e ∷ []) w (λ v. StandsAt new g n v run) (then_one g n w run st);
     writes = λ start es text. text_added s s' start k k' es e text added;
   }
 
-  pub told_lost : ((es : List Print) → StandsFor s es → BrokeOff k k' (growth es e)) → Reaches old s k (IsBroken Write s' k')
-  told_lost broke g w run start st text =
+  pub told_lost : ((es : List Print) → StandsFor s es → BrokeOff k k' (growth es e)) → Reaches old s k i i (IsBroken Write s' k')
+  told_lost broke = reads_nothing old s k i (IsBroken Write s' k')
+      (λ g w run start left st text.
       let t = then_one g mid.left w run (subst (λ n. StandsAt old g n w run) taken.left st) in
       let h = t.holds in
       let is : text_of t.world.events ≡ render (prints w.events) ++ growth (prints w.events) e = ap render t.adds.prints_are ∙ render_grows (prints w.events) e in
       text_begins t.world.events run.world.events (stands_happened g h.at.inside.lives h.at.ways _ mid.left t.world run h.stands).events start k'
-      (subst (BrokeOff start k') (sym is) (broke_later start k k' (render (prints w.events)) (growth (prints w.events) e) text.wrote (broke (prints w.events) text.stands)))
+      (subst (BrokeOff start k') (sym is) (broke_later start k k' (render (prints w.events)) (growth (prints w.events) e) text.wrote (broke (prints w.events) text.stands))))

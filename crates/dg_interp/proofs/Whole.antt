@@ -1,5 +1,5 @@
 -- From the start of a run to its closing.
-use Rattle.std.proofs.Common.{◌≡◌, ℕ, suc, ◌-◌, ◌<◌, ◌≤◌, inl, inr, List, [], ◌∷◌, ◌++◌, Option, Some, None, refl, sym, ap, ◌∙◌, subst, arith, length, length-append}
+use Rattle.std.proofs.Common.{◌≡◌, ℕ, suc, ◌-◌, ◌<◌, ◌≤◌, inl, inr, List, [], ◌∷◌, ◌++◌, Bool, true, false, Option, Some, None, refl, sym, ap, ◌∙◌, subst, arith, length, length-append}
 use Rattle.std.proofs.lemmas.Bool.{cases_lt}
 use Rattle.std.proofs.lemmas.List.{append-nil}
 use Rattle.std.specs.Prelude.{Result, Ok, Err, IfOk, IfErr}
@@ -29,7 +29,8 @@ use Rattle.dg_interp.specs.declared.lack.Lack.{Lack}
 use Rattle.dg_interp.specs.declared.lack.Lack.TheVariants as lack
 use Rattle.dg_interp.specs.Outside.{LacksAtStart}
 use Rattle.dg_interp.specs.Engine.{limit_in, Starts}
-use Rattle.dg_interp.specs.Running.{limit_of as ending_of_lack, HasText, Reaches, HasEnded, MeetsLimit, Ended, HasPart, IsBroken}
+use Rattle.dg_base.specs.Streams.{SourceView}
+use Rattle.dg_interp.specs.Running.{limit_of as ending_of_lack, Gave, IsOver, Awaits, HasText, Reaches, HasEnded, MeetsLimit, Ended, HasPart, IsBroken}
 use Rattle.dg_interp.specs.Interpret.{game, ForTyped, HasShown, HasLostOutput, HasLostMemory}
 use Rattle.dg_base.proofs.WrittenLemmas.{wrote_nothing, wrote_on, broke_first, broke_later}
 
@@ -75,164 +76,221 @@ the_part p q w h k b =
       | inr ge ↦ record { part = p; prints_are = refl; until = h; since = begins_shorter q p w k h ge }
     ]
 
-module _ (program : CoreProgram) (limits : Limits) (e : Engine) (dice : List ℕ) (starts : Starts program limits dice e) (s s' : Spacer) (k k' : SinkView) (new : StandsFor s []) (typed : List ℕ) where
+-- ## Typed bytes
+
+-- what a source has left, as far as it tells, or nothing
+left_told : (told : Option (List ℕ)) → (rest : List ℕ) × IsLeft told rest
+left_told None = ([], tt)
+left_told (Some rest) = (rest, refl)
+
+rest_of : (ended : Bool) (to : SourceView) → (ended ≡ true → IsLeft to.left []) → (rest : List ℕ) × IsLeft to.left rest × IsOver ended rest
+rest_of true to f = ([], f refl, refl)
+rest_of false to f = let x = left_told to.left in (x.0, x.1, tt)
+
+for_given : (told : Option (List ℕ)) (typed : List ℕ) (P : List ℕ → Type 0) → IsLeft told typed → P typed → ForTyped told P
+for_given None typed P is p = (typed, p)
+for_given (Some t) typed P is p = subst P (sym is) p
+
+never_over : {A : Type 0} → false ≡ true → A
+never_over h = absurd (cc)
+
+module _ (program : CoreProgram) (limits : Limits) (e : Engine) (dice : List ℕ) (starts : Starts program limits dice e) (s s' : Spacer) (k k' : SinkView) (i i' : SourceView) (new : StandsFor s []) where
   abbrev g : Game
   g = game program dice
-
-  abbrev r : Run
-  r = run g typed limits.steps
 
   no_text : HasText s k k []
   unfolding render
   no_text = record { stands = new; wrote = wrote_nothing k }
 
-  reached : (P : World → Run → SinkView → Type 0) → Reaches e s k P → P (start_world g typed) r k
-  reached P h = subst (λ n. P (start_world g typed) (run g typed n) k) starts.left (h g (start_world g typed) (run g typed e.left) k (starts.stands g e.left typed refl refl) no_text)
+  -- bytes that the source gave, and what it has left
+  for_taken : (P : List ℕ → Type 0) (taken : List ℕ) (ended : Bool) → Gave i i' taken → (ended ≡ true → IsLeft i'.left []) → ((typed : List ℕ) → Awaits i' ended taken (start_world g typed) → P typed) → ForTyped i.left P
+  for_taken P taken ended gave at_end f =
+      let x = rest_of ended i' at_end in
+      for_given i.left (taken ++ x.0) P (gave.left x.0 x.1) (f (taken ++ x.0) (record { rest = x.0; left = x.1; is_over = x.2; typed = refl }))
 
-  -- ## A limit
+  module _ (typed : List ℕ) where
+    abbrev r : Run
+    r = run g typed limits.steps
 
-  meets_within : (area : Area) (left : ℕ) → MeetsLimit area left e s s' k k' → left ≤ limits.steps
-  meets_within area left m = omega (arith, m.left_is, starts.left)
+    reached : (P : World → Run → SinkView → Type 0) (h : Reaches e s k i i' P) → Awaits i' h.ended h.taken (start_world g typed) → P (start_world g typed) r k
+    reached P h a = subst (λ n. P (start_world g typed) (run g typed n) k) starts.left (h.reaches g (start_world g typed) (run g typed e.left) k a (starts.stands g e.left typed refl refl) no_text)
 
-  module _ (area : Area) (left : ℕ) (m : MeetsLimit area left e s s' k k') (same : limit_in area e ≡ limit_of area limits) where
-    abbrev whole_run : Run
-    whole_run = run g typed (suc m.goals)
+    -- ## A limit
 
-    part_is : IsPart m.added (run g typed m.goals).world.events whole_run.world.events
-    part_is =
-        let t = m.until g (start_world g typed) whole_run (starts.stands g (suc m.goals) typed refl refl) in
-        let b = m.since g (start_world g typed) (run g typed m.goals) (starts.stands g m.goals typed refl refl) in
-        subst (λ l. IsPart l (run g typed m.goals).world.events whole_run.world.events) t.adds.prints_are
-        (the_part t.world.events (run g typed m.goals).world.events whole_run.world.events t.holds (later_run g typed m.goals (suc m.goals) (omega arith)).events (subst (Begins (prints (run g typed m.goals).world.events)) (sym t.adds.prints_are) b))
+    module _ (area : Area) (left : ℕ) (m : MeetsLimit area left e s s' k k' i i') (same : limit_in area e ≡ limit_of area limits) (a : Awaits i' false m.taken (start_world g typed)) where
+      abbrev whole_run : Run
+      whole_run = run g typed (suc m.goals)
 
-    passed_limit : limit_of area limits < peak area g typed (suc m.goals)
-    passed_limit = subst (λ n. n < peak area g typed (suc m.goals)) same (m.passed g (start_world g typed) whole_run (starts.stands g (suc m.goals) typed refl refl))
+      part_is : IsPart m.added (run g typed m.goals).world.events whole_run.world.events
+      part_is =
+          let t = m.until g (start_world g typed) whole_run a (starts.stands g (suc m.goals) typed refl refl) in
+          let b = m.since g (start_world g typed) (run g typed m.goals) a (starts.stands g m.goals typed refl refl) in
+          subst (λ l. IsPart l (run g typed m.goals).world.events whole_run.world.events) t.prints_are
+          (the_part t.world.events (run g typed m.goals).world.events whole_run.world.events t.holds (later_run g typed m.goals (suc m.goals) (omega arith)).events (subst (Begins (prints (run g typed m.goals).world.events)) (sym t.prints_are) b))
 
-    taken_goals : limits.steps - left ≡ suc m.goals
-    taken_goals = omega (arith, m.left_is, starts.left)
+      passed_limit : limit_of area limits < peak area g typed (suc m.goals)
+      passed_limit = subst (λ n. n < peak area g typed (suc m.goals)) same (m.passed g (start_world g typed) whole_run a (starts.stands g (suc m.goals) typed refl refl))
 
-    since_before : Begins (run g typed (suc m.goals - 1)).world.events part_is.part
-    since_before = let one : suc m.goals - 1 ≡ m.goals = omega arith in subst (λ n. Begins (run g typed n).world.events part_is.part) (sym one) part_is.since
+      taken_goals : limits.steps - left ≡ suc m.goals
+      taken_goals = omega (arith, m.left_is, starts.left)
 
-    limit_shows : ShowsLimit g typed limits (closed part_is.part (line_of (limit_ending area))) (record { ending = limit_ending area; goals = limits.steps - left })
-    limit_shows = record {
-      area = area;
-      ending = refl;
-      goals = omega arith;
-      passed = subst (λ n. limit_of area limits < peak area g typed n) (sym taken_goals) passed_limit;
-      part = part_is.part;
-      text = refl;
-      until = subst (λ n. Begins part_is.part (run g typed n).world.events) (sym taken_goals) part_is.until;
-      since = subst (λ n. Begins (run g typed (n - 1)).world.events part_is.part) (sym taken_goals) since_before;
-      none_before_the_first = λ none. absurd (omega (arith, none, taken_goals));
-      covers = λ n le within. limit_covers g typed limits area (suc m.goals) part_is.part passed_limit since_before n within;
-    }
+      since_before : Begins (run g typed (suc m.goals - 1)).world.events part_is.part
+      since_before = let one : suc m.goals - 1 ≡ m.goals = omega arith in subst (λ n. Begins (run g typed n).world.events part_is.part) (sym one) part_is.since
 
-    text_is : HasText s' k k' (prints part_is.part)
-    text_is = subst (HasText s' k k') (sym part_is.prints_are) (m.writes k [] no_text)
-
-    pub limit_shown : (k'' : SinkView) (told : Option (List ℕ)) → ((es : List Print) → StandsFor s' es → Wrote k' k'' (ending_line es (line_of (limit_ending area)))) → HasShown g typed limits (record { ending = limit_ending area; goals = limits.steps - left }) told k k''
-    limit_shown k'' told close = record {
-      bytes = closed part_is.part (line_of (limit_ending area));
-      shows = inr limit_shows;
-      wrote = wrote_on k k' k'' (text_of part_is.part) (ending_line (prints part_is.part) (line_of (limit_ending area))) text_is.wrote (close (prints part_is.part) text_is.stands);
-    }
-
-    pub limit_lost : (k'' : SinkView) → ((es : List Print) → StandsFor s' es → BrokeOff k' k'' (ending_line es (line_of (limit_ending area)))) → HasLostOutput g typed limits k k''
-    limit_lost k'' close = record {
-      bytes = closed part_is.part (line_of (limit_ending area));
-      may_write = whole (record { ending = limit_ending area; goals = limits.steps - left }) None (inr limit_shows);
-      broke = broke_later k k' k'' (text_of part_is.part) (ending_line (prints part_is.part) (line_of (limit_ending area))) text_is.wrote (close (prints part_is.part) text_is.stands);
-    }
-
-  -- ## The whole run
-
-  run_left : (ending : Ending) (left : ℕ) → Reaches e s k (HasEnded ending left s' k') → left ≤ limits.steps
-  run_left ending left h =
-      let x = reached (HasEnded ending left s' k') h in
-      let same : r.left ≡ left = ap (λ (y : Run). y.left) x.is in
-      omega (arith, run_within g typed limits.steps)
-
-  -- the text of the run and its closing
-  closes : (ending : Ending) (left : ℕ) (h : HasEnded ending left s' k' (start_world g typed) r k) → transcript g typed limits.steps ≡ render (prints h.world.events) ++ ending_line (prints h.world.events) (line_of ending)
-  closes ending left h = ap (λ (y : Run). closed y.world.events (line_of y.ending)) h.is
-
-  run_shown : (k'' : SinkView) (ending : Ending) (left : ℕ) (told : Option (List ℕ)) → Reaches e s k (HasEnded ending left s' k') → ((es : _) → StandsFor s' es → Wrote k' k'' (ending_line es (line_of ending))) → IsLeft told typed → HasShown g typed limits (record { ending = ending; goals = limits.steps - left }) told k k''
-  run_shown k'' ending left told h close is =
-      let x = reached (HasEnded ending left s' k') h in
-      let within = run_left ending left h in
-      let same : r.left ≡ left = ap (λ (y : Run). y.left) x.is in
-      record {
-        bytes = transcript g typed limits.steps;
-        shows = inl (record {
-          text = refl;
-          ending = sym (ap (λ (y : Run). y.ending) x.is);
-          goals = omega arith;
-          left_is = subst (IsLeft told) (sym (ap (λ (y : Run). y.world.typed) x.is ∙ x.typed)) is;
-        });
-        wrote = subst (Wrote k k'') (sym (closes ending left x)) (wrote_on k k' k'' (render (prints x.world.events)) (ending_line (prints x.world.events) (line_of ending)) x.text.wrote (close (prints x.world.events) x.text.stands));
+      limit_shows : ShowsLimit g typed limits (closed part_is.part (line_of (limit_ending area))) (record { ending = limit_ending area; goals = limits.steps - left })
+      limit_shows = record {
+        area = area;
+        ending = refl;
+        goals = omega arith;
+        passed = subst (λ n. limit_of area limits < peak area g typed n) (sym taken_goals) passed_limit;
+        part = part_is.part;
+        text = refl;
+        until = subst (λ n. Begins part_is.part (run g typed n).world.events) (sym taken_goals) part_is.until;
+        since = subst (λ n. Begins (run g typed (n - 1)).world.events part_is.part) (sym taken_goals) since_before;
+        none_before_the_first = λ none. absurd (omega (arith, none, taken_goals));
+        covers = λ n le within. limit_covers g typed limits area (suc m.goals) part_is.part passed_limit since_before n within;
       }
 
-  run_lost : (k'' : SinkView) (ending : Ending) (left : ℕ) → Reaches e s k (HasEnded ending left s' k') → ((es : _) → StandsFor s' es → BrokeOff k' k'' (ending_line es (line_of ending))) → HasLostOutput g typed limits k k''
-  run_lost k'' ending left h close =
-      let x = reached (HasEnded ending left s' k') h in
-      record {
+      text_is : HasText s' k k' (prints part_is.part)
+      text_is = subst (HasText s' k k') (sym part_is.prints_are) (m.writes k [] no_text)
+
+      limit_shown : (k'' : SinkView) → ((es : List Print) → StandsFor s' es → Wrote k' k'' (ending_line es (line_of (limit_ending area)))) → HasShown g typed limits (record { ending = limit_ending area; goals = limits.steps - left }) i'.left k k''
+      limit_shown k'' close = record {
+        bytes = closed part_is.part (line_of (limit_ending area));
+        shows = inr limit_shows;
+        wrote = wrote_on k k' k'' (text_of part_is.part) (ending_line (prints part_is.part) (line_of (limit_ending area))) text_is.wrote (close (prints part_is.part) text_is.stands);
+      }
+
+      limit_lost : (k'' : SinkView) → ((es : List Print) → StandsFor s' es → BrokeOff k' k'' (ending_line es (line_of (limit_ending area)))) → HasLostOutput g typed limits k k''
+      limit_lost k'' close = record {
+        bytes = closed part_is.part (line_of (limit_ending area));
+        may_write = whole (record { ending = limit_ending area; goals = limits.steps - left }) None (inr limit_shows);
+        broke = broke_later k k' k'' (text_of part_is.part) (ending_line (prints part_is.part) (line_of (limit_ending area))) text_is.wrote (close (prints part_is.part) text_is.stands);
+      }
+
+    -- ## The whole run
+
+    module _ (ending : Ending) (left : ℕ) (h : Reaches e s k i i' (HasEnded ending left s' k' i')) (a : Awaits i' h.ended h.taken (start_world g typed)) where
+      abbrev x : HasEnded ending left s' k' i' (start_world g typed) r k
+      x = reached (HasEnded ending left s' k' i') h a
+
+      run_left : left ≤ limits.steps
+      run_left = let same : r.left ≡ left = ap (λ (y : Run). y.left) x.is in omega (arith, run_within g typed limits.steps)
+
+      -- the text of the run and its closing
+      closes : transcript g typed limits.steps ≡ render (prints x.world.events) ++ ending_line (prints x.world.events) (line_of ending)
+      closes = ap (λ (y : Run). closed y.world.events (line_of y.ending)) x.is
+
+      run_shown : (k'' : SinkView) → ((es : _) → StandsFor s' es → Wrote k' k'' (ending_line es (line_of ending))) → HasShown g typed limits (record { ending = ending; goals = limits.steps - left }) i'.left k k''
+      run_shown k'' close =
+          let within = run_left in
+          let same : r.left ≡ left = ap (λ (y : Run). y.left) x.is in
+          record {
+            bytes = transcript g typed limits.steps;
+            shows = inl
+                (record {
+                  text = refl;
+                  ending = sym (ap (λ (y : Run). y.ending) x.is);
+                  goals = omega (arith, same, within);
+                  left_is = subst (IsLeft i'.left) (sym (ap (λ (y : Run). y.world.typed) x.is)) x.typed;
+                });
+            wrote = subst (Wrote k k'') (sym closes) (wrote_on k k' k'' (render (prints x.world.events)) (ending_line (prints x.world.events) (line_of ending)) x.text.wrote (close (prints x.world.events) x.text.stands));
+          }
+
+      run_lost : (k'' : SinkView) → ((es : _) → StandsFor s' es → BrokeOff k' k'' (ending_line es (line_of ending))) → HasLostOutput g typed limits k k''
+      run_lost k'' close = record {
         bytes = transcript g typed limits.steps;
         may_write = may_write g typed limits;
-        broke = subst (BrokeOff k k'') (sym (closes ending left x)) (broke_later k k' k'' (render (prints x.world.events)) (ending_line (prints x.world.events) (line_of ending)) x.text.wrote (close (prints x.world.events) x.text.stands));
+        broke = subst (BrokeOff k k'') (sym closes) (broke_later k k' k'' (render (prints x.world.events)) (ending_line (prints x.world.events) (line_of ending)) x.text.wrote (close (prints x.world.events) x.text.stands));
       }
 
-  pub left_within : (ending : Ending) (left : ℕ) → Ended ending left e s s' k k' → left ≤ limits.steps
+    shows_part : (x : HasPart s' k' r k) → ShowsNoMemory g typed limits (closed x.part no_memory_line)
+    shows_part x = record { part = x.part; text = refl; until = x.until }
+
+  -- a limit, for bytes that the source gave
+  met : (area : Area) (left : ℕ) (P : List ℕ → Type 0) (m : MeetsLimit area left e s s' k k' i i') → ((typed : List ℕ) → Awaits i' false m.taken (start_world g typed) → P typed) → ForTyped i.left P
+  met area left P m = for_taken P m.taken false m.gave never_over
+
+  came : (Q : World → Run → SinkView → Type 0) (P : List ℕ → Type 0) (h : Reaches e s k i i' Q) → ((typed : List ℕ) → Awaits i' h.ended h.taken (start_world g typed) → P typed) → ForTyped i.left P
+  came Q P h = for_taken P h.taken h.ended h.gave h.at_end
+
+  -- what holds for some typed bytes, of which it doesn't speak
+  for_none : (told : Option (List ℕ)) (P : Type 0) → ForTyped told (λ typed. P) → P
+  for_none None P h = h.1
+  for_none (Some typed) P h = h
+
+  meets_within : (area : Area) (left : ℕ) → MeetsLimit area left e s s' k k' i i' → left ≤ limits.steps
+  meets_within area left m = omega (arith, m.left_is, starts.left)
+
+  pub left_within : (ending : Ending) (left : ℕ) → Ended ending left e s s' k k' i i' → left ≤ limits.steps
   left_within HeapLimit left m = meets_within Heap left m
   left_within TrailLimit left m = meets_within Trail left m
   left_within AuxLimit left m = meets_within Aux left m
   left_within KeepLimit left m = meets_within Keep left m
-  left_within ending left h = run_left ending left h
+  left_within ending left h = for_none i.left (left ≤ limits.steps) (came (HasEnded ending left s' k' i') (λ typed. left ≤ limits.steps) h (λ typed a. run_left typed ending left h a))
 
-  pub has_shown : (k'' : SinkView) (ending : Ending) (left : ℕ) (told : Option (List ℕ)) → Ended ending left e s s' k k' → ((es : List Print) → StandsFor s' es → Wrote k' k'' (ending_line es (line_of ending))) → IsLeft told typed → HasShown g typed limits (record { ending = ending; goals = limits.steps - left }) told k k''
-  has_shown k'' HeapLimit left told m close is = limit_shown Heap left m (starts.limits_are Heap) k'' told close
-  has_shown k'' TrailLimit left told m close is = limit_shown Trail left m (starts.limits_are Trail) k'' told close
-  has_shown k'' AuxLimit left told m close is = limit_shown Aux left m (starts.limits_are Aux) k'' told close
-  has_shown k'' KeepLimit left told m close is = limit_shown Keep left m (starts.limits_are Keep) k'' told close
-  has_shown k'' ending left told h close is = run_shown k'' ending left told h close is
+  pub ended_later : (ending : Ending) (left : ℕ) → Ended ending left e s s' k k' i i' → i.faults ≤ i'.faults
+  ended_later HeapLimit left m = m.gave.later
+  ended_later TrailLimit left m = m.gave.later
+  ended_later AuxLimit left m = m.gave.later
+  ended_later KeepLimit left m = m.gave.later
+  ended_later ending left h = h.gave.later
 
-  pub closing_lost : (k'' : SinkView) (ending : Ending) (left : ℕ) → Ended ending left e s s' k k' → ((es : List Print) → StandsFor s' es → BrokeOff k' k'' (ending_line es (line_of ending))) → HasLostOutput g typed limits k k''
-  closing_lost k'' HeapLimit left m close = limit_lost Heap left m (starts.limits_are Heap) k'' close
-  closing_lost k'' TrailLimit left m close = limit_lost Trail left m (starts.limits_are Trail) k'' close
-  closing_lost k'' AuxLimit left m close = limit_lost Aux left m (starts.limits_are Aux) k'' close
-  closing_lost k'' KeepLimit left m close = limit_lost Keep left m (starts.limits_are Keep) k'' close
-  closing_lost k'' ending left h close = run_lost k'' ending left h close
+  -- what is shown with this ending
+  abbrev pub Shown : Ending → ℕ → SinkView → List ℕ → Type 0
+  Shown ending left k'' typed = HasShown g typed limits (record { ending = ending; goals = limits.steps - left }) i'.left k k''
 
-  pub text_lost : Reaches e s k (IsBroken Write s' k') → HasLostOutput g typed limits k k'
-  text_lost h = record {
-    bytes = transcript g typed limits.steps;
-    may_write = may_write g typed limits;
-    broke = broke_first k k' (text_of r.world.events) (closing r.world.events (line_of r.ending)) (reached (IsBroken Write s' k') h);
-  }
+  pub has_shown : (k'' : SinkView) (ending : Ending) (left : ℕ) → Ended ending left e s s' k k' i i' → ((es : List Print) → StandsFor s' es → Wrote k' k'' (ending_line es (line_of ending))) → ForTyped i.left (Shown ending left k'')
+  has_shown k'' HeapLimit left m close = met Heap left (Shown HeapLimit left k'') m (λ typed a. limit_shown typed Heap left m (starts.limits_are Heap) a k'' close)
+  has_shown k'' TrailLimit left m close = met Trail left (Shown TrailLimit left k'') m (λ typed a. limit_shown typed Trail left m (starts.limits_are Trail) a k'' close)
+  has_shown k'' AuxLimit left m close = met Aux left (Shown AuxLimit left k'') m (λ typed a. limit_shown typed Aux left m (starts.limits_are Aux) a k'' close)
+  has_shown k'' KeepLimit left m close = met Keep left (Shown KeepLimit left k'') m (λ typed a. limit_shown typed Keep left m (starts.limits_are Keep) a k'' close)
+  has_shown k'' ending left h close = came (HasEnded ending left s' k' i') (Shown ending left k'') h (λ typed a. run_shown typed ending left h a k'' close)
 
-  pub nothing_read : Reaches e s k (IsBroken Read s' k') → ⊥
-  nothing_read h = reached (IsBroken Read s' k') h
+  -- what is lost
+  abbrev pub Lost : SinkView → List ℕ → Type 0
+  Lost k'' typed = HasLostOutput g typed limits k k''
 
-  shows_part : (x : HasPart s' k' r k) → ShowsNoMemory g typed limits (closed x.part no_memory_line)
-  shows_part x = record { part = x.part; text = refl; until = x.until }
+  pub closing_lost : (k'' : SinkView) (ending : Ending) (left : ℕ) → Ended ending left e s s' k k' i i' → ((es : List Print) → StandsFor s' es → BrokeOff k' k'' (ending_line es (line_of ending))) → ForTyped i.left (Lost k'')
+  closing_lost k'' HeapLimit left m close = met Heap left (Lost k'') m (λ typed a. limit_lost typed Heap left m (starts.limits_are Heap) a k'' close)
+  closing_lost k'' TrailLimit left m close = met Trail left (Lost k'') m (λ typed a. limit_lost typed Trail left m (starts.limits_are Trail) a k'' close)
+  closing_lost k'' AuxLimit left m close = met Aux left (Lost k'') m (λ typed a. limit_lost typed Aux left m (starts.limits_are Aux) a k'' close)
+  closing_lost k'' KeepLimit left m close = met Keep left (Lost k'') m (λ typed a. limit_lost typed Keep left m (starts.limits_are Keep) a k'' close)
+  closing_lost k'' ending left h close = came (HasEnded ending left s' k' i') (Lost k'') h (λ typed a. run_lost typed ending left h a k'' close)
 
-  pub memory_shown : (k'' : SinkView) → Reaches e s k (IsBroken OutOfMemory s' k') → ((es : _) → StandsFor s' es → Wrote k' k'' (ending_line es no_memory_line)) → HasLostMemory g typed limits k k''
+  pub text_lost : Reaches e s k i i' (IsBroken Write s' k') → ForTyped i.left (Lost k')
+  text_lost h =
+      came (IsBroken Write s' k') (Lost k') h
+      (λ typed a. record {
+        bytes = transcript g typed limits.steps;
+        may_write = may_write g typed limits;
+        broke = broke_first k k' (text_of (r typed).world.events) (closing (r typed).world.events (line_of (r typed).ending)) (reached typed (IsBroken Write s' k') h a);
+      })
+
+  pub nothing_read : Reaches e s k i i' (IsBroken Read s' k') → ⊥
+  nothing_read h = for_none i.left ⊥ (came (IsBroken Read s' k') (λ typed. ⊥) h (λ typed a. reached typed (IsBroken Read s' k') h a))
+
+  pub memory_shown : (k'' : SinkView) → Reaches e s k i i' (IsBroken OutOfMemory s' k') → ((es : _) → StandsFor s' es → Wrote k' k'' (ending_line es no_memory_line)) → ForTyped i.left (λ typed. HasLostMemory g typed limits k k'')
   memory_shown k'' h close =
-      let x = reached (IsBroken OutOfMemory s' k') h in
+      came (IsBroken OutOfMemory s' k') (λ typed. HasLostMemory g typed limits k k'') h
+      (λ typed a.
+      let x = reached typed (IsBroken OutOfMemory s' k') h a in
       record {
         bytes = closed x.part no_memory_line;
-        shows = shows_part x;
+        shows = shows_part typed x;
         wrote = wrote_on k k' k'' (text_of x.part) (ending_line (prints x.part) no_memory_line) x.text.wrote (close (prints x.part) x.text.stands);
-      }
+      })
 
-  pub memory_closing_lost : (k'' : SinkView) → Reaches e s k (IsBroken OutOfMemory s' k') → ((es : _) → StandsFor s' es → BrokeOff k' k'' (ending_line es no_memory_line)) → HasLostOutput g typed limits k k''
+  pub memory_closing_lost : (k'' : SinkView) → Reaches e s k i i' (IsBroken OutOfMemory s' k') → ((es : _) → StandsFor s' es → BrokeOff k' k'' (ending_line es no_memory_line)) → ForTyped i.left (Lost k'')
   memory_closing_lost k'' h close =
-      let x = reached (IsBroken OutOfMemory s' k') h in
+      came (IsBroken OutOfMemory s' k') (Lost k'') h
+      (λ typed a.
+      let x = reached typed (IsBroken OutOfMemory s' k') h a in
       record {
         bytes = closed x.part no_memory_line;
-        may_write = without_memory (shows_part x);
+        may_write = without_memory (shows_part typed x);
         broke = broke_later k k' k'' (text_of x.part) (ending_line (prints x.part) no_memory_line) x.text.wrote (close (prints x.part) x.text.stands);
-      }
+      })
 
 -- ## What is lacking at the start
 

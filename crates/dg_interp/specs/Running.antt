@@ -1,5 +1,5 @@
 -- What an engine, a spacer and a sink come to together. Hold it against the Dialog manual, chapter "Output".
-use Rattle.std.specs.Prelude.{ℕ, suc, ◌+◌, ◌≡◌, ◌<◌, ◌++◌, List, Option, Some, None, Bool, true, false, Result, Ok, Err, length}
+use Rattle.std.specs.Prelude.{ℕ, suc, ◌+◌, ◌≡◌, ◌<◌, ◌≤◌, ◌++◌, List, [], Option, Some, None, Bool, true, false, Result, Ok, Err, length}
 use Rattle.dg_base.specs.declared.run.Ending.{Ending}
 use Rattle.dg_base.specs.declared.run.Ending.TheVariants.{Failed, HeapLimit, TrailLimit, AuxLimit, KeepLimit}
 use Rattle.dg_base.specs.declared.run.RunFault.{RunFault}
@@ -13,9 +13,11 @@ use Rattle.dg_spacing.specs.declared.spacer.Spacer.{Spacer}
 use Rattle.dg_interp.specs.declared.engine.Engine.{Engine}
 use Rattle.dg_interp.specs.declared.lack.Lack.{Lack}
 use Rattle.dg_interp.specs.Lacks.{area_of}
+use Rattle.dg_base.specs.Streams.{SourceView}
+use Rattle.dg_meaning.specs.Shows.{IsLeft}
 use Rattle.dg_base.specs.Written.{SinkView, Wrote, BrokeOff}
 use Rattle.dg_spacing.specs.Spacer.{StandsFor}
-use Rattle.dg_interp.specs.Engine.{limit_in, IsReady, StandsAt, SameLimits, Then}
+use Rattle.dg_interp.specs.Engine.{limit_in, IsReady, StandsAt, SameLimits}
 
 -- Since the start the sink took the text of these things, and the spacer stands for them.
 pub record HasText (s : Spacer) (start now : SinkView) (es : List Print) : Type 0 where
@@ -26,54 +28,94 @@ pub record HasText (s : Spacer) (start now : SinkView) (es : List Print) : Type 
 abbrev pub Writes : Spacer → Spacer → SinkView → SinkView → List Print → Type 0
 Writes s s' before now added = (start : SinkView) (es : List Print) → HasText s start before es → HasText s' start now (es ++ added)
 
--- Whatever run comes from where the engine is, with as much of its budget left and all that it printed so far written, this holds of it.
-abbrev pub Reaches : Engine → Spacer → SinkView → (World → Run → SinkView → Type 0) → Type 0
-Reaches e s now P = (g : Game) (w : World) (run : Run) (start : SinkView) → StandsAt e g e.left w run → HasText s start now (prints w.events) → P w run start
+-- A source gave these bytes: what it had left is these, and then what it has left.
+pub record Gave (old new : SourceView) (taken : List ℕ) : Type 0 where
+  pub left : (rest : List ℕ) → IsLeft new.left rest → IsLeft old.left (taken ++ rest)
+  pub later : old.faults ≤ new.faults
+
+-- Nothing is left where the end was met.
+abbrev pub IsOver : Bool → List ℕ → Type 0
+IsOver false rest = Unit {0}
+IsOver true rest = rest ≡ []
+
+-- The typed bytes of a world are those that a stretch of the run takes, and then what the source has left behind it.
+pub record Awaits (now : SourceView) (ended : Bool) (taken : List ℕ) (w : World) : Type 0 where
+  pub rest : List ℕ
+  pub left : IsLeft now.left rest
+  pub is_over : IsOver ended rest
+  pub typed : w.typed ≡ taken ++ rest
+
+-- A stretch of the run printed these things and took these typed bytes, and then this holds.
+pub record Stretch (added : List Print) (taken : List ℕ) (w : World) (P : World → Type 0) : Type 0 where
+  pub world : World
+  pub prints_are : prints world.events ≡ prints w.events ++ added
+  pub typed : w.typed ≡ taken ++ world.typed
+  pub holds : P world
+
+-- Whatever run comes from where the engine is, with as much of its budget left and all that it printed so far written, and the typed bytes that the source gives up to its end, this holds of it.
+pub record Reaches (e : Engine) (s : Spacer) (before : SinkView) (from to : SourceView) (P : World → Run → SinkView → Type 0) : Type 0 where
+  pub taken : List ℕ
+  pub ended : Bool
+  pub gave : Gave from to taken
+  pub at_end : ended ≡ true → IsLeft to.left []
+  pub reaches : (g : Game) (w : World) (run : Run) (start : SinkView) → Awaits to ended taken w → StandsAt e g e.left w run →
+      HasText s start before (prints w.events) → P w run start
 
 -- A goal was taken and done, and each run goes on from where the engine is; what was added to it was written.
-pub record GoalDone (old new : Engine) (s s' : Spacer) (before now : SinkView) : Type 0 where
+pub record GoalDone (old new : Engine) (s s' : Spacer) (before now : SinkView) (from to : SourceView) : Type 0 where
   pub ready : IsReady new
   pub limits : SameLimits old new
   pub left : old.left ≡ suc new.left
   pub added : List Print
-  pub leads : (g : Game) (n : ℕ) (w : World) (run : Run) → StandsAt old g (suc n) w run → Then added w (λ v. StandsAt new g n v run)
+  pub taken : List ℕ
+  pub gave : Gave from to taken
+  pub leads : (g : Game) (n : ℕ) (w : World) (run : Run) → Awaits to false taken w → StandsAt old g (suc n) w run →
+      Stretch added taken w (λ v. StandsAt new g n v run)
   pub writes : Writes s s' before now added
 
 -- Some goals were taken, and each run goes on from where the engine is; what was added to it was written.
-pub record GoesOn (old new : Engine) (s s' : Spacer) (before now : SinkView) : Type 0 where
+pub record GoesOn (old new : Engine) (s s' : Spacer) (before now : SinkView) (from to : SourceView) : Type 0 where
   pub ready : IsReady new
   pub goal : 0 < length new.here.goals.now
   pub limits : SameLimits old new
   pub goals : ℕ
   pub left : old.left ≡ goals + new.left
   pub added : List Print
-  pub leads : (g : Game) (n : ℕ) (w : World) (run : Run) → StandsAt old g (goals + n) w run → Then added w (λ v. StandsAt new g n v run)
+  pub taken : List ℕ
+  pub gave : Gave from to taken
+  pub leads : (g : Game) (n : ℕ) (w : World) (run : Run) → Awaits to false taken w → StandsAt old g (goals + n) w run →
+      Stretch added taken w (λ v. StandsAt new g n v run)
   pub writes : Writes s s' before now added
 
--- The run has ended so, with this much of its budget left, all that it printed was written, and nothing was read.
-pub record HasEnded (ending : Ending) (left : ℕ) (s : Spacer) (now : SinkView) (w : World) (run : Run) (start : SinkView) : Type 0 where
+-- The run has ended so, with this much of its budget left, all that it printed was written, and the source has left what the run has left.
+pub record HasEnded (ending : Ending) (left : ℕ) (s : Spacer) (now : SinkView) (source : SourceView) (w : World) (run : Run) (start : SinkView) : Type 0 where
   pub world : World
-  pub typed : world.typed ≡ w.typed
+  pub typed : IsLeft source.left world.typed
   pub is : run ≡ record { left = left; world = world; ending = ending }
   pub text : HasText s start now (prints world.events)
 
 -- A limit was met behind some goals, with this much of the budget left: the run with a budget of these goals passes it, and of what was written it has printed all, and the run with a budget of one less no more.
-pub record MeetsLimit (area : Area) (left : ℕ) (old : Engine) (s s' : Spacer) (before now : SinkView) : Type 0 where
+pub record MeetsLimit (area : Area) (left : ℕ) (old : Engine) (s s' : Spacer) (before now : SinkView) (from to : SourceView) : Type 0 where
   pub goals : ℕ
   pub left_is : old.left ≡ suc goals + left
   pub added : List Print
-  pub passed : (g : Game) (w : World) (run : Run) → StandsAt old g (suc goals) w run → limit_in area old < greatest area run.world.meters
-  pub until : (g : Game) (w : World) (run : Run) → StandsAt old g (suc goals) w run → Then added w (λ v. Begins v.events run.world.events)
-  pub since : (g : Game) (w : World) (run : Run) → StandsAt old g goals w run → Begins (prints run.world.events) (prints w.events ++ added)
+  pub taken : List ℕ
+  pub gave : Gave from to taken
+  pub passed : (g : Game) (w : World) (run : Run) → Awaits to false taken w → StandsAt old g (suc goals) w run →
+      limit_in area old < greatest area run.world.meters
+  pub until : (g : Game) (w : World) (run : Run) → Awaits to false taken w → StandsAt old g (suc goals) w run →
+      Stretch added taken w (λ v. Begins v.events run.world.events)
+  pub since : (g : Game) (w : World) (run : Run) → Awaits to false taken w → StandsAt old g goals w run →
+      Begins (prints run.world.events) (prints w.events ++ added)
   pub writes : Writes s s' before now added
 
 -- How a run has ended: at a limit, or as its search ends.
-abbrev pub Ended : Ending → ℕ → Engine → Spacer → Spacer → SinkView → SinkView → Type 0
-Ended HeapLimit left old s s' before now = MeetsLimit Heap left old s s' before now
-Ended TrailLimit left old s s' before now = MeetsLimit Trail left old s s' before now
-Ended AuxLimit left old s s' before now = MeetsLimit Aux left old s s' before now
-Ended KeepLimit left old s s' before now = MeetsLimit Keep left old s s' before now
-Ended ending left old s s' before now = Reaches old s before (HasEnded ending left s' now)
+abbrev pub Ended : Ending → ℕ → Engine → Spacer → Spacer → SinkView → SinkView → SourceView → SourceView → Type 0
+Ended HeapLimit left old s s' before now from to = MeetsLimit Heap left old s s' before now from to
+Ended TrailLimit left old s s' before now from to = MeetsLimit Trail left old s s' before now from to
+Ended AuxLimit left old s s' before now from to = MeetsLimit Aux left old s s' before now from to
+Ended KeepLimit left old s s' before now from to = MeetsLimit Keep left old s s' before now from to
+Ended ending left old s s' before now from to = Reaches old s before from to (HasEnded ending left s' now to)
 
 -- What was printed up to some moment of the run was written.
 pub record HasPart (s : Spacer) (now : SinkView) (run : Run) (start : SinkView) : Type 0 where
@@ -88,14 +130,14 @@ IsBroken Write s now w run start = BrokeOff start now (text_of run.world.events)
 IsBroken OutOfMemory s now w run start = HasPart s now run start
 
 -- The goal at hand was done, or the run has ended so.
-abbrev pub DoesGoal : Option Ending → Engine → Engine → Spacer → Spacer → SinkView → SinkView → Type 0
-DoesGoal None old new s s' before now = GoalDone old new s s' before now
-DoesGoal (Some ending) old new s s' before now = Ended ending new.left old s s' before now
+abbrev pub DoesGoal : Option Ending → Engine → Engine → Spacer → Spacer → SinkView → SinkView → SourceView → SourceView → Type 0
+DoesGoal None old new s s' before now from to = GoalDone old new s s' before now from to
+DoesGoal (Some ending) old new s s' before now from to = Ended ending new.left old s s' before now from to
 
 -- The next goal is at hand, or the run has ended so.
-abbrev pub Does : Option Ending → Engine → Engine → Spacer → Spacer → SinkView → SinkView → Type 0
-Does None old new s s' before now = GoesOn old new s s' before now × (old.left ≡ suc new.left)
-Does (Some ending) old new s s' before now = Ended ending new.left old s s' before now
+abbrev pub Does : Option Ending → Engine → Engine → Spacer → Spacer → SinkView → SinkView → SourceView → SourceView → Type 0
+Does None old new s s' before now from to = GoesOn old new s s' before now from to × (old.left ≡ suc new.left)
+Does (Some ending) old new s s' before now from to = Ended ending new.left old s s' before now from to
 
 -- The ending of a run that met the limit of an area; want of memory is a fault.
 abbrev pub ending_at : Option Area → Result Ending RunFault

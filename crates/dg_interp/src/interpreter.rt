@@ -34,22 +34,24 @@ fn line(ending: Ending) -> &'static [u8]
 }
 
 /// Does a run from its start, and writes its text and its closing. The dice words are those of the engine.
-fn write_run<K: Sink>(
+fn write_run<S: Source, K: Sink>(
     program: &CoreProgram,
     limits: &Limits,
     dice: &[u16],
     engine: &mut Engine<'_>,
+    source: &mut S,
     sink: &mut K,
 ) -> Result<Outcome, RunFault>
     requires starts { Starts program.now limits.now dice.now engine.old }
-    ensures shows { IfOk result (λ outcome. (typed : List ℕ) (told : Option (List ℕ)) → IsLeft told typed →
-        HasShown (game program.now dice.now) typed limits.now outcome told (K.view sink.old) (K.view sink.new)) }
-    ensures err { IfErr result (λ fault. (typed : List ℕ) (told : Option (List ℕ)) → IsLeft told typed →
-        HasBrokenOff fault (game program.now dice.now) typed limits.now told (K.view sink.old) (K.view sink.new)) }
+    ensures shows { IfOk result (λ outcome. ForTyped (S.view source.old).left
+        (λ typed. HasShown (game program.now dice.now) typed limits.now outcome (S.view source.new).left (K.view sink.old) (K.view sink.new))) }
+    ensures err { IfErr result (λ fault. ForTyped (S.view source.old).left
+        (λ typed. HasBrokenOff fault (game program.now dice.now) typed limits.now (S.view source.new).left (K.view sink.old) (K.view sink.new))) }
     ensures reads { IsErrOf result RunFault.Read → ⊥ }
+    ensures later { (S.view source.old).faults ≤ (S.view source.new).faults }
 {
     let mut spacer = Spacer::new();
-    match run(engine, &mut spacer, sink) {
+    match run(engine, &mut spacer, source, sink) {
         Ok(ending) => match spacer.close(sink, line(ending)) {
             Ok(()) => Ok(Outcome {
                 ending,
@@ -126,7 +128,7 @@ pub fn interpret<S: Source, K: Sink>(
                 limits.trail,
                 outside,
             );
-            write_run(program, limits, dice, &mut engine, sink)
+            write_run(program, limits, dice, &mut engine, source, sink)
         }
     }
 }

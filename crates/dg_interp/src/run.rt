@@ -1,6 +1,7 @@
 // Goals, one after another.
 ghost use Rattle.std.specs.Prelude.{◌≡◌, ◌<◌, IfOk, IfErr, length, Option, Some, None};
 ghost use Rattle.dg_base.specs.declared.program.Goal.TheVariants.{GapN as GapNGoal};
+ghost use Rattle.dg_base.specs.Streams.{SourceView};
 ghost use Rattle.dg_meaning.specs.Closures.{HasNoClosure};
 ghost use Rattle.dg_interp.specs.declared.engine.Engine.{Engine as TheEngine};
 ghost use Rattle.dg_interp.specs.Engine.{IsReady, Taken};
@@ -10,7 +11,7 @@ ghost use Rattle.dg_spacing.specs.Gaps.{print_of};
 
 use crate::engine::Engine;
 use crate::lack::{Lack, lacking, stored};
-use dg_base::{Ending, GapKind, Goal, RunFault, Sink, Term};
+use dg_base::{Ending, GapKind, Goal, RunFault, Sink, Source, Term};
 use dg_spacing::{Event, Spacer};
 
 /// The ending of a run that lacks something.
@@ -62,10 +63,10 @@ fn print_spaces<K: Sink>(
 ) -> Result<Option<Ending>, RunFault>
     requires ready { IsReady engine.old }
     requires plain { HasNoClosure term.now }
-    ensures ok { (old : TheEngine) → 0 < length old.here.goals.now → Taken (GapNGoal term.now) old engine.old →
-        IfOk result (λ ending. DoesGoal ending old engine.new spacer.old spacer.new (K.view sink.old) (K.view sink.new)) }
-    ensures err { (old : TheEngine) → 0 < length old.here.goals.now → Taken (GapNGoal term.now) old engine.old →
-        IfErr result (λ fault. Reaches old spacer.old (K.view sink.old) (IsBroken fault spacer.new (K.view sink.new))) }
+    ensures ok { (old : TheEngine) → (source : SourceView) → 0 < length old.here.goals.now → Taken (GapNGoal term.now) old engine.old →
+        IfOk result (λ ending. DoesGoal ending old engine.new spacer.old spacer.new (K.view sink.old) (K.view sink.new) source source) }
+    ensures err { (old : TheEngine) → (source : SourceView) → 0 < length old.here.goals.now → Taken (GapNGoal term.now) old engine.old →
+        IfErr result (λ fault. Reaches old spacer.old (K.view sink.old) source source (IsBroken fault spacer.new (K.view sink.new))) }
 {
     match engine.spaces(term) {
         Err(full) => outcome(Err(lacking(full))),
@@ -78,16 +79,18 @@ fn print_spaces<K: Sink>(
 }
 
 /// Takes the goal at hand and does it; the ending where the run is over.
-fn do_goal<K: Sink>(
+fn do_goal<S: Source, K: Sink>(
     engine: &mut Engine<'_>,
     spacer: &mut Spacer,
+    source: &mut S,
     sink: &mut K,
 ) -> Result<Option<Ending>, RunFault>
     requires ready { IsReady engine.old }
     requires goal { 0 < length engine.old.here.goals.now }
     requires left { 0 < engine.old.left }
-    ensures ok { IfOk result (λ ending. DoesGoal ending engine.old engine.new spacer.old spacer.new (K.view sink.old) (K.view sink.new)) }
-    ensures err { IfErr result (λ fault. Reaches engine.old spacer.old (K.view sink.old) (IsBroken fault spacer.new (K.view sink.new))) }
+    ensures ok { IfOk result (λ ending. DoesGoal ending engine.old engine.new spacer.old spacer.new (K.view sink.old) (K.view sink.new)
+        (S.view source.old) (S.view source.new)) }
+    ensures err { IfErr result (λ fault. Reaches engine.old spacer.old (K.view sink.old) (S.view source.old) (S.view source.new) (IsBroken fault spacer.new (K.view sink.new))) }
 {
     let again = engine.at_hand();
     match engine.take_goal() {
@@ -120,18 +123,20 @@ fn do_goal<K: Sink>(
 }
 
 /// Does the goal at hand and goes on to the next; the ending where the run is over.
-fn turn<K: Sink>(
+fn turn<S: Source, K: Sink>(
     engine: &mut Engine<'_>,
     spacer: &mut Spacer,
+    source: &mut S,
     sink: &mut K,
 ) -> Result<Option<Ending>, RunFault>
     requires ready { IsReady engine.old }
     requires goal { 0 < length engine.old.here.goals.now }
     requires left { 0 < engine.old.left }
-    ensures ok { IfOk result (λ ending. Does ending engine.old engine.new spacer.old spacer.new (K.view sink.old) (K.view sink.new)) }
-    ensures err { IfErr result (λ fault. Reaches engine.old spacer.old (K.view sink.old) (IsBroken fault spacer.new (K.view sink.new))) }
+    ensures ok { IfOk result (λ ending. Does ending engine.old engine.new spacer.old spacer.new (K.view sink.old) (K.view sink.new)
+        (S.view source.old) (S.view source.new)) }
+    ensures err { IfErr result (λ fault. Reaches engine.old spacer.old (K.view sink.old) (S.view source.old) (S.view source.new) (IsBroken fault spacer.new (K.view sink.new))) }
 {
-    match do_goal(engine, spacer, sink) {
+    match do_goal(engine, spacer, source, sink) {
         Err(fault) => Err(fault),
         Ok(Some(ending)) => Ok(Some(ending)),
         Ok(None) => match engine.next_goal() {
@@ -145,18 +150,20 @@ fn turn<K: Sink>(
 }
 
 /// Does goals up to the end of the run.
-pub fn run<K: Sink>(
+pub fn run<S: Source, K: Sink>(
     engine: &mut Engine<'_>,
     spacer: &mut Spacer,
+    source: &mut S,
     sink: &mut K,
 ) -> Result<Ending, RunFault>
     requires ready { IsReady engine.old }
     requires goal { 0 < length engine.old.here.goals.now }
-    ensures ok { IfOk result (λ ending. Ended ending engine.new.left engine.old spacer.old spacer.new (K.view sink.old) (K.view sink.new)) }
-    ensures err { IfErr result (λ fault. Reaches engine.old spacer.old (K.view sink.old) (IsBroken fault spacer.new (K.view sink.new))) }
+    ensures ok { IfOk result (λ ending. Ended ending engine.new.left engine.old spacer.old spacer.new (K.view sink.old) (K.view sink.new)
+        (S.view source.old) (S.view source.new)) }
+    ensures err { IfErr result (λ fault. Reaches engine.old spacer.old (K.view sink.old) (S.view source.old) (S.view source.new) (IsBroken fault spacer.new (K.view sink.new))) }
 {
     'goals: while engine.left > 0 {
-        match turn(engine, spacer, sink) {
+        match turn(engine, spacer, source, sink) {
             Ok(None) => {}
             Ok(Some(ending)) => return Ok(ending),
             Err(fault) => return Err(fault),

@@ -17,17 +17,5 @@ returns-in-Err-clause-err g c =
     let P : RunFault → List ℕ → Type 0 = λ fault typed. HasBrokenOff fault (game c.args.program.now c.args.dice.now) typed c.args.limits.now told (g.K.Sink.view c.args.sink.now) (g.K.Sink.view c.write_lack.new.sink) in
     if_err_map c.write_lack.result _ (λ fault. ForTyped told (P fault)) (λ fault h. for_typed told (P fault) (λ typed is. h typed told)) c.write_lack.ensures.err
 
-pub returns-in-Ok-clause-shows : goal.returns-in-Ok-clause-shows
-returns-in-Ok-clause-shows g c =
-    let told = (g.S.Source.view c.args.source.now).left in
-    let P : Outcome → List ℕ → Type 0 = λ outcome typed. HasShown (game c.args.program.now c.args.dice.now) typed c.args.limits.now outcome told (g.K.Sink.view c.args.sink.now) (g.K.Sink.view c.write_run.new.sink) in
-    if_ok_map c.write_run.result _ (λ outcome. ForTyped told (P outcome)) (λ outcome h. for_typed told (P outcome) (λ typed is. h typed told is)) c.write_run.ensures.shows
-
-pub returns-in-Ok-clause-err : goal.returns-in-Ok-clause-err
-returns-in-Ok-clause-err g c =
-    let told = (g.S.Source.view c.args.source.now).left in
-    let P : RunFault → List ℕ → Type 0 = λ fault typed. HasBrokenOff fault (game c.args.program.now c.args.dice.now) typed c.args.limits.now told (g.K.Sink.view c.args.sink.now) (g.K.Sink.view c.write_run.new.sink) in
-    if_err_map c.write_run.result _ (λ fault. ForTyped told (P fault)) (λ fault h. for_typed told (P fault) (λ typed is. h typed told is)) c.write_run.ensures.err
-
 pub write_run-requires : goal.write_run-requires
 write_run-requires g c = record { starts = c.new-engine.ensures.starts c.args.limits.now c.args.dice.now refl refl refl c.in-Ok.ensures.starts }
