@@ -1,7 +1,7 @@
 -- The names of a tree can be printed, are few, and are those of what it mentions.
 use Rattle.std.proofs.Common.{◌≡◌, ◌≤◌, ℕ, List, [], ◌∷◌, ◌++◌, ◌&&◌, ◌||◌, Bool, true, false, Option, Some, None, codes, length, nat_lt, refl, sym, ◌∙◌, ap, arith, append_assoc}
 use Rattle.std.specs.Prelude.{if◌then◌else◌, filter, not}
-use Rattle.std.specs.List.{All, Contains}
+use Rattle.std.specs.List.{All, Contains, list_any}
 use Rattle.std.specs.Option.{is_some}
 use Rattle.std.specs.Str.{bytes_eq}
 use Rattle.std.proofs.lemmas.Bool.{or_parts}
@@ -9,14 +9,14 @@ use Rattle.std.proofs.lemmas.Bool.Decides.{nat_tests}
 use Rattle.std.proofs.lemmas.List.{append-nil}
 use Rattle.std.proofs.lemmas.List.Elements.{All-nil, All-cons, All-append, All-head, All-tail, All-filter, Contains-append_left, Contains-append_right}
 use Rattle.dg_base.specs.Heads.{name_of}
-use Rattle.dg_base.specs.Mentions.{Thing, topic_line, query, number, word, object, word_choice, text, mentioned, names_in, weight_of}
+use Rattle.dg_base.specs.Mentions.{Thing, topic_line, query, number, word, object, word_choice, text, branches, select, of_said, closures, things_in, mentioned, names_in, weight_of}
 use Rattle.dg_base.specs.Names.{builtin_named}
 use Rattle.dg_base.specs.Passing.{first_passing}
 use Rattle.dg_base.specs.Sound.{IsName}
-use Rattle.dg_base.specs.Tree.{Parts, Item}
+use Rattle.dg_base.specs.Tree.{Parts, Said, Item}
 use Rattle.dg_base.specs.declared.names.Builtin.{Builtin}
-use Rattle.dg_names.specs.Among.{IsReadable, HasPred, IsAmong, ArePrintable, AreFew}
-use Rattle.dg_names.specs.Counts.{rules_in, closures_at, selects_at, are_many_names, are_many, has_excess}
+use Rattle.dg_names.specs.Among.{IsReadable, HasPred, IsAmong, IsSmall, ArePrintable, AreFew}
+use Rattle.dg_names.specs.Counts.{places_in, rules_in, closures_at, selects_at, is_full, is_excess, are_many_names, are_many, has_excess}
 use Rattle.dg_names.specs.Named.{Named, firsts, is_fixed, predicate_in, object_in, word_in, names_of}
 use Rattle.dg_names.proofs.MemberLemmas.{first_there, firsts_are}
 
@@ -134,3 +134,28 @@ pub names_few : (is : List Item) → first_passing has_excess are_many [] is ≡
 names_few is h =
     few_names (names_of is)
     (or_parts (are_many_names (names_of is)) (nat_lt 16000 (rules_in is) || (nat_lt 16000 (weight_of closures_at (mentioned is)) || nat_lt 500 (weight_of selects_at (mentioned is)))) (passed_on [] is refl h)).0
+
+-- ---- what is mentioned is small
+
+one_small : (t : Thing) → is_excess t ≡ false → IsSmall t
+one_small (query r ps) e = not_over 12 (places_in ps) e
+one_small (branches n) e = not_over 500 n e
+one_small (select n) e = not_over 500 n e
+one_small t e = tt
+
+each_small : (ts : List Thing) → list_any is_excess ts ≡ false → All IsSmall ts
+each_small [] e = All-nil IsSmall
+each_small (t ∷ ts) e =
+    let each = or_parts (is_excess t) (list_any is_excess ts) e in
+    All-cons IsSmall t ts (one_small t each.0) (each_small ts each.1)
+
+said_small : (said : Said) → has_excess said ≡ false → All IsSmall (things_in said)
+said_small said e = each_small (things_in said) (or_parts (list_any is_excess (things_in said)) (is_full (of_said said) || list_any is_full (closures (of_said said))) e).0
+
+pub mentions_small : (before is : List Item) → first_passing has_excess are_many before is ≡ None → All IsSmall (mentioned is)
+mentions_small before [] h = All-nil IsSmall
+mentions_small before (i ∷ is) h = here (has_excess i.said || are_many (before ++ i ∷ [])) refl h (λ k. mentions_small (before ++ i ∷ []) is k)
+  where
+    here : (b : Bool) → (has_excess i.said || are_many (before ++ i ∷ [])) ≡ b → (if b then Some i else first_passing has_excess are_many (before ++ i ∷ []) is) ≡ None → (first_passing has_excess are_many (before ++ i ∷ []) is ≡ None → All IsSmall (mentioned is)) → All IsSmall (mentioned (i ∷ is))
+    here true e k rest = cc
+    here false e k rest = All-append IsSmall (things_in i.said) (mentioned is) (said_small i.said (or_parts (has_excess i.said) (are_many (before ++ i ∷ [])) e).0) (rest k)

@@ -4,9 +4,10 @@ use Rattle.std.specs.List.{IsDistinct}
 use Rattle.std.specs.Str.{bytes_eq}
 use Rattle.dg_base.specs.Heads.{name_of}
 use Rattle.dg_base.specs.Names.{builtin_named}
-use Rattle.dg_base.specs.Mentions.{Thing, topic_line, query, number, word, object, word_choice, text}
+use Rattle.dg_base.specs.Mentions.{Thing, topic_line, query, number, word, object, word_choice, text, branches, select}
 use Rattle.dg_base.specs.Sound.{IsName}
 use Rattle.dg_base.specs.declared.names.Builtin.{Builtin}
+use Rattle.dg_names.specs.Counts.{places_in}
 use Rattle.dg_names.specs.Named.{Named}
 
 -- Names, each once, that are those that are given: no list that has all of these is shorter.
@@ -42,6 +43,13 @@ IsAmong names (object n) = Contains names.objects n
 IsAmong names (word_choice ws) = All (λ w. Contains names.words w) ws
 IsAmong names (text w) = IsName w
 IsAmong names t = Unit {0}
+
+-- A predicate has few places, and a body or a select few branches.
+abbrev pub IsSmall : Thing → Type 0
+IsSmall (query _ ps) = places_in ps ≤ 12
+IsSmall (branches n) = n ≤ 500
+IsSmall (select n) = n ≤ 500
+IsSmall t = Unit {0}
 
 -- Each name can be printed.
 pub record ArePrintable (names : Named) : Type 0 where

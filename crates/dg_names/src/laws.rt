@@ -3,7 +3,7 @@ ghost use Rattle.std.specs.Prelude.{◌≡◌, ℕ, List, Result, Ok, All};
 ghost use Rattle.dg_base.specs.Tree.{Item};
 ghost use Rattle.dg_base.specs.Mentions.{mentioned};
 ghost use Rattle.dg_base.specs.declared.refusal.Refusal.{Refusal};
-ghost use Rattle.dg_names.specs.Among.{AreFirsts, IsReadable, IsAmong, ArePrintable, AreFew};
+ghost use Rattle.dg_names.specs.Among.{AreFirsts, IsReadable, IsAmong, IsSmall, ArePrintable, AreFew};
 ghost use Rattle.dg_names.specs.Counts.{IsNamed};
 ghost use Rattle.dg_names.specs.Named.{Named, firsts, names_of};
 
@@ -30,4 +30,9 @@ pub fn mentions_are_among()
 /// The names of a tree that isn't refused are few.
 pub fn names_are_few()
     ensures { (is : List Item) (names : Named) → IsNamed is (Ok names) → AreFew names }
+{}
+
+/// What a tree that isn't refused mentions is small: its predicates have few places, and its bodies and selects few branches.
+pub fn mentions_are_small()
+    ensures { (is : List Item) (names : Named) → IsNamed is (Ok names) → All IsSmall (mentioned is) }
 {}

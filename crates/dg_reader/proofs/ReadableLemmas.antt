@@ -239,7 +239,8 @@ mutual
       mapped (λ h. (tt, h)) (joined (of_value t v) (join (of_body t b) (of_value t into))
       (word_and (codes "accumulate") (BodyAt b last) (value_read t of_query v (TokenAt close_round (BodyAt b last))))
       (joined (of_body t b) (of_value t into) (body_read t b last) (word_and (codes "into") K (value_read t of_query into (TokenAt close_round K)))))
-  stmt_read t (tree.select mode b) K = keyword select_word (finished (end_word mode) K (body_read t b (KeywordAt (end_word mode) K)))
+  stmt_read t (tree.select mode tree.no_branches) K = keyword select_word (finished (end_word mode) K (record { from = λ ts s h. absurd h }))
+  stmt_read t (tree.select mode (tree.branch xs b)) K = keyword select_word (finished (end_word mode) K (mapped (λ h. (omega arith, h.1)) (body_read t (tree.branch xs b) (KeywordAt (end_word mode) K))))
   stmt_read t (tree.first_answer b) K = record { from = λ ts s h. absurd h }
 
   stmts_read : (t : Bool) (xs : Stmts) (K : Follow) → Reads (Hold (of_stmts t xs)) (StmtsAt xs K) K

@@ -1,10 +1,11 @@
--- A rewritten rule has few variables, where no closure can be run.
+-- What a program's tree has that comes from a source: few variables in a rule, where no closure can be run, and few branches in a select.
 use Rattle.std.proofs.Common.{◌≡◌, ◌≤◌, ◌⊎◌, inl, inr, ℕ, zero, suc, List, [], ◌∷◌, ◌++◌, Bool, true, false, length, codes, refl, sym, ◌∙◌, ap, subst, arith}
 use Rattle.std.specs.Prelude.{if◌then◌else◌}
 use Rattle.std.specs.List.{All, Contains}
 use Rattle.std.specs.Str.{bytes_eq}
 use Rattle.std.specs.Cmp.Lexicographic.{bytes_decides}
-use Rattle.std.proofs.lemmas.List.Elements.{All-nil, All-cons, All-head, All-tail, Contains-append_left, Contains-append_right, Contains-append_cases}
+use Rattle.std.proofs.lemmas.List.Elements.{All-nil, All-cons, All-head, All-tail, All-contains, Contains-append_left, Contains-append_right, Contains-append_cases}
+use Rattle.dg_access.specs.Comes.{is_free, ComesFrom, free, same, topic, again, asked, left, chosen, equation}
 use Rattle.dg_access.specs.Few.{HasFewVariables, AreFew, AllAreOut}
 use Rattle.dg_base.specs.Mentions.{Thing, query, select, variable, closure, Mentions, nothing, thing, closed, closures, of_rule, things, things_in, mentioned, names_in, variable_in}
 use Rattle.dg_base.specs.Tree as tree
@@ -14,9 +15,10 @@ use Rattle.dg_core.specs.Forms.{IsRun, AreRun}
 use Rattle.dg_core.specs.Given.{IsFit, IsFitItem}
 use Rattle.dg_core.specs.Places.{parent_name, declaration_in, declarations, changed_in, place_names}
 use Rattle.dg_core.specs.Variables as own
-use Rattle.dg_names.specs.Among.{AreFirsts}
+use Rattle.dg_names.specs.Among.{AreFirsts, IsSmall}
 use Rattle.dg_names.specs.Counts.{counted_in}
 use Rattle.dg_names.specs.Named.{firsts}
+use Rattle.dg_reader.specs.Readable as reading
 use Rattle.dialog_tool.proofs.RunLemmas.{front, behind}
 
 -- ---- variables
@@ -39,8 +41,8 @@ one_named : (t : Thing) (n : List ℕ) → bytes_eq n (codes "_") ≡ false → 
 one_named (variable m) n e h = here (bytes_eq m (codes "_")) refl (only m n h)
   where
     here : (b : Bool) → bytes_eq m (codes "_") ≡ b → m ≡ n → Contains (if b then [] else m ∷ []) n
-    here true q same = let no = sym q ∙ ap (λ (x : List ℕ). bytes_eq x (codes "_")) same ∙ e in cc
-    here false q same = (0, omega arith, same)
+    here true q alike = let no = sym q ∙ ap (λ (x : List ℕ). bytes_eq x (codes "_")) alike ∙ e in cc
+    here false q alike = (0, omega arith, alike)
 one_named t n e h = absurd (let lt = h.1 in omega arith)
 
 all_named : (ts : List Thing) (n : List ℕ) → bytes_eq n (codes "_") ≡ false → Contains (names_in variable_in ts) n → Contains (names_in counted_in ts) n
@@ -79,15 +81,43 @@ items_fit law out (i ∷ is) h few =
     (item_fit law out i.said (front (things_in i.said) (mentioned is) h) (All-head (λ (j : Item). HasFewVariables j.said) i is few))
     (items_fit law out is (behind (things_in i.said) (mentioned is) h) (All-tail (λ (j : Item). HasFewVariables j.said) i is few))
 
--- ---- what is changed, declared or chosen can't be run
+-- ---- selects
 
-thing_fit : (t : Thing) → IsRun t → IsFit t
-thing_fit (query (role.Changed set) ps) r = cc
-thing_fit (select n) r = cc
-thing_fit t r = tt
+-- a select has a branch, and few of them
+abbrev pub IsSelectFit : Thing → Type 0
+IsSelectFit (select n) = (1 ≤ n) × (n ≤ 500)
+IsSelectFit t = Unit {0}
 
-pub things_fit : (ts : List Thing) → All IsRun ts → All IsFit ts
-things_fit ts h = λ k d lt. thing_fit _ (h k d lt)
+select_fit : (t : Thing) → reading.IsReadable t → IsSmall t → IsSelectFit t
+select_fit (select n) r s = (r, s)
+select_fit t r s = tt
+
+pub selects_fit : (ts : List Thing) → All reading.IsReadable ts → All IsSmall ts → All IsSelectFit ts
+selects_fit ts r s = λ k d lt. select_fit _ (r k d lt) (s k d lt)
+
+free_fit : (t : Thing) → is_free t ≡ true → IsSelectFit t
+free_fit (select n) e = cc
+free_fit t e = tt
+
+come_fit : (ts : List Thing) → All IsSelectFit ts → (t : Thing) → ComesFrom ts t → IsSelectFit t
+come_fit ts h t (free u e) = free_fit u e
+come_fit ts h t (same u c) = All-contains IsSelectFit ts u h c
+come_fit ts h t (topic n c) = tt
+come_fit ts h t (again r ps qs e c) = tt
+come_fit ts h t (asked ps qs e c) = tt
+come_fit ts h t (left a b c) = tt
+come_fit ts h t (chosen ws w c k) = tt
+come_fit ts h t (equation ps e) = tt
+
+-- ---- what is changed or declared can't be run
+
+thing_fit : (t : Thing) → IsRun t → IsSelectFit t → IsFit t
+thing_fit (query (role.Changed set) ps) r s = cc
+thing_fit (select n) r s = s
+thing_fit t r s = tt
+
+pub things_fit : (ts us : List Thing) → All IsRun us → All IsSelectFit ts → All (ComesFrom ts) us → All IsFit us
+things_fit ts us h s come = λ k d lt. thing_fit _ (h k d lt) (come_fit ts s _ (come k d lt))
 
 none_changed : (ts : List Thing) → All IsRun ts → names_in changed_in ts ≡ []
 none_changed [] h = refl

@@ -19,14 +19,14 @@ use Rattle.dg_lex.specs.Spelled.{IsSpelledToken}
 use Rattle.dg_lex.specs.Tokens.{IsLexed, Seen, seen}
 use Rattle.dg_lex.specs.declared.token.Token.{Token}
 use Rattle.dg_meaning.specs.Built.{IsBuilt}
-use Rattle.dg_names.specs.Among.{IsReadable, IsAmong, ArePrintable, AreFew}
+use Rattle.dg_names.specs.Among.{IsReadable, IsAmong, IsSmall, ArePrintable, AreFew}
 use Rattle.dg_names.specs.Counts.{IsNamed}
 use Rattle.dg_names.specs.Named.{Named, word_in, names_of}
 use Rattle.dg_reader.specs.Read.{IsRead}
 use Rattle.dg_reader.specs.Readable as reading
 use Rattle.dialog_tool.specs.Source.{refused, given, Compiles}
 use Rattle.dialog_tool.proofs.ComeLemmas.{all_among}
-use Rattle.dialog_tool.proofs.FewLemmas.{FirstsAreNames, items_fit, things_fit, few_places}
+use Rattle.dialog_tool.proofs.FewLemmas.{FirstsAreNames, IsSelectFit, items_fit, selects_fit, things_fit, few_places}
 use Rattle.dialog_tool.proofs.RunLemmas.{plain_run}
 
 -- ---- what is read is given
@@ -38,6 +38,7 @@ pub record Laws : Type 0 where
   pub printable : (is : List Item) → All IsReadable (mentioned is) → ArePrintable (names_of is)
   pub among : (is : List Item) → All IsReadable (mentioned is) → All (IsAmong (names_of is)) (mentioned is)
   pub few : (is : List Item) (names : Named) → IsNamed is (Ok names) → AreFew names
+  pub small : (is : List Item) (names : Named) → IsNamed is (Ok names) → All IsSmall (mentioned is)
   pub firsts : FirstsAreNames
   pub come : (is : List Item) → MentionsComeFrom is
   pub variables : (is new : List Item) → RewrittenIsFew is new
@@ -61,14 +62,14 @@ all_same : (ts : List Thing) → All reading.IsReadable ts → All IsReadable ts
 all_same [] h = All-nil IsReadable
 all_same (t ∷ ts) h = All-cons IsReadable t ts (same_thing t (All-head reading.IsReadable t ts h)) (all_same ts (All-tail reading.IsReadable t ts h))
 
-plain_given : Laws → (is : List Item) → All IsReadable (mentioned is) → IsNamed is (Ok (names_of is)) → AreRun is → IsRewritten is (Ok (plain_items None is)) → IsGiven (names_of is) (plain_items None is)
-plain_given laws is r n run w =
+plain_given : Laws → (is : List Item) → All IsReadable (mentioned is) → All IsSelectFit (mentioned is) → IsNamed is (Ok (names_of is)) → AreRun is → IsRewritten is (Ok (plain_items None is)) → IsGiven (names_of is) (plain_items None is)
+plain_given laws is r s n run w =
     let names = laws.printable is r in
     let few = laws.few is (names_of is) n in
     let plain = plain_run is (laws.come is) run in
     record {
       things = all_among (names_of is) (mentioned is) (mentioned (plain_items None is)) (laws.among is r) (laws.come is);
-      fit = things_fit (mentioned (plain_items None is)) plain;
+      fit = things_fit (mentioned is) (mentioned (plain_items None is)) plain s (laws.come is);
       items = items_fit laws.firsts laws.out (plain_items None is) plain (laws.variables is (plain_items None is) w);
       few_places = few_places (plain_items None is) plain;
       preds = names.preds;
@@ -83,10 +84,10 @@ plain_given laws is r n run w =
 -- a tree and its names are given that come from a source which is accepted
 source_given : Laws → (source : List ℕ) (tokens : List Token) (is : List Item) (named : Named) (plain : List Item) → lexing.refusal_of source ≡ None → IsLexed source tokens → IsRead (map seen tokens) (Ok is) → IsNamed is (Ok named) → first_unbuilt is ≡ None → IsRewritten is (Ok plain) → IsGiven named plain
 source_given laws source tokens is named plain accepted lexed read n built w =
-    let readable = all_same (mentioned is) (laws.readable (map seen tokens) is (laws.spelled source tokens accepted lexed) read) in
+    let readable = laws.readable (map seen tokens) is (laws.spelled source tokens accepted lexed) read in
     subst (λ (d : Named). IsGiven d plain) (sym n.1)
     (subst (λ (l : List Item). IsGiven (names_of is) l) (sym w.1)
-    (plain_given laws is readable (subst (λ (d : Named). IsNamed is (Ok d)) n.1 n) (laws.run is built) (subst (λ (l : List Item). IsRewritten is (Ok l)) w.1 w)))
+    (plain_given laws is (all_same (mentioned is) readable) (selects_fit (mentioned is) readable (laws.small is named n)) (subst (λ (d : Named). IsNamed is (Ok d)) n.1 n) (laws.run is built) (subst (λ (l : List Item). IsRewritten is (Ok l)) w.1 w)))
 
 -- ---- the program
 

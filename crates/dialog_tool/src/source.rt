@@ -102,6 +102,7 @@ pub fn programs_are_sound()
     dg_names::names_are_printable();
     dg_names::mentions_are_among();
     dg_names::names_are_few();
+    dg_names::mentions_are_small();
     dg_names::firsts_are_names();
     dg_access::mentions_come_from_the_source();
     dg_access::variables_are_few();
