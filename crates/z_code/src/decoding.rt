@@ -272,10 +272,10 @@ fn body(
     Ok(Found { row, op, end })
 }
 
-/// The instruction of the long form at a place, whose first byte this is.
+// The instruction of the long form at a place, whose first byte this is.
 #[tactic(auto, unfolding(z_model::specs::Decode::long_at))]
 #[inline(always)]
-pub fn decode_long(bytes: &[u8], at: usize, first: u8) -> Result<Found, ZFault>
+fn decode_long(bytes: &[u8], at: usize, first: u8) -> Result<Found, ZFault>
     requires { at < length bytes.now }
     ensures long { result ≡ long_at rows_of bytes.now at first }
     ensures within { IfOk result (λ found. found.end ≤ length bytes.now) }
@@ -307,10 +307,10 @@ fn one_type(kind: OperandType) -> OperandTypes
     }
 }
 
-/// The instruction of the short form at a place, whose first byte this is.
+// The instruction of the short form at a place, whose first byte this is.
 #[tactic(auto, unfolding(z_model::specs::Decode::short_at))]
 #[inline(always)]
-pub fn decode_short(bytes: &[u8], at: usize, first: u8) -> Result<Found, ZFault>
+fn decode_short(bytes: &[u8], at: usize, first: u8) -> Result<Found, ZFault>
     requires { at < length bytes.now }
     ensures short { result ≡ short_at rows_of bytes.now at first }
     ensures within { IfOk result (λ found. found.end ≤ length bytes.now) }
@@ -332,10 +332,10 @@ fn row_of_variable(number: u8) -> Result<Row, ZFault>
     }
 }
 
-/// The instruction of the variable form at a place, whose first byte this is.
+// The instruction of the variable form at a place, whose first byte this is.
 #[tactic(auto, unfolding(z_model::specs::Decode::variable_at))]
 #[inline(always)]
-pub fn decode_variable(bytes: &[u8], at: usize, first: u8) -> Result<Found, ZFault>
+fn decode_variable(bytes: &[u8], at: usize, first: u8) -> Result<Found, ZFault>
     requires { at < length bytes.now }
     ensures variable { result ≡ variable_at rows_of bytes.now at first }
     ensures within { IfOk result (λ found. found.end ≤ length bytes.now) }
@@ -346,10 +346,10 @@ pub fn decode_variable(bytes: &[u8], at: usize, first: u8) -> Result<Found, ZFau
     body(bytes, Form::Variable, number, row, types, at + 2)
 }
 
-/// The instruction of the extended form at a place.
+// The instruction of the extended form at a place.
 #[tactic(auto, unfolding(z_model::specs::Decode::extended_at))]
 #[inline(always)]
-pub fn decode_extended(bytes: &[u8], at: usize) -> Result<Found, ZFault>
+fn decode_extended(bytes: &[u8], at: usize) -> Result<Found, ZFault>
     requires { at < length bytes.now }
     ensures extended { result ≡ extended_at rows_of bytes.now at }
     ensures within { IfOk result (λ found. found.end ≤ length bytes.now) }

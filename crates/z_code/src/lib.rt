@@ -5,9 +5,7 @@ mod decoding;
 mod encoding;
 mod target;
 
-pub use decoding::{
-    decode, decode_extended, decode_long, decode_op, decode_short, decode_variable,
-};
+pub use decoding::{decode, decode_op};
 pub use encoding::encode_op;
 pub use target::{LOp, Spot, Target};
 pub use z_model::{Branch, Form, Found, Op, Operand, Operands};

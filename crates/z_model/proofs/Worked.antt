@@ -11,9 +11,11 @@ use Rattle.z_model.specs.Decode.{count_of, counted, operand_at, store_at, branch
 use Rattle.z_model.specs.Zscii.{code_bytes, all_printed}
 use Rattle.z_model.specs.Text.{z_characters, read_character, codes_of, string_at, print_fault}
 use Rattle.z_model.specs.Typed.{line_within, left_within, without_return, typed_bytes, typed_line, typed_left}
-use Rattle.z_model.specs.Memory.{byte_in, with_byte, with_bytes, have_right}
-use Rattle.z_model.specs.Machine.{pushed, stored, stored_if, value_of, value_if, values_of}
-use Rattle.z_model.specs.Flow.{local_count, entered, called, returned}
+use Rattle.z_model.specs.Memory.{byte_in, with_byte, word_in, with_word, with_bytes, have_right}
+use Rattle.z_model.specs.Objects.{link_in}
+use Rattle.z_model.specs.Streams.{into_table, opened, streamed}
+use Rattle.z_model.specs.Machine.{pushed, popped, variable_of, stored, stored_if, value_of, value_if, values_of}
+use Rattle.z_model.specs.Flow.{local_count, entered, called, returned, jumped, branch_taken, branched}
 use Rattle.z_model.specs.Effects.{let_out, printed, most_typed, reads}
 use Rattle.z_model.specs.Step.{do_one, do_zero, do_several, do_instr, machine_step}
 use Rattle.z_model.specs.Run.{ZGiven, ZRun, with_line, line_read, zstep, zrun}
@@ -49,3 +51,13 @@ a_call = refl
 a_line : take 5 (drop 64 (run_of ((0xE4 ∷ 0x7F ∷ 0x40 ∷ 0x00 ∷ 0xBA ∷ []) ++ (replicate 59 0 ++ (3 ∷ replicate 9 0))) (0xC3 ∷ 0x89 ∷ 0x41 ∷ 0xFF ∷ 0x62 ∷ 10 ∷ [])).state.machine.memory) ≡ 3 ∷ 3 ∷ 170 ∷ 97 ∷ 63 ∷ []
 unfolding zrun zstep machine_step op_at variable_at body_at counted count_of operand_at store_at branch_at text_at values_of value_if value_of do_instr do_several do_zero reads most_typed byte_in have_right stored_if stored pushed line_read with_line with_bytes with_byte typed_line typed_bytes typed_left line_within left_within without_return units_behind unit_at place_from short_at
 a_line = refl
+
+-- get_child of object 1, whose child is 2 and whose entry is at 126; where it has one, it is printed
+a_child : played_text (run_of ((0x92 ∷ 0x01 ∷ 0x00 ∷ 0xC3 ∷ 0xBA ∷ 0xE6 ∷ 0xBF ∷ 0x00 ∷ 0xBA ∷ 0 ∷ 0 ∷ 0 ∷ []) ++ (replicate 124 0 ++ (0 ∷ 2 ∷ []))) []) ≡ codes "2"
+unfolding zrun zstep machine_step op_at short_at variable_at body_at counted count_of operand_at store_at branch_at text_at values_of value_if value_of variable_of popped do_instr do_one do_zero do_several link_in word_in byte_in stored_if stored pushed branched branch_taken jumped printed let_out with_end_line digits
+a_child = refl
+
+-- output_stream of a table at 64, print_num 42, and the end of the table
+a_table : take 4 (drop 64 (run_of ((0xF3 ∷ 0x5F ∷ 0x03 ∷ 0x40 ∷ 0xE6 ∷ 0x7F ∷ 0x2A ∷ 0xF3 ∷ 0x3F ∷ 0xFF ∷ 0xFD ∷ 0xBA ∷ []) ++ replicate 60 0) []).state.machine.memory) ≡ 0 ∷ 2 ∷ 52 ∷ 50 ∷ []
+unfolding zrun zstep machine_step op_at short_at variable_at body_at counted count_of operand_at store_at branch_at text_at values_of value_if value_of do_instr do_zero do_several streamed opened printed let_out into_table with_bytes with_byte with_word digits
+a_table = refl

@@ -22,22 +22,12 @@ abbrev pub is_basic_two : Two → Bool
 is_basic_two two.Je = true
 is_basic_two two.Jl = true
 is_basic_two two.Jg = true
-is_basic_two two.DecChk = false
 is_basic_two two.IncChk = true
-is_basic_two two.Jin = false
-is_basic_two two.Test = false
 is_basic_two two.Or = true
 is_basic_two two.And = true
-is_basic_two two.TestAttr = false
-is_basic_two two.SetAttr = false
-is_basic_two two.ClearAttr = false
 is_basic_two two.Store = true
-is_basic_two two.InsertObj = false
 is_basic_two two.Loadw = true
 is_basic_two two.Loadb = true
-is_basic_two two.GetProp = false
-is_basic_two two.GetPropAddr = false
-is_basic_two two.GetNextProp = false
 is_basic_two two.Add = true
 is_basic_two two.Sub = true
 is_basic_two two.Mul = true
@@ -45,27 +35,20 @@ is_basic_two two.Div = true
 is_basic_two two.Mod = true
 is_basic_two two.Call2s = true
 is_basic_two two.Call2n = true
-is_basic_two two.SetColour = false
-is_basic_two two.Throw = false
+is_basic_two instr = false
 
 -- those with one
 abbrev pub is_basic_one : One → Bool
 is_basic_one one.Jz = true
-is_basic_one one.GetSibling = false
-is_basic_one one.GetChild = false
-is_basic_one one.GetParent = false
-is_basic_one one.GetPropLen = false
 is_basic_one one.Inc = true
 is_basic_one one.Dec = true
-is_basic_one one.PrintAddr = false
 is_basic_one one.Call1s = true
-is_basic_one one.RemoveObj = false
-is_basic_one one.PrintObj = false
 is_basic_one one.Ret = true
 is_basic_one one.Jump = true
 is_basic_one one.PrintPaddr = true
 is_basic_one one.Load = true
 is_basic_one one.Call1n = true
+is_basic_one instr = false
 
 -- those without operands
 abbrev pub is_basic_zero : Zero → Bool
@@ -75,48 +58,29 @@ is_basic_zero none.Print = true
 is_basic_zero none.PrintRet = true
 is_basic_zero none.Nop = true
 is_basic_zero none.RetPopped = true
-is_basic_zero none.Catch = false
 is_basic_zero none.Quit = true
 is_basic_zero none.NewLine = true
-is_basic_zero none.Verify = false
-is_basic_zero none.Piracy = false
+is_basic_zero instr = false
 
 -- those with several
 abbrev pub is_basic_several : Several → Bool
 is_basic_several several.CallVs = true
 is_basic_several several.Storew = true
 is_basic_several several.Storeb = true
-is_basic_several several.PutProp = false
 is_basic_several several.Aread = true
 is_basic_several several.PrintChar = true
 is_basic_several several.PrintNum = true
 is_basic_several several.Random = true
 is_basic_several several.Push = true
 is_basic_several several.Pull = true
-is_basic_several several.SplitWindow = false
-is_basic_several several.SetWindow = false
-is_basic_several several.EraseWindow = false
-is_basic_several several.EraseLine = false
-is_basic_several several.SetCursor = false
-is_basic_several several.SetTextStyle = false
-is_basic_several several.BufferMode = false
-is_basic_several several.OutputStream = false
-is_basic_several several.ReadChar = false
-is_basic_several several.ScanTable = false
 is_basic_several several.Not = true
 is_basic_several several.CallVn = true
-is_basic_several several.CopyTable = false
-is_basic_several several.CheckArgCount = false
+is_basic_several instr = false
 
 -- those of the extended form
 abbrev pub is_basic_extended : Extended → Bool
-is_basic_extended extended.Save = false
-is_basic_extended extended.Restore = false
-is_basic_extended extended.LogShift = false
-is_basic_extended extended.ArtShift = false
-is_basic_extended extended.SaveUndo = false
-is_basic_extended extended.RestoreUndo = false
 is_basic_extended extended.PrintUnicode = true
+is_basic_extended instr = false
 
 abbrev pub is_basic : Instr → Bool
 is_basic (instrs.Two instr) = is_basic_two instr
