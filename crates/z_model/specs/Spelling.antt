@@ -29,8 +29,10 @@ type_if false x = Omitted
 
 abbrev pub types_in : Operands → OperandTypes
 types_in o = record {
-  first = type_if (nat_lt 0 o.count) o.first; second = type_if (nat_lt 1 o.count) o.second;
-  third = type_if (nat_lt 2 o.count) o.third; fourth = type_if (nat_lt 3 o.count) o.fourth;
+  first = type_if (nat_lt 0 o.count) o.first;
+  second = type_if (nat_lt 1 o.count) o.second;
+  third = type_if (nat_lt 2 o.count) o.third;
+  fourth = type_if (nat_lt 3 o.count) o.fourth;
 }
 
 abbrev pub code : OperandType → ℕ

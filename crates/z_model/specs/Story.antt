@@ -84,9 +84,11 @@ pub record IsHeader (file : List ℕ) (h : Header) : Type 0 where
 -- at the first instruction, in the opening frame
 abbrev pub first_machine : List ℕ → ℕ → Machine
 first_machine memory start = record {
-  memory = memory; pc = start;
+  memory = memory;
+  pc = start;
   here = record { back = 0; store = None; args = 0; locals = []; stack = [] };
-  callers = []; tables = [];
+  callers = [];
+  tables = [];
 }
 
 abbrev pub given_of : List ℕ → List ℕ → ZGiven

@@ -77,7 +77,7 @@ impl Engine {
         ensures kept { Kept self.old self.new }
         ensures done { GivesEffect result (layout_in self.old) (machine self.new)
             (answers_object (layout_in self.old) (machine self.old) end op.now.store op.now.branch
-                (link_in (guarded (layout_in self.old) (machine self.old).memory) n (sibling_at (objects_in (machine self.old)) n))) }
+            (link_in (guarded (layout_in self.old) (machine self.old).memory) n (sibling_at (objects_in (machine self.old)) n))) }
     {
         let found = sibling(&self.memory, self.objects(), n);
         self.answer_object(end, op, found)
@@ -89,7 +89,7 @@ impl Engine {
         ensures kept { Kept self.old self.new }
         ensures done { GivesEffect result (layout_in self.old) (machine self.new)
             (answers_object (layout_in self.old) (machine self.old) end op.now.store op.now.branch
-                (link_in (guarded (layout_in self.old) (machine self.old).memory) n (child_at (objects_in (machine self.old)) n))) }
+            (link_in (guarded (layout_in self.old) (machine self.old).memory) n (child_at (objects_in (machine self.old)) n))) }
     {
         let found = child(&self.memory, self.objects(), n);
         self.answer_object(end, op, found)
@@ -100,7 +100,7 @@ impl Engine {
         ensures kept { Kept self.old self.new }
         ensures done { GivesEffect result (layout_in self.old) (machine self.new)
             (answers_or (layout_in self.old) (machine self.old) end store
-                (link_in (guarded (layout_in self.old) (machine self.old).memory) n (parent_at (objects_in (machine self.old)) n))) }
+            (link_in (guarded (layout_in self.old) (machine self.old).memory) n (parent_at (objects_in (machine self.old)) n))) }
     {
         let found = parent(&self.memory, self.objects(), n);
         self.answer_or(end, store, found)
@@ -118,7 +118,7 @@ impl Engine {
         ensures kept { Kept self.old self.new }
         ensures done { GivesEffect result (layout_in self.old) (machine self.new)
             (tests_or (layout_in self.old) (machine self.old) end branch
-                (is_in (guarded (layout_in self.old) (machine self.old).memory) (objects_in (machine self.old)) a b)) }
+            (is_in (guarded (layout_in self.old) (machine self.old).memory) (objects_in (machine self.old)) a b)) }
     {
         let test = is_child(&self.memory, self.objects(), a, b);
         self.test_or(end, branch, test)
@@ -136,7 +136,7 @@ impl Engine {
         ensures kept { Kept self.old self.new }
         ensures done { GivesEffect result (layout_in self.old) (machine self.new)
             (tests_or (layout_in self.old) (machine self.old) end branch
-                (has_attribute (guarded (layout_in self.old) (machine self.old).memory) (objects_in (machine self.old)) n at)) }
+            (has_attribute (guarded (layout_in self.old) (machine self.old).memory) (objects_in (machine self.old)) n at)) }
     {
         let test = attr(&self.memory, self.objects(), n, at);
         self.test_or(end, branch, test)
@@ -205,7 +205,7 @@ impl Engine {
         ensures kept { Kept self.old self.new }
         ensures done { GivesEffect result (layout_in self.old) (machine self.new)
             (answers_or (layout_in self.old) (machine self.old) end store
-                (property_value (guarded (layout_in self.old) (machine self.old).memory) (objects_in (machine self.old)) n p)) }
+            (property_value (guarded (layout_in self.old) (machine self.old).memory) (objects_in (machine self.old)) n p)) }
     {
         let value = get_prop(&self.memory, self.objects(), n, p);
         self.answer_or(end, store, value)
@@ -222,7 +222,7 @@ impl Engine {
         ensures kept { Kept self.old self.new }
         ensures done { GivesEffect result (layout_in self.old) (machine self.new)
             (answers_or (layout_in self.old) (machine self.old) end store
-                (property_place (guarded (layout_in self.old) (machine self.old).memory) (objects_in (machine self.old)) n p)) }
+            (property_place (guarded (layout_in self.old) (machine self.old).memory) (objects_in (machine self.old)) n p)) }
     {
         let place = prop_addr(&self.memory, self.objects(), n, p);
         self.answer_or(end, store, place)
@@ -239,7 +239,7 @@ impl Engine {
         ensures kept { Kept self.old self.new }
         ensures done { GivesEffect result (layout_in self.old) (machine self.new)
             (answers_or (layout_in self.old) (machine self.old) end store
-                (next_number (guarded (layout_in self.old) (machine self.old).memory) (objects_in (machine self.old)) n p)) }
+            (next_number (guarded (layout_in self.old) (machine self.old).memory) (objects_in (machine self.old)) n p)) }
     {
         let next = next_prop(&self.memory, self.objects(), n, p);
         self.answer_or(end, store, next)
