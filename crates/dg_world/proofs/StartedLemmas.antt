@@ -233,7 +233,7 @@ front_kept places objects i fit =
     omega (arith, front_fits (map starting_cells places) i, ap (λ l. length (joined l)) (take-map starting_cells i places), kept_at_start places objects fit)
 
 pub over_size : (size keep : ℕ) → keep < size → false ≡ nat_le size keep
-over_size size keep h = elim (leb_tells size keep) [ | inl within ↦ absurd (omega (arith, within.1, h)) | inr above ↦ sym above.0 ]
+over_size size keep h = elim (leb_tells size keep) [ inl within ↦ absurd (omega (arith, within.1, h)) | inr above ↦ sym above.0 ]
 
 pub next_fits : (places : List Place) (objects keep i : ℕ) (place : Place) → All (HasStarts objects) places → kept_size (kinds_of places) (start_facts places) ≤ keep → slice_get places i ≡ Some place
     → length (joined (map starting_cells (take i places))) + length (starting_cells place) ≤ keep
