@@ -57,10 +57,10 @@ nothing_in [] h = refl
 nothing_in (x ∷ rules) h = absurd (omega arith)
 
 -- the heap is full where its arguments are written
-pub args_full : (query : Query) (terms : List Term) (old : Engine) (e : Full) → ((program : CoreProgram) → Overflows (cells program terms) (store_in old.store) e) → FullAt (TakesAt (Ask query.pred terms query.many) old) (store_in old.store) e
+pub args_full : (query : Query) (terms : List Term) (old : Engine) (e : Full) → ((program : CoreProgram) → old.program.now ≡ program → Overflows (cells program terms) (store_in old.store) e) → FullAt (TakesAt (Ask query.pred terms query.many) old) (store_in old.store) e
 args_full query terms old e h =
     terms_full (Ask query.pred terms query.many) old e
-    (λ g. subst (λ x. Overflows (cells g.program (terms_held x)) (store_in old.store) e) (sym (outs-Ask query.pred terms query.many)) (h g.program))
+    (λ g same. subst (λ x. Overflows (cells g.program (terms_held x)) (store_in old.store) e) (sym (outs-Ask query.pred terms query.many)) (h g.program same))
 
 -- a query is tried
 chosen_rules : (g : Game) (lives : List Live) (ways : List Way) (n : ℕ) (run : Run) (q t : ℕ) (bs : List Branch) (w : World) → After g lives ways n (choice (RulesOf q) t bs w) run → Tried g (RulesOf q) t (length w.gathered) ways lives bs n w run
@@ -68,7 +68,7 @@ chosen_rules g lives ways n run q t [] w h = h
 chosen_rules g lives ways n run q t (b ∷ bs) w h = h
 
 module _ (old : Engine) (query : Query) (terms : List Term) (store1 : ListBindings) (refs1 made1 : Vec Ref Global) (args : Env) (ready : IsReady old) (k1 : Kept (store_in old.store) (store_in store1)) (saved1 : (ms : List Saved) → KeepsPlaces old.store ms → KeepsPlaces store1 ms)
-    (written : (program : CoreProgram) → ArgsWritten program (values_in (store_in old.store) old.refs.items old.here.env) terms (store_in old.store) (store_in store1) old.refs.items refs1.items args) where
+    (written : (program : CoreProgram) → old.program.now ≡ program → ArgsWritten program (values_in (store_in old.store) old.refs.items old.here.env) terms (store_in old.store) (store_in store1) old.refs.items refs1.items args) where
   abbrev s : Store
   s = store_in old.store
 
@@ -94,7 +94,7 @@ module _ (old : Engine) (query : Query) (terms : List Term) (store1 : ListBindin
   from = TakesAt x old
 
   abbrev there : ArgsWritten old.program.now (values_in s xs old.here.env) terms s s1 xs ys args
-  there = written old.program.now
+  there = written old.program.now refl
 
   abbrev made : List Ref
   made = there.written.appended.made
@@ -262,7 +262,7 @@ module _ (old : Engine) (query : Query) (terms : List Term) (store1 : ListBindin
 
       agrees_now : (g : Game) (n : ℕ) (w : World) (run : Run) (st : from g n w run) → Agrees s2 (r_of g n w run st)
       agrees_now g n w run st =
-          let here = (written g.program).written.charged.state in
+          let here = (written g.program st.at.inside.program).written.charged.state in
           let form : cells g.program (terms_held (out-Goal x)) ≡ cells g.program terms = ap (λ f. cells g.program (terms_held f)) (outs-Ask query.pred terms query.many) in
           record {
             bound = st.at.agrees.bound ∙ ap (λ (t : State). t.subst) (sym (state2 ∙ ap marked here));

@@ -228,23 +228,23 @@ module _ (old : Engine) (query : Query) (args : Env) (rules others : Bor (List R
 
   module _ (charged : Charged heap s s1) where
     -- heap or trail is full where the rule is entered
-    pub enter_full : (e : Full) → ((program : CoreProgram) → RuleFull program rule (values_in s1 xs args) s1 e) → FullAt from s e
+    pub enter_full : (e : Full) → ((program : CoreProgram) → old.program.now ≡ program → RuleFull program rule (values_in s1 xs args) s1 e) → FullAt from s e
     enter_full full.Heap h = λ g n w run st.
         let r = st.at.registers in
         let peaks = began_peaks g _ st.at.ways (match g the_args rule r).agrees _ _ n w run (begins g n w run st) in
-        let less = rule_heap g rule the_args heap s s1 s1 r st.at.agrees sub charged s.heap_limit (omega (arith, h g.program, k1.heap_limit)) in
+        let less = rule_heap g rule the_args heap s s1 s1 r st.at.agrees sub charged s.heap_limit (omega (arith, h g.program st.at.inside.program, k1.heap_limit)) in
         omega (arith, peaks.0, less)
     enter_full full.Trail h = λ g n w run st.
         let r = st.at.registers in
         let same : values_in s1 xs args ≡ the_args = values_kept (length xs) s s1 xs xs k1 (hold_front s xs sound.base.hold) refl args left.1 in
-        let here = subst (λ vs. RuleFull g.program rule vs s1 full.Trail) same (h g.program) in
+        let here = subst (λ vs. RuleFull g.program rule vs s1 full.Trail) same (h g.program st.at.inside.program) in
         let peaks = began_peaks g _ st.at.ways (match g the_args rule r).agrees _ _ n w run (begins g n w run st) in
         let less = rule_trail g rule the_args heap s s1 s1 r st.at.agrees sub charged s.trail_limit (omega (arith, here, k1.trail_limit)) in
         omega (arith, peaks.1, less)
     enter_full full.OutOfMemory h = tt
 
     module _ (store2 : ListBindings) (refs2 made2 : Vec Ref Global) (found : Bool) (kept : reverse choices.items ≡ kept_if true o os) (k2 : Kept s1 (store_in store2)) (saved2 : (ms : List Saved) → KeepsPlaces store1 ms → KeepsPlaces store2 ms)
-        (enters : (program : CoreProgram) → EntersRule program rule (values_in s1 xs args) s1 (store_in store2) xs refs2.items found) where
+        (enters : (program : CoreProgram) → old.program.now ≡ program → EntersRule program rule (values_in s1 xs args) s1 (store_in store2) xs refs2.items found) where
       abbrev s2 : Store
       s2 = store_in store2
 
@@ -254,14 +254,14 @@ module _ (old : Engine) (query : Query) (args : Env) (rules others : Bor (List R
       same_args : values_in s1 xs args ≡ the_args
       same_args = values_kept (length xs) s s1 xs xs k1 (hold_front s xs sound.base.hold) refl args left.1
 
-      does : (g : Game) → EntersRule g.program rule the_args s1 s2 xs ys found
-      does g = subst (λ vs. EntersRule g.program rule vs s1 s2 xs ys found) same_args (enters g.program)
+      does : (g : Game) → old.program.now ≡ g.program → EntersRule g.program rule the_args s1 s2 xs ys found
+      does g there = subst (λ vs. EntersRule g.program rule vs s1 s2 xs ys found) same_args (enters g.program there)
 
       k12 : Kept s s2
       k12 = kept_on s s1 s2 k1 k2
 
       abbrev ends : EntersRule old.program.now rule (values_in s1 xs args) s1 s2 xs ys found
-      ends = enters old.program.now
+      ends = enters old.program.now refl
 
       saved12 : (ms : List Saved) → KeepsPlaces old.store ms → KeepsPlaces store2 ms
       saved12 ms h = saved2 ms (saved1 ms h)
@@ -289,7 +289,7 @@ module _ (old : Engine) (query : Query) (args : Env) (rules others : Bor (List R
         limits = limits old.here;
         leads = λ g n w run st.
             let r = st.at.registers in
-            let none : (match g the_args rule r).agrees ≡ false = sym (rule_found g rule the_args heap s s1 s2 r st.at.agrees sub charged xs ys found (does g)) ∙ is in
+            let none : (match g the_args rule r).agrees ≡ false = sym (rule_found g rule the_args heap s s1 s2 r st.at.agrees sub charged xs ys found (does g st.at.inside.program)) ∙ is in
             let work = entering g the_args rule r in
             record {
               world = begun (behind_of g r) work w;
@@ -303,19 +303,19 @@ module _ (old : Engine) (query : Query) (args : Env) (rules others : Bor (List R
         abbrev here : Frame
         here = record { goals = goals; env = record { from = length xs; len = rule.vars }; tag = old.newest; mark = AnswerOf query; behind = length fs }
 
-        vars_count : (g : Game) → rule.vars ≡ length (does g).appended.made
-        vars_count g = sym (sym (length-map (does g).appended.made (told s2)) ∙ ap length (does g).appended.values ∙ made_count rule.vars s1.state.vars)
+        vars_count : (g : Game) → (there : old.program.now ≡ g.program) → rule.vars ≡ length (does g there).appended.made
+        vars_count g there = sym (sym (length-map (does g there).appended.made (told s2)) ∙ ap length (does g there).appended.values ∙ made_count rule.vars s1.state.vars)
           where
             made_count : (n next : ℕ) → length (new_vars n next) ≡ n
             made_count zero next = refl
             made_count (suc n) next = ap suc (made_count n (suc next))
 
-        values_made : (g : Game) (r : Registers) → Agrees s r → values_in s2 ys here.env ≡ vars_of rule r
-        values_made g r agrees = ap (map (told s2)) (appended_stretch xs (does g).appended.made ys rule.vars (does g).appended.is (vars_count g)) ∙ rule_vars g rule the_args heap s s1 s2 r agrees sub charged xs ys found (does g)
+        values_made : (g : Game) (r : Registers) → old.program.now ≡ g.program → Agrees s r → values_in s2 ys here.env ≡ vars_of rule r
+        values_made g r there agrees = ap (map (told s2)) (appended_stretch xs (does g there).appended.made ys rule.vars (does g there).appended.is (vars_count g there)) ∙ rule_vars g rule the_args heap s s1 s2 r agrees sub charged xs ys found (does g there)
 
-        same_steps : (g : Game) (r : Registers) → Agrees s r → r.next_tag ≡ old.newest → steps_at (values_in s2 ys) fs here ≡ rule_steps query.pred query.many (vars_of rule r) r.next_tag rule steps
-        same_steps g r agrees tag =
-            ap (λ vs. frame_steps vs goals.now old.newest (AnswerOf query) (steps_behind (values_in s2 ys) fs (length fs))) (values_made g r agrees)
+        same_steps : (g : Game) (r : Registers) → old.program.now ≡ g.program → Agrees s r → r.next_tag ≡ old.newest → steps_at (values_in s2 ys) fs here ≡ rule_steps query.pred query.many (vars_of rule r) r.next_tag rule steps
+        same_steps g r there agrees tag =
+            ap (λ vs. frame_steps vs goals.now old.newest (AnswerOf query) (steps_behind (values_in s2 ys) fs (length fs))) (values_made g r there agrees)
             ∙ ap (λ l. frame_steps (vars_of rule r) goals.now old.newest (AnswerOf query) l) (behind_same (length xs) (values_in s xs) (values_in s2 ys) fs fs (length fs) (length fs) (omega arith) values_now sound.base.frames (same_here (length fs) fs))
             ∙ ap (λ (l : List Goal). frame_steps (vars_of rule r) l old.newest (AnswerOf query) steps) body
             ∙ ap (λ t. rule_steps query.pred query.many (vars_of rule r) t rule steps) (sym tag)
@@ -328,22 +328,22 @@ module _ (old : Engine) (query : Query) (args : Env) (rules others : Bor (List R
             here = record {
               built = subst AreBuilt (sym body) rule_built.body;
               older = omega arith;
-              env = let g : Game = record { program = old.program.now; dice = [] } in omega (arith, vars_count g, ap length (does g).appended.is, length-append xs (does g).appended.made);
+              env = let g : Game = record { program = old.program.now; dice = [] } in omega (arith, vars_count g refl, ap length (does g refl).appended.is, length-append xs (does g refl).appended.made);
             };
           };
           left = refl;
           limits = limits here;
           leads = λ g n w run st.
               let r = st.at.registers in
-              let yes' : (match g the_args rule r).agrees ≡ true = sym (rule_found g rule the_args heap s s1 s2 r st.at.agrees sub charged xs ys found (does g)) ∙ is in
+              let yes' : (match g the_args rule r).agrees ≡ true = sym (rule_found g rule the_args heap s s1 s2 r st.at.agrees sub charged xs ys found (does g st.at.inside.program)) ∙ is in
               let work = entering g the_args rule r in
               let s' = behind_of g r in
               record {
                 world = begun s' work w;
                 adds = adds_begun s' work w;
                 holds = begun_stands old (Rules query args others) true place store2 refs2 made2 choices sound others_fit tt refl has k12 saved12 ends.appended.made ends.appended.is ends.appended.hold kept (Rules query args rules) refl g n w run st here (begun s' work w) s' st.at.inside.world
-                    (rule_agrees g rule the_args heap s s1 s2 r st.at.agrees sub charged xs ys found (does g)) (ap (λ i. i + 1) st.at.tag) refl
-                    (subst (λ l. Stands g (lives_now g r st.at.inside.lives st.at.ways) st.at.ways (path_of l s') n (begun s' work w) run) (sym (same_steps g r st.at.agrees st.at.tag))
+                    (rule_agrees g rule the_args heap s s1 s2 r st.at.agrees sub charged xs ys found (does g st.at.inside.program)) (ap (λ i. i + 1) st.at.tag) refl
+                    (subst (λ l. Stands g (lives_now g r st.at.inside.lives st.at.ways) st.at.ways (path_of l s') n (begun s' work w) run) (sym (same_steps g r st.at.inside.program st.at.agrees st.at.tag))
                     (subst (λ b. Began g (lives_now g r st.at.inside.lives st.at.ways) st.at.ways (enter_if b (path_of (rule_steps query.pred query.many (vars_of rule r) r.next_tag rule steps) s') work) n w run) yes' (begins g n w run st)));
               };
         }

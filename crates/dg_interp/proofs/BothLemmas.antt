@@ -40,8 +40,5 @@ first_full program a b s full.Heap h = omega (arith, h, cells_append program (a 
 first_full program a b s full.Trail h = absurd h
 first_full program a b s full.OutOfMemory h = tt
 
-pub no_program : CoreProgram
-no_program = record { preds = []; closures = []; places = []; objects = []; words = []; sites = 0; entry = 0 }
-
 pub both_among : (program : CoreProgram) (a b : Term) (s t : Store) (ra rb : Ref) (refs part : List Ref) (env : Env) → part ≡ stretch refs env → BothMade program a b (map (told s) part) s t ra rb → BothMade program a b (values_in s refs env) s t ra rb
 both_among program a b s t ra rb refs part env e h = subst (λ l. BothMade program a b (map (told s) l) s t ra rb) e h

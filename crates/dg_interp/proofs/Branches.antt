@@ -347,11 +347,11 @@ pub on_err : {T E : Type 0} {P Q : E → Type 0} (r : Answer T E) → ((e : E) �
 on_err (Ok x) f h = tt
 on_err (Err e) f h = f e h
 
-pub match_ok : {A T E : Type 0} {Q : T → Type 0} (P : A → T → Type 0) (N : A → E → Type 0) (r : Answer T E) → ((x : T) → ((a : A) → P a x) → Q x) → ((a : A) → MatchResult r (P a) (N a)) → IfOk r Q
+pub match_ok : {A T E : Type 0} {S : A → Type 0} {Q : T → Type 0} (P : A → T → Type 0) (N : A → E → Type 0) (r : Answer T E) → ((x : T) → ((a : A) → S a → P a x) → Q x) → ((a : A) → S a → MatchResult r (P a) (N a)) → IfOk r Q
 match_ok P N (Ok x) f h = f x h
 match_ok P N (Err e) f h = tt
 
-pub match_err : {A T E : Type 0} {Q : E → Type 0} (P : A → T → Type 0) (N : A → E → Type 0) (r : Answer T E) → ((e : E) → ((a : A) → N a e) → Q e) → ((a : A) → MatchResult r (P a) (N a)) → IfErr r Q
+pub match_err : {A T E : Type 0} {S : A → Type 0} {Q : E → Type 0} (P : A → T → Type 0) (N : A → E → Type 0) (r : Answer T E) → ((e : E) → ((a : A) → S a → N a e) → Q e) → ((a : A) → S a → MatchResult r (P a) (N a)) → IfErr r Q
 match_err P N (Ok x) f h = tt
 match_err P N (Err e) f h = f e h
 

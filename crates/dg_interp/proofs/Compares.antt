@@ -1,6 +1,5 @@
 -- What a comparison comes to.
 use Rattle.std.proofs.Common.{◌≡◌, ℕ, ◌+◌, List, [], ◌∷◌, Bool, true, false, sym, ap, ◌∙◌, subst, arith}
-use Rattle.std.specs.List.{All}
 use Rattle.std.specs.declared.vec.Vec.{Vec}
 use Rattle.std.specs.declared.alloc.Global.{Global}
 use Rattle.dg_base.specs.declared.cells.Simple.TheVariants as simple
@@ -10,8 +9,6 @@ use Rattle.dg_base.specs.declared.program.Goal.TheVariants.{Compare, outs-Compar
 use Rattle.dg_base.specs.declared.program.Term.{Term}
 use Rattle.dg_base.specs.declared.program.CoreProgram.{CoreProgram}
 use Rattle.dg_base.specs.Goals.{terms_held}
-use Rattle.dg_meaning.specs.Built.{IsBuiltGoal}
-use Rattle.dg_meaning.specs.Closures.{HasNoClosure}
 use Rattle.dg_meaning.specs.Values.{Value, Num, leaf, value_of}
 use Rattle.dg_meaning.specs.Substitutions.{walk}
 use Rattle.dg_meaning.specs.Numbers.{are_in_order}
@@ -33,7 +30,6 @@ use Rattle.dg_interp.specs.Terms.{Overflows, BothMade}
 use Rattle.dg_interp.specs.Comparing.{order_of}
 use Rattle.dg_interp.specs.Frames.{values_in}
 use Rattle.dg_interp.specs.Engine.{store_in, KeepsPlaces, steps_of, IsReady, TakesAt, FailsAt, FullAt, Leads, WentOn}
-use Rattle.dg_interp.proofs.Turns.{all_first, all_rest}
 use Rattle.dg_interp.proofs.Takes.{behind, taken_in, comes_of, terms_full}
 use Rattle.dg_interp.proofs.Values.{grown, passed_on, not_passed}
 
@@ -64,16 +60,11 @@ order_shown op s v u (view.Unknown r) second h k = ap (λ x. are_in_order op x u
 held : (op : CompareOp) (a b : Term) → terms_held (out-Goal (Compare op a b)) ≡ a ∷ b ∷ []
 held op a b = ap terms_held (outs-Compare op a b)
 
-pub compare_plain : (op : CompareOp) (a b : Term) → IsBuiltGoal (Compare op a b) → HasNoClosure a × HasNoClosure b
-compare_plain op a b h =
-    let both : All HasNoClosure (a ∷ b ∷ []) = subst (λ f. All HasNoClosure (terms_held f)) (outs-Compare op a b) h.1 in
-    (all_first HasNoClosure a (b ∷ []) both, all_first HasNoClosure b [] (all_rest HasNoClosure a (b ∷ []) both))
-
-pub compare_full : (op : CompareOp) (a b : Term) (old : Engine) (e : Full) → ((program : CoreProgram) → Overflows (cells program (a ∷ b ∷ [])) (store_in old.store) e) → FullAt (TakesAt (Compare op a b) old) (store_in old.store) e
-compare_full op a b old e h = terms_full (Compare op a b) old e (λ g. subst (λ l. Overflows (cells g.program l) (store_in old.store) e) (sym (held op a b)) (h g.program))
+pub compare_full : (op : CompareOp) (a b : Term) (old : Engine) (e : Full) → ((program : CoreProgram) → old.program.now ≡ program → Overflows (cells program (a ∷ b ∷ [])) (store_in old.store) e) → FullAt (TakesAt (Compare op a b) old) (store_in old.store) e
+compare_full op a b old e h = terms_full (Compare op a b) old e (λ g same. subst (λ l. Overflows (cells g.program l) (store_in old.store) e) (sym (held op a b)) (h g.program same))
 
 module _ (op : CompareOp) (a b : Term) (old : Engine) (store : ListBindings) (stack : Vec Ref Global) (ra rb : Ref) (ready : IsReady old) (k : Kept (store_in old.store) (store_in store)) (saved : (ms : List Saved) → KeepsPlaces old.store ms → KeepsPlaces store ms)
-    (made : (program : CoreProgram) → BothMade program a b (values_in (store_in old.store) old.refs.items old.here.env) (store_in old.store) (store_in store) ra rb) where
+    (made : (program : CoreProgram) → old.program.now ≡ program → BothMade program a b (values_in (store_in old.store) old.refs.items old.here.env) (store_in old.store) (store_in store) ra rb) where
   abbrev x : Goal
   x = Compare op a b
 
@@ -88,7 +79,7 @@ module _ (op : CompareOp) (a b : Term) (old : Engine) (store : ListBindings) (st
 
   agrees : (g : Game) (n : ℕ) (w : World) (run : Run) (st : TakesAt x old g n w run) → Agrees s (behind x old g n w run st)
   agrees g n w run st =
-      let here = (made g.program).state in
+      let here = (made g.program st.at.inside.program).state in
       let form : cells g.program (terms_held (out-Goal x)) ≡ cells g.program (a ∷ b ∷ []) = ap (cells g.program) (held op a b) in
       record {
         bound = st.at.agrees.bound ∙ ap (λ (t : State). t.subst) (sym here);
@@ -106,7 +97,7 @@ module _ (op : CompareOp) (a b : Term) (old : Engine) (store : ListBindings) (st
   comes g n w run st =
       let r = behind x old g n w run st in
       let v = taken_in x old g n w run st in
-      let m = made g.program in
+      let m = made g.program st.at.inside.program in
       let same : are_in_order op (walk s.state.subst (told s ra)) (walk s.state.subst (told s rb)) ≡ are_in_order op (walk r.bound (value_of g.program env a)) (walk r.bound (value_of g.program env b)) =
       ap (λ S. are_in_order op (walk S (told s ra)) (walk S (told s rb))) (sym (agrees g n w run st).bound)
       ∙ ap (λ y. are_in_order op (walk r.bound y) (walk r.bound (told s rb))) m.left_is ∙ ap (λ y. are_in_order op (walk r.bound (value_of g.program env a)) (walk r.bound y)) m.right_is in

@@ -1,6 +1,5 @@
 -- What an equation comes to.
 use Rattle.std.proofs.Common.{◌≡◌, ℕ, ◌+◌, ◌<◌, List, [], ◌∷◌, Bool, true, false, refl, sym, ap, ◌∙◌, subst, arith, length}
-use Rattle.std.specs.List.{All}
 use Rattle.std.specs.declared.vec.Vec.{Vec}
 use Rattle.std.specs.declared.alloc.Global.{Global}
 use Rattle.dg_base.specs.declared.program.Goal.{Goal, out-Goal}
@@ -20,8 +19,6 @@ use Rattle.dg_meaning.specs.OneRun.{Grows}
 use Rattle.dg_meaning.specs.Keeps.{After, Went, world_at}
 use Rattle.dg_meaning.proofs.Keeps.{has_happened}
 use Rattle.dg_meaning.specs.Path.{Moves}
-use Rattle.dg_meaning.specs.Built.{IsBuiltGoal}
-use Rattle.dg_meaning.specs.Closures.{HasNoClosure}
 use Rattle.dg_meaning.proofs.Solving.{solve_extends}
 use Rattle.dg_unify.specs.Store.{Store, State, Saved, Kept, told, trail_of, Does, UnifyFull}
 use Rattle.dg_unify.specs.declared.bindings.Ref.{Ref}
@@ -34,7 +31,6 @@ use Rattle.dg_interp.specs.Frames.{values_in}
 use Rattle.dg_interp.specs.Engine.{store_in, KeepsPlaces, steps_of, IsReady, TakesAt, FailsAt, FullAt, Adds, Leads, WentOn}
 use Rattle.dg_unify.specs.Engines.{Agrees}
 use Rattle.dg_interp.proofs.Stores.{trail_append, trail_within, made_is}
-use Rattle.dg_interp.proofs.Turns.{all_first, all_rest}
 use Rattle.dg_interp.proofs.Takes.{behind, taken_in, comes_of, adds_taken, terms_full, store_ready}
 use Rattle.dg_interp.proofs.Values.{grown, grown_limits, stands_behind, fails_behind}
 
@@ -43,18 +39,13 @@ use Rattle.dg_interp.proofs.Values.{grown, grown_limits, stands_behind, fails_be
 held : (a b : Term) → terms_held (out-Goal (Equal a b)) ≡ a ∷ b ∷ []
 held a b = ap terms_held (outs-Equal a b)
 
-pub equal_plain : (a b : Term) → IsBuiltGoal (Equal a b) → HasNoClosure a × HasNoClosure b
-equal_plain a b h =
-    let both : All HasNoClosure (a ∷ b ∷ []) = subst (λ f. All HasNoClosure (terms_held f)) (outs-Equal a b) h.1 in
-    (all_first HasNoClosure a (b ∷ []) both, all_first HasNoClosure b [] (all_rest HasNoClosure a (b ∷ []) both))
-
-pub equal_full : (a b : Term) (old : Engine) (e : Full) → ((program : CoreProgram) → Overflows (cells program (a ∷ b ∷ [])) (store_in old.store) e) → FullAt (TakesAt (Equal a b) old) (store_in old.store) e
-equal_full a b old e h = terms_full (Equal a b) old e (λ g. subst (λ l. Overflows (cells g.program l) (store_in old.store) e) (sym (held a b)) (h g.program))
+pub equal_full : (a b : Term) (old : Engine) (e : Full) → ((program : CoreProgram) → old.program.now ≡ program → Overflows (cells program (a ∷ b ∷ [])) (store_in old.store) e) → FullAt (TakesAt (Equal a b) old) (store_in old.store) e
+equal_full a b old e h = terms_full (Equal a b) old e (λ g same. subst (λ l. Overflows (cells g.program l) (store_in old.store) e) (sym (held a b)) (h g.program same))
 
 -- ## What is bound
 
 module _ (a b : Term) (old : Engine) (mid : Store) (ra rb : Ref) (sound : IsSubstitution (store_in old.store).state.subst)
-    (made : (program : CoreProgram) → BothMade program a b (values_in (store_in old.store) old.refs.items old.here.env) (store_in old.store) mid ra rb) (g : Game) (n : ℕ) (w : World) (run : Run) (st : TakesAt (Equal a b) old g n w run) where
+    (made : (program : CoreProgram) → old.program.now ≡ program → BothMade program a b (values_in (store_in old.store) old.refs.items old.here.env) (store_in old.store) mid ra rb) (g : Game) (n : ℕ) (w : World) (run : Run) (st : TakesAt (Equal a b) old g n w run) where
   abbrev x : Goal
   x = Equal a b
 
@@ -81,7 +72,7 @@ module _ (a b : Term) (old : Engine) (mid : Store) (ra rb : Ref) (sound : IsSubs
 
   meant : unify mid.state.subst (told mid ra) (told mid rb) ≡ u
   meant =
-      let m = made g.program in
+      let m = made g.program st.at.inside.program in
       ap (λ (y : State). unify y.subst (told mid ra) (told mid rb)) m.state
       ∙ ap (λ S. unify S (told mid ra) (told mid rb)) (sym st.at.agrees.bound)
       ∙ ap (λ v. unify r.bound v (told mid rb)) m.left_is
@@ -98,7 +89,7 @@ module _ (a b : Term) (old : Engine) (mid : Store) (ra rb : Ref) (sound : IsSubs
 
   pub equal_agrees : (new : Store) (found : Bool) → Does mid new (unify mid.state.subst (told mid ra) (told mid rb)) found → Agrees new after
   equal_agrees new found does =
-      let m = made g.program in
+      let m = made g.program st.at.inside.program in
       let since : mid.state.since ≡ s.state.since = ap (λ (y : State). y.since) m.state in
       let vars : mid.state.vars ≡ s.state.vars = ap (λ (y : State). y.vars) m.state in
       let heap : mid.state.heap ≡ s.state.heap + cells g.program (a ∷ b ∷ []) = ap (λ (y : State). y.heap) m.state in
@@ -127,7 +118,7 @@ module _ (a b : Term) (old : Engine) (mid : Store) (ra rb : Ref) (sound : IsSubs
 
   pub equal_trail : (limit : ℕ) → limit + trail_of mid.state.since mid.state.subst < mid.state.trail + trail_of mid.state.since (unify mid.state.subst (told mid ra) (told mid rb)).subst → limit < run.world.meters.trail
   equal_trail limit h =
-      let m = made g.program in
+      let m = made g.program st.at.inside.program in
       let trail : mid.state.trail ≡ s.state.trail = ap (λ (y : State). y.trail) m.state in
       let now = taken mid.state.since in
       let few = trail_within mid.state.since extends.made in
@@ -136,15 +127,15 @@ module _ (a b : Term) (old : Engine) (mid : Store) (ra rb : Ref) (sound : IsSubs
       let grows : Grows bound_in run.world = subst (λ v. Grows v run.world) (world_is u.agrees) (has_happened g st.at.inside.lives st.at.ways n (Moves (goes_on_if u.agrees (steps_of old) after bound_in)) run comes) in
       omega (arith, h, before, behind, now, few, counted_trail, trail, st.at.agrees.trail, grows.meters.trail)
 
-pub equal_trail_full : (a b : Term) (old : Engine) (mid : Store) (ra rb : Ref) → IsSubstitution (store_in old.store).state.subst → ((program : CoreProgram) → BothMade program a b (values_in (store_in old.store) old.refs.items old.here.env) (store_in old.store) mid ra rb) → (e : Full) → UnifyFull mid (unify mid.state.subst (told mid ra) (told mid rb)) e → FullAt (TakesAt (Equal a b) old) (store_in old.store) e
+pub equal_trail_full : (a b : Term) (old : Engine) (mid : Store) (ra rb : Ref) → IsSubstitution (store_in old.store).state.subst → ((program : CoreProgram) → old.program.now ≡ program → BothMade program a b (values_in (store_in old.store) old.refs.items old.here.env) (store_in old.store) mid ra rb) → (e : Full) → UnifyFull mid (unify mid.state.subst (told mid ra) (told mid rb)) e → FullAt (TakesAt (Equal a b) old) (store_in old.store) e
 equal_trail_full a b old mid ra rb sound made full.Heap h = absurd h
-equal_trail_full a b old mid ra rb sound made full.Trail h = λ g n w run st. equal_trail a b old mid ra rb sound made g n w run st (store_in old.store).trail_limit (subst (λ k. k + trail_of mid.state.since mid.state.subst < mid.state.trail + trail_of mid.state.since (unify mid.state.subst (told mid ra) (told mid rb)).subst) (made g.program).kept.trail_limit h)
+equal_trail_full a b old mid ra rb sound made full.Trail h = λ g n w run st. equal_trail a b old mid ra rb sound made g n w run st (store_in old.store).trail_limit (subst (λ k. k + trail_of mid.state.since mid.state.subst < mid.state.trail + trail_of mid.state.since (unify mid.state.subst (told mid ra) (told mid rb)).subst) (made g.program st.at.inside.program).kept.trail_limit h)
 equal_trail_full a b old mid ra rb sound made full.OutOfMemory h = tt
 
 -- ## The engine behind it
 
 module _ (a b : Term) (old : Engine) (mid : Store) (ra rb : Ref) (store : ListBindings) (stack : Vec Ref Global) (ready : IsReady old) (sound : IsSubstitution (store_in old.store).state.subst) (k : Kept (store_in old.store) (store_in store)) (saved : (ms : List Saved) → KeepsPlaces old.store ms → KeepsPlaces store ms)
-    (made : (program : CoreProgram) → BothMade program a b (values_in (store_in old.store) old.refs.items old.here.env) (store_in old.store) mid ra rb) (found : Bool) (does : Does mid (store_in store) (unify mid.state.subst (told mid ra) (told mid rb)) found) where
+    (made : (program : CoreProgram) → old.program.now ≡ program → BothMade program a b (values_in (store_in old.store) old.refs.items old.here.env) (store_in old.store) mid ra rb) (found : Bool) (does : Does mid (store_in store) (unify mid.state.subst (told mid ra) (told mid rb)) found) where
   abbrev y : Goal
   y = Equal a b
 

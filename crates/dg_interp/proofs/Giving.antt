@@ -92,14 +92,14 @@ same_limits e = record { heap = refl; trail = refl; aux = refl; keep = refl }
 -- ## A goal whose terms are written
 
 module _ (x : Goal) (ts : List Term) (held : terms_held (out-Goal x) ≡ ts) (old : Engine) where
-  pub written_full : (e : Full) → ((program : CoreProgram) → Overflows (cells program ts) (store_in old.store) e) → FullAt (TakesAt x old) (store_in old.store) e
-  written_full e h = terms_full x old e (λ g. subst (λ l. Overflows (cells g.program l) (store_in old.store) e) (sym held) (h g.program))
+  pub written_full : (e : Full) → ((program : CoreProgram) → old.program.now ≡ program → Overflows (cells program ts) (store_in old.store) e) → FullAt (TakesAt x old) (store_in old.store) e
+  written_full e h = terms_full x old e (λ g same. subst (λ l. Overflows (cells g.program l) (store_in old.store) e) (sym held) (h g.program same))
 
   module _ (store : ListBindings) (stack : Vec Ref Global) (ready : IsReady old) (k : Kept (store_in old.store) (store_in store)) (saved : (ms : List Saved) → KeepsPlaces old.store ms → KeepsPlaces store ms)
-      (grew : (program : CoreProgram) → (store_in store).state ≡ record (store_in old.store).state { heap = (store_in old.store).state.heap + cells program ts }) where
+      (grew : (program : CoreProgram) → old.program.now ≡ program → (store_in store).state ≡ record (store_in old.store).state { heap = (store_in old.store).state.heap + cells program ts }) where
     agrees : (g : Game) (n : ℕ) (w : World) (run : Run) (st : TakesAt x old g n w run) → Agrees (store_in store) (behind x old g n w run st)
     agrees g n w run st =
-        let here = grew g.program in
+        let here = grew g.program st.at.inside.program in
         let form : cells g.program (terms_held (out-Goal x)) ≡ cells g.program ts = ap (cells g.program) held in
         record {
           bound = st.at.agrees.bound ∙ ap (λ (t : State). t.subst) (sym here);
@@ -111,7 +111,7 @@ module _ (x : Goal) (ts : List Term) (held : terms_held (out-Goal x) ≡ ts) (ol
 
     -- what the goal does is this act, behind so much work
     pub written_acts : (act : Registers → World → Act) (work : Game → Registers → ℕ)
-        → ((g : Game) (r : Registers) (v : World) → r.bound ≡ (store_in store).state.subst → outcome g (out-Goal x) (values_in (store_in old.store) old.refs.items old.here.env) old.here.tag (steps_of old) r v ≡ Moves (move_of (steps_of old) r (act r (worked (work g r) v))))
+        → ((g : Game) (r : Registers) (v : World) → old.program.now ≡ g.program → r.bound ≡ (store_in store).state.subst → outcome g (out-Goal x) (values_in (store_in old.store) old.refs.items old.here.env) old.here.tag (steps_of old) r v ≡ Moves (move_of (steps_of old) r (act r (worked (work g r) v))))
         → Leads (TakesAt x old) (ActsAt act (with_store old store stack ready k saved))
     written_acts act work is g n w run st =
         let r = behind x old g n w run st in
@@ -122,7 +122,7 @@ module _ (x : Goal) (ts : List Term) (held : terms_held (out-Goal x) ≡ ts) (ol
           world = v;
           adds = record { prints_are = a.prints_are; typed = refl };
           holds = acts_on old store stack ready k saved g n w v run st.at st.at.inside.world act r (agrees g n w run st) refl refl
-              (subst (λ o. After g st.at.inside.lives st.at.ways n o run) (is g r t (agrees g n w run st).bound) (comes_of x old g n w run st));
+              (subst (λ o. After g st.at.inside.lives st.at.ways n o run) (is g r t st.at.inside.program (agrees g n w run st).bound) (comes_of x old g n w run st));
         }
 
 -- ## A unification

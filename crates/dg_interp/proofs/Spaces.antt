@@ -1,7 +1,6 @@
 -- What a goal that prints spaces comes to.
 use Rattle.std.proofs.Common.{◌≡◌, ℕ, suc, List, [], ◌∷◌, ◌++◌, Option, Some, None, refl, sym, ap, ◌∙◌, subst}
 use Rattle.std.proofs.lemmas.List.{append-nil}
-use Rattle.std.specs.List.{All}
 use Rattle.std.specs.declared.vec.Vec.{Vec}
 use Rattle.std.specs.declared.alloc.Global.{Global}
 use Rattle.dg_base.specs.declared.program.Goal.{Goal, out-Goal}
@@ -12,8 +11,6 @@ use Rattle.dg_base.specs.declared.run.RunFault.TheVariants.{Write}
 use Rattle.dg_base.specs.Goals.{terms_held}
 use Rattle.dg_base.specs.Written.{SinkView, BrokeOff}
 use Rattle.dg_base.proofs.WrittenLemmas.{broke_later}
-use Rattle.dg_meaning.specs.Built.{IsBuiltGoal}
-use Rattle.dg_meaning.specs.Closures.{HasNoClosure}
 use Rattle.dg_meaning.specs.Values.{Num, Value, Node, value_of}
 use Rattle.dg_meaning.specs.Substitutions.{walk}
 use Rattle.dg_meaning.specs.World.{Game, World, Print, Prints, SpacesOf, prints, worked}
@@ -37,7 +34,6 @@ use Rattle.dg_interp.specs.Engine.{store_in, KeepsPlaces, steps_of, IsReady, Tak
 use Rattle.dg_interp.specs.Giving.{number_in, ActsAt, PrintsOne, TellsSpaces}
 use Rattle.dg_interp.specs.Printing.{Added}
 use Rattle.dg_interp.specs.Running.{GoalDone, Reaches, IsBroken}
-use Rattle.dg_interp.proofs.Turns.{all_first}
 use Rattle.dg_interp.proofs.Takes.{store_sound, store_ready}
 use Rattle.dg_interp.proofs.Places.{inside_in, limits_on}
 use Rattle.dg_base.specs.Streams.{SourceView}
@@ -46,9 +42,6 @@ use Rattle.dg_interp.proofs.Giving.{with_store, steps_kept, kept_limits, written
 
 pub spaces_held : (term : Term) → terms_held (out-Goal (GapN term)) ≡ term ∷ []
 spaces_held term = ap terms_held (outs-GapN term)
-
-pub spaces_plain : (term : Term) → IsBuiltGoal (GapN term) → HasNoClosure term
-spaces_plain term h = all_first HasNoClosure term [] (subst (λ f. All HasNoClosure (terms_held f)) (outs-GapN term) h.1)
 
 -- what is done where a number of spaces is told
 abbrev act_for : Option ℕ → List Step → World → Act
@@ -60,7 +53,7 @@ spaces_are (Node (Num n) vs) steps w = refl
 spaces_are v steps w = refl
 
 module _ (term : Term) (old : Engine) (store : ListBindings) (stack : Vec Ref Global) (value : Ref) (ready : IsReady old) (k : Kept (store_in old.store) (store_in store)) (saved : (ms : List Saved) → KeepsPlaces old.store ms → KeepsPlaces store ms)
-    (written : (program : CoreProgram) → Made (cells program (term ∷ [])) (store_in old.store) (store_in store) value (value_of program (values_in (store_in old.store) old.refs.items old.here.env) term)) where
+    (written : (program : CoreProgram) → old.program.now ≡ program → Made (cells program (term ∷ [])) (store_in old.store) (store_in store) value (value_of program (values_in (store_in old.store) old.refs.items old.here.env) term)) where
   abbrev new : Engine
   new = with_store old store stack ready k saved
 
@@ -69,13 +62,13 @@ module _ (term : Term) (old : Engine) (store : ListBindings) (stack : Vec Ref Gl
       let s = store_in store in
       let env = values_in (store_in old.store) old.refs.items old.here.env in
       let steps = steps_of old in
-      written_acts (GapN term) (term ∷ []) (spaces_held term) old store stack ready k saved (λ program. (written program).charged.state)
+      written_acts (GapN term) (term ∷ []) (spaces_held term) old store stack ready k saved (λ program e. (written program e).charged.state)
       (λ r w. act_for count steps w) (λ g r. looked_up r (value_of g.program env term))
-      (λ g r v bound.
+      (λ g r v there bound.
       let here = value_of g.program env term in
       let w = worked (looked_up r here) v in
       let same : number_in (walk r.bound here) ≡ count =
-      ap (λ S. number_in (walk S here)) bound ∙ ap (λ o. number_in (walk s.state.subst (or_nil o))) (sym (written g.program).value) ∙ sym is in
+      ap (λ S. number_in (walk S here)) bound ∙ ap (λ o. number_in (walk s.state.subst (or_nil o))) (sym (written g.program there).value) ∙ sym is in
       ap (λ f. outcome g f env old.here.tag steps r v) (outs-GapN term)
       ∙ ap (λ a. Moves (move_of steps r a)) (spaces_are (walk r.bound here) steps w)
       ∙ ap (λ o. Moves (move_of steps r (act_for o steps w))) same)

@@ -1,5 +1,5 @@
 -- What the taking of a goal comes to.
-use Rattle.std.proofs.Common.{ℕ, List, [], refl, sym, arith}
+use Rattle.std.proofs.Common.{◌≡◌, ℕ, List, [], refl, sym, arith}
 use Rattle.std.specs.Prelude.{reverse}
 use Rattle.std.proofs.lemmas.List.{append-nil}
 use Rattle.std.specs.declared.vec.Vec.{Vec}
@@ -53,9 +53,9 @@ pub adds_taken : (r : Registers) (work : ℕ) (w : World) → Adds [] w (begun r
 adds_taken r work w = record { prints_are = sym (append-nil (prints w.events)); typed = refl }
 
 -- the heap is full where its terms are written
-pub terms_full : (x : Goal) (old : Engine) (e : Full) → ((g : Game) → Overflows (cells g.program (terms_held (out-Goal x))) (store_in old.store) e) → FullAt (TakesAt x old) (store_in old.store) e
-terms_full x old full.Heap h = λ g n w run st. let grows = (taken_grows x old g n w run st).meters in omega (arith, grows.heap, h g, st.at.agrees.heap)
-terms_full x old full.Trail h = absurd (h (record { program = old.program.now; dice = [] }))
+pub terms_full : (x : Goal) (old : Engine) (e : Full) → ((g : Game) → old.program.now ≡ g.program → Overflows (cells g.program (terms_held (out-Goal x))) (store_in old.store) e) → FullAt (TakesAt x old) (store_in old.store) e
+terms_full x old full.Heap h = λ g n w run st. let grows = (taken_grows x old g n w run st).meters in omega (arith, grows.heap, h g st.at.inside.program, st.at.agrees.heap)
+terms_full x old full.Trail h = absurd (h (record { program = old.program.now; dice = [] }) refl)
 terms_full x old full.OutOfMemory h = tt
 
 -- ## The store has grown

@@ -1,6 +1,6 @@
 -- What a store takes while terms are written to it.
-use Rattle.std.proofs.Common.{◌≡◌, ℕ, zero, suc, ◌+◌, ◌*◌, ◌<◌, ◌≤◌, List, [], ◌∷◌, ◌++◌, refl, sym, ap, ◌∙◌, arith, subst, length, append_assoc, append-nil, Some}
-use Rattle.std.specs.Prelude.{map, MatchResult, OnOk, Result, Ok, Err, take, drop, get_or, ◌-◌}
+use Rattle.std.proofs.Common.{◌≡◌, ℕ, zero, suc, ◌+◌, ◌*◌, ◌<◌, ◌≤◌, List, [], ◌∷◌, ◌++◌, refl, sym, ap, ◌∙◌, arith, subst, length, append_assoc, append-nil, Option, Some, None}
+use Rattle.std.specs.Prelude.{map, MatchResult, OnOk, Result, Ok, Err, take, drop, get_or, slice_get, ◌-◌}
 use Rattle.std.specs.List.{All, flat_map, sum_by}
 use Rattle.std.proofs.Math.Seq.{drop-append_seam, take-append_seam}
 use Rattle.std.proofs.lemmas.List.{map-append, drop-append-le, length-append, length-map, take-append-drop, take_more, take_all, map_more}
@@ -9,19 +9,19 @@ use Rattle.std.proofs.lemmas.List.Sums.{sum_by-append}
 use Rattle.std.proofs.lemmas.Grind.{flat_map-append}
 use Rattle.dg_base.specs.declared.program.Term.{Term, out-Term}
 use Rattle.dg_base.specs.declared.program.Term.TheBlock.{hidden-the_row-Term-0}
-use Rattle.dg_base.specs.declared.program.Term.TheVariants.{Pair as Pair-Term, Closure as Closure-Term}
+use Rattle.dg_base.specs.declared.program.Term.TheVariants.{Pair as Pair-Term, Closure as Closure-Term, outs-Closure}
+use Rattle.dg_base.specs.declared.program.ClosureBody.{ClosureBody}
 use Rattle.dg_base.specs.declared.program.CoreProgram.{CoreProgram}
 use Rattle.dg_base.specs.Terms.{nodes}
-use Rattle.dg_meaning.specs.Values.{Value, Var, pair, value_of}
-use Rattle.dg_meaning.specs.Cells.{node_cells, cells}
-use Rattle.dg_meaning.specs.Closures.{IsNoClosure, HasNoClosure}
+use Rattle.dg_meaning.specs.Values.{Value, Closure, Var, Node, pair, parts_of, value_of_var, captured_by, value_of}
+use Rattle.dg_meaning.specs.Cells.{captured_count, node_cells, cells}
 use Rattle.dg_meaning.specs.Moves.{new_vars}
-use Rattle.dg_unify.specs.Store.{State, Store, told, Holds, Kept, Charged, HeapFull, Fresh, Made}
+use Rattle.dg_unify.specs.Store.{State, Store, told, told_parts, Holds, Kept, Charged, HeapFull, Fresh, Made}
 use Rattle.dg_unify.specs.declared.bindings.Ref.{Ref}
 use Rattle.dg_unify.specs.declared.bindings.Full.{Full}
 use Rattle.dg_unify.specs.declared.bindings.Full.TheVariants as full
 use Rattle.dg_unify.proofs.StoreLemmas.{told_is, holds_some, kept_on, kept_holds, kept_told}
-use Rattle.dg_interp.specs.Terms.{Overflows, Appended, Written, MadeVars, listed, HeadsWritten}
+use Rattle.dg_interp.specs.Terms.{Overflows, Appended, Written, MadeVars, captured_in, listed, HeadsWritten}
 
 -- ## Charges
 
@@ -166,12 +166,6 @@ pub all_behind : {A : Type 0} (P : A → Type 0) (xs ys : List A) → All P (xs 
 all_behind P [] ys h = h
 all_behind P (x ∷ xs) ys h = all_behind P xs ys (All-tail P x (xs ++ ys) h)
 
-pub plain_pair : (h t : Term) → HasNoClosure (Pair-Term h t) → HasNoClosure h × HasNoClosure t
-plain_pair h t all =
-    let P = λ (x : Term). IsNoClosure (out-Term x) in
-    let inner = All-tail P (Pair-Term h t) ((nodes h ++ []) ++ (nodes t ++ [])) (subst (All P) (nodes_are h t) all) in
-    (all_front P (nodes h) [] (all_front P (nodes h ++ []) (nodes t ++ []) inner), all_front P (nodes t) [] (all_behind P (nodes h ++ []) (nodes t ++ []) inner))
-
 pub nodes_pair : (h t : Term) → length (nodes (Pair-Term h t)) ≡ suc (length (nodes h) + length (nodes t))
 nodes_pair h t =
     let a = length-append (nodes h ++ []) (nodes t ++ []) in
@@ -214,15 +208,8 @@ taken_end xs ys rest n is e = sym (ap (take n) is ∙ ap (λ k. take k (ys ++ re
 
 -- ## The elements of a term
 
-pub plain_closure : (n : ℕ) (t : Term) → t ≡ Closure-Term n → HasNoClosure t → ⊥
-unfolding out-Term denote.Hole.Carrier.out
-plain_closure n t e h = All-head (λ (x : Term). IsNoClosure (out-Term x)) (Closure-Term n) [] (subst HasNoClosure e h)
-
 pub pair_nodes : (x h t : Term) → x ≡ Pair-Term h t → length (nodes x) ≡ suc (length (nodes h) + length (nodes t))
 pair_nodes x h t e = ap (λ (y : Term). length (nodes y)) e ∙ nodes_pair h t
-
-pub pair_plain : (x h t : Term) → x ≡ Pair-Term h t → HasNoClosure x → HasNoClosure h × HasNoClosure t
-pair_plain x h t e plain = plain_pair h t (subst HasNoClosure e plain)
 
 pub heads_full : (program : CoreProgram) (env : List Value) (fn term h t h' : Term) (s u : Store) (xs ys : List Ref) → Kept s u → HeadsWritten program env fn term s u xs ys → term ≡ Pair-Term h t → h' ≡ h → (e : Full) → Overflows (cells program (h' ∷ [])) u e → Overflows (cells program (fn ∷ [])) s e
 heads_full program env fn term h t h' s u xs ys k w is eh e full =
@@ -252,10 +239,6 @@ heads_step program env env' fn term h t h' t' s u v xs ys zs r k l w is eh et ee
     subst (λ x. HeadsWritten program env fn x s v xs zs) (sym et) (heads_on program env fn term h t s u v xs ys zs r k l w is made' e)
 
 -- ## A whole term
-
--- any program, where it makes no difference which
-pub no_program : CoreProgram
-no_program = record { preds = []; closures = []; places = []; objects = []; words = []; sites = 0; entry = 0 }
 
 pub appended_drop : (s : Store) (vs : List Value) (xs ys : List Ref) (n : ℕ) → (a : Appended s vs xs ys) → n ≡ length xs → drop n ys ≡ a.made
 appended_drop s vs xs ys n a e = ap (drop n) a.is ∙ ap (λ k. drop k (xs ++ a.made)) e ∙ drop-append_seam xs a.made
@@ -320,3 +303,64 @@ terms_step program env env' terms i x s u v xs ys zs r is le k l w ee made e =
 
 pub terms_end : (program : CoreProgram) (env : List Value) (terms : List Term) (i : ℕ) (s u : Store) (xs ys : List Ref) → length terms ≤ i → Written (cells program (take i terms)) (map (value_of program env) (take i terms)) s u xs ys → Written (cells program terms) (map (value_of program env) terms) s u xs ys
 terms_end program env terms i s u xs ys le w = subst (λ ts. Written (cells program ts) (map (value_of program env) ts) s u xs ys) (take_all i terms le) w
+
+-- ## Closures
+
+pub vars_step : (env env' : List Value) (vars : List ℕ) (i x : ℕ) (s u v : Store) (xs ys zs : List Ref) (r : Ref) → x ≡ get_or vars i 0 → i < length vars → Kept s u → Kept u v → Written 0 (map (value_of_var env) (take i vars)) s u xs ys → env' ≡ env → Made 0 u v r (value_of_var env' x) → zs ≡ ys ++ r ∷ [] → Written 0 (map (value_of_var env) (take (i + 1) vars)) s v xs zs
+vars_step env env' vars i x s u v xs ys zs r is le k l w ee made e =
+    let f = value_of_var env in
+    record {
+      charged = charged_on 0 0 0 s u v refl k w.charged made.charged;
+      appended = appended_on u v (map f (take i vars)) (map f (take (i + 1) vars)) (f x) xs ys zs r l w.appended (made.value ∙ ap (λ y. Some (value_of_var y x)) ee) e (map_more f vars i 0 le ∙ ap (λ y. map f (take i vars) ++ f y ∷ []) (sym is));
+    }
+
+pub vars_end : (env : List Value) (vars : List ℕ) (i : ℕ) (s u : Store) (xs ys : List Ref) → length vars ≤ i → Written 0 (map (value_of_var env) (take i vars)) s u xs ys → Written 0 (map (value_of_var env) vars) s u xs ys
+vars_end env vars i s u xs ys le w = subst (λ vs. Written 0 (map (value_of_var env) vs) s u xs ys) (take_all i vars le) w
+
+captured_parts : (env : List Value) (o : Option ClosureBody) → captured_by env o ≡ parts_of (map (value_of_var env) (captured_in o))
+captured_parts env None = refl
+captured_parts env (Some closure) = refl
+
+captured_many : (o : Option ClosureBody) → captured_count o ≡ length (captured_in o)
+captured_many None = refl
+captured_many (Some closure) = refl
+
+closure_value : (program : CoreProgram) (env : List Value) (place : ℕ) → value_of program env (Closure-Term place) ≡ Node (Closure place) (parts_of (map (value_of_var env) (captured_in (slice_get program.closures place))))
+unfolding out-Term denote.Hole.Carrier.out
+closure_value program env place = ap (Node (Closure place)) (captured_parts env (slice_get program.closures place))
+
+closure_cells : (program : CoreProgram) (place : ℕ) → cells program (Closure-Term place ∷ []) ≡ 3 + length (captured_in (slice_get program.closures place))
+closure_cells program place =
+    let top = ap (node_cells program) (outs-Closure place) in
+    let alone : cells program (Closure-Term place ∷ []) ≡ 0 + node_cells program (out-Term (Closure-Term place)) = refl in
+    omega (arith, top, alone, captured_many (slice_get program.closures place))
+
+-- the values that a closure captures, and so many
+captured_refs : (vs : List Value) (u : Store) (xs ys refs : List Ref) (n : ℕ) → (a : Appended u vs xs ys) → n ≡ length xs → refs ≡ take (length ys - n) (drop n ys) → refs ≡ a.made
+captured_refs vs u xs ys refs n a e is =
+    let behind : drop n ys ≡ a.made = appended_drop u vs xs ys n a e in
+    let count : length a.made ≤ length ys - n = omega (arith, ap length a.is ∙ length-append xs a.made, e) in
+    is ∙ ap (take (length ys - n)) behind ∙ take_all (length ys - n) a.made count
+
+captured_length : (vs : List Value) (u : Store) (xs ys : List Ref) → (a : Appended u vs xs ys) → length a.made ≡ length vs
+captured_length vs u xs ys a = sym (length-map a.made (told u)) ∙ ap length a.values
+
+pub closure_written : (program : CoreProgram) (env : List Value) (place : ℕ) (vars : List ℕ) (s u v : Store) (xs ys refs : List Ref) (n : ℕ) (r : Ref) → vars ≡ captured_in (slice_get program.closures place) → Kept s u → Written 0 (map (value_of_var env) vars) s u xs ys → n ≡ length xs → refs ≡ take (length ys - n) (drop n ys) → Made (3 + length refs) u v r (Node (Closure place) (told_parts u refs)) → Made (cells program (Closure-Term place ∷ [])) s v r (value_of program env (Closure-Term place))
+closure_written program env place vars s u v xs ys refs n r are k w e is made =
+    let same = captured_refs (map (value_of_var env) vars) u xs ys refs n w.appended e is in
+    let parts : told_parts u refs ≡ parts_of (map (value_of_var env) (captured_in (slice_get program.closures place))) = ap (told_parts u) same ∙ ap parts_of w.appended.values ∙ ap (λ ws. parts_of (map (value_of_var env) ws)) are in
+    let many : length refs ≡ length (captured_in (slice_get program.closures place)) = ap length same ∙ captured_length (map (value_of_var env) vars) u xs ys w.appended ∙ length-map vars (value_of_var env) ∙ ap length are in
+    record {
+      charged = charged_on 0 (3 + length refs) (cells program (Closure-Term place ∷ [])) s u v (omega (arith, closure_cells program place, many)) k w.charged made.charged;
+      value = made.value ∙ ap (λ ps. Some (Node (Closure place) ps)) parts ∙ ap Some (sym (closure_value program env place));
+    }
+
+pub closure_full : (program : CoreProgram) (env : List Value) (place : ℕ) (vars : List ℕ) (s u v : Store) (xs ys refs : List Ref) (n : ℕ) → vars ≡ captured_in (slice_get program.closures place) → Kept s u → Written 0 (map (value_of_var env) vars) s u xs ys → n ≡ length xs → refs ≡ take (length ys - n) (drop n ys) → (e : Full) → HeapFull (3 + length refs) u v e → Overflows (cells program (Closure-Term place ∷ [])) s e
+closure_full program env place vars s u v xs ys refs n are k w e is x h =
+    let same = captured_refs (map (value_of_var env) vars) u xs ys refs n w.appended e is in
+    let many : length refs ≡ length (captured_in (slice_get program.closures place)) = ap length same ∙ captured_length (map (value_of_var env) vars) u xs ys w.appended ∙ length-map vars (value_of_var env) ∙ ap length are in
+    overflows_later 0 (3 + length refs) (cells program (Closure-Term place ∷ [])) s u (omega (arith, closure_cells program place, many)) k w.charged x (overflows_heap (3 + length refs) u v x h)
+
+-- a term that is a closure
+pub closure_is : (program : CoreProgram) (env : List Value) (t : Term) (place : ℕ) (s u : Store) (result : Result Ref Full) → t ≡ Closure-Term place → MatchResult result (λ r. Made (cells program (Closure-Term place ∷ [])) s u r (value_of program env (Closure-Term place))) (λ e. Overflows (cells program (Closure-Term place ∷ [])) s e) → MatchResult result (λ r. Made (cells program (t ∷ [])) s u r (value_of program env t)) (λ e. Overflows (cells program (t ∷ [])) s e)
+closure_is program env t place s u result is h = subst (λ x. MatchResult result (λ r. Made (cells program (x ∷ [])) s u r (value_of program env x)) (λ e. Overflows (cells program (x ∷ [])) s e)) (sym is) h

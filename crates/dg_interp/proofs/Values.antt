@@ -1,11 +1,10 @@
 -- What the goals come to that write terms and make no choice.
 use Rattle.std.proofs.Common.{◌≡◌, ℕ, List, [], ◌∷◌, ◌++◌, Bool, true, false, refl, sym, ap, ◌∙◌, subst, arith, length, map, append_assoc}
 use Rattle.std.proofs.lemmas.List.{append-nil}
-use Rattle.std.specs.List.{All}
 use Rattle.std.specs.declared.vec.Vec.{Vec}
 use Rattle.std.specs.declared.alloc.Global.{Global}
 use Rattle.dg_base.specs.declared.program.Goal.{Goal, out-Goal}
-use Rattle.dg_base.specs.declared.program.Goal.TheVariants.{Print, Test, outs-Print, outs-Test, Ask, outs-Ask}
+use Rattle.dg_base.specs.declared.program.Goal.TheVariants.{Print, Test, outs-Print, outs-Test}
 use Rattle.dg_base.specs.declared.program.Term.{Term}
 use Rattle.dg_base.specs.declared.program.TestKind.{TestKind}
 use Rattle.dg_base.specs.declared.program.CoreProgram.{CoreProgram}
@@ -20,8 +19,6 @@ use Rattle.dg_meaning.specs.Pieces.{pieces}
 use Rattle.dg_meaning.specs.Moves.{printed, all_printed, goes_on_if, path_of, whole_looks, test_looks, outcome}
 use Rattle.dg_meaning.specs.Transcript.{Run}
 use Rattle.dg_meaning.specs.Keeps.{Stands, Failed, After}
-use Rattle.dg_meaning.specs.Built.{IsBuiltGoal}
-use Rattle.dg_meaning.specs.Closures.{HasNoClosure}
 use Rattle.dg_unify.specs.Store.{Store, State, Saved, Kept, Made, told, or_nil}
 use Rattle.dg_unify.specs.declared.bindings.Ref.{Ref}
 use Rattle.dg_unify.specs.declared.bindings.Full.{Full}
@@ -39,7 +36,6 @@ use Rattle.dg_interp.proofs.Places.{inside_kept, adds_nothing}
 use Rattle.dg_interp.proofs.BothLemmas.{made_holds}
 use Rattle.dg_interp.proofs.Links.{same_here, at_same}
 use Rattle.dg_interp.proofs.Stores.{values_kept, hold_front}
-use Rattle.dg_interp.proofs.Turns.{all_first}
 use Rattle.dg_interp.proofs.Takes.{behind, taken_in, comes_of, adds_taken, terms_full, store_ready}
 
 module _ (x : Goal) (old : Engine) (store : ListBindings) (made : Vec Ref Global) (ready : IsReady old) (k : Kept (store_in old.store) (store_in store)) (saved : (ms : List Saved) → KeepsPlaces old.store ms → KeepsPlaces store ms) where
@@ -79,13 +75,13 @@ made_among program terms n s t refs part env r term e h = subst (λ l. Made n s 
 -- ## One term
 
 module _ (x : Goal) (term : Term) (held : terms_held (out-Goal x) ≡ term ∷ []) (old : Engine) where
-  pub term_full : (e : Full) → ((program : CoreProgram) → Overflows (cells program (term ∷ [])) (store_in old.store) e) → FullAt (TakesAt x old) (store_in old.store) e
-  term_full e h = terms_full x old e (λ g. subst (λ l. Overflows (cells g.program l) (store_in old.store) e) (sym held) (h g.program))
+  pub term_full : (e : Full) → ((program : CoreProgram) → old.program.now ≡ program → Overflows (cells program (term ∷ [])) (store_in old.store) e) → FullAt (TakesAt x old) (store_in old.store) e
+  term_full e h = terms_full x old e (λ g same. subst (λ l. Overflows (cells g.program l) (store_in old.store) e) (sym held) (h g.program same))
 
-  pub agrees_behind : (store : ListBindings) (value : Ref) → ((program : CoreProgram) → Made (cells program (term ∷ [])) (store_in old.store) (store_in store) value (value_of program (values_in (store_in old.store) old.refs.items old.here.env) term)) →
+  pub agrees_behind : (store : ListBindings) (value : Ref) → ((program : CoreProgram) → old.program.now ≡ program → Made (cells program (term ∷ [])) (store_in old.store) (store_in store) value (value_of program (values_in (store_in old.store) old.refs.items old.here.env) term)) →
       (g : Game) (n : ℕ) (w : World) (run : Run) (st : TakesAt x old g n w run) → Agrees (store_in store) (behind x old g n w run st)
   agrees_behind store value written g n w run st =
-      let here = (written g.program).charged.state in
+      let here = (written g.program st.at.inside.program).charged.state in
       let form : cells g.program (terms_held (out-Goal x)) ≡ cells g.program (term ∷ []) = ap (cells g.program) held in
       record {
         bound = st.at.agrees.bound ∙ ap (λ (t : State). t.subst) (sym here);
@@ -131,11 +127,11 @@ module _ (x : Goal) (old : Engine) (store : ListBindings) (made : Vec Ref Global
 test_held : (kind : TestKind) (term : Term) → terms_held (out-Goal (Test kind term)) ≡ term ∷ []
 test_held kind term = ap terms_held (outs-Test kind term)
 
-pub test_full : (kind : TestKind) (term : Term) (old : Engine) (e : Full) → ((program : CoreProgram) → Overflows (cells program (term ∷ [])) (store_in old.store) e) → FullAt (TakesAt (Test kind term) old) (store_in old.store) e
+pub test_full : (kind : TestKind) (term : Term) (old : Engine) (e : Full) → ((program : CoreProgram) → old.program.now ≡ program → Overflows (cells program (term ∷ [])) (store_in old.store) e) → FullAt (TakesAt (Test kind term) old) (store_in old.store) e
 test_full kind term old = term_full (Test kind term) term (test_held kind term) old
 
 module _ (kind : TestKind) (term : Term) (old : Engine) (store : ListBindings) (made : Vec Ref Global) (value : Ref) (ready : IsReady old) (k : Kept (store_in old.store) (store_in store)) (saved : (ms : List Saved) → KeepsPlaces old.store ms → KeepsPlaces store ms)
-    (written : (program : CoreProgram) → Made (cells program (term ∷ [])) (store_in old.store) (store_in store) value (value_of program (values_in (store_in old.store) old.refs.items old.here.env) term)) where
+    (written : (program : CoreProgram) → old.program.now ≡ program → Made (cells program (term ∷ [])) (store_in old.store) (store_in store) value (value_of program (values_in (store_in old.store) old.refs.items old.here.env) term)) where
   abbrev x : Goal
   x = Test kind term
 
@@ -158,7 +154,7 @@ module _ (kind : TestKind) (term : Term) (old : Engine) (store : ListBindings) (
       let v = taken_in x old g n w run st in
       let m : Bool → Outcome = λ b. Moves (goes_on_if b (steps_of old) r (worked (test_looks kind (value_of g.program env term) r) v)) in
       let same : passes s.state.subst kind (told s value) ≡ passes r.bound kind (value_of g.program env term) =
-      ap (λ S. passes S kind (told s value)) (sym (agrees g n w run st).bound) ∙ ap (λ o. passes r.bound kind (or_nil o)) (written g.program).value in
+      ap (λ S. passes S kind (told s value)) (sym (agrees g n w run st).bound) ∙ ap (λ o. passes r.bound kind (or_nil o)) (written g.program st.at.inside.program).value in
       subst (λ q. After g st.at.inside.lives st.at.ways n q run) (ap (λ f. outcome g f env old.here.tag (steps_of old) r v) (outs-Test kind term) ∙ ap m (sym same)) (comes_of x old g n w run st)
 
   pub test_passed : true ≡ passes s.state.subst kind (told s value) → WentOn (TakesAt x old) old (grown x old store made ready k saved)
@@ -169,22 +165,13 @@ module _ (kind : TestKind) (term : Term) (old : Engine) (store : ListBindings) (
   unfolding passed
   test_failed is = not_passed x old store made ready k saved passed agrees (λ g n w run st. test_looks kind (value_of g.program env term) (behind x old g n w run st)) comes (sym is)
 
-pub test_plain : (kind : TestKind) (term : Term) → IsBuiltGoal (Test kind term) → HasNoClosure term
-test_plain kind term h = all_first HasNoClosure term [] (subst (λ f. All HasNoClosure (terms_held f)) (outs-Test kind term) h.1)
-
-pub ask_plain : (pred : ℕ) (terms : List Term) (many : Bool) → IsBuiltGoal (Ask pred terms many) → All HasNoClosure terms
-ask_plain pred terms many h = subst (λ f. All HasNoClosure (terms_held f)) (outs-Ask pred terms many) h.1
-
 -- ## A printed value
 
 print_held : (term : Term) → terms_held (out-Goal (Print term)) ≡ term ∷ []
 print_held term = ap terms_held (outs-Print term)
 
-pub print_full : (term : Term) (old : Engine) (e : Full) → ((program : CoreProgram) → Overflows (cells program (term ∷ [])) (store_in old.store) e) → FullAt (TakesAt (Print term) old) (store_in old.store) e
+pub print_full : (term : Term) (old : Engine) (e : Full) → ((program : CoreProgram) → old.program.now ≡ program → Overflows (cells program (term ∷ [])) (store_in old.store) e) → FullAt (TakesAt (Print term) old) (store_in old.store) e
 print_full term old = term_full (Print term) term (print_held term) old
-
-pub print_plain : (term : Term) → IsBuiltGoal (Print term) → HasNoClosure term
-print_plain term h = all_first HasNoClosure term [] (subst (λ f. All HasNoClosure (terms_held f)) (outs-Print term) h.1)
 
 adds_printed : (ps : List (List ℕ)) (w : World) → Adds (map Piece ps) w (all_printed ps w)
 adds_printed [] w = adds_nothing w
@@ -201,7 +188,7 @@ world_printed out g [] w is = is
 world_printed out g (p ∷ ps) w is = world_printed out g ps (printed (Piece p) w) is
 
 module _ (term : Term) (old : Engine) (store : ListBindings) (made : Vec Ref Global) (value : Ref) (ready : IsReady old) (k : Kept (store_in old.store) (store_in store)) (saved : (ms : List Saved) → KeepsPlaces old.store ms → KeepsPlaces store ms)
-    (written : (program : CoreProgram) → Made (cells program (term ∷ [])) (store_in old.store) (store_in store) value (value_of program (values_in (store_in old.store) old.refs.items old.here.env) term)) where
+    (written : (program : CoreProgram) → old.program.now ≡ program → Made (cells program (term ∷ [])) (store_in old.store) (store_in store) value (value_of program (values_in (store_in old.store) old.refs.items old.here.env) term)) where
   abbrev y : Goal
   y = Print term
 
@@ -218,7 +205,7 @@ module _ (term : Term) (old : Engine) (store : ListBindings) (made : Vec Ref Glo
   same_pieces g n w run st =
       let r = behind y old g n w run st in
       let s = store_in store in
-      ap (λ v. pieces g.program (resolved r.bound (or_nil v))) (sym (written g.program).value)
+      ap (λ v. pieces g.program (resolved r.bound (or_nil v))) (sym (written g.program st.at.inside.program).value)
       ∙ ap (λ S. pieces g.program (resolved S (told s value))) (agrees_behind y term (print_held term) old store value written g n w run st).bound
       ∙ ap (λ p. pieces p (resolved s.state.subst (told s value))) (sym st.at.inside.program)
 
@@ -244,6 +231,6 @@ module _ (term : Term) (old : Engine) (store : ListBindings) (made : Vec Ref Glo
     ready = store_ready old store made k saved ready;
     left = refl;
     limits = grown_limits y old store made ready k saved;
-    holds = made_holds _ (store_in old.store) (store_in store) value _ (written (record { preds = []; closures = []; places = []; objects = []; words = []; sites = 0; entry = 0 }));
+    holds = made_holds _ (store_in old.store) (store_in store) value _ (written old.program.now refl);
     leads = prints_next;
   }

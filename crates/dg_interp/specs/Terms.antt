@@ -1,6 +1,7 @@
 -- What the terms of a program become in a store. Hold it against docs/LANGUAGE.md, where it says what a value is and what a limit counts.
-use Rattle.std.specs.Prelude.{◌≡◌, ℕ, ◌+◌, ◌*◌, ◌<◌, ◌≤◌, ◌++◌, List, [], ◌∷◌, map, length}
+use Rattle.std.specs.Prelude.{◌≡◌, ℕ, ◌+◌, ◌*◌, ◌<◌, ◌≤◌, ◌++◌, List, [], ◌∷◌, Option, Some, None, map, length}
 use Rattle.std.specs.List.{All}
+use Rattle.dg_base.specs.declared.program.ClosureBody.{ClosureBody}
 use Rattle.dg_base.specs.declared.program.Term.{Term}
 use Rattle.dg_base.specs.declared.program.Term.TheOpen as term
 use Rattle.dg_base.specs.declared.program.CoreProgram.{CoreProgram}
@@ -57,6 +58,13 @@ pub record MadeVars (n : ℕ) (old new : Store) (before behind : List Ref) : Typ
   pub fits : old.state.heap + n ≤ old.heap_limit
   pub state : new.state ≡ record old.state { vars = old.state.vars + n; heap = old.state.heap + n }
   pub appended : Appended new (new_vars n old.state.vars) before behind
+
+-- ## Closures
+
+-- The variables that a closure captures, where there is one.
+abbrev pub captured_in : Option ClosureBody → List ℕ
+captured_in None = []
+captured_in (Some closure) = closure.captured
 
 -- ## Lists in a term
 

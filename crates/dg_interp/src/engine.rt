@@ -12,7 +12,6 @@ ghost use Rattle.dg_interp.specs.Engine.{Starts, left_by, IsSound, IsReady, Stan
 ghost use Rattle.dg_base.specs.declared.program.CoreProgram.{CoreProgram as Program};
 ghost use Rattle.dg_base.specs.declared.run.Limits.{Limits as TheLimits};
 ghost use Rattle.dg_meaning.specs.Cells.{cells};
-ghost use Rattle.dg_meaning.specs.Closures.{HasNoClosure};
 ghost use Rattle.dg_interp.specs.Rules.{EntersRule, RuleFull, ArgsWritten};
 ghost use Rattle.dg_interp.specs.Terms.{Overflows};
 ghost use Rattle.dg_interp.specs.Outside.{StartsOutside};
@@ -177,6 +176,7 @@ fn frame_cells(stays: bool) -> usize
 /// Makes the variables of a rule behind the Refs, and unifies arguments with its head.
 fn enter(
     store: &mut ListBindings,
+    program: &CoreProgram,
     refs: &mut Vec<Ref>,
     head: &mut Vec<Ref>,
     args: Env,
@@ -184,19 +184,18 @@ fn enter(
 ) -> Result<bool, Full>
     requires hold { All (Holds (store_in store.old)) refs.old.items }
     requires args { EndsBy (length refs.old.items) args }
-    requires plain { All HasNoClosure rule.now.head }
     ensures kept { Kept (store_in store.old) (store_in store.new) }
     ensures saved { (ms : List Saved) → KeepsPlaces store.old ms → KeepsPlaces store.new ms }
-    ensures entered { (program : Program) → MatchResult result
-        (λ found. EntersRule program rule.now (values_in (store_in store.old) refs.old.items args) (store_in store.old)
+    ensures entered { (p : Program) → program.now ≡ p → MatchResult result
+        (λ found. EntersRule p rule.now (values_in (store_in store.old) refs.old.items args) (store_in store.old)
         (store_in store.new) refs.old.items refs.new.items found)
-        (λ e. RuleFull program rule.now (values_in (store_in store.old) refs.old.items args) (store_in store.old) e) }
+        (λ e. RuleFull p rule.now (values_in (store_in store.old) refs.old.items args) (store_in store.old) e) }
 {
     store.charge(6)?;
     let from = refs.len();
     new_variables(store, rule.vars, refs)?;
     head.clear();
-    if let Err(e) = write_terms(store, &refs[from..], rule.head.as_slice(), head) {
+    if let Err(e) = write_terms(store, program, &refs[from..], rule.head.as_slice(), head) {
         return Err(e);
     }
     unify_all(store, stretch(refs, args), head.as_slice())
@@ -205,6 +204,7 @@ fn enter(
 /// Puts the values of the arguments of a query behind the Refs.
 fn write_args(
     store: &mut ListBindings,
+    program: &CoreProgram,
     refs: &mut Vec<Ref>,
     made: &mut Vec<Ref>,
     env: Env,
@@ -212,15 +212,14 @@ fn write_args(
 ) -> Result<Env, Full>
     requires hold { All (Holds (store_in store.old)) refs.old.items }
     requires env { EndsBy (length refs.old.items) env }
-    requires plain { All HasNoClosure terms.now }
     ensures kept { Kept (store_in store.old) (store_in store.new) }
     ensures saved { (ms : List Saved) → KeepsPlaces store.old ms → KeepsPlaces store.new ms }
-    ensures written { (program : Program) → MatchResult result
-        (λ args. ArgsWritten program (values_in (store_in store.old) refs.old.items env) terms.now (store_in store.old)
-        (store_in store.new) refs.old.items refs.new.items args) (λ e. Overflows (cells program terms.now) (store_in store.old) e) }
+    ensures written { (p : Program) → program.now ≡ p → MatchResult result
+        (λ args. ArgsWritten p (values_in (store_in store.old) refs.old.items env) terms.now (store_in store.old)
+        (store_in store.new) refs.old.items refs.new.items args) (λ e. Overflows (cells p terms.now) (store_in store.old) e) }
 {
     made.clear();
-    match write_terms(store, stretch(refs, env), terms, made) {
+    match write_terms(store, program, stretch(refs, env), terms, made) {
         Err(e) => Err(e),
         Ok(()) => {
             let args = Env {
@@ -401,7 +400,14 @@ impl<'p> Engine<'p> {
         if let Err(e) = keep(&mut self.store, &mut self.choices, choice, true, cells) {
             return Err(e);
         }
-        match enter(&mut self.store, &mut self.refs, &mut self.made, args, rule) {
+        match enter(
+            &mut self.store,
+            self.program,
+            &mut self.refs,
+            &mut self.made,
+            args,
+            rule,
+        ) {
             Err(e) => Err(e),
             Ok(false) => Ok(false),
             Ok(true) => {
@@ -655,13 +661,13 @@ impl<'p> Engine<'p> {
     pub fn ask(&mut self, query: Query, terms: &[Term]) -> Result<bool, Full>
         requires ready { IsReady self.old }
         requires room { self.old.newest + 1 + self.old.left < 2 ^ 64 }
-        requires plain { All HasNoClosure terms.now }
         ensures asked { IfOk result (λ found. Branches (TakesAt (Ask query.pred terms.now query.many) self.old) found self.old self.new) }
         ensures full { IfErr result (λ e. FullAt (TakesAt (Ask query.pred terms.now query.many) self.old) (store_in self.old.store) e) }
         ensures left { self.new.left ≡ self.old.left }
     {
         match write_args(
             &mut self.store,
+            self.program,
             &mut self.refs,
             &mut self.made,
             self.here.env,
@@ -710,13 +716,13 @@ impl<'p> Engine<'p> {
     /// Writes the value that a goal prints.
     pub fn write_printed(&mut self, term: &Term) -> Result<Ref, Full>
         requires ready { IsReady self.old }
-        requires plain { HasNoClosure term.now }
         ensures written { IfOk result (λ value. WrotePrinted term.now value self.old self.new) }
         ensures full { IfErr result (λ e. FullAt (TakesAt (PrintGoal term.now) self.old) (store_in self.old.store) e) }
         ensures left { self.new.left ≡ self.old.left }
     {
         write_term(
             &mut self.store,
+            self.program,
             stretch(&self.refs, self.here.env),
             term,
             &mut self.made,
@@ -740,13 +746,12 @@ impl<'p> Engine<'p> {
     /// Makes two values equal; where they clash, goes back.
     pub fn equal(&mut self, a: &Term, b: &Term) -> Result<bool, Full>
         requires ready { IsReady self.old }
-        requires plain { HasNoClosure a.now × HasNoClosure b.now }
         ensures equal { IfOk result (λ found. Branches (TakesAt (EqualGoal a.now b.now) self.old) found self.old self.new) }
         ensures full { IfErr result (λ e. FullAt (TakesAt (EqualGoal a.now b.now) self.old) (store_in self.old.store) e) }
         ensures left { self.new.left ≡ self.old.left }
     {
         let env = stretch(&self.refs, self.here.env);
-        match write_both(&mut self.store, env, a, b, &mut self.made) {
+        match write_both(&mut self.store, self.program, env, a, b, &mut self.made) {
             Err(e) => Err(e),
             Ok((left, right)) => match unify(&mut self.store, left, right) {
                 Err(e) => Err(e),
@@ -759,13 +764,12 @@ impl<'p> Engine<'p> {
     /// Compares two numbers; where they aren't two in this order, goes back.
     pub fn compare(&mut self, op: CompareOp, a: &Term, b: &Term) -> Result<bool, Full>
         requires ready { IsReady self.old }
-        requires plain { HasNoClosure a.now × HasNoClosure b.now }
         ensures compared { IfOk result (λ found. Branches (TakesAt (CompareGoal op a.now b.now) self.old) found self.old self.new) }
         ensures full { IfErr result (λ e. FullAt (TakesAt (CompareGoal op a.now b.now) self.old) (store_in self.old.store) e) }
         ensures left { self.new.left ≡ self.old.left }
     {
         let env = stretch(&self.refs, self.here.env);
-        match write_both(&mut self.store, env, a, b, &mut self.made) {
+        match write_both(&mut self.store, self.program, env, a, b, &mut self.made) {
             Err(e) => Err(e),
             Ok((first, second)) => {
                 if in_order(&self.store, op, first, second) {
@@ -779,13 +783,13 @@ impl<'p> Engine<'p> {
     /// Tests what a value is; where it doesn't pass, goes back.
     pub fn test(&mut self, kind: TestKind, term: &Term) -> Result<bool, Full>
         requires ready { IsReady self.old }
-        requires plain { HasNoClosure term.now }
         ensures tested { IfOk result (λ found. Branches (TakesAt (TestGoal kind term.now) self.old) found self.old self.new) }
         ensures full { IfErr result (λ e. FullAt (TakesAt (TestGoal kind term.now) self.old) (store_in self.old.store) e) }
         ensures left { self.new.left ≡ self.old.left }
     {
         match write_term(
             &mut self.store,
+            self.program,
             stretch(&self.refs, self.here.env),
             term,
             &mut self.made,

@@ -2,7 +2,6 @@
 ghost use Rattle.std.specs.Prelude.{◌≡◌, ◌<◌, IfOk, IfErr, length, Option, Some, None};
 ghost use Rattle.dg_base.specs.declared.program.Goal.TheVariants.{GapN as GapNGoal};
 ghost use Rattle.dg_base.specs.Streams.{SourceView};
-ghost use Rattle.dg_meaning.specs.Closures.{HasNoClosure};
 ghost use Rattle.dg_interp.specs.declared.engine.Engine.{Engine as TheEngine};
 ghost use Rattle.dg_interp.specs.Engine.{IsReady, Taken};
 ghost use Rattle.dg_interp.specs.Running.{Reaches, IsBroken, Ended, DoesGoal, Does, limit_of, outcome_of};
@@ -62,7 +61,6 @@ fn print_spaces<K: Sink>(
     term: &Term,
 ) -> Result<Option<Ending>, RunFault>
     requires ready { IsReady engine.old }
-    requires plain { HasNoClosure term.now }
     ensures ok { (old : TheEngine) → (source : SourceView) → 0 < length old.here.goals.now → Taken (GapNGoal term.now) old engine.old →
         IfOk result (λ ending. DoesGoal ending old engine.new spacer.old spacer.new (K.view sink.old) (K.view sink.new) source source) }
     ensures err { (old : TheEngine) → (source : SourceView) → 0 < length old.here.goals.now → Taken (GapNGoal term.now) old engine.old →

@@ -1,15 +1,15 @@
 // The values of a program's terms, written to a store.
 
-ghost use Rattle.std.specs.Prelude.{◌≡◌, ◌-◌, ◌*◌, ◌≤◌, ◌<◌, List, [], ◌∷◌, All, MatchResult, IfOk, OnOk, map, length, take, drop};
+ghost use Rattle.std.specs.Prelude.{◌≡◌, ◌-◌, ◌*◌, ◌≤◌, ◌<◌, List, [], ◌∷◌, All, MatchResult, IfOk, OnOk, map, length, take, drop, slice_get};
 ghost use Rattle.dg_base.specs.declared.program.Term.{out-Term};
-ghost use Rattle.dg_base.specs.declared.program.CoreProgram.{CoreProgram};
+ghost use Rattle.dg_base.specs.declared.program.Term.TheVariants.{Closure as ClosureTerm};
+ghost use Rattle.dg_base.specs.declared.program.CoreProgram.{CoreProgram as Program};
 ghost use Rattle.dg_meaning.specs.Values.{value_of, value_of_var as value_in};
 ghost use Rattle.dg_meaning.specs.Cells.{cells};
-ghost use Rattle.dg_meaning.specs.Closures.{HasNoClosure};
 ghost use Rattle.dg_unify.specs.Store.{Saved, told, Holds, Kept, Made};
-ghost use Rattle.dg_interp.specs.Terms.{Overflows, BothMade, ThreeMade, Written, MadeVars, IsNoPair, listed, HeadsWritten};
+ghost use Rattle.dg_interp.specs.Terms.{Overflows, BothMade, ThreeMade, Written, MadeVars, IsNoPair, captured_in, listed, HeadsWritten};
 
-use dg_base::{Simple, Term};
+use dg_base::{CoreProgram, Simple, Term};
 use dg_unify::{Bindings, Full, Ref};
 
 // The value of a variable; one without a value is the empty list.
@@ -26,16 +26,94 @@ fn write_var<B: Bindings>(store: &mut B, env: &[Ref], var: u16) -> Result<Ref, F
     }
 }
 
+// The variables that the closure of a place captures.
+fn captured(program: &CoreProgram, place: u16) -> &[u16]
+    ensures { result.now ≡ captured_in (slice_get program.now.closures place) }
+{
+    match program.closures.get(place as usize) {
+        Some(closure) => closure.captured.as_slice(),
+        None => &[],
+    }
+}
+
+// Puts the values of variables behind a list, in order.
+fn write_vars<B: Bindings>(
+    store: &mut B,
+    env: &[Ref],
+    vars: &[u16],
+    to: &mut Vec<Ref>,
+) -> Result<(), Full>
+    requires { All (Holds (B.meaning store.old)) env.now }
+    ensures kept { Kept (B.meaning store.old) (B.meaning store.new) }
+    ensures saved { (ms : List Saved) → B.saves store.old ms → B.saves store.new ms }
+    ensures written { MatchResult result
+        (λ _. Written 0 (map (value_in (map (told (B.meaning store.old)) env.now)) vars.now) (B.meaning store.old) (B.meaning store.new)
+        to.old.items to.new.items)
+        (λ e. Overflows 0 (B.meaning store.old) e) }
+{
+    'vars: for var in vars {
+        match write_var(store, env, *var) {
+            Err(e) => return Err(e),
+            Ok(value) => {
+                if to.push(value).is_err() {
+                    return Err(Full::OutOfMemory);
+                }
+            }
+        }
+    }
+    Ok(())
+}
+
+// The closure of a place, with the values that it captures. On a stack it keeps them meanwhile.
+fn write_closure<B: Bindings>(
+    store: &mut B,
+    program: &CoreProgram,
+    env: &[Ref],
+    place: u16,
+    stack: &mut Vec<Ref>,
+) -> Result<Ref, Full>
+    requires { All (Holds (B.meaning store.old)) env.now }
+    ensures kept { Kept (B.meaning store.old) (B.meaning store.new) }
+    ensures saved { (ms : List Saved) → B.saves store.old ms → B.saves store.new ms }
+    ensures written { (p : Program) → program.now ≡ p → MatchResult result
+        (λ r. Made (cells p (ClosureTerm place ∷ [])) (B.meaning store.old) (B.meaning store.new) r
+        (value_of p (map (told (B.meaning store.old)) env.now) (ClosureTerm place)))
+        (λ e. Overflows (cells p (ClosureTerm place ∷ [])) (B.meaning store.old) e) }
+    ensures stack { OnOk result (stack.new.items ≡ stack.old.items) }
+{
+    let vars = captured(program, place);
+    if vars.len() > 65535 {
+        return Err(Full::OutOfMemory);
+    }
+    let height = stack.len();
+    match write_vars(store, env, vars, stack) {
+        Err(e) => Err(e),
+        Ok(()) => match store.closure(place, &stack[height..]) {
+            Err(e) => Err(e),
+            Ok(closure) => {
+                stack.truncate(height);
+                Ok(closure)
+            }
+        },
+    }
+}
+
 // The value of a term without parts.
-fn write_leaf<B: Bindings>(store: &mut B, env: &[Ref], term: &Term) -> Result<Ref, Full>
+fn write_leaf<B: Bindings>(
+    store: &mut B,
+    program: &CoreProgram,
+    env: &[Ref],
+    term: &Term,
+    stack: &mut Vec<Ref>,
+) -> Result<Ref, Full>
     requires env { All (Holds (B.meaning store.old)) env.now }
-    requires plain { HasNoClosure term.now }
     requires no_pair { IsNoPair (out-Term term.now) }
     ensures kept { Kept (B.meaning store.old) (B.meaning store.new) }
     ensures saved { (ms : List Saved) → B.saves store.old ms → B.saves store.new ms }
-    ensures written { (program : CoreProgram) → MatchResult result
-        (λ r. Made (cells program (term.now ∷ [])) (B.meaning store.old) (B.meaning store.new) r
-        (value_of program (map (told (B.meaning store.old)) env.now) term.now)) (λ e. Overflows (cells program (term.now ∷ [])) (B.meaning store.old) e) }
+    ensures written { (p : Program) → program.now ≡ p → MatchResult result
+        (λ r. Made (cells p (term.now ∷ [])) (B.meaning store.old) (B.meaning store.new) r
+        (value_of p (map (told (B.meaning store.old)) env.now) term.now)) (λ e. Overflows (cells p (term.now ∷ [])) (B.meaning store.old) e) }
+    ensures stack { OnOk result (stack.new.items ≡ stack.old.items) }
 {
     match term {
         Term::Num(n) => store.value(Simple::Num(*n)),
@@ -43,8 +121,8 @@ fn write_leaf<B: Bindings>(store: &mut B, env: &[Ref], term: &Term) -> Result<Re
         Term::Object(n) => store.value(Simple::Object(*n)),
         Term::Nil => store.value(Simple::Nil),
         Term::Var(var) => write_var(store, env, *var),
+        Term::Closure(place) => write_closure(store, program, env, *place, stack),
         Term::Pair(_, _) => unreachable!(),
-        Term::Closure(_) => unreachable!(),
     }
 }
 
@@ -52,23 +130,22 @@ fn write_leaf<B: Bindings>(store: &mut B, env: &[Ref], term: &Term) -> Result<Re
 #[cycle(write)]
 fn write_heads<'t, B: Bindings>(
     store: &mut B,
+    program: &CoreProgram,
     env: &[Ref],
     term: &'t Term,
     to: &mut Vec<Ref>,
 ) -> Result<&'t Term, Full>
     requires env { All (Holds (B.meaning store.old)) env.now }
-    requires plain { HasNoClosure term.now }
     ensures kept { Kept (B.meaning store.old) (B.meaning store.new) }
     ensures saved { (ms : List Saved) → B.saves store.old ms → B.saves store.new ms }
-    ensures written { (program : CoreProgram) → MatchResult result
-        (λ last. HeadsWritten program (map (told (B.meaning store.old)) env.now) term.now last.now (B.meaning store.old)
-        (B.meaning store.new) to.old.items to.new.items) (λ e. Overflows (cells program (term.now ∷ [])) (B.meaning store.old) e) }
-    ensures plain { IfOk result (λ last. HasNoClosure last.now) }
+    ensures written { (p : Program) → program.now ≡ p → MatchResult result
+        (λ last. HeadsWritten p (map (told (B.meaning store.old)) env.now) term.now last.now (B.meaning store.old)
+        (B.meaning store.new) to.old.items to.new.items) (λ e. Overflows (cells p (term.now ∷ [])) (B.meaning store.old) e) }
     ensures no_pair { IfOk result (λ last. IsNoPair (out-Term last.now)) }
 {
     let mut term = term;
     'heads: while let Term::Pair(head, tail) = term {
-        match write_term(store, env, head.get(), to) {
+        match write_term(store, program, env, head.get(), to) {
             Err(e) => return Err(e),
             Ok(head) => {
                 if to.push(head).is_err() {
@@ -116,23 +193,23 @@ fn write_pairs<B: Bindings>(
 #[cycle(write)]
 pub fn write_term<B: Bindings>(
     store: &mut B,
+    program: &CoreProgram,
     env: &[Ref],
     term: &Term,
     stack: &mut Vec<Ref>,
 ) -> Result<Ref, Full>
     requires env { All (Holds (B.meaning store.old)) env.now }
-    requires plain { HasNoClosure term.now }
     ensures kept { Kept (B.meaning store.old) (B.meaning store.new) }
     ensures saved { (ms : List Saved) → B.saves store.old ms → B.saves store.new ms }
-    ensures written { (program : CoreProgram) → MatchResult result
-        (λ r. Made (cells program (term.now ∷ [])) (B.meaning store.old) (B.meaning store.new) r
-        (value_of program (map (told (B.meaning store.old)) env.now) term.now)) (λ e. Overflows (cells program (term.now ∷ [])) (B.meaning store.old) e) }
+    ensures written { (p : Program) → program.now ≡ p → MatchResult result
+        (λ r. Made (cells p (term.now ∷ [])) (B.meaning store.old) (B.meaning store.new) r
+        (value_of p (map (told (B.meaning store.old)) env.now) term.now)) (λ e. Overflows (cells p (term.now ∷ [])) (B.meaning store.old) e) }
     ensures stack { OnOk result (stack.new.items ≡ stack.old.items) }
 {
     let height = stack.len();
-    match write_heads(store, env, term, stack) {
+    match write_heads(store, program, env, term, stack) {
         Err(e) => Err(e),
-        Ok(last) => match write_leaf(store, env, last) {
+        Ok(last) => match write_leaf(store, program, env, last, stack) {
             Err(e) => Err(e),
             Ok(tail) => write_pairs(store, stack, height, tail),
         },
@@ -142,20 +219,20 @@ pub fn write_term<B: Bindings>(
 /// Puts the values of terms behind a list, in order.
 pub fn write_terms<B: Bindings>(
     store: &mut B,
+    program: &CoreProgram,
     env: &[Ref],
     terms: &[Term],
     to: &mut Vec<Ref>,
 ) -> Result<(), Full>
     requires env { All (Holds (B.meaning store.old)) env.now }
-    requires plain { All HasNoClosure terms.now }
     ensures kept { Kept (B.meaning store.old) (B.meaning store.new) }
     ensures saved { (ms : List Saved) → B.saves store.old ms → B.saves store.new ms }
-    ensures written { (program : CoreProgram) → MatchResult result
-        (λ _. Written (cells program terms.now) (map (value_of program (map (told (B.meaning store.old)) env.now)) terms.now) (B.meaning store.old)
-        (B.meaning store.new) to.old.items to.new.items) (λ e. Overflows (cells program terms.now) (B.meaning store.old) e) }
+    ensures written { (p : Program) → program.now ≡ p → MatchResult result
+        (λ _. Written (cells p terms.now) (map (value_of p (map (told (B.meaning store.old)) env.now)) terms.now) (B.meaning store.old)
+        (B.meaning store.new) to.old.items to.new.items) (λ e. Overflows (cells p terms.now) (B.meaning store.old) e) }
 {
     'terms: for term in terms {
-        match write_term(store, env, term, to) {
+        match write_term(store, program, env, term, to) {
             Err(e) => return Err(e),
             Ok(value) => {
                 if to.push(value).is_err() {
@@ -190,22 +267,22 @@ pub fn new_variables<B: Bindings>(store: &mut B, count: u16, to: &mut Vec<Ref>) 
 /// The values of two terms, one written after the other.
 pub fn write_both<B: Bindings>(
     store: &mut B,
+    program: &CoreProgram,
     env: &[Ref],
     a: &Term,
     b: &Term,
     stack: &mut Vec<Ref>,
 ) -> Result<(Ref, Ref), Full>
     requires env { All (Holds (B.meaning store.old)) env.now }
-    requires plain { HasNoClosure a.now × HasNoClosure b.now }
     ensures kept { Kept (B.meaning store.old) (B.meaning store.new) }
     ensures saved { (ms : List Saved) → B.saves store.old ms → B.saves store.new ms }
-    ensures written { (program : CoreProgram) → MatchResult result
-        (λ both. BothMade program a.now b.now (map (told (B.meaning store.old)) env.now) (B.meaning store.old) (B.meaning store.new) both.0 both.1)
-        (λ e. Overflows (cells program (a.now ∷ b.now ∷ [])) (B.meaning store.old) e) }
+    ensures written { (p : Program) → program.now ≡ p → MatchResult result
+        (λ both. BothMade p a.now b.now (map (told (B.meaning store.old)) env.now) (B.meaning store.old) (B.meaning store.new) both.0 both.1)
+        (λ e. Overflows (cells p (a.now ∷ b.now ∷ [])) (B.meaning store.old) e) }
 {
-    match write_term(store, env, a, stack) {
+    match write_term(store, program, env, a, stack) {
         Err(e) => Err(e),
-        Ok(left) => match write_term(store, env, b, stack) {
+        Ok(left) => match write_term(store, program, env, b, stack) {
             Err(e) => Err(e),
             Ok(right) => Ok((left, right)),
         },
@@ -215,6 +292,7 @@ pub fn write_both<B: Bindings>(
 /// The values of three terms, one written after another.
 pub fn write_three<B: Bindings>(
     store: &mut B,
+    program: &CoreProgram,
     env: &[Ref],
     a: &Term,
     b: &Term,
@@ -222,16 +300,15 @@ pub fn write_three<B: Bindings>(
     stack: &mut Vec<Ref>,
 ) -> Result<(Ref, Ref, Ref), Full>
     requires env { All (Holds (B.meaning store.old)) env.now }
-    requires plain { HasNoClosure a.now × HasNoClosure b.now × HasNoClosure c.now }
     ensures kept { Kept (B.meaning store.old) (B.meaning store.new) }
     ensures saved { (ms : List Saved) → B.saves store.old ms → B.saves store.new ms }
-    ensures written { (program : CoreProgram) → MatchResult result
-        (λ refs. ThreeMade program a.now b.now c.now (map (told (B.meaning store.old)) env.now) (B.meaning store.old) (B.meaning store.new) refs)
-        (λ e. Overflows (cells program (a.now ∷ b.now ∷ c.now ∷ [])) (B.meaning store.old) e) }
+    ensures written { (p : Program) → program.now ≡ p → MatchResult result
+        (λ refs. ThreeMade p a.now b.now c.now (map (told (B.meaning store.old)) env.now) (B.meaning store.old) (B.meaning store.new) refs)
+        (λ e. Overflows (cells p (a.now ∷ b.now ∷ c.now ∷ [])) (B.meaning store.old) e) }
 {
-    match write_both(store, env, a, b, stack) {
+    match write_both(store, program, env, a, b, stack) {
         Err(e) => Err(e),
-        Ok((first, second)) => match write_term(store, env, c, stack) {
+        Ok((first, second)) => match write_term(store, program, env, c, stack) {
             Err(e) => Err(e),
             Ok(third) => Ok((first, second, third)),
         },

@@ -1,7 +1,6 @@
 // Values that goals make and unify with one of their terms.
 ghost use Rattle.std.specs.Prelude.{◌≡◌, IfOk, IfErr};
 ghost use Rattle.dg_base.specs.declared.program.Goal.TheVariants.{Arith as ArithGoal, GapN as GapNGoal};
-ghost use Rattle.dg_meaning.specs.Closures.{HasNoClosure};
 ghost use Rattle.dg_unify.specs.Store.{Holds};
 ghost use Rattle.dg_interp.specs.Engine.{IsReady, TakesAt, Branches, FullAt, store_in};
 ghost use Rattle.dg_interp.specs.Giving.{UnifiesAt, GivesAt, TellsSpaces};
@@ -48,13 +47,20 @@ impl<'p> Engine<'p> {
     /// Calculates a number of two, and unifies it with a value.
     pub fn arith(&mut self, op: ArithOp, a: &Term, b: &Term, into: &Term) -> Result<bool, Full>
         requires ready { IsReady self.old }
-        requires plain { HasNoClosure a.now × HasNoClosure b.now × HasNoClosure into.now }
         ensures done { IfOk result (λ found. Branches (TakesAt (ArithGoal op a.now b.now into.now) self.old) found self.old self.new) }
         ensures full { IfErr result (λ e. FullAt (TakesAt (ArithGoal op a.now b.now into.now) self.old) (store_in self.old.store) e) }
         ensures left { self.new.left ≡ self.old.left }
     {
         let env = stretch(&self.refs, self.here.env);
-        match write_three(&mut self.store, env, a, b, into, &mut self.made) {
+        match write_three(
+            &mut self.store,
+            self.program,
+            env,
+            a,
+            b,
+            into,
+            &mut self.made,
+        ) {
             Err(e) => Err(e),
             Ok((first, second, into)) => {
                 let n = calculate(&self.store, op, first, second);
@@ -66,13 +72,12 @@ impl<'p> Engine<'p> {
     /// How many spaces a goal prints; none where what it names is no number.
     pub fn spaces(&mut self, term: &Term) -> Result<Option<u16>, Full>
         requires ready { IsReady self.old }
-        requires plain { HasNoClosure term.now }
         ensures told { IfOk result (λ count. TellsSpaces term.now count self.old self.new) }
         ensures full { IfErr result (λ e. FullAt (TakesAt (GapNGoal term.now) self.old) (store_in self.old.store) e) }
         ensures left { self.new.left ≡ self.old.left }
     {
         let env = stretch(&self.refs, self.here.env);
-        match write_term(&mut self.store, env, term, &mut self.made) {
+        match write_term(&mut self.store, self.program, env, term, &mut self.made) {
             Err(e) => Err(e),
             Ok(value) => Ok(number_of(self.store.walk(value))),
         }

@@ -5,8 +5,6 @@ use Rattle.dg_interp.specs.Engine.{TakesAt}
 use Rattle.dg_interp.proofs.Runs.{lack_from, one_done, one_lost, word_prints, gap_prints, value_done, value_lost, is_act, goal_does, goal_breaks, goal_quits, goal_stops, goal_stopped}
 use Rattle.dg_meaning.specs.World.{Piece}
 use Rattle.dg_spacing.specs.Gaps.{print_of}
-use Rattle.dg_interp.proofs.Values.{print_plain}
-use Rattle.dg_interp.proofs.Spaces.{spaces_plain}
 use Rattle.dg_interp.specs.Printing.{AddsAll}
 use Rattle.dg_interp.proofs.Waiting.{wrote_still, pieces_still}
 use Rattle.dg_interp.proofs.run.do_goal.Goals as goal
@@ -51,9 +49,6 @@ returns-in-Ok-print-clause-ok g c =
 pub returns-in-Err-print-clause-err : goal.returns-in-Err-print-clause-err
 returns-in-Err-print-clause-err g c = value_lost c.take_goal.result.now c.in-Print.term c.in-Ok-write_printed.value c.args.engine.now c.take_goal.new.self c.write_printed.new.self c.args.spacer.now c.print.new.spacer _ _ _ c.take_goal.ensures.taken c.in-Print.is c.in-Ok-write_printed.ensures.written c.in-Err-print.ensures.printed
 
-pub write_printed-requires-clause-plain : goal.write_printed-requires-clause-plain
-write_printed-requires-clause-plain g c = print_plain c.in-Print.term (rw c.in-Print.is at c.take_goal.ensures.taken.built)
-
 pub returns-in-Quit-clause-ok : goal.returns-in-Quit-clause-ok
 returns-in-Quit-clause-ok g c = goal_quits c.take_goal.result.now c.args.engine.now c.take_goal.new.self c.args.spacer.now _ _ c.take_goal.ensures.taken c.in-Quit.is
 
@@ -72,9 +67,6 @@ returns-then-stop-clause-ok g c = goal_stops c.take_goal.result.now c.args.engin
 
 pub returns-else-stop-clause-ok : goal.returns-else-stop-clause-ok
 returns-else-stop-clause-ok g c = goal_stopped c.take_goal.result.now c.args.engine.now c.take_goal.new.self c.stop.new.self c.args.spacer.now _ _ c.requires.goal c.take_goal.ensures.taken c.in-Stop.is (rw c.if-stop.false at c.stop.ensures)
-
-pub print_spaces-requires-clause-plain : goal.print_spaces-requires-clause-plain
-print_spaces-requires-clause-plain g c = spaces_plain c.in-GapN.term (rw c.in-GapN.is at c.take_goal.ensures.taken.built)
 
 pub returns-in-GapN-clause-ok : goal.returns-in-GapN-clause-ok
 returns-in-GapN-clause-ok g c = c.print_spaces.ensures.ok c.args.engine.now _ c.requires.goal (rw c.in-GapN.is at c.take_goal.ensures.taken)

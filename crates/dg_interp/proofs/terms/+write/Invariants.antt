@@ -1,7 +1,6 @@
-use Rattle.std.proofs.Common.{suc, ◌*◌, ◌≤◌, List, length, map}
+use Rattle.std.proofs.Common.{◌≡◌, suc, ◌*◌, ◌≤◌, List, length, map}
 use Rattle.dg_base.specs.Terms.{nodes}
 use Rattle.dg_base.specs.declared.program.CoreProgram.{CoreProgram}
-use Rattle.dg_meaning.specs.Closures.{HasNoClosure}
 use Rattle.dg_unify.specs.Store.{Saved, Kept, told}
 use Rattle.dg_interp.specs.Terms.{HeadsWritten}
 use Rattle.dg_interp.proofs.terms.+write.Given as goal
@@ -16,8 +15,7 @@ abbrev pub invariant-write_heads-heads : goal.invariant-write_heads-heads
 invariant-write_heads-heads g l = record {
   kept : Kept (g.B.Bindings.meaning l.fn.store) (g.B.Bindings.meaning l.store);
   saved : (ms : List Saved) → g.B.Bindings.saves l.fn.store ms → g.B.Bindings.saves l.store ms;
-  written : (program : CoreProgram) → HeadsWritten program (map (told (g.B.Bindings.meaning l.fn.store)) l.env) l.fn.term l.term (g.B.Bindings.meaning l.fn.store) (g.B.Bindings.meaning l.store) l.fn.to.items l.to.items;
-  plain : HasNoClosure l.term;
+  written : (program : CoreProgram) → l.program ≡ program → HeadsWritten program (map (told (g.B.Bindings.meaning l.fn.store)) l.env) l.fn.term l.term (g.B.Bindings.meaning l.fn.store) (g.B.Bindings.meaning l.store) l.fn.to.items l.to.items;
   smaller : length (nodes l.term) ≤ length (nodes l.fn.term);
 }
 

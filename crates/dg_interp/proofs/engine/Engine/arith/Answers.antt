@@ -4,7 +4,6 @@ use Rattle.dg_interp.specs.Frames.{stretch}
 use Rattle.dg_interp.specs.Engine.{store_in, TakesAt}
 use Rattle.dg_interp.specs.Giving.{GivesAt}
 use Rattle.dg_interp.proofs.Takes.{store_ready}
-use Rattle.dg_interp.proofs.BothLemmas.{no_program}
 use Rattle.dg_interp.proofs.Giving.{kept_limits, written_full, branches_made}
 use Rattle.dg_interp.proofs.Ariths.{arith_held, three_among, arith_leads}
 use Rattle.dg_interp.proofs.Branches.{full_made}
@@ -16,13 +15,13 @@ returns-in-Err-clause-full c =
     written_full (Arith c.args.op c.args.a.now c.args.b.now c.args.into.now) (c.args.a.now ∷ c.args.b.now ∷ c.args.into.now ∷ []) (arith_held c.args.op c.args.a.now c.args.b.now c.args.into.now) c.args.self.now c.in-Err.e c.in-Err.ensures.written
 
 pub calculate-n-requires : goal.calculate-n-requires
-calculate-n-requires c = ((c.in-Ok.ensures.written no_program).first_in, (c.in-Ok.ensures.written no_program).second_in)
+calculate-n-requires c = ((c.in-Ok.ensures.written c.args.self.now.program.now refl).first_in, (c.in-Ok.ensures.written c.args.self.now.program.now refl).second_in)
 
 pub give_number-requires-clause-ready : goal.give_number-requires-clause-ready
 give_number-requires-clause-ready c = store_ready c.args.self.now c.write_three.new.store c.write_three.new.stack c.write_three.ensures.kept c.write_three.ensures.saved c.requires.ready
 
 pub give_number-requires-clause-hold : goal.give_number-requires-clause-hold
-give_number-requires-clause-hold c = (c.in-Ok.ensures.written no_program).third_in
+give_number-requires-clause-hold c = (c.in-Ok.ensures.written c.args.self.now.program.now refl).third_in
 
 pub returns-in-Ok-clause-full : goal.returns-in-Ok-clause-full
 returns-in-Ok-clause-full c =
@@ -31,7 +30,7 @@ returns-in-Ok-clause-full c =
     let x = Arith c.args.op c.args.a.now c.args.b.now c.args.into.now in
     full_made (TakesAt x old) (GivesAt c.calculate-n.result c.in-Ok.into e) (store_in old.store) (store_in c.write_three.new.store) c.give_number.result c.write_three.ensures.kept.heap_limit c.write_three.ensures.kept.trail_limit
     (arith_leads c.args.op c.args.a.now c.args.b.now c.args.into.now old c.write_three.new.store c.write_three.new.stack c.in-Ok.first c.in-Ok.second c.in-Ok.into c.requires.ready c.write_three.ensures.kept c.write_three.ensures.saved
-    (λ program. three_among program _ _ _ _ _ _ old.refs.items c.stretch-env.result.now old.here.env (c.stretch-env.ensures ∙ ap (λ l. stretch l old.here.env) c.deref.ensures.value) (c.in-Ok.ensures.written program)) c.calculate-n.result c.calculate-n.ensures) c.give_number.ensures.full
+    (λ program e. three_among program _ _ _ _ _ _ old.refs.items c.stretch-env.result.now old.here.env (c.stretch-env.ensures ∙ ap (λ l. stretch l old.here.env) c.deref.ensures.value) (c.in-Ok.ensures.written program e)) c.calculate-n.result c.calculate-n.ensures) c.give_number.ensures.full
 
 pub returns-in-Ok-clause-done : goal.returns-in-Ok-clause-done
 returns-in-Ok-clause-done c =
@@ -40,4 +39,4 @@ returns-in-Ok-clause-done c =
     let x = Arith c.args.op c.args.a.now c.args.b.now c.args.into.now in
     branches_made (TakesAt x old) (GivesAt c.calculate-n.result c.in-Ok.into e) old e c.give_number.new.self refl (kept_limits old c.write_three.new.store c.write_three.new.stack c.requires.ready c.write_three.ensures.kept c.write_three.ensures.saved)
     (arith_leads c.args.op c.args.a.now c.args.b.now c.args.into.now old c.write_three.new.store c.write_three.new.stack c.in-Ok.first c.in-Ok.second c.in-Ok.into c.requires.ready c.write_three.ensures.kept c.write_three.ensures.saved
-    (λ program. three_among program _ _ _ _ _ _ old.refs.items c.stretch-env.result.now old.here.env (c.stretch-env.ensures ∙ ap (λ l. stretch l old.here.env) c.deref.ensures.value) (c.in-Ok.ensures.written program)) c.calculate-n.result c.calculate-n.ensures) c.give_number.result c.give_number.ensures.given
+    (λ program e. three_among program _ _ _ _ _ _ old.refs.items c.stretch-env.result.now old.here.env (c.stretch-env.ensures ∙ ap (λ l. stretch l old.here.env) c.deref.ensures.value) (c.in-Ok.ensures.written program e)) c.calculate-n.result c.calculate-n.ensures) c.give_number.result c.give_number.ensures.given

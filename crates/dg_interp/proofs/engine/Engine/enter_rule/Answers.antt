@@ -1,8 +1,6 @@
 use Rattle.dg_meaning.specs.Moves.{choice_cells}
-use Rattle.std.proofs.Common.{subst, ap, ◌∙◌, arith, length, take, drop, ◌-◌, ◌≡◌, rules}
-use Rattle.std.specs.List.{All}
-use Rattle.dg_meaning.specs.Built.{IsBuiltRule}
-use Rattle.dg_interp.proofs.Turns.{first_and_rest, all_first}
+use Rattle.std.proofs.Common.{ap, ◌∙◌, arith, length, take, drop, ◌-◌, ◌≡◌, rules}
+use Rattle.dg_interp.proofs.Turns.{first_and_rest}
 use Rattle.dg_interp.proofs.Begins.{keep_full, enter_full, rule_wrong, rule_begun}
 use Rattle.dg_interp.proofs.engine.Engine.enter_rule.Goals as goal
 
@@ -37,9 +35,3 @@ returns-in-Ok-true-clause-tried c =
     (rule_begun c.args.self.now c.args.query c.args.args c.args.rules _ c.rule-item.result c.args.place c.keep.new.store c.keep.new.choices c.requires.sound c.requires.left c.requires.place
     (first_and_rest all c.rule-item.result (length all - 1) c.requires.some c.rule-item.is (omega arith)) c.args.first c.requires.first c.requires.candidate c.keep.ensures.kept c.keep.ensures.saved (rw (c.choice_cells-cells.ensures ∙ ap (choice_cells c.args.args.len) c.pass.ensures) at c.in_default-keep.ensures.taken) c.enter.new.store c.enter.new.refs c.enter.new.head c.in-Ok-true.field-0
     (rw h at (rw r at (rw c.gatherings.ensures at c.in_default-keep.ensures.choices))) c.enter.ensures.kept c.enter.ensures.saved c.in-Ok-true.ensures.entered c.as_slice.result c.as_slice.ensures c.in-Ok-true.field-0-test))
-
-pub enter-requires-clause-plain : goal.enter-requires-clause-plain
-enter-requires-clause-plain c =
-    let all = c.args.rules.now in
-    let split = first_and_rest all c.rule-item.result (length all - 1) c.requires.some c.rule-item.is (omega arith) in
-    (all_first IsBuiltRule c.rule-item.result (take (length all - 1) (drop 1 all)) (subst (All IsBuiltRule) split c.requires.left.0)).head

@@ -3,7 +3,6 @@ use Rattle.dg_meaning.specs.Cells.{cells}
 use Rattle.dg_meaning.specs.Values.{value_of}
 use Rattle.dg_meaning.specs.TypeTests.{passes}
 use Rattle.dg_unify.specs.Store.{Kept, Made, told}
-use Rattle.dg_base.specs.declared.program.CoreProgram.{CoreProgram}
 use Rattle.dg_base.specs.declared.program.Goal.TheVariants.{Test}
 use Rattle.dg_interp.specs.Frames.{stretch, values_in}
 use Rattle.dg_interp.specs.Engine.{store_in, FailsAt, TakesAt}
@@ -13,14 +12,11 @@ use Rattle.dg_interp.proofs.BothLemmas.{made_holds}
 use Rattle.dg_interp.proofs.Branches.{full_made, back_made}
 use Rattle.dg_interp.proofs.engine.Engine.test.Goals as goal
 
-no_program : CoreProgram
-no_program = record { preds = []; closures = []; places = []; objects = []; words = []; sites = 0; entry = 0 }
-
 pub returns-in-Err-clause-full : goal.returns-in-Err-clause-full
 returns-in-Err-clause-full c = test_full c.args.kind c.args.term.now c.args.self.now c.in-Err.e c.in-Err.ensures.written
 
 pub test-requires : goal.test-requires
-test-requires c = made_holds _ (store_in c.args.self.now.store) (store_in c.write_term.new.store) c.in-Ok.value _ (c.in-Ok.ensures.written no_program)
+test-requires c = made_holds _ (store_in c.args.self.now.store) (store_in c.write_term.new.store) c.in-Ok.value _ (c.in-Ok.ensures.written c.args.self.now.program.now refl)
 
 pub back-requires : goal.back-requires
 back-requires c = record { sound = store_sound c.args.self.now c.test.new.store c.write_term.new.stack (subst (Kept (store_in c.args.self.now.store)) (sym c.test.ensures.same) c.write_term.ensures.kept) (λ ms h. c.test.ensures.saved ms (c.write_term.ensures.saved ms h)) c.requires.ready.sound }
@@ -28,8 +24,8 @@ back-requires c = record { sound = store_sound c.args.self.now c.test.new.store 
 pub returns-then-test-clause-tested : goal.returns-then-test-clause-tested
 returns-then-test-clause-tested c =
     test_passed c.args.kind c.args.term.now c.args.self.now c.test.new.store c.write_term.new.stack c.in-Ok.value c.requires.ready (subst (Kept (store_in c.args.self.now.store)) (sym c.test.ensures.same) c.write_term.ensures.kept) (λ ms h. c.test.ensures.saved ms (c.write_term.ensures.saved ms h))
-    (λ program. subst (λ s. Made (cells program (c.args.term.now ∷ [])) (store_in c.args.self.now.store) s c.in-Ok.value (value_of program (values_in (store_in c.args.self.now.store) c.args.self.now.refs.items c.args.self.now.here.env) c.args.term.now)) (sym c.test.ensures.same)
-    (made_among program [] _ _ _ c.args.self.now.refs.items c.stretch.result.now c.args.self.now.here.env c.in-Ok.value c.args.term.now (c.stretch.ensures ∙ ap (λ l. stretch l c.args.self.now.here.env) c.deref.ensures.value) (c.in-Ok.ensures.written program)))
+    (λ program e. subst (λ s. Made (cells program (c.args.term.now ∷ [])) (store_in c.args.self.now.store) s c.in-Ok.value (value_of program (values_in (store_in c.args.self.now.store) c.args.self.now.refs.items c.args.self.now.here.env) c.args.term.now)) (sym c.test.ensures.same)
+    (made_among program [] _ _ _ c.args.self.now.refs.items c.stretch.result.now c.args.self.now.here.env c.in-Ok.value c.args.term.now (c.stretch.ensures ∙ ap (λ l. stretch l c.args.self.now.here.env) c.deref.ensures.value) (c.in-Ok.ensures.written program e)))
     (subst (λ s. true ≡ passes s.state.subst c.args.kind (told s c.in-Ok.value)) (sym c.test.ensures.same) (sym c.if-test.true ∙ c.test.ensures.passed))
 
 pub returns-else-test-clause-full : goal.returns-else-test-clause-full
@@ -39,8 +35,8 @@ returns-else-test-clause-full c =
     let kept = subst (Kept (store_in c.args.self.now.store)) (sym c.test.ensures.same) c.write_term.ensures.kept in
     full_made (TakesAt x c.args.self.now) (FailsAt e) (store_in c.args.self.now.store) (store_in c.test.new.store) c.back.result kept.heap_limit kept.trail_limit
     (test_failed c.args.kind c.args.term.now c.args.self.now c.test.new.store c.write_term.new.stack c.in-Ok.value c.requires.ready (subst (Kept (store_in c.args.self.now.store)) (sym c.test.ensures.same) c.write_term.ensures.kept) (λ ms h. c.test.ensures.saved ms (c.write_term.ensures.saved ms h))
-    (λ program. subst (λ s. Made (cells program (c.args.term.now ∷ [])) (store_in c.args.self.now.store) s c.in-Ok.value (value_of program (values_in (store_in c.args.self.now.store) c.args.self.now.refs.items c.args.self.now.here.env) c.args.term.now)) (sym c.test.ensures.same)
-    (made_among program [] _ _ _ c.args.self.now.refs.items c.stretch.result.now c.args.self.now.here.env c.in-Ok.value c.args.term.now (c.stretch.ensures ∙ ap (λ l. stretch l c.args.self.now.here.env) c.deref.ensures.value) (c.in-Ok.ensures.written program)))
+    (λ program e. subst (λ s. Made (cells program (c.args.term.now ∷ [])) (store_in c.args.self.now.store) s c.in-Ok.value (value_of program (values_in (store_in c.args.self.now.store) c.args.self.now.refs.items c.args.self.now.here.env) c.args.term.now)) (sym c.test.ensures.same)
+    (made_among program [] _ _ _ c.args.self.now.refs.items c.stretch.result.now c.args.self.now.here.env c.in-Ok.value c.args.term.now (c.stretch.ensures ∙ ap (λ l. stretch l c.args.self.now.here.env) c.deref.ensures.value) (c.in-Ok.ensures.written program e)))
     (subst (λ s. false ≡ passes s.state.subst c.args.kind (told s c.in-Ok.value)) (sym c.test.ensures.same) (sym c.if-test.false ∙ c.test.ensures.passed))) c.back.ensures.full
 
 pub returns-else-test-clause-tested : goal.returns-else-test-clause-tested
@@ -50,6 +46,6 @@ returns-else-test-clause-tested c =
     back_made (TakesAt x c.args.self.now) (FailsAt e) c.args.self.now e c.back.new.self refl
     (grown_limits x c.args.self.now c.test.new.store c.write_term.new.stack c.requires.ready (subst (Kept (store_in c.args.self.now.store)) (sym c.test.ensures.same) c.write_term.ensures.kept) (λ ms h. c.test.ensures.saved ms (c.write_term.ensures.saved ms h)))
     (test_failed c.args.kind c.args.term.now c.args.self.now c.test.new.store c.write_term.new.stack c.in-Ok.value c.requires.ready (subst (Kept (store_in c.args.self.now.store)) (sym c.test.ensures.same) c.write_term.ensures.kept) (λ ms h. c.test.ensures.saved ms (c.write_term.ensures.saved ms h))
-    (λ program. subst (λ s. Made (cells program (c.args.term.now ∷ [])) (store_in c.args.self.now.store) s c.in-Ok.value (value_of program (values_in (store_in c.args.self.now.store) c.args.self.now.refs.items c.args.self.now.here.env) c.args.term.now)) (sym c.test.ensures.same)
-    (made_among program [] _ _ _ c.args.self.now.refs.items c.stretch.result.now c.args.self.now.here.env c.in-Ok.value c.args.term.now (c.stretch.ensures ∙ ap (λ l. stretch l c.args.self.now.here.env) c.deref.ensures.value) (c.in-Ok.ensures.written program)))
+    (λ program e. subst (λ s. Made (cells program (c.args.term.now ∷ [])) (store_in c.args.self.now.store) s c.in-Ok.value (value_of program (values_in (store_in c.args.self.now.store) c.args.self.now.refs.items c.args.self.now.here.env) c.args.term.now)) (sym c.test.ensures.same)
+    (made_among program [] _ _ _ c.args.self.now.refs.items c.stretch.result.now c.args.self.now.here.env c.in-Ok.value c.args.term.now (c.stretch.ensures ∙ ap (λ l. stretch l c.args.self.now.here.env) c.deref.ensures.value) (c.in-Ok.ensures.written program e)))
     (subst (λ s. false ≡ passes s.state.subst c.args.kind (told s c.in-Ok.value)) (sym c.test.ensures.same) (sym c.if-test.false ∙ c.test.ensures.passed))) c.back.result c.back.ensures.back

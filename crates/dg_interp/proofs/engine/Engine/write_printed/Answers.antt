@@ -12,4 +12,4 @@ returns-clause-written c =
     match_ok _ _ c.write_term.result
     (λ value h.
     wrote_printed c.args.term.now c.args.self.now c.write_term.new.store c.write_term.new.stack value c.requires.ready c.write_term.ensures.kept c.write_term.ensures.saved
-    (λ program. made_among program [] _ _ _ c.args.self.now.refs.items c.stretch.result.now c.args.self.now.here.env value c.args.term.now (c.stretch.ensures ∙ ap (λ l. stretch l c.args.self.now.here.env) c.deref.ensures.value) (h program))) c.write_term.ensures.written
+    (λ program e. made_among program [] _ _ _ c.args.self.now.refs.items c.stretch.result.now c.args.self.now.here.env value c.args.term.now (c.stretch.ensures ∙ ap (λ l. stretch l c.args.self.now.here.env) c.deref.ensures.value) (h program e))) c.write_term.ensures.written
