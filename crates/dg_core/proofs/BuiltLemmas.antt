@@ -26,8 +26,7 @@ use Rattle.dg_base.specs.declared.program.Term.{Term, out-Term}
 use Rattle.dg_base.specs.declared.program.Term.TheVariants as term
 use Rattle.dg_base.specs.declared.program.Term.TheOpen as top
 use Rattle.dg_base.proofs.NodeLemmas.{inside, within_out}
-use Rattle.dg_meaning.specs.Built.{IsForm, IsBuilt, IsBuiltGoal, IsBuiltForm, IsBuiltRule}
-use Rattle.dg_meaning.specs.Closures.{IsNoClosure, HasNoClosure}
+use Rattle.dg_meaning.specs.Built.{IsForm, IsBuilt, IsBuiltBody, IsBuiltGoal, IsBuiltRule}
 use Rattle.dg_names.specs.Named.{Named, firsts}
 use Rattle.dg_core.specs.Core.{outside, scope_of, rule_of, failing, rules_in, rules_from, selects_of, pred_of, without_facts, core_of}
 use Rattle.dg_core.specs.Forms.{is_unbuilt, is_unbuilt_query, is_unbuilt_name, first_unbuilt, IsRun, AreRun}
@@ -57,61 +56,6 @@ source_run (i ∷ is) e = here (list_any is_unbuilt (things_in i.said)) refl e (
     here true q k rest = cc
     here false q k rest = All-append IsRun (things_in i.said) (mentioned is) (none_unbuilt (things_in i.said) q) (rest k)
 
--- ---- terms
-
-no_terms : All HasNoClosure []
-no_terms = All-nil HasNoClosure
-
-one : (a : Term) → HasNoClosure a → All HasNoClosure (a ∷ [])
-one a h = All-cons HasNoClosure a [] h no_terms
-
-two : (a b : Term) → HasNoClosure a → HasNoClosure b → All HasNoClosure (a ∷ b ∷ [])
-two a b h k = All-cons HasNoClosure a (b ∷ []) h (one b k)
-
-three : (a b c : Term) → HasNoClosure a → HasNoClosure b → HasNoClosure c → All HasNoClosure (a ∷ b ∷ c ∷ [])
-three a b c h k l = All-cons HasNoClosure a (b ∷ c ∷ []) h (two b c k l)
-
-abbrev TopPlain : Term → Type 0
-TopPlain x = IsNoClosure (out-Term x)
-
-leaf_plain : (x : Term) (layer : top.Term-F Term) → nodes x ≡ x ∷ [] → out-Term x ≡ layer → IsNoClosure layer → HasNoClosure x
-leaf_plain x layer alone is h = subst (All TopPlain) (sym alone) (All-cons TopPlain x [] (subst IsNoClosure (sym is) h) (All-nil TopPlain))
-
-nil_plain : HasNoClosure term.Nil
-nil_plain = leaf_plain term.Nil top.Nil refl term.outs-Nil tt
-
-and_nothing : (xs : List Term) → All TopPlain xs → All TopPlain (xs ++ [])
-and_nothing xs h = All-append TopPlain xs [] h (All-nil TopPlain)
-
-pair_plain : (h t : Term) → HasNoClosure h → HasNoClosure t → HasNoClosure (term.Pair h t)
-pair_plain h t a b =
-    subst (All TopPlain) (sym (nodes_are h t))
-    (All-cons TopPlain (term.Pair h t) ((nodes h ++ []) ++ (nodes t ++ [])) (subst IsNoClosure (sym (term.outs-Pair h t)) tt)
-    (All-append TopPlain (nodes h ++ []) (nodes t ++ []) (and_nothing (nodes h) a) (and_nothing (nodes t) b)))
-
-mutual
-  term_plain : (s : Scope) (v : Value) → HasNoClosure (term_of s v)
-  term_plain s (tree.num n) = leaf_plain (term.Num n) (top.Num n) refl (term.outs-Num n) tt
-  term_plain s (tree.dict_word w) = leaf_plain (term.Word _) (top.Word _) refl (term.outs-Word _) tt
-  term_plain s (tree.object_name w) = leaf_plain (term.Object _) (top.Object _) refl (term.outs-Object _) tt
-  term_plain s (tree.variable w) = leaf_plain (term.Var _) (top.Var _) refl (term.outs-Var _) tt
-  term_plain s (tree.plain_list vs) = list_plain s vs term.Nil nil_plain
-  term_plain s (tree.tailed_list vs v) = list_plain s vs (term_of s v) (term_plain s v)
-  term_plain s v = nil_plain
-
-  list_plain : (s : Scope) (vs : Values) (tail : Term) → HasNoClosure tail → HasNoClosure (listed s vs tail)
-  list_plain s tree.no_values tail h = h
-  list_plain s (tree.value v vs) tail h = pair_plain (term_of s v) (listed s vs tail) (term_plain s v) (list_plain s vs tail h)
-
-terms_plain : (s : Scope) (vs : List Value) → All HasNoClosure (terms_of_values s vs)
-terms_plain s [] = no_terms
-terms_plain s (v ∷ vs) = All-cons HasNoClosure (term_of s v) (terms_of_values s vs) (term_plain s v) (terms_plain s vs)
-
-arg_plain : (s : Scope) (vs : List Value) (k : ℕ) → HasNoClosure (arg s vs k)
-arg_plain s [] k = nil_plain
-arg_plain s (v ∷ vs) zero = term_plain s v
-arg_plain s (v ∷ vs) (suc k) = arg_plain s vs k
-
 -- ---- goals
 
 -- each goal of a list, at every depth, is built
@@ -121,22 +65,22 @@ Whole goals = All IsBuiltGoal (goals_of goals)
 nothing_whole : Whole []
 nothing_whole = All-nil IsBuiltGoal
 
-goal_whole : (g : Goal) (layer : form.Goal-F Goal) → out-Goal g ≡ layer → IsForm layer → All HasNoClosure (terms_held layer) → All IsBuiltGoal (inside layer) → Whole (g ∷ [])
-goal_whole g layer is run terms k =
+goal_whole : (g : Goal) (layer : form.Goal-F Goal) → out-Goal g ≡ layer → IsForm layer → All IsBuiltGoal (inside layer) → Whole (g ∷ [])
+goal_whole g layer is run k =
     All-append IsBuiltGoal (goals_within g) []
     (subst (All IsBuiltGoal) (sym (within_out g))
-    (All-cons IsBuiltGoal g (inside (out-Goal g)) (subst IsBuiltForm (sym is) (run, terms)) (subst (λ (l : form.Goal-F Goal). All IsBuiltGoal (inside l)) (sym is) k)))
+    (All-cons IsBuiltGoal g (inside (out-Goal g)) (subst IsForm (sym is) run) (subst (λ (l : form.Goal-F Goal). All IsBuiltGoal (inside l)) (sym is) k)))
     nothing_whole
 
 -- a goal without goals in it
-leaf : (g : Goal) (layer : form.Goal-F Goal) → out-Goal g ≡ layer → inside layer ≡ [] → IsForm layer → All HasNoClosure (terms_held layer) → Whole (g ∷ [])
-leaf g layer is empty run terms = goal_whole g layer is run terms (subst (All IsBuiltGoal) (sym empty) nothing_whole)
+leaf : (g : Goal) (layer : form.Goal-F Goal) → out-Goal g ≡ layer → inside layer ≡ [] → IsForm layer → Whole (g ∷ [])
+leaf g layer is empty run = goal_whole g layer is run (subst (All IsBuiltGoal) (sym empty) nothing_whole)
 
 joined : (xs ys : List Goal) → Whole xs → Whole ys → Whole (xs ++ ys)
 joined xs ys h k = subst (All IsBuiltGoal) (sym (flat_map-append goals_within xs ys)) (All-append IsBuiltGoal (goals_of xs) (goals_of ys) h k)
 
-wrap : (g : Goal) (layer : form.Goal-F Goal) (goals : List Goal) → out-Goal g ≡ layer → inside layer ≡ goals_of goals → IsForm layer → All HasNoClosure (terms_held layer) → Whole goals → Whole (g ∷ [])
-wrap g layer goals is same run terms h = goal_whole g layer is run terms (subst (All IsBuiltGoal) (sym same) h)
+wrap : (g : Goal) (layer : form.Goal-F Goal) (goals : List Goal) → out-Goal g ≡ layer → inside layer ≡ goals_of goals → IsForm layer → Whole goals → Whole (g ∷ [])
+wrap g layer goals is same run h = goal_whole g layer is run (subst (All IsBuiltGoal) (sym same) h)
 
 -- each list is whole
 abbrev AllWhole : List (List Goal) → Type 0
@@ -145,30 +89,30 @@ AllWhole ls = All IsBuiltGoal (flat_map goals_of ls)
 unit_whole : (ls : List (List Goal)) → AllWhole ls → Whole (unit ls)
 unit_whole [] h = nothing_whole
 unit_whole (goals ∷ []) h = subst (All IsBuiltGoal) (append-nil (goals_of goals)) h
-unit_whole (goals ∷ more ∷ ls) h = goal_whole (goal.Either (goals ∷ more ∷ ls)) (form.Either (goals ∷ more ∷ ls)) (goal.outs-Either _) tt no_terms h
+unit_whole (goals ∷ more ∷ ls) h = goal_whole (goal.Either (goals ∷ more ∷ ls)) (form.Either (goals ∷ more ∷ ls)) (goal.outs-Either _) tt h
 
 -- ---- queries
 
-built_in_whole : (a b c : Term) (many : Bool) (q : Builtin) → HasNoClosure a → HasNoClosure b → HasNoClosure c → is_unbuilt_query q ≡ false → Whole (built_in_goal a b c many q ∷ [])
-built_in_whole a b c many built_in.Equal h k l r = leaf _ (form.Equal a b) (goal.outs-Equal _ _) refl (search rules) (two a b h k)
-built_in_whole a b c many (built_in.Arith op) h k l r = leaf _ (form.Arith op a b c) (goal.outs-Arith _ _ _ _) refl (search rules) (three a b c h k l)
-built_in_whole a b c many (built_in.Compare op) h k l r = leaf _ (form.Compare op a b) (goal.outs-Compare _ _ _) refl (search rules) (two a b h k)
-built_in_whole a b c many built_in.Random h k l r = leaf _ (form.Random a b c) (goal.outs-Random _ _ _) refl (search rules) (three a b c h k l)
-built_in_whole a b c many (built_in.Test kind) h k l r = leaf _ (form.Test kind a) (goal.outs-Test _ _) refl (search rules) (one a h)
-built_in_whole a b c many built_in.Object h k l r = leaf _ (form.IsObject a many) (goal.outs-IsObject _ _) refl (search rules) (one a h)
-built_in_whole a b c many built_in.Fail h k l r = leaf _ form.Fail goal.outs-Fail refl (search rules) no_terms
-built_in_whole a b c many built_in.Just h k l r = leaf _ form.Just goal.outs-Just refl (search rules) no_terms
-built_in_whole a b c many built_in.Stop h k l r = leaf _ form.Stop goal.outs-Stop refl (search rules) no_terms
-built_in_whole a b c many built_in.Quit h k l r = leaf _ form.Quit goal.outs-Quit refl (search rules) no_terms
-built_in_whole a b c many built_in.RepeatForever h k l r = leaf _ form.Forever goal.outs-Forever refl (search rules) no_terms
-built_in_whole a b c many built_in.Query h k l r = leaf _ (form.Query a None many) (goal.outs-Query _ _ _) refl (search rules) (one a h)
-built_in_whole a b c many built_in.QueryWith h k l r = leaf _ (form.Query a (Some b) many) (goal.outs-Query _ _ _) refl (search rules) (two a b h k)
-built_in_whole a b c many built_in.GetInput h k l r = leaf _ (form.Input a) (goal.outs-Input _) refl (search rules) (one a h)
-built_in_whole a b c many built_in.SplitWord h k l r = leaf _ (form.SplitWord a b) (goal.outs-SplitWord _ _) refl (search rules) (two a b h k)
-built_in_whole a b c many built_in.JoinWords h k l r = leaf _ (form.JoinWords a b) (goal.outs-JoinWords _ _) refl (search rules) (two a b h k)
-built_in_whole a b c many (built_in.Gap kind) h k l r = leaf _ (form.Gap kind) (goal.outs-Gap _) refl (search rules) no_terms
-built_in_whole a b c many built_in.Spaces h k l r = leaf _ (form.GapN a) (goal.outs-GapN _) refl (search rules) (one a h)
-built_in_whole a b c many built_in.HasParent h k l r = leaf _ (form.Holds 0 (a ∷ b ∷ []) many) (goal.outs-Holds _ _ _) refl (search rules) (two a b h k)
+built_in_whole : (a b c : Term) (many : Bool) (q : Builtin) → is_unbuilt_query q ≡ false → Whole (built_in_goal a b c many q ∷ [])
+built_in_whole a b c many built_in.Equal r = leaf _ (form.Equal a b) (goal.outs-Equal _ _) refl (search rules)
+built_in_whole a b c many (built_in.Arith op) r = leaf _ (form.Arith op a b c) (goal.outs-Arith _ _ _ _) refl (search rules)
+built_in_whole a b c many (built_in.Compare op) r = leaf _ (form.Compare op a b) (goal.outs-Compare _ _ _) refl (search rules)
+built_in_whole a b c many built_in.Random r = leaf _ (form.Random a b c) (goal.outs-Random _ _ _) refl (search rules)
+built_in_whole a b c many (built_in.Test kind) r = leaf _ (form.Test kind a) (goal.outs-Test _ _) refl (search rules)
+built_in_whole a b c many built_in.Object r = leaf _ (form.IsObject a many) (goal.outs-IsObject _ _) refl (search rules)
+built_in_whole a b c many built_in.Fail r = leaf _ form.Fail goal.outs-Fail refl (search rules)
+built_in_whole a b c many built_in.Just r = leaf _ form.Just goal.outs-Just refl (search rules)
+built_in_whole a b c many built_in.Stop r = leaf _ form.Stop goal.outs-Stop refl (search rules)
+built_in_whole a b c many built_in.Quit r = leaf _ form.Quit goal.outs-Quit refl (search rules)
+built_in_whole a b c many built_in.RepeatForever r = leaf _ form.Forever goal.outs-Forever refl (search rules)
+built_in_whole a b c many built_in.Query r = leaf _ (form.Query a None many) (goal.outs-Query _ _ _) refl (search rules)
+built_in_whole a b c many built_in.QueryWith r = leaf _ (form.Query a (Some b) many) (goal.outs-Query _ _ _) refl (search rules)
+built_in_whole a b c many built_in.GetInput r = leaf _ (form.Input a) (goal.outs-Input _) refl (search rules)
+built_in_whole a b c many built_in.SplitWord r = leaf _ (form.SplitWord a b) (goal.outs-SplitWord _ _) refl (search rules)
+built_in_whole a b c many built_in.JoinWords r = leaf _ (form.JoinWords a b) (goal.outs-JoinWords _ _) refl (search rules)
+built_in_whole a b c many (built_in.Gap kind) r = leaf _ (form.Gap kind) (goal.outs-Gap _) refl (search rules)
+built_in_whole a b c many built_in.Spaces r = leaf _ (form.GapN a) (goal.outs-GapN _) refl (search rules)
+built_in_whole a b c many built_in.HasParent r = leaf _ (form.Holds 0 (a ∷ b ∷ []) many) (goal.outs-Holds _ _ _) refl (search rules)
 
 -- a query of a place can be run
 abbrev AskPlaces : Type 0
@@ -179,12 +123,12 @@ abbrev MayAsk : List (List ℕ) → Type 0
 MayAsk places = (name : List ℕ) → builtin_named name ≡ None → Contains places name → AskPlaces
 
 place_whole : (s : Scope) (ps : Parts) (many : Bool) (o : Option ℕ) → position (bytes_eq (name_of ps)) s.places ≡ o → builtin_named (name_of ps) ≡ None → MayAsk s.places → Whole (place_goal s ps many o ∷ [])
-place_whole s ps many None e n m = leaf _ (form.Ask (number_in s.names.preds (name_of ps)) (terms_of s ps) many) (goal.outs-Ask _ _ _) refl tt (terms_plain s (values_in ps))
+place_whole s ps many None e n m = leaf _ (form.Ask (number_in s.names.preds (name_of ps)) (terms_of s ps) many) (goal.outs-Ask _ _ _) refl tt
 place_whole s ps many (Some place) e n m =
-    leaf _ (form.Holds (in_16_bits place) (terms_of s ps) many) (goal.outs-Holds _ _ _) refl (m (name_of ps) n (there_at (name_of ps) s.places place e) (in_16_bits place) (terms_of s ps) many) (terms_plain s (values_in ps))
+    leaf _ (form.Holds (in_16_bits place) (terms_of s ps) many) (goal.outs-Holds _ _ _) refl (m (name_of ps) n (there_at (name_of ps) s.places place e) (in_16_bits place) (terms_of s ps) many)
 
 query_whole : (s : Scope) (ps : Parts) (many : Bool) (o : Option Builtin) → builtin_named (name_of ps) ≡ o → MayAsk s.places → is_unbuilt_name (name_of ps) o ≡ false → Whole (query_goal s ps many o ∷ [])
-query_whole s ps many (Some b) e m r = built_in_whole _ _ _ many b (arg_plain s (values_in ps) 0) (arg_plain s (values_in ps) 1) (arg_plain s (values_in ps) 2) r
+query_whole s ps many (Some b) e m r = built_in_whole _ _ _ many b r
 query_whole s ps many None e m r = place_whole s ps many (position (bytes_eq (name_of ps)) s.places) refl e m
 
 asked_whole : (s : Scope) (ps : Parts) (many : Bool) → MayAsk s.places → is_unbuilt_name (name_of ps) (builtin_named (name_of ps)) ≡ false → Whole (asked s ps many ∷ [])
@@ -194,23 +138,23 @@ changes_whole : (s : Scope) (cs : Changes) → IsRun (other thing_form.Now) → 
 changes_whole s tree.no_changes r = nothing_whole
 changes_whole s (tree.change ps set cs) r =
     joined (goal.Now _ (terms_of s ps) set ∷ []) (change_goals s cs)
-    (leaf _ (form.Now (number_in s.places (name_of ps)) (terms_of s ps) set) (goal.outs-Now _ _ _) refl (search rules) (terms_plain s (values_in ps)))
+    (leaf _ (form.Now (number_in s.places (name_of ps)) (terms_of s ps) set) (goal.outs-Now _ _ _) refl (search rules))
     (changes_whole s cs r)
 
 -- ---- statements
 
 not_whole : (goals : List Goal) → Whole goals → Whole (goal.Not goals ∷ [])
-not_whole goals h = wrap _ (form.Not goals) goals (goal.outs-Not goals) refl tt no_terms h
+not_whole goals h = wrap _ (form.Not goals) goals (goal.outs-Not goals) refl tt h
 
 if_whole : (a b c : List Goal) → Whole a → Whole b → Whole c → Whole (goal.If a b c ∷ [])
 if_whole a b c h k l =
-    goal_whole _ (form.If a b c) (goal.outs-If a b c) tt no_terms
+    goal_whole _ (form.If a b c) (goal.outs-If a b c) tt
     (All-append IsBuiltGoal (goals_of a ++ goals_of b) (goals_of c) (All-append IsBuiltGoal (goals_of a) (goals_of b) h k) l)
 
 mutual
   stmt_whole : (s : Scope) (n : ℕ) (x : Stmt) → MayAsk s.places → Hold IsRun (of_stmt false x) → Whole (stmt_goals s n x)
-  stmt_whole s n (tree.text w) m h = leaf _ (form.Text w) (goal.outs-Text w) refl tt no_terms
-  stmt_whole s n (tree.print v) m h = leaf _ (form.Print (term_of s v)) (goal.outs-Print _) refl tt (one (term_of s v) (term_plain s v))
+  stmt_whole s n (tree.text w) m h = leaf _ (form.Text w) (goal.outs-Text w) refl tt
+  stmt_whole s n (tree.print v) m h = leaf _ (form.Print (term_of s v)) (goal.outs-Print _) refl tt
   stmt_whole s n (tree.ask ps) m h = asked_whole s ps false m h.0
   stmt_whole s n (tree.ask_all ps) m h = asked_whole s ps true m h.0
   stmt_whole s n (tree.ask_not ps) m h = not_whole (asked s ps false ∷ []) (asked_whole s ps false m h.0)
@@ -221,20 +165,20 @@ mutual
   stmt_whole s n (tree.choice_else arms b) m h =
       let k = n + selects (of_arms false arms) in
       arms_whole s n arms (unit (lists s k b)) m (front IsRun (of_arms false arms) (of_body false b) h.1) (unit_whole (lists s k b) (lists_whole s k b m (back IsRun (of_arms false arms) (of_body false b) h.1).1))
-  stmt_whole s n (tree.exhaust x) m h = let r = h.0 in wrap _ (form.Exhaust (stmt_goals s n x)) (stmt_goals s n x) (goal.outs-Exhaust _) refl (search rules) no_terms (stmt_whole s n x m h.1)
-  stmt_whole s n (tree.stoppable x) m h = let r = h.0 in wrap _ (form.Stoppable (stmt_goals s n x)) (stmt_goals s n x) (goal.outs-Stoppable _) refl (search rules) no_terms (stmt_whole s n x m h.1)
+  stmt_whole s n (tree.exhaust x) m h = let r = h.0 in wrap _ (form.Exhaust (stmt_goals s n x)) (stmt_goals s n x) (goal.outs-Exhaust _) refl (search rules) (stmt_whole s n x m h.1)
+  stmt_whole s n (tree.stoppable x) m h = let r = h.0 in wrap _ (form.Stoppable (stmt_goals s n x)) (stmt_goals s n x) (goal.outs-Stoppable _) refl (search rules) (stmt_whole s n x m h.1)
   stmt_whole s n (tree.collect v b into) m h =
       let r = h.0 in
       let rest = back IsRun (of_value false v) (join (of_body false b) (of_value false into)) h.1 in
-      wrap _ (form.Collect (term_of s v) (unit (lists s n b)) (term_of s into)) (unit (lists s n b)) (goal.outs-Collect _ _ _) refl (search rules) (two _ _ (term_plain s v) (term_plain s into))
+      wrap _ (form.Collect (term_of s v) (unit (lists s n b)) (term_of s into)) (unit (lists s n b)) (goal.outs-Collect _ _ _) refl (search rules)
       (unit_whole (lists s n b) (lists_whole s n b m (front IsRun (of_body false b) (of_value false into) rest).1))
   stmt_whole s n (tree.accumulate v b into) m h =
       let r = h.0 in
       let rest = back IsRun (of_value false v) (join (of_body false b) (of_value false into)) h.1 in
-      wrap _ (form.Accumulate (term_of s v) (unit (lists s n b)) (term_of s into)) (unit (lists s n b)) (goal.outs-Accumulate _ _ _) refl (search rules) (two _ _ (term_plain s v) (term_plain s into))
+      wrap _ (form.Accumulate (term_of s v) (unit (lists s n b)) (term_of s into)) (unit (lists s n b)) (goal.outs-Accumulate _ _ _) refl (search rules)
       (unit_whole (lists s n b) (lists_whole s n b m (front IsRun (of_body false b) (of_value false into) rest).1))
-  stmt_whole s n (tree.select mode b) m h = let r = h.0 in goal_whole _ (form.Select n mode (lists s (n + 1) b)) (goal.outs-Select _ _ _) (search rules) no_terms (lists_whole s (n + 1) b m h.1)
-  stmt_whole s n (tree.first_answer b) m h = wrap _ (form.Once (unit (lists s n b))) (unit (lists s n b)) (goal.outs-Once _) refl tt no_terms (unit_whole (lists s n b) (lists_whole s n b m h.1.1))
+  stmt_whole s n (tree.select mode b) m h = let r = h.0 in goal_whole _ (form.Select n mode (lists s (n + 1) b)) (goal.outs-Select _ _ _) (search rules) (lists_whole s (n + 1) b m h.1)
+  stmt_whole s n (tree.first_answer b) m h = wrap _ (form.Once (unit (lists s n b))) (unit (lists s n b)) (goal.outs-Once _) refl tt (unit_whole (lists s n b) (lists_whole s n b m h.1.1))
 
   stmts_whole : (s : Scope) (n : ℕ) (xs : Stmts) → MayAsk s.places → Hold IsRun (of_stmts false xs) → Whole (lowered.goals_of s n xs)
   stmts_whole s n tree.no_stmts m h = nothing_whole
@@ -268,13 +212,10 @@ no_rules = All-nil IsBuiltRule
 rule_whole : (around : Scope) (n : ℕ) (ps : Parts) (b : Body) (behind : List Goal) → MayAsk around.places → Hold IsRun (of_rule role.Rule ps b) → Whole behind → IsBuiltRule (rule_of around n ps b behind)
 rule_whole around n ps b behind m h k =
     let s = scope_of around ps b in
-    record {
-      head = terms_plain s (values_in ps);
-      body = joined (body_goals s n b) behind (unit_whole (lists s n b) (lists_whole s n b m (back IsRun (of_parts false ps) (of_body false b) h.1).1)) k;
-    }
+    joined (body_goals s n b) behind (unit_whole (lists s n b) (lists_whole s n b m (back IsRun (of_parts false ps) (of_body false b) h.1).1)) k
 
 failing_whole : Whole failing
-failing_whole = joined (goal.Just ∷ []) (goal.Fail ∷ []) (leaf goal.Just form.Just goal.outs-Just refl tt no_terms) (leaf goal.Fail form.Fail goal.outs-Fail refl tt no_terms)
+failing_whole = joined (goal.Just ∷ []) (goal.Fail ∷ []) (leaf goal.Just form.Just goal.outs-Just refl tt) (leaf goal.Fail form.Fail goal.outs-Fail refl tt)
 
 given : (same : Bool) (r : Rule) → IsBuiltRule r → All IsBuiltRule (if same then r ∷ [] else [])
 given true r h = All-cons IsBuiltRule r [] h no_rules
@@ -379,4 +320,4 @@ preds_whole names is (n ∷ ns) h =
     (kept (is_among n (place_names is)) rules_of (items_whole (outside names is) 0 n is (places_ask is h) h)) (preds_whole names is ns h)
 
 pub core_built : (names : Named) (is : List Item) → AreRun is → IsBuilt (core_of names is)
-core_built names is h = preds_whole names is names.preds h
+core_built names is h = record { preds = preds_whole names is names.preds h; closures = All-nil IsBuiltBody }

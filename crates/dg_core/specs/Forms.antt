@@ -15,8 +15,6 @@ use Rattle.dg_base.specs.declared.names.Builtin.TheVariants as built_in
 abbrev pub is_unbuilt_query : Builtin → Bool
 is_unbuilt_query built_in.Random = true
 is_unbuilt_query built_in.Object = true
-is_unbuilt_query built_in.Query = true
-is_unbuilt_query built_in.QueryWith = true
 is_unbuilt_query built_in.GetInput = true
 is_unbuilt_query built_in.SplitWord = true
 is_unbuilt_query built_in.JoinWords = true

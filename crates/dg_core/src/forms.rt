@@ -22,7 +22,7 @@ fn is_unbuilt_query(builtin: Builtin) -> bool
         Builtin::Equal | Builtin::Test(_) | Builtin::Compare(_) | Builtin::Arith(_) => false,
         Builtin::Gap(_) | Builtin::Spaces => false,
         Builtin::Fail | Builtin::Just | Builtin::Stop | Builtin::Quit => false,
-        Builtin::RepeatForever => false,
+        Builtin::RepeatForever | Builtin::Query | Builtin::QueryWith => false,
         _ => true,
     }
 }

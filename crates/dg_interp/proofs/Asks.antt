@@ -248,7 +248,7 @@ module _ (old : Engine) (query : Query) (terms : List Term) (store1 : ListBindin
 
       pub asking_left : IsLeft (length frames.items) (length ys) (Rules query args rules)
       asking_left =
-          (subst (λ (l : List Rule). All IsBuiltRule l) (sym are) (rules_built old.program.now.preds query.pred ready.sound.base.program), omega (arith, there.from, there.count, ap length there.written.appended.is, length-append xs made))
+          (subst (λ (l : List Rule). All IsBuiltRule l) (sym are) (rules_built old.program.now.preds query.pred ready.sound.base.program.preds), omega (arith, there.from, there.count, ap length there.written.appended.is, length-append xs made))
 
       values2 : SameBy (length ys) (values_in s1 ys) (values_in s2 ys)
       values2 = values_kept (length ys) s1 s2 ys ys k2 (hold_front s1 ys hold) refl

@@ -326,7 +326,7 @@ module _ (old : Engine) (query : Query) (args : Env) (rules others : Bor (List R
           ready = record {
             sound = rule_sound here;
             here = record {
-              built = subst AreBuilt (sym body) rule_built.body;
+              built = subst AreBuilt (sym body) rule_built;
               older = omega arith;
               env = let g : Game = record { program = old.program.now; dice = [] } in omega (arith, vars_count g refl, ap length (does g refl).appended.is, length-append xs (does g refl).appended.made);
             };

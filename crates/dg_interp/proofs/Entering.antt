@@ -21,7 +21,7 @@ use Rattle.dg_interp.proofs.Stores.{kept_on, all_hold, all_told, stretch_holds, 
 use Rattle.dg_interp.proofs.Links.{stretch_same}
 
 -- Refs of new variables were put behind some others
-vars_are_made : (n : ℕ) (refs behind vars : List Ref) (s t : Store) → (made : MadeVars n s t refs behind) → vars ≡ take (length behind - length refs) (drop (length refs) behind) → vars ≡ made.appended.made
+pub vars_are_made : (n : ℕ) (refs behind vars : List Ref) (s t : Store) → (made : MadeVars n s t refs behind) → vars ≡ take (length behind - length refs) (drop (length refs) behind) → vars ≡ made.appended.made
 vars_are_made n refs behind vars s t made e =
     let m : length behind - length refs ≡ length made.appended.made = omega (arith, ap length made.appended.is ∙ length-append refs made.appended.made) in
     e ∙ ap (λ k. take k (drop (length refs) behind)) m ∙ ap (λ l. take (length made.appended.made) (drop (length refs) l)) made.appended.is

@@ -8,6 +8,7 @@ pub mod Turns
 pub mod Stores
 pub mod BothLemmas
 pub mod Entering
+pub mod BodyLemmas
 pub mod Kept
 pub mod Begun
 pub mod Begins
@@ -23,6 +24,7 @@ pub mod Rounds
 pub mod Whole
 pub mod PrintedWorlds
 pub mod Values
+pub mod Queries
 pub mod Equals
 pub mod Compares
 pub mod BeginFrames

@@ -18,7 +18,6 @@ use Rattle.dg_meaning.specs.Moves.{path_of, goals_at}
 use Rattle.dg_meaning.specs.Transcript.{run, start_world, start_path}
 use Rattle.dg_meaning.specs.Keeps.{Stands}
 use Rattle.dg_meaning.specs.Built.{IsBuilt, IsBuiltGoal, AreBuilt}
-use Rattle.dg_meaning.specs.Closures.{HasNoClosure}
 use Rattle.dg_meaning.proofs.BuiltLemmas.{all_none, built_goal, built_alone, built_rest, built_from}
 use Rattle.dg_meaning.proofs.Keeps.{starts}
 use Rattle.dg_unify.specs.Slots.{store_of}
@@ -94,7 +93,7 @@ module _ (old : Engine) (x : Goal) (goals : Bor (List Goal)) (left : ℕ) (ready
 -- ## The start
 
 entry_built : (pred : ℕ) → AreBuilt (Ask pred [] false ∷ [])
-entry_built pred = built_from (Ask pred [] false) (AskForm pred [] false) (outs-Ask pred [] false) (tt, all_none HasNoClosure) (all_none IsBuiltGoal)
+entry_built pred = built_from (Ask pred [] false) (AskForm pred [] false) (outs-Ask pred [] false) tt (all_none IsBuiltGoal)
 
 -- an empty store
 abbrev pub empty : ℕ → ℕ → Store

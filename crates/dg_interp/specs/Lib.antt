@@ -1,8 +1,10 @@
 pub mod Terms
 pub mod Printing
 pub mod Rules
+pub mod Bodies
 pub mod Frames
 pub mod Engine
+pub mod Querying
 pub mod Running
 pub mod Interpret
 pub mod Passing

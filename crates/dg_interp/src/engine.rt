@@ -23,6 +23,7 @@ mod acting;
 mod control;
 mod giving;
 mod passing;
+mod querying;
 mod stopping;
 
 use crate::frames::{Choice, Env, Frame, Left, Mark, Query};

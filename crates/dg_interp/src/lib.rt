@@ -1,6 +1,7 @@
 //! The interpreter: it runs a core program and writes what its meaning says.
 #![tactic(auto)]
 
+mod bodies;
 mod calculating;
 mod engine;
 mod frames;

@@ -4,7 +4,7 @@ use Rattle.std.specs.List.{All, flat_map}
 use Rattle.std.proofs.lemmas.List.Elements.{All-cons, All-append}
 use Rattle.dg_base.specs.declared.program.Goal.{Goal, Goal-F, out-Goal}
 use Rattle.dg_base.specs.Goals.{goals_within, goals_of}
-use Rattle.dg_meaning.specs.Built.{IsBuiltGoal, IsBuiltForm, AreBuilt}
+use Rattle.dg_meaning.specs.Built.{IsBuiltGoal, IsForm, AreBuilt}
 use Rattle.dg_base.proofs.NodeLemmas.{inside, within_out}
 
 pub all_none : {A : Type 0} (P : A → Type 0) → All P []
@@ -40,9 +40,9 @@ built_inside x gs layer is h = subst (λ l. All IsBuiltGoal (inside l)) is (rest
 pub built_alone : (x : Goal) (gs : List Goal) → AreBuilt (x ∷ gs) → AreBuilt (x ∷ [])
 built_alone x gs h = All-append IsBuiltGoal (goals_within x) [] (front IsBuiltGoal (goals_within x) (goals_of gs) h) (all_none IsBuiltGoal)
 
-pub built_from : (x : Goal) (layer : Goal-F Goal) → out-Goal x ≡ layer → IsBuiltForm layer → All IsBuiltGoal (inside layer) → AreBuilt (x ∷ [])
+pub built_from : (x : Goal) (layer : Goal-F Goal) → out-Goal x ≡ layer → IsForm layer → All IsBuiltGoal (inside layer) → AreBuilt (x ∷ [])
 built_from x layer is h k =
-    All-append IsBuiltGoal (goals_within x) [] (subst (All IsBuiltGoal) (sym (within_out x)) (All-cons IsBuiltGoal x (inside (out-Goal x)) (subst IsBuiltForm (sym is) h) (subst (λ l. All IsBuiltGoal (inside l)) (sym is) k))) (all_none IsBuiltGoal)
+    All-append IsBuiltGoal (goals_within x) [] (subst (All IsBuiltGoal) (sym (within_out x)) (All-cons IsBuiltGoal x (inside (out-Goal x)) (subst IsForm (sym is) h) (subst (λ l. All IsBuiltGoal (inside l)) (sym is) k))) (all_none IsBuiltGoal)
 
 -- lists of goals
 pub lists_built : (lists : List (List Goal)) → All IsBuiltGoal (flat_map goals_of lists) → All AreBuilt lists

@@ -1,15 +1,16 @@
 -- The programs that the interpreter runs. Hold it against docs/LANGUAGE.md, where it says what is built so far.
-use Rattle.std.specs.Prelude.{List}
+use Rattle.std.specs.Prelude.{◌≤◌, List}
 use Rattle.std.specs.List.{All}
 use Rattle.dg_base.specs.declared.program.Goal.{Goal, Goal-F, out-Goal}
-use Rattle.dg_base.specs.declared.program.Goal.TheOpen.{Text, Print, Gap, GapN, Equal, Ask, Either, Once, Not, If, Just, Fail, Stop, Quit, Forever, Exhaust, Stoppable, Compare, Test, Arith}
+use Rattle.dg_base.specs.declared.program.Goal.TheOpen.{Text, Print, Gap, GapN, Equal, Ask, Query, Either, Once, Not, If, Just, Fail, Stop, Quit, Forever, Exhaust, Stoppable, Compare, Test, Arith}
 use Rattle.dg_base.specs.declared.program.Rule.{Rule}
+use Rattle.dg_base.specs.declared.program.ClosureBody.{ClosureBody}
 use Rattle.dg_base.specs.declared.program.Pred.{Pred}
 use Rattle.dg_base.specs.declared.program.CoreProgram.{CoreProgram}
-use Rattle.dg_base.specs.Goals.{terms_held, goals_of}
-use Rattle.dg_meaning.specs.Closures.{HasNoClosure}
+use Rattle.dg_base.specs.Goals.{goals_of}
 
--- Text, a printed value, a gap, spaces, an equation, a query, a choice between goals, a first answer, a negation, a condition, a cut, a failure, an end, an endless choice, a test, a comparison, a calculation, all answers of goals, a stoppable part, and a stop.
+-- Text, a printed value, a gap, spaces, an equation, a query of a predicate or of a closure, a choice between goals, a first answer, a negation,
+-- a condition, a cut, a failure, an end, an endless choice, a test, a comparison, a calculation, all answers of goals, a stoppable part, and a stop.
 abbrev pub IsForm : Goal-F Goal → Type 0
 IsForm (Text name) = Unit {0}
 IsForm (Print a) = Unit {0}
@@ -17,6 +18,7 @@ IsForm (Gap kind) = Unit {0}
 IsForm (GapN a) = Unit {0}
 IsForm (Equal a b) = Unit {0}
 IsForm (Ask pred args many) = Unit {0}
+IsForm (Query a b many) = Unit {0}
 IsForm (Either lists) = Unit {0}
 IsForm (Once goals) = Unit {0}
 IsForm (Not goals) = Unit {0}
@@ -33,23 +35,24 @@ IsForm (Stoppable goals) = Unit {0}
 IsForm Stop = Unit {0}
 IsForm _ = ⊥
 
--- One of these forms, and no closure in the terms that it holds.
-abbrev pub IsBuiltForm : Goal-F Goal → Type 0
-IsBuiltForm x = IsForm x × All HasNoClosure (terms_held x)
-
 -- A goal of one of these forms.
 abbrev pub IsBuiltGoal : Goal → Type 0
-IsBuiltGoal g = IsBuiltForm (out-Goal g)
+IsBuiltGoal g = IsForm (out-Goal g)
 
 -- Goals that are all built, at every depth.
 abbrev pub AreBuilt : List Goal → Type 0
 AreBuilt goals = All IsBuiltGoal (goals_of goals)
 
--- A rule without closures in its head, whose goals are built.
-pub record IsBuiltRule (rule : Rule) : Type 0 where
-  pub head : All HasNoClosure rule.head
-  pub body : AreBuilt rule.body
+-- A rule whose goals are built.
+abbrev pub IsBuiltRule : Rule → Type 0
+IsBuiltRule rule = AreBuilt rule.body
 
--- All rules of a program are built.
-abbrev pub IsBuilt : CoreProgram → Type 0
-IsBuilt p = All (λ (pred : Pred). All IsBuiltRule pred.rules) p.preds
+-- A closure whose goals are built, with its parameter among its own variables.
+pub record IsBuiltBody (closure : ClosureBody) : Type 0 where
+  pub parameter : 1 ≤ closure.own
+  pub body : AreBuilt closure.body
+
+-- All rules and closures of a program are built.
+pub record IsBuilt (p : CoreProgram) : Type 0 where
+  pub preds : All (λ (pred : Pred). All IsBuiltRule pred.rules) p.preds
+  pub closures : All IsBuiltBody p.closures

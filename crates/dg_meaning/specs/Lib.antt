@@ -11,7 +11,6 @@ pub mod Numbers
 pub mod Words
 pub mod Facts
 pub mod Cells
-pub mod Closures
 pub mod Choosing
 pub mod World
 pub mod Pieces

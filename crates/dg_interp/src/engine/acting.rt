@@ -35,6 +35,7 @@ impl<'p> Engine<'p> {
                 };
                 self.ask(query, args.as_slice())
             }
+            Goal::Query(term, arg, many) => self.query(term, arg, *many),
             Goal::Either(lists) => self.either(lists.as_slice()),
             Goal::Once(goals) => self.once(goals.as_slice()),
             Goal::Not(goals) => self.not(goals.as_slice()),
