@@ -1,5 +1,5 @@
 -- Arguments and what stands around a place.
-use Rattle.std.proofs.Common.{◌≡◌, ◌+◌, ◌<◌, ℕ, zero, suc, get_or, List, [], ◌∷◌, Bool, true, false, Option, Some, None, map, drop, refl, sym, ◌∙◌, ap, length, ◌≤◌, arith}
+use Rattle.std.proofs.Common.{◌≡◌, ◌<◌, ℕ, zero, suc, get_or, List, [], ◌∷◌, Bool, true, false, Option, Some, None, map, drop, refl, sym, ◌∙◌, ap, length, ◌≤◌, arith}
 use Rattle.std.specs.Prelude.{if◌then◌else◌}
 use Rattle.std.specs.Borrow.{Bor}
 use Rattle.std.specs.Option.{option_map}

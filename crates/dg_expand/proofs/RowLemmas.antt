@@ -1,5 +1,5 @@
 -- Rows of answers are what the access rules reach.
-use Rattle.std.proofs.Common.{◌≡◌, ◌+◌, ◌-◌, ◌<◌, ◌≤◌, ℕ, zero, suc, List, [], ◌∷◌, ◌++◌, ◌||◌, ◌&&◌, Bool, true, false, Option, Some, None, length, map, take, drop, get_or, refl, sym, ◌∙◌, ap, append_assoc, append-nil, arith}
+use Rattle.std.proofs.Common.{◌≡◌, ◌+◌, ◌<◌, ◌≤◌, ℕ, zero, suc, List, [], ◌∷◌, ◌++◌, ◌||◌, ◌&&◌, Bool, true, false, Option, Some, length, map, take, drop, get_or, refl, sym, ◌∙◌, ap, append_assoc, append-nil, arith}
 use Rattle.std.specs.Prelude.{Vec, if◌then◌else◌}
 use Rattle.std.specs.Global.{Global}
 use Rattle.std.specs.Option.{option_map}
@@ -14,7 +14,7 @@ use Rattle.dg_expand.specs.Putting.{access_view}
 use Rattle.dg_expand.specs.declared.place.Access.{Access as CodeAccess}
 use Rattle.dg_expand.specs.Expanded.{access_in, access_rules}
 use Rattle.dg_expand.specs.Loops.{reaches, loops, first_looping}
-use Rattle.dg_expand.specs.Rows.{first_row, item_rows, first_rows, joined, is_set, is_among, is_here_looping, is_looping, first_numbered, row_at, with_one, rows_of, rows_at}
+use Rattle.dg_expand.specs.Rows.{first_row, first_rows, joined, is_set, is_among, is_here_looping, is_looping, first_numbered, row_at, with_one, rows_of, rows_at}
 
 map_append : {X Y : Type 0} (f : X → Y) (xs ys : List X) → map f (xs ++ ys) ≡ map f xs ++ map f ys
 map_append f [] ys = refl

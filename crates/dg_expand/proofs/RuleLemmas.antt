@@ -1,5 +1,5 @@
 -- Rules that are made one by one.
-use Rattle.std.proofs.Common.{◌≡◌, ℕ, List, [], ◌∷◌, ◌++◌, Bool, map, refl, sym, ◌∙◌, ap, append_assoc}
+use Rattle.std.proofs.Common.{◌≡◌, ℕ, List, [], ◌∷◌, ◌++◌, Bool, map, sym, ◌∙◌, ap, append_assoc}
 use Rattle.std.proofs.lemmas.List.{map-append}
 use Rattle.dg_base.specs.Tree as tree
 use Rattle.dg_base.specs.Tree.{Parts, changes_of}

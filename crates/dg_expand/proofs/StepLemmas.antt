@@ -1,5 +1,5 @@
 -- What is put off, and what is built at once, over the tree that is read.
-use Rattle.std.proofs.Common.{◌≡◌, ◌+◌, ◌-◌, ℕ, zero, suc, List, [], ◌∷◌, ◌++◌, Bool, true, false, not, Option, Some, None, length, map, refl, sym, ◌∙◌, ap, append_assoc, arith}
+use Rattle.std.proofs.Common.{◌≡◌, ◌+◌, ℕ, zero, suc, List, [], ◌∷◌, ◌++◌, Bool, true, false, Option, Some, None, length, map, refl, sym, ◌∙◌, ap, append_assoc}
 use Rattle.std.specs.Borrow.{Bor}
 use Rattle.std.specs.Option.{option_map}
 use Rattle.std.proofs.lemmas.List.{length-map}
@@ -13,12 +13,9 @@ use Rattle.dg_base.specs.declared.tree.Arm.{Arm}
 use Rattle.dg_base.specs.declared.tree.Body.{Body}
 use Rattle.dg_base.specs.declared.tree.Head.{Head}
 use Rattle.dg_base.specs.declared.tree.NowChange.{NowChange}
-use Rattle.dg_base.specs.declared.tree.Stmt
-use Rattle.dg_base.specs.declared.tree.Value
 use Rattle.dg_base.specs.declared.tree.Part
 use Rattle.dg_base.proofs.Views.{part_word_seen, value_seen, head_seen, body_seen, arm_seen, change_seen}
-use Rattle.dg_access.specs.Building.{Built, built_view, closing, list_of_values, list_of_parts, list_of_stmts, list_of_branches, list_of_arms, list_of_changes, asked, wrapped}
-use Rattle.dg_access.specs.declared.work.Close.{Close}
+use Rattle.dg_access.specs.Building.{Built, closing, list_of_values, list_of_parts, list_of_stmts, list_of_branches, list_of_arms, asked}
 use Rattle.dg_access.specs.declared.work.Close.TheVariants as close
 use Rattle.dg_access.specs.declared.work.Asking.{Asking}
 use Rattle.dg_access.specs.declared.work.Wrap.{Wrap}

@@ -12,7 +12,8 @@ abbrev pub IsPut : List Access → List Item → Result (List Item) Refusal → 
 IsPut rules is (Ok new) = (new ≡ put_items rules is) × (first_bad rules new ≡ None)
 IsPut rules is (Err r) = (line : ℕ) × (first_bad rules (put_items rules is) ≡ Some line) × (r ≡ record { kind = BadNow; line = line })
 
--- The items with access rules put in, or why they are refused: the first whose access rule loops or is repeated, or else the first that changes what can't be changed.
+-- The items with access rules put in, or why they are refused: the first whose access rule loops or is repeated, or else the
+-- first that changes what can't be changed.
 abbrev pub IsExpanded : List Item → Result (List Item) Refusal → Type 0
 IsExpanded is (Ok new) = (first_looping (access_rules is) [] is ≡ None) × IsPut (access_rules is) is (Ok new)
 IsExpanded is (Err r) = ((i : Item) × (first_looping (access_rules is) [] is ≡ Some i) × (r ≡ record { kind = AccessLoop; line = i.line }))

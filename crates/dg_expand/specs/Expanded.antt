@@ -7,7 +7,6 @@ use Rattle.dg_base.specs.Names.{builtin_named, name_among, prelude_names}
 use Rattle.dg_base.specs.Tree as tree
 use Rattle.dg_base.specs.Tree.{Parts, Body, Changes, Said, Item}
 use Rattle.dg_base.specs.Mentions.{Thing, query, things_in}
-use Rattle.dg_base.specs.declared.mentions.Role.{Role}
 use Rattle.dg_base.specs.declared.mentions.Role.TheVariants as role
 use Rattle.dg_base.specs.declared.names.Builtin.{Builtin}
 use Rattle.dg_base.specs.declared.names.Builtin.TheVariants as builtin
@@ -74,7 +73,8 @@ is_fixed None = false
 is_fixed (Some builtin.HasParent) = false
 is_fixed (Some b) = true
 
--- A predicate that gets no rule and no change: a built-in but `($ has parent $)`, one that every program has, or one of an access rule of several queries that is still there, since it was negated.
+-- A predicate that gets no rule and no change: a built-in but `($ has parent $)`, one that every program has, or one of an access
+-- rule of several queries that is still there, since it was negated.
 abbrev pub is_closed : List Access → Parts → Bool
 is_closed rules ps = is_fixed (builtin_named (name_of ps)) || (name_among (name_of ps) prelude_names || is_some (rule_for rules ps))
 

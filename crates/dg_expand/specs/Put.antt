@@ -22,7 +22,8 @@ rule_for (r ∷ rs) ps = if bytes_eq r.name (name_of ps) then Some r else rule_f
 abbrev pub Argument : Type 0
 Argument = ℕ → Value × ℕ
 
--- Where something stands: which arguments are put in for which parameters, the number of the access rule's use and of a copied closure, where it stands in one, whether it is itself an argument, and whether a closure is around it.
+-- Where something stands: which arguments are put in for which parameters, the number of the access rule's use and of a copied
+-- closure, where it stands in one, whether it is itself an argument, and whether a closure is around it.
 pub record Place : Type 0 where
   pub given : List (List ℕ × Argument)
   pub use_number : Option ℕ
@@ -201,9 +202,12 @@ abbrev mutual
   pub put_stmt : Level → Place → ℕ → Stmt → Stmt × ℕ
   put_stmt l p n (tree.text w) = (tree.text w, n)
   put_stmt l p n (tree.print v) = made tree.print (put_value l p n v)
-  put_stmt l p n (tree.ask ps) = put_query l n tree.first_answer (rule_for l.rules ps) (λ r. given_by l (moved_from p) r.head ps) (made tree.ask (put_parts l p n ps))
-  put_stmt l p n (tree.ask_all ps) = put_query l n tree.group (rule_for l.rules ps) (λ r. given_by l (moved_from p) r.head ps) (made tree.ask_all (put_parts l p n ps))
-  put_stmt l p n (tree.ask_not ps) = put_query l n tree.not_group (rule_for l.rules ps) (λ r. given_by l (moved_from p) r.head ps) (made tree.ask_not (put_parts l p n ps))
+  put_stmt l p n (tree.ask ps) = put_query l n tree.first_answer (rule_for l.rules ps) (λ r. given_by l (moved_from p) r.head ps)
+      (made tree.ask (put_parts l p n ps))
+  put_stmt l p n (tree.ask_all ps) = put_query l n tree.group (rule_for l.rules ps) (λ r. given_by l (moved_from p) r.head ps)
+      (made tree.ask_all (put_parts l p n ps))
+  put_stmt l p n (tree.ask_not ps) = put_query l n tree.not_group (rule_for l.rules ps) (λ r. given_by l (moved_from p) r.head ps)
+      (made tree.ask_not (put_parts l p n ps))
   put_stmt l p n (tree.group b) = made tree.group (put_body l p n b)
   put_stmt l p n (tree.not_group b) = made tree.not_group (put_body l p n b)
   put_stmt l p n (tree.now cs) = made tree.now (put_changes l p n cs)

@@ -1,5 +1,5 @@
 -- What is built where access rules are put in, and what each step comes to. The proofs alone rest on it.
-use Rattle.std.specs.Prelude.{◌≡◌, ℕ, ◌-◌, List, [], ◌∷◌, ◌++◌, Bool, not, Option, Some, None, length, map, if◌then◌else◌}
+use Rattle.std.specs.Prelude.{◌≡◌, ℕ, ◌-◌, List, [], ◌∷◌, ◌++◌, Bool, Option, Some, None, length, map, if◌then◌else◌}
 use Rattle.std.specs.Borrow.{Bor}
 use Rattle.std.specs.Str.{bytes_eq}
 use Rattle.dg_base.specs.Tree as tree
@@ -15,7 +15,7 @@ use Rattle.dg_access.specs.declared.work.Close.TheVariants as close
 use Rattle.dg_access.specs.declared.work.Wrap.{Wrap}
 use Rattle.dg_access.specs.declared.work.Wrap.TheVariants as wrap
 use Rattle.dg_access.specs.declared.built.Built.{Built as CodeBuilt}
-use Rattle.dg_expand.specs.Put.{Access, Place, Level, level, rule_for, given_by, moved_from, in_item, within, in_closure, in_copy, parameter_of, put_change, one_change, made, put_value, put_values, put_parts, put_stmt, put_stmts, put_body, put_arms, put_changes, changes_in}
+use Rattle.dg_expand.specs.Put.{Access, Place, Level, level, given_by, moved_from, in_item, within, in_closure, in_copy, parameter_of, one_change, put_value, put_values, put_parts, put_stmt, put_stmts, put_body, put_arms, put_changes, changes_in}
 use Rattle.dg_expand.specs.declared.place.Access.{Access as CodeAccess}
 use Rattle.dg_expand.specs.declared.place.Outer.{Outer, fold-Outer}
 use Rattle.dg_expand.specs.declared.place.Outer.TheOpen.{Outer-F, Place-F}
@@ -43,7 +43,13 @@ given_from (Some o) params args = given_by o.at o.place (parts_of (map part_view
 abbrev pub place_step : List Access → ℕ → Place-F (Option Around) Around → Around
 place_step rules mark p = record {
   at = level rules mark p.depth;
-  place = record { given = given_from p.outer p.params.now p.args.now; use_number = p.use_number; copy_number = p.copy_number; moved = p.moved; closed = p.closed };
+  place = record {
+    given = given_from p.outer p.params.now p.args.now;
+    use_number = p.use_number;
+    copy_number = p.copy_number;
+    moved = p.moved;
+    closed = p.closed;
+  };
 }
 
 abbrev pub outer_step : Outer-F (Option Around) Around → Option Around

@@ -76,7 +76,8 @@ pub fn heads_of<'a>(
     set: bool,
     head: &'a Head,
 ) -> Result<Heads, AllocError>
-    ensures heads { IfOk result (λ new. changes_of (map change_view new.heads.items) ≡ (put_changes (around uses.entry at.now).at (around uses.entry at.now).place 0
+    ensures heads { IfOk result (λ new. changes_of (map change_view new.heads.items)
+        ≡ (put_changes (around uses.entry at.now).at (around uses.entry at.now).place 0
         (one_change set (head_view head.now))).0) }
     ensures number { IfOk result (λ new. new.number ≡ (put_changes (around uses.entry at.now).at (around uses.entry at.now).place 0
         (one_change set (head_view head.now))).1) }

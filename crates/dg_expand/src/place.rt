@@ -124,7 +124,8 @@ fn argument_among<'a>(params: &[Part], args: &'a [Part], name: &[u8]) -> Option<
 
 /// The argument of a parameter, and where it stands.
 pub fn argument_at<'a>(at: &Place<'a>, name: &[u8]) -> Option<(&'a Place<'a>, &'a Value)>
-    ensures { (rules : List spec.Access) (mark : ℕ) → spec.argument_for (around_in rules mark at.now).place.given name.now ≡ option_map (argument_given rules mark) result }
+    ensures { (rules : List spec.Access) (mark : ℕ) → spec.argument_for (around_in rules mark at.now).place.given name.now
+        ≡ option_map (argument_given rules mark) result }
 {
     match at.outer {
         Outer::Item => None,
@@ -182,7 +183,8 @@ pub fn within<'a>(
     parts: &'a [Part],
     number: usize,
 ) -> Result<&'a Place<'a>, AllocError>
-    ensures { IfOk result (λ new. around uses.entry new.now ≡ within_around uses.entry at.now (access_view rule.entry) (parts_of (map part_view parts.now)) number) }
+    ensures { IfOk result (λ new. around uses.entry new.now
+        ≡ within_around uses.entry at.now (access_view rule.entry) (parts_of (map part_view parts.now)) number) }
 {
     let outer = placed(uses.bump, Place { moved: true, ..*at })?;
     placed(

@@ -112,7 +112,8 @@ fn add_rules<'a>(
     heads: Heads,
     body: &'a Body,
 ) -> Result<(), AllocError>
-    ensures { OnOk result (map item_view out.new.items ≡ map item_view out.old.items ++ spec.on_line line (spec.rules_of (changes_of (map change_view heads.heads.items))
+    ensures { OnOk result (map item_view out.new.items
+        ≡ map item_view out.old.items ++ spec.on_line line (spec.rules_of (changes_of (map change_view heads.heads.items))
         (put_body (around uses.entry at.now).at (around uses.entry at.now).place heads.number (body_view body.now)).0)) }
 {
     let Heads { mut heads, number } = heads;
@@ -141,7 +142,8 @@ fn put_rule<'a>(
     body: &'a Body,
 ) -> Result<(), AllocError>
     ensures { OnOk result (map item_view out.new.items ≡ map item_view out.old.items ++ spec.on_line line
-        (spec.put_rule (level (map access_view uses.entry.rules.now) uses.entry.mark (length uses.entry.rules.now)) set (head_view head.now) (body_view body.now))) }
+        (spec.put_rule (level (map access_view uses.entry.rules.now) uses.entry.mark (length uses.entry.rules.now)) set
+        (head_view head.now) (body_view body.now))) }
 {
     let at = standing_in(uses, uses.rules.len())?;
     let heads = heads_of(alloc, uses, at, set, head)?;

@@ -337,7 +337,8 @@ fn look_choice<'a>(
     arms: &'a [Arm],
     other: &'a Option<Body>,
 ) -> Result<(), AllocError>
-    ensures { OnOk result (IsPutOff at.now (λ a. after_stmt a (choice_view (map arm_view arms.now) (option_map body_view other.now))) left.old.items left.new.items) }
+    ensures { OnOk result (IsPutOff at.now (λ a. after_stmt a (choice_view (map arm_view arms.now) (option_map body_view other.now)))
+        left.old.items left.new.items) }
 {
     match other {
         None => put_off(left, Close::If(arms.len()), Work::Arms(at, arms)),

@@ -1,4 +1,4 @@
-use Rattle.std.proofs.Common.{◌+◌, ℕ, List, [], ◌∷◌, ◌++◌, ◌||◌, ◌&&◌, Bool, drop, refl, sym, ◌∙◌, ap, append_assoc}
+use Rattle.std.proofs.Common.{◌+◌, List, [], ◌∷◌, ◌++◌, ◌||◌, ◌&&◌, Bool, drop, refl, sym, ◌∙◌, ap, append_assoc}
 use Rattle.dg_expand.specs.Rows.{joined, is_set}
 use Rattle.dg_expand.proofs.RowLemmas.{joined_set}
 use Rattle.dg_expand.proofs.loops.joined.Goals as goal
