@@ -19,7 +19,8 @@ fn is_unbuilt_query(builtin: Builtin) -> bool
     ensures { result ≡ spec.is_unbuilt_query builtin }
 {
     match builtin {
-        Builtin::Equal | Builtin::Test(_) | Builtin::Compare(_) | Builtin::Arith(_) => false,
+        Builtin::Equal | Builtin::Test(_) => false,
+        Builtin::Compare(_) | Builtin::Arith(_) | Builtin::Random => false,
         Builtin::Gap(_) | Builtin::Spaces => false,
         Builtin::Fail | Builtin::Just | Builtin::Stop | Builtin::Quit => false,
         Builtin::RepeatForever | Builtin::Query | Builtin::QueryWith => false,

@@ -97,8 +97,8 @@ module _ (x : Goal) (ts : List Term) (held : terms_held (out-Goal x) ≡ ts) (ol
 
   module _ (store : ListBindings) (stack : Vec Ref Global) (ready : IsReady old) (k : Kept (store_in old.store) (store_in store)) (saved : (ms : List Saved) → KeepsPlaces old.store ms → KeepsPlaces store ms)
       (grew : (program : CoreProgram) → old.program.now ≡ program → (store_in store).state ≡ record (store_in old.store).state { heap = (store_in old.store).state.heap + cells program ts }) where
-    agrees : (g : Game) (n : ℕ) (w : World) (run : Run) (st : TakesAt x old g n w run) → Agrees (store_in store) (behind x old g n w run st)
-    agrees g n w run st =
+    pub written_agrees : (g : Game) (n : ℕ) (w : World) (run : Run) (st : TakesAt x old g n w run) → Agrees (store_in store) (behind x old g n w run st)
+    written_agrees g n w run st =
         let here = grew g.program st.at.inside.program in
         let form : cells g.program (terms_held (out-Goal x)) ≡ cells g.program ts = ap (cells g.program) held in
         record {
@@ -121,8 +121,8 @@ module _ (x : Goal) (ts : List Term) (held : terms_held (out-Goal x) ≡ ts) (ol
         record {
           world = v;
           adds = record { prints_are = a.prints_are; typed = refl };
-          holds = acts_on old store stack ready k saved g n w v run st.at st.at.inside.world act r (agrees g n w run st) refl refl
-              (subst (λ o. After g st.at.inside.lives st.at.ways n o run) (is g r t st.at.inside.program (agrees g n w run st).bound) (comes_of x old g n w run st));
+          holds = acts_on old store stack ready k saved g n w v run st.at st.at.inside.world act r (written_agrees g n w run st) refl refl
+              (subst (λ o. After g st.at.inside.lives st.at.ways n o run) (is g r t st.at.inside.program (written_agrees g n w run st).bound) (comes_of x old g n w run st));
         }
 
 -- ## A unification

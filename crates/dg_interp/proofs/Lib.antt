@@ -37,3 +37,4 @@ pub mod Ariths
 pub mod ThreeLemmas
 pub mod Spaces
 pub mod Starting
+pub mod Throws

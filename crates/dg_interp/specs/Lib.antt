@@ -12,3 +12,4 @@ pub mod Comparing
 pub mod Giving
 pub mod Lacks
 pub mod Outside
+pub mod Throwing

@@ -25,6 +25,7 @@ mod giving;
 mod passing;
 mod querying;
 mod stopping;
+mod throwing;
 
 use crate::frames::{Choice, Env, Frame, Left, Mark, Query};
 use crate::lack::{Lack, lacking};

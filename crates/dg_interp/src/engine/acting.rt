@@ -28,6 +28,7 @@ impl<'p> Engine<'p> {
             Goal::Test(kind, term) => self.test(*kind, term),
             Goal::Compare(op, a, b) => self.compare(*op, a, b),
             Goal::Arith(op, a, b, into) => self.arith(*op, a, b, into),
+            Goal::Random(from, to, into) => self.random(from, to, into),
             Goal::Ask(pred, args, many) => {
                 let query = Query {
                     pred: *pred,
