@@ -1,4 +1,5 @@
--- What an item mentions, in the order in which it stands there: hold it against docs/LANGUAGE.md, "Names" and "Limits", and the chapters of the Dialog manual on rules, values and control.
+-- What an item mentions, in the order in which it stands there: hold it against docs/LANGUAGE.md, "Names" and "Limits", and the chapters of the
+-- Dialog manual on rules, values and control.
 use Rattle.std.specs.Prelude.{ℕ, ◌+◌, List, [], ◌∷◌, ◌++◌, Bool, true, false}
 use Rattle.dg_base.specs.Tree as tree
 use Rattle.dg_base.specs.Tree.{Parts, Value, Values, Stmt, Stmts, Body, Arms, Changes, Said, Item}

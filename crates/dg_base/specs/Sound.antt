@@ -157,7 +157,8 @@ pub record IsPlaceOf (program : Core) (place : Place) : Type 0 where
 
 -- the goals of all rules and closures, at every depth
 abbrev pub all_goals : Core → List Goal
-all_goals program = flat_map (λ pred. flat_map (λ rule. goals_of rule.body) pred.rules) program.preds ++ flat_map (λ closure. goals_of closure.body) program.closures
+all_goals program = flat_map (λ pred. flat_map (λ rule. goals_of rule.body) pred.rules) program.preds ++
+    flat_map (λ closure. goals_of closure.body) program.closures
 
 -- two selects of one site have the same mode and as many lists
 abbrev pub SameSite : Goal-F Goal → Goal-F Goal → Type 0

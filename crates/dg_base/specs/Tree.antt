@@ -1,4 +1,5 @@
--- The tree of a source as plain data with a list type for each kind of list: hold it against the chapters of the Dialog manual on rules, values, control and the world.
+-- The tree of a source as plain data with a list type for each kind of list: hold it against the chapters of the Dialog manual on rules, values,
+-- control and the world.
 use Rattle.std.specs.Prelude.{ℕ, List, [], ◌∷◌, Bool}
 use Rattle.dg_base.specs.declared.program.Mode.{Mode}
 

@@ -86,31 +86,38 @@ change_step c = (c.head, c.set)
 
 -- What a part stands for.
 abbrev pub part_view : Part → tree.Part
-part_view = fold-Part tree.Part tree.Stmt tree.Value (tree.Body × tree.Body) tree.Body tree.Parts (tree.Parts × Bool) part_step stmt_step value_step arm_step body_step head_step change_step
+part_view = fold-Part tree.Part tree.Stmt tree.Value (tree.Body × tree.Body) tree.Body tree.Parts
+    (tree.Parts × Bool) part_step stmt_step value_step arm_step body_step head_step change_step
 
 -- What a statement stands for.
 abbrev pub stmt_view : Stmt → tree.Stmt
-stmt_view = fold-Stmt tree.Part tree.Stmt tree.Value (tree.Body × tree.Body) tree.Body tree.Parts (tree.Parts × Bool) part_step stmt_step value_step arm_step body_step head_step change_step
+stmt_view = fold-Stmt tree.Part tree.Stmt tree.Value (tree.Body × tree.Body) tree.Body tree.Parts
+    (tree.Parts × Bool) part_step stmt_step value_step arm_step body_step head_step change_step
 
 -- What a value stands for.
 abbrev pub value_view : Value → tree.Value
-value_view = fold-Value tree.Part tree.Stmt tree.Value (tree.Body × tree.Body) tree.Body tree.Parts (tree.Parts × Bool) part_step stmt_step value_step arm_step body_step head_step change_step
+value_view = fold-Value tree.Part tree.Stmt tree.Value (tree.Body × tree.Body) tree.Body tree.Parts
+    (tree.Parts × Bool) part_step stmt_step value_step arm_step body_step head_step change_step
 
 -- What a condition with its body stands for.
 abbrev pub arm_view : Arm → tree.Body × tree.Body
-arm_view = fold-Arm tree.Part tree.Stmt tree.Value (tree.Body × tree.Body) tree.Body tree.Parts (tree.Parts × Bool) part_step stmt_step value_step arm_step body_step head_step change_step
+arm_view = fold-Arm tree.Part tree.Stmt tree.Value (tree.Body × tree.Body) tree.Body tree.Parts
+    (tree.Parts × Bool) part_step stmt_step value_step arm_step body_step head_step change_step
 
 -- What a body stands for.
 abbrev pub body_view : Body → tree.Body
-body_view = fold-Body tree.Part tree.Stmt tree.Value (tree.Body × tree.Body) tree.Body tree.Parts (tree.Parts × Bool) part_step stmt_step value_step arm_step body_step head_step change_step
+body_view = fold-Body tree.Part tree.Stmt tree.Value (tree.Body × tree.Body) tree.Body tree.Parts
+    (tree.Parts × Bool) part_step stmt_step value_step arm_step body_step head_step change_step
 
 -- What a head stands for.
 abbrev pub head_view : Head → tree.Parts
-head_view = fold-Head tree.Part tree.Stmt tree.Value (tree.Body × tree.Body) tree.Body tree.Parts (tree.Parts × Bool) part_step stmt_step value_step arm_step body_step head_step change_step
+head_view = fold-Head tree.Part tree.Stmt tree.Value (tree.Body × tree.Body) tree.Body tree.Parts
+    (tree.Parts × Bool) part_step stmt_step value_step arm_step body_step head_step change_step
 
 -- What one change stands for.
 abbrev pub change_view : NowChange → tree.Parts × Bool
-change_view = fold-NowChange tree.Part tree.Stmt tree.Value (tree.Body × tree.Body) tree.Body tree.Parts (tree.Parts × Bool) part_step stmt_step value_step arm_step body_step head_step change_step
+change_view = fold-NowChange tree.Part tree.Stmt tree.Value (tree.Body × tree.Body) tree.Body tree.Parts
+    (tree.Parts × Bool) part_step stmt_step value_step arm_step body_step head_step change_step
 
 -- What one branch stands for.
 abbrev pub branch_view : List Stmt → tree.Stmts

@@ -1,4 +1,5 @@
--- Typed characters: which are kept, and as what (the Z-Machine Standard 1.1, section 3.8, has the table of extra characters; what becomes of the others is this project's profile).
+-- Typed characters: which are kept, and as what (the Z-Machine Standard 1.1, section 3.8, has the table of extra characters; what becomes of the
+-- others is this project's profile).
 use Rattle.std.specs.Prelude.{ℕ, ◌+◌, List, [], ◌∷◌, Option, Some, None, Bool, is_some, nat_lt, ◌==◌, ◌&&◌, ◌||◌, if◌then◌else◌}
 
 -- The 69 characters past ASCII, in Unicode: äöüÄÖÜß»«ëïÿËÏáéíóúýÁÉÍÓÚÝàèìòùÀÈÌÒÙâêîôûÂÊÎÔÛåÅøØãñõÃÑÕæÆçÇþðÞÐ£œŒ¡¿

@@ -49,7 +49,8 @@ fn put_gathering<'a>(
     into: &'a Value,
 )
     requires { vec_len left.old + 4 ≤ vec_capacity left.old }
-    ensures { left.new.items ≡ left.old.items ++ Work.Value twice into.entry ∷ Work.Body twice body.entry ∷ Work.Value twice value.entry ∷ Work.Met (Mention.Other form) ∷ [] }
+    ensures { left.new.items ≡ left.old.items ++ Work.Value twice into.entry ∷ Work.Body twice body.entry ∷ Work.Value twice value.entry ∷
+        Work.Met (Mention.Other form) ∷ [] }
 {
     left.push_reserved(Work::Value(twice, into));
     left.push_reserved(Work::Body(twice, body));
@@ -68,7 +69,8 @@ fn put_form<'a>(left: &mut Vec<Work<'a>>, form: Form, inner: Work<'a>)
 
 fn take_parts<'a>(left: &mut Vec<Work<'a>>, twice: bool, parts: &'a [Part])
     requires { vec_len left.old + 4 ≤ vec_capacity left.old }
-    ensures { IsPut (walk (of_parts twice (parts_of (map part_view parts.now)))) (parts_size (parts_of (map part_view parts.now))) left.old.items left.new.items }
+    ensures { IsPut (walk (of_parts twice (parts_of (map part_view parts.now))))
+        (parts_size (parts_of (map part_view parts.now))) left.old.items left.new.items }
 {
     match parts {
         [] => {}
@@ -85,7 +87,8 @@ fn take_parts<'a>(left: &mut Vec<Work<'a>>, twice: bool, parts: &'a [Part])
 
 fn take_nested<'a>(left: &mut Vec<Work<'a>>, twice: bool, parts: &'a [Part])
     requires { vec_len left.old + 4 ≤ vec_capacity left.old }
-    ensures { IsPut (walk (of_nested twice (parts_of (map part_view parts.now)))) (parts_size (parts_of (map part_view parts.now))) left.old.items left.new.items }
+    ensures { IsPut (walk (of_nested twice (parts_of (map part_view parts.now))))
+        (parts_size (parts_of (map part_view parts.now))) left.old.items left.new.items }
 {
     match parts {
         [] => {}
@@ -102,7 +105,8 @@ fn take_nested<'a>(left: &mut Vec<Work<'a>>, twice: bool, parts: &'a [Part])
 
 fn take_values<'a>(left: &mut Vec<Work<'a>>, twice: bool, values: &'a [Value])
     requires { vec_len left.old + 4 ≤ vec_capacity left.old }
-    ensures { IsPut (walk (of_values twice (values_of (map value_view values.now)))) (values_size (values_of (map value_view values.now))) left.old.items left.new.items }
+    ensures { IsPut (walk (of_values twice (values_of (map value_view values.now))))
+        (values_size (values_of (map value_view values.now))) left.old.items left.new.items }
 {
     match values {
         [] => {}
@@ -122,7 +126,8 @@ fn take_list<'a>(
     tail: &'a Option<Boxed<Value>>,
 )
     requires { vec_len left.old + 4 ≤ vec_capacity left.old }
-    ensures { IsPut (walk (of_value twice (list_view (map value_view values.now) (option_map value_view tail.now)))) (value_size (list_view (map value_view values.now) (option_map value_view tail.now))) left.old.items left.new.items }
+    ensures { IsPut (walk (of_value twice (list_view (map value_view values.now) (option_map value_view tail.now))))
+        (value_size (list_view (map value_view values.now) (option_map value_view tail.now))) left.old.items left.new.items }
 {
     let list = Work::Met(Mention::Other(Form::List));
     match tail {
@@ -165,7 +170,8 @@ fn take_value<'a>(left: &mut Vec<Work<'a>>, twice: bool, value: &'a Value)
 
 fn take_stmts<'a>(left: &mut Vec<Work<'a>>, twice: bool, stmts: &'a [Stmt])
     requires { vec_len left.old + 4 ≤ vec_capacity left.old }
-    ensures { IsPut (walk (of_stmts twice (stmts_of (map stmt_view stmts.now)))) (stmts_size (stmts_of (map stmt_view stmts.now))) left.old.items left.new.items }
+    ensures { IsPut (walk (of_stmts twice (stmts_of (map stmt_view stmts.now))))
+        (stmts_size (stmts_of (map stmt_view stmts.now))) left.old.items left.new.items }
 {
     match stmts {
         [] => {}
@@ -175,7 +181,8 @@ fn take_stmts<'a>(left: &mut Vec<Work<'a>>, twice: bool, stmts: &'a [Stmt])
 
 fn take_branches<'a>(left: &mut Vec<Work<'a>>, twice: bool, branches: &'a [Items<Stmt>])
     requires { vec_len left.old + 4 ≤ vec_capacity left.old }
-    ensures { IsPut (walk (of_branches twice (branches_view (map (map stmt_view) branches.now)))) (branches_size (branches_view (map (map stmt_view) branches.now))) left.old.items left.new.items }
+    ensures { IsPut (walk (of_branches twice (branches_view (map (map stmt_view) branches.now))))
+        (branches_size (branches_view (map (map stmt_view) branches.now))) left.old.items left.new.items }
 {
     match branches {
         [] => {}
@@ -204,7 +211,8 @@ fn take_arms<'a>(left: &mut Vec<Work<'a>>, twice: bool, arms: &'a [Arm])
 
 fn take_changes<'a>(left: &mut Vec<Work<'a>>, twice: bool, changes: &'a [NowChange])
     requires { vec_len left.old + 4 ≤ vec_capacity left.old }
-    ensures { IsPut (walk (of_changes twice (changes_of (map change_view changes.now)))) (changes_size (changes_of (map change_view changes.now))) left.old.items left.new.items }
+    ensures { IsPut (walk (of_changes twice (changes_of (map change_view changes.now))))
+        (changes_size (changes_of (map change_view changes.now))) left.old.items left.new.items }
 {
     match changes {
         [] => {}
@@ -219,7 +227,8 @@ fn take_changes<'a>(left: &mut Vec<Work<'a>>, twice: bool, changes: &'a [NowChan
 
 fn take_choice<'a>(left: &mut Vec<Work<'a>>, twice: bool, arms: &'a [Arm], other: &'a Option<Body>)
     requires { vec_len left.old + 4 ≤ vec_capacity left.old }
-    ensures { IsPut (walk (of_stmt twice (choice_view (map arm_view arms.now) (option_map body_view other.now)))) (stmt_size (choice_view (map arm_view arms.now) (option_map body_view other.now))) left.old.items left.new.items }
+    ensures { IsPut (walk (of_stmt twice (choice_view (map arm_view arms.now) (option_map body_view other.now))))
+        (stmt_size (choice_view (map arm_view arms.now) (option_map body_view other.now))) left.old.items left.new.items }
 {
     let choice = Work::Met(Mention::Other(Form::If));
     match other {
@@ -235,7 +244,8 @@ fn take_choice<'a>(left: &mut Vec<Work<'a>>, twice: bool, arms: &'a [Arm], other
 
 fn take_query<'a>(left: &mut Vec<Work<'a>>, twice: bool, role: Role, head: &'a Head)
     requires { vec_len left.old + 4 ≤ vec_capacity left.old }
-    ensures { IsPut (walk (thing (query role (head_view head.now)) (of_parts twice (head_view head.now)))) (2 + parts_size (head_view head.now)) left.old.items left.new.items }
+    ensures { IsPut (walk (thing (query role (head_view head.now)) (of_parts twice (head_view head.now))))
+        (2 + parts_size (head_view head.now)) left.old.items left.new.items }
 {
     put_two(
         left,

@@ -143,7 +143,8 @@ pub fn lex(alloc: Global, source: &[u8]) -> Result<Vec<Token<'_>>, ReadFault>
     ensures accepted { IfOk result (λ _. bad.refusal_of source.now ≡ None) }
     ensures memory { IsErrOf result ReadFault.OutOfMemory → bad.refusal_of source.now ≡ None }
     ensures some { IsErrOf result ReadFault.OutOfMemory → 0 < length source.now }
-    ensures refused { IfErr result (λ fault. (fault ≡ ReadFault.OutOfMemory) ⊎ ((r : _) × (bad.refusal_of source.now ≡ Some r) × (fault ≡ ReadFault.Refused r))) }
+    ensures refused { IfErr result (λ fault. (fault ≡ ReadFault.OutOfMemory) ⊎
+        ((r : _) × (bad.refusal_of source.now ≡ Some r) × (fault ≡ ReadFault.Refused r))) }
 {
     if let Some(refusal) = refusal_of(source) {
         return Err(ReadFault::Refused(refusal));

@@ -81,7 +81,8 @@ are_many_names named = nat_lt 1000 (length named.objects) || (nat_lt 4000 (lengt
 
 -- A count in all passes its number.
 abbrev pub are_many : List Item → Bool
-are_many is = are_many_names (names_of is) || (nat_lt 16000 (rules_in is) || (nat_lt 16000 (weight_of closures_at (mentioned is)) || nat_lt 500 (weight_of selects_at (mentioned is))))
+are_many is = are_many_names (names_of is) ||
+    (nat_lt 16000 (rules_in is) || (nat_lt 16000 (weight_of closures_at (mentioned is)) || nat_lt 500 (weight_of selects_at (mentioned is))))
 
 -- The names of these items, or why they are refused.
 abbrev pub IsNamed : List Item → Result Named Refusal → Type 0

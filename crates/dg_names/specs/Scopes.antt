@@ -41,7 +41,11 @@ merged s inner = record { names = with_names s.names inner.names; own = s.own; s
 
 -- A scope behind these mentions.
 abbrev pub grown : Scope → Mentions → Scope
-grown s ms = record { names = with_names s.names (names_in counted_in (things ms)); own = s.own + own_in ms; shared = s.shared + weight_of shared_at (things ms) }
+grown s ms = record {
+  names = with_names s.names (names_in counted_in (things ms));
+  own = s.own + own_in ms;
+  shared = s.shared + weight_of shared_at (things ms);
+}
 
 -- Whether there are too many variables somewhere, from this scope in those on.
 abbrev pub passes : List Met → Scope → List Scope → Bool

@@ -29,7 +29,8 @@ stack_of (s ∷ ss) = stack_of ss ++ scope_view s ∷ []
 
 -- What was met was noted, and this says whether there are too many variables there.
 pub record IsNoted (m : Met) (old new : Scopes) (over : Bool) : Type 0 where
-  pub counted : (ms : List Met) → passes (m ∷ ms) (scope_view old.inner) (stack_of old.outer.items) ≡ (over || passes ms (scope_view new.inner) (stack_of new.outer.items))
+  pub counted : (ms : List Met) → passes (m ∷ ms) (scope_view old.inner) (stack_of old.outer.items) ≡
+      (over || passes ms (scope_view new.inner) (stack_of new.outer.items))
   pub kept : over ≡ false → is_over (scope_view new.inner) ≡ false
 
 -- ---- names and numbers

@@ -60,7 +60,8 @@ fn add_words(alloc: Global, names: &mut IndexSet<Vec<u8>>, words: &[Name]) -> Re
 
 fn tell_names(alloc: Global, sets: &mut Sets, mention: Mention<'_>) -> Result<(), AllocError>
     ensures preds { OnOk result (listed sets.new.preds ≡ with_names (listed sets.old.preds) (names_in predicate_in (thing_at (mention_view mention.entry)))) }
-    ensures objects { OnOk result (listed sets.new.objects ≡ with_names (listed sets.old.objects) (names_in object_in (thing_at (mention_view mention.entry)))) }
+    ensures objects { OnOk result (listed sets.new.objects ≡
+        with_names (listed sets.old.objects) (names_in object_in (thing_at (mention_view mention.entry)))) }
     ensures words { OnOk result (listed sets.new.words ≡ with_names (listed sets.old.words) (names_in word_in (thing_at (mention_view mention.entry)))) }
 {
     match mention {

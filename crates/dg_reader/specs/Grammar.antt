@@ -55,7 +55,8 @@ keyword_words (end_word mode) = end_words mode
 
 -- The keywords without a value.
 abbrev pub bare_keywords : List Bare
-bare_keywords = now_word ∷ if_word ∷ then_word ∷ elseif_word ∷ else_word ∷ endif_word ∷ or_word ∷ exhaust_word ∷ stoppable_word ∷ select_word ∷ end_word Stopping ∷ end_word Cycling ∷ end_word AtRandom ∷ end_word PurelyAtRandom ∷ end_word ThenAtRandom ∷ end_word ThenPurelyAtRandom ∷ []
+bare_keywords = now_word ∷ if_word ∷ then_word ∷ elseif_word ∷ else_word ∷ endif_word ∷ or_word ∷ exhaust_word ∷ stoppable_word ∷ select_word ∷
+    end_word Stopping ∷ end_word Cycling ∷ end_word AtRandom ∷ end_word PurelyAtRandom ∷ end_word ThenAtRandom ∷ end_word ThenPurelyAtRandom ∷ []
 
 -- Whether these parts are exactly these words.
 abbrev pub are_words : Parts → List (List ℕ) → Bool
@@ -80,7 +81,8 @@ abbrev pub keyword_with : List ℕ → Value → Option Keyword
 keyword_with w v =
     if is_query v
     then None
-    else if bytes_eq w (codes "collect") then Some (collect_word v) else if bytes_eq w (codes "accumulate") then Some (accumulate_word v) else if bytes_eq w (codes "into") then Some (into_word v) else None
+    else if bytes_eq w (codes "collect") then Some (collect_word v) else if bytes_eq w (codes "accumulate") then Some (accumulate_word v)
+    else if bytes_eq w (codes "into") then Some (into_word v) else None
 
 -- The keyword that a parenthesis with exactly these parts is.
 abbrev pub keyword_of : Parts → Option Keyword
@@ -228,7 +230,8 @@ abbrev mutual
   ValueAt p anonymous K = TokenAt anon K
   ValueAt p (variable w) K = TokenAt (var w) K
   ValueAt p (plain_list vs) K = TokenAt open_square (ElementsAt (has_choices p) vs (TokenAt close_square K))
-  ValueAt p (tailed_list vs v) K = Where (HasElement vs) (TokenAt open_square (ElementsAt (has_choices p) vs (TokenAt bar (ValueAt (behind_bar (has_choices p)) v (TokenAt close_square K)))))
+  ValueAt p (tailed_list vs v) K = Where (HasElement vs)
+      (TokenAt open_square (ElementsAt (has_choices p) vs (TokenAt bar (ValueAt (behind_bar (has_choices p)) v (TokenAt close_square K)))))
   ValueAt p (closure b) K = TokenAt open_brace (BodyAt b (TokenAt close_brace K))
   ValueAt p (nested ps) K = Where (TakesQuery p) (Parenthesis ps (λ F. PartsAt (of_nested (has_choices p)) ps F) K)
   ValueAt p (word_choice ws) K = OneAt (SpellsChoice p ws) K
@@ -250,8 +253,10 @@ abbrev mutual
   StmtAt (choice_else as' b) K = Where (HasArm as') (ArmsAt if_word as' (KeywordAt else_word (BodyAt b (KeywordAt endif_word K))))
   StmtAt (exhaust s) K = KeywordAt exhaust_word (StmtAt s K)
   StmtAt (stoppable s) K = KeywordAt stoppable_word (StmtAt s K)
-  StmtAt (collect v b into) K = WordAndValue (codes "collect") (λ F. ValueAt of_query v F) (BodyAt b (WordAndValue (codes "into") (λ F. ValueAt of_query into F) K))
-  StmtAt (accumulate v b into) K = WordAndValue (codes "accumulate") (λ F. ValueAt of_query v F) (BodyAt b (WordAndValue (codes "into") (λ F. ValueAt of_query into F) K))
+  StmtAt (collect v b into) K = WordAndValue (codes "collect") (λ F. ValueAt of_query v F)
+      (BodyAt b (WordAndValue (codes "into") (λ F. ValueAt of_query into F) K))
+  StmtAt (accumulate v b into) K = WordAndValue (codes "accumulate") (λ F. ValueAt of_query v F)
+      (BodyAt b (WordAndValue (codes "into") (λ F. ValueAt of_query into F) K))
   StmtAt (select mode b) K = KeywordAt select_word (BodyAt b (KeywordAt (end_word mode) K))
   StmtAt (first_answer b) K = λ ts. ⊥
 

@@ -1,4 +1,5 @@
--- The rules that items keep beside the grammar: hold them against docs/LANGUAGE.md, "Head rules" and "Reserved names", and the chapters of the Dialog manual on rules, access predicates and global variables.
+-- The rules that items keep beside the grammar: hold them against docs/LANGUAGE.md, "Head rules" and "Reserved names", and the chapters of the Dialog
+-- manual on rules, access predicates and global variables.
 use Rattle.std.specs.Prelude.{ℕ, ◌&&◌, ◌||◌, List, Bool, true, false, not, Option, Some, None, codes, if◌then◌else◌}
 use Rattle.std.specs.Option.{is_some}
 use Rattle.std.specs.Str.{bytes_eq}
@@ -172,4 +173,5 @@ keeps_topic_rule behind_topic said = behind_topic || not (has_topic said)
 
 -- Why an item is refused: a refused name stands in it, or else it breaks a rule.
 abbrev pub fault_of : Bool → Said → Option Kind
-fault_of behind_topic said = if has_refused said then Some NotInProfile else if keeps_topic_rule behind_topic said && keeps_rules said then None else Some BadHead
+fault_of behind_topic said = if has_refused said then Some NotInProfile else if keeps_topic_rule behind_topic said && keeps_rules said then None
+    else Some BadHead

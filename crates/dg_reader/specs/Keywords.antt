@@ -24,7 +24,8 @@ valued_view Into v = grammar.into_word v
 
 -- The keyword with a value that a word begins.
 abbrev pub valued_word : List ℕ → Option Valued
-valued_word w = if bytes_eq w (codes "collect") then Some Collect else if bytes_eq w (codes "accumulate") then Some Accumulate else if bytes_eq w (codes "into") then Some Into else None
+valued_word w = if bytes_eq w (codes "collect") then Some Collect else if bytes_eq w (codes "accumulate") then Some Accumulate
+    else if bytes_eq w (codes "into") then Some Into else None
 
 -- The keyword with a value that these parts are.
 abbrev pub valued_in : List tree.Part → Option Valued

@@ -1,4 +1,5 @@
--- The items of a source, from its tokens: hold it against docs/LANGUAGE.md, "Grammar", and against docs/REFUSALS.md on unclosed constructs, unexpected tokens, refused names and bad heads.
+-- The items of a source, from its tokens: hold it against docs/LANGUAGE.md, "Grammar", and against docs/REFUSALS.md on unclosed constructs,
+-- unexpected tokens, refused names and bad heads.
 use Rattle.std.specs.Prelude.{◌≡◌, ◌&&◌, ◌||◌, ℕ, zero, suc, List, [], ◌∷◌, ◌++◌, Bool, true, false, not, map, Some, None, unwrap_or, Option, Result, Ok, Err, if◌then◌else◌}
 use Rattle.dg_base.specs.Tree.{Parts, Body, Said, topic, rule, deny, access, global_variable, Item}
 use Rattle.dg_base.specs.declared.refusal.Refusal.{Refusal}
@@ -102,12 +103,16 @@ line_at first others zero = first.line
 line_at first [] (suc index) = first.line
 line_at first (next ∷ others) (suc index) = line_at next others index
 
--- The first item of these tokens is refused: it isn't closed; or a token stands that no item goes on with, and its line is told; or it has a shape, and a fault.
+-- The first item of these tokens is refused: it isn't closed; or a token stands that no item goes on with, and its line is told; or it has a shape,
+-- and a fault.
 pub data IsRefusedAt (before : Bool) (ts : List Seen) (r : Refusal) : Type 0 where
-  not_closed : (first : Seen) → (others rest : List Seen) → IsFront ts first others rest → IsUnclosed first.first (toks (first ∷ others)) → r ≡ record { kind = Unclosed; line = first.line } → IsRefusedAt before ts r
-  not_expected : (first : Seen) → (others rest : List Seen) → IsFront ts first others rest → (index : ℕ) → IsUnexpectedAt first.first (toks (first ∷ others)) index
+  not_closed : (first : Seen) → (others rest : List Seen) → IsFront ts first others rest → IsUnclosed first.first (toks (first ∷ others)) →
+      r ≡ record { kind = Unclosed; line = first.line } → IsRefusedAt before ts r
+  not_expected : (first : Seen) → (others rest : List Seen) → IsFront ts first others rest → (index : ℕ) →
+      IsUnexpectedAt first.first (toks (first ∷ others)) index
       → r ≡ record { kind = Unexpected; line = line_at first others index } → IsRefusedAt before ts r
-  not_allowed : (first : Seen) → (others rest : List Seen) → IsFront ts first others rest → (shape : Shape) → InItem first.first (toks (first ∷ others)) shape → IsFaultOf before first.line shape r → IsRefusedAt before ts r
+  not_allowed : (first : Seen) → (others rest : List Seen) → IsFront ts first others rest → (shape : Shape) →
+      InItem first.first (toks (first ∷ others)) shape → IsFaultOf before first.line shape r → IsRefusedAt before ts r
 
 -- ---- all items
 

@@ -25,7 +25,8 @@ fn close_head(
     sign: Sign,
     parts: Items<Part>,
 ) -> Result<(), Stop>
-    ensures { Moves (machine.head_closes (keyword_of (tree.parts_of (map part_view parts))) (sign_view sign) (tree.parts_of (map part_view parts)) (stack_view stack.old.items)) result (stack_view stack.new.items) }
+    ensures { Moves (machine.head_closes (keyword_of (tree.parts_of (map part_view parts))) (sign_view sign) (tree.parts_of (map part_view parts))
+        (stack_view stack.old.items)) result (stack_view stack.new.items) }
 {
     match close_parenthesis(parts) {
         Closed::Query(parts) => {
@@ -39,7 +40,8 @@ fn close_head(
 }
 
 fn close_nested(stack: &mut Vec<Frame>, parts: Items<Part>) -> Result<(), Stop>
-    ensures { Moves (machine.nested_closes (keyword_of (tree.parts_of (map part_view parts))) (tree.parts_of (map part_view parts)) (stack_view stack.old.items)) result (stack_view stack.new.items) }
+    ensures { Moves (machine.nested_closes (keyword_of (tree.parts_of (map part_view parts))) (tree.parts_of (map part_view parts))
+        (stack_view stack.old.items)) result (stack_view stack.new.items) }
 {
     match close_parenthesis(parts) {
         Closed::Query(parts) => {
@@ -72,7 +74,8 @@ fn close_query(
     asking: Asking,
     parts: Items<Part>,
 ) -> Result<(), Stop>
-    ensures { Moves (machine.query_closes (keyword_of (tree.parts_of (map part_view parts))) (asking_view asking) (tree.parts_of (map part_view parts)) (stack_view stack.old.items)) result (stack_view stack.new.items) }
+    ensures { Moves (machine.query_closes (keyword_of (tree.parts_of (map part_view parts))) (asking_view asking) (tree.parts_of (map part_view parts))
+        (stack_view stack.old.items)) result (stack_view stack.new.items) }
 {
     match close_parenthesis(parts) {
         Closed::Query(parts) => {
@@ -91,7 +94,8 @@ fn close_change(
     set: bool,
     parts: Items<Part>,
 ) -> Result<(), Stop>
-    ensures { Moves (machine.change_closes (keyword_of (tree.parts_of (map part_view parts))) set (tree.parts_of (map part_view parts)) (stack_view stack.old.items)) result (stack_view stack.new.items) }
+    ensures { Moves (machine.change_closes (keyword_of (tree.parts_of (map part_view parts))) set (tree.parts_of (map part_view parts))
+        (stack_view stack.old.items)) result (stack_view stack.new.items) }
 {
     match close_parenthesis(parts) {
         Closed::Query(parts) => {
@@ -140,7 +144,8 @@ fn close_owner(
     branches: Items<Items<Stmt>>,
     stmts: Items<Stmt>,
 ) -> Result<(), Stop>
-    ensures { Moves (machine.body_closes (owner_view owner) (machine.body_of (map branch_view branches) (map stmt_view stmts)) (stack_view stack.old.items)) result (stack_view stack.new.items) }
+    ensures { Moves (machine.body_closes (owner_view owner) (machine.body_of (map branch_view branches) (map stmt_view stmts))
+        (stack_view stack.old.items)) result (stack_view stack.new.items) }
 {
     match owner {
         Owner::Group => put_stmt(alloc, stack, group(body(branches, stmts)?)),

@@ -68,7 +68,9 @@ fn put_waiting(
     mut wrappers: Items<Wrapper>,
     wrapper: Wrapper,
 ) -> Result<(), Stop>
-    ensures { Moves (machine.put_opening (machine.waits (wrapper_view wrapper)) (machine.in_body (owner_view owner) (map branch_view branches) (map stmt_view stmts) (map wrapper_view wrappers) ∷ stack_view stack.old.items)) result (stack_view stack.new.items) }
+    ensures { Moves (machine.put_opening (machine.waits (wrapper_view wrapper))
+        (machine.in_body (owner_view owner) (map branch_view branches) (map stmt_view stmts) (map wrapper_view wrappers) ∷
+        stack_view stack.old.items)) result (stack_view stack.new.items) }
 {
     wrappers.push(wrapper)?;
     put_frame(stack, Frame::InBody(owner, branches, stmts, wrappers))
@@ -93,7 +95,8 @@ fn end_branch(
     mut branches: Items<Items<Stmt>>,
     stmts: Items<Stmt>,
 ) -> Result<(), Stop>
-    ensures { Moves (machine.end_of (grammar.bare grammar.or_word) (owner_view owner) (map branch_view branches) (map stmt_view stmts) (stack_view stack.old.items)) result (stack_view stack.new.items) }
+    ensures { Moves (machine.end_of (grammar.bare grammar.or_word) (owner_view owner) (map branch_view branches) (map stmt_view stmts)
+        (stack_view stack.old.items)) result (stack_view stack.new.items) }
 {
     branches.push(stmts)?;
     put_frame(
@@ -109,7 +112,8 @@ fn end_condition(
     branches: Items<Items<Stmt>>,
     stmts: Items<Stmt>,
 ) -> Result<(), Stop>
-    ensures { Moves (machine.end_of (grammar.bare grammar.then_word) (owner_view owner) (map branch_view branches) (map stmt_view stmts) (stack_view stack.old.items)) result (stack_view stack.new.items) }
+    ensures { Moves (machine.end_of (grammar.bare grammar.then_word) (owner_view owner) (map branch_view branches) (map stmt_view stmts)
+        (stack_view stack.old.items)) result (stack_view stack.new.items) }
 {
     match owner {
         Owner::Condition(arms) => {
@@ -127,7 +131,8 @@ fn next_condition(
     branches: Items<Items<Stmt>>,
     stmts: Items<Stmt>,
 ) -> Result<(), Stop>
-    ensures { Moves (machine.end_of (grammar.bare grammar.elseif_word) (owner_view owner) (map branch_view branches) (map stmt_view stmts) (stack_view stack.old.items)) result (stack_view stack.new.items) }
+    ensures { Moves (machine.end_of (grammar.bare grammar.elseif_word) (owner_view owner) (map branch_view branches) (map stmt_view stmts)
+        (stack_view stack.old.items)) result (stack_view stack.new.items) }
 {
     match owner {
         Owner::Then(arms, condition) => {
@@ -145,7 +150,8 @@ fn begin_else(
     branches: Items<Items<Stmt>>,
     stmts: Items<Stmt>,
 ) -> Result<(), Stop>
-    ensures { Moves (machine.end_of (grammar.bare grammar.else_word) (owner_view owner) (map branch_view branches) (map stmt_view stmts) (stack_view stack.old.items)) result (stack_view stack.new.items) }
+    ensures { Moves (machine.end_of (grammar.bare grammar.else_word) (owner_view owner) (map branch_view branches) (map stmt_view stmts)
+        (stack_view stack.old.items)) result (stack_view stack.new.items) }
 {
     match owner {
         Owner::Then(arms, condition) => {
@@ -163,7 +169,8 @@ fn end_choice(
     branches: Items<Items<Stmt>>,
     stmts: Items<Stmt>,
 ) -> Result<(), Stop>
-    ensures { Moves (machine.end_of (grammar.bare grammar.endif_word) (owner_view owner) (map branch_view branches) (map stmt_view stmts) (stack_view stack.old.items)) result (stack_view stack.new.items) }
+    ensures { Moves (machine.end_of (grammar.bare grammar.endif_word) (owner_view owner) (map branch_view branches) (map stmt_view stmts)
+        (stack_view stack.old.items)) result (stack_view stack.new.items) }
 {
     match owner {
         Owner::Then(arms, condition) => {
@@ -186,7 +193,8 @@ fn end_select(
     branches: Items<Items<Stmt>>,
     stmts: Items<Stmt>,
 ) -> Result<(), Stop>
-    ensures { Moves (machine.end_of (grammar.bare (grammar.end_word mode)) (owner_view owner) (map branch_view branches) (map stmt_view stmts) (stack_view stack.old.items)) result (stack_view stack.new.items) }
+    ensures { Moves (machine.end_of (grammar.bare (grammar.end_word mode)) (owner_view owner) (map branch_view branches) (map stmt_view stmts)
+        (stack_view stack.old.items)) result (stack_view stack.new.items) }
 {
     match owner {
         Owner::Select => {
@@ -205,7 +213,8 @@ fn end_gathering(
     branches: Items<Items<Stmt>>,
     stmts: Items<Stmt>,
 ) -> Result<(), Stop>
-    ensures { Moves (machine.end_of (grammar.into_word (value_view into)) (owner_view owner) (map branch_view branches) (map stmt_view stmts) (stack_view stack.old.items)) result (stack_view stack.new.items) }
+    ensures { Moves (machine.end_of (grammar.into_word (value_view into)) (owner_view owner) (map branch_view branches) (map stmt_view stmts)
+        (stack_view stack.old.items)) result (stack_view stack.new.items) }
 {
     match owner {
         Owner::Collect(value) => {
@@ -226,7 +235,8 @@ fn end_bare(
     branches: Items<Items<Stmt>>,
     stmts: Items<Stmt>,
 ) -> Result<(), Stop>
-    ensures { Moves (machine.end_of (grammar.bare (bare_view bare)) (owner_view owner) (map branch_view branches) (map stmt_view stmts) (stack_view stack.old.items)) result (stack_view stack.new.items) }
+    ensures { Moves (machine.end_of (grammar.bare (bare_view bare)) (owner_view owner) (map branch_view branches) (map stmt_view stmts)
+        (stack_view stack.old.items)) result (stack_view stack.new.items) }
 {
     match bare {
         Bare::Or => end_branch(alloc, stack, owner, branches, stmts),
@@ -259,7 +269,8 @@ fn end_keyword(
     branches: Items<Items<Stmt>>,
     stmts: Items<Stmt>,
 ) -> Result<(), Stop>
-    ensures { Moves (machine.end_of (keyword_view keyword) (owner_view owner) (map branch_view branches) (map stmt_view stmts) (stack_view stack.old.items)) result (stack_view stack.new.items) }
+    ensures { Moves (machine.end_of (keyword_view keyword) (owner_view owner) (map branch_view branches) (map stmt_view stmts)
+        (stack_view stack.old.items)) result (stack_view stack.new.items) }
 {
     match keyword {
         Keyword::Bare(bare) => end_bare(alloc, stack, bare, owner, branches, stmts),

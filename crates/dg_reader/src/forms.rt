@@ -208,7 +208,8 @@ pub fn collected(
     stmts: Items<Stmt>,
     into: Value,
 ) -> Result<Stmt, AllocError>
-    ensures { IfOk result (λ s. stmt_view s ≡ tree.collect (value_view value) (machine.body_of (map branch_view branches) (map stmt_view stmts)) (value_view into)) }
+    ensures { IfOk result (λ s. stmt_view s ≡ tree.collect (value_view value) (machine.body_of (map branch_view branches) (map stmt_view stmts))
+        (value_view into)) }
 {
     Ok(collect(value, body(branches, stmts)?, into))
 }
@@ -220,7 +221,8 @@ pub fn accumulated(
     stmts: Items<Stmt>,
     into: Value,
 ) -> Result<Stmt, AllocError>
-    ensures { IfOk result (λ s. stmt_view s ≡ tree.accumulate (value_view value) (machine.body_of (map branch_view branches) (map stmt_view stmts)) (value_view into)) }
+    ensures { IfOk result (λ s. stmt_view s ≡ tree.accumulate (value_view value) (machine.body_of (map branch_view branches) (map stmt_view stmts))
+        (value_view into)) }
 {
     Ok(accumulate(value, body(branches, stmts)?, into))
 }

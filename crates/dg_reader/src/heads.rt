@@ -181,7 +181,8 @@ fn take_value<'a>(left: &mut Vec<&'a [Value]>, value: &'a Value) -> Result<bool,
 
 // The same of the first of some values; the others come to those that are left.
 fn take_first<'a>(left: &mut Vec<&'a [Value]>, values: &'a [Value]) -> Result<bool, AllocError>
-    ensures fits { IfOk result (λ fits. (fits && all_constant left.new.items) ≡ (spec.are_constants (values_of (map value_view values.now)) && all_constant left.old.items)) }
+    ensures fits { IfOk result (λ fits. (fits && all_constant left.new.items) ≡
+        (spec.are_constants (values_of (map value_view values.now)) && all_constant left.old.items)) }
     ensures less { IfOk result (λ fits. fits ≡ true → work left.new.items ≤ values_size (values_of (map value_view values.now)) + work left.old.items) }
 {
     if values.is_empty() {
@@ -297,7 +298,8 @@ fn keeps_clause_rules(
     head: &Head,
     body: &Body,
 ) -> Result<bool, AllocError>
-    ensures { IfOk result (λ keeps. keeps ≡ (spec.queries_have_values (head_view head.now) && spec.keeps_access_rules (sign_view sign) (head_view head.now) (body_view body.now))) }
+    ensures { IfOk result (λ keeps. keeps ≡ (spec.queries_have_values (head_view head.now) &&
+        spec.keeps_access_rules (sign_view sign) (head_view head.now) (body_view body.now))) }
 {
     let keeps = keeps_access_rules(alloc, sign, head, body)?;
     Ok(queries_have_values(head.parts.as_slice()) && keeps)

@@ -53,7 +53,8 @@ fn finished_body(
     branches: Items<Items<Stmt>>,
     stmts: Items<Stmt>,
 ) -> Result<Option<Shape>, AllocError>
-    ensures { IfOk result (λ found. option_map shape_view found ≡ machine.finished_frame (machine.in_body (owner_view owner) (map branch_view branches) (map stmt_view stmts) [])) }
+    ensures { IfOk result (λ found. option_map shape_view found ≡
+        machine.finished_frame (machine.in_body (owner_view owner) (map branch_view branches) (map stmt_view stmts) [])) }
 {
     match owner {
         Owner::Item(sign, head) => {

@@ -76,7 +76,9 @@ fn put_in_body(
     wrappers: Items<Wrapper>,
     stmt: Stmt,
 ) -> Result<(), Stop>
-    ensures { Moves (machine.put_stmt (stmt_view stmt) (machine.in_body (owner_view owner) (map branch_view branches) (map stmt_view stmts) (map wrapper_view wrappers) ∷ stack_view stack.old.items)) result (stack_view stack.new.items) }
+    ensures { Moves (machine.put_stmt (stmt_view stmt)
+        (machine.in_body (owner_view owner) (map branch_view branches) (map stmt_view stmts) (map wrapper_view wrappers) ∷
+        stack_view stack.old.items)) result (stack_view stack.new.items) }
 {
     let stmts = one_more_stmt(alloc, stmts, wrappers, stmt)?;
     put_frame(
@@ -138,7 +140,8 @@ fn put_listed(
     mut values: Items<Value>,
     value: Value,
 ) -> Result<(), Stop>
-    ensures { Moves (machine.put_element (value_view value) (machine.in_list choices (map value_view values) ∷ stack_view stack.old.items)) result (stack_view stack.new.items) }
+    ensures { Moves (machine.put_element (value_view value) (machine.in_list choices (map value_view values) ∷ stack_view stack.old.items)) result
+        (stack_view stack.new.items) }
 {
     values.push(value)?;
     put_frame(stack, Frame::InList(choices, values))

@@ -159,7 +159,8 @@ fn with_header(alloc: Global, bytes: &[u8], plan: &Plan) -> Result<Vec<u8>, Allo
     requires short { length bytes.now < 524288 }
     requires first { plan.now.dictionary + 4 < 65536 }
     ensures { IfOk result (λ story.
-        story.items ≡ header_bytes (plan.now.dictionary + 4) plan.now.dictionary plan.now.base (length bytes.now) (sum (drop 64 bytes.now) % 65536) ++ drop 64 bytes.now) }
+        story.items ≡ header_bytes (plan.now.dictionary + 4) plan.now.dictionary plan.now.base (length bytes.now) (sum (drop 64 bytes.now) % 65536) ++
+        drop 64 bytes.now) }
 {
     let behind = &bytes[64..];
     let header = header(plan, bytes.len(), checksum(behind));

@@ -57,4 +57,7 @@ pub record IsPrintable (text : List ℕ) : Type 0 where
 
 -- A string gives its codes again, and its end, whatever stands before and behind.
 pub record StringAgain (codes front rest : List ℕ) : Type 0 where
-  pub again : All (λ code. IsTrue (has_code code)) codes → string_at (front ++ (string_of codes ++ rest)) (length front) ≡ record { codes = codes; end = Some (length front + length (string_of codes)) }
+  pub again : All (λ code. IsTrue (has_code code)) codes → string_at (front ++ (string_of codes ++ rest)) (length front) ≡ record {
+    codes = codes;
+    end = Some (length front + length (string_of codes));
+  }

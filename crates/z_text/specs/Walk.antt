@@ -37,7 +37,8 @@ Takes (Ok (Some x)) w bytes = IsBehind x.0 w x.1 bytes
 Takes (Ok None) w bytes = (characters_left w bytes ≡ []) × (end_left w bytes ≡ Some w.at)
 Takes (Err fault) w bytes = (fault ≡ BadString) × (characters_left w bytes ≡ []) × (end_left w bytes ≡ None)
 
--- A code is the first that was left. None comes exactly where no code is left and the string has an end, at which the walker then stands; a fault comes exactly where no code is left and it has none. What is left stays then.
+-- A code is the first that was left. None comes exactly where no code is left and the string has an end, at which the walker then stands; a fault
+-- comes exactly where no code is left and it has none. What is left stays then.
 abbrev pub Walks : Result (Option ℕ) ZFault → Walker → Walker → List ℕ → Type 0
 Walks (Ok (Some code)) old new bytes = rest_of old bytes ≡ record { codes = code ∷ (rest_of new bytes).codes; end = (rest_of new bytes).end }
 Walks (Ok None) old new bytes = (rest_of old bytes ≡ record { codes = []; end = Some new.at }) × (rest_of new bytes ≡ rest_of old bytes)
