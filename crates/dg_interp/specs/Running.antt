@@ -52,7 +52,8 @@ pub record Stretch (added : List Print) (taken : List ℕ) (w : World) (P : Worl
   pub typed : w.typed ≡ taken ++ world.typed
   pub holds : P world
 
--- Whatever run comes from where the engine is, with as much of its budget left and all that it printed so far written, and the typed bytes that the source gives up to its end, this holds of it.
+-- Whatever run comes from where the engine is, with as much of its budget left, all that it printed so far written,
+-- and the typed bytes that the source gives up to its end, this holds of it.
 pub record Reaches (e : Engine) (s : Spacer) (before : SinkView) (from to : SourceView) (P : World → Run → SinkView → Type 0) : Type 0 where
   pub taken : List ℕ
   pub ended : Bool
@@ -87,14 +88,17 @@ pub record GoesOn (old new : Engine) (s s' : Spacer) (before now : SinkView) (fr
       Stretch added taken w (λ v. StandsAt new g n v run)
   pub writes : Writes s s' before now added
 
--- The run has ended so, with this much of its budget left, all that it printed was written, and the source has left what the run has left.
-pub record HasEnded (ending : Ending) (left : ℕ) (s : Spacer) (now : SinkView) (source : SourceView) (w : World) (run : Run) (start : SinkView) : Type 0 where
+-- The run has ended so, with this much of its budget left, all that it printed was written, and the source has left
+-- what the run has left.
+pub record HasEnded (ending : Ending) (left : ℕ) (s : Spacer) (now : SinkView) (source : SourceView) (w : World) (run : Run)
+    (start : SinkView) : Type 0 where
   pub world : World
   pub typed : IsLeft source.left world.typed
   pub is : run ≡ record { left = left; world = world; ending = ending }
   pub text : HasText s start now (prints world.events)
 
--- A limit was met behind some goals, with this much of the budget left: the run with a budget of these goals passes it, and of what was written it has printed all, and the run with a budget of one less no more.
+-- A limit was met behind some goals, with this much of the budget left: the run with a budget of these goals passes it,
+-- and of what was written it has printed all, and the run with a budget of one less no more.
 pub record MeetsLimit (area : Area) (left : ℕ) (old : Engine) (s s' : Spacer) (before now : SinkView) (from to : SourceView) : Type 0 where
   pub goals : ℕ
   pub left_is : old.left ≡ suc goals + left

@@ -88,7 +88,8 @@ fn do_goal<S: Source, K: Sink>(
     requires left { 0 < engine.old.left }
     ensures ok { IfOk result (λ ending. DoesGoal ending engine.old engine.new spacer.old spacer.new (K.view sink.old) (K.view sink.new)
         (S.view source.old) (S.view source.new)) }
-    ensures err { IfErr result (λ fault. Reaches engine.old spacer.old (K.view sink.old) (S.view source.old) (S.view source.new) (IsBroken fault spacer.new (K.view sink.new))) }
+    ensures err { IfErr result (λ fault. Reaches engine.old spacer.old (K.view sink.old) (S.view source.old) (S.view source.new)
+        (IsBroken fault spacer.new (K.view sink.new))) }
 {
     let again = engine.at_hand();
     match engine.take_goal() {
@@ -132,7 +133,8 @@ fn turn<S: Source, K: Sink>(
     requires left { 0 < engine.old.left }
     ensures ok { IfOk result (λ ending. Does ending engine.old engine.new spacer.old spacer.new (K.view sink.old) (K.view sink.new)
         (S.view source.old) (S.view source.new)) }
-    ensures err { IfErr result (λ fault. Reaches engine.old spacer.old (K.view sink.old) (S.view source.old) (S.view source.new) (IsBroken fault spacer.new (K.view sink.new))) }
+    ensures err { IfErr result (λ fault. Reaches engine.old spacer.old (K.view sink.old) (S.view source.old) (S.view source.new)
+        (IsBroken fault spacer.new (K.view sink.new))) }
 {
     match do_goal(engine, spacer, source, sink) {
         Err(fault) => Err(fault),
@@ -158,7 +160,8 @@ pub fn run<S: Source, K: Sink>(
     requires goal { 0 < length engine.old.here.goals.now }
     ensures ok { IfOk result (λ ending. Ended ending engine.new.left engine.old spacer.old spacer.new (K.view sink.old) (K.view sink.new)
         (S.view source.old) (S.view source.new)) }
-    ensures err { IfErr result (λ fault. Reaches engine.old spacer.old (K.view sink.old) (S.view source.old) (S.view source.new) (IsBroken fault spacer.new (K.view sink.new))) }
+    ensures err { IfErr result (λ fault. Reaches engine.old spacer.old (K.view sink.old) (S.view source.old) (S.view source.new)
+        (IsBroken fault spacer.new (K.view sink.new))) }
 {
     'goals: while engine.left > 0 {
         match turn(engine, spacer, source, sink) {
