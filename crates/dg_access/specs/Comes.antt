@@ -17,7 +17,8 @@ is_free (other form.Group) = true
 is_free (branches n) = true
 is_free t = false
 
--- A thing comes from these: it is free or stands among them, is the topic of a line, a query with other parts, a query that stood as a value, an anonymous variable or a word of a choice; or it is the equation that tests a choice.
+-- A thing comes from these: it is free or stands among them, is the topic of a line, a query with other parts, a query that stood as a value, an
+-- anonymous variable or a word of a choice; or it is the equation that tests a choice.
 pub data ComesFrom (ts : List Thing) : Thing → Type 0 where
   free : (t : Thing) → is_free t ≡ true → ComesFrom ts t
   same : (t : Thing) → Contains ts t → ComesFrom ts t

@@ -1,4 +1,5 @@
-//! Items with plain heads: every variable has a name, and no choice of words and no query stands in a head. What is then counted of them stays within its numbers.
+//! Items with plain heads: every variable has a name, and no choice of words and no query stands in a head. What is then counted of them
+//! stays within its numbers.
 #![tactic(auto)]
 
 mod built;

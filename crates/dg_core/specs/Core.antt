@@ -1,4 +1,5 @@
--- The core program of a tree: hold it against docs/LANGUAGE.md, "Names" and "The world", and the chapters of the Dialog manual on predicates, rules and the world.
+-- The core program of a tree: hold it against docs/LANGUAGE.md, "Names" and "The world", and the chapters of the Dialog manual on predicates, rules
+-- and the world.
 use Rattle.std.specs.Prelude.{◌≡◌, ℕ, ◌+◌, List, [], ◌∷◌, ◌++◌, Bool, true, false, Option, Some, None, Result, Ok, Err, map, min, length, codes, nat_eq, position, slice_get, if◌then◌else◌}
 use Rattle.std.specs.List.{list_any}
 use Rattle.std.specs.Str.{bytes_eq}

@@ -1,4 +1,5 @@
--- What a rewritten tree and its names have where they come from a source that was read: hold it against docs/LANGUAGE.md, "Names", "Characters and tokens", "The world" and "Limits".
+-- What a rewritten tree and its names have where they come from a source that was read: hold it against docs/LANGUAGE.md, "Names", "Characters and
+-- tokens", "The world" and "Limits".
 use Rattle.std.specs.Prelude.{◌≡◌, ◌≤◌, List, [], ◌∷◌, false, All, length}
 use Rattle.std.specs.List.{IsDistinct}
 use Rattle.std.specs.Str.{bytes_eq}

@@ -141,7 +141,11 @@ goal_behind scope (left.Branches bs) m =
 goal_behind scope (left.Arms arms other) m =
     let all = arms_of (map arm_view arms.now) in
     let behind = m.sites + selects (of_arms false all) in
-    record { goals = with_more (arm_goals scope m.sites all (otherwise scope behind other.now)) m.goals; lists = m.lists; sites = behind + selects_otherwise other.now }
+    record {
+      goals = with_more (arm_goals scope m.sites all (otherwise scope behind other.now)) m.goals;
+      lists = m.lists;
+      sites = behind + selects_otherwise other.now;
+    }
 goal_behind scope left.Begin m = record m { goals = [] ∷ m.goals }
 goal_behind scope left.BeginLists m = record m { lists = [] ∷ m.lists }
 goal_behind scope left.Branch m = record m { goals = others_of m.goals; lists = with_more (first_of m.goals ∷ []) m.lists }

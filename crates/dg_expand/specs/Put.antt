@@ -1,4 +1,5 @@
--- What comes of a tree when access rules are put in: hold it against docs/LANGUAGE.md, "Access rules", and the chapter of the Dialog manual on access predicates.
+-- What comes of a tree when access rules are put in: hold it against docs/LANGUAGE.md, "Access rules", and the chapter of the Dialog manual on access
+-- predicates.
 use Rattle.std.specs.Prelude.{ℕ, zero, suc, ◌+◌, ◌&&◌, ◌||◌, List, [], ◌∷◌, ◌++◌, Bool, true, false, not, Option, Some, None, codes, decimal, if◌then◌else◌}
 use Rattle.std.specs.Str.{bytes_eq}
 use Rattle.dg_base.specs.Heads.{name_of}

@@ -13,7 +13,8 @@ use Rattle.dg_unify.specs.declared.bindings.Ref.{Ref}
 use Rattle.dg_unify.specs.declared.bindings.Full.{Full}
 use Rattle.dg_unify.specs.declared.bindings.Full.TheVariants as full
 
--- A call that takes n of the heap, one lump after another, came to no end: the heap is full only where all of them would pass its limit, and the trail never is.
+-- A call that takes n of the heap, one lump after another, came to no end: the heap is full only where all of them would pass its limit, and the
+-- trail never is.
 abbrev pub Overflows : ℕ → Store → Full → Type 0
 Overflows n old full.Heap = old.heap_limit < old.state.heap + n
 Overflows n old full.Trail = ⊥

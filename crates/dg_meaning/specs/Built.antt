@@ -10,7 +10,8 @@ use Rattle.dg_base.specs.declared.program.CoreProgram.{CoreProgram}
 use Rattle.dg_base.specs.Goals.{goals_of}
 
 -- Text, a printed value, a gap, spaces, an equation, a query of a predicate or of a closure, a choice between goals, a first answer, a negation,
--- a condition, a cut, a failure, an end, an endless choice, a test, a comparison, a calculation, a random number, all answers of goals, a stoppable part, and a stop.
+-- a condition, a cut, a failure, an end, an endless choice, a test, a comparison, a calculation, a random number, all answers of goals, a stoppable
+-- part, and a stop.
 abbrev pub IsForm : Goal-F Goal → Type 0
 IsForm (Text name) = Unit {0}
 IsForm (Print a) = Unit {0}

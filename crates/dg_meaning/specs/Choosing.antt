@@ -1,4 +1,5 @@
--- How a select chooses one of its branches, and what the dice are. Hold it against docs/LANGUAGE.md, "Choosing": the modes and their draws are this project's own choice.
+-- How a select chooses one of its branches, and what the dice are. Hold it against docs/LANGUAGE.md, "Choosing": the modes and their draws are this
+-- project's own choice.
 use Rattle.std.specs.Prelude.{ℕ, ◌+◌, ◌-◌, ◌%◌, List, length, slice_index, slice_index_or, min, nat_eq, nat_lt, nat_le, if◌then◌else◌}
 use Rattle.dg_base.specs.declared.program.Mode.{Mode}
 use Rattle.dg_base.specs.declared.program.Mode.TheVariants.{Stopping, Cycling, PurelyAtRandom, AtRandom, ThenAtRandom, ThenPurelyAtRandom}

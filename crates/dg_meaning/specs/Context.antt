@@ -53,7 +53,8 @@ ways (InBranch Shield t others ∷ ctx) = record { tag = t; others = others; hei
 ways (InBranch k t others ∷ ctx) = ways ctx
 ways (InCut t ∷ ctx) = ways ctx
 
--- A choice that was not cut: its kind, its tag, the branches that were not begun, how many gatherings are open in it, and the ways on behind the stoppable parts around it.
+-- A choice that was not cut: its kind, its tag, the branches that were not begun, how many gatherings are open in it, and the ways on behind the
+-- stoppable parts around it.
 pub record Live : Type 0 where
   pub kind : Kind
   pub tag : ℕ

@@ -1,4 +1,5 @@
--- Values that are made outside the terms of a program: what is copied out of the world, and lists. Hold it against docs/LANGUAGE.md, "Search", on what is gathered, and "Limits", on what a copied value counts.
+-- Values that are made outside the terms of a program: what is copied out of the world, and lists. Hold it against docs/LANGUAGE.md, "Search", on
+-- what is gathered, and "Limits", on what a copied value counts.
 use Rattle.std.specs.Prelude.{ℕ, ◌+◌, ◌*◌, List, [], ◌∷◌, length}
 use Rattle.dg_meaning.specs.Values.{Label, Unknown, Nil, Pair, Closure, Value, Var, Node, Values, NoMore, More, leaf, pair}
 use Rattle.dg_meaning.specs.ValueCells.{count_of}
@@ -33,7 +34,8 @@ abbrev mutual
   copies_from n NoMore = NoMore
   copies_from n (More v vs) = More (copy_from (n + vars_in_all vs) v) (copies_from n vs)
 
--- The heap cells of a label with so many parts: 3 for a pair, 3 with one more for each captured value for a closure, and 3 with 3 more for each letter for an unknown word.
+-- The heap cells of a label with so many parts: 3 for a pair, 3 with one more for each captured value for a closure, and 3 with 3 more for each
+-- letter for an unknown word.
 abbrev pub label_weight : Label → ℕ → ℕ
 label_weight (Unknown spelling) parts = 3 + 3 * length spelling
 label_weight Pair parts = 3

@@ -1,4 +1,5 @@
--- That the rules which a first argument excludes would not have matched. Hold it against the Dialog manual, chapter "Rules", and docs/LANGUAGE.md, where it says what a limit counts.
+-- That the rules which a first argument excludes would not have matched. Hold it against the Dialog manual, chapter "Rules", and docs/LANGUAGE.md,
+-- where it says what a limit counts.
 use Rattle.std.specs.Prelude.{◌≡◌, List, true, false}
 use Rattle.dg_base.specs.declared.program.Rule.{Rule}
 use Rattle.dg_meaning.specs.Values.{Value}

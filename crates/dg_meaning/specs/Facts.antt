@@ -57,7 +57,8 @@ abbrev pub is_object : Value → Bool
 is_object (Node (Object n) parts) = true
 is_object v = false
 
--- Whether a place of a kind takes a value: a parent is an object, a per-object variable a simple value, and a global variable a value without unbound variables.
+-- Whether a place of a kind takes a value: a parent is an object, a per-object variable a simple value, and a global variable a value without unbound
+-- variables.
 abbrev pub takes : PlaceKind → Value → Bool
 takes Flag v = true
 takes ObjectFlag v = true

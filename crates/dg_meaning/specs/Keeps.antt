@@ -1,4 +1,5 @@
--- The rules by which an engine may go on that keeps a path, the choices that were not cut, and the ways on behind stoppable parts, in place of the search's recursion.
+-- The rules by which an engine may go on that keeps a path, the choices that were not cut, and the ways on behind stoppable parts, in place of the
+-- search's recursion.
 -- Hold it against the Dialog manual, chapter "Choice points".
 use Rattle.std.specs.Prelude.{ℕ, suc, ◌+◌, ◌-◌, ◌≡◌, List, [], ◌∷◌, length, Option, Some, None}
 use Rattle.dg_base.specs.declared.program.Term.{Term}

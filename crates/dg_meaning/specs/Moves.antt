@@ -1,4 +1,5 @@
--- What comes of one goal. Hold it against the Dialog manual, chapters "Choice points" and "Control flow", and docs/LANGUAGE.md, where it says what a limit counts.
+-- What comes of one goal. Hold it against the Dialog manual, chapters "Choice points" and "Control flow", and docs/LANGUAGE.md, where it says what a
+-- limit counts.
 use Rattle.std.specs.Prelude.{ℕ, zero, suc, ◌+◌, ◌-◌, ◌*◌, ◌++◌, nat_lt, List, [], ◌∷◌, Option, Some, None, is_some, Bool, true, false, length, map, take, get_or, slice_get, slice_set, if◌then◌else◌}
 use Rattle.std.specs.List.{zip, sum_by}
 use Rattle.dg_base.specs.declared.program.Term.{Term}
@@ -129,7 +130,8 @@ new_vars (suc n) next = Var next ∷ new_vars n (suc next)
 abbrev pub vars_of : Rule → Registers → List Value
 vars_of rule r = new_vars rule.vars r.next_var
 
--- The registers where a body with so many new variables and a head is entered inside the next choice, before the head is matched: 6 cells, the new variables and the head.
+-- The registers where a body with so many new variables and a head is entered inside the next choice, before the head is matched: 6 cells, the new
+-- variables and the head.
 abbrev pub entered_with : Game → ℕ → ℕ → List Term → Registers → Registers
 entered_with g heap own head r = record (inside (heap + 6 + own + cells g.program head) r) { next_var = r.next_var + own }
 
@@ -371,7 +373,8 @@ abbrev pub spaces : Value → List Step → World → Act
 spaces (Node (Num n) vs) steps w = Goes steps (printed (SpacesOf n) w)
 spaces v steps w = Fails w
 
--- A query of the objects at a place, or without one of all objects, by its first argument, looked up: an object is tested at once, and an unbound one is every object in turn.
+-- A query of the objects at a place, or without one of all objects, by its first argument, looked up: an object is tested at once, and an unbound one
+-- is every object in turn.
 abbrev pub ask_object : Game → Option ℕ → Value → Value → List Value → Bool → List Step → Registers → World → Effect
 ask_object g place (Var x) v args many steps r w = Offers Plain (object_branches place (v ∷ args) many steps r (numbers 0 g.program.objects)) w
 ask_object g place (Node (Object o) vs) v args many steps r w = Acts (reads_if_set args r (found w.facts place o) w)

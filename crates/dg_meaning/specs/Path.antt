@@ -8,7 +8,9 @@ use Rattle.dg_meaning.specs.Substitutions.{Substitution}
 use Rattle.dg_meaning.specs.Unify.{Equations}
 use Rattle.dg_meaning.specs.World.{World}
 
--- A goal with the values of the variables of its rule and the tag of the choice that its (just) cuts to, or a mark. The marks: a rule of a predicate was answered, choices back to a tag are cut, cut and then fail, fail, gather the value of a term and fail, leave a stoppable part with what is innermost outside it.
+-- A goal with the values of the variables of its rule and the tag of the choice that its (just) cuts to, or a mark. The marks: a rule of a predicate
+-- was answered, choices back to a tag are cut, cut and then fail, fail, gather the value of a term and fail, leave a stoppable part with what is
+-- innermost outside it.
 pub data Step : Type 0 where
   Do : (goal : Goal) → (env : List Value) → (tag : ℕ) → Step
   Answers : (pred : ℕ) → Step
@@ -18,7 +20,8 @@ pub data Step : Type 0 where
   Keep : (tag : ℕ) → (term : Term) → (env : List Value) → Step
   Leave : (tag : ℕ) → (outer : Option ℕ) → Step
 
--- What backtracking takes back: the tag of the next choice (an older choice has a smaller one), the innermost stoppable part, what variables are bound to, the number of the next variable (an older variable has a smaller one), and the counts of heap and trail.
+-- What backtracking takes back: the tag of the next choice (an older choice has a smaller one), the innermost stoppable part, what variables are
+-- bound to, the number of the next variable (an older variable has a smaller one), and the counts of heap and trail.
 pub record Registers : Type 0 where
   pub next_tag : ℕ
   pub stoppable : Option ℕ
@@ -50,7 +53,9 @@ pub data Whole : Type 0 where
   AsList : Whole
   AsSum : Whole
 
--- A branch of a choice: a path with the work of beginning it, one that has failed, with such work, as soon as these registers were reached, a path at whose beginning a gathering is taken out and unified with a value, or a path at whose beginning it is tested what is set of an object at a place, or, without a place, nothing, before the object and that are unified with these arguments.
+-- A branch of a choice: a path with the work of beginning it, one that has failed, with such work, as soon as these registers were reached, a path at
+-- whose beginning a gathering is taken out and unified with a value, or a path at whose beginning it is tested what is set of an object at a place,
+-- or, without a place, nothing, before the object and that are unified with these arguments.
 pub data Branch : Type 0 where
   Enter : (path : Path) → (work : ℕ) → Branch
   Clash : (registers : Registers) → (work : ℕ) → Branch
@@ -76,7 +81,8 @@ pub data Outcome : Type 0 where
   Moves : (move : Move) → Outcome
   Chooses : (kind : Kind) → (tag : ℕ) → (first : Branch) → (others : List Branch) → (world : World) → Outcome
 
--- What is done at once: the search goes on with these steps, or where a test was passed, or where equations agree behind the registers in which their values were made; it ends, has failed, or stops.
+-- What is done at once: the search goes on with these steps, or where a test was passed, or where equations agree behind the registers in which their
+-- values were made; it ends, has failed, or stops.
 pub data Act : Type 0 where
   Goes : (steps : List Step) → (world : World) → Act
   Tests : (passed : Bool) → (world : World) → Act

@@ -20,7 +20,8 @@ pub record ShowsRun (g : Game) (typed : List ℕ) (limits : Limits) (bytes : Lis
   pub goals : outcome.goals + (run g typed limits.steps).left ≡ limits.steps
   pub left_is : IsLeft left (run g typed limits.steps).world.typed
 
--- A limit was met while a goal was done, or before the first: the run up to that goal passes the limit, and what was printed before is closed with the limit's line.
+-- A limit was met while a goal was done, or before the first: the run up to that goal passes the limit, and what was printed before is closed with
+-- the limit's line.
 pub record ShowsLimit (g : Game) (typed : List ℕ) (limits : Limits) (bytes : List ℕ) (outcome : Outcome) : Type 0 where
   pub area : Area
   pub ending : outcome.ending ≡ limit_ending area
@@ -54,7 +55,8 @@ abbrev pub HasGiven : List ℕ → Option (List ℕ) → ℕ → Type 0
 HasGiven typed None t = Unit {0}
 HasGiven typed (Some left) t = t + length left ≡ length typed
 
--- The input failed at the goal behind the first m ones: what these printed, closed with the line on input faults. Of t bytes that the input gave, they took no more, and that goal takes them or finds no byte.
+-- The input failed at the goal behind the first m ones: what these printed, closed with the line on input faults. Of t bytes that the input gave,
+-- they took no more, and that goal takes them or finds no byte.
 pub record ShowsInputFault (g : Game) (typed : List ℕ) (limits : Limits) (bytes : List ℕ) (left : Option (List ℕ)) : Type 0 where
   pub goals : ℕ
   pub below : goals < limits.steps

@@ -1,4 +1,5 @@
--- That it makes no difference whether a word of the program is named by its number or by its spelling. Hold it against docs/LANGUAGE.md, where it says what a dictionary word and an unknown word are.
+-- That it makes no difference whether a word of the program is named by its number or by its spelling. Hold it against docs/LANGUAGE.md, where it
+-- says what a dictionary word and an unknown word are.
 use Rattle.std.specs.Prelude.{◌≡◌, ℕ, ◌<◌, List, [], ◌∷◌, length, get_or}
 use Rattle.dg_meaning.specs.Values.{Label, Word, Unknown, Value, Var, Node, Values, NoMore, More}
 use Rattle.dg_meaning.specs.Substitutions.{Substitution, IsSubstitution}

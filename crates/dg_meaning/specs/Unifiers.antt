@@ -1,4 +1,5 @@
--- That unification finds the most general way to make two values equal, where there is one. Hold it against docs/LANGUAGE.md, where it says when two values unify.
+-- That unification finds the most general way to make two values equal, where there is one. Hold it against docs/LANGUAGE.md, where it says when two
+-- values unify.
 use Rattle.std.specs.Prelude.{◌≡◌, ℕ, suc, eqb, [], ◌∷◌, Option, Some, None, true, if◌then◌else◌}
 use Rattle.dg_meaning.specs.Values.{Label, Value, Var, Node, Values, NoMore, More}
 use Rattle.dg_meaning.specs.Substitutions.{Substitution, walk, links, resolved, all_resolved, IsSubstitution, Extends}
@@ -56,7 +57,8 @@ abbrev pub UnifyingMakesEqual : Type 0
 UnifyingMakesEqual = (S : Substitution) → (a b : Value) → IsSubstitution S → (unify S a b).agrees ≡ true →
     resolved (unify S a b).subst a ≡ resolved (unify S a b).subst b
 
--- Where any assignment that obeys the substitution makes the two values equal, unification agrees, and the assignment obeys what it has bound. So a clash comes only where nothing makes them equal.
+-- Where any assignment that obeys the substitution makes the two values equal, unification agrees, and the assignment obeys what it has bound. So a
+-- clash comes only where nothing makes them equal.
 abbrev pub UnifyingIsMostGeneral : Type 0
 UnifyingIsMostGeneral = (S : Substitution) → (a b : Value) → IsSubstitution S → (σ : Assignment) → Obeys σ S → under σ a ≡ under σ b →
     ((unify S a b).agrees ≡ true) × Obeys σ (unify S a b).subst

@@ -1,4 +1,5 @@
--- When two values unify, and what is bound by that. Hold it against docs/LANGUAGE.md, where it says when two values unify, and the chapter of the Dialog manual on values.
+-- When two values unify, and what is bound by that. Hold it against docs/LANGUAGE.md, where it says when two values unify, and the chapter of the
+-- Dialog manual on values.
 use Rattle.std.specs.Prelude.{ℕ, zero, suc, ◌+◌, ◌*◌, max, eqb, nat_lt, List, [], ◌∷◌, ◌++◌, ◌&&◌, Option, Some, None, Bool, true, false, if◌then◌else◌}
 use Rattle.dg_meaning.specs.Values.{Label, Num, Word, Unknown, Object, Nil, Pair, Closure, Value, Var, Node, Values, NoMore, More}
 use Rattle.dg_meaning.specs.Substitutions.{Substitution, walk, links, resolved, contains}
@@ -68,7 +69,8 @@ turn S a b = turn_of S (walk S a) (walk S b)
 abbrev pub then_look : (Bool × ℕ) → (Bool × ℕ) → Bool × ℕ
 then_look l r = if l.0 then l else (r.0, l.1 + r.1)
 
--- Whether the test of containment finds the variable x in a value, and how many nodes and links it looks at up to it, going along the resolved tree of the value.
+-- Whether the test of containment finds the variable x in a value, and how many nodes and links it looks at up to it, going along the resolved tree
+-- of the value.
 abbrev mutual
   pub looked : Value → Substitution → ℕ → Value → Value → Bool × ℕ
   looked tree S x v (Var y) = (eqb y x, links S v + 1)

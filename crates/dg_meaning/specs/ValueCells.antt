@@ -1,4 +1,5 @@
--- A value written out as a row of cells, as a stored or gathered value is kept. Hold it against docs/LANGUAGE.md, "Limits", where it says what the values that are kept and gathered count.
+-- A value written out as a row of cells, as a stored or gathered value is kept. Hold it against docs/LANGUAGE.md, "Limits", where it says what the
+-- values that are kept and gathered count.
 use Rattle.std.specs.Prelude.{ℕ, ◌+◌, List, [], ◌∷◌, ◌++◌, map, length}
 use Rattle.dg_base.specs.declared.cells.Cell.{Cell}
 use Rattle.dg_base.specs.declared.cells.Cell.TheVariants as cell

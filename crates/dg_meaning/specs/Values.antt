@@ -1,4 +1,5 @@
--- Values at run time, and what a term of a program stands for. Hold it against docs/LANGUAGE.md, where it says what a value is, and the chapter of the Dialog manual on values.
+-- Values at run time, and what a term of a program stands for. Hold it against docs/LANGUAGE.md, where it says what a value is, and the chapter of
+-- the Dialog manual on values.
 use Rattle.std.specs.Prelude.{ℕ, List, [], ◌∷◌, Option, Some, None, map, get_or}
 use Rattle.std.specs.List.{slice_get}
 use Rattle.dg_base.specs.declared.program.Term.{Term, Pair', Row_of-Term, end_of-Term, more_of-Term, out-Term}
@@ -8,7 +9,8 @@ use Rattle.dg_base.specs.declared.program.CoreProgram.{CoreProgram}
 
 -- ## Values
 
--- What stands at the top of a value that is no variable: a number, a word of the program by its number, another word by its spelling, an object, the empty list, a pair, or the closure of a place in the program.
+-- What stands at the top of a value that is no variable: a number, a word of the program by its number, another word by its spelling, an object, the
+-- empty list, a pair, or the closure of a place in the program.
 pub data Label : Type 0 where
   Num : (n : ℕ) → Label
   Word : (n : ℕ) → Label
@@ -18,7 +20,8 @@ pub data Label : Type 0 where
   Pair : Label
   Closure : (place : ℕ) → Label
 
--- A value is a variable, by its number, or a label with its parts: those of a pair are its head and its tail, those of a closure its captured values in order, and the others have none.
+-- A value is a variable, by its number, or a label with its parts: those of a pair are its head and its tail, those of a closure its captured values
+-- in order, and the others have none.
 mutual
   pub data Value : Type 0 where
     Var : (n : ℕ) → Value

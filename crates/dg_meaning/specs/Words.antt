@@ -1,4 +1,5 @@
--- Typed lines, and the words and numbers that letters spell. Hold it against docs/LANGUAGE.md, "Typed lines and words", and "Built-in queries" on splitting and joining words.
+-- Typed lines, and the words and numbers that letters spell. Hold it against docs/LANGUAGE.md, "Typed lines and words", and "Built-in queries" on
+-- splitting and joining words.
 use Rattle.std.specs.Prelude.{ℕ, zero, suc, ◌+◌, ◌-◌, ◌*◌, eqb, nat_le, List, [], ◌∷◌, ◌++◌, Option, Some, None, Bool, false, ◌&&◌, map, take, length, get_or, encode_utf8_all, if◌then◌else◌}
 use Rattle.std.specs.Str.{chars}
 use Rattle.std.specs.List.{list_any, list_all}

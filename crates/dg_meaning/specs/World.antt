@@ -40,7 +40,8 @@ pub record Meters : Type 0 where
   pub keep : ℕ
   pub work : ℕ
 
--- The events in order, the open gatherings with the newest first, the meters, the typed bytes left, how many dice words were drawn, what is set, and what is kept of each select.
+-- The events in order, the open gatherings with the newest first, the meters, the typed bytes left, how many dice words were drawn, what is set, and
+-- what is kept of each select.
 pub record World : Type 0 where
   pub events : List Event
   pub gathered : List Gathering

@@ -43,7 +43,8 @@ pub fn values_are_looked_up()
     ensures resolves { (S : Substitution) → IsSubstitution S → Resolves S }
 {}
 
-/// Unification only extends a substitution, and makes two values equal in the most general way, where anything makes them equal. Two that are equal already bind nothing.
+/// Unification only extends a substitution, and makes two values equal in the most general way, where anything makes them equal. Two that are equal
+/// already bind nothing.
 pub fn unification_is_most_general()
     ensures extends { UnifyingExtends }
     ensures equal { UnifyingMakesEqual }

@@ -180,8 +180,10 @@ impl Spacer {
     /// Writes the name of an object as one piece, with a `#` in front.
     pub fn object<K: Sink>(&mut self, sink: &mut K, name: &[u8]) -> Result<(), WriteFault>
         ensures stands { OnOk result ((es : List Print) → StandsFor self.old es → StandsFor self.new (es ++ PieceOf (codes "#" ++ name.now) ∷ [])) }
-        ensures ok { OnOk result ((es : List Print) → StandsFor self.old es → Wrote (K.view sink.old) (K.view sink.new) (growth es (PieceOf (codes "#" ++ name.now)))) }
-        ensures err { OnErr result ((es : List Print) → StandsFor self.old es → BrokeOff (K.view sink.old) (K.view sink.new) (growth es (PieceOf (codes "#" ++ name.now)))) }
+        ensures ok { OnOk result ((es : List Print) → StandsFor self.old es →
+            Wrote (K.view sink.old) (K.view sink.new) (growth es (PieceOf (codes "#" ++ name.now)))) }
+        ensures err { OnErr result ((es : List Print) → StandsFor self.old es →
+            BrokeOff (K.view sink.old) (K.view sink.new) (growth es (PieceOf (codes "#" ++ name.now)))) }
     {
         let (front, spaces) = separator(self.gap, self.last, b'#');
         if let Err(fault) = write_all(sink, front) {
@@ -202,7 +204,8 @@ impl Spacer {
     pub fn event<K: Sink>(&mut self, sink: &mut K, event: Event<'_>) -> Result<(), WriteFault>
         ensures stands { OnOk result ((es : List Print) → StandsFor self.old es → StandsFor self.new (es ++ print_of event.entry ∷ [])) }
         ensures ok { OnOk result ((es : List Print) → StandsFor self.old es → Wrote (K.view sink.old) (K.view sink.new) (growth es (print_of event.entry))) }
-        ensures err { OnErr result ((es : List Print) → StandsFor self.old es → BrokeOff (K.view sink.old) (K.view sink.new) (growth es (print_of event.entry))) }
+        ensures err { OnErr result ((es : List Print) → StandsFor self.old es →
+            BrokeOff (K.view sink.old) (K.view sink.new) (growth es (print_of event.entry))) }
     {
         if let Event::Piece(piece) = event {
             return self.piece(sink, piece);

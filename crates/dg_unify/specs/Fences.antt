@@ -19,7 +19,8 @@ abbrev pub top_of_bound : Substitution → ℕ
 top_of_bound [] = 0
 top_of_bound (p ∷ S) = max (top p.1) (top_of_bound S)
 
--- The slots and variables before the fence are there; the values of these slots have only such variables, and so has what such a variable is bound to. What any variable is bound to has only variables below the reach.
+-- The slots and variables before the fence are there; the values of these slots have only such variables, and so has what such a variable is bound
+-- to. What any variable is bound to has only variables below the reach.
 pub record IsFenced (slots : List Slot) (ls : List Link) (vars : ℕ) (fence : Fence) : Type 0 where
   pub slots_in : fence.slots ≤ length slots
   pub vars_in : fence.vars ≤ vars
@@ -36,7 +37,8 @@ stands_between fence at n = nat_lt at.0 fence.slots && nat_le fence.vars n
 abbrev pub fence_for_new : Fence → Fence → Fence
 fence_for_new fence now = if eqb (now.slots - fence.slots) (now.vars - fence.vars) then fence else now
 
--- Where it stands when the variable n is bound to a value with variables below t: where the variable was before it and the value isn't, more variables come before it.
+-- Where it stands when the variable n is bound to a value with variables below t: where the variable was before it and the value isn't, more
+-- variables come before it.
 abbrev pub fence_for_link : Fence → ℕ → ℕ → Fence → Fence
 fence_for_link fence n t now =
     if nat_le fence.vars n || nat_le t fence.vars then record fence { reach = max fence.reach t }

@@ -131,7 +131,8 @@ is_marked other = false
 abbrev pub is_constant : List Slot → Ref → Bool
 is_constant slots r = nat_le 2147483648 r.0 || is_marked (slice_get slots r.0)
 
--- What holds of slots, bindings and a number of variables: the bindings are a substitution, the numbers of variables rise with their places, where a slot begins a value, the value is there, and a pair is marked as one without variables only where its parts are.
+-- What holds of slots, bindings and a number of variables: the bindings are a substitution, the numbers of variables rise with their places, where a
+-- slot begins a value, the value is there, and a pair is marked as one without variables only where its parts are.
 pub record Fits (slots : List Slot) (ls : List Link) (vars : ℕ) : Type 0 where
   pub sound : IsSubstitution (subst_of slots ls)
   pub told : AreTold slots ls
@@ -146,7 +147,8 @@ pub record Fits (slots : List Slot) (ls : List Link) (vars : ℕ) : Type 0 where
 
 -- ## Stores
 
--- What a store keeps: its slots, its bindings with the oldest first, how many variables there are and were at the newest mark that stands, the counts, and their limits.
+-- What a store keeps: its slots, its bindings with the oldest first, how many variables there are and were at the newest mark that stands, the
+-- counts, and their limits.
 pub record Fields : Type 0 where
   pub slots : List Slot
   pub log : List Link

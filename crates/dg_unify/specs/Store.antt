@@ -1,4 +1,5 @@
--- What a store of bindings stands for, and what its calls do to that. Hold it against docs/LANGUAGE.md, where it says when two values unify and what a limit counts.
+-- What a store of bindings stands for, and what its calls do to that. Hold it against docs/LANGUAGE.md, where it says when two values unify and what
+-- a limit counts.
 use Rattle.std.specs.Prelude.{◌≡◌, ℕ, zero, suc, ◌+◌, ◌<◌, ◌≤◌, nat_lt, List, [], ◌∷◌, map, length, ◌++◌, Option, Some, None, Bool, true, false, if◌then◌else◌, IsTrue, Result, Ok, Err}
 use Rattle.dg_base.specs.declared.cells.Simple.{Simple}
 use Rattle.dg_base.specs.declared.cells.Simple.TheVariants as simple
@@ -14,7 +15,8 @@ use Rattle.dg_unify.specs.declared.bindings.Full.TheVariants as full
 
 -- ## States
 
--- How many variables there are (the oldest is 0), what is bound, how many variables are older than the newest mark that stands, and the counts of heap and trail.
+-- How many variables there are (the oldest is 0), what is bound, how many variables are older than the newest mark that stands, and the counts of
+-- heap and trail.
 pub record State : Type 0 where
   pub vars : ℕ
   pub subst : Substitution
@@ -83,7 +85,8 @@ pub record Charged (n : ℕ) (old new : Store) : Type 0 where
   pub fits : old.state.heap + n ≤ old.heap_limit
   pub state : new.state ≡ record old.state { heap = old.state.heap + n }
 
--- A call that wanted n more of the heap changed nothing: it is full exactly where that would pass the limit, and want of memory comes only from a store that grows.
+-- A call that wanted n more of the heap changed nothing: it is full exactly where that would pass the limit, and want of memory comes only from a
+-- store that grows.
 abbrev pub HeapFull : ℕ → Store → Store → Full → Type 0
 HeapFull n old new full.Heap = (old.heap_limit < old.state.heap + n) × (new.state ≡ old.state)
 HeapFull n old new full.Trail = ⊥

@@ -40,6 +40,7 @@ abbrev pub places_to : Store → ℕ → ℕ → ℕ
 places_to s n zero = 0
 places_to s n (suc k) = (if nat_le (size_at s (record { 0 = k })) n then 1 else 0) + places_to s n k
 
--- So many may wait, and beside them as many as a walk through a value lets wait: the values inside each other that it goes into have fewer and fewer nodes, so no place is among them twice.
+-- So many may wait, and beside them as many as a walk through a value lets wait: the values inside each other that it goes into have fewer and fewer
+-- nodes, so no place is among them twice.
 abbrev pub HasRoom : Store → ℕ → Ref → Type 0
 HasRoom s n r = n + places_to s (size_at s r) s.places ≤ s.places

@@ -30,7 +30,25 @@ pub struct ListBindings {
     trail_limit: u32,
     fence: Fence,
     waits: Vec<Wait>,
-    ghost sound: { AreSound (record { slots = slots.items; log = log_of links; vars = vars_of links; since = since; heap = heap; trail = trail; heap_limit = heap_limit; trail_limit = trail_limit }) } by { are_sound_prop (record { slots = slots.items; log = log_of links; vars = vars_of links; since = since; heap = heap; trail = trail; heap_limit = heap_limit; trail_limit = trail_limit }) },
+    ghost sound: { AreSound (record {
+      slots = slots.items;
+      log = log_of links;
+      vars = vars_of links;
+      since = since;
+      heap = heap;
+      trail = trail;
+      heap_limit = heap_limit;
+      trail_limit = trail_limit;
+    }) } by { are_sound_prop (record {
+      slots = slots.items;
+      log = log_of links;
+      vars = vars_of links;
+      since = since;
+      heap = heap;
+      trail = trail;
+      heap_limit = heap_limit;
+      trail_limit = trail_limit;
+    }) },
     ghost spacious: { length slots.items ≤ vec_capacity waits },
     ghost fenced: { IsFenced slots.items (reverse (log_of links)) (vars_of links) fence } by { is_fenced_prop slots.items (reverse (log_of links))
         (vars_of links) fence },
