@@ -75,9 +75,18 @@ const DOUBLED: &str =
 const PARTS: &str =
     "(program entry point) (stoppable) { a (stop) b } (line) (exhaust) { { c (or) d } } (1 < 2) e";
 
+const DIE: &str = "(program entry point) (random from 3 to 5 into $N) $N";
+
+const QUOTIENT: &str = "(program entry point) (7 divided by 2 into $Q) (7 modulo 2 into $R) $Q $R";
+
+const NO_CLOSURE: &str = "(program entry point) (query 5) x";
+
 // The words of the command, the source, the status and the transcript.
-const TRANSCRIPTS: [(&str, &str, u8, &str); 23] = [
+const TRANSCRIPTS: [(&str, &str, u8, &str); 26] = [
     ("debug p.dg", PARTS, 0, "a\nc d e\n"),
+    ("debug p.dg --dice 7", DIE, 0, "4\n"),
+    ("debug p.dg", QUOTIENT, 0, "3 1\n"),
+    ("debug p.dg", NO_CLOSURE, 0, "[Failed]\n"),
     (
         "debug p.dg",
         "(program entry point) Hello, world!",
