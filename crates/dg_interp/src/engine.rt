@@ -1,6 +1,6 @@
 // Open choices and linked frames, in place of the search's recursion.
 ghost use Rattle.std.specs.Prelude.{◌≡◌, ◌≢◌, ℕ, true, false, ◌+◌, ◌<◌, ◌≤◌, ◌^◌, IfOk, IfErr, OnOk, MatchResult, List, [], ◌∷◌, All, length, reverse, slice_get};
-ghost use Rattle.dg_base.specs.declared.program.Goal.TheVariants.{Ask, Print as PrintGoal, Equal as EqualGoal, Test as TestGoal, Compare as CompareGoal, Fail as FailGoal, Just as JustGoal};
+ghost use Rattle.dg_base.specs.declared.program.Goal.TheVariants.{Ask, Print as PrintGoal, Fail as FailGoal, Just as JustGoal};
 ghost use Rattle.dg_meaning.specs.Moves.{rules_of as the_rules};
 ghost use Rattle.dg_meaning.specs.Built.{IsBuilt};
 ghost use Rattle.dg_interp.specs.declared.frames.Mark.TheVariants.{Nothing as NoMark};
@@ -20,6 +20,7 @@ ghost use Rattle.dg_interp.specs.Printing.{Printed};
 ghost use Rattle.dg_unify.specs.Store.{Saved, Kept, Holds, Charged};
 
 mod acting;
+mod comparing;
 mod control;
 mod giving;
 mod passing;
@@ -33,13 +34,10 @@ use crate::matching::unify_all;
 use crate::outside::Outside;
 use crate::passing::{choice_cells, pass};
 use crate::printing::print_value;
-use crate::terms::{new_variables, write_both, write_term, write_terms};
-use crate::testing::{in_order, test};
-use dg_base::{
-    CompareOp, CoreProgram, Ending, Goal, Items, Rule, Sink, Term, TestKind, WriteFault,
-};
+use crate::terms::{new_variables, write_term, write_terms};
+use dg_base::{CoreProgram, Ending, Goal, Items, Rule, Sink, Term, WriteFault};
 use dg_spacing::Spacer;
-use dg_unify::{Bindings, Full, ListBindings, Mark as Place, Ref, View, unify};
+use dg_unify::{Bindings, Full, ListBindings, Mark as Place, Ref, View};
 use std::alloc::{AllocError, Global};
 
 /// Where a run stands.
@@ -743,66 +741,5 @@ impl<'p> Engine<'p> {
         ensures printed { Printed (pieces_at self.old value) spacer.old spacer.new (K.view sink.old) (K.view sink.new) result }
     {
         print_value(&mut self.store, self.program, spacer, sink, value)
-    }
-
-    /// Makes two values equal; where they clash, goes back.
-    pub fn equal(&mut self, a: &Term, b: &Term) -> Result<bool, Full>
-        requires ready { IsReady self.old }
-        ensures equal { IfOk result (λ found. Branches (TakesAt (EqualGoal a.now b.now) self.old) found self.old self.new) }
-        ensures full { IfErr result (λ e. FullAt (TakesAt (EqualGoal a.now b.now) self.old) (store_in self.old.store) e) }
-        ensures left { self.new.left ≡ self.old.left }
-    {
-        let env = stretch(&self.refs, self.here.env);
-        match write_both(&mut self.store, self.program, env, a, b, &mut self.made) {
-            Err(e) => Err(e),
-            Ok((left, right)) => match unify(&mut self.store, left, right) {
-                Err(e) => Err(e),
-                Ok(true) => Ok(true),
-                Ok(false) => self.back(),
-            },
-        }
-    }
-
-    /// Compares two numbers; where they aren't two in this order, goes back.
-    pub fn compare(&mut self, op: CompareOp, a: &Term, b: &Term) -> Result<bool, Full>
-        requires ready { IsReady self.old }
-        ensures compared { IfOk result (λ found. Branches (TakesAt (CompareGoal op a.now b.now) self.old) found self.old self.new) }
-        ensures full { IfErr result (λ e. FullAt (TakesAt (CompareGoal op a.now b.now) self.old) (store_in self.old.store) e) }
-        ensures left { self.new.left ≡ self.old.left }
-    {
-        let env = stretch(&self.refs, self.here.env);
-        match write_both(&mut self.store, self.program, env, a, b, &mut self.made) {
-            Err(e) => Err(e),
-            Ok((first, second)) => {
-                if in_order(&self.store, op, first, second) {
-                    return Ok(true);
-                }
-                self.back()
-            }
-        }
-    }
-
-    /// Tests what a value is; where it doesn't pass, goes back.
-    pub fn test(&mut self, kind: TestKind, term: &Term) -> Result<bool, Full>
-        requires ready { IsReady self.old }
-        ensures tested { IfOk result (λ found. Branches (TakesAt (TestGoal kind term.now) self.old) found self.old self.new) }
-        ensures full { IfErr result (λ e. FullAt (TakesAt (TestGoal kind term.now) self.old) (store_in self.old.store) e) }
-        ensures left { self.new.left ≡ self.old.left }
-    {
-        match write_term(
-            &mut self.store,
-            self.program,
-            stretch(&self.refs, self.here.env),
-            term,
-            &mut self.made,
-        ) {
-            Err(e) => Err(e),
-            Ok(value) => {
-                if test(&mut self.store, kind, value) {
-                    return Ok(true);
-                }
-                self.back()
-            }
-        }
     }
 }
