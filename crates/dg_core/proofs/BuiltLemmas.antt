@@ -26,7 +26,7 @@ use Rattle.dg_base.specs.declared.program.Term.{Term, out-Term}
 use Rattle.dg_base.specs.declared.program.Term.TheVariants as term
 use Rattle.dg_base.specs.declared.program.Term.TheOpen as top
 use Rattle.dg_base.proofs.NodeLemmas.{inside, within_out}
-use Rattle.dg_meaning.specs.Built.{IsForm, IsBuilt, IsBuiltBody, IsBuiltGoal, IsBuiltRule}
+use Rattle.dg_built.specs.Built.{IsForm, IsBuilt, IsBuiltBody, IsBuiltGoal, IsBuiltRule}
 use Rattle.dg_names.specs.Named.{Named, firsts}
 use Rattle.dg_core.specs.Core.{outside, scope_of, rule_of, failing, rules_in, rules_from, selects_of, pred_of, without_facts, core_of}
 use Rattle.dg_core.specs.Forms.{is_unbuilt, is_unbuilt_query, is_unbuilt_name, first_unbuilt, IsRun, AreRun}

@@ -3,7 +3,7 @@ ghost use Rattle.std.specs.Prelude.{◌≡◌, ◌≤◌, List, [], None, length
 ghost use Rattle.dg_base.specs.Heads.{name_of};
 ghost use Rattle.dg_base.specs.Sound.{FitsHeads, IsEntry, IsSound};
 ghost use Rattle.dg_base.specs.Tree.{Parts, Item};
-ghost use Rattle.dg_meaning.specs.Built.{IsBuilt};
+ghost use Rattle.dg_built.specs.Built.{IsBuilt};
 ghost use Rattle.dg_names.specs.Named.{Named};
 ghost use Rattle.dg_core.specs.Core.{core_of, entry_name, refusal_of};
 ghost use Rattle.dg_core.specs.Forms.{AreRun, first_unbuilt};

@@ -20,7 +20,7 @@ use Rattle.dg_meaning.specs.Moves.{first_looks, rule_branches, rules_of, choice,
 use Rattle.dg_meaning.specs.Cells.{cells, writing}
 use Rattle.dg_meaning.specs.Transcript.{Run}
 use Rattle.dg_meaning.specs.Keeps.{After, Tried}
-use Rattle.dg_meaning.specs.Built.{IsBuiltRule}
+use Rattle.dg_built.specs.Built.{IsBuiltRule}
 use Rattle.dg_unify.specs.Store.{Store, State, Saved, Holds, Kept, marked, told}
 use Rattle.dg_unify.specs.declared.bindings.Ref.{Ref}
 use Rattle.dg_unify.specs.Laws.{saves_drops}

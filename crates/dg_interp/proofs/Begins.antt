@@ -17,7 +17,7 @@ use Rattle.dg_meaning.specs.Moves.{begun, inside, enter, path_of, choice_cells, 
 use Rattle.dg_meaning.specs.Transcript.{Run}
 use Rattle.dg_meaning.specs.Context.{Way, Live}
 use Rattle.dg_meaning.specs.Keeps.{Stands, Began, Tried}
-use Rattle.dg_meaning.specs.Built.{AreBuilt, IsBuiltRule}
+use Rattle.dg_built.specs.Built.{AreBuilt, IsBuiltRule}
 use Rattle.dg_meaning.proofs.Keeps.{has_happened}
 use Rattle.dg_meaning.proofs.Solving.{solve_extends}
 use Rattle.dg_unify.specs.Store.{Store, State, Saved, Kept, Charged, told, trail_of}

@@ -12,10 +12,10 @@ use Rattle.dg_meaning.specs.Cells.{writing}
 use Rattle.dg_meaning.specs.Path.{Step, Do, Cut, Refuse, Registers, Plain, Failing, Chooses}
 use Rattle.dg_meaning.specs.Moves.{begun, inside, enter, choice, goals_at, list_branches, outcome, path_of}
 use Rattle.dg_meaning.specs.Transcript.{Run}
-use Rattle.dg_meaning.specs.Built.{AreBuilt}
+use Rattle.dg_built.specs.Built.{AreBuilt}
 use Rattle.dg_meaning.specs.Keeps.{After, Stands}
 use Rattle.dg_meaning.proofs.Keeps.{stands_happened}
-use Rattle.dg_meaning.proofs.BuiltLemmas.{built_inside, lists_built, three_built}
+use Rattle.dg_built.proofs.BuiltLemmas.{built_inside, lists_built, three_built}
 use Rattle.dg_unify.specs.Store.{Store, State, Saved, Kept, Charged, HeapFull}
 use Rattle.dg_unify.specs.declared.bindings.Full.{Full}
 use Rattle.dg_unify.specs.declared.bindings.Full.TheVariants as full

@@ -12,7 +12,7 @@ use Rattle.dg_meaning.specs.Moves.{begun, inside, is_excluded, call_cells, unles
 use Rattle.dg_meaning.specs.Transcript.{Run}
 use Rattle.dg_meaning.specs.Context.{Live, Way}
 use Rattle.dg_meaning.specs.Keeps.{Failed, Began, Tried, tried_in}
-use Rattle.dg_meaning.specs.Built.{IsBuiltRule}
+use Rattle.dg_built.specs.Built.{IsBuiltRule}
 use Rattle.dg_meaning.proofs.Keeps.{failed, tries}
 use Rattle.dg_unify.specs.Store.{Store}
 use Rattle.dg_unify.specs.Laws.{saves_drops}

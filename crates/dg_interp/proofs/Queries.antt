@@ -24,7 +24,7 @@ use Rattle.dg_meaning.specs.Moves.{begun, path_of, enter_if, looked_up, outcome,
 use Rattle.dg_meaning.specs.Transcript.{Run}
 use Rattle.dg_meaning.specs.Context.{Live}
 use Rattle.dg_meaning.specs.Keeps.{After, Stands, Began}
-use Rattle.dg_meaning.specs.Built.{AreBuilt, IsBuiltBody}
+use Rattle.dg_built.specs.Built.{AreBuilt, IsBuiltBody}
 use Rattle.dg_meaning.proofs.Solving.{solve_extends}
 use Rattle.dg_unify.specs.Store.{Store, State, Saved, Holds, Kept, Made, told, trail_of}
 use Rattle.dg_unify.specs.Engines.{Agrees}

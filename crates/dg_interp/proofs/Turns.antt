@@ -17,8 +17,8 @@ use Rattle.dg_meaning.specs.Path.{Do}
 use Rattle.dg_meaning.specs.Moves.{path_of, goals_at}
 use Rattle.dg_meaning.specs.Transcript.{run, start_world, start_path}
 use Rattle.dg_meaning.specs.Keeps.{Stands}
-use Rattle.dg_meaning.specs.Built.{IsBuilt, IsBuiltGoal, AreBuilt}
-use Rattle.dg_meaning.proofs.BuiltLemmas.{all_none, built_goal, built_alone, built_rest, built_from}
+use Rattle.dg_built.specs.Built.{IsBuilt, IsBuiltGoal, AreBuilt}
+use Rattle.dg_built.proofs.BuiltLemmas.{all_none, built_goal, built_alone, built_rest, built_from}
 use Rattle.dg_meaning.proofs.Keeps.{starts}
 use Rattle.dg_unify.specs.Slots.{store_of}
 use Rattle.dg_unify.specs.Store.{Store, Holds}

@@ -18,7 +18,7 @@ use Rattle.dg_meaning.specs.Transcript.{Run, run, start_world}
 use Rattle.dg_meaning.specs.Context.{Way, Live}
 use Rattle.dg_meaning.specs.Keeps.{Stands, Failed, Finished, Tried, WentOn as LeftPart}
 use Rattle.dg_meaning.specs.Peaks.{Area, Heap, Trail, Aux, Keep, greatest, limit_of}
-use Rattle.dg_meaning.specs.Built.{IsBuilt, IsBuiltGoal, AreBuilt}
+use Rattle.dg_built.specs.Built.{IsBuilt, IsBuiltGoal, AreBuilt}
 use Rattle.dg_unify.specs.Store.{Store, Saved, Holds, told}
 use Rattle.dg_unify.specs.Engines.{Agrees, IsPlace as IsPlaceOf}
 use Rattle.dg_unify.specs.Slots.{store_of, Stand}

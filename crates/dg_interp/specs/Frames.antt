@@ -7,7 +7,7 @@ use Rattle.dg_meaning.specs.World.{Game}
 use Rattle.dg_meaning.specs.Path.{Step, Answers, Cut, Refuse, Back, Leave, Registers, Branch, Kind, Plain, Rules as RulesOf}
 use Rattle.dg_meaning.specs.Moves.{goals_at, first_alone, enter, list_branches, rule_branches}
 use Rattle.dg_meaning.specs.Context.{Live, Way as WayOn, cut_to}
-use Rattle.dg_meaning.specs.Built.{AreBuilt, IsBuiltRule}
+use Rattle.dg_built.specs.Built.{AreBuilt, IsBuiltRule}
 use Rattle.dg_unify.specs.Store.{Store, Saved, told, Holds}
 use Rattle.dg_unify.specs.Engines.{Agrees, GoBackTo as GoBack}
 use Rattle.dg_unify.specs.declared.bindings.Ref.{Ref}

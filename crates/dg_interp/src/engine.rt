@@ -2,7 +2,7 @@
 ghost use Rattle.std.specs.Prelude.{◌≡◌, ◌≢◌, ℕ, true, false, ◌+◌, ◌<◌, ◌≤◌, ◌^◌, IfOk, IfErr, OnOk, MatchResult, List, [], ◌∷◌, All, length, reverse, slice_get};
 ghost use Rattle.dg_base.specs.declared.program.Goal.TheVariants.{Ask, Print as PrintGoal, Fail as FailGoal, Just as JustGoal};
 ghost use Rattle.dg_meaning.specs.Moves.{rules_of as the_rules};
-ghost use Rattle.dg_meaning.specs.Built.{IsBuilt};
+ghost use Rattle.dg_built.specs.Built.{IsBuilt};
 ghost use Rattle.dg_interp.specs.declared.frames.Mark.TheVariants.{Nothing as NoMark};
 ghost use Rattle.dg_interp.specs.declared.frames.Left.TheVariants.{Rules, Lists, Ways, Way};
 ghost use Rattle.dg_unify.specs.declared.bindings.Full.TheVariants.{OutOfMemory as WantOfMemory};

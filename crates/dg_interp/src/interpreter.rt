@@ -2,7 +2,7 @@
 ghost use Rattle.std.specs.Prelude.{◌≡◌, ◌<◌, ◌≤◌, length, List, ℕ, Option, IfOk, IfErr, IsErrOf};
 ghost use Rattle.dg_base.specs.Causes.{Rose};
 ghost use Rattle.dg_meaning.specs.Transcript.{line_of};
-ghost use Rattle.dg_meaning.specs.Built.{IsBuilt};
+ghost use Rattle.dg_built.specs.Built.{IsBuilt};
 ghost use Rattle.dg_meaning.specs.Shows.{IsLeft};
 ghost use Rattle.dg_base.specs.Sound.{IsSound};
 ghost use Rattle.dg_interp.specs.Engine.{Starts};

@@ -18,5 +18,4 @@ pub mod Worked
 pub mod WorkedSearch
 pub mod WorkedWorld
 pub mod Limits
-pub mod BuiltLemmas
 pub mod Excluding

@@ -26,7 +26,6 @@ pub mod Bindings
 pub mod OneRun
 pub mod Peaks
 pub mod Shows
-pub mod Built
 pub mod Context
 pub mod Keeps
 pub mod Excluding

@@ -18,7 +18,7 @@ use Rattle.dg_lex.specs.Bad as lexing
 use Rattle.dg_lex.specs.Spelled.{IsSpelledToken}
 use Rattle.dg_lex.specs.Tokens.{IsLexed, Seen, seen}
 use Rattle.dg_lex.specs.declared.token.Token.{Token}
-use Rattle.dg_meaning.specs.Built.{IsBuilt}
+use Rattle.dg_built.specs.Built.{IsBuilt}
 use Rattle.dg_names.specs.Among.{IsReadable, IsAmong, IsSmall, ArePrintable, AreFew}
 use Rattle.dg_names.specs.Counts.{IsNamed}
 use Rattle.dg_names.specs.Named.{Named, word_in, names_of}

@@ -2,7 +2,7 @@
 ghost use Rattle.std.specs.Prelude.{◌≡◌, ◌<◌, ℕ, List, length, Some, Ok};
 ghost use Rattle.dg_base.specs.Shelves.{ShelfView};
 ghost use Rattle.dg_base.specs.Sound.{IsSound};
-ghost use Rattle.dg_meaning.specs.Built.{IsBuilt};
+ghost use Rattle.dg_built.specs.Built.{IsBuilt};
 ghost use Rattle.dialog_tool.specs.Answers.{status_of, Answers, Decides};
 ghost use Rattle.dialog_tool.specs.Call.{call, IsFetched};
 ghost use Rattle.dialog_tool.specs.Command.{texts, command_of, debug as debug_command, limits_of};

@@ -2,7 +2,7 @@
 ghost use Rattle.std.specs.Prelude.{◌≡◌, ℕ, List, Option, Some, Ok, IfOk, IfErr, OnOk};
 ghost use Rattle.dg_base.specs.Sound.{IsSound};
 ghost use Rattle.dg_base.specs.Streams.{SourceView};
-ghost use Rattle.dg_meaning.specs.Built.{IsBuilt};
+ghost use Rattle.dg_built.specs.Built.{IsBuilt};
 ghost use Rattle.dialog_tool.specs.Answers.{Answers};
 ghost use Rattle.dialog_tool.specs.Call.{call, IsFetched};
 ghost use Rattle.dialog_tool.specs.Command.{Command, source_named};

@@ -7,7 +7,7 @@ ghost use Rattle.dg_base.specs.TreeView.{tree_view};
 ghost use Rattle.dg_base.specs.declared.program.CoreProgram.{CoreProgram as Core};
 ghost use Rattle.dg_core.specs.Core.{IsLowered};
 ghost use Rattle.dg_core.specs.Forms.{first_unbuilt};
-ghost use Rattle.dg_meaning.specs.Built.{IsBuilt};
+ghost use Rattle.dg_built.specs.Built.{IsBuilt};
 ghost use Rattle.dg_names.specs.State.{names_view};
 ghost use Rattle.dialog_tool.specs.Source.{Then, Builds, Becomes, Compiles, Meets, refusal_at};
 

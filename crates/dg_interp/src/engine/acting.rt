@@ -1,7 +1,7 @@
 // Goals that neither print nor end the run.
 ghost use Rattle.std.specs.Prelude.{◌≡◌, ◌+◌, ◌<◌, ◌^◌, [], ◌∷◌, IfOk, IfErr};
 ghost use Rattle.dg_base.specs.declared.program.Goal.{out-Goal};
-ghost use Rattle.dg_meaning.specs.Built.{AreBuilt, IsBuiltGoal};
+ghost use Rattle.dg_built.specs.Built.{AreBuilt, IsBuiltGoal};
 ghost use Rattle.dg_interp.specs.Engine.{IsReady, TakesAt, Branches, FullAt, LackAt, IsAct, IsAgain, store_in};
 
 use super::Engine;

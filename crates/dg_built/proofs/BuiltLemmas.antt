@@ -4,7 +4,7 @@ use Rattle.std.specs.List.{All, flat_map}
 use Rattle.std.proofs.lemmas.List.Elements.{All-cons, All-append}
 use Rattle.dg_base.specs.declared.program.Goal.{Goal, Goal-F, out-Goal}
 use Rattle.dg_base.specs.Goals.{goals_within, goals_of}
-use Rattle.dg_meaning.specs.Built.{IsBuiltGoal, IsForm, AreBuilt}
+use Rattle.dg_built.specs.Built.{IsBuiltGoal, IsForm, AreBuilt}
 use Rattle.dg_base.proofs.NodeLemmas.{inside, within_out}
 
 pub all_none : {A : Type 0} (P : A → Type 0) → All P []

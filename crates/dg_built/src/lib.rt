@@ -1,0 +1,2 @@
+//! Which core programs the interpreter runs so far.
+#![tactic(auto)]
