@@ -4,6 +4,7 @@ use Rattle.std.specs.Prelude.{All, slice_get}
 use Rattle.std.proofs.lemmas.Grind.{flat_map-append}
 use Rattle.std.proofs.lemmas.List.{drop-drop}
 use Rattle.z_model.specs.declared.op.Op.{Op}
+use Rattle.z_model.specs.declared.op.Found.{Found}
 use Rattle.z_model.specs.declared.story.Layout.{Layout}
 use Rattle.z_model.specs.Table.{Rows}
 use Rattle.z_model.specs.Decode.{◌>>=◌, op_at, text_at}
@@ -53,12 +54,17 @@ module _ (layout : Layout) (old new : List ℕ) (kept : KeepsCode layout old new
     text = text_on i.row.text (at + length (spelling op)) (omega arith) ∙ i.text;
   }
 
+  decoded_on : (rows : Rows) (at : ℕ) (x : Found) → layout.base ≤ at → IsInstruction rows old at x.op x.end → op_at rows old at ≡ Ok x → op_at rows new at ≡ Ok x
+  unfolding instruction_on
+  decoded_on rows at x le i e =
+      instruction_again rows new at x.op x.end (instruction_on rows at x.op x.end le i) ∙ sym (instruction_again rows old at x.op x.end i) ∙ e
+
   string_on : (at : ℕ) → layout.base ≤ at → string_at new at ≡ string_at old at
   unfolding string_at
   string_on at le = rw (drop_kept at le) refl
 
   pub stands_on : StandsOn layout old new
-  stands_on = record { bytes = bytes_on; instruction = instruction_on; string = string_on }
+  stands_on = record { bytes = bytes_on; instruction = instruction_on; decoded = decoded_on; string = string_on }
 
 -- ---- what stands at the counter
 

@@ -1,12 +1,13 @@
 -- What holds of every step and run: a run comes in pieces, its output only grows, the code stays, and what stands at the counter is done.
-use Rattle.std.specs.Prelude.{◌≡◌, ◌≢◌, ◌<◌, ◌≤◌, ℕ, ◌+◌, List, ◌∷◌, ◌++◌, length, drop, flat_map, slice_get}
+use Rattle.std.specs.Prelude.{◌≡◌, ◌≢◌, ◌<◌, ◌≤◌, ℕ, ◌+◌, List, ◌∷◌, ◌++◌, length, drop, flat_map, slice_get, Ok}
 use Rattle.dg_base.specs.Begins.{Begins}
 use Rattle.z_model.specs.declared.op.Op.{Op}
+use Rattle.z_model.specs.declared.op.Found.{Found}
 use Rattle.z_model.specs.declared.story.Layout.{Layout}
 use Rattle.z_model.specs.declared.end.ZEnd.{ZEnd}
 use Rattle.z_model.specs.declared.end.ZEnd.TheVariants as ends
 use Rattle.z_model.specs.Table.{Rows}
-use Rattle.z_model.specs.Decode.{◌>>=◌}
+use Rattle.z_model.specs.Decode.{◌>>=◌, op_at}
 use Rattle.z_model.specs.Spelling.{spelling, Stands, IsOfTable, IsInstruction}
 use Rattle.z_model.specs.Text.{string_at}
 use Rattle.z_model.specs.Machine.{Machine, values_of}
@@ -55,6 +56,7 @@ pub record CodeStays (w : ZGiven) (s : ZState) : Type 0 where
 pub record StandsOn (layout : Layout) (old new : List ℕ) : Type 0 where
   pub bytes : (at : ℕ) (bytes : List ℕ) → layout.base ≤ at → Stands old at bytes → Stands new at bytes
   pub instruction : (rows : Rows) (at : ℕ) (op : Op) (end : ℕ) → layout.base ≤ at → IsInstruction rows old at op end → IsInstruction rows new at op end
+  pub decoded : (rows : Rows) (at : ℕ) (x : Found) → layout.base ≤ at → IsInstruction rows old at x.op x.end → op_at rows old at ≡ Ok x → op_at rows new at ≡ Ok x
   pub string : (at : ℕ) → layout.base ≤ at → string_at new at ≡ string_at old at
 
 -- ---- what stands at the counter is done

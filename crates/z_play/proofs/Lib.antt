@@ -16,3 +16,4 @@ pub mod Loading
 pub mod Lines
 pub mod Signs
 pub mod Codes
+pub mod CodeStays

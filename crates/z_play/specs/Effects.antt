@@ -29,9 +29,9 @@ CanFinish (Reads buffer most store) layout m =
 CanFinish (ReadsKey store) layout m = (x : ℕ) → IsOk (stored_if layout m store x)
 CanFinish Quits layout m = Unit {0}
 
--- What an instruction does, where one was found: its operands are taken, and then it is done.
-abbrev pub acted : Layout → ℕ → Machine → Result Found ZFault → Result (Effect × Machine) ZFault
-acted layout word m r = r >>= λ found. values_of layout m found.op.operands >>= λ a. do_instr layout word found.row.instr found.op found.end a.0 a.1
+-- What an instruction that was found does: its operands are taken, and then it is done.
+abbrev pub acted : Layout → ℕ → Machine → Found → Result (Effect × Machine) ZFault
+acted layout word m found = values_of layout m found.op.operands >>= λ a. do_instr layout word found.row.instr found.op found.end a.0 a.1
 
 -- what the table gives, where a function answers with an effect and leaves the machine
 abbrev pub GivesEffect : Result Effect ZFault → Layout → Machine → Result (Effect × Machine) ZFault → Type 0

@@ -12,3 +12,4 @@ pub mod Acting
 pub mod Played
 pub mod Advancing
 pub mod Ready
+pub mod Recent

@@ -3,6 +3,7 @@ use Rattle.std.specs.Prelude.{◌≡◌, ◌+◌, ◌≤◌, ℕ, List, length, 
 use Rattle.z_model.specs.declared.story.Layout.{Layout}
 use Rattle.z_model.specs.Story.{layout_of, start_of, memory_of, refusal_of, text_of_story, given_of, start_state}
 use Rattle.z_play.specs.declared.engine.Engine.{Engine}
+use Rattle.z_play.specs.declared.recent.Recent.{Recent}
 use Rattle.z_play.specs.declared.player.LoadFault.{LoadFault}
 use Rattle.z_play.specs.declared.player.LoadFault.TheVariants.{Refused, OutOfMemory}
 use Rattle.z_play.specs.View.{Sound, layout_in}
@@ -22,13 +23,14 @@ abbrev pub text_of_load : LoadFault → List ℕ
 text_of_load (Refused refusal) = text_of_story refusal
 text_of_load OutOfMemory = codes "out of memory"
 
--- The story is whole, and its engine is sound and as long.
-pub record IsReady (story : List ℕ) (start : ℕ) (e : Engine) : Type 0 where
+-- The story is whole, its engine is sound and as long, and there are places for what is decoded.
+pub record IsReady (story : List ℕ) (start : ℕ) (e : Engine) (recent : Recent) : Type 0 where
   pub whole : memory_of story ≡ story
   pub layout_is : layout_in e ≡ layout_of story
   pub start_is : start ≡ start_of story
   pub sound : Sound e
   pub same_size : length e.memory.bytes.items ≡ length story
+  pub places : length recent.slots.items ≡ 4097
 
 -- The file isn't refused, the story is its bytes up to its length, and its runs are the file's.
 pub record IsLoaded (file story : List ℕ) : Type 0 where

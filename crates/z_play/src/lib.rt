@@ -10,6 +10,7 @@ mod objects;
 mod output;
 mod player;
 mod printing;
+mod recent;
 mod step;
 mod text;
 mod typed;

@@ -5,6 +5,7 @@ ghost use Rattle.z_model.specs.Closing.{is_open, end_line, newline_if, unread_li
 ghost use Rattle.z_model.specs.Story.{refusal_of, first_machine, given_of, start_state, IsHeader};
 ghost use Rattle.z_play.specs.View.{machine, layout_in, Sound, Kept};
 ghost use Rattle.z_play.specs.Effects.{CanFinish};
+ghost use Rattle.z_play.specs.Recent.{IsRecent};
 ghost use Rattle.dg_base.specs.Written.{SinkView, Wrote, BrokeOff};
 ghost use Rattle.z_play.specs.Scene.{Scene, scene, given_by, state};
 ghost use Rattle.z_play.specs.Acting.{text_of, Finishes, MayBeLeft};
@@ -17,6 +18,7 @@ ghost use Rattle.dg_base.specs.Streams.{SourceView};
 use crate::engine::{Called, Engine};
 use crate::memory::Story;
 use crate::output::{write_code, write_line, write_number, write_text, write_unicode};
+use crate::recent::Recent;
 use crate::typed::{code_of_key, keep_codes, take_line};
 use dg_base::{Failed, Fault, Sink, Source, WriteFault, write_all, write_pieces};
 use itoa::Buffer;
@@ -52,6 +54,7 @@ pub struct Player {
     story: Vec<u8>,
     start: u32,
     engine: Engine,
+    recent: Recent,
 }
 
 const OPENING: Called = Called {
@@ -195,6 +198,7 @@ fn finish<S: Source>(
 // One instruction.
 fn advance<S: Source, K: Sink>(
     engine: &mut Engine,
+    recent: &mut Recent,
     drawn: &mut usize,
     begun: &mut bool,
     dice: &[u16],
@@ -202,8 +206,10 @@ fn advance<S: Source, K: Sink>(
     sink: &mut K,
 ) -> Result<Option<Halt>, Fault>
     requires sound { Sound engine.old }
+    requires recent { IsRecent engine.old.memory.base engine.old.memory.bytes.items recent.old }
     requires drawn { drawn.old < length dice.now }
     ensures kept { Kept engine.old engine.new }
+    ensures recent { IsRecent engine.old.memory.base engine.old.memory.bytes.items recent.new }
     ensures drawn { drawn.new < length dice.now }
     ensures told { (typed : List ℕ) → (S.view source.old).left ≡ Some typed → Advances result (given_by (layout_in engine.old) dice.now) typed
         (scene (machine engine.old) drawn.old begun.old (S.view source.old).left (K.view sink.old))
@@ -214,7 +220,7 @@ fn advance<S: Source, K: Sink>(
     ensures causes { HasCauses (S.view source.old) (S.view source.new) (K.view sink.old) (K.view sink.new) result }
 {
     let at = engine.pc;
-    match engine.step(dice[*drawn]) {
+    match engine.step(recent, dice[*drawn]) {
         Err(fault) => Ok(Some(Halt::AtFault(fault, at))),
         Ok(Effect::Goes) => Ok(None),
         Ok(effect) => match print(engine, effect, *begun, sink) {
@@ -243,6 +249,7 @@ fn end_as(halt: Halt) -> ZEnd
 // At most so many instructions.
 fn run_steps<S: Source, K: Sink>(
     engine: &mut Engine,
+    recent: &mut Recent,
     steps: u64,
     begun: &mut bool,
     dice: &[u16],
@@ -250,8 +257,10 @@ fn run_steps<S: Source, K: Sink>(
     sink: &mut K,
 ) -> Result<ZEnd, Fault>
     requires sound { Sound engine.old }
+    requires recent { IsRecent engine.old.memory.base engine.old.memory.bytes.items recent.old }
     requires dice { 0 < length dice.now }
     ensures kept { Kept engine.old engine.new }
+    ensures size { length recent.new.slots.items ≡ 4097 }
     ensures told { (typed : List ℕ) → (S.view source.old).left ≡ Some typed → (drawn : ℕ) →
         RunsOn result (given_by (layout_in engine.old) dice.now) (state (machine engine.old) typed 0 []) steps
         (scene (machine engine.old) 0 begun.old (S.view source.old).left (K.view sink.old))
@@ -262,10 +271,12 @@ fn run_steps<S: Source, K: Sink>(
         (scene (machine engine.new) drawn begun.new (Some left) (K.view sink.new))) }
     ensures causes { HasCauses (S.view source.old) (S.view source.new) (K.view sink.old) (K.view sink.new) result }
 {
+    z_model::steps_keep_code();
+    z_model::code_stands_on();
     let mut drawn = 0;
     let mut left = steps;
     while left > 0 {
-        match advance(engine, &mut drawn, begun, dice, source, sink) {
+        match advance(engine, recent, &mut drawn, begun, dice, source, sink) {
             Err(fault) => return Err(fault),
             Ok(halt) => match halt {
                 Some(halt) => return Ok(end_as(halt)),
@@ -379,7 +390,7 @@ impl Model for Player {
 
     ghost view = { λ p. p.story.items };
 
-    ghost invariant = { λ p. IsReady p.story.items p.start p.engine };
+    ghost invariant = { λ p. IsReady p.story.items p.start p.engine p.recent };
 }
 
 impl Player {
@@ -436,10 +447,12 @@ impl Player {
             tables: [CLOSED; 16],
             opened: 0,
         };
+        let recent = Recent::new(alloc)?;
         Ok(Player {
             story,
             start,
             engine,
+            recent,
         })
     }
 
@@ -459,8 +472,17 @@ impl Player {
         ensures causes { HasCauses (S.view source.old) (S.view source.new) (K.view sink.old) (K.view sink.new) result }
     {
         reset(&mut self.engine, &self.story, self.start);
+        self.recent.clear();
         let mut begun = false;
-        let ended = run_steps(&mut self.engine, steps, &mut begun, dice, source, sink);
+        let ended = run_steps(
+            &mut self.engine,
+            &mut self.recent,
+            steps,
+            &mut begun,
+            dice,
+            source,
+            sink,
+        );
         close_run(ended, begun, sink)
     }
 }

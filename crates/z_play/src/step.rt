@@ -1,14 +1,17 @@
 // One instruction: the rows of the instruction table.
-ghost use Rattle.std.specs.Prelude.{◌≡◌, ◌≤◌, ◌+◌, ◌*◌, ◌%◌, IfOk, length};
+ghost use Rattle.std.specs.Prelude.{◌≡◌, ◌≤◌, ◌+◌, ◌*◌, ◌%◌, length};
 ghost use Rattle.z_model.specs.Table.{rows_of};
 ghost use Rattle.z_model.specs.Step.{do_two, do_one, do_zero, do_several, do_extended, do_instr, machine_step};
 ghost use Rattle.z_play.specs.View.{machine, layout_in, Sound, Kept};
 ghost use Rattle.z_play.specs.Effects.{GivesEffect, acted};
+ghost use Rattle.z_play.specs.Recent.{IsRecent};
 
 use crate::arith::{art_shift, divide, equals_one, is_less, log_shift, modulo, signed};
 use crate::engine::Engine;
-use z_code::{Found, decode};
-use z_model::{Args, Effect, Extended, Instr, One, Op, Several, Two, ZFault, Zero, bytes_of};
+use crate::recent::Recent;
+use z_model::{
+    Args, Effect, Extended, Found, Instr, One, Op, Several, Two, ZFault, Zero, bytes_of,
+};
 
 // The address of a word in an array.
 #[inline]
@@ -211,27 +214,28 @@ impl Engine {
         }
     }
 
-    // Does an instruction, where one was found.
+    // Does an instruction that was found.
     #[inline(always)]
-    fn act(&mut self, word: u16, found: Result<Found, ZFault>) -> Result<Effect, ZFault>
+    fn act(&mut self, word: u16, found: &Found) -> Result<Effect, ZFault>
         requires sound { Sound self.old }
-        requires near { IfOk found (λ f. f.end ≤ length self.old.memory.bytes.items) }
+        requires near { found.now.end ≤ length self.old.memory.bytes.items }
         ensures kept { Kept self.old self.new }
-        ensures acted { GivesEffect result (layout_in self.old) (machine self.new) (acted (layout_in self.old) word (machine self.old) found) }
+        ensures acted { GivesEffect result (layout_in self.old) (machine self.new) (acted (layout_in self.old) word (machine self.old) found.now) }
     {
-        let found = found?;
         let args = self.values(&found.op.operands)?;
         self.do_instr(word, found.row.instr, &found.op, found.end as u32, &args)
     }
 
     /// One instruction; a word is the next of the dice.
     #[tactic(auto, unfolding(z_model::specs::Step::machine_step))]
-    pub fn step(&mut self, word: u16) -> Result<Effect, ZFault>
-        requires { Sound self.old }
+    pub fn step(&mut self, recent: &mut Recent, word: u16) -> Result<Effect, ZFault>
+        requires sound { Sound self.old }
+        requires recent { IsRecent self.old.memory.base self.old.memory.bytes.items recent.old }
         ensures kept { Kept self.old self.new }
         ensures stepped { GivesEffect result (layout_in self.old) (machine self.new) (machine_step rows_of (layout_in self.old) word (machine self.old)) }
+        ensures recent { IsRecent self.old.memory.base self.old.memory.bytes.items recent.new }
     {
-        let found = decode(&self.memory.bytes, self.pc as usize);
-        self.act(word, found)
+        let place = recent.place(&self.memory.bytes, self.memory.base as u32, self.pc)?;
+        self.act(word, &recent.slots[place].found)
     }
 }

@@ -9,11 +9,15 @@ use Rattle.z_play.specs.Acting.{MayBeLeft}
 use Rattle.z_play.specs.Advancing.{Advances, RanTo}
 use Rattle.dg_base.specs.declared.run.Fault.{Fault}
 use Rattle.z_play.proofs.Going.{Going, going_first, less_left, going_on, run_ended, run_limit, run_failed, typed_is, nothing_left, causes_ok, causes_err}
+use Rattle.z_model.specs.Laws.{IsLaid}
+use Rattle.z_play.specs.Recent.{IsRecent}
+use Rattle.z_play.proofs.CodeStays.{came_keeps, recent_on}
 use Rattle.z_play.proofs.player.run_steps.Goals as goal
 
 pub loop-left-init : goal.loop-left-init
 loop-left-init g c = record {
   kept = record { sound = c.requires.sound; layout = refl; memory = refl };
+  recent = c.requires.recent;
   drawn = c.requires.dice;
   reads = omega arith;
   writes = omega arith;
@@ -109,6 +113,17 @@ returns-in-Some-clause-causes g c = causes_ok (g.S.Source.view c.args.source.now
 pub loop-left-preserved : goal.loop-left-preserved
 loop-left-preserved g c = record {
   kept = record { sound = c.in-Ok.ensures.kept.sound; layout = c.in-Ok.ensures.kept.layout ∙ c.loop-left.invariant.kept.layout; memory = c.in-Ok.ensures.kept.memory ∙ c.loop-left.invariant.kept.memory };
+  recent =
+      let w = given_by (layout_in c.loop-left.engine) c.args.dice.now in
+      let source = c.in-Ok.ensures.untold [] (subst (λ (h : Option Halt). MayBeLeft {E = Fault} (Ok h) []) (sym c.in-None.is) tt) in
+      let here = scene (machine c.loop-left.engine) c.loop-left.drawn c.loop-left.begun (Some source.0) (g.K.Sink.view c.loop-left.sink) in
+      let next = scene (machine c.advance.new.engine) c.advance.new.drawn c.advance.new.begun (Some []) (g.K.Sink.view c.advance.new.sink) in
+      let came = subst (λ (h : Option Halt). Advances (Ok h) w source.0 here next) c.in-None.is source.1 in
+      let laid : IsLaid w.layout = record { from = c.loop-left.invariant.kept.sound.from; globals = c.loop-left.invariant.kept.sound.globals } in
+      let keeps = came_keeps w here next source.0 (c.steps_keep_code.ensures w (state here.machine source.0 here.drawn []) laid) came in
+      let on = c.code_stands_on.ensures w.layout here.machine.memory next.machine.memory keeps in
+      subst (λ (l : Layout). IsRecent l.base c.advance.new.engine.memory.bytes.items c.advance.new.recent) (sym c.in-Ok.ensures.kept.layout)
+      (recent_on w.layout here.machine.memory next.machine.memory keeps on c.advance.new.recent c.in-Ok.ensures.recent);
   drawn = c.in-Ok.ensures.drawn;
   reads = omega (arith, c.loop-left.invariant.reads, c.in-Ok.ensures.causes.reads);
   writes = omega (arith, c.loop-left.invariant.writes, c.in-Ok.ensures.causes.writes);

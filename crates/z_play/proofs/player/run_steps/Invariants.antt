@@ -1,12 +1,14 @@
 use Rattle.std.proofs.Common.{◌≡◌, ◌<◌, ◌≤◌, ℕ, List, [], length, Some}
 use Rattle.z_play.specs.View.{machine, layout_in, Kept}
 use Rattle.z_play.specs.Scene.{scene, given_by, state}
+use Rattle.z_play.specs.Recent.{IsRecent}
 use Rattle.z_play.proofs.Going.{Going}
 use Rattle.z_play.proofs.player.run_steps.Given as goal
 
 abbrev pub invariant-loop-left : goal.invariant-loop-left
 invariant-loop-left g l = record {
   kept : Kept l.fn.engine l.engine;
+  recent : IsRecent l.engine.memory.base l.engine.memory.bytes.items l.recent;
   drawn : l.drawn < length l.dice;
   reads : (g.S.Source.view l.fn.source).faults ≤ (g.S.Source.view l.source).faults;
   writes : (g.K.Sink.view l.fn.sink).faults ≤ (g.K.Sink.view l.sink).faults;

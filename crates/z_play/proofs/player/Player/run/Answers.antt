@@ -41,3 +41,6 @@ returns-clause-untold g c =
 pub returns-clause-causes : goal.returns-clause-causes
 returns-clause-causes g c =
     c.close_run.ensures.causes (g.S.Source.view c.args.source.now) (g.S.Source.view c.run_steps-ended.new.source) (g.K.Sink.view c.args.sink.now) c.run_steps-ended.ensures.causes
+
+pub run_steps-ended-requires-clause-recent : goal.run_steps-ended-requires-clause-recent
+run_steps-ended-requires-clause-recent g c = c.clear.ensures.recent c.reset.new.engine.memory.base c.reset.new.engine.memory.bytes.items
