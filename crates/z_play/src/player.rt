@@ -68,6 +68,7 @@ const OPENING: Called = Called {
 const CLOSED: OpenTable = OpenTable { at: 0, count: 0 };
 
 // Writes what an instruction prints.
+#[inline(never)]
 fn print<K: Sink>(
     engine: &Engine,
     effect: Effect,
@@ -155,6 +156,7 @@ fn read_key<S: Source>(
 }
 
 // Does what is left of an instruction.
+#[inline(never)]
 fn finish<S: Source>(
     engine: &mut Engine,
     effect: Effect,

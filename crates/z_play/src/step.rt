@@ -143,7 +143,11 @@ impl Engine {
                 self.store_byte(end, x.wrapping_add(a.second), low)
             }
             Several::PutProp => self.set_property(end, x, a.second, a.third),
-            Several::Aread => self.read(end, op.store, a),
+            // Copies, so that the values need no place in memory elsewhere.
+            Several::Aread => {
+                let args = *a;
+                self.read(end, op.store, &args)
+            }
             Several::PrintChar => self.print(end, Effect::PrintsCode(x)),
             Several::PrintNum => self.print(end, Effect::PrintsNumber(x)),
             Several::Random => self.random(word, end, op.store, x),
@@ -156,9 +160,15 @@ impl Engine {
             | Several::SetCursor
             | Several::SetTextStyle
             | Several::BufferMode => self.goes_on(end, Effect::Goes),
-            Several::OutputStream => self.do_stream(end, a),
+            Several::OutputStream => {
+                let args = *a;
+                self.do_stream(end, &args)
+            }
             Several::ReadChar => self.read_key(end, op.store),
-            Several::ScanTable => self.search_table(end, op, a),
+            Several::ScanTable => {
+                let args = *a;
+                self.search_table(end, op, &args)
+            }
             Several::Not => self.answer(end, op.store, 65535 - x),
             Several::CopyTable => self.copy_table(end, x, a.second, a.third),
             Several::CheckArgCount => self.test(end, op.branch, x <= self.here.args as u16),
