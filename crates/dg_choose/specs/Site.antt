@@ -12,9 +12,13 @@ abbrev pub turn_of : Mode → ℕ → ℕ → ℕ
 turn_of Cycling k n = n % k
 turn_of mode k n = min n k
 
+-- The picks that a site has counted.
+abbrev pub picks_of : Site → Picks
+picks_of site = record { count = site.count; last = site.last }
+
 -- The site stands for these picks, under a mode and a number of branches.
 pub record HasPicked (site : Site) (mode : Mode) (branches : ℕ) (picks : Picks) : Type 0 where
-  pub turn : site.turn ≡ turn_of mode branches picks.count
+  pub turn : turn_of mode branches site.count ≡ turn_of mode branches picks.count
   pub last : site.last ≡ picks.last
 
 -- A branch was picked after these picks, with n words drawn before: it is the one that is chosen, and the site and the dice stand behind it.

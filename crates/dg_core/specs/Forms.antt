@@ -3,7 +3,7 @@ use Rattle.std.specs.Prelude.{◌≡◌, ℕ, ◌||◌, List, [], ◌∷◌, Boo
 use Rattle.std.specs.List.{All, list_any}
 use Rattle.std.specs.Option.{is_some}
 use Rattle.dg_base.specs.Heads.{name_of}
-use Rattle.dg_base.specs.Mentions.{Thing, query, other, select, closure, things_in, mentioned}
+use Rattle.dg_base.specs.Mentions.{Thing, query, other, closure, things_in, mentioned}
 use Rattle.dg_base.specs.Names.{keywords, prelude_names, name_among, builtin_named}
 use Rattle.dg_base.specs.Tree.{Item}
 use Rattle.dg_base.specs.declared.mentions.Form.TheVariants as form
@@ -39,7 +39,6 @@ is_unbuilt (query other_role ps) = is_unbuilt_name (name_of ps) (builtin_named (
 is_unbuilt (other form.Collect) = true
 is_unbuilt (other form.Accumulate) = true
 is_unbuilt (other form.Now) = true
-is_unbuilt (select n) = true
 is_unbuilt closure = true
 is_unbuilt t = false
 

@@ -176,6 +176,7 @@ module _ (old : Engine) (query : Query) (terms : List Term) (store1 : ListBindin
         };
       };
       room = ready.sound.room;
+      picks = ready.sound.picks;
     }
 
     choices_now : (g : Game) (ms : List Saved) (cs : List Live) → AreChoices g xs fs os ms cs → AreChoices g ys fs os ms cs
@@ -244,6 +245,7 @@ module _ (old : Engine) (query : Query) (terms : List Term) (store1 : ListBindin
           places = record { saved = ready.sound.base.places.saved; keeps = saves_drops true (fields_of store2) _ _ (saved2 ready.sound.base.places.saved failing_keeps); back_to = back_now };
         };
         room = room;
+        picks = ready.sound.picks;
       }
 
       pub asking_left : IsLeft (length frames.items) (length ys) (Rules query args rules)

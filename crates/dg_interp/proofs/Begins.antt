@@ -354,7 +354,7 @@ module _ (old : Engine) (left : Left) (frame : Frame) (place : Place) (sound : I
     (alone : (g : Game) (values : Env → List Value) (fs : List Frame) (r : Registers) → branches_of g values fs (length old.frames.items) left r ≡ enter 0 0 r (steps_at values fs frame) ∷ []) (plain : kind_of left ≡ Plain) where
   pub way_begun : WentOn (BeginsAt left place old) old (record old { here = frame })
   way_begun = record {
-    ready = record { sound = record { base = sound.base; room = sound.room }; here = is };
+    ready = record { sound = record { base = sound.base; room = sound.room; picks = sound.picks }; here = is };
     left = refl;
     limits = record { heap = refl; trail = refl; aux = refl; keep = refl };
     leads = λ g n w run st.

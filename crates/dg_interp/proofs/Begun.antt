@@ -88,6 +88,7 @@ module _ (old : Engine) (left : Left) (b : Bool) (place : Place) (store1 : ListB
       };
     };
     room = sound.room;
+    picks = sound.picks;
   }
 
   module _ (all : Left) (kind : kind_of left ≡ kind_of all) (g : Game) (n : ℕ) (w : World) (run : Run) (st : BeginsAt all place old g n w run) where

@@ -24,7 +24,7 @@ use Rattle.dg_interp.specs.declared.frames.Choice.{Choice}
 use Rattle.dg_interp.specs.declared.engine.Engine.{Engine}
 use Rattle.dg_interp.specs.Frames.{values_in, kind_of, branches_of, cut_of, cut_if, lives_of, ways_of, IsChoice, AreChoices, AreFrames, IsLeft, IsNoted, StandOn, GoBackTo, left_in, stays_with, all_left}
 use Rattle.dg_interp.specs.declared.outside.Outside.{Outside}
-use Rattle.dg_interp.specs.Outside.{InWorld, closed_to}
+use Rattle.dg_interp.specs.Outside.{InWorld, MayPick, closed_to, picks_in}
 use Rattle.dg_interp.specs.Engine.{store_in, KeepsPlaces, open_in, HasPlaces, Sound, Within, HasPlace, IsPlace, Cuts, Retries, Point, IsSound, StandsAt, FailsAt, BeginsAt, Adds, Then, Leads, FullAt, SameLimits, WentOn, WentWrong, HasEndedSo, AtGoal, Branches, GoesBack, Tries, branches_left}
 use Rattle.dg_interp.proofs.Links.{SameBy, same_take, branches_same, frames_take, stand_raise, stand_same, choices_same, back_same, cut_gone, cut_fewer}
 use Rattle.dg_interp.proofs.Stores.{all_hold, values_kept, take_all}
@@ -114,7 +114,7 @@ module _ (old : Engine) (o : Choice) (choices : Vec Choice Global) (sound : IsSo
 
     pub part_dropped : WentWrong (FailsAt old) old dropped
     part_dropped = record {
-      sound = record { base = cut_base t old.program.now old.outside old.store xs fs os (reverse rest.items) cuts old.newest popped_base; room = sound.room };
+      sound = record { base = cut_base t old.program.now old.outside old.store xs fs os (reverse rest.items) cuts old.newest popped_base; room = sound.room; picks = sound.picks };
       left = refl;
       limits = record { heap = refl; trail = refl; aux = refl; keep = refl };
       leads = λ g n w run st. record {
@@ -191,6 +191,7 @@ module _ (old : Engine) (o : Choice) (choices : Vec Choice Global) (sound : IsSo
         places = record { saved = popped_place.saved; keeps = saves_drops true (fields_of store) popped_place.back popped_place.saved popped_place.is.keeps; back_to = popped_place.back_to };
       };
       room = omega (arith, sound.room, stand.2);
+      picks = subst (λ (x : Outside). MayPick old.left (picks_in x)) (sym closed) sound.picks;
     }
 
     pub popped_left : IsLeft (length frames.items) (length refs.items) o.left

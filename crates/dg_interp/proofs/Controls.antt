@@ -301,6 +301,7 @@ module _ (goals : Bor (List Goal)) (old : Engine) (ready : IsReady old) (all : b
             places = record { saved = stood.base.places.saved; keeps = stood.base.places.keeps; back_to = stood.base.places.back_to };
           };
           room = room;
+          picks = ready.sound.picks;
         };
         here = is;
       };

@@ -51,7 +51,7 @@ module _ (old : Engine) (choices : Vec Choice Global) (ready : IsReady old) (cut
   pub just_cut : WentOn (TakesAt Just old) old new
   just_cut = record {
     ready = record {
-      sound = record { base = cut_base t old.program.now old.outside old.store old.refs.items old.frames.items os (reverse choices.items) cuts old.newest ready.sound.base; room = ready.sound.room };
+      sound = record { base = cut_base t old.program.now old.outside old.store old.refs.items old.frames.items os (reverse choices.items) cuts old.newest ready.sound.base; room = ready.sound.room; picks = ready.sound.picks };
       here = ready.here;
     };
     left = refl;

@@ -35,6 +35,8 @@ pub mod PartOpens
 pub mod Giving
 pub mod Ariths
 pub mod ThreeLemmas
+pub mod Picks
+pub mod Selects
 pub mod Spaces
 pub mod Starting
 pub mod Throws

@@ -118,6 +118,7 @@ module _ (old : Engine) (frame : Frame) (frames : Vec Frame Global) (ready : IsR
           places = record { saved = ready.sound.base.places.saved; keeps = ready.sound.base.places.keeps; back_to = ready.sound.base.places.back_to };
         };
         room = ready.sound.room;
+        picks = ready.sound.picks;
       };
       here = subst (λ (l : List Frame). IsFrame (length l) n old.here) (sym pushed_on) (frame_raise (length fs) (length gs) n n old.here (omega (arith, count)) (omega arith) ready.here);
     };
@@ -194,6 +195,7 @@ module _ (old : Engine) (left : Left) (place : Place) (store : ListBindings) (re
       places = record { saved = ready.sound.base.places.saved; keeps = saves_drops true (fields_of store) _ _ (saved ready.sound.base.places.saved ready.sound.base.places.keeps); back_to = back_now };
     };
     room = room;
+    picks = ready.sound.picks;
   }
 
   agrees_now : (r : Registers) → Agrees (store_in old.store) r → Agrees t r

@@ -183,6 +183,7 @@ module _ (goals : Bor (List Goal)) (old : Engine) (ready : IsReady old) (all : b
             };
           };
           room = room;
+          picks = ready.sound.picks;
         };
         here = is;
       };

@@ -164,7 +164,7 @@ module _ (old : Engine) (o : Choice) (choices : Vec Choice Global) (sound : IsSo
 
   pub popped_on : None ≡ part_at (eqb o.tag tag) tag o.left → None ≡ cut_of o.left → StopsFurther tag old (record old { choices = choices })
   popped_on none free = record {
-    sound = record { base = popped_base old o choices sound popped; room = sound.room };
+    sound = record { base = popped_base old o choices sound popped; room = sound.room; picks = sound.picks };
     left = refl;
     limits = record { heap = refl; trail = refl; aux = refl; keep = refl };
     leads = λ g n w run st. record {
@@ -177,7 +177,7 @@ module _ (old : Engine) (o : Choice) (choices : Vec Choice Global) (sound : IsSo
 
   pub cut_on : None ≡ part_at (eqb o.tag tag) tag o.left → (t : ℕ) (rest : Vec Choice Global) → Some t ≡ cut_of o.left → Cuts t choices.items rest.items → StopsFurther tag old (record old { choices = rest })
   cut_on none t rest waits cuts = record {
-    sound = record { base = cut_base t old.program.now old.outside old.store xs fs os (reverse rest.items) cuts old.newest (popped_base old o choices sound popped); room = sound.room };
+    sound = record { base = cut_base t old.program.now old.outside old.store xs fs os (reverse rest.items) cuts old.newest (popped_base old o choices sound popped); room = sound.room; picks = sound.picks };
     left = refl;
     limits = record { heap = refl; trail = refl; aux = refl; keep = refl };
     leads = λ g n w run st. record {
@@ -249,7 +249,7 @@ module _ (old : Engine) (o : Choice) (choices : Vec Choice Global) (sound : IsSo
         let mid = popped_sound old o choices sound popped frames refs out store cut cut_refs closed back keeps in
         record {
           ready = record {
-            sound = record { base = cut_base p.1 old.program.now out store refs.items frames.items os (reverse rest.items) cuts o.tag mid.base; room = mid.room };
+            sound = record { base = cut_base p.1 old.program.now out store refs.items frames.items os (reverse rest.items) cuts o.tag mid.base; room = mid.room; picks = mid.picks };
             here = subst (IsLeft (length frames.items) (length refs.items)) part.is (popped_left old o choices sound popped frames refs out store cut cut_refs closed back keeps);
           };
           left = refl;

@@ -229,7 +229,7 @@ module _ (old : Engine) (ready : IsReady old) (none : old.here.goals.now ≡ [])
 
   off_ready : IsReady (marked_off old)
   off_ready = record {
-    sound = record { base = ready.sound.base; room = ready.sound.room };
+    sound = record { base = ready.sound.base; room = ready.sound.room; picks = ready.sound.picks };
     here = record { built = ready.here.built; older = ready.here.older; env = ready.here.env };
   }
 
@@ -298,7 +298,7 @@ module _ (old : Engine) (ready : IsReady old) (none : old.here.goals.now ≡ [])
 
     cut_ready : IsReady new
     cut_ready = record {
-      sound = record { base = cut_base t old.program.now old.outside old.store old.refs.items fs (reverse old.choices.items) (reverse choices.items) cuts old.newest ready.sound.base; room = ready.sound.room };
+      sound = record { base = cut_base t old.program.now old.outside old.store old.refs.items fs (reverse old.choices.items) (reverse choices.items) cuts old.newest ready.sound.base; room = ready.sound.room; picks = ready.sound.picks };
       here = record { built = ready.here.built; older = ready.here.older; env = ready.here.env };
     }
 
@@ -440,6 +440,7 @@ module _ (old : Engine) (frames : Vec Frame Global) (f : Frame) (needed : ℕ) (
             places = record { saved = ready.sound.base.places.saved; keeps = ready.sound.base.places.keeps; back_to = ready.sound.base.places.back_to };
           };
           room = ready.sound.room;
+          picks = ready.sound.picks;
         };
         here = record { built = frame.built; older = subst (λ (l : List Frame). f.behind ≤ length l) (sym kept) (omega (arith, need, count)); env = frame.env };
       };

@@ -296,6 +296,7 @@ module _ (value : Ref) (many : Bool) (old : Engine) (ready : IsReady old) where
           places = record { saved = ready.sound.base.places.saved; keeps = saved2 ready.sound.base.places.saved ready.sound.base.places.keeps; back_to = back_now };
         };
         room = ready.sound.room;
+        picks = ready.sound.picks;
       }
 
       choices_now : (g : Game) (ms : List Saved) (cs : List Live) → AreChoices g xs fs os ms cs → AreChoices g ys fs os ms cs
@@ -380,6 +381,7 @@ module _ (value : Ref) (many : Bool) (old : Engine) (ready : IsReady old) where
                 places = record { saved = ready.sound.base.places.saved; keeps = saved2 ready.sound.base.places.saved ready.sound.base.places.keeps; back_to = back_now };
               };
               room = room;
+              picks = ready.sound.picks;
             };
             here = record {
               built = subst AreBuilt (sym goals_are) built.body;

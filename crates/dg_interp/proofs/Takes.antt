@@ -71,6 +71,7 @@ module _ (old : Engine) (store : ListBindings) (made : Vec Ref Global) (k : Kept
       places = record { saved = sound.base.places.saved; keeps = saved sound.base.places.saved sound.base.places.keeps; back_to = back_limits old.refs.items _ _ _ _ (reverse old.choices.items) sound.base.places.saved (sym k.heap_limit) (sym k.trail_limit) sound.base.places.back_to };
     };
     room = sound.room;
+    picks = sound.picks;
   }
 
   pub store_ready : IsReady old → IsReady (record old { store = store; made = made })

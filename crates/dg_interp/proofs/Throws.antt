@@ -51,7 +51,7 @@ module _ (a b c : Term) (old : Engine) (store : ListBindings) (stack : Vec Ref G
   pub thrown_ready : IsReady thrown_to
   thrown_ready =
       let r = store_ready old store stack k saved ready in
-      record { sound = record { base = r.sound.base; room = r.sound.room }; here = r.here }
+      record { sound = record { base = r.sound.base; room = r.sound.room; picks = r.sound.picks }; here = r.here }
 
   pub thrown_limits : SameLimits old thrown_to
   thrown_limits = record { heap = k.heap_limit; trail = k.trail_limit; aux = refl; keep = refl }

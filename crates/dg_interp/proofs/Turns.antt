@@ -32,9 +32,10 @@ use Rattle.dg_interp.specs.declared.engine.Engine.{Engine}
 use Rattle.dg_interp.specs.Frames.{values_in, frame_steps, steps_behind, steps_at, AreChoices, lives_of, ways_of, StandOn, GoBackTo}
 use Rattle.dg_unify.specs.Engines.{Agrees}
 use Rattle.dg_interp.specs.declared.outside.Outside.{Outside}
-use Rattle.dg_interp.specs.Outside.{StartsOutside}
+use Rattle.dg_interp.specs.Outside.{picks_in, MayPick, StartsOutside}
 use Rattle.dg_interp.specs.Engine.{store_in, limit_in, IsReady, StandsAt, Starts, Taken}
 use Rattle.dg_interp.proofs.Links.{behind_end}
+use Rattle.dg_interp.proofs.Picks.{may_fewer, may_new}
 
 -- ## Lists
 
@@ -75,12 +76,14 @@ module _ (old : Engine) (x : Goal) (goals : Bor (List Goal)) (left : ℕ) (ready
           sound = record {
             base = ready.sound.base;
             room = omega (arith, ready.sound.room);
+            picks = may_fewer left old.left (picks_in old.outside) (omega (arith, less)) ready.sound.picks;
           };
           here = record { built = built_rest x goals.now built; older = ready.here.older; env = ready.here.env };
         };
         left = less;
         limits = record { heap = refl; trail = refl; aux = refl; keep = refl };
         room = omega (arith, ready.sound.room);
+        picks = may_fewer (left + 1) old.left (picks_in old.outside) (omega (arith, less)) ready.sound.picks;
         built = built_goal x goals.now built;
         whole = built_alone x goals.now built;
         again = record { is = ready.here; goals = split; rest = refl };
@@ -155,6 +158,7 @@ module _ (program : Bor CoreProgram) (entry : Bor (List Goal)) (store : ListBind
           places = record { saved = []; keeps = tt; back_to = subst (λ os. GoBackTo refs.items (store_in store).heap_limit (store_in store).trail_limit os []) (sym none) tt };
         };
         room = omega arith;
+        picks = subst (MayPick left) (sym out.none) (may_new left program.now.sites fits);
       };
       here = record { built = subst AreBuilt (sym is) (entry_built program.now.entry); older = omega arith; env = omega arith };
     };

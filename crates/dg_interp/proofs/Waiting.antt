@@ -37,6 +37,7 @@ module _ (mid : Engine) (store : ListBindings) (same : store_in store ≡ store_
         };
       };
       room = r.sound.room;
+      picks = r.sound.picks;
     };
     here = r.here;
   }

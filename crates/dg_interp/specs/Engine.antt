@@ -37,7 +37,7 @@ use Rattle.dg_interp.specs.declared.engine.Engine.{Engine}
 use Rattle.dg_interp.specs.declared.lack.Lack.{Lack}
 use Rattle.dg_interp.specs.declared.outside.Outside.{Outside}
 use Rattle.dg_interp.specs.Lacks.{area_of}
-use Rattle.dg_interp.specs.Outside.{InWorld}
+use Rattle.dg_interp.specs.Outside.{picks_in, InWorld, MayPick}
 use Rattle.dg_interp.specs.declared.engine.Settled.{Settled}
 use Rattle.dg_interp.specs.declared.engine.Settled.TheVariants as settled
 use Rattle.dg_interp.specs.Frames.{values_in, steps_at, kind_of, branches_of, AreChoices, IsFrame, AreFrames, StandOn, GoBackTo, lives_of, ways_of, noting, all_left}
@@ -66,10 +66,11 @@ pub record Sound (p : CoreProgram) (store : ListBindings) (refs : List Ref) (fs 
   pub choices : StandOn fs (length fs) (length refs) newest os
   pub places : HasPlaces store refs os
 
--- So it is with an engine, and its tags can't run out before its goals do.
+-- So it is with an engine, and neither its tags nor the counts of its selects can run out before its goals do.
 pub record IsSound (e : Engine) : Type 0 where
   pub base : Sound e.program.now e.store e.refs.items e.frames.items (reverse e.choices.items) e.newest
   pub room : e.newest + e.left < 2 ^ 64
+  pub picks : MayPick e.left (picks_in e.outside)
 
 -- The same, with goals at hand.
 pub record IsReady (e : Engine) : Type 0 where
@@ -311,6 +312,7 @@ pub record Taken (x : Goal) (old new : Engine) : Type 0 where
   pub left : old.left ≡ suc new.left
   pub limits : SameLimits old new
   pub room : new.newest + 1 + new.left < 2 ^ 64
+  pub picks : MayPick (new.left + 1) (picks_in new.outside)
   pub built : IsBuiltGoal x
   pub whole : AreBuilt (x ∷ [])
   pub again : IsAgain x old.here new

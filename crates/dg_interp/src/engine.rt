@@ -25,6 +25,7 @@ mod control;
 mod giving;
 mod passing;
 mod querying;
+mod selecting;
 mod stopping;
 mod throwing;
 

@@ -1,11 +1,13 @@
 // What a run has outside its store.
-ghost use Rattle.std.specs.Prelude.{◌≡◌, ◌<◌, ◌≤◌, IfOk, IfErr, All, length};
+ghost use Rattle.std.specs.Prelude.{◌≡◌, ◌<◌, ◌≤◌, IfOk, IfErr, length, map, replicate};
 ghost use Rattle.dg_base.specs.Sound.{IsSound};
-ghost use Rattle.dg_interp.specs.Outside.{closed_to, IsNewSite, StartsWorld, StartsOutside, LacksAtStart};
+ghost use Rattle.dg_choose.specs.Site.{picks_of};
+ghost use Rattle.dg_meaning.specs.Choosing.{no_picks, picks_at};
+ghost use Rattle.dg_interp.specs.Outside.{closed_to, picks_in, MayPick, PicksOne, StartsWorld, StartsOutside, LacksAtStart};
 
 use crate::lack::Lack;
-use dg_base::{CoreProgram, Limits};
-use dg_choose::{Dice, Site};
+use dg_base::{CoreProgram, Limits, Mode};
+use dg_choose::{Dice, Site, pick};
 use dg_lists::{Gather, GatherMark};
 use dg_world::World;
 use std::alloc::{AllocError, Global};
@@ -21,13 +23,23 @@ pub struct Outside<'p> {
 
 /// So many sites, at which nothing was picked.
 fn new_sites(alloc: Global, count: u16) -> Result<Vec<Site>, AllocError>
-    ensures { IfOk result (λ sites. All IsNewSite sites.items) }
+    ensures { IfOk result (λ sites. map picks_of sites.items ≡ replicate count no_picks) }
 {
     let mut sites = Vec::new(alloc);
     for _ in 0..count {
         sites.push(Site::new())?;
     }
     Ok(sites)
+}
+
+/// What is kept of a site.
+fn site_at(sites: &[Site], site: usize) -> Site
+    ensures { picks_of result ≡ picks_at (map picks_of sites.now) site }
+{
+    match sites.get(site) {
+        Some(here) => *here,
+        None => Site::new(),
+    }
 }
 
 /// How many objects a program has.
@@ -94,5 +106,20 @@ impl<'p> Outside<'p> {
         if height < self.gathered.height().0 {
             self.gathered.drop_to(GatherMark(height));
         }
+    }
+
+    /// Picks one of so many branches at a site.
+    pub fn pick(&mut self, site: u16, mode: Mode, branches: u16) -> u16
+        requires some { 0 < branches }
+        requires may { MayPick 1 (picks_in self.old) }
+        ensures { PicksOne site mode branches result self.old self.new }
+    {
+        let at = site as usize;
+        let mut here = site_at(self.sites.as_slice(), at);
+        let branch = pick(mode, branches, &mut here, &mut self.dice);
+        if at < self.sites.len() {
+            self.sites[at] = here;
+        }
+        branch
     }
 }

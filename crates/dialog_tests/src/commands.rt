@@ -79,13 +79,24 @@ const DIE: &str = "(program entry point) (random from 3 to 5 into $N) $N";
 
 const QUOTIENT: &str = "(program entry point) (7 divided by 2 into $Q) (7 modulo 2 into $R) $Q $R";
 
+const OTHERS: &str = "(s) (select) A (or) B (or) C (at random)\n(program entry point) (s) (s) (s)";
+
+const LAST: &str = "(s) (select) A (or) B (or) C (stopping)\n(program entry point) (s) (s) (s) (s)";
+
+// What was picked is kept behind a failure.
+const CIRCLE: &str =
+    "(s) (select) a (or) b (cycling)\n(program entry point) { (s) (fail) (or) (s) (s) }";
+
 const NO_CLOSURE: &str = "(program entry point) (query 5) x";
 
 // The words of the command, the source, the status and the transcript.
-const TRANSCRIPTS: [(&str, &str, u8, &str); 26] = [
+const TRANSCRIPTS: [(&str, &str, u8, &str); 29] = [
     ("debug p.dg", PARTS, 0, "a\nc d e\n"),
     ("debug p.dg --dice 7", DIE, 0, "4\n"),
     ("debug p.dg", QUOTIENT, 0, "3 1\n"),
+    ("debug p.dg --dice 4,4,4", OTHERS, 0, "B A B\n"),
+    ("debug p.dg", LAST, 0, "A B C C\n"),
+    ("debug p.dg", CIRCLE, 0, "a b a\n"),
     ("debug p.dg", NO_CLOSURE, 0, "[Failed]\n"),
     (
         "debug p.dg",

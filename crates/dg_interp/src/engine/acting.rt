@@ -3,6 +3,7 @@ ghost use Rattle.std.specs.Prelude.{◌≡◌, ◌+◌, ◌<◌, ◌^◌, [], �
 ghost use Rattle.dg_base.specs.declared.program.Goal.{out-Goal};
 ghost use Rattle.dg_built.specs.Built.{AreBuilt, IsBuiltGoal};
 ghost use Rattle.dg_interp.specs.Engine.{IsReady, TakesAt, Branches, FullAt, LackAt, IsAct, IsAgain, store_in};
+ghost use Rattle.dg_interp.specs.Outside.{picks_in, MayPick};
 
 use super::Engine;
 use crate::frames::{Frame, Query};
@@ -15,6 +16,7 @@ impl<'p> Engine<'p> {
     fn act_on_store(&mut self, goal: &'p Goal, again: Frame<'p>) -> Result<bool, Full>
         requires ready { IsReady self.old }
         requires room { self.old.newest + 1 + self.old.left < 2 ^ 64 }
+        requires may { MayPick (self.old.left + 1) (picks_in self.old.outside) }
         requires built { AreBuilt (goal.now ∷ []) }
         requires form { IsBuiltGoal goal.now }
         requires act { IsAct (out-Goal goal.now) }
@@ -46,6 +48,7 @@ impl<'p> Engine<'p> {
             Goal::Forever => self.forever(again),
             Goal::Exhaust(goals) => self.exhaust(goals.as_slice()),
             Goal::Stoppable(goals) => self.stoppable(goals.as_slice()),
+            Goal::Select(site, mode, lists) => self.select(*site, *mode, lists.as_slice()),
             Goal::Just => Ok(self.just()),
             Goal::Fail => self.fail(),
             _ => unreachable!(),
@@ -56,6 +59,7 @@ impl<'p> Engine<'p> {
     pub fn act(&mut self, goal: &'p Goal, again: Frame<'p>) -> Result<bool, Lack>
         requires ready { IsReady self.old }
         requires room { self.old.newest + 1 + self.old.left < 2 ^ 64 }
+        requires may { MayPick (self.old.left + 1) (picks_in self.old.outside) }
         requires built { AreBuilt (goal.now ∷ []) }
         requires form { IsBuiltGoal goal.now }
         requires act { IsAct (out-Goal goal.now) }

@@ -1,6 +1,7 @@
-use Rattle.std.specs.List.{All}
-use Rattle.dg_interp.specs.Outside.{IsNewSite}
+use Rattle.std.specs.Prelude.{◌≡◌, map, replicate}
+use Rattle.dg_choose.specs.Site.{picks_of}
+use Rattle.dg_meaning.specs.Choosing.{no_picks}
 use Rattle.dg_interp.proofs.outside.new_sites.Given as goal
 
 abbrev pub invariant-loop : goal.invariant-loop
-invariant-loop l = All IsNewSite l.sites.items
+invariant-loop l = map picks_of l.sites.items ≡ replicate l.counter no_picks

@@ -1,4 +1,5 @@
 use Rattle.dg_interp.proofs.Controls.{either_built, once_built, not_built, exhaust_built, stoppable_built, if_built}
+use Rattle.dg_interp.proofs.Selects.{select_built}
 use Rattle.dg_interp.proofs.engine.Engine.act_on_store.Goals as goal
 
 pub either-requires-clause-built : goal.either-requires-clause-built
@@ -18,3 +19,6 @@ exhaust-requires-clause-built c = rw c.as_slice-in-Exhaust.ensures (exhaust_buil
 
 pub stoppable-requires-clause-built : goal.stoppable-requires-clause-built
 stoppable-requires-clause-built c = rw c.as_slice-in-Stoppable.ensures (stoppable_built c.in-Stoppable.goals (rw c.in-Stoppable.is at c.requires.built))
+
+pub select-requires-clause-built : goal.select-requires-clause-built
+select-requires-clause-built c = rw c.as_slice-in-Select.ensures (select_built c.in-Select.site c.in-Select.mode c.in-Select.lists (rw c.in-Select.is at c.requires.built))

@@ -1,0 +1,64 @@
+-- How often a site may still pick, and what a select chooses.
+use Rattle.std.proofs.Common.{◌≡◌, ℕ, zero, suc, ◌+◌, ◌^◌, ◌<◌, ◌≤◌, List, [], ◌∷◌, refl, sym, ap, ◌∙◌, subst, arith, max, length, map, slice_set, replicate}
+use Rattle.std.specs.declared.vec.Vec.{Vec}
+use Rattle.std.specs.declared.alloc.Global.{Global}
+use Rattle.std.proofs.lemmas.List.Elements.{All-cons, All-replicate}
+use Rattle.dg_base.specs.declared.program.Mode.{Mode}
+use Rattle.dg_meaning.specs.Choosing.{die, Picks, no_picks, picked, picks_at, choice}
+use Rattle.dg_choose.specs.Dice.{HasDrawn}
+use Rattle.dg_choose.specs.Site.{picks_of, HasPicked, Chose}
+use Rattle.dg_choose.specs.declared.dice.Dice.{Dice}
+use Rattle.dg_choose.specs.declared.site.Site.{Site}
+use Rattle.dg_interp.specs.declared.outside.Outside.{Outside}
+use Rattle.dg_interp.specs.Outside.{picks_in, MayPick, PicksOne}
+
+pub may_fewer : (m n : ℕ) (picks : List Picks) → m ≤ n → MayPick n picks → MayPick m picks
+may_fewer m n picks le h k d lt = let few = h k d lt in omega (arith, le, few)
+
+pub may_new : (n sites : ℕ) → n < 2 ^ 64 → MayPick n (replicate sites no_picks)
+may_new n sites fits = All-replicate (λ (p : Picks). p.count + n < 2 ^ 64) sites no_picks (omega (arith, fits))
+
+others : (n : ℕ) (p : Picks) (picks : List Picks) → MayPick n (p ∷ picks) → MayPick n picks
+others n p picks h k d lt = h (suc k) d (omega (arith, lt))
+
+pub may_behind : (n site branch : ℕ) (picks : List Picks) → MayPick (n + 1) picks → MayPick n (slice_set picks site (picked branch (picks_at picks site)))
+may_behind n site branch [] h = λ k d lt. absurd (omega arith)
+may_behind n zero branch (p ∷ picks) h =
+    let here = h 0 p (omega arith) in
+    All-cons (λ (q : Picks). q.count + n < 2 ^ 64) (picked branch p) picks (omega (arith, here)) (may_fewer n (n + 1) picks (omega arith) (others (n + 1) p picks h))
+may_behind n (suc site) branch (p ∷ picks) h =
+    let here = h 0 p (omega arith) in
+    All-cons (λ (q : Picks). q.count + n < 2 ^ 64) p (slice_set picks site (picked branch (picks_at picks site))) (omega (arith, here)) (may_behind n site branch picks (others (n + 1) p picks h))
+
+-- of no branches what is chosen is as of one
+pub choice_of_none : (mode : Mode) (k : ℕ) (picks : Picks) (w : ℕ) → choice mode (max k 1) picks w ≡ choice mode k picks w
+choice_of_none mode zero picks w = refl
+choice_of_none mode (suc k) picks w = ap (λ n. choice mode n picks w) (let same : max (suc k) 1 ≡ suc k = omega arith in same)
+
+may_at : (site : ℕ) (picks : List Picks) → MayPick 1 picks → (picks_at picks site).count + 1 < 2 ^ 64
+may_at site [] h = omega arith
+may_at zero (p ∷ picks) h = h 0 p (omega arith)
+may_at (suc site) (p ∷ picks) h = may_at site picks (others 1 p picks h)
+
+pub set_beyond : {A : Type 0} (xs : List A) (i : ℕ) (x : A) → length xs ≤ i → slice_set xs i x ≡ xs
+set_beyond [] i x le = refl
+set_beyond (y ∷ ys) zero x le = absurd (omega (arith, le))
+set_beyond (y ∷ ys) (suc i) x le = ap (λ l. y ∷ l) (set_beyond ys i x (omega (arith, le)))
+
+-- a site that was looked up has picked, and was put back
+pub picks_one : (site k branch : ℕ) (mode : Mode) (old : Outside) (here behind : Site) (dice : Dice) (sites : Vec Site Global) → picks_of here ≡ picks_at (picks_in old) site →
+    ((picks : Picks) (words : List ℕ) (n : ℕ) → HasPicked here mode k picks → HasDrawn old.dice words n → Chose mode k picks words n branch behind dice) →
+    ((picks_of here).count + 1 < 2 ^ 64 → picks_of behind ≡ picked branch (picks_of here)) → MayPick 1 (picks_in old) →
+    map picks_of sites.items ≡ slice_set (picks_in old) site (picks_of behind) → PicksOne site mode k branch old (record old { dice = dice; sites = sites })
+picks_one site k branch mode old here behind dice sites is chose exact may put = record {
+  branch = λ words n drawn. subst (λ (p : Picks). branch ≡ (choice mode k p (die words n)).branch) is (picks words n drawn).branch;
+  dice = λ words n drawn. subst (λ (p : Picks). HasDrawn dice words (n + (choice mode k p (die words n)).drawn)) is (picks words n drawn).left;
+  picks = put ∙ ap (slice_set (picks_in old) site) (exact few ∙ ap (picked branch) is);
+  world = refl;
+  gathered = refl;
+} where
+  picks : (words : List ℕ) (n : ℕ) → HasDrawn old.dice words n → Chose mode k (picks_of here) words n branch behind dice
+  picks words n drawn = chose (picks_of here) words n (record { turn = refl; last = refl }) drawn
+
+  few : here.count + 1 < 2 ^ 64
+  few = subst (λ (p : Picks). p.count + 1 < 2 ^ 64) (sym is) (may_at site (picks_in old) may)

@@ -1,0 +1,135 @@
+-- What a select comes to.
+use Rattle.std.proofs.Common.{◌≡◌, ℕ, zero, suc, ◌+◌, List, [], ◌∷◌, ◌++◌, refl, sym, ap, ◌∙◌, subst, arith, length, get_or, max, slice_set, Bor}
+use Rattle.std.specs.List.{All}
+use Rattle.dg_base.specs.declared.program.Goal.{Goal, out-Goal}
+use Rattle.dg_base.specs.declared.program.Goal.TheVariants.{Select, outs-Select}
+use Rattle.dg_base.specs.declared.program.Goal.TheOpen as part
+use Rattle.dg_base.specs.declared.program.Mode.{Mode}
+use Rattle.dg_base.specs.Goals.{terms_held}
+use Rattle.dg_meaning.specs.Values.{Value}
+use Rattle.dg_meaning.specs.World.{Game, World}
+use Rattle.dg_meaning.specs.Cells.{writing}
+use Rattle.dg_meaning.specs.Choosing.{die, Picks, picked, picks_at, Choice, choice}
+use Rattle.dg_meaning.specs.Path.{Registers}
+use Rattle.dg_meaning.specs.Moves.{goals_at, outcome, path_of, selects, selected}
+use Rattle.dg_meaning.specs.Transcript.{Run}
+use Rattle.dg_meaning.specs.Keeps.{After, Stands}
+use Rattle.dg_built.specs.Built.{AreBuilt}
+use Rattle.dg_built.proofs.BuiltLemmas.{built_inside, lists_built, all_none}
+use Rattle.dg_choose.specs.Dice.{HasDrawn}
+use Rattle.dg_lists.specs.Gathered.{Gathered}
+use Rattle.dg_world.specs.Worlds.{StandsFor}
+use Rattle.dg_world.specs.declared.world.World.{World as FactsWorld}
+use Rattle.dg_interp.specs.declared.outside.Outside.{Outside}
+use Rattle.dg_interp.specs.declared.engine.Engine.{Engine}
+use Rattle.dg_interp.specs.Outside.{outline, picks_in, InWorld, MayPick, PicksOne}
+use Rattle.dg_interp.specs.Engine.{steps_of, IsReady, TakesAt, WentOn}
+use Rattle.dg_interp.proofs.Takes.{behind, taken_in, comes_of, adds_taken}
+use Rattle.dg_interp.proofs.Opens.{agrees_here}
+use Rattle.dg_interp.proofs.Picks.{may_behind, choice_of_none}
+use Rattle.dg_interp.proofs.Controls.{values_of, behind_all, then_frame, then_is}
+
+pub select_built : (site : ℕ) (mode : Mode) (lists : List (List Goal)) → AreBuilt (Select site mode lists ∷ []) → All AreBuilt lists
+select_built site mode lists h = lists_built lists (built_inside (Select site mode lists) [] (part.Select site mode lists) (outs-Select site mode lists) h)
+
+-- one of some built lists
+pub one_built : (lists : List (List Goal)) (at : ℕ) → All AreBuilt lists → AreBuilt (get_or lists at [])
+one_built [] at h = all_none _
+one_built (goals ∷ lists) zero h = h 0 goals (omega arith)
+one_built (goals ∷ lists) (suc at) h = one_built lists at (λ k d lt. h (suc k) d (omega (arith, lt)))
+
+-- the engine behind a pick, with all frames behind the list that was picked
+module _ (site : ℕ) (mode : Mode) (lists : List (List Goal)) (old : Engine) (out : Outside) (branch : ℕ) (goals : Bor (List Goal)) (ready : IsReady old) (all : behind_all old ≡ steps_of old)
+    (may : MayPick (old.left + 1) (picks_in old.outside)) (one : PicksOne site mode (max (length lists) 1) branch old.outside out) (is : goals.now ≡ get_or lists branch []) (built : AreBuilt goals.now) where
+  abbrev x : Goal
+  x = Select site mode lists
+
+  abbrev pub picked_on : Engine
+  picked_on = record old { outside = out; here = then_frame goals old }
+
+  abbrev env : List Value
+  env = values_of old old.here.env
+
+  held_none : terms_held (out-Goal x) ≡ []
+  held_none = ap terms_held (outs-Select site mode lists)
+
+  steps_now : steps_of picked_on ≡ goals_at env old.here.tag goals.now ++ steps_of old
+  steps_now = ap (λ l. goals_at env old.here.tag goals.now ++ l) all
+
+  picked_ready : IsReady picked_on
+  picked_ready = record {
+    sound = record {
+      base = ready.sound.base;
+      room = ready.sound.room;
+      picks = subst (MayPick old.left) (sym one.picks) (may_behind old.left site branch (picks_in old.outside) may);
+    };
+    here = then_is goals old ready built;
+  }
+
+  module _ (g : Game) (n : ℕ) (w : World) (run : Run) (st : TakesAt x old g n w run) where
+    abbrev v : World
+    v = taken_in x old g n w run st
+
+    abbrev r : Registers
+    r = behind x old g n w run st
+
+    abbrev chosen : Choice
+    chosen = selects g site mode (length lists) v
+
+    chosen_is : choice mode (max (length lists) 1) (picks_at (picks_in old.outside) site) (die g.dice w.dice) ≡ chosen
+    chosen_is = choice_of_none mode (length lists) (picks_at (picks_in old.outside) site) (die g.dice w.dice) ∙ ap (λ l. choice mode (length lists) (picks_at l site) (die g.dice w.dice)) (sym st.at.inside.world.3)
+
+    branch_is : branch ≡ chosen.branch
+    branch_is = one.branch g.dice w.dice st.at.inside.world.2 ∙ ap (λ (c : Choice). c.branch) chosen_is
+
+    now : InWorld out g (selected site chosen v)
+    now =
+        let was = st.at.inside.world in (
+          subst (λ (o : FactsWorld). StandsFor o (outline g.program o.area.keep) w.facts) (sym one.world) was.0,
+          ap (λ (o : Gathered). o.rows) one.gathered ∙ was.1,
+          subst (λ (c : Choice). HasDrawn out.dice g.dice (w.dice + c.drawn)) chosen_is (one.dice g.dice w.dice was.2),
+          ap (λ b. slice_set w.sites site (picked b (picks_at w.sites site))) (sym branch_is)
+              ∙ ap (λ (l : List Picks). slice_set l site (picked branch (picks_at l site))) was.3
+              ∙ sym one.picks,
+        )
+
+    stands : Stands g st.at.inside.lives st.at.ways (path_of (steps_of picked_on) r) n (selected site chosen v) run
+    stands =
+        let went : Stands g st.at.inside.lives st.at.ways (path_of (goals_at env old.here.tag (get_or lists chosen.branch []) ++ steps_of old) r) n (selected site chosen v) run =
+        subst (λ f. After g st.at.inside.lives st.at.ways n (outcome g f env old.here.tag (steps_of old) r v) run) (outs-Select site mode lists) (comes_of x old g n w run st) in
+        subst (λ l. Stands g st.at.inside.lives st.at.ways (path_of l r) n (selected site chosen v) run)
+        (ap (λ b. goals_at env old.here.tag (get_or lists b []) ++ steps_of old) (sym branch_is) ∙ ap (λ l. goals_at env old.here.tag l ++ steps_of old) (sym is) ∙ sym steps_now) went
+
+  pub select_goes : WentOn (TakesAt x old) old picked_on
+  select_goes = record {
+    ready = picked_ready;
+    left = refl;
+    limits = record { heap = refl; trail = refl; aux = ap (λ (o : Gathered). o.aux) one.gathered; keep = ap (λ (o : FactsWorld). o.area.keep) one.world };
+    leads = λ g n w run st.
+        let a = adds_taken (r g n w run st) (writing (terms_held (out-Goal x))) w in
+        record {
+          world = selected site (chosen g n w run st) (v g n w run st);
+          adds = record { prints_are = a.prints_are; typed = refl };
+          holds = record {
+            at = record {
+              inside = record {
+                program = st.at.inside.program;
+                entries = st.at.inside.entries;
+                lives = st.at.inside.lives;
+                lives_are = st.at.inside.lives_are;
+                saved = st.at.inside.saved;
+                keeps = st.at.inside.keeps;
+                choices = st.at.inside.choices;
+                world = now g n w run st;
+              };
+              ways = st.at.ways;
+              ways_are = st.at.ways_are;
+              registers = r g n w run st;
+              agrees = agrees_here x old held_none g n w run st;
+              tag = st.at.tag;
+              stop = st.at.stop;
+            };
+            stands = stands g n w run st;
+          };
+        };
+  }
