@@ -166,6 +166,7 @@ module _ (old : Engine) (query : Query) (terms : List Term) (store1 : ListBindin
     failing_sound = record {
       base = record {
         program = ready.sound.base.program;
+        sound = ready.sound.base.sound;
         hold = hold;
         frames = frames_raise (length fs) (length xs) (length ys) fs longer ready.sound.base.frames;
         choices = stand_raise fs (length fs) (length fs) (length xs) (length ys) old.newest old.newest os (omega arith) longer (omega arith) ready.sound.base.choices;
@@ -239,6 +240,7 @@ module _ (old : Engine) (query : Query) (terms : List Term) (store1 : ListBindin
       asking_sound room = record {
         base = record {
           program = ready.sound.base.program;
+          sound = ready.sound.base.sound;
           hold = all_hold s1 s2 ys k2 hold;
           frames = subst (λ (l : List Frame). AreFrames (length l) (length ys) l) (sym pushed_on) frames_now;
           choices = subst (λ (l : List Frame). StandOn l (length l) (length ys) (old.newest + 1) os) (sym pushed_on) stand;

@@ -75,6 +75,7 @@ module _ (old : Engine) (left : Left) (b : Bool) (place : Place) (store1 : ListB
   begun_sound here = record {
     base = record {
       program = sound.base.program;
+      sound = sound.base.sound;
       hold = subst (All (Holds s1)) (sym is) (All-append (Holds s1) xs made (all_hold s s1 xs k sound.base.hold) hold);
       frames = frames_raise (length fs) (length xs) (length ys) fs longer sound.base.frames;
       choices = subst (StandOn fs (length fs) (length ys) old.newest) (sym kept) (stand_raise fs (length fs) (length fs) (length xs) (length ys) old.newest old.newest (kept_if b o os) (omega arith) longer (omega arith) stand);

@@ -79,6 +79,7 @@ module _ (old : Engine) (o : Choice) (choices : Vec Choice Global) (sound : IsSo
   pub popped_base : Sound old.program.now old.store xs fs os old.newest
   popped_base = record {
     program = sound.base.program;
+    sound = sound.base.sound;
     hold = sound.base.hold;
     frames = sound.base.frames;
     choices = stand_raise fs o.height (length fs) o.refs (length xs) o.tag old.newest os stand.0 stand.1 stand.2 stand.5;
@@ -184,6 +185,7 @@ module _ (old : Engine) (o : Choice) (choices : Vec Choice Global) (sound : IsSo
     popped_sound = record {
       base = record {
         program = sound.base.program;
+        sound = sound.base.sound;
         hold = all_hold popped_place.back.store (store_in store) refs.items popped_place.is.kept popped_place.is.hold;
         frames = subst (λ n. AreFrames (length frames.items) n frames.items) (sym count_refs) (subst (λ (l : List Frame). AreFrames (length l) o.refs l) (sym cut) (frames_take o.refs o.height fs stand.0 stand.4));
         choices = subst (λ n. StandOn frames.items n (length refs.items) o.tag os) (sym count)

@@ -295,6 +295,7 @@ module _ (goals : Bor (List Goal)) (old : Engine) (ready : IsReady old) (all : b
         sound = record {
           base = record {
             program = ready.sound.base.program;
+            sound = ready.sound.base.sound;
             hold = stood.base.hold;
             frames = ready.sound.base.frames;
             choices = stand_raise old.frames.items (length old.frames.items) (length old.frames.items) (length old.refs.items) (length old.refs.items) old.newest (old.newest + 1) (reverse old.choices.items) (omega arith) (omega arith) (omega arith) ready.sound.base.choices;

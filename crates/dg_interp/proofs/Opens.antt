@@ -112,6 +112,7 @@ module _ (old : Engine) (frame : Frame) (frames : Vec Frame Global) (ready : IsR
       sound = record {
         base = record {
           program = ready.sound.base.program;
+          sound = ready.sound.base.sound;
           hold = ready.sound.base.hold;
           frames = subst (λ (l : List Frame). AreFrames (length l) n l) (sym pushed_on) (frames_append n fs frame ready.sound.base.frames is);
           choices = subst (λ (l : List Frame). StandOn l (length l) n old.newest os) (sym pushed_on) stand;
@@ -189,6 +190,7 @@ module _ (old : Engine) (left : Left) (place : Place) (store : ListBindings) (re
   opened_sound room = record {
     base = record {
       program = ready.sound.base.program;
+      sound = ready.sound.base.sound;
       hold = hold;
       frames = ready.sound.base.frames;
       choices = stand_raise old.frames.items (length old.frames.items) (length old.frames.items) (length refs) (length refs) old.newest (old.newest + 1) (reverse old.choices.items) (omega arith) (omega arith) (omega arith) ready.sound.base.choices;

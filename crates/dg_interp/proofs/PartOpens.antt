@@ -172,6 +172,7 @@ module _ (goals : Bor (List Goal)) (old : Engine) (ready : IsReady old) (all : b
         sound = record {
           base = record {
             program = ready.sound.base.program;
+            sound = ready.sound.base.sound;
             hold = all_hold s s1 xs k ready.sound.base.hold;
             frames = ready.sound.base.frames;
             choices = subst (StandOn fs (length fs) (length xs) t) (sym kept) (omega arith, omega arith, omega arith, (ready.here, refl, tt), ready.sound.base.frames, stand_raise fs (length fs) (length fs) (length xs) (length xs) old.newest t os (omega arith) (omega arith) (omega arith) ready.sound.base.choices);

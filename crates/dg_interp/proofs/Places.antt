@@ -143,6 +143,7 @@ module _ (t : ℕ) (p : CoreProgram) (out : Outside) (s : ListBindings) (rs : Li
   pub cut_base : (newest : ℕ) → Sound p s rs fs os newest → Sound p s rs fs os' newest
   cut_base newest h = record {
     program = h.program;
+    sound = h.sound;
     hold = h.hold;
     frames = h.frames;
     choices = subst (StandOn fs (length fs) (length rs) newest) (sym is) (stand_cut fs t (length fs) (length rs) newest os h.choices);
@@ -433,6 +434,7 @@ module _ (old : Engine) (frames : Vec Frame Global) (f : Frame) (needed : ℕ) (
         sound = record {
           base = record {
             program = ready.sound.base.program;
+            sound = ready.sound.base.sound;
             hold = ready.sound.base.hold;
             frames = subst (λ (l : List Frame). AreFrames (length l) (length the_refs) l) (sym kept) (frames_take (length the_refs) needed was enough (λ k h lt e. ready.sound.base.frames k h (omega (arith, lt, enough)) e));
             choices = subst (λ (l : List Frame). StandOn l (length l) (length the_refs) old.newest os) (sym kept)

@@ -290,6 +290,7 @@ module _ (value : Ref) (many : Bool) (old : Engine) (ready : IsReady old) where
       entering_sound = record {
         base = record {
           program = ready.sound.base.program;
+          sound = ready.sound.base.sound;
           hold = hold;
           frames = frames_raise (length fs) (length xs) (length ys) fs longer ready.sound.base.frames;
           choices = stand_raise fs (length fs) (length fs) (length xs) (length ys) old.newest old.newest os (omega arith) longer (omega arith) ready.sound.base.choices;
@@ -375,6 +376,7 @@ module _ (value : Ref) (many : Bool) (old : Engine) (ready : IsReady old) where
             sound = record {
               base = record {
                 program = ready.sound.base.program;
+                sound = ready.sound.base.sound;
                 hold = hold;
                 frames = subst (λ (l : List Frame). AreFrames (length l) (length ys) l) (sym pushed_on) frames_now;
                 choices = subst (λ (l : List Frame). StandOn l (length l) (length ys) (old.newest + 1) os) (sym pushed_on) stand;

@@ -65,6 +65,7 @@ module _ (old : Engine) (store : ListBindings) (made : Vec Ref Global) (k : Kept
   store_sound sound = record {
     base = record {
       program = sound.base.program;
+      sound = sound.base.sound;
       hold = all_hold (store_in old.store) (store_in store) old.refs.items k sound.base.hold;
       frames = sound.base.frames;
       choices = sound.base.choices;

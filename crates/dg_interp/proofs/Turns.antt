@@ -17,6 +17,7 @@ use Rattle.dg_meaning.specs.Path.{Do}
 use Rattle.dg_meaning.specs.Moves.{path_of, goals_at}
 use Rattle.dg_meaning.specs.Transcript.{run, start_world, start_path}
 use Rattle.dg_meaning.specs.Keeps.{Stands}
+use Rattle.dg_base.specs.Sound.{IsSound as IsSoundProgram}
 use Rattle.dg_built.specs.Built.{IsBuilt, IsBuiltGoal, AreBuilt}
 use Rattle.dg_built.proofs.BuiltLemmas.{all_none, built_goal, built_alone, built_rest, built_from}
 use Rattle.dg_meaning.proofs.Keeps.{starts}
@@ -102,7 +103,7 @@ entry_built pred = built_from (Ask pred [] false) (AskForm pred [] false) (outs-
 abbrev pub empty : ℕ → ℕ → Store
 empty heap trail = store_of true (record { slots = []; log = []; vars = 0; since = 0; heap = 0; trail = 0; heap_limit = heap; trail_limit = trail })
 
-module _ (program : Bor CoreProgram) (entry : Bor (List Goal)) (store : ListBindings) (refs : Vec Ref Global) (frames : Vec Frame Global) (choices : Vec Choice Global) (made : Vec Ref Global) (limits : Limits) (left heap trail : ℕ) (steps_are : limits.steps ≡ left) (heap_is : limits.heap ≡ heap) (trail_is : limits.trail ≡ trail) (outside : Outside) (dice : List ℕ) (fits : left < 2 ^ 64) (out : StartsOutside program.now limits dice outside) (built : IsBuilt program.now) (is : entry.now ≡ Ask program.now.entry [] false ∷ []) (means : store_in store ≡ empty heap trail) (no_refs : refs.items ≡ []) (no_frames : frames.items ≡ []) (no_choices : choices.items ≡ []) where
+module _ (program : Bor CoreProgram) (entry : Bor (List Goal)) (store : ListBindings) (refs : Vec Ref Global) (frames : Vec Frame Global) (choices : Vec Choice Global) (made : Vec Ref Global) (limits : Limits) (left heap trail : ℕ) (steps_are : limits.steps ≡ left) (heap_is : limits.heap ≡ heap) (trail_is : limits.trail ≡ trail) (outside : Outside) (dice : List ℕ) (fits : left < 2 ^ 64) (out : StartsOutside program.now limits dice outside) (built : IsBuilt program.now) (sound : IsSoundProgram program.now) (is : entry.now ≡ Ask program.now.entry [] false ∷ []) (means : store_in store ≡ empty heap trail) (no_refs : refs.items ≡ []) (no_frames : frames.items ≡ []) (no_choices : choices.items ≡ []) where
   abbrev e : Engine
   e = record { program = program; outside = outside; store = store; refs = refs; frames = frames; choices = choices; made = made; here = record { goals = entry; env = record { from = 0; len = 0 }; tag = 0; mark = Nothing; behind = 0 }; newest = 0; stoppable = None; left = left }
 
@@ -152,6 +153,7 @@ module _ (program : Bor CoreProgram) (entry : Bor (List Goal)) (store : ListBind
       sound = record {
         base = record {
           program = built;
+          sound = sound;
           hold = subst (All (Holds (store_in store))) (sym no_refs) (λ k d lt. absurd (omega arith));
           frames = λ k f lt h. absurd (let q : None ≡ Some f = sym (ap (λ (l : List Frame). slice_get l k) no_frames) ∙ h in cc);
           choices = subst (StandOn frames.items (length frames.items) (length refs.items) 0) (sym none) tt;

@@ -27,6 +27,7 @@ module _ (mid : Engine) (store : ListBindings) (same : store_in store ≡ store_
     sound = record {
       base = record {
         program = r.sound.base.program;
+        sound = r.sound.base.sound;
         hold = subst (λ t. All (Holds t) mid.refs.items) (sym same) r.sound.base.hold;
         frames = r.sound.base.frames;
         choices = r.sound.base.choices;

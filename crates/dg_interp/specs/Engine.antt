@@ -6,6 +6,7 @@ use Rattle.dg_base.specs.declared.program.Goal.TheVariants.{Print as PrintGoal, 
 use Rattle.dg_base.specs.declared.program.Goal.TheOpen.{Text, Print as PrintForm, Gap, GapN, Quit, Stop}
 use Rattle.dg_base.specs.declared.program.Term.{Term}
 use Rattle.dg_base.specs.declared.program.CoreProgram.{CoreProgram}
+use Rattle.dg_base.specs.Sound.{IsSound as IsSoundProgram}
 use Rattle.dg_base.specs.declared.run.Ending.{Ending}
 use Rattle.dg_base.specs.declared.run.Limits.{Limits}
 use Rattle.dg_base.specs.declared.run.Ending.TheVariants.{Done as Done-Ending, Failed as Failed-Ending, Stopped}
@@ -58,9 +59,10 @@ pub record HasPlaces (store : ListBindings) (refs : List Ref) (os : List Choice)
   pub keeps : KeepsPlaces store saved
   pub back_to : GoBackTo refs (store_in store).heap_limit (store_in store).trail_limit os saved
 
--- All is built, Refs have values, and links and choices are in order.
+-- All is built and sound, Refs have values, and links and choices are in order.
 pub record Sound (p : CoreProgram) (store : ListBindings) (refs : List Ref) (fs : List Frame) (os : List Choice) (newest : ℕ) : Type 0 where
   pub program : IsBuilt p
+  pub sound : IsSoundProgram p
   pub hold : All (Holds (store_in store)) refs
   pub frames : AreFrames (length fs) (length refs) fs
   pub choices : StandOn fs (length fs) (length refs) newest os

@@ -2,6 +2,7 @@
 ghost use Rattle.std.specs.Prelude.{◌≡◌, ◌≢◌, ℕ, true, false, ◌+◌, ◌<◌, ◌≤◌, ◌^◌, IfOk, IfErr, OnOk, MatchResult, List, [], ◌∷◌, All, length, reverse, slice_get};
 ghost use Rattle.dg_base.specs.declared.program.Goal.TheVariants.{Ask, Print as PrintGoal, Fail as FailGoal, Just as JustGoal};
 ghost use Rattle.dg_meaning.specs.Moves.{rules_of as the_rules};
+ghost use Rattle.dg_base.specs.Sound.{IsSound as IsSoundProgram};
 ghost use Rattle.dg_built.specs.Built.{IsBuilt};
 ghost use Rattle.dg_interp.specs.declared.frames.Mark.TheVariants.{Nothing as NoMark};
 ghost use Rattle.dg_interp.specs.declared.frames.Left.TheVariants.{Rules, Lists, Ways, Way};
@@ -247,6 +248,7 @@ impl<'p> Engine<'p> {
         outside: Outside<'p>,
     ) -> Engine<'p>
         requires built { IsBuilt program.now }
+        requires sound { IsSoundProgram program.now }
         requires entry { entry.now ≡ Ask program.now.entry [] false ∷ [] }
         ensures starts { (limits : TheLimits) → (dice : List ℕ) → limits.steps ≡ left → limits.heap ≡ heap → limits.trail ≡ trail →
             StartsOutside program.now limits dice outside.entry → Starts program.now limits dice result }
