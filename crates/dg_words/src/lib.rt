@@ -15,5 +15,6 @@ pub use classes::{Class, classify};
 pub use cutting::{next_word, words_are_bytes};
 pub use decoding::read_letters;
 pub use joined::{Joined, TooLong};
+pub use letters::spell;
 pub use line::Line;
 pub use lines::take_line;

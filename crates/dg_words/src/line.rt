@@ -53,9 +53,9 @@ impl Line {
         &self.bytes[..self.len]
     }
 
-    /// Reads the next typed line; false where no byte is left.
+    /// Reads the next typed line; false where no byte is left. Where the source doesn't tell its bytes, it is so for some.
     pub fn read<S: Source>(&mut self, source: &mut S) -> Result<bool, Failed>
-        ensures told { (typed : List ℕ) → (S.view source.old).left ≡ Some typed → ReadsLine result typed self.new (S.view source.new).left }
+        ensures read { ReadsLine result self.new (S.view source.old).left (S.view source.new).left }
         ensures cause { HasCause (S.view source.old).faults (S.view source.new).faults result }
     {
         let mut bytes = [0; 1024];

@@ -1,7 +1,7 @@
 // Typed lines, as they are taken.
 ghost use Rattle.std.specs.Prelude.{◌≡◌, ◌<◌, ◌≤◌, ◌++◌, ◌∷◌, [], ℕ, List, Some, IfOk, IfSome, length, take};
 ghost use Rattle.dg_meaning.specs.Words.{without_return};
-ghost use Rattle.dg_words.specs.Lines.{IsKept, TakesNext, TakesRest, TakesLine};
+ghost use Rattle.dg_words.specs.Lines.{Took, IsKept, TakesNext, TakesRest, TakesLine};
 ghost use Rattle.dg_base.specs.Causes.{HasCause};
 
 use dg_base::{Failed, Source};
@@ -22,7 +22,7 @@ fn keep(line: &mut [u8], kept: usize, byte: u8) -> usize
 
 // The next byte of a line, which may have so many more; none at its end.
 fn next_byte<S: Source>(source: &mut S, room: u32) -> Result<Option<u8>, Failed>
-    ensures told { (typed : List ℕ) → (S.view source.old).left ≡ Some typed → TakesNext result room typed (S.view source.new).left }
+    ensures took { Took (S.view source.old).left (S.view source.new).left (TakesNext result room) }
     ensures room { IfOk result (λ byte. IfSome byte (λ b. 0 < room)) }
     ensures cause { HasCause (S.view source.old).faults (S.view source.new).faults result }
 {
@@ -43,7 +43,7 @@ fn next_byte<S: Source>(source: &mut S, room: u32) -> Result<Option<u8>, Failed>
 // The rest of a line behind its first byte, of which as many bytes are kept as there is room for.
 fn take_rest<S: Source>(source: &mut S, line: &mut [u8], first: u8) -> Result<usize, Failed>
     ensures within { IfOk result (λ kept. kept ≤ length line.new) }
-    ensures told { (typed : List ℕ) → (S.view source.old).left ≡ Some typed → TakesRest result first typed line.new (S.view source.new).left }
+    ensures took { Took (S.view source.old).left (S.view source.new).left (TakesRest result first line.new) }
     ensures cause { HasCause (S.view source.old).faults (S.view source.new).faults result }
 {
     let mut kept = 0;
@@ -78,7 +78,7 @@ fn keep_last(line: &mut [u8], kept: usize, held: u8) -> usize
 /// Takes a typed line, of which as many bytes are kept as there is room for; none where no byte is left.
 pub fn take_line<S: Source>(source: &mut S, line: &mut [u8]) -> Result<Option<usize>, Failed>
     ensures within { IfOk result (λ kept. IfSome kept (λ n. n ≤ length line.new)) }
-    ensures told { (typed : List ℕ) → (S.view source.old).left ≡ Some typed → TakesLine result typed line.new (S.view source.new).left }
+    ensures took { TakesLine result line.new (S.view source.old).left (S.view source.new).left }
     ensures cause { HasCause (S.view source.old).faults (S.view source.new).faults result }
 {
     let first = match source.next() {

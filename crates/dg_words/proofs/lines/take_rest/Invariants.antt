@@ -1,4 +1,4 @@
-use Rattle.std.proofs.Common.{◌≡◌, ◌≤◌, length, ℕ, List, Some}
+use Rattle.std.proofs.Common.{◌≤◌, length}
 use Rattle.dg_words.proofs.LineLemmas.{Reading}
 use Rattle.dg_words.proofs.lines.take_rest.Given as goal
 
@@ -6,7 +6,7 @@ abbrev pub invariant-loop-failed : goal.invariant-loop-failed
 invariant-loop-failed g l = record {
   within : l.kept ≤ length l.line;
   later : (g.S.Source.view l.initial.source).faults ≤ (g.S.Source.view l.source).faults;
-  told : (typed : List ℕ) → (g.S.Source.view l.initial.source).left ≡ Some typed → Reading typed l.first l.line l.kept l.held l.room (g.S.Source.view l.source).left;
+  reading : Reading l.first l.line l.kept l.held l.room (g.S.Source.view l.initial.source).left (g.S.Source.view l.source).left;
 }
 
 abbrev pub decreases-loop-failed : goal.decreases-loop-failed
