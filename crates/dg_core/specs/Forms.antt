@@ -14,9 +14,6 @@ use Rattle.dg_base.specs.declared.names.Builtin.TheVariants as built_in
 -- A built-in query that isn't built yet.
 abbrev pub is_unbuilt_query : Builtin → Bool
 is_unbuilt_query built_in.Object = true
-is_unbuilt_query built_in.GetInput = true
-is_unbuilt_query built_in.SplitWord = true
-is_unbuilt_query built_in.JoinWords = true
 is_unbuilt_query built_in.HasParent = true
 is_unbuilt_query b = false
 

@@ -21,6 +21,7 @@ fn is_unbuilt_query(builtin: Builtin) -> bool
     match builtin {
         Builtin::Equal | Builtin::Test(_) => false,
         Builtin::Compare(_) | Builtin::Arith(_) | Builtin::Random => false,
+        Builtin::GetInput | Builtin::SplitWord | Builtin::JoinWords => false,
         Builtin::Gap(_) | Builtin::Spaces => false,
         Builtin::Fail | Builtin::Just | Builtin::Stop | Builtin::Quit => false,
         Builtin::RepeatForever | Builtin::Query | Builtin::QueryWith => false,

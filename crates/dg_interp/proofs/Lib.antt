@@ -38,5 +38,9 @@ pub mod ThreeLemmas
 pub mod Picks
 pub mod Selects
 pub mod Spaces
+pub mod TypedLetters
+pub mod SpellLemmas
+pub mod Wordings
+pub mod Inputs
 pub mod Starting
 pub mod Throws

@@ -1,5 +1,5 @@
 -- From goal to goal up to the end of a run.
-use Rattle.std.proofs.Common.{◌≡◌, ℕ, suc, ◌+◌, ◌<◌, List, [], ◌++◌, Option, Some, None, Bool, false, refl, sym, ap, ◌∙◌, subst, arith, length, append_assoc}
+use Rattle.std.proofs.Common.{◌≡◌, ℕ, suc, ◌+◌, ◌<◌, List, [], ◌∷◌, ◌++◌, Option, Some, None, Bool, false, refl, sym, ap, ◌∙◌, subst, arith, length, length-append, inl, inr, append_assoc}
 use Rattle.std.specs.Prelude.{Result, IfOk, IfErr}
 use Rattle.dg_base.specs.declared.run.Ending.{Ending}
 use Rattle.dg_base.specs.declared.run.Ending.TheVariants.{Done, Failed, HeapLimit, TrailLimit, AuxLimit, KeepLimit}
@@ -21,9 +21,10 @@ use Rattle.dg_base.specs.Streams.{SourceView}
 use Rattle.dg_meaning.specs.Shows.{IsLeft}
 use Rattle.std.proofs.lemmas.List.{append-nil, append_cancel_left}
 use Rattle.dg_meaning.specs.World.{Print}
-use Rattle.dg_interp.specs.Running.{Gave, Awaits, Stretch, HasText, Reaches, GoesOn, HasEnded, MeetsLimit, Ended, IsBroken, GoalDone, Does, ending_at, limit_of}
+use Rattle.dg_interp.specs.Interpret.{told_behind, left_told}
+use Rattle.dg_interp.specs.Running.{Gave, Awaits, Stretch, HasText, Reaches, GoesOn, HasEnded, MeetsLimit, Ended, IsBroken, IsLimited, TakesMore, LosesInput, Broken, GoalDone, Does, ending_at, limit_of}
 use Rattle.dg_interp.proofs.Places.{limits_at, adds_nothing, limits_on, limits_here}
-use Rattle.dg_interp.proofs.Runs.{gave_nothing, gave_on, stretched, ended_at, writes_nothing, writes_on, finished_so, no_more}
+use Rattle.dg_interp.proofs.Runs.{gave_nothing, gave_on, as_told, stretched, ended_at, writes_nothing, writes_on, finished_so, no_more}
 
 -- ## From stretch to stretch
 
@@ -38,20 +39,16 @@ stretch_on xs ys ts us w P Q a f =
     }
 
 -- what the first of two stretches awaits
-awaits_first : (a b : SourceView) (ended : Bool) (xs ys : List ℕ) (w : World) → Gave a b ys → Awaits b ended (xs ++ ys) w → Awaits a false xs w
-awaits_first a b ended xs ys w h k = record { rest = ys ++ k.rest; left = h.left k.rest k.left; is_over = tt; typed = k.typed ∙ append_assoc xs ys k.rest }
+awaits_first : (a b : SourceView) (ended : Bool) (xs ys : List ℕ) (w : World) → Gave a b ended ys → Awaits b ended (xs ++ ys) w → Awaits a false xs w
+awaits_first a b ended xs ys w h k = record { rest = ys ++ k.rest; left = h.left k.rest k.left; typed = k.typed ∙ append_assoc xs ys k.rest }
 
 -- and then the other
 awaits_then : (b : SourceView) (ended : Bool) (xs ys : List ℕ) (w v : World) → w.typed ≡ xs ++ v.typed → Awaits b ended (xs ++ ys) w → Awaits b ended ys v
-awaits_then b ended xs ys w v e k = record { rest = k.rest; left = k.left; is_over = k.is_over; typed = append_cancel_left xs v.typed (ys ++ k.rest) (sym e ∙ k.typed ∙ append_assoc xs ys k.rest) }
-
--- a stretch that reads nothing behind another
-awaits_same : (b : SourceView) (ended : Bool) (xs : List ℕ) (w : World) → Awaits b ended xs w → Awaits b false xs w
-awaits_same b ended xs w k = record { rest = k.rest; left = k.left; is_over = tt; typed = k.typed }
+awaits_then b ended xs ys w v e k = record { rest = k.rest; left = k.left; typed = append_cancel_left xs v.typed (ys ++ k.rest) (sym e ∙ k.typed ∙ append_assoc xs ys k.rest) }
 
 -- what is left behind a stretch
-left_behind : (b : SourceView) (ended : Bool) (xs : List ℕ) (w v : World) → w.typed ≡ xs ++ v.typed → Awaits b ended xs w → IsLeft b.left v.typed
-left_behind b ended xs w v e k = subst (IsLeft b.left) (append_cancel_left xs k.rest v.typed (sym k.typed ∙ e)) k.left
+left_behind : (b : SourceView) (xs : List ℕ) (w v : World) → w.typed ≡ xs ++ v.typed → Awaits b false xs w → IsLeft b.left v.typed
+left_behind b xs w v e k = subst (IsLeft b.left) (append_cancel_left xs k.rest v.typed (sym k.typed ∙ e)) k.left
 
 -- ## Behind a goal
 
@@ -89,17 +86,16 @@ module _ (old mid new : Engine) (s s' : Spacer) (k k' : SinkView) (i i' : Source
     taken = h.taken;
     ended = false;
     gave = h.gave;
-    at_end = λ h. absurd (cc);
     reaches = λ g w run start a st text.
         let t = leads_here g w run a st in
-        f g w t.world run start (left_behind i' false h.taken w t.world t.typed a) t.holds (text_here w t.world start t.prints_are text);
+        f g w t.world run start (left_behind i' h.taken w t.world t.typed a) t.holds (text_here w t.world start t.prints_are text);
   }
 
-  next_ended : (result : SearchResult) (e : Ending) → e ≡ ending_of result → HasEndedSo (StandsAt mid) result mid new → Reaches old s k i i' (HasEnded e new.left s' k' i')
+  next_ended : (result : SearchResult) (e : Ending) → e ≡ ending_of result → HasEndedSo (StandsAt mid) result mid new → Reaches old s k i i' (HasEnded e new.left s' k' (left_told i i'))
   next_ended result e is a =
-      behind_goal (HasEnded e new.left s' k' i')
+      behind_goal (HasEnded e new.left s' k' (left_told i i'))
       (λ g w v run start left st text.
-      let x = finished_so result e mid.left new.left s' k' i' v run start left text (sym a.left) is (a.ends g mid.left v run st) in
+      let x = finished_so result e mid.left new.left s' k' (left_told i i') v run start (as_told i i' v.typed left) text (sym a.left) is (a.ends g mid.left v run st) in
       record { world = x.world; typed = x.typed; is = x.is; text = x.text })
 
   pub next_ok : (ending : Option Ending) → GoesToGoal (StandsAt mid) ending mid new → Does ending old new s s' k k' i i'
@@ -134,9 +130,9 @@ module _ (old mid new : Engine) (s s' : Spacer) (k k' : SinkView) (i i' : Source
     here None f = tt
     here (Some area) f = ended_at area new.left old s s' k k' i i' (next_limit area new.left (sym left) f)
 
-  pub next_breaks : (lack : Lack) (r : Result Ending RunFault) → r ≡ limit_of lack → IfErr r (λ fault. Reaches old s k i i' (IsBroken fault s' k'))
-  next_breaks lack r is = subst (λ q. IfErr q (λ fault. Reaches old s k i i' (IsBroken fault s' k'))) (sym is) (here (area_of lack)) where
-    here : (area : Option Area) → IfErr (ending_at area) (λ fault. Reaches old s k i i' (IsBroken fault s' k'))
+  pub next_breaks : (lack : Lack) (r : Result Ending RunFault) → r ≡ limit_of lack → IfErr r (λ fault. Broken fault old s s' k k' i i')
+  next_breaks lack r is = subst (λ q. IfErr q (λ fault. Broken fault old s s' k k' i i')) (sym is) (here (area_of lack)) where
+    here : (area : Option Area) → IfErr (ending_at area) (λ fault. Broken fault old s s' k k' i i')
     here None = next_lost
     here (Some area) = tt
 
@@ -158,6 +154,22 @@ goes_nowhere e s k i ready goal = record {
   writes = writes_nothing s k;
 }
 
+-- what is told behind two stretches
+told_on : (a b c : Option (List ℕ)) (xs : List ℕ) → ((rest : List ℕ) → IsLeft b rest → IsLeft a (xs ++ rest)) → (typed : List ℕ) → IsLeft (told_behind b c) typed → IsLeft (told_behind a c) typed
+told_on None b c xs gave typed h = tt
+told_on (Some x) (Some y) c xs gave typed h = h
+told_on (Some x) None c xs gave typed h =
+    let none : x ≡ xs ++ [] = gave [] tt in
+    let one : x ≡ xs ++ 0 ∷ [] = gave (0 ∷ []) tt in
+    absurd (omega (arith, ap length none, ap length one, length-append xs [], length-append xs (0 ∷ [])))
+
+takes_more_on : (xs ys more : List ℕ) (w v : World) (run : Run) → w.typed ≡ xs ++ v.typed → TakesMore (length ys) (length more) v run → TakesMore (length (xs ++ ys)) (length more) w run
+takes_more_on xs ys more w v run e (inl over) = inl over
+takes_more_on xs ys more w v run e (inr more_taken) =
+    let a = ap length e ∙ length-append xs v.typed in
+    let b = length-append xs ys in
+    inr (omega (arith, a, b, more_taken.0), omega (arith, a, b, more_taken.1))
+
 module _ (a b : Engine) (s s' s'' : Spacer) (k k' k'' : SinkView) (i i' i'' : SourceView) (h : GoesOn a b s s' k k' i i') where
   pub goes_further : (c : Engine) → GoesOn b c s' s'' k' k'' i' i'' → GoesOn a c s s'' k k'' i i''
   goes_further c j = record {
@@ -168,7 +180,7 @@ module _ (a b : Engine) (s s' s'' : Spacer) (k k' k'' : SinkView) (i i' i'' : So
     left = omega (arith, h.left, j.left);
     added = h.added ++ j.added;
     taken = h.taken ++ j.taken;
-    gave = gave_on i i' i'' h.taken j.taken h.gave j.gave;
+    gave = gave_on i i' i'' false h.taken j.taken h.gave j.gave;
     leads = λ g n w run awaits st.
         let same : h.goals + j.goals + n ≡ h.goals + (j.goals + n) = omega arith in
         stretch_on h.added j.added h.taken j.taken w (λ v. StandsAt b g (j.goals + n) v run) (λ v. StandsAt c g n v run)
@@ -184,22 +196,45 @@ module _ (a b : Engine) (s s' s'' : Spacer) (k k' k'' : SinkView) (i i' i'' : So
   reaches_further P Q f j = record {
     taken = h.taken ++ j.taken;
     ended = j.ended;
-    gave = gave_on i i' i'' h.taken j.taken h.gave j.gave;
-    at_end = j.at_end;
+    gave = gave_on i i' i'' j.ended h.taken j.taken h.gave j.gave;
     reaches = λ g w run start awaits st text.
         let t = h.leads g b.left w run (awaits_first i' i'' j.ended h.taken j.taken w j.gave awaits) (subst (λ n. StandsAt a g n w run) h.left st) in
         f w t.world run start (j.reaches g t.world run start (awaits_then i'' j.ended h.taken j.taken w t.world t.typed awaits) t.holds (has_text w t.world start t.prints_are text));
   }
 
-  pub ended_reaches : (e : Ending) (n : ℕ) → Reaches b s' k' i' i'' (HasEnded e n s'' k'' i'') → Reaches a s k i i'' (HasEnded e n s'' k'' i'')
-  ended_reaches e n = reaches_further (HasEnded e n s'' k'' i'') (HasEnded e n s'' k'' i'') (λ w v run start y. record { world = y.world; typed = y.typed; is = y.is; text = y.text })
+  pub ended_reaches : (e : Ending) (n : ℕ) → Reaches b s' k' i' i'' (HasEnded e n s'' k'' (left_told i' i'')) → Reaches a s k i i'' (HasEnded e n s'' k'' (left_told i i''))
+  ended_reaches e n = reaches_further (HasEnded e n s'' k'' (left_told i' i'')) (HasEnded e n s'' k'' (left_told i i''))
+      (λ w v run start y. record { world = y.world; typed = told_on i.left i'.left i''.left h.taken h.gave.left y.world.typed y.typed; is = y.is; text = y.text })
 
-  pub broken_reaches : (fault : RunFault) → Reaches b s' k' i' i'' (IsBroken fault s'' k'') → Reaches a s k i i'' (IsBroken fault s'' k'')
-  broken_reaches fault = reaches_further (IsBroken fault s'' k'') (IsBroken fault s'' k'') (λ w v run start y. here fault w v run start y) where
-    here : (fault : RunFault) (w v : World) (run : Run) (start : SinkView) → IsBroken fault s'' k'' v run start → IsBroken fault s'' k'' w run start
-    here Read w v run start x = x
-    here Write w v run start x = x
-    here OutOfMemory w v run start x = x
+  -- the input failed further on
+  loses_further : LosesInput b s' s'' k' k'' i' i'' → LosesInput a s s'' k k'' i i''
+  loses_further j =
+      let all = append_assoc h.taken j.taken j.more in
+      let behind : suc (h.goals + j.goals) ≡ h.goals + suc j.goals = omega arith in
+      record {
+        goals = h.goals + j.goals;
+        below = omega (arith, h.left, j.below);
+        added = h.added ++ j.added;
+        taken = h.taken ++ j.taken;
+        more = j.more;
+        rose = omega (arith, h.gave.later, j.rose);
+        gave = subst (Gave i i'' false) (sym all) (gave_on i i' i'' false h.taken (j.taken ++ j.more) h.gave j.gave);
+        stops = λ g w run awaits st.
+            let here = subst (λ l. Awaits i'' false l w) all awaits in
+            stretch_on h.added j.added h.taken j.taken w (λ v. StandsAt b g j.goals v run) (λ v. IsLimited v run)
+            (h.leads g j.goals w run (awaits_first i' i'' false h.taken (j.taken ++ j.more) w j.gave here) st)
+            (λ v e at. j.stops g v run (awaits_then i'' false h.taken (j.taken ++ j.more) w v e here) at);
+        reads = λ g w run awaits st.
+            let here = subst (λ l. Awaits i'' false l w) all awaits in
+            let t = h.leads g (suc j.goals) w run (awaits_first i' i'' false h.taken (j.taken ++ j.more) w j.gave here) (subst (λ i. StandsAt a g i w run) behind st) in
+            takes_more_on h.taken j.taken j.more w t.world run t.typed (j.reads g t.world run (awaits_then i'' false h.taken (j.taken ++ j.more) w t.world t.typed here) t.holds);
+        writes = writes_on s s' s'' k k' k'' h.added j.added h.writes j.writes;
+      }
+
+  pub broken_reaches : (fault : RunFault) → Broken fault b s' s'' k' k'' i' i'' → Broken fault a s s'' k k'' i i''
+  broken_reaches Read j = loses_further j
+  broken_reaches Write j = reaches_further (IsBroken Write s'' k'') (IsBroken Write s'' k'') (λ w v run start y. y) j
+  broken_reaches OutOfMemory j = reaches_further (IsBroken OutOfMemory s'' k'') (IsBroken OutOfMemory s'' k'') (λ w v run start y. y) j
 
   limit_further : (area : Area) (left : ℕ) → MeetsLimit area left b s' s'' k' k'' i' i'' → MeetsLimit area left a s s'' k k'' i i''
   limit_further area left j =
@@ -209,7 +244,7 @@ module _ (a b : Engine) (s s' s'' : Spacer) (k k' k'' : SinkView) (i i' i'' : So
         left_is = omega (arith, h.left, j.left_is);
         added = h.added ++ j.added;
         taken = h.taken ++ j.taken;
-        gave = gave_on i i' i'' h.taken j.taken h.gave j.gave;
+        gave = gave_on i i' i'' false h.taken j.taken h.gave j.gave;
         passed = λ g w run awaits st.
             let t = h.leads g (suc j.goals) w run (awaits_first i' i'' false h.taken j.taken w j.gave awaits) (subst (λ i. StandsAt a g i w run) behind st) in
             subst (λ n. n < greatest area run.world.meters) (limits_at a b h.limits area) (j.passed g t.world run (awaits_then i'' false h.taken j.taken w t.world t.typed awaits) t.holds);

@@ -5,7 +5,7 @@ use Rattle.std.proofs.lemmas.List.{append-nil}
 use Rattle.dg_base.specs.declared.program.Goal.{Goal, out-Goal}
 use Rattle.dg_base.specs.declared.program.Goal as place
 use denote.Hole.Carrier.{out}
-use Rattle.dg_base.specs.declared.program.Goal.TheVariants.{Text, Gap, GapN, Print as PrintGoal, Quit, Stop}
+use Rattle.dg_base.specs.declared.program.Goal.TheVariants.{Text, Gap, GapN, Print as PrintGoal, Quit, Stop, Input}
 use Rattle.dg_base.specs.declared.program.GapKind.{GapKind}
 use Rattle.dg_base.specs.declared.program.Term.{Term}
 use Rattle.dg_base.specs.declared.run.Ending.{Ending}
@@ -37,7 +37,8 @@ use Rattle.dg_interp.specs.Lacks.{lack_of, area_of, as_stored}
 use Rattle.dg_interp.specs.Engine.{store_in, limit_in, Point, LacksIn, LackAt, PassesLimit, IsAct, pieces_at, WrotePrinted, StandsAt, TakesAt, Then, FullAt, Taken, WentOn, HasEndedSo, Branches, Stops}
 use Rattle.dg_base.specs.Streams.{SourceView}
 use Rattle.dg_meaning.specs.Shows.{IsLeft}
-use Rattle.dg_interp.specs.Running.{HasText, Writes, Gave, Awaits, Stretch, Reaches, HasEnded, MeetsLimit, Ended, IsBroken, GoalDone, DoesGoal, ending_at, over, outcome_of}
+use Rattle.dg_interp.specs.Interpret.{told_behind, left_told}
+use Rattle.dg_interp.specs.Running.{HasText, Writes, Gave, Awaits, Stretch, Reaches, HasEnded, MeetsLimit, Ended, IsBroken, Broken, GoalDone, DoesGoal, ending_at, over, outcome_of}
 use Rattle.dg_base.proofs.WrittenLemmas.{wrote_on, broke_first, broke_later}
 use Rattle.dg_interp.proofs.Places.{limits_at, adds_nothing, adds_on, adds_drops, limits_on}
 use Rattle.dg_interp.proofs.Goals.{prints_word, prints_gap, quits}
@@ -80,18 +81,18 @@ writes_on s s' s'' k k' k'' xs ys a b start es h = subst (HasText s'' start k'')
 
 -- ## Nothing is read
 
-pub gave_nothing : (i : SourceView) → Gave i i []
+pub gave_nothing : (i : SourceView) → Gave i i false []
 gave_nothing i = record { left = λ rest h. h; later = omega arith }
 
-pub gave_on : (a b c : SourceView) (xs ys : List ℕ) → Gave a b xs → Gave b c ys → Gave a c (xs ++ ys)
-gave_on a b c xs ys h k = record {
+pub gave_on : (a b c : SourceView) (ended : Bool) (xs ys : List ℕ) → Gave a b false xs → Gave b c ended ys → Gave a c ended (xs ++ ys)
+gave_on a b c ended xs ys h k = record {
   left = λ rest is. subst (IsLeft a.left) (sym (append_assoc xs ys rest)) (h.left (ys ++ rest) (k.left rest is));
   later = omega (arith, h.later, k.later);
 }
 
 -- what is left where nothing was read
-pub left_here : (i : SourceView) (ended : Bool) (w : World) → Awaits i ended [] w → IsLeft i.left w.typed
-left_here i ended w a = subst (IsLeft i.left) (sym a.typed) a.left
+pub left_here : (i : SourceView) (w : World) → Awaits i false [] w → IsLeft i.left w.typed
+left_here i w a = subst (IsLeft i.left) (sym a.typed) a.left
 
 -- a stretch that reads nothing
 pub stretched : (es : List Print) (w : World) (P : World → Type 0) → Then es w P → Stretch es [] w P
@@ -102,19 +103,25 @@ reads_nothing e s k i P f = record {
   taken = [];
   ended = false;
   gave = gave_nothing i;
-  at_end = λ h. absurd (cc);
-  reaches = λ g w run start a st text. f g w run start (left_here i false w a) st text;
+  reaches = λ g w run start a st text. f g w run start (left_here i w a) st text;
 }
+
+-- what is left is what is told of it
+pub as_told : (i j : SourceView) (typed : List ℕ) → IsLeft j.left typed → IsLeft (left_told i j) typed
+as_told i j typed h = here i.left h where
+  here : (told : Option (List ℕ)) → IsLeft j.left typed → IsLeft (told_behind told j.left) typed
+  here None h = tt
+  here (Some bytes) h = h
 
 -- ## Endings
 
-pub finished_so : (r : SearchResult) (e : Ending) (n m : ℕ) (s : Spacer) (k : SinkView) (i : SourceView) (w : World) (run : Run) (start : SinkView) → IsLeft i.left w.typed → HasText s start k (prints w.events) → n ≡ m → e ≡ ending_of r → Then [] w (λ v. Finished n v r run) → HasEnded e m s k i w run start
+pub finished_so : (r : SearchResult) (e : Ending) (n m : ℕ) (s : Spacer) (k : SinkView) (i : Option (List ℕ)) (w : World) (run : Run) (start : SinkView) → IsLeft i w.typed → HasText s start k (prints w.events) → n ≡ m → e ≡ ending_of r → Then [] w (λ v. Finished n v r run) → HasEnded e m s k i w run start
 finished_so r e n m s k i w run start left text same is t =
     let f = t.holds in
     let adds = adds_on w t.world f.world [] [] t.adds (adds_drops t.world f.world f.drops) in
     record {
       world = f.world;
-      typed = subst (IsLeft i.left) (sym adds.typed) left;
+      typed = subst (IsLeft i) (sym adds.typed) left;
       is = f.is ∙ ap (λ x. record { left = n; world = f.world; ending = x }) (sym is) ∙ ap (λ i. record { left = i; world = f.world; ending = e }) same;
       text = text_same s start k (prints w.events) (prints f.world.events) adds.prints_are text;
     }
@@ -135,11 +142,11 @@ no_more e added g w run some st =
     let same : prints run.world.events ≡ prints w.events = ap (λ (r : Run). prints r.world.events) f.is ∙ ap (λ (v : World). prints v.events) f.drops.is in
     record { behind = added; is = ap (λ l. l ++ added) (sym same) }
 
-pub run_limited : (e : Engine) (s : Spacer) (k : SinkView) (i : SourceView) → 0 < length e.here.goals.now → e.left ≡ 0 → Reaches e s k i i (HasEnded StepLimit e.left s k i)
+pub run_limited : (e : Engine) (s : Spacer) (k : SinkView) (i : SourceView) → 0 < length e.here.goals.now → e.left ≡ 0 → Reaches e s k i i (HasEnded StepLimit e.left s k (left_told i i))
 run_limited e s k i some none =
-    reads_nothing e s k i (HasEnded StepLimit e.left s k i)
+    reads_nothing e s k i (HasEnded StepLimit e.left s k (left_told i i))
     (λ g w run start left st text.
-    finished_so (End StepLimit) StepLimit 0 e.left s k i w run start left text (sym none) refl (record { world = w; adds = adds_nothing w; holds = limited_at e g w run some (subst (λ n. StandsAt e g n w run) none st) }))
+    finished_so (End StepLimit) StepLimit 0 e.left s k (left_told i i) w run start (as_told i i w.typed left) text (sym none) refl (record { world = w; adds = adds_nothing w; holds = limited_at e g w run some (subst (λ n. StandsAt e g n w run) none st) }))
 
 -- ## Limits
 
@@ -166,16 +173,17 @@ ended_at Keep left old s s' k k' i i' h = h
 
 -- ## One goal
 
--- all goals but these six are acts
-pub is_act : (x : Goal) → ((name : List ℕ) → x ≡ Text name → ⊥) → ((a : Term) → x ≡ PrintGoal a → ⊥) → (x ≡ Quit → ⊥) → (x ≡ Stop → ⊥) → ((kind : GapKind) → x ≡ Gap kind → ⊥) → ((a : Term) → x ≡ GapN a → ⊥) → IsAct (out-Goal x)
+-- all goals but these seven are acts
+pub is_act : (x : Goal) → ((name : List ℕ) → x ≡ Text name → ⊥) → ((a : Term) → x ≡ PrintGoal a → ⊥) → (x ≡ Quit → ⊥) → (x ≡ Stop → ⊥) → ((kind : GapKind) → x ≡ Gap kind → ⊥) → ((a : Term) → x ≡ GapN a → ⊥) → ((a : Term) → x ≡ Input a → ⊥) → IsAct (out-Goal x)
 unfolding out-Goal out
-is_act (place.Text name) text print quit stop gap spaces = absurd (text name refl)
-is_act (place.Print a) text print quit stop gap spaces = absurd (print a refl)
-is_act place.Quit text print quit stop gap spaces = absurd (quit refl)
-is_act place.Stop text print quit stop gap spaces = absurd (stop refl)
-is_act (place.Gap kind) text print quit stop gap spaces = absurd (gap kind refl)
-is_act (place.GapN a) text print quit stop gap spaces = absurd (spaces a refl)
-is_act x text print quit stop gap spaces = tt
+is_act (place.Text name) text print quit stop gap spaces input = absurd (text name refl)
+is_act (place.Print a) text print quit stop gap spaces input = absurd (print a refl)
+is_act place.Quit text print quit stop gap spaces input = absurd (quit refl)
+is_act place.Stop text print quit stop gap spaces input = absurd (stop refl)
+is_act (place.Gap kind) text print quit stop gap spaces input = absurd (gap kind refl)
+is_act (place.GapN a) text print quit stop gap spaces input = absurd (spaces a refl)
+is_act (place.Input a) text print quit stop gap spaces input = absurd (input a refl)
+is_act x text print quit stop gap spaces input = tt
 
 module _ (x : Goal) (old mid : Engine) (s : Spacer) (k : SinkView) (i : SourceView) (some : 0 < length old.here.goals.now) (taken : Taken x old mid) where
   takes_here : (g : Game) (w : World) (run : Run) → StandsAt old g old.left w run → TakesAt x mid g mid.left w run
@@ -194,9 +202,9 @@ module _ (x : Goal) (old mid : Engine) (s : Spacer) (k : SinkView) (i : SourceVi
     writes = writes_nothing s k;
   }
 
-  pub goal_ended : (new : Engine) (result : SearchResult) (e : Ending) → e ≡ ending_of result → HasEndedSo (TakesAt x mid) result mid new → Reaches old s k i i (HasEnded e new.left s k i)
+  pub goal_ended : (new : Engine) (result : SearchResult) (e : Ending) → e ≡ ending_of result → HasEndedSo (TakesAt x mid) result mid new → Reaches old s k i i (HasEnded e new.left s k (left_told i i))
   goal_ended new result e is h =
-      reads_nothing old s k i (HasEnded e new.left s k i) (λ g w run start left st text. finished_so result e mid.left new.left s k i w run start left text (sym h.left) is (h.ends g mid.left w run (takes_here g w run st)))
+      reads_nothing old s k i (HasEnded e new.left s k (left_told i i)) (λ g w run start left st text. finished_so result e mid.left new.left s k (left_told i i) w run start (as_told i i w.typed left) text (sym h.left) is (h.ends g mid.left w run (takes_here g w run st)))
 
   -- memory ran out before anything was written
   pub goal_lost : Reaches old s k i i (IsBroken OutOfMemory s k)
@@ -227,13 +235,13 @@ module _ (x : Goal) (old mid : Engine) (s : Spacer) (k : SinkView) (i : SourceVi
     here (Ok false) ok err = goal_ended new Failing Failed refl ok
     here (Err lack) ok err = lacks (area_of lack) err
 
-  pub goal_breaks : (r : Result Bool Lack) (result : Result (Option Ending) RunFault) → result ≡ outcome_of r → IfErr result (λ fault. Reaches old s k i i (IsBroken fault s k))
-  goal_breaks r result is = subst (λ q. IfErr q (λ fault. Reaches old s k i i (IsBroken fault s k))) (sym is) (here r) where
-    lacks : (area : Option Area) → IfErr (over (ending_at area)) (λ fault. Reaches old s k i i (IsBroken fault s k))
+  pub goal_breaks : (r : Result Bool Lack) (result : Result (Option Ending) RunFault) → result ≡ outcome_of r → IfErr result (λ fault. Broken fault old s s k k i i)
+  goal_breaks r result is = subst (λ q. IfErr q (λ fault. Broken fault old s s k k i i)) (sym is) (here r) where
+    lacks : (area : Option Area) → IfErr (over (ending_at area)) (λ fault. Broken fault old s s k k i i)
     lacks None = goal_lost
     lacks (Some area) = tt
 
-    here : (r : Result Bool Lack) → IfErr (outcome_of r) (λ fault. Reaches old s k i i (IsBroken fault s k))
+    here : (r : Result Bool Lack) → IfErr (outcome_of r) (λ fault. Broken fault old s s k k i i)
     here (Ok true) = tt
     here (Ok false) = tt
     here (Err lack) = lacks (area_of lack)
@@ -307,15 +315,15 @@ module _ (x : Goal) (term : Term) (value : Ref) (old mid new : Engine) (s s' : S
       text_begins t.world.events run.world.events (stands_happened g h.at.inside.lives h.at.ways _ mid.left t.world run h.stands).events start k'
       (subst (BrokeOff start k') (sym same) (broke_later start k k' (render es) (growth_of es ps) text.wrote (broke es text.stands))))
 
-pub goal_quits : (x : Goal) (old mid : Engine) (s : Spacer) (k : SinkView) (i : SourceView) → Taken x old mid → x ≡ Quit → Reaches old s k i i (HasEnded Quit-Ending mid.left s k i)
+pub goal_quits : (x : Goal) (old mid : Engine) (s : Spacer) (k : SinkView) (i : SourceView) → Taken x old mid → x ≡ Quit → Reaches old s k i i (HasEnded Quit-Ending mid.left s k (left_told i i))
 goal_quits x old mid s k i taken is =
-    reads_nothing old s k i (HasEnded Quit-Ending mid.left s k i)
+    reads_nothing old s k i (HasEnded Quit-Ending mid.left s k (left_told i i))
     (λ g w run start left st text.
-    finished_so (End Quit-Ending) Quit-Ending mid.left mid.left s k i w run start left text refl refl
+    finished_so (End Quit-Ending) Quit-Ending mid.left mid.left s k (left_told i i) w run start (as_told i i w.typed left) text refl refl
     (quits mid g mid.left w run (subst (λ y. TakesAt y mid g mid.left w run) is (taken.takes g mid.left w run (subst (λ n. StandsAt old g n w run) taken.left st)))))
 
 pub goal_stops : (x : Goal) (old mid new : Engine) (s : Spacer) (k : SinkView) (i : SourceView) → 0 < length old.here.goals.now → Taken x old mid → x ≡ Stop → Stops true mid new → GoalDone old new s s k k i i
 goal_stops x old between new s k i some taken is h = goal_done x old between s k i some taken new (subst (λ y. WentOn (TakesAt y between) between new) (sym is) h)
 
-pub goal_stopped : (x : Goal) (old mid new : Engine) (s : Spacer) (k : SinkView) (i : SourceView) → 0 < length old.here.goals.now → Taken x old mid → x ≡ Stop → Stops false mid new → Reaches old s k i i (HasEnded Stopped new.left s k i)
+pub goal_stopped : (x : Goal) (old mid new : Engine) (s : Spacer) (k : SinkView) (i : SourceView) → 0 < length old.here.goals.now → Taken x old mid → x ≡ Stop → Stops false mid new → Reaches old s k i i (HasEnded Stopped new.left s k (left_told i i))
 goal_stopped x old between new s k i some taken is h = goal_ended x old between s k i some taken new (End Stopped) Stopped refl (subst (λ y. HasEndedSo (TakesAt y between) (End Stopped) between new) (sym is) h)

@@ -2,8 +2,8 @@
 use Rattle.std.proofs.Common.{◌≡◌, ℕ, suc, ◌-◌, ◌<◌, ◌≤◌, inl, inr, List, [], ◌∷◌, ◌++◌, Bool, true, false, Option, Some, None, refl, sym, ap, ◌∙◌, subst, arith, length, length-append}
 use Rattle.std.proofs.lemmas.Bool.{cases_lt}
 use Rattle.std.proofs.lemmas.List.{append-nil}
-use Rattle.std.specs.Prelude.{Result, Ok, Err, IfOk, IfErr}
-use Rattle.dg_base.specs.declared.run.Ending.TheVariants.{HeapLimit, TrailLimit, AuxLimit, KeepLimit}
+use Rattle.std.specs.Prelude.{Result, Ok, Err, IfOk, IfErr, ◌+◌, ◌⊎◌}
+use Rattle.dg_base.specs.declared.run.Ending.TheVariants.{InputEnded, HeapLimit, TrailLimit, AuxLimit, KeepLimit}
 use Rattle.dg_meaning.specs.OneRun.{Begins}
 use Rattle.dg_meaning.specs.Peaks.{Area, Heap, Trail, Aux, Keep, limit_of, limit_ending, peak}
 use Rattle.dg_meaning.proofs.OneRun.{begins_same}
@@ -11,14 +11,16 @@ use Rattle.dg_meaning.proofs.Limits.{later_run, limit_covers}
 use Rattle.dg_meaning.proofs.Dropping.{prints_append}
 use Rattle.dg_base.specs.declared.program.CoreProgram.{CoreProgram}
 use Rattle.dg_base.specs.declared.run.Ending.{Ending}
+use Rattle.dg_base.specs.Causes.{Rose}
+use Rattle.dg_base.specs.declared.run.RunFault.{RunFault}
 use Rattle.dg_base.specs.declared.run.RunFault.TheVariants.{Read, Write, OutOfMemory}
 use Rattle.dg_base.specs.declared.run.Limits.{Limits}
 use Rattle.dg_meaning.specs.World.{Game, World, Event, Print, prints}
 use Rattle.dg_meaning.specs.Render.{render}
 use Rattle.dg_meaning.specs.Facts.{kinds_of, kept_size, start_facts}
 use Rattle.dg_meaning.specs.Search.{search}
-use Rattle.dg_meaning.specs.Transcript.{Run, run, start_world, text_of, line_of, no_memory_line, closing, closed, transcript}
-use Rattle.dg_meaning.specs.Shows.{IsLeft, ShowsLimit, ShowsNoMemory, MayWrite, whole, without_memory}
+use Rattle.dg_meaning.specs.Transcript.{Run, run, start_world, text_of, line_of, no_memory_line, input_fault_line, closing, closed, transcript}
+use Rattle.dg_meaning.specs.Shows.{IsLeft, HasGiven, taken_by, ShowsLimit, ShowsNoMemory, ShowsInputFault, MayWrite, whole, without_memory, without_input}
 use Rattle.dg_meaning.proofs.Search.{run_within}
 use Rattle.dg_spacing.specs.declared.spacer.Spacer.{Spacer}
 use Rattle.dg_interp.specs.declared.engine.Engine.{Engine}
@@ -30,8 +32,8 @@ use Rattle.dg_interp.specs.declared.lack.Lack.TheVariants as lack
 use Rattle.dg_interp.specs.Outside.{LacksAtStart}
 use Rattle.dg_interp.specs.Engine.{limit_in, Starts}
 use Rattle.dg_base.specs.Streams.{SourceView}
-use Rattle.dg_interp.specs.Running.{limit_of as ending_of_lack, Gave, IsOver, Awaits, HasText, Reaches, HasEnded, MeetsLimit, Ended, HasPart, IsBroken}
-use Rattle.dg_interp.specs.Interpret.{game, ForTyped, HasShown, HasLostOutput, HasLostMemory}
+use Rattle.dg_interp.specs.Running.{limit_of as ending_of_lack, Gave, LeftBehind, Awaits, Stretch, HasText, Reaches, HasEnded, MeetsLimit, Ended, HasPart, IsLimited, TakesMore, LosesInput, IsBroken, Broken}
+use Rattle.dg_interp.specs.Interpret.{game, left_told, ForTyped, HasShown, HasLostInput, HasLostOutput, HasLostMemory}
 use Rattle.dg_base.proofs.WrittenLemmas.{wrote_nothing, wrote_on, broke_first, broke_later}
 
 -- the whole text of a run may be written
@@ -79,20 +81,17 @@ the_part p q w h k b =
 -- ## Typed bytes
 
 -- what a source has left, as far as it tells, or nothing
-left_told : (told : Option (List ℕ)) → (rest : List ℕ) × IsLeft told rest
-left_told None = ([], tt)
-left_told (Some rest) = (rest, refl)
+some_left : (told : Option (List ℕ)) → (rest : List ℕ) × IsLeft told rest
+some_left None = ([], tt)
+some_left (Some rest) = (rest, refl)
 
-rest_of : (ended : Bool) (to : SourceView) → (ended ≡ true → IsLeft to.left []) → (rest : List ℕ) × IsLeft to.left rest × IsOver ended rest
-rest_of true to f = ([], f refl, refl)
-rest_of false to f = let x = left_told to.left in (x.0, x.1, tt)
+rest_of : (ended : Bool) (to : SourceView) → (rest : List ℕ) × LeftBehind ended to rest
+rest_of true to = ([], refl)
+rest_of false to = some_left to.left
 
 for_given : (told : Option (List ℕ)) (typed : List ℕ) (P : List ℕ → Type 0) → IsLeft told typed → P typed → ForTyped told P
 for_given None typed P is p = (typed, p)
 for_given (Some t) typed P is p = subst P (sym is) p
-
-never_over : {A : Type 0} → false ≡ true → A
-never_over h = absurd (cc)
 
 module _ (program : CoreProgram) (limits : Limits) (e : Engine) (dice : List ℕ) (starts : Starts program limits dice e) (s s' : Spacer) (k k' : SinkView) (i i' : SourceView) (new : StandsFor s []) where
   abbrev g : Game
@@ -103,10 +102,10 @@ module _ (program : CoreProgram) (limits : Limits) (e : Engine) (dice : List ℕ
   no_text = record { stands = new; wrote = wrote_nothing k }
 
   -- bytes that the source gave, and what it has left
-  for_taken : (P : List ℕ → Type 0) (taken : List ℕ) (ended : Bool) → Gave i i' taken → (ended ≡ true → IsLeft i'.left []) → ((typed : List ℕ) → Awaits i' ended taken (start_world g typed) → P typed) → ForTyped i.left P
-  for_taken P taken ended gave at_end f =
-      let x = rest_of ended i' at_end in
-      for_given i.left (taken ++ x.0) P (gave.left x.0 x.1) (f (taken ++ x.0) (record { rest = x.0; left = x.1; is_over = x.2; typed = refl }))
+  for_taken : (P : List ℕ → Type 0) (taken : List ℕ) (ended : Bool) → Gave i i' ended taken → ((typed : List ℕ) → Awaits i' ended taken (start_world g typed) → P typed) → ForTyped i.left P
+  for_taken P taken ended gave f =
+      let x = rest_of ended i' in
+      for_given i.left (taken ++ x.0) P (gave.left x.0 x.1) (f (taken ++ x.0) (record { rest = x.0; left = x.1; typed = refl }))
 
   module _ (typed : List ℕ) where
     abbrev r : Run
@@ -154,7 +153,7 @@ module _ (program : CoreProgram) (limits : Limits) (e : Engine) (dice : List ℕ
       text_is : HasText s' k k' (prints part_is.part)
       text_is = subst (HasText s' k k') (sym part_is.prints_are) (m.writes k [] no_text)
 
-      limit_shown : (k'' : SinkView) → ((es : List Print) → StandsFor s' es → Wrote k' k'' (ending_line es (line_of (limit_ending area)))) → HasShown g typed limits (record { ending = limit_ending area; goals = limits.steps - left }) i'.left k k''
+      limit_shown : (k'' : SinkView) → ((es : List Print) → StandsFor s' es → Wrote k' k'' (ending_line es (line_of (limit_ending area)))) → HasShown g typed limits (record { ending = limit_ending area; goals = limits.steps - left }) (left_told i i') k k''
       limit_shown k'' close = record {
         bytes = closed part_is.part (line_of (limit_ending area));
         shows = inr limit_shows;
@@ -170,9 +169,9 @@ module _ (program : CoreProgram) (limits : Limits) (e : Engine) (dice : List ℕ
 
     -- ## The whole run
 
-    module _ (ending : Ending) (left : ℕ) (h : Reaches e s k i i' (HasEnded ending left s' k' i')) (a : Awaits i' h.ended h.taken (start_world g typed)) where
-      abbrev x : HasEnded ending left s' k' i' (start_world g typed) r k
-      x = reached (HasEnded ending left s' k' i') h a
+    module _ (ending : Ending) (left : ℕ) (h : Reaches e s k i i' (HasEnded ending left s' k' (left_told i i'))) (a : Awaits i' h.ended h.taken (start_world g typed)) where
+      abbrev x : HasEnded ending left s' k' (left_told i i') (start_world g typed) r k
+      x = reached (HasEnded ending left s' k' (left_told i i')) h a
 
       run_left : left ≤ limits.steps
       run_left = let same : r.left ≡ left = ap (λ (y : Run). y.left) x.is in omega (arith, run_within g typed limits.steps)
@@ -181,7 +180,7 @@ module _ (program : CoreProgram) (limits : Limits) (e : Engine) (dice : List ℕ
       closes : transcript g typed limits.steps ≡ render (prints x.world.events) ++ ending_line (prints x.world.events) (line_of ending)
       closes = ap (λ (y : Run). closed y.world.events (line_of y.ending)) x.is
 
-      run_shown : (k'' : SinkView) → ((es : _) → StandsFor s' es → Wrote k' k'' (ending_line es (line_of ending))) → HasShown g typed limits (record { ending = ending; goals = limits.steps - left }) i'.left k k''
+      run_shown : (k'' : SinkView) → ((es : _) → StandsFor s' es → Wrote k' k'' (ending_line es (line_of ending))) → HasShown g typed limits (record { ending = ending; goals = limits.steps - left }) (left_told i i') k k''
       run_shown k'' close =
           let within = run_left in
           let same : r.left ≡ left = ap (λ (y : Run). y.left) x.is in
@@ -192,7 +191,7 @@ module _ (program : CoreProgram) (limits : Limits) (e : Engine) (dice : List ℕ
                   text = refl;
                   ending = sym (ap (λ (y : Run). y.ending) x.is);
                   goals = omega (arith, same, within);
-                  left_is = subst (IsLeft i'.left) (sym (ap (λ (y : Run). y.world.typed) x.is)) x.typed;
+                  left_is = subst (IsLeft (left_told i i')) (sym (ap (λ (y : Run). y.world.typed) x.is)) x.typed;
                 });
             wrote = subst (Wrote k k'') (sym closes) (wrote_on k k' k'' (render (prints x.world.events)) (ending_line (prints x.world.events) (line_of ending)) x.text.wrote (close (prints x.world.events) x.text.stands));
           }
@@ -209,10 +208,10 @@ module _ (program : CoreProgram) (limits : Limits) (e : Engine) (dice : List ℕ
 
   -- a limit, for bytes that the source gave
   met : (area : Area) (left : ℕ) (P : List ℕ → Type 0) (m : MeetsLimit area left e s s' k k' i i') → ((typed : List ℕ) → Awaits i' false m.taken (start_world g typed) → P typed) → ForTyped i.left P
-  met area left P m = for_taken P m.taken false m.gave never_over
+  met area left P m = for_taken P m.taken false m.gave
 
   came : (Q : World → Run → SinkView → Type 0) (P : List ℕ → Type 0) (h : Reaches e s k i i' Q) → ((typed : List ℕ) → Awaits i' h.ended h.taken (start_world g typed) → P typed) → ForTyped i.left P
-  came Q P h = for_taken P h.taken h.ended h.gave h.at_end
+  came Q P h = for_taken P h.taken h.ended h.gave
 
   -- what holds for some typed bytes, of which it doesn't speak
   for_none : (told : Option (List ℕ)) (P : Type 0) → ForTyped told (λ typed. P) → P
@@ -227,7 +226,7 @@ module _ (program : CoreProgram) (limits : Limits) (e : Engine) (dice : List ℕ
   left_within TrailLimit left m = meets_within Trail left m
   left_within AuxLimit left m = meets_within Aux left m
   left_within KeepLimit left m = meets_within Keep left m
-  left_within ending left h = for_none i.left (left ≤ limits.steps) (came (HasEnded ending left s' k' i') (λ typed. left ≤ limits.steps) h (λ typed a. run_left typed ending left h a))
+  left_within ending left h = for_none i.left (left ≤ limits.steps) (came (HasEnded ending left s' k' (left_told i i')) (λ typed. left ≤ limits.steps) h (λ typed a. run_left typed ending left h a))
 
   pub ended_later : (ending : Ending) (left : ℕ) → Ended ending left e s s' k k' i i' → i.faults ≤ i'.faults
   ended_later HeapLimit left m = m.gave.later
@@ -238,14 +237,14 @@ module _ (program : CoreProgram) (limits : Limits) (e : Engine) (dice : List ℕ
 
   -- what is shown with this ending
   abbrev pub Shown : Ending → ℕ → SinkView → List ℕ → Type 0
-  Shown ending left k'' typed = HasShown g typed limits (record { ending = ending; goals = limits.steps - left }) i'.left k k''
+  Shown ending left k'' typed = HasShown g typed limits (record { ending = ending; goals = limits.steps - left }) (left_told i i') k k''
 
   pub has_shown : (k'' : SinkView) (ending : Ending) (left : ℕ) → Ended ending left e s s' k k' i i' → ((es : List Print) → StandsFor s' es → Wrote k' k'' (ending_line es (line_of ending))) → ForTyped i.left (Shown ending left k'')
   has_shown k'' HeapLimit left m close = met Heap left (Shown HeapLimit left k'') m (λ typed a. limit_shown typed Heap left m (starts.limits_are Heap) a k'' close)
   has_shown k'' TrailLimit left m close = met Trail left (Shown TrailLimit left k'') m (λ typed a. limit_shown typed Trail left m (starts.limits_are Trail) a k'' close)
   has_shown k'' AuxLimit left m close = met Aux left (Shown AuxLimit left k'') m (λ typed a. limit_shown typed Aux left m (starts.limits_are Aux) a k'' close)
   has_shown k'' KeepLimit left m close = met Keep left (Shown KeepLimit left k'') m (λ typed a. limit_shown typed Keep left m (starts.limits_are Keep) a k'' close)
-  has_shown k'' ending left h close = came (HasEnded ending left s' k' i') (Shown ending left k'') h (λ typed a. run_shown typed ending left h a k'' close)
+  has_shown k'' ending left h close = came (HasEnded ending left s' k' (left_told i i')) (Shown ending left k'') h (λ typed a. run_shown typed ending left h a k'' close)
 
   -- what is lost
   abbrev pub Lost : SinkView → List ℕ → Type 0
@@ -256,7 +255,7 @@ module _ (program : CoreProgram) (limits : Limits) (e : Engine) (dice : List ℕ
   closing_lost k'' TrailLimit left m close = met Trail left (Lost k'') m (λ typed a. limit_lost typed Trail left m (starts.limits_are Trail) a k'' close)
   closing_lost k'' AuxLimit left m close = met Aux left (Lost k'') m (λ typed a. limit_lost typed Aux left m (starts.limits_are Aux) a k'' close)
   closing_lost k'' KeepLimit left m close = met Keep left (Lost k'') m (λ typed a. limit_lost typed Keep left m (starts.limits_are Keep) a k'' close)
-  closing_lost k'' ending left h close = came (HasEnded ending left s' k' i') (Lost k'') h (λ typed a. run_lost typed ending left h a k'' close)
+  closing_lost k'' ending left h close = came (HasEnded ending left s' k' (left_told i i')) (Lost k'') h (λ typed a. run_lost typed ending left h a k'' close)
 
   pub text_lost : Reaches e s k i i' (IsBroken Write s' k') → ForTyped i.left (Lost k')
   text_lost h =
@@ -267,8 +266,76 @@ module _ (program : CoreProgram) (limits : Limits) (e : Engine) (dice : List ℕ
         broke = broke_first k k' (text_of (r typed).world.events) (closing (r typed).world.events (line_of (r typed).ending)) (reached typed (IsBroken Write s' k') h a);
       })
 
-  pub nothing_read : Reaches e s k i i' (IsBroken Read s' k') → ⊥
-  nothing_read h = for_none i.left ⊥ (came (IsBroken Read s' k') (λ typed. ⊥) h (λ typed a. reached typed (IsBroken Read s' k') h a))
+  pub broken_later : (fault : RunFault) → Broken fault e s s' k k' i i' → i.faults ≤ i'.faults
+  broken_later Read h = h.gave.later
+  broken_later Write h = h.gave.later
+  broken_later OutOfMemory h = h.gave.later
+
+  pub broken_rose : (fault : RunFault) → fault ≡ Read → Broken fault e s s' k k' i i' → Rose i.faults i'.faults
+  broken_rose Read is h = h.rose
+  broken_rose Write is h = absurd (cc is)
+  broken_rose OutOfMemory is h = absurd (cc is)
+
+  -- ## The input failed
+
+  module _ (h : LosesInput e s s' k k' i i') (typed : List ℕ) (a : Awaits i' false (h.taken ++ h.more) (start_world g typed)) where
+    stretch : Stretch h.added h.taken (start_world g typed) (λ v. IsLimited v (run g typed h.goals))
+    stretch = h.stops g (start_world g typed) (run g typed h.goals) a (starts.stands g h.goals typed refl refl)
+
+    more_taken : TakesMore (length h.taken) (length h.more) (start_world g typed) (run g typed (h.goals + 1))
+    more_taken =
+        let one : suc h.goals ≡ h.goals + 1 = omega arith in
+        subst (λ n. TakesMore (length h.taken) (length h.more) (start_world g typed) (run g typed n)) one (h.reads g (start_world g typed) (run g typed (suc h.goals)) a (starts.stands g (suc h.goals) typed refl refl))
+
+    taken_before : taken_by g typed h.goals ≡ length h.taken
+    taken_before = omega (arith, ap length stretch.typed ∙ length-append h.taken stretch.world.typed, ap length stretch.holds.typed)
+
+    has_given : (left : Option (List ℕ)) → IsLeft left a.rest → HasGiven typed left (length (h.taken ++ h.more))
+    has_given None is = tt
+    has_given (Some left) is = omega (arith, ap length a.typed ∙ length-append (h.taken ++ h.more) a.rest, ap length is)
+
+    reads_more : TakesMore (length h.taken) (length h.more) (start_world g typed) (run g typed (h.goals + 1)) → ((run g typed (h.goals + 1)).ending ≡ InputEnded) ⊎ ((length (h.taken ++ h.more) ≤ taken_by g typed (h.goals + 1)) × (taken_by g typed h.goals < taken_by g typed (h.goals + 1)))
+    reads_more (inl over) = inl over
+    reads_more (inr more) = inr (omega (arith, more.0, length-append h.taken h.more), omega (arith, more.1, taken_before))
+
+    input_shows : ShowsInputFault g typed limits (closed (run g typed h.goals).world.events input_fault_line) i'.left
+    input_shows = record {
+      goals = h.goals;
+      below = omega (arith, h.below, starts.left);
+      text = refl;
+      given = length (h.taken ++ h.more);
+      is_given = has_given i'.left a.left;
+      goes_on = stretch.holds.ending;
+      no_more = omega (arith, taken_before, length-append h.taken h.more);
+      reads = reads_more more_taken;
+    }
+
+    input_text : HasText s' k k' (prints (run g typed h.goals).world.events)
+    input_text = subst (HasText s' k k') (sym (ap prints stretch.holds.events ∙ stretch.prints_are)) (h.writes k [] no_text)
+
+  pub input_shown : (k'' : SinkView) → LosesInput e s s' k k' i i' → ((es : _) → StandsFor s' es → Wrote k' k'' (ending_line es input_fault_line)) → ForTyped i.left (λ typed. HasLostInput g typed limits i'.left k k'')
+  input_shown k'' h close =
+      for_taken (λ typed. HasLostInput g typed limits i'.left k k'') (h.taken ++ h.more) false h.gave
+      (λ typed a.
+      let events = (run g typed h.goals).world.events in
+      let text = input_text h typed a in
+      record {
+        bytes = closed events input_fault_line;
+        shows = input_shows h typed a;
+        wrote = wrote_on k k' k'' (text_of events) (ending_line (prints events) input_fault_line) text.wrote (close (prints events) text.stands);
+      })
+
+  pub input_closing_lost : (k'' : SinkView) → LosesInput e s s' k k' i i' → ((es : _) → StandsFor s' es → BrokeOff k' k'' (ending_line es input_fault_line)) → ForTyped i.left (Lost k'')
+  input_closing_lost k'' h close =
+      for_taken (Lost k'') (h.taken ++ h.more) false h.gave
+      (λ typed a.
+      let events = (run g typed h.goals).world.events in
+      let text = input_text h typed a in
+      record {
+        bytes = closed events input_fault_line;
+        may_write = without_input i'.left (input_shows h typed a);
+        broke = broke_later k k' k'' (text_of events) (ending_line (prints events) input_fault_line) text.wrote (close (prints events) text.stands);
+      })
 
   pub memory_shown : (k'' : SinkView) → Reaches e s k i i' (IsBroken OutOfMemory s' k') → ((es : _) → StandsFor s' es → Wrote k' k'' (ending_line es no_memory_line)) → ForTyped i.left (λ typed. HasLostMemory g typed limits k k'')
   memory_shown k'' h close =

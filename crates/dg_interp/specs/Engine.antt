@@ -3,7 +3,7 @@ use Rattle.std.specs.Prelude.{ℕ, suc, ◌+◌, ◌^◌, ◌≡◌, ◌<◌, �
 use Rattle.std.specs.List.{All}
 use Rattle.dg_base.specs.declared.program.Goal.{Goal, Goal-F}
 use Rattle.dg_base.specs.declared.program.Goal.TheVariants.{Print as PrintGoal, Stop as StopGoal}
-use Rattle.dg_base.specs.declared.program.Goal.TheOpen.{Text, Print as PrintForm, Gap, GapN, Quit, Stop}
+use Rattle.dg_base.specs.declared.program.Goal.TheOpen.{Text, Print as PrintForm, Gap, GapN, Quit, Stop, Input}
 use Rattle.dg_base.specs.declared.program.Term.{Term}
 use Rattle.dg_base.specs.declared.program.CoreProgram.{CoreProgram}
 use Rattle.dg_base.specs.Sound.{IsSound as IsSoundProgram}
@@ -298,7 +298,7 @@ pub record IsAgain (x : Goal) (again : Frame) (e : Engine) : Type 0 where
   pub goals : again.goals.now ≡ x ∷ e.here.goals.now
   pub rest : again ≡ record e.here { goals = again.goals }
 
--- A goal that neither prints nor ends the run.
+-- A goal that neither prints nor reads nor ends the run.
 abbrev pub IsAct : Goal-F Goal → Type 0
 IsAct (Text name) = ⊥
 IsAct (PrintForm a) = ⊥
@@ -306,6 +306,7 @@ IsAct Quit = ⊥
 IsAct Stop = ⊥
 IsAct (Gap kind) = ⊥
 IsAct (GapN a) = ⊥
+IsAct (Input a) = ⊥
 IsAct x = Unit {0}
 
 -- A goal was taken, and what it does is left to do.

@@ -7,11 +7,20 @@ use Rattle.dg_base.specs.declared.run.RunFault.{RunFault}
 use Rattle.dg_base.specs.declared.run.RunFault.TheVariants.{Read, Write, OutOfMemory}
 use Rattle.dg_meaning.specs.World.{Game}
 use Rattle.dg_meaning.specs.Shows.{Shows, ShowsNoMemory, ShowsInputFault, MayWrite}
+use Rattle.dg_base.specs.Streams.{SourceView}
 use Rattle.dg_base.specs.Written.{SinkView, Wrote, BrokeOff}
 
 -- The program with the dice words.
 abbrev pub game : CoreProgram → List ℕ → Game
 game program dice = record { program = program; dice = dice }
+
+-- What a source has left, where it told what it had left before.
+abbrev pub told_behind : Option (List ℕ) → Option (List ℕ) → Option (List ℕ)
+told_behind None left = None
+told_behind (Some typed) left = left
+
+abbrev pub left_told : SourceView → SourceView → Option (List ℕ)
+left_told old new = told_behind old.left new.left
 
 -- This holds for the typed bytes that a source tells, or for some where it doesn't tell them.
 abbrev pub ForTyped : Option (List ℕ) → (List ℕ → Type 0) → Type 0

@@ -13,3 +13,5 @@ pub mod Giving
 pub mod Lacks
 pub mod Outside
 pub mod Throwing
+pub mod Spelling
+pub mod Wording

@@ -1,7 +1,7 @@
 -- What an engine, a spacer and a sink come to together. Hold it against the Dialog manual, chapter "Output".
-use Rattle.std.specs.Prelude.{ℕ, suc, ◌+◌, ◌≡◌, ◌<◌, ◌≤◌, ◌++◌, List, [], Option, Some, None, Bool, true, false, Result, Ok, Err, length}
+use Rattle.std.specs.Prelude.{ℕ, suc, ◌+◌, ◌≡◌, ◌<◌, ◌≤◌, ◌⊎◌, ◌++◌, List, [], Option, Some, None, Bool, true, false, Result, Ok, Err, length}
 use Rattle.dg_base.specs.declared.run.Ending.{Ending}
-use Rattle.dg_base.specs.declared.run.Ending.TheVariants.{Failed, HeapLimit, TrailLimit, AuxLimit, KeepLimit}
+use Rattle.dg_base.specs.declared.run.Ending.TheVariants.{Failed, InputEnded, StepLimit, HeapLimit, TrailLimit, AuxLimit, KeepLimit}
 use Rattle.dg_base.specs.declared.run.RunFault.{RunFault}
 use Rattle.dg_base.specs.declared.run.RunFault.TheVariants.{Read, Write, OutOfMemory}
 use Rattle.dg_meaning.specs.World.{Game, World, Event, Print, prints}
@@ -13,10 +13,12 @@ use Rattle.dg_spacing.specs.declared.spacer.Spacer.{Spacer}
 use Rattle.dg_interp.specs.declared.engine.Engine.{Engine}
 use Rattle.dg_interp.specs.declared.lack.Lack.{Lack}
 use Rattle.dg_interp.specs.Lacks.{area_of}
+use Rattle.dg_base.specs.Causes.{Rose}
 use Rattle.dg_base.specs.Streams.{SourceView}
 use Rattle.dg_meaning.specs.Shows.{IsLeft}
 use Rattle.dg_base.specs.Written.{SinkView, Wrote, BrokeOff}
 use Rattle.dg_spacing.specs.Spacer.{StandsFor}
+use Rattle.dg_interp.specs.Interpret.{left_told}
 use Rattle.dg_interp.specs.Engine.{limit_in, IsReady, StandsAt, SameLimits}
 
 -- Since the start the sink took the text of these things, and the spacer stands for them.
@@ -28,21 +30,20 @@ pub record HasText (s : Spacer) (start now : SinkView) (es : List Print) : Type 
 abbrev pub Writes : Spacer → Spacer → SinkView → SinkView → List Print → Type 0
 Writes s s' before now added = (start : SinkView) (es : List Print) → HasText s start before es → HasText s' start now (es ++ added)
 
--- A source gave these bytes: what it had left is these, and then what it has left.
-pub record Gave (old new : SourceView) (taken : List ℕ) : Type 0 where
-  pub left : (rest : List ℕ) → IsLeft new.left rest → IsLeft old.left (taken ++ rest)
+-- These bytes are left: nothing where the end was met, and else what the source has left.
+abbrev pub LeftBehind : Bool → SourceView → List ℕ → Type 0
+LeftBehind false now rest = IsLeft now.left rest
+LeftBehind true now rest = rest ≡ []
+
+-- A source gave these bytes: what it had left is these, and then what is left.
+pub record Gave (old new : SourceView) (ended : Bool) (taken : List ℕ) : Type 0 where
+  pub left : (rest : List ℕ) → LeftBehind ended new rest → IsLeft old.left (taken ++ rest)
   pub later : old.faults ≤ new.faults
 
--- Nothing is left where the end was met.
-abbrev pub IsOver : Bool → List ℕ → Type 0
-IsOver false rest = Unit {0}
-IsOver true rest = rest ≡ []
-
--- The typed bytes of a world are those that a stretch of the run takes, and then what the source has left behind it.
+-- The typed bytes of a world are those that a stretch of the run takes, and then what is left behind it.
 pub record Awaits (now : SourceView) (ended : Bool) (taken : List ℕ) (w : World) : Type 0 where
   pub rest : List ℕ
-  pub left : IsLeft now.left rest
-  pub is_over : IsOver ended rest
+  pub left : LeftBehind ended now rest
   pub typed : w.typed ≡ taken ++ rest
 
 -- A stretch of the run printed these things and took these typed bytes, and then this holds.
@@ -57,8 +58,7 @@ pub record Stretch (added : List Print) (taken : List ℕ) (w : World) (P : Worl
 pub record Reaches (e : Engine) (s : Spacer) (before : SinkView) (from to : SourceView) (P : World → Run → SinkView → Type 0) : Type 0 where
   pub taken : List ℕ
   pub ended : Bool
-  pub gave : Gave from to taken
-  pub at_end : ended ≡ true → IsLeft to.left []
+  pub gave : Gave from to ended taken
   pub reaches : (g : Game) (w : World) (run : Run) (start : SinkView) → Awaits to ended taken w → StandsAt e g e.left w run →
       HasText s start before (prints w.events) → P w run start
 
@@ -69,7 +69,7 @@ pub record GoalDone (old new : Engine) (s s' : Spacer) (before now : SinkView) (
   pub left : old.left ≡ suc new.left
   pub added : List Print
   pub taken : List ℕ
-  pub gave : Gave from to taken
+  pub gave : Gave from to false taken
   pub leads : (g : Game) (n : ℕ) (w : World) (run : Run) → Awaits to false taken w → StandsAt old g (suc n) w run →
       Stretch added taken w (λ v. StandsAt new g n v run)
   pub writes : Writes s s' before now added
@@ -83,17 +83,17 @@ pub record GoesOn (old new : Engine) (s s' : Spacer) (before now : SinkView) (fr
   pub left : old.left ≡ goals + new.left
   pub added : List Print
   pub taken : List ℕ
-  pub gave : Gave from to taken
+  pub gave : Gave from to false taken
   pub leads : (g : Game) (n : ℕ) (w : World) (run : Run) → Awaits to false taken w → StandsAt old g (goals + n) w run →
       Stretch added taken w (λ v. StandsAt new g n v run)
   pub writes : Writes s s' before now added
 
--- The run has ended so, with this much of its budget left, all that it printed was written, and the source has left
+-- The run has ended so, with this much of its budget left, all that it printed was written, and what the source tells is
 -- what the run has left.
-pub record HasEnded (ending : Ending) (left : ℕ) (s : Spacer) (now : SinkView) (source : SourceView) (w : World) (run : Run)
+pub record HasEnded (ending : Ending) (left : ℕ) (s : Spacer) (now : SinkView) (told : Option (List ℕ)) (w : World) (run : Run)
     (start : SinkView) : Type 0 where
   pub world : World
-  pub typed : IsLeft source.left world.typed
+  pub typed : IsLeft told world.typed
   pub is : run ≡ record { left = left; world = world; ending = ending }
   pub text : HasText s start now (prints world.events)
 
@@ -104,7 +104,7 @@ pub record MeetsLimit (area : Area) (left : ℕ) (old : Engine) (s s' : Spacer) 
   pub left_is : old.left ≡ suc goals + left
   pub added : List Print
   pub taken : List ℕ
-  pub gave : Gave from to taken
+  pub gave : Gave from to false taken
   pub passed : (g : Game) (w : World) (run : Run) → Awaits to false taken w → StandsAt old g (suc goals) w run →
       limit_in area old < greatest area run.world.meters
   pub until : (g : Game) (w : World) (run : Run) → Awaits to false taken w → StandsAt old g (suc goals) w run →
@@ -119,7 +119,7 @@ Ended HeapLimit left old s s' before now from to = MeetsLimit Heap left old s s'
 Ended TrailLimit left old s s' before now from to = MeetsLimit Trail left old s s' before now from to
 Ended AuxLimit left old s s' before now from to = MeetsLimit Aux left old s s' before now from to
 Ended KeepLimit left old s s' before now from to = MeetsLimit Keep left old s s' before now from to
-Ended ending left old s s' before now from to = Reaches old s before from to (HasEnded ending left s' now to)
+Ended ending left old s s' before now from to = Reaches old s before from to (HasEnded ending left s' now (left_told from to))
 
 -- What was printed up to some moment of the run was written.
 pub record HasPart (s : Spacer) (now : SinkView) (run : Run) (start : SinkView) : Type 0 where
@@ -127,11 +127,43 @@ pub record HasPart (s : Spacer) (now : SinkView) (run : Run) (start : SinkView) 
   pub until : Begins part run.world.events
   pub text : HasText s start now (prints part)
 
--- The run was broken off: the sink failed within its text, or memory ran out.
+-- The sink failed within the run's text, or memory ran out.
 abbrev pub IsBroken : RunFault → Spacer → SinkView → World → Run → SinkView → Type 0
 IsBroken Read s now w run start = ⊥
 IsBroken Write s now w run start = BrokeOff start now (text_of run.world.events)
 IsBroken OutOfMemory s now w run start = HasPart s now run start
+
+-- A run ended at its budget, with this world.
+pub record IsLimited (w : World) (run : Run) : Type 0 where
+  pub ending : run.ending ≡ StepLimit
+  pub events : run.world.events ≡ w.events
+  pub typed : run.world.typed ≡ w.typed
+
+-- A run found the input at its end, or behind so many typed bytes it took so many more, and at least one.
+abbrev pub TakesMore : ℕ → ℕ → World → Run → Type 0
+TakesMore taken more w run = (run.ending ≡ InputEnded) ⊎
+    ((taken + more + length run.world.typed ≤ length w.typed) × (taken + length run.world.typed < length w.typed))
+
+-- The input failed at the goal behind some others. What these printed was written; that goal finds the input at its end, or takes more than they
+-- did, and all that the source gave.
+pub record LosesInput (old : Engine) (s s' : Spacer) (before now : SinkView) (from to : SourceView) : Type 0 where
+  pub goals : ℕ
+  pub below : goals < old.left
+  pub added : List Print
+  pub taken : List ℕ
+  pub more : List ℕ
+  pub gave : Gave from to false (taken ++ more)
+  pub rose : Rose from.faults to.faults
+  pub stops : (g : Game) (w : World) (run : Run) → Awaits to false (taken ++ more) w → StandsAt old g goals w run →
+      Stretch added taken w (λ v. IsLimited v run)
+  pub reads : (g : Game) (w : World) (run : Run) → Awaits to false (taken ++ more) w → StandsAt old g (suc goals) w run →
+      TakesMore (length taken) (length more) w run
+  pub writes : Writes s s' before now added
+
+-- The run was broken off: the input failed, or the sink within the run's text, or memory ran out.
+abbrev pub Broken : RunFault → Engine → Spacer → Spacer → SinkView → SinkView → SourceView → SourceView → Type 0
+Broken Read old s s' before now from to = LosesInput old s s' before now from to
+Broken fault old s s' before now from to = Reaches old s before from to (IsBroken fault s' now)
 
 -- The goal at hand was done, or the run has ended so.
 abbrev pub DoesGoal : Option Ending → Engine → Engine → Spacer → Spacer → SinkView → SinkView → SourceView → SourceView → Type 0

@@ -29,6 +29,7 @@ mod querying;
 mod selecting;
 mod stopping;
 mod throwing;
+mod wording;
 
 use crate::frames::{Choice, Env, Frame, Left, Mark, Query};
 use crate::lack::{Lack, lacking};

@@ -7,7 +7,7 @@ ghost use Rattle.dg_meaning.specs.Shows.{IsLeft};
 ghost use Rattle.dg_base.specs.Sound.{IsSound};
 ghost use Rattle.dg_interp.specs.Engine.{Starts};
 ghost use Rattle.dg_interp.specs.Outside.{LacksAtStart};
-ghost use Rattle.dg_interp.specs.Interpret.{game, ForTyped, HasShown, HasBrokenOff};
+ghost use Rattle.dg_interp.specs.Interpret.{game, left_told, ForTyped, HasShown, HasBrokenOff};
 
 use crate::engine::Engine;
 use crate::lack::Lack;
@@ -44,10 +44,11 @@ fn write_run<S: Source, K: Sink>(
 ) -> Result<Outcome, RunFault>
     requires starts { Starts program.now limits.now dice.now engine.old }
     ensures shows { IfOk result (λ outcome. ForTyped (S.view source.old).left
-        (λ typed. HasShown (game program.now dice.now) typed limits.now outcome (S.view source.new).left (K.view sink.old) (K.view sink.new))) }
+        (λ typed. HasShown (game program.now dice.now) typed limits.now outcome (left_told (S.view source.old) (S.view source.new))
+        (K.view sink.old) (K.view sink.new))) }
     ensures err { IfErr result (λ fault. ForTyped (S.view source.old).left
         (λ typed. HasBrokenOff fault (game program.now dice.now) typed limits.now (S.view source.new).left (K.view sink.old) (K.view sink.new))) }
-    ensures reads { IsErrOf result RunFault.Read → ⊥ }
+    ensures read { IsErrOf result RunFault.Read → Rose (S.view source.old).faults (S.view source.new).faults }
     ensures later { (S.view source.old).faults ≤ (S.view source.new).faults }
 {
     let mut spacer = Spacer::new();
@@ -59,7 +60,10 @@ fn write_run<S: Source, K: Sink>(
             }),
             Err(_) => Err(RunFault::Write),
         },
-        Err(RunFault::Read) => Err(RunFault::Read),
+        Err(RunFault::Read) => match spacer.close(sink, b"[Input fault]\n") {
+            Ok(()) => Err(RunFault::Read),
+            Err(_) => Err(RunFault::Write),
+        },
         Err(RunFault::Write) => Err(RunFault::Write),
         Err(RunFault::OutOfMemory) => match spacer.close(sink, b"[No memory]\n") {
             Ok(()) => Err(RunFault::OutOfMemory),
@@ -109,7 +113,8 @@ pub fn interpret<S: Source, K: Sink>(
     requires built { IsBuilt program.now }
     requires sound { IsSound program.now }
     ensures shows { IfOk result (λ outcome. ForTyped (S.view source.old).left
-        (λ typed. HasShown (game program.now dice.now) typed limits.now outcome (S.view source.new).left (K.view sink.old) (K.view sink.new))) }
+        (λ typed. HasShown (game program.now dice.now) typed limits.now outcome (left_told (S.view source.old) (S.view source.new))
+        (K.view sink.old) (K.view sink.new))) }
     ensures err { IfErr result (λ fault. ForTyped (S.view source.old).left
         (λ typed. HasBrokenOff fault (game program.now dice.now) typed limits.now (S.view source.new).left (K.view sink.old) (K.view sink.new))) }
     ensures read { IsErrOf result RunFault.Read → Rose (S.view source.old).faults (S.view source.new).faults }

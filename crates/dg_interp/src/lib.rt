@@ -12,6 +12,7 @@ mod outside;
 mod passing;
 mod printing;
 mod run;
+mod spelling;
 mod terms;
 mod testing;
 

@@ -29,8 +29,8 @@ fn print_piece<K: Sink>(spacer: &mut Spacer, sink: &mut K, piece: &[u8]) -> Resu
     }
 }
 
-// The text of a name; where there is none, nothing.
-fn name_at(names: &[Name], at: u16) -> &[u8]
+/// The text of a name; where there is none, nothing.
+pub fn name_at(names: &[Name], at: u16) -> &[u8]
     ensures { result.now ≡ get_or names.now at [] }
 {
     match names.get(at as usize) {
@@ -139,8 +139,8 @@ fn print_first<B: Bindings, K: Sink>(
     }
 }
 
-// Whether a value that was looked up is the empty list.
-fn is_nil(value: View) -> bool
+/// Whether a value that was looked up is the empty list.
+pub fn is_nil(value: View) -> bool
     ensures { result ≡ shows_nil value }
 {
     match value {

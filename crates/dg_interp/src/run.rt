@@ -1,10 +1,13 @@
 // Goals, one after another.
 ghost use Rattle.std.specs.Prelude.{◌≡◌, ◌<◌, IfOk, IfErr, length, Option, Some, None};
-ghost use Rattle.dg_base.specs.declared.program.Goal.TheVariants.{GapN as GapNGoal};
+ghost use Rattle.dg_base.specs.declared.program.Goal.TheVariants.{GapN as GapNGoal, Input as InputGoal};
+ghost use Rattle.dg_base.specs.declared.program.Term.{Term};
 ghost use Rattle.dg_base.specs.Streams.{SourceView};
 ghost use Rattle.dg_interp.specs.declared.engine.Engine.{Engine as TheEngine};
-ghost use Rattle.dg_interp.specs.Engine.{IsReady, Taken};
-ghost use Rattle.dg_interp.specs.Running.{Reaches, IsBroken, Ended, DoesGoal, Does, limit_of, outcome_of};
+ghost use Rattle.dg_interp.specs.Engine.{IsReady, Taken, store_in};
+ghost use Rattle.dg_interp.specs.Wording.{AwaitsInput};
+ghost use Rattle.dg_unify.specs.Store.{Holds};
+ghost use Rattle.dg_interp.specs.Running.{Broken, Ended, DoesGoal, Does, limit_of, outcome_of};
 ghost use Rattle.dg_meaning.specs.World.{GapOf};
 ghost use Rattle.dg_spacing.specs.Gaps.{print_of};
 
@@ -12,6 +15,8 @@ use crate::engine::Engine;
 use crate::lack::{Lack, lacking, stored};
 use dg_base::{Ending, GapKind, Goal, RunFault, Sink, Source, Term};
 use dg_spacing::{Event, Spacer};
+use dg_unify::Ref;
+use dg_words::Line;
 
 /// The ending of a run that lacks something.
 pub fn limit(lack: Lack) -> Result<Ending, RunFault>
@@ -64,7 +69,7 @@ fn print_spaces<K: Sink>(
     ensures ok { (old : TheEngine) → (source : SourceView) → 0 < length old.here.goals.now → Taken (GapNGoal term.now) old engine.old →
         IfOk result (λ ending. DoesGoal ending old engine.new spacer.old spacer.new (K.view sink.old) (K.view sink.new) source source) }
     ensures err { (old : TheEngine) → (source : SourceView) → 0 < length old.here.goals.now → Taken (GapNGoal term.now) old engine.old →
-        IfErr result (λ fault. Reaches old spacer.old (K.view sink.old) source source (IsBroken fault spacer.new (K.view sink.new))) }
+        IfErr result (λ fault. Broken fault old spacer.old spacer.new (K.view sink.old) (K.view sink.new) source source) }
 {
     match engine.spaces(term) {
         Err(full) => outcome(Err(lacking(full))),
@@ -73,6 +78,56 @@ fn print_spaces<K: Sink>(
             Ok(()) => Ok(None),
             Err(_) => Err(RunFault::Write),
         },
+    }
+}
+
+/// Reads a line, and unifies its words with what was written of a goal; the ending where the run is over.
+fn read_line<S: Source, K: Sink>(
+    engine: &mut Engine<'_>,
+    spacer: &mut Spacer,
+    source: &mut S,
+    sink: &mut K,
+    into: Ref,
+) -> Result<Option<Ending>, RunFault>
+    requires ready { IsReady engine.old }
+    requires into { Holds (store_in engine.old.store) into }
+    ensures ok { (term : Term) → (old between : TheEngine) → 0 < length old.here.goals.now → Taken (InputGoal term) old between →
+        AwaitsInput term into between engine.old → IfOk result (λ ending. DoesGoal ending old engine.new spacer.old spacer.new
+        (K.view sink.old) (K.view sink.new) (S.view source.old) (S.view source.new)) }
+    ensures err { (term : Term) → (old between : TheEngine) → 0 < length old.here.goals.now → Taken (InputGoal term) old between →
+        AwaitsInput term into between engine.old → IfErr result (λ fault. Broken fault old spacer.old spacer.new
+        (K.view sink.old) (K.view sink.new) (S.view source.old) (S.view source.new)) }
+{
+    let mut line = Line::new();
+    match line.read(source) {
+        Err(_) => Err(RunFault::Read),
+        Ok(false) => Ok(Some(Ending::InputEnded)),
+        Ok(true) => match spacer.event(sink, Event::Line) {
+            Err(_) => Err(RunFault::Write),
+            Ok(()) => outcome(stored(engine.give_line(line.spelling(), into))),
+        },
+    }
+}
+
+/// Reads a line for a goal that was taken; the ending where the run is over.
+fn read_input<S: Source, K: Sink>(
+    engine: &mut Engine<'_>,
+    spacer: &mut Spacer,
+    source: &mut S,
+    sink: &mut K,
+    term: &Term,
+) -> Result<Option<Ending>, RunFault>
+    requires ready { IsReady engine.old }
+    ensures ok { (old : TheEngine) → 0 < length old.here.goals.now → Taken (InputGoal term.now) old engine.old →
+        IfOk result (λ ending. DoesGoal ending old engine.new spacer.old spacer.new (K.view sink.old) (K.view sink.new)
+        (S.view source.old) (S.view source.new)) }
+    ensures err { (old : TheEngine) → 0 < length old.here.goals.now → Taken (InputGoal term.now) old engine.old →
+        IfErr result (λ fault. Broken fault old spacer.old spacer.new (K.view sink.old) (K.view sink.new)
+        (S.view source.old) (S.view source.new)) }
+{
+    match engine.write_input(term) {
+        Err(full) => outcome(Err(lacking(full))),
+        Ok(into) => read_line(engine, spacer, source, sink, into),
     }
 }
 
@@ -88,8 +143,8 @@ fn do_goal<S: Source, K: Sink>(
     requires left { 0 < engine.old.left }
     ensures ok { IfOk result (λ ending. DoesGoal ending engine.old engine.new spacer.old spacer.new (K.view sink.old) (K.view sink.new)
         (S.view source.old) (S.view source.new)) }
-    ensures err { IfErr result (λ fault. Reaches engine.old spacer.old (K.view sink.old) (S.view source.old) (S.view source.new)
-        (IsBroken fault spacer.new (K.view sink.new))) }
+    ensures err { IfErr result (λ fault. Broken fault engine.old spacer.old spacer.new (K.view sink.old) (K.view sink.new)
+        (S.view source.old) (S.view source.new)) }
 {
     let again = engine.at_hand();
     match engine.take_goal() {
@@ -109,6 +164,7 @@ fn do_goal<S: Source, K: Sink>(
             },
         },
         Goal::GapN(term) => print_spaces(engine, spacer, sink, term),
+        Goal::Input(term) => read_input(engine, spacer, source, sink, term),
         Goal::Quit => Ok(Some(Ending::Quit)),
         Goal::Stop => {
             if engine.stop() {
@@ -133,8 +189,8 @@ fn turn<S: Source, K: Sink>(
     requires left { 0 < engine.old.left }
     ensures ok { IfOk result (λ ending. Does ending engine.old engine.new spacer.old spacer.new (K.view sink.old) (K.view sink.new)
         (S.view source.old) (S.view source.new)) }
-    ensures err { IfErr result (λ fault. Reaches engine.old spacer.old (K.view sink.old) (S.view source.old) (S.view source.new)
-        (IsBroken fault spacer.new (K.view sink.new))) }
+    ensures err { IfErr result (λ fault. Broken fault engine.old spacer.old spacer.new (K.view sink.old) (K.view sink.new)
+        (S.view source.old) (S.view source.new)) }
 {
     match do_goal(engine, spacer, source, sink) {
         Err(fault) => Err(fault),
@@ -160,8 +216,8 @@ pub fn run<S: Source, K: Sink>(
     requires goal { 0 < length engine.old.here.goals.now }
     ensures ok { IfOk result (λ ending. Ended ending engine.new.left engine.old spacer.old spacer.new (K.view sink.old) (K.view sink.new)
         (S.view source.old) (S.view source.new)) }
-    ensures err { IfErr result (λ fault. Reaches engine.old spacer.old (K.view sink.old) (S.view source.old) (S.view source.new)
-        (IsBroken fault spacer.new (K.view sink.new))) }
+    ensures err { IfErr result (λ fault. Broken fault engine.old spacer.old spacer.new (K.view sink.old) (K.view sink.new)
+        (S.view source.old) (S.view source.new)) }
 {
     'goals: while engine.left > 0 {
         match turn(engine, spacer, source, sink) {

@@ -158,8 +158,8 @@ fn write_heads<'t, B: Bindings>(
     Ok(term)
 }
 
-// Makes the list of the elements from a height on, with a tail, and takes them away.
-fn write_pairs<B: Bindings>(
+/// Makes the list of the elements from a height on, with a tail, and takes them away.
+pub fn write_pairs<B: Bindings>(
     store: &mut B,
     from: &mut Vec<Ref>,
     height: usize,

@@ -400,17 +400,71 @@ fn files_that_are_no_stories_are_refused(rt: HostRuntime) -> Result<(), Fail> {
     Ok(())
 }
 
+const ECHO: &str = "(program entry point) (get input $W) $W";
+
+const KEEPER: &str =
+    "(w @lighthouses) many\n(w @lighthousekeeper) one\n(w @épée) yes\n(program entry point) (get input [$W]) (w $W)\n";
+
+const TWICE: &str = "(program entry point) a (get input $A) b (get input $B) $A $B";
+
+const SPLIT: &str = "(program entry point) (split word @ab1 into $L) $L";
+
+const JOIN: &str =
+    "(program entry point) (join words [a 12] into $W) $W (if) (join words [@1 2] into 12) (then) n (endif) (join words [] into $)";
+
+// The source, the typed bytes, and the transcript.
+const TYPED: [(&str, &[u8], &str); 12] = [
+    (ECHO, b"Take LAMP, 7", "[take lamp, 7]\n"),
+    (ECHO, b"", "[End of input]\n"),
+    (ECHO, b"\n", "[]\n"),
+    (ECHO, b"go  \"up\".\r\nno", "[go \" up \".]\n"),
+    (ECHO, b"16383 16384 007", "[16383 16384 7]\n"),
+    (ECHO, "PRENDRE L'Épée".as_bytes(), "[prendre l'épée]\n"),
+    (ECHO, b"\xE4", "[?]\n"),
+    (KEEPER, b"lighthousekeeper", "one\n"),
+    (KEEPER, "ÉPÉE".as_bytes(), "yes\n"),
+    (TWICE, b"x\ny", "a\nb\n[x] [y]\n"),
+    (SPLIT, b"", "[a b 1]\n"),
+    (JOIN, b"", "a12 n\n[Failed]\n"),
+];
+
 #[test]
-fn a_failing_input_ends_a_story(rt: HostRuntime) -> Result<(), Fail> {
+fn typed_lines_are_read(rt: HostRuntime) -> Result<(), Fail> {
     let alloc = rt.alloc();
-    let mut shelf = SureShelf::new(alloc);
-    shelf.add(alloc, "s.z8", &story(alloc, ASK)?)?;
-    let mut input = ByteSource::new(Vec::new(alloc), vec![in alloc; 0]?);
-    let mut out = SureSink::new(alloc, 99)?;
-    let play = words(alloc, "play s.z8")?;
-    let status = tool(alloc, &play, &mut shelf, &mut input, &mut out, &[0]);
-    assert_eq!(rt; status, 5);
-    assert_eq!(rt; out.taken(), b"hi\n[Input fault]\n".as_slice());
+    let debug = words(alloc, "debug p.dg")?;
+    for (source, typed, text) in TYPED {
+        let mut shelf = SureShelf::new(alloc);
+        shelf.add(alloc, "p.dg", source.as_bytes())?;
+        let mut bytes = Vec::new(alloc);
+        bytes.extend_from_slice(typed)?;
+        let mut input = SureSource::new(bytes);
+        let mut out = SureSink::new(alloc, 99)?;
+        let status = tool(alloc, &debug, &mut shelf, &mut input, &mut out, &[0]);
+        assert_eq!(rt; status, 0, "{source}");
+        assert_eq!(rt; out.taken(), text.as_bytes(), "{source}");
+    }
+    Ok(())
+}
+
+#[test]
+fn a_failing_input_ends_a_run(rt: HostRuntime) -> Result<(), Fail> {
+    let alloc = rt.alloc();
+    let story = story(alloc, ASK)?;
+    let cases = [
+        ("play p", story.as_slice(), "hi\n[Input fault]\n"),
+        ("debug p", ECHO.as_bytes(), "[Input fault]\n"),
+        ("debug p", TWICE.as_bytes(), "a\n[Input fault]\n"),
+    ];
+    for (line, file, text) in cases {
+        let mut shelf = SureShelf::new(alloc);
+        shelf.add(alloc, "p", file)?;
+        let mut input = ByteSource::new(Vec::new(alloc), vec![in alloc; 0]?);
+        let mut out = SureSink::new(alloc, 99)?;
+        let words = words(alloc, line)?;
+        let status = tool(alloc, &words, &mut shelf, &mut input, &mut out, &[0]);
+        assert_eq!(rt; status, 5, "{line}: {text}");
+        assert_eq!(rt; out.taken(), text.as_bytes(), "{line}: {text}");
+    }
     Ok(())
 }
 

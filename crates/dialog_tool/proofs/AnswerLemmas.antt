@@ -10,7 +10,7 @@ use Rattle.dg_base.specs.declared.refusal.Kind.TheVariants.{SourceTooLong}
 use Rattle.dg_base.specs.declared.run.Outcome.{Outcome}
 use Rattle.dg_meaning.specs.Transcript.{no_memory_line}
 use Rattle.dg_single.specs.Singles.{AreSingles}
-use Rattle.dg_interp.specs.Interpret.{ForTyped, HasShown, HasLostInput, HasLostOutput, HasLostMemory}
+use Rattle.dg_interp.specs.Interpret.{left_told, ForTyped, HasShown, HasLostInput, HasLostOutput, HasLostMemory}
 use Rattle.z_model.specs.Story.{refusal_of}
 use Rattle.z_model.specs.declared.story.StoryRefusal.{StoryRefusal}
 use Rattle.z_model.specs.declared.story.StoryRefusal.TheVariants.{BadLength}
@@ -140,7 +140,7 @@ program : (c : Call) (t : Task) (file : List ℕ) (p : Core) (typed : List ℕ) 
 program c t file p typed words h is = record { words = words; compiles = subst (λ (l : List ℕ). Compiles l (Ok p)) h.is is }
 
 pub run_ends : (c : Call) (t : Task) (file : List ℕ) (result : ℕ) → c.command ≡ Some (debug t) → IsFetched c.shelf c.shelf_after t.name file → (p : Core) (outcome : Outcome) → Compiles file (Ok p) → result ≡ Answers.status_of outcome.ending
-    → ForTyped c.input.left (λ typed. HasShown (Answers.game_of c t p) typed (limits_of t) outcome c.input_after.left c.out c.out_after) → Answers.Answers c result
+    → ForTyped c.input.left (λ typed. HasShown (Answers.game_of c t p) typed (limits_of t) outcome (left_told c.input c.input_after) c.out c.out_after) → Answers.Answers c result
 run_ends c t file result words f p outcome is e shown =
     let h = file_here c t.name file f in
     let s = some_typed c.input.left _ shown in

@@ -12,7 +12,7 @@ use Rattle.dg_base.specs.declared.run.Fault.TheVariants.{Read, Write}
 use Rattle.dg_meaning.specs.World.{Game}
 use Rattle.dg_meaning.specs.Shows.{MayWrite}
 use Rattle.dg_meaning.specs.Transcript.{no_memory_line}
-use Rattle.dg_interp.specs.Interpret.{game, HasShown, HasLostInput, HasLostMemory}
+use Rattle.dg_interp.specs.Interpret.{game, left_told, HasShown, HasLostInput, HasLostMemory}
 use Rattle.z_model.specs.Story.{refusal_of}
 use Rattle.z_model.specs.declared.end.ZEnd.{ZEnd}
 use Rattle.z_model.specs.declared.story.StoryRefusal.{StoryRefusal}
@@ -103,7 +103,7 @@ pub record RanSource (c : Call) (o : Outside) (status : ℕ) : Type 0 where
   pub program : Core
   pub is : IsProgram c o task program
   pub outcome : Outcome
-  pub shown : HasShown (game_of c task program) o.typed (limits_of task) outcome c.input_after.left c.out c.out_after
+  pub shown : HasShown (game_of c task program) o.typed (limits_of task) outcome (left_told c.input c.input_after) c.out c.out_after
   pub is_status : status ≡ status_of outcome.ending
 
 -- 4: the file is no story, and out took the line that says why

@@ -31,6 +31,8 @@ impl<'p> Engine<'p> {
             Goal::Compare(op, a, b) => self.compare(*op, a, b),
             Goal::Arith(op, a, b, into) => self.arith(*op, a, b, into),
             Goal::Random(from, to, into) => self.random(from, to, into),
+            Goal::SplitWord(word, into) => self.split_word(word, into),
+            Goal::JoinWords(list, into) => self.join_words(list, into),
             Goal::Ask(pred, args, many) => {
                 let query = Query {
                     pred: *pred,

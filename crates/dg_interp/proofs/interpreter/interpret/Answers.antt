@@ -1,15 +1,16 @@
 use Rattle.std.proofs.Common.{ℕ, List, refl}
 use Rattle.dg_base.specs.declared.run.Outcome.{Outcome}
 use Rattle.dg_base.specs.declared.run.RunFault.{RunFault}
-use Rattle.dg_interp.specs.Interpret.{game, ForTyped, HasShown, HasBrokenOff}
+use Rattle.dg_interp.specs.Interpret.{game, left_told, ForTyped, HasShown, HasBrokenOff}
 use Rattle.dg_interp.proofs.Whole.{if_ok_map, if_err_map, for_typed}
 use Rattle.dg_interp.proofs.interpreter.interpret.Goals as goal
 
 pub returns-in-Err-clause-shows : goal.returns-in-Err-clause-shows
 returns-in-Err-clause-shows g c =
     let told = (g.S.Source.view c.args.source.now).left in
-    let P : Outcome → List ℕ → Type 0 = λ outcome typed. HasShown (game c.args.program.now c.args.dice.now) typed c.args.limits.now outcome told (g.K.Sink.view c.args.sink.now) (g.K.Sink.view c.write_lack.new.sink) in
-    if_ok_map c.write_lack.result _ (λ outcome. ForTyped told (P outcome)) (λ outcome h. for_typed told (P outcome) (λ typed is. h typed told)) c.write_lack.ensures.shows
+    let left = left_told (g.S.Source.view c.args.source.now) (g.S.Source.view c.args.source.now) in
+    let P : Outcome → List ℕ → Type 0 = λ outcome typed. HasShown (game c.args.program.now c.args.dice.now) typed c.args.limits.now outcome left (g.K.Sink.view c.args.sink.now) (g.K.Sink.view c.write_lack.new.sink) in
+    if_ok_map c.write_lack.result _ (λ outcome. ForTyped told (P outcome)) (λ outcome h. for_typed told (P outcome) (λ typed is. h typed left)) c.write_lack.ensures.shows
 
 pub returns-in-Err-clause-err : goal.returns-in-Err-clause-err
 returns-in-Err-clause-err g c =

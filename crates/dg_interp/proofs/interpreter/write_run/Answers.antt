@@ -1,4 +1,4 @@
-use Rattle.dg_interp.proofs.Whole.{left_within, ended_later, has_shown, closing_lost, text_lost, nothing_read, memory_shown, memory_closing_lost}
+use Rattle.dg_interp.proofs.Whole.{left_within, ended_later, has_shown, closing_lost, text_lost, broken_later, broken_rose, input_shown, input_closing_lost, memory_shown, memory_closing_lost}
 use Rattle.dg_interp.proofs.interpreter.write_run.Goals as goal
 
 pub overflow_sub-result : goal.overflow_sub-result
@@ -18,29 +18,35 @@ returns-in-Err-clause-err g c =
 pub returns-in-Err-clause-later : goal.returns-in-Err-clause-later
 returns-in-Err-clause-later g c = ended_later c.args.program.now c.args.limits.now c.args.engine.now c.args.dice.now c.requires.starts c.new-spacer.result c.run.new.spacer (g.K.Sink.view c.args.sink.now) (g.K.Sink.view c.run.new.sink) (g.S.Source.view c.args.source.now) (g.S.Source.view c.run.new.source) c.new-spacer.ensures c.in-Ok.ending c.run.new.engine.left c.in-Ok.ensures.ok
 
-pub returns-in-Err-Read-clause-err : goal.returns-in-Err-Read-clause-err
-returns-in-Err-Read-clause-err g c = absurd (nothing_read c.args.program.now c.args.limits.now c.args.engine.now c.args.dice.now c.requires.starts c.new-spacer.result c.run.new.spacer (g.K.Sink.view c.args.sink.now) (g.K.Sink.view c.run.new.sink) (g.S.Source.view c.args.source.now) (g.S.Source.view c.run.new.source) c.new-spacer.ensures (rw c.in-Err-Read.field-0-is at c.in-Err-Read.ensures.err))
-
-pub returns-in-Err-Read-clause-reads : goal.returns-in-Err-Read-clause-reads
-returns-in-Err-Read-clause-reads g c = λ _. nothing_read c.args.program.now c.args.limits.now c.args.engine.now c.args.dice.now c.requires.starts c.new-spacer.result c.run.new.spacer (g.K.Sink.view c.args.sink.now) (g.K.Sink.view c.run.new.sink) (g.S.Source.view c.args.source.now) (g.S.Source.view c.run.new.source) c.new-spacer.ensures (rw c.in-Err-Read.field-0-is at c.in-Err-Read.ensures.err)
-
-pub returns-in-Err-Read-clause-later : goal.returns-in-Err-Read-clause-later
-returns-in-Err-Read-clause-later g c = absurd (nothing_read c.args.program.now c.args.limits.now c.args.engine.now c.args.dice.now c.requires.starts c.new-spacer.result c.run.new.spacer (g.K.Sink.view c.args.sink.now) (g.K.Sink.view c.run.new.sink) (g.S.Source.view c.args.source.now) (g.S.Source.view c.run.new.source) c.new-spacer.ensures (rw c.in-Err-Read.field-0-is at c.in-Err-Read.ensures.err))
-
 pub returns-in-Err-Write-clause-err : goal.returns-in-Err-Write-clause-err
 returns-in-Err-Write-clause-err g c = text_lost c.args.program.now c.args.limits.now c.args.engine.now c.args.dice.now c.requires.starts c.new-spacer.result c.run.new.spacer (g.K.Sink.view c.args.sink.now) (g.K.Sink.view c.run.new.sink) (g.S.Source.view c.args.source.now) (g.S.Source.view c.run.new.source) c.new-spacer.ensures (rw c.in-Err-Write.field-0-is at c.in-Err-Write.ensures.err)
 
 pub returns-in-Err-Write-clause-later : goal.returns-in-Err-Write-clause-later
-returns-in-Err-Write-clause-later g c = c.in-Err-Write.ensures.err.gave.later
+returns-in-Err-Write-clause-later g c = broken_later c.args.program.now c.args.limits.now c.args.engine.now c.args.dice.now c.requires.starts c.new-spacer.result c.run.new.spacer (g.K.Sink.view c.args.sink.now) (g.K.Sink.view c.run.new.sink) (g.S.Source.view c.args.source.now) (g.S.Source.view c.run.new.source) c.new-spacer.ensures c.in-Err-Write.field-0 c.in-Err-Write.ensures.err
+
+pub returns-in-Ok-close-3-clause-err : goal.returns-in-Ok-close-3-clause-err
+returns-in-Ok-close-3-clause-err g c = memory_shown c.args.program.now c.args.limits.now c.args.engine.now c.args.dice.now c.requires.starts c.new-spacer.result c.run.new.spacer (g.K.Sink.view c.args.sink.now) (g.K.Sink.view c.run.new.sink) (g.S.Source.view c.args.source.now) (g.S.Source.view c.run.new.source) c.new-spacer.ensures _ (rw c.in-Err-OutOfMemory.field-0-is at c.in-Err-OutOfMemory.ensures.err) c.in-Ok-close-3.ensures.ok
+
+pub returns-in-Ok-close-3-clause-later : goal.returns-in-Ok-close-3-clause-later
+returns-in-Ok-close-3-clause-later g c = broken_later c.args.program.now c.args.limits.now c.args.engine.now c.args.dice.now c.requires.starts c.new-spacer.result c.run.new.spacer (g.K.Sink.view c.args.sink.now) (g.K.Sink.view c.run.new.sink) (g.S.Source.view c.args.source.now) (g.S.Source.view c.run.new.source) c.new-spacer.ensures c.in-Err-OutOfMemory.field-0 c.in-Err-OutOfMemory.ensures.err
+
+pub returns-in-Err-close-2-clause-err : goal.returns-in-Err-close-2-clause-err
+returns-in-Err-close-2-clause-err g c = memory_closing_lost c.args.program.now c.args.limits.now c.args.engine.now c.args.dice.now c.requires.starts c.new-spacer.result c.run.new.spacer (g.K.Sink.view c.args.sink.now) (g.K.Sink.view c.run.new.sink) (g.S.Source.view c.args.source.now) (g.S.Source.view c.run.new.source) c.new-spacer.ensures _ (rw c.in-Err-OutOfMemory.field-0-is at c.in-Err-OutOfMemory.ensures.err) c.in-Err-close-2.ensures.err
+
+pub returns-in-Err-close-2-clause-later : goal.returns-in-Err-close-2-clause-later
+returns-in-Err-close-2-clause-later g c = broken_later c.args.program.now c.args.limits.now c.args.engine.now c.args.dice.now c.requires.starts c.new-spacer.result c.run.new.spacer (g.K.Sink.view c.args.sink.now) (g.K.Sink.view c.run.new.sink) (g.S.Source.view c.args.source.now) (g.S.Source.view c.run.new.source) c.new-spacer.ensures c.in-Err-OutOfMemory.field-0 c.in-Err-OutOfMemory.ensures.err
 
 pub returns-in-Ok-close-2-clause-err : goal.returns-in-Ok-close-2-clause-err
-returns-in-Ok-close-2-clause-err g c = memory_shown c.args.program.now c.args.limits.now c.args.engine.now c.args.dice.now c.requires.starts c.new-spacer.result c.run.new.spacer (g.K.Sink.view c.args.sink.now) (g.K.Sink.view c.run.new.sink) (g.S.Source.view c.args.source.now) (g.S.Source.view c.run.new.source) c.new-spacer.ensures _ (rw c.in-Err-OutOfMemory.field-0-is at c.in-Err-OutOfMemory.ensures.err) c.in-Ok-close-2.ensures.ok
+returns-in-Ok-close-2-clause-err g c = input_shown c.args.program.now c.args.limits.now c.args.engine.now c.args.dice.now c.requires.starts c.new-spacer.result c.run.new.spacer (g.K.Sink.view c.args.sink.now) (g.K.Sink.view c.run.new.sink) (g.S.Source.view c.args.source.now) (g.S.Source.view c.run.new.source) c.new-spacer.ensures _ (rw c.in-Err-Read.field-0-is at c.in-Err-Read.ensures.err) c.in-Ok-close-2.ensures.ok
+
+pub returns-in-Ok-close-2-clause-read : goal.returns-in-Ok-close-2-clause-read
+returns-in-Ok-close-2-clause-read g c = λ _. broken_rose c.args.program.now c.args.limits.now c.args.engine.now c.args.dice.now c.requires.starts c.new-spacer.result c.run.new.spacer (g.K.Sink.view c.args.sink.now) (g.K.Sink.view c.run.new.sink) (g.S.Source.view c.args.source.now) (g.S.Source.view c.run.new.source) c.new-spacer.ensures c.in-Err-Read.field-0 c.in-Err-Read.field-0-is c.in-Err-Read.ensures.err
 
 pub returns-in-Ok-close-2-clause-later : goal.returns-in-Ok-close-2-clause-later
-returns-in-Ok-close-2-clause-later g c = c.in-Err-OutOfMemory.ensures.err.gave.later
+returns-in-Ok-close-2-clause-later g c = broken_later c.args.program.now c.args.limits.now c.args.engine.now c.args.dice.now c.requires.starts c.new-spacer.result c.run.new.spacer (g.K.Sink.view c.args.sink.now) (g.K.Sink.view c.run.new.sink) (g.S.Source.view c.args.source.now) (g.S.Source.view c.run.new.source) c.new-spacer.ensures c.in-Err-Read.field-0 c.in-Err-Read.ensures.err
 
 pub returns-in-Err-close-clause-err : goal.returns-in-Err-close-clause-err
-returns-in-Err-close-clause-err g c = memory_closing_lost c.args.program.now c.args.limits.now c.args.engine.now c.args.dice.now c.requires.starts c.new-spacer.result c.run.new.spacer (g.K.Sink.view c.args.sink.now) (g.K.Sink.view c.run.new.sink) (g.S.Source.view c.args.source.now) (g.S.Source.view c.run.new.source) c.new-spacer.ensures _ (rw c.in-Err-OutOfMemory.field-0-is at c.in-Err-OutOfMemory.ensures.err) c.in-Err-close.ensures.err
+returns-in-Err-close-clause-err g c = input_closing_lost c.args.program.now c.args.limits.now c.args.engine.now c.args.dice.now c.requires.starts c.new-spacer.result c.run.new.spacer (g.K.Sink.view c.args.sink.now) (g.K.Sink.view c.run.new.sink) (g.S.Source.view c.args.source.now) (g.S.Source.view c.run.new.source) c.new-spacer.ensures _ (rw c.in-Err-Read.field-0-is at c.in-Err-Read.ensures.err) c.in-Err-close.ensures.err
 
 pub returns-in-Err-close-clause-later : goal.returns-in-Err-close-clause-later
-returns-in-Err-close-clause-later g c = c.in-Err-OutOfMemory.ensures.err.gave.later
+returns-in-Err-close-clause-later g c = broken_later c.args.program.now c.args.limits.now c.args.engine.now c.args.dice.now c.requires.starts c.new-spacer.result c.run.new.spacer (g.K.Sink.view c.args.sink.now) (g.K.Sink.view c.run.new.sink) (g.S.Source.view c.args.source.now) (g.S.Source.view c.run.new.source) c.new-spacer.ensures c.in-Err-Read.field-0 c.in-Err-Read.ensures.err

@@ -53,7 +53,7 @@ pub returns-in-Quit-clause-ok : goal.returns-in-Quit-clause-ok
 returns-in-Quit-clause-ok g c = goal_quits c.take_goal.result.now c.args.engine.now c.take_goal.new.self c.args.spacer.now _ _ c.take_goal.ensures.taken c.in-Quit.is
 
 pub act-requires-clause-act : goal.act-requires-clause-act
-act-requires-clause-act g c = is_act c.take_goal.result.now c.in_default.not-Text c.in_default.not-Print c.in_default.not-Quit c.in_default.not-Stop c.in_default.not-Gap c.in_default.not-GapN
+act-requires-clause-act g c = is_act c.take_goal.result.now c.in_default.not-Text c.in_default.not-Print c.in_default.not-Quit c.in_default.not-Stop c.in_default.not-Gap c.in_default.not-GapN c.in_default.not-Input
 
 pub returns-in_default-clause-ok : goal.returns-in_default-clause-ok
 returns-in_default-clause-ok g c =
@@ -73,3 +73,9 @@ returns-in-GapN-clause-ok g c = c.print_spaces.ensures.ok c.args.engine.now _ c.
 
 pub returns-in-GapN-clause-err : goal.returns-in-GapN-clause-err
 returns-in-GapN-clause-err g c = c.print_spaces.ensures.err c.args.engine.now _ c.requires.goal (rw c.in-GapN.is at c.take_goal.ensures.taken)
+
+pub returns-in-Input-clause-ok : goal.returns-in-Input-clause-ok
+returns-in-Input-clause-ok g c = c.read_input.ensures.ok c.args.engine.now c.requires.goal (rw c.in-Input.is at c.take_goal.ensures.taken)
+
+pub returns-in-Input-clause-err : goal.returns-in-Input-clause-err
+returns-in-Input-clause-err g c = c.read_input.ensures.err c.args.engine.now c.requires.goal (rw c.in-Input.is at c.take_goal.ensures.taken)
