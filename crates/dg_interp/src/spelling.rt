@@ -263,11 +263,7 @@ fn push_letters<B: Bindings>(
 }
 
 // The list of the elements from a height on, which are taken away.
-fn write_list<B: Bindings>(
-    store: &mut B,
-    stack: &mut Vec<Ref>,
-    height: usize,
-) -> Result<Ref, Full>
+fn write_list<B: Bindings>(store: &mut B, stack: &mut Vec<Ref>, height: usize) -> Result<Ref, Full>
     requires height { height ≤ length stack.old.items }
     requires heads { All (Holds (B.meaning store.old)) (drop height stack.old.items) }
     ensures kept { Kept (B.meaning store.old) (B.meaning store.new) }

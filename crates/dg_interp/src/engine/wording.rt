@@ -77,7 +77,14 @@ impl<'p> Engine<'p> {
         ensures left { self.new.left ≡ self.old.left }
     {
         let env = stretch(&self.refs, self.here.env);
-        match write_both(&mut self.store, self.program, env, word, into, &mut self.made) {
+        match write_both(
+            &mut self.store,
+            self.program,
+            env,
+            word,
+            into,
+            &mut self.made,
+        ) {
             Err(e) => Err(e),
             Ok((word, into)) => {
                 let mut row = [0; 600];
@@ -98,11 +105,23 @@ impl<'p> Engine<'p> {
         ensures left { self.new.left ≡ self.old.left }
     {
         let env = stretch(&self.refs, self.here.env);
-        match write_both(&mut self.store, self.program, env, list, into, &mut self.made) {
+        match write_both(
+            &mut self.store,
+            self.program,
+            env,
+            list,
+            into,
+            &mut self.made,
+        ) {
             Err(e) => Err(e),
             Ok((list, into)) => {
                 let mut joined = Joined::new();
-                if !join(&self.store, self.program.words.as_slice(), list, &mut joined) {
+                if !join(
+                    &self.store,
+                    self.program.words.as_slice(),
+                    list,
+                    &mut joined,
+                ) {
                     return self.back();
                 }
                 self.give_spelled(joined.spelling(), into)
