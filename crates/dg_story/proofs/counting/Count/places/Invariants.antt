@@ -1,0 +1,7 @@
+use Rattle.std.proofs.Common.{drop}
+use Rattle.dg_story.specs.Sizes.{set_size}
+use Rattle.dg_story.specs.Counting.{GoesOn}
+use Rattle.dg_story.proofs.counting.Count.places.Given as goal
+
+abbrev pub invariant-loop-place : goal.invariant-loop-place
+invariant-loop-place l = GoesOn (set_size (l.places)) (set_size (drop l.place-index l.places)) l.initial.self l.self

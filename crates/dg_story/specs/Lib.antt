@@ -1,0 +1,4 @@
+pub mod Plain
+pub mod Sizes
+pub mod Counting
+pub mod Refusals

@@ -1,0 +1,15 @@
+-- Why a program has no story. Hold it against docs/REFUSALS.md, "Of a build".
+use Rattle.std.specs.Prelude.{ℕ, Option, Some, None, Bool, not, nat_lt, if◌then◌else◌}
+use Rattle.dg_base.specs.declared.program.CoreProgram.{CoreProgram}
+use Rattle.dg_story.specs.declared.refusal.BuildRefusal.{BuildRefusal}
+use Rattle.dg_story.specs.declared.refusal.BuildRefusal.TheVariants.{NotBuiltYet, WorldTooLarge, WordsTooLarge, StoryTooLarge}
+use Rattle.dg_story.specs.Plain.{is_plain}
+use Rattle.dg_story.specs.Sizes.{world_size, words_size, story_size}
+
+-- The first of these that holds: a rule isn't plain, the world, the words or the whole are too large.
+abbrev pub refusal_of : CoreProgram → Option BuildRefusal
+refusal_of program =
+    if not (is_plain program) then Some NotBuiltYet
+    else (if nat_lt 8000 (world_size program) then Some WorldTooLarge
+    else (if nat_lt 20000 (words_size program.words) then Some WordsTooLarge
+    else (if nat_lt 440000 (story_size program) then Some StoryTooLarge else None)))
