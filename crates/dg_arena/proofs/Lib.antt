@@ -1,2 +1,3 @@
 pub mod Rooms
 pub mod Making
+pub mod Clearing

@@ -116,6 +116,28 @@ impl Arena {
         }
     }
 
+    /// Empties it; what waits still waits.
+    pub fn clear(&mut self)
+        ensures state { (meaning_of self.new).state ≡ record { vars = 0; subst = []; since = 0; heap = 0; trail = 0 } }
+        ensures heap_limit { (meaning_of self.new).heap_limit ≡ (meaning_of self.old).heap_limit }
+        ensures trail_limit { (meaning_of self.new).trail_limit ≡ (meaning_of self.old).trail_limit }
+    {
+        self.undo(Mark {
+            slots: 0,
+            links: 0,
+            vars: 0,
+            heap: 0,
+            trail: 0,
+        });
+    }
+
+    /// What was taken of the heap.
+    pub fn heap(&self) -> u32
+        ensures { result ≡ (meaning_of self.now).state.heap }
+    {
+        self.heap
+    }
+
     // The fence behind all cells and variables.
     fn fence_now(&self) -> Fence
         ensures { result ≡ record { slots = length self.now.cells.items; vars = vars_of self.now.links; reach = vars_of self.now.links } }
