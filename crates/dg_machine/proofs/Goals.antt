@@ -1,0 +1,256 @@
+-- What steps come to.
+use Rattle.std.proofs.Common.{◌≡◌, ℕ, zero, suc, ◌+◌, ◌<◌, ◌≤◌, List, [], ◌∷◌, ◌++◌, Option, Some, None, Bool, true, false, refl, sym, ap, ◌∙◌, subst, arith, length, nat_lt}
+use Rattle.std.specs.Borrow.{Bor}
+use Rattle.std.proofs.lemmas.Bool.{cond-false, le-ltb}
+use Rattle.std.proofs.lemmas.List.{append-nil}
+use Rattle.dg_base.specs.declared.program.Term.{Term}
+use Rattle.dg_base.specs.declared.run.Limits.{Limits}
+use Rattle.dg_base.specs.declared.run.Ending.TheVariants as ending
+use Rattle.dg_base.specs.Written.{SinkView, Wrote, BrokeOff}
+use Rattle.dg_base.proofs.WrittenLemmas.{wrote_on, broke_later}
+use Rattle.dg_meaning.specs.World.{Game, Print}
+use Rattle.dg_meaning.specs.Render.{render}
+use Rattle.dg_meaning.specs.Growth.{growth}
+use Rattle.dg_mid.specs.declared.code.Op.{Op}
+use Rattle.dg_mid.specs.declared.code.Op.TheVariants as op
+use Rattle.dg_mid.specs.declared.code.Action.{Action}
+use Rattle.dg_mid.specs.declared.code.Action.TheVariants as action
+use Rattle.dg_mid.specs.declared.code.Code.{Code}
+use Rattle.dg_mid.specs.Code.{block_at}
+use Rattle.dg_mid.specs.State.{Mid, Calls as CallsOf, Status, Runs as RunsOf, Enters as EntersOf, Resumes as ResumesOf, Fails as FailsOf, Ended as EndedOf}
+use Rattle.dg_mid.specs.Step.{Setting, setting, more, does, runs, step, stops, said, said_in, said_to, followed, takes_goal, at_goal, is_goal, keeps_within}
+use Rattle.dg_mid.specs.Heights.{MidOrdered, StatusOrdered}
+use Rattle.dg_mid.specs.Falling.{jumping}
+use Rattle.dg_mid.specs.Potential.{Tidy, begins_goto}
+use Rattle.dg_spacing.specs.declared.spacer.Spacer.{Spacer}
+use Rattle.dg_spacing.specs.Spacer.{StandsFor}
+use Rattle.dg_machine.specs.declared.now.Call.{Call}
+use Rattle.dg_machine.specs.declared.now.Way.{Way}
+use Rattle.dg_machine.specs.declared.now.Way.TheVariants.{Goes, Calls}
+use Rattle.dg_machine.specs.declared.now.Now.{Now}
+use Rattle.dg_machine.specs.declared.now.Now.TheVariants.{Runs, Enters, Resumes, Fails, Ended}
+use Rattle.dg_machine.specs.declared.memory.Memory.{Memory}
+use Rattle.dg_machine.specs.Built.{ActionBuilt, OpBuilt, OpsBuilt, IsBuilt, IsQuiet, IsQuietOp}
+use Rattle.dg_machine.specs.Layout.{HasRoom, Holds, Roomy}
+use Rattle.dg_machine.specs.Standing.{CodeIs, Stands, Falls, DoesOp, DoesMark, Asks, AsksLast, EntersRule, IsThere, GoesOn, FailsTo, HasStatus}
+use Rattle.dg_machine.specs.Running.{rests, MarkDone, DoesMarks, HasText, GoalDone, DoesGoal, GoalLost, LosesGoal}
+use Rattle.dg_machine.proofs.Opens.{roomy}
+use Rattle.dg_machine.proofs.Hands.{nothing_more, no_jump}
+use Rattle.dg_machine.proofs.Leaving.{block_is}
+use Rattle.dg_machine.proofs.Texts.{render_grows}
+
+empty_list : {A : Type 0} (xs : List A) → length xs < 1 → xs ≡ []
+empty_list [] lt = refl
+empty_list (x ∷ xs) lt = absurd (omega (arith, lt))
+
+-- ## Instructions that take no goal
+
+pub goes_to : (code : Code) (b : ℕ) (r : Memory) (ops block : Bor (List Op)) (rest : List Op) → IsBuilt code → Tidy code → ops.now ≡ op.Goto b ∷ rest → block.now ≡ block_at code b → DoesMark code r ops (op.Goto b) rest r (Runs block)
+goes_to code b r ops block rest built tidy whole is g l m o x at h =
+    let none = no_jump block.now (subst (λ xs. begins_goto xs ≡ false) (sym is) (tidy.no_jumps b)) in
+    let one : jumping ops.now ≡ 1 = ap jumping whole in
+    record { stands = (block_is code b block.now (record m { ops = block_at code b }) built is refl, h); falls = omega (arith, none, one) }
+
+pub is_done : (code : Code) (r : Memory) (ops : Bor (List Op)) (rest : List Op) → DoesMark code r ops op.Done rest r (Ended ending.Done)
+is_done code r ops rest g l m o x at h = record { stands = (refl, roomy code l m r h); falls = omega arith }
+
+other_fails : (g : Setting) (x : Op) (m : Mid) → is_goal x ≡ false → OpBuilt x → (x ≡ op.Commit → ⊥) → (x ≡ op.Refuse → ⊥) → (x ≡ op.Return → ⊥) → ((b : ℕ) → x ≡ op.Goto b → ⊥) → (x ≡ op.Done → ⊥) → does g x m ≡ FailsOf m
+other_fails g op.Commit m e b c f r t d = absurd (c refl)
+other_fails g op.Refuse m e b c f r t d = absurd (f refl)
+other_fails g op.Return m e b c f r t d = absurd (r refl)
+other_fails g (op.Goto k) m e b c f r t d = absurd (t k refl)
+other_fails g op.Done m e b c f r t d = absurd (d refl)
+other_fails g (op.Retry alt) m e b c f r t d = refl
+other_fails g (op.Enter vars head) m e b c f r t d = refl
+other_fails g op.Back m e b c f r t d = refl
+other_fails g op.Leave m e b c f r t d = absurd b
+other_fails g (op.Keep term) m e b c f r t d = absurd b
+other_fails g (op.TakeOut whole into) m e b c f r t d = absurd b
+other_fails g x m e b c f r t d = absurd (cc)
+
+pub fails_else : (code : Code) (r : Memory) (ops : Bor (List Op)) (x : Op) (rest : List Op) → is_goal x ≡ false → (x ≡ op.Commit → ⊥) → (x ≡ op.Refuse → ⊥) → (x ≡ op.Return → ⊥) → ((b : ℕ) → x ≡ op.Goto b → ⊥) → (x ≡ op.Done → ⊥) → DoesMark code r ops x rest r Fails
+fails_else code r ops x rest e c f t j d g l m o b at h = subst (Falls code l r (Runs ops) r Fails) (sym (other_fails (setting g code l) x m e b c f t j d)) (record { stands = h; falls = omega arith })
+
+-- ## Steps that take no goal
+
+quiet_mark : (g : Setting) (m : Mid) (x : Op) (rest : List Op) → is_goal x ≡ false → said_in g m (x ∷ rest) ≡ []
+quiet_mark g m (op.Do a) rest e = absurd (cc)
+quiet_mark g m x rest e = refl
+
+pub marks_run : (code : Code) (old new : Memory) (now : Now) (ops : Bor (List Op)) (x : Op) (rest : List Op) → ops.now ≡ x ∷ rest → is_goal x ≡ false → DoesMark code old ops x rest new now → DoesMarks code old (Runs ops) new now
+marks_run code old new now ops x rest split e does g l (RunsOf m) o t h =
+    let is : m.ops ≡ x ∷ rest = h.0.0 ∙ split in
+    let built : OpsBuilt (x ∷ rest) = subst OpsBuilt split h.0.1 in
+    let done = does g l (record m { ops = rest }) o built.0 (refl, built.1) h.1 in
+    record {
+      stands = subst (λ xs. Stands code l new now (runs (setting g code l) xs m)) (sym is) done.stands;
+      falls = λ over. done.falls;
+      quiet = ap (λ ps. said_to ps (step (setting g code l) (RunsOf m))) (ap (said_in (setting g code l) m) is ∙ quiet_mark (setting g code l) m x rest e);
+    }
+marks_run code old new now ops x rest split e does g l s o t h = absurd h
+
+pub marks_none : (code : Code) (r : Memory) (ops : Bor (List Op)) → length ops.now < 1 → DoesMarks code r (Runs ops) r Fails
+marks_none code r ops lt g l (RunsOf m) o t h =
+    let none : m.ops ≡ [] = h.0.0 ∙ empty_list ops.now lt in
+    record {
+      stands = subst (λ xs. Stands code l r Fails (runs (setting g code l) xs m)) (sym none) h.1;
+      falls = λ over. omega arith;
+      quiet = ap (λ ps. said_to ps (step (setting g code l) (RunsOf m))) (ap (said_in (setting g code l) m) none);
+    }
+marks_none code r ops lt g l s o t h = absurd h
+
+pub marks_enter : (code : Code) (old new : Memory) (now : Now) (k : Call) (ops : Bor (List Op)) → EntersRule code old k ops new now → DoesMarks code old (Enters k ops) new now
+marks_enter code old new now k ops enters g l (EntersOf c m) o t h = let done = enters g l m c h.0 h.1 h.2 in record { stands = done.stands; falls = λ over. done.falls; quiet = refl }
+marks_enter code old new now k ops enters g l s o t h = absurd h
+
+pub marks_resume : (code : Code) (old new : Memory) (now : Now) (way : Way) → GoesOn code old way new now → DoesMarks code old (Resumes way) new now
+marks_resume code old new now way goes g l (ResumesOf on m) o t h = let done = goes g l m on h.0 h.1 in record { stands = done.stands; falls = λ over. done.falls; quiet = refl }
+marks_resume code old new now way goes g l s o t h = absurd h
+
+pub marks_fail : (code : Code) (old new : Memory) (now : Now) → FailsTo code old new now → DoesMarks code old Fails new now
+marks_fail code old new now fails g l (FailsOf m) o t h = let done = fails l m h in record { stands = done.stands; falls = λ over. done.falls; quiet = refl }
+marks_fail code old new now fails g l s o t h = absurd h
+
+-- ## What memory holds before a step
+
+pub record IsHeld (code : Code) (r : Memory) : Type 0 where
+  pub limits : Limits
+  pub mid : Mid
+  pub held : Holds code limits r mid
+
+held_in : (code : Code) (l : Limits) (r : Memory) (now : Now) (s : Status) → rests now ≡ false → Stands code l r now s → IsHeld code r
+held_in code l r (Runs ops) (RunsOf m) e h = record { limits = l; mid = m; held = h.1 }
+held_in code l r (Enters k ops) (EntersOf c m) e h = record { limits = l; mid = m; held = h.2 }
+held_in code l r (Resumes way) (ResumesOf on m) e h = record { limits = l; mid = m; held = h.1 }
+held_in code l r Fails (FailsOf m) e h = record { limits = l; mid = m; held = h }
+held_in code l r (Ended x) s e h = absurd (cc)
+held_in code l r now s e h = absurd h
+
+pub held_of : (code : Code) (r : Memory) (now : Now) → HasStatus code r now → rests now ≡ false → IsHeld code r
+held_of code r now s e = held_in code s.limits r now s.status e s.stands
+
+pub room_of : (code : Code) (r : Memory) (now : Now) → HasStatus code r now → rests now ≡ false → HasRoom r
+room_of code r now s e = (held_of code r now s e).held.0.room
+
+there_in : (code : Code) (l : Limits) (r : Memory) (way : Way) (s : Status) → Stands code l r (Resumes way) s → IsThere code way
+there_in code l r (Goes b) s h = tt
+there_in code l r (Calls k pred left) (ResumesOf (CallsOf c rules) m) h = h.0.there
+there_in code l r (Calls k pred left) (ResumesOf on m) h = absurd h.0
+there_in code l r (Calls k pred left) s h = absurd h
+
+pub there_of : (code : Code) (r : Memory) (now : Now) (way : Way) → HasStatus code r now → now ≡ Resumes way → IsThere code way
+there_of code r now way s is = there_in code s.limits r way s.status (subst (λ n. Stands code s.limits r n s.status) is s.stands)
+
+-- ## Instructions that take a goal
+
+pub asks_op : (code : Code) (old new : Memory) (now : Now) (pred next : ℕ) (terms : List Term) (many : Bool) (rest : List Op) → Asks code old pred many next new now → DoesOp code old (op.Ask pred terms many next) rest new now
+asks_op code old new now pred next terms many rest asked g l m o b at h =
+    subst (λ ts. Stands code l new now (does (setting g code l) (op.Ask pred ts many next) m)) (sym b) (asked g l (more 0 m) (nothing_more code l old m h))
+
+pub asks_last_op : (code : Code) (old new : Memory) (now : Now) (pred : ℕ) (terms : List Term) (many : Bool) (rest : List Op) → AsksLast code old pred many new now → DoesOp code old (op.LastAsk pred terms many) rest new now
+asks_last_op code old new now pred terms many rest asked g l m o b at h =
+    subst (λ ts. Stands code l new now (does (setting g code l) (op.LastAsk pred ts many) m)) (sym b) (asked g l (more 0 m) (nothing_more code l old m h))
+
+pub takes_op : (code : Code) (r : Memory) (rest : Bor (List Op)) → DoesOp code r op.Take rest.now r (Runs rest)
+takes_op code r rest g l m o b at h = (at, h)
+
+pub quits_op : (code : Code) (r : Memory) (rest : List Op) → DoesOp code r (op.Do action.Quit) rest r (Ended ending.Quit)
+quits_op code r rest g l m o b at h = (refl, roomy code l m r h)
+
+pub stops_op : (code : Code) (r : Memory) (rest : List Op) → DoesOp code r (op.Do action.Stop) rest r (Ended ending.Stopped)
+stops_op code r rest g l m o b at h = subst (λ t. Stands code l r (Ended ending.Stopped) (stops (setting g code l) t (more 0 m))) (sym h.1.stop_is) (refl, roomy code l m r h)
+
+pub fails_act : (code : Code) (r : Memory) (a : Action) (rest : List Op) → IsQuiet a → (a ≡ action.Just → ⊥) → (a ≡ action.Quit → ⊥) → (a ≡ action.Stop → ⊥) → DoesOp code r (op.Do a) rest r Fails
+fails_act code r action.Fail rest q j u s g l m o b at h = nothing_more code l r m h
+fails_act code r action.Just rest q j u s g l m o b at h = absurd (j refl)
+fails_act code r action.Quit rest q j u s g l m o b at h = absurd (u refl)
+fails_act code r action.Stop rest q j u s g l m o b at h = absurd (s refl)
+fails_act code r (action.Text name) rest q j u s g l m o b at h = absurd q
+fails_act code r (action.Gap kind) rest q j u s g l m o b at h = absurd q
+fails_act code r a rest q j u s g l m o b at h = absurd b
+
+pub other_goal : (x : Op) → is_goal x ≡ true → OpBuilt x → ((a : Action) → x ≡ op.Do a → ⊥) → ((pred : ℕ) (ts : List Term) (many : Bool) (next : ℕ) → x ≡ op.Ask pred ts many next → ⊥) → ((pred : ℕ) (ts : List Term) (many : Bool) → x ≡ op.LastAsk pred ts many → ⊥) →
+    (x ≡ op.Take → ⊥) → ((alt : ℕ) → x ≡ op.Branch alt → ⊥) → (x ≡ op.Once → ⊥) → ((alt : ℕ) → x ≡ op.Try alt → ⊥) → ⊥
+other_goal (op.Do a) e b d k la t br on tr = d a refl
+other_goal (op.Ask pred ts many next) e b d k la t br on tr = k pred ts many next refl
+other_goal (op.LastAsk pred ts many) e b d k la t br on tr = la pred ts many refl
+other_goal op.Take e b d k la t br on tr = t refl
+other_goal (op.Branch alt) e b d k la t br on tr = br alt refl
+other_goal op.Once e b d k la t br on tr = on refl
+other_goal (op.Try alt) e b d k la t br on tr = tr alt refl
+other_goal (op.Query x y many next) e b d k la t br on tr = b
+other_goal (op.LastQuery x y many) e b d k la t br on tr = b
+other_goal (op.Find place ts many next) e b d k la t br on tr = b
+other_goal (op.Select site mode bs behind) e b d k la t br on tr = b
+other_goal (op.Shield alt) e b d k la t br on tr = b
+other_goal (op.Collect x y alt) e b d k la t br on tr = b
+other_goal x e b d k la t br on tr = absurd (cc)
+
+pub quiet_else : (a : Action) → ((name : _) → a ≡ action.Text name → ⊥) → ((kind : _) → a ≡ action.Gap kind → ⊥) → IsQuiet a
+quiet_else (action.Text name) t g = t name refl
+quiet_else (action.Gap kind) t g = g kind refl
+quiet_else a t g = tt
+
+pub quiet_op : (x : Op) → ((a : Action) → x ≡ op.Do a → ⊥) → IsQuietOp x
+quiet_op (op.Do a) d = absurd (d a refl)
+quiet_op x d = tt
+
+quiet_goal : (g : Setting) (m : Mid) (x : Op) (rest : List Op) → IsQuietOp x → OpBuilt x → said_in g m (x ∷ rest) ≡ []
+quiet_goal g m (op.Do action.Just) rest q b = refl
+quiet_goal g m (op.Do action.Fail) rest q b = refl
+quiet_goal g m (op.Do action.Quit) rest q b = refl
+quiet_goal g m (op.Do action.Stop) rest q b = refl
+quiet_goal g m (op.Do (action.Text name)) rest q b = absurd q
+quiet_goal g m (op.Do (action.Gap kind)) rest q b = absurd q
+quiet_goal g m (op.Do a) rest q b = absurd b
+quiet_goal g m x rest q b = refl
+
+module _ (code : Code) (g : Game) (l : Limits) (m : Mid) (old new : Memory) (now : Now) (ops : List Op) (x : Op) (rest : List Op) (split : ops ≡ x ∷ rest) (at : CodeIs ops m) (h : Holds code l old m) where
+  abbrev set : Setting
+  set = setting g code l
+
+  is_first : m.ops ≡ x ∷ rest
+  is_first = at.0 ∙ split
+
+  pub quiet_done : (s : Spacer) (k : SinkView) → MidOrdered m → IsQuietOp x → DoesOp code old x rest new now → GoalDone code g l new now s s k k m
+  quiet_done s k o quiet does =
+      let built : OpsBuilt (x ∷ rest) = subst OpsBuilt split at.1 in
+      let none : said set (RunsOf m) ≡ [] = ap (λ ps. said_to ps (step set (RunsOf m))) (ap (said_in set m) is_first ∙ quiet_goal set m x rest quiet built.0) in
+      record {
+        stands = subst (λ xs. Stands code l new now (runs set xs m)) (sym is_first) (does g l (record m { ops = rest }) o built.0 (refl, built.1) h);
+        writes = λ start ps text. subst (λ qs. HasText s start k (followed ps qs)) (sym none) text;
+      }
+
+-- ## What is printed
+
+module _ (code : Code) (g : Game) (l : Limits) (m : Mid) (r : Memory) (ops : List Op) (a : Action) (p : Print) (rest : Bor (List Op)) (split : ops ≡ op.Do a ∷ rest.now) (at : CodeIs ops m) (h : Holds code l r m)
+    (done_is : (x : Mid) → does (setting g code l) (op.Do a) x ≡ keeps_within (setting g code l) 0 (RunsOf (more 0 x))) (said_is : said_in (setting g code l) m (op.Do a ∷ rest.now) ≡ p ∷ []) where
+  abbrev set_p : Setting
+  set_p = setting g code l
+
+  first_is : m.ops ≡ op.Do a ∷ rest.now
+  first_is = at.0 ∙ split
+
+  step_is : step set_p (RunsOf m) ≡ RunsOf (more 0 (record m { ops = rest.now }))
+  step_is =
+      ap (λ xs. runs set_p xs m) first_is ∙ done_is (record m { ops = rest.now })
+      ∙ cond-false (nat_lt l.keep 0) (EndedOf ending.KeepLimit) (RunsOf (more 0 (record m { ops = rest.now }))) (le-ltb l.keep 0 (omega arith))
+
+  says : said set_p (RunsOf m) ≡ p ∷ []
+  says = ap (λ s. said_to (said_in set_p m m.ops) s) step_is ∙ ap (λ ps. said_to ps (RunsOf (more 0 (record m { ops = rest.now })))) (ap (said_in set_p m) first_is ∙ said_is)
+
+  pub printed_done : (s s' : Spacer) (k k' : SinkView) → ((ps : List Print) → StandsFor s ps → StandsFor s' (ps ++ p ∷ [])) → ((ps : List Print) → StandsFor s ps → Wrote k k' (growth ps p)) → GoalDone code g l r (Runs rest) s s' k k' m
+  printed_done s s' k k' stands wrote =
+      let built : OpsBuilt (op.Do a ∷ rest.now) = subst OpsBuilt split at.1 in
+      record {
+        stands = subst (Stands code l r (Runs rest)) (sym step_is) ((refl, built.1), nothing_more code l r m h);
+        writes = λ start ps text. subst (λ qs. HasText s' start k' (followed ps qs)) (sym says)
+            (record { stands = stands ps text.stands; wrote = subst (Wrote start k') (sym (render_grows ps p)) (wrote_on start k k' (render ps) (growth ps p) text.wrote (wrote ps text.stands)) });
+      }
+
+  pub printed_lost : (s : Spacer) (k k' : SinkView) (start : SinkView) (ps : List Print) → ((ps : List Print) → StandsFor s ps → BrokeOff k k' (growth ps p)) → HasText s start k ps → GoalLost g code l k k' m start ps
+  printed_lost s k k' start ps broke text = record {
+    behind = more 0 (record m { ops = rest.now });
+    goes = step_is;
+    broke = subst (λ qs. BrokeOff start k' (render (followed ps qs))) (sym says) (subst (BrokeOff start k') (sym (render_grows ps p)) (broke_later start k k' (render ps) (growth ps p) text.wrote (broke ps text.stands)));
+  }

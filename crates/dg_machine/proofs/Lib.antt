@@ -1,0 +1,11 @@
+pub mod Kept
+pub mod Cuts
+pub mod Opens
+pub mod Hands
+pub mod Leads
+pub mod Leaving
+pub mod Texts
+pub mod Goals
+pub mod Runs
+pub mod Turns
+pub mod Starts

@@ -1,0 +1,382 @@
+-- What the calls of memory leave in it.
+use Rattle.std.proofs.Common.{◌≡◌, ℕ, zero, suc, ◌+◌, ◌*◌, ◌<◌, ◌≤◌, List, [], ◌∷◌, ◌++◌, Option, Some, None, Result, Ok, Err, MatchResult, IsTrue, true, false, refl, sym, ap, ◌∙◌, subst, arith, length, reverse, take, drop, ◌-◌, vec_capacity, length-append}
+use Rattle.std.specs.List.{slice_get}
+use Rattle.std.proofs.lemmas.List.{length-reverse, reverse-append}
+use Rattle.std.proofs.lemmas.Option.{slice_get_within}
+use Rattle.std.proofs.Math.Seq.{take-append_seam}
+use Rattle.dg_base.specs.declared.run.Limits.{Limits}
+use Rattle.dg_meaning.specs.OneRun.{Begins}
+use Rattle.dg_meaning.proofs.OneRun.{begins_same}
+use Rattle.dg_unify.specs.Store.{State, Store, Saved, Kept, Charged, HeapFull, marked, Back}
+use Rattle.dg_unify.specs.Slots.{store_of, fields_at}
+use Rattle.dg_unify.specs.declared.bindings.Mark.{Mark}
+use Rattle.dg_unify.specs.declared.bindings.Full.{Full}
+use Rattle.dg_unify.specs.declared.bindings.Full.TheVariants as full
+use Rattle.dg_arena.specs.declared.arena.Arena.{Arena}
+use Rattle.dg_arena.specs.Held.{fields_of, meaning_of, saves_of}
+use Rattle.dg_mid.specs.declared.code.Code.{Code}
+use Rattle.dg_mid.specs.State.{Place, Mid, Frame as FrameOf, Call as CallOf, Way as WayOf, Choice as ChoiceOf}
+use Rattle.dg_mid.specs.Step.{more, inside, within, new_choice, back_at, gathered_to}
+use Rattle.dg_mid.specs.declared.code.Op.{Op}
+use Rattle.dg_machine.specs.declared.now.Frame.{Frame}
+use Rattle.dg_machine.specs.declared.now.Inner.{Inner}
+use Rattle.dg_machine.specs.declared.now.Call.{Call}
+use Rattle.dg_machine.specs.declared.now.Choice.{Choice}
+use Rattle.dg_machine.specs.declared.now.Way.{Way}
+use Rattle.dg_machine.specs.declared.memory.Memory.{Memory}
+use Rattle.dg_machine.specs.Links.{named}
+use Rattle.dg_machine.specs.Layout.{InnersAt, FramesAt, CallAt, WayAt, NoneOpen, ChoicesAt, HasRoom, Limited, Roomy, Lacks, HoldsWith, Holds, Took, Opened, WentBack, frame_of, heap_in, limit_in}
+use Rattle.dg_machine.specs.Measure.{way_left, choices_left}
+use Rattle.dg_machine.proofs.Kept.{inners_kept, frames_kept, choices_kept}
+use Rattle.dg_machine.proofs.Cuts.{drops}
+
+-- ## Lists
+
+-- what was put at the end stands there
+at_end : {A : Type 0} (xs : List A) (x : A) → slice_get (xs ++ x ∷ []) (length xs) ≡ Some x
+at_end [] x = refl
+at_end (y ∷ xs) x = at_end xs x
+
+named_end : {A : Type 0} (xs ys : List A) (n : ℕ) (x : A) → ys ≡ xs ++ x ∷ [] → n ≡ length ys → named ys n ≡ Some x
+named_end xs ys n x items len =
+    let last : n ≡ suc (length xs) = omega (arith, len, ap length items, length-append xs (x ∷ [])) in
+    subst (λ k. named ys k ≡ Some x) (sym last) (subst (λ l. slice_get l (length xs) ≡ Some x) (sym items) (at_end xs x))
+
+newest : {A : Type 0} (xs ys : List A) (x : A) → ys ≡ xs ++ x ∷ [] → reverse ys ≡ x ∷ reverse xs
+newest xs ys x items = ap reverse items ∙ reverse-append xs (x ∷ [])
+
+named_within : {A : Type 0} (xs : List A) (n : ℕ) (x : A) → named xs n ≡ Some x → n ≤ length xs
+named_within xs zero x e = omega arith
+named_within xs (suc n) x e = let lt = slice_get_within xs n x e in omega (arith, lt)
+
+pub inner_within : (is : List Inner) (l : ℕ) (ps : List Place) → InnersAt is l ps → l ≤ length is
+inner_within is l [] h = omega (arith, h)
+inner_within is l (p ∷ ps) h = named_within is l h.inner h.there
+
+pub frame_within : (s : Store) (is : List Inner) (xs : List Frame) (e : ℕ) (fs : List FrameOf) → FramesAt s is xs e fs → e ≤ length xs
+frame_within s is xs e [] h = omega (arith, h)
+frame_within s is xs e (f ∷ fs) h = named_within xs e h.frame h.there
+
+begun_part : {A : Type 0} (part xs : List A) (n : ℕ) → Begins part xs → length part ≡ n → take n xs ≡ part
+begun_part part xs n b len = ap (λ k. take k xs) (sym len) ∙ ap (take (length part)) b.is ∙ take-append_seam part b.behind
+
+pub left_more : (xs : List Choice) (k : Choice) → choices_left (xs ++ k ∷ []) ≡ choices_left xs + way_left k.way
+left_more [] k = omega arith
+left_more (x ∷ xs) k = let more_left = left_more xs k in omega (arith, more_left)
+
+-- ## The heap
+
+grows_not : IsTrue false → ⊥
+grows_not e = cc
+
+pub heap_full : (n : ℕ) (a b : Arena) (e : Full) → HeapFull n (meaning_of a) (meaning_of b) e → (meaning_of a).heap_limit < (meaning_of a).state.heap + n
+heap_full n a b full.Heap h = h.0
+heap_full n a b full.Trail h = absurd h
+heap_full n a b full.OutOfMemory h = absurd (grows_not h.0)
+
+pub took_room : (n : ℕ) (r : Memory) (a : Arena) → HasRoom r → Kept (meaning_of r.arena) (meaning_of a) → Charged n (meaning_of r.arena) (meaning_of a) → HasRoom (record r { arena = a })
+took_room n r a h kept charged =
+    let heap : heap_in (record r { arena = a }) ≡ heap_in r + n = ap (λ (s : State). s.heap) charged.state in
+    let limit : limit_in (record r { arena = a }) ≡ limit_in r = kept.heap_limit in
+    record {
+      frames_fit = omega (arith, limit, h.frames_fit);
+      inners_fit = omega (arith, limit, h.inners_fit);
+      choices_fit = omega (arith, limit, h.choices_fit);
+      frames_few = omega (arith, heap, h.frames_few);
+      inners_few = omega (arith, heap, h.inners_few);
+      choices_few = omega (arith, heap, h.choices_few);
+    }
+
+pub took : (code : Code) (l : Limits) (m : Mid) (n : ℕ) (r : Memory) (a : Arena) → Holds code l r m → Kept (meaning_of r.arena) (meaning_of a) → ((ms : List Saved) → saves_of r.arena ms → saves_of a ms) → Charged n (meaning_of r.arena) (meaning_of a) → Holds code l (record r { arena = a }) (more n m)
+took code l m n r a h kept saved charged = (
+  record {
+    saves = h.0.saves;
+    stand = saved h.0.saves h.0.stand;
+    state_is = charged.state ∙ ap (λ (s : State). record s { heap = s.heap + n }) h.0.state_is;
+    limits = record { heap = kept.heap_limit ∙ h.0.limits.heap; trail = kept.trail_limit ∙ h.0.limits.trail };
+    frames_are = frames_kept (meaning_of r.arena) (meaning_of a) r.inners.items r.inners.items r.frames.items r.frames.items r.frame m.frames kept (begins_same r.inners.items) (begins_same r.frames.items) h.0.frames_are;
+    inner_are = h.0.inner_are;
+    choices_are = h.0.choices_are;
+    room = took_room n r a h.0.room kept charged;
+  },
+  h.1,
+)
+
+pub roomy : (code : Code) (l : Limits) (m : Mid) (r : Memory) → Holds code l r m → Roomy l r
+roomy code l m r h =
+    let limit = h.0.limits.heap in
+    let room = h.0.room in
+    record {
+      limits = h.0.limits;
+      frames = omega (arith, limit, room.frames_fit);
+      inners = omega (arith, limit, room.inners_fit);
+      choices = omega (arith, limit, room.choices_fit);
+    }
+
+-- the same room, where the store keeps its limits
+pub roomy_on : (l : Limits) (r : Memory) (a : Arena) → Roomy l r → Kept (meaning_of r.arena) (meaning_of a) → Roomy l (record r { arena = a })
+roomy_on l r a h kept = record { limits = record { heap = kept.heap_limit ∙ h.limits.heap; trail = kept.trail_limit ∙ h.limits.trail }; frames = h.frames; inners = h.inners; choices = h.choices }
+
+pub fits : (code : Code) (l : Limits) (m : Mid) (r : Memory) → Holds code l r m → m.state.heap ≤ l.heap
+fits code l m r h =
+    let within : heap_in r ≤ limit_in r = r.arena.sound.heap_fits in
+    let limit = h.0.limits.heap in
+    let heap = ap (λ (s : State). s.heap) h.0.state_is in
+    omega (arith, within, limit, heap)
+
+pub lacks : (code : Code) (l : Limits) (m : Mid) (n : ℕ) (r : Memory) (a b : Arena) (e : Full) → Holds code l r m → Kept (meaning_of r.arena) (meaning_of a) → (meaning_of a).state.heap ≡ (meaning_of r.arena).state.heap → Kept (meaning_of a) (meaning_of b) → HeapFull n (meaning_of a) (meaning_of b) e → Lacks n l m.state.heap (record r { arena = b })
+lacks code l m n r a b e h kept heap kept' f =
+    let over = heap_full n a b e f in
+    let limit = h.0.limits.heap in
+    let limit' = kept.heap_limit in
+    let state = ap (λ (s : State). s.heap) h.0.state_is in
+    record { over = omega (arith, over, limit, limit', heap, state); roomy = roomy_on l (record r { arena = a }) b (roomy_on l r a (roomy code l m r h) kept) kept' }
+
+-- ## Choices
+
+marks_here : (a : Arena) (mark : Mark) (ms : List Saved) → saves_of a (record { mark = mark; store = meaning_of a } ∷ ms) → (meaning_of a).state.heap ≡ mark.heap
+marks_here a mark ms h = ap (λ (s : Store). s.state.heap) h.0.3.store
+
+pub opened : (code : Code) (l : Limits) (m : Mid) (on : WayOf) (r new : Memory) (a : Arena) (k : Choice) → Holds code l r m → WayAt code k.way on →
+    k.frame ≡ r.frame → k.inner ≡ r.inner → k.frames ≡ length r.frames.items → k.inners ≡ length r.inners.items →
+    Kept (meaning_of r.arena) (meaning_of a) → ((ms : List Saved) → saves_of r.arena ms → saves_of a (record { mark = k.mark; store = meaning_of a } ∷ ms)) → (meaning_of a).state ≡ marked (meaning_of r.arena).state →
+    Kept (meaning_of a) (meaning_of new.arena) → ((ms : List Saved) → saves_of a ms → saves_of new.arena ms) → Charged 10 (meaning_of a) (meaning_of new.arena) →
+    new.choices.items ≡ r.choices.items ++ k ∷ [] → HasRoom (record r { arena = new.arena; choices = new.choices }) → Holds code l (record r { arena = new.arena; choices = new.choices }) (inside on 0 m)
+opened code l m on r new a k h way frame inner frames inners kept saved same kept' saved' charged items room =
+    let stand : saves_of a (record { mark = k.mark; store = meaning_of a } ∷ h.0.saves) = saved h.0.saves h.0.stand in
+    let state : (meaning_of a).state ≡ marked m.state = same ∙ ap marked h.0.state_is in
+    let few = h.0.room in
+    let heap : heap_in r ≡ m.state.heap = ap (λ (s : State). s.heap) h.0.state_is in (
+      record {
+        saves = record { mark = k.mark; store = meaning_of a } ∷ h.0.saves;
+        stand = saved' (record { mark = k.mark; store = meaning_of a } ∷ h.0.saves) stand;
+        state_is = charged.state ∙ ap (λ (s : State). record s { heap = s.heap + 10 }) state;
+        limits = record { heap = kept'.heap_limit ∙ kept.heap_limit ∙ h.0.limits.heap; trail = kept'.trail_limit ∙ kept.trail_limit ∙ h.0.limits.trail };
+        frames_are = frames_kept (meaning_of a) (meaning_of new.arena) r.inners.items r.inners.items r.frames.items r.frames.items r.frame m.frames kept' (begins_same r.inners.items) (begins_same r.frames.items)
+            (frames_kept (meaning_of r.arena) (meaning_of a) r.inners.items r.inners.items r.frames.items r.frames.items r.frame m.frames kept (begins_same r.inners.items) (begins_same r.frames.items) h.0.frames_are);
+        inner_are = h.0.inner_are;
+        choices_are = subst (λ ks. ChoicesAt code r.frames.items r.inners.items (record { mark = k.mark; store = meaning_of a } ∷ h.0.saves) ks (new_choice on m ∷ m.choices)) (sym (newest r.choices.items new.choices.items k items)) (
+          record {
+            way = way;
+            mark = refl;
+            state = state;
+            height = ap (λ (s : State). s.heap) (sym state) ∙ marks_here a k.mark h.0.saves stand;
+            frames_then = r.frames.items;
+            inners_then = r.inners.items;
+            frames_begin = begins_same r.frames.items;
+            inners_begin = begins_same r.inners.items;
+            frames_len = sym frames;
+            inners_len = sym inners;
+            frames_are = subst (λ e. FramesAt (meaning_of a) r.inners.items r.frames.items e m.frames) (sym frame)
+                (frames_kept (meaning_of r.arena) (meaning_of a) r.inners.items r.inners.items r.frames.items r.frames.items r.frame m.frames kept (begins_same r.inners.items) (begins_same r.frames.items) h.0.frames_are);
+            inner_are = subst (λ i. InnersAt r.inners.items i m.inner) (sym inner) h.0.inner_are;
+            frames_few = omega (arith, few.frames_few, heap);
+            inners_few = omega (arith, few.inners_few, heap);
+            none_open = h.1;
+            older_are = h.0.choices_are;
+          },
+          omega (arith, few.choices_few, heap, length-reverse r.choices.items),
+        );
+        room = room;
+      },
+      h.1,
+    )
+
+pub opened_room : (r new : Memory) (a : Arena) (k : Choice) → HasRoom r → Kept (meaning_of r.arena) (meaning_of a) → (meaning_of a).state ≡ marked (meaning_of r.arena).state → Kept (meaning_of a) (meaning_of new.arena) → Charged 10 (meaning_of a) (meaning_of new.arena) →
+    new.choices.items ≡ r.choices.items ++ k ∷ [] → vec_capacity new.choices ≡ vec_capacity r.choices → HasRoom (record r { arena = new.arena; choices = new.choices })
+opened_room r new a k h kept same kept' charged items capacity =
+    let heap : heap_in new ≡ heap_in r + 10 = ap (λ (s : State). s.heap) charged.state ∙ ap (λ (s : State). s.heap + 10) same in
+    let limit : limit_in new ≡ limit_in r = kept'.heap_limit ∙ kept.heap_limit in
+    let more_choices : length new.choices.items ≡ length r.choices.items + 1 = ap length items ∙ length-append r.choices.items (k ∷ []) in
+    record {
+      frames_fit = omega (arith, limit, h.frames_fit);
+      inners_fit = omega (arith, limit, h.inners_fit);
+      choices_fit = omega (arith, limit, capacity, h.choices_fit);
+      frames_few = omega (arith, heap, h.frames_few);
+      inners_few = omega (arith, heap, h.inners_few);
+      choices_few = omega (arith, heap, more_choices, h.choices_few);
+    }
+
+pub kept_same : (s : Store) → Kept s s
+kept_same s = record { values = λ r v e. e; places = omega arith; words = λ at w e. e; heap_limit = refl; trail_limit = refl; grows = refl }
+
+-- ## Inner constructs
+
+pub begun : (code : Code) (l : Limits) (m : Mid) (p : Place) (r new : Memory) (inner : Inner) → Holds code l r m → p.height ≡ inner.height → inner.around ≡ r.inner → 10 * length r.inners.items + 10 ≤ heap_in r →
+    new.inners.items ≡ r.inners.items ++ inner ∷ [] → vec_capacity new.inners ≡ vec_capacity r.inners → new.inner ≡ length new.inners.items → Holds code l (record r { inners = new.inners; inner = new.inner }) (within p m)
+begun code l m p r new inner h height around few items capacity last =
+    let more_inners : length new.inners.items ≡ length r.inners.items + 1 = ap length items ∙ length-append r.inners.items (inner ∷ []) in
+    let begins : Begins r.inners.items new.inners.items = record { behind = inner ∷ []; is = items } in
+    let in_list = inner_within r.inners.items r.inner m.inner h.0.inner_are in
+    let room = h.0.room in (
+      record {
+        saves = h.0.saves;
+        stand = h.0.stand;
+        state_is = h.0.state_is;
+        limits = h.0.limits;
+        frames_are = let s = meaning_of r.arena in frames_kept s s r.inners.items new.inners.items r.frames.items r.frames.items r.frame m.frames (kept_same s) begins (begins_same r.frames.items) h.0.frames_are;
+        inner_are = record {
+          inner = inner;
+          there = named_end r.inners.items new.inners.items new.inner inner items last;
+          height = height;
+          older = omega (arith, around, last, more_inners, in_list);
+          around_is = subst (λ k. InnersAt new.inners.items k m.inner) (sym around) (inners_kept r.inners.items new.inners.items r.inner m.inner begins h.0.inner_are);
+        };
+        choices_are = choices_kept code r.frames.items r.frames.items r.inners.items new.inners.items h.0.saves (reverse r.choices.items) m.choices (begins_same r.frames.items) begins h.0.choices_are;
+        room = record {
+          frames_fit = room.frames_fit;
+          inners_fit = omega (arith, room.inners_fit, capacity);
+          choices_fit = room.choices_fit;
+          frames_few = room.frames_few;
+          inners_few = omega (arith, few, more_inners);
+          choices_few = room.choices_few;
+        };
+      },
+      h.1,
+    )
+
+-- ## Frames
+
+pub entered : (code : Code) (l : Limits) (m : Mid) (c : CallOf) (r new : Memory) (frame : Frame) → Holds code l r m → c.next ≡ frame.next → c.many ≡ frame.many → c.cut.height ≡ frame.cut → frame.inner ≡ r.inner → frame.behind ≡ r.frame →
+    Kept (meaning_of r.arena) (meaning_of new.arena) → ((ms : List Saved) → saves_of r.arena ms → saves_of new.arena ms) → Charged 6 (meaning_of r.arena) (meaning_of new.arena) →
+    new.frames.items ≡ r.frames.items ++ frame ∷ [] → vec_capacity new.frames ≡ vec_capacity r.frames → new.frame ≡ length new.frames.items → new.inner ≡ 0 →
+    Holds code l (record r { arena = new.arena; frames = new.frames; frame = new.frame; inner = new.inner }) (record (more 6 m) { frames = frame_of c m ∷ m.frames; inner = [] })
+entered code l m c r new frame h next many cut inner behind kept saved charged items capacity last none =
+    let more_frames : length new.frames.items ≡ length r.frames.items + 1 = ap length items ∙ length-append r.frames.items (frame ∷ []) in
+    let begins : Begins r.frames.items new.frames.items = record { behind = frame ∷ []; is = items } in
+    let in_list = frame_within (meaning_of r.arena) r.inners.items r.frames.items r.frame m.frames h.0.frames_are in
+    let room = took_room 6 r new.arena h.0.room kept charged in
+    let few = h.0.room.frames_few in
+    let heap : heap_in new ≡ heap_in r + 6 = ap (λ (s : State). s.heap) charged.state in (
+      record {
+        saves = h.0.saves;
+        stand = saved h.0.saves h.0.stand;
+        state_is = charged.state ∙ ap (λ (s : State). record s { heap = s.heap + 6 }) h.0.state_is;
+        limits = record { heap = kept.heap_limit ∙ h.0.limits.heap; trail = kept.trail_limit ∙ h.0.limits.trail };
+        frames_are = record {
+          frame = frame;
+          there = named_end r.frames.items new.frames.items new.frame frame items last;
+          next = next;
+          many = many;
+          cut = cut;
+          vars = tt;
+          inner_is = subst (λ k. InnersAt r.inners.items k m.inner) (sym inner) h.0.inner_are;
+          older = omega (arith, behind, last, more_frames, in_list);
+          behind_is = subst (λ k. FramesAt (meaning_of new.arena) r.inners.items new.frames.items k m.frames) (sym behind)
+              (frames_kept (meaning_of r.arena) (meaning_of new.arena) r.inners.items r.inners.items r.frames.items new.frames.items r.frame m.frames kept (begins_same r.inners.items) begins h.0.frames_are);
+        };
+        inner_are = none;
+        choices_are = choices_kept code r.frames.items new.frames.items r.inners.items r.inners.items h.0.saves (reverse r.choices.items) m.choices begins (begins_same r.inners.items) h.0.choices_are;
+        room = record {
+          frames_fit = omega (arith, room.frames_fit, capacity);
+          inners_fit = room.inners_fit;
+          choices_fit = room.choices_fit;
+          frames_few = omega (arith, few, more_frames, heap);
+          inners_few = room.inners_few;
+          choices_few = room.choices_few;
+        };
+      },
+      h.1,
+    )
+
+-- ## Going back
+
+-- the limits stay
+pub record SameLimits (s t : Store) : Type 0 where
+  heap : s.heap_limit ≡ t.heap_limit
+  trail : s.trail_limit ≡ t.trail_limit
+
+limits_then : (a : Arena) (sv : Saved) (ms : List Saved) → saves_of a (sv ∷ ms) → SameLimits sv.store (meaning_of a)
+limits_then a sv ms h = record { heap = ap (λ (s : Store). s.heap_limit) h.0.3.store; trail = ap (λ (s : Store). s.trail_limit) h.0.3.store }
+
+none_left : {A : Type 0} (gs : List A) (h n : ℕ) → length gs ≡ 0 → length (drop n gs) ≡ 0
+none_left [] h zero e = refl
+none_left [] h (suc n) e = refl
+none_left (g ∷ gs) h n e = absurd (omega (arith, e))
+
+undo_in : (code : Code) (xs : List Frame) (is : List Inner) (a : Arena) (ms : List Saved) (k : Choice) (ks : List Choice) (cs : List ChoiceOf) → saves_of a ms → ChoicesAt code xs is ms (k ∷ ks) cs → (s : Store) × (ms : List Saved) × saves_of a (record { mark = k.mark; store = s } ∷ ms)
+undo_in code xs is a [] k ks cs stand h = absurd h
+undo_in code xs is a (m ∷ ms) k ks [] stand h = absurd h
+undo_in code xs is a (m ∷ ms) k ks (c ∷ cs) stand h = (m.store, ms, subst (λ x. saves_of a (record { mark = x; store = m.store } ∷ ms)) h.0.mark stand)
+
+no_open : (c : ChoiceOf) (m : Mid) → NoneOpen m.stops m.stop (length m.gathered) → NoneOpen c.stops c.stop c.height → NoneOpen c.stops c.stop (length (gathered_to c.height m.gathered))
+no_open c m h k = record { stops_are = k.stops_are; stop_is = k.stop_is; height_is = none_left m.gathered c.height (length m.gathered - c.height) h.height_is }
+
+back_in : (code : Code) (l : Limits) (m : Mid) (r new : Memory) (k : Choice) (ks : List Choice) (ms : List Saved) (cs : List ChoiceOf) → Holds code l r m → reverse r.choices.items ≡ k ∷ ks → reverse new.choices.items ≡ ks →
+    ((s : Store) → (ms : List Saved) → saves_of r.arena (record { mark = k.mark; store = s } ∷ ms) → Back s (meaning_of new.arena)) →
+    ((s : Store) → (ms : List Saved) → saves_of r.arena (record { mark = k.mark; store = s } ∷ ms) → saves_of new.arena (record { mark = k.mark; store = s } ∷ ms)) →
+    new.frames.items ≡ take k.frames r.frames.items → new.inners.items ≡ take k.inners r.inners.items → vec_capacity new.frames ≡ vec_capacity r.frames → vec_capacity new.inners ≡ vec_capacity r.inners → vec_capacity new.choices ≡ vec_capacity r.choices →
+    new.frame ≡ k.frame → new.inner ≡ k.inner → saves_of r.arena ms → ChoicesAt code r.frames.items r.inners.items ms (k ∷ ks) cs → WentBack code l (Some k.way) new m cs
+back_in code l m r new k ks [] cs h is older back saved frames inners fcap icap ccap frame inner stand at = absurd at
+back_in code l m r new k ks (sv ∷ ms) [] h is older back saved frames inners fcap icap ccap frame inner stand at = absurd at
+back_in code l m r new k ks (sv ∷ ms) (c ∷ cs) h is older back saved frames inners fcap icap ccap frame inner stand at =
+    let x = at.0 in
+    let stood : saves_of r.arena (record { mark = k.mark; store = sv.store } ∷ ms) = subst (λ y. saves_of r.arena (record { mark = y; store = sv.store } ∷ ms)) x.mark stand in
+    let now = back sv.store ms stood in
+    let stays = saved sv.store ms stood in
+    let left_frames : new.frames.items ≡ x.frames_then = frames ∙ begun_part x.frames_then r.frames.items k.frames x.frames_begin x.frames_len in
+    let left_inners : new.inners.items ≡ x.inners_then = inners ∙ begun_part x.inners_then r.inners.items k.inners x.inners_begin x.inners_len in
+    let state : (meaning_of new.arena).state ≡ c.state = now.state ∙ x.state in
+    let heap : heap_in new ≡ c.state.heap = ap (λ (s : State). s.heap) state in
+    let few_frames : length new.frames.items ≡ length x.frames_then = ap length left_frames in
+    let few_inners : length new.inners.items ≡ length x.inners_then = ap length left_inners in
+    let few_choices : length new.choices.items ≡ length ks = sym (length-reverse new.choices.items) ∙ ap length older in
+    let was = limits_then r.arena (record { mark = k.mark; store = sv.store }) ms stood in
+    let limit : limit_in new ≡ limit_in r = now.kept.heap_limit ∙ was.heap in
+    let trail : (meaning_of new.arena).trail_limit ≡ (meaning_of r.arena).trail_limit = now.kept.trail_limit ∙ was.trail in
+    let room = h.0.room in (
+      x.way,
+      (
+        record {
+          saves = ms;
+          stand = drops new.arena (record { mark = k.mark; store = sv.store }) ms stays;
+          state_is = state;
+          limits = record { heap = limit ∙ h.0.limits.heap; trail = trail ∙ h.0.limits.trail };
+          frames_are = subst (λ e. FramesAt (meaning_of new.arena) new.inners.items new.frames.items e c.frames) (sym frame)
+              (subst (λ is. FramesAt (meaning_of new.arena) is new.frames.items k.frame c.frames) (sym left_inners)
+              (subst (λ xs. FramesAt (meaning_of new.arena) x.inners_then xs k.frame c.frames) (sym left_frames)
+              (frames_kept sv.store (meaning_of new.arena) x.inners_then x.inners_then x.frames_then x.frames_then k.frame c.frames now.kept (begins_same x.inners_then) (begins_same x.frames_then) x.frames_are)));
+          inner_are = subst (λ i. InnersAt new.inners.items i c.inner) (sym inner) (subst (λ is. InnersAt is k.inner c.inner) (sym left_inners) x.inner_are);
+          choices_are = subst (λ l. ChoicesAt code new.frames.items new.inners.items ms l cs) (sym older)
+              (subst (λ is. ChoicesAt code new.frames.items is ms ks cs) (sym left_inners) (subst (λ xs. ChoicesAt code xs x.inners_then ms ks cs) (sym left_frames) x.older_are));
+          room = record {
+            frames_fit = omega (arith, room.frames_fit, limit, fcap);
+            inners_fit = omega (arith, room.inners_fit, limit, icap);
+            choices_fit = omega (arith, room.choices_fit, limit, ccap);
+            frames_few = omega (arith, x.frames_few, heap, few_frames);
+            inners_few = omega (arith, x.inners_few, heap, few_inners);
+            choices_few = omega (arith, at.1, heap, few_choices);
+          };
+        },
+        no_open c m h.1 x.none_open,
+      ),
+    )
+
+-- there is a mark to go back to, where there is a choice
+pub may_undo : (code : Code) (l : Limits) (m : Mid) (r : Memory) (k : Choice) (ks : List Choice) → Holds code l r m → reverse r.choices.items ≡ k ∷ ks → (s : Store) × (ms : List Saved) × saves_of r.arena (record { mark = k.mark; store = s } ∷ ms)
+may_undo code l m r k ks h is = undo_in code r.frames.items r.inners.items r.arena h.0.saves k ks m.choices h.0.stand (subst (λ l. ChoicesAt code r.frames.items r.inners.items h.0.saves l m.choices) is h.0.choices_are)
+
+pub went_back : (code : Code) (l : Limits) (m : Mid) (r new : Memory) (k : Choice) → Holds code l r m → r.choices.items ≡ new.choices.items ++ k ∷ [] →
+    ((s : Store) → (ms : List Saved) → saves_of r.arena (record { mark = k.mark; store = s } ∷ ms) → Back s (meaning_of new.arena)) →
+    ((s : Store) → (ms : List Saved) → saves_of r.arena (record { mark = k.mark; store = s } ∷ ms) → saves_of new.arena (record { mark = k.mark; store = s } ∷ ms)) →
+    new.frames.items ≡ take k.frames r.frames.items → new.inners.items ≡ take k.inners r.inners.items → vec_capacity new.frames ≡ vec_capacity r.frames → vec_capacity new.inners ≡ vec_capacity r.inners → vec_capacity new.choices ≡ vec_capacity r.choices →
+    new.frame ≡ k.frame → new.inner ≡ k.inner → WentBack code l (Some k.way) new m m.choices
+went_back code l m r new k h items back saved frames inners fcap icap ccap frame inner =
+    back_in code l m r new k (reverse new.choices.items) h.0.saves m.choices h (newest new.choices.items r.choices.items k items) refl back saved frames inners fcap icap ccap frame inner h.0.stand (subst (λ l. ChoicesAt code r.frames.items r.inners.items h.0.saves l m.choices) (newest new.choices.items r.choices.items k items) h.0.choices_are)
+
+none_in : (code : Code) (l : Limits) (xs : List Frame) (is : List Inner) (new : Memory) (m : Mid) (ms : List Saved) (ks : List Choice) (cs : List ChoiceOf) → length ks ≡ 0 → ChoicesAt code xs is ms ks cs → WentBack code l None new m cs
+none_in code l xs is new m ms (k ∷ ks) cs e h = absurd (omega (arith, e))
+none_in code l xs is new m [] [] [] e h = tt
+none_in code l xs is new m [] [] (c ∷ cs) e h = absurd h
+none_in code l xs is new m (s ∷ ms) [] cs e h = absurd h
+
+pub went_nowhere : (code : Code) (l : Limits) (m : Mid) (r new : Memory) → Holds code l r m → length r.choices.items ≡ 0 → WentBack code l None new m m.choices
+went_nowhere code l m r new h none = none_in code l r.frames.items r.inners.items new m h.0.saves (reverse r.choices.items) m.choices (omega (arith, none, length-reverse r.choices.items)) h.0.choices_are
+
+pub newest_is : (xs ys : List Choice) (k : Choice) → ys ≡ xs ++ k ∷ [] → reverse ys ≡ k ∷ reverse xs
+newest_is xs ys k items = newest xs ys k items
+
+pub roomy_back : (l : Limits) (r : Memory) (a : Arena) (k : Choice) (s : Store) (ms : List Saved) → saves_of r.arena (record { mark = k.mark; store = s } ∷ ms) → Back s (meaning_of a) → Roomy l r → Limited l (meaning_of a)
+roomy_back l r a k s ms stood back x =
+    let was = limits_then r.arena (record { mark = k.mark; store = s }) ms stood in
+    record { heap = back.kept.heap_limit ∙ was.heap ∙ x.limits.heap; trail = back.kept.trail_limit ∙ was.trail ∙ x.limits.trail }

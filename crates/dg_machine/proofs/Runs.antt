@@ -1,0 +1,188 @@
+-- Whole runs of a machine.
+use Rattle.std.proofs.Common.{◌≡◌, ℕ, zero, suc, ◌+◌, ◌<◌, ◌≤◌, ◌-◌, List, [], ◌∷◌, ◌++◌, Option, Some, None, Bool, true, false, refl, sym, ap, ◌∙◌, subst, arith, length, inl, inr}
+use Rattle.dg_base.specs.declared.run.Limits.{Limits}
+use Rattle.dg_base.specs.declared.run.Ending.{Ending}
+use Rattle.dg_base.specs.declared.run.Ending.TheVariants.{StepLimit}
+use Rattle.dg_base.specs.Written.{SinkView, Wrote, BrokeOff}
+use Rattle.dg_base.proofs.WrittenLemmas.{wrote_nothing, wrote_on, broke_first, broke_later}
+use Rattle.dg_meaning.specs.World.{Game, World, Print, prints}
+use Rattle.dg_meaning.specs.Render.{render, render_from, nothing_met, met_from}
+use Rattle.dg_machine.proofs.Texts.{render_append}
+use Rattle.dg_meaning.specs.Growth.{growth, ending_line}
+use Rattle.dg_meaning.specs.Transcript.{Run, run, transcript, text_of, closing, line_of}
+use Rattle.dg_meaning.specs.Shows.{Shows, MayWrite, whole}
+use Rattle.dg_meaning.specs.OneRun.{Begins, Grows}
+use Rattle.dg_meaning.proofs.Keeps.{stands_happened}
+use Rattle.dg_meaning.proofs.Search.{run_within}
+use Rattle.dg_meaning.proofs.Dropping.{prints_append}
+use Rattle.std.specs.Borrow.{Bor}
+use Rattle.dg_mid.specs.declared.code.Op.{Op}
+use Rattle.dg_mid.specs.declared.code.Code.{Code}
+use Rattle.dg_mid.specs.Heights.{StatusOrdered}
+use Rattle.dg_mid.specs.State.{Mid, Status, Runs as RunsOf, Enters as EntersOf, Resumes as ResumesOf, Fails as FailsOf, Ended as EndedOf}
+use Rattle.dg_mid.specs.Step.{Setting, setting, step, said, followed, takes_goal, at_goal}
+use Rattle.dg_mid.specs.Codes.{Codes}
+use Rattle.dg_mid.specs.Units.{one_if}
+use Rattle.dg_mid.specs.Potential.{IsOver}
+use Rattle.dg_mid.specs.Reads.{At, RunsAt}
+use Rattle.dg_mid.specs.Runs.{after, IsAt as IsAtOf, closed_text}
+use Rattle.dg_mid.proofs.Whole.{is_at}
+use Rattle.dg_mid.proofs.Shown.{shows_all}
+use Rattle.dg_mid.proofs.Heights.{all_ordered}
+use Rattle.dg_spacing.specs.declared.spacer.Spacer.{Spacer}
+use Rattle.dg_spacing.specs.Spacer.{StandsFor}
+use Rattle.dg_machine.specs.declared.now.Now.{Now}
+use Rattle.dg_machine.specs.declared.now.Now.TheVariants.{Runs, Enters, Resumes, Fails, Ended}
+use Rattle.dg_machine.specs.declared.memory.Memory.{Memory}
+use Rattle.dg_machine.specs.Layout.{Holds}
+use Rattle.dg_machine.specs.Measure.{left_of}
+use Rattle.dg_machine.specs.Standing.{CodeIs, Stands}
+use Rattle.dg_machine.specs.Running.{rests, MarkDone, DoesMarks, DoesGoal, LosesGoal, HasText, HasSettled, Settles, IsAt, IsLost, EndsSo, HasEnded, IsLostWithin, HasShown, HasLostOutput}
+
+-- the whole text of a run may be written
+may_write : (g : Game) (typed : List ℕ) (limits : Limits) → MayWrite g typed limits (transcript g typed limits.steps)
+may_write g typed limits =
+    let r = run g typed limits.steps in
+    whole (record { ending = r.ending; goals = limits.steps - r.left }) None
+    (inl (record { text = refl; ending = refl; goals = omega (arith, run_within g typed limits.steps); left_is = tt }))
+
+-- what was printed up to here is the beginning of the whole text
+prints_begin : (w : World) (x : Run) (ps : List Print) → Grows w x.world → prints w.events ≡ ps → (text : List ℕ) × (text_of x.world.events ≡ render ps ++ text)
+prints_begin w x ps grows is =
+    let b = grows.events in
+    (render_from (met_from nothing_met (prints w.events)) (prints b.behind), ap text_of b.is ∙ ap render (prints_append w.events b.behind) ∙ render_append (prints w.events) (prints b.behind) ∙ ap (λ l. render l ++ render_from (met_from nothing_met (prints w.events)) (prints b.behind)) is)
+
+-- ## Steps that take no goal
+
+-- where the machine needs a step before its next goal, that takes none, and the run isn't over
+pub record IsMark (s : Status) : Type 0 where
+  pub no_goal : takes_goal s ≡ false
+  pub goes_on : IsOver s → ⊥
+
+pub at_mark : (code : Code) (l : Limits) (r : Memory) (now : Now) (s : Status) → rests now ≡ false → Stands code l r now s → IsMark s
+at_mark code l r (Runs ops) (RunsOf m) e h = record { no_goal = ap at_goal h.0.0 ∙ e; goes_on = λ o. o }
+at_mark code l r (Enters k ops) (EntersOf c m) e h = record { no_goal = refl; goes_on = λ o. o }
+at_mark code l r (Resumes way) (ResumesOf on m) e h = record { no_goal = refl; goes_on = λ o. o }
+at_mark code l r Fails (FailsOf m) e h = record { no_goal = refl; goes_on = λ o. o }
+at_mark code l r (Ended x) s e h = absurd (cc)
+at_mark code l r now s e h = absurd h
+
+module _ (code : Code) (g : Game) (l : Limits) (typed : List ℕ) where
+  abbrev set : Setting
+  set = setting g code l
+
+  pub settled_nowhere : (r : Memory) (now : Now) (steps : ℕ) → Stands code l r now (after set typed steps).now → HasSettled code g l typed steps r now
+  settled_nowhere r now steps h = record { further = steps; stands = h; goals = refl; prints = refl }
+
+  -- one more step
+  pub one_mark : (r new : Memory) (now next : Now) (steps : ℕ) → rests now ≡ false → DoesMarks code r now new next → Stands code l r now (after set typed steps).now → MarkDone code g l r now new next (after set typed steps).now
+  one_mark r new now next steps e does h = does g l (after set typed steps).now (all_ordered set typed steps) (at_mark code l r now (after set typed steps).now e h).no_goal h
+
+  pub settled_on : (mid new : Memory) (now next : Now) (steps : ℕ) → rests now ≡ false → DoesMarks code mid now new next → HasSettled code g l typed steps mid now → HasSettled code g l typed steps new next
+  settled_on mid new now next steps e does h =
+      let done = one_mark mid new now next h.further e does h.stands in
+      let mark = at_mark code l mid now (after set typed h.further).now e h.stands in
+      record {
+        further = suc h.further;
+        stands = done.stands;
+        goals = ap (λ b. one_if b + (after set typed h.further).goals) mark.no_goal ∙ (let same : 0 + (after set typed h.further).goals ≡ (after set typed h.further).goals = omega arith in same) ∙ h.goals;
+        prints = ap (followed (after set typed h.further).prints) done.quiet ∙ h.prints;
+      }
+
+  pub mark_falls : (r new : Memory) (now next : Now) (steps : ℕ) → rests now ≡ false → DoesMarks code r now new next → Stands code l r now (after set typed steps).now → left_of new next < left_of r now
+  mark_falls r new now next steps e does h = (one_mark r new now next steps e does h).falls (at_mark code l r now (after set typed steps).now e h).goes_on
+
+  -- ## Goals
+
+  -- the status of a machine that is at a goal
+  pub record AtGoal (r : Memory) (ops : List Op) (s : Status) : Type 0 where
+    pub mid : Mid
+    pub is : s ≡ RunsOf mid
+    pub code_is : CodeIs ops mid
+    pub held : Holds code l r mid
+
+  pub goal_at : (r : Memory) (ops : Bor (List Op)) (s : Status) → Stands code l r (Runs ops) s → AtGoal r ops.now s
+  goal_at r ops (RunsOf m) h = record { mid = m; is = refl; code_is = h.0; held = h.1 }
+  goal_at r ops s h = absurd h
+
+  -- the next goal was taken, and steps behind it
+  pub took_goal : (old mid new : Memory) (ops : Bor (List Op)) (next now : Now) (s s' : Spacer) (k k' : SinkView) (goals : ℕ) (start : SinkView) → at_goal ops.now ≡ true → DoesGoal code old ops.now mid next s s' k k' → Settles code mid next new now →
+      IsAt code g l typed old (Runs ops) goals s start k → IsAt code g l typed new now (1 + goals) s' start k'
+  took_goal old mid new ops next now s s' k k' goals start e does settles h =
+      let at = goal_at old ops (after set typed h.steps).now h.stands in
+      let ordered : StatusOrdered (RunsOf at.mid) = subst StatusOrdered at.is (all_ordered set typed h.steps) in
+      let done = does g l at.mid ordered e at.code_is at.held in
+      let stands : Stands code l mid next (after set typed (suc h.steps)).now = subst (λ x. Stands code l mid next (step set x)) (sym at.is) done.stands in
+      let settled = settles g l typed (suc h.steps) stands in
+      let taken : takes_goal (after set typed h.steps).now ≡ true = ap takes_goal at.is ∙ ap at_goal at.code_is.0 ∙ e in
+      let one : (after set typed (suc h.steps)).goals ≡ 1 + goals = ap (λ b. one_if b + (after set typed h.steps).goals) taken ∙ ap (λ n. 1 + n) h.goals_is in
+      let text : HasText s' start k' (after set typed (suc h.steps)).prints = subst (λ x. HasText s' start k' (followed (after set typed h.steps).prints (said set x))) (sym at.is) (done.writes start (after set typed h.steps).prints h.text) in
+      record {
+        steps = settled.further;
+        stands = settled.stands;
+        goals_is = settled.goals ∙ one;
+        text = subst (HasText s' start k') (sym settled.prints) text;
+      }
+
+  -- the output was lost at the next goal
+  pub lost_goal : (old : Memory) (ops : Bor (List Op)) (s : Spacer) (k k' : SinkView) (goals : ℕ) (start : SinkView) → at_goal ops.now ≡ true → LosesGoal code old ops.now s k k' → IsAt code g l typed old (Runs ops) goals s start k → IsLost code g l typed (suc goals) start k'
+  lost_goal old ops s k k' goals start e loses h =
+      let at = goal_at old ops (after set typed h.steps).now h.stands in
+      let lost = loses g l at.mid at.code_is at.held start (after set typed h.steps).prints h.text in
+      let taken : takes_goal (after set typed h.steps).now ≡ true = ap takes_goal at.is ∙ ap at_goal at.code_is.0 ∙ e in
+      record {
+        steps = suc h.steps;
+        behind = lost.behind;
+        goes = ap (step set) at.is ∙ lost.goes;
+        goals_is = ap (λ b. one_if b + (after set typed h.steps).goals) taken ∙ ap (λ n. 1 + n) h.goals_is ∙ (let same : 1 + goals ≡ suc goals = omega arith in same);
+        broke = subst (λ x. BrokeOff start k' (render (followed (after set typed h.steps).prints (said set x)))) (sym at.is) lost.broke;
+      }
+
+-- ## From the start to the closing
+
+module _ (code : Code) (g : Game) (l : Limits) (codes : Codes g.program code) (typed : List ℕ) where
+  abbrev the_set : Setting
+  the_set = setting g code l
+
+  -- how a run has ended, by its closing line
+  ended_shows : (e : Ending) (left steps : ℕ) → EndsSo e left (after the_set typed steps).now → (after the_set typed steps).goals ≡ l.steps - left → left ≤ l.steps → Shows g typed l (closed_text (after the_set typed steps).prints (line_of e)) (record { ending = e; goals = l.steps - left }) None
+  ended_shows e left steps (inl is) goals le = subst (λ n. Shows g typed l (closed_text (after the_set typed steps).prints (line_of e)) (record { ending = e; goals = n }) None) goals ((shows_all g code l codes typed).ends steps e is (omega (arith, goals)))
+  ended_shows e left steps (inr limited) goals le =
+      let none = limited.1 in
+      let all : l.steps - left ≡ l.steps = omega (arith, none) in
+      subst (λ x. Shows g typed l (closed_text (after the_set typed steps).prints (line_of x)) (record { ending = x; goals = l.steps - left }) None) (sym limited.0)
+      (subst (λ n. Shows g typed l (closed_text (after the_set typed steps).prints (line_of StepLimit)) (record { ending = StepLimit; goals = n }) None) (sym all) ((shows_all g code l codes typed).limited steps (goals ∙ all) limited.2))
+
+  pub shown : (e : Ending) (left : ℕ) (r : Memory) (s : Spacer) (start k k' : SinkView) → HasEnded code g l typed (l.steps - left) e left r s start k → left ≤ l.steps → ((ps : List Print) → StandsFor s ps → Wrote k k' (ending_line ps (line_of e))) → HasShown g typed l (record { ending = e; goals = l.steps - left }) start k'
+  shown e left r s start k k' h le close =
+      let ps = (after the_set typed h.steps).prints in
+      record {
+        bytes = closed_text ps (line_of e);
+        shows = ended_shows e left h.steps h.ends h.goals_is le;
+        wrote = wrote_on start k k' (render ps) (ending_line ps (line_of e)) h.text.wrote (close ps h.text.stands);
+      }
+
+  pub closing_lost : (e : Ending) (left : ℕ) (r : Memory) (s : Spacer) (start k k' : SinkView) → HasEnded code g l typed (l.steps - left) e left r s start k → left ≤ l.steps → ((ps : List Print) → StandsFor s ps → BrokeOff k k' (ending_line ps (line_of e))) → HasLostOutput g typed l start k'
+  closing_lost e left r s start k k' h le close =
+      let ps = (after the_set typed h.steps).prints in
+      record {
+        bytes = closed_text ps (line_of e);
+        may_write = whole (record { ending = e; goals = l.steps - left }) None (ended_shows e left h.steps h.ends h.goals_is le);
+        broke = broke_later start k k' (render ps) (ending_line ps (line_of e)) h.text.wrote (close ps h.text.stands);
+      }
+
+  pub text_lost : (r : Memory) (start k : SinkView) → IsLostWithin code g l typed l.steps r start k → HasLostOutput g typed l start k
+  text_lost r start k h =
+      let x = h.lost in
+      let ps = (after the_set typed x.steps).prints in
+      let rest = l.steps - h.goals in
+      let all : (after the_set typed x.steps).goals + rest ≡ l.steps = omega (arith, x.goals_is, h.within) in
+      let c = (is_at g code l codes typed x.steps).comes rest in
+      let at : RunsAt code x.behind ps g rest c.world (run g typed l.steps) = subst (λ n. RunsAt code x.behind ps g rest c.world (run g typed n)) all (subst (λ now. At the_set now ps g rest c.world (run g typed ((after the_set typed x.steps).goals + rest))) x.goes c.at) in
+      let begins = prints_begin c.world (run g typed l.steps) ps (stands_happened g at.lives at.ways _ rest c.world (run g typed l.steps) at.stands) at.mirrors.printed_is in
+      record {
+        bytes = transcript g typed l.steps;
+        may_write = may_write g typed l;
+        broke = broke_first start k (text_of (run g typed l.steps).world.events) (closing (run g typed l.steps).world.events (line_of (run g typed l.steps).ending))
+            (subst (BrokeOff start k) (sym begins.1) (broke_first start k (render ps) begins.0 x.broke));
+      }

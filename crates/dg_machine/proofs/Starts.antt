@@ -1,0 +1,87 @@
+-- The start of a run.
+use Rattle.std.proofs.Common.{◌≡◌, ℕ, ◌+◌, ◌*◌, ◌-◌, ◌<◌, ◌≤◌, List, [], ◌∷◌, false, refl, sym, ap, ◌∙◌, subst, arith, length, reverse, vec_capacity, Result, Ok, Err, IfOk, OnErr}
+use Rattle.std.specs.Borrow.{Bor}
+use Rattle.dg_base.specs.declared.program.CoreProgram.{CoreProgram}
+use Rattle.dg_base.specs.declared.run.Ending.{Ending}
+use Rattle.dg_base.specs.declared.run.Limits.{Limits}
+use Rattle.dg_base.specs.Written.{SinkView, Wrote}
+use Rattle.dg_base.proofs.WrittenLemmas.{wrote_nothing}
+use Rattle.dg_meaning.specs.World.{Game}
+use Rattle.dg_meaning.specs.Render.{render}
+use Rattle.dg_unify.specs.Store.{State}
+use Rattle.dg_arena.specs.Held.{meaning_of, saves_of}
+use Rattle.dg_mid.specs.declared.code.Op.{Op}
+use Rattle.dg_mid.specs.declared.code.Code.{Code}
+use Rattle.dg_mid.specs.Code.{block_at}
+use Rattle.dg_mid.specs.Step.{Setting, setting}
+use Rattle.dg_mid.specs.Runs.{after}
+use Rattle.dg_spacing.specs.declared.spacer.Spacer.{Spacer}
+use Rattle.dg_spacing.specs.Spacer.{StandsFor}
+use Rattle.dg_machine.specs.declared.now.Now.{Now}
+use Rattle.dg_machine.specs.declared.now.Now.TheVariants.{Runs}
+use Rattle.dg_machine.specs.declared.memory.Memory.{Memory}
+use Rattle.dg_machine.specs.Built.{OpsBuilt, IsBuilt}
+use Rattle.dg_machine.specs.Layout.{FramesAt, InnersAt, ChoicesAt, Roomy, HoldsWith, limit_in, at_rest}
+use Rattle.dg_machine.specs.Running.{game, HasText, IsAt, IsSomewhere, Finishes, LosesRun}
+
+-- memory that was emptied holds nothing
+pub cleared : (code : Code) (l : Limits) (r new : Memory) → Roomy l r → (meaning_of new.arena).state ≡ at_rest → (meaning_of new.arena).heap_limit ≡ (meaning_of r.arena).heap_limit → (meaning_of new.arena).trail_limit ≡ (meaning_of r.arena).trail_limit →
+    new.frames.items ≡ [] → new.inners.items ≡ [] → new.choices.items ≡ [] → vec_capacity new.frames ≡ vec_capacity r.frames → vec_capacity new.inners ≡ vec_capacity r.inners → vec_capacity new.choices ≡ vec_capacity r.choices → new.frame ≡ 0 → new.inner ≡ 0 → HoldsWith code l new at_rest [] [] []
+cleared code l r new x state heap trail frames inners choices fcap icap ccap frame inner =
+    let limit : limit_in new ≡ l.heap = heap ∙ x.limits.heap in
+    let a = x.frames in
+    let b = x.inners in
+    let d = x.choices in
+    let fs = ap length frames in
+    let is = ap length inners in
+    let cs = ap length choices in
+    record {
+      saves = [];
+      stand = (tt, tt);
+      state_is = state;
+      limits = record { heap = limit; trail = trail ∙ x.limits.trail };
+      frames_are = frame;
+      inner_are = inner;
+      choices_are = subst (λ ks. ChoicesAt code new.frames.items new.inners.items [] (reverse ks) []) (sym choices) tt;
+      room = record {
+        frames_fit = omega (arith, limit, a, fcap);
+        inners_fit = omega (arith, limit, b, icap);
+        choices_fit = omega (arith, limit, d, ccap);
+        frames_few = omega (arith, fs);
+        inners_few = omega (arith, is);
+        choices_few = omega (arith, cs);
+      };
+    }
+
+no_text : (s : Spacer) (k : SinkView) → StandsFor s [] → HasText s k k []
+unfolding render
+no_text s k new = record { stands = new; wrote = wrote_nothing k }
+
+pub at_start : (code : Code) (g : Game) (l : Limits) (typed : List ℕ) (r : Memory) (block : Bor (List Op)) (s : Spacer) (k : SinkView) → IsBuilt code → block.now ≡ block_at code 1 → HoldsWith code l r at_rest [] [] [] → StandsFor s [] → IsAt code g l typed r (Runs block) 0 s k k
+at_start code g l typed r block s k built is held new = record {
+  steps = 0;
+  stands = ((sym is, subst OpsBuilt (sym is) (built 1)), (held, record { stops_are = refl; stop_is = refl; height_is = refl }));
+  goals_is = refl;
+  text = no_text s k new;
+}
+
+-- a program of nothing
+no_program : CoreProgram
+no_program = record { preds = []; closures = []; places = []; objects = []; words = []; sites = 0; entry = 0 }
+
+pub a_game : Game
+a_game = game no_program []
+
+pub somewhere_first : (code : Code) (l : Limits) (r : Memory) (block : Bor (List Op)) → IsBuilt code → block.now ≡ block_at code 1 → HoldsWith code l r at_rest [] [] [] → IsSomewhere code r (Runs block)
+somewhere_first code l r block built is held = record {
+  game = a_game;
+  limits = l;
+  typed = [];
+  steps = 0;
+  stands = ((sym is, subst OpsBuilt (sym is) (built 1)), (held, record { stops_are = refl; stop_is = refl; height_is = refl }));
+}
+
+-- room is left whether a run has ended or has lost its output
+pub roomy_after : {E : Type 0} (code : Code) (l : Limits) (old new : Memory) (start : Now) (steps : ℕ) (s s' : Spacer) (k k' : SinkView) (result : Result (Ending × ℕ) E) → IfOk result (λ end. Finishes code old start steps s k end.0 end.1 new s' k') → OnErr result (LosesRun code old start steps s k new k') → IsAt code a_game l [] old start 0 s k k → Roomy l new
+roomy_after code l old new start steps s s' k k' (Ok end) ok err at = (ok a_game l [] k at).0.roomy
+roomy_after code l old new start steps s s' k k' (Err e) ok err at = (err a_game l [] k at).roomy

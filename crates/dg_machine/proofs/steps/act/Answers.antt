@@ -1,0 +1,7 @@
+use Rattle.std.proofs.Common.{sym, subst}
+use Rattle.dg_mid.specs.declared.code.Op.TheVariants as op
+use Rattle.dg_machine.specs.Standing.{DoesOp}
+use Rattle.dg_machine.proofs.steps.act.Goals as goal
+
+pub returns-in-Just : goal.returns-in-Just
+returns-in-Just c code = subst (λ a. DoesOp code c.args.memory.now (op.Do a) c.args.rest.now c.just.new.self c.just.result) (sym c.in-Just.is) (c.just.ensures code)

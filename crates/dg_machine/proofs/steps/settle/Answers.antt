@@ -1,0 +1,19 @@
+use Rattle.std.proofs.Common.{rules, ◌≡◌, false}
+use Rattle.dg_machine.specs.Running.{rests}
+use Rattle.dg_machine.proofs.Runs.{settled_on, mark_falls}
+use Rattle.dg_machine.proofs.Turns.{somewhere_marked}
+use Rattle.dg_machine.proofs.steps.settle.Goals as goal
+
+pub marks-preserved : goal.marks-preserved
+marks-preserved c =
+    let e : rests c.marks.now ≡ false = search rules in
+    record {
+      settles = λ g l typed steps h. settled_on c.args.code.now g l typed c.marks.memory c.mark_step-now.new.memory c.marks.now c.mark_step-now.result steps e c.mark_step-now.ensures (c.marks.invariant.settles g l typed steps h);
+      somewhere = somewhere_marked c.args.code.now c.marks.memory c.mark_step-now.new.memory c.marks.now c.mark_step-now.result e c.mark_step-now.ensures c.marks.invariant.somewhere;
+    }
+
+pub marks-smaller : goal.marks-smaller
+marks-smaller c =
+    let e : rests c.marks.now ≡ false = search rules in
+    let s = c.marks.invariant.somewhere in
+    mark_falls c.args.code.now s.game s.limits s.typed c.marks.memory c.mark_step-now.new.memory c.marks.now c.mark_step-now.result s.steps e c.mark_step-now.ensures s.stands

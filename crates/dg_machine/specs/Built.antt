@@ -1,0 +1,57 @@
+-- The instructions that a machine runs so far. Hold it against the README.
+use Rattle.std.specs.Prelude.{ℕ, ◌≡◌, List, [], ◌∷◌}
+use Rattle.dg_mid.specs.declared.code.Op.{Op}
+use Rattle.dg_mid.specs.declared.code.Op.TheVariants as op
+use Rattle.dg_mid.specs.declared.code.Action.{Action}
+use Rattle.dg_mid.specs.declared.code.Action.TheVariants as action
+use Rattle.dg_mid.specs.declared.code.Code.{Code}
+use Rattle.dg_mid.specs.Code.{block_at}
+
+-- What is done at once.
+abbrev pub ActionBuilt : Action → Type 0
+ActionBuilt (action.Text name) = Unit {0}
+ActionBuilt (action.Gap kind) = Unit {0}
+ActionBuilt action.Just = Unit {0}
+ActionBuilt action.Fail = Unit {0}
+ActionBuilt action.Quit = Unit {0}
+ActionBuilt action.Stop = Unit {0}
+ActionBuilt a = ⊥
+
+-- An instruction.
+abbrev pub OpBuilt : Op → Type 0
+OpBuilt (op.Do a) = ActionBuilt a
+OpBuilt (op.Ask pred terms many next) = terms ≡ []
+OpBuilt (op.LastAsk pred terms many) = terms ≡ []
+OpBuilt op.Take = Unit {0}
+OpBuilt (op.Branch alt) = Unit {0}
+OpBuilt op.Once = Unit {0}
+OpBuilt (op.Try alt) = Unit {0}
+OpBuilt (op.Retry alt) = Unit {0}
+OpBuilt op.Commit = Unit {0}
+OpBuilt op.Refuse = Unit {0}
+OpBuilt op.Back = Unit {0}
+OpBuilt op.Return = Unit {0}
+OpBuilt (op.Goto b) = Unit {0}
+OpBuilt (op.Enter vars head) = (vars ≡ 0) × (head ≡ [])
+OpBuilt op.Done = Unit {0}
+OpBuilt x = ⊥
+
+-- Each of some instructions.
+abbrev pub OpsBuilt : List Op → Type 0
+OpsBuilt [] = Unit {0}
+OpsBuilt (x ∷ ops) = OpBuilt x × OpsBuilt ops
+
+-- Code has no other instructions.
+abbrev pub IsBuilt : Code → Type 0
+IsBuilt code = (b : ℕ) → OpsBuilt (block_at code b)
+
+-- An action prints nothing.
+abbrev pub IsQuiet : Action → Type 0
+IsQuiet (action.Text name) = ⊥
+IsQuiet (action.Gap kind) = ⊥
+IsQuiet a = Unit {0}
+
+-- Nor does an instruction.
+abbrev pub IsQuietOp : Op → Type 0
+IsQuietOp (op.Do a) = IsQuiet a
+IsQuietOp x = Unit {0}

@@ -1,0 +1,202 @@
+-- How what a machine is in lies in memory. Hold it against the Dialog manual, chapters "Choice points" and "Control flow".
+use Rattle.std.specs.Prelude.{ℕ, suc, ◌+◌, ◌*◌, ◌-◌, ◌≡◌, ◌<◌, ◌≤◌, ◌++◌, List, [], ◌∷◌, Option, Some, None, Bool, length, reverse, drop, vec_capacity}
+use Rattle.dg_base.specs.declared.run.Limits.{Limits}
+use Rattle.dg_meaning.specs.Values.{Value}
+use Rattle.dg_meaning.specs.OneRun.{Begins}
+use Rattle.dg_meaning.specs.World.{Gathering}
+use Rattle.dg_unify.specs.Store.{State, Store, Saved}
+use Rattle.dg_unify.specs.declared.bindings.Ref.{Ref}
+use Rattle.dg_arena.specs.Held.{meaning_of, saves_of}
+use Rattle.dg_mid.specs.declared.code.Code.{Code}
+use Rattle.dg_mid.specs.declared.code.RuleCode.{RuleCode}
+use Rattle.dg_mid.specs.Code.{rules_at}
+use Rattle.dg_mid.specs.State.{Place, Mid, Stop, Frame as FrameOf, Call as CallOf, Way as WayOf, Goes as GoesOf, Calls as CallsOf, Choice as ChoiceOf}
+use Rattle.dg_mid.specs.Step.{back_at}
+use Rattle.dg_machine.specs.declared.now.Frame.{Frame}
+use Rattle.dg_machine.specs.declared.now.Inner.{Inner}
+use Rattle.dg_machine.specs.declared.now.Call.{Call}
+use Rattle.dg_machine.specs.declared.now.Choice.{Choice}
+use Rattle.dg_machine.specs.declared.now.Way.{Way}
+use Rattle.dg_machine.specs.declared.now.Way.TheVariants.{Goes, Calls}
+use Rattle.dg_machine.specs.declared.memory.Memory.{Memory}
+use Rattle.dg_machine.specs.Links.{named}
+
+-- ## Frames and inner constructs
+
+-- Values stand at places in a row.
+abbrev pub ValuesAt : Store → ℕ → List Value → Type 0
+ValuesAt s at [] = Unit {0}
+ValuesAt s at (v ∷ vs) = (s.value (record { 0 = at }) ≡ Some v) × ValuesAt s (suc at) vs
+
+-- An inner construct begins at the height of its place, and stands behind the one around it.
+pub record InnerAt (around : ℕ → Type 0) (inners : List Inner) (l : ℕ) (p : Place) : Type 0 where
+  pub inner : Inner
+  pub there : named inners l ≡ Some inner
+  pub height : p.height ≡ inner.height
+  pub older : inner.around < l
+  pub around_is : around inner.around
+
+-- So does each of some inner constructs, the innermost first.
+abbrev pub InnersAt : List Inner → ℕ → List Place → Type 0
+InnersAt inners l [] = l ≡ 0
+InnersAt inners l (p ∷ ps) = InnerAt (λ k. InnersAt inners k ps) inners l p
+
+-- A frame keeps what a rule that is being run needs; its variables stand in the store, and it stands behind the one behind it.
+pub record FrameAt (behind : ℕ → Type 0) (s : Store) (inners : List Inner) (frames : List Frame) (e : ℕ) (f : FrameOf) : Type 0 where
+  pub frame : Frame
+  pub there : named frames e ≡ Some frame
+  pub next : f.next ≡ frame.next
+  pub many : f.many ≡ frame.many
+  pub cut : f.cut.height ≡ frame.cut
+  pub vars : ValuesAt s frame.vars f.vars
+  pub inner_is : InnersAt inners frame.inner f.inner
+  pub older : frame.behind < e
+  pub behind_is : behind frame.behind
+
+-- So does each of some frames, the newest first.
+abbrev pub FramesAt : Store → List Inner → List Frame → ℕ → List FrameOf → Type 0
+FramesAt s inners frames e [] = e ≡ 0
+FramesAt s inners frames e (f ∷ fs) = FrameAt (λ k. FramesAt s inners frames k fs) s inners frames e f
+
+-- ## Choices
+
+-- A call is kept; it has no arguments.
+pub record CallAt (k : Call) (c : CallOf) : Type 0 where
+  pub args : c.args ≡ []
+  pub next : c.next ≡ k.next
+  pub many : c.many ≡ k.many
+  pub cut : c.cut.height ≡ k.cut
+
+-- The last so many rules of a predicate.
+abbrev pub last_rules : Code → ℕ → ℕ → List RuleCode
+last_rules code pred left = let rules = rules_at code pred in drop (length rules - left) rules
+
+-- The last rules of a predicate are kept by their number, and the call that they are for.
+pub record RulesAt (code : Code) (k : Call) (pred left : ℕ) (c : CallOf) (rules : List RuleCode) : Type 0 where
+  pub call : CallAt k c
+  pub there : left ≤ length (rules_at code pred)
+  pub rules_are : rules ≡ last_rules code pred left
+
+-- What a choice goes on with is kept.
+abbrev pub WayAt : Code → Way → WayOf → Type 0
+WayAt code (Goes b) (GoesOf b') = b' ≡ b
+WayAt code (Calls k pred left) (CallsOf c rules) = RulesAt code k pred left c rules
+WayAt code way other = ⊥
+
+-- No stoppable part and no gathering is open.
+pub record NoneOpen (stops : List Stop) (stop : Option ℕ) (height : ℕ) : Type 0 where
+  pub stops_are : stops ≡ []
+  pub stop_is : stop ≡ None
+  pub height_is : height ≡ 0
+
+-- A choice keeps where it goes back to: of the store a mark that stands, and of frames and inner constructs how many there were. The older choices were
+-- made among those.
+pub record ChoiceAt (older : List Frame → List Inner → Type 0) (code : Code) (frames : List Frame) (inners : List Inner) (m : Saved) (k : Choice)
+    (c : ChoiceOf) : Type 0 where
+  pub way : WayAt code k.way c.way
+  pub mark : m.mark ≡ k.mark
+  pub state : m.store.state ≡ c.state
+  pub height : c.place.height ≡ k.mark.heap
+  pub frames_then : List Frame
+  pub inners_then : List Inner
+  pub frames_begin : Begins frames_then frames
+  pub inners_begin : Begins inners_then inners
+  pub frames_len : length frames_then ≡ k.frames
+  pub inners_len : length inners_then ≡ k.inners
+  pub frames_are : FramesAt m.store inners_then frames_then k.frame c.frames
+  pub inner_are : InnersAt inners_then k.inner c.inner
+  pub frames_few : 6 * length frames_then ≤ c.state.heap
+  pub inners_few : 10 * length inners_then ≤ c.state.heap
+  pub none_open : NoneOpen c.stops c.stop c.height
+  pub older_are : older frames_then inners_then
+
+-- So does each of some choices, the newest first; each has room for those that are older.
+abbrev pub ChoicesAt : Code → List Frame → List Inner → List Saved → List Choice → List ChoiceOf → Type 0
+ChoicesAt code frames inners [] [] [] = Unit {0}
+ChoicesAt code frames inners (m ∷ ms) (k ∷ ks) (c ∷ cs) =
+    ChoiceAt (λ fs is. ChoicesAt code fs is ms ks cs) code frames inners m k c × (10 * length ks ≤ c.state.heap)
+ChoicesAt code frames inners ms ks cs = ⊥
+
+-- ## Memory
+
+-- What was taken of the heap, and its limit.
+abbrev pub heap_in : Memory → ℕ
+heap_in r = (meaning_of r.arena).state.heap
+
+abbrev pub limit_in : Memory → ℕ
+limit_in r = (meaning_of r.arena).heap_limit
+
+-- There is room for all that the heap may count: a frame is six cells or more, an inner construct and a choice ten.
+pub record HasRoom (r : Memory) : Type 0 where
+  pub frames_fit : limit_in r < 6 * vec_capacity r.frames + 6
+  pub inners_fit : limit_in r < 10 * vec_capacity r.inners + 10
+  pub choices_fit : limit_in r < 10 * vec_capacity r.choices + 10
+  pub frames_few : 6 * length r.frames.items ≤ heap_in r
+  pub inners_few : 10 * length r.inners.items ≤ heap_in r
+  pub choices_few : 10 * length r.choices.items ≤ heap_in r
+
+-- The limits are those of the store.
+pub record Limited (l : Limits) (s : Store) : Type 0 where
+  pub heap : s.heap_limit ≡ l.heap
+  pub trail : s.trail_limit ≡ l.trail
+
+-- The state of a store that is empty.
+abbrev pub at_rest : State
+at_rest = record { vars = 0; subst = []; since = 0; heap = 0; trail = 0 }
+
+-- There is room for as many as the limits allow.
+pub record Roomy (l : Limits) (r : Memory) : Type 0 where
+  pub limits : Limited l (meaning_of r.arena)
+  pub frames : l.heap < 6 * vec_capacity r.frames + 6
+  pub inners : l.heap < 10 * vec_capacity r.inners + 10
+  pub choices : l.heap < 10 * vec_capacity r.choices + 10
+
+-- So many cells more than were taken are too many, and room is left as it was.
+pub record Lacks (n : ℕ) (l : Limits) (heap : ℕ) (r : Memory) : Type 0 where
+  pub over : l.heap < heap + n
+  pub roomy : Roomy l r
+
+-- Memory holds this state of the store, frames, inner constructs and choices.
+pub record HoldsWith (code : Code) (l : Limits) (r : Memory) (state : State) (frames : List FrameOf)
+    (inner : List Place) (choices : List ChoiceOf) : Type 0 where
+  pub saves : List Saved
+  pub stand : saves_of r.arena saves
+  pub state_is : (meaning_of r.arena).state ≡ state
+  pub limits : Limited l (meaning_of r.arena)
+  pub frames_are : FramesAt (meaning_of r.arena) r.inners.items r.frames.items r.frame frames
+  pub inner_are : InnersAt r.inners.items r.inner inner
+  pub choices_are : ChoicesAt code r.frames.items r.inners.items saves (reverse r.choices.items) choices
+  pub room : HasRoom r
+
+-- Memory holds what a machine is in; nothing stoppable and no gathering is open in it.
+abbrev pub Holds : Code → Limits → Memory → Mid → Type 0
+Holds code l r m = HoldsWith code l r m.state m.frames m.inner m.choices × NoneOpen m.stops m.stop (length m.gathered)
+
+-- ## What calls do to memory
+
+-- So much more of the heap was taken, and nothing else has changed.
+pub record Took (n : ℕ) (old new : Memory) : Type 0 where
+  pub heap : heap_in new ≡ heap_in old + n
+  pub others : new ≡ record old { arena = new.arena }
+  pub room : HasRoom new
+
+-- A choice was opened, and took ten of the heap.
+pub record Opened (way : Way) (old new : Memory) : Type 0 where
+  pub heap : heap_in new ≡ heap_in old + 10
+  pub inners : new.inners ≡ old.inners
+  pub frame : new.frame ≡ old.frame
+  pub inner : new.inner ≡ old.inner
+  pub room : HasRoom new
+  pub choice : Choice
+  pub goes : choice.way ≡ way
+  pub choices : new.choices.items ≡ old.choices.items ++ choice ∷ []
+
+-- The newest choice is gone, and memory holds what it goes back to; or there was none.
+abbrev pub WentBack : Code → Limits → Option Way → Memory → Mid → List ChoiceOf → Type 0
+WentBack code l (Some way) new m (c ∷ cs) = WayAt code way c.way × Holds code l new (back_at c cs m)
+WentBack code l None new m [] = Unit {0}
+WentBack code l way new m cs = ⊥
+
+-- The frame of a rule without variables that is entered by a call.
+abbrev pub frame_of : CallOf → Mid → FrameOf
+frame_of c m = record { vars = []; cut = c.cut; many = c.many; next = c.next; inner = m.inner }

@@ -1,0 +1,6 @@
+pub mod Links
+pub mod Layout
+pub mod Built
+pub mod Measure
+pub mod Standing
+pub mod Running

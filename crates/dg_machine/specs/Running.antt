@@ -1,0 +1,167 @@
+-- What a machine, a spacer and a sink come to together. Hold it against the Dialog manual, chapter "Output".
+use Rattle.std.specs.Prelude.{ℕ, ◌+◌, ◌≡◌, ◌<◌, ◌≤◌, ◌++◌, ◌-◌, ◌⊎◌, suc, List, [], ◌∷◌, Option, Some, None, Bool, true, false}
+use Rattle.std.specs.Borrow.{Bor}
+use Rattle.dg_base.specs.declared.program.CoreProgram.{CoreProgram}
+use Rattle.dg_base.specs.declared.run.Limits.{Limits}
+use Rattle.dg_base.specs.declared.run.Ending.{Ending}
+use Rattle.dg_base.specs.declared.run.Ending.TheVariants.{StepLimit}
+use Rattle.dg_base.specs.declared.run.Outcome.{Outcome}
+use Rattle.dg_base.specs.Written.{SinkView, Wrote, BrokeOff}
+use Rattle.dg_meaning.specs.World.{Game, Print}
+use Rattle.dg_meaning.specs.Render.{render}
+use Rattle.dg_meaning.specs.Shows.{Shows, MayWrite}
+use Rattle.dg_spacing.specs.declared.spacer.Spacer.{Spacer}
+use Rattle.dg_spacing.specs.Spacer.{StandsFor}
+use Rattle.dg_mid.specs.declared.code.Op.{Op}
+use Rattle.dg_mid.specs.declared.code.Op.TheVariants as op
+use Rattle.dg_mid.specs.declared.code.Code.{Code}
+use Rattle.dg_mid.specs.State.{Mid, Status, Runs as RunsOf, Ended as EndedOf}
+use Rattle.dg_mid.specs.Heights.{MidOrdered, StatusOrdered}
+use Rattle.dg_mid.specs.Step.{Setting, setting, step, said, followed, takes_goal, at_goal, is_goal}
+use Rattle.dg_mid.specs.Potential.{IsOver}
+use Rattle.dg_mid.specs.Runs.{after}
+use Rattle.dg_machine.specs.declared.now.Now.{Now}
+use Rattle.dg_machine.specs.declared.now.Now.TheVariants.{Runs, Enters, Resumes, Fails, Ended}
+use Rattle.dg_machine.specs.declared.memory.Memory.{Memory}
+use Rattle.dg_machine.specs.Built.{OpBuilt}
+use Rattle.dg_machine.specs.Layout.{Roomy, Holds}
+use Rattle.dg_machine.specs.Standing.{CodeIs, Stands}
+use Rattle.dg_machine.specs.Measure.{left_of}
+
+-- ## Steps
+
+-- The machine has done a step that takes no goal: it stands for the step of what it stood for, nothing is printed, and a number has fallen.
+pub record MarkDone (code : Code) (g : Game) (l : Limits) (old : Memory) (before : Now) (new : Memory) (after : Now) (s : Status) : Type 0 where
+  pub stands : Stands code l new after (step (setting g code l) s)
+  pub falls : (IsOver s → ⊥) → left_of new after < left_of old before
+  pub quiet : said (setting g code l) s ≡ []
+
+abbrev pub DoesMarks : Code → Memory → Now → Memory → Now → Type 0
+DoesMarks code old before new after = (g : Game) (l : Limits) (s : Status) → StatusOrdered s → takes_goal s ≡ false → Stands code l old before s →
+    MarkDone code g l old before new after s
+
+-- A machine that needs no step before its next goal, or has ended.
+abbrev pub rests : Now → Bool
+rests (Runs ops) = at_goal ops.now
+rests (Ended e) = true
+rests now = false
+
+-- ## Text
+
+-- Since the start the sink took the text of these things, and the spacer stands for them.
+pub record HasText (s : Spacer) (start now : SinkView) (ps : List Print) : Type 0 where
+  pub stands : StandsFor s ps
+  pub wrote : Wrote start now (render ps)
+
+-- An instruction that takes a goal was done: the machine stands for what it leads to, and what it prints was written.
+pub record GoalDone (code : Code) (g : Game) (l : Limits) (new : Memory) (after : Now) (s s' : Spacer) (k k' : SinkView) (m : Mid) : Type 0 where
+  pub stands : Stands code l new after (step (setting g code l) (RunsOf m))
+  pub writes : (start : SinkView) (ps : List Print) → HasText s start k ps → HasText s' start k' (followed ps (said (setting g code l) (RunsOf m)))
+
+abbrev pub DoesGoal : Code → Memory → List Op → Memory → Now → Spacer → Spacer → SinkView → SinkView → Type 0
+DoesGoal code old ops new after s s' k k' = (g : Game) (l : Limits) (m : Mid) → MidOrdered m → at_goal ops ≡ true → CodeIs ops m → Holds code l old m →
+    GoalDone code g l new after s s' k k' m
+
+-- The sink failed within what an instruction prints, and the code goes on behind it.
+pub record GoalLost (g : Game) (code : Code) (l : Limits) (k k' : SinkView) (m : Mid) (start : SinkView) (ps : List Print) : Type 0 where
+  pub behind : Mid
+  pub goes : step (setting g code l) (RunsOf m) ≡ RunsOf behind
+  pub broke : BrokeOff start k' (render (followed ps (said (setting g code l) (RunsOf m))))
+
+abbrev pub LosesGoal : Code → Memory → List Op → Spacer → SinkView → SinkView → Type 0
+LosesGoal code old ops s k k' = (g : Game) (l : Limits) (m : Mid) → CodeIs ops m → Holds code l old m → (start : SinkView) (ps : List Print) →
+    HasText s start k ps → GoalLost g code l k k' m start ps
+
+-- ## Whole runs
+
+-- The machine is where a run of code is after some steps, of which so many goals are, and what was printed was written.
+pub record IsAt (code : Code) (g : Game) (l : Limits) (typed : List ℕ) (r : Memory) (now : Now) (goals : ℕ) (s : Spacer) (start k : SinkView) : Type 0 where
+  pub steps : ℕ
+  pub stands : Stands code l r now (after (setting g code l) typed steps).now
+  pub goals_is : (after (setting g code l) typed steps).goals ≡ goals
+  pub text : HasText s start k (after (setting g code l) typed steps).prints
+
+-- Wherever the machine was, it has taken so many goals from there.
+abbrev pub Takes : Code → ℕ → Memory → Now → Spacer → SinkView → Memory → Now → Spacer → SinkView → Type 0
+Takes code n old before s k new now s' k' = (g : Game) (l : Limits) (typed : List ℕ) (goals : ℕ) (start : SinkView) →
+    IsAt code g l typed old before goals s start k → IsAt code g l typed new now (n + goals) s' start k'
+
+-- The output was lost: what broke off is within the text of what was printed up to some step, behind which the code goes on.
+pub record IsLost (code : Code) (g : Game) (l : Limits) (typed : List ℕ) (goals : ℕ) (start k : SinkView) : Type 0 where
+  pub steps : ℕ
+  pub behind : Mid
+  pub goes : (after (setting g code l) typed steps).now ≡ RunsOf behind
+  pub goals_is : (after (setting g code l) typed steps).goals ≡ goals
+  pub broke : BrokeOff start k (render (after (setting g code l) typed steps).prints)
+
+-- Wherever the machine was, the next goal has lost the output.
+abbrev pub Loses : Code → Memory → Now → Spacer → SinkView → SinkView → Type 0
+Loses code old before s k k' = (g : Game) (l : Limits) (typed : List ℕ) (goals : ℕ) (start : SinkView) →
+    IsAt code g l typed old before goals s start k → IsLost code g l typed (suc goals) start k'
+
+-- How a run has ended: as its code does, or at a goal for which no budget is left.
+abbrev pub EndsSo : Ending → ℕ → Status → Type 0
+EndsSo e left s = (s ≡ EndedOf e) ⊎ ((e ≡ StepLimit) × (left ≡ 0) × (takes_goal s ≡ true))
+
+-- A run has ended so, with so much of its budget left, and what it printed was written.
+pub record HasEnded (code : Code) (g : Game) (l : Limits) (typed : List ℕ) (goals : ℕ) (e : Ending) (left : ℕ)
+    (r : Memory) (s : Spacer) (start k : SinkView) : Type 0 where
+  pub steps : ℕ
+  pub ends : EndsSo e left (after (setting g code l) typed steps).now
+  pub goals_is : (after (setting g code l) typed steps).goals ≡ goals
+  pub text : HasText s start k (after (setting g code l) typed steps).prints
+  pub roomy : Roomy l r
+
+-- Wherever the machine was with such a budget, it has ended so.
+abbrev pub Finishes : Code → Memory → Now → ℕ → Spacer → SinkView → Ending → ℕ → Memory → Spacer → SinkView → Type 0
+Finishes code old before budget s k e left new s' k' = (g : Game) (l : Limits) (typed : List ℕ) (start : SinkView) →
+    IsAt code g l typed old before 0 s start k → HasEnded code g l typed (budget - left) e left new s' start k' × (left ≤ budget)
+
+-- Or within its budget it has lost the output.
+pub record IsLostWithin (code : Code) (g : Game) (l : Limits) (typed : List ℕ) (budget : ℕ) (r : Memory) (start k : SinkView) : Type 0 where
+  pub goals : ℕ
+  pub within : goals ≤ budget
+  pub lost : IsLost code g l typed goals start k
+  pub roomy : Roomy l r
+
+abbrev pub LosesRun : Code → Memory → Now → ℕ → Spacer → SinkView → Memory → SinkView → Type 0
+LosesRun code old before budget s k new k' = (g : Game) (l : Limits) (typed : List ℕ) (start : SinkView) →
+    IsAt code g l typed old before 0 s start k → IsLostWithin code g l typed budget new start k'
+
+-- A machine is where a run of some game is.
+pub record IsSomewhere (code : Code) (r : Memory) (now : Now) : Type 0 where
+  pub game : Game
+  pub limits : Limits
+  pub typed : List ℕ
+  pub steps : ℕ
+  pub stands : Stands code limits r now (after (setting game code limits) typed steps).now
+
+-- The machine has done steps that take no goal.
+pub record HasSettled (code : Code) (g : Game) (l : Limits) (typed : List ℕ) (steps : ℕ) (new : Memory) (now : Now) : Type 0 where
+  pub further : ℕ
+  pub stands : Stands code l new now (after (setting g code l) typed further).now
+  pub goals : (after (setting g code l) typed further).goals ≡ (after (setting g code l) typed steps).goals
+  pub prints : (after (setting g code l) typed further).prints ≡ (after (setting g code l) typed steps).prints
+
+-- Wherever it was.
+abbrev pub Settles : Code → Memory → Now → Memory → Now → Type 0
+Settles code old before new now = (g : Game) (l : Limits) (typed : List ℕ) (steps : ℕ) →
+    Stands code l old before (after (setting g code l) typed steps).now → HasSettled code g l typed steps new now
+
+-- ## What a run promises
+
+-- The program with the dice words.
+abbrev pub game : CoreProgram → List ℕ → Game
+game program dice = record { program = program; dice = dice }
+
+-- The sink took a text that shows the game with this outcome.
+pub record HasShown (g : Game) (typed : List ℕ) (l : Limits) (outcome : Outcome) (old new : SinkView) : Type 0 where
+  pub bytes : List ℕ
+  pub shows : Shows g typed l bytes outcome None
+  pub wrote : Wrote old new bytes
+
+-- The sink failed within a text that may be written: its count rose, it took a front of that text, and the text is longer than a room that it told.
+pub record HasLostOutput (g : Game) (typed : List ℕ) (l : Limits) (old new : SinkView) : Type 0 where
+  pub bytes : List ℕ
+  pub may_write : MayWrite g typed l bytes
+  pub broke : BrokeOff old new bytes

@@ -1,0 +1,106 @@
+-- What a machine with its memory stands for. Hold it against the Dialog manual, chapter "Choice points".
+use Rattle.std.specs.Prelude.{ℕ, ◌≡◌, ◌<◌, ◌≤◌, List, [], ◌∷◌, Bool, length}
+use Rattle.std.specs.Borrow.{Bor}
+use Rattle.dg_base.specs.declared.run.Limits.{Limits}
+use Rattle.dg_meaning.specs.World.{Game}
+use Rattle.dg_mid.specs.declared.code.Op.{Op}
+use Rattle.dg_mid.specs.declared.code.Code.{Code}
+use Rattle.dg_mid.specs.declared.code.RuleCode.{RuleCode}
+use Rattle.dg_mid.specs.Code.{block_at, rules_at}
+use Rattle.dg_mid.specs.State.{Mid, Call as CallOf, Way as WayOf, Goes as GoesOf, ToPred}
+use Rattle.dg_mid.specs.State.{Status, Runs as RunsOf, Enters as EntersOf, Resumes as ResumesOf, Fails as FailsOf, Ended as EndedOf}
+use Rattle.dg_mid.specs.Heights.{MidOrdered, StatusOrdered}
+use Rattle.dg_mid.specs.Potential.{Tidy}
+use Rattle.dg_mid.specs.Step.{Setting, setting, call_of, begins, asks, last, does, entered, goes_on, goes_back, step}
+use Rattle.dg_machine.specs.declared.now.Call.{Call}
+use Rattle.dg_machine.specs.declared.now.Way.{Way}
+use Rattle.dg_machine.specs.declared.now.Way.TheVariants.{Goes, Calls}
+use Rattle.dg_machine.specs.declared.now.Now.{Now}
+use Rattle.dg_machine.specs.declared.now.Now.TheVariants.{Runs, Enters, Resumes, Fails, Ended}
+use Rattle.dg_machine.specs.declared.memory.Memory.{Memory}
+use Rattle.dg_machine.specs.Layout.{CallAt, RulesAt, WayAt, Roomy, Holds}
+use Rattle.dg_machine.specs.Measure.{left_of}
+use Rattle.dg_machine.specs.Built.{OpBuilt, OpsBuilt, IsBuilt}
+
+-- The code at hand is that of a machine, and all of it is built.
+abbrev pub CodeIs : List Op → Mid → Type 0
+CodeIs ops m = (m.ops ≡ ops) × OpsBuilt ops
+
+-- What is done next is what a status is in, and memory holds it; where the run has ended it has room still.
+abbrev pub Stands : Code → Limits → Memory → Now → Status → Type 0
+Stands code l r (Runs ops) (RunsOf m) = CodeIs ops.now m × Holds code l r m
+Stands code l r (Enters k ops) (EntersOf c m) = CodeIs ops.now m × CallAt k c × Holds code l r m
+Stands code l r (Resumes way) (ResumesOf way' m) = WayAt code way way' × Holds code l r m
+Stands code l r Fails (FailsOf m) = Holds code l r m
+Stands code l r (Ended e) (EndedOf e') = (e' ≡ e) × Roomy l r
+Stands code l r now s = ⊥
+
+-- Whatever the machine stands for before, it stands behind it for the step of that, in every game.
+abbrev pub Steps : Code → Memory → Now → Memory → Now → Type 0
+Steps code old before new after =
+    (g : Game) (l : Limits) (s : Status) → StatusOrdered s → Stands code l old before s → Stands code l new after (step (setting g code l) s)
+
+-- An instruction that is built, with these behind it, is done: whatever memory held, it stands for what the instruction leads to.
+abbrev pub DoesOp : Code → Memory → Op → List Op → Memory → Now → Type 0
+DoesOp code old x rest new after = (g : Game) (l : Limits) (m : Mid) → MidOrdered m → OpBuilt x → CodeIs rest m → Holds code l old m →
+    Stands code l new after (does (setting g code l) x m)
+
+-- The same, and the number that falls between goals has fallen.
+pub record Falls (code : Code) (l : Limits) (old : Memory) (before : Now) (new : Memory) (after : Now) (s : Status) : Type 0 where
+  pub stands : Stands code l new after s
+  pub falls : left_of new after < left_of old before
+
+-- An instruction that takes no goal is done so.
+abbrev pub DoesMark : Code → Memory → Bor (List Op) → Op → List Op → Memory → Now → Type 0
+DoesMark code old ops x rest new after = (g : Game) (l : Limits) (m : Mid) → MidOrdered m → OpBuilt x → CodeIs rest m → Holds code l old m →
+    Falls code l old (Runs ops) new after (does (setting g code l) x m)
+
+-- A call with the last so many rules of a predicate begins: memory stands for what that leads to, and where it goes on with a choice that is gone, the
+-- number that falls has fallen.
+pub record CallBegins (code : Code) (l : Limits) (old : Memory) (k : Call) (pred left : ℕ) (new : Memory) (after : Now) (s : Status) : Type 0 where
+  pub stands : Stands code l new after s
+  pub falls : left_of new after < left_of old (Resumes (Calls k pred left))
+
+abbrev pub CallsRules : Code → Memory → Call → ℕ → ℕ → Memory → Now → Type 0
+CallsRules code old k pred left new after = (g : Game) (l : Limits) (m : Mid) (c : CallOf) (rules : List RuleCode) → Holds code l old m →
+    RulesAt code k pred left c rules → CallBegins code l old k pred left new after (begins (setting g code l) c rules m)
+
+-- A predicate is asked by a call without arguments that goes on at a block.
+abbrev pub Asks : Code → Memory → ℕ → Bool → ℕ → Memory → Now → Type 0
+Asks code old pred many next new after = (g : Game) (l : Limits) (m : Mid) → Holds code l old m →
+    Stands code l new after (asks (setting g code l) pred (call_of [] many next m) m)
+
+-- The same of the last query of a rule.
+abbrev pub AsksLast : Code → Memory → ℕ → Bool → Memory → Now → Type 0
+AsksLast code old pred many new after = (g : Game) (l : Limits) (m : Mid) → Holds code l old m →
+    Stands code l new after (last (setting g code l) (ToPred pred) [] many m.frames m)
+
+-- A call enters a rule.
+abbrev pub EntersRule : Code → Memory → Call → Bor (List Op) → Memory → Now → Type 0
+EntersRule code old k ops new after = (g : Game) (l : Limits) (m : Mid) (c : CallOf) → CodeIs ops.now m → CallAt k c → Holds code l old m →
+    Falls code l old (Enters k ops) new after (entered (setting g code l) c m.ops m)
+
+-- The rules that a choice goes on with are there.
+abbrev pub IsThere : Code → Way → Type 0
+IsThere code (Goes b) = Unit {0}
+IsThere code (Calls k pred left) = left ≤ length (rules_at code pred)
+
+-- A choice goes on at a block, with a number of an earlier block where that begins with it.
+abbrev pub GoesOnAt : Code → ℕ → Memory → Bor (List Op) → Memory → Now → Type 0
+GoesOnAt code b old ops new after = (g : Game) (l : Limits) (m : Mid) → Tidy code → IsBuilt code → ops.now ≡ block_at code b → Holds code l old m →
+    Falls code l old (Resumes (Goes b)) new after (goes_on (setting g code l) (GoesOf b) m)
+
+-- A choice goes on.
+abbrev pub GoesOn : Code → Memory → Way → Memory → Now → Type 0
+GoesOn code old way new after = (g : Game) (l : Limits) (m : Mid) (on : WayOf) → WayAt code way on → Holds code l old m →
+    Falls code l old (Resumes way) new after (goes_on (setting g code l) on m)
+
+-- It fails.
+abbrev pub FailsTo : Code → Memory → Memory → Now → Type 0
+FailsTo code old new after = (l : Limits) (m : Mid) → Holds code l old m → Falls code l old Fails new after (goes_back m.choices m)
+
+-- A machine stands for some status.
+pub record HasStatus (code : Code) (r : Memory) (now : Now) : Type 0 where
+  pub limits : Limits
+  pub status : Status
+  pub stands : Stands code limits r now status

@@ -1,0 +1,254 @@
+// What an instruction does in memory.
+ghost use Rattle.std.specs.Prelude.{◌≡◌, ◌<◌, ◌≤◌, ℕ, List, length};
+ghost use Rattle.dg_base.specs.declared.run.Limits.{Limits};
+ghost use Rattle.dg_mid.specs.declared.code.Code.{Code as TheCode};
+ghost use Rattle.dg_mid.specs.declared.code.Op.TheVariants as op;
+ghost use Rattle.dg_mid.specs.declared.code.Action.TheVariants as action;
+ghost use Rattle.dg_mid.specs.Code.{block_at, rules_at};
+ghost use Rattle.dg_mid.specs.State.{Mid};
+ghost use Rattle.dg_mid.specs.Potential.{Tidy};
+ghost use Rattle.dg_machine.specs.Built.{IsBuilt};
+ghost use Rattle.dg_machine.specs.Layout.{HasRoom, Holds};
+ghost use Rattle.dg_machine.specs.Standing.{DoesOp, DoesMark, CallsRules, Asks, AsksLast, EntersRule, IsThere, GoesOnAt, GoesOn, FailsTo};
+
+use crate::memory::Memory;
+use crate::now::{Call, Now, Way};
+use dg_base::Ending;
+use dg_mid::{Code, Op, RuleCode};
+
+/// The instructions of a block.
+pub fn code_at(code: &Code, block: u32) -> &[Op]
+    ensures { result.now ≡ block_at code.now block }
+{
+    match code.blocks.get(block as usize) {
+        Some(found) => found.ops.as_slice(),
+        None => &[],
+    }
+}
+
+/// The rules of a predicate.
+pub fn rules_of(code: &Code, pred: u16) -> &[RuleCode]
+    ensures { result.now ≡ rules_at code.now pred }
+{
+    match code.preds.get(pred as usize) {
+        Some(found) => found.as_slice(),
+        None => &[],
+    }
+}
+
+impl Memory {
+    /// A choice opens whose other way is a block.
+    pub fn branch<'p>(&mut self, alt: u32, rest: &'p [Op]) -> Now<'p>
+        requires room { HasRoom self.old }
+        ensures { (code : TheCode) → DoesOp code self.old (op.Branch alt) rest.now self.new result }
+    {
+        match self.open(Way::Goes(alt)) {
+            Ok(()) => Now::Runs(rest),
+            Err(_) => Now::Ended(Ending::HeapLimit),
+        }
+    }
+
+    /// The same, and an inner construct begins.
+    pub fn attempt<'p>(&mut self, alt: u32, rest: &'p [Op]) -> Now<'p>
+        requires room { HasRoom self.old }
+        ensures { (code : TheCode) → DoesOp code self.old (op.Try alt) rest.now self.new result }
+    {
+        let height = self.arena.heap();
+        match self.open(Way::Goes(alt)) {
+            Ok(()) => {
+                self.begin(height);
+                Now::Runs(rest)
+            }
+            Err(_) => Now::Ended(Ending::HeapLimit),
+        }
+    }
+
+    /// An inner construct begins whose first answer is taken.
+    pub fn once<'p>(&mut self, rest: &'p [Op]) -> Now<'p>
+        requires room { HasRoom self.old }
+        ensures { (code : TheCode) → DoesOp code self.old op.Once rest.now self.new result }
+    {
+        let height = self.arena.heap();
+        match self.charge(10) {
+            Ok(()) => {
+                self.begin(height);
+                Now::Runs(rest)
+            }
+            Err(_) => Now::Ended(Ending::HeapLimit),
+        }
+    }
+
+    /// Cuts to where the rule at hand began.
+    pub fn just<'p>(&mut self, rest: &'p [Op]) -> Now<'p>
+        ensures { (code : TheCode) → DoesOp code self.old (op.Do action.Just) rest.now self.new result }
+    {
+        match self.frame_at_hand() {
+            Some(frame) => {
+                self.cut(frame.cut);
+                Now::Runs(rest)
+            }
+            None => {
+                self.cut(0);
+                Now::Runs(rest)
+            }
+        }
+    }
+
+    /// The inner construct at hand is left.
+    pub fn commit<'p>(&mut self, ops: &'p [Op], rest: &'p [Op]) -> Now<'p>
+        ensures { (code : TheCode) → DoesMark code self.old ops.entry op.Commit rest.now self.new result }
+    {
+        match self.inner_at_hand() {
+            None => Now::Fails,
+            Some(inner) => {
+                self.cut(inner.height);
+                self.inner = inner.around;
+                Now::Runs(rest)
+            }
+        }
+    }
+
+    /// The inner construct at hand is left, and it fails.
+    pub fn refuse<'p>(&mut self, ops: &'p [Op], rest: &'p [Op]) -> Now<'p>
+        ensures { (code : TheCode) → DoesMark code self.old ops.entry op.Refuse rest.now self.new result }
+    {
+        match self.inner_at_hand() {
+            None => Now::Fails,
+            Some(inner) => {
+                self.cut(inner.height);
+                self.inner = inner.around;
+                Now::Fails
+            }
+        }
+    }
+
+    /// The rule at hand is answered.
+    pub fn answer<'p>(&mut self, code: &'p Code, ops: &'p [Op], rest: &'p [Op]) -> Now<'p>
+        requires built { IsBuilt code.now }
+        requires tidy { Tidy code.now }
+        ensures { DoesMark code.now self.old ops.entry op.Return rest.now self.new result }
+    {
+        match self.frame_at_hand() {
+            None => Now::Fails,
+            Some(frame) if frame.many => {
+                self.frame = frame.behind;
+                self.inner = frame.inner;
+                Now::Runs(code_at(code, frame.next))
+            }
+            Some(frame) => {
+                self.cut(frame.cut);
+                self.frame = frame.behind;
+                self.inner = frame.inner;
+                Now::Runs(code_at(code, frame.next))
+            }
+        }
+    }
+
+    /// A call enters the first of the last so many rules of a predicate.
+    pub fn call<'p>(&mut self, code: &'p Code, call: Call, pred: u16, left: usize) -> Now<'p>
+        requires room { HasRoom self.old }
+        requires built { IsBuilt code.now }
+        requires there { left ≤ length (rules_at code.now pred) }
+        ensures { CallsRules code.now self.old call pred left self.new result }
+    {
+        let all = rules_of(code, pred);
+        let rules = &all[all.len() - left..];
+        match rules {
+            [] => Now::Fails,
+            [rule] => Now::Enters(call, code_at(code, rule.block)),
+            [rule, ..] => match self.open(Way::Calls(call, pred, left - 1)) {
+                Ok(()) => Now::Enters(call, code_at(code, rule.block)),
+                Err(_) => Now::Ended(Ending::HeapLimit),
+            },
+        }
+    }
+
+    /// A predicate is asked.
+    pub fn ask<'p>(&mut self, code: &'p Code, pred: u16, many: bool, next: u32) -> Now<'p>
+        requires room { HasRoom self.old }
+        requires built { IsBuilt code.now }
+        ensures { Asks code.now self.old pred many next self.new result }
+    {
+        let cut = self.arena.heap();
+        let left = rules_of(code, pred).len();
+        self.call(code, Call { next, many, cut }, pred, left)
+    }
+
+    /// A predicate is asked in the last query of a rule, which goes on where the rule does, unless the rule still has to cut.
+    pub fn ask_last<'p>(&mut self, code: &'p Code, pred: u16, many: bool) -> Now<'p>
+        requires room { HasRoom self.old }
+        requires built { IsBuilt code.now }
+        ensures { AsksLast code.now self.old pred many self.new result }
+    {
+        match self.frame_at_hand() {
+            Some(frame) if frame.many => {
+                self.frame = frame.behind;
+                self.inner = frame.inner;
+                self.ask(code, pred, many, frame.next)
+            }
+            _ => {
+                self.inner = 0;
+                self.ask(code, pred, many, 0)
+            }
+        }
+    }
+
+    /// A call enters a rule.
+    pub fn enter_rule<'p>(&mut self, call: Call, ops: &'p [Op]) -> Now<'p>
+        requires room { HasRoom self.old }
+        ensures { (code : TheCode) → EntersRule code self.old call ops.entry self.new result }
+    {
+        match ops {
+            [] => Now::Fails,
+            [op, rest @ ..] => match op {
+                Op::Enter(_, _) => match self.enter(call) {
+                    Ok(()) => Now::Runs(rest),
+                    Err(_) => Now::Ended(Ending::HeapLimit),
+                },
+                _ => Now::Fails,
+            },
+        }
+    }
+
+    /// A choice goes on at a block, and is kept where that begins so.
+    fn go_on_at<'p>(&mut self, ops: &'p [Op]) -> Now<'p>
+        requires room { HasRoom self.old }
+        ensures { (code : TheCode) → (block : ℕ) → GoesOnAt code block self.old ops.entry self.new result }
+    {
+        match ops {
+            [] => Now::Runs(ops),
+            [op, rest @ ..] => match op {
+                Op::Retry(alt) => match self.open(Way::Goes(*alt)) {
+                    Ok(()) => Now::Runs(rest),
+                    Err(_) => Now::Ended(Ending::HeapLimit),
+                },
+                _ => Now::Runs(ops),
+            },
+        }
+    }
+
+    /// A choice goes on.
+    pub fn go_on<'p>(&mut self, code: &'p Code, way: Way) -> Now<'p>
+        requires room { HasRoom self.old }
+        requires built { IsBuilt code.now }
+        requires tidy { Tidy code.now }
+        requires there { IsThere code.now way }
+        ensures { GoesOn code.now self.old way self.new result }
+    {
+        match way {
+            Way::Calls(call, pred, left) => self.call(code, call, pred, left),
+            Way::Goes(block) => self.go_on_at(code_at(code, block)),
+        }
+    }
+
+    /// It fails, and goes back to the newest choice.
+    pub fn fail<'p>(&mut self) -> Now<'p>
+        requires some { (code : TheCode) × (l : Limits) × (m : Mid) × Holds code l self.old m }
+        ensures { (code : TheCode) → FailsTo code self.old self.new result }
+    {
+        match self.back() {
+            None => Now::Ended(Ending::Failed),
+            Some(way) => Now::Resumes(way),
+        }
+    }
+}

@@ -1,0 +1,12 @@
+//! A machine that runs register code in a memory that is taken once.
+#![tactic(auto)]
+
+mod doing;
+mod machine;
+mod memory;
+mod now;
+mod steps;
+
+pub use machine::Machine;
+pub use memory::Memory;
+pub use now::{Call, Choice, Frame, Inner, Now, Way};

@@ -1,0 +1,99 @@
+// The machine: it runs its code from the start.
+ghost use Rattle.std.specs.Prelude.{◌≡◌, IfOk, OnErr, IsErrOf, List, ℕ};
+ghost use Rattle.dg_base.specs.declared.program.CoreProgram.{CoreProgram};
+ghost use Rattle.dg_meaning.specs.Transcript.{line_of};
+ghost use Rattle.dg_mid.specs.Codes.{Codes};
+ghost use Rattle.dg_mid.specs.Potential.{Tidy};
+ghost use Rattle.dg_machine.specs.Built.{IsBuilt};
+ghost use Rattle.dg_machine.specs.Layout.{Roomy};
+ghost use Rattle.dg_machine.specs.Running.{game, HasShown, HasLostOutput};
+
+use crate::doing::code_at;
+use crate::memory::Memory;
+use crate::now::Now;
+use crate::steps::go;
+use dg_base::{Ending, Fault, Limits, Outcome, Sink, Source};
+use dg_mid::Code;
+use dg_spacing::Spacer;
+use std::alloc::{AllocError, Global};
+
+/// Code with the limits of its runs, and a memory that was taken once.
+#[derive(Drop)]
+pub struct Machine {
+    code: Code,
+    limits: Limits,
+    memory: Memory,
+    ghost roomy: { Roomy limits memory },
+}
+
+fn line(ending: Ending) -> &'static [u8]
+    ensures { result.now ≡ line_of ending }
+{
+    match ending {
+        Ending::Done | Ending::Quit => b"",
+        Ending::Failed => b"[Failed]\n",
+        Ending::Stopped => b"[Stopped]\n",
+        Ending::InputEnded => b"[End of input]\n",
+        Ending::StepLimit => b"[Step limit]\n",
+        Ending::HeapLimit => b"[Heap limit]\n",
+        Ending::TrailLimit => b"[Trail limit]\n",
+        Ending::AuxLimit => b"[Aux limit]\n",
+        Ending::KeepLimit => b"[Keep limit]\n",
+    }
+}
+
+impl Machine {
+    /// A machine for this code and these limits, which takes all its memory.
+    pub fn new(alloc: Global, code: Code, limits: &Limits) -> Result<Machine, AllocError>
+        ensures code { IfOk result (λ m. m.code ≡ code) }
+        ensures limits { IfOk result (λ m. m.limits ≡ limits.now) }
+    {
+        let memory = Memory::new(alloc, limits.heap, limits.trail)?;
+        Ok(Machine {
+            code,
+            limits: *limits,
+            memory,
+        })
+    }
+
+    /// Runs the code from its start, and writes the transcript. It takes no memory, and reads nothing yet.
+    pub fn run<S: Source, K: Sink>(
+        &mut self,
+        source: &mut S,
+        dice: &[u16],
+        sink: &mut K,
+    ) -> Result<Outcome, Fault>
+        requires built { IsBuilt self.old.code }
+        requires tidy { Tidy self.old.code }
+        ensures shows { IfOk result (λ outcome. (p : CoreProgram) → Codes p self.old.code → (typed : List ℕ) →
+            HasShown (game p dice.now) typed self.old.limits outcome (K.view sink.old) (K.view sink.new)) }
+        ensures err { OnErr result ((p : CoreProgram) → Codes p self.old.code → (typed : List ℕ) →
+            HasLostOutput (game p dice.now) typed self.old.limits (K.view sink.old) (K.view sink.new)) }
+        ensures read { IsErrOf result Fault.Read → ⊥ }
+        ensures source { S.view source.new ≡ S.view source.old }
+        ensures code { self.new.code ≡ self.old.code }
+        ensures limits { self.new.limits ≡ self.old.limits }
+    {
+        self.memory.clear();
+        let mut spacer = Spacer::new();
+        let start = Now::Runs(code_at(&self.code, 1));
+        let steps = self.limits.steps;
+        match go(
+            &mut self.memory,
+            &self.code,
+            start,
+            steps,
+            &mut spacer,
+            sink,
+        ) {
+            Err(_) => Err(Fault::Write),
+            Ok((ending, left)) => match spacer.close(sink, line(ending)) {
+                Err(_) => Err(Fault::Write),
+                Ok(()) => Ok(Outcome {
+                    ending,
+                    goals: steps - left,
+                }),
+            },
+        }
+    }
+}

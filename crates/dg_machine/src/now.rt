@@ -1,0 +1,62 @@
+// What a machine keeps of the code that it runs.
+
+use dg_base::Ending;
+use dg_mid::Op;
+use dg_unify::Mark;
+
+/// A rule that is being run: the block behind its answer, whether all its answers are wanted, the height of the heap to which
+/// its (just) cuts, the first of its variables, the inner constructs that are open behind it, and the frame behind it. A
+/// frame and an inner construct are named by their places, counted from 1.
+#[derive(Clone, Copy, Drop)]
+pub struct Frame {
+    pub next: u32,
+    pub many: bool,
+    pub cut: u32,
+    pub vars: u32,
+    pub inner: usize,
+    pub behind: usize,
+}
+
+/// An inner construct: the height of the heap where it begins, and the one around it.
+#[derive(Clone, Copy, Drop)]
+pub struct Inner {
+    pub height: u32,
+    pub around: usize,
+}
+
+/// A query that is about to enter a rule: the block behind it, whether all its answers are wanted, and where it cuts to.
+#[derive(Clone, Copy, Drop)]
+pub struct Call {
+    pub next: u32,
+    pub many: bool,
+    pub cut: u32,
+}
+
+/// What a choice goes on with: a block, or the last so many rules of a predicate.
+#[derive(Clone, Copy, Drop)]
+pub enum Way {
+    Goes(u32),
+    Calls(Call, u16, usize),
+}
+
+/// A choice: what it goes on with, the frame and the inner construct there, how many of them there were, and the place of the
+/// store to which it goes back.
+#[derive(Clone, Copy, Drop)]
+pub struct Choice {
+    pub way: Way,
+    pub frame: usize,
+    pub inner: usize,
+    pub frames: usize,
+    pub inners: usize,
+    pub mark: Mark,
+}
+
+/// What is done next: the code at hand, a rule is entered, what a choice had left goes on, it fails, or the run has ended.
+#[derive(Clone, Copy, Drop)]
+pub enum Now<'p> {
+    Runs(&'p [Op]),
+    Enters(Call, &'p [Op]),
+    Resumes(Way),
+    Fails,
+    Ended(Ending),
+}

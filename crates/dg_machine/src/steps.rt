@@ -1,0 +1,284 @@
+// One step after another.
+ghost use Rattle.std.specs.Prelude.{◌≡◌, ◌∷◌, IfOk, OnErr, true, false};
+ghost use Rattle.dg_meaning.specs.World.{GapOf};
+ghost use Rattle.dg_spacing.specs.Gaps.{print_of};
+ghost use Rattle.dg_mid.specs.declared.code.Code.{Code as TheCode};
+ghost use Rattle.dg_mid.specs.declared.code.Op.TheVariants as op;
+ghost use Rattle.dg_mid.specs.Step.{at_goal, is_goal as takes_goal};
+ghost use Rattle.dg_mid.specs.Potential.{Tidy};
+ghost use Rattle.dg_machine.specs.declared.now.Now.TheVariants.{Runs};
+ghost use Rattle.dg_machine.specs.Built.{IsBuilt, IsQuiet, IsQuietOp};
+ghost use Rattle.dg_machine.specs.Layout.{HasRoom};
+ghost use Rattle.dg_machine.specs.Standing.{DoesOp, DoesMark, HasStatus};
+ghost use Rattle.dg_machine.specs.Running.{rests, DoesMarks, DoesGoal, LosesGoal, IsSomewhere, Settles, Takes, Loses, Finishes, LosesRun};
+
+use crate::doing::code_at;
+use crate::memory::Memory;
+use crate::now::Now;
+use dg_base::{Ending, GapKind, Sink, WriteFault};
+use dg_mid::{Action, Code, Op};
+use dg_spacing::{Event, Spacer};
+
+/// Whether an instruction takes a goal.
+fn is_goal(op: &Op) -> bool
+    ensures { result ≡ takes_goal op.now }
+{
+    match op {
+        Op::Do(_)
+        | Op::Ask(_, _, _, _)
+        | Op::LastAsk(_, _, _)
+        | Op::Query(_, _, _, _)
+        | Op::LastQuery(_, _, _)
+        | Op::Find(_, _, _, _)
+        | Op::Take
+        | Op::Branch(_)
+        | Op::Select(_, _, _, _)
+        | Op::Once
+        | Op::Try(_)
+        | Op::Shield(_)
+        | Op::Collect(_, _, _) => true,
+        _ => false,
+    }
+}
+
+/// Whether the first of some instructions takes a goal.
+fn at_goal(ops: &[Op]) -> bool
+    ensures { result ≡ at_goal ops.now }
+{
+    match ops {
+        [] => false,
+        [op, ..] => is_goal(op),
+    }
+}
+
+/// Whether a goal is next, or the run has ended.
+fn rests(now: Now<'_>) -> bool
+    ensures { result ≡ rests now.entry }
+{
+    match now {
+        Now::Runs(ops) => at_goal(ops),
+        Now::Ended(_) => true,
+        _ => false,
+    }
+}
+
+/// Does an instruction that takes no goal.
+fn do_mark<'p>(
+    memory: &mut Memory,
+    code: &'p Code,
+    ops: &'p [Op],
+    op: &'p Op,
+    rest: &'p [Op],
+) -> Now<'p>
+    requires built { IsBuilt code.now }
+    requires tidy { Tidy code.now }
+    requires mark { takes_goal op.now ≡ false }
+    requires whole { ops.now ≡ op.now ∷ rest.now }
+    ensures { DoesMark code.now memory.old ops.entry op.now rest.now memory.new result }
+{
+    match op {
+        Op::Commit => memory.commit(ops, rest),
+        Op::Refuse => memory.refuse(ops, rest),
+        Op::Return => memory.answer(code, ops, rest),
+        Op::Goto(block) => Now::Runs(code_at(code, *block)),
+        Op::Done => Now::Ended(Ending::Done),
+        _ => Now::Fails,
+    }
+}
+
+/// Does a step that takes no goal.
+fn mark_step<'p>(memory: &mut Memory, code: &'p Code, now: Now<'p>) -> Now<'p>
+    requires built { IsBuilt code.now }
+    requires tidy { Tidy code.now }
+    requires some { HasStatus code.now memory.old now }
+    requires mark { rests now ≡ false }
+    ensures { DoesMarks code.now memory.old now.entry memory.new result }
+{
+    match now {
+        Now::Runs(ops) => match ops {
+            [] => Now::Fails,
+            [op, rest @ ..] => do_mark(memory, code, ops, op, rest),
+        },
+        Now::Enters(call, ops) => memory.enter_rule(call, ops),
+        Now::Resumes(way) => memory.go_on(code, way),
+        Now::Fails => memory.fail(),
+        Now::Ended(ending) => Now::Ended(ending),
+    }
+}
+
+/// What a goal of the gap prints.
+fn event_of(kind: GapKind) -> Event<'static>
+    ensures { print_of result ≡ GapOf kind }
+{
+    match kind {
+        GapKind::NoSpace => Event::NoSpace,
+        GapKind::Space => Event::Space,
+        GapKind::Line => Event::Line,
+        GapKind::Par => Event::Par,
+        GapKind::Upper => Event::Upper,
+    }
+}
+
+/// Does an action that prints nothing.
+fn act<'p>(memory: &mut Memory, action: &'p Action, rest: &'p [Op]) -> Now<'p>
+    requires quiet { IsQuiet action.now }
+    ensures { (code : TheCode) → DoesOp code memory.old (op.Do action.now) rest.now memory.new result }
+{
+    match action {
+        Action::Just => memory.just(rest),
+        Action::Quit => Now::Ended(Ending::Quit),
+        Action::Stop => Now::Ended(Ending::Stopped),
+        _ => Now::Fails,
+    }
+}
+
+/// Does an instruction that takes a goal and prints nothing.
+fn do_quiet<'p>(memory: &mut Memory, code: &'p Code, op: &'p Op, rest: &'p [Op]) -> Now<'p>
+    requires room { HasRoom memory.old }
+    requires built { IsBuilt code.now }
+    requires goal { takes_goal op.now ≡ true }
+    requires quiet { IsQuietOp op.now }
+    ensures { DoesOp code.now memory.old op.now rest.now memory.new result }
+{
+    match op {
+        Op::Do(action) => act(memory, action, rest),
+        Op::Ask(pred, _, many, next) => memory.ask(code, *pred, *many, *next),
+        Op::LastAsk(pred, _, many) => memory.ask_last(code, *pred, *many),
+        Op::Take => Now::Runs(rest),
+        Op::Branch(alt) => memory.branch(*alt, rest),
+        Op::Once => memory.once(rest),
+        Op::Try(alt) => memory.attempt(*alt, rest),
+        _ => Now::Fails,
+    }
+}
+
+/// Does an action.
+fn do_action<'p, K: Sink>(
+    memory: &mut Memory,
+    ops: &'p [Op],
+    action: &'p Action,
+    rest: &'p [Op],
+    spacer: &mut Spacer,
+    sink: &mut K,
+) -> Result<Now<'p>, WriteFault>
+    requires whole { ops.now ≡ op.Do action.now ∷ rest.now }
+    ensures ok { IfOk result (λ now. (code : TheCode) → DoesGoal code memory.old ops.now memory.new now spacer.old spacer.new
+        (K.view sink.old) (K.view sink.new)) }
+    ensures err { OnErr result ((code : TheCode) → LosesGoal code memory.old ops.now spacer.old (K.view sink.old) (K.view sink.new)) }
+    ensures same { OnErr result (memory.new ≡ memory.old) }
+{
+    match action {
+        Action::Text(name) => match spacer.event(sink, Event::Piece(name.as_slice())) {
+            Ok(()) => Ok(Now::Runs(rest)),
+            Err(fault) => Err(fault),
+        },
+        Action::Gap(kind) => match spacer.event(sink, event_of(*kind)) {
+            Ok(()) => Ok(Now::Runs(rest)),
+            Err(fault) => Err(fault),
+        },
+        action => Ok(act(memory, action, rest)),
+    }
+}
+
+/// Does the instruction at hand, which takes a goal.
+fn goal_step<'p, K: Sink>(
+    memory: &mut Memory,
+    code: &'p Code,
+    ops: &'p [Op],
+    spacer: &mut Spacer,
+    sink: &mut K,
+) -> Result<Now<'p>, WriteFault>
+    requires room { HasRoom memory.old }
+    requires built { IsBuilt code.now }
+    requires goal { at_goal ops.now ≡ true }
+    ensures ok { IfOk result (λ now. DoesGoal code.now memory.old ops.now memory.new now spacer.old spacer.new (K.view sink.old) (K.view sink.new)) }
+    ensures err { OnErr result (LosesGoal code.now memory.old ops.now spacer.old (K.view sink.old) (K.view sink.new)) }
+    ensures same { OnErr result (memory.new ≡ memory.old) }
+{
+    match ops {
+        [] => Ok(Now::Fails),
+        [op, rest @ ..] => match op {
+            Op::Do(action) => match do_action(memory, ops, action, rest, spacer, sink) {
+                Ok(now) => Ok(now),
+                Err(fault) => Err(fault),
+            },
+            op => Ok(do_quiet(memory, code, op, rest)),
+        },
+    }
+}
+
+/// Does steps up to the next goal, or the end.
+fn settle<'p>(memory: &mut Memory, code: &'p Code, now: Now<'p>) -> Now<'p>
+    requires built { IsBuilt code.now }
+    requires tidy { Tidy code.now }
+    requires some { IsSomewhere code.now memory.old now }
+    ensures comes { Settles code.now memory.old now.entry memory.new result }
+    ensures rests { rests result ≡ true }
+{
+    let mut now = now;
+    'marks: while !rests(now) {
+        now = mark_step(memory, code, now);
+    }
+    now
+}
+
+/// Does the instruction at hand, which takes a goal, and steps up to the next goal, or the end.
+fn turn<'p, K: Sink>(
+    memory: &mut Memory,
+    code: &'p Code,
+    ops: &'p [Op],
+    spacer: &mut Spacer,
+    sink: &mut K,
+) -> Result<Now<'p>, WriteFault>
+    requires built { IsBuilt code.now }
+    requires tidy { Tidy code.now }
+    requires goal { at_goal ops.now ≡ true }
+    requires some { IsSomewhere code.now memory.old (Runs ops) }
+    ensures ok { IfOk result (λ now. Takes code.now 1 memory.old (Runs ops.entry) spacer.old (K.view sink.old) memory.new now spacer.new (K.view sink.new)) }
+    ensures err { OnErr result (Loses code.now memory.old (Runs ops.entry) spacer.old (K.view sink.old) (K.view sink.new)) }
+    ensures same { OnErr result (memory.new ≡ memory.old) }
+    ensures some { IfOk result (λ now. IsSomewhere code.now memory.new now) }
+    ensures rests { IfOk result (λ now. rests now ≡ true) }
+{
+    match goal_step(memory, code, ops, spacer, sink) {
+        Err(fault) => Err(fault),
+        Ok(now) => Ok(settle(memory, code, now)),
+    }
+}
+
+/// Does so many goals at most, from where a run of code is.
+pub fn go<'p, K: Sink>(
+    memory: &mut Memory,
+    code: &'p Code,
+    start: Now<'p>,
+    steps: u64,
+    spacer: &mut Spacer,
+    sink: &mut K,
+) -> Result<(Ending, u64), WriteFault>
+    requires built { IsBuilt code.now }
+    requires tidy { Tidy code.now }
+    requires some { IsSomewhere code.now memory.old start }
+    ensures ok { IfOk result (λ end. Finishes code.now memory.old start.entry steps spacer.old (K.view sink.old) end.0 end.1
+        memory.new spacer.new (K.view sink.new)) }
+    ensures err { OnErr result (LosesRun code.now memory.old start.entry steps spacer.old (K.view sink.old) memory.new (K.view sink.new)) }
+{
+    let mut now = settle(memory, code, start);
+    let mut left = steps;
+    'goals: while left > 0 {
+        match now {
+            Now::Ended(ending) => return Ok((ending, left)),
+            Now::Runs(ops) => match turn(memory, code, ops, spacer, sink) {
+                Err(fault) => return Err(fault),
+                Ok(next) => {
+                    now = next;
+                    left -= 1;
+                }
+            },
+            _ => return Ok((Ending::Failed, left)),
+        }
+    }
+    match now {
+        Now::Ended(ending) => Ok((ending, left)),
+        _ => Ok((Ending::StepLimit, left)),
+    }
+}
