@@ -1,10 +1,11 @@
 -- The core program of a tree: hold it against docs/LANGUAGE.md, "Names" and "The world", and the chapters of the Dialog manual on predicates, rules
 -- and the world.
-use Rattle.std.specs.Prelude.{◌≡◌, ℕ, ◌+◌, List, [], ◌∷◌, ◌++◌, Bool, true, false, Option, Some, None, Result, Ok, Err, map, min, length, codes, nat_eq, position, slice_get, if◌then◌else◌}
+use Rattle.std.specs.Prelude.{◌≡◌, ℕ, ◌+◌, List, [], ◌∷◌, ◌++◌, Bool, true, false, not, Option, Some, None, Result, Ok, Err, map, min, length, codes, nat_eq, position, slice_get, if◌then◌else◌}
 use Rattle.std.specs.List.{list_any}
 use Rattle.std.specs.Str.{bytes_eq}
 use Rattle.dg_base.specs.Heads.{name_of}
 use Rattle.dg_base.specs.Mentions.{of_body}
+use Rattle.dg_base.specs.Names.{prelude_names, name_among}
 use Rattle.dg_base.specs.Tree.{Parts, Value, anonymous, Body, Said, rule, deny, Item}
 use Rattle.dg_base.specs.declared.program.Term.{Term, out-Term}
 use Rattle.dg_base.specs.declared.program.Term.TheVariants as term
@@ -66,9 +67,9 @@ abbrev pub all_selects : List Item → ℕ
 all_selects [] = 0
 all_selects (i ∷ is) = selects_of i.said + all_selects is
 
--- A predicate with its rules.
+-- A predicate with its rules. Those of the prelude don't come from the source.
 abbrev pub pred_of : Scope → List Item → List ℕ → Pred
-pred_of around items name = record { name = name; from_source = true; rules = rules_from around 0 name items }
+pred_of around items name = record { name = name; from_source = not (name_among name prelude_names); rules = rules_from around 0 name items }
 
 -- ---- the program with every rule
 

@@ -4,7 +4,7 @@ use Rattle.std.specs.List.{All, list_any}
 use Rattle.std.specs.Option.{is_some}
 use Rattle.dg_base.specs.Heads.{name_of}
 use Rattle.dg_base.specs.Mentions.{Thing, query, other, closure, things_in, mentioned}
-use Rattle.dg_base.specs.Names.{keywords, prelude_names, name_among, builtin_named}
+use Rattle.dg_base.specs.Names.{keywords, name_among, builtin_named}
 use Rattle.dg_base.specs.Tree.{Item}
 use Rattle.dg_base.specs.declared.mentions.Form.TheVariants as form
 use Rattle.dg_base.specs.declared.mentions.Role.TheVariants as role
@@ -17,10 +17,10 @@ is_unbuilt_query built_in.Object = true
 is_unbuilt_query built_in.HasParent = true
 is_unbuilt_query b = false
 
--- A query that isn't built yet, of a built-in one or of a predicate of this name. Those that every program has aren't built, and no keyword is one.
+-- A query that isn't built yet, of a built-in one or of a predicate of this name: no keyword is one.
 abbrev pub is_unbuilt_name : List ℕ → Option Builtin → Bool
 is_unbuilt_name name (Some b) = is_unbuilt_query b
-is_unbuilt_name name None = name_among name keywords || name_among name prelude_names
+is_unbuilt_name name None = name_among name keywords
 
 -- A rule of this name isn't built: it is a keyword's or a built-in query's.
 abbrev pub is_unbuilt_head : List ℕ → Bool

@@ -10,8 +10,7 @@ ghost use Rattle.dg_base.specs.Walk.{mention_view, thing_at, things_at, seen};
 ghost use Rattle.dg_core.specs.Forms as spec;
 
 use dg_base::{
-    Builtin, Form, Head, ItemBody, Mention, Part, Role, Tree, builtin_of, is_keyword,
-    is_prelude_name, mentions_of,
+    Builtin, Form, Head, ItemBody, Mention, Part, Role, Tree, builtin_of, is_keyword, mentions_of,
 };
 use std::alloc::{AllocError, Global};
 
@@ -34,7 +33,7 @@ fn is_unbuilt_name(parts: &[Part]) -> bool
 {
     match builtin_of(parts) {
         Some(builtin) => is_unbuilt_query(builtin),
-        None => is_keyword(parts) || is_prelude_name(parts),
+        None => is_keyword(parts),
     }
 }
 

@@ -19,7 +19,8 @@ const PARENTS: &[u8] = b"($ has parent $)";
 
 // ---- the names of places
 
-fn add(alloc: Global, names: &mut IndexSet<Vec<u8>>, name: &[u8]) -> Result<(), AllocError>
+/// Adds a name to others, unless it is among them.
+pub fn add_name(alloc: Global, names: &mut IndexSet<Vec<u8>>, name: &[u8]) -> Result<(), AllocError>
     ensures { OnOk result (listed names.new ≡ with_name (listed names.old) name.now) }
 {
     if names.contains(name) {
@@ -39,7 +40,7 @@ fn add_declared(
     match said {
         ItemBody::Variable(head) => {
             let name = name_of(alloc, head)?;
-            add(alloc, names, name.as_slice())
+            add_name(alloc, names, name.as_slice())
         }
         _ => Ok(()),
     }
@@ -68,7 +69,7 @@ fn add_changed(
     match mention {
         Mention::Query(Role::Changed(_), head) => {
             let name = name_of(alloc, head)?;
-            add(alloc, names, name.as_slice())
+            add_name(alloc, names, name.as_slice())
         }
         _ => Ok(()),
     }
@@ -118,7 +119,7 @@ pub fn places_of(alloc: Global, items: &[Item]) -> Result<Places, AllocError>
     let mut declared = IndexSet::new(alloc);
     add_all_declared(alloc, &mut declared, items)?;
     let mut names = IndexSet::new(alloc);
-    add(alloc, &mut names, PARENTS)?;
+    add_name(alloc, &mut names, PARENTS)?;
     add_all_declared(alloc, &mut names, items)?;
     add_all_changes(alloc, &mut names, items)?;
     Ok(Places { names, declared })

@@ -1,10 +1,11 @@
 // From items to the core program.
-ghost use Rattle.std.specs.Prelude.{◌≡◌, ◌+◌, ◌<◌, ◌∷◌, [], false, map, length, Ok, Err, OnOk, IfOk, IfErr, IsErrOf};
-ghost use Rattle.std.specs.List.{IsDistinct};
+ghost use Rattle.std.specs.Prelude.{◌≡◌, ◌+◌, ◌<◌, ◌∷◌, [], false, not, map, length, Ok, Err, OnOk, IfOk, IfErr, IsErrOf};
+ghost use Rattle.std.specs.List.{IsDistinct, list_any};
 ghost use Rattle.std.specs.Str.{bytes_eq};
 ghost use Rattle.dg_base.specs.Faults.{IsFault};
 ghost use Rattle.dg_base.specs.Heads.{name_of as head_name};
 ghost use Rattle.dg_base.specs.Mentions.{of_body};
+ghost use Rattle.dg_base.specs.Names.{prelude_names, name_among};
 ghost use Rattle.dg_base.specs.Sound.{IsSound};
 ghost use Rattle.dg_base.specs.TreeView.{body_view, head_view, said_view, item_view, tree_view};
 ghost use Rattle.dg_names.specs.State.{listed, names_view, seen};
@@ -23,8 +24,8 @@ use crate::starts::{drop_facts, places_with_starts};
 use crate::terms::{number_in, terms_of};
 use crate::variables::variables_of;
 use dg_base::{
-    Body, CoreProgram, Goal, Head, Item, ItemBody, Items, Kind, Name, Pred, ReadFault, Refusal,
-    Rule, Tree, is_named,
+    Body, CoreProgram, Goal, Head, Item, ItemBody, Items, Kind, Name, PRELUDE_NAMES, Pred,
+    ReadFault, Refusal, Rule, Tree, is_named,
 };
 use dg_names::Names;
 use indexmap::IndexSet;
@@ -128,6 +129,24 @@ fn add_item(
     }
 }
 
+fn is_among(names: &[&str], name: &[u8]) -> bool
+    ensures { result ≡ list_any (λ known. bytes_eq known.now name.now) names.now }
+{
+    for known in names {
+        if known.as_bytes() == name {
+            return true;
+        }
+    }
+    false
+}
+
+// Whether a name is none of the prelude's.
+fn is_from_source(name: &[u8]) -> bool
+    ensures { result ≡ not (name_among name.now prelude_names) }
+{
+    !is_among(&PRELUDE_NAMES, name)
+}
+
 // The predicates without their rules.
 fn bare_preds(alloc: Global, around: &Scope<'_>) -> Result<Vec<Pred>, AllocError>
     ensures bare { IfOk result (λ preds. preds.items ≡ map (spec.pred_of (scope_view around.now) []) (scope_view around.now).names.preds) }
@@ -137,7 +156,7 @@ fn bare_preds(alloc: Global, around: &Scope<'_>) -> Result<Vec<Pred>, AllocError
     for name in around.names.preds.as_slice() {
         preds.push(Pred {
             name: Items::from_slice(alloc, name.as_slice())?,
-            from_source: true,
+            from_source: is_from_source(name.as_slice()),
             rules: Items::new(alloc),
         })?;
     }

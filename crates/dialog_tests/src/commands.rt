@@ -89,8 +89,13 @@ const CIRCLE: &str =
 
 const NO_CLOSURE: &str = "(program entry point) (query 5) x";
 
+const APPENDED: &str = "(program entry point) *(append $A $B [1 2]) $A $B (line) (fail)";
+
+const SPLIT: &str =
+    "(program entry point) (split [a b c d] by [c b] into $X and $Y) $X $Y ~(@c is one of $X)";
+
 // The words of the command, the source, the status and the transcript.
-const TRANSCRIPTS: [(&str, &str, u8, &str); 29] = [
+const TRANSCRIPTS: [(&str, &str, u8, &str); 32] = [
     ("debug p.dg", PARTS, 0, "a\nc d e\n"),
     ("debug p.dg --dice 7", DIE, 0, "4\n"),
     ("debug p.dg", QUOTIENT, 0, "3 1\n"),
@@ -98,6 +103,14 @@ const TRANSCRIPTS: [(&str, &str, u8, &str); 29] = [
     ("debug p.dg", LAST, 0, "A B C C\n"),
     ("debug p.dg", CIRCLE, 0, "a b a\n"),
     ("debug p.dg", NO_CLOSURE, 0, "[Failed]\n"),
+    (
+        "debug p.dg",
+        APPENDED,
+        0,
+        "[] [1 2]\n[1] [2]\n[1 2] []\n[Failed]\n",
+    ),
+    ("debug p.dg", SPLIT, 0, "[a] [c d]\n"),
+    ("singles p.dg", SPLIT, 0, "single (program entry point)\n"),
     (
         "debug p.dg",
         "(program entry point) Hello, world!",

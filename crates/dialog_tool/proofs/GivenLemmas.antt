@@ -1,9 +1,12 @@
 -- The core program of a source is sound, and made of what the interpreter runs.
-use Rattle.std.proofs.Common.{◌≡◌, ℕ, List, [], ◌∷◌, map, None, Ok, sym, subst, arith}
-use Rattle.std.specs.List.{All}
-use Rattle.std.proofs.lemmas.List.Elements.{All-nil, All-cons, All-head, All-tail}
+use Rattle.std.proofs.Common.{◌≡◌, ◌≤◌, ◌⊎◌, inl, inr, ℕ, List, [], ◌∷◌, ◌++◌, length, length-append, map, get_or, Option, Some, None, Ok, refl, sym, subst, arith}
+use Rattle.std.specs.List.{All, Contains}
+use Rattle.std.proofs.lemmas.List.Elements.{All-nil, All-cons, All-append, All-contains, All-head, All-tail, Contains-append_left, Contains-append_right, Contains-append_cases}
 use Rattle.dg_base.specs.Mentions.{Thing, topic_line, query, number, word, object, word_choice, text, Mentions, mentioned, names_in}
-use Rattle.dg_base.specs.Sound.{IsSound}
+use Rattle.dg_base.specs.Names.{prelude_names, builtin_named}
+use Rattle.dg_base.specs.Sound.{IsName, IsSound}
+use Rattle.dg_base.specs.declared.names.Builtin.{Builtin}
+use Rattle.dg_base.specs.Heads.{name_of}
 use Rattle.dg_base.specs.Tree.{Item}
 use Rattle.dg_base.specs.declared.program.CoreProgram.{CoreProgram as Core}
 use Rattle.dg_access.specs.Comes.{MentionsComeFrom}
@@ -12,21 +15,23 @@ use Rattle.dg_access.specs.Items.{plain_items}
 use Rattle.dg_access.specs.Rewritten.{IsRewritten}
 use Rattle.dg_core.specs.Core.{core_of, refusal_of}
 use Rattle.dg_core.specs.Forms.{first_unbuilt, AreRun}
-use Rattle.dg_core.specs.Given.{IsGiven}
+use Rattle.dg_core.specs.Given.{IsFit, IsFitItem, IsGiven}
 use Rattle.dg_core.specs.Places.{placed_of, first_bad}
 use Rattle.dg_lex.specs.Bad as lexing
 use Rattle.dg_lex.specs.Spelled.{IsSpelledToken}
 use Rattle.dg_lex.specs.Tokens.{IsLexed, Seen, seen}
 use Rattle.dg_lex.specs.declared.token.Token.{Token}
 use Rattle.dg_built.specs.Built.{IsBuilt}
-use Rattle.dg_names.specs.Among.{IsReadable, IsAmong, IsSmall, ArePrintable, AreFew}
+use Rattle.dg_names.specs.Among.{IsReadable, HasPred, IsAmong, IsSmall, ArePrintable, AreFew}
 use Rattle.dg_names.specs.Counts.{IsNamed}
-use Rattle.dg_names.specs.Named.{Named, word_in, names_of}
+use Rattle.dg_names.specs.Named.{Named, firsts, predicate_in, word_in, names_of}
+use Rattle.dg_prelude.specs.Rules.{prelude_rules}
 use Rattle.dg_reader.specs.Read.{IsRead}
 use Rattle.dg_reader.specs.Readable as reading
-use Rattle.dialog_tool.specs.Source.{refused, given, Compiles}
+use Rattle.dialog_tool.specs.Source.{refused, given, all_names, with_prelude, Compiles}
 use Rattle.dialog_tool.proofs.ComeLemmas.{all_among}
 use Rattle.dialog_tool.proofs.FewLemmas.{FirstsAreNames, IsSelectFit, items_fit, selects_fit, things_fit, few_places}
+use Rattle.dialog_tool.proofs.PreludeLemmas.{prelude_printable, four_names, prelude_among, prelude_selects, prelude_runs, prelude_fit, all_mentioned, all_run}
 use Rattle.dialog_tool.proofs.RunLemmas.{plain_run}
 
 -- ---- what is read is given
@@ -62,32 +67,87 @@ all_same : (ts : List Thing) → All reading.IsReadable ts → All IsReadable ts
 all_same [] h = All-nil IsReadable
 all_same (t ∷ ts) h = All-cons IsReadable t ts (same_thing t (All-head reading.IsReadable t ts h)) (all_same ts (All-tail reading.IsReadable t ts h))
 
-plain_given : Laws → (is : List Item) → All IsReadable (mentioned is) → All IsSelectFit (mentioned is) → IsNamed is (Ok (names_of is)) → AreRun is → IsRewritten is (Ok (plain_items None is)) → IsGiven (names_of is) (plain_items None is)
+-- names that a source has are among those of the program too
+grown_pred : (laws : Laws) (is : List Item) (n : List ℕ) (o : Option Builtin) → HasPred (names_of is) n o → HasPred (all_names is) n o
+grown_pred laws is n (Some b) h = tt
+grown_pred laws is n None h =
+    let own = names_in predicate_in (mentioned is) in
+    (laws.firsts (own ++ prelude_names)).all n (Contains-append_left own prelude_names n ((laws.firsts own).none_else n h))
+
+grown_thing : (laws : Laws) (is : List Item) (t : Thing) → IsAmong (names_of is) t → IsAmong (all_names is) t
+grown_thing laws is (query r ps) h = grown_pred laws is (name_of ps) (builtin_named (name_of ps)) h
+grown_thing laws is (topic_line n) h = h
+grown_thing laws is (number n) h = h
+grown_thing laws is (word w) h = h
+grown_thing laws is (object n) h = h
+grown_thing laws is (word_choice ws) h = h
+grown_thing laws is (text w) h = h
+grown_thing laws is t h = tt
+
+things_given : (laws : Laws) (is : List Item) → All IsReadable (mentioned is) → All (IsAmong (all_names is)) (mentioned (with_prelude (plain_items None is)))
+things_given laws is r =
+    let own = names_in predicate_in (mentioned is) in
+    let d = all_names is in
+    let plain = all_among (names_of is) (mentioned is) (mentioned (plain_items None is)) (laws.among is r) (laws.come is) in
+    let ours = prelude_among d (λ n h. (laws.firsts (own ++ prelude_names)).all n (Contains-append_right own prelude_names n h)) in
+    all_mentioned (IsAmong d) (plain_items None is) (plain_items None prelude_rules)
+    (λ k e lt. grown_thing laws is (get_or (mentioned (plain_items None is)) k e) (plain k e lt))
+    (all_among d (mentioned prelude_rules) (mentioned (plain_items None prelude_rules)) ours (laws.come prelude_rules))
+
+fit_given : (laws : Laws) (is : List Item) → AreRun (plain_items None is) → All IsSelectFit (mentioned is) → All IsFit (mentioned (with_prelude (plain_items None is)))
+fit_given laws is run s =
+    all_mentioned IsFit (plain_items None is) (plain_items None prelude_rules)
+    (things_fit (mentioned is) (mentioned (plain_items None is)) run s (laws.come is))
+    (things_fit (mentioned prelude_rules) (mentioned (plain_items None prelude_rules)) (plain_run prelude_rules (laws.come prelude_rules) prelude_runs) prelude_selects (laws.come prelude_rules))
+
+all_if : (P : List ℕ → Type 0) (ns : List (List ℕ)) → ((n : List ℕ) → Contains ns n → P n) → All P ns
+all_if P [] h = All-nil P
+all_if P (n ∷ ns) h = All-cons P n ns (h n (0, omega arith, refl)) (all_if P ns (λ m k. h m (Contains-append_right (n ∷ []) ns m k)))
+
+preds_given : (laws : Laws) (is : List Item) → All IsName (names_of is).preds → All IsName (all_names is).preds
+preds_given laws is h =
+    let own = names_in predicate_in (mentioned is) in
+    all_if IsName (all_names is).preds (λ n k. which n (Contains-append_cases own prelude_names n ((laws.firsts (own ++ prelude_names)).none_else n k)))
+  where
+    which : (n : List ℕ) → Contains (names_in predicate_in (mentioned is)) n ⊎ Contains prelude_names n → IsName n
+    which n (inl j) = All-contains IsName (names_of is).preds n h ((laws.firsts (names_in predicate_in (mentioned is))).all n j)
+    which n (inr j) = All-contains IsName prelude_names n prelude_printable j
+
+few_given : (laws : Laws) (is : List Item) → length (names_of is).preds ≤ 4000 → length (all_names is).preds ≤ 65535
+few_given laws is few =
+    let own = names_in predicate_in (mentioned is) in
+    let most = (laws.firsts (own ++ prelude_names)).fewest (firsts own ++ prelude_names) (λ n h. which n (Contains-append_cases own prelude_names n h)) in
+    omega (arith, few, most, length-append (firsts own) prelude_names, four_names)
+  where
+    which : (n : List ℕ) → Contains (names_in predicate_in (mentioned is)) n ⊎ Contains prelude_names n → Contains (firsts (names_in predicate_in (mentioned is)) ++ prelude_names) n
+    which n (inl j) = Contains-append_left (firsts (names_in predicate_in (mentioned is))) prelude_names n ((laws.firsts (names_in predicate_in (mentioned is))).all n j)
+    which n (inr j) = Contains-append_right (firsts (names_in predicate_in (mentioned is))) prelude_names n j
+
+plain_given : Laws → (is : List Item) → All IsReadable (mentioned is) → All IsSelectFit (mentioned is) → IsNamed is (Ok (names_of is)) → AreRun is → IsRewritten is (Ok (plain_items None is)) → IsGiven (all_names is) (with_prelude (plain_items None is))
 plain_given laws is r s n run w =
     let names = laws.printable is r in
     let few = laws.few is (names_of is) n in
     let plain = plain_run is (laws.come is) run in
     record {
-      things = all_among (names_of is) (mentioned is) (mentioned (plain_items None is)) (laws.among is r) (laws.come is);
-      fit = things_fit (mentioned is) (mentioned (plain_items None is)) plain s (laws.come is);
-      items = items_fit laws.firsts laws.out (plain_items None is) plain (laws.variables is (plain_items None is) w);
-      few_places = few_places (plain_items None is) plain;
-      preds = names.preds;
+      things = things_given laws is r;
+      fit = fit_given laws is plain s;
+      items = All-append (λ (i : Item). IsFitItem i.said) (plain_items None is) (plain_items None prelude_rules) (items_fit laws.firsts laws.out (plain_items None is) plain (laws.variables is (plain_items None is) w)) prelude_fit;
+      few_places = few_places (with_prelude (plain_items None is)) (all_run (plain_items None is) (laws.come prelude_rules) plain);
+      preds = preds_given laws is names.preds;
       objects = names.objects;
       words = names.words;
       words_differ = (laws.firsts (names_in word_in (mentioned is))).differ;
-      few_preds = omega (arith, few.preds);
+      few_preds = few_given laws is few.preds;
       few_objects = omega (arith, few.objects);
       few_words = omega (arith, few.words);
     }
 
 -- a tree and its names are given that come from a source which is accepted
-source_given : Laws → (source : List ℕ) (tokens : List Token) (is : List Item) (named : Named) (plain : List Item) → lexing.refusal_of source ≡ None → IsLexed source tokens → IsRead (map seen tokens) (Ok is) → IsNamed is (Ok named) → first_unbuilt is ≡ None → IsRewritten is (Ok plain) → IsGiven named plain
+source_given : Laws → (source : List ℕ) (tokens : List Token) (is : List Item) (named : Named) (plain : List Item) → lexing.refusal_of source ≡ None → IsLexed source tokens → IsRead (map seen tokens) (Ok is) → IsNamed is (Ok named) → first_unbuilt is ≡ None → IsRewritten is (Ok plain) → IsGiven (all_names is) (with_prelude plain)
 source_given laws source tokens is named plain accepted lexed read n built w =
     let readable = laws.readable (map seen tokens) is (laws.spelled source tokens accepted lexed) read in
-    subst (λ (d : Named). IsGiven d plain) (sym n.1)
-    (subst (λ (l : List Item). IsGiven (names_of is) l) (sym w.1)
-    (plain_given laws is (all_same (mentioned is) readable) (selects_fit (mentioned is) readable (laws.small is named n)) (subst (λ (d : Named). IsNamed is (Ok d)) n.1 n) (laws.run is built) (subst (λ (l : List Item). IsRewritten is (Ok l)) w.1 w)))
+    subst (λ (l : List Item). IsGiven (all_names is) (with_prelude l)) (sym w.1)
+    (plain_given laws is (all_same (mentioned is) readable) (selects_fit (mentioned is) readable (laws.small is named n)) (subst (λ (d : Named). IsNamed is (Ok d)) n.1 n) (laws.run is built) (subst (λ (l : List Item). IsRewritten is (Ok l)) w.1 w))
 
 -- ---- the program
 
@@ -99,7 +159,7 @@ compiled_sound laws source p (given ts l (given is read (given n h (refused r k 
 compiled_sound laws source p (given ts l (given is read (given n h (given all u (refused r k e))))) = cc
 compiled_sound laws source p (given ts l (given is read (given n h (given all u (given plain w e))))) =
     let g = source_given laws source l.1 is n plain l.0 l.2 (subst (λ s. IsRead s (Ok is)) l.3 read) h u w in
-    subst IsSound (sym e.1) (laws.sound n plain g e.0)
+    subst IsSound (sym e.1) (laws.sound (all_names is) (with_prelude plain) g e.0)
 
 pub compiled_built : Laws → (source : List ℕ) (p : Core) → Compiles source (Ok p) → IsBuilt p
 compiled_built laws source p (refused r h e) = cc
@@ -109,4 +169,4 @@ compiled_built laws source p (given ts l (given is read (given n h (refused r k 
 compiled_built laws source p (given ts l (given is read (given n h (given all u (refused r k e))))) = cc
 compiled_built laws source p (given ts l (given is read (given n h (given all u (given plain w e))))) =
     let run = subst AreRun (sym w.1) (plain_run is (laws.come is) (laws.run is u)) in
-    subst IsBuilt (sym e.1) (laws.built n plain run)
+    subst IsBuilt (sym e.1) (laws.built (all_names is) (with_prelude plain) (all_run plain (laws.come prelude_rules) run))

@@ -11,4 +11,5 @@ pub mod PlayLemmas
 pub mod RunLemmas
 pub mod FewLemmas
 pub mod ComeLemmas
+pub mod PreludeLemmas
 pub mod GivenLemmas

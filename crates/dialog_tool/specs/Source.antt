@@ -1,5 +1,7 @@
 -- What a source is: a program, or refused. Hold the order of the causes against docs/REFUSALS.md.
-use Rattle.std.specs.Prelude.{◌≡◌, ℕ, List, map, Some, None, Result, Ok, Err}
+use Rattle.std.specs.Prelude.{◌≡◌, ℕ, List, ◌++◌, map, Some, None, Result, Ok, Err}
+use Rattle.dg_base.specs.Mentions.{mentioned, names_in}
+use Rattle.dg_base.specs.Names.{prelude_names}
 use Rattle.dg_base.specs.Tree.{Item}
 use Rattle.dg_base.specs.declared.program.CoreProgram.{CoreProgram as Core}
 use Rattle.dg_base.specs.declared.refusal.Refusal.{Refusal}
@@ -12,9 +14,12 @@ use Rattle.dg_lex.specs.Tokens.{IsLexed, Seen, seen}
 use Rattle.dg_lex.specs.declared.token.Token.{Token}
 use Rattle.dg_reader.specs.Read.{IsRead}
 use Rattle.dg_names.specs.Counts.{IsNamed}
+use Rattle.dg_names.specs.Named.{Named, firsts, predicate_in, names_of}
+use Rattle.dg_access.specs.Items.{plain_items}
 use Rattle.dg_access.specs.Rewritten.{IsRewritten}
 use Rattle.dg_core.specs.Core.{IsLowered}
 use Rattle.dg_core.specs.Forms.{first_unbuilt}
+use Rattle.dg_prelude.specs.Rules.{prelude_rules}
 
 -- One step behind another: the first refuses, and that is the answer; or it gives what the second answers on.
 pub data Then {A B : Type 0} (P : Result A Refusal → Type 0) (Q : A → Result B Refusal → Type 0) (answer : Result B Refusal) : Type 0 where
@@ -34,10 +39,19 @@ abbrev pub Builds : List Item → Result (Unit {0}) Refusal → Type 0
 Builds items (Ok all) = first_unbuilt items ≡ None
 Builds items (Err r) = (line : ℕ) × (first_unbuilt items ≡ Some line) × (r ≡ refusal_at NotBuiltYet line)
 
+-- The names of a source, with those of the prelude that don't stand in it behind its predicates.
+abbrev pub all_names : List Item → Named
+all_names items = record (names_of items) { preds = firsts (names_in predicate_in (mentioned items) ++ prelude_names) }
+
+-- The rules of the prelude with plain heads, behind the items of a source.
+abbrev pub with_prelude : List Item → List Item
+with_prelude plain = plain ++ plain_items None prelude_rules
+
 -- What items are that were read: a count of the source passes, or a form isn't built yet, or a count passes once heads are plain, or
--- an initial value is bad, or the entry has no rule, or they are a program.
+-- an initial value is bad, or the entry has no rule, or they are a program, with the rules of the prelude behind theirs.
 abbrev pub Becomes : List Item → Result Core Refusal → Type 0
-Becomes items = Then (IsNamed items) (λ named. Then (Builds items) (λ all. Then (IsRewritten items) (IsLowered named)))
+Becomes items =
+    Then (IsNamed items) (λ named. Then (Builds items) (λ all. Then (IsRewritten items) (λ plain. IsLowered (all_names items) (with_prelude plain))))
 
 -- What a source is: it is too long or has a bad character, or its tokens are no items, or what its items are.
 abbrev pub Compiles : List ℕ → Result Core Refusal → Type 0

@@ -2,6 +2,7 @@
 #![tactic(auto)]
 
 mod adapters;
+mod behind;
 mod command;
 mod dice;
 mod dispatch;

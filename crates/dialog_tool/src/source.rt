@@ -1,21 +1,25 @@
 // From the bytes of a source to its core program.
-ghost use Rattle.std.specs.Prelude.{◌≡◌, ℕ, List, None, Result, Ok, Err, IfOk, IfErr};
+ghost use Rattle.std.specs.Prelude.{◌≡◌, ◌≤◌, ℕ, List, length, None, Result, Ok, Err, IfOk, IfErr};
 ghost use Rattle.dg_access.specs.Rewritten.{IsRewritten};
 ghost use Rattle.dg_base.specs.Faults.{IsFault};
 ghost use Rattle.dg_base.specs.Sound.{IsSound};
 ghost use Rattle.dg_base.specs.TreeView.{tree_view};
 ghost use Rattle.dg_base.specs.declared.program.CoreProgram.{CoreProgram as Core};
+ghost use Rattle.dg_base.specs.Tree.{Item};
 ghost use Rattle.dg_core.specs.Core.{IsLowered};
 ghost use Rattle.dg_core.specs.Forms.{first_unbuilt};
 ghost use Rattle.dg_built.specs.Built.{IsBuilt};
+ghost use Rattle.dg_names.specs.Counts.{IsNamed};
+ghost use Rattle.dg_names.specs.Named.{names_of};
 ghost use Rattle.dg_names.specs.State.{names_view};
-ghost use Rattle.dialog_tool.specs.Source.{Then, Builds, Becomes, Compiles, Meets, refusal_at};
+ghost use Rattle.dialog_tool.specs.Source.{Then, Builds, all_names, with_prelude, Becomes, Compiles, Meets, refusal_at};
 
+use crate::behind::{add_prelude, with_prelude_names};
 use dg_access::rewrite;
 use dg_base::{CoreProgram, Kind, ReadFault, Refusal, Tree};
 use dg_core::{first_unbuilt, lower, sources_are_run};
 use dg_lex::{lex, tokens_are_one, tokens_are_spelled};
-use dg_names::Names;
+use dg_names::{Names, names_are_few};
 use dg_reader::{items_are_one, items_are_readable, read};
 use std::alloc::Global;
 
@@ -42,14 +46,31 @@ fn check_built(alloc: Global, tree: &Tree) -> Result<(), ReadFault>
 // A function of its own, since each place that lets go of names is proved field by field.
 fn let_go(_names: Names) {}
 
+// The core program of items with plain heads, with the rules of the prelude behind theirs.
+fn core_with_prelude(alloc: Global, plain: Tree, names: Names) -> Result<CoreProgram, ReadFault>
+    requires { length (names_view names).preds ≤ 4000 }
+    ensures { (items : List Item) → names_view names ≡ names_of items → Meets (IsLowered (all_names items) (with_prelude (tree_view plain))) result }
+{
+    let names = with_prelude_names(alloc, names)?;
+    match add_prelude(alloc, plain) {
+        Ok(all) => lower(alloc, all, names),
+        Err(_) => {
+            let_go(names);
+            Err(ReadFault::OutOfMemory)
+        }
+    }
+}
+
 // The core program of a tree whose forms are all built.
 fn built_program(alloc: Global, tree: Tree, names: Names) -> Result<CoreProgram, ReadFault>
-    requires { first_unbuilt (tree_view tree) ≡ None }
-    ensures { Meets (Then (IsRewritten (tree_view tree)) (IsLowered (names_view names))) result }
+    requires built { first_unbuilt (tree_view tree) ≡ None }
+    requires named { IsNamed (tree_view tree) (Ok (names_view names)) }
+    ensures { Meets (Then (IsRewritten (tree_view tree)) (λ plain. IsLowered (all_names (tree_view tree)) (with_prelude plain))) result }
 {
     sources_are_run();
+    names_are_few();
     match rewrite(alloc, tree, &names) {
-        Ok(plain) => lower(alloc, plain, names),
+        Ok(plain) => core_with_prelude(alloc, plain, names),
         Err(fault) => {
             let_go(names);
             Err(fault)

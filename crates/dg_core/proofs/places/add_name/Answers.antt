@@ -1,5 +1,5 @@
 use Rattle.dg_names.proofs.SetLemmas.{known_listed, new_listed}
-use Rattle.dg_core.proofs.places.add.Goals as goal
+use Rattle.dg_core.proofs.places.add_name.Goals as goal
 
 pub returns-then-contains : goal.returns-then-contains
 returns-then-contains c = known_listed c.args.name.now c.args.names.now.keys c.contains.result c.contains.ensures c.if-contains.true
