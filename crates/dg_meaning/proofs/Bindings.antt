@@ -220,7 +220,7 @@ changes_made steps r g kind (Some a) w = refl
 
 pub place_made : (steps : List Step) (r s : Registers) (g : Game) (place : ℕ) (kind : Option PlaceKind) (args : List Value) (sets : Bool) (w : World) → ActMade steps r (change_place g place kind args sets steps s w)
 place_made steps r s g place None args sets w = tt
-place_made steps r s g place (Some kind) args sets w = changes_made steps r g kind (change_of kind place sets (map (resolved s.bound) args)) _
+place_made steps r s g place (Some kind) args sets w = changes_made steps r g kind (change_of (length g.program.objects) kind place sets (map (resolved s.bound) args)) _
 
 pub splits_made : (steps : List Step) (r : Registers) (g : Game) (letters : Option (List ℕ)) (into : Value) (w : World) → top into ≤ r.next_var → ActMade steps r (splits g letters into r w)
 splits_made steps r g None into w h = tt

@@ -143,7 +143,7 @@ place_stays : (g : Game) (place : ℕ) (kind : Option PlaceKind) (args : List Va
 place_stays g place None args sets steps r w = stays_same w
 place_stays g place (Some kind) args sets steps r w =
     stays_on w (worked (change_looks kind r args) w) _ (stays_worked (change_looks kind r args) w)
-    (changes_stays g kind (change_of kind place sets (map (resolved r.bound) args)) steps (worked (change_looks kind r args) w))
+    (changes_stays g kind (change_of (length g.program.objects) kind place sets (map (resolved r.bound) args)) steps (worked (change_looks kind r args) w))
 
 splits_stays : (g : Game) (letters : Option (List ℕ)) (into : Value) (r : Registers) (w : World) → Stays w (world_in (splits g letters into r w))
 splits_stays g None into r w = stays_same w

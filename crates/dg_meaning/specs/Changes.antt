@@ -1,5 +1,5 @@
 -- What a change of the world comes to, and what is found of an object. Hold it against docs/LANGUAGE.md, "The world" and "Limits".
-use Rattle.std.specs.Prelude.{ℕ, max, List, [], ◌∷◌, Option, Some, None, Bool, true, false, length, if◌then◌else◌}
+use Rattle.std.specs.Prelude.{ℕ, max, nat_lt, List, [], ◌∷◌, Option, Some, None, Bool, true, false, length, if◌then◌else◌}
 use Rattle.dg_base.specs.declared.program.PlaceKind.{PlaceKind}
 use Rattle.dg_base.specs.declared.program.PlaceKind.TheVariants.{Flag, ObjectFlag, Global}
 use Rattle.dg_base.specs.declared.program.CoreProgram.{CoreProgram}
@@ -24,12 +24,16 @@ object_set ObjectFlag place object values = Some (Sets place object set)
 object_set kind place object (v ∷ values) = sets_if_taken kind place object v
 object_set kind place object [] = None
 
--- What sets or clears a place that speaks of objects, with these arguments, resolved; a clear with an unbound object clears all.
-abbrev pub object_change : PlaceKind → ℕ → Bool → List Value → Option Alteration
-object_change kind place true (Node (Object o) vs ∷ values) = object_set kind place o values
-object_change kind place false (Node (Object o) vs ∷ values) = Some (Clears place o)
-object_change kind place false (Var x ∷ values) = Some (ClearsAll place)
-object_change kind place sets values = None
+-- A change of an object, which is one of so many.
+abbrev pub if_there : ℕ → ℕ → Option Alteration → Option Alteration
+if_there objects object change = if nat_lt object objects then change else None
+
+-- What sets or clears a place that speaks of so many objects, with these arguments, resolved; a clear with an unbound object clears all.
+abbrev pub object_change : ℕ → PlaceKind → ℕ → Bool → List Value → Option Alteration
+object_change objects kind place true (Node (Object o) vs ∷ values) = if_there objects o (object_set kind place o values)
+object_change objects kind place false (Node (Object o) vs ∷ values) = if_there objects o (Some (Clears place o))
+object_change objects kind place false (Var x ∷ values) = Some (ClearsAll place)
+object_change objects kind place sets values = None
 
 -- What sets or clears a global variable.
 abbrev pub global_change : ℕ → Bool → List Value → Option Alteration
@@ -42,11 +46,11 @@ abbrev pub flag_change : ℕ → Bool → Option Alteration
 flag_change place true = Some (Sets place 0 set)
 flag_change place false = Some (Clears place 0)
 
--- What a change of a place of a kind comes to, with these arguments, resolved; or it fails.
-abbrev pub change_of : PlaceKind → ℕ → Bool → List Value → Option Alteration
-change_of Flag place sets values = flag_change place sets
-change_of Global place sets values = global_change place sets values
-change_of kind place sets values = object_change kind place sets values
+-- What a change of a place of a kind comes to among so many objects, with these arguments, resolved; or it fails.
+abbrev pub change_of : ℕ → PlaceKind → ℕ → Bool → List Value → Option Alteration
+change_of objects Flag place sets values = flag_change place sets
+change_of objects Global place sets values = global_change place sets values
+change_of objects kind place sets values = object_change objects kind place sets values
 
 -- ## The world behind a change
 

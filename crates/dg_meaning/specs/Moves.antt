@@ -405,8 +405,8 @@ changes g kind (Some a) steps w = Goes steps (worked (changing g.program kind a 
 -- A change of a place of a kind.
 abbrev pub change_place : Game → ℕ → Option PlaceKind → List Value → Bool → List Step → Registers → World → Act
 change_place g place None args sets steps r w = Fails w
-change_place g place (Some kind) args sets steps r w = changes g kind (change_of kind place sets (map (resolved r.bound) args)) steps
-    (worked (change_looks kind r args) w)
+change_place g place (Some kind) args sets steps r w = changes g kind
+    (change_of (length g.program.objects) kind place sets (map (resolved r.bound) args)) steps (worked (change_looks kind r args) w)
 
 -- A query of a closure, looked up, or of another value, which fails.
 abbrev pub ask_body : Game → Values → Option ClosureBody → List Value → Bool → List Step → Registers → World → Effect

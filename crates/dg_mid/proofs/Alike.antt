@@ -1,5 +1,5 @@
 -- A goal that is done at once does the same where the search is and where a machine is.
-use Rattle.std.proofs.Common.{◌≡◌, ℕ, ◌+◌, ◌≤◌, List, [], ◌∷◌, ◌++◌, Bool, true, Option, Some, None, refl, sym, ap, ◌∙◌, subst, arith, append_assoc, map}
+use Rattle.std.proofs.Common.{◌≡◌, ℕ, ◌+◌, ◌≤◌, List, [], ◌∷◌, ◌++◌, Bool, true, Option, Some, None, refl, sym, ap, ◌∙◌, subst, arith, append_assoc, length, map}
 use Rattle.std.specs.Prelude.{slice_get}
 use Rattle.std.proofs.lemmas.List.{append-nil}
 use Rattle.dg_base.specs.declared.program.GapKind.TheVariants.{Line}
@@ -204,7 +204,7 @@ module _ (n : ℕ) (s : Option ℕ) (S : Substitution) (x h k h' k' : ℕ) (es e
 
   place_alike : (g : Game) (place : ℕ) (kind : Option PlaceKind) (args : List Value) (sets : Bool) → Same (change_place g place kind args sets steps q v) (change_place g place kind args sets [] r w)
   place_alike g place None args sets = fails v w nothing
-  place_alike g place (Some kind) args sets = subst (λ i. Same (change_place g place (Some kind) args sets steps q v) (changes g kind (change_of kind place sets (map (resolved S) args)) [] (worked i w))) (sym (change_same kind args)) (changes_alike g kind (change_of kind place sets (map (resolved S) args)) (change_looks kind q args))
+  place_alike g place (Some kind) args sets = subst (λ i. Same (change_place g place (Some kind) args sets steps q v) (changes g kind (change_of (length g.program.objects) kind place sets (map (resolved S) args)) [] (worked i w))) (sym (change_same kind args)) (changes_alike g kind (change_of (length g.program.objects) kind place sets (map (resolved S) args)) (change_looks kind q args))
 
   -- ## Goals
 

@@ -69,7 +69,7 @@ changes_quiet steps r g kind (Some a) w = refl
 
 pub place_quiet : (steps : List Step) (r : Registers) (g : Game) (place : ℕ) (kind : Option PlaceKind) (args : List Value) (sets : Bool) (w : World) → IsQuiet steps r (change_place g place kind args sets steps r w)
 place_quiet steps r g place None args sets w = tt
-place_quiet steps r g place (Some kind) args sets w = changes_quiet steps r g kind (change_of kind place sets (map (resolved r.bound) args)) _
+place_quiet steps r g place (Some kind) args sets w = changes_quiet steps r g kind (change_of (length g.program.objects) kind place sets (map (resolved r.bound) args)) _
 
 pub splits_quiet : (steps : List Step) (r : Registers) (g : Game) (letters : Option (List ℕ)) (into : Value) (w : World) → IsQuiet steps r (splits g letters into r w)
 splits_quiet steps r g None into w = tt

@@ -185,14 +185,14 @@ unset_slot : (s : Option Simple) → option_map simple_value s ≡ None → s �
 unset_slot None e = refl
 unset_slot (Some s) e = absurd (cc)
 
-first_set : (o : Outline) (facts : List Fact) (w : World) (p : ℕ) (k : PlaceKind) (t : Table) (from : ℕ) (result : Option ℕ) → StandsFor w o facts → IsKind o p k → width_of k o.objects ≡ o.objects → slice_get w.tables.items p ≡ Some t → IsFirstSlot t.slots from result
+first_set : (o : Outline) (facts : List Fact) (w : World) (p : ℕ) (k : PlaceKind) (t : Table) (from : ℕ) (result : Option ℕ) → StandsFor w o facts → IsKind o p k → (k ≡ Global → ⊥) → slice_get w.tables.items p ≡ Some t → IsFirstSlot t.slots from result
     → length t.slots ≡ o.objects → IsFirstSet facts p from o.objects result
-first_set o facts w p k t from None st is wide here first long = λ n le lt.
-    sym (st.slots p n k is (omega (arith, lt, wide))) ∙ ap (λ x. option_map simple_value (slot_in x n)) here ∙ ap (option_map simple_value) (first n le (omega (arith, lt, long)))
-first_set o facts w p k t from (Some x) st is wide here first long =
-    let slot = λ (n : ℕ) (lt : n < o.objects). ap (λ y. option_map simple_value (slot_in y n)) (sym here) ∙ st.slots p n k is (omega (arith, lt, wide)) in
+first_set o facts w p k t from None st is differs here first long = λ n le lt.
+    sym (st.slots p n k is differs) ∙ ap (λ x. option_map simple_value (slot_in x n)) here ∙ ap (option_map simple_value) (first n le (omega (arith, lt, long)))
+first_set o facts w p k t from (Some x) st is differs here first long =
+    let slot = λ (n : ℕ). ap (λ y. option_map simple_value (slot_in y n)) (sym here) ∙ st.slots p n k is differs in
     let within : x < o.objects = omega (arith, first.1, long) in
-    (first.0, within, λ e. first.2 (unset_slot (get_or t.slots x None) (slot x within ∙ e)), λ n le lt. sym (slot n (omega (arith, lt, within))) ∙ ap (option_map simple_value) (first.3 n le lt))
+    (first.0, within, λ e. first.2 (unset_slot (get_or t.slots x None) (slot x ∙ e)), λ n le lt. sym (slot n) ∙ ap (option_map simple_value) (first.3 n le lt))
 
 long_table : (o : Outline) (facts : List Fact) (w : World) (p : ℕ) (k : PlaceKind) (t : Table) → StandsFor w o facts → IsKind o p k → slice_get w.tables.items p ≡ Some t → length t.slots ≡ width_of k o.objects
 long_table o facts w p k t st is here =
@@ -203,10 +203,10 @@ long_table o facts w p k t st is here =
 pub next_set : (o : Outline) (facts : List Fact) (w : World) (p : ℕ) (t : Table) (from : ℕ) (result : Option ℕ) → slice_get w.tables.items p ≡ Some t → IsFirstSlot t.slots from result → StandsFor w o facts → HasObjects o p → IsFirstSet facts p from o.objects result
 next_set o facts w p t from result here first st has =
     either has
-    (λ is. first_set o facts w p ObjectFlag t from result st is refl here first (long_table o facts w p ObjectFlag t st is here))
+    (λ is. first_set o facts w p ObjectFlag t from result st is (λ w. cc) here first (long_table o facts w p ObjectFlag t st is here))
     (λ h. either h
-    (λ is. first_set o facts w p ObjectVar t from result st is refl here first (long_table o facts w p ObjectVar t st is here))
-    (λ is. first_set o facts w p Parent t from result st is refl here first (long_table o facts w p Parent t st is here)))
+    (λ is. first_set o facts w p ObjectVar t from result st is (λ w. cc) here first (long_table o facts w p ObjectVar t st is here))
+    (λ is. first_set o facts w p Parent t from result st is (λ w. cc) here first (long_table o facts w p Parent t st is here)))
 
 no_table : (o : Outline) (facts : List Fact) (w : World) (p : ℕ) (k : PlaceKind) → slice_get w.tables.items p ≡ None → StandsFor w o facts → IsKind o p k → ⊥
 no_table o facts w p k e st is = let both : None ≡ Some k = ap (option_map (λ (x : Table). x.kind)) (sym e) ∙ kind_is o facts w p k st is in cc

@@ -115,10 +115,10 @@ unset_slots zero j = refl
 unset_slots (suc n) zero = refl
 unset_slots (suc n) (suc j) = unset_slots n j
 
-slot_filled : (kind : PlaceKind) (objects p : ℕ) (starts : List (ℕ × Term)) (n : ℕ) → (kind ≡ Global → ⊥) → All (λ (s : ℕ × Term). FitsStart kind objects s.0 s.1) starts → n < width_of kind objects
+slot_filled : (kind : PlaceKind) (objects p : ℕ) (starts : List (ℕ × Term)) (n : ℕ) → (kind ≡ Global → ⊥) → All (λ (s : ℕ × Term). FitsStart kind objects s.0 s.1) starts
     → option_map simple_value (get_or (filled starts (replicate (width_of kind objects) unset)) n unset) ≡ value_at (facts_of p starts) p n
-slot_filled kind objects p [] n differs fit lt = ap (option_map simple_value) (unset_slots (width_of kind objects) n)
-slot_filled kind objects p (s ∷ starts) n differs fit lt =
+slot_filled kind objects p [] n differs fit = ap (option_map simple_value) (unset_slots (width_of kind objects) n)
+slot_filled kind objects p (s ∷ starts) n differs fit =
     let slots = filled starts (replicate (width_of kind objects) unset) in
     let here = All-head (λ (s : ℕ × Term). FitsStart kind objects s.0 s.1) s starts fit in
     let rest = value_at (facts_of p starts) p n in
@@ -134,7 +134,7 @@ slot_filled kind objects p (s ∷ starts) n differs fit lt =
     (λ ne.
     let test : (nat_eq p p && nat_eq s.0 n) ≡ false = ap (λ b. b && nat_eq s.0 n) (eq-eqb p p refl) ∙ eqb_other s.0 n ne in
     ap (option_map simple_value) (get_or-set_other slots s.0 n (slot_of (out-Term s.1)) unset (λ e. ne (sym e)))
-    ∙ slot_filled kind objects p starts n differs (All-tail (λ (s : ℕ × Term). FitsStart kind objects s.0 s.1) s starts fit) lt
+    ∙ slot_filled kind objects p starts n differs (All-tail (λ (s : ℕ × Term). FitsStart kind objects s.0 s.1) s starts fit)
     ∙ sym (cond-false (nat_eq p p && nat_eq s.0 n) (Some (start_value s.1)) rest test))
 
 -- ## Kept lists at the start
@@ -184,19 +184,15 @@ fit_at objects places i place all e = subst (HasStarts objects) (get_or_from_sli
 pub lists_at_start : (places : List Place) (objects : ℕ) → All (HasStarts objects) places → map starting_cells places ≡ stored_from 0 (kinds_of places) (start_facts places)
 lists_at_start places objects fit = kept_lists 0 places (start_facts places) (λ i place e. stored_start place.kind objects (0 + i) place.start (start_facts places) (fit_at objects places i place fit e) (value_place 0 places i 0 place e))
 
-below_none : (n : ℕ) → n < 0 → ⊥
-below_none n lt = omega arith
-
-started_slot : (places : List Place) (objects p n : ℕ) (kind : PlaceKind) → All (HasStarts objects) places → slice_get (kinds_of places) p ≡ Some kind → n < width_of kind objects → option_map simple_value (slot_in (slice_get (map (starting_table objects) places) p) n) ≡ value_at (start_facts places) p n
-started_slot places objects p n kind fit is lt =
+started_slot : (places : List Place) (objects p n : ℕ) (kind : PlaceKind) → All (HasStarts objects) places → slice_get (kinds_of places) p ≡ Some kind → (kind ≡ Global → ⊥) → option_map simple_value (slot_in (slice_get (map (starting_table objects) places) p) n) ≡ value_at (start_facts places) p n
+started_slot places objects p n kind fit is none =
     let at = from_kind (slice_get places p) kind (sym (slice_get-map (λ (place : Place). place.kind) places p) ∙ is) in
     let place = at.0 in
     let table : slice_get (map (starting_table objects) places) p ≡ Some (starting_table objects place) = slice_get-map (starting_table objects) places p ∙ ap (option_map (starting_table objects)) at.1 in
-    let small : n < width_of place.kind objects = subst (λ (k : PlaceKind). n < width_of k objects) (sym at.2) lt in
-    let differs : place.kind ≡ Global → ⊥ = λ g. below_none n (subst (λ (k : PlaceKind). n < width_of k objects) g small) in
+    let differs : place.kind ≡ Global → ⊥ = λ g. none (sym at.2 ∙ g) in
     let z : 0 + p ≡ p = omega arith in
     ap (λ x. option_map simple_value (slot_in x n)) table
-    ∙ slot_filled place.kind objects (0 + p) place.start n differs (fit_at objects places p place fit at.1) small
+    ∙ slot_filled place.kind objects (0 + p) place.start n differs (fit_at objects places p place fit at.1)
     ∙ sym (value_place 0 places p n place at.1)
     ∙ ap (λ k. value_at (start_facts places) k n) z
 
@@ -206,7 +202,7 @@ started places objects keep fit room = record {
   widths = λ p t e.
       let at = from_table objects (slice_get places p) t (sym (slice_get-map (starting_table objects) places p) ∙ e) in
       ap (λ (x : Table). length x.slots) (sym at.2) ∙ length_filled at.0.start (replicate (width_of at.0.kind objects) None) ∙ length-replicate (width_of at.0.kind objects) None ∙ ap (λ (x : Table). width_of x.kind objects) at.2;
-  slots = λ p n kind is lt. started_slot places objects p n kind fit is lt;
+  slots = λ p n kind is none. started_slot places objects p n kind fit is none;
   kept = lists_at_start places objects fit;
   limit = refl;
   within = room;

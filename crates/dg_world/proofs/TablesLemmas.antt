@@ -196,7 +196,7 @@ set_total (x ∷ ls) (suc i) l lt = omega (arith, set_total ls i l (omega arith)
 -- what other tables of the same shape stand for
 tables_stand : (o : Outline) (facts facts' : List Fact) (tables tables' : List Table) (lists : List (List Cell)) (keep : ℕ) → AreTables o facts tables lists keep
     → map (λ (t : Table). t.kind) tables' ≡ map (λ (t : Table). t.kind) tables → ((q : ℕ) → (t' : Table) → slice_get tables' q ≡ Some t' → SameShape tables q t')
-    → ((q n : ℕ) → (kind : PlaceKind) → IsKind o q kind → n < width_of kind o.objects → option_map simple_value (slot_in (slice_get tables' q) n) ≡ value_at facts' q n)
+    → ((q n : ℕ) → (kind : PlaceKind) → IsKind o q kind → (kind ≡ Global → ⊥) → option_map simple_value (slot_in (slice_get tables' q) n) ≡ value_at facts' q n)
     → stored_from 0 o.kinds facts' ≡ stored_from 0 o.kinds facts → AreTables o facts' tables' lists keep
 tables_stand o facts facts' tables tables' lists keep s kinds shapes slots same = record {
   kinds = kinds ∙ s.kinds;
@@ -221,7 +221,7 @@ put_stands o facts facts' tables lists keep p n s k st is differs lt hit miss =
     let wide : length t.0.slots ≡ width_of k o.objects = st.widths p t.0 t.1 ∙ ap (λ x. width_of x o.objects) t.2 in
     let here = put_here tables p n s t.0 t.1 (omega arith) in
     let after = λ (q m : ℕ). option_map simple_value (slot_in (slice_get (put_at p n s tables) q) m) in
-    let elsewhere = λ (q m : ℕ) (kind : PlaceKind) (e : IsKind o q kind) (small : m < width_of kind o.objects) (ne : q ≡ p → m ≡ n → ⊥). ap (option_map simple_value) (put_there tables p n s q m ne) ∙ st.slots q m kind e small ∙ sym (miss q m ne) in
+    let elsewhere = λ (q m : ℕ) (kind : PlaceKind) (e : IsKind o q kind) (small : kind ≡ Global → ⊥) (ne : q ≡ p → m ≡ n → ⊥). ap (option_map simple_value) (put_there tables p n s q m ne) ∙ st.slots q m kind e small ∙ sym (miss q m ne) in
     tables_stand o facts facts' tables (put_at p n s tables) lists keep st (put_kinds tables p n s) (put_shapes tables p n s)
     (λ q m kind e small. either (cases_eq q p)
     (λ a. either (cases_eq m n)
@@ -259,11 +259,10 @@ pub kept_stands : (o : Outline) (facts facts' : List Fact) (tables : List Table)
 kept_stands o facts facts' tables lists keep p l st is hit miss within = record {
   kinds = st.kinds;
   widths = st.widths;
-  slots = λ q m kind e small. st.slots q m kind e small ∙ sym (miss q m (λ w.
+  slots = λ q m kind e differs. st.slots q m kind e differs ∙ sym (miss q m (λ w.
       let both : Some kind ≡ Some Global = sym e ∙ ap (slice_get o.kinds) w ∙ is in
       let same : kind ≡ Global = cc in
-      let none : m < 0 = subst (λ (x : PlaceKind). m < width_of x o.objects) same small in
-      absurd (omega arith)));
+      differs same));
   kept = kept_behind o facts facts' tables lists keep p l st is hit miss;
   limit = st.limit;
   within = within;

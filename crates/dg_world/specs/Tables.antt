@@ -106,11 +106,11 @@ abbrev pub is_fresh : Cell → Bool
 is_fresh cell.Fresh = true
 is_fresh c = false
 
--- These tables and kept lists stand for these facts.
+-- These tables and kept lists stand for these facts; beyond the slots of a table nothing is set.
 pub record AreTables (o : Outline) (facts : List Fact) (tables : List Table) (lists : List (List Cell)) (keep : ℕ) : Type 0 where
   pub kinds : map (λ (t : Table). t.kind) tables ≡ o.kinds
   pub widths : (place : ℕ) → (t : Table) → slice_get tables place ≡ Some t → length t.slots ≡ width_of t.kind o.objects
-  pub slots : (place n : ℕ) → (kind : PlaceKind) → IsKind o place kind → n < width_of kind o.objects →
+  pub slots : (place n : ℕ) → (kind : PlaceKind) → IsKind o place kind → kind ≢ Global →
       option_map simple_value (slot_in (slice_get tables place) n) ≡ value_at facts place n
   pub kept : lists ≡ stored_from 0 o.kinds facts
   pub limit : keep ≡ o.keep

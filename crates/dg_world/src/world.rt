@@ -132,7 +132,7 @@ impl World {
     /// Whether a flag is set: a global one, or that of an object.
     pub fn holds(&self, place: u16, object: u16) -> bool
         ensures flag { (o : Outline) → (facts : List Fact) → StandsFor self.now o facts → IsKind o place Flag → result ≡ is_some (value_at facts place 0) }
-        ensures object { (o : Outline) → (facts : List Fact) → StandsFor self.now o facts → IsKind o place ObjectFlag → object < o.objects →
+        ensures object { (o : Outline) → (facts : List Fact) → StandsFor self.now o facts → IsKind o place ObjectFlag →
             result ≡ is_some (value_at facts place object) }
     {
         let number = match self.kind_at(place) {
@@ -142,9 +142,9 @@ impl World {
         self.slot(place, number).is_some()
     }
 
-    /// The value of an object.
+    /// What is set of an object: its value, or the empty list where it is a flag.
     pub fn value(&self, place: u16, object: u16) -> Option<Simple>
-        ensures { (o : Outline) → (facts : List Fact) → StandsFor self.now o facts → HasValues o place → object < o.objects →
+        ensures { (o : Outline) → (facts : List Fact) → StandsFor self.now o facts → HasObjects o place →
             option_map simple_value result ≡ value_at facts place object }
     {
         self.slot(place, object)
@@ -171,7 +171,8 @@ impl World {
 
     // Keeps a value, if it has no unbound variables and there is room.
     fn keep(&mut self, place: u16, cells: &[Cell]) -> Result<bool, KeepFull>
-        ensures { KeepsList place cells.now self.old self.new result }
+        ensures kept { KeepsList place cells.now self.old self.new result }
+        ensures limit { self.new.area.keep ≡ self.old.area.keep }
     {
         if has_variable(cells) {
             return Ok(false);
@@ -195,8 +196,9 @@ impl World {
 
     // Sets the value of an object, if the place takes it.
     fn set_value(&mut self, place: u16, object: u16, value: Option<Simple>) -> bool
-        ensures { (o : Outline) → (facts : List Fact) → (a : Alteration) → StandsFor self.old o facts →
+        ensures changed { (o : Outline) → (facts : List Fact) → (a : Alteration) → StandsFor self.old o facts →
             Means o (Change.ObjectVar place object value) a → Changed o facts a self.old self.new (Ok result) }
+        ensures limit { self.new.area.keep ≡ self.old.area.keep }
     {
         if !self.takes(place, value) {
             return false;
@@ -207,8 +209,9 @@ impl World {
 
     // Keeps a value, or lets it go.
     fn set_global(&mut self, place: u16, cells: Option<&[Cell]>) -> Result<bool, KeepFull>
-        ensures { (o : Outline) → (facts : List Fact) → (a : Alteration) → StandsFor self.old o facts → Means o (Change.Global place cells.entry) a →
+        ensures changed { (o : Outline) → (facts : List Fact) → (a : Alteration) → StandsFor self.old o facts → Means o (Change.Global place cells.entry) a →
             Changed o facts a self.old self.new result }
+        ensures limit { self.new.area.keep ≡ self.old.area.keep }
     {
         match cells {
             Some(cells) => self.keep(place, cells),
@@ -221,8 +224,9 @@ impl World {
 
     /// Makes a change.
     pub fn change(&mut self, change: Change<'_>) -> Result<bool, KeepFull>
-        ensures { (o : Outline) → (facts : List Fact) → (a : Alteration) → StandsFor self.old o facts → Means o change.entry a →
+        ensures changed { (o : Outline) → (facts : List Fact) → (a : Alteration) → StandsFor self.old o facts → Means o change.entry a →
             Changed o facts a self.old self.new result }
+        ensures limit { self.new.area.keep ≡ self.old.area.keep }
     {
         match change {
             Change::Flag(place, on) => self.put(place, 0, flag(on)),
