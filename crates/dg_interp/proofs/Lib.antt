@@ -42,5 +42,9 @@ pub mod TypedLetters
 pub mod SpellLemmas
 pub mod Wordings
 pub mod Inputs
+pub mod SubjectLemmas
+pub mod ChangeLemmas
+pub mod Acted
+pub mod Changes
 pub mod Starting
 pub mod Throws

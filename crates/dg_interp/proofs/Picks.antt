@@ -56,6 +56,7 @@ picks_one site k branch mode old here behind dice sites is chose exact may put =
   picks = put ∙ ap (slice_set (picks_in old) site) (exact few ∙ ap (picked branch) is);
   world = refl;
   gathered = refl;
+  row = refl;
 } where
   picks : (words : List ℕ) (n : ℕ) → HasDrawn old.dice words n → Chose mode k (picks_of here) words n branch behind dice
   picks words n drawn = chose (picks_of here) words n (record { turn = refl; last = refl }) drawn

@@ -8,6 +8,9 @@ use Rattle.dg_base.specs.declared.program.Mode.{Mode}
 use Rattle.dg_base.specs.Goals.{terms_held}
 use Rattle.dg_meaning.specs.Values.{Value}
 use Rattle.dg_meaning.specs.World.{Game, World}
+use Rattle.std.specs.declared.vec.Vec.{Vec}
+use Rattle.std.specs.declared.alloc.Global.{Global}
+use Rattle.dg_base.specs.declared.cells.Cell.{Cell}
 use Rattle.dg_meaning.specs.Cells.{writing}
 use Rattle.dg_meaning.specs.Choosing.{die, Picks, picked, picks_at, Choice, choice}
 use Rattle.dg_meaning.specs.Path.{Registers}
@@ -18,11 +21,10 @@ use Rattle.dg_built.specs.Built.{AreBuilt}
 use Rattle.dg_built.proofs.BuiltLemmas.{built_inside, lists_built, all_none}
 use Rattle.dg_choose.specs.Dice.{HasDrawn}
 use Rattle.dg_lists.specs.Gathered.{Gathered}
-use Rattle.dg_world.specs.Worlds.{StandsFor}
 use Rattle.dg_world.specs.declared.world.World.{World as FactsWorld}
 use Rattle.dg_interp.specs.declared.outside.Outside.{Outside}
 use Rattle.dg_interp.specs.declared.engine.Engine.{Engine}
-use Rattle.dg_interp.specs.Outside.{outline, picks_in, InWorld, MayPick, PicksOne}
+use Rattle.dg_interp.specs.Outside.{picks_in, HasSet, InWorld, MayPick, PicksOne}
 use Rattle.dg_interp.specs.Engine.{steps_of, IsReady, TakesAt, WentOn}
 use Rattle.dg_interp.proofs.Takes.{behind, taken_in, comes_of, adds_taken}
 use Rattle.dg_interp.proofs.Opens.{agrees_here}
@@ -85,7 +87,8 @@ module _ (site : ℕ) (mode : Mode) (lists : List (List Goal)) (old : Engine) (o
     now : InWorld out g (selected site chosen v)
     now =
         let was = st.at.inside.world in (
-          subst (λ (o : FactsWorld). StandsFor o (outline g.program o.area.keep) w.facts) (sym one.world) was.0,
+          subst (λ (row : Vec Cell Global). HasSet out.world (length row.items) g.program w.facts) (sym one.row)
+              (subst (λ (o : FactsWorld). HasSet o (length old.outside.row.items) g.program w.facts) (sym one.world) was.0),
           ap (λ (o : Gathered). o.rows) one.gathered ∙ was.1,
           subst (λ (c : Choice). HasDrawn out.dice g.dice (w.dice + c.drawn)) chosen_is (one.dice g.dice w.dice was.2),
           ap (λ b. slice_set w.sites site (picked b (picks_at w.sites site))) (sym branch_is)

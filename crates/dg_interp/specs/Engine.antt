@@ -3,7 +3,7 @@ use Rattle.std.specs.Prelude.{ℕ, suc, ◌+◌, ◌^◌, ◌≡◌, ◌<◌, �
 use Rattle.std.specs.List.{All}
 use Rattle.dg_base.specs.declared.program.Goal.{Goal, Goal-F}
 use Rattle.dg_base.specs.declared.program.Goal.TheVariants.{Print as PrintGoal, Stop as StopGoal}
-use Rattle.dg_base.specs.declared.program.Goal.TheOpen.{Text, Print as PrintForm, Gap, GapN, Quit, Stop, Input}
+use Rattle.dg_base.specs.declared.program.Goal.TheOpen.{Text, Print as PrintForm, Gap, GapN, Now, Quit, Stop, Input}
 use Rattle.dg_base.specs.declared.program.Term.{Term}
 use Rattle.dg_base.specs.declared.program.CoreProgram.{CoreProgram}
 use Rattle.dg_base.specs.Sound.{IsSound as IsSoundProgram}
@@ -308,6 +308,11 @@ IsAct (Gap kind) = ⊥
 IsAct (GapN a) = ⊥
 IsAct (Input a) = ⊥
 IsAct x = Unit {0}
+
+-- A goal that needs room in the store alone.
+abbrev pub IsOnStore : Goal-F Goal → Type 0
+IsOnStore (Now place terms sets) = ⊥
+IsOnStore x = Unit {0}
 
 -- A goal was taken, and what it does is left to do.
 pub record Taken (x : Goal) (old new : Engine) : Type 0 where

@@ -15,3 +15,6 @@ pub mod Outside
 pub mod Throwing
 pub mod Spelling
 pub mod Wording
+pub mod Subjects
+pub mod Changing
+pub mod Made

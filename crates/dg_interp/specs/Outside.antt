@@ -7,9 +7,10 @@ use Rattle.dg_base.specs.declared.program.Mode.{Mode}
 use Rattle.dg_base.specs.declared.run.Limits.{Limits}
 use Rattle.dg_meaning.specs.ValueCells.{cells_of}
 use Rattle.dg_meaning.specs.Choosing.{die, Picks, no_picks, picked, picks_at, choice}
-use Rattle.dg_meaning.specs.Facts.{kinds_of, kept_size, start_facts}
+use Rattle.dg_meaning.specs.Facts.{Fact, kinds_of, kept_size, start_facts}
 use Rattle.dg_meaning.specs.Transcript.{start_world}
 use Rattle.dg_meaning.specs.World.{Game, World, Gathering}
+use Rattle.dg_lists.specs.Formed.{IsFormed}
 use Rattle.dg_world.specs.Tables.{Outline, outline_of}
 use Rattle.dg_world.specs.Worlds.{StandsFor}
 use Rattle.dg_choose.specs.Dice.{HasDrawn}
@@ -31,9 +32,15 @@ row_of gathering = flat_map cells_of gathering.values
 abbrev pub picks_in : Outside → List Picks
 picks_in out = map picks_of out.sites.items
 
+-- What is set stands in a world, all of it values of the language, and a row of so many cells has room for as much as may be kept.
+pub record HasSet (world : FactsWorld) (row : ℕ) (program : CoreProgram) (facts : List Fact) : Type 0 where
+  pub stands : StandsFor world (outline program world.area.keep) facts
+  pub formed : All (λ (fact : Fact). IsFormed fact.value) facts
+  pub room : row ≡ world.area.keep
+
 -- What is outside stands for what a world has: what is set, what was gathered, the dice words that were drawn, and what was picked.
 abbrev pub InWorld : Outside → Game → World → Type 0
-InWorld out g w = StandsFor out.world (outline g.program out.world.area.keep) w.facts × (out.gathered.rows ≡ map row_of w.gathered) ×
+InWorld out g w = HasSet out.world (length out.row.items) g.program w.facts × (out.gathered.rows ≡ map row_of w.gathered) ×
     HasDrawn out.dice g.dice w.dice × (w.sites ≡ picks_in out)
 
 -- ## Picks
@@ -51,6 +58,7 @@ pub record PicksOne (site : ℕ) (mode : Mode) (branches : ℕ) (picked_one : �
   pub picks : picks_in new ≡ slice_set (picks_in old) site (picked picked_one (picks_at (picks_in old) site))
   pub world : new.world ≡ old.world
   pub gathered : new.gathered ≡ old.gathered
+  pub row : new.row ≡ old.row
 
 -- ## The start
 

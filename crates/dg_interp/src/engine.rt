@@ -21,6 +21,7 @@ ghost use Rattle.dg_interp.specs.Printing.{Printed};
 ghost use Rattle.dg_unify.specs.Store.{Saved, Kept, Holds, Charged};
 
 mod acting;
+mod changing;
 mod comparing;
 mod control;
 mod giving;

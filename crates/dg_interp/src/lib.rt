@@ -3,6 +3,7 @@
 
 mod bodies;
 mod calculating;
+mod changing;
 mod engine;
 mod frames;
 mod interpreter;
@@ -13,6 +14,7 @@ mod passing;
 mod printing;
 mod run;
 mod spelling;
+mod subject;
 mod terms;
 mod testing;
 

@@ -1,24 +1,33 @@
 // What a run has outside its store.
-ghost use Rattle.std.specs.Prelude.{◌≡◌, ◌<◌, ◌≤◌, IfOk, IfErr, length, map, replicate};
+ghost use Rattle.std.specs.Prelude.{◌≡◌, ◌<◌, ◌≤◌, IfOk, IfErr, List, All, length, map, replicate};
+ghost use Rattle.dg_meaning.specs.Facts.{Fact};
+ghost use Rattle.dg_meaning.specs.Changes.{change_of};
+ghost use Rattle.dg_unify.specs.Store.{Saved, Holds};
+ghost use Rattle.dg_world.specs.Tables.{Outline, IsKind};
+ghost use Rattle.dg_world.specs.Worlds.{StandsFor};
+ghost use Rattle.dg_interp.specs.Changing.{all_in_store, Became};
 ghost use Rattle.dg_base.specs.Sound.{IsSound};
 ghost use Rattle.dg_choose.specs.Site.{picks_of};
 ghost use Rattle.dg_meaning.specs.Choosing.{no_picks, picks_at};
 ghost use Rattle.dg_interp.specs.Outside.{closed_to, picks_in, MayPick, PicksOne, StartsWorld, StartsOutside, LacksAtStart};
 
+use crate::changing::change_place;
 use crate::lack::Lack;
-use dg_base::{CoreProgram, Limits, Mode};
+use dg_base::{Cell, CoreProgram, Limits, Mode, PlaceKind};
 use dg_choose::{Dice, Site, pick};
 use dg_lists::{Gather, GatherMark};
-use dg_world::World;
+use dg_unify::{Bindings, Ref};
+use dg_world::{KeepFull, World};
 use std::alloc::{AllocError, Global};
 
-/// The world, what is gathered, the dice, and what is kept of selects.
+/// The world, what is gathered, the dice, what is kept of selects, and a row in which a value that is to be kept is written out.
 #[derive(Drop)]
 pub struct Outside<'p> {
     pub world: World,
     pub gathered: Gather,
     pub dice: Dice<'p>,
     pub sites: Vec<Site>,
+    pub row: Vec<Cell>,
 }
 
 /// So many sites, at which nothing was picked.
@@ -40,6 +49,13 @@ fn site_at(sites: &[Site], site: usize) -> Site
         Some(here) => *here,
         None => Site::new(),
     }
+}
+
+/// A row of so many cells.
+fn new_row(alloc: Global, count: u32) -> Result<Vec<Cell>, AllocError>
+    ensures { IfOk result (λ row. length row.items ≡ count) }
+{
+    vec![in alloc; Cell::Nil; count as usize]
 }
 
 /// How many objects a program has.
@@ -91,12 +107,49 @@ impl<'p> Outside<'p> {
         let Ok(sites) = new_sites(alloc, program.sites) else {
             return Err(Lack::OutOfMemory);
         };
+        let Ok(row) = new_row(alloc, limits.keep) else {
+            return Err(Lack::OutOfMemory);
+        };
         Ok(Outside {
             world,
             gathered,
             dice: Dice::new(dice),
             sites,
+            row,
         })
+    }
+
+    /// Changes a place of a kind, of which there are so many objects, with these values; false where it can't be changed so.
+    pub fn change<B: Bindings>(
+        &mut self,
+        store: &mut B,
+        objects: usize,
+        kind: PlaceKind,
+        place: u16,
+        args: &[Ref],
+        sets: bool,
+    ) -> Result<bool, KeepFull>
+        requires { All (Holds (B.meaning store.old)) args.now }
+        ensures same { B.meaning store.new ≡ B.meaning store.old }
+        ensures saved { (ms : List Saved) → B.saves store.old ms → B.saves store.new ms }
+        ensures others { self.new ≡ record self.old { world = self.new.world; row = self.new.row } }
+        ensures row { length self.new.row.items ≡ length self.old.row.items }
+        ensures limit { self.new.world.area.keep ≡ self.old.world.area.keep }
+        ensures became { (o : Outline) → (facts : List Fact) → StandsFor self.old.world o facts → IsKind o place kind → o.objects ≡ objects →
+            length self.old.row.items ≡ o.keep →
+            Became o facts (change_of objects kind place sets (all_in_store (B.meaning store.old) args.now)) self.old.world self.new.world result }
+    {
+        let row = self.row.as_mut_slice();
+        change_place(
+            store,
+            &mut self.world,
+            row,
+            objects,
+            kind,
+            place,
+            args,
+            sets,
+        )
     }
 
     /// Drops the gatherings but for the first so many.

@@ -2,7 +2,7 @@
 ghost use Rattle.std.specs.Prelude.{◌≡◌, ◌+◌, ◌<◌, ◌^◌, [], ◌∷◌, IfOk, IfErr};
 ghost use Rattle.dg_base.specs.declared.program.Goal.{out-Goal};
 ghost use Rattle.dg_built.specs.Built.{AreBuilt, IsBuiltGoal};
-ghost use Rattle.dg_interp.specs.Engine.{IsReady, TakesAt, Branches, FullAt, LackAt, IsAct, IsAgain, store_in};
+ghost use Rattle.dg_interp.specs.Engine.{IsReady, TakesAt, Branches, FullAt, LackAt, IsAct, IsOnStore, IsAgain, store_in};
 ghost use Rattle.dg_interp.specs.Outside.{picks_in, MayPick};
 
 use super::Engine;
@@ -20,6 +20,7 @@ impl<'p> Engine<'p> {
         requires built { AreBuilt (goal.now ∷ []) }
         requires form { IsBuiltGoal goal.now }
         requires act { IsAct (out-Goal goal.now) }
+        requires store { IsOnStore (out-Goal goal.now) }
         requires again { IsAgain goal.now again self.old }
         ensures done { IfOk result (λ found. Branches (TakesAt goal.entry.now self.old) found self.old self.new) }
         ensures full { IfErr result (λ e. FullAt (TakesAt goal.entry.now self.old) (store_in self.old.store) e) }
@@ -70,6 +71,9 @@ impl<'p> Engine<'p> {
         ensures lacks { IfErr result (λ lack. LackAt (TakesAt goal.entry.now self.old) self.old lack) }
         ensures left { self.new.left ≡ self.old.left }
     {
-        stored(self.act_on_store(goal, again))
+        match goal {
+            Goal::Now(place, terms, sets) => self.change(*place, terms.as_slice(), *sets),
+            _ => stored(self.act_on_store(goal, again)),
+        }
     }
 }
