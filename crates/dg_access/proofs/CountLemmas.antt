@@ -12,7 +12,7 @@ use Rattle.dg_names.specs.Counts.{closures_at, selects_at}
 use Rattle.dg_access.specs.Counts.{rules_at, nodes_at, counted_of, counted_among, has_excess, are_many}
 use Rattle.dg_access.specs.Items.{plain_items}
 use Rattle.dg_access.specs.Rewritten.{IsRewritten}
-use Rattle.dg_access.specs.Scopes.{Counted, counted, behind, uncounted, has_many, passing_in}
+use Rattle.dg_access.specs.Scopes.{Counted, counted, behind, uncounted, counts_of, has_many, passing_in}
 
 among_push : (before : List Item) (i : Item) → counted_among (before ++ i ∷ []) ≡ counted_among before ++ things (counted_of i.said)
 among_push [] i = nil_behind (things (counted_of i.said))
@@ -33,28 +33,24 @@ same_counts r r' c c' s s' n n' re ce se ne =
 weight_on : (f : Thing → ℕ) (k : ℕ) (a b : List Thing) → k + weight_of f (a ++ b) ≡ (k + weight_of f a) + weight_of f b
 weight_on f k a b = omega (arith, weight_append f a b)
 
-counted_append : (a b : List Thing) (c : Counted) → counted (a ++ b) c ≡ counted b (counted a c)
+pub counted_append : (a b : List Thing) (c : Counted) → counted (a ++ b) c ≡ counted b (counted a c)
 counted_append a b c = same_counts _ _ _ _ _ _ _ _
     (weight_on rules_at c.rules a b) (weight_on closures_at c.closures a b) (weight_on selects_at c.selects a b) (weight_on nodes_at c.nodes a b)
 
--- what is counted of these items
-abbrev all : List Item → Counted
-all is = counted (counted_among is) uncounted
-
-all_push : (before : List Item) (i : Item) → all (before ++ i ∷ []) ≡ behind (all before) i.said
+all_push : (before : List Item) (i : Item) → counts_of (before ++ i ∷ []) ≡ behind (counts_of before) i.said
 all_push before i = ap (λ (l : List Thing). counted l uncounted) (among_push before i) ∙ counted_append (counted_among before) (things (counted_of i.said)) uncounted
 
 none_before : (k : ℕ) → 0 + k ≡ k
 none_before k = omega arith
 
-many_same : (is : List Item) → has_many (all is) ≡ are_many is
+pub many_same : (is : List Item) → has_many (counts_of is) ≡ are_many is
 many_same is =
     ap has_many (same_counts _ _ _ _ _ _ _ _
     (none_before (weight_of rules_at (counted_among is))) (none_before (weight_of closures_at (counted_among is)))
     (none_before (weight_of selects_at (counted_among is))) (none_before (weight_of nodes_at (counted_among is))))
 
 pub passing_is_first : (is : List Item) → passing_in uncounted is ≡ first_passing has_excess are_many [] is
-passing_is_first is = one.passing_is_first has_excess behind has_many all are_many all_push many_same [] is
+passing_is_first is = one.passing_is_first has_excess behind has_many counts_of are_many all_push many_same [] is
 
 -- ---- one item more
 
@@ -83,3 +79,22 @@ pub refused_at : (is new : List Item) (line : ℕ) → new ≡ plain_items None 
 refused_at is new line e some =
     let there = found (passing_in uncounted new) line some in
     (there.0, ap (first_passing has_excess are_many []) (sym e) ∙ sym (passing_is_first new) ∙ there.1, ap (λ (l : ℕ). record { kind = TooMany; line = l }) there.2)
+
+-- ---- several items more
+
+among_append : (before is : List Item) → counted_among (before ++ is) ≡ counted_among before ++ counted_among is
+among_append [] is = refl
+among_append (j ∷ before) is =
+    ap (λ (l : List Thing). things (counted_of j.said) ++ l) (among_append before is)
+    ∙ sym (append_assoc (things (counted_of j.said)) (counted_among before) (counted_among is))
+
+-- what is counted behind these items is counted of all
+pub counted_behind : (before is : List Item) → counted (counted_among is) (counts_of before) ≡ counts_of (before ++ is)
+counted_behind before is = sym (ap (λ (l : List Thing). counted l uncounted) (among_append before is) ∙ counted_append (counted_among before) (counted_among is) uncounted)
+
+-- the counts behind these items, of what was counted before
+pub counts_added : (c d : Counted) (before is : List Item) → d ≡ counted (counted_among is) c → c ≡ counts_of before → d ≡ counts_of (before ++ is)
+counts_added c d before is e f = e ∙ ap (counted (counted_among is)) f ∙ counted_behind before is
+
+pub passes_added : (c d : Counted) (before is : List Item) → d ≡ counted (counted_among is) c → c ≡ counts_of before → has_many d ≡ are_many (before ++ is)
+passes_added c d before is e f = ap has_many (counts_added c d before is e f) ∙ many_same (before ++ is)

@@ -9,8 +9,8 @@ use Rattle.dg_base.specs.Tree.{Said, Item}
 use Rattle.dg_base.specs.Mentions.{Mentions, nothing, thing, closed, things, closures, names_in, weight_of, variable_in}
 use Rattle.dg_base.specs.Passing.{first_passing}
 use Rattle.dg_names.specs.Counts.{counted_in}
-use Rattle.dg_access.specs.Counts.{variables_of, is_full, counted_of, has_many_variables, queries_at, has_excess, are_many}
-use Rattle.dg_access.specs.Few.{AreFew, HasFewVariables, RewrittenIsFew, AllAreOut}
+use Rattle.dg_access.specs.Counts.{variables_of, is_full, counted_of, counted_among, has_many_variables, any_has_many, queries_at, has_excess, are_many}
+use Rattle.dg_access.specs.Few.{AreFew, HasFewVariables, RewrittenIsFew, SmallAreFew, AllAreOut}
 
 not_over : (k : ℕ) → nat_lt 64 k ≡ false → k ≤ 64
 not_over k h = grind (arith, nat_tests, h)
@@ -21,12 +21,24 @@ all_few all (ms ∷ inner) h =
     let each = or_parts (is_full all ms) (list_any (is_full all) inner) h in
     All-cons (AreFew all) ms inner (not_over (variables_of all ms) each.0) (all_few all inner each.1)
 
-said_few : (said : Said) → has_excess said ≡ false → HasFewVariables said
-said_few said h =
+variables_few : (said : Said) → has_many_variables said ≡ false → HasFewVariables said
+variables_few said h =
     let ms = counted_of said in
     let all = names_in variable_in (things ms) in
-    let each = or_parts (is_full all ms) (list_any (is_full all) (closures ms)) (or_parts (nat_lt 10000 (weight_of queries_at (things ms))) (has_many_variables said) h).1 in
+    let each = or_parts (is_full all ms) (list_any (is_full all) (closures ms)) h in
     (not_over (variables_of all ms) each.0, all_few all (closures ms) each.1)
+
+said_few : (said : Said) → has_excess said ≡ false → HasFewVariables said
+said_few said h = variables_few said (or_parts (nat_lt 10000 (weight_of queries_at (things (counted_of said)))) (has_many_variables said) h).1
+
+any_few : (is : List Item) → any_has_many is ≡ false → All (λ (i : Item). HasFewVariables i.said) is
+any_few [] e = All-nil (λ (i : Item). HasFewVariables i.said)
+any_few (i ∷ is) e =
+    let each = or_parts (has_many_variables i.said) (any_has_many is) e in
+    All-cons (λ (j : Item). HasFewVariables j.said) i is (variables_few i.said each.0) (any_few is each.1)
+
+pub small_few : (is : List Item) → SmallAreFew is
+small_few is e = any_few is (or_parts (nat_lt 10000 (weight_of queries_at (counted_among is))) (any_has_many is) e).1
 
 -- where no item is the first at which a count passes, no item has too many
 first_few : (before : List Item) (i : Item) (is : List Item) → first_passing has_excess are_many before (i ∷ is) ≡ None → (has_excess i.said ≡ false) × (first_passing has_excess are_many (before ++ i ∷ []) is ≡ None)

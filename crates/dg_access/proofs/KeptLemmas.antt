@@ -22,22 +22,22 @@ Hold P nothing = Unit {0}
 Hold P (thing t ms) = P t × Hold P ms
 Hold P (closed inner ms) = P closure × Hold P inner × Hold P ms
 
-front : (P : Thing → Type 0) (a b : Mentions) → Hold P (join a b) → Hold P a
+pub front : (P : Thing → Type 0) (a b : Mentions) → Hold P (join a b) → Hold P a
 front P nothing b h = tt
 front P (thing t ms) b h = (h.0, front P ms b h.1)
 front P (closed inner ms) b h = (h.0, h.1, front P ms b h.2)
 
-back : (P : Thing → Type 0) (a b : Mentions) → Hold P (join a b) → Hold P b
+pub back : (P : Thing → Type 0) (a b : Mentions) → Hold P (join a b) → Hold P b
 back P nothing b h = h
 back P (thing t ms) b h = back P ms b h.1
 back P (closed inner ms) b h = back P ms b h.2
 
-both : (P : Thing → Type 0) (a b : Mentions) → Hold P a → Hold P b → Hold P (join a b)
+pub both : (P : Thing → Type 0) (a b : Mentions) → Hold P a → Hold P b → Hold P (join a b)
 both P nothing b h k = k
 both P (thing t ms) b h k = (h.0, both P ms b h.1 k)
 both P (closed inner ms) b h k = (h.0, h.1, both P ms b h.2 k)
 
-three : (P : Thing → Type 0) (a b c : Mentions) → Hold P a → Hold P b → Hold P c → Hold P (join a (join b c))
+pub three : (P : Thing → Type 0) (a b c : Mentions) → Hold P a → Hold P b → Hold P c → Hold P (join a (join b c))
 three P a b c h k l = both P a (join b c) h (both P b c k l)
 
 pub all_front : (P : Thing → Type 0) (xs ys : List Thing) → All P (xs ++ ys) → All P xs

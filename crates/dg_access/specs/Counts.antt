@@ -1,5 +1,5 @@
 -- The counts of a rewritten source, and the first item at which one passes: hold them against docs/LANGUAGE.md, "Limits", and docs/REFUSALS.md, "too many".
-use Rattle.std.specs.Prelude.{ℕ, ◌+◌, ◌||◌, ◌&&◌, List, [], ◌∷◌, ◌++◌, Bool, not, filter, length, codes, nat_eq, nat_lt, if◌then◌else◌}
+use Rattle.std.specs.Prelude.{ℕ, ◌+◌, ◌||◌, ◌&&◌, List, [], ◌∷◌, ◌++◌, Bool, false, not, filter, length, codes, nat_eq, nat_lt, if◌then◌else◌}
 use Rattle.std.specs.List.{list_any, starts_with}
 use Rattle.std.specs.Str.{bytes_eq}
 use Rattle.dg_base.specs.Tree.{Said, access, Item}
@@ -99,6 +99,15 @@ counted_among (i ∷ is) = things (counted_of i.said) ++ counted_among is
 -- An item with too many queries, or with too many variables in a rule or a closure.
 abbrev pub has_excess : Said → Bool
 has_excess said = nat_lt 10000 (weight_of queries_at (things (counted_of said))) || has_many_variables said
+
+-- One of these items has too many variables in a rule or a closure.
+abbrev pub any_has_many : List Item → Bool
+any_has_many [] = false
+any_has_many (i ∷ is) = has_many_variables i.said || any_has_many is
+
+-- What one item becomes is too large: it has too many queries together, or too many variables in a rule or a closure.
+abbrev pub are_large : List Item → Bool
+are_large is = nat_lt 10000 (weight_of queries_at (counted_among is)) || any_has_many is
 
 -- A count in all passes its number: rules, closures, select sites or nodes.
 abbrev pub are_many : List Item → Bool

@@ -1,10 +1,10 @@
 -- How many variables are left in a rewritten tree: hold it against docs/LANGUAGE.md, "Limits".
-use Rattle.std.specs.Prelude.{◌≡◌, ◌≤◌, ℕ, List, [], Result, Ok}
+use Rattle.std.specs.Prelude.{◌≡◌, ◌≤◌, ℕ, List, [], false, Result, Ok}
 use Rattle.std.specs.List.{All}
 use Rattle.dg_base.specs.Tree.{Said, Item}
 use Rattle.dg_base.specs.Mentions.{Mentions, things, closures, names_in, variable_in}
 use Rattle.dg_names.specs.Counts.{counted_in}
-use Rattle.dg_access.specs.Counts.{names_out, variables_of, counted_of}
+use Rattle.dg_access.specs.Counts.{names_out, variables_of, counted_of, are_large}
 use Rattle.dg_access.specs.Rewritten.{IsRewritten}
 
 -- At most 64 variables, of all the names in an item.
@@ -18,6 +18,10 @@ HasFewVariables said = let ms = counted_of said in let all = names_in variable_i
 -- Each item of a rewritten tree has few variables.
 abbrev pub RewrittenIsFew : List Item → List Item → Type 0
 RewrittenIsFew is new = IsRewritten is (Ok new) → All (λ (i : Item). HasFewVariables i.said) new
+
+-- What one item becomes has few variables where it isn't too large.
+abbrev pub SmallAreFew : List Item → Type 0
+SmallAreFew is = are_large is ≡ false → All (λ (i : Item). HasFewVariables i.said) is
 
 -- Where no closure stands, the variables are all that are named.
 abbrev pub AllAreOut : List (List ℕ) → Mentions → Type 0

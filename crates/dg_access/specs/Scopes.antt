@@ -6,7 +6,7 @@ use Rattle.dg_base.specs.Mentions.{Thing, variable, things, weight_of}
 use Rattle.dg_base.specs.Passing.{passing}
 use Rattle.dg_base.specs.Walk.{Met, met, opens, closes}
 use Rattle.dg_names.specs.Counts.{closures_at, selects_at}
-use Rattle.dg_access.specs.Counts.{is_unnamed, nodes_at, rules_at, counted_of, has_excess}
+use Rattle.dg_access.specs.Counts.{is_unnamed, nodes_at, rules_at, counted_of, counted_among, has_excess}
 
 -- ---- variables
 
@@ -77,6 +77,10 @@ behind c said = counted (things (counted_of said)) c
 -- Nothing yet.
 abbrev pub uncounted : Counted
 uncounted = record { rules = 0; closures = 0; selects = 0; nodes = 0 }
+
+-- What is counted of these items.
+abbrev pub counts_of : List Item → Counted
+counts_of is = counted (counted_among is) uncounted
 
 -- A count in all passes its number.
 abbrev pub has_many : Counted → Bool

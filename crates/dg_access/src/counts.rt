@@ -1,13 +1,14 @@
 // The counts of rewritten items.
-ghost use Rattle.std.specs.Prelude.{◌≡◌, ◌+◌, ◌||◌, map, nat_lt, IfOk, OnOk};
+ghost use Rattle.std.specs.Prelude.{◌≡◌, ◌+◌, ◌||◌, ◌++◌, [], List, map, nat_lt, IfOk, OnOk};
 ghost use Rattle.std.specs.Option.{option_map};
+ghost use Rattle.dg_base.specs.Tree as tree;
 ghost use Rattle.dg_base.specs.Mentions.{things, weight_of};
 ghost use Rattle.dg_base.specs.TreeView.{item_view, said_view};
 ghost use Rattle.dg_base.specs.Walk.{walk, mention_view, seen, thing_at, things_at};
 ghost use Rattle.dg_access.specs.Counts as spec;
-ghost use Rattle.dg_access.specs.Counts.{counted_of};
+ghost use Rattle.dg_access.specs.Counts.{counted_of, counted_among};
 ghost use Rattle.dg_access.specs.Scopes as scopes;
-ghost use Rattle.dg_access.specs.Scopes.{counted, behind, uncounted, passing_in};
+ghost use Rattle.dg_access.specs.Scopes.{counted, behind, uncounted, counts_of, passing_in};
 ghost use Rattle.dg_access.specs.State.{weight_at, counts_view};
 
 use crate::totals::sum;
@@ -179,4 +180,76 @@ pub fn first_passing(alloc: Global, items: &[Item]) -> Result<Option<u32>, Alloc
         }
     }
     Ok(None)
+}
+
+// The counts behind these items.
+fn counts_behind(alloc: Global, mut counts: Counts, items: &[Item]) -> Result<Counts, AllocError>
+    ensures { IfOk result (λ new. counts_view new ≡ counted (counted_among (map item_view items.now)) (counts_view counts)) }
+{
+    for item in items {
+        let mentions = counted_mentions(alloc, &item.body)?;
+        counts = behind(counts, mentions.as_slice())?;
+    }
+    Ok(counts)
+}
+
+fn queries_in(alloc: Global, items: &[Item]) -> Result<usize, AllocError>
+    ensures { IfOk result (λ queries. queries ≡ weight_of spec.queries_at (counted_among (map item_view items.now))) }
+{
+    let mut queries = 0;
+    for item in items {
+        let mentions = counted_mentions(alloc, &item.body)?;
+        queries = sum(queries, weight_of(Sort::Query, mentions.as_slice())?)?;
+    }
+    Ok(queries)
+}
+
+// Whether a rule or a closure of these items has too many variables.
+fn any_has_many(alloc: Global, items: &[Item]) -> Result<bool, AllocError>
+    ensures { IfOk result (λ any. any ≡ spec.any_has_many (map item_view items.now)) }
+{
+    for item in items {
+        let mentions = counted_mentions(alloc, &item.body)?;
+        if has_many_variables(alloc, &item.body, mentions.as_slice())? {
+            return Ok(true);
+        }
+    }
+    Ok(false)
+}
+
+// Whether what one item becomes is too large by itself.
+fn are_large(alloc: Global, items: &[Item]) -> Result<bool, AllocError>
+    ensures { IfOk result (λ large. large ≡ spec.are_large (map item_view items.now)) }
+{
+    if queries_in(alloc, items)? > QUERIES {
+        return Ok(true);
+    }
+    any_has_many(alloc, items)
+}
+
+/// Nothing counted yet.
+pub fn uncounted() -> Counts
+    ensures { counts_view result ≡ counts_of [] }
+{
+    Counts {
+        rules: 0,
+        closures: 0,
+        selects: 0,
+        nodes: 0,
+    }
+}
+
+/// Adds what one item becomes to what was counted of the items before it: whether it is too large, or a count in all passes
+/// its number there.
+pub fn add_items(alloc: Global, counts: &mut Counts, items: &[Item]) -> Result<bool, AllocError>
+    ensures passes { (before : List tree.Item) → counts_view counts.old ≡ counts_of before → IfOk result (λ over. over
+        ≡ (spec.are_large (map item_view items.now) || spec.are_many (before ++ map item_view items.now))) }
+    ensures counted { (before : List tree.Item) → counts_view counts.old ≡ counts_of before → OnOk result (counts_view counts.new
+        ≡ counts_of (before ++ map item_view items.now)) }
+{
+    *counts = counts_behind(alloc, *counts, items)?;
+    if are_large(alloc, items)? {
+        return Ok(true);
+    }
+    Ok(has_many(*counts))
 }

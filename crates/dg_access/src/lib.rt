@@ -19,6 +19,7 @@ mod variables;
 mod work;
 
 pub use built::{Built, close, let_go, unbuilt};
+pub use counts::{Counts, add_items, uncounted};
 pub use fresh::{copied, take_number};
 pub use laws::{
     choices_differ, mentions_come_from_the_source, one_answer, unnamed_variables_differ,
