@@ -4,3 +4,6 @@ pub mod PlaceLemmas
 pub mod StepLemmas
 pub mod RuleLemmas
 pub mod RowLemmas
+pub mod AnswerLemmas
+pub mod CarryLemmas
+pub mod LeftLemmas

@@ -1,5 +1,5 @@
 -- The tree in which access rules are put in, or why it is refused: hold it against docs/LANGUAGE.md, "Access rules" and "Limits", and docs/REFUSALS.md.
-use Rattle.std.specs.Prelude.{ℕ, ◌+◌, ◌||◌, List, [], ◌∷◌, ◌++◌, Bool, true, false, Option, Some, None, length, nat_lt, if◌then◌else◌}
+use Rattle.std.specs.Prelude.{ℕ, ◌+◌, ◌||◌, List, [], ◌∷◌, ◌++◌, Bool, true, false, Option, Some, None, length, nat_lt}
 use Rattle.std.specs.List.{list_any}
 use Rattle.std.specs.Option.{is_some}
 use Rattle.dg_base.specs.Heads.{name_of}
@@ -91,7 +91,7 @@ abbrev pub put_items : List Access → List Item → List Item
 put_items rules [] = []
 put_items rules (i ∷ is) = put_item rules i ++ put_items rules is
 
--- The line of the first item in which a head or a change stands where none may.
-abbrev pub first_bad : List Access → List Item → Option ℕ
-first_bad rules [] = None
-first_bad rules (i ∷ is) = if list_any (is_bad rules) (things_in i.said) then Some i.line else first_bad rules is
+-- In one of these items a head or a change stands where none may.
+abbrev pub are_bad : List Access → List Item → Bool
+are_bad rules [] = false
+are_bad rules (i ∷ is) = list_any (is_bad rules) (things_in i.said) || are_bad rules is

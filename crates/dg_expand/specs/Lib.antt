@@ -2,5 +2,7 @@ pub mod Put
 pub mod Expanded
 pub mod Loops
 pub mod Answer
+pub mod Comes
+pub mod Left
 pub mod Putting
 pub mod Rows

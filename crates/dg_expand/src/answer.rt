@@ -1,37 +1,88 @@
 // The tree in which access rules are put in, or why it is refused.
-ghost use Rattle.std.specs.Prelude.{◌≡◌, map, Ok, Err, IfOk, IfErr};
+ghost use Rattle.std.specs.Prelude.{◌≡◌, ◌++◌, List, Ok, Err, map, IfOk, IfErr, OnOk};
+ghost use Rattle.dg_access.specs.Scopes.{counts_of};
+ghost use Rattle.dg_access.specs.State.{counts_view};
 ghost use Rattle.dg_base.specs.Faults.{IsFault};
+ghost use Rattle.dg_base.specs.Tree as tree;
 ghost use Rattle.dg_base.specs.TreeView.{item_view, tree_view};
-ghost use Rattle.dg_expand.specs.Answer.{IsPut, IsExpanded};
+ghost use Rattle.dg_expand.specs.Answer as spec;
+ghost use Rattle.dg_expand.specs.Answer.{IsPut, IsExpanded, IsRewritten};
+ghost use Rattle.dg_expand.specs.Expanded.{put_item};
 ghost use Rattle.dg_expand.specs.Putting.{access_view};
 
-use crate::closed::first_bad;
+use crate::closed::are_bad;
 use crate::loops::first_looping;
 use crate::place::Access;
-use crate::rules::{access_rules, put_all};
+use crate::rules::{access_rules, put_item};
 use bumpalo::Bump;
+use dg_access::{Counts, add_items, plain_tree, uncounted};
 use dg_base::{Item, Items, Kind, ReadFault, Refusal, Tree};
-use std::alloc::Global;
+use dg_names::Names;
+use std::alloc::{AllocError, Global};
 
-fn access_loop(line: u32) -> ReadFault
-    ensures { result ≡ ReadFault.Refused (record { kind = Kind.AccessLoop; line = line }) }
+fn refused(kind: Kind, line: u32) -> ReadFault
+    ensures { result ≡ ReadFault.Refused (record { kind = kind; line = line }) }
 {
-    ReadFault::Refused(Refusal {
-        kind: Kind::AccessLoop,
-        line,
-    })
+    ReadFault::Refused(Refusal { kind, line })
 }
 
-fn cannot_be_changed(line: u32) -> ReadFault
-    ensures { result ≡ ReadFault.Refused (record { kind = Kind.BadNow; line = line }) }
+// Why what an item becomes is refused, of the counts of what came before it.
+fn cause_of(
+    alloc: Global,
+    rules: &[Access<'_>],
+    counts: &mut Counts,
+    new: &[Item],
+) -> Result<Option<Kind>, AllocError>
+    ensures cause { (before : List tree.Item) → counts_view counts.old ≡ counts_of before → IfOk result (λ cause. cause
+        ≡ spec.cause_of (map access_view rules.now) before (map item_view new.now)) }
+    ensures counted { (before : List tree.Item) → counts_view counts.old ≡ counts_of before → OnOk result (counts_view counts.new
+        ≡ counts_of (before ++ map item_view new.now)) }
 {
-    ReadFault::Refused(Refusal {
-        kind: Kind::BadNow,
-        line,
-    })
+    if add_items(alloc, counts, new)? {
+        return Ok(Some(Kind::TooMany));
+    }
+    if are_bad(alloc, rules, new)? {
+        return Ok(Some(Kind::BadNow));
+    }
+    Ok(None)
 }
 
-// The new items, or the first of them in which a head or a change stands where none may.
+// What becomes of an item.
+fn new_items<'a>(
+    alloc: Global,
+    bump: &'a Bump,
+    rules: &'a [Access<'a>],
+    item: &'a Item,
+) -> Result<Vec<Item>, AllocError>
+    ensures { IfOk result (λ new. map item_view new.items ≡ put_item (map access_view rules.now) (item_view item.now)) }
+{
+    let mut new = Vec::new(alloc);
+    put_item(alloc, bump, rules, &mut new, item)?;
+    Ok(new)
+}
+
+// The items with access rules put in, or the refusal of the first that is refused.
+fn put_all<'a>(
+    alloc: Global,
+    bump: &'a Bump,
+    rules: &'a [Access<'a>],
+    items: &'a [Item],
+) -> Result<Vec<Item>, ReadFault>
+    ensures put { IfOk result (λ new. IsPut (map access_view rules.now) (map item_view items.now) (Ok (map item_view new.items))) }
+    ensures refused { IfErr result (IsFault (λ r. IsPut (map access_view rules.now) (map item_view items.now) (Err r))) }
+{
+    let mut out = Vec::new(alloc);
+    let mut counts = uncounted();
+    for item in items {
+        let mut new = new_items(alloc, bump, rules, item)?;
+        if let Some(kind) = cause_of(alloc, rules, &mut counts, new.as_slice())? {
+            return Err(refused(kind, item.line));
+        }
+        out.append(&mut new)?;
+    }
+    Ok(out)
+}
+
 fn put_in<'a>(
     alloc: Global,
     bump: &'a Bump,
@@ -42,17 +93,13 @@ fn put_in<'a>(
     ensures refused { IfErr result (IsFault (λ r. IsPut (map access_view rules.now) (map item_view items.now) (Err r))) }
 {
     let new = put_all(alloc, bump, rules, items)?;
-    let bad = first_bad(alloc, rules, new.as_slice())?;
-    match bad {
-        Some(line) => Err(cannot_be_changed(line)),
-        None => Ok(Tree {
-            items: Items::from_vec(new),
-        }),
-    }
+    Ok(Tree {
+        items: Items::from_vec(new),
+    })
 }
 
 /// The tree in which access rules are put in. It is refused at the first item whose access rule loops or is repeated, or else at
-/// the first in which a head or a change stands where none may.
+/// the first of which too much comes, or a head or a change where none may stand.
 pub fn expand(alloc: Global, tree: &Tree) -> Result<Tree, ReadFault>
     ensures expanded { IfOk result (λ new. IsExpanded (tree_view tree.now) (Ok (tree_view new))) }
     ensures refused { IfErr result (IsFault (λ r. IsExpanded (tree_view tree.now) (Err r))) }
@@ -62,7 +109,16 @@ pub fn expand(alloc: Global, tree: &Tree) -> Result<Tree, ReadFault>
     let rules = access_rules(alloc, &bump, items)?;
     let looping = first_looping(alloc, rules.as_slice(), items)?;
     match looping {
-        Some(line) => Err(access_loop(line)),
+        Some(line) => Err(refused(Kind::AccessLoop, line)),
         None => put_in(alloc, &bump, rules.as_slice(), items),
     }
+}
+
+/// The tree with plain heads, in which access rules are put in.
+pub fn rewrite(alloc: Global, tree: Tree, names: &Names) -> Result<Tree, ReadFault>
+    ensures rewritten { IfOk result (λ new. IsRewritten (tree_view tree) (Ok (tree_view new))) }
+    ensures refused { IfErr result (IsFault (λ r. IsRewritten (tree_view tree) (Err r))) }
+{
+    let plain = plain_tree(alloc, &tree)?;
+    expand(alloc, &plain)
 }

@@ -81,18 +81,14 @@ fn is_bad_item(alloc: Global, rules: &[Access<'_>], said: &ItemBody) -> Result<b
     Ok(any_bad(rules, mentions.as_slice()))
 }
 
-/// The line of the first of these items in which a head or a change stands where none may.
-pub fn first_bad(
-    alloc: Global,
-    rules: &[Access<'_>],
-    items: &[Item],
-) -> Result<Option<u32>, AllocError>
-    ensures { IfOk result (λ line. line ≡ spec.first_bad (map access_view rules.now) (map item_view items.now)) }
+/// Whether in one of these items a head or a change stands where none may.
+pub fn are_bad(alloc: Global, rules: &[Access<'_>], items: &[Item]) -> Result<bool, AllocError>
+    ensures { IfOk result (λ bad. bad ≡ spec.are_bad (map access_view rules.now) (map item_view items.now)) }
 {
     for item in items {
         if is_bad_item(alloc, rules, &item.body)? {
-            return Ok(Some(item.line));
+            return Ok(true);
         }
     }
-    Ok(None)
+    Ok(false)
 }

@@ -14,7 +14,10 @@ use dg_access::{Built, let_go, unbuilt};
 use dg_base::{Body, Head, Items, NowChange, Part};
 use std::alloc::{AllocError, Global};
 
-// Does all that is left. More steps than a machine counts take more memory than it has.
+// How many steps one item is given before it counts as more than there is memory for.
+const STEPS: u64 = 1 << 24;
+
+// Does all that is left.
 fn run_all<'a>(
     alloc: Global,
     uses: Uses<'a>,
@@ -23,7 +26,7 @@ fn run_all<'a>(
 ) -> Result<(), AllocError>
     ensures { OnOk result (built_view built.new ≡ run (around uses.entry) left.entry.items (built_view built.old)) }
 {
-    for turn in 0..u64::MAX {
+    for turn in 0..STEPS {
         match left.pop() {
             Some(work) => step(alloc, uses, &mut left, built, work)?,
             None => return Ok(()),

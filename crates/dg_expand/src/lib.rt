@@ -4,6 +4,7 @@
 mod answer;
 mod closed;
 mod expanding;
+mod laws;
 mod loops;
 mod names;
 mod place;
@@ -11,4 +12,5 @@ mod rules;
 mod steps;
 mod work;
 
-pub use answer::expand;
+pub use answer::{expand, rewrite};
+pub use laws::{mentions_are_put, none_is_closed, nothing_is_left, one_answer, variables_are_few};

@@ -205,19 +205,3 @@ pub fn put_item<'a>(
         ItemBody::Variable(head) => put_declaration(alloc, uses, out, item.line, head),
     }
 }
-
-/// The items with access rules put in.
-pub fn put_all<'a>(
-    alloc: Global,
-    bump: &'a Bump,
-    rules: &'a [Access<'a>],
-    items: &'a [Item],
-) -> Result<Vec<Item>, AllocError>
-    ensures { IfOk result (λ new. map item_view new.items ≡ spec.put_items (map access_view rules.now) (map item_view items.now)) }
-{
-    let mut out = Vec::new(alloc);
-    for item in items {
-        put_item(alloc, bump, rules, &mut out, item)?;
-    }
-    Ok(out)
-}

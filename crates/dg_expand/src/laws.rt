@@ -1,0 +1,37 @@
+// What the definitions of access rules alone say.
+ghost use Rattle.std.specs.Prelude.{◌≡◌, List, false, Option, Result, Ok};
+ghost use Rattle.std.specs.List.{All};
+ghost use Rattle.dg_access.specs.Few.{HasFewVariables};
+ghost use Rattle.dg_access.specs.Items.{plain_items};
+ghost use Rattle.dg_base.specs.Mentions.{mentioned};
+ghost use Rattle.dg_base.specs.Tree.{Item};
+ghost use Rattle.dg_base.specs.declared.refusal.Refusal.{Refusal};
+ghost use Rattle.dg_expand.specs.Answer.{IsRewritten};
+ghost use Rattle.dg_expand.specs.Comes.{MentionsArePut};
+ghost use Rattle.dg_expand.specs.Expanded.{access_rules, is_bad};
+ghost use Rattle.dg_expand.specs.Left.{IsPutIn};
+
+/// A tree has one answer: the tree with access rules put in, or why and at which line it is refused.
+pub fn one_answer()
+    ensures { (is : List Item) (a b : Result (List Item) Refusal) → IsRewritten is a → IsRewritten is b → a ≡ b }
+{}
+
+/// All that items mention with access rules put in comes from what they mention.
+pub fn mentions_are_put()
+    ensures { (is : List Item) → MentionsArePut is }
+{}
+
+/// Each rule of a rewritten tree, and each closure in it, has at most 64 variables.
+pub fn variables_are_few()
+    ensures { (is new : List Item) → IsRewritten is (Ok new) → All (λ (i : Item). HasFewVariables i.said) new }
+{}
+
+/// No head and no change stands in a rewritten tree where none may.
+pub fn none_is_closed()
+    ensures { (is new : List Item) → IsRewritten is (Ok new) → All (λ t. is_bad (access_rules (plain_items Option.None is)) t ≡ false) (mentioned new) }
+{}
+
+/// Nothing is left to put in in a rewritten tree.
+pub fn nothing_is_left()
+    ensures { (is new : List Item) → IsRewritten is (Ok new) → All (λ (i : Item). IsPutIn (access_rules (plain_items Option.None is)) i.said) new }
+{}
