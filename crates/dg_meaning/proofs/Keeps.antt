@@ -1,30 +1,33 @@
 -- The rules by which an engine may go on.
-use Rattle.std.proofs.Common.{◌≡◌, ℕ, suc, inl, inr, List, [], ◌∷◌, Option, None, Bool, true, false, refl, sym, ap, ◌∙◌, subst, arith, length, Some}
+use Rattle.std.proofs.Common.{◌≡◌, ℕ, suc, ◌≤◌, inl, inr, List, [], ◌∷◌, ◌++◌, Option, None, Bool, true, false, refl, sym, ap, ◌∙◌, subst, arith, length, Some}
 use Rattle.std.specs.Prelude.{eqb, nat_lt, if◌then◌else◌}
 use Rattle.std.proofs.lemmas.Bool.{cond_both, cond-true, cond-false, ltb-true}
 use Rattle.dg_base.specs.declared.program.Goal.{Goal, Goal-F, out-Goal}
 use Rattle.dg_base.specs.declared.run.Ending.TheVariants.{Done as Done-Ending, StepLimit}
+use Rattle.dg_base.specs.declared.program.CoreProgram.{CoreProgram}
 use Rattle.dg_base.specs.declared.program.Term.{Term}
+use Rattle.dg_base.specs.declared.program.Term.TheVariants.{Var as Var-Term}
 use Rattle.dg_base.specs.Goals.{terms_held}
 use Rattle.dg_meaning.specs.Values.{Value, value_of}
 use Rattle.dg_meaning.specs.Substitutions.{resolved}
 use Rattle.dg_meaning.specs.World.{Game, World, Answered, noted, worked, kept}
-use Rattle.dg_meaning.specs.Path.{Step, Do, Answers, Cut, Refuse, Back, Keep, Leave, Registers, Path, Result, Failing, CutFail, StopTo, End, Branch, Enter, Clash, TakeOut, Finds, Kind, Plain, Rules, Shield, Gathers, Move, GoesOn, FailsAt, EndsAt, StopsAt, Outcome, Moves, Chooses, Act, Goes, Tests, Unifies, Ends, Fails, Stops, Effect, Acts, Offers}
+use Rattle.dg_meaning.specs.Path.{Step, Do, Answers, Cut, Refuse, Back, Keep, Leave, Registers, Path, Result, Failing, CutFail, StopTo, End, Whole, Branch, Enter, Clash, TakeOut, Finds, Kind, Plain, Rules, Shield, Gathers, Move, GoesOn, FailsAt, EndsAt, StopsAt, Outcome, Moves, Chooses, Act, Goes, Tests, Unifies, Ends, Fails, Stops, Effect, Acts, Offers}
 use Rattle.dg_meaning.specs.Cells.{writing}
-use Rattle.dg_meaning.specs.Moves.{path_of, exhausted, begun, path_at, beginning, begins, choice, goes_on_if, move_of, keeping, stop, effect, outcome_of, behind_terms, move}
+use Rattle.dg_meaning.specs.Moves.{path_of, exhausted, begun, goals_at, path_at, beginning, begins, choice, goes_on_if, move_of, keeping, stop, effect, outcome_of, behind_terms, move}
 use Rattle.dg_meaning.specs.Search.{Search, search, answer, later, retried, leave, begin, cut, cut_first, cut_result, after_branch, choose, branches_cut, after_move, after_goal}
 use Rattle.dg_meaning.specs.Transcript.{Run, run_of, run, start_world, start_path}
-use Rattle.dg_meaning.specs.Context.{Around, InBranch, InCut, unwind, gathers, tags_of, Opens, Way, ways, Live, cut_to, pushed, live, way_to, Older, StepsIn, PathIn, KeepsGathering, KeepGatherings, TakesOut, Sound, BranchIn, BranchesIn}
+use Rattle.dg_meaning.specs.Context.{Around, InBranch, InCut, unwind, gathers, tags_of, Opens, Way, ways, Live, cut_to, pushed, live, way_to, Older, StepsIn, PathIn, KeepsGathering, KeepGatherings, TakesOut, IsNewest, KeepIn, BranchesKeepIn, Sound, BranchIn, BranchesIn}
 use Rattle.dg_meaning.specs.Keeps.{world_at, world_of, unwound, Stands, Failed, Stopping, Resumed, Finished, open_at, FailsTo, Went, Began, Tried, tried_in, open_outside, new_choices, new_ways, After, WentOn, Keeps}
 use Rattle.dg_meaning.proofs.Dropping.{drops_nothing, drops_on, drops_grow}
-use Rattle.dg_meaning.specs.Bindings.{IsBound}
+use Rattle.dg_meaning.specs.Bindings.{top_of_steps, IsBound}
 use Rattle.dg_meaning.specs.OneRun.{Grows}
 use Rattle.dg_meaning.proofs.OneRun.{grows_same, grows_on}
 use Rattle.dg_meaning.proofs.Stays.{world_in, EffectStays, effect_stays, world_before, beginning_stays}
 use Rattle.dg_meaning.proofs.Search.{IsGood, beginning_grows, after_branch_good, choose_good, search_good, search_steps}
 use Rattle.dg_meaning.proofs.Context.{without_head, tags_kept, length_tags, later_twice, others_begin, opens_outside, opens_exhausted, Fails as FailsIn, run_fails, resumes, fails, leaving, resumed_at, Held, Stops as StopsIn, stops}
 use Rattle.dg_meaning.proofs.Tags.{stop_mark, steps_mark, others_in, begin_in, MoveIn, OutcomeIn, move_in}
-use Rattle.dg_meaning.proofs.Bindings.{binds_along}
+use Rattle.dg_meaning.proofs.Bindings.{term_below, binds_along}
+use Rattle.dg_meaning.proofs.Gathered.{cut_keeps, MoveKeeps, OutcomeKeeps, goal_keeps, branch_begins_keeping, told_by_value}
 
 -- ## What has happened
 
@@ -69,6 +72,7 @@ passes_answer g cs ws q steps r n w run st = record {
   sound = st.sound;
   opens = st.opens;
   inner = record { steps = st.inner.steps; stop = st.inner.stop; newer = st.inner.newer; bound = binds_along.passes (Answers q) steps r r.stoppable st.inner.bound };
+  keeps = st.keeps;
   choices = st.choices;
   ways_are = st.ways_are;
 }
@@ -80,6 +84,7 @@ passes_cut g cs ws t steps r n w run st = record {
   sound = (st.inner.steps.0, st.sound);
   opens = st.opens;
   inner = record { steps = steps_mark t st.ctx steps st.inner.steps.1; stop = stop_mark t st.ctx r.stoppable st.inner.stop; newer = st.inner.newer; bound = binds_along.passes (Cut t) steps r r.stoppable st.inner.bound };
+  keeps = st.keeps;
   choices = ap (cut_to t) st.choices;
   ways_are = st.ways_are;
 }
@@ -91,6 +96,7 @@ passes_leave g cs ws t outer steps r n w run st = record {
   sound = (st.inner.steps.0, st.sound);
   opens = st.opens;
   inner = record { steps = steps_mark t st.ctx steps st.inner.steps.1.1; stop = stop_mark t st.ctx outer st.inner.steps.1.0; newer = st.inner.newer; bound = binds_along.passes (Leave t outer) steps r outer st.inner.bound };
+  keeps = st.keeps;
   choices = ap (cut_to t) st.choices;
   ways_are = st.ways_are;
 }
@@ -121,6 +127,44 @@ passes_keep g cs ws t x env steps r n w run st = record {
   opens = tags_kept t (resolved r.bound (value_of g.program env x)) w.gathered ∙ st.opens;
   choices = st.choices;
 }
+
+pub keeps_in_newest : (g : Game) (cs : List Live) (ws : List Way) (t : ℕ) (x : Term) (env : List Value) (steps : List Step) (r : Registers) (n : ℕ) (w : World) (run : Run) → Stands g cs ws (path_of (Keep t x env ∷ steps) r) n w run → IsNewest t (tags_of w.gathered)
+keeps_in_newest g cs ws t x env steps r n w run st = subst (IsNewest t) (sym st.opens) st.keeps.0
+
+pub keeps_value : (g : Game) (cs : List Live) (ws : List Way) (goals : List Goal) (env : List Value) (t u : ℕ) (x : Term) (among : List Value) (r : Registers) (n : ℕ) (w : World) (run : Run) → Stands g cs ws (path_of (goals_at env t goals ++ Keep u x among ∷ []) r) n w run → Stands g cs ws (path_of (goals_at env t goals ++ Keep u (Var-Term 0) (value_of g.program among x ∷ []) ∷ []) r) n w run
+keeps_value g cs ws goals env t u x among r n w run st =
+    let v = value_of g.program among x in
+    record {
+      ctx = st.ctx;
+      is = st.is ∙ ap (unwound (search g) st.ctx) (told_by_value g goals env t u x among n r w);
+      sound = st.sound;
+      opens = st.opens;
+      inner = record {
+        steps = steps_renamed st.ctx goals env t u x (Var-Term 0) among (v ∷ []) st.inner.steps;
+        stop = st.inner.stop;
+        newer = st.inner.newer;
+        bound = record {
+          sound = st.inner.bound.sound;
+          bindings = st.inner.bound.bindings;
+          steps = value_below r.next_var goals env t u x (Var-Term 0) among g.program st.inner.bound.steps;
+        };
+      };
+      keeps = keeps_renamed (gathers st.ctx) goals env t u x (Var-Term 0) among (v ∷ []) st.keeps;
+      choices = st.choices;
+      ways_are = st.ways_are;
+    }
+  where
+    steps_renamed : (ctx : List Around) (goals : List Goal) (env : List Value) (t u : ℕ) (x y : Term) (a b : List Value) → StepsIn ctx (goals_at env t goals ++ Keep u x a ∷ []) → StepsIn ctx (goals_at env t goals ++ Keep u y b ∷ [])
+    steps_renamed ctx [] env t u x y a b h = h
+    steps_renamed ctx (g ∷ gs) env t u x y a b h = (h.0, steps_renamed ctx gs env t u x y a b h.1)
+
+    keeps_renamed : (tags : List ℕ) (goals : List Goal) (env : List Value) (t u : ℕ) (x y : Term) (a b : List Value) → KeepIn tags (goals_at env t goals ++ Keep u x a ∷ []) → KeepIn tags (goals_at env t goals ++ Keep u y b ∷ [])
+    keeps_renamed tags [] env t u x y a b h = h
+    keeps_renamed tags (g ∷ gs) env t u x y a b h = keeps_renamed tags gs env t u x y a b h
+
+    value_below : (n : ℕ) (goals : List Goal) (env : List Value) (t u : ℕ) (x y : Term) (a : List Value) (p : CoreProgram) → top_of_steps (goals_at env t goals ++ Keep u x a ∷ []) ≤ n → top_of_steps (goals_at env t goals ++ Keep u y (value_of p a x ∷ []) ∷ []) ≤ n
+    value_below n [] env t u x y a p h = let b = term_below n p a x (omega (arith, h)) in omega (arith, b)
+    value_below n (g ∷ gs) env t u x y a p h = let b = value_below n gs env t u x y a p (omega (arith, h)) in omega (arith, b, h)
 
 -- ## Failing
 
@@ -185,18 +229,18 @@ act_opens ctx steps r (Ends e w) o = o
 act_opens ctx steps r (Fails w) o = o
 act_opens ctx steps r (Stops w) o = stop_opens ctx r.stoppable w o
 
-went : (g : Game) (cs : List Live) (ws : List Way) (n : ℕ) (run : Run) (ctx : List Around) → Sound ctx → live ctx ≡ cs → ways ctx ≡ ws → (m : Move) → MoveIn ctx m → run ≡ unwound (search g) ctx (after_move (search g) n m) → Opens (world_at m) ctx → Went g cs ws n m run
-went g cs ws n run ctx sound choices ways_are (GoesOn path w) h is o = record { ctx = ctx; is = is; sound = sound; opens = o; inner = h; choices = choices; ways_are = ways_are }
-went g cs ws n run ctx sound choices ways_are (FailsAt w) h is o = record { ctx = ctx; is = is; sound = sound; opens = o; choices = choices }
-went g cs ws n run ctx sound choices ways_are (EndsAt e w) h is o = ends (search g) ctx n w e run o is
-went g cs ws n run ctx sound choices ways_are (StopsAt s w) h is o = record { ctx = ctx; is = is; sound = sound; opens = o; shielded = h; choices = choices; ways_are = ways_are }
+went : (g : Game) (cs : List Live) (ws : List Way) (n : ℕ) (run : Run) (ctx : List Around) → Sound ctx → live ctx ≡ cs → ways ctx ≡ ws → (m : Move) → MoveIn ctx m → MoveKeeps (gathers ctx) m → run ≡ unwound (search g) ctx (after_move (search g) n m) → Opens (world_at m) ctx → Went g cs ws n m run
+went g cs ws n run ctx sound choices ways_are (GoesOn path w) h k is o = record { ctx = ctx; is = is; sound = sound; opens = o; inner = h; keeps = k; choices = choices; ways_are = ways_are }
+went g cs ws n run ctx sound choices ways_are (FailsAt w) h k is o = record { ctx = ctx; is = is; sound = sound; opens = o; choices = choices }
+went g cs ws n run ctx sound choices ways_are (EndsAt e w) h k is o = ends (search g) ctx n w e run o is
+went g cs ws n run ctx sound choices ways_are (StopsAt s w) h k is o = record { ctx = ctx; is = is; sound = sound; opens = o; shielded = h; choices = choices; ways_are = ways_are }
 
 -- the gatherings are those that were open before
 begin_opens : (ctx : List Around) (b : Branch) (w : World) → Opens (world_before b w) ctx → Opens (world_at (begins b w)) ctx
 begin_opens ctx b w o = act_opens ctx (path_at b).steps (path_at b).registers (beginning b w) (ap tags_of (beginning_stays b w).gathered ∙ o)
 
-begun_in : (g : Game) (cs : List Live) (ws : List Way) (ctx : List Around) (b : Branch) (n : ℕ) (w : World) (run : Run) → Opens (world_before b w) ctx → run ≡ unwound (search g) ctx (begin (search g) b n w) → Sound ctx → BranchIn ctx b → live ctx ≡ cs → ways ctx ≡ ws → Began g cs ws b n w run
-begun_in g cs ws ctx b n w run o is sound h l e = went g cs ws n run ctx sound l e (begins b w) (begin_in ctx b w h) is (begin_opens ctx b w o)
+begun_in : (g : Game) (cs : List Live) (ws : List Way) (ctx : List Around) (b : Branch) (n : ℕ) (w : World) (run : Run) → Opens (world_before b w) ctx → run ≡ unwound (search g) ctx (begin (search g) b n w) → Sound ctx → BranchIn ctx b → KeepIn (gathers ctx) (path_at b).steps → live ctx ≡ cs → ways ctx ≡ ws → Began g cs ws b n w run
+begun_in g cs ws ctx b n w run o is sound h k l e = went g cs ws n run ctx sound l e (begins b w) (begin_in ctx b w h) (branch_begins_keeping (gathers ctx) b w k) is (begin_opens ctx b w o)
 
 -- what takes nothing out drops nothing
 keeps_before : (ctx : List Around) (b : Branch) (w : World) → KeepsGathering b → Opens w ctx → Opens (world_before b w) ctx
@@ -205,8 +249,8 @@ keeps_before ctx (Clash r work) w k o = o
 keeps_before ctx (TakeOut t whole into path) w k o = absurd k
 keeps_before ctx (Finds place o' args path) w k o = o
 
-began : (g : Game) (cs : List Live) (ws : List Way) (ctx : List Around) (b : Branch) (n : ℕ) (w : World) (run : Run) → KeepsGathering b → run ≡ unwound (search g) ctx (begin (search g) b n w) → Sound ctx → Opens w ctx → BranchIn ctx b → live ctx ≡ cs → ways ctx ≡ ws → Began g cs ws b n w run
-began g cs ws ctx b n w run k is sound o h l e = begun_in g cs ws ctx b n w run (keeps_before ctx b w k o) is sound h l e
+began : (g : Game) (cs : List Live) (ws : List Way) (ctx : List Around) (b : Branch) (n : ℕ) (w : World) (run : Run) → KeepsGathering b → run ≡ unwound (search g) ctx (begin (search g) b n w) → Sound ctx → Opens w ctx → BranchIn ctx b → KeepIn (gathers ctx) (path_at b).steps → live ctx ≡ cs → ways ctx ≡ ws → Began g cs ws b n w run
+began g cs ws ctx b n w run k is sound o h i l e = begun_in g cs ws ctx b n w run (keeps_before ctx b w k o) is sound h i l e
 
 -- what is kept of a choice around
 kept_as : (ctx : List Around) (t height : ℕ) (ways_on : List Way) (cs : List Live) (k : Kind) (bs : List Branch) → length (gathers ctx) ≡ height → ways ctx ≡ ways_on → live ctx ≡ cs →
@@ -218,41 +262,43 @@ kept_as ctx t height ways_on cs k bs e f h =
 
 -- a later branch keeps gatherings, in a choice whose first branch doesn't gather
 next_plain : (g : Game) (kind : Kind) (t height : ℕ) (ways_on : List Way) (ctx : List Around) (cs : List Live) (b : Branch) (bs : List Branch) (n : ℕ) (w : World) (run : Run) →
-    run ≡ unwound (search g) ctx (choose (search g) (later kind) t (b ∷ bs) n w) → Older t ctx → Sound ctx → BranchesIn (InBranch Plain t [] ∷ ctx) (b ∷ bs) → KeepsGathering b → TakesOut (later kind) t bs → Opens (retried (later kind) w) (InBranch (later kind) t bs ∷ ctx) → ways (InBranch (later kind) t bs ∷ ctx) ≡ ways ctx → length (gathers ctx) ≡ height → live ctx ≡ cs → ways ctx ≡ ways_on →
+    run ≡ unwound (search g) ctx (choose (search g) (later kind) t (b ∷ bs) n w) → Older t ctx → Sound ctx → BranchesIn (InBranch Plain t [] ∷ ctx) (b ∷ bs) → KeepsGathering b → TakesOut (later kind) t bs → BranchesKeepIn (gathers ctx) (b ∷ bs) → gathers (InBranch (later kind) t bs ∷ ctx) ≡ gathers ctx → Opens (retried (later kind) w) (InBranch (later kind) t bs ∷ ctx) → ways (InBranch (later kind) t bs ∷ ctx) ≡ ways ctx → length (gathers ctx) ≡ height → live ctx ≡ cs → ways ctx ≡ ways_on →
     Began g (pushed (record { kind = later kind; tag = t; others = bs; height = height; ways_on = ways_on }) cs) ways_on b n (retried (later kind) w) run
-next_plain g kind t height ways_on ctx cs b bs n w run is older sound inner keeps out o same e choices ways_are =
+next_plain g kind t height ways_on ctx cs b bs n w run is older sound inner keeps out kept same_open o same e choices ways_are =
     began g _ ways_on (InBranch (later kind) t bs ∷ ctx) b n (retried (later kind) w) run keeps
     (is ∙ others_begin (search g) ctx kind t b bs n w)
-    (older, sound, inner.1, out)
+    (older, sound, inner.1, out, kept.1)
     o
     (others_in (later kind) t [] bs ctx b inner.0)
+    (subst (λ tags. KeepIn tags (path_at b).steps) (sym same_open) kept.0)
     (ap (λ k. pushed (record { kind = k; tag = t; others = bs; height = length (gathers ctx); ways_on = ways ctx }) (live ctx)) (later_twice kind) ∙ kept_as ctx t height ways_on cs (later kind) bs e ways_are choices)
     (same ∙ ways_are)
 
 -- the one branch behind a first that gathers takes the gathering out
 next_takes_out : (g : Game) (t height : ℕ) (ways_on : List Way) (ctx : List Around) (cs : List Live) (b : Branch) (bs : List Branch) (n : ℕ) (w : World) (run : Run) →
-    run ≡ unwound (search g) ctx (choose (search g) Plain t (b ∷ bs) n w) → Older t ctx → Sound ctx → BranchesIn (InBranch Plain t [] ∷ ctx) (b ∷ bs) → TakesOut Gathers t (b ∷ bs) → Opens w (InBranch Gathers t (b ∷ bs) ∷ ctx) → live ctx ≡ cs → ways ctx ≡ ways_on →
+    run ≡ unwound (search g) ctx (choose (search g) Plain t (b ∷ bs) n w) → Older t ctx → Sound ctx → BranchesIn (InBranch Plain t [] ∷ ctx) (b ∷ bs) → TakesOut Gathers t (b ∷ bs) → BranchesKeepIn (gathers ctx) (b ∷ bs) → Opens w (InBranch Gathers t (b ∷ bs) ∷ ctx) → live ctx ≡ cs → ways ctx ≡ ways_on →
     Began g (pushed (record { kind = Plain; tag = t; others = bs; height = height; ways_on = ways_on }) cs) ways_on b n w run
-next_takes_out g t height ways_on ctx cs (Enter path work) bs n w run is older sound inner out o choices ways_are = absurd out
-next_takes_out g t height ways_on ctx cs (Clash r work) bs n w run is older sound inner out o choices ways_are = absurd out
-next_takes_out g t height ways_on ctx cs (Finds place o' args path) bs n w run is older sound inner out o choices ways_are = absurd out
-next_takes_out g t height ways_on ctx cs (TakeOut u whole into path) (b ∷ bs) n w run is older sound inner out o choices ways_are = absurd out
-next_takes_out g t height ways_on ctx cs (TakeOut u whole into path) [] n w run is older sound inner out o choices ways_are =
+next_takes_out g t height ways_on ctx cs (Enter path work) bs n w run is older sound inner out kept o choices ways_are = absurd out
+next_takes_out g t height ways_on ctx cs (Clash r work) bs n w run is older sound inner out kept o choices ways_are = absurd out
+next_takes_out g t height ways_on ctx cs (Finds place o' args path) bs n w run is older sound inner out kept o choices ways_are = absurd out
+next_takes_out g t height ways_on ctx cs (TakeOut u whole into path) (b ∷ bs) n w run is older sound inner out kept o choices ways_are = absurd out
+next_takes_out g t height ways_on ctx cs (TakeOut u whole into path) [] n w run is older sound inner out kept o choices ways_are =
     begun_in g _ ways_on (InBranch Plain t [] ∷ ctx) (TakeOut u whole into path) n w run
     (without_head u w.gathered (gathers ctx) (o ∙ ap (λ x. x ∷ gathers ctx) (sym out))).1
     (is ∙ others_begin (search g) ctx Plain t (TakeOut u whole into path) [] n w)
-    (older, sound, tt, tt)
+    (older, sound, tt, tt, tt)
     inner.0
+    kept.0
     choices
     ways_are
 
 next : (g : Game) (kind : Kind) (t height : ℕ) (ways_on : List Way) (ctx : List Around) (cs : List Live) (b : Branch) (bs : List Branch) (n : ℕ) (w : World) (run : Run) →
     run ≡ unwound (search g) ctx (choose (search g) (later kind) t (b ∷ bs) n w) → Sound (InBranch kind t (b ∷ bs) ∷ ctx) → Opens w (InBranch kind t (b ∷ bs) ∷ ctx) → length (gathers ctx) ≡ height → live ctx ≡ cs → ways ctx ≡ ways_on →
     Began g (pushed (record { kind = later kind; tag = t; others = bs; height = height; ways_on = ways_on }) cs) ways_on b n (retried (later kind) w) run
-next g Plain t height ways_on ctx cs b bs n w run is sound o e choices ways_are = next_plain g Plain t height ways_on ctx cs b bs n w run is sound.0 sound.1 sound.2 sound.3.0 sound.3.1 o refl e choices ways_are
-next g (Rules q) t height ways_on ctx cs b bs n w run is sound o e choices ways_are = next_plain g (Rules q) t height ways_on ctx cs b bs n w run is sound.0 sound.1 sound.2 sound.3.0 sound.3.1 o refl e choices ways_are
-next g Shield t height ways_on ctx cs b bs n w run is sound o e choices ways_are = next_plain g Shield t height ways_on ctx cs b bs n w run is sound.0 sound.1 sound.2 sound.3.0 sound.3.1 o refl e choices ways_are
-next g Gathers t height ways_on ctx cs b bs n w run is sound o e choices ways_are = next_takes_out g t height ways_on ctx cs b bs n w run is sound.0 sound.1 sound.2 sound.3 o choices ways_are
+next g Plain t height ways_on ctx cs b bs n w run is sound o e choices ways_are = next_plain g Plain t height ways_on ctx cs b bs n w run is sound.0 sound.1 sound.2 sound.3.0 sound.3.1 sound.4 refl o refl e choices ways_are
+next g (Rules q) t height ways_on ctx cs b bs n w run is sound o e choices ways_are = next_plain g (Rules q) t height ways_on ctx cs b bs n w run is sound.0 sound.1 sound.2 sound.3.0 sound.3.1 sound.4 refl o refl e choices ways_are
+next g Shield t height ways_on ctx cs b bs n w run is sound o e choices ways_are = next_plain g Shield t height ways_on ctx cs b bs n w run is sound.0 sound.1 sound.2 sound.3.0 sound.3.1 sound.4 refl o refl e choices ways_are
+next g Gathers t height ways_on ctx cs b bs n w run is sound o e choices ways_are = next_takes_out g t height ways_on ctx cs b bs n w run is sound.0 sound.1 sound.2 sound.3 sound.4 o choices ways_are
 
 begins_next : (g : Game) (c : Live) (cs : List Live) (b : Branch) (bs : List Branch) (n : ℕ) (w : World) (run : Run) → c.others ≡ b ∷ bs → Resumed g c cs n w run → Began g (pushed (record c { others = bs }) cs) c.ways_on b n (retried c.kind w) run
 begins_next g c cs b bs n w run e s =
@@ -277,6 +323,18 @@ tries_from g c cs n w run s (b ∷ bs) e = begins_next g c cs b bs n w run e s
 
 pub tries : (g : Game) (c : Live) (cs : List Live) (n : ℕ) (w : World) (run : Run) → Resumed g c cs n w run → Tried g c.kind c.tag c.height c.ways_on cs c.others n (tried_in c.kind c.others w) run
 tries g c cs n w run s = tries_from g c cs n w run s c.others refl
+
+-- the branch that takes a gathering out is one of the newest
+out_newest : (k : Kind) (t u : ℕ) (whole : Whole) (into : Value) (path : Path) (bs : List Branch) (ctx : List Around) (w : World) → TakesOut k t (TakeOut u whole into path ∷ bs) → Opens w (InBranch k t (TakeOut u whole into path ∷ bs) ∷ ctx) → IsNewest u (tags_of w.gathered)
+out_newest Gathers t u whole into path [] ctx w out o = subst (IsNewest u) (sym o) out
+out_newest Gathers t u whole into path (b ∷ bs) ctx w out o = absurd out
+out_newest Plain t u whole into path bs ctx w out o = absurd out.0
+out_newest (Rules q) t u whole into path bs ctx w out o = absurd out.0
+out_newest Shield t u whole into path bs ctx w out o = absurd out.0
+
+pub takes_newest : (g : Game) (c : Live) (cs : List Live) (t : ℕ) (whole : Whole) (into : Value) (path : Path) (bs : List Branch) (n : ℕ) (w : World) (run : Run) → Resumed g c cs n w run → c.others ≡ TakeOut t whole into path ∷ bs → IsNewest t (tags_of w.gathered)
+takes_newest g c cs t whole into path bs n w run s e =
+    out_newest s.kind c.tag t whole into path bs s.ctx w (subst (TakesOut s.kind c.tag) e s.sound.3) (subst (λ l. Opens w (InBranch s.kind c.tag l ∷ s.ctx)) e s.opens)
 
 -- ## A goal
 
@@ -338,16 +396,17 @@ ways_new Shield t bs ctx w ws o e =
     ap (λ n. record { tag = t; others = bs; height = n } ∷ ways ctx) (sym (open_count w ctx o))
     ∙ ap (λ l. record { tag = t; others = bs; height = length w.gathered } ∷ l) e
 
-after : (g : Game) (cs : List Live) (ws : List Way) (n : ℕ) (run : Run) (ctx : List Around) → Sound ctx → live ctx ≡ cs → ways ctx ≡ ws → (m : Outcome) → OutcomeIn ctx m → run ≡ unwound (search g) ctx (after_goal (search g) n m) → OutcomeOpens ctx m → After g cs ws n m run
-after g cs ws n run ctx sound choices ways_are (Moves m) h is o = went g cs ws n run ctx sound choices ways_are m h is o
-after g cs ws n run ctx sound choices ways_are (Chooses k t b bs w) h is o =
-    began g _ _ (InBranch k t bs ∷ ctx) b n w run h.3 is (h.0, sound, h.2, h.4) o h.1
+after : (g : Game) (cs : List Live) (ws : List Way) (n : ℕ) (run : Run) (ctx : List Around) → Sound ctx → live ctx ≡ cs → ways ctx ≡ ws → (m : Outcome) → OutcomeIn ctx m → OutcomeKeeps ctx m → run ≡ unwound (search g) ctx (after_goal (search g) n m) → OutcomeOpens ctx m → After g cs ws n m run
+after g cs ws n run ctx sound choices ways_are (Moves m) h i is o = went g cs ws n run ctx sound choices ways_are m h i is o
+after g cs ws n run ctx sound choices ways_are (Chooses k t b bs w) h i is o =
+    began g _ _ (InBranch k t bs ∷ ctx) b n w run h.3 is (h.0, sound, h.2, h.4, i.1) o h.1 i.0
     (kept_as ctx t (open_outside k w) ws cs (later k) bs (outside_is k t bs ctx w o) ways_are choices) (ways_new k t bs ctx w ws o ways_are)
 
 pub takes : (g : Game) (cs : List Live) (ws : List Way) (x : Goal) (env : List Value) (t : ℕ) (steps : List Step) (r : Registers) (n : ℕ) (w : World) (run : Run) → Stands g cs ws (path_of (Do x env t ∷ steps) r) (suc n) w run → After g cs ws n (move g (out-Goal x) env t steps r (worked 1 w)) run
 takes g cs ws x env t steps r n w run st =
     after g cs ws n run st.ctx st.sound st.choices st.ways_are (move g (out-Goal x) env t steps r (worked 1 w))
     (move_in g x st.ctx env t steps r (worked 1 w) st.inner)
+    (goal_keeps g st.ctx (out-Goal x) env t steps r (worked 1 w) st.keeps)
     (st.is ∙ ap (unwound (search g) st.ctx) (search_steps g (suc n) (path_of (Do x env t ∷ steps) r) w))
     (move_opens g st.ctx (out-Goal x) env t steps r (worked 1 w) st.opens)
 
@@ -391,13 +450,17 @@ module _ (g : Game) (n : ℕ) (w : World) (s : ℕ) (run : Run) (ctx : List Arou
   inner : PathIn (InBranch Plain s [] ∷ i.at) path
   inner = (subst (BranchesIn (InBranch Plain s [] ∷ i.at)) only i.sound.2).0
 
+  keeps_on : KeepIn (gathers i.at) path.steps
+  keeps_on = (subst (BranchesKeepIn (gathers i.at)) only i.sound.4).0
+
   way_begins : Stands g (live i.at) (ways i.at) on n (begun path.registers work i.world) run
   way_begins = record {
     ctx = InBranch Plain s [] ∷ i.at;
     is = is ∙ i.same ∙ ap (λ l. unwound (search g) i.at (choose (search g) Plain s (branches_cut s i.cut l) n i.world)) only ∙ others_begin (search g) i.at Plain s (Enter on work) [] n i.world;
-    sound = (i.sound.0, i.sound.1, tt, tt);
+    sound = (i.sound.0, i.sound.1, tt, tt, tt);
     opens = i.opens;
     inner = record { steps = cut_in (InBranch Plain s [] ∷ i.at) s i.cut path.steps i.held inner.steps; stop = inner.stop; newer = inner.newer; bound = cut_bound s i.cut path inner.bound };
+    keeps = cut_keeps (gathers i.at) s i.cut path.steps keeps_on;
     choices = refl;
     ways_are = refl;
   }
@@ -431,9 +494,10 @@ unfolding run
 starts g typed n = record {
   ctx = InBranch Plain 0 [] ∷ [];
   is = let a = search g n (start_path g) (start_world g typed) in in_first (search g) a.left a.world a.result;
-  sound = (tt, tt, tt, tt);
+  sound = (tt, tt, tt, tt, tt);
   opens = refl;
   inner = record { steps = (inl refl, tt); stop = tt; newer = (omega arith, tt); bound = binds_along.starts g };
+  keeps = tt;
   choices = refl;
   ways_are = refl;
 }
@@ -448,9 +512,12 @@ keeps = record {
   passes_leave = passes_leave;
   passes_refuse = passes_refuse;
   passes_keep = passes_keep;
+  keeps_in_newest = keeps_in_newest;
+  keeps_value = keeps_value;
   passes_back = passes_back;
   fails = failed;
   tries = tries;
+  takes_newest = takes_newest;
   takes = takes;
   limited = limited;
   done = done;

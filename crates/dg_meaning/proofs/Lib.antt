@@ -13,6 +13,8 @@ pub mod Dropping
 pub mod Context
 pub mod Bindings
 pub mod Tags
+pub mod Fronts
+pub mod Gathered
 pub mod Keeps
 pub mod Worked
 pub mod WorkedSearch

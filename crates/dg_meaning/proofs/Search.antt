@@ -78,7 +78,7 @@ after_move_good s g n (FailsAt w) = good_here n w _
 after_move_good s g n (EndsAt e w) = good_here n w _
 after_move_good s g n (StopsAt t w) = good_here n w _
 
-begin_good : (s : Search) → IsGood s → (b : Branch) (n : ℕ) (w : World) → Good n w (begin s b n w)
+pub begin_good : (s : Search) → IsGood s → (b : Branch) (n : ℕ) (w : World) → Good n w (begin s b n w)
 begin_good s g b n w = good_on n n w (world_at (begins b w)) _ (omega arith) (beginning_grows b w) (after_move_good s g n (begins b w))
 
 pub choose_good : (s : Search) → IsGood s → (k : Kind) (t : ℕ) (bs : List Branch) (n : ℕ) (w : World) → Good n w (choose s k t bs n w)
@@ -157,7 +157,7 @@ search_to_good g (suc b) n path w = go_good g (search_to g b) (search_to_good g 
 
 -- ## The bound doesn't matter
 
-after_branch_same : (k : Kind) (t n : ℕ) (w : World) (r : Result) (next next' : ℕ → World → Answer) (stopped stopped' : Option ℕ → ℕ → World → Answer) → next n w ≡ next' n w → ((c : Option ℕ) → stopped c n w ≡ stopped' c n w) → after_branch k t n w r next stopped ≡ after_branch k t n w r next' stopped'
+pub after_branch_same : (k : Kind) (t n : ℕ) (w : World) (r : Result) (next next' : ℕ → World → Answer) (stopped stopped' : Option ℕ → ℕ → World → Answer) → next n w ≡ next' n w → ((c : Option ℕ) → stopped c n w ≡ stopped' c n w) → after_branch k t n w r next stopped ≡ after_branch k t n w r next' stopped'
 after_branch_same k t n w Failing next next' stopped stopped' e h = e
 after_branch_same k t n w (CutFail u) next next' stopped stopped' e h = refl
 after_branch_same k t n w (StopTo s c) next next' stopped stopped' e h = ap (λ a. if catches k t s then a else answer n (leave k t w) (StopTo s c)) (h c)

@@ -2,6 +2,7 @@
 use Rattle.std.specs.Prelude.{ℕ, ◌<◌, ◌≤◌, ◌≡◌, ◌⊎◌, nat_lt, eqb, List, [], ◌∷◌, Option, Some, None, Bool, true, false, length, drop, if◌then◌else◌}
 use Rattle.dg_meaning.specs.World.{World, Gathering}
 use Rattle.dg_meaning.specs.Path.{Step, Do, Answers, Cut, Refuse, Back, Keep, Leave, Path, Result, Branch, Enter, Clash, TakeOut, Finds, Kind, Plain, Rules, Shield, Gathers}
+use Rattle.dg_meaning.specs.Moves.{path_at}
 use Rattle.dg_meaning.specs.Search.{Search, answer, cut_result, later, after_branch, branches_cut, choose}
 use Rattle.dg_meaning.specs.Transcript.{Run, run_of}
 use Rattle.dg_meaning.specs.Unify.{top}
@@ -161,10 +162,28 @@ TakesOut Gathers t (TakeOut u whole into path ∷ []) = u ≡ t
 TakesOut Gathers t (b ∷ bs) = ⊥
 TakesOut k t others = KeepGatherings others
 
--- Tags fall outwards, each mark names a choice around it, and so do the branches that were not begun, of which those behind a gathering take it out.
+-- Of these gatherings the newest has this tag.
+abbrev pub IsNewest : ℕ → List ℕ → Type 0
+IsNewest t [] = ⊥
+IsNewest t (u ∷ us) = t ≡ u
+
+-- What steps keep is kept in the newest of these gatherings.
+abbrev pub KeepIn : List ℕ → List Step → Type 0
+KeepIn tags [] = Unit {0}
+KeepIn tags (Keep t x env ∷ steps) = IsNewest t tags × KeepIn tags steps
+KeepIn tags (s ∷ steps) = KeepIn tags steps
+
+-- So it is in each of these branches.
+abbrev pub BranchesKeepIn : List ℕ → List Branch → Type 0
+BranchesKeepIn tags [] = Unit {0}
+BranchesKeepIn tags (b ∷ bs) = KeepIn tags (path_at b).steps × BranchesKeepIn tags bs
+
+-- Tags fall outwards, each mark names a choice around it, and so do the branches that were not begun, of which those behind a gathering take it out;
+-- what these keep is kept in the newest gathering outside.
 abbrev pub Sound : List Around → Type 0
 Sound [] = Unit {0}
-Sound (InBranch k t others ∷ ctx) = Older t ctx × Sound ctx × BranchesIn (InBranch Plain t [] ∷ ctx) others × TakesOut k t others
+Sound (InBranch k t others ∷ ctx) = Older t ctx × Sound ctx × BranchesIn (InBranch Plain t [] ∷ ctx) others × TakesOut k t others ×
+    BranchesKeepIn (gathers ctx) others
 Sound (InCut t ∷ ctx) = Holds ctx t × Sound ctx
 
 -- Between two worlds gatherings were dropped, the newest first, and nothing else has happened.

@@ -1,20 +1,21 @@
 -- The rules by which an engine may go on that keeps a path, the choices that were not cut, and the ways on behind stoppable parts, in place of the
 -- search's recursion.
 -- Hold it against the Dialog manual, chapter "Choice points".
-use Rattle.std.specs.Prelude.{ℕ, suc, ◌+◌, ◌-◌, ◌≡◌, List, [], ◌∷◌, length, Option, Some, None}
+use Rattle.std.specs.Prelude.{ℕ, suc, ◌+◌, ◌-◌, ◌≡◌, List, [], ◌∷◌, ◌++◌, length, Option, Some, None}
 use Rattle.dg_base.specs.declared.program.Term.{Term}
+use Rattle.dg_base.specs.declared.program.Term.TheVariants.{Var as Var-Term}
 use Rattle.dg_base.specs.declared.program.Goal.{Goal, out-Goal}
 use Rattle.dg_base.specs.declared.run.Ending.TheVariants.{Done as Done-Ending, StepLimit}
 use Rattle.dg_meaning.specs.Values.{Value, value_of}
 use Rattle.dg_meaning.specs.Substitutions.{resolved}
 use Rattle.dg_meaning.specs.World.{Game, World, Answered, noted, worked, kept}
-use Rattle.dg_meaning.specs.Path.{Step, Do, Answers, Cut, Refuse, Back, Keep, Leave, Registers, Path, Result, Failing, StopTo, End, Answer, Branch, Enter, TakeOut, Kind, Shield, Gathers, Move, GoesOn, FailsAt, EndsAt, StopsAt, Outcome, Moves, Chooses}
-use Rattle.dg_meaning.specs.Moves.{path_of, exhausted, begun, begins, keeping, move}
+use Rattle.dg_meaning.specs.Path.{Step, Do, Answers, Cut, Refuse, Back, Keep, Leave, Registers, Path, Result, Failing, StopTo, End, Answer, Whole, Branch, Enter, TakeOut, Kind, Shield, Gathers, Move, GoesOn, FailsAt, EndsAt, StopsAt, Outcome, Moves, Chooses}
+use Rattle.dg_meaning.specs.Moves.{path_of, exhausted, begun, goals_at, begins, keeping, move}
 use Rattle.dg_meaning.specs.Search.{Search, search, answer, later, retried, choose}
 use Rattle.dg_meaning.specs.Transcript.{Run, run_of, run, start_world, start_path}
 use Rattle.dg_meaning.specs.Bindings.{IsBound}
 use Rattle.dg_meaning.specs.OneRun.{Grows}
-use Rattle.dg_meaning.specs.Context.{Around, InBranch, unwind, gathers, Opens, Way, ways, Live, cut_to, pushed, live, way_to, Shielded, PathIn, Sound, Drops}
+use Rattle.dg_meaning.specs.Context.{Around, InBranch, unwind, gathers, Opens, Way, ways, Live, cut_to, pushed, live, way_to, Shielded, PathIn, IsNewest, KeepIn, Sound, Drops, tags_of}
 
 -- The world that a move leaves.
 abbrev pub world_at : Move → World
@@ -41,6 +42,7 @@ pub record Stands (g : Game) (cs : List Live) (ws : List Way) (path : Path) (n :
   pub sound : Sound ctx
   pub opens : Opens w ctx
   pub inner : PathIn ctx path
+  pub keeps : KeepIn (gathers ctx) path.steps
   pub choices : live ctx ≡ cs
   pub ways_are : ways ctx ≡ ws
 
@@ -176,6 +178,13 @@ pub record Keeps : Type 0 where
   pub passes_keep : (g : Game) (cs : List Live) (ws : List Way) (t : ℕ) (x : Term) (env : List Value) (steps : List Step) (r : Registers) (n : ℕ)
       (w : World) (run : Run) → Stands g cs ws (path_of (Keep t x env ∷ steps) r) n w run →
       Failed g cs n (kept t (resolved r.bound (value_of g.program env x)) (worked (keeping r (value_of g.program env x)) w)) run
+  -- It is kept in the newest gathering.
+  pub keeps_in_newest : (g : Game) (cs : List Live) (ws : List Way) (t : ℕ) (x : Term) (env : List Value) (steps : List Step) (r : Registers) (n : ℕ)
+      (w : World) (run : Run) → Stands g cs ws (path_of (Keep t x env ∷ steps) r) n w run → IsNewest t (tags_of w.gathered)
+  -- What is kept behind goals may be told by its value alone, as that of one variable.
+  pub keeps_value : (g : Game) (cs : List Live) (ws : List Way) (goals : List Goal) (env : List Value) (t : ℕ) (u : ℕ) (x : Term) (among : List Value)
+      (r : Registers) (n : ℕ) (w : World) (run : Run) → Stands g cs ws (path_of (goals_at env t goals ++ Keep u x among ∷ []) r) n w run →
+      Stands g cs ws (path_of (goals_at env t goals ++ Keep u (Var-Term 0) (value_of g.program among x ∷ []) ∷ []) r) n w run
   -- At an answer of what is exhausted it fails.
   pub passes_back : (g : Game) (cs : List Live) (ws : List Way) (steps : List Step) (r : Registers) (n : ℕ) (w : World) (run : Run) →
       Stands g cs ws (path_of (Back ∷ steps) r) n w run → Failed g cs n w run
@@ -184,6 +193,9 @@ pub record Keeps : Type 0 where
   -- Its next branch begins, or it has failed.
   pub tries : (g : Game) (c : Live) (cs : List Live) (n : ℕ) (w : World) (run : Run) → Resumed g c cs n w run →
       Tried g c.kind c.tag c.height c.ways_on cs c.others n (tried_in c.kind c.others w) run
+  -- What is taken out where it goes back is the newest gathering.
+  pub takes_newest : (g : Game) (c : Live) (cs : List Live) (t : ℕ) (whole : Whole) (into : Value) (path : Path) (bs : List Branch) (n : ℕ) (w : World)
+      (run : Run) → Resumed g c cs n w run → c.others ≡ TakeOut t whole into path ∷ bs → IsNewest t (tags_of w.gathered)
   -- A goal is taken where the budget has one, and its move says where it goes on.
   pub takes : (g : Game) (cs : List Live) (ws : List Way) (x : Goal) (env : List Value) (t : ℕ) (steps : List Step) (r : Registers) (n : ℕ)
       (w : World) (run : Run) → Stands g cs ws (path_of (Do x env t ∷ steps) r) (suc n) w run →
