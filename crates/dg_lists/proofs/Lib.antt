@@ -2,3 +2,4 @@ pub mod Stacks
 pub mod ReadLemmas
 pub mod WriteLemmas
 pub mod MakeLemmas
+pub mod SumLemmas

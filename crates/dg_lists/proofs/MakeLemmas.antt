@@ -1,6 +1,6 @@
 -- What becomes of a store and its stack when a cell is read.
 use Rattle.std.proofs.Common.{◌++◌, ◌-◌, append-nil, ◌≡◌, ℕ, zero, suc, ◌+◌, ◌*◌, ◌<◌, ◌≤◌, List, [], ◌∷◌, refl, sym, ap, ◌∙◌, subst, arith, length, take, drop, map, Some, Result, Ok, Err, length-drop}
-use Rattle.std.specs.Prelude.{MatchResult, if◌then◌else◌}
+use Rattle.std.specs.Prelude.{MatchResult, IfOk, if◌then◌else◌}
 use Rattle.std.specs.List.{All}
 use Rattle.std.proofs.lemmas.Bool.{le-leb}
 use Rattle.std.proofs.lemmas.List.{take-map, drop-map, length-map, length-take-le}
@@ -287,3 +287,8 @@ ref_or d (r ∷ rs) = r
 pub same_first : (a b : Ref) (rs qs : List Ref) → a ∷ rs ≡ b ∷ qs → a ≡ b
 unfolding ref_or
 same_first a b rs qs e = ap (ref_or a) e
+
+-- a list that was made is there
+pub made_holds : (s t : Store) (n : ℕ) (elements : List Ref) (r : Result Ref Full) → MatchResult r (λ x. ListMade s t elements x) (λ e. Stopped n s t e) → IfOk r (λ x. Holds t x)
+made_holds s t n elements (Ok x) h = holds_some t x _ h.value
+made_holds s t n elements (Err e) h = tt

@@ -92,3 +92,8 @@ pub drop_one : {A : Type 0} (k : ℕ) (xs : List A) → drop 1 (drop k xs) ≡ d
 drop_one zero xs = refl
 drop_one (suc k) [] = let next : suc (k + 1) ≡ suc k + 1 = omega arith in ap (λ n. drop n []) next
 drop_one (suc k) (x ∷ xs) = let next : suc (k + 1) ≡ suc k + 1 = omega arith in drop_one k xs ∙ ap (λ n. drop n (x ∷ xs)) next
+
+pub size_added : (more : List Cell) (rows : List (List Cell)) → 0 < length rows → gathered_size (added more rows) ≡ gathered_size rows + length more
+size_added more [] some = absurd (omega (arith, some))
+size_added more (row ∷ rows) some =
+    omega (arith, sum_by-cons (λ (r : List Cell). 2 + length r) (row ++ more) rows, sum_by-cons (λ (r : List Cell). 2 + length r) row rows, length-append row more)

@@ -1,8 +1,14 @@
 // Gathered lists, whose room is taken at once.
-ghost use Rattle.std.specs.Prelude.{◌≡◌, ◌+◌, ◌-◌, ◌<◌, ◌≤◌, [], ◌∷◌, IfOk, OnOk, OnErr, Some, slice_get, slice_index, length, drop};
+ghost use Rattle.std.specs.Prelude.{◌≡◌, ◌+◌, ◌-◌, ◌<◌, ◌≤◌, List, [], ◌∷◌, IfOk, IfSome, OnOk, OnErr, MatchOption, Some, slice_get, slice_index, length, drop};
+ghost use Rattle.dg_meaning.specs.ValueCells.{cells_of};
+ghost use Rattle.dg_unify.specs.Store.{Saved, Holds};
+ghost use Rattle.dg_lists.specs.Formed.{IsFormed};
 ghost use Rattle.dg_lists.specs.Gathered.{gathered_size, added};
+ghost use Rattle.dg_lists.specs.Writing.{value_at, Writes};
 
+use crate::writing::to_cells;
 use dg_base::Cell;
+use dg_unify::{Bindings, Ref};
 use std::alloc::{AllocError, Global};
 use std::marker::Model;
 use thiserror::Error;
@@ -21,11 +27,12 @@ pub struct AuxFull;
 pub struct Gather {
     cells: Vec<Cell>,
     starts: Vec<usize>,
+    row: Vec<Cell>,
     aux: usize,
 }
 
 impl Model for Gather {
-    ghost use Rattle.std.specs.Prelude.{◌≡◌, ◌≤◌, ◌+◌, ◌*◌, true, reverse, vec_capacity};
+    ghost use Rattle.std.specs.Prelude.{◌≡◌, ◌≤◌, ◌+◌, ◌*◌, true, reverse, length, vec_capacity};
     ghost use Rattle.dg_lists.specs.Gathered.{Gathered, gathered_size, cut, is_stacked};
 
     ghost Value = { Gathered };
@@ -36,7 +43,8 @@ impl Model for Gather {
         (is_stacked (reverse g.starts.items) g.cells.items ≡ true)
         × (gathered_size (cut (reverse g.starts.items) g.cells.items) ≤ g.aux)
         × (g.aux ≤ vec_capacity g.cells)
-        × (g.aux ≤ 2 * vec_capacity g.starts + 1) };
+        × (g.aux ≤ 2 * vec_capacity g.starts + 1)
+        × (length g.row.items ≡ g.aux) };
 }
 
 // The place of that number.
@@ -55,6 +63,18 @@ fn cells_from(row: &[Cell], start: usize) -> &[Cell]
     &row[start..]
 }
 
+// Writes the cells of a value to the front of a row; so many, or none where it is too short.
+fn write_into<B: Bindings>(store: &mut B, value: Ref, row: &mut Vec<Cell>) -> Option<usize>
+    requires { Holds (B.meaning store.old) value }
+    ensures same { B.meaning store.new ≡ B.meaning store.old }
+    ensures saved { (ms : List Saved) → B.saves store.old ms → B.saves store.new ms }
+    ensures length { length row.new.items ≡ length row.old.items }
+    ensures written { Writes (value_at (B.meaning store.old) value) row.new.items result }
+    ensures formed { IfSome result (λ _. IsFormed (value_at (B.meaning store.old) value)) }
+{
+    to_cells(store, value, row.as_mut_slice())
+}
+
 impl Gather {
     /// None is open; together they may count so much.
     pub fn new(alloc: Global, aux: u32) -> Result<Gather, AllocError>
@@ -63,7 +83,14 @@ impl Gather {
         let aux = aux as usize;
         let cells = Vec::with_capacity(alloc, aux)?;
         let starts = Vec::with_capacity(alloc, aux / 2)?;
-        Ok(Gather { cells, starts, aux })
+        let mut row = Vec::new(alloc);
+        row.resize(aux, Cell::Nil)?;
+        Ok(Gather {
+            cells,
+            starts,
+            row,
+            aux,
+        })
     }
 
     /// The mark that the next one would have.
@@ -109,6 +136,37 @@ impl Gather {
         }
         self.cells.extend_from_slice(cells).unwrap();
         Ok(())
+    }
+
+    /// Gathers a value of a store in the newest, if one is open. What waits in the store meanwhile is dropped.
+    pub fn keep<B: Bindings>(&mut self, store: &mut B, value: Ref) -> Result<(), AuxFull>
+        requires { Holds (B.meaning store.old) value }
+        ensures same { B.meaning store.new ≡ B.meaning store.old }
+        ensures saved { (ms : List Saved) → B.saves store.old ms → B.saves store.new ms }
+        ensures ok { OnOk result (self.new ≡ record self.old { rows = added (cells_of (value_at (B.meaning store.old) value)) self.old.rows }) }
+        ensures formed { OnOk result (0 < length self.old.rows → IsFormed (value_at (B.meaning store.old) value)) }
+        ensures err { OnErr result (self.new ≡ self.old) }
+        ensures full { OnErr result (self.old.aux < gathered_size (added (cells_of (value_at (B.meaning store.old) value)) self.old.rows)) }
+    {
+        if self.starts.is_empty() {
+            return Ok(());
+        }
+        let Some(count) = write_into(store, value, &mut self.row) else {
+            return Err(AuxFull);
+        };
+        if count > self.room() {
+            return Err(AuxFull);
+        }
+        self.cells.extend_from_slice(&self.row[..count]).unwrap();
+        Ok(())
+    }
+
+    /// The cells of the newest, if one is open.
+    pub fn newest(&self) -> Option<&[Cell]>
+        ensures { MatchOption result (self.now.rows ≡ []) (λ cells. slice_get self.now.rows 0 ≡ Some cells.now) }
+    {
+        let start = self.starts.last()?;
+        Some(cells_from(&self.cells, *start))
     }
 
     /// The cells of the newest, whose mark is given.

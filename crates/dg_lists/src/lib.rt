@@ -7,6 +7,6 @@ mod reading;
 mod writing;
 
 pub use gather::{AuxFull, Gather, GatherMark};
-pub use numbers::{arith, compare};
+pub use numbers::{arith, compare, sum};
 pub use reading::{from_cells, list_from_cells};
 pub use writing::{fully_bound, to_cells};

@@ -261,6 +261,7 @@ pub fn list_from_cells<B: Bindings>(
     requires { length cells.now ≤ length scratch.old }
     ensures kept { Kept (B.meaning store.old) (B.meaning store.new) }
     ensures saved { (ms : List Saved) → B.saves store.old ms → B.saves store.new ms }
+    ensures holds { IfOk result (λ r. Holds (B.meaning store.new) r) }
     ensures copied { (vs : Values) → cells.now ≡ cells_of_all vs → AreFormed vs → MatchResult result
         (λ r. ListCopied (B.meaning store.old) (B.meaning store.new) vs r)
         (λ e. Stopped (all_copy_cells vs + 3 * length (values_of vs)) (B.meaning store.old) (B.meaning store.new) e) }

@@ -2,7 +2,7 @@ use Rattle.std.proofs.Common.{◌-◌, ◌*◌, ◌+◌, subst, arith, length, d
 use Rattle.std.proofs.lemmas.List.{take_all}
 use Rattle.dg_meaning.specs.Copies.{all_copy_cells, values_of}
 use Rattle.dg_lists.specs.Reading.{Stopped}
-use Rattle.dg_lists.proofs.MakeLemmas.{weight_of_all, stopped_more, list_result}
+use Rattle.dg_lists.proofs.MakeLemmas.{weight_of_all, stopped_more, list_result, made_holds}
 use Rattle.dg_lists.proofs.reading.list_from_cells.Goals as goal
 
 pub returns-in-Err-clause-copied : goal.returns-in-Err-clause-copied
@@ -19,3 +19,6 @@ returns-in-Ok-clause-copied g c = λ vs is formed.
     let refs = drop c.in-Ok.top row in
     let whole = take_all (length row - c.in-Ok.top) refs (omega (arith, length-drop c.in-Ok.top row)) in
     list_result s (g.B.Bindings.meaning c.read_cells.new.store) (g.B.Bindings.meaning c.make_list.new.store) vs c.args.cells.now refs _ c.make_list.result whole is formed c.in-Ok.ensures.read c.make_list.ensures.made
+
+pub returns-in-Ok-clause-holds : goal.returns-in-Ok-clause-holds
+returns-in-Ok-clause-holds g c = made_holds (g.B.Bindings.meaning c.read_cells.new.store) (g.B.Bindings.meaning c.make_list.new.store) _ _ c.make_list.result c.make_list.ensures.made

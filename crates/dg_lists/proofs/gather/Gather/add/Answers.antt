@@ -24,6 +24,7 @@ invariant_of-self c =
       omega (arith, size, aux, c.room.ensures, c.if-cells-room.false, ap length more, length-append cells c.args.cells.now, size_of_rows starts cells c.self.invariant.0, size_of_rows starts c.extend_from_slice.new.self.items stacked),
       omega (arith, c.extend_from_slice.ensures.capacity, c.self.invariant.2),
       c.self.invariant.3,
+      c.self.invariant.4,
     )
 
 pub returns-clause-ok : goal.returns-clause-ok
