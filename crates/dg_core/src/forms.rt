@@ -59,7 +59,6 @@ fn is_unbuilt(mention: Mention<'_>) -> bool
 {
     match mention {
         Mention::Query(role, head) => is_unbuilt_role(role, head),
-        Mention::Other(Form::Collect) | Mention::Other(Form::Accumulate) => true,
         Mention::Other(Form::Now) | Mention::Opened => true,
         _ => false,
     }

@@ -305,6 +305,7 @@ module _ (old : Engine) (query : Query) (terms : List Term) (store1 : ListBindin
               back = record { mark = place; store = s2 };
               is = place_now st.at.inside.saved (saved1 st.at.inside.saved st.at.inside.keeps);
               back_agrees = agrees_now g n w run st;
+              newest = tt;
               tried =
                   let same : rule_branches g query.pred (values_in s2 ys args) query.many (steps_behind (values_in s2 ys) frames.items (length frames.items)) r rules.now ≡ branches g n w run st rules.now =
                   ap (λ l. rule_branches g query.pred (values_in s2 ys args) query.many l r rules.now) steps_now

@@ -26,7 +26,7 @@ use Rattle.dg_interp.specs.declared.frames.Left.{Left}
 use Rattle.dg_interp.specs.declared.frames.Left.TheVariants.{Lists, Ways, Way as OneWay}
 use Rattle.dg_interp.specs.declared.engine.Engine.{Engine}
 use Rattle.dg_interp.specs.Terms.{Overflows}
-use Rattle.dg_interp.specs.Frames.{values_in, steps_behind, steps_at, kind_of, branches_of, IsFrame, IsLeft, IsNoPart, BeginsWith, has_some, stays_with, cells_if}
+use Rattle.dg_interp.specs.Frames.{values_in, steps_behind, steps_at, kind_of, branches_of, IsFrame, IsLeft, IsOrdinary, BeginsWith, has_some, stays_with, cells_if}
 use Rattle.dg_unify.specs.Engines.{Agrees}
 use Rattle.dg_interp.specs.Engine.{store_in, KeepsPlaces, HasPlace, Point, IsSound, BeginsAt, FullAt, WentOn, open_in, kept_if}
 use Rattle.dg_interp.proofs.Links.{same_here, at_same}
@@ -54,7 +54,7 @@ list_begins_at height behind env tag lists others goals list at split is =
     subst (λ b. BeginsWith height (record { goals = goals; env = env; tag = tag; mark = Nothing; behind = b }) (Lists env tag others) (Lists env tag lists)) (sym at) (list_begins height env tag lists others goals list split is)
 
 module _ (old : Engine) (frame : Frame) (others : Left) (b : Bool) (place : Place) (store1 : ListBindings) (choices : Vec Choice Global) (sound : IsSound old) (is : IsFrame (length old.frames.items) (length old.refs.items) frame)
-    (left : IsLeft (length old.frames.items) (length old.refs.items) others) (plain : IsNoPart others) (same_b : b ≡ stays_with others) (has : HasPlace old place) (k1 : Kept (store_in old.store) (store_in store1)) (saved1 : (ms : List Saved) → KeepsPlaces old.store ms → KeepsPlaces store1 ms) where
+    (left : IsLeft (length old.frames.items) (length old.refs.items) others) (plain : IsOrdinary others) (same_b : b ≡ stays_with others) (has : HasPlace old place) (k1 : Kept (store_in old.store) (store_in store1)) (saved1 : (ms : List Saved) → KeepsPlaces old.store ms → KeepsPlaces store1 ms) where
   abbrev s : Store
   s = store_in old.store
 

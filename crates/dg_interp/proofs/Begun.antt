@@ -20,14 +20,14 @@ use Rattle.dg_interp.specs.declared.frames.Frame.{Frame}
 use Rattle.dg_interp.specs.declared.frames.Left.{Left}
 use Rattle.dg_interp.specs.declared.frames.Choice.{Choice}
 use Rattle.dg_interp.specs.declared.engine.Engine.{Engine}
-use Rattle.dg_interp.specs.Frames.{values_in, kind_of, branches_of, lives_of, ways_of, AreChoices, IsLeft, IsNoPart, StandOn, GoBackTo, stays_with}
+use Rattle.dg_interp.specs.Frames.{values_in, kind_of, branches_of, lives_of, ways_of, AreChoices, IsLeft, IsOrdinary, StandOn, GoBackTo, stays_with}
 use Rattle.dg_interp.specs.Engine.{store_in, KeepsPlaces, HasPlace, Within, IsSound, StandsAt, FailsAt, BeginsAt, SameLimits, steps_of, kept_if, open_in}
 use Rattle.dg_interp.specs.Outside.{InWorld}
 use Rattle.dg_interp.proofs.Links.{SameBy, same_here, branches_same, choices_same, back_same, frames_raise, stand_raise}
 use Rattle.dg_interp.proofs.Stores.{all_hold, values_kept, hold_front, front_same}
-use Rattle.dg_interp.proofs.Kept.{kept_places, kept_stand, kept_back, back_limits, kept_choices, kept_lives, kept_ways, branches_stay}
+use Rattle.dg_interp.proofs.Kept.{branches_open, kept_places, kept_stand, kept_back, back_limits, kept_choices, kept_lives, kept_ways, branches_stay}
 
-module _ (old : Engine) (left : Left) (b : Bool) (place : Place) (store1 : ListBindings) (refs1 made1 : Vec Ref Global) (choices : Vec Choice Global) (sound : IsSound old) (fits : IsLeft (length old.frames.items) (length old.refs.items) left) (plain : IsNoPart left) (same_b : b ≡ stays_with left)
+module _ (old : Engine) (left : Left) (b : Bool) (place : Place) (store1 : ListBindings) (refs1 made1 : Vec Ref Global) (choices : Vec Choice Global) (sound : IsSound old) (fits : IsLeft (length old.frames.items) (length old.refs.items) left) (plain : IsOrdinary left) (same_b : b ≡ stays_with left)
     (has : HasPlace old place) (k : Kept (store_in old.store) (store_in store1)) (saved1 : (ms : List Saved) → KeepsPlaces old.store ms → KeepsPlaces store1 ms) (made : List Ref) (is : refs1.items ≡ old.refs.items ++ made) (hold : All (Holds (store_in store1)) made)
     (kept : reverse choices.items ≡ kept_if b (record { tag = old.newest; left = left; height = length old.frames.items; refs = length old.refs.items; gathered = open_in old; place = place; stoppable = old.stoppable }) (reverse old.choices.items)) where
   abbrev s : Store
@@ -120,7 +120,7 @@ module _ (old : Engine) (left : Left) (b : Bool) (place : Place) (store1 : ListB
       keeps = saved1 _ (kept_places b old.store st.back st.at.inside.saved st.is.keeps);
       choices = subst (λ l. AreChoices g ys fs l (kept_if b st.back st.at.inside.saved) (kept_if b begun_live st.at.inside.entries)) (sym kept)
           (choices_same g xs ys fs fs (length fs) (length xs) old.newest (kept_if b o os) (kept_if b st.back st.at.inside.saved) (kept_if b begun_live st.at.inside.entries) front (same_here (length fs) fs) stand
-          (kept_choices g xs fs o os (open_in old) refl st.back st.at.inside.saved st.at.inside.entries r (kind_of all) st.at.ways others b are (sym kind) st.at.tag st.at.stop st.at.ways_are st.back_agrees (hold_front st.back.store xs st.is.hold) st.is.place_is st.at.inside.choices));
+          (kept_choices g xs fs o os (open_in old) st.back st.at.inside.saved st.at.inside.entries r (kind_of all) st.at.ways others b (branches_open g (values_in s xs) fs (length fs) left r (open_in old) plain) are (sym kind) st.at.tag st.at.stop st.at.ways_are st.back_agrees (hold_front st.back.store xs st.is.hold) st.is.place_is st.at.inside.choices));
       world = world;
     }
 

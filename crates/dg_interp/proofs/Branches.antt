@@ -5,11 +5,11 @@ use Rattle.std.specs.List.{All}
 use Rattle.std.specs.declared.vec.Vec.{Vec}
 use Rattle.std.specs.declared.alloc.Global.{Global}
 use Rattle.dg_meaning.specs.World.{Game, World}
-use Rattle.dg_meaning.specs.Path.{Result, Failing}
+use Rattle.dg_meaning.specs.Path.{Result, Failing, Branch, Kind, Plain, Rules as RulesOf, Shield, Gathers}
 use Rattle.dg_meaning.specs.Transcript.{Run}
 use Rattle.dg_meaning.specs.Context.{Live, Drops}
 use Rattle.dg_meaning.specs.Keeps.{Failed, Finished, FailsTo, GoesBack as ComesBack, Resumed, Tried, open_at, tried_in}
-use Rattle.dg_meaning.proofs.Keeps.{failed, tries}
+use Rattle.dg_meaning.proofs.Keeps.{failed, tries, takes_newest}
 use Rattle.dg_unify.specs.Store.{Store, State, Saved, Holds, Back}
 use Rattle.dg_unify.specs.Engines.{Agrees}
 use Rattle.dg_unify.specs.Laws.{saves_drops}
@@ -22,15 +22,32 @@ use Rattle.dg_unify.specs.declared.list.ListBindings.{ListBindings}
 use Rattle.dg_interp.specs.declared.frames.Frame.{Frame}
 use Rattle.dg_interp.specs.declared.frames.Choice.{Choice}
 use Rattle.dg_interp.specs.declared.engine.Engine.{Engine}
-use Rattle.dg_interp.specs.Frames.{values_in, kind_of, branches_of, cut_of, cut_if, lives_of, ways_of, IsChoice, AreChoices, AreFrames, IsLeft, IsNoted, StandOn, GoBackTo, left_in, stays_with, all_left}
+use Rattle.dg_interp.specs.Frames.{values_in, kind_of, branches_of, cut_of, cut_if, lives_of, ways_of, IsChoice, AreChoices, AreFrames, IsLeft, IsNoted, StandOn, GoBackTo, TakesNewest, left_in, stays_with, all_left}
+use Rattle.dg_interp.specs.declared.frames.Left.{Left}
+use Rattle.dg_interp.specs.declared.frames.Left.TheVariants.{Rules, Lists, Ways, Way as OneWay, Behind, TakeOut}
 use Rattle.dg_interp.specs.declared.outside.Outside.{Outside}
 use Rattle.dg_interp.specs.Outside.{InWorld, MayPick, closed_to, picks_in}
 use Rattle.dg_interp.specs.Engine.{store_in, KeepsPlaces, open_in, HasPlaces, Sound, Within, HasPlace, IsPlace, Cuts, Retries, Point, IsSound, StandsAt, FailsAt, BeginsAt, Adds, Then, Leads, FullAt, SameLimits, WentOn, WentWrong, HasEndedSo, AtGoal, Branches, GoesBack, Tries, branches_left}
 use Rattle.dg_interp.proofs.Links.{SameBy, same_take, branches_same, frames_take, stand_raise, stand_same, choices_same, back_same, cut_gone, cut_fewer}
 use Rattle.dg_interp.proofs.Stores.{all_hold, values_kept, take_all}
-use Rattle.dg_interp.proofs.Kept.{back_limits, branches_open}
+use Rattle.dg_interp.proofs.Kept.{back_limits, tried_inside}
 use Rattle.dg_interp.proofs.Places.{went_further, went_wrong, cut_base, cut_inside, adds_nothing, world_closed, open_still, world_tried, adds_on, adds_drops, adds_tried, leads_on, limits_on}
 use Rattle.dg_interp.proofs.Turns.{reverse_pop}
+
+-- ## What a choice takes out
+
+-- it is the same where the choice is tried
+takes_it : (left : Left) (t : ℕ) (k : Kind) (bs : List Branch) (v : World) → TakesNewest left t v → TakesNewest left t (tried_in k bs v)
+takes_it (TakeOut whole into frame) t k [] v h = h
+takes_it (TakeOut whole into frame) t (RulesOf q) (b ∷ bs) v h = h
+takes_it (TakeOut whole into frame) t Plain (b ∷ bs) v h = h
+takes_it (TakeOut whole into frame) t Shield (b ∷ bs) v h = h
+takes_it (TakeOut whole into frame) t Gathers (b ∷ bs) v h = h
+takes_it (Rules query args rules) t k bs v h = tt
+takes_it (Lists env tag lists) t k bs v h = tt
+takes_it (Ways first other) t k bs v h = tt
+takes_it (OneWay frame) t k bs v h = tt
+takes_it (Behind frame cut) t k bs v h = tt
 
 -- ## The store to which a choice goes back
 
@@ -241,10 +258,19 @@ module _ (old : Engine) (o : Choice) (choices : Vec Choice Global) (sound : IsSo
           ∙ branches_same g o.height o.refs (values_in m.store xs) (values_in (store_in store) refs.items) fs (take o.height fs) o.left is.registers stand.3.0 stand.4 popped_values (same_take fs o.height))
 
       -- gatherings that were opened since are dropped
-      pub popped_world : (w v : World) → InWorld old.outside g w → Drops w v → length v.gathered ≡ c.height → InWorld out g v
+      pub popped_world : (w v : World) → InWorld old.outside g w → Drops w v → length v.gathered ≡ open_at c.others c.height → InWorld out g v
       popped_world w v world drops count = subst (λ x. InWorld x g v) (sym closed) (world_closed old.outside g w v o.gathered world drops (count ∙ is.height))
 
-      begins : (n : ℕ) (w v : World) (run : Run) → InWorld out g v → length v.gathered ≡ c.height → Adds [] w v → Resumed g c (lives_of os cs) n v run → Then [] w (λ u. BeginsAt o.left o.place mid g n u run)
+      -- a gathering that is taken out is the newest
+      popped_takes : (n : ℕ) (v : World) (run : Run) → Resumed g c (lives_of os cs) n v run → (left : Left) (t : ℕ) → c.others ≡ branches_of g (values_in (store_in store) refs.items) frames.items (length frames.items) left is.registers → TakesNewest left is.registers.next_tag v
+      popped_takes n v run resumed (Rules query args rules) t e = tt
+      popped_takes n v run resumed (Lists env tag lists) t e = tt
+      popped_takes n v run resumed (Ways first other) t e = tt
+      popped_takes n v run resumed (OneWay frame) t e = tt
+      popped_takes n v run resumed (Behind frame waits) t e = tt
+      popped_takes n v run resumed (TakeOut whole into frame) t e = takes_newest g c (lives_of os cs) is.registers.next_tag _ _ _ [] n v run resumed e
+
+      begins : (n : ℕ) (w v : World) (run : Run) → InWorld out g v → length v.gathered ≡ open_at c.others c.height → Adds [] w v → Resumed g c (lives_of os cs) n v run → Then [] w (λ u. BeginsAt o.left o.place mid g n u run)
       begins n w v run still count adds resumed =
           let r = is.registers in
           let u = tried_in c.kind c.others v in
@@ -264,11 +290,13 @@ module _ (old : Engine) (o : Choice) (choices : Vec Choice Global) (sound : IsSo
               back = m;
               is = popped_at;
               back_agrees = is.agrees;
+              newest = takes_it o.left r.next_tag c.kind c.others v (popped_takes n v run resumed o.left r.next_tag popped_branches);
               tried =
-                  subst (λ l. Tried g (kind_of o.left) r.next_tag (open_in mid) c.ways_on (lives_of os cs) l n u run) popped_branches
-                  (subst (λ k. Tried g k r.next_tag (open_in mid) c.ways_on (lives_of os cs) c.others n u run) is.kind
-                  (subst (λ t. Tried g c.kind t (open_in mid) c.ways_on (lives_of os cs) c.others n u run) (is.tag ∙ sym is.tag_at)
-                  (subst (λ i. Tried g c.kind c.tag i c.ways_on (lives_of os cs) c.others n u run) (sym count ∙ sym (open_still out g v still)) (tries g c (lives_of os cs) n v run resumed))));
+                  tried_inside g (values_in (store_in store) refs.items) frames.items (length frames.items) o.left r r.next_tag c.height (open_in mid) c.ways_on (lives_of os cs) n u run
+                  (ap (λ bs. open_at bs c.height) (sym popped_branches) ∙ sym count ∙ sym (open_still out g v still))
+                  (subst (λ l. Tried g (kind_of o.left) r.next_tag c.height c.ways_on (lives_of os cs) l n u run) popped_branches
+                  (subst (λ k. Tried g k r.next_tag c.height c.ways_on (lives_of os cs) c.others n u run) is.kind
+                  (subst (λ t. Tried g c.kind t c.height c.ways_on (lives_of os cs) c.others n u run) (is.tag ∙ sym is.tag_at) (tries g c (lives_of os cs) n v run resumed))));
             };
           }
 
@@ -279,7 +307,7 @@ module _ (old : Engine) (o : Choice) (choices : Vec Choice Global) (sound : IsSo
       from (m ∷ ms) [] ls k h e f = absurd h
       from (m ∷ ms) (c ∷ cs) ls k h e f =
           let came : ComesBack g c (lives_of os cs) n w run = subst (λ l. FailsTo g n w run l) (e ∙ ap (λ q. cut_if q (c ∷ lives_of os cs)) (sym none)) f in
-          let count : length came.world.gathered ≡ c.height = came.gatherings ∙ ap (λ bs. open_at bs c.height) h.0.others ∙ branches_open g (values_in m.store xs) fs o.height o.left h.0.registers c.height in
+          let count = came.gatherings in
           let still = popped_world g m ms c cs st.inside.program k h.0 h.1 w came.world st.inside.world came.drops count in
           begins g m ms c cs st.inside.program k h.0 h.1 n w came.world run still count (adds_drops w came.world came.drops) came.resumed
 

@@ -3,8 +3,12 @@ use Rattle.std.proofs.Common.{◌≡◌, ℕ, ◌+◌, ◌^◌, ◌<◌, ◌≤�
 use Rattle.std.specs.Prelude.{reverse, Result as Answer, Ok, Err, IfOk}
 use Rattle.std.specs.List.{All}
 use Rattle.dg_base.specs.declared.program.Goal.{Goal, out-Goal}
-use Rattle.dg_base.specs.declared.program.Goal.TheVariants.{Either, Once, Not, If, Forever, Exhaust, Stoppable, outs-Either, outs-Once, outs-Not, outs-If, outs-Forever, outs-Exhaust, outs-Stoppable}
+use Rattle.dg_base.specs.declared.program.Goal.TheVariants.{Either, Once, Not, If, Forever, Exhaust, Stoppable, Collect, Accumulate, outs-Either, outs-Once, outs-Not, outs-If, outs-Forever, outs-Exhaust, outs-Stoppable, outs-Collect, outs-Accumulate}
 use Rattle.dg_base.specs.declared.program.Goal.TheOpen as part
+use Rattle.dg_base.specs.declared.program.Term.{Term}
+use Rattle.dg_interp.specs.declared.frames.Whole.{Whole}
+use Rattle.dg_interp.specs.declared.frames.Whole.TheVariants.{List as InList, Sum as InSum}
+use Rattle.dg_interp.specs.Gathering.{gathering_goal}
 use Rattle.dg_base.specs.Goals.{terms_held}
 use Rattle.dg_meaning.specs.Values.{Value}
 use Rattle.dg_meaning.specs.World.{Game, World}
@@ -56,6 +60,10 @@ exhaust_built goals h = built_inside (Exhaust goals) [] (part.Exhaust goals) (ou
 
 pub stoppable_built : (goals : List Goal) → AreBuilt (Stoppable goals ∷ []) → AreBuilt goals
 stoppable_built goals h = built_inside (Stoppable goals) [] (part.Stoppable goals) (outs-Stoppable goals) h
+
+pub gathering_built : (whole : Whole) (term : Term) (goals : List Goal) (into : Term) → AreBuilt (gathering_goal whole term goals into ∷ []) → AreBuilt goals
+gathering_built InList term goals into h = built_inside (Collect term goals into) [] (part.Collect term goals into) (outs-Collect term goals into) h
+gathering_built InSum term goals into h = built_inside (Accumulate term goals into) [] (part.Accumulate term goals into) (outs-Accumulate term goals into) h
 
 pub if_built : (test first other : List Goal) → AreBuilt (If test first other ∷ []) → AreBuilt test × AreBuilt first × AreBuilt other
 if_built test first other h = three_built test first other (built_inside (If test first other) [] (part.If test first other) (outs-If test first other) h)
@@ -161,7 +169,7 @@ exhaust_opens goals old =
 again_steps : (again : Frame) (old : Engine) → IsAgain Forever again old → steps_at (values_of old) old.frames.items again ≡ Do Forever (values_of old old.here.env) old.here.tag ∷ steps_of old
 again_steps again old is =
     ap (steps_at (values_of old) old.frames.items) is.rest
-    ∙ ap (λ (l : List Goal). goals_at (values_of old old.here.env) old.here.tag l ++ mark_steps old.here.mark old.here.tag (steps_behind (values_of old) old.frames.items old.here.behind)) is.goals
+    ∙ ap (λ (l : List Goal). goals_at (values_of old old.here.env) old.here.tag l ++ mark_steps (values_of old old.here.env) old.here.mark old.here.tag (steps_behind (values_of old) old.frames.items old.here.behind)) is.goals
 
 pub forever_opens : (again : Frame) (old : Engine) → IsAgain Forever again old → Leads (TakesAt Forever old) (OpensAt (Ways old.here again) old)
 forever_opens again old is =

@@ -48,3 +48,6 @@ pub mod Acted
 pub mod Changes
 pub mod Starting
 pub mod Throws
+pub mod Gathered
+pub mod TakingOut
+pub mod GatherOpens

@@ -4,19 +4,19 @@ use Rattle.std.specs.List.{All}
 use Rattle.std.specs.Prelude.{min, eqb, nat_lt, slice_get, if◌then◌else◌}
 use Rattle.std.proofs.lemmas.Bool.{cond_both, cond-true, cond-false, cases_lt, eq-eqb, ne_eqb, ltb-true, ltb-false, lt-ltb, le-ltb}
 use Rattle.std.proofs.lemmas.List.{drop-take}
-use Rattle.dg_meaning.specs.Values.{Value}
+use Rattle.dg_meaning.specs.Values.{Value, value_of_var}
 use Rattle.dg_meaning.specs.World.{Game}
-use Rattle.dg_meaning.specs.Path.{Step, Registers}
-use Rattle.dg_meaning.specs.Moves.{enter, list_branches, rule_branches}
+use Rattle.dg_meaning.specs.Path.{Step, Registers, TakeOut as TakeOutBranch}
+use Rattle.dg_meaning.specs.Moves.{path_of, inside, enter, list_branches, rule_branches}
 use Rattle.dg_meaning.specs.Context.{Live, Way as WayOn, cut_to}
 use Rattle.dg_unify.specs.Store.{Store, Saved, Holds, told}
 use Rattle.dg_unify.specs.declared.bindings.Ref.{Ref}
 use Rattle.dg_interp.specs.declared.frames.Env.{Env}
 use Rattle.dg_interp.specs.declared.frames.Frame.{Frame}
 use Rattle.dg_interp.specs.declared.frames.Left.{Left}
-use Rattle.dg_interp.specs.declared.frames.Left.TheVariants.{Rules, Lists, Ways, Way, Behind}
+use Rattle.dg_interp.specs.declared.frames.Left.TheVariants.{Rules, Lists, Ways, Way, Behind, TakeOut}
 use Rattle.dg_interp.specs.declared.frames.Choice.{Choice}
-use Rattle.dg_interp.specs.Frames.{stretch, values_in, frame_steps, found_steps, steps_below, steps_behind, steps_at, kind_of, branches_of, cut_of, cut_if, lives_of, with_way, ways_of, IsNoPart, IsChoice, AreChoices, EndsBy, IsFrame, AreFrames, IsLeft, IsNoted, noting, StandOn, GoBackTo, floor_of, left_in, all_left}
+use Rattle.dg_interp.specs.Frames.{stretch, values_in, frame_steps, found_steps, steps_below, steps_behind, steps_at, kind_of, whole_of, branches_of, cut_of, cut_if, lives_of, with_way, ways_of, IsNoPart, IsOrdinary, IsChoice, AreChoices, EndsBy, IsFrame, AreFrames, IsLeft, IsNoted, noting, StandOn, GoBackTo, floor_of, left_in, all_left}
 use Rattle.dg_interp.specs.Engine.{waits_in, left_by, with_older, older_than}
 
 -- ## Stretches
@@ -167,6 +167,7 @@ left_raise h k m n (Lists env tag lists) le le' s = (s.0, omega (arith, s.1))
 left_raise h k m n (Ways first other) le le' s = (frame_raise h k m n first le le' s.0, frame_raise h k m n other le le' s.1)
 left_raise h k m n (Way frame) le le' s = frame_raise h k m n frame le le' s
 left_raise h k m n (Behind frame cut) le le' s = frame_raise h k m n frame le le' s
+left_raise h k m n (TakeOut whole into frame) le le' s = (frame_raise h k m n frame le le' s.0, omega (arith, s.1))
 
 pub stand_raise : (fs : List Frame) (h k m n t u : ℕ) (os : List Choice) → h ≤ k → m ≤ n → t ≤ u → StandOn fs h m t os → StandOn fs k n u os
 stand_raise fs h k m n t u [] le le' le'' s = tt
@@ -192,6 +193,9 @@ branches_same g h m vs us fs gs (Ways first other) r is are same to =
     ∙ ap (λ s. enter 10 0 r (steps_at vs fs first) ∷ enter 0 0 r s ∷ []) (at_same m vs us fs gs h other is.1 same are to)
 branches_same g h m vs us fs gs (Way frame) r is are same to = ap (λ s. enter 0 0 r s ∷ []) (at_same m vs us fs gs h frame is same are to)
 branches_same g h m vs us fs gs (Behind frame cut) r is are same to = ap (λ s. enter 0 0 r s ∷ []) (at_same m vs us fs gs h frame is same are to)
+branches_same g h m vs us fs gs (TakeOut whole into frame) r is are same to =
+    ap (λ v. TakeOutBranch r.next_tag (whole_of whole) (value_of_var v 0) (path_of (steps_at us gs frame) (inside 0 r)) ∷ []) (same into is.1)
+    ∙ ap (λ s. TakeOutBranch r.next_tag (whole_of whole) (value_of_var (vs into) 0) (path_of s (inside 0 r)) ∷ []) (at_same m vs us fs gs h frame is.0 same are to)
 
 choice_same : (g : Game) (xs ys : List Ref) (fs gs : List Frame) (h m t : ℕ) (o : Choice) (os : List Choice) (s : Saved) (ws : List WayOn) (c : Live) → take m ys ≡ take m xs → SameTo h fs gs → StandOn fs h m t (o ∷ os) → IsChoice g xs fs o s ws c → IsChoice g ys gs o s ws c
 choice_same g xs ys fs gs h m t o os s ws c refs to st k =
@@ -238,6 +242,7 @@ left_in_case P t o (Lists env tag lists) waits gone = gone tt
 left_in_case P t o (Ways first other) waits gone = gone tt
 left_in_case P t o (Way frame) waits gone = gone tt
 left_in_case P t o (Behind frame cut) waits gone = waits frame cut refl
+left_in_case P t o (TakeOut whole into frame) waits gone = gone tt
 
 -- what is left of a choice, case by case: it is older, or the cut waits in it, or it is gone
 pub left_cases : (P : Option Choice → Type 0) (t : ℕ) (o : Choice) → (o.tag < t → P (Some o)) → ((frame : Frame) (cut : Option ℕ) → t ≤ o.tag → o.left ≡ Behind frame cut → P (Some (record o { left = Behind frame (noting t cut) }))) → (t ≤ o.tag → IsNoPart o.left → P None) → P (left_by t o)
@@ -245,12 +250,22 @@ left_cases P t o older waits gone =
     cond_both (nat_lt o.tag t) (Some o) (waits_in t o o.left) P (λ e. older (ltb-true o.tag t e))
     (λ e. let ge : t ≤ o.tag = ltb-false o.tag t e in left_in_case P t o o.left (λ frame cut is. waits frame cut ge is) (λ plain. gone ge plain))
 
+-- what begins a choice is no way on behind a part
+pub no_part : (left : Left) → IsOrdinary left → IsNoPart left
+no_part (Rules query args rules) h = tt
+no_part (Lists env tag lists) h = tt
+no_part (Ways first other) h = tt
+no_part (Way frame) h = tt
+no_part (Behind frame cut) h = absurd h
+no_part (TakeOut whole into frame) h = absurd h
+
 pub plain_cut : (left : Left) → IsNoPart left → cut_of left ≡ None
 plain_cut (Rules query args rules) h = refl
 plain_cut (Lists env tag lists) h = refl
 plain_cut (Ways first other) h = refl
 plain_cut (Way frame) h = refl
 plain_cut (Behind frame cut) h = absurd h
+plain_cut (TakeOut whole into frame) h = refl
 
 pub plain_way : (left : Left) (c : Live) (ws : List WayOn) → IsNoPart left → with_way left c ws ≡ ws
 plain_way (Rules query args rules) c ws h = refl
@@ -258,6 +273,7 @@ plain_way (Lists env tag lists) c ws h = refl
 plain_way (Ways first other) c ws h = refl
 plain_way (Way frame) c ws h = refl
 plain_way (Behind frame cut) c ws h = absurd h
+plain_way (TakeOut whole into frame) c ws h = refl
 
 -- of what stands in step with choices, what stands with those that a cut leaves
 abbrev pub with_rest : {A : Type 0} → Option Choice → List A → List A → List A

@@ -24,8 +24,9 @@ use Rattle.dg_interp.specs.declared.frames.Env.{Env}
 use Rattle.dg_interp.specs.declared.frames.Frame.{Frame}
 use Rattle.dg_interp.specs.declared.frames.Choice.{Choice}
 use Rattle.dg_interp.specs.declared.frames.Left.{Left}
+use Rattle.dg_interp.specs.declared.frames.Left.TheVariants.{Rules, Lists, Ways, Way as OneWay, Behind, TakeOut}
 use Rattle.dg_interp.specs.declared.engine.Engine.{Engine}
-use Rattle.dg_interp.specs.Frames.{values_in, steps_behind, steps_at, kind_of, branches_of, AreChoices, AreFrames, IsLeft, IsFrame, StandOn, GoBackTo}
+use Rattle.dg_interp.specs.Frames.{values_in, steps_behind, steps_at, kind_of, branches_of, AreChoices, AreFrames, IsLeft, IsFrame, StandOn, GoBackTo, IsOrdinary, TakesNewest}
 use Rattle.dg_unify.specs.Engines.{Agrees}
 use Rattle.dg_interp.specs.Engine.{store_in, KeepsPlaces, HasPlace, IsPlace, BeginsAt, steps_of, IsSound, IsReady, TakesAt, OpensAt, open_in, IsPushed, Leads, SameLimits}
 use Rattle.dg_interp.proofs.Links.{same_here, same_append, same_values, behind_new, at_same, frame_raise, frames_append, choices_same, stand_raise, stand_same, branches_same}
@@ -160,6 +161,14 @@ module _ (old : Engine) (frame : Frame) (frames : Vec Frame Global) (ready : IsR
 
 -- ## A mark, and a new tag
 
+ordinary_newest : (left : Left) (t : ℕ) (w : World) → IsOrdinary left → TakesNewest left t w
+ordinary_newest (Rules query args rules) t w h = tt
+ordinary_newest (Lists env tag lists) t w h = tt
+ordinary_newest (Ways first other) t w h = tt
+ordinary_newest (OneWay frame) t w h = tt
+ordinary_newest (Behind frame cut) t w h = absurd h
+ordinary_newest (TakeOut whole into frame) t w h = absurd h
+
 module _ (old : Engine) (left : Left) (place : Place) (store : ListBindings) (ready : IsReady old) (k : Kept (store_in old.store) (store_in store)) (state : (store_in store).state ≡ marked (store_in old.store).state)
     (saved : (ms : List Saved) → KeepsPlaces old.store ms → KeepsPlaces store (record { mark = place; store = store_in store } ∷ ms)) where
   abbrev opened : Engine
@@ -209,8 +218,8 @@ module _ (old : Engine) (left : Left) (place : Place) (store : ListBindings) (re
     since = omega (arith, ap (λ (u : State). u.since) state, ap (λ (u : State). u.vars) state);
   }
 
-  pub opens_begins : IsLeft (length old.frames.items) (length refs) left → Leads (OpensAt left old) (BeginsAt left place opened)
-  opens_begins is g n w run st = record {
+  pub opens_begins : IsOrdinary left → IsLeft (length old.frames.items) (length refs) left → Leads (OpensAt left old) (BeginsAt left place opened)
+  opens_begins plain is g n w run st = record {
     world = w;
     adds = adds_nothing w;
     holds = record {
@@ -235,6 +244,7 @@ module _ (old : Engine) (left : Left) (place : Place) (store : ListBindings) (re
       back = record { mark = place; store = t };
       is = place_now st.at.inside.saved st.at.inside.keeps;
       back_agrees = agrees_now st.at.registers st.at.agrees;
+      newest = ordinary_newest left st.at.registers.next_tag w plain;
       tried =
           subst (λ l. Tried g (kind_of left) st.at.registers.next_tag (open_in old) st.at.ways st.at.inside.lives l n w run)
           (sym (branches_same g (length old.frames.items) (length refs) (values_in (store_in old.store) refs) (values_in t refs) old.frames.items old.frames.items left st.at.registers is ready.sound.base.frames

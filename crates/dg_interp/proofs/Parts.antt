@@ -11,7 +11,7 @@ use Rattle.dg_meaning.specs.Path.{End, Moves}
 use Rattle.dg_meaning.specs.Moves.{begun, inside, enter, path_of, outcome, stop}
 use Rattle.dg_meaning.specs.Transcript.{Run}
 use Rattle.dg_meaning.specs.Context.{Live, Way as WayOn, cut_to, way_to}
-use Rattle.dg_meaning.specs.Keeps.{Stands, After, WentOn as LeftPart}
+use Rattle.dg_meaning.specs.Keeps.{Stands, After, WentOn as LeftPart, open_at}
 use Rattle.dg_meaning.proofs.Keeps.{stops_on}
 use Rattle.dg_unify.specs.Store.{Store, Saved, Back}
 use Rattle.dg_unify.specs.Engines.{Agrees}
@@ -218,7 +218,7 @@ module _ (old : Engine) (o : Choice) (choices : Vec Choice Global) (sound : IsSo
         ∙ cond-true (eqb c.tag tag) (Some (record { tag = c.tag; others = c.others; height = c.height }, ways_of os cs)) (way_to tag (ways_of os cs)) (eq-eqb c.tag tag (st.choice.tag ∙ the_tag)) in
         let pairs : Some (q.way, q.outer) ≡ Some (record { tag = c.tag; others = c.others; height = c.height }, ways_of os cs) = sym q.is ∙ same in
         let pair : (q.way, q.outer) ≡ (record { tag = c.tag; others = c.others; height = c.height }, ways_of os cs) = cc in
-        let count : length q.world.gathered ≡ c.height = q.gatherings ∙ ap (λ (x : WayOn × List WayOn). x.0.height) pair in
+        let count : length q.world.gathered ≡ open_at c.others c.height = q.gatherings ∙ ap (λ (x : WayOn × List WayOn). x.0.height) pair ∙ sym (ap (λ bs. open_at bs c.height) here) in
         let world = popped_world old o choices sound popped frames refs out store cut cut_refs closed back keeps g m ms c cs st.program st.keeps st.choice st.others w q.world st.world q.drops count in
         let outer : q.outer ≡ ways_of os cs = ap (λ (x : WayOn × List WayOn). x.1) pair in
         let others : q.way.others ≡ enter 0 0 r (steps_of final) ∷ [] = ap (λ (x : WayOn × List WayOn). x.0.others) pair ∙ here in

@@ -67,6 +67,7 @@ module _ (old : Engine) (query : Query) (args : Env) (place : Place) (sound : Is
     back = st.back;
     is = st.is;
     back_agrees = st.back_agrees;
+    newest = tt;
     tried = subst (λ l. TriedAt g st.at.registers st.at.ways st.at.inside.lives l n v run) (sym e) tried;
   }
 

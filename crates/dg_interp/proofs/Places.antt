@@ -2,12 +2,14 @@
 use Rattle.std.proofs.Common.{◌≡◌, ◌≢◌, ℕ, zero, suc, ◌+◌, ◌-◌, ◌≤◌, List, [], ◌∷◌, ◌++◌, Option, Some, Bool, true, false, refl, sym, ap, ◌∙◌, subst, arith, length, map, take, drop, get_or, length-take, append_assoc}
 use Rattle.std.specs.Prelude.{not, max, slice_get, reverse}
 use Rattle.std.proofs.lemmas.Option.{slice_get-get_or}
+use Rattle.std.specs.List.{All}
 use Rattle.std.proofs.lemmas.List.{append-nil, length-map, length-drop, drop-map, drop_all}
+use Rattle.std.proofs.lemmas.List.Elements.{All-drop}
 use Rattle.std.specs.declared.vec.Vec.{Vec}
 use Rattle.std.specs.declared.alloc.Global.{Global}
 use Rattle.dg_base.specs.declared.program.CoreProgram.{CoreProgram}
 use Rattle.dg_base.specs.declared.run.Ending.TheVariants.{Done}
-use Rattle.dg_meaning.specs.World.{Game, World, Event, Print, Answered, Retried, HasFailed, prints, noted}
+use Rattle.dg_meaning.specs.World.{Game, World, Gathering, Event, Print, Answered, Retried, HasFailed, prints, noted}
 use Rattle.dg_meaning.specs.Path.{Step, Answers, Cut, Registers, End, Branch, Kind, Plain, Rules, Shield, Gathers}
 use Rattle.dg_meaning.specs.Moves.{path_of, first_alone}
 use Rattle.dg_meaning.specs.Peaks.{Area, Heap, Trail, Aux, Keep}
@@ -25,14 +27,16 @@ use Rattle.dg_unify.specs.Listed.{fields_of}
 use Rattle.dg_unify.specs.declared.list.ListBindings.{ListBindings}
 use Rattle.dg_interp.specs.declared.frames.Query.{Query}
 use Rattle.dg_interp.specs.declared.frames.Mark.{Mark}
-use Rattle.dg_interp.specs.declared.frames.Mark.TheVariants.{Nothing, AnswerOf, CutTo, RefuseTo, Exhausted, LeavePart}
+use Rattle.dg_interp.specs.declared.frames.Mark.TheVariants.{Nothing, AnswerOf, CutTo, RefuseTo, Exhausted, LeavePart, Keep as KeepIn}
 use Rattle.dg_interp.specs.declared.frames.Frame.{Frame}
 use Rattle.dg_interp.specs.declared.frames.Choice.{Choice}
 use Rattle.dg_interp.specs.declared.engine.Engine.{Engine}
 use Rattle.dg_interp.specs.Frames.{values_in, mark_steps, frame_steps, steps_behind, steps_at, lives_of, ways_of, AreChoices, IsFrame, AreFrames, StandOn, GoBackTo, floor_of, all_left}
 use Rattle.dg_interp.specs.Engine.{store_in, limit_in, KeepsPlaces, Within, On, There, Sound, IsReady, Point, StandsAt, FailsAt, Adds, Then, Leads, older_than, Cuts, branches_left, SameLimits, WentOn, WentWrong, HasEndedSo, MarkPassed, Refused, FrameLeft, steps_of}
 use Rattle.dg_interp.specs.declared.outside.Outside.{Outside}
+use Rattle.dg_lists.specs.Formed.{IsFormed}
 use Rattle.dg_interp.specs.Outside.{row_of, InWorld, closed_to}
+use Rattle.dg_interp.specs.Gathering.{KeepsAt}
 use Rattle.dg_unify.specs.Engines.{Agrees}
 use Rattle.dg_interp.proofs.Links.{same_take, same_values, behind_same, behind_frame, behind_end, frames_take, choices_same, rest_older, choices_cut, lives_cut, ways_cut, back_cut, keeps_cut, stand_cut, stand_same, stand_floor, floor_within, cut_fewer}
 
@@ -62,13 +66,13 @@ pub world_closed : (out : Outside) (g : Game) (w v : World) (h : ℕ) → InWorl
 world_closed out g w v h is d count =
     let rows = out.gathered.rows in
     let left : length (drop d.count w.gathered) ≡ h = ap (λ (x : World). length x.gathered) (sym d.is) ∙ count in
-    let long : length rows ≡ length w.gathered = ap length is.1 ∙ length-map w.gathered row_of in
+    let long : length rows ≡ length w.gathered = ap length is.1.0 ∙ length-map w.gathered row_of in
     let same : drop (length rows - h) rows ≡ map row_of (drop d.count w.gathered) =
-    ap (drop (length rows - h)) is.1 ∙ drop-map row_of (length rows - h) w.gathered ∙ ap (λ n. map row_of (drop (n - h) w.gathered)) long ∙ ap (map row_of) (dropped_to d.count h w.gathered left) in
-    subst (InWorld (closed_to h out) g) (sym d.is) (is.0, same, is.2, is.3)
+    ap (drop (length rows - h)) is.1.0 ∙ drop-map row_of (length rows - h) w.gathered ∙ ap (λ n. map row_of (drop (n - h) w.gathered)) long ∙ ap (map row_of) (dropped_to d.count h w.gathered left) in
+    subst (InWorld (closed_to h out) g) (sym d.is) (is.0, (same, All-drop (λ (x : Gathering). All IsFormed x.values) d.count w.gathered is.1.1), is.2, is.3)
 
 pub open_still : (out : Outside) (g : Game) (w : World) → InWorld out g w → length out.gathered.rows ≡ length w.gathered
-open_still out g w is = ap length is.1 ∙ length-map w.gathered row_of
+open_still out g w is = ap length is.1.0 ∙ length-map w.gathered row_of
 
 -- as many are open as before
 pub world_still : (out : Outside) (g : Game) (w v : World) → InWorld out g w → Drops w v → length v.gathered ≡ length out.gathered.rows → InWorld out g v
@@ -211,9 +215,9 @@ not_false true h = refl
 not_false false h = cc
 
 -- the steps of a frame whose goals are done
-steps_done : (values : Env → List Value) (fs : List Frame) (f : Frame) (mark : Mark) → f.goals.now ≡ [] → f.mark ≡ mark → steps_at values fs f ≡ mark_steps mark f.tag (steps_behind values fs f.behind)
+steps_done : (values : Env → List Value) (fs : List Frame) (f : Frame) (mark : Mark) → f.goals.now ≡ [] → f.mark ≡ mark → steps_at values fs f ≡ mark_steps (values f.env) mark f.tag (steps_behind values fs f.behind)
 steps_done values fs f mark none is =
-    ap (λ (goals : _). frame_steps (values f.env) goals f.tag f.mark (steps_behind values fs f.behind)) none ∙ ap (λ m. mark_steps m f.tag (steps_behind values fs f.behind)) is
+    ap (λ (goals : _). frame_steps (values f.env) goals f.tag f.mark (steps_behind values fs f.behind)) none ∙ ap (λ m. mark_steps (values f.env) m f.tag (steps_behind values fs f.behind)) is
 
 abbrev pub marked_off : Engine → Engine
 marked_off e = record e { here = record e.here { mark = Nothing } }
@@ -291,6 +295,32 @@ module _ (old : Engine) (ready : IsReady old) (none : old.here.goals.now ≡ [])
       };
     };
     fewer = omega arith;
+  }
+
+  pub keep_ready : IsReady (marked_off old)
+  keep_ready = off_ready
+
+  -- what is gathered was answered
+  pub keep_leads : (t : ℕ) → old.here.mark ≡ KeepIn t → Leads (StandsAt old) (KeepsAt (marked_off old))
+  keep_leads t is g n w run st = record {
+    world = w;
+    adds = adds_nothing w;
+    holds = record {
+      at = there_in w st.at.inside.world st.at;
+      tag = t;
+      stands = subst (λ s. Stands g st.at.inside.lives st.at.ways (path_of s st.at.registers) n w run) (steps_done values fs old.here (KeepIn t) none is) st.stands;
+    };
+  }
+
+  pub value_passed : (t : ℕ) → old.here.mark ≡ KeepIn t → (new : Engine) → WentWrong (KeepsAt (marked_off old)) (marked_off old) new → branches_left new ≤ branches_left old → Refused old new
+  value_passed t is new h less = record {
+    wrong = record {
+      sound = h.sound;
+      left = h.left;
+      limits = record { heap = h.limits.heap; trail = h.limits.trail; aux = h.limits.aux; keep = h.limits.keep };
+      leads = leads_on (StandsAt old) (KeepsAt (marked_off old)) (FailsAt new) (keep_leads t is) h.leads;
+    };
+    fewer = less;
   }
 
   module _ (t : ℕ) (choices : Vec Choice Global) (part : Option ℕ) (cuts : Cuts t old.choices.items choices.items) where

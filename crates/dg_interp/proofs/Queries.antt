@@ -158,9 +158,9 @@ body_there [] i body is h = absurd (let no : None ≡ Some body = is in cc)
 body_there (c ∷ cs) zero body is h = subst IsBuiltBody (let same : Some c ≡ Some body = is in cc) (all_first IsBuiltBody c cs h)
 body_there (c ∷ cs) (suc i) body is h = body_there cs i body is (all_rest IsBuiltBody c cs h)
 
-marked : (many : Bool) (t tag : ℕ) (rest : List Step) → mark_steps (mark_of many t) tag rest ≡ first_alone many t rest
-marked true t tag rest = refl
-marked false t tag rest = refl
+marked : (values : List Value) (many : Bool) (t tag : ℕ) (rest : List Step) → mark_steps values (mark_of many t) tag rest ≡ first_alone many t rest
+marked values true t tag rest = refl
+marked values false t tag rest = refl
 
 -- ## The engine
 
@@ -367,7 +367,7 @@ module _ (value : Ref) (many : Bool) (old : Engine) (ready : IsReady old) where
             ap (λ vs. frame_steps vs goals.now (old.newest + 1) here.mark (steps_behind (values_in s2 ys) frames.items (length frames.items))) (values_now g r agrees)
             ∙ ap (λ l. frame_steps (env_of r) goals.now (old.newest + 1) here.mark l) steps_now
             ∙ ap (λ (l : List Goal). frame_steps (env_of r) l (old.newest + 1) here.mark (steps_of old)) goals_are
-            ∙ ap (λ l. goals_at (env_of r) (old.newest + 1) body.body ++ l) (marked many (old.newest + 1) (old.newest + 1) (steps_of old))
+            ∙ ap (λ l. goals_at (env_of r) (old.newest + 1) body.body ++ l) (marked _ many (old.newest + 1) (old.newest + 1) (steps_of old))
             ∙ ap (λ t. closure_steps many (env_of r) t body (steps_of old)) (sym tag)
 
         pub begins_body : old.newest + 1 + old.left < 2 ^ 64 → found ≡ true → WentOn from old begun_body

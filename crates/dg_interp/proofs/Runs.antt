@@ -128,7 +128,7 @@ finished_so r e n m s k i w run start left text same is t =
 
 -- a goal at hand where no goal is left
 limit_at : (e : Engine) (g : Game) (w : World) (run : Run) (st : StandsAt e g 0 w run) (goals : List Goal) → 0 < length goals →
-    Stands g st.at.inside.lives st.at.ways (path_of (goals_at (values_in (store_in e.store) e.refs.items e.here.env) e.here.tag goals ++ mark_steps e.here.mark e.here.tag (steps_behind (values_in (store_in e.store) e.refs.items) e.frames.items e.here.behind)) st.at.registers) 0 w run → Finished 0 w (End StepLimit) run
+    Stands g st.at.inside.lives st.at.ways (path_of (goals_at (values_in (store_in e.store) e.refs.items e.here.env) e.here.tag goals ++ mark_steps (values_in (store_in e.store) e.refs.items e.here.env) e.here.mark e.here.tag (steps_behind (values_in (store_in e.store) e.refs.items) e.frames.items e.here.behind)) st.at.registers) 0 w run → Finished 0 w (End StepLimit) run
 limit_at e g w run st [] some h = absurd (omega arith)
 limit_at e g w run st (x ∷ goals) some h = limited g st.at.inside.lives st.at.ways x _ e.here.tag _ st.at.registers w run h
 

@@ -71,7 +71,7 @@ starts_outside program limits dice world gathered thrown sites row stands none_o
       formed = places_formed 0 g.program.places;
       room = long ∙ sym stands.limit;
     },
-    ap (λ (x : Gathered). x.rows) is_open,
+    (ap (λ (x : Gathered). x.rows) is_open, λ k d lt. absurd (omega arith)),
     subst (λ words. HasDrawn thrown words 0) (sym dice_same) drawn,
     ap (λ (p : CoreProgram). replicate p.sites no_picks) same ∙ sym new,
   );

@@ -3,7 +3,7 @@ use Rattle.std.specs.Prelude.{ℕ, suc, ◌+◌, ◌^◌, ◌≡◌, ◌<◌, �
 use Rattle.std.specs.List.{All}
 use Rattle.dg_base.specs.declared.program.Goal.{Goal, Goal-F}
 use Rattle.dg_base.specs.declared.program.Goal.TheVariants.{Print as PrintGoal, Stop as StopGoal}
-use Rattle.dg_base.specs.declared.program.Goal.TheOpen.{Text, Print as PrintForm, Gap, GapN, Now, Quit, Stop, Input}
+use Rattle.dg_base.specs.declared.program.Goal.TheOpen.{Text, Print as PrintForm, Gap, GapN, Now, Quit, Stop, Input, Collect, Accumulate}
 use Rattle.dg_base.specs.declared.program.Term.{Term}
 use Rattle.dg_base.specs.declared.program.CoreProgram.{CoreProgram}
 use Rattle.dg_base.specs.Sound.{IsSound as IsSoundProgram}
@@ -41,7 +41,7 @@ use Rattle.dg_interp.specs.Lacks.{area_of}
 use Rattle.dg_interp.specs.Outside.{picks_in, InWorld, MayPick}
 use Rattle.dg_interp.specs.declared.engine.Settled.{Settled}
 use Rattle.dg_interp.specs.declared.engine.Settled.TheVariants as settled
-use Rattle.dg_interp.specs.Frames.{values_in, steps_at, kind_of, branches_of, AreChoices, IsFrame, AreFrames, StandOn, GoBackTo, lives_of, ways_of, noting, all_left}
+use Rattle.dg_interp.specs.Frames.{values_in, steps_at, kind_of, branches_of, AreChoices, IsFrame, AreFrames, StandOn, GoBackTo, lives_of, ways_of, noting, TakesNewest, all_left}
 
 -- ## What holds of an engine
 
@@ -312,6 +312,8 @@ IsAct x = Unit {0}
 -- A goal that needs room in the store alone.
 abbrev pub IsOnStore : Goal-F Goal → Type 0
 IsOnStore (Now place terms sets) = ⊥
+IsOnStore (Collect term goals into) = ⊥
+IsOnStore (Accumulate term goals into) = ⊥
 IsOnStore x = Unit {0}
 
 -- A goal was taken, and what it does is left to do.
@@ -374,6 +376,7 @@ pub record BeginsAt (left : Left) (place : Place) (e : Engine) (g : Game) (n : �
   pub back : Saved
   pub is : IsPlace e place back at.inside.saved
   pub back_agrees : Agrees back.store at.registers
+  pub newest : TakesNewest left at.registers.next_tag w
   pub tried : Tried g (kind_of left) at.registers.next_tag (open_in e) at.ways at.inside.lives
       (branches_of g (values_in (store_in e.store) e.refs.items) e.frames.items (length e.frames.items) left at.registers) n w run
 

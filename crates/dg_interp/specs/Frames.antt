@@ -2,21 +2,25 @@
 use Rattle.std.specs.Prelude.{ℕ, zero, suc, ◌+◌, ◌≡◌, ◌<◌, ◌≤◌, ◌++◌, min, eqb, List, [], ◌∷◌, Option, Some, None, Bool, true, false, length, map, take, drop, slice_get, if◌then◌else◌}
 use Rattle.std.specs.List.{All}
 use Rattle.dg_base.specs.declared.program.Goal.{Goal}
-use Rattle.dg_meaning.specs.Values.{Value}
-use Rattle.dg_meaning.specs.World.{Game}
-use Rattle.dg_meaning.specs.Path.{Step, Answers, Cut, Refuse, Back, Leave, Registers, Branch, Kind, Plain, Rules as RulesOf}
-use Rattle.dg_meaning.specs.Moves.{goals_at, first_alone, enter, list_branches, rule_branches}
-use Rattle.dg_meaning.specs.Context.{Live, Way as WayOn, cut_to}
+use Rattle.dg_base.specs.declared.program.Term.TheVariants.{Var as Var-Term}
+use Rattle.dg_meaning.specs.Values.{Value, value_of_var}
+use Rattle.dg_meaning.specs.World.{Game, World}
+use Rattle.dg_meaning.specs.Path.{Step, Answers, Cut, Refuse, Back, Keep, Leave, Registers, Whole, AsList, AsSum, Branch, TakeOut as TakeOutBranch, Kind, Plain, Rules as RulesOf}
+use Rattle.dg_meaning.specs.Moves.{path_of, goals_at, first_alone, inside, enter, list_branches, rule_branches}
+use Rattle.dg_meaning.specs.Context.{Live, Way as WayOn, tags_of, cut_to, IsNewest}
+use Rattle.dg_meaning.specs.Keeps.{open_at}
 use Rattle.dg_built.specs.Built.{AreBuilt, IsBuiltRule}
 use Rattle.dg_unify.specs.Store.{Store, Saved, told, Holds}
 use Rattle.dg_unify.specs.Engines.{Agrees, GoBackTo as GoBack}
 use Rattle.dg_unify.specs.declared.bindings.Ref.{Ref}
 use Rattle.dg_interp.specs.declared.frames.Env.{Env}
 use Rattle.dg_interp.specs.declared.frames.Mark.{Mark}
-use Rattle.dg_interp.specs.declared.frames.Mark.TheVariants.{Nothing, AnswerOf, CutTo, RefuseTo, Exhausted, LeavePart}
+use Rattle.dg_interp.specs.declared.frames.Mark.TheVariants.{Nothing, AnswerOf, CutTo, RefuseTo, Exhausted, LeavePart, Keep as KeepIn}
+use Rattle.dg_interp.specs.declared.frames.Whole.{Whole as TheWhole}
+use Rattle.dg_interp.specs.declared.frames.Whole.TheVariants.{List as InList, Sum}
 use Rattle.dg_interp.specs.declared.frames.Frame.{Frame}
 use Rattle.dg_interp.specs.declared.frames.Left.{Left}
-use Rattle.dg_interp.specs.declared.frames.Left.TheVariants.{Rules, Lists, Ways, Way, Behind}
+use Rattle.dg_interp.specs.declared.frames.Left.TheVariants.{Rules, Lists, Ways, Way, Behind, TakeOut}
 use Rattle.dg_interp.specs.declared.frames.Choice.{Choice}
 
 -- ## Values
@@ -31,18 +35,19 @@ values_in s refs env = map (told s) (stretch refs env)
 
 -- ## Steps
 
--- A mark, and the steps behind it.
-abbrev pub mark_steps : Mark → ℕ → List Step → List Step
-mark_steps Nothing tag rest = rest
-mark_steps (AnswerOf query) tag rest = Answers query.pred ∷ first_alone query.many tag rest
-mark_steps (CutTo t) tag rest = Cut t ∷ rest
-mark_steps (RefuseTo t) tag rest = Refuse t ∷ []
-mark_steps Exhausted tag rest = Back ∷ []
-mark_steps (LeavePart t outer) tag rest = Leave t outer ∷ rest
+-- A mark among these values, and the steps behind it.
+abbrev pub mark_steps : List Value → Mark → ℕ → List Step → List Step
+mark_steps values Nothing tag rest = rest
+mark_steps values (AnswerOf query) tag rest = Answers query.pred ∷ first_alone query.many tag rest
+mark_steps values (CutTo t) tag rest = Cut t ∷ rest
+mark_steps values (RefuseTo t) tag rest = Refuse t ∷ []
+mark_steps values Exhausted tag rest = Back ∷ []
+mark_steps values (LeavePart t outer) tag rest = Leave t outer ∷ rest
+mark_steps values (KeepIn t) tag rest = Keep t (Var-Term 0) values ∷ []
 
 -- Goals among these values, the mark behind them, and the steps behind that.
 abbrev pub frame_steps : List Value → List Goal → ℕ → Mark → List Step → List Step
-frame_steps values goals tag mark rest = goals_at values tag goals ++ mark_steps mark tag rest
+frame_steps values goals tag mark rest = goals_at values tag goals ++ mark_steps values mark tag rest
 
 -- The steps of a frame that was found, where these stand behind each link.
 abbrev pub found_steps : (Env → List Value) → Option Frame → (ℕ → List Step) → List Step
@@ -69,6 +74,11 @@ abbrev pub kind_of : Left → Kind
 kind_of (Rules query args rules) = RulesOf query.pred
 kind_of other = Plain
 
+-- What a gathering is taken out as.
+abbrev pub whole_of : TheWhole → Whole
+whole_of InList = AsList
+whole_of Sum = AsSum
+
 -- The branches that a choice has left, on so many frames.
 abbrev pub branches_of : Game → (Env → List Value) → List Frame → ℕ → Left → Registers → List Branch
 branches_of g values fs height (Rules query args rules) registers = rule_branches g query.pred (values args) query.many
@@ -78,6 +88,8 @@ branches_of g values fs height (Ways first other) registers = enter 10 0 registe
     ∷ enter 0 0 registers (steps_at values fs other) ∷ []
 branches_of g values fs height (Way frame) registers = enter 0 0 registers (steps_at values fs frame) ∷ []
 branches_of g values fs height (Behind frame cut) registers = enter 0 0 registers (steps_at values fs frame) ∷ []
+branches_of g values fs height (TakeOut whole into frame) registers = TakeOutBranch registers.next_tag (whole_of whole) (value_of_var (values into) 0)
+    (path_of (steps_at values fs frame) (inside 0 registers)) ∷ []
 
 -- How many branches a choice has left.
 abbrev pub left_in : Left → ℕ
@@ -86,6 +98,7 @@ left_in (Lists env tag lists) = length lists.now
 left_in (Ways first other) = 2
 left_in (Way frame) = 1
 left_in (Behind frame cut) = 1
+left_in (TakeOut whole into frame) = 1
 
 -- There is something in a list.
 abbrev pub has_some : {A : Type 0} → List A → Bool
@@ -113,6 +126,17 @@ pub record BeginsWith (height : ℕ) (frame : Frame) (others left : Left) : Type
 abbrev pub IsNoPart : Left → Type 0
 IsNoPart (Behind frame cut) = ⊥
 IsNoPart other = Unit {0}
+
+-- These begin a choice: they are neither such a way on, nor one on which a gathering is taken out.
+abbrev pub IsOrdinary : Left → Type 0
+IsOrdinary (Behind frame cut) = ⊥
+IsOrdinary (TakeOut whole into frame) = ⊥
+IsOrdinary other = Unit {0}
+
+-- Where a gathering is taken out, it is the newest one in a world, with this tag.
+abbrev pub TakesNewest : Left → ℕ → World → Type 0
+TakesNewest (TakeOut whole into frame) t w = IsNewest t (tags_of w.gathered)
+TakesNewest other t w = Unit {0}
 
 -- The oldest tag that was cut inside an open stoppable part; the cut waits until the part is left.
 abbrev pub cut_of : Left → Option ℕ
@@ -150,7 +174,7 @@ pub record IsChoice (g : Game) (refs : List Ref) (fs : List Frame) (o : Choice) 
   pub kind : c.kind ≡ kind_of o.left
   pub tag : c.tag ≡ o.tag
   pub others : c.others ≡ branches_of g (values_in m.store refs) fs o.height o.left registers
-  pub height : c.height ≡ o.gathered
+  pub height : open_at c.others c.height ≡ o.gathered
   pub ways_on : c.ways_on ≡ ws
 
 -- An engine's choices, the newest first, are those of the meaning.
@@ -182,6 +206,7 @@ IsLeft height n (Lists env tag lists) = All AreBuilt lists.now × EndsBy n env
 IsLeft height n (Ways first other) = IsFrame height n first × IsFrame height n other
 IsLeft height n (Way frame) = IsFrame height n frame
 IsLeft height n (Behind frame cut) = IsFrame height n frame
+IsLeft height n (TakeOut whole into frame) = IsFrame height n frame × EndsBy n into
 
 -- A cut that waits isn't younger than its stoppable part.
 abbrev pub IsNoted : ℕ → Option ℕ → Type 0

@@ -18,3 +18,4 @@ pub mod Wording
 pub mod Subjects
 pub mod Changing
 pub mod Made
+pub mod Gathering

@@ -16,6 +16,7 @@ use Rattle.dg_world.specs.Worlds.{StandsFor}
 use Rattle.dg_choose.specs.Dice.{HasDrawn}
 use Rattle.dg_choose.specs.Site.{picks_of}
 use Rattle.dg_world.specs.declared.world.World.{World as FactsWorld}
+use Rattle.dg_lists.specs.Formed.{IsFormed}
 use Rattle.dg_interp.specs.declared.lack.Lack.{Lack}
 use Rattle.dg_interp.specs.declared.lack.Lack.TheVariants as lack
 use Rattle.dg_interp.specs.declared.outside.Outside.{Outside}
@@ -27,6 +28,10 @@ outline program keep = outline_of program.places (length program.objects) keep
 -- The cells of what was gathered, one value after another.
 abbrev pub row_of : Gathering → List Cell
 row_of gathering = flat_map cells_of gathering.values
+
+-- Rows are those of gatherings, whose values are values of the language.
+abbrev pub HaveGathered : List (List Cell) → List Gathering → Type 0
+HaveGathered rows gatherings = (rows ≡ map row_of gatherings) × All (λ (g : Gathering). All IsFormed g.values) gatherings
 
 -- What was picked at each site.
 abbrev pub picks_in : Outside → List Picks
@@ -40,7 +45,7 @@ pub record HasSet (world : FactsWorld) (row : ℕ) (program : CoreProgram) (fact
 
 -- What is outside stands for what a world has: what is set, what was gathered, the dice words that were drawn, and what was picked.
 abbrev pub InWorld : Outside → Game → World → Type 0
-InWorld out g w = HasSet out.world (length out.row.items) g.program w.facts × (out.gathered.rows ≡ map row_of w.gathered) ×
+InWorld out g w = HasSet out.world (length out.row.items) g.program w.facts × HaveGathered out.gathered.rows w.gathered ×
     HasDrawn out.dice g.dice w.dice × (w.sites ≡ picks_in out)
 
 -- ## Picks

@@ -8,7 +8,7 @@ ghost use Rattle.dg_interp.specs.declared.frames.Mark.TheVariants.{Nothing as No
 ghost use Rattle.dg_interp.specs.declared.frames.Left.TheVariants.{Rules, Lists, Ways, Way};
 ghost use Rattle.dg_unify.specs.declared.bindings.Full.TheVariants.{OutOfMemory as WantOfMemory};
 ghost use Rattle.dg_interp.specs.declared.frames.Left.{Left as TheLeft};
-ghost use Rattle.dg_interp.specs.Frames.{IsFrame, BeginsWith, IsNoPart, cut_of, noting, IsLeft, stays_with, left_in, floor_of, stretch as the_stretch, values_in, EndsBy, cells_if};
+ghost use Rattle.dg_interp.specs.Frames.{IsFrame, BeginsWith, IsOrdinary, cut_of, noting, IsLeft, stays_with, left_in, floor_of, stretch as the_stretch, values_in, EndsBy, cells_if};
 ghost use Rattle.dg_interp.specs.Engine.{Starts, left_by, IsSound, IsReady, StandsAt, FailsAt, TakesAt, BeginsAt, OpensAt, IsPushed, HasPlace, Cuts, Passes, Settles, FrameLeft, GoesToGoal, GoesBack, Retries, Taken, Branches, WentOn, Tries, FullAt, LackAt, store_in, open_in, pieces_at, WrotePrinted, StaysBut, branches_left, KeepsPlaces, kept_if};
 ghost use Rattle.dg_base.specs.declared.program.CoreProgram.{CoreProgram as Program};
 ghost use Rattle.dg_base.specs.declared.run.Limits.{Limits as TheLimits};
@@ -24,6 +24,7 @@ mod acting;
 mod changing;
 mod comparing;
 mod control;
+mod gathering;
 mod giving;
 mod passing;
 mod querying;
@@ -283,36 +284,42 @@ impl<'p> Engine<'p> {
         self.outside.gathered.height().0
     }
 
-    /// Does the mark behind the goals at hand, of which none is left; false where what is negated was answered.
-    fn pass_mark(&mut self) -> bool
+    /// Does the mark behind the goals at hand, of which none is left; false where that fails.
+    fn pass_mark(&mut self) -> Result<bool, Lack>
         requires ready { IsReady self.old }
         requires done { self.old.here.goals.now ≡ [] }
-        ensures passed { Passes result self.old self.new }
+        ensures passed { IfOk result (λ on. Passes on self.old self.new) }
+        ensures lacks { IfErr result (λ lack. LackAt (StandsAt self.old) self.old lack) }
+        ensures left { self.new.left ≡ self.old.left }
     {
         let mark = self.here.mark;
         self.here.mark = Mark::Nothing;
         match mark {
-            Mark::Nothing => true,
+            Mark::Nothing => Ok(true),
             Mark::AnswerOf(query) => {
                 if !query.many {
                     cut(&mut self.choices, self.here.tag);
                 }
-                true
+                Ok(true)
             }
             Mark::CutTo(tag) => {
                 cut(&mut self.choices, tag);
-                true
+                Ok(true)
             }
             Mark::RefuseTo(tag) => {
                 cut(&mut self.choices, tag);
-                false
+                Ok(false)
             }
-            Mark::Exhausted => false,
+            Mark::Exhausted => Ok(false),
             Mark::LeavePart(tag, outer) => {
                 cut(&mut self.choices, tag);
                 self.stoppable = outer;
-                true
+                Ok(true)
             }
+            Mark::Keep(_) => match self.keep_value() {
+                Ok(()) => Ok(false),
+                Err(lack) => Err(lack),
+            },
         }
     }
 
@@ -329,21 +336,25 @@ impl<'p> Engine<'p> {
         self.frames.truncate(needed);
     }
 
-    /// Does the marks up to the next goal, the end, or an answer of what is negated.
-    fn settle(&mut self) -> Settled
+    /// Does the marks up to the next goal, the end, or one that fails.
+    fn settle(&mut self) -> Result<Settled, Lack>
         requires ready { IsReady self.old }
-        ensures settles { Settles result self.old self.new }
+        ensures settles { IfOk result (λ settled. Settles settled self.old self.new) }
+        ensures lacks { IfErr result (λ lack. LackAt (StandsAt self.old) self.old lack) }
+        ensures left { self.new.left ≡ self.old.left }
     {
         while self.here.goals.is_empty() {
-            if !self.pass_mark() {
-                return Settled::Refused;
+            match self.pass_mark() {
+                Err(lack) => return Err(lack),
+                Ok(false) => return Ok(Settled::Refused),
+                Ok(true) => {}
             }
             if self.here.behind == 0 {
-                return Settled::Done;
+                return Ok(Settled::Done);
             }
             self.leave_frame();
         }
-        Settled::Goal
+        Ok(Settled::Goal)
     }
 
     /// The frame at hand.
@@ -468,7 +479,7 @@ impl<'p> Engine<'p> {
         requires frame { IsFrame (length self.old.frames.items) (length self.old.refs.items) frame }
         requires others { IsLeft (length self.old.frames.items) (length self.old.refs.items) others }
         requires stays { stays ≡ stays_with others }
-        requires plain { IsNoPart others }
+        requires plain { IsOrdinary others }
         requires place { HasPlace self.old place }
         ensures begun { OnOk result ((all : TheLeft) → BeginsWith (length self.old.frames.items) frame.entry others.entry all →
             WentOn (BeginsAt all place self.old) self.old self.new) }
@@ -561,6 +572,7 @@ impl<'p> Engine<'p> {
                 self.here = frame;
                 Ok(true)
             }
+            Left::TakeOut(whole, into, frame) => self.take_out(whole, into, frame),
         }
     }
 
@@ -618,9 +630,10 @@ impl<'p> Engine<'p> {
     {
         'answers: loop {
             match self.settle() {
-                Settled::Goal => return Ok(None),
-                Settled::Done => return Ok(Some(Ending::Done)),
-                Settled::Refused => match self.back() {
+                Err(lack) => return Err(lack),
+                Ok(Settled::Goal) => return Ok(None),
+                Ok(Settled::Done) => return Ok(Some(Ending::Done)),
+                Ok(Settled::Refused) => match self.back() {
                     Err(full) => return Err(lacking(full)),
                     Ok(true) => {}
                     Ok(false) => return Ok(Some(Ending::Failed)),
@@ -632,6 +645,7 @@ impl<'p> Engine<'p> {
     /// Opens a choice with these branches; false where the run has failed.
     fn open(&mut self, left: Left<'p>) -> Result<bool, Full>
         requires ready { IsReady self.old }
+        requires ordinary { IsOrdinary left }
         requires left { IsLeft (length self.old.frames.items) (length self.old.refs.items) left }
         requires some { stays_with left ≡ true }
         requires room { self.old.newest + 1 + self.old.left < 2 ^ 64 }

@@ -17,7 +17,7 @@ pub struct Env {
     pub len: usize,
 }
 
-/// What is done behind goals before what stands behind them.
+/// What is done behind goals before what stands behind them; the first value at hand is kept in the gathering of a tag.
 #[derive(Clone, Copy, Drop)]
 pub enum Mark {
     Nothing,
@@ -26,6 +26,14 @@ pub enum Mark {
     RefuseTo(u64),
     Exhausted,
     LeavePart(u64, Option<u64>),
+    Keep(u64),
+}
+
+/// What a gathering is taken out as: the list of its values, or their sum.
+#[derive(Clone, Copy, Drop)]
+pub enum Whole {
+    List,
+    Sum,
 }
 
 /// Goals with the values of their rule's variables and the tag that their (just) cuts to, the mark behind them, and the
@@ -39,8 +47,9 @@ pub struct Frame<'p> {
     pub behind: usize,
 }
 
-/// The branches that a choice has left: rules of a query with its arguments, lists of goals, two ways on, one, or the way on
-/// behind a stoppable part that is open, with the oldest tag that was cut inside it.
+/// The branches that a choice has left: rules of a query with its arguments, lists of goals, two ways on, one, the way on
+/// behind a stoppable part that is open, with the oldest tag that was cut inside it, or one on which a gathering is taken out
+/// and unified with a value.
 #[derive(Clone, Copy, Drop)]
 pub enum Left<'p> {
     Rules(Query, Env, &'p [Rule]),
@@ -48,6 +57,7 @@ pub enum Left<'p> {
     Ways(Frame<'p>, Frame<'p>),
     Way(Frame<'p>),
     Behind(Frame<'p>, Option<u64>),
+    TakeOut(Whole, Env, Frame<'p>),
 }
 
 /// A choice with branches left, the numbers of frames, of Refs and of open gatherings that stand behind them, the place of

@@ -12,8 +12,8 @@ ghost use Rattle.dg_interp.specs.Terms.{Overflows, BothMade, ThreeMade, Written,
 use dg_base::{CoreProgram, Simple, Term};
 use dg_unify::{Bindings, Full, Ref};
 
-// The value of a variable; one without a value is the empty list.
-fn write_var<B: Bindings>(store: &mut B, env: &[Ref], var: u16) -> Result<Ref, Full>
+/// The value of a variable; one without a value is the empty list.
+pub fn write_var<B: Bindings>(store: &mut B, env: &[Ref], var: u16) -> Result<Ref, Full>
     requires { All (Holds (B.meaning store.old)) env.now }
     ensures kept { Kept (B.meaning store.old) (B.meaning store.new) }
     ensures saved { (ms : List Saved) → B.saves store.old ms → B.saves store.new ms }

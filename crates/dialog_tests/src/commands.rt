@@ -94,8 +94,30 @@ const APPENDED: &str = "(program entry point) *(append $A $B [1 2]) $A $B (line)
 const SPLIT: &str =
     "(program entry point) (split [a b c d] by [c b] into $X and $Y) $X $Y ~(@c is one of $X)";
 
+// The cut leaves the inner gathering half full.
+const CUT_GATHERING: &str =
+    "(p 1)\n(a) (collect $X) *(p $X) (just) (fail) (into $)\n(a) no\n(program entry point) (collect $Y) { ($Y = 5) (or) (a) ($Y = 6) } (into $L) $L\n";
+
+const LARGE_SUM: &str =
+    "(p 16383)\n(p 1)\n(program entry point) (if) (accumulate $X) *(p $X) (into $N) (then) $N (else) large (endif)\n";
+
+const COPIES: &str =
+    "(p 1)\n(p $)\n(program entry point) (collect [$X $X]) *(p $X) (into [$A [$B $C] | $D]) ($B = 2) $A $B $C $D (accumulate 3) *(p $) (into $N) $N\n";
+
+const GATHERS_FOREVER: &str = "(program entry point) x (collect y) (repeat forever) (into $)\n";
+
 // The words of the command, the source, the status and the transcript.
-const TRANSCRIPTS: [(&str, &str, u8, &str); 32] = [
+const TRANSCRIPTS: [(&str, &str, u8, &str); 37] = [
+    ("debug p.dg", CUT_GATHERING, 0, "[5]\n"),
+    ("debug p.dg", LARGE_SUM, 0, "large\n"),
+    ("debug p.dg", COPIES, 0, "[1 1] 2 $ [] 6\n"),
+    ("debug p.dg", GATHERS_FOREVER, 3, "x\n[Aux limit]\n"),
+    (
+        "debug p.dg",
+        "(program entry point) (collect $X) *(p $X) (into $L) $L",
+        0,
+        "[]\n",
+    ),
     ("debug p.dg", PARTS, 0, "a\nc d e\n"),
     ("debug p.dg --dice 7", DIE, 0, "4\n"),
     ("debug p.dg", QUOTIENT, 0, "3 1\n"),

@@ -6,7 +6,7 @@ ghost use Rattle.dg_interp.specs.Engine.{IsReady, TakesAt, Branches, FullAt, Lac
 ghost use Rattle.dg_interp.specs.Outside.{picks_in, MayPick};
 
 use super::Engine;
-use crate::frames::{Frame, Query};
+use crate::frames::{Frame, Query, Whole};
 use crate::lack::{Lack, stored};
 use dg_base::Goal;
 use dg_unify::Full;
@@ -73,7 +73,13 @@ impl<'p> Engine<'p> {
     {
         match goal {
             Goal::Now(place, terms, sets) => self.change(*place, terms.as_slice(), *sets),
-            _ => stored(self.act_on_store(goal, again)),
+            Goal::Collect(term, goals, into) => {
+                self.gather(Whole::List, term, goals.as_slice(), into)
+            }
+            Goal::Accumulate(term, goals, into) => {
+                self.gather(Whole::Sum, term, goals.as_slice(), into)
+            }
+            goal => stored(self.act_on_store(goal, again)),
         }
     }
 }

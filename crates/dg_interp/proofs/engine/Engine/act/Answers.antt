@@ -1,13 +1,9 @@
-use Rattle.dg_interp.specs.Engine.{TakesAt, Branches}
-use Rattle.dg_interp.proofs.Changes.{on_store}
-use Rattle.dg_interp.proofs.Runs.{stored_done, stored_lacks}
+use Rattle.dg_interp.specs.declared.frames.Whole.TheVariants.{List as InList, Sum as InSum}
+use Rattle.dg_interp.proofs.Controls.{gathering_built}
 use Rattle.dg_interp.proofs.engine.Engine.act.Goals as goal
 
-pub act_on_store-requires-clause-store : goal.act_on_store-requires-clause-store
-act_on_store-requires-clause-store c = on_store c.args.goal.now c.in_default.not-Now
+pub gather-requires-clause-built : goal.gather-requires-clause-built
+gather-requires-clause-built c = rw c.as_slice.ensures (gathering_built InList c.in-Collect.term c.in-Collect.goals c.in-Collect.into (rw c.in-Collect.is at c.requires.built))
 
-pub returns-in_default-clause-done : goal.returns-in_default-clause-done
-returns-in_default-clause-done c = rw c.stored.ensures (stored_done (λ found. Branches (TakesAt c.args.goal.now c.args.self.now) found c.args.self.now c.act_on_store.new.self) c.act_on_store.result c.act_on_store.ensures.done)
-
-pub returns-in_default-clause-lacks : goal.returns-in_default-clause-lacks
-returns-in_default-clause-lacks c = rw c.stored.ensures (stored_lacks (TakesAt c.args.goal.now c.args.self.now) c.args.self.now c.act_on_store.result c.act_on_store.ensures.full)
+pub gather-requires-in-Accumulate-clause-built : goal.gather-requires-in-Accumulate-clause-built
+gather-requires-in-Accumulate-clause-built c = rw c.as_slice-in-Accumulate.ensures (gathering_built InSum c.in-Accumulate.term c.in-Accumulate.goals c.in-Accumulate.into (rw c.in-Accumulate.is at c.requires.built))

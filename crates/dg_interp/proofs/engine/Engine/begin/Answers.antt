@@ -45,3 +45,15 @@ begin_frame-requires-clause-place c = c.requires.place
 
 pub returns-in-Behind-clause-tried : goal.returns-in-Behind-clause-tried
 returns-in-Behind-clause-tried c = rw c.in-Behind.is (part_begun c.args.self.now c.in-Behind.frame c.in-Behind.field-1 c.args.place c.requires.sound (rw c.in-Behind.is at c.requires.left))
+
+pub take_out-requires-clause-left : goal.take_out-requires-clause-left
+take_out-requires-clause-left c = rw c.in-TakeOut.is at c.requires.left
+
+pub returns-in-TakeOut-clause-tried : goal.returns-in-TakeOut-clause-tried
+returns-in-TakeOut-clause-tried c = rw c.in-TakeOut.is (c.take_out.ensures.tried c.args.place)
+
+pub returns-in-TakeOut-clause-full : goal.returns-in-TakeOut-clause-full
+returns-in-TakeOut-clause-full c = rw c.in-TakeOut.is (c.take_out.ensures.full c.args.place)
+
+pub returns-in-TakeOut-clause-fewer : goal.returns-in-TakeOut-clause-fewer
+returns-in-TakeOut-clause-fewer c = rw c.in-TakeOut.is c.take_out.ensures.fewer

@@ -16,7 +16,7 @@ returns-in-Err-clause-full c =
     let e = record old { store = c.mark-place.new.self; newest = old.newest + 1 } in
     let k = c.mark-place.ensures.kept in
     full_from (OpensAt c.args.left old) (BeginsAt c.args.left c.mark-place.result e) (store_in old.store) (store_in c.mark-place.new.self) c.in-Err.e k.heap_limit k.trail_limit
-    (opens_begins old c.args.left c.mark-place.result c.mark-place.new.self c.requires.ready k c.mark-place.ensures.same c.mark-place.ensures.saved c.requires.left) c.in-Err.ensures.full
+    (opens_begins old c.args.left c.mark-place.result c.mark-place.new.self c.requires.ready k c.mark-place.ensures.same c.mark-place.ensures.saved c.requires.ordinary c.requires.left) c.in-Err.ensures.full
 
 pub returns-in-Ok-true-clause-opened : goal.returns-in-Ok-true-clause-opened
 returns-in-Ok-true-clause-opened c =
@@ -24,7 +24,7 @@ returns-in-Ok-true-clause-opened c =
     let e = record old { store = c.mark-place.new.self; newest = old.newest + 1 } in
     let k = c.mark-place.ensures.kept in
     went_on_from (OpensAt c.args.left old) (BeginsAt c.args.left c.mark-place.result e) old e c.begin.new.self refl (opened_limits old c.args.left c.mark-place.result c.mark-place.new.self c.requires.ready k c.mark-place.ensures.same c.mark-place.ensures.saved)
-    (opens_begins old c.args.left c.mark-place.result c.mark-place.new.self c.requires.ready k c.mark-place.ensures.same c.mark-place.ensures.saved c.requires.left) (rw c.in-Ok-true.field-0-test at c.in-Ok-true.ensures.tried)
+    (opens_begins old c.args.left c.mark-place.result c.mark-place.new.self c.requires.ready k c.mark-place.ensures.same c.mark-place.ensures.saved c.requires.ordinary c.requires.left) (rw c.in-Ok-true.field-0-test at c.in-Ok-true.ensures.tried)
 
 pub returns-in-Ok-false-clause-full : goal.returns-in-Ok-false-clause-full
 returns-in-Ok-false-clause-full c =
@@ -32,7 +32,7 @@ returns-in-Ok-false-clause-full c =
     let e = record old { store = c.mark-place.new.self; newest = old.newest + 1 } in
     let k = c.mark-place.ensures.kept in
     let wrong = went_wrong_from (OpensAt c.args.left old) (BeginsAt c.args.left c.mark-place.result e) old e c.begin.new.self refl (opened_limits old c.args.left c.mark-place.result c.mark-place.new.self c.requires.ready k c.mark-place.ensures.same c.mark-place.ensures.saved)
-    (opens_begins old c.args.left c.mark-place.result c.mark-place.new.self c.requires.ready k c.mark-place.ensures.same c.mark-place.ensures.saved c.requires.left) (rw c.in-Ok-false.field-0-test at c.in-Ok-false.ensures.tried) in
+    (opens_begins old c.args.left c.mark-place.result c.mark-place.new.self c.requires.ready k c.mark-place.ensures.same c.mark-place.ensures.saved c.requires.ordinary c.requires.left) (rw c.in-Ok-false.field-0-test at c.in-Ok-false.ensures.tried) in
     full_made (OpensAt c.args.left old) (FailsAt c.begin.new.self) (store_in old.store) (store_in c.begin.new.self.store) c.back.result wrong.limits.heap wrong.limits.trail wrong.leads c.back.ensures.full
 
 pub returns-in-Ok-false-clause-opened : goal.returns-in-Ok-false-clause-opened
@@ -41,5 +41,5 @@ returns-in-Ok-false-clause-opened c =
     let e = record old { store = c.mark-place.new.self; newest = old.newest + 1 } in
     let k = c.mark-place.ensures.kept in
     let wrong = went_wrong_from (OpensAt c.args.left old) (BeginsAt c.args.left c.mark-place.result e) old e c.begin.new.self refl (opened_limits old c.args.left c.mark-place.result c.mark-place.new.self c.requires.ready k c.mark-place.ensures.same c.mark-place.ensures.saved)
-    (opens_begins old c.args.left c.mark-place.result c.mark-place.new.self c.requires.ready k c.mark-place.ensures.same c.mark-place.ensures.saved c.requires.left) (rw c.in-Ok-false.field-0-test at c.in-Ok-false.ensures.tried) in
+    (opens_begins old c.args.left c.mark-place.result c.mark-place.new.self c.requires.ready k c.mark-place.ensures.same c.mark-place.ensures.saved c.requires.ordinary c.requires.left) (rw c.in-Ok-false.field-0-test at c.in-Ok-false.ensures.tried) in
     back_made (OpensAt c.args.left old) (FailsAt c.begin.new.self) old c.begin.new.self c.back.new.self wrong.left wrong.limits wrong.leads c.back.result c.back.ensures.back

@@ -1,23 +1,38 @@
-use Rattle.dg_interp.proofs.Places.{not_true, not_false, nothing_passed, answer_passed, cut_passed, tag_passed, refused, back_passed, part_left}
+use Rattle.std.proofs.Common.{refl}
+use Rattle.dg_interp.specs.Engine.{StandsAt}
+use Rattle.dg_interp.specs.Gathering.{KeepsAt}
+use Rattle.dg_interp.proofs.Places.{not_true, not_false, nothing_passed, answer_passed, cut_passed, tag_passed, refused, back_passed, part_left, marked_off, keep_ready, keep_leads, value_passed}
+use Rattle.dg_interp.proofs.Gathered.{lacks_from}
 use Rattle.dg_interp.proofs.engine.Engine.pass_mark.Goals as goal
 
-pub returns-in-Nothing : goal.returns-in-Nothing
-returns-in-Nothing c = record { passed = nothing_passed c.args.self.now c.requires.ready c.requires.done c.in-Nothing.is }
+pub returns-in-Nothing-clause-passed : goal.returns-in-Nothing-clause-passed
+returns-in-Nothing-clause-passed c = nothing_passed c.args.self.now c.requires.ready c.requires.done c.in-Nothing.is
 
-pub returns-then-not-query : goal.returns-then-not-query
-returns-then-not-query c = record { passed = cut_passed c.args.self.now c.requires.ready c.requires.done c.in-AnswerOf.query c.cut.new.choices c.in-AnswerOf.is (not_true _ c.if-not-query.true) c.cut.ensures }
+pub returns-then-not-query-clause-passed : goal.returns-then-not-query-clause-passed
+returns-then-not-query-clause-passed c = cut_passed c.args.self.now c.requires.ready c.requires.done c.in-AnswerOf.query c.cut.new.choices c.in-AnswerOf.is (not_true _ c.if-not-query.true) c.cut.ensures
 
-pub returns-else-not-query : goal.returns-else-not-query
-returns-else-not-query c = record { passed = answer_passed c.args.self.now c.requires.ready c.requires.done c.in-AnswerOf.query c.in-AnswerOf.is (not_false _ c.if-not-query.false) }
+pub returns-else-not-query-clause-passed : goal.returns-else-not-query-clause-passed
+returns-else-not-query-clause-passed c = answer_passed c.args.self.now c.requires.ready c.requires.done c.in-AnswerOf.query c.in-AnswerOf.is (not_false _ c.if-not-query.false)
 
-pub returns-in-CutTo : goal.returns-in-CutTo
-returns-in-CutTo c = record { passed = tag_passed c.args.self.now c.requires.ready c.requires.done c.in-CutTo.tag c.cut-in-CutTo.new.choices c.cut-in-CutTo.ensures c.in-CutTo.is }
+pub returns-in-CutTo-clause-passed : goal.returns-in-CutTo-clause-passed
+returns-in-CutTo-clause-passed c = tag_passed c.args.self.now c.requires.ready c.requires.done c.in-CutTo.tag c.cut-in-CutTo.new.choices c.cut-in-CutTo.ensures c.in-CutTo.is
 
-pub returns-in-RefuseTo : goal.returns-in-RefuseTo
-returns-in-RefuseTo c = record { passed = refused c.args.self.now c.requires.ready c.requires.done c.in-RefuseTo.tag c.cut-in-RefuseTo.new.choices c.args.self.now.stoppable c.cut-in-RefuseTo.ensures c.in-RefuseTo.is }
+pub returns-in-RefuseTo-clause-passed : goal.returns-in-RefuseTo-clause-passed
+returns-in-RefuseTo-clause-passed c = refused c.args.self.now c.requires.ready c.requires.done c.in-RefuseTo.tag c.cut-in-RefuseTo.new.choices c.args.self.now.stoppable c.cut-in-RefuseTo.ensures c.in-RefuseTo.is
 
-pub returns-in-Exhausted : goal.returns-in-Exhausted
-returns-in-Exhausted c = record { passed = back_passed c.args.self.now c.requires.ready c.requires.done c.in-Exhausted.is }
+pub returns-in-Exhausted-clause-passed : goal.returns-in-Exhausted-clause-passed
+returns-in-Exhausted-clause-passed c = back_passed c.args.self.now c.requires.ready c.requires.done c.in-Exhausted.is
 
-pub returns-in-LeavePart : goal.returns-in-LeavePart
-returns-in-LeavePart c = record { passed = part_left c.args.self.now c.requires.ready c.requires.done c.in-LeavePart.tag c.cut-in-LeavePart.new.choices c.in-LeavePart.outer c.cut-in-LeavePart.ensures c.in-LeavePart.is }
+pub returns-in-LeavePart-clause-passed : goal.returns-in-LeavePart-clause-passed
+returns-in-LeavePart-clause-passed c = part_left c.args.self.now c.requires.ready c.requires.done c.in-LeavePart.tag c.cut-in-LeavePart.new.choices c.in-LeavePart.outer c.cut-in-LeavePart.ensures c.in-LeavePart.is
+
+pub keep_value-requires : goal.keep_value-requires
+keep_value-requires c = record { ready = keep_ready c.args.self.now c.requires.ready c.requires.done }
+
+pub returns-in-Ok-clause-passed : goal.returns-in-Ok-clause-passed
+returns-in-Ok-clause-passed c = value_passed c.args.self.now c.requires.ready c.requires.done c.in-Keep.field-0 c.in-Keep.is c.keep_value.new.self c.in-Ok.ensures.kept c.in-Ok.ensures.fewer
+
+pub returns-in-Err-clause-lacks : goal.returns-in-Err-clause-lacks
+returns-in-Err-clause-lacks c =
+    let old = c.args.self.now in
+    lacks_from (StandsAt old) (KeepsAt (marked_off old)) old (marked_off old) (record { heap = refl; trail = refl; aux = refl; keep = refl }) (keep_leads old c.requires.ready c.requires.done c.in-Keep.field-0 c.in-Keep.is) c.in-Err.lack c.in-Err.ensures.lacks

@@ -1,0 +1,200 @@
+-- What is kept in a gathering.
+use Rattle.std.proofs.Common.{◌≡◌, ℕ, zero, suc, ◌+◌, ◌<◌, ◌≤◌, List, [], ◌∷◌, ◌++◌, Option, Some, None, refl, sym, ap, ◌∙◌, subst, arith, length, map, append_assoc}
+use Rattle.std.specs.Prelude.{eqb, max, if◌then◌else◌}
+use Rattle.std.specs.List.{All, flat_map, sum_by}
+use Rattle.std.proofs.lemmas.Bool.{cond-true, eq-eqb}
+use Rattle.std.proofs.lemmas.List.Concat.{flat_map-cons, length-flat_map}
+use Rattle.std.proofs.lemmas.List.{append-nil}
+use Rattle.std.proofs.lemmas.List.Sums.{sum_by-cons}
+use Rattle.std.proofs.lemmas.List.Elements.{All-cons, All-push}
+use Rattle.dg_base.specs.declared.cells.Cell.{Cell}
+use Rattle.dg_base.specs.declared.program.Term.{Term, out-Term}
+use Rattle.dg_base.specs.declared.program.Term.TheVariants.{Var as Var-Term}
+use Rattle.dg_base.specs.declared.program.CoreProgram.{CoreProgram}
+use Rattle.dg_meaning.specs.Values.{Value, value_of, value_of_var}
+use Rattle.dg_meaning.specs.Substitutions.{resolved}
+use Rattle.dg_meaning.specs.ValueCells.{cells_of}
+use Rattle.dg_meaning.specs.World.{Game, World, Gathering, worked, gathering, gathered_with, gathered_size, kept}
+use Rattle.dg_meaning.specs.Path.{Registers, Moves, FailsAt as FailsMove}
+use Rattle.dg_meaning.specs.Moves.{keeping}
+use Rattle.dg_meaning.specs.Transcript.{Run}
+use Rattle.dg_meaning.specs.OneRun.{Grows}
+use Rattle.dg_meaning.specs.Context.{tags_of, IsNewest}
+use Rattle.dg_meaning.specs.Keeps.{Failed}
+use Rattle.dg_meaning.proofs.Keeps.{has_happened, passes_keep, keeps_in_newest}
+use Rattle.dg_unify.specs.Store.{Store, State, Saved, Kept, Made, Holds, told, or_nil}
+use Rattle.dg_unify.specs.declared.bindings.Ref.{Ref}
+use Rattle.dg_unify.specs.declared.bindings.Full.{Full}
+use Rattle.dg_unify.specs.declared.bindings.Full.TheVariants as full
+use Rattle.dg_unify.specs.declared.list.ListBindings.{ListBindings}
+use Rattle.dg_lists.specs.Formed.{IsFormed}
+use Rattle.dg_lists.specs.Gathered.{Gathered, added, gathered_size as size_of_rows}
+use Rattle.dg_lists.specs.Writing.{value_at}
+use Rattle.dg_interp.specs.declared.outside.Outside.{Outside}
+use Rattle.dg_interp.specs.declared.engine.Engine.{Engine}
+use Rattle.dg_interp.specs.Terms.{Overflows}
+use Rattle.dg_interp.specs.Lacks.{area_of}
+use Rattle.dg_interp.specs.declared.lack.Lack.{Lack}
+use Rattle.dg_interp.specs.declared.frames.Env.{Env}
+use Rattle.dg_interp.specs.Outside.{row_of, HaveGathered, InWorld}
+use Rattle.dg_interp.specs.Frames.{stretch, values_in}
+use Rattle.dg_interp.specs.Gathering.{KeepsAt}
+use Rattle.dg_interp.specs.Engine.{Point, store_in, KeepsPlaces, IsReady, FailsAt, FullAt, LacksIn, LackAt, Leads, SameLimits, PassesLimit, WentWrong, limit_in}
+use Rattle.dg_meaning.specs.Peaks.{Area, Aux, greatest}
+use Rattle.dg_interp.proofs.Places.{adds_nothing, limits_at}
+use Rattle.dg_interp.proofs.Takes.{store_sound}
+
+-- ## Rows
+
+row_more : (values : List Value) (v : Value) → flat_map cells_of (values ++ v ∷ []) ≡ flat_map cells_of values ++ cells_of v
+row_more [] v = flat_map-cons cells_of v [] ∙ append-nil (cells_of v)
+row_more (u ∷ values) v =
+    flat_map-cons cells_of u (values ++ v ∷ []) ∙ ap (λ l. cells_of u ++ l) (row_more values v)
+    ∙ sym (append_assoc (cells_of u) (flat_map cells_of values) (cells_of v)) ∙ ap (λ l. l ++ cells_of v) (sym (flat_map-cons cells_of u values))
+
+-- a value is kept in the newest
+newest_more : (t : ℕ) (v : Value) (x : Gathering) (others : List Gathering) → t ≡ x.tag → gathered_with t v (x ∷ others) ≡ record x { values = x.values ++ v ∷ [] } ∷ others
+newest_more t v x others e = cond-true (eqb x.tag t) (record x { values = x.values ++ v ∷ [] } ∷ others) (x ∷ gathered_with t v others) (eq-eqb x.tag t (sym e))
+
+pub rows_more : (t : ℕ) (v : Value) (rows : List (List Cell)) (gs : List Gathering) → IsNewest t (tags_of gs) → IsFormed v → HaveGathered rows gs → HaveGathered (added (cells_of v) rows) (gathered_with t v gs)
+rows_more t v rows [] new formed is = absurd new
+rows_more t v rows (x ∷ gs) new formed is = (
+  ap (added (cells_of v)) is.0 ∙ ap (λ l. l ∷ map row_of gs) (sym (row_more x.values v)) ∙ sym (ap (map row_of) (newest_more t v x gs new)),
+  subst (All (λ (g : Gathering). All IsFormed g.values)) (sym (newest_more t v x gs new))
+      (All-cons (λ (g : Gathering). All IsFormed g.values) (record x { values = x.values ++ v ∷ [] }) gs (All-push IsFormed x.values v (is.1 0 x (omega arith)) formed) (λ k d lt. is.1 (suc k) d (omega arith))),
+)
+
+-- what they count
+pub sizes_same : (gs : List Gathering) → size_of_rows (map row_of gs) ≡ gathered_size gs
+sizes_same [] = refl
+sizes_same (x ∷ gs) =
+    omega (arith, sum_by-cons (λ (row : List Cell). 2 + length row) (row_of x) (map row_of gs), sum_by-cons (λ (g : Gathering). 2 + sum_by (λ v. length (cells_of v)) g.values) x gs, length-flat_map cells_of x.values, sizes_same gs)
+
+pub some_open : (t : ℕ) (rows : List (List Cell)) (gs : List Gathering) → IsNewest t (tags_of gs) → rows ≡ map row_of gs → 0 < length rows
+some_open t rows [] new is = absurd new
+some_open t rows (x ∷ gs) new is = omega (arith, ap length is)
+
+-- ## A value is kept
+
+var_alone : (program : CoreProgram) (env : List Value) → value_of program env (Var-Term 0) ≡ value_of_var env 0
+unfolding out-Term denote.Hole.Carrier.out
+var_alone program env = refl
+
+-- nothing is taken of the heap
+pub nothing_full : (From : Point) (s : Store) (e : Full) → s.state.heap ≤ s.heap_limit → Overflows 0 s e → FullAt From s e
+nothing_full From s full.Heap le h = absurd (omega (arith, le, h))
+nothing_full From s full.Trail le h = absurd h
+nothing_full From s full.OutOfMemory le h = tt
+
+module _ (old : Engine) (ready : IsReady old) (store1 : ListBindings) (r : Ref) (k1 : Kept (store_in old.store) (store_in store1)) (saved1 : (ms : List Saved) → KeepsPlaces old.store ms → KeepsPlaces store1 ms)
+    (made : Made 0 (store_in old.store) (store_in store1) r (value_of_var (values_in (store_in old.store) old.refs.items old.here.env) 0)) where
+  abbrev s : Store
+  s = store_in old.store
+
+  abbrev env : List Value
+  env = values_in s old.refs.items old.here.env
+
+  -- what is kept
+  abbrev pub what : Value
+  what = value_at (store_in store1) r
+
+  what_is : what ≡ resolved s.state.subst (value_of_var env 0)
+  what_is = ap (λ (t : State). resolved t.subst (told (store_in store1) r)) made.charged.state ∙ ap (λ o. resolved s.state.subst (or_nil o)) made.value
+
+  module _ (g : Game) (n : ℕ) (w : World) (run : Run) (st : KeepsAt old g n w run) where
+    abbrev x : Value
+    x = value_of g.program env (Var-Term 0)
+
+    abbrev pub kept_in : World
+    kept_in = kept st.tag (resolved st.at.registers.bound x) (worked (keeping st.at.registers x) w)
+
+    newest : IsNewest st.tag (tags_of w.gathered)
+    newest = keeps_in_newest g st.at.inside.lives st.at.ways st.tag (Var-Term 0) env [] st.at.registers n w run st.stands
+
+    failed : Failed g st.at.inside.lives n kept_in run
+    failed = passes_keep g st.at.inside.lives st.at.ways st.tag (Var-Term 0) env [] st.at.registers n w run st.stands
+
+    same_what : resolved st.at.registers.bound x ≡ what
+    same_what = ap (λ S. resolved S x) st.at.agrees.bound ∙ ap (resolved s.state.subst) (var_alone g.program env) ∙ sym what_is
+
+    happened : Grows kept_in run.world
+    happened = has_happened g st.at.inside.lives st.at.ways n (Moves (FailsMove kept_in)) run failed
+
+    gathered_is : kept_in.gathered ≡ gathered_with st.tag what w.gathered
+    gathered_is = ap (λ v. gathered_with st.tag v w.gathered) same_what
+
+    -- the limit is passed
+    passed : (limit : ℕ) → limit < size_of_rows (added (cells_of what) old.outside.gathered.rows) → limit < run.world.meters.aux
+    passed limit h =
+        let same = some_open st.tag old.outside.gathered.rows w.gathered newest st.at.inside.world.1.0 in
+        let rows : added (cells_of what) old.outside.gathered.rows ≡ map row_of (gathered_with st.tag what w.gathered) = more_rows st.tag what old.outside.gathered.rows w.gathered newest st.at.inside.world.1.0 in
+        omega (arith, h, ap size_of_rows rows, sizes_same (gathered_with st.tag what w.gathered), ap gathered_size gathered_is, happened.meters.aux)
+      where
+        more_rows : (t : ℕ) (v : Value) (rows : List (List Cell)) (gs : List Gathering) → IsNewest t (tags_of gs) → rows ≡ map row_of gs → added (cells_of v) rows ≡ map row_of (gathered_with t v gs)
+        more_rows t v rows [] new is = absurd new
+        more_rows t v rows (x ∷ gs) new is = ap (added (cells_of v)) is ∙ ap (λ l. l ∷ map row_of gs) (sym (row_more x.values v)) ∙ sym (ap (map row_of) (newest_more t v x gs new))
+
+    kept_world : (gathered : Gathered) → gathered ≡ record old.outside.gathered { rows = added (cells_of what) old.outside.gathered.rows } → (0 < length old.outside.gathered.rows → IsFormed what) → InWorld (record old.outside { gathered = gathered }) g kept_in
+    kept_world gathered is formed =
+        let open_now = some_open st.tag old.outside.gathered.rows w.gathered newest st.at.inside.world.1.0 in
+        let rows = rows_more st.tag what old.outside.gathered.rows w.gathered newest (formed open_now) st.at.inside.world.1 in (
+          st.at.inside.world.0,
+          subst (λ (x : Gathered). HaveGathered x.rows kept_in.gathered) (sym is) (subst (HaveGathered (added (cells_of what) old.outside.gathered.rows)) (sym gathered_is) rows),
+          st.at.inside.world.2,
+          st.at.inside.world.3,
+        )
+
+  pub keep_full : old.outside.gathered.aux < size_of_rows (added (cells_of what) old.outside.gathered.rows) → PassesLimit Aux (KeepsAt old) old.outside.gathered.aux
+  keep_full h = λ g n w run st. passed g n w run st old.outside.gathered.aux h
+
+  module _ (store2 : ListBindings) (gathered : Gathered) (same : store_in store2 ≡ store_in store1) (saved2 : (ms : List Saved) → KeepsPlaces store1 ms → KeepsPlaces store2 ms)
+      (is : gathered ≡ record old.outside.gathered { rows = added (cells_of what) old.outside.gathered.rows }) (formed : 0 < length old.outside.gathered.rows → IsFormed what) where
+    abbrev new : Engine
+    new = record old { store = store2; outside = record old.outside { gathered = gathered } }
+
+    k : Kept s (store_in store2)
+    k = subst (Kept s) (sym same) k1
+
+    saved : (ms : List Saved) → KeepsPlaces old.store ms → KeepsPlaces store2 ms
+    saved ms h = saved2 ms (saved1 ms h)
+
+    pub value_kept : WentWrong (KeepsAt old) old new
+    value_kept = record {
+      sound = let now = store_sound old store2 old.made k saved ready.sound in record { base = now.base; room = now.room; picks = now.picks };
+      left = refl;
+      limits = record { heap = k.heap_limit; trail = k.trail_limit; aux = ap (λ (x : Gathered). x.aux) is; keep = refl };
+      leads = λ g n w run st. record {
+        world = kept_in g n w run st;
+        adds = record { prints_are = (adds_nothing w).prints_are; typed = refl };
+        holds = record {
+          inside = record {
+            program = st.at.inside.program;
+            entries = st.at.inside.entries;
+            lives = st.at.inside.lives;
+            lives_are = st.at.inside.lives_are;
+            saved = st.at.inside.saved;
+            keeps = saved st.at.inside.saved st.at.inside.keeps;
+            choices = st.at.inside.choices;
+            world = kept_world g n w run st gathered is formed;
+          };
+          failed = failed g n w run st;
+        };
+      };
+    }
+
+-- ## A value among those at hand
+
+pub var_among : (t t1 : Store) (a : Ref) (refs part : List Ref) (place : Env) → part ≡ stretch refs place → Made 0 t t1 a (value_of_var (map (told t) part) 0) → Made 0 t t1 a (value_of_var (values_in t refs place) 0)
+var_among t t1 a refs part place is h = subst (λ l. Made 0 t t1 a (value_of_var (map (told t) l) 0)) is h
+
+-- what is lacked further on is lacked here
+pub lacks_from : (A B : Point) (old mid : Engine) → SameLimits old mid → Leads A B → (lack : Lack) → LackAt B mid lack → LackAt A old lack
+lacks_from A B old between same leads lack h = in_area (area_of lack) h
+  where
+    in_area : (o : Option Area) → LacksIn o B between → LacksIn o A old
+    in_area None h = tt
+    in_area (Some area) h = λ g n w run a.
+        let x = leads g n w run a in
+        let y = h g n x.world run x.holds in
+        let same_limit : limit_in area between ≡ limit_in area old = limits_at old between same area in
+        omega (arith, y, same_limit)

@@ -1,0 +1,74 @@
+use Rattle.std.proofs.Common.{◌-◌, sym, subst, ap, ◌∙◌, arith, refl, Some, None}
+use Rattle.dg_unify.proofs.StoreLemmas.{holds_some}
+use Rattle.dg_interp.specs.declared.frames.Whole.TheVariants.{Sum as InSum}
+use Rattle.dg_interp.specs.Outside.{closed_to}
+use Rattle.dg_interp.specs.Giving.{UnifiesAt, GivesAt}
+use Rattle.dg_interp.specs.Gathering.{TakesOutAt}
+use Rattle.dg_interp.specs.Engine.{store_in, FailsAt, Leads}
+use Rattle.dg_interp.proofs.Stores.{holds_kept}
+use Rattle.dg_interp.proofs.Takes.{store_ready}
+use Rattle.dg_interp.proofs.Places.{leads_on, limits_on}
+use Rattle.dg_interp.proofs.Giving.{kept_limits, none_given, number_given}
+use Rattle.dg_interp.proofs.Branches.{tries_made, full_made}
+use Rattle.dg_interp.proofs.TakingOut.{none_wrong, some_first, sum_ready, sum_limits, sum_taken}
+use Rattle.dg_interp.proofs.engine.Engine.take_sum.Goals as goal
+
+pub returns-in_default-clause-tried : goal.returns-in_default-clause-tried
+returns-in_default-clause-tried c = none_wrong InSum c.args.into c.args.self.now c.requires.ready c.in_default.ensures
+
+pub overflow_sub-outside : goal.overflow_sub-outside
+overflow_sub-outside c = let some = some_first c.args.self.now.outside.gathered.rows c.in-Some.cells.now c.in-Some.ensures in omega (arith, some, c.gatherings-outside.ensures)
+
+pub returns-in-None-clause-tried : goal.returns-in-None-clause-tried
+returns-in-None-clause-tried c =
+    let old = c.args.self.now in
+    let e = record old { outside = c.close_to.new.self } in
+    let closed = c.close_to.ensures ∙ ap (λ n. closed_to (n - 1) old.outside) c.gatherings-outside.ensures in
+    let taken = sum_taken c.args.into old c.requires.ready c.in-Some.cells.now c.in-Some.ensures c.close_to.new.self closed c.sum-total.result c.sum-total.ensures in
+    record {
+      sound = (sum_ready c.args.into old c.requires.ready c.in-Some.cells.now c.in-Some.ensures c.close_to.new.self closed c.sum-total.result c.sum-total.ensures).sound;
+      left = refl;
+      limits = sum_limits c.args.into old c.requires.ready c.in-Some.cells.now c.in-Some.ensures c.close_to.new.self closed c.sum-total.result c.sum-total.ensures;
+      leads = leads_on (TakesOutAt InSum c.args.into old) (GivesAt None c.args.into e) (FailsAt e) (subst (λ n. Leads (TakesOutAt InSum c.args.into old) (GivesAt n c.args.into e)) c.in-None.is taken) (none_given c.args.into e);
+    }
+
+pub meet-requires-clause-ready : goal.meet-requires-clause-ready
+meet-requires-clause-ready c =
+    let old = c.args.self.now in
+    let e = record old { outside = c.close_to.new.self } in
+    let closed = c.close_to.ensures ∙ ap (λ n. closed_to (n - 1) old.outside) c.gatherings-outside.ensures in
+    store_ready e c.number-made.new.store e.made c.number-made.ensures.kept c.number-made.ensures.saved (sum_ready c.args.into old c.requires.ready c.in-Some.cells.now c.in-Some.ensures c.close_to.new.self closed c.sum-total.result c.sum-total.ensures)
+
+pub meet-requires-clause-hold : goal.meet-requires-clause-hold
+meet-requires-clause-hold c = (
+  holds_kept (store_in c.args.self.now.store) (store_in c.number-made.new.store) c.args.into c.number-made.ensures.kept c.requires.value,
+  holds_some (store_in c.number-made.new.store) c.number-made.result _ c.number-made.ensures.made,
+)
+
+pub returns-in-Some-total-clause-tried : goal.returns-in-Some-total-clause-tried
+returns-in-Some-total-clause-tried c =
+    let old = c.args.self.now in
+    let e = record old { outside = c.close_to.new.self } in
+    let f = record e { store = c.number-made.new.store } in
+    let closed = c.close_to.ensures ∙ ap (λ n. closed_to (n - 1) old.outside) c.gatherings-outside.ensures in
+    let ready = sum_ready c.args.into old c.requires.ready c.in-Some.cells.now c.in-Some.ensures c.close_to.new.self closed c.sum-total.result c.sum-total.ensures in
+    let taken = sum_taken c.args.into old c.requires.ready c.in-Some.cells.now c.in-Some.ensures c.close_to.new.self closed c.sum-total.result c.sum-total.ensures in
+    tries_made (TakesOutAt InSum c.args.into old) (UnifiesAt c.args.into c.number-made.result f) old f c.meet.new.self refl
+    (limits_on old e f (sum_limits c.args.into old c.requires.ready c.in-Some.cells.now c.in-Some.ensures c.close_to.new.self closed c.sum-total.result c.sum-total.ensures) (kept_limits e c.number-made.new.store e.made ready c.number-made.ensures.kept c.number-made.ensures.saved))
+    (leads_on (TakesOutAt InSum c.args.into old) (GivesAt (Some c.in-Some-total.n) c.args.into e) (UnifiesAt c.args.into c.number-made.result f) (subst (λ n. Leads (TakesOutAt InSum c.args.into old) (GivesAt n c.args.into e)) c.in-Some-total.is taken)
+    (number_given c.in-Some-total.n c.args.into c.number-made.result e c.number-made.new.store ready c.number-made.ensures.kept c.number-made.ensures.saved c.requires.value c.number-made.ensures.same c.number-made.ensures.made)) c.meet.result c.meet.ensures.met
+
+pub returns-in-Some-total-clause-full : goal.returns-in-Some-total-clause-full
+returns-in-Some-total-clause-full c =
+    let old = c.args.self.now in
+    let e = record old { outside = c.close_to.new.self } in
+    let f = record e { store = c.number-made.new.store } in
+    let closed = c.close_to.ensures ∙ ap (λ n. closed_to (n - 1) old.outside) c.gatherings-outside.ensures in
+    let ready = sum_ready c.args.into old c.requires.ready c.in-Some.cells.now c.in-Some.ensures c.close_to.new.self closed c.sum-total.result c.sum-total.ensures in
+    let taken = sum_taken c.args.into old c.requires.ready c.in-Some.cells.now c.in-Some.ensures c.close_to.new.self closed c.sum-total.result c.sum-total.ensures in
+    full_made (TakesOutAt InSum c.args.into old) (UnifiesAt c.args.into c.number-made.result f) (store_in old.store) (store_in c.number-made.new.store) c.meet.result c.number-made.ensures.kept.heap_limit c.number-made.ensures.kept.trail_limit
+    (leads_on (TakesOutAt InSum c.args.into old) (GivesAt (Some c.in-Some-total.n) c.args.into e) (UnifiesAt c.args.into c.number-made.result f) (subst (λ n. Leads (TakesOutAt InSum c.args.into old) (GivesAt n c.args.into e)) c.in-Some-total.is taken)
+    (number_given c.in-Some-total.n c.args.into c.number-made.result e c.number-made.new.store ready c.number-made.ensures.kept c.number-made.ensures.saved c.requires.value c.number-made.ensures.same c.number-made.ensures.made)) c.meet.ensures.full
+
+pub returns-in-Some-total-clause-fewer : goal.returns-in-Some-total-clause-fewer
+returns-in-Some-total-clause-fewer c = c.meet.ensures.fewer
