@@ -355,9 +355,14 @@ module _ (whole : Whole) (value into : Ref) (goals : Bor (List Goal)) (old : Eng
               places = record {
                 saved = m ∷ ready.sound.base.places.saved;
                 keeps = saved1 (m ∷ ready.sound.base.places.saved) (saved0 ready.sound.base.places.saved ready.sound.base.places.keeps);
-                back_to = subst (λ l. GoBackTo ys s1.heap_limit s1.trail_limit l (m ∷ ready.sound.base.places.saved)) (sym kept)
-                    (refl, hold_front s0 ys hold0, sym k1.heap_limit, sym k1.trail_limit, back_limits ys s.heap_limit s.trail_limit s1.heap_limit s1.trail_limit os ready.sound.base.places.saved (sym k.heap_limit) (sym k.trail_limit)
-                    (back_same xs ys fs (length fs) (length xs) old.newest s.heap_limit s.trail_limit os ready.sound.base.places.saved front ready.sound.base.choices ready.sound.base.places.back_to));
+                back_to = subst (λ l. GoBackTo ys s1.heap_limit s1.trail_limit l (m ∷ ready.sound.base.places.saved)) (sym kept) (
+                  refl,
+                  hold_front s0 ys hold0,
+                  sym k1.heap_limit,
+                  sym k1.trail_limit,
+                  back_limits ys s.heap_limit s.trail_limit s1.heap_limit s1.trail_limit os ready.sound.base.places.saved (sym k.heap_limit) (sym k.trail_limit)
+                      (back_same xs ys fs (length fs) (length xs) old.newest s.heap_limit s.trail_limit os ready.sound.base.places.saved front ready.sound.base.choices ready.sound.base.places.back_to),
+                );
               };
             };
             room = room;
@@ -382,9 +387,10 @@ module _ (whole : Whole) (value into : Ref) (goals : Bor (List Goal)) (old : Eng
                     lives_are = ap (λ l. c ∷ l) st.at.inside.lives_are ∙ ap (λ l. lives_of l (c ∷ st.at.inside.entries)) (sym kept);
                     saved = m ∷ st.at.inside.saved;
                     keeps = saved1 (m ∷ st.at.inside.saved) (saved0 st.at.inside.saved st.at.inside.keeps);
-                    choices = subst (λ l. AreChoices g ys gs l (m ∷ st.at.inside.saved) (c ∷ st.at.inside.entries)) (sym kept)
-                        (subst (λ ws. IsChoice g ys gs o m ws c) st.at.ways_are (choice_is g r st.at.ways st.at.agrees st.at.tag st.at.stop),
-                        choices_same g xs ys fs gs (length fs) (length xs) old.newest os st.at.inside.saved st.at.inside.entries front same_fs ready.sound.base.choices st.at.inside.choices);
+                    choices = subst (λ l. AreChoices g ys gs l (m ∷ st.at.inside.saved) (c ∷ st.at.inside.entries)) (sym kept) (
+                      subst (λ ws. IsChoice g ys gs o m ws c) st.at.ways_are (choice_is g r st.at.ways st.at.agrees st.at.tag st.at.stop),
+                      choices_same g xs ys fs gs (length fs) (length xs) old.newest os st.at.inside.saved st.at.inside.entries front same_fs ready.sound.base.choices st.at.inside.choices,
+                    );
                     world = new_world g w r st.at.inside.world;
                   };
                   ways = st.at.ways;

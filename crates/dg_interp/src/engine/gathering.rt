@@ -143,7 +143,14 @@ impl<'p> Engine<'p> {
         ensures left { self.new.left ≡ self.old.left }
     {
         let env = stretch(&self.refs, self.here.env);
-        match write_both(&mut self.store, self.program, env, term, into, &mut self.made) {
+        match write_both(
+            &mut self.store,
+            self.program,
+            env,
+            term,
+            into,
+            &mut self.made,
+        ) {
             Err(full) => Err(lacking(full)),
             Ok((value, into)) => match self.open_gathering(whole, value, goals, into) {
                 Ok(()) => Ok(true),
