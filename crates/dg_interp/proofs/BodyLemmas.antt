@@ -15,7 +15,7 @@ use Rattle.dg_unify.specs.declared.bindings.Full.{Full}
 use Rattle.dg_unify.specs.declared.bindings.Full.TheVariants as full
 use Rattle.dg_interp.specs.Bodies.{body_vars, parameters, matched_body, EntersBody, BodyFull}
 use Rattle.dg_interp.specs.Terms.{Overflows, Appended, MadeVars}
-use Rattle.dg_interp.proofs.TermLemmas.{appended_on, appended_none}
+use Rattle.dg_interp.proofs.TermLemmas.{appended_on}
 use Rattle.dg_interp.proofs.Entering.{vars_are_made, vars_hold}
 use Rattle.dg_interp.proofs.Stores.{kept_on, all_hold, all_told}
 

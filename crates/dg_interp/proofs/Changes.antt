@@ -6,7 +6,6 @@ use Rattle.std.specs.List.{All}
 use Rattle.std.proofs.lemmas.List.Elements.{All-cons, All-head, All-tail}
 use denote.Hole.Carrier.{out}
 use Rattle.dg_base.specs.declared.program.Goal.{Goal, out-Goal}
-use Rattle.dg_base.specs.declared.program.Goal as goal
 use Rattle.dg_base.specs.declared.program.Goal.TheVariants.{Now, outs-Now}
 use Rattle.dg_base.specs.declared.program.PlaceKind.{PlaceKind}
 use Rattle.dg_base.specs.declared.program.Term.{Term}
@@ -35,7 +34,7 @@ use Rattle.dg_lists.specs.Formed.{IsFormed}
 use Rattle.dg_interp.specs.declared.engine.Engine.{Engine}
 use Rattle.dg_interp.specs.declared.outside.Outside.{Outside}
 use Rattle.dg_interp.specs.Frames.{values_in}
-use Rattle.dg_interp.specs.Outside.{outline, row_of, InWorld}
+use Rattle.dg_interp.specs.Outside.{outline, HaveGathered, InWorld}
 use Rattle.dg_interp.specs.Engine.{store_in, limit_in, KeepsPlaces, steps_of, IsReady, IsOnStore, TakesAt, StandsAt, FailsAt, PassesLimit, Leads, Then, SameLimits, WentOn}
 use Rattle.dg_interp.specs.Changing.{all_in_store, SetsFormed, Became}
 use Rattle.dg_interp.specs.Made.{MadeArgs, changes_at, ChangedMade}
@@ -49,12 +48,6 @@ now_held place terms sets = ap terms_held (outs-Now place terms sets)
 -- what was made holds
 pub made_hold : (terms : List Term) (old new : Engine) → MadeArgs terms old new → All (Holds (store_in new.store)) new.made.items
 made_hold terms old new made = let a = (made.written old.program.now refl).appended in subst (All (Holds (store_in new.store))) (sym a.is) a.hold
-
--- a goal that needs room in the store alone
-pub on_store : (x : Goal) → ((place : ℕ) (terms : List Term) (sets : Bool) → x ≡ Now place terms sets → ⊥) → IsOnStore (out-Goal x)
-unfolding out-Goal out
-on_store (goal.Now place terms sets) other = absurd (other place terms sets refl)
-on_store x other = tt
 
 -- ## Values of the language
 
@@ -187,7 +180,7 @@ module _ (place : ℕ) (terms : List Term) (sets : Bool) (old mid new : Engine) 
             formed = subst (All FactFormed) (sym facts) (altered_formed a w.facts formed is.0.formed);
             room = done.row ∙ ap (λ (z : Outside). length z.row.items) outside_is ∙ is.0.room ∙ sym keep_is;
           },
-          is.1 ∙ ap (map row_of) (sym gathered),
+          subst (HaveGathered old.outside.gathered.rows) (sym gathered) is.1,
           subst (λ d. HasDrawn old.outside.dice g.dice d) (sym dice) is.2,
           sites ∙ is.3,
         )

@@ -1,21 +1,21 @@
 -- A gathering opens.
-use Rattle.std.proofs.Common.{◌≡◌, ℕ, suc, ◌+◌, ◌-◌, ◌^◌, ◌<◌, ◌≤◌, List, [], ◌∷◌, ◌++◌, Some, None, refl, sym, ap, ◌∙◌, subst, arith, length, map, take, drop, length-append, append_assoc, Bor}
+use Rattle.std.proofs.Common.{◌≡◌, ℕ, ◌+◌, ◌-◌, ◌^◌, ◌<◌, List, [], ◌∷◌, ◌++◌, refl, sym, ap, ◌∙◌, subst, arith, length, map, take, drop, length-append, append_assoc, Bor}
 use Rattle.std.specs.Prelude.{reverse}
 use Rattle.std.specs.List.{All}
 use Rattle.std.specs.declared.vec.Vec.{Vec}
 use Rattle.std.specs.declared.alloc.Global.{Global}
 use Rattle.std.proofs.lemmas.List.Elements.{All-cons, All-append}
 use Rattle.std.proofs.Math.Seq.{drop-append_seam}
-use Rattle.dg_base.specs.declared.program.Goal.{Goal, Goal-F, out-Goal}
+use Rattle.dg_base.specs.declared.program.Goal.{Goal, out-Goal}
 use Rattle.dg_base.specs.declared.program.Goal.TheVariants.{outs-Collect, outs-Accumulate}
 use Rattle.dg_base.specs.declared.program.Term.{Term}
 use Rattle.dg_base.specs.declared.program.Term.TheVariants.{Var as Var-Term}
 use Rattle.dg_base.specs.declared.program.CoreProgram.{CoreProgram}
 use Rattle.dg_base.specs.Goals.{terms_held}
 use Rattle.dg_meaning.specs.Values.{Value, value_of, value_of_var}
-use Rattle.dg_meaning.specs.World.{Game, World, Gathering, gathered_size, opened}
-use Rattle.dg_meaning.specs.Cells.{cells, writing}
-use Rattle.dg_meaning.specs.Path.{Step, Keep, Registers, Branch, TakeOut as TakeOutBranch, Plain}
+use Rattle.dg_meaning.specs.World.{Game, World, Gathering, opened}
+use Rattle.dg_meaning.specs.Cells.{writing}
+use Rattle.dg_meaning.specs.Path.{Step, Keep, Registers, TakeOut as TakeOutBranch}
 use Rattle.dg_meaning.specs.Moves.{path_of, begun, goals_at, inside, outcome}
 use Rattle.dg_meaning.specs.Transcript.{Run}
 use Rattle.dg_meaning.specs.OneRun.{Grows}
@@ -41,13 +41,12 @@ use Rattle.dg_interp.specs.declared.frames.Whole.{Whole}
 use Rattle.dg_interp.specs.declared.frames.Whole.TheVariants.{List as InList, Sum as InSum}
 use Rattle.dg_interp.specs.declared.frames.Choice.{Choice}
 use Rattle.dg_interp.specs.declared.engine.Engine.{Engine}
-use Rattle.dg_interp.specs.declared.outside.Outside.{Outside}
 use Rattle.dg_interp.specs.Outside.{row_of, HaveGathered, InWorld}
 use Rattle.dg_interp.specs.Terms.{BothMade}
 use Rattle.dg_interp.specs.Frames.{values_in, steps_at, steps_behind, whole_of, lives_of, ways_of, IsChoice, AreChoices, IsFrame, AreFrames, StandOn, GoBackTo}
 use Rattle.dg_interp.specs.Gathering.{gathering_goal, gathering_live, GathersAt}
 use Rattle.dg_interp.specs.Engine.{Point, store_in, KeepsPlaces, IsReady, TakesAt, Leads, WentOn, FullAt, PassesLimit, steps_of, open_in}
-use Rattle.dg_interp.proofs.Links.{SameBy, SameTo, same_here, same_append, at_same, behind_new, frame_raise, frames_raise, frames_append, stand_raise, stand_same, choices_same, back_same}
+use Rattle.dg_interp.proofs.Links.{SameBy, SameTo, same_append, at_same, behind_new, frame_raise, frames_raise, frames_append, stand_raise, stand_same, choices_same, back_same}
 use Rattle.dg_interp.proofs.Places.{adds_nothing, open_still, inside_kept}
 use Rattle.dg_interp.proofs.Stores.{kept_on, all_hold, values_kept, hold_front, front_same, told_kept}
 use Rattle.dg_interp.proofs.Kept.{back_limits}
@@ -349,6 +348,7 @@ module _ (whole : Whole) (value into : Ref) (goals : Bor (List Goal)) (old : Eng
           sound = record {
             base = record {
               program = ready.sound.base.program;
+              sound = ready.sound.base.sound;
               hold = hold1;
               frames = frames_now;
               choices = subst (StandOn gs (length gs) (length ys) t) (sym kept) (omega arith, omega arith, omega arith, ((here_is, omega (arith, more_refs)), refl, tt), frames_now, stand);

@@ -1,6 +1,6 @@
 -- What is kept in a gathering.
-use Rattle.std.proofs.Common.{◌≡◌, ℕ, zero, suc, ◌+◌, ◌<◌, ◌≤◌, List, [], ◌∷◌, ◌++◌, Option, Some, None, refl, sym, ap, ◌∙◌, subst, arith, length, map, append_assoc}
-use Rattle.std.specs.Prelude.{eqb, max, if◌then◌else◌}
+use Rattle.std.proofs.Common.{◌≡◌, ℕ, suc, ◌+◌, ◌<◌, ◌≤◌, List, [], ◌∷◌, ◌++◌, Option, Some, None, refl, sym, ap, ◌∙◌, subst, arith, length, map, append_assoc}
+use Rattle.std.specs.Prelude.{eqb}
 use Rattle.std.specs.List.{All, flat_map, sum_by}
 use Rattle.std.proofs.lemmas.Bool.{cond-true, eq-eqb}
 use Rattle.std.proofs.lemmas.List.Concat.{flat_map-cons, length-flat_map}
@@ -8,21 +8,21 @@ use Rattle.std.proofs.lemmas.List.{append-nil}
 use Rattle.std.proofs.lemmas.List.Sums.{sum_by-cons}
 use Rattle.std.proofs.lemmas.List.Elements.{All-cons, All-push}
 use Rattle.dg_base.specs.declared.cells.Cell.{Cell}
-use Rattle.dg_base.specs.declared.program.Term.{Term, out-Term}
+use Rattle.dg_base.specs.declared.program.Term.{out-Term}
 use Rattle.dg_base.specs.declared.program.Term.TheVariants.{Var as Var-Term}
 use Rattle.dg_base.specs.declared.program.CoreProgram.{CoreProgram}
 use Rattle.dg_meaning.specs.Values.{Value, value_of, value_of_var}
 use Rattle.dg_meaning.specs.Substitutions.{resolved}
 use Rattle.dg_meaning.specs.ValueCells.{cells_of}
-use Rattle.dg_meaning.specs.World.{Game, World, Gathering, worked, gathering, gathered_with, gathered_size, kept}
-use Rattle.dg_meaning.specs.Path.{Registers, Moves, FailsAt as FailsMove}
+use Rattle.dg_meaning.specs.World.{Game, World, Gathering, worked, gathered_with, gathered_size, kept}
+use Rattle.dg_meaning.specs.Path.{Moves, FailsAt as FailsMove}
 use Rattle.dg_meaning.specs.Moves.{keeping}
 use Rattle.dg_meaning.specs.Transcript.{Run}
 use Rattle.dg_meaning.specs.OneRun.{Grows}
 use Rattle.dg_meaning.specs.Context.{tags_of, IsNewest}
 use Rattle.dg_meaning.specs.Keeps.{Failed}
 use Rattle.dg_meaning.proofs.Keeps.{has_happened, passes_keep, keeps_in_newest}
-use Rattle.dg_unify.specs.Store.{Store, State, Saved, Kept, Made, Holds, told, or_nil}
+use Rattle.dg_unify.specs.Store.{Store, State, Saved, Kept, Made, told, or_nil}
 use Rattle.dg_unify.specs.declared.bindings.Ref.{Ref}
 use Rattle.dg_unify.specs.declared.bindings.Full.{Full}
 use Rattle.dg_unify.specs.declared.bindings.Full.TheVariants as full
@@ -30,7 +30,6 @@ use Rattle.dg_unify.specs.declared.list.ListBindings.{ListBindings}
 use Rattle.dg_lists.specs.Formed.{IsFormed}
 use Rattle.dg_lists.specs.Gathered.{Gathered, added, gathered_size as size_of_rows}
 use Rattle.dg_lists.specs.Writing.{value_at}
-use Rattle.dg_interp.specs.declared.outside.Outside.{Outside}
 use Rattle.dg_interp.specs.declared.engine.Engine.{Engine}
 use Rattle.dg_interp.specs.Terms.{Overflows}
 use Rattle.dg_interp.specs.Lacks.{area_of}
@@ -39,8 +38,8 @@ use Rattle.dg_interp.specs.declared.frames.Env.{Env}
 use Rattle.dg_interp.specs.Outside.{row_of, HaveGathered, InWorld}
 use Rattle.dg_interp.specs.Frames.{stretch, values_in}
 use Rattle.dg_interp.specs.Gathering.{KeepsAt}
-use Rattle.dg_interp.specs.Engine.{Point, store_in, KeepsPlaces, IsReady, FailsAt, FullAt, LacksIn, LackAt, Leads, SameLimits, PassesLimit, WentWrong, limit_in}
-use Rattle.dg_meaning.specs.Peaks.{Area, Aux, greatest}
+use Rattle.dg_interp.specs.Engine.{Point, store_in, KeepsPlaces, IsReady, FullAt, LacksIn, LackAt, Leads, SameLimits, PassesLimit, WentWrong, limit_in}
+use Rattle.dg_meaning.specs.Peaks.{Area, Aux}
 use Rattle.dg_interp.proofs.Places.{adds_nothing, limits_at}
 use Rattle.dg_interp.proofs.Takes.{store_sound}
 

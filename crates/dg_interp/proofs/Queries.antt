@@ -2,7 +2,7 @@
 use Rattle.std.proofs.Common.{◌≡◌, ℕ, zero, suc, ◌+◌, ◌-◌, ◌^◌, ◌<◌, ◌≤◌, List, [], ◌∷◌, ◌++◌, Bool, true, false, Option, None, Some, refl, sym, ap, ◌∙◌, subst, arith, length, length-append, map, take, Bor}
 use Rattle.std.specs.Prelude.{slice_get, reverse}
 use Rattle.std.specs.List.{All, zip}
-use Rattle.std.proofs.lemmas.List.{append-nil, length-map}
+use Rattle.std.proofs.lemmas.List.{append-nil}
 use Rattle.std.proofs.lemmas.List.Elements.{All-append}
 use Rattle.std.specs.declared.vec.Vec.{Vec}
 use Rattle.std.specs.declared.alloc.Global.{Global}
@@ -32,17 +32,16 @@ use Rattle.dg_unify.specs.declared.bindings.Ref.{Ref}
 use Rattle.dg_unify.specs.declared.bindings.Full.{Full}
 use Rattle.dg_unify.specs.declared.bindings.Full.TheVariants as full
 use Rattle.dg_unify.specs.declared.list.ListBindings.{ListBindings}
-use Rattle.dg_interp.specs.declared.frames.Env.{Env}
 use Rattle.dg_interp.specs.declared.frames.Frame.{Frame}
 use Rattle.dg_interp.specs.declared.frames.Choice.{Choice}
 use Rattle.dg_interp.specs.declared.engine.Engine.{Engine}
-use Rattle.dg_interp.specs.Bodies.{IsBody, HasNoBody, body_vars, parameters, matched_body, EntersBody, BodyFull}
-use Rattle.dg_interp.specs.Frames.{stretch, values_in, frame_steps, mark_steps, steps_behind, AreChoices, AreFrames, IsFrame, StandOn, GoBackTo}
+use Rattle.dg_interp.specs.Bodies.{IsBody, HasNoBody, parameters, matched_body, EntersBody, BodyFull}
+use Rattle.dg_interp.specs.Frames.{stretch, values_in, frame_steps, mark_steps, steps_behind, AreChoices, AreFrames, StandOn, GoBackTo}
 use Rattle.dg_interp.specs.Terms.{Overflows, BothMade}
 use Rattle.dg_interp.specs.Engine.{store_in, KeepsPlaces, Point, IsSound, IsReady, TakesAt, FailsAt, FullAt, Adds, Leads, SameLimits, WentOn, steps_of}
 use Rattle.dg_interp.specs.Querying.{QueriesAt, mark_of}
 use Rattle.dg_interp.proofs.Begins.{began_peaks}
-use Rattle.dg_interp.proofs.Links.{SameBy, same_here, same_append, behind_new, at_same, frame_raise, frames_raise, frames_append, choices_same, back_same, stand_raise, stand_same, same_values}
+use Rattle.dg_interp.proofs.Links.{SameBy, same_here, same_append, behind_new, at_same, frame_raise, frames_raise, frames_append, choices_same, back_same, stand_raise, stand_same}
 use Rattle.dg_interp.proofs.Stores.{all_hold, values_kept, hold_front, front_same, appended_stretch, trail_append, trail_older, made_is}
 use Rattle.dg_interp.proofs.Kept.{back_limits}
 use Rattle.dg_interp.proofs.Places.{inside_kept, adds_nothing}

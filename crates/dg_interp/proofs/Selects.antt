@@ -24,7 +24,7 @@ use Rattle.dg_lists.specs.Gathered.{Gathered}
 use Rattle.dg_world.specs.declared.world.World.{World as FactsWorld}
 use Rattle.dg_interp.specs.declared.outside.Outside.{Outside}
 use Rattle.dg_interp.specs.declared.engine.Engine.{Engine}
-use Rattle.dg_interp.specs.Outside.{picks_in, HasSet, InWorld, MayPick, PicksOne}
+use Rattle.dg_interp.specs.Outside.{picks_in, HasSet, HaveGathered, InWorld, MayPick, PicksOne}
 use Rattle.dg_interp.specs.Engine.{steps_of, IsReady, TakesAt, WentOn}
 use Rattle.dg_interp.proofs.Takes.{behind, taken_in, comes_of, adds_taken}
 use Rattle.dg_interp.proofs.Opens.{agrees_here}
@@ -89,7 +89,7 @@ module _ (site : ℕ) (mode : Mode) (lists : List (List Goal)) (old : Engine) (o
         let was = st.at.inside.world in (
           subst (λ (row : Vec Cell Global). HasSet out.world (length row.items) g.program w.facts) (sym one.row)
               (subst (λ (o : FactsWorld). HasSet o (length old.outside.row.items) g.program w.facts) (sym one.world) was.0),
-          ap (λ (o : Gathered). o.rows) one.gathered ∙ was.1,
+          subst (λ (o : Gathered). HaveGathered o.rows w.gathered) (sym one.gathered) was.1,
           subst (λ (c : Choice). HasDrawn out.dice g.dice (w.dice + c.drawn)) chosen_is (one.dice g.dice w.dice was.2),
           ap (λ b. slice_set w.sites site (picked b (picks_at w.sites site))) (sym branch_is)
               ∙ ap (λ (l : List Picks). slice_set l site (picked branch (picks_at l site))) was.3

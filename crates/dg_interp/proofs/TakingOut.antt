@@ -1,5 +1,5 @@
 -- A gathering is taken out.
-use Rattle.std.proofs.Common.{◌≡◌, ℕ, zero, suc, ◌+◌, ◌-◌, ◌*◌, ◌<◌, ◌≤◌, List, [], ◌∷◌, ◌++◌, Option, Some, None, Bool, true, false, refl, sym, ap, ◌∙◌, subst, arith, length, map, drop}
+use Rattle.std.proofs.Common.{◌≡◌, ℕ, suc, ◌+◌, ◌-◌, ◌*◌, ◌<◌, ◌≤◌, List, [], ◌∷◌, ◌++◌, Option, Some, Bool, true, false, refl, sym, ap, ◌∙◌, subst, arith, length, map, drop}
 use Rattle.std.specs.Prelude.{eqb, slice_get, IfOk, IfErr, OnOk, Ok, Err}
 use Rattle.std.specs.Prelude.{Result as Answer}
 use Rattle.std.specs.List.{All, flat_map, sum_by}
@@ -7,24 +7,22 @@ use Rattle.std.specs.declared.vec.Vec.{Vec}
 use Rattle.std.specs.declared.alloc.Global.{Global}
 use Rattle.std.proofs.lemmas.Bool.{cond-true, eq-eqb}
 use Rattle.std.proofs.lemmas.List.Concat.{flat_map-cons}
-use Rattle.std.proofs.lemmas.List.{append-nil}
 use Rattle.dg_base.specs.declared.cells.Cell.{Cell}
-use Rattle.dg_meaning.specs.Values.{Value, Values, NoMore, More, parts_of, pair, value_of_var}
+use Rattle.dg_meaning.specs.Values.{Value, Values, parts_of, pair, value_of_var}
 use Rattle.dg_meaning.specs.ValueCells.{cells_of, cells_of_all}
 use Rattle.dg_meaning.specs.Copies.{list_of, values_of, vars_in, vars_in_all, copy_from, copies_from, copy_cells, all_copy_cells}
 use Rattle.dg_meaning.specs.Numbers.{total}
 use Rattle.dg_meaning.specs.Letters.{copied}
 use Rattle.dg_meaning.specs.Unify.{Unified, Equations, size, solve, unify}
-use Rattle.dg_meaning.specs.World.{Game, World, Gathering, prints, gathered_at, gathered_without, dropped}
-use Rattle.dg_meaning.specs.Path.{Step, Registers, Act, Unifies, Moves, Move, AsList, AsSum}
-use Rattle.dg_meaning.specs.Moves.{path_of, begun, bound_by, made_since, goes_on_if, unified, unifying, inside, behind_copy, copy_of, gives_number, takes_out, move_of}
+use Rattle.dg_meaning.specs.World.{Game, World, Gathering, gathered_at, gathered_without, dropped}
+use Rattle.dg_meaning.specs.Path.{Step, Registers, Moves, Move}
+use Rattle.dg_meaning.specs.Moves.{begun, bound_by, made_since, goes_on_if, unified, unifying, inside, behind_copy, copy_of, gives_number, takes_out, move_of}
 use Rattle.dg_meaning.specs.Transcript.{Run}
 use Rattle.dg_meaning.specs.OneRun.{Grows}
 use Rattle.dg_meaning.specs.Context.{Drops, tags_of, IsNewest}
 use Rattle.dg_meaning.specs.Keeps.{Went, world_at}
 use Rattle.dg_meaning.proofs.Keeps.{has_happened}
 use Rattle.dg_unify.specs.Store.{Store, State, Saved, Kept, Made, Holds, Does, Follows, told, or_nil}
-use Rattle.dg_unify.specs.Engines.{Agrees}
 use Rattle.dg_unify.specs.Laws.{saves_drops}
 use Rattle.dg_unify.specs.Listed.{fields_of}
 use Rattle.dg_unify.specs.declared.bindings.Ref.{Ref}
@@ -42,13 +40,13 @@ use Rattle.dg_interp.specs.declared.frames.Left.TheVariants.{TakeOut}
 use Rattle.dg_interp.specs.declared.outside.Outside.{Outside}
 use Rattle.dg_interp.specs.declared.engine.Engine.{Engine}
 use Rattle.dg_interp.specs.Outside.{row_of, InWorld, MayPick, closed_to, picks_in}
-use Rattle.dg_interp.specs.Frames.{values_in, steps_at, whole_of, IsLeft, IsFrame}
-use Rattle.dg_interp.specs.Giving.{ActsAt, UnifiesAt, GivesAt}
+use Rattle.dg_interp.specs.Frames.{values_in, steps_at, whole_of, IsLeft}
+use Rattle.dg_interp.specs.Giving.{UnifiesAt, GivesAt}
 use Rattle.dg_interp.specs.Gathering.{TakesOutAt}
-use Rattle.dg_interp.specs.Engine.{Point, store_in, steps_of, There, KeepsPlaces, open_in, IsSound, IsReady, FailsAt, FullAt, BeginsAt, Leads, SameLimits, WentWrong, Tries, Then}
+use Rattle.dg_interp.specs.Engine.{Point, store_in, steps_of, KeepsPlaces, open_in, IsSound, IsReady, FailsAt, FullAt, BeginsAt, Leads, SameLimits, WentWrong, Tries}
 use Rattle.dg_interp.proofs.Stores.{values_kept, hold_front, told_kept}
 use Rattle.dg_interp.proofs.Links.{same_here, at_same}
-use Rattle.dg_interp.proofs.Places.{adds_nothing, inside_kept, world_closed, open_still}
+use Rattle.dg_interp.proofs.Places.{adds_nothing, world_closed, open_still}
 use Rattle.dg_interp.proofs.Takes.{store_sound, store_ready}
 use Rattle.dg_interp.proofs.Giving.{steps_kept, kept_limits, unified_on, unified_fails, unified_full}
 

@@ -1,4 +1,4 @@
-use Rattle.std.proofs.Common.{rules, ◌≡◌, ap, ◌∙◌, ◌-◌, List, map, length}
+use Rattle.std.proofs.Common.{rules, ◌≡◌, ap, ◌∙◌, ◌-◌, List, length}
 use Rattle.std.specs.Prelude.{take, drop}
 use Rattle.dg_meaning.specs.Copies.{values_of}
 use Rattle.dg_unify.specs.declared.bindings.Ref.{Ref}

@@ -1,4 +1,4 @@
-use Rattle.std.proofs.Common.{rules, ◌≡◌, ◌+◌, ◌∷◌, [], ◌++◌, ◌∙◌, refl, length}
+use Rattle.std.proofs.Common.{rules, ◌≡◌, refl, length}
 use Rattle.dg_interp.specs.Engine.{store_in}
 use Rattle.dg_interp.specs.Gathering.{GathersAt}
 use Rattle.dg_interp.proofs.Runs.{lack_from}

@@ -1,4 +1,4 @@
-use Rattle.std.proofs.Common.{◌-◌, sym, subst, ap, ◌∙◌, arith, refl, Some, None}
+use Rattle.std.proofs.Common.{◌-◌, subst, ap, ◌∙◌, arith, refl, Some, None}
 use Rattle.dg_unify.proofs.StoreLemmas.{holds_some}
 use Rattle.dg_interp.specs.declared.frames.Whole.TheVariants.{Sum as InSum}
 use Rattle.dg_interp.specs.Outside.{closed_to}
