@@ -104,7 +104,7 @@ const LARGE_SUM: &str =
 const COPIES: &str =
     "(p 1)\n(p $)\n(program entry point) (collect [$X $X]) *(p $X) (into [$A [$B $C] | $D]) ($B = 2) $A $B $C $D (accumulate 3) *(p $) (into $N) $N\n";
 
-const GATHERS_FOREVER: &str = "(program entry point) x (collect y) (repeat forever) (into $)\n";
+const GATHERS_FOREVER: &str = "(program entry point) x (collect 1) (repeat forever) (into $)\n";
 
 // The words of the command, the source, the status and the transcript.
 const TRANSCRIPTS: [(&str, &str, u8, &str); 37] = [
@@ -442,7 +442,7 @@ const KEEPER: &str =
 
 const TWICE: &str = "(program entry point) a (get input $A) b (get input $B) $A $B";
 
-const SPLIT: &str = "(program entry point) (split word @ab1 into $L) $L";
+const SPLIT_WORD: &str = "(program entry point) (split word @ab1 into $L) $L";
 
 const JOIN: &str =
     "(program entry point) (join words [a 12] into $W) $W (if) (join words [@1 2] into 12) (then) n (endif) (join words [] into $)";
@@ -454,12 +454,12 @@ const TYPED: [(&str, &[u8], &str); 12] = [
     (ECHO, b"\n", "[]\n"),
     (ECHO, b"go  \"up\".\r\nno", "[go \" up \".]\n"),
     (ECHO, b"16383 16384 007", "[16383 16384 7]\n"),
-    (ECHO, "PRENDRE L'Épée".as_bytes(), "[prendre l'épée]\n"),
+    (ECHO, b"PRENDRE L'\xC3\x89p\xC3\xA9e", "[prendre l'épée]\n"),
     (ECHO, b"\xE4", "[?]\n"),
     (KEEPER, b"lighthousekeeper", "one\n"),
-    (KEEPER, "ÉPÉE".as_bytes(), "yes\n"),
+    (KEEPER, b"\xC3\x89P\xC3\x89E", "yes\n"),
     (TWICE, b"x\ny", "a\nb\n[x] [y]\n"),
-    (SPLIT, b"", "[a b 1]\n"),
+    (SPLIT_WORD, b"", "[a b 1]\n"),
     (JOIN, b"", "a12 n\n[Failed]\n"),
 ];
 
