@@ -110,9 +110,9 @@ closure_held Q new b false x y h k l = (h, (new (branches_in y.0), l), tt)
 
 -- ---- queries and changes
 
-query_held : (N : List ℕ → Type 0) (P Q : Thing → Type 0) (l : Level) (g : Level_carries N P Q l) (b : Bool) (n : ℕ) (f : Body → Stmt) (asked : Role) (ps : Parts) (m : Option Access) (given : Access → List (List ℕ × Argument)) (o : Stmt × ℕ) → is_asked asked ≡ true → P (query asked ps) → rule_for l.rules ps ≡ m → ((s : Body) → Hold Q (of_branches b s) → Hold Q (of_stmt b (f s))) → ((r : Access) → AllGiven Q (given r)) → (rule_for l.rules ps ≡ None → Hold Q (of_stmt b o.0)) → Hold Q (of_stmt b (put_query l n f m given o).0)
-query_held N P Q l g b n f asked ps None given o a k e wrap args h = h e
-query_held N P Q l g b n f asked ps (Some r) given o a k e wrap args h = wrap _ (g.bodies asked ps r a k e (within (given r) n) (n + 1) b (args r))
+query_held : (N : List ℕ → Type 0) (P Q : Thing → Type 0) (l : Level) (g : Level_carries N P Q l) (b : Bool) (n : ℕ) (f : Body → Stmt) (how : Role) (ps : Parts) (m : Option Access) (given : Access → List (List ℕ × Argument)) (o : Stmt × ℕ) → is_asked how ≡ true → P (query how ps) → rule_for l.rules ps ≡ m → ((s : Body) → Hold Q (of_branches b s) → Hold Q (of_stmt b (f s))) → ((r : Access) → AllGiven Q (given r)) → (rule_for l.rules ps ≡ None → Hold Q (of_stmt b o.0)) → Hold Q (of_stmt b (put_query l n f m given o).0)
+query_held N P Q l g b n f how ps None given o a k e wrap args h = h e
+query_held N P Q l g b n f how ps (Some r) given o a k e wrap args h = wrap _ (g.bodies how ps r a k e (within (given r) n) (n + 1) b (args r))
 
 changing_is : (set : Bool) (m : Option Access) (r : Access) → changing set m ≡ Some r → m ≡ Some r
 changing_is set None r e = e
