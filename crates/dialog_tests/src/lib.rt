@@ -12,8 +12,6 @@ mod images;
 #[cfg(test)]
 mod instructions;
 #[cfg(test)]
-mod rules;
-#[cfg(test)]
 mod spacing;
 #[cfg(test)]
 mod stories;
