@@ -56,7 +56,8 @@ pub record CodeStays (w : ZGiven) (s : ZState) : Type 0 where
 pub record StandsOn (layout : Layout) (old new : List ℕ) : Type 0 where
   pub bytes : (at : ℕ) (bytes : List ℕ) → layout.base ≤ at → Stands old at bytes → Stands new at bytes
   pub instruction : (rows : Rows) (at : ℕ) (op : Op) (end : ℕ) → layout.base ≤ at → IsInstruction rows old at op end → IsInstruction rows new at op end
-  pub decoded : (rows : Rows) (at : ℕ) (x : Found) → layout.base ≤ at → IsInstruction rows old at x.op x.end → op_at rows old at ≡ Ok x → op_at rows new at ≡ Ok x
+  pub decoded : (rows : Rows) (at : ℕ) (x : Found) → layout.base ≤ at → IsInstruction rows old at x.op x.end →
+      op_at rows old at ≡ Ok x → op_at rows new at ≡ Ok x
   pub string : (at : ℕ) → layout.base ≤ at → string_at new at ≡ string_at old at
 
 -- ---- what stands at the counter is done
