@@ -1,8 +1,7 @@
 -- What steps come to.
-use Rattle.std.proofs.Common.{◌≡◌, ℕ, zero, suc, ◌+◌, ◌<◌, ◌≤◌, List, [], ◌∷◌, ◌++◌, Option, Some, None, Bool, true, false, refl, sym, ap, ◌∙◌, subst, arith, length, nat_lt}
+use Rattle.std.proofs.Common.{◌≡◌, ℕ, ◌<◌, List, [], ◌∷◌, ◌++◌, Bool, true, false, refl, sym, ap, ◌∙◌, subst, arith, length, nat_lt}
 use Rattle.std.specs.Borrow.{Bor}
 use Rattle.std.proofs.lemmas.Bool.{cond-false, le-ltb}
-use Rattle.std.proofs.lemmas.List.{append-nil}
 use Rattle.dg_base.specs.declared.program.Term.{Term}
 use Rattle.dg_base.specs.declared.run.Limits.{Limits}
 use Rattle.dg_base.specs.declared.run.Ending.TheVariants as ending
@@ -18,8 +17,8 @@ use Rattle.dg_mid.specs.declared.code.Action.TheVariants as action
 use Rattle.dg_mid.specs.declared.code.Code.{Code}
 use Rattle.dg_mid.specs.Code.{block_at}
 use Rattle.dg_mid.specs.State.{Mid, Calls as CallsOf, Status, Runs as RunsOf, Enters as EntersOf, Resumes as ResumesOf, Fails as FailsOf, Ended as EndedOf}
-use Rattle.dg_mid.specs.Step.{Setting, setting, more, does, runs, step, stops, said, said_in, said_to, followed, takes_goal, at_goal, is_goal, keeps_within}
-use Rattle.dg_mid.specs.Heights.{MidOrdered, StatusOrdered}
+use Rattle.dg_mid.specs.Step.{Setting, setting, more, does, runs, step, stops, said, said_in, said_to, followed, is_goal, keeps_within}
+use Rattle.dg_mid.specs.Heights.{MidOrdered}
 use Rattle.dg_mid.specs.Falling.{jumping}
 use Rattle.dg_mid.specs.Potential.{Tidy, begins_goto}
 use Rattle.dg_spacing.specs.declared.spacer.Spacer.{Spacer}
@@ -30,10 +29,10 @@ use Rattle.dg_machine.specs.declared.now.Way.TheVariants.{Goes, Calls}
 use Rattle.dg_machine.specs.declared.now.Now.{Now}
 use Rattle.dg_machine.specs.declared.now.Now.TheVariants.{Runs, Enters, Resumes, Fails, Ended}
 use Rattle.dg_machine.specs.declared.memory.Memory.{Memory}
-use Rattle.dg_machine.specs.Built.{ActionBuilt, OpBuilt, OpsBuilt, IsBuilt, IsQuiet, IsQuietOp}
-use Rattle.dg_machine.specs.Layout.{HasRoom, Holds, Roomy}
+use Rattle.dg_machine.specs.Built.{OpBuilt, OpsBuilt, IsBuilt, IsQuiet, IsQuietOp}
+use Rattle.dg_machine.specs.Layout.{HasRoom, Holds}
 use Rattle.dg_machine.specs.Standing.{CodeIs, Stands, Falls, DoesOp, DoesMark, Asks, AsksLast, EntersRule, IsThere, GoesOn, FailsTo, HasStatus}
-use Rattle.dg_machine.specs.Running.{rests, MarkDone, DoesMarks, HasText, GoalDone, DoesGoal, GoalLost, LosesGoal}
+use Rattle.dg_machine.specs.Running.{rests, DoesMarks, HasText, GoalDone, GoalLost}
 use Rattle.dg_machine.proofs.Opens.{roomy}
 use Rattle.dg_machine.proofs.Hands.{nothing_more, no_jump}
 use Rattle.dg_machine.proofs.Leaving.{block_is}

@@ -1,15 +1,15 @@
 -- What is at hand, and what stays where it is left.
-use Rattle.std.proofs.Common.{◌≡◌, ℕ, zero, suc, ◌+◌, ◌*◌, ◌<◌, ◌≤◌, List, [], ◌∷◌, ◌++◌, Option, Some, None, true, false, refl, sym, ap, ◌∙◌, subst, arith, length, reverse, inl, inr, vec_capacity}
+use Rattle.std.proofs.Common.{◌≡◌, ℕ, ◌+◌, ◌<◌, ◌≤◌, List, [], ◌∷◌, ◌++◌, Some, None, false, refl, sym, ap, ◌∙◌, subst, arith, length, reverse, inl, inr, vec_capacity}
 use Rattle.std.specs.Prelude.{nat_lt}
-use Rattle.std.proofs.lemmas.List.{length-reverse, reverse-append}
-use Rattle.std.proofs.lemmas.Bool.{cond-true, cond-false, cases_Bool, cases_lt, lt-ltb, le-ltb}
+use Rattle.std.proofs.lemmas.List.{reverse-append}
+use Rattle.std.proofs.lemmas.Bool.{cond-true, cond-false, cases_lt, lt-ltb, le-ltb}
 use Rattle.dg_base.specs.declared.run.Limits.{Limits}
-use Rattle.dg_unify.specs.Store.{State, Store}
+use Rattle.dg_unify.specs.Store.{Store}
 use Rattle.dg_arena.specs.Held.{meaning_of}
 use Rattle.dg_mid.specs.declared.code.Op.{Op}
 use Rattle.dg_mid.specs.declared.code.Op.TheVariants as op
 use Rattle.dg_mid.specs.declared.code.Code.{Code}
-use Rattle.dg_mid.specs.State.{Place, Mid, Frame as FrameOf, Choice as ChoiceOf, cut_of, cut_choices}
+use Rattle.dg_mid.specs.State.{Place, Mid, Frame as FrameOf, Choice as ChoiceOf, cut_choices}
 use Rattle.dg_mid.specs.Step.{more, cut_to}
 use Rattle.dg_mid.specs.Heights.{AgreeAll}
 use Rattle.dg_mid.specs.Falling.{jumping}
@@ -19,10 +19,10 @@ use Rattle.dg_machine.specs.declared.now.Inner.{Inner}
 use Rattle.dg_machine.specs.declared.now.Choice.{Choice}
 use Rattle.dg_machine.specs.declared.memory.Memory.{Memory}
 use Rattle.dg_machine.specs.Links.{named, below}
-use Rattle.dg_machine.specs.Layout.{InnerAt, InnersAt, FrameAt, FramesAt, ChoicesAt, HasRoom, HoldsWith, Holds, heap_in, limit_in}
-use Rattle.dg_machine.specs.Measure.{way_left, choices_left}
+use Rattle.dg_machine.specs.Layout.{ValuesAt, InnersAt, FramesAt, ChoicesAt, HasRoom, Holds, heap_in, limit_in}
+use Rattle.dg_machine.specs.Measure.{choices_left}
 use Rattle.dg_machine.proofs.Cuts.{cut_is}
-use Rattle.dg_machine.proofs.Opens.{inner_within, frame_within, left_more, fits}
+use Rattle.dg_machine.proofs.Opens.{inner_within, frame_within, left_more}
 
 -- ## At hand
 
@@ -34,6 +34,8 @@ pub record NewestFrame (s : Store) (inners : List Inner) (xs : List Frame) (e : 
   pub next : newest.next ≡ frame.next
   pub many : newest.many ≡ frame.many
   pub cut : newest.cut.height ≡ frame.cut
+  pub vars : ValuesAt s frame.vars newest.vars
+  pub count : length newest.vars ≡ frame.count
   pub inner_is : InnersAt inners frame.inner newest.inner
   pub older : frame.behind < e
   pub behind_is : FramesAt s inners xs frame.behind behind
@@ -49,6 +51,8 @@ some_frame s is xs e frame (f ∷ fs) n h =
       next = h.next ∙ ap (λ (x : Frame). x.next) same;
       many = h.many ∙ ap (λ (x : Frame). x.many) same;
       cut = h.cut ∙ ap (λ (x : Frame). x.cut) same;
+      vars = subst (λ (x : Frame). ValuesAt s x.vars f.vars) same h.vars;
+      count = h.count ∙ ap (λ (x : Frame). x.count) same;
       inner_is = subst (λ (x : Frame). InnersAt is x.inner f.inner) same h.inner_is;
       older = subst (λ (x : Frame). x.behind < e) same h.older;
       behind_is = subst (λ (x : Frame). FramesAt s is xs x.behind fs) same h.behind_is;

@@ -1,5 +1,5 @@
 -- What lies in memory still lies there where only more was added.
-use Rattle.std.proofs.Common.{◌≡◌, ℕ, zero, suc, ◌+◌, ◌*◌, ◌<◌, ◌≤◌, List, [], ◌∷◌, ◌++◌, Option, Some, None, refl, sym, ap, ◌∙◌, subst, arith, length}
+use Rattle.std.proofs.Common.{◌≡◌, ℕ, zero, suc, List, [], ◌∷◌, Some, sym, subst}
 use Rattle.std.specs.List.{slice_get}
 use Rattle.dg_meaning.specs.Values.{Value}
 use Rattle.dg_meaning.specs.OneRun.{Begins}
@@ -42,6 +42,7 @@ frames_kept s t is js xs ys e (f ∷ fs) k a b h = record {
   many = h.many;
   cut = h.cut;
   vars = values_kept s t h.frame.vars f.vars k h.vars;
+  count = h.count;
   inner_is = inners_kept is js h.frame.inner f.inner a h.inner_is;
   older = h.older;
   behind_is = frames_kept s t is js xs ys h.frame.behind fs k a b h.behind_is;

@@ -1,5 +1,5 @@
 -- What is left, called and entered.
-use Rattle.std.proofs.Common.{◌≡◌, ℕ, zero, suc, ◌+◌, ◌*◌, ◌-◌, ◌<◌, ◌≤◌, List, [], ◌∷◌, ◌++◌, Option, Some, None, Bool, true, false, refl, sym, ap, ◌∙◌, subst, arith, length, drop, take, map, zip, nat_lt, reverse, vec_capacity, length-drop, get_or}
+use Rattle.std.proofs.Common.{◌≡◌, ℕ, zero, suc, ◌+◌, ◌-◌, ◌<◌, ◌≤◌, List, [], ◌∷◌, Some, None, Bool, true, false, refl, sym, ap, ◌∙◌, subst, arith, length, drop, take, nat_lt, reverse, vec_capacity, length-drop, get_or}
 use Rattle.std.proofs.Math.Seq.{take-length}
 use Rattle.std.specs.Borrow.{Bor}
 use Rattle.std.proofs.lemmas.Bool.{cond-false, le-ltb}
@@ -7,8 +7,10 @@ use Rattle.dg_base.specs.declared.run.Limits.{Limits}
 use Rattle.dg_base.specs.declared.run.Ending.TheVariants as ending
 use Rattle.dg_base.specs.declared.program.Term.{Term}
 use Rattle.dg_meaning.specs.Substitutions.{Substitution, IsSubstitution}
-use Rattle.dg_meaning.specs.Unify.{Unified, agreed, solve}
-use Rattle.dg_meaning.specs.Moves.{made_since}
+use Rattle.dg_meaning.specs.Unify.{agreed, solve}
+use Rattle.dg_meaning.specs.Values.{Value}
+use Rattle.dg_meaning.specs.Cells.{cells}
+use Rattle.dg_meaning.specs.Moves.{made_since, new_vars}
 use Rattle.dg_meaning.specs.World.{Game}
 use Rattle.dg_meaning.proofs.Solving.{solve_is}
 use Rattle.dg_unify.specs.Store.{State, trail_of}
@@ -18,13 +20,12 @@ use Rattle.dg_mid.specs.declared.code.Op.TheVariants as op
 use Rattle.dg_mid.specs.declared.code.Code.{Code}
 use Rattle.dg_mid.specs.declared.code.RuleCode.{RuleCode}
 use Rattle.dg_mid.specs.Code.{block_at, rules_at, selected}
-use Rattle.dg_mid.specs.State.{Place, Mid, Frame as FrameOf, Call as CallOf, Choice as ChoiceOf, Way as WayOf, ToPred, Goes as GoesOf, Calls as CallsOf, Status, Runs as RunsOf, Enters as EntersOf, Fails as FailsOf, Ended as EndedOf, place_of, cut_of}
-use Rattle.dg_mid.specs.Step.{Setting, setting, charged, cut_to, more, bound, unified, trail_more, inside, passed, at_rule, begins, enter, entered, returns, returned, resumed, goes_on, goes_back, call_of, asks, asks_last, last}
+use Rattle.dg_mid.specs.State.{Mid, Frame as FrameOf, Call as CallOf, Choice as ChoiceOf, Way as WayOf, ToPred, Goes as GoesOf, Calls as CallsOf, Status, Runs as RunsOf, Enters as EntersOf, Ended as EndedOf}
+use Rattle.dg_mid.specs.Step.{Setting, setting, cut_to, bound, unified, trail_more, inside, passed, at_rule, begins, enter, entered, returns, returned, resumed, goes_on, goes_back, call_of, asks, asks_last, last}
 use Rattle.dg_mid.specs.Heights.{AgreeAll, FramesNamed, MidOrdered}
 use Rattle.dg_mid.specs.Potential.{Tidy, begins_goto}
 use Rattle.dg_machine.specs.declared.now.Frame.{Frame}
 use Rattle.dg_machine.specs.declared.now.Call.{Call}
-use Rattle.dg_machine.specs.declared.now.Choice.{Choice}
 use Rattle.dg_machine.specs.declared.now.Way.{Way}
 use Rattle.dg_machine.specs.declared.now.Way.TheVariants.{Goes, Calls}
 use Rattle.dg_machine.specs.declared.now.Now.{Now}
@@ -32,11 +33,12 @@ use Rattle.dg_machine.specs.declared.now.Now.TheVariants.{Runs, Enters, Resumes,
 use Rattle.dg_machine.specs.declared.memory.Memory.{Memory}
 use Rattle.dg_machine.specs.Links.{named, below}
 use Rattle.dg_machine.specs.Built.{OpBuilt, OpsBuilt, IsBuilt}
-use Rattle.dg_machine.specs.Layout.{HoldsWith, Holds, HasRoom, Roomy, Lacks, CallAt, RulesAt, WayAt, Opened, WentBack, frame_of, last_rules, heap_in}
+use Rattle.dg_machine.specs.Layout.{HoldsWith, Holds, Roomy, Lacks, CallAt, WayAt, Opened, WentBack, made_state, in_frame, last_rules, heap_in}
 use Rattle.dg_machine.specs.Measure.{way_left, choices_left}
-use Rattle.dg_machine.specs.Standing.{CodeIs, Stands, Falls, CallBegins, CallsRules}
-use Rattle.dg_machine.proofs.Opens.{left_more, fits}
-use Rattle.dg_machine.proofs.Hands.{some_frame, no_frame, cut_left, no_jump, few, at_most_one}
+use Rattle.dg_machine.specs.Standing.{CodeIs, Stands, Falls, EntersIn, CallBegins, CallsRules}
+use Rattle.dg_machine.proofs.Opens.{left_more}
+use Rattle.dg_machine.proofs.Rows.{lacks_more}
+use Rattle.dg_machine.proofs.Hands.{some_frame, no_frame, no_jump, few, at_most_one}
 use Rattle.dg_machine.proofs.Leads.{was_cut, charged_stands, full_stands, height_now}
 
 -- ## The answer of a rule
@@ -177,7 +179,7 @@ solved S sound = solve_is 1 S [] (agreed S) sound refl
 nothing_made : (S : Substitution) → made_since S S ≡ []
 nothing_made S = let none : length S - length S ≡ 0 = omega arith in ap (λ k. take k S) none
 
-module _ (code : Code) (g : Game) (l : Limits) (m : Mid) (k : Call) (c : CallOf) (r new : Memory) (ops rest : Bor (List Op)) (h : Holds code l r m) where
+module _ (code : Code) (g : Game) (l : Limits) (m : Mid) (k : Call) (c : CallOf) (vars : ℕ) (r new : Memory) (ops rest : Bor (List Op)) (h : Holds code l r m) where
   abbrev set_c : Setting
   set_c = setting g code l
 
@@ -194,39 +196,54 @@ module _ (code : Code) (g : Game) (l : Limits) (m : Mid) (k : Call) (c : CallOf)
   abbrev bare_call : CallOf
   bare_call = record c { args = [] }
 
-  -- the machine behind the entering
-  abbrev inside_rule : Mid → Mid
-  inside_rule m' = record m' { frames = frame_of bare_call m ∷ m.frames; inner = [] }
+  abbrev made : List Value
+  made = new_vars vars m.state.vars
 
   abbrev made_vars : Mid
-  made_vars = record m { ops = rest.now; state = record m.state { vars = m.state.vars + 0; heap = m.state.heap + 6 } }
+  made_vars = record m { ops = rest.now; state = record m.state { vars = m.state.vars + vars; heap = m.state.heap + (6 + vars + cells g.program []) } }
 
   none_more : trail_more made_vars.state (agreed m.state.subst) ≡ m.state.trail
   none_more = ap (λ S. m.state.trail + trail_of m.state.since S) (nothing_made m.state.subst) ∙ (let e : m.state.trail + 0 ≡ m.state.trail = omega arith in e)
 
-  same_state : (bound (agreed m.state.subst) made_vars).state ≡ record m.state { heap = m.state.heap + 6 }
+  same_state : (bound (agreed m.state.subst) made_vars).state ≡ made_state vars m.state
   same_state =
-      let none : m.state.vars + 0 ≡ m.state.vars = omega arith in
-      ap (λ n. record (bound (agreed m.state.subst) made_vars).state { vars = n }) none ∙ ap (λ n. record m.state { heap = m.state.heap + 6; trail = n }) none_more
+      let heap : m.state.heap + (6 + vars + 0) ≡ m.state.heap + (6 + vars) = omega arith in
+      ap (λ n. record (bound (agreed m.state.subst) made_vars).state { heap = n }) heap ∙ ap (λ n. record (made_state vars m.state) { trail = n }) none_more
 
-  held_inside : Holds code l new (record (more 6 m) { frames = frame_of bare_call m ∷ m.frames; inner = [] }) → Holds code l new (inside_rule (bound (agreed m.state.subst) made_vars))
-  held_inside held = (subst (λ s. HoldsWith code l new s (frame_of bare_call m ∷ m.frames) [] m.choices) (sym same_state) held.0, held.1)
+  held_inside : Holds code l new (in_frame c made (record m { state = made_state vars m.state })) → Holds code l new (in_frame bare_call made (bound (agreed m.state.subst) made_vars))
+  held_inside held = (subst (λ s. HoldsWith code l new s (in_frame bare_call made made_vars).frames [] m.choices) (sym same_state) held.0, held.1)
 
-  enters_bare : OpsBuilt rest.now → Holds code l new (record (more 6 m) { frames = frame_of bare_call m ∷ m.frames; inner = [] }) → Stands code l new (Runs rest) (entered set_c bare_call (op.Enter 0 [] ∷ rest.now) m)
+  enters_bare : OpsBuilt rest.now → Holds code l new (in_frame c made (record m { state = made_state vars m.state })) → Stands code l new (Runs rest) (enter set_c bare_call vars [] (record m { ops = rest.now }))
   enters_bare built held =
       let sound : IsSubstitution m.state.subst = subst (λ (s : State). IsSubstitution s.subst) h.0.state_is r.arena.sound.fits.sound in
-      let next = RunsOf (inside_rule (bound (agreed m.state.subst) made_vars)) in
-      charged_stands code g l 6 (record m { ops = rest.now }) (inside_rule (bound (agreed m.state.subst) made_vars)) (unified set_c (solve m.state.subst []) made_vars (RunsOf (inside_rule (bound (solve m.state.subst []) made_vars)))) new (Runs rest) (held_inside held) refl
-      (subst (λ u. Stands code l new (Runs rest) (unified set_c u made_vars (RunsOf (inside_rule (bound u made_vars))))) (sym (solved m.state.subst sound))
-      (subst (Stands code l new (Runs rest)) (sym (unified_nothing made_vars next refl refl)) ((refl, built), held_inside held)))
+      let m' = in_frame bare_call made (bound (agreed m.state.subst) made_vars) in
+      charged_stands code g l (6 + vars + cells g.program []) (record m { ops = rest.now }) m' (unified set_c (solve m.state.subst []) made_vars (RunsOf (in_frame bare_call made (bound (solve m.state.subst []) made_vars)))) new (Runs rest) (held_inside held) refl
+      (subst (λ u. Stands code l new (Runs rest) (unified set_c u made_vars (RunsOf (in_frame bare_call made (bound u made_vars))))) (sym (solved m.state.subst sound))
+      (subst (Stands code l new (Runs rest)) (sym (unified_nothing made_vars (RunsOf m') refl refl)) ((refl, built), held_inside held)))
 
-  pub enters : c.args ≡ [] → OpsBuilt rest.now → Holds code l new (record (more 6 m) { frames = frame_of c m ∷ m.frames; inner = [] }) → Stands code l new (Runs rest) (entered set_c c (op.Enter 0 [] ∷ rest.now) m)
-  enters none built held = subst (λ x. Stands code l new (Runs rest) (entered set_c x (op.Enter 0 [] ∷ rest.now) m)) (sym (ap (λ vs. record c { args = vs }) none)) (enters_bare built held)
+  bare_is : c.args ≡ [] → c ≡ bare_call
+  bare_is none = ap (λ vs. record c { args = vs }) none
 
-  pub enters_full : c.args ≡ [] → Lacks 6 l m.state.heap new → Stands code l new (Ended ending.HeapLimit) (entered set_c c (op.Enter 0 [] ∷ rest.now) m)
+  pub enters : c.args ≡ [] → CodeIs rest.now m → Holds code l new (in_frame c made (record m { state = made_state vars m.state })) → new.choices ≡ r.choices → Falls code l r (Enters k ops) new (Runs rest) (enter set_c c vars [] m)
+  enters none at held same =
+      let bounds = few code l new (in_frame c made (record m { state = made_state vars m.state })) held in
+      let frame = bounds.frame in
+      let inner = bounds.inner in
+      let jumps = at_most_one rest.now in
+      let left_now : choices_left new.choices.items ≡ choices_left r.choices.items = ap (λ v. choices_left v.items) same in
+      record {
+        stands = subst (λ x. Stands code l new (Runs rest) (enter set_c x vars [] m)) (sym (bare_is none)) (subst (λ xs. Stands code l new (Runs rest) (enter set_c bare_call vars [] (record m { ops = xs }))) (sym at.0) (enters_bare at.1 held));
+        falls = omega (arith, left_now, frame, inner, jumps);
+      }
+
+  pub enters_full : c.args ≡ [] → Lacks (6 + vars) l m.state.heap new → Falls code l r (Enters k ops) new (Ended ending.HeapLimit) (enter set_c c vars [] m)
   enters_full none over =
-      subst (λ x. Stands code l new (Ended ending.HeapLimit) (entered set_c x (op.Enter 0 [] ∷ rest.now) m)) (sym (ap (λ vs. record c { args = vs }) none))
-      (full_stands code g l 6 (record m { ops = rest.now }) (unified set_c (solve m.state.subst []) made_vars (RunsOf (inside_rule (bound (solve m.state.subst []) made_vars)))) r new h over)
+      let over' : Lacks (6 + vars + cells g.program []) l m.state.heap new = lacks_more l (6 + vars) (6 + vars + cells g.program []) m.state.heap new (let le : 6 + vars ≤ 6 + vars + 0 = omega arith in le) over in
+      record {
+        stands = subst (λ x. Stands code l new (Ended ending.HeapLimit) (enter set_c x vars [] m)) (sym (bare_is none))
+            (full_stands code g l (6 + vars + cells g.program []) m (unified set_c (solve m.state.subst []) (record made_vars { ops = m.ops }) (RunsOf (in_frame bare_call made (bound (solve m.state.subst []) (record made_vars { ops = m.ops }))))) r new h over');
+        falls = omega arith;
+      }
 
 -- ## Going on
 
@@ -392,31 +409,21 @@ go_goes code g l m b r new now on at falls = absurd at
 
 -- ## The first of a rule
 
-pub record EntersBare (all rest : List Op) : Type 0 where
-  pub is : all ≡ op.Enter 0 [] ∷ rest
+pub record EntersBare (all rest : List Op) (vars : ℕ) : Type 0 where
+  pub is : all ≡ op.Enter vars [] ∷ rest
   pub built : OpsBuilt rest
 
-pub entering_is : (all : List Op) (x : Op) (rest : List Op) (vars : ℕ) (head : List Term) → all ≡ x ∷ rest → x ≡ op.Enter vars head → OpsBuilt all → EntersBare all rest
+pub entering_is : (all : List Op) (x : Op) (rest : List Op) (vars : ℕ) (head : List Term) → all ≡ x ∷ rest → x ≡ op.Enter vars head → OpsBuilt all → EntersBare all rest vars
 entering_is all x rest vars head is enter built =
     let whole : all ≡ op.Enter vars head ∷ rest = is ∙ ap (λ y. y ∷ rest) enter in
     let parts : OpsBuilt (op.Enter vars head ∷ rest) = subst OpsBuilt whole built in
-    record { is = whole ∙ ap (λ n. op.Enter n head ∷ rest) parts.0.0 ∙ ap (λ ts. op.Enter 0 ts ∷ rest) parts.0.1; built = parts.1 }
+    record { is = whole ∙ ap (λ ts. op.Enter vars ts ∷ rest) parts.0; built = parts.1 }
 
-module _ (code : Code) (g : Game) (l : Limits) (m : Mid) (k : Call) (c : CallOf) (r new : Memory) (ops rest : Bor (List Op)) (h : Holds code l r m) where
-  pub rule_entered : EntersBare ops.now rest.now → m.ops ≡ ops.now → CallAt k c → Holds code l new (record (more 6 m) { frames = frame_of c m ∷ m.frames; inner = [] }) → new.choices ≡ r.choices → Falls code l r (Enters k ops) new (Runs rest) (entered (setting g code l) c m.ops m)
-  rule_entered e at call held same =
-      let bounds = few code l new (record (more 6 m) { frames = frame_of c m ∷ m.frames; inner = [] }) held in
-      let frame = bounds.frame in
-      let inner = bounds.inner in
-      let jumps = at_most_one rest.now in
-      let left_now : choices_left new.choices.items ≡ choices_left r.choices.items = ap (λ v. choices_left v.items) same in
-      subst (λ xs. Falls code l r (Enters k ops) new (Runs rest) (entered (setting g code l) c xs m)) (sym (at ∙ e.is))
-      (record { stands = enters code g l m k c r new ops rest h call.args e.built held; falls = omega (arith, left_now, frame, inner, jumps) })
-
-  pub rule_full : EntersBare ops.now rest.now → m.ops ≡ ops.now → CallAt k c → Lacks 6 l m.state.heap new → Falls code l r (Enters k ops) new (Ended ending.HeapLimit) (entered (setting g code l) c m.ops m)
-  rule_full e at call over =
-      subst (λ xs. Falls code l r (Enters k ops) new (Ended ending.HeapLimit) (entered (setting g code l) c xs m)) (sym (at ∙ e.is))
-      (record { stands = enters_full code g l m k c r new ops rest h call.args over; falls = omega arith })
+-- what is said of the first of a rule is said of its entering
+pub rule_entered : (code : Code) (g : Game) (l : Limits) (m : Mid) (k : Call) (c : CallOf) (vars : ℕ) (r new : Memory) (now : Now) (ops : Bor (List Op)) (rest : List Op) → EntersBare ops.now rest vars → m.ops ≡ ops.now → CallAt k c → Holds code l r m →
+    EntersIn code r k vars [] rest new now → Falls code l r (Enters k ops) new now (entered (setting g code l) c m.ops m)
+rule_entered code g l m k c vars r new now ops rest e at call h does =
+    subst (λ xs. Falls code l r (Enters k ops) new now (entered (setting g code l) c xs m)) (sym (at ∙ e.is)) (does g l (record m { ops = rest }) c ops (refl, e.built) call h)
 
 -- ## The answer of a rule that cuts
 

@@ -1,6 +1,7 @@
 pub mod Kept
 pub mod Cuts
 pub mod Opens
+pub mod Rows
 pub mod Hands
 pub mod Leads
 pub mod Leaving

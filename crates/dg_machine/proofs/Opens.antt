@@ -1,31 +1,28 @@
 -- What the calls of memory leave in it.
-use Rattle.std.proofs.Common.{◌≡◌, ℕ, zero, suc, ◌+◌, ◌*◌, ◌<◌, ◌≤◌, List, [], ◌∷◌, ◌++◌, Option, Some, None, Result, Ok, Err, MatchResult, IsTrue, true, false, refl, sym, ap, ◌∙◌, subst, arith, length, reverse, take, drop, ◌-◌, vec_capacity, length-append}
+use Rattle.std.proofs.Common.{◌≡◌, ℕ, zero, suc, ◌+◌, ◌*◌, ◌<◌, ◌≤◌, List, [], ◌∷◌, ◌++◌, Some, None, IsTrue, false, refl, sym, ap, ◌∙◌, subst, arith, length, reverse, take, drop, ◌-◌, vec_capacity, length-append}
 use Rattle.std.specs.List.{slice_get}
 use Rattle.std.proofs.lemmas.List.{length-reverse, reverse-append}
 use Rattle.std.proofs.lemmas.Option.{slice_get_within}
 use Rattle.std.proofs.Math.Seq.{take-append_seam}
 use Rattle.dg_base.specs.declared.run.Limits.{Limits}
+use Rattle.dg_meaning.specs.Values.{Value}
 use Rattle.dg_meaning.specs.OneRun.{Begins}
 use Rattle.dg_meaning.proofs.OneRun.{begins_same}
 use Rattle.dg_unify.specs.Store.{State, Store, Saved, Kept, Charged, HeapFull, marked, Back}
-use Rattle.dg_unify.specs.Slots.{store_of, fields_at}
 use Rattle.dg_unify.specs.declared.bindings.Mark.{Mark}
 use Rattle.dg_unify.specs.declared.bindings.Full.{Full}
 use Rattle.dg_unify.specs.declared.bindings.Full.TheVariants as full
 use Rattle.dg_arena.specs.declared.arena.Arena.{Arena}
-use Rattle.dg_arena.specs.Held.{fields_of, meaning_of, saves_of}
+use Rattle.dg_arena.specs.Held.{meaning_of, saves_of}
 use Rattle.dg_mid.specs.declared.code.Code.{Code}
 use Rattle.dg_mid.specs.State.{Place, Mid, Frame as FrameOf, Call as CallOf, Way as WayOf, Choice as ChoiceOf}
-use Rattle.dg_mid.specs.Step.{more, inside, within, new_choice, back_at, gathered_to}
-use Rattle.dg_mid.specs.declared.code.Op.{Op}
+use Rattle.dg_mid.specs.Step.{more, inside, within, new_choice, gathered_to}
 use Rattle.dg_machine.specs.declared.now.Frame.{Frame}
 use Rattle.dg_machine.specs.declared.now.Inner.{Inner}
-use Rattle.dg_machine.specs.declared.now.Call.{Call}
 use Rattle.dg_machine.specs.declared.now.Choice.{Choice}
-use Rattle.dg_machine.specs.declared.now.Way.{Way}
 use Rattle.dg_machine.specs.declared.memory.Memory.{Memory}
 use Rattle.dg_machine.specs.Links.{named}
-use Rattle.dg_machine.specs.Layout.{InnersAt, FramesAt, CallAt, WayAt, NoneOpen, ChoicesAt, HasRoom, Limited, Roomy, Lacks, HoldsWith, Holds, Took, Opened, WentBack, frame_of, heap_in, limit_in}
+use Rattle.dg_machine.specs.Layout.{InnersAt, FramesAt, WayAt, NoneOpen, ChoicesAt, HasRoom, Limited, Roomy, Lacks, Holds, WentBack, ValuesAt, HasFrameRoom, in_frame, heap_in, limit_in}
 use Rattle.dg_machine.specs.Measure.{way_left, choices_left}
 use Rattle.dg_machine.proofs.Kept.{inners_kept, frames_kept, choices_kept}
 use Rattle.dg_machine.proofs.Cuts.{drops}
@@ -101,6 +98,33 @@ took code l m n r a h kept saved charged = (
   },
   h.1,
 )
+
+-- the store was changed, and no heap was given back
+pub on_arena : (code : Code) (l : Limits) (m : Mid) (s : State) (r : Memory) (a : Arena) → Holds code l r m → Kept (meaning_of r.arena) (meaning_of a) → ((ms : List Saved) → saves_of r.arena ms → saves_of a ms) → (meaning_of a).state ≡ s → m.state.heap ≤ s.heap → Holds code l (record r { arena = a }) (record m { state = s })
+on_arena code l m s r a h kept saved state more_heap =
+    let was : heap_in r ≡ m.state.heap = ap (λ (x : State). x.heap) h.0.state_is in
+    let heap : heap_in (record r { arena = a }) ≡ s.heap = ap (λ (x : State). x.heap) state in
+    let limit : limit_in (record r { arena = a }) ≡ limit_in r = kept.heap_limit in
+    let room = h.0.room in (
+      record {
+        saves = h.0.saves;
+        stand = saved h.0.saves h.0.stand;
+        state_is = state;
+        limits = record { heap = kept.heap_limit ∙ h.0.limits.heap; trail = kept.trail_limit ∙ h.0.limits.trail };
+        frames_are = frames_kept (meaning_of r.arena) (meaning_of a) r.inners.items r.inners.items r.frames.items r.frames.items r.frame m.frames kept (begins_same r.inners.items) (begins_same r.frames.items) h.0.frames_are;
+        inner_are = h.0.inner_are;
+        choices_are = h.0.choices_are;
+        room = record {
+          frames_fit = omega (arith, limit, room.frames_fit);
+          inners_fit = omega (arith, limit, room.inners_fit);
+          choices_fit = omega (arith, limit, room.choices_fit);
+          frames_few = omega (arith, heap, was, more_heap, room.frames_few);
+          inners_few = omega (arith, heap, was, more_heap, room.inners_few);
+          choices_few = omega (arith, heap, was, more_heap, room.choices_few);
+        };
+      },
+      h.1,
+    )
 
 pub roomy : (code : Code) (l : Limits) (m : Mid) (r : Memory) → Holds code l r m → Roomy l r
 roomy code l m r h =
@@ -237,33 +261,32 @@ begun code l m p r new inner h height around few items capacity last =
 
 -- ## Frames
 
-pub entered : (code : Code) (l : Limits) (m : Mid) (c : CallOf) (r new : Memory) (frame : Frame) → Holds code l r m → c.next ≡ frame.next → c.many ≡ frame.many → c.cut.height ≡ frame.cut → frame.inner ≡ r.inner → frame.behind ≡ r.frame →
-    Kept (meaning_of r.arena) (meaning_of new.arena) → ((ms : List Saved) → saves_of r.arena ms → saves_of new.arena ms) → Charged 6 (meaning_of r.arena) (meaning_of new.arena) →
-    new.frames.items ≡ r.frames.items ++ frame ∷ [] → vec_capacity new.frames ≡ vec_capacity r.frames → new.frame ≡ length new.frames.items → new.inner ≡ 0 →
-    Holds code l (record r { arena = new.arena; frames = new.frames; frame = new.frame; inner = new.inner }) (record (more 6 m) { frames = frame_of c m ∷ m.frames; inner = [] })
-entered code l m c r new frame h next many cut inner behind kept saved charged items capacity last none =
+pub framed : (code : Code) (l : Limits) (m : Mid) (c : CallOf) (vs : List Value) (r new : Memory) (frame : Frame) → Holds code l r m → c.next ≡ frame.next → c.many ≡ frame.many → c.cut.height ≡ frame.cut → ValuesAt (meaning_of r.arena) frame.vars vs → length vs ≡ frame.count →
+    frame.inner ≡ r.inner → frame.behind ≡ r.frame → HasFrameRoom r → new.frames.items ≡ r.frames.items ++ frame ∷ [] → vec_capacity new.frames ≡ vec_capacity r.frames → new.frame ≡ length new.frames.items → new.inner ≡ 0 →
+    Holds code l (record r { frames = new.frames; frame = new.frame; inner = new.inner }) (in_frame c vs m)
+framed code l m c vs r new frame h next many cut vars count inner behind few items capacity last none =
     let more_frames : length new.frames.items ≡ length r.frames.items + 1 = ap length items ∙ length-append r.frames.items (frame ∷ []) in
     let begins : Begins r.frames.items new.frames.items = record { behind = frame ∷ []; is = items } in
-    let in_list = frame_within (meaning_of r.arena) r.inners.items r.frames.items r.frame m.frames h.0.frames_are in
-    let room = took_room 6 r new.arena h.0.room kept charged in
-    let few = h.0.room.frames_few in
-    let heap : heap_in new ≡ heap_in r + 6 = ap (λ (s : State). s.heap) charged.state in (
+    let s = meaning_of r.arena in
+    let in_list = frame_within s r.inners.items r.frames.items r.frame m.frames h.0.frames_are in
+    let room = h.0.room in (
       record {
         saves = h.0.saves;
-        stand = saved h.0.saves h.0.stand;
-        state_is = charged.state ∙ ap (λ (s : State). record s { heap = s.heap + 6 }) h.0.state_is;
-        limits = record { heap = kept.heap_limit ∙ h.0.limits.heap; trail = kept.trail_limit ∙ h.0.limits.trail };
+        stand = h.0.stand;
+        state_is = h.0.state_is;
+        limits = h.0.limits;
         frames_are = record {
           frame = frame;
           there = named_end r.frames.items new.frames.items new.frame frame items last;
           next = next;
           many = many;
           cut = cut;
-          vars = tt;
+          vars = vars;
+          count = count;
           inner_is = subst (λ k. InnersAt r.inners.items k m.inner) (sym inner) h.0.inner_are;
           older = omega (arith, behind, last, more_frames, in_list);
-          behind_is = subst (λ k. FramesAt (meaning_of new.arena) r.inners.items new.frames.items k m.frames) (sym behind)
-              (frames_kept (meaning_of r.arena) (meaning_of new.arena) r.inners.items r.inners.items r.frames.items new.frames.items r.frame m.frames kept (begins_same r.inners.items) begins h.0.frames_are);
+          behind_is = subst (λ k. FramesAt s r.inners.items new.frames.items k m.frames) (sym behind)
+              (frames_kept s s r.inners.items r.inners.items r.frames.items new.frames.items r.frame m.frames (kept_same s) (begins_same r.inners.items) begins h.0.frames_are);
         };
         inner_are = none;
         choices_are = choices_kept code r.frames.items new.frames.items r.inners.items r.inners.items h.0.saves (reverse r.choices.items) m.choices begins (begins_same r.inners.items) h.0.choices_are;
@@ -271,7 +294,7 @@ entered code l m c r new frame h next many cut inner behind kept saved charged i
           frames_fit = omega (arith, room.frames_fit, capacity);
           inners_fit = room.inners_fit;
           choices_fit = room.choices_fit;
-          frames_few = omega (arith, few, more_frames, heap);
+          frames_few = omega (arith, few, more_frames);
           inners_few = room.inners_few;
           choices_few = room.choices_few;
         };

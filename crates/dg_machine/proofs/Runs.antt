@@ -1,17 +1,17 @@
 -- Whole runs of a machine.
-use Rattle.std.proofs.Common.{◌≡◌, ℕ, zero, suc, ◌+◌, ◌<◌, ◌≤◌, ◌-◌, List, [], ◌∷◌, ◌++◌, Option, Some, None, Bool, true, false, refl, sym, ap, ◌∙◌, subst, arith, length, inl, inr}
+use Rattle.std.proofs.Common.{◌≡◌, ℕ, suc, ◌+◌, ◌<◌, ◌≤◌, ◌-◌, List, ◌++◌, None, true, false, refl, sym, ap, ◌∙◌, subst, arith, inl, inr}
 use Rattle.dg_base.specs.declared.run.Limits.{Limits}
 use Rattle.dg_base.specs.declared.run.Ending.{Ending}
 use Rattle.dg_base.specs.declared.run.Ending.TheVariants.{StepLimit}
 use Rattle.dg_base.specs.Written.{SinkView, Wrote, BrokeOff}
-use Rattle.dg_base.proofs.WrittenLemmas.{wrote_nothing, wrote_on, broke_first, broke_later}
+use Rattle.dg_base.proofs.WrittenLemmas.{wrote_on, broke_first, broke_later}
 use Rattle.dg_meaning.specs.World.{Game, World, Print, prints}
 use Rattle.dg_meaning.specs.Render.{render, render_from, nothing_met, met_from}
 use Rattle.dg_machine.proofs.Texts.{render_append}
-use Rattle.dg_meaning.specs.Growth.{growth, ending_line}
+use Rattle.dg_meaning.specs.Growth.{ending_line}
 use Rattle.dg_meaning.specs.Transcript.{Run, run, transcript, text_of, closing, line_of}
 use Rattle.dg_meaning.specs.Shows.{Shows, MayWrite, whole}
-use Rattle.dg_meaning.specs.OneRun.{Begins, Grows}
+use Rattle.dg_meaning.specs.OneRun.{Grows}
 use Rattle.dg_meaning.proofs.Keeps.{stands_happened}
 use Rattle.dg_meaning.proofs.Search.{run_within}
 use Rattle.dg_meaning.proofs.Dropping.{prints_append}
@@ -19,13 +19,13 @@ use Rattle.std.specs.Borrow.{Bor}
 use Rattle.dg_mid.specs.declared.code.Op.{Op}
 use Rattle.dg_mid.specs.declared.code.Code.{Code}
 use Rattle.dg_mid.specs.Heights.{StatusOrdered}
-use Rattle.dg_mid.specs.State.{Mid, Status, Runs as RunsOf, Enters as EntersOf, Resumes as ResumesOf, Fails as FailsOf, Ended as EndedOf}
+use Rattle.dg_mid.specs.State.{Mid, Status, Runs as RunsOf, Enters as EntersOf, Resumes as ResumesOf, Fails as FailsOf}
 use Rattle.dg_mid.specs.Step.{Setting, setting, step, said, followed, takes_goal, at_goal}
 use Rattle.dg_mid.specs.Codes.{Codes}
 use Rattle.dg_mid.specs.Units.{one_if}
 use Rattle.dg_mid.specs.Potential.{IsOver}
 use Rattle.dg_mid.specs.Reads.{At, RunsAt}
-use Rattle.dg_mid.specs.Runs.{after, IsAt as IsAtOf, closed_text}
+use Rattle.dg_mid.specs.Runs.{after, closed_text}
 use Rattle.dg_mid.proofs.Whole.{is_at}
 use Rattle.dg_mid.proofs.Shown.{shows_all}
 use Rattle.dg_mid.proofs.Heights.{all_ordered}

@@ -1,27 +1,24 @@
 -- The start of a run.
-use Rattle.std.proofs.Common.{◌≡◌, ℕ, ◌+◌, ◌*◌, ◌-◌, ◌<◌, ◌≤◌, List, [], ◌∷◌, false, refl, sym, ap, ◌∙◌, subst, arith, length, reverse, vec_capacity, Result, Ok, Err, IfOk, OnErr}
+use Rattle.std.proofs.Common.{◌≡◌, ℕ, List, [], refl, sym, ap, ◌∙◌, subst, arith, length, reverse, vec_capacity, Result, Ok, Err, IfOk, OnErr}
 use Rattle.std.specs.Borrow.{Bor}
 use Rattle.dg_base.specs.declared.program.CoreProgram.{CoreProgram}
 use Rattle.dg_base.specs.declared.run.Ending.{Ending}
 use Rattle.dg_base.specs.declared.run.Limits.{Limits}
-use Rattle.dg_base.specs.Written.{SinkView, Wrote}
+use Rattle.dg_base.specs.Written.{SinkView}
 use Rattle.dg_base.proofs.WrittenLemmas.{wrote_nothing}
 use Rattle.dg_meaning.specs.World.{Game}
 use Rattle.dg_meaning.specs.Render.{render}
-use Rattle.dg_unify.specs.Store.{State}
-use Rattle.dg_arena.specs.Held.{meaning_of, saves_of}
+use Rattle.dg_arena.specs.Held.{meaning_of}
 use Rattle.dg_mid.specs.declared.code.Op.{Op}
 use Rattle.dg_mid.specs.declared.code.Code.{Code}
 use Rattle.dg_mid.specs.Code.{block_at}
-use Rattle.dg_mid.specs.Step.{Setting, setting}
-use Rattle.dg_mid.specs.Runs.{after}
 use Rattle.dg_spacing.specs.declared.spacer.Spacer.{Spacer}
 use Rattle.dg_spacing.specs.Spacer.{StandsFor}
 use Rattle.dg_machine.specs.declared.now.Now.{Now}
 use Rattle.dg_machine.specs.declared.now.Now.TheVariants.{Runs}
 use Rattle.dg_machine.specs.declared.memory.Memory.{Memory}
 use Rattle.dg_machine.specs.Built.{OpsBuilt, IsBuilt}
-use Rattle.dg_machine.specs.Layout.{FramesAt, InnersAt, ChoicesAt, Roomy, HoldsWith, limit_in, at_rest}
+use Rattle.dg_machine.specs.Layout.{ChoicesAt, Roomy, HoldsWith, limit_in, at_rest}
 use Rattle.dg_machine.specs.Running.{game, HasText, IsAt, IsSomewhere, Finishes, LosesRun}
 
 -- memory that was emptied holds nothing

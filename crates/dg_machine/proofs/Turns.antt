@@ -1,5 +1,5 @@
 -- Goals one after another.
-use Rattle.std.proofs.Common.{◌≡◌, ℕ, zero, suc, ◌+◌, ◌-◌, ◌<◌, ◌≤◌, List, [], ◌∷◌, Bool, true, false, inl, inr, refl, sym, ap, ◌∙◌, subst, arith}
+use Rattle.std.proofs.Common.{◌≡◌, ℕ, suc, ◌+◌, ◌≤◌, List, true, false, inl, inr, refl, sym, ap, ◌∙◌, subst, arith}
 use Rattle.std.specs.Borrow.{Bor}
 use Rattle.dg_base.specs.declared.run.Limits.{Limits}
 use Rattle.dg_base.specs.declared.run.Ending.{Ending}
@@ -17,9 +17,9 @@ use Rattle.dg_spacing.specs.declared.spacer.Spacer.{Spacer}
 use Rattle.dg_machine.specs.declared.now.Now.{Now}
 use Rattle.dg_machine.specs.declared.now.Now.TheVariants.{Runs, Enters, Resumes, Fails, Ended}
 use Rattle.dg_machine.specs.declared.memory.Memory.{Memory}
-use Rattle.dg_machine.specs.Layout.{HasRoom, Roomy, Holds}
+use Rattle.dg_machine.specs.Layout.{HasRoom}
 use Rattle.dg_machine.specs.Standing.{Stands}
-use Rattle.dg_machine.specs.Running.{rests, HasText, DoesMarks, DoesGoal, HasSettled, Settles, IsAt, IsLost, IsSomewhere, EndsSo, HasEnded, IsLostWithin}
+use Rattle.dg_machine.specs.Running.{rests, HasText, DoesMarks, DoesGoal, Settles, IsAt, IsLost, IsSomewhere, HasEnded, IsLostWithin}
 use Rattle.dg_machine.proofs.Opens.{roomy}
 use Rattle.dg_machine.proofs.Runs.{goal_at, one_mark}
 

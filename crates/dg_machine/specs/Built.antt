@@ -32,7 +32,7 @@ OpBuilt op.Refuse = Unit {0}
 OpBuilt op.Back = Unit {0}
 OpBuilt op.Return = Unit {0}
 OpBuilt (op.Goto b) = Unit {0}
-OpBuilt (op.Enter vars head) = (vars ≡ 0) × (head ≡ [])
+OpBuilt (op.Enter vars head) = head ≡ []
 OpBuilt op.Done = Unit {0}
 OpBuilt x = ⊥
 

@@ -1,11 +1,10 @@
 -- How what a machine is in lies in memory. Hold it against the Dialog manual, chapters "Choice points" and "Control flow".
-use Rattle.std.specs.Prelude.{ℕ, suc, ◌+◌, ◌*◌, ◌-◌, ◌≡◌, ◌<◌, ◌≤◌, ◌++◌, List, [], ◌∷◌, Option, Some, None, Bool, length, reverse, drop, vec_capacity}
+use Rattle.std.specs.Prelude.{ℕ, suc, ◌+◌, ◌*◌, ◌-◌, ◌≡◌, ◌<◌, ◌≤◌, ◌++◌, List, [], ◌∷◌, Option, Some, None, length, reverse, drop, vec_capacity}
 use Rattle.dg_base.specs.declared.run.Limits.{Limits}
 use Rattle.dg_meaning.specs.Values.{Value}
 use Rattle.dg_meaning.specs.OneRun.{Begins}
-use Rattle.dg_meaning.specs.World.{Gathering}
+use Rattle.dg_meaning.specs.Moves.{new_vars}
 use Rattle.dg_unify.specs.Store.{State, Store, Saved}
-use Rattle.dg_unify.specs.declared.bindings.Ref.{Ref}
 use Rattle.dg_arena.specs.Held.{meaning_of, saves_of}
 use Rattle.dg_mid.specs.declared.code.Code.{Code}
 use Rattle.dg_mid.specs.declared.code.RuleCode.{RuleCode}
@@ -49,6 +48,7 @@ pub record FrameAt (behind : ℕ → Type 0) (s : Store) (inners : List Inner) (
   pub many : f.many ≡ frame.many
   pub cut : f.cut.height ≡ frame.cut
   pub vars : ValuesAt s frame.vars f.vars
+  pub count : length f.vars ≡ frame.count
   pub inner_is : InnersAt inners frame.inner f.inner
   pub older : frame.behind < e
   pub behind_is : behind frame.behind
@@ -197,6 +197,24 @@ WentBack code l (Some way) new m (c ∷ cs) = WayAt code way c.way × Holds code
 WentBack code l None new m [] = Unit {0}
 WentBack code l way new m cs = ⊥
 
--- The frame of a rule without variables that is entered by a call.
-abbrev pub frame_of : CallOf → Mid → FrameOf
-frame_of c m = record { vars = []; cut = c.cut; many = c.many; next = c.next; inner = m.inner }
+-- So many new variables stand at places in a row from one on, and each took one of the heap.
+pub record MadeRow (n : ℕ) (old new : Store) (at : ℕ) : Type 0 where
+  pub state : new.state ≡ record old.state { vars = old.state.vars + n; heap = old.state.heap + n }
+  pub values : ValuesAt new at (new_vars n old.state.vars)
+
+-- The state of a machine with a rule's cells and variables made.
+abbrev pub made_state : ℕ → State → State
+made_state n s = record s { vars = s.vars + n; heap = s.heap + (6 + n) }
+
+-- A rule's cells were taken, and its variables stand in a row; there is room for one more frame.
+pub record MadeRule (code : Code) (l : Limits) (n : ℕ) (m : Mid) (new : Memory) (at : ℕ) : Type 0 where
+  pub held : Holds code l new (record m { state = made_state n m.state })
+  pub values : ValuesAt (meaning_of new.arena) at (new_vars n m.state.vars)
+
+-- There is room for one more frame.
+abbrev pub HasFrameRoom : Memory → Type 0
+HasFrameRoom r = 6 * length r.frames.items + 6 ≤ heap_in r
+
+-- A machine in a new frame of these variables, which a call has entered.
+abbrev pub in_frame : CallOf → List Value → Mid → Mid
+in_frame c vs m = record m { frames = record { vars = vs; cut = c.cut; many = c.many; next = c.next; inner = m.inner } ∷ m.frames; inner = [] }

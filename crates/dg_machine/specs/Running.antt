@@ -1,6 +1,5 @@
 -- What a machine, a spacer and a sink come to together. Hold it against the Dialog manual, chapter "Output".
-use Rattle.std.specs.Prelude.{ℕ, ◌+◌, ◌≡◌, ◌<◌, ◌≤◌, ◌++◌, ◌-◌, ◌⊎◌, suc, List, [], ◌∷◌, Option, Some, None, Bool, true, false}
-use Rattle.std.specs.Borrow.{Bor}
+use Rattle.std.specs.Prelude.{ℕ, ◌+◌, ◌≡◌, ◌<◌, ◌≤◌, ◌-◌, ◌⊎◌, suc, List, [], None, Bool, true, false}
 use Rattle.dg_base.specs.declared.program.CoreProgram.{CoreProgram}
 use Rattle.dg_base.specs.declared.run.Limits.{Limits}
 use Rattle.dg_base.specs.declared.run.Ending.{Ending}
@@ -13,17 +12,15 @@ use Rattle.dg_meaning.specs.Shows.{Shows, MayWrite}
 use Rattle.dg_spacing.specs.declared.spacer.Spacer.{Spacer}
 use Rattle.dg_spacing.specs.Spacer.{StandsFor}
 use Rattle.dg_mid.specs.declared.code.Op.{Op}
-use Rattle.dg_mid.specs.declared.code.Op.TheVariants as op
 use Rattle.dg_mid.specs.declared.code.Code.{Code}
 use Rattle.dg_mid.specs.State.{Mid, Status, Runs as RunsOf, Ended as EndedOf}
 use Rattle.dg_mid.specs.Heights.{MidOrdered, StatusOrdered}
-use Rattle.dg_mid.specs.Step.{Setting, setting, step, said, followed, takes_goal, at_goal, is_goal}
+use Rattle.dg_mid.specs.Step.{setting, step, said, followed, takes_goal, at_goal}
 use Rattle.dg_mid.specs.Potential.{IsOver}
 use Rattle.dg_mid.specs.Runs.{after}
 use Rattle.dg_machine.specs.declared.now.Now.{Now}
-use Rattle.dg_machine.specs.declared.now.Now.TheVariants.{Runs, Enters, Resumes, Fails, Ended}
+use Rattle.dg_machine.specs.declared.now.Now.TheVariants.{Runs, Ended}
 use Rattle.dg_machine.specs.declared.memory.Memory.{Memory}
-use Rattle.dg_machine.specs.Built.{OpBuilt}
 use Rattle.dg_machine.specs.Layout.{Roomy, Holds}
 use Rattle.dg_machine.specs.Standing.{CodeIs, Stands}
 use Rattle.dg_machine.specs.Measure.{left_of}

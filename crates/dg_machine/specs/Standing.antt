@@ -1,6 +1,7 @@
 -- What a machine with its memory stands for. Hold it against the Dialog manual, chapter "Choice points".
-use Rattle.std.specs.Prelude.{ℕ, ◌≡◌, ◌<◌, ◌≤◌, List, [], ◌∷◌, Bool, length}
+use Rattle.std.specs.Prelude.{ℕ, ◌≡◌, ◌<◌, ◌≤◌, List, [], Bool, length}
 use Rattle.std.specs.Borrow.{Bor}
+use Rattle.dg_base.specs.declared.program.Term.{Term}
 use Rattle.dg_base.specs.declared.run.Limits.{Limits}
 use Rattle.dg_meaning.specs.World.{Game}
 use Rattle.dg_mid.specs.declared.code.Op.{Op}
@@ -11,7 +12,7 @@ use Rattle.dg_mid.specs.State.{Mid, Call as CallOf, Way as WayOf, Goes as GoesOf
 use Rattle.dg_mid.specs.State.{Status, Runs as RunsOf, Enters as EntersOf, Resumes as ResumesOf, Fails as FailsOf, Ended as EndedOf}
 use Rattle.dg_mid.specs.Heights.{MidOrdered, StatusOrdered}
 use Rattle.dg_mid.specs.Potential.{Tidy}
-use Rattle.dg_mid.specs.Step.{Setting, setting, call_of, begins, asks, last, does, entered, goes_on, goes_back, step}
+use Rattle.dg_mid.specs.Step.{setting, call_of, begins, asks, last, does, enter, entered, goes_on, goes_back, step}
 use Rattle.dg_machine.specs.declared.now.Call.{Call}
 use Rattle.dg_machine.specs.declared.now.Way.{Way}
 use Rattle.dg_machine.specs.declared.now.Way.TheVariants.{Goes, Calls}
@@ -79,6 +80,11 @@ AsksLast code old pred many new after = (g : Game) (l : Limits) (m : Mid) → Ho
 abbrev pub EntersRule : Code → Memory → Call → Bor (List Op) → Memory → Now → Type 0
 EntersRule code old k ops new after = (g : Game) (l : Limits) (m : Mid) (c : CallOf) → CodeIs ops.now m → CallAt k c → Holds code l old m →
     Falls code l old (Enters k ops) new after (entered (setting g code l) c m.ops m)
+
+-- A call enters a rule of so many variables and this head, with these instructions behind it.
+abbrev pub EntersIn : Code → Memory → Call → ℕ → List Term → List Op → Memory → Now → Type 0
+EntersIn code old k vars head rest new after = (g : Game) (l : Limits) (m : Mid) (c : CallOf) (ops : Bor (List Op)) → CodeIs rest m → CallAt k c →
+    Holds code l old m → Falls code l old (Enters k ops) new after (enter (setting g code l) c vars head m)
 
 -- The rules that a choice goes on with are there.
 abbrev pub IsThere : Code → Way → Type 0

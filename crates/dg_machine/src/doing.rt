@@ -1,5 +1,5 @@
 // What an instruction does in memory.
-ghost use Rattle.std.specs.Prelude.{◌≡◌, ◌<◌, ◌≤◌, ℕ, List, length};
+ghost use Rattle.std.specs.Prelude.{◌≡◌, ◌<◌, ◌≤◌, ℕ, List, [], length};
 ghost use Rattle.dg_base.specs.declared.run.Limits.{Limits};
 ghost use Rattle.dg_mid.specs.declared.code.Code.{Code as TheCode};
 ghost use Rattle.dg_mid.specs.declared.code.Op.TheVariants as op;
@@ -9,7 +9,7 @@ ghost use Rattle.dg_mid.specs.State.{Mid};
 ghost use Rattle.dg_mid.specs.Potential.{Tidy};
 ghost use Rattle.dg_machine.specs.Built.{IsBuilt};
 ghost use Rattle.dg_machine.specs.Layout.{HasRoom, Holds};
-ghost use Rattle.dg_machine.specs.Standing.{DoesOp, DoesMark, CallsRules, Asks, AsksLast, EntersRule, IsThere, GoesOnAt, GoesOn, FailsTo};
+ghost use Rattle.dg_machine.specs.Standing.{DoesOp, DoesMark, CallsRules, Asks, AsksLast, EntersRule, EntersIn, IsThere, GoesOnAt, GoesOn, FailsTo};
 
 use crate::memory::Memory;
 use crate::now::{Call, Now, Way};
@@ -201,12 +201,23 @@ impl Memory {
         match ops {
             [] => Now::Fails,
             [op, rest @ ..] => match op {
-                Op::Enter(_, _) => match self.enter(call) {
-                    Ok(()) => Now::Runs(rest),
-                    Err(_) => Now::Ended(Ending::HeapLimit),
-                },
+                Op::Enter(vars, _) => self.enter(call, *vars, rest),
                 _ => Now::Fails,
             },
+        }
+    }
+
+    /// A rule of so many variables is entered.
+    fn enter<'p>(&mut self, call: Call, vars: u16, rest: &'p [Op]) -> Now<'p>
+        requires room { HasRoom self.old }
+        ensures { (code : TheCode) → EntersIn code self.old call vars [] rest.now self.new result }
+    {
+        match self.make_rule(vars) {
+            Err(_) => Now::Ended(Ending::HeapLimit),
+            Ok(first) => {
+                self.push_frame(call, first, vars);
+                Now::Runs(rest)
+            }
         }
     }
 

@@ -1,9 +1,13 @@
 // The memory of a run: a store, and areas of frames, inner constructs and choices.
 ghost use Rattle.std.specs.Prelude.{◌≡◌, ◌<◌, ◌≤◌, ◌+◌, ◌*◌, ℕ, List, [], ◌∷◌, IfOk, OnOk, MatchResult, length, reverse, vec_capacity};
 ghost use Rattle.dg_base.specs.declared.run.Limits.{Limits};
+ghost use Rattle.dg_meaning.specs.Values.{Value};
+ghost use Rattle.dg_unify.specs.Store.{Saved, Kept};
+ghost use Rattle.dg_arena.specs.Held.{meaning_of, saves_of};
 ghost use Rattle.dg_mid.specs.declared.code.Code.{Code};
 ghost use Rattle.dg_mid.specs.State.{Mid, Place, Call as CallOf, Way as WayOf};
 ghost use Rattle.dg_mid.specs.Step.{more, inside, within};
+ghost use Rattle.dg_machine.specs.Layout.{MadeRow, ValuesAt};
 ghost use Rattle.dg_machine.specs.Links.{named, below};
 ghost use Rattle.dg_machine.specs.Measure.{way_left, choices_left};
 
@@ -37,8 +41,31 @@ fn drop_to(choices: &mut Vec<Choice>, to: u32)
     }
 }
 
+/// Makes so many new variables at places in a row, and answers the first of them.
+fn make_row(arena: &mut Arena, count: u16) -> Result<u32, Full>
+    ensures kept { Kept (meaning_of arena.old) (meaning_of arena.new) }
+    ensures saved { (ms : List Saved) → saves_of arena.old ms → saves_of arena.new ms }
+    ensures made { MatchResult result (λ at. MadeRow count (meaning_of arena.old) (meaning_of arena.new) at)
+        (λ _. (meaning_of arena.old).heap_limit < (meaning_of arena.old).state.heap + count) }
+{
+    if count == 0 {
+        return Ok(0);
+    }
+    let first = match arena.fresh() {
+        Err(full) => return Err(full),
+        Ok(var) => var.0,
+    };
+    'variables: for _ in 1..count {
+        match arena.fresh() {
+            Err(full) => return Err(full),
+            Ok(_) => {}
+        }
+    }
+    Ok(first)
+}
+
 impl Memory {
-    ghost use Rattle.dg_machine.specs.Layout.{at_rest, HoldsWith, WayAt, CallAt, HasRoom, Holds, Took, Opened, WentBack, Roomy, Lacks, frame_of, heap_in};
+    ghost use Rattle.dg_machine.specs.Layout.{at_rest, HoldsWith, WayAt, CallAt, HasRoom, Holds, Took, Opened, WentBack, Roomy, Lacks, heap_in, MadeRule, HasFrameRoom, in_frame};
     ghost use Rattle.dg_machine.specs.Measure.{left_by};
 
     /// Memory for runs with these limits of heap and trail, which is taken at once.
@@ -152,30 +179,43 @@ impl Memory {
         self.inner = self.inners.len();
     }
 
-    /// Makes the frame of a rule without variables that is entered by a call, which takes six cells.
-    pub fn enter(&mut self, call: Call) -> Result<(), Full>
+    /// Takes a rule's six cells, and makes so many variables in a row, of which it answers the first.
+    pub fn make_rule(&mut self, vars: u16) -> Result<u32, Full>
         requires room { HasRoom self.old }
-        ensures held { (code : Code) → (l : Limits) → (m : Mid) → (c : CallOf) → Holds code l self.old m → CallAt call c →
-            MatchResult result (λ _. Holds code l self.new (record (more 6 m) { frames = frame_of c m ∷ m.frames; inner = [] }))
-            (λ _. Lacks 6 l m.state.heap self.new) }
+        ensures held { (code : Code) → (l : Limits) → (m : Mid) → Holds code l self.old m →
+            MatchResult result (λ at. MadeRule code l vars m self.new at) (λ _. Lacks (6 + vars) l m.state.heap self.new) }
+        ensures room { OnOk result (HasFrameRoom self.new) }
+        ensures same { OnOk result (HasRoom self.new) }
         ensures choices { self.new.choices ≡ self.old.choices }
     {
         match self.arena.charge(6) {
             Err(full) => Err(full),
-            Ok(()) => {
-                self.frames.push_reserved(Frame {
-                    next: call.next,
-                    many: call.many,
-                    cut: call.cut,
-                    vars: 0,
-                    inner: self.inner,
-                    behind: self.frame,
-                });
-                self.frame = self.frames.len();
-                self.inner = 0;
-                Ok(())
-            }
+            Ok(()) => match make_row(&mut self.arena, vars) {
+                Err(full) => Err(full),
+                Ok(first) => Ok(first),
+            },
         }
+    }
+
+    /// Makes the frame of a rule that a call has entered, whose variables stand in a row; its cells were taken.
+    pub fn push_frame(&mut self, call: Call, vars: u32, count: u16)
+        requires room { HasRoom self.old }
+        requires few { HasFrameRoom self.old }
+        ensures held { (code : Code) → (l : Limits) → (m : Mid) → (c : CallOf) → (vs : List Value) → Holds code l self.old m → CallAt call c →
+            ValuesAt (meaning_of self.old.arena) vars vs → length vs ≡ count → Holds code l self.new (in_frame c vs m) }
+        ensures choices { self.new.choices ≡ self.old.choices }
+    {
+        self.frames.push_reserved(Frame {
+            next: call.next,
+            many: call.many,
+            cut: call.cut,
+            vars,
+            count,
+            inner: self.inner,
+            behind: self.frame,
+        });
+        self.frame = self.frames.len();
+        self.inner = 0;
     }
 
     /// Goes back to the newest choice, which is gone.

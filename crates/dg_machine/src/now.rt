@@ -5,14 +5,15 @@ use dg_mid::Op;
 use dg_unify::Mark;
 
 /// A rule that is being run: the block behind its answer, whether all its answers are wanted, the height of the heap to which
-/// its (just) cuts, the first of its variables, the inner constructs that are open behind it, and the frame behind it. A
-/// frame and an inner construct are named by their places, counted from 1.
+/// its (just) cuts, the first of its variables and how many there are, the inner constructs that are open behind it, and the
+/// frame behind it. A frame and an inner construct are named by their places, counted from 1.
 #[derive(Clone, Copy, Drop)]
 pub struct Frame {
     pub next: u32,
     pub many: bool,
     pub cut: u32,
     pub vars: u32,
+    pub count: u16,
     pub inner: usize,
     pub behind: usize,
 }

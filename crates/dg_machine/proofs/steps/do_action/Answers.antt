@@ -5,7 +5,6 @@ use Rattle.dg_base.specs.Written.{Wrote, BrokeOff}
 use Rattle.dg_spacing.specs.Spacer.{StandsFor}
 use Rattle.dg_mid.specs.declared.code.Op.TheVariants as op
 use Rattle.dg_mid.specs.declared.code.Action.TheVariants as action
-use Rattle.dg_machine.specs.Built.{IsQuiet}
 use Rattle.dg_machine.proofs.Goals.{printed_done, printed_lost, quiet_done, quiet_else}
 use Rattle.dg_machine.proofs.steps.do_action.Goals as goal
 

@@ -1,5 +1,4 @@
-use Rattle.std.proofs.Common.{ℕ, ◌≡◌, ◌+◌, ◌-◌, ◌≤◌, suc, refl, sym, subst, ap, ◌∙◌, arith}
-use Rattle.dg_machine.specs.declared.now.Now.TheVariants.{Runs}
+use Rattle.std.proofs.Common.{ℕ, ◌≡◌, ◌+◌, ◌-◌, ◌≤◌, suc, sym, subst, arith}
 use Rattle.dg_machine.specs.Running.{IsAt}
 use Rattle.dg_machine.proofs.Turns.{somewhere_settled, settled_at, finished, limited, lost}
 use Rattle.dg_machine.proofs.steps.go.Goals as goal

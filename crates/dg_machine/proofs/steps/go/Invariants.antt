@@ -1,4 +1,4 @@
-use Rattle.std.proofs.Common.{◌≡◌, true, ◌+◌, ◌≤◌, ◌-◌}
+use Rattle.std.proofs.Common.{◌≡◌, true, ◌≤◌, ◌-◌}
 use Rattle.dg_machine.specs.Running.{Takes, IsSomewhere, rests}
 use Rattle.dg_machine.proofs.steps.go.Given as goal
 

@@ -1,4 +1,4 @@
-use Rattle.std.proofs.Common.{refl, sym, subst, ap, ◌∙◌, ◌∷◌, take, drop, length, ◌-◌}
+use Rattle.std.proofs.Common.{take, drop, length, ◌-◌}
 use Rattle.dg_machine.proofs.Leaving.{split_list}
 use Rattle.dg_machine.proofs.Goals.{quiet_done, quiet_op}
 use Rattle.dg_machine.proofs.steps.goal_step.Goals as goal

@@ -1,4 +1,4 @@
-use Rattle.std.proofs.Common.{ap, ◌∙◌, length, arith}
+use Rattle.std.proofs.Common.{ap, length}
 use Rattle.dg_machine.proofs.Leaving.{asked_all}
 use Rattle.dg_machine.proofs.memory.Memory.ask.Goals as goal
 

@@ -1,19 +1,17 @@
-use Rattle.std.proofs.Common.{refl, arith}
-use Rattle.dg_arena.specs.Held.{meaning_of}
-use Rattle.dg_machine.specs.declared.now.Frame.{Frame}
-use Rattle.dg_machine.specs.declared.memory.Memory.{Memory}
-use Rattle.dg_machine.proofs.Opens.{entered, lacks, kept_same}
+use Rattle.std.proofs.Common.{◌∙◌}
+use Rattle.dg_meaning.specs.Moves.{new_vars}
+use Rattle.dg_machine.specs.Layout.{made_state}
+use Rattle.dg_machine.proofs.Rows.{new_vars_length}
+use Rattle.dg_machine.proofs.Leaving.{enters, enters_full}
 use Rattle.dg_machine.proofs.memory.Memory.enter.Goals as goal
 
-pub returns-in-Ok-clause-held : goal.returns-in-Ok-clause-held
-returns-in-Ok-clause-held c code l m call h at =
-    let r = c.args.self.now in
-    let k = c.args.call in
-    let frame : Frame = record { next = k.next; many = k.many; cut = k.cut; vars = 0; inner = r.inner; behind = r.frame } in
-    let new : Memory = record r { arena = c.charge.new.self; frames = c.push_reserved.new.self; frame = c.len-self.result; inner = 0 } in
-    entered code l m call r new frame h at.next at.many at.cut refl refl c.in-Ok.ensures.kept c.in-Ok.ensures.saved c.in-Ok.ensures.made c.push_reserved.ensures.items c.push_reserved.ensures.capacity (omega (arith, c.len-self.ensures, c.push_reserved.new.self.ok.0)) refl
+pub returns-in-Ok : goal.returns-in-Ok
+returns-in-Ok c code g l m call ops at k h =
+    let n = c.args.vars in
+    let vs = new_vars n m.state.vars in
+    let made = c.in-Ok.ensures.held code l m h in
+    let held = c.push_frame.ensures.held code l (record m { state = made_state n m.state }) call vs made.held k made.values (new_vars_length n m.state.vars) in
+    enters code g l m c.args.call call n c.args.self.now c.push_frame.new.self ops c.args.rest h k.args at held (c.push_frame.ensures.choices ∙ c.in-Ok.ensures.choices)
 
-pub returns-in-Err-clause-held : goal.returns-in-Err-clause-held
-returns-in-Err-clause-held c code l m call h at =
-    let a = c.args.self.now.arena in
-    lacks code l m 6 c.args.self.now a c.charge.new.self c.in-Err.full h (kept_same (meaning_of a)) refl c.in-Err.ensures.kept c.in-Err.ensures.made
+pub returns-in-Err : goal.returns-in-Err
+returns-in-Err c code g l m call ops at k h = enters_full code g l m c.args.call call c.args.vars c.args.self.now c.make_rule.new.self ops c.args.rest h k.args (c.in-Err.ensures.held code l m h)

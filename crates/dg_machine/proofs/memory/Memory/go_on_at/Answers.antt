@@ -1,4 +1,4 @@
-use Rattle.std.proofs.Common.{refl, ◌∙◌, ◌≡◌, ◌∷◌, ap, take, drop, length, ◌-◌, subst, sym}
+use Rattle.std.proofs.Common.{refl, ◌∙◌, ◌∷◌, ap, take, drop, length, ◌-◌, subst, sym}
 use Rattle.dg_mid.specs.State.{Goes}
 use Rattle.dg_mid.specs.Step.{setting}
 use Rattle.dg_machine.specs.Built.{OpsBuilt}
