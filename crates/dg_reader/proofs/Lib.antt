@@ -20,3 +20,4 @@ pub mod Innermost
 pub mod SignLemmas
 pub mod PartLemmas
 pub mod ReadableLemmas
+pub mod DeclarationLemmas

@@ -11,3 +11,4 @@ pub mod Distinct
 pub mod Read
 pub mod Sizes
 pub mod Readable
+pub mod Declarations

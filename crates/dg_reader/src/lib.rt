@@ -1,12 +1,13 @@
 //! The reader: from the tokens of a source to its tree.
 #![tactic(auto)]
 
-ghost use Rattle.std.specs.Prelude.{◌≡◌, List, Bool, Result, Ok, All};
+ghost use Rattle.std.specs.Prelude.{◌≡◌, List, Bool, false, Result, Ok, All};
 ghost use Rattle.dg_base.specs.Tree.{Item};
 ghost use Rattle.dg_base.specs.declared.refusal.Refusal.{Refusal};
 ghost use Rattle.dg_base.specs.Mentions.{mentioned};
 ghost use Rattle.dg_lex.specs.Spelled.{IsSpelledToken};
 ghost use Rattle.dg_lex.specs.Tokens.{Seen};
+ghost use Rattle.dg_reader.specs.Declarations.{AreDeclarations};
 ghost use Rattle.dg_reader.specs.Grammar.{IsDecided};
 ghost use Rattle.dg_reader.specs.Read.{IsRead};
 ghost use Rattle.dg_reader.specs.Readable.{IsReadable};
@@ -43,4 +44,9 @@ pub fn items_are_one()
 /// What is read can be printed where the words and names of its tokens are spelled, and its numbers are in their range.
 pub fn items_are_readable()
     ensures { (ts : List Seen) → (is : List Item) → All IsSpelledToken ts → IsRead ts (Ok is) → All IsReadable (mentioned is) }
+{}
+
+/// What is declared may be, and begins with a `*` only behind a topic.
+pub fn declarations_are_kept()
+    ensures { (ts : List Seen) → (is : List Item) → IsRead ts (Ok is) → AreDeclarations false is }
 {}

@@ -1,4 +1,4 @@
-use Rattle.std.proofs.Common.{List, Result, Vec, Global, subst, sym, ◌∙◌}
+use Rattle.std.proofs.Common.{Result, Vec, Global, subst, sym, ◌∙◌}
 use Rattle.dg_reader.specs.declared.frames.Frame.{Frame}
 use Rattle.dg_reader.specs.declared.item.ShapeFault.{ShapeFault}
 use Rattle.dg_reader.specs.Frames.{stack_view}
