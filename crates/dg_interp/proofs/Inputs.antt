@@ -24,7 +24,7 @@ use Rattle.dg_meaning.specs.Path.{Failing, End}
 use Rattle.dg_meaning.specs.Moves.{printed, move_of, gives, takes_line}
 use Rattle.dg_meaning.specs.Render.{render}
 use Rattle.dg_meaning.specs.Growth.{growth}
-use Rattle.dg_meaning.specs.OneRun.{Begins}
+use Rattle.dg_meaning.specs.OneRun.{Begins, Grows}
 use Rattle.dg_meaning.specs.Peaks.{Area, Heap, Trail, Aux, Keep, greatest, limit_ending}
 use Rattle.dg_meaning.specs.Keeps.{Finished, Went}
 use Rattle.dg_meaning.specs.Shows.{IsLeft}
@@ -51,7 +51,7 @@ use Rattle.dg_interp.specs.Wording.{words_in, MakesAt, TakesLineAt, AwaitsInput}
 use Rattle.dg_interp.proofs.Places.{inside_in, limits_at, limits_on, adds_nothing}
 use Rattle.dg_interp.proofs.Runs.{gave_nothing, as_told, stretched, reads_nothing, writes_nothing, text_added, text_begins, render_grows, finished_so, lack_from, ended_at, limited_at, no_more}
 use Rattle.dg_interp.proofs.Rounds.{stretch_on}
-use Rattle.dg_interp.proofs.Wordings.{made_grows}
+use Rattle.dg_interp.proofs.Wordings.{made_grows, made_later}
 use Rattle.dg_interp.proofs.TypedLetters.{line_short}
 
 -- how much is taken of the bytes that were given and those behind them
@@ -192,11 +192,11 @@ module _ (term : Term) (into : Ref) (old mid here : Engine) (some : 0 < length o
           holds = at;
         }
 
-    happened : (g : Game) (n : ℕ) (w v : World) (run : Run) → MakesAt (value_in w) into here g n v run → Begins v.events run.world.events
-    happened g n w v run m = (made_grows (value_in w) into here g n v run m).events
+    happened : (g : Game) (n : ℕ) (w v : World) (run : Run) → MakesAt (value_in w) into here g n v run → Grows v run.world
+    happened g n w v run m = made_later (value_in w) into here g n v run m
 
     -- the sink failed at the gap
-    pub gap_lost : ((xs : List Print) → StandsFor s xs → BrokeOff k k' (growth xs (GapOf Line))) → Reaches old s k i i' (IsBroken Write s' k')
+    pub gap_lost : ((xs : List Print) → StandsFor s xs → BrokeOff k k' (growth xs (GapOf Line))) → Reaches old s k i i' (IsBroken Write s' k' i'.left)
     gap_lost broke = record {
       taken = bytes;
       ended = false;
@@ -204,7 +204,7 @@ module _ (term : Term) (into : Ref) (old mid here : Engine) (some : 0 < length o
       reaches = λ g w run start a st text.
           let t = comes g here.left w run a (subst (λ n. StandsAt old g n w run) left_is st) in
           let is : text_of t.world.events ≡ render (prints w.events) ++ growth (prints w.events) (GapOf Line) = ap render t.prints_are ∙ render_grows (prints w.events) (GapOf Line) in
-          text_begins t.world.events run.world.events (happened g here.left w t.world run t.holds) start k'
+          text_begins t.world.events run.world.events (happened g here.left w t.world run t.holds).events start k'
           (subst (BrokeOff start k') (sym is) (broke_later start k k' (render (prints w.events)) (growth (prints w.events) (GapOf Line)) text.wrote (broke (prints w.events) text.stands)));
     }
 
@@ -257,14 +257,20 @@ module _ (term : Term) (into : Ref) (old mid here : Engine) (some : 0 < length o
             record { world = x.world; typed = x.typed; is = x.is; text = x.text };
       }
 
-      line_lost : Reaches old s k i i' (IsBroken OutOfMemory s' k')
+      line_lost : Reaches old s k i i' (IsBroken OutOfMemory s' k' i'.left)
       line_lost = record {
         taken = bytes;
         ended = false;
         gave = gave;
         reaches = λ g w run start a st text.
             let t = comes_at g w run a st in
-            record { part = t.world.events; until = happened g here.left w t.world run t.holds; text = text_here w t.world start t.prints_are text };
+            record {
+              moment = t.world;
+              taken = record { taken = bytes; is = t.typed };
+              until = happened g here.left w t.world run t.holds;
+              text = text_here w t.world start t.prints_are text;
+              left = subst (IsLeft i'.left) (append_cancel_left bytes a.rest t.world.typed (sym a.typed ∙ t.typed)) a.left;
+            };
       }
 
       line_limit : (area : Area) (left : ℕ) → here.left ≡ left → ((w : World) → Awaits i' false bytes w → PassesLimit area (MakesAt (value_in w) into here) (limit_in area here)) → MeetsLimit area left old s s' k k' i i'
@@ -278,7 +284,7 @@ module _ (term : Term) (into : Ref) (old mid here : Engine) (some : 0 < length o
         until = λ g w run a st.
             let t = comes g 0 w run a st in
             record { world = t.world; prints_are = t.prints_are; typed = t.typed; holds = happened g 0 w t.world run t.holds };
-        since = λ g w run a st. no_more old es g w run some st;
+        since = λ g w run a st. no_more old es i' bytes g w run a some st;
         writes = writes;
       }
 

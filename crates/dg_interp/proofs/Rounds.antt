@@ -8,7 +8,8 @@ use Rattle.dg_base.specs.declared.run.RunFault.TheVariants.{Read, Write, OutOfMe
 use Rattle.dg_meaning.specs.World.{Game, World, prints}
 use Rattle.dg_meaning.specs.Path.{Result as SearchResult, Failing, End}
 use Rattle.dg_meaning.specs.Transcript.{Run, ending_of}
-use Rattle.dg_meaning.specs.OneRun.{Begins}
+use Rattle.dg_meaning.specs.OneRun.{Begins, EndsWith, Grows}
+use Rattle.dg_meaning.proofs.OneRun.{ends_on}
 use Rattle.dg_meaning.specs.Peaks.{Area, Heap, Trail, Aux, Keep, greatest}
 use Rattle.dg_meaning.proofs.Keeps.{stands_happened}
 use Rattle.dg_interp.specs.declared.lack.Lack.{Lack}
@@ -43,7 +44,7 @@ awaits_first : (a b : SourceView) (ended : Bool) (xs ys : List ℕ) (w : World) 
 awaits_first a b ended xs ys w h k = record { rest = ys ++ k.rest; left = h.left k.rest k.left; typed = k.typed ∙ append_assoc xs ys k.rest }
 
 -- and then the other
-awaits_then : (b : SourceView) (ended : Bool) (xs ys : List ℕ) (w v : World) → w.typed ≡ xs ++ v.typed → Awaits b ended (xs ++ ys) w → Awaits b ended ys v
+abbrev awaits_then : (b : SourceView) (ended : Bool) (xs ys : List ℕ) (w v : World) → w.typed ≡ xs ++ v.typed → Awaits b ended (xs ++ ys) w → Awaits b ended ys v
 awaits_then b ended xs ys w v e k = record { rest = k.rest; left = k.left; typed = append_cancel_left xs v.typed (ys ++ k.rest) (sym e ∙ k.typed ∙ append_assoc xs ys k.rest) }
 
 -- what is left behind a stretch
@@ -81,20 +82,20 @@ module _ (old mid new : Engine) (s s' : Spacer) (k k' : SinkView) (i i' : Source
   )
 
   -- whatever comes behind the goal, with what it took
-  behind_goal : (P : World → Run → SinkView → Type 0) → ((g : Game) (w v : World) (run : Run) (start : SinkView) → IsLeft i'.left v.typed → StandsAt mid g mid.left v run → HasText s' start k' (prints v.events) → P w run start) → Reaches old s k i i' P
+  behind_goal : (P : World → Run → SinkView → Type 0) → ((g : Game) (w v : World) (run : Run) (start : SinkView) → EndsWith w.typed v.typed → IsLeft i'.left v.typed → StandsAt mid g mid.left v run → HasText s' start k' (prints v.events) → P w run start) → Reaches old s k i i' P
   behind_goal P f = record {
     taken = h.taken;
     ended = false;
     gave = h.gave;
     reaches = λ g w run start a st text.
         let t = leads_here g w run a st in
-        f g w t.world run start (left_behind i' h.taken w t.world t.typed a) t.holds (text_here w t.world start t.prints_are text);
+        f g w t.world run start (record { taken = h.taken; is = t.typed }) (left_behind i' h.taken w t.world t.typed a) t.holds (text_here w t.world start t.prints_are text);
   }
 
   next_ended : (result : SearchResult) (e : Ending) → e ≡ ending_of result → HasEndedSo (StandsAt mid) result mid new → Reaches old s k i i' (HasEnded e new.left s' k' (left_told i i'))
   next_ended result e is a =
       behind_goal (HasEnded e new.left s' k' (left_told i i'))
-      (λ g w v run start left st text.
+      (λ g w v run start taken left st text.
       let x = finished_so result e mid.left new.left s' k' (left_told i i') v run start (as_told i i' v.typed left) text (sym a.left) is (a.ends g mid.left v run st) in
       record { world = x.world; typed = x.typed; is = x.is; text = x.text })
 
@@ -104,10 +105,10 @@ module _ (old mid new : Engine) (s s' : Spacer) (k k' : SinkView) (i i' : Source
   next_ok (Some Failed) a = next_ended Failing Failed refl a
   next_ok (Some _) a = absurd a
 
-  next_lost : Reaches old s k i i' (IsBroken OutOfMemory s' k')
+  next_lost : Reaches old s k i i' (IsBroken OutOfMemory s' k' i'.left)
   next_lost =
-      behind_goal (IsBroken OutOfMemory s' k')
-      (λ g w v run start left st text. record { part = v.events; until = (stands_happened g st.at.inside.lives st.at.ways _ mid.left v run st.stands).events; text = text })
+      behind_goal (IsBroken OutOfMemory s' k' i'.left)
+      (λ g w v run start taken left st text. record { moment = v; taken = taken; until = stands_happened g st.at.inside.lives st.at.ways _ mid.left v run st.stands; text = text; left = left })
 
   next_limit : (area : Area) (left : ℕ) → mid.left ≡ left → PassesLimit area (StandsAt mid) (limit_in area mid) → MeetsLimit area left old s s' k k' i i'
   next_limit area left same f = record {
@@ -119,8 +120,8 @@ module _ (old mid new : Engine) (s s' : Spacer) (k k' : SinkView) (i i' : Source
     passed = λ g w run a st. let t = h.leads g 0 w run a st in subst (λ n. n < greatest area run.world.meters) (limits_at old mid h.limits area) (f g 0 t.world run t.holds);
     until = λ g w run a st.
         let t = h.leads g 0 w run a st in
-        record { world = t.world; prints_are = t.prints_are; typed = t.typed; holds = (stands_happened g t.holds.at.inside.lives t.holds.at.ways _ 0 t.world run t.holds.stands).events };
-    since = λ g w run a st. no_more old h.added g w run some st;
+        record { world = t.world; prints_are = t.prints_are; typed = t.typed; holds = stands_happened g t.holds.at.inside.lives t.holds.at.ways _ 0 t.world run t.holds.stands };
+    since = λ g w run a st. no_more old h.added i' h.taken g w run a some st;
     writes = h.writes;
   }
 
@@ -192,19 +193,19 @@ module _ (a b : Engine) (s s' s'' : Spacer) (k k' k'' : SinkView) (i i' i'' : So
   has_text : (w v : World) (start : SinkView) → prints v.events ≡ prints w.events ++ h.added → HasText s start k (prints w.events) → HasText s' start k' (prints v.events)
   has_text w v start more text = subst (HasText s' start k') (sym more) (h.writes start (prints w.events) text)
 
-  reaches_further : (P Q : World → Run → SinkView → Type 0) → ((w v : World) (run : Run) (start : SinkView) → P v run start → Q w run start) → Reaches b s' k' i' i'' P → Reaches a s k i i'' Q
+  reaches_further : (P Q : World → Run → SinkView → Type 0) → ((w v : World) (run : Run) (start : SinkView) → EndsWith w.typed v.typed → P v run start → Q w run start) → Reaches b s' k' i' i'' P → Reaches a s k i i'' Q
   reaches_further P Q f j = record {
     taken = h.taken ++ j.taken;
     ended = j.ended;
     gave = gave_on i i' i'' j.ended h.taken j.taken h.gave j.gave;
     reaches = λ g w run start awaits st text.
         let t = h.leads g b.left w run (awaits_first i' i'' j.ended h.taken j.taken w j.gave awaits) (subst (λ n. StandsAt a g n w run) h.left st) in
-        f w t.world run start (j.reaches g t.world run start (awaits_then i'' j.ended h.taken j.taken w t.world t.typed awaits) t.holds (has_text w t.world start t.prints_are text));
+        f w t.world run start (record { taken = h.taken; is = t.typed }) (j.reaches g t.world run start (awaits_then i'' j.ended h.taken j.taken w t.world t.typed awaits) t.holds (has_text w t.world start t.prints_are text));
   }
 
   pub ended_reaches : (e : Ending) (n : ℕ) → Reaches b s' k' i' i'' (HasEnded e n s'' k'' (left_told i' i'')) → Reaches a s k i i'' (HasEnded e n s'' k'' (left_told i i''))
   ended_reaches e n = reaches_further (HasEnded e n s'' k'' (left_told i' i'')) (HasEnded e n s'' k'' (left_told i i''))
-      (λ w v run start y. record { world = y.world; typed = told_on i.left i'.left i''.left h.taken h.gave.left y.world.typed y.typed; is = y.is; text = y.text })
+      (λ w v run start ends y. record { world = y.world; typed = told_on i.left i'.left i''.left h.taken h.gave.left y.world.typed y.typed; is = y.is; text = y.text })
 
   -- the input failed further on
   loses_further : LosesInput b s' s'' k' k'' i' i'' → LosesInput a s s'' k k'' i i''
@@ -233,8 +234,11 @@ module _ (a b : Engine) (s s' s'' : Spacer) (k k' k'' : SinkView) (i i' i'' : So
 
   pub broken_reaches : (fault : RunFault) → Broken fault b s' s'' k' k'' i' i'' → Broken fault a s s'' k k'' i i''
   broken_reaches Read j = loses_further j
-  broken_reaches Write j = reaches_further (IsBroken Write s'' k'') (IsBroken Write s'' k'') (λ w v run start y. y) j
-  broken_reaches OutOfMemory j = reaches_further (IsBroken OutOfMemory s'' k'') (IsBroken OutOfMemory s'' k'') (λ w v run start y. y) j
+  broken_reaches Write j = reaches_further (IsBroken Write s'' k'' i''.left) (IsBroken Write s'' k'' i''.left) (λ w v run start ends y. y) j
+  broken_reaches OutOfMemory j =
+      reaches_further (IsBroken OutOfMemory s'' k'' i''.left) (IsBroken OutOfMemory s'' k'' i''.left)
+      (λ w v run start ends y. record { moment = y.moment; taken = ends_on w.typed v.typed y.moment.typed ends y.taken; until = y.until; text = y.text; left = y.left })
+      j
 
   limit_further : (area : Area) (left : ℕ) → MeetsLimit area left b s' s'' k' k'' i' i'' → MeetsLimit area left a s s'' k k'' i i''
   limit_further area left j =
@@ -249,13 +253,16 @@ module _ (a b : Engine) (s s' s'' : Spacer) (k k' k'' : SinkView) (i i' i'' : So
             let t = h.leads g (suc j.goals) w run (awaits_first i' i'' false h.taken j.taken w j.gave awaits) (subst (λ i. StandsAt a g i w run) behind st) in
             subst (λ n. n < greatest area run.world.meters) (limits_at a b h.limits area) (j.passed g t.world run (awaits_then i'' false h.taken j.taken w t.world t.typed awaits) t.holds);
         until = λ g w run awaits st.
-            stretch_on h.added j.added h.taken j.taken w (λ v. StandsAt b g (suc j.goals) v run) (λ v. Begins v.events run.world.events)
+            stretch_on h.added j.added h.taken j.taken w (λ v. StandsAt b g (suc j.goals) v run) (λ v. Grows v run.world)
             (h.leads g (suc j.goals) w run (awaits_first i' i'' false h.taken j.taken w j.gave awaits) (subst (λ i. StandsAt a g i w run) behind st))
             (λ v e at. j.until g v run (awaits_then i'' false h.taken j.taken w v e awaits) at);
         since = λ g w run awaits st.
             let t = h.leads g j.goals w run (awaits_first i' i'' false h.taken j.taken w j.gave awaits) st in
             let x = j.since g t.world run (awaits_then i'' false h.taken j.taken w t.world t.typed awaits) t.holds in
-            record { behind = x.behind; is = sym (append_assoc (prints w.events) h.added j.added) ∙ ap (λ l. l ++ j.added) (sym t.prints_are) ∙ x.is };
+            record {
+              prints = record { behind = x.prints.behind; is = sym (append_assoc (prints w.events) h.added j.added) ∙ ap (λ l. l ++ j.added) (sym t.prints_are) ∙ x.prints.is };
+              typed = x.typed;
+            };
         writes = writes_on s s' s'' k k' k'' h.added j.added h.writes j.writes;
       }
 

@@ -17,7 +17,7 @@ use Rattle.dg_meaning.specs.Path.{Result as SearchResult, Failing, End}
 use Rattle.dg_meaning.specs.Moves.{path_of, goals_at}
 use Rattle.dg_meaning.specs.Render.{Met, nothing_met, met_from, met_behind, written, render, render_from}
 use Rattle.dg_meaning.specs.Transcript.{Run, ending_of, text_of}
-use Rattle.dg_meaning.specs.OneRun.{Begins}
+use Rattle.dg_meaning.specs.OneRun.{Begins, Grows}
 use Rattle.dg_meaning.specs.Peaks.{Area, Heap, Trail, Aux, Keep, greatest, limit_ending}
 use Rattle.dg_meaning.specs.Keeps.{Stands, Finished}
 use Rattle.dg_meaning.proofs.Dropping.{prints_append}
@@ -38,7 +38,7 @@ use Rattle.dg_interp.specs.Engine.{store_in, limit_in, Point, LacksIn, LackAt, P
 use Rattle.dg_base.specs.Streams.{SourceView}
 use Rattle.dg_meaning.specs.Shows.{IsLeft}
 use Rattle.dg_interp.specs.Interpret.{told_behind, left_told}
-use Rattle.dg_interp.specs.Running.{HasText, Writes, Gave, Awaits, Stretch, Reaches, HasEnded, MeetsLimit, Ended, IsBroken, Broken, GoalDone, DoesGoal, ending_at, over, outcome_of}
+use Rattle.dg_interp.specs.Running.{HasText, Writes, Gave, Awaits, Stretch, Reaches, HasEnded, IsNoFurther, MeetsLimit, Ended, IsBroken, Broken, GoalDone, DoesGoal, ending_at, over, outcome_of}
 use Rattle.dg_base.proofs.WrittenLemmas.{wrote_on, broke_first, broke_later}
 use Rattle.dg_interp.proofs.Places.{limits_at, adds_nothing, adds_on, adds_drops, limits_on}
 use Rattle.dg_interp.proofs.Goals.{prints_word, prints_gap, quits}
@@ -135,12 +135,17 @@ limit_at e g w run st (x ∷ goals) some h = limited g st.at.inside.lives st.at.
 pub limited_at : (e : Engine) (g : Game) (w : World) (run : Run) → 0 < length e.here.goals.now → StandsAt e g 0 w run → Finished 0 w (End StepLimit) run
 limited_at e g w run some st = limit_at e g w run st e.here.goals.now some st.stands
 
--- with no goal left no more is printed
-pub no_more : (e : Engine) (added : List Print) (g : Game) (w : World) (run : Run) → 0 < length e.here.goals.now → StandsAt e g 0 w run → Begins (prints run.world.events) (prints w.events ++ added)
-no_more e added g w run some st =
+-- with no goal left no more is printed or taken
+pub no_more : (e : Engine) (added : List Print) (i : SourceView) (taken : List ℕ) (g : Game) (w : World) (run : Run) (a : Awaits i false taken w) → 0 < length e.here.goals.now → StandsAt e g 0 w run
+    → IsNoFurther added a.rest w run
+no_more e added i taken g w run a some st =
     let f = limited_at e g w run some st in
     let same : prints run.world.events ≡ prints w.events = ap (λ (r : Run). prints r.world.events) f.is ∙ ap (λ (v : World). prints v.events) f.drops.is in
-    record { behind = added; is = ap (λ l. l ++ added) (sym same) }
+    let kept : run.world.typed ≡ w.typed = ap (λ (r : Run). r.world.typed) f.is ∙ ap (λ (v : World). v.typed) f.drops.is in
+    record {
+      prints = record { behind = added; is = ap (λ l. l ++ added) (sym same) };
+      typed = record { taken = taken; is = kept ∙ a.typed };
+    }
 
 pub run_limited : (e : Engine) (s : Spacer) (k : SinkView) (i : SourceView) → 0 < length e.here.goals.now → e.left ≡ 0 → Reaches e s k i i (HasEnded StepLimit e.left s k (left_told i i))
 run_limited e s k i some none =
@@ -207,8 +212,11 @@ module _ (x : Goal) (old mid : Engine) (s : Spacer) (k : SinkView) (i : SourceVi
       reads_nothing old s k i (HasEnded e new.left s k (left_told i i)) (λ g w run start left st text. finished_so result e mid.left new.left s k (left_told i i) w run start (as_told i i w.typed left) text (sym h.left) is (h.ends g mid.left w run (takes_here g w run st)))
 
   -- memory ran out before anything was written
-  pub goal_lost : Reaches old s k i i (IsBroken OutOfMemory s k)
-  goal_lost = reads_nothing old s k i (IsBroken OutOfMemory s k) (λ g w run start left st text. record { part = w.events; until = (stands_happened g st.at.inside.lives st.at.ways _ old.left w run st.stands).events; text = text })
+  pub goal_lost : Reaches old s k i i (IsBroken OutOfMemory s k i.left)
+  goal_lost =
+      reads_nothing old s k i (IsBroken OutOfMemory s k i.left)
+      (λ g w run start left st text.
+      record { moment = w; taken = record { taken = []; is = refl }; until = stands_happened g st.at.inside.lives st.at.ways _ old.left w run st.stands; text = text; left = left })
 
   pub goal_limit : (area : Area) (left : ℕ) → mid.left ≡ left → PassesLimit area (TakesAt x mid) (limit_in area mid) → MeetsLimit area left old s s k k i i
   goal_limit area left same h = record {
@@ -218,8 +226,8 @@ module _ (x : Goal) (old mid : Engine) (s : Spacer) (k : SinkView) (i : SourceVi
     taken = [];
     gave = gave_nothing i;
     passed = λ g w run a st. subst (λ n. n < greatest area run.world.meters) (limits_at old mid taken.limits area) (h g 0 w run (taken.takes g 0 w run st));
-    until = λ g w run a st. stretched [] w (λ v. Begins v.events run.world.events) (record { world = w; adds = adds_nothing w; holds = (stands_happened g st.at.inside.lives st.at.ways _ 1 w run st.stands).events });
-    since = λ g w run a st. no_more old [] g w run some st;
+    until = λ g w run a st. stretched [] w (λ v. Grows v run.world) (record { world = w; adds = adds_nothing w; holds = stands_happened g st.at.inside.lives st.at.ways _ 1 w run st.stands });
+    since = λ g w run a st. no_more old [] i [] g w run a some st;
     writes = writes_nothing s k;
   }
 
@@ -264,8 +272,8 @@ module _ (x : Goal) (e : Print) (old mid : Engine) (s s' : Spacer) (k k' : SinkV
     writes = λ start es text. text_added s s' start k k' es e text added;
   }
 
-  pub one_lost : ((es : List Print) → StandsFor s es → BrokeOff k k' (growth es e)) → Reaches old s k i i (IsBroken Write s' k')
-  one_lost broke = reads_nothing old s k i (IsBroken Write s' k')
+  pub one_lost : ((es : List Print) → StandsFor s es → BrokeOff k k' (growth es e)) → Reaches old s k i i (IsBroken Write s' k' i.left)
+  one_lost broke = reads_nothing old s k i (IsBroken Write s' k' i.left)
       (λ g w run start left st text.
       let t = one_then g mid.left w run (subst (λ n. StandsAt old g n w run) taken.left st) in
       let h = t.holds in
@@ -305,8 +313,8 @@ module _ (x : Goal) (term : Term) (value : Ref) (old mid new : Engine) (s s' : S
     writes = λ start es text. text_grown ps s s' start k k' es text added;
   }
 
-  pub value_lost : ((es : List Print) → StandsFor s es → BrokeOff k k' (growth_of es ps)) → Reaches old s k i i (IsBroken Write s' k')
-  value_lost broke = reads_nothing old s k i (IsBroken Write s' k')
+  pub value_lost : ((es : List Print) → StandsFor s es → BrokeOff k k' (growth_of es ps)) → Reaches old s k i i (IsBroken Write s' k' i.left)
+  value_lost broke = reads_nothing old s k i (IsBroken Write s' k' i.left)
       (λ g w run start left st text.
       let t = printed_then g mid.left w run (subst (λ n. StandsAt old g n w run) taken.left st) in
       let h = t.holds in

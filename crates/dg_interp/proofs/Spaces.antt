@@ -126,8 +126,8 @@ module _ (x : Goal) (e : Print) (old mid new : Engine) (s s' : Spacer) (k k' : S
     writes = λ start es text. text_added s s' start k k' es e text added;
   }
 
-  pub told_lost : ((es : List Print) → StandsFor s es → BrokeOff k k' (growth es e)) → Reaches old s k i i (IsBroken Write s' k')
-  told_lost broke = reads_nothing old s k i (IsBroken Write s' k')
+  pub told_lost : ((es : List Print) → StandsFor s es → BrokeOff k k' (growth es e)) → Reaches old s k i i (IsBroken Write s' k' i.left)
+  told_lost broke = reads_nothing old s k i (IsBroken Write s' k' i.left)
       (λ g w run start left st text.
       let t = then_one g mid.left w run (subst (λ n. StandsAt old g n w run) taken.left st) in
       let h = t.holds in

@@ -1,12 +1,13 @@
 -- From the start of a run to its closing.
 use Rattle.std.proofs.Common.{◌≡◌, ℕ, suc, ◌-◌, ◌<◌, ◌≤◌, inl, inr, List, [], ◌∷◌, ◌++◌, Bool, true, false, Option, Some, None, refl, sym, ap, ◌∙◌, subst, arith, length, length-append}
 use Rattle.std.proofs.lemmas.Bool.{cases_lt}
-use Rattle.std.proofs.lemmas.List.{append-nil}
+use Rattle.std.proofs.lemmas.List.{append-nil, append_cancel_left}
 use Rattle.std.specs.Prelude.{Result, Ok, Err, IfOk, IfErr, ◌+◌, ◌⊎◌}
 use Rattle.dg_base.specs.declared.run.Ending.TheVariants.{InputEnded, HeapLimit, TrailLimit, AuxLimit, KeepLimit}
-use Rattle.dg_meaning.specs.OneRun.{Begins}
+use Rattle.dg_meaning.specs.OneRun.{Begins, EndsWith, Grows}
 use Rattle.dg_meaning.specs.Peaks.{Area, Heap, Trail, Aux, Keep, limit_of, limit_ending, peak}
 use Rattle.dg_meaning.proofs.OneRun.{begins_same}
+use Rattle.dg_interp.proofs.Runs.{as_told}
 use Rattle.dg_meaning.proofs.Limits.{later_run, limit_covers}
 use Rattle.dg_meaning.proofs.Dropping.{prints_append}
 use Rattle.dg_base.specs.declared.program.CoreProgram.{CoreProgram}
@@ -20,7 +21,7 @@ use Rattle.dg_meaning.specs.Render.{render}
 use Rattle.dg_meaning.specs.Facts.{kinds_of, kept_size, start_facts}
 use Rattle.dg_meaning.specs.Search.{search}
 use Rattle.dg_meaning.specs.Transcript.{Run, run, start_world, text_of, line_of, no_memory_line, input_fault_line, closing, closed, transcript}
-use Rattle.dg_meaning.specs.Shows.{IsLeft, HasGiven, taken_by, ShowsLimit, ShowsNoMemory, ShowsInputFault, MayWrite, whole, without_memory, without_input}
+use Rattle.dg_meaning.specs.Shows.{IsLeft, HasGiven, taken_by, LeftBetween, ShowsLimit, ShowsNoMemory, ShowsInputFault, MayWrite, whole, without_memory, without_input}
 use Rattle.dg_meaning.proofs.Search.{run_within}
 use Rattle.dg_spacing.specs.declared.spacer.Spacer.{Spacer}
 use Rattle.dg_interp.specs.declared.engine.Engine.{Engine}
@@ -32,7 +33,7 @@ use Rattle.dg_interp.specs.declared.lack.Lack.TheVariants as lack
 use Rattle.dg_interp.specs.Outside.{LacksAtStart}
 use Rattle.dg_interp.specs.Engine.{limit_in, Starts}
 use Rattle.dg_base.specs.Streams.{SourceView}
-use Rattle.dg_interp.specs.Running.{limit_of as ending_of_lack, Gave, LeftBehind, Awaits, Stretch, HasText, Reaches, HasEnded, MeetsLimit, Ended, HasPart, IsLimited, TakesMore, LosesInput, IsBroken, Broken}
+use Rattle.dg_interp.specs.Running.{limit_of as ending_of_lack, Gave, LeftBehind, Awaits, Stretch, HasText, Reaches, HasEnded, MeetsLimit, IsNoFurther, Ended, HasPart, IsLimited, TakesMore, LosesInput, IsBroken, Broken}
 use Rattle.dg_interp.specs.Interpret.{game, left_told, ForTyped, HasShown, HasLostInput, HasLostOutput, HasLostMemory}
 use Rattle.dg_base.proofs.WrittenLemmas.{wrote_nothing, wrote_on, broke_first, broke_later}
 
@@ -42,6 +43,11 @@ may_write g typed limits =
     let r = run g typed limits.steps in
     whole (record { ending = r.ending; goals = limits.steps - r.left }) None
     (inl (record { text = refl; ending = refl; goals = omega (arith, run_within g typed limits.steps); left_is = tt }))
+
+-- nothing is taken before the first goal
+nothing_taken : (g : Game) (typed : List ℕ) → (run g typed 0).world ≡ start_world g typed
+unfolding run search
+nothing_taken g typed = refl
 
 -- ## Of two parts of a list the longer
 
@@ -120,12 +126,18 @@ module _ (program : CoreProgram) (limits : Limits) (e : Engine) (dice : List ℕ
       abbrev whole_run : Run
       whole_run = run g typed (suc m.goals)
 
+      reached_to : Stretch m.added m.taken (start_world g typed) (λ v. Grows v whole_run.world)
+      reached_to = m.until g (start_world g typed) whole_run a (starts.stands g (suc m.goals) typed refl refl)
+
+      no_further : IsNoFurther m.added a.rest (start_world g typed) (run g typed m.goals)
+      no_further = m.since g (start_world g typed) (run g typed m.goals) a (starts.stands g m.goals typed refl refl)
+
       part_is : IsPart m.added (run g typed m.goals).world.events whole_run.world.events
       part_is =
-          let t = m.until g (start_world g typed) whole_run a (starts.stands g (suc m.goals) typed refl refl) in
-          let b = m.since g (start_world g typed) (run g typed m.goals) a (starts.stands g m.goals typed refl refl) in
+          let t = reached_to in
+          let b = no_further.prints in
           subst (λ l. IsPart l (run g typed m.goals).world.events whole_run.world.events) t.prints_are
-          (the_part t.world.events (run g typed m.goals).world.events whole_run.world.events t.holds (later_run g typed m.goals (suc m.goals) (omega arith)).events (subst (Begins (prints (run g typed m.goals).world.events)) (sym t.prints_are) b))
+          (the_part t.world.events (run g typed m.goals).world.events whole_run.world.events t.holds.events (later_run g typed m.goals (suc m.goals) (omega arith)).events (subst (Begins (prints (run g typed m.goals).world.events)) (sym t.prints_are) b))
 
       passed_limit : limit_of area limits < peak area g typed (suc m.goals)
       passed_limit = subst (λ n. n < peak area g typed (suc m.goals)) same (m.passed g (start_world g typed) whole_run a (starts.stands g (suc m.goals) typed refl refl))
@@ -136,8 +148,20 @@ module _ (program : CoreProgram) (limits : Limits) (e : Engine) (dice : List ℕ
       since_before : Begins (run g typed (suc m.goals - 1)).world.events part_is.part
       since_before = let one : suc m.goals - 1 ≡ m.goals = omega arith in subst (λ n. Begins (run g typed n).world.events part_is.part) (sym one) part_is.since
 
-      limit_shows : ShowsLimit g typed limits (closed part_is.part (line_of (limit_ending area))) (record { ending = limit_ending area; goals = limits.steps - left })
-      limit_shows = record {
+      left_between : (told : Option (List ℕ)) → IsLeft told a.rest → LeftBetween g typed (limits.steps - left - 1) (limits.steps - left) told
+      left_between told is =
+          let one : suc m.goals - 1 ≡ m.goals = omega arith in
+          let same : a.rest ≡ reached_to.world.typed = append_cancel_left m.taken a.rest reached_to.world.typed (sym a.typed ∙ reached_to.typed) in
+          subst (λ n. LeftBetween g typed (n - 1) n told) (sym taken_goals)
+          (record {
+            rest = a.rest;
+            left_is = is;
+            since = subst (λ n. EndsWith (run g typed n).world.typed a.rest) (sym one) no_further.typed;
+            until = subst (λ l. EndsWith l whole_run.world.typed) (sym same) reached_to.holds.typed;
+          })
+
+      limit_shows : (told : Option (List ℕ)) → IsLeft told a.rest → ShowsLimit g typed limits (closed part_is.part (line_of (limit_ending area))) (record { ending = limit_ending area; goals = limits.steps - left }) told
+      limit_shows told is = record {
         area = area;
         ending = refl;
         goals = omega arith;
@@ -147,6 +171,7 @@ module _ (program : CoreProgram) (limits : Limits) (e : Engine) (dice : List ℕ
         until = subst (λ n. Begins part_is.part (run g typed n).world.events) (sym taken_goals) part_is.until;
         since = subst (λ n. Begins (run g typed (n - 1)).world.events part_is.part) (sym taken_goals) since_before;
         none_before_the_first = λ none. absurd (omega (arith, none, taken_goals));
+        input = left_between told is;
         covers = λ n le within. limit_covers g typed limits area (suc m.goals) part_is.part passed_limit since_before n within;
       }
 
@@ -156,14 +181,14 @@ module _ (program : CoreProgram) (limits : Limits) (e : Engine) (dice : List ℕ
       limit_shown : (k'' : SinkView) → ((es : List Print) → StandsFor s' es → Wrote k' k'' (ending_line es (line_of (limit_ending area)))) → HasShown g typed limits (record { ending = limit_ending area; goals = limits.steps - left }) (left_told i i') k k''
       limit_shown k'' close = record {
         bytes = closed part_is.part (line_of (limit_ending area));
-        shows = inr limit_shows;
+        shows = inr (limit_shows (left_told i i') (as_told i i' a.rest a.left));
         wrote = wrote_on k k' k'' (text_of part_is.part) (ending_line (prints part_is.part) (line_of (limit_ending area))) text_is.wrote (close (prints part_is.part) text_is.stands);
       }
 
       limit_lost : (k'' : SinkView) → ((es : List Print) → StandsFor s' es → BrokeOff k' k'' (ending_line es (line_of (limit_ending area)))) → HasLostOutput g typed limits k k''
       limit_lost k'' close = record {
         bytes = closed part_is.part (line_of (limit_ending area));
-        may_write = whole (record { ending = limit_ending area; goals = limits.steps - left }) None (inr limit_shows);
+        may_write = whole (record { ending = limit_ending area; goals = limits.steps - left }) None (inr (limit_shows None tt));
         broke = broke_later k k' k'' (text_of part_is.part) (ending_line (prints part_is.part) (line_of (limit_ending area))) text_is.wrote (close (prints part_is.part) text_is.stands);
       }
 
@@ -203,8 +228,19 @@ module _ (program : CoreProgram) (limits : Limits) (e : Engine) (dice : List ℕ
         broke = subst (BrokeOff k k'') (sym closes) (broke_later k k' k'' (render (prints x.world.events)) (ending_line (prints x.world.events) (line_of ending)) x.text.wrote (close (prints x.world.events) x.text.stands));
       }
 
-    shows_part : (x : HasPart s' k' r k) → ShowsNoMemory g typed limits (closed x.part no_memory_line)
-    shows_part x = record { part = x.part; text = refl; until = x.until }
+    shows_part : (told : Option (List ℕ)) (x : HasPart s' k' told (start_world g typed) r k) → ShowsNoMemory g typed limits (closed x.moment.events no_memory_line) told
+    shows_part told x = record {
+      part = x.moment.events;
+      text = refl;
+      until = x.until.events;
+      input =
+          record {
+            rest = x.moment.typed;
+            left_is = x.left;
+            since = subst (λ (w : World). EndsWith w.typed x.moment.typed) (sym (nothing_taken g typed)) x.taken;
+            until = x.until.typed;
+          };
+    }
 
   -- a limit, for bytes that the source gave
   met : (area : Area) (left : ℕ) (P : List ℕ → Type 0) (m : MeetsLimit area left e s s' k k' i i') → ((typed : List ℕ) → Awaits i' false m.taken (start_world g typed) → P typed) → ForTyped i.left P
@@ -257,13 +293,13 @@ module _ (program : CoreProgram) (limits : Limits) (e : Engine) (dice : List ℕ
   closing_lost k'' KeepLimit left m close = met Keep left (Lost k'') m (λ typed a. limit_lost typed Keep left m (starts.limits_are Keep) a k'' close)
   closing_lost k'' ending left h close = came (HasEnded ending left s' k' (left_told i i')) (Lost k'') h (λ typed a. run_lost typed ending left h a k'' close)
 
-  pub text_lost : Reaches e s k i i' (IsBroken Write s' k') → ForTyped i.left (Lost k')
+  pub text_lost : Reaches e s k i i' (IsBroken Write s' k' i'.left) → ForTyped i.left (Lost k')
   text_lost h =
-      came (IsBroken Write s' k') (Lost k') h
+      came (IsBroken Write s' k' i'.left) (Lost k') h
       (λ typed a. record {
         bytes = transcript g typed limits.steps;
         may_write = may_write g typed limits;
-        broke = broke_first k k' (text_of (r typed).world.events) (closing (r typed).world.events (line_of (r typed).ending)) (reached typed (IsBroken Write s' k') h a);
+        broke = broke_first k k' (text_of (r typed).world.events) (closing (r typed).world.events (line_of (r typed).ending)) (reached typed (IsBroken Write s' k' i'.left) h a);
       })
 
   pub broken_later : (fault : RunFault) → Broken fault e s s' k k' i i' → i.faults ≤ i'.faults
@@ -337,26 +373,26 @@ module _ (program : CoreProgram) (limits : Limits) (e : Engine) (dice : List ℕ
         broke = broke_later k k' k'' (text_of events) (ending_line (prints events) input_fault_line) text.wrote (close (prints events) text.stands);
       })
 
-  pub memory_shown : (k'' : SinkView) → Reaches e s k i i' (IsBroken OutOfMemory s' k') → ((es : _) → StandsFor s' es → Wrote k' k'' (ending_line es no_memory_line)) → ForTyped i.left (λ typed. HasLostMemory g typed limits k k'')
+  pub memory_shown : (k'' : SinkView) → Reaches e s k i i' (IsBroken OutOfMemory s' k' i'.left) → ((es : _) → StandsFor s' es → Wrote k' k'' (ending_line es no_memory_line)) → ForTyped i.left (λ typed. HasLostMemory g typed limits i'.left k k'')
   memory_shown k'' h close =
-      came (IsBroken OutOfMemory s' k') (λ typed. HasLostMemory g typed limits k k'') h
+      came (IsBroken OutOfMemory s' k' i'.left) (λ typed. HasLostMemory g typed limits i'.left k k'') h
       (λ typed a.
-      let x = reached typed (IsBroken OutOfMemory s' k') h a in
+      let x = reached typed (IsBroken OutOfMemory s' k' i'.left) h a in
       record {
-        bytes = closed x.part no_memory_line;
-        shows = shows_part typed x;
-        wrote = wrote_on k k' k'' (text_of x.part) (ending_line (prints x.part) no_memory_line) x.text.wrote (close (prints x.part) x.text.stands);
+        bytes = closed x.moment.events no_memory_line;
+        shows = shows_part typed i'.left x;
+        wrote = wrote_on k k' k'' (text_of x.moment.events) (ending_line (prints x.moment.events) no_memory_line) x.text.wrote (close (prints x.moment.events) x.text.stands);
       })
 
-  pub memory_closing_lost : (k'' : SinkView) → Reaches e s k i i' (IsBroken OutOfMemory s' k') → ((es : _) → StandsFor s' es → BrokeOff k' k'' (ending_line es no_memory_line)) → ForTyped i.left (Lost k'')
+  pub memory_closing_lost : (k'' : SinkView) → Reaches e s k i i' (IsBroken OutOfMemory s' k' i'.left) → ((es : _) → StandsFor s' es → BrokeOff k' k'' (ending_line es no_memory_line)) → ForTyped i.left (Lost k'')
   memory_closing_lost k'' h close =
-      came (IsBroken OutOfMemory s' k') (Lost k'') h
+      came (IsBroken OutOfMemory s' k' i'.left) (Lost k'') h
       (λ typed a.
-      let x = reached typed (IsBroken OutOfMemory s' k') h a in
+      let x = reached typed (IsBroken OutOfMemory s' k' i'.left) h a in
       record {
-        bytes = closed x.part no_memory_line;
-        may_write = without_memory (shows_part typed x);
-        broke = broke_later k k' k'' (text_of x.part) (ending_line (prints x.part) no_memory_line) x.text.wrote (close (prints x.part) x.text.stands);
+        bytes = closed x.moment.events no_memory_line;
+        may_write = without_memory i'.left (shows_part typed i'.left x);
+        broke = broke_later k k' k'' (text_of x.moment.events) (ending_line (prints x.moment.events) no_memory_line) x.text.wrote (close (prints x.moment.events) x.text.stands);
       })
 
 -- ## What is lacking at the start
@@ -365,18 +401,26 @@ module _ (program : CoreProgram) (limits : Limits) (dice typed : List ℕ) (s : 
   abbrev the_game : Game
   the_game = game program dice
 
-  nothing_taken : (run the_game typed 0).world ≡ start_world the_game typed
-  unfolding run search
-  nothing_taken = refl
+  -- before the first goal all is left
+  all_left : (told : Option (List ℕ)) (n : ℕ) → IsLeft told typed → LeftBetween the_game typed 0 n told
+  all_left told n is =
+      let none : (run the_game typed 0).world.typed ≡ typed = ap (λ (w : World). w.typed) (nothing_taken the_game typed) in
+      record {
+        rest = typed;
+        left_is = is;
+        since = record { taken = []; is = none };
+        until = subst (λ l. EndsWith l (run the_game typed n).world.typed) none (later_run the_game typed 0 n (omega arith)).typed;
+      }
 
   nothing_written : Wrote k k (text_of [])
   unfolding render
   nothing_written = wrote_nothing k
 
-  start_shows : limits.keep < kept_size (kinds_of program) (start_facts program.places) → ShowsLimit the_game typed limits (closed [] (line_of KeepLimit)) (record { ending = KeepLimit; goals = 0 })
-  start_shows over =
-      let events : (run the_game typed 0).world.events ≡ [] = ap (λ (w : World). w.events) nothing_taken in
-      let passed : limits.keep < (run the_game typed 0).world.meters.keep = subst (λ (w : World). limits.keep < w.meters.keep) (sym nothing_taken) over in
+  start_shows : (told : Option (List ℕ)) → IsLeft told typed → limits.keep < kept_size (kinds_of program) (start_facts program.places)
+      → ShowsLimit the_game typed limits (closed [] (line_of KeepLimit)) (record { ending = KeepLimit; goals = 0 }) told
+  start_shows told is over =
+      let events : (run the_game typed 0).world.events ≡ [] = ap (λ (w : World). w.events) (nothing_taken the_game typed) in
+      let passed : limits.keep < (run the_game typed 0).world.meters.keep = subst (λ (w : World). limits.keep < w.meters.keep) (sym (nothing_taken the_game typed)) over in
       let since : Begins (run the_game typed 0).world.events [] = subst (λ l. Begins l []) (sym events) (record { behind = []; is = refl }) in
       record {
         area = Keep;
@@ -388,25 +432,26 @@ module _ (program : CoreProgram) (limits : Limits) (dice typed : List ℕ) (s : 
         until = record { behind = (run the_game typed 0).world.events; is = refl };
         since = since;
         none_before_the_first = λ none. refl;
+        input = all_left told 0 is;
         covers = λ n le within. limit_covers the_game typed limits Keep 0 [] passed since n within;
       }
 
-  pub start_shown : (l : Lack) (ending : Ending) (told : Option (List ℕ)) → LacksAtStart program limits.keep l → Ok ending ≡ ending_of_lack l → ((es : List Print) → StandsFor s es → Wrote k k' (ending_line es (line_of ending))) → HasShown the_game typed limits (record { ending = ending; goals = 0 }) told k k'
-  start_shown lack.Keep ending told over e close =
+  pub start_shown : (l : Lack) (ending : Ending) (told : Option (List ℕ)) → IsLeft told typed → LacksAtStart program limits.keep l → Ok ending ≡ ending_of_lack l → ((es : List Print) → StandsFor s es → Wrote k k' (ending_line es (line_of ending))) → HasShown the_game typed limits (record { ending = ending; goals = 0 }) told k k'
+  start_shown lack.Keep ending told left over e close =
       let same : KeepLimit ≡ ending = cc in
       subst (λ x. HasShown the_game typed limits (record { ending = x; goals = 0 }) told k k') same
-      (record { bytes = closed [] (line_of KeepLimit); shows = inr (start_shows over); wrote = wrote_on k k k' (text_of []) (ending_line [] (line_of KeepLimit)) nothing_written (subst (λ x. Wrote k k' (ending_line [] (line_of x))) (sym same) (close [] new)) })
-  start_shown lack.OutOfMemory ending told over e close = absurd (cc)
-  start_shown lack.Heap ending told over e close = absurd over
-  start_shown lack.Trail ending told over e close = absurd over
-  start_shown lack.Aux ending told over e close = absurd over
+      (record { bytes = closed [] (line_of KeepLimit); shows = inr (start_shows told left over); wrote = wrote_on k k k' (text_of []) (ending_line [] (line_of KeepLimit)) nothing_written (subst (λ x. Wrote k k' (ending_line [] (line_of x))) (sym same) (close [] new)) })
+  start_shown lack.OutOfMemory ending told left over e close = absurd (cc)
+  start_shown lack.Heap ending told left over e close = absurd over
+  start_shown lack.Trail ending told left over e close = absurd over
+  start_shown lack.Aux ending told left over e close = absurd over
 
   pub start_lost : (l : Lack) (ending : Ending) → LacksAtStart program limits.keep l → Ok ending ≡ ending_of_lack l → ((es : List Print) → StandsFor s es → BrokeOff k k' (ending_line es (line_of ending))) → HasLostOutput the_game typed limits k k'
   start_lost lack.Keep ending over e close =
       let same : KeepLimit ≡ ending = cc in
       record {
         bytes = closed [] (line_of KeepLimit);
-        may_write = whole (record { ending = KeepLimit; goals = 0 }) None (inr (start_shows over));
+        may_write = whole (record { ending = KeepLimit; goals = 0 }) None (inr (start_shows None tt over));
         broke = broke_later k k k' (text_of []) (ending_line [] (line_of KeepLimit)) nothing_written (subst (λ x. BrokeOff k k' (ending_line [] (line_of x))) (sym same) (close [] new));
       }
   start_lost lack.OutOfMemory ending over e close = absurd (cc)
@@ -414,20 +459,25 @@ module _ (program : CoreProgram) (limits : Limits) (dice typed : List ℕ) (s : 
   start_lost lack.Trail ending over e close = absurd over
   start_lost lack.Aux ending over e close = absurd over
 
-  start_forgets : ShowsNoMemory the_game typed limits (closed [] no_memory_line)
-  start_forgets = record { part = []; text = refl; until = record { behind = (run the_game typed limits.steps).world.events; is = refl } }
+  start_forgets : (told : Option (List ℕ)) → IsLeft told typed → ShowsNoMemory the_game typed limits (closed [] no_memory_line) told
+  start_forgets told is = record {
+    part = [];
+    text = refl;
+    until = record { behind = (run the_game typed limits.steps).world.events; is = refl };
+    input = all_left told limits.steps is;
+  }
 
-  pub start_memory : ((es : List Print) → StandsFor s es → Wrote k k' (ending_line es no_memory_line)) → HasLostMemory the_game typed limits k k'
-  start_memory close = record {
+  pub start_memory : (told : Option (List ℕ)) → IsLeft told typed → ((es : List Print) → StandsFor s es → Wrote k k' (ending_line es no_memory_line)) → HasLostMemory the_game typed limits told k k'
+  start_memory told is close = record {
     bytes = closed [] no_memory_line;
-    shows = start_forgets;
+    shows = start_forgets told is;
     wrote = wrote_on k k k' (text_of []) (ending_line [] no_memory_line) nothing_written (close [] new);
   }
 
   pub start_memory_lost : ((es : List Print) → StandsFor s es → BrokeOff k k' (ending_line es no_memory_line)) → HasLostOutput the_game typed limits k k'
   start_memory_lost close = record {
     bytes = closed [] no_memory_line;
-    may_write = without_memory start_forgets;
+    may_write = without_memory None (start_forgets None tt);
     broke = broke_later k k k' (text_of []) (ending_line [] no_memory_line) nothing_written (close [] new);
   }
 

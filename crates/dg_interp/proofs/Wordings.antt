@@ -37,6 +37,7 @@ use Rattle.dg_interp.specs.Giving.{ActsAt, UnifiesAt}
 use Rattle.dg_interp.specs.Interpret.{game}
 use Rattle.dg_interp.specs.Spelling.{MakesValue}
 use Rattle.dg_interp.specs.Wording.{words_in, MakesAt, TakesLineAt, AwaitsInput}
+use Rattle.dg_meaning.proofs.OneRun.{grows_on, begun_grows}
 use Rattle.dg_interp.proofs.Stores.{told_kept}
 use Rattle.dg_interp.proofs.Takes.{store_ready}
 use Rattle.dg_interp.proofs.Places.{adds_nothing}
@@ -69,6 +70,10 @@ module _ (v : Value) (into : Ref) (old : Engine) where
 
     pub made_grows : Grows bound_in run.world
     made_grows = subst (λ x. Grows x run.world) (world_is u.agrees) (has_happened g st.at.inside.lives st.at.ways n (Moves (goes_on_if u.agrees (steps_of old) bound bound_in)) run st.went)
+
+    -- the run comes later than before it was made
+    pub made_later : Grows w run.world
+    made_later = grows_on w bound_in run.world (begun_grows bound (unifying behind.bound ((told s into, v) ∷ [])) w) made_grows
 
   -- the heap is full where it is made
   pub made_full : (e : Full) → Overflows (copy_cells v) s e → FullAt (MakesAt v into old) s e

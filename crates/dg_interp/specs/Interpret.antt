@@ -46,13 +46,13 @@ pub record HasLostOutput (g : Game) (typed : List ℕ) (limits : Limits) (old ne
   pub broke : BrokeOff old new bytes
 
 -- Memory ran out, and the sink took the text up to there with its closing.
-pub record HasLostMemory (g : Game) (typed : List ℕ) (limits : Limits) (old new : SinkView) : Type 0 where
+pub record HasLostMemory (g : Game) (typed : List ℕ) (limits : Limits) (left : Option (List ℕ)) (old new : SinkView) : Type 0 where
   pub bytes : List ℕ
-  pub shows : ShowsNoMemory g typed limits bytes
+  pub shows : ShowsNoMemory g typed limits bytes left
   pub wrote : Wrote old new bytes
 
 -- What stands after each fault.
 abbrev pub HasBrokenOff : RunFault → Game → List ℕ → Limits → Option (List ℕ) → SinkView → SinkView → Type 0
 HasBrokenOff Read g typed limits left old new = HasLostInput g typed limits left old new
 HasBrokenOff Write g typed limits left old new = HasLostOutput g typed limits old new
-HasBrokenOff OutOfMemory g typed limits left old new = HasLostMemory g typed limits old new
+HasBrokenOff OutOfMemory g typed limits left old new = HasLostMemory g typed limits left old new

@@ -7,7 +7,7 @@ use Rattle.dg_base.specs.declared.run.RunFault.TheVariants.{Read, Write, OutOfMe
 use Rattle.dg_meaning.specs.World.{Game, World, Event, Print, prints}
 use Rattle.dg_meaning.specs.Render.{render}
 use Rattle.dg_meaning.specs.Transcript.{Run, text_of}
-use Rattle.dg_meaning.specs.OneRun.{Begins}
+use Rattle.dg_meaning.specs.OneRun.{Begins, EndsWith, Grows}
 use Rattle.dg_meaning.specs.Peaks.{Area, Heap, Trail, Aux, Keep, greatest, limit_ending}
 use Rattle.dg_spacing.specs.declared.spacer.Spacer.{Spacer}
 use Rattle.dg_interp.specs.declared.engine.Engine.{Engine}
@@ -97,8 +97,13 @@ pub record HasEnded (ending : Ending) (left : ℕ) (s : Spacer) (now : SinkView)
   pub is : run ≡ record { left = left; world = world; ending = ending }
   pub text : HasText s start now (prints world.events)
 
--- A limit was met behind some goals, with this much of the budget left: the run with a budget of these goals passes it,
--- and of what was written it has printed all, and the run with a budget of one less no more.
+-- A run has printed no more than a world and these things, and has left what is left here, or more.
+pub record IsNoFurther (added : List Print) (rest : List ℕ) (w : World) (run : Run) : Type 0 where
+  pub prints : Begins (prints run.world.events) (prints w.events ++ added)
+  pub typed : EndsWith run.world.typed rest
+
+-- A limit was met behind some goals, with this much of the budget left: the run with a budget of these goals passes it and comes
+-- later than what was written and taken, and the run with a budget of one less is no further.
 pub record MeetsLimit (area : Area) (left : ℕ) (old : Engine) (s s' : Spacer) (before now : SinkView) (from to : SourceView) : Type 0 where
   pub goals : ℕ
   pub left_is : old.left ≡ suc goals + left
@@ -108,9 +113,9 @@ pub record MeetsLimit (area : Area) (left : ℕ) (old : Engine) (s s' : Spacer) 
   pub passed : (g : Game) (w : World) (run : Run) → Awaits to false taken w → StandsAt old g (suc goals) w run →
       limit_in area old < greatest area run.world.meters
   pub until : (g : Game) (w : World) (run : Run) → Awaits to false taken w → StandsAt old g (suc goals) w run →
-      Stretch added taken w (λ v. Begins v.events run.world.events)
-  pub since : (g : Game) (w : World) (run : Run) → Awaits to false taken w → StandsAt old g goals w run →
-      Begins (prints run.world.events) (prints w.events ++ added)
+      Stretch added taken w (λ v. Grows v run.world)
+  pub since : (g : Game) (w : World) (run : Run) (awaits : Awaits to false taken w) → StandsAt old g goals w run →
+      IsNoFurther added awaits.rest w run
   pub writes : Writes s s' before now added
 
 -- How a run has ended: at a limit, or as its search ends.
@@ -121,17 +126,19 @@ Ended AuxLimit left old s s' before now from to = MeetsLimit Aux left old s s' b
 Ended KeepLimit left old s s' before now from to = MeetsLimit Keep left old s s' before now from to
 Ended ending left old s s' before now from to = Reaches old s before from to (HasEnded ending left s' now (left_told from to))
 
--- What was printed up to some moment of the run was written.
-pub record HasPart (s : Spacer) (now : SinkView) (run : Run) (start : SinkView) : Type 0 where
-  pub part : List Event
-  pub until : Begins part run.world.events
-  pub text : HasText s start now (prints part)
+-- Some moment of the run comes later than a world; what was printed up to it was written, and what the source tells is what it has left.
+pub record HasPart (s : Spacer) (now : SinkView) (told : Option (List ℕ)) (w : World) (run : Run) (start : SinkView) : Type 0 where
+  pub moment : World
+  pub taken : EndsWith w.typed moment.typed
+  pub until : Grows moment run.world
+  pub text : HasText s start now (prints moment.events)
+  pub left : IsLeft told moment.typed
 
 -- The sink failed within the run's text, or memory ran out.
-abbrev pub IsBroken : RunFault → Spacer → SinkView → World → Run → SinkView → Type 0
-IsBroken Read s now w run start = ⊥
-IsBroken Write s now w run start = BrokeOff start now (text_of run.world.events)
-IsBroken OutOfMemory s now w run start = HasPart s now run start
+abbrev pub IsBroken : RunFault → Spacer → SinkView → Option (List ℕ) → World → Run → SinkView → Type 0
+IsBroken Read s now told w run start = ⊥
+IsBroken Write s now told w run start = BrokeOff start now (text_of run.world.events)
+IsBroken OutOfMemory s now told w run start = HasPart s now told w run start
 
 -- A run ended at its budget, with this world.
 pub record IsLimited (w : World) (run : Run) : Type 0 where
@@ -163,7 +170,7 @@ pub record LosesInput (old : Engine) (s s' : Spacer) (before now : SinkView) (fr
 -- The run was broken off: the input failed, or the sink within the run's text, or memory ran out.
 abbrev pub Broken : RunFault → Engine → Spacer → Spacer → SinkView → SinkView → SourceView → SourceView → Type 0
 Broken Read old s s' before now from to = LosesInput old s s' before now from to
-Broken fault old s s' before now from to = Reaches old s before from to (IsBroken fault s' now)
+Broken fault old s s' before now from to = Reaches old s before from to (IsBroken fault s' now to.left)
 
 -- The goal at hand was done, or the run has ended so.
 abbrev pub DoesGoal : Option Ending → Engine → Engine → Spacer → Spacer → SinkView → SinkView → SourceView → SourceView → Type 0

@@ -81,9 +81,9 @@ fn write_lack<K: Sink>(
     sink: &mut K,
 ) -> Result<Outcome, RunFault>
     requires lacks { LacksAtStart program.now limits.now.keep lack }
-    ensures shows { IfOk result (λ outcome. (typed : List ℕ) → (told : Option (List ℕ)) →
+    ensures shows { IfOk result (λ outcome. (typed : List ℕ) → (told : Option (List ℕ)) → IsLeft told typed →
         HasShown (game program.now dice.now) typed limits.now outcome told (K.view sink.old) (K.view sink.new)) }
-    ensures err { IfErr result (λ fault. (typed : List ℕ) → (told : Option (List ℕ)) →
+    ensures err { IfErr result (λ fault. (typed : List ℕ) → (told : Option (List ℕ)) → IsLeft told typed →
         HasBrokenOff fault (game program.now dice.now) typed limits.now told (K.view sink.old) (K.view sink.new)) }
     ensures reads { IsErrOf result RunFault.Read → ⊥ }
 {

@@ -21,7 +21,7 @@ begins_same xs = record { behind = []; is = sym (append-nil xs) }
 pub begins_on : {A : Type 0} (xs ys zs : List A) → Begins xs ys → Begins ys zs → Begins xs zs
 begins_on xs ys zs a b = record { behind = a.behind ++ b.behind; is = b.is ∙ ap (λ l. l ++ b.behind) a.is ∙ append_assoc xs a.behind b.behind }
 
-ends_on : {A : Type 0} (xs ys zs : List A) → EndsWith xs ys → EndsWith ys zs → EndsWith xs zs
+pub ends_on : {A : Type 0} (xs ys zs : List A) → EndsWith xs ys → EndsWith ys zs → EndsWith xs zs
 ends_on xs ys zs a b = record { taken = a.taken ++ b.taken; is = a.is ∙ ap (λ l. a.taken ++ l) b.is ∙ sym (append_assoc a.taken b.taken zs) }
 
 pub meters_same : (m : Meters) → MetersGrow m m

@@ -5,7 +5,7 @@ use Rattle.dg_base.specs.declared.run.Limits.{Limits}
 use Rattle.dg_base.specs.declared.run.Outcome.{Outcome}
 use Rattle.dg_meaning.specs.World.{Game, Event}
 use Rattle.dg_meaning.specs.Transcript.{run, transcript, closed, line_of, no_memory_line, input_fault_line}
-use Rattle.dg_meaning.specs.OneRun.{Begins}
+use Rattle.dg_meaning.specs.OneRun.{Begins, EndsWith}
 use Rattle.dg_meaning.specs.Peaks.{Area, peak, limit_of, limit_ending, IsWithin}
 
 -- The bytes that an input has left, where it tells them.
@@ -20,9 +20,16 @@ pub record ShowsRun (g : Game) (typed : List ℕ) (limits : Limits) (bytes : Lis
   pub goals : outcome.goals + (run g typed limits.steps).left ≡ limits.steps
   pub left_is : IsLeft left (run g typed limits.steps).world.typed
 
+-- What an input has left lies between what two runs leave: the run with the smaller budget leaves it or more, and the one with the larger no more.
+pub record LeftBetween (g : Game) (typed : List ℕ) (few many : ℕ) (left : Option (List ℕ)) : Type 0 where
+  pub rest : List ℕ
+  pub left_is : IsLeft left rest
+  pub since : EndsWith (run g typed few).world.typed rest
+  pub until : EndsWith rest (run g typed many).world.typed
+
 -- A limit was met while a goal was done, or before the first: the run up to that goal passes the limit, and what was printed before is closed with
--- the limit's line.
-pub record ShowsLimit (g : Game) (typed : List ℕ) (limits : Limits) (bytes : List ℕ) (outcome : Outcome) : Type 0 where
+-- the limit's line. Of the input no less is left than that goal leaves, and no more than those before it.
+pub record ShowsLimit (g : Game) (typed : List ℕ) (limits : Limits) (bytes : List ℕ) (outcome : Outcome) (left : Option (List ℕ)) : Type 0 where
   pub area : Area
   pub ending : outcome.ending ≡ limit_ending area
   pub goals : outcome.goals ≤ limits.steps
@@ -32,19 +39,21 @@ pub record ShowsLimit (g : Game) (typed : List ℕ) (limits : Limits) (bytes : L
   pub until : Begins part (run g typed outcome.goals).world.events
   pub since : Begins (run g typed (outcome.goals - 1)).world.events part
   pub none_before_the_first : outcome.goals ≡ 0 → part ≡ []
+  pub input : LeftBetween g typed (outcome.goals - 1) outcome.goals left
   pub covers : (m : ℕ) → m ≤ limits.steps → IsWithin limits g typed m → Begins (run g typed m).world.events part
 
 -- These bytes and this outcome show the game on these typed bytes within the limits.
 abbrev pub Shows : Game → List ℕ → Limits → List ℕ → Outcome → Option (List ℕ) → Type 0
-Shows g typed limits bytes outcome left = ShowsRun g typed limits bytes outcome left ⊎ ShowsLimit g typed limits bytes outcome
+Shows g typed limits bytes outcome left = ShowsRun g typed limits bytes outcome left ⊎ ShowsLimit g typed limits bytes outcome left
 
 -- ## Where the run was broken off
 
--- What was printed up to some moment of the run, closed with the line on want of memory.
-pub record ShowsNoMemory (g : Game) (typed : List ℕ) (limits : Limits) (bytes : List ℕ) : Type 0 where
+-- What was printed up to some moment of the run, closed with the line on want of memory; of the input the run takes what was taken.
+pub record ShowsNoMemory (g : Game) (typed : List ℕ) (limits : Limits) (bytes : List ℕ) (left : Option (List ℕ)) : Type 0 where
   pub part : List Event
   pub text : bytes ≡ closed part no_memory_line
   pub until : Begins part (run g typed limits.steps).world.events
+  pub input : LeftBetween g typed 0 limits.steps left
 
 -- How many typed bytes the run with a budget of m goals takes.
 abbrev pub taken_by : Game → List ℕ → ℕ → ℕ
@@ -71,5 +80,5 @@ pub record ShowsInputFault (g : Game) (typed : List ℕ) (limits : Limits) (byte
 -- A text that a run may be about to write: what shows it, or what is written where it was broken off.
 pub data MayWrite (g : Game) (typed : List ℕ) (limits : Limits) (bytes : List ℕ) : Type 0 where
   whole : (outcome : Outcome) → (left : Option (List ℕ)) → Shows g typed limits bytes outcome left → MayWrite g typed limits bytes
-  without_memory : ShowsNoMemory g typed limits bytes → MayWrite g typed limits bytes
+  without_memory : (left : Option (List ℕ)) → ShowsNoMemory g typed limits bytes left → MayWrite g typed limits bytes
   without_input : (left : Option (List ℕ)) → ShowsInputFault g typed limits bytes left → MayWrite g typed limits bytes

@@ -99,6 +99,13 @@ module _ (g : Game) (code : Code) (limits : Limits) (codes : Codes g.program cod
         text = ap (λ l. closed_text l (line_of (limit_ending area))) (sym (part.prints_are ∙ printed));
         until = part.until;
         since = part.since;
+        input =
+            record {
+              rest = (run g typed goals).world.typed;
+              left_is = tt;
+              since = (later_run g typed (goals - 1) goals (omega arith)).typed;
+              until = record { taken = []; is = refl };
+            };
         none_before_the_first = λ e. begins_nothing part.part (subst (Begins part.part) (ap (λ k. (run g typed k).world.events) e ∙ nothing_first) part.until);
         covers = λ k le' within. limit_covers g typed limits area goals part.part passed part.since k within;
       })

@@ -24,7 +24,8 @@ word_no_var : (cs : Option (List ℕ)) (x : ℕ) → word_told cs ≡ Some (Var 
 word_no_var None x h = cc h
 word_no_var (Some cs) x h = cc h
 
-var_slot : (go : ℕ → Option Value) (slots : List Slot) (at : ℕ) (o : Option Slot) (x : ℕ) → slot_value go slots at o ≡ Some (Var x) → o ≡ Some (slot.Var x)
+var_slot : (go : ℕ → Option Value) (slots : List Slot) (at : ℕ) (o : Option Slot) (x : ℕ) → slot_value go slots at o ≡ Some (Var x) →
+    o ≡ Some (slot.Var x)
 var_slot go slots at None x h = absurd (cc h)
 var_slot go slots at (Some (slot.Var n)) x h = let e : n ≡ x = cc in ap (λ k. Some (slot.Var k)) e
 var_slot go slots at (Some (slot.Pair h t k)) x e = absurd (pair_no_var (go h.0) (go t.0) x e)
@@ -43,8 +44,8 @@ place_of_var slots (suc n) r x h =
     (λ (o : Option Value). o ≡ Some (Var x) → (r < 2147483648) × (slice_get slots r ≡ Some (slot.Var x)))
     (λ e k. (ltb-true r 2147483648 e, var_slot (value_at slots n) slots r (slice_get slots r) x k)) (λ e k. absurd (cc k)) h
 
-pub slots_younger : (slots : List Slot) (ls : List Link) (vars : ℕ) → Fits slots ls vars → (r q : Ref) (m n : ℕ) → value_in slots r.0 ≡ Some (Var m) →
-    value_in slots q.0 ≡ Some (Var n) → r.0 < q.0 → m < n
+pub slots_younger : (slots : List Slot) (ls : List Link) (vars : ℕ) → Fits slots ls vars → (r q : Ref) (m n : ℕ) →
+    value_in slots r.0 ≡ Some (Var m) → value_in slots q.0 ≡ Some (Var n) → r.0 < q.0 → m < n
 slots_younger slots ls vars b r q m n hr hq lt =
     b.rising r.0 q.0 m n (place_of_var slots (length slots) r.0 m hr).1 (place_of_var slots (length slots) q.0 n hq).1 lt
 

@@ -32,7 +32,8 @@ fn first_letter(bytes: &[u8]) -> (u16, usize)
 /// The letters of a spelling in UTF-8, as many as there is room for.
 pub fn read_letters(spelling: &[u8], letters: &mut [u16]) -> usize
     ensures within { result ≤ length letters.new }
-    ensures letters { (cs : List ℕ) → spelling.now ≡ encode_utf8_all cs → All (λ c. c < 65536) cs → take result letters.new ≡ take (length letters.new) cs }
+    ensures letters { (cs : List ℕ) → spelling.now ≡ encode_utf8_all cs → All (λ c. c < 65536) cs →
+        take result letters.new ≡ take (length letters.new) cs }
 {
     let mut kept = 0;
     let mut at = 0;

@@ -131,7 +131,8 @@ impl World {
 
     /// Whether a flag is set: a global one, or that of an object.
     pub fn holds(&self, place: u16, object: u16) -> bool
-        ensures flag { (o : Outline) → (facts : List Fact) → StandsFor self.now o facts → IsKind o place Flag → result ≡ is_some (value_at facts place 0) }
+        ensures flag { (o : Outline) → (facts : List Fact) → StandsFor self.now o facts → IsKind o place Flag →
+            result ≡ is_some (value_at facts place 0) }
         ensures object { (o : Outline) → (facts : List Fact) → StandsFor self.now o facts → IsKind o place ObjectFlag →
             result ≡ is_some (value_at facts place object) }
     {
@@ -185,8 +186,10 @@ impl World {
 
     // Whether a place that has values of objects takes one, or none: a parent is an object.
     fn takes(&self, place: u16, value: Option<Simple>) -> bool
-        ensures values { (o : Outline) → (facts : List Fact) → StandsFor self.now o facts → IsKind o place ObjectVar → result ≡ takes_slot ObjectVar value }
-        ensures parents { (o : Outline) → (facts : List Fact) → StandsFor self.now o facts → IsKind o place Parent → result ≡ takes_slot Parent value }
+        ensures values { (o : Outline) → (facts : List Fact) → StandsFor self.now o facts → IsKind o place ObjectVar →
+            result ≡ takes_slot ObjectVar value }
+        ensures parents { (o : Outline) → (facts : List Fact) → StandsFor self.now o facts → IsKind o place Parent →
+            result ≡ takes_slot Parent value }
     {
         match value {
             None | Some(Simple::Object(_)) => true,
@@ -209,8 +212,8 @@ impl World {
 
     // Keeps a value, or lets it go.
     fn set_global(&mut self, place: u16, cells: Option<&[Cell]>) -> Result<bool, KeepFull>
-        ensures changed { (o : Outline) → (facts : List Fact) → (a : Alteration) → StandsFor self.old o facts → Means o (Change.Global place cells.entry) a →
-            Changed o facts a self.old self.new result }
+        ensures changed { (o : Outline) → (facts : List Fact) → (a : Alteration) → StandsFor self.old o facts →
+            Means o (Change.Global place cells.entry) a → Changed o facts a self.old self.new result }
         ensures limit { self.new.area.keep ≡ self.old.area.keep }
     {
         match cells {

@@ -70,7 +70,9 @@ const NESTED: &str = "(q 1)\n(q 2)\n(p (q $X)) $X\n(program entry point) *(p 2)\
 
 // Two values that are doubled thirty times each: as trees they have a thousand million parts.
 const DOUBLED: &str =
-    "(twice [] $X $X)\n(twice [$ | $N] $X $Y) (twice $N [$X | $X] $Y)\n(value $X $Y) (twice [0 0 0 0 0 0 0 0 0 0 0 0 0 0 0 0 0 0 0 0 0 0 0 0 0 0 0 0 0 0] [$X] $Y)\n(program entry point) (value $A $X) (value $B $Y) ($X = $Y) ($A = 1) (fully bound $X) $B\n";
+    "(twice [] $X $X)\n(twice [$ | $N] $X $Y) (twice $N [$X | $X] $Y)\n\
+     (value $X $Y) (twice [0 0 0 0 0 0 0 0 0 0 0 0 0 0 0 0 0 0 0 0 0 0 0 0 0 0 0 0 0 0] [$X] $Y)\n\
+     (program entry point) (value $A $X) (value $B $Y) ($X = $Y) ($A = 1) (fully bound $X) $B\n";
 
 const PARTS: &str =
     "(program entry point) (stoppable) { a (stop) b } (line) (exhaust) { { c (or) d } } (1 < 2) e";

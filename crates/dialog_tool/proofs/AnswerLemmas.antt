@@ -164,7 +164,7 @@ run_unwritten c t file result words f p is e lost =
     (Answers.out s.2.bytes (Answers.shown t p (program c t file p s.0 words h is) s.2.may_write) s.2.broke)
 
 pub run_short : (c : Call) (t : Task) (file : List ℕ) (result : ℕ) → c.command ≡ Some (debug t) → IsFetched c.shelf c.shelf_after t.name file → (p : Core) → Compiles file (Ok p) → result ≡ 6
-    → ForTyped c.input.left (λ typed. HasLostMemory (Answers.game_of c t p) typed (limits_of t) c.out c.out_after) → Answers.Answers c result
+    → ForTyped c.input.left (λ typed. HasLostMemory (Answers.game_of c t p) typed (limits_of t) c.input_after.left c.out c.out_after) → Answers.Answers c result
 run_short c t file result words f p is e lost =
     let h = file_here c t.name file f in
     let s = some_typed c.input.left _ lost in

@@ -10,8 +10,7 @@ use Rattle.z_model.specs.Run.{ZGiven, ZState}
 use Rattle.z_model.specs.Story.{refusal_of, given_of, start_state}
 use Rattle.z_play.specs.Played.{Plays, PlaysSome}
 use Rattle.z_play.specs.Ready.{IsLoaded}
-use Rattle.z_play.proofs.Lines.{print_cut}
-use Rattle.z_play.proofs.Written.{broke_whole}
+use Rattle.z_play.specs.Laws.{PrintsBreakOff, RestsBreakOff}
 use Rattle.dialog_tool.specs.Command.{play, Task}
 use Rattle.dialog_tool.specs.Call.{Call, Outside, IsAsTold, IsFetched, dice_for}
 use Rattle.dialog_tool.specs.Playing.{status_of_end, story_of, start_of, TaskPlays, whole, cut_off}
@@ -90,13 +89,13 @@ story : (c : Call) (t : Task) (file : List ℕ) (typed : List ℕ) → c.command
 story c t file typed words h accepted = record { words = words; accepted = subst (λ (l : List ℕ). refusal_of l ≡ None) h.is accepted }
 
 -- out failed within the run or within the line behind it
-lost_out : (c : Call) (o : Outside) (t : Task) → TaskPlays (Err Write) c o t → Answers.LostOut c o t
-lost_out c o t p = here p.plays
+lost_out : PrintsBreakOff → RestsBreakOff → (c : Call) (o : Outside) (t : Task) → TaskPlays (Err Write) c o t → Answers.LostOut c o t
+lost_out prints rests c o t p = here p.plays
   where
     here : Plays (Err Write) (story_of c o t) (start_of o t) t.steps (Some p.left) c.out c.out_after → Answers.LostOut c o t
-    here (inl s) = record { text = _; may_tell = whole refl; broke = print_cut (story_of c o t) (start_of o t) t.steps (Some p.left) c.out c.out_after s; played = p }
-    here (inr (inl s)) = record { text = _; may_tell = whole refl; broke = broke_whole c.out c.out_after _ _ s.cut; played = p }
-    here (inr (inr s)) = record { text = _; may_tell = cut_off s.m s.rest s.stopped refl; broke = broke_whole c.out c.out_after _ _ s.cut; played = p }
+    here (inl s) = record { text = _; may_tell = whole refl; broke = prints (story_of c o t) (start_of o t) t.steps (Some p.left) c.out c.out_after s; played = p }
+    here (inr (inl s)) = record { text = _; may_tell = whole refl; broke = rests c.out c.out_after _ _ s.cut; played = p }
+    here (inr (inr s)) = record { text = _; may_tell = cut_off s.m s.rest s.stopped refl; broke = rests c.out c.out_after _ _ s.cut; played = p }
 
 pub play_ends : (c : Call) (t : Task) (file : List ℕ) (result : ℕ) → c.command ≡ Some (play t) → IsFetched c.shelf c.shelf_after t.name file → refusal_of file ≡ None → (end : ZEnd) → result ≡ status_of_end end
     → RunPlays (Ok end) c t file → Answers.Answers c result
@@ -114,11 +113,11 @@ play_unread c t file result words f accepted e rose plays =
     failed c (outside_at c t file h p.typed) result (found_at c t file h p.typed p.as_told) e
     (Answers.story_input (record { rose = rose; task = t; is = story c t file p.typed words h accepted; lost = task_plays (Err Read) c t file h p }))
 
-pub play_unwritten : (c : Call) (t : Task) (file : List ℕ) (result : ℕ) → c.command ≡ Some (play t) → IsFetched c.shelf c.shelf_after t.name file → refusal_of file ≡ None → result ≡ 5 → Rose c.out.faults c.out_after.faults
+pub play_unwritten : PrintsBreakOff → RestsBreakOff → (c : Call) (t : Task) (file : List ℕ) (result : ℕ) → c.command ≡ Some (play t) → IsFetched c.shelf c.shelf_after t.name file → refusal_of file ≡ None → result ≡ 5 → Rose c.out.faults c.out_after.faults
     → RunPlays (Err Write) c t file → Answers.Answers c result
-play_unwritten c t file result words f accepted e rose plays =
+play_unwritten prints rests c t file result words f accepted e rose plays =
     let h = file_here c t.name file f in
     let p = some_plays (Err Write) c t file plays in
     let o = outside_at c t file h p.typed in
     failed c o result (found_at c t file h p.typed p.as_told) e
-    (Answers.story_out t (story c t file p.typed words h accepted) rose (lost_out c o t (task_plays (Err Write) c t file h p)))
+    (Answers.story_out t (story c t file p.typed words h accepted) rose (lost_out prints rests c o t (task_plays (Err Write) c t file h p)))

@@ -170,7 +170,8 @@ pub data MayPrint (c : Call) (o : Outside) (text : List ℕ) : Type 0 where
   usage : c.command ≡ None → text ≡ usage_line → MayPrint c o text
   refusal : (name : List ℕ) → (r : Refusal) → IsRefused c o name r → text ≡ refusal_line name r → MayPrint c o text
   shown : (t : Task) → (p : Core) → IsProgram c o t p → MayWrite (game_of c t p) o.typed (limits_of t) text → MayPrint c o text
-  listing : (name : List ℕ) → (p : Core) → IsReported c o name p → (set : List Bool) → AreSingles p.preds set → text ≡ report p set → MayPrint c o text
+  listing : (name : List ℕ) → (p : Core) → IsReported c o name p → (set : List Bool) → AreSingles p.preds set → text ≡ report p set →
+      MayPrint c o text
   story_refusal : (t : Task) → (r : StoryRefusal) → IsNoStory c o t r → text ≡ story_line t.name r → MayPrint c o text
   file_fault : (name : List ℕ) → LostFile c name → text ≡ file_fault_line name → MayPrint c o text
   no_memory : text ≡ no_memory_line → MayPrint c o text
@@ -188,7 +189,8 @@ pub data Fails (c : Call) (o : Outside) : Type 0 where
 -- stands behind what it printed
 pub data Lacks (c : Call) (o : Outside) : Type 0 where
   nothing_ran : Wrote c.out c.out_after no_memory_line → c.input_after ≡ c.input → Lacks c o
-  in_run : (t : Task) → (p : Core) → IsProgram c o t p → HasLostMemory (game_of c t p) o.typed (limits_of t) c.out c.out_after → Lacks c o
+  in_run : (t : Task) → (p : Core) → IsProgram c o t p → HasLostMemory (game_of c t p) o.typed (limits_of t) c.input_after.left c.out c.out_after →
+      Lacks c o
 
 -- ---- the call
 

@@ -13,7 +13,7 @@ use crate::lines::{DONE, FAULT, LIMIT, STORY, file_fault, no_memory, refuse_stor
 use dg_base::{Fault, Shelf, ShelfFault, Sink, Source};
 use std::alloc::Global;
 use z_model::{StoryRefusal, ZEnd};
-use z_play::{LoadFault, Player};
+use z_play::{LoadFault, Player, fronts_are_written};
 
 const MOST_BYTES: usize = 524_288;
 
@@ -60,6 +60,7 @@ fn play_file<S: Source, K: Sink>(
         Err(LoadFault::Refused(refusal)) => return refuse_story(task.name, refusal, out),
         Err(LoadFault::OutOfMemory) => return no_memory(out),
     };
+    fronts_are_written();
     let dice = thrown(&task.dice, dice);
     match player.run(task.steps, input, dice, out) {
         Ok(end) => status_of_end(end),

@@ -112,4 +112,5 @@ pub record StandsAs (given : ZGiven) (names : Names) (story : List ℕ) (k : ℕ
 
 -- Routines that stand so are the routines of a program.
 pub record ListStands (given : ZGiven) (names : Names) (rs : List Routine) (story : List ℕ) : Type 0 where
-  pub stands : IsLaidOut given → ((k : ℕ) (r : Routine) → slice_get rs k ≡ Some r → StandsAs given names story k r) → Stands (program_of given names rs) story
+  pub stands : IsLaidOut given → ((k : ℕ) (r : Routine) → slice_get rs k ≡ Some r → StandsAs given names story k r) →
+      Stands (program_of given names rs) story

@@ -116,7 +116,8 @@ IsByteType Omitted = ⊥
 -- the number, and the types that the form can say
 abbrev pub FitsForm : Form → ℕ → OperandTypes → Type 0
 FitsForm forms.Long number s = (number < 32) × IsByteType s.first × IsByteType s.second × (s.third ≡ Omitted) × (s.fourth ≡ Omitted)
-FitsForm forms.Short number s = (number < 16) × (s.second ≡ Omitted) × (s.third ≡ Omitted) × (s.fourth ≡ Omitted) × (128 + 16 * code s.first + number ≢ 190)
+FitsForm forms.Short number s =
+    (number < 16) × (s.second ≡ Omitted) × (s.third ≡ Omitted) × (s.fourth ≡ Omitted) × (128 + 16 * code s.first + number ≢ 190)
 FitsForm forms.Variable number s = number < 64
 FitsForm forms.Extended number s = number < 256
 

@@ -13,3 +13,4 @@ pub mod Played
 pub mod Advancing
 pub mod Ready
 pub mod Recent
+pub mod Laws

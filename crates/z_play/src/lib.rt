@@ -5,6 +5,7 @@ mod acts;
 mod arith;
 mod engine;
 mod flow;
+mod laws;
 mod memory;
 mod objects;
 mod output;
@@ -15,4 +16,5 @@ mod step;
 mod text;
 mod typed;
 
+pub use laws::fronts_are_written;
 pub use player::{LoadFault, Player};

@@ -78,7 +78,8 @@ pub record PlaysFirst (p : Program) (story : List ℕ) (r : Routine) : Type 0 wh
 -- All routines of a story stand in it, each is the one that its name calls, each does what its acts mean, and the run is the first one's.
 pub record StoryDoes (parts : Parts) (story : List ℕ) : Type 0 where
   pub stands : (dice : List ℕ) → Stands (program parts story dice) story
-  pub named : (dice : List ℕ) (k : ℕ) (r : Routine) → slice_get parts.routines k ≡ Some r → (program parts story dice).routine_at (packed_at parts k) ≡ Some r
+  pub named : (dice : List ℕ) (k : ℕ) (r : Routine) → slice_get parts.routines k ≡ Some r →
+      (program parts story dice).routine_at (packed_at parts k) ≡ Some r
   pub does : (dice : List ℕ) (k : ℕ) (r : Routine) → slice_get parts.routines k ≡ Some r →
       DoesItsActs (program parts story dice) story (first_at parts k) r
   pub plays : (dice : List ℕ) (r : Routine) → slice_get parts.routines 0 ≡ Some r → PlaysFirst (program parts story dice) story r

@@ -39,7 +39,7 @@ returns g c = λ before after f.
     let told = rw (c.in-Err-Write.field-0-is, c.thrown-dice.ensures.dice) at c.in-Err-Write.ensures.told in
     let untold = rw (c.in-Err-Write.field-0-is, c.thrown-dice.ensures.dice) at c.in-Err-Write.ensures.untold in
     let causes = rw c.in-Err-Write.field-0-is at c.in-Err-Write.ensures.causes in
-    play_unwritten _ (task_view c.args.task.now) c.args.file.items _ refl f c.in-Ok.ensures.loaded.accepted refl (causes.write_failed refl)
+    play_unwritten c.fronts_are_written.ensures.prints c.fronts_are_written.ensures.rests _ (task_view c.args.task.now) c.args.file.items _ refl f c.in-Ok.ensures.loaded.accepted refl (causes.write_failed refl)
     (record {
       told = λ typed is. file_plays c.args.file.items c.in-Ok.player c.in-Ok.ensures.loaded (Err Write) _ typed _ _ _ _ (told typed is);
       untold = file_plays_some c.args.file.items c.in-Ok.player c.in-Ok.ensures.loaded (Err Write) _ _ _ _ untold;
