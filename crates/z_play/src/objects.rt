@@ -42,6 +42,7 @@ impl Engine {
     }
 
     // Stores an answer, and tests.
+    #[inline(always)]
     fn answer_and_test(&mut self, end: u32, op: &Op, x: u16, test: bool) -> Result<Effect, ZFault>
         requires sound { Sound self.old }
         requires near { end ≤ 524288 }
@@ -54,6 +55,7 @@ impl Engine {
     }
 
     // Stores an object, and tests whether it is one.
+    #[inline(always)]
     fn answer_object(&mut self, end: u32, op: &Op, x: Result<u16, ZFault>) -> Result<Effect, ZFault>
         requires sound { Sound self.old }
         requires near { end ≤ 524288 }

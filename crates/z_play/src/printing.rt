@@ -110,7 +110,8 @@ impl Engine {
         }
     }
 
-    // What an effect prints goes into the newest table.
+    // What an effect prints goes into the newest table. Not inlined, since its room would be made at each step.
+    #[inline(never)]
     fn print_to_table(&mut self, effect: Effect) -> Result<(), ZFault>
         requires sound { Sound self.old }
         requires some { 0 < self.old.opened }
@@ -124,8 +125,9 @@ impl Engine {
         }
     }
 
-    // Prints, where what is printed may be, and goes on.
+    // Prints, where what is printed may be, and goes on. Inlined, as whatever ends a step with an effect, so that the usual one needs no place in memory.
     #[tactic(auto, unfolding(z_model::specs::Effects::printed))]
+    #[inline(always)]
     pub fn print(&mut self, end: u32, effect: Effect) -> Result<Effect, ZFault>
         requires sound { Sound self.old }
         requires plain { (layout : Layout) (m : Machine) → fault_in effect m ≡ None → CanFinish effect layout m }
@@ -140,6 +142,7 @@ impl Engine {
     }
 
     // What an effect prints goes out, or into the newest table where one is open.
+    #[inline(always)]
     fn let_out(&mut self, effect: Effect) -> Result<Effect, ZFault>
         requires sound { Sound self.old }
         requires may { fault_in effect (machine self.old) ≡ None }

@@ -11,7 +11,7 @@ use z_model::{Form, Found, Instr, Op, Operand, Operands, Row, ZFault, Zero};
 // The number of places; one more stands behind them for what may change before it is done again.
 const PLACES: usize = 4096;
 
-/// The instruction at an address of the code; none at the address 0.
+/// The instruction at an address of the code, at the place of that address; elsewhere none.
 #[derive(Clone, Copy)]
 pub struct Slot {
     pub at: u32,
@@ -63,17 +63,18 @@ impl Recent {
         Ok(Recent { slots })
     }
 
-    /// Forgets all.
+    /// Forgets all: no slot stands at the place of its address.
     pub fn clear(&mut self)
         requires size { length self.old.slots.items ≡ 4097 }
         ensures recent { (base : ℕ) (bytes : List ℕ) → IsRecent base bytes self.new }
     {
         self.slots.fill(EMPTY);
+        self.slots[0].at = 1;
     }
 
     fn put(&mut self, place: usize, slot: Slot)
         requires { place < length self.old.slots.items }
-        ensures recent { (base : ℕ) (bytes : List ℕ) → IsRecent base bytes self.old → Recalls base bytes slot → IsRecent base bytes self.new }
+        ensures recent { (base : ℕ) (bytes : List ℕ) → IsRecent base bytes self.old → Recalls base bytes place slot → IsRecent base bytes self.new }
         ensures there { slice_get self.new.slots.items place ≡ Some slot }
     {
         self.slots[place] = slot;
@@ -107,7 +108,7 @@ impl Recent {
         ensures fault { IfErr result (λ fault. op_at rows_of bytes.now pc ≡ Err fault) }
     {
         let place = pc as usize % PLACES;
-        if self.slots[place].at == pc && pc != 0 {
+        if self.slots[place].at == pc {
             return Ok(place);
         }
         self.look(bytes, base, pc)
