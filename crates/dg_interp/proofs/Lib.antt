@@ -1,4 +1,5 @@
 pub mod TermLemmas
+pub mod NestLemmas
 pub mod MatchLemmas
 pub mod TestLemmas
 pub mod PrintLemmas

@@ -1,8 +1,9 @@
 // The values of a program's terms, written to a store.
 
-ghost use Rattle.std.specs.Prelude.{◌≡◌, ◌-◌, ◌*◌, ◌≤◌, ◌<◌, List, [], ◌∷◌, All, MatchResult, IfOk, OnOk, map, length, take, drop, slice_get};
+ghost use Rattle.std.specs.Prelude.{◌≡◌, ◌+◌, ◌-◌, ◌*◌, ◌≤◌, ◌<◌, List, [], ◌∷◌, All, MatchResult, IfOk, OnOk, map, length, take, drop, slice_get};
 ghost use Rattle.dg_base.specs.declared.program.Term.{out-Term};
 ghost use Rattle.dg_base.specs.declared.program.Term.TheVariants.{Closure as ClosureTerm};
+ghost use Rattle.dg_base.specs.Terms.{nodes};
 ghost use Rattle.dg_base.specs.declared.program.CoreProgram.{CoreProgram as Program};
 ghost use Rattle.dg_meaning.specs.Values.{value_of, value_of_var as value_in};
 ghost use Rattle.dg_meaning.specs.Cells.{cells};
@@ -11,6 +12,13 @@ ghost use Rattle.dg_interp.specs.Terms.{Overflows, BothMade, ThreeMade, Written,
 
 use dg_base::{CoreProgram, Simple, Term};
 use dg_unify::{Bindings, Full, Ref};
+
+// A list that is being written: where its elements begin on the stack, and what is left of it.
+#[derive(Clone, Copy)]
+struct Open<'t> {
+    height: usize,
+    left: &'t Term,
+}
 
 /// The value of a variable; one without a value is the empty list.
 pub fn write_var<B: Bindings>(store: &mut B, env: &[Ref], var: u16) -> Result<Ref, Full>
@@ -126,8 +134,7 @@ fn write_leaf<B: Bindings>(
     }
 }
 
-// Writes the elements of a term, which is a list with any tail, behind a list; what is left is the tail.
-#[cycle(write)]
+// Writes the first elements of a term, up to one that is a list itself, behind a list; what is left begins with that one.
 fn write_heads<'t, B: Bindings>(
     store: &mut B,
     program: &CoreProgram,
@@ -141,14 +148,18 @@ fn write_heads<'t, B: Bindings>(
     ensures written { (p : Program) → program.now ≡ p → MatchResult result
         (λ last. HeadsWritten p (map (told (B.meaning store.old)) env.now) term.now last.now (B.meaning store.old)
         (B.meaning store.new) to.old.items to.new.items) (λ e. Overflows (cells p (term.now ∷ [])) (B.meaning store.old) e) }
-    ensures no_pair { IfOk result (λ last. IsNoPair (out-Term last.now)) }
+    ensures no_more { IfOk result (λ last. length (nodes last.now) ≤ length (nodes term.now)) }
 {
     let mut term = term;
     'heads: while let Term::Pair(head, tail) = term {
-        match write_term(store, program, env, head.get(), to) {
+        let head = head.get();
+        if let Term::Pair(_, _) = head {
+            return Ok(term);
+        }
+        match write_leaf(store, program, env, head, to) {
             Err(e) => return Err(e),
-            Ok(head) => {
-                if to.push(head).is_err() {
+            Ok(value) => {
+                if to.push(value).is_err() {
                     return Err(Full::OutOfMemory);
                 }
                 term = tail.get();
@@ -188,9 +199,35 @@ pub fn write_pairs<B: Bindings>(
     Ok(list)
 }
 
+// The list of the elements from a height on, whose tail is the value of a term without parts.
+fn end_list<B: Bindings>(
+    store: &mut B,
+    program: &CoreProgram,
+    env: &[Ref],
+    last: &Term,
+    stack: &mut Vec<Ref>,
+    height: usize,
+) -> Result<Ref, Full>
+    requires env { All (Holds (B.meaning store.old)) env.now }
+    requires no_pair { IsNoPair (out-Term last.now) }
+    requires height { height ≤ length stack.old.items }
+    requires heads { All (Holds (B.meaning store.old)) (drop height stack.old.items) }
+    ensures kept { Kept (B.meaning store.old) (B.meaning store.new) }
+    ensures saved { (ms : List Saved) → B.saves store.old ms → B.saves store.new ms }
+    ensures written { (p : Program) → program.now ≡ p → MatchResult result
+        (λ r. Made (cells p (last.now ∷ []) + 3 * (length stack.old.items - height)) (B.meaning store.old) (B.meaning store.new) r
+        (listed (map (told (B.meaning store.old)) (drop height stack.old.items)) (value_of p (map (told (B.meaning store.old)) env.now) last.now)))
+        (λ e. Overflows (cells p (last.now ∷ []) + 3 * (length stack.old.items - height)) (B.meaning store.old) e) }
+    ensures taken { OnOk result (stack.new.items ≡ take height stack.old.items) }
+{
+    match write_leaf(store, program, env, last, stack) {
+        Err(e) => Err(e),
+        Ok(tail) => write_pairs(store, stack, height, tail),
+    }
+}
+
 /// The value of a term, among the values of the variables around it. On a stack it keeps the elements of lists
 /// meanwhile.
-#[cycle(write)]
 pub fn write_term<B: Bindings>(
     store: &mut B,
     program: &CoreProgram,
@@ -206,13 +243,34 @@ pub fn write_term<B: Bindings>(
         (value_of p (map (told (B.meaning store.old)) env.now) term.now)) (λ e. Overflows (cells p (term.now ∷ [])) (B.meaning store.old) e) }
     ensures stack { OnOk result (stack.new.items ≡ stack.old.items) }
 {
-    let height = stack.len();
-    match write_heads(store, program, env, term, stack) {
-        Err(e) => Err(e),
-        Ok(last) => match write_leaf(store, program, env, last, stack) {
-            Err(e) => Err(e),
-            Ok(tail) => write_pairs(store, stack, height, tail),
-        },
+    let mut around = Vec::new(*stack.allocator());
+    let mut list = Open {
+        height: stack.len(),
+        left: term,
+    };
+    'lists: loop {
+        let last = write_heads(store, program, env, list.left, stack)?;
+        if let Term::Pair(head, tail) = last {
+            list.left = tail.get();
+            if around.push(list).is_err() {
+                return Err(Full::OutOfMemory);
+            }
+            list = Open {
+                height: stack.len(),
+                left: head.get(),
+            };
+            continue;
+        }
+        let value = end_list(store, program, env, last, stack, list.height)?;
+        match around.pop() {
+            None => return Ok(value),
+            Some(outer) => {
+                if stack.push(value).is_err() {
+                    return Err(Full::OutOfMemory);
+                }
+                list = outer;
+            }
+        }
     }
 }
 
