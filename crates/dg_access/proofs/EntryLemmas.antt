@@ -22,7 +22,7 @@ abbrev merge : List Entry → List Entry → List Entry
 merge o [] = o
 merge o (e ∷ es) = merge (with_places o e.name e.places) es
 
-abbrev names : List Entry → List (List ℕ)
+abbrev pub names : List Entry → List (List ℕ)
 names es = map (λ (e : Entry). e.name) es
 
 abbrev has : List ℕ → List Entry → Bool
@@ -82,7 +82,7 @@ names_with : (es : List Entry) (n : List ℕ) (k : ℕ) → names (with_places e
 names_with [] n k = refl
 names_with (e ∷ es) n k = names_if e es n k (bytes_eq n e.name) refl (names_with es n k)
 
-names_added : (es : List Entry) (ns : List (List ℕ)) → names (add_all es ns) ≡ with_names (names es) ns
+pub names_added : (es : List Entry) (ns : List (List ℕ)) → names (add_all es ns) ≡ with_names (names es) ns
 names_added es [] = refl
 names_added es (n ∷ ns) = names_added (with_places es n 1) ns ∙ ap (λ (l : List (List ℕ)). with_names l ns) (names_with es n 1)
 
@@ -124,7 +124,7 @@ times_one : (b : Bool) (p t : ℕ) → p + (if b then 1 else 0) + t ≡ p + (if 
 times_one true p t = omega arith
 times_one false p t = omega arith
 
-places_added : (es : List Entry) (n : List ℕ) (ns : List (List ℕ)) → places_of n (add_all es ns) ≡ places_of n es + times n ns
+pub places_added : (es : List Entry) (n : List ℕ) (ns : List (List ℕ)) → places_of n (add_all es ns) ≡ places_of n es + times n ns
 places_added es n [] = omega arith
 places_added es n (m ∷ ns) =
     places_added (with_places es m 1) n ns
@@ -154,7 +154,7 @@ distinct_with : (es : List Entry) (n : List ℕ) (k : ℕ) → IsDistinct es →
 distinct_with [] n k d = (refl, refl)
 distinct_with (e ∷ es) n k d = distinct_if e es n k (bytes_eq n e.name) refl d (distinct_with es n k d.1)
 
-distinct_added : (es : List Entry) (ns : List (List ℕ)) → IsDistinct es → IsDistinct (add_all es ns)
+pub distinct_added : (es : List Entry) (ns : List (List ℕ)) → IsDistinct es → IsDistinct (add_all es ns)
 distinct_added es [] d = d
 distinct_added es (n ∷ ns) d = distinct_added (with_places es n 1) ns (distinct_with es n 1 d)
 
@@ -209,7 +209,7 @@ added_if : (es : List Entry) (n : List ℕ) (ns : List (List ℕ)) (c : Bool) �
 added_if es n ns true = refl
 added_if es n ns false = refl
 
-kept_added : (p : List ℕ → Bool) (es : List Entry) (ns : List (List ℕ)) → kept p (add_all es ns) ≡ add_all (kept p es) (filter p ns)
+pub kept_added : (p : List ℕ → Bool) (es : List Entry) (ns : List (List ℕ)) → kept p (add_all es ns) ≡ add_all (kept p es) (filter p ns)
 kept_added p es [] = refl
 kept_added p es (n ∷ ns) =
     kept_added p (with_places es n 1) ns

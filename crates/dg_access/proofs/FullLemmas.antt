@@ -26,7 +26,7 @@ more_full a b le full = grind (arith, common_steps)
 full_grown : (all : List (List ℕ)) (s : List Entry) (ms : Mentions) → is_full s ≡ true → is_full (grown all s ms) ≡ true
 full_grown all s ms = more_full (length s) (length (grown all s ms)) (longer s (names_out all ms))
 
-named_if : (s : List Entry) (n : List ℕ) (ns : List (List ℕ)) (b : Bool) → add_all (if b then s else with_places s n 1) ns ≡ add_all s ((if b then [] else n ∷ []) ++ ns)
+pub named_if : (s : List Entry) (n : List ℕ) (ns : List (List ℕ)) (b : Bool) → add_all (if b then s else with_places s n 1) ns ≡ add_all s ((if b then [] else n ∷ []) ++ ns)
 named_if s n ns true = refl
 named_if s n ns false = refl
 

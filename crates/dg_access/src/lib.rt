@@ -29,4 +29,6 @@ pub use numbers::free_number;
 pub use rewriting::rewrite;
 pub use rules::plain_tree;
 pub use setting::Setting;
+pub use totals::totals_among;
+pub use variables::{Entry, add_places, merge, stays};
 pub use work::{Asking, Close, Wrap};

@@ -45,7 +45,8 @@ fn place_of(scope: &[Entry<'_>], name: &[u8]) -> usize
     scope.len()
 }
 
-fn add_places<'a>(
+/// Adds places of a name to a scope.
+pub fn add_places<'a>(
     scope: &mut Vec<Entry<'a>>,
     name: &'a [u8],
     places: usize,
@@ -67,15 +68,15 @@ fn is_full(scope: &[Entry<'_>]) -> bool
     scope.len() > VARIABLES
 }
 
-// Whether a variable of a closure is left behind there.
-fn stays(totals: &IndexMap<&[u8], usize>, entry: Entry<'_>) -> bool
+/// Whether a variable of a closure is left behind there.
+pub fn stays(totals: &IndexMap<&[u8], usize>, entry: Entry<'_>) -> bool
     ensures { result ≡ stays (total_in totals.now) (entry_view entry.entry) }
 {
     entry.name.starts_with(UNNAMED) && entry.places == total_of(totals, entry.name)
 }
 
-// Adds to a scope what comes from a closure in it.
-fn merge<'a>(
+/// Adds to a scope what comes from a closure in it.
+pub fn merge<'a>(
     totals: &IndexMap<&[u8], usize>,
     outer: &mut Vec<Entry<'a>>,
     inner: &[Entry<'a>],

@@ -1,1 +1,3 @@
+pub mod NoteLemmas
+pub mod ScanLemmas
 pub mod VariableLemmas

@@ -1,5 +1,5 @@
 -- The variables of closures are few, and are there where they are captured.
-use Rattle.std.proofs.Common.{◌≡◌, ◌+◌, ◌≤◌, ◌⊎◌, inl, inr, ℕ, zero, suc, List, [], ◌∷◌, ◌++◌, Bool, true, false, not, length, length-append, codes, refl, sym, ◌∙◌, ap, subst, arith}
+use Rattle.std.proofs.Common.{◌≡◌, ◌+◌, ◌⊎◌, inl, inr, ℕ, zero, suc, List, [], ◌∷◌, ◌++◌, Bool, true, false, not, length, length-append, refl, sym, ◌∙◌, ap, subst, arith}
 use Rattle.std.specs.Prelude.{if◌then◌else◌, filter}
 use Rattle.std.specs.List.{All, Contains}
 use Rattle.std.specs.Str.{bytes_eq}
@@ -11,8 +11,8 @@ use Rattle.dg_names.specs.Named.{firsts}
 use Rattle.dg_names.proofs.MemberLemmas.{firsts_are, first_there, later_there}
 use Rattle.dg_access.specs.Counts.{is_at_home, leaving, names_out}
 use Rattle.dg_access.specs.Few.{AreFew}
-use Rattle.dg_closures.specs.Closures.{parameter, Layout, layout_by, variables_in, behind, places_from, layouts_from, names_around, layouts_of}
-use Rattle.dg_closures.specs.Held.{Within, Holds, IsSmall, AllAreSmall}
+use Rattle.dg_closures.specs.Closures.{parameter, layout_by, variables_in, behind, places_from, layouts_from, names_around, layouts_of}
+use Rattle.dg_closures.specs.Held.{Within, Holds, IsSmall, AllAreSmall, RuleIsSmall}
 
 -- ---- names that a test lets through
 
@@ -122,6 +122,13 @@ one_counted vars (variable m) p w n h = here (bytes_eq m parameter) refl w
     here false q k = k n h
 one_counted vars t p w n h = absurd (let lt = h.1 in omega arith)
 
+wider : (xs ys : List (List ℕ)) (n : List ℕ) → Contains (parameter ∷ ys) n → Contains (parameter ∷ (xs ++ ys)) n
+wider xs ys n h = here (Contains-append_cases (parameter ∷ []) ys n h)
+  where
+    here : Contains (parameter ∷ []) n ⊎ Contains ys n → Contains (parameter ∷ (xs ++ ys)) n
+    here (inl k) = subst (λ (x : List ℕ). Contains (parameter ∷ (xs ++ ys)) x) (only_one parameter n k) (first_there parameter _)
+    here (inr k) = later_there parameter _ n (Contains-append_right xs ys n k)
+
 captured_out : (all inner_names rest : List (List ℕ)) (vars : List (List ℕ)) → Within (leaving all inner_names ++ rest) vars → Within (firsts (leaving all inner_names)) vars
 captured_out all names rest vars w n h = w n (Contains-append_left (leaving all names) rest n ((firsts_are (leaving all names)).none_else n h))
 
@@ -148,3 +155,31 @@ held_around all vars (closed inner ms) w =
 
 pub all_held : (all : List (List ℕ)) (ms : Mentions) → Holds all (layouts_of all ms).variables ms
 all_held all ms = held_around all (firsts (names_around all ms)) ms (firsts_are (names_around all ms)).all
+
+-- ---- a rule has one variable more than are counted
+
+-- a variable around closures is a closure's parameter, or counted
+thing_counted : (all : List (List ℕ)) (t : Thing) (ms : Mentions) (n : List ℕ) → (Contains (names_around all ms) n → Contains (parameter ∷ names_out all ms) n) → Contains (variable_in t) n ⊎ Contains (names_around all ms) n → Contains (parameter ∷ (counted_in t ++ names_out all ms)) n
+thing_counted all t ms n rest (inl k) = one_counted (parameter ∷ (counted_in t ++ names_out all ms)) t (first_there parameter _) (λ m j. later_there parameter _ m (Contains-append_left (counted_in t) (names_out all ms) m j)) n k
+thing_counted all t ms n rest (inr k) = wider (counted_in t) (names_out all ms) n (rest k)
+
+closed_counted : (all left : List (List ℕ)) (ms : Mentions) (n : List ℕ) → (Contains (names_around all ms) n → Contains (parameter ∷ names_out all ms) n) → Contains left n ⊎ Contains (names_around all ms) n → Contains (parameter ∷ (left ++ names_out all ms)) n
+closed_counted all left ms n rest (inl k) = later_there parameter _ n (Contains-append_left left (names_out all ms) n k)
+closed_counted all left ms n rest (inr k) = wider left (names_out all ms) n (rest k)
+
+around_counted : (all : List (List ℕ)) (ms : Mentions) → Within (names_around all ms) (parameter ∷ names_out all ms)
+around_counted all nothing n h = absurd (let lt = h.1 in omega arith)
+around_counted all (thing t ms) n h = thing_counted all t ms n (around_counted all ms n) (Contains-append_cases (variable_in t) (names_around all ms) n h)
+around_counted all (closed inner ms) n h = closed_counted all (leaving all (names_out all inner)) ms n (around_counted all ms n) (Contains-append_cases (leaving all (names_out all inner)) (names_around all ms) n h)
+
+pub rule_small : (all : List (List ℕ)) (ms : Mentions) → RuleIsSmall all ms
+rule_small all ms few =
+    let most = (firsts_are (names_around all ms)).fewest (parameter ∷ firsts (names_out all ms)) (λ n h. firsts_too n (around_counted all ms n h)) in
+    omega (arith, most, few)
+  where
+    firsts_too : (n : List ℕ) → Contains (parameter ∷ names_out all ms) n → Contains (parameter ∷ firsts (names_out all ms)) n
+    firsts_too n h = which (Contains-append_cases (parameter ∷ []) (names_out all ms) n h)
+      where
+        which : Contains (parameter ∷ []) n ⊎ Contains (names_out all ms) n → Contains (parameter ∷ firsts (names_out all ms)) n
+        which (inl k) = subst (λ (x : List ℕ). Contains (parameter ∷ firsts (names_out all ms)) x) (only_one parameter n k) (first_there parameter _)
+        which (inr k) = later_there parameter _ n ((firsts_are (names_out all ms)).all n k)

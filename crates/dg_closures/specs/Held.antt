@@ -4,7 +4,7 @@ use Rattle.std.specs.List.{All}
 use Rattle.dg_base.specs.Mentions.{Mentions, nothing, thing, closed, closures, variable_in}
 use Rattle.dg_access.specs.Counts.{names_out}
 use Rattle.dg_access.specs.Few.{AreFew}
-use Rattle.dg_closures.specs.Closures.{Layout, layout_by, variables_in, layouts_from}
+use Rattle.dg_closures.specs.Closures.{Layout, layout_by, variables_in, layouts_from, layouts_of}
 
 -- These names are among others.
 abbrev pub Within : List (List ℕ) → List (List ℕ) → Type 0
@@ -25,3 +25,7 @@ IsSmall layout = length (variables_in layout) ≤ 65
 -- Each closure that stands here is small, where few variables stand in each.
 abbrev pub AllAreSmall : List (List ℕ) → ℕ → Mentions → Type 0
 AllAreSmall all k ms = All (AreFew all) (closures ms) → All IsSmall (layouts_from all k ms)
+
+-- A rule has at most 64 variables and the parameter of a closure, where few variables stand in it.
+abbrev pub RuleIsSmall : List (List ℕ) → Mentions → Type 0
+RuleIsSmall all ms = AreFew all ms → length (layouts_of all ms).variables ≤ 65

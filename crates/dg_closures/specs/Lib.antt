@@ -1,2 +1,4 @@
 pub mod Closures
 pub mod Held
+pub mod Scanning
+pub mod View

@@ -2,7 +2,7 @@
 ghost use Rattle.std.specs.Prelude.{ℕ, List};
 ghost use Rattle.dg_base.specs.Mentions.{Mentions};
 ghost use Rattle.dg_closures.specs.Closures.{layouts_of};
-ghost use Rattle.dg_closures.specs.Held.{Holds, AllAreSmall};
+ghost use Rattle.dg_closures.specs.Held.{Holds, AllAreSmall, RuleIsSmall};
 
 /// A rule has each variable that stands in it and each that its closures capture, and so has each closure in it.
 pub fn variables_are_held()
@@ -12,4 +12,9 @@ pub fn variables_are_held()
 /// Where at most 64 variables stand in each closure, each has at most 65, its parameter among them.
 pub fn closures_are_small()
     ensures { (all : List (List ℕ)) (k : ℕ) (ms : Mentions) → AllAreSmall all k ms }
+{}
+
+/// Where at most 64 variables stand in a rule, it has at most 65, the parameter of a closure among them.
+pub fn rules_are_small()
+    ensures { (all : List (List ℕ)) (ms : Mentions) → RuleIsSmall all ms }
 {}

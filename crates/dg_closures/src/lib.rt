@@ -2,5 +2,9 @@
 #![tactic(auto)]
 
 mod laws;
+mod layouts;
+mod scanning;
 
-pub use laws::{closures_are_small, variables_are_held};
+pub use laws::{closures_are_small, rules_are_small, variables_are_held};
+pub use layouts::{Layout, Layouts};
+pub use scanning::layouts_of;
