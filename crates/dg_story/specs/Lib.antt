@@ -2,3 +2,9 @@ pub mod Plain
 pub mod Sizes
 pub mod Counting
 pub mod Refusals
+pub mod Texts
+pub mod Numbers
+pub mod Instructions
+pub mod Routines
+pub mod Built
+pub mod Agrees
