@@ -22,14 +22,14 @@ abbrev pub is_unbuilt_name : List ℕ → Option Builtin → Bool
 is_unbuilt_name name (Some b) = is_unbuilt_query b
 is_unbuilt_name name None = name_among name keywords
 
--- A rule of this name isn't built: it is a keyword's or a built-in query's.
+-- A rule or an access rule of this name isn't built: it is a keyword's or a built-in query's.
 abbrev pub is_unbuilt_head : List ℕ → Bool
 is_unbuilt_head name = name_among name keywords || is_some (builtin_named name)
 
 -- What a source mentions that isn't built yet.
 abbrev pub is_unbuilt : Thing → Bool
 is_unbuilt (query role.Rule ps) = is_unbuilt_head (name_of ps)
-is_unbuilt (query role.Access ps) = true
+is_unbuilt (query role.Access ps) = is_unbuilt_head (name_of ps)
 is_unbuilt (query role.Declared ps) = true
 is_unbuilt (query (role.Changed set) ps) = true
 is_unbuilt (query other_role ps) = is_unbuilt_name (name_of ps) (builtin_named (name_of ps))

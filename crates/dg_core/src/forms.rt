@@ -48,8 +48,8 @@ fn is_unbuilt_role(role: Role, head: &Head) -> bool
 {
     let parts = head.parts.as_slice();
     match role {
-        Role::Rule => is_unbuilt_head(parts),
-        Role::Access | Role::Declared | Role::Changed(_) => true,
+        Role::Rule | Role::Access => is_unbuilt_head(parts),
+        Role::Declared | Role::Changed(_) => true,
         Role::Asked | Role::AskedAll | Role::AskedNot | Role::Nested => is_unbuilt_name(parts),
     }
 }

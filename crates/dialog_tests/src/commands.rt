@@ -106,10 +106,23 @@ const LARGE_SUM: &str =
 const COPIES: &str =
     "(p 1)\n(p $)\n(program entry point) (collect [$X $X]) *(p $X) (into [$A [$B $C] | $D]) ($B = 2) $A $B $C $D (accumulate 3) *(p $) (into $N) $N\n";
 
+const PLACED: &str =
+    "@($X is $R $P) ($X has relation $R) ($X under $P)\n(#lamp is #on #table)\n(program entry point) *($X is #on #table) $X";
+
+const SHUT: &str =
+    "@($X shut) ~($X open)\n(#lid open)\n(program entry point) (if) (#lid shut) (then) y (else) n (endif)";
+
+// A query of an access rule has one answer, one with a star all; each use has variables of its own.
+const USES: &str =
+    "@(small $X) *(p $X) *(p $Y) ($X < $Y)\n(p 1)\n(p 2)\n(p 3)\n(program entry point) { (small $A) $A (line) (fail) (or) *(small $A) $A (fail) (or) (line) ~(small 3) done }";
+
 const GATHERS_FOREVER: &str = "(program entry point) x (collect 1) (repeat forever) (into $)\n";
 
 // The words of the command, the source, the status and the transcript.
-const TRANSCRIPTS: [(&str, &str, u8, &str); 37] = [
+const TRANSCRIPTS: [(&str, &str, u8, &str); 40] = [
+    ("debug p.dg", PLACED, 0, "#lamp\n"),
+    ("debug p.dg", SHUT, 0, "n\n"),
+    ("debug p.dg", USES, 0, "1\n1 1 2\ndone\n"),
     ("debug p.dg", CUT_GATHERING, 0, "[5]\n"),
     ("debug p.dg", LARGE_SUM, 0, "large\n"),
     ("debug p.dg", COPIES, 0, "[1 1] 2 $ [] 6\n"),
@@ -211,7 +224,25 @@ fn sources_give_their_transcript(rt: HostRuntime) -> Result<(), Fail> {
 }
 
 // The words of the command, the source, the status and the line.
-const REFUSALS: [(&str, &str, u8, &str); 20] = [
+const REFUSALS: [(&str, &str, u8, &str); 23] = [
+    (
+        "debug p.dg",
+        "@(a) (b)\n@(b) (a)\n(program entry point) x",
+        1,
+        "p.dg:1: access rule loops or is repeated\n",
+    ),
+    (
+        "debug p.dg",
+        "@($X same $Y) ($X = $Y)\n(program entry point) x\n(1 same 2)",
+        1,
+        "p.dg:3: cannot be changed here\n",
+    ),
+    (
+        "debug p.dg",
+        "@(p) (q) (r)\n~(p)\n(program entry point) x",
+        1,
+        "p.dg:2: cannot be changed here\n",
+    ),
     (
         "debug p.dg",
         "",

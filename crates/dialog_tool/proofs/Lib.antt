@@ -9,6 +9,7 @@ pub mod AnswerLemmas
 pub mod DecideLemmas
 pub mod PlayLemmas
 pub mod RunLemmas
+pub mod DeclareLemmas
 pub mod FewLemmas
 pub mod ComeLemmas
 pub mod PreludeLemmas

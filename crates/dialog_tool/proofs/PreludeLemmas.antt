@@ -5,7 +5,7 @@ use Rattle.std.specs.List.{All, Contains, list_all, list_any}
 use Rattle.std.specs.Option.{is_some}
 use Rattle.std.specs.Str.{bytes_eq}
 use Rattle.std.specs.Cmp.Lexicographic.{bytes_decides}
-use Rattle.std.proofs.lemmas.Bool.{and_parts, or_parts}
+use Rattle.std.proofs.lemmas.Bool.{and_parts}
 use Rattle.std.proofs.lemmas.Bool.Decides.{nat_tests}
 use Rattle.std.proofs.lemmas.List.{drop_more, length-map}
 use Rattle.std.proofs.lemmas.List.Elements.{All-nil, All-cons, All-append, Contains-append_right}
@@ -18,9 +18,10 @@ use Rattle.dg_base.specs.Mentions.{Thing, query, variable, unnamed, other, branc
 use Rattle.dg_base.specs.Names.{prelude_names, name_among, builtin_named}
 use Rattle.dg_base.specs.Sound.{IsPrintable, IsName}
 use Rattle.dg_base.specs.Tree.{Said, rule, Item}
+use Rattle.dg_base.specs.declared.mentions.Role.TheVariants as role
 use Rattle.dg_base.specs.declared.names.Builtin.{Builtin}
 use Rattle.dg_core.specs.Forms.{is_unbuilt, IsRun, AreRun}
-use Rattle.dg_core.specs.Given.{IsFitItem}
+use Rattle.dg_core.specs.Given.{IsFit, IsFitItem}
 use Rattle.dg_core.specs.Variables.{variables_of}
 use Rattle.dg_names.specs.Among.{HasPred, IsAmong}
 use Rattle.dg_names.specs.Named.{Named, predicate_in, names_of}
@@ -28,7 +29,8 @@ use Rattle.dg_names.specs.Scopes.{with_name, with_names}
 use Rattle.dg_names.proofs.FirstLemmas.{firsts_more}
 use Rattle.dg_prelude.specs.Rules.{prelude_rules}
 use Rattle.dialog_tool.specs.Source.{all_names, with_prelude}
-use Rattle.dialog_tool.proofs.FewLemmas.{IsSelectFit}
+use Rattle.dialog_tool.proofs.DeclareLemmas.{IsDeclared, AreDeclared}
+use Rattle.dialog_tool.proofs.FewLemmas.{IsChangeable}
 use Rattle.dialog_tool.proofs.Never.{never}
 use Rattle.dialog_tool.proofs.RunLemmas.{plain_run}
 
@@ -116,10 +118,6 @@ ours_among d h (other form) e = tt
 ours_among d h (branches n) e = tt
 ours_among d h t e = never e
 
-ours_select : (t : Thing) → is_ours t ≡ true → IsSelectFit t
-ours_select (select n) e = never e
-ours_select t e = tt
-
 from_test : (P : Thing → Type 0) (test : Thing → Bool) → ((t : Thing) → test t ≡ true → P t) → (ts : List Thing) → list_all test ts ≡ true → All P ts
 from_test P test each [] e = All-nil P
 from_test P test each (t ∷ ts) e =
@@ -132,8 +130,29 @@ all_ours = refl
 pub prelude_among : (d : Named) → ((n : List ℕ) → Contains prelude_names n → Contains d.preds n) → All (IsAmong d) (mentioned prelude_rules)
 prelude_among d h = from_test (IsAmong d) is_ours (ours_among d h) (mentioned prelude_rules) all_ours
 
-pub prelude_selects : All IsSelectFit (mentioned prelude_rules)
-prelude_selects = from_test IsSelectFit is_ours ours_select (mentioned prelude_rules) all_ours
+-- what is neither a change nor a select
+abbrev is_calm : Thing → Bool
+is_calm (query (role.Changed set) ps) = false
+is_calm (select n) = false
+is_calm t = true
+
+calm_fit : (t : Thing) → is_calm t ≡ true → IsFit t
+calm_fit (query (role.Changed set) ps) e = never e
+calm_fit (select n) e = never e
+calm_fit t e = tt
+
+calm_changeable : (t : Thing) → is_calm t ≡ true → IsChangeable t
+calm_changeable (query (role.Changed set) ps) e = never e
+calm_changeable t e = tt
+
+all_calm : list_all is_calm (mentioned (plain_items None prelude_rules)) ≡ true
+all_calm = refl
+
+pub prelude_things_fit : All IsFit (mentioned (plain_items None prelude_rules))
+prelude_things_fit = from_test IsFit is_calm calm_fit (mentioned (plain_items None prelude_rules)) all_calm
+
+pub prelude_changeable : All IsChangeable (mentioned (plain_items None prelude_rules))
+prelude_changeable = from_test IsChangeable is_calm calm_changeable (mentioned (plain_items None prelude_rules)) all_calm
 
 can_run : (t : Thing) → not (is_unbuilt t) ≡ true → IsRun t
 can_run t e = here (is_unbuilt t) e
@@ -155,14 +174,21 @@ fit_said : (said : Said) → is_fit said ≡ true → IsFitItem said
 fit_said (rule ps b) e = grind (arith, nat_tests, e)
 fit_said said e = never e
 
-fit_items : (is : List Item) → list_all (λ (i : Item). is_fit i.said) is ≡ true → All (λ (i : Item). IsFitItem i.said) is
-fit_items [] e = All-nil (λ (i : Item). IsFitItem i.said)
-fit_items (i ∷ is) e =
+fit_declares : (said : Said) → is_fit said ≡ true → IsDeclared said
+fit_declares (rule ps b) e = tt
+fit_declares said e = never e
+
+fit_items : (P : Said → Type 0) → ((said : Said) → is_fit said ≡ true → P said) → (is : List Item) → list_all (λ (i : Item). is_fit i.said) is ≡ true → All (λ (i : Item). P i.said) is
+fit_items P each [] e = All-nil (λ (i : Item). P i.said)
+fit_items P each (i ∷ is) e =
     let parts = and_parts (is_fit i.said) (list_all (λ (j : Item). is_fit j.said) is) e in
-    All-cons (λ (j : Item). IsFitItem j.said) i is (fit_said i.said parts.0) (fit_items is parts.1)
+    All-cons (λ (j : Item). P j.said) i is (each i.said parts.0) (fit_items P each is parts.1)
 
 pub prelude_fit : All (λ (i : Item). IsFitItem i.said) (plain_items None prelude_rules)
-prelude_fit = fit_items (plain_items None prelude_rules) refl
+prelude_fit = fit_items IsFitItem fit_said (plain_items None prelude_rules) refl
+
+pub prelude_declares : AreDeclared (plain_items None prelude_rules)
+prelude_declares = fit_items IsDeclared fit_declares (plain_items None prelude_rules) refl
 
 -- ---- the names of a program
 

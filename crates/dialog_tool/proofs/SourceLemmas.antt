@@ -15,7 +15,7 @@ use Rattle.dg_lex.specs.declared.token.Token.{Token}
 use Rattle.dg_reader.specs.Read.{IsRead}
 use Rattle.dg_names.specs.Named.{Named}
 use Rattle.dg_names.specs.Counts.{IsNamed}
-use Rattle.dg_access.specs.Rewritten.{IsRewritten}
+use Rattle.dg_expand.specs.Answer.{IsRewritten}
 use Rattle.dg_core.specs.Core.{IsLowered}
 use Rattle.dialog_tool.specs.Source.{Then, refused, given, refusal_at, Lexes, Builds, all_names, with_prelude, Compiles, Meets}
 
@@ -64,7 +64,7 @@ pub compiles_one : (source : List ℕ) → ((source : List ℕ) (ts us : List To
     → ((ts : List Seen) → IsOne (IsRead ts)) → ((is : List Item) → IsOne (IsNamed is)) → ((is : List Item) → IsOne (IsRewritten is)) → IsOne (Compiles source)
 compiles_one source lexed read named rewritten =
     then_one _ _ (lexes_one source (lexed source)) (λ ts. then_one _ _ (read ts) (λ items.
-    then_one _ _ (named items) (λ n. then_one _ _ (builds_one items) (λ all. then_one _ _ (rewritten items) (λ plain. lowers_one (all_names items) (with_prelude plain))))))
+    then_one _ _ (named items) (λ n. then_one _ _ (builds_one items) (λ all. then_one _ _ (rewritten items) (λ new. lowers_one (all_names items) (with_prelude new))))))
 
 -- ## From the calls to the answer
 

@@ -16,7 +16,7 @@ use Rattle.dg_reader.specs.Read.{IsRead}
 use Rattle.dg_names.specs.Counts.{IsNamed}
 use Rattle.dg_names.specs.Named.{Named, firsts, predicate_in, names_of}
 use Rattle.dg_access.specs.Items.{plain_items}
-use Rattle.dg_access.specs.Rewritten.{IsRewritten}
+use Rattle.dg_expand.specs.Answer.{IsRewritten}
 use Rattle.dg_core.specs.Core.{IsLowered}
 use Rattle.dg_core.specs.Forms.{first_unbuilt}
 use Rattle.dg_prelude.specs.Rules.{prelude_rules}
@@ -43,15 +43,16 @@ Builds items (Err r) = (line : ℕ) × (first_unbuilt items ≡ Some line) × (r
 abbrev pub all_names : List Item → Named
 all_names items = record (names_of items) { preds = firsts (names_in predicate_in (mentioned items) ++ prelude_names) }
 
--- The rules of the prelude with plain heads, behind the items of a source.
+-- The rules of the prelude with plain heads, behind the rewritten items of a source.
 abbrev pub with_prelude : List Item → List Item
-with_prelude plain = plain ++ plain_items None prelude_rules
+with_prelude new = new ++ plain_items None prelude_rules
 
--- What items are that were read: a count of the source passes, or a form isn't built yet, or a count passes once heads are plain, or
--- an initial value is bad, or the entry has no rule, or they are a program, with the rules of the prelude behind theirs.
+-- What items are that were read: a count of the source passes, or a form isn't built yet, or an access rule loops or is repeated, or of
+-- an item too much or a wrong change comes once heads are plain and access rules put in, or an initial value is bad, or the entry has no
+-- rule, or they are a program, with the rules of the prelude behind theirs.
 abbrev pub Becomes : List Item → Result Core Refusal → Type 0
 Becomes items =
-    Then (IsNamed items) (λ named. Then (Builds items) (λ all. Then (IsRewritten items) (λ plain. IsLowered (all_names items) (with_prelude plain))))
+    Then (IsNamed items) (λ named. Then (Builds items) (λ all. Then (IsRewritten items) (λ new. IsLowered (all_names items) (with_prelude new))))
 
 -- What a source is: it is too long or has a bad character, or its tokens are no items, or what its items are.
 abbrev pub Compiles : List ℕ → Result Core Refusal → Type 0

@@ -1,6 +1,5 @@
 // From the bytes of a source to its core program.
 ghost use Rattle.std.specs.Prelude.{◌≡◌, ◌≤◌, ℕ, List, length, None, Result, Ok, Err, IfOk, IfErr};
-ghost use Rattle.dg_access.specs.Rewritten.{IsRewritten};
 ghost use Rattle.dg_base.specs.Faults.{IsFault};
 ghost use Rattle.dg_base.specs.Sound.{IsSound};
 ghost use Rattle.dg_base.specs.TreeView.{tree_view};
@@ -9,18 +8,19 @@ ghost use Rattle.dg_base.specs.Tree.{Item};
 ghost use Rattle.dg_core.specs.Core.{IsLowered};
 ghost use Rattle.dg_core.specs.Forms.{first_unbuilt};
 ghost use Rattle.dg_built.specs.Built.{IsBuilt};
+ghost use Rattle.dg_expand.specs.Answer.{IsRewritten};
 ghost use Rattle.dg_names.specs.Counts.{IsNamed};
 ghost use Rattle.dg_names.specs.Named.{names_of};
 ghost use Rattle.dg_names.specs.State.{names_view};
 ghost use Rattle.dialog_tool.specs.Source.{Then, Builds, all_names, with_prelude, Becomes, Compiles, Meets, refusal_at};
 
 use crate::behind::{add_prelude, with_prelude_names};
-use dg_access::rewrite;
 use dg_base::{CoreProgram, Kind, ReadFault, Refusal, Tree};
-use dg_core::{first_unbuilt, lower, sources_are_run};
+use dg_core::{first_unbuilt, lower};
+use dg_expand::rewrite;
 use dg_lex::{lex, tokens_are_one, tokens_are_spelled};
 use dg_names::{Names, names_are_few};
-use dg_reader::{items_are_one, items_are_readable, read};
+use dg_reader::{declarations_are_kept, items_are_one, items_are_readable, read};
 use std::alloc::Global;
 
 fn not_built(line: u32) -> ReadFault
@@ -46,13 +46,13 @@ fn check_built(alloc: Global, tree: &Tree) -> Result<(), ReadFault>
 // A function of its own, since each place that lets go of names is proved field by field.
 fn let_go(_names: Names) {}
 
-// The core program of items with plain heads, with the rules of the prelude behind theirs.
-fn core_with_prelude(alloc: Global, plain: Tree, names: Names) -> Result<CoreProgram, ReadFault>
+// The core program of rewritten items, with the rules of the prelude behind theirs.
+fn core_with_prelude(alloc: Global, new: Tree, names: Names) -> Result<CoreProgram, ReadFault>
     requires { length (names_view names).preds ≤ 4000 }
-    ensures { (items : List Item) → names_view names ≡ names_of items → Meets (IsLowered (all_names items) (with_prelude (tree_view plain))) result }
+    ensures { (items : List Item) → names_view names ≡ names_of items → Meets (IsLowered (all_names items) (with_prelude (tree_view new))) result }
 {
     let names = with_prelude_names(alloc, names)?;
-    match add_prelude(alloc, plain) {
+    match add_prelude(alloc, new) {
         Ok(all) => lower(alloc, all, names),
         Err(_) => {
             let_go(names);
@@ -61,16 +61,14 @@ fn core_with_prelude(alloc: Global, plain: Tree, names: Names) -> Result<CorePro
     }
 }
 
-// The core program of a tree whose forms are all built.
-fn built_program(alloc: Global, tree: Tree, names: Names) -> Result<CoreProgram, ReadFault>
-    requires built { first_unbuilt (tree_view tree) ≡ None }
-    requires named { IsNamed (tree_view tree) (Ok (names_view names)) }
-    ensures { Meets (Then (IsRewritten (tree_view tree)) (λ plain. IsLowered (all_names (tree_view tree)) (with_prelude plain))) result }
+// The core program of a tree that has these names.
+fn named_program(alloc: Global, tree: Tree, names: Names) -> Result<CoreProgram, ReadFault>
+    requires { IsNamed (tree_view tree) (Ok (names_view names)) }
+    ensures { Meets (Then (IsRewritten (tree_view tree)) (λ new. IsLowered (all_names (tree_view tree)) (with_prelude new))) result }
 {
-    sources_are_run();
     names_are_few();
     match rewrite(alloc, tree, &names) {
-        Ok(plain) => core_with_prelude(alloc, plain, names),
+        Ok(new) => core_with_prelude(alloc, new, names),
         Err(fault) => {
             let_go(names);
             Err(fault)
@@ -87,7 +85,7 @@ fn program_of(alloc: Global, tree: Tree) -> Result<CoreProgram, ReadFault>
         Err(fault) => return Err(fault),
     };
     match check_built(alloc, &tree) {
-        Ok(()) => built_program(alloc, tree, names),
+        Ok(()) => named_program(alloc, tree, names),
         Err(fault) => {
             let_go(names);
             Err(fault)
@@ -120,15 +118,18 @@ pub fn programs_are_sound()
 {
     tokens_are_spelled();
     items_are_readable();
+    declarations_are_kept();
     dg_names::names_are_printable();
     dg_names::mentions_are_among();
     dg_names::names_are_few();
     dg_names::mentions_are_small();
     dg_names::firsts_are_names();
     dg_access::mentions_come_from_the_source();
-    dg_access::variables_are_few();
     dg_access::variables_are_named();
-    sources_are_run();
+    dg_expand::mentions_are_put();
+    dg_expand::none_is_closed();
+    dg_expand::variables_are_few();
+    dg_core::sources_are_run();
     dg_core::core_is_sound();
     dg_core::goals_are_built();
 }
@@ -140,5 +141,5 @@ pub fn sources_have_one_answer()
     tokens_are_one();
     items_are_one();
     dg_names::one_answer();
-    dg_access::one_answer();
+    dg_expand::one_answer();
 }

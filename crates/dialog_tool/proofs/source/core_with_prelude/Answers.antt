@@ -4,7 +4,7 @@ use Rattle.dg_base.specs.TreeView.{tree_view}
 use Rattle.dg_core.specs.Core.{IsLowered}
 use Rattle.dg_names.specs.Named.{Named}
 use Rattle.dg_names.specs.State.{names_view}
-use Rattle.dialog_tool.specs.Source.{all_names, with_prelude, Meets}
+use Rattle.dialog_tool.specs.Source.{with_prelude, Meets}
 use Rattle.dialog_tool.proofs.PreludeLemmas.{grown_is}
 use Rattle.dialog_tool.proofs.SourceLemmas.{lowered_of}
 use Rattle.dialog_tool.proofs.source.core_with_prelude.Goals as goal
@@ -13,5 +13,5 @@ pub returns-in-Ok : goal.returns-in-Ok
 returns-in-Ok c = λ items same.
     let named = c.in_ok-names.ensures ∙ grown_is (names_view c.args.names) items same in
     let meets = lowered_of (names_view c.in_ok-names.names) (tree_view c.in-Ok.all) c.lower.result c.lower.ensures.lowered c.lower.ensures.refused in
-    subst (λ (d : Named). Meets (IsLowered d (with_prelude (tree_view c.args.plain))) c.lower.result) named
+    subst (λ (d : Named). Meets (IsLowered d (with_prelude (tree_view c.args.new))) c.lower.result) named
     (subst (λ (l : List Item). Meets (IsLowered (names_view c.in_ok-names.names) l) c.lower.result) c.in-Ok.ensures meets)

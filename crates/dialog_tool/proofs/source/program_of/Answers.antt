@@ -11,8 +11,8 @@ returns-in-Err c = then_err (IsNamed (tree_view c.args.tree)) _ c.in-Err.fault c
 
 pub returns-in-Ok-check_built : goal.returns-in-Ok-check_built
 returns-in-Ok-check_built c =
-    then_ok (IsNamed (tree_view c.args.tree)) _ (names_view c.in-Ok.names) c.built_program.result c.in-Ok.ensures.named
-    (then_ok (Builds (tree_view c.args.tree)) _ tt c.built_program.result c.in-Ok-check_built.ensures.built c.built_program.ensures)
+    then_ok (IsNamed (tree_view c.args.tree)) _ (names_view c.in-Ok.names) c.named_program.result c.in-Ok.ensures.named
+    (then_ok (Builds (tree_view c.args.tree)) _ tt c.named_program.result c.in-Ok-check_built.ensures.built c.named_program.ensures)
 
 pub returns-in-Err-check_built : goal.returns-in-Err-check_built
 returns-in-Err-check_built c =
