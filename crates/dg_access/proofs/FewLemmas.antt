@@ -1,16 +1,14 @@
--- Where no count passes, the variables are few.
-use Rattle.std.proofs.Common.{◌≡◌, ◌≤◌, ℕ, List, [], ◌∷◌, ◌++◌, ◌||◌, Bool, true, false, Some, None, nat_lt, refl, sym, ap, subst, arith}
-use Rattle.std.specs.Prelude.{if◌then◌else◌}
+-- Where what an item becomes isn't too large, its variables are few.
+use Rattle.std.proofs.Common.{◌≡◌, ◌≤◌, ℕ, List, [], ◌∷◌, ◌++◌, ◌||◌, Bool, true, false, nat_lt, refl, ap, arith}
 use Rattle.std.specs.List.{All, list_any}
 use Rattle.std.proofs.lemmas.Bool.{or_parts}
 use Rattle.std.proofs.lemmas.Bool.Decides.{nat_tests}
 use Rattle.std.proofs.lemmas.List.Elements.{All-nil, All-cons}
 use Rattle.dg_base.specs.Tree.{Said, Item}
 use Rattle.dg_base.specs.Mentions.{Mentions, nothing, thing, closed, things, closures, names_in, weight_of, variable_in}
-use Rattle.dg_base.specs.Passing.{first_passing}
 use Rattle.dg_names.specs.Counts.{counted_in}
-use Rattle.dg_access.specs.Counts.{variables_of, is_full, counted_of, counted_among, has_many_variables, any_has_many, queries_at, has_excess, are_many}
-use Rattle.dg_access.specs.Few.{AreFew, HasFewVariables, RewrittenIsFew, SmallAreFew, AllAreOut}
+use Rattle.dg_access.specs.Counts.{variables_of, is_full, counted_of, counted_among, has_many_variables, any_has_many, queries_at}
+use Rattle.dg_access.specs.Few.{AreFew, HasFewVariables, SmallAreFew, AllAreOut}
 
 not_over : (k : ℕ) → nat_lt 64 k ≡ false → k ≤ 64
 not_over k h = grind (arith, nat_tests, h)
@@ -28,9 +26,6 @@ variables_few said h =
     let each = or_parts (is_full all ms) (list_any (is_full all) (closures ms)) h in
     (not_over (variables_of all ms) each.0, all_few all (closures ms) each.1)
 
-said_few : (said : Said) → has_excess said ≡ false → HasFewVariables said
-said_few said h = variables_few said (or_parts (nat_lt 10000 (weight_of queries_at (things (counted_of said)))) (has_many_variables said) h).1
-
 any_few : (is : List Item) → any_has_many is ≡ false → All (λ (i : Item). HasFewVariables i.said) is
 any_few [] e = All-nil (λ (i : Item). HasFewVariables i.said)
 any_few (i ∷ is) e =
@@ -39,23 +34,6 @@ any_few (i ∷ is) e =
 
 pub small_few : (is : List Item) → SmallAreFew is
 small_few is e = any_few is (or_parts (nat_lt 10000 (weight_of queries_at (counted_among is))) (any_has_many is) e).1
-
--- where no item is the first at which a count passes, no item has too many
-first_few : (before : List Item) (i : Item) (is : List Item) → first_passing has_excess are_many before (i ∷ is) ≡ None → (has_excess i.said ≡ false) × (first_passing has_excess are_many (before ++ i ∷ []) is ≡ None)
-first_few before i is h = here (has_excess i.said || are_many (before ++ i ∷ [])) refl h
-  where
-    here : (b : Bool) → (has_excess i.said || are_many (before ++ i ∷ [])) ≡ b → (if b then Some i else first_passing has_excess are_many (before ++ i ∷ []) is) ≡ None → (has_excess i.said ≡ false) × (first_passing has_excess are_many (before ++ i ∷ []) is ≡ None)
-    here true e k = cc
-    here false e k = ((or_parts (has_excess i.said) (are_many (before ++ i ∷ [])) e).0, k)
-
-items_few : (before is : List Item) → first_passing has_excess are_many before is ≡ None → All (λ (i : Item). HasFewVariables i.said) is
-items_few before [] e = All-nil (λ (i : Item). HasFewVariables i.said)
-items_few before (i ∷ is) e =
-    let few = first_few before i is e in
-    All-cons (λ (j : Item). HasFewVariables j.said) i is (said_few i.said few.0) (items_few (before ++ i ∷ []) is few.1)
-
-pub rewritten_few : (is new : List Item) → RewrittenIsFew is new
-rewritten_few is new r = subst (λ (l : List Item). All (λ (i : Item). HasFewVariables i.said) l) (sym r.1) (items_few [] _ r.0)
 
 pub all_out : (all : List (List ℕ)) (ms : Mentions) → AllAreOut all ms
 all_out all nothing e = refl

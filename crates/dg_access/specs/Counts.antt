@@ -1,4 +1,4 @@
--- The counts of a rewritten source, and the first item at which one passes: hold them against docs/LANGUAGE.md, "Limits", and docs/REFUSALS.md, "too many".
+-- What is counted of rewritten items, and when it is too much: hold it against docs/LANGUAGE.md, "Limits", and docs/REFUSALS.md, "too many".
 use Rattle.std.specs.Prelude.{ℕ, ◌+◌, ◌||◌, ◌&&◌, List, [], ◌∷◌, ◌++◌, Bool, false, not, filter, length, codes, nat_eq, nat_lt, if◌then◌else◌}
 use Rattle.std.specs.List.{list_any, starts_with}
 use Rattle.std.specs.Str.{bytes_eq}
@@ -95,10 +95,6 @@ rules_at t = 0
 abbrev pub counted_among : List Item → List Thing
 counted_among [] = []
 counted_among (i ∷ is) = things (counted_of i.said) ++ counted_among is
-
--- An item with too many queries, or with too many variables in a rule or a closure.
-abbrev pub has_excess : Said → Bool
-has_excess said = nat_lt 10000 (weight_of queries_at (things (counted_of said))) || has_many_variables said
 
 -- One of these items has too many variables in a rule or a closure.
 abbrev pub any_has_many : List Item → Bool

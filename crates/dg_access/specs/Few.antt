@@ -1,11 +1,10 @@
--- How many variables are left in a rewritten tree: hold it against docs/LANGUAGE.md, "Limits".
-use Rattle.std.specs.Prelude.{◌≡◌, ◌≤◌, ℕ, List, [], false, Result, Ok}
+-- How many variables an item has: hold it against docs/LANGUAGE.md, "Limits".
+use Rattle.std.specs.Prelude.{◌≡◌, ◌≤◌, ℕ, List, [], false}
 use Rattle.std.specs.List.{All}
 use Rattle.dg_base.specs.Tree.{Said, Item}
 use Rattle.dg_base.specs.Mentions.{Mentions, things, closures, names_in, variable_in}
 use Rattle.dg_names.specs.Counts.{counted_in}
 use Rattle.dg_access.specs.Counts.{names_out, variables_of, counted_of, are_large}
-use Rattle.dg_access.specs.Rewritten.{IsRewritten}
 
 -- At most 64 variables, of all the names in an item.
 abbrev pub AreFew : List (List ℕ) → Mentions → Type 0
@@ -14,10 +13,6 @@ AreFew all ms = variables_of all ms ≤ 64
 -- A rule and each closure in it has few variables.
 abbrev pub HasFewVariables : Said → Type 0
 HasFewVariables said = let ms = counted_of said in let all = names_in variable_in (things ms) in AreFew all ms × All (AreFew all) (closures ms)
-
--- Each item of a rewritten tree has few variables.
-abbrev pub RewrittenIsFew : List Item → List Item → Type 0
-RewrittenIsFew is new = IsRewritten is (Ok new) → All (λ (i : Item). HasFewVariables i.said) new
 
 -- What one item becomes has few variables where it isn't too large.
 abbrev pub SmallAreFew : List Item → Type 0

@@ -1,12 +1,11 @@
 -- Variables and numbers that are counted along the mentions of an item. The proofs alone rest on it.
-use Rattle.std.specs.Prelude.{ℕ, ◌+◌, ◌||◌, ◌&&◌, List, [], ◌∷◌, Bool, false, Option, length, codes, nat_eq, nat_lt, if◌then◌else◌}
+use Rattle.std.specs.Prelude.{ℕ, ◌+◌, ◌||◌, ◌&&◌, List, [], ◌∷◌, Bool, false, length, codes, nat_eq, nat_lt, if◌then◌else◌}
 use Rattle.std.specs.Str.{bytes_eq}
-use Rattle.dg_base.specs.Tree.{Said, Item}
-use Rattle.dg_base.specs.Mentions.{Thing, variable, things, weight_of}
-use Rattle.dg_base.specs.Passing.{passing}
+use Rattle.dg_base.specs.Tree.{Item}
+use Rattle.dg_base.specs.Mentions.{Thing, variable, weight_of}
 use Rattle.dg_base.specs.Walk.{Met, met, opens, closes}
 use Rattle.dg_names.specs.Counts.{closures_at, selects_at}
-use Rattle.dg_access.specs.Counts.{is_unnamed, nodes_at, rules_at, counted_of, counted_among, has_excess}
+use Rattle.dg_access.specs.Counts.{is_unnamed, nodes_at, rules_at, counted_among}
 
 -- ---- variables
 
@@ -70,10 +69,6 @@ counted ts c = record {
   nodes = c.nodes + weight_of nodes_at ts;
 }
 
--- What is counted behind an item.
-abbrev pub behind : Counted → Said → Counted
-behind c said = counted (things (counted_of said)) c
-
 -- Nothing yet.
 abbrev pub uncounted : Counted
 uncounted = record { rules = 0; closures = 0; selects = 0; nodes = 0 }
@@ -85,7 +80,3 @@ counts_of is = counted (counted_among is) uncounted
 -- A count in all passes its number.
 abbrev pub has_many : Counted → Bool
 has_many c = nat_lt 16000 c.rules || (nat_lt 16000 c.closures || (nat_lt 500 c.selects || nat_lt 2000000 c.nodes))
-
--- The first item at which a count passes, from what was counted on.
-abbrev pub passing_in : Counted → List Item → Option Item
-passing_in = passing has_excess behind has_many

@@ -1,6 +1,5 @@
 // The counts of rewritten items.
 ghost use Rattle.std.specs.Prelude.{◌≡◌, ◌+◌, ◌||◌, ◌++◌, [], List, map, nat_lt, IfOk, OnOk};
-ghost use Rattle.std.specs.Option.{option_map};
 ghost use Rattle.dg_base.specs.Tree as tree;
 ghost use Rattle.dg_base.specs.Mentions.{things, weight_of};
 ghost use Rattle.dg_base.specs.TreeView.{item_view, said_view};
@@ -8,7 +7,7 @@ ghost use Rattle.dg_base.specs.Walk.{walk, mention_view, seen, thing_at, things_
 ghost use Rattle.dg_access.specs.Counts as spec;
 ghost use Rattle.dg_access.specs.Counts.{counted_of, counted_among};
 ghost use Rattle.dg_access.specs.Scopes as scopes;
-ghost use Rattle.dg_access.specs.Scopes.{counted, behind, uncounted, counts_of, passing_in};
+ghost use Rattle.dg_access.specs.Scopes.{counted, counts_of};
 ghost use Rattle.dg_access.specs.State.{weight_at, counts_view};
 
 use crate::totals::sum;
@@ -120,25 +119,6 @@ fn has_many(counts: Counts) -> bool
         || counts.nodes > NODES
 }
 
-fn has_many_queries(mentions: &[Mention<'_>]) -> Result<bool, AllocError>
-    ensures { IfOk result (λ many. many ≡ nat_lt 10000 (weight_of spec.queries_at (things_at (seen mentions.now)))) }
-{
-    let queries = weight_of(Sort::Query, mentions)?;
-    Ok(queries > QUERIES)
-}
-
-// Whether a count of one item passes its number.
-fn has_excess(alloc: Global, said: &ItemBody, mentions: &[Mention<'_>]) -> Result<bool, AllocError>
-    requires walk { seen mentions.now ≡ walk (counted_of (said_view said.now)) }
-    requires things { things_at (seen mentions.now) ≡ things (counted_of (said_view said.now)) }
-    ensures { IfOk result (λ over. over ≡ spec.has_excess (said_view said.now)) }
-{
-    if has_many_queries(mentions)? {
-        return Ok(true);
-    }
-    has_many_variables(alloc, said, mentions)
-}
-
 // What is counted of an item.
 fn counted_mentions(alloc: Global, said: &ItemBody) -> Result<Vec<Mention<'_>>, AllocError>
     ensures walk { IfOk result (λ found. seen found.items ≡ walk (counted_of (said_view said.now))) }
@@ -148,38 +128,6 @@ fn counted_mentions(alloc: Global, said: &ItemBody) -> Result<Vec<Mention<'_>>, 
         ItemBody::Access(_, _) => Ok(Vec::new(alloc)),
         _ => mentions_of(alloc, said),
     }
-}
-
-// Adds an item: whether a count passes its number there.
-fn add_item(alloc: Global, counts: &mut Counts, said: &ItemBody) -> Result<bool, AllocError>
-    ensures over { IfOk result (λ over. over ≡ (spec.has_excess (said_view said.now)
-        || scopes.has_many (behind (counts_view counts.old) (said_view said.now)))) }
-    ensures behind { OnOk result (counts_view counts.new ≡ behind (counts_view counts.old) (said_view said.now)) }
-{
-    let mentions = counted_mentions(alloc, said)?;
-    *counts = behind(*counts, mentions.as_slice())?;
-    if has_excess(alloc, said, mentions.as_slice())? {
-        return Ok(true);
-    }
-    Ok(has_many(*counts))
-}
-
-/// The line of the first item at which a count passes its number.
-pub fn first_passing(alloc: Global, items: &[Item]) -> Result<Option<u32>, AllocError>
-    ensures { IfOk result (λ line. line ≡ option_map (λ i. i.line) (passing_in uncounted (map item_view items.now))) }
-{
-    let mut counts = Counts {
-        rules: 0,
-        closures: 0,
-        selects: 0,
-        nodes: 0,
-    };
-    for item in items {
-        if add_item(alloc, &mut counts, &item.body)? {
-            return Ok(Some(item.line));
-        }
-    }
-    Ok(None)
 }
 
 // The counts behind these items.

@@ -1,12 +1,12 @@
 // What the definitions of new names alone say.
-ghost use Rattle.std.specs.Prelude.{◌≡◌, ◌<◌, ◌^◌, ℕ, List, Result};
+ghost use Rattle.std.specs.Prelude.{◌≡◌, ◌<◌, ◌^◌, ℕ, List, Option};
 ghost use Rattle.dg_base.specs.Mentions.{Mentions};
 ghost use Rattle.dg_base.specs.Tree.{Item};
-ghost use Rattle.dg_base.specs.declared.refusal.Refusal.{Refusal};
 ghost use Rattle.dg_access.specs.Plain.{unnamed_name, choice_name};
 ghost use Rattle.dg_access.specs.Comes.{MentionsComeFrom};
-ghost use Rattle.dg_access.specs.Few.{RewrittenIsFew, AllAreOut};
-ghost use Rattle.dg_access.specs.Rewritten.{IsRewritten};
+ghost use Rattle.dg_access.specs.Few.{AllAreOut};
+ghost use Rattle.dg_access.specs.Items.{plain_items};
+ghost use Rattle.dg_access.specs.Left.{IsPlain};
 
 /// Two anonymous variables of an item have two names.
 pub fn unnamed_variables_differ()
@@ -18,19 +18,14 @@ pub fn choices_differ()
     ensures { (number m n : ℕ) → m < 2 ^ 64 → n < 2 ^ 64 → choice_name number m ≡ choice_name number n → m ≡ n }
 {}
 
-/// A tree has one answer: the tree with plain heads, or the line at which it is refused.
-pub fn one_answer()
-    ensures { (is : List Item) (a b : Result (List Item) Refusal) → IsRewritten is a → IsRewritten is b → a ≡ b }
+/// Nothing is left in the tree with plain heads that they replace.
+pub fn nothing_is_left()
+    ensures { (is : List Item) → IsPlain (plain_items Option.None is) }
 {}
 
-/// All that items mention with plain heads comes from what they mention. So what holds of names and forms in a source holds of them in its rewritten tree.
+/// All that items mention with plain heads comes from what they mention. So what holds of names and forms in a source holds of them there.
 pub fn mentions_come_from_the_source()
     ensures { (is : List Item) → MentionsComeFrom is }
-{}
-
-/// Each rule of a rewritten tree, and each closure in it, has at most 64 variables.
-pub fn variables_are_few()
-    ensures { (is new : List Item) → RewrittenIsFew is new }
 {}
 
 /// Where no closure stands, the variables are all that are named, but for a closure's parameter.

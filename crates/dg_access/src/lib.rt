@@ -9,7 +9,6 @@ mod laws;
 mod numbers;
 mod plain;
 mod puts;
-mod rewriting;
 mod rules;
 mod setting;
 mod standing;
@@ -22,11 +21,10 @@ pub use built::{Built, close, let_go, unbuilt};
 pub use counts::{Counts, add_items, uncounted};
 pub use fresh::{copied, take_number};
 pub use laws::{
-    choices_differ, mentions_come_from_the_source, one_answer, unnamed_variables_differ,
-    variables_are_few, variables_are_named,
+    choices_differ, mentions_come_from_the_source, nothing_is_left, unnamed_variables_differ,
+    variables_are_named,
 };
 pub use numbers::free_number;
-pub use rewriting::rewrite;
 pub use rules::plain_tree;
 pub use setting::Setting;
 pub use totals::totals_among;
