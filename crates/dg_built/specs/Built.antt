@@ -2,17 +2,17 @@
 use Rattle.std.specs.Prelude.{◌≤◌, List}
 use Rattle.std.specs.List.{All}
 use Rattle.dg_base.specs.declared.program.Goal.{Goal, Goal-F, out-Goal}
-use Rattle.dg_base.specs.declared.program.Goal.TheOpen.{Text, Print, Gap, GapN, Equal, Ask, Now, Query, Either, Once, Not, If, Just, Fail, Stop, Quit, Forever, Exhaust, Stoppable, Select, Compare, Test, Arith, Random, Input, SplitWord, JoinWords, Collect, Accumulate}
+use Rattle.dg_base.specs.declared.program.Goal.TheOpen.{Text, Print, Gap, GapN, Equal, Ask, Holds, IsObject, Now, Query, Either, Once, Not, If, Just, Fail, Stop, Quit, Forever, Exhaust, Stoppable, Select, Compare, Test, Arith, Random, Input, SplitWord, JoinWords, Collect, Accumulate}
 use Rattle.dg_base.specs.declared.program.Rule.{Rule}
 use Rattle.dg_base.specs.declared.program.ClosureBody.{ClosureBody}
 use Rattle.dg_base.specs.declared.program.Pred.{Pred}
 use Rattle.dg_base.specs.declared.program.CoreProgram.{CoreProgram}
 use Rattle.dg_base.specs.Goals.{goals_of}
 
--- Text, a printed value, a gap, spaces, an equation, a query of a predicate or of a closure, a change, a choice between goals, a first answer, a
--- negation, a condition, a cut, a failure, an end, an endless choice, a test, a comparison, a calculation, a random number, a line that is read, a
--- word that is split, words that are joined, all answers of goals, a value for each of them as a list or a sum, a stoppable part, a select,
--- and a stop.
+-- Text, a printed value, a gap, spaces, an equation, a query of a predicate, of a place, of objects or of a closure, a change, a choice between
+-- goals, a first answer, a negation, a condition, a cut, a failure, an end, an endless choice, a test, a comparison, a calculation, a random number,
+-- a line that is read, a word that is split, words that are joined, all answers of goals, a value for each of them as a list or a sum, a stoppable
+-- part, a select, and a stop: these are all forms.
 abbrev pub IsForm : Goal-F Goal → Type 0
 IsForm (Text name) = Unit {0}
 IsForm (Print a) = Unit {0}
@@ -20,6 +20,8 @@ IsForm (Gap kind) = Unit {0}
 IsForm (GapN a) = Unit {0}
 IsForm (Equal a b) = Unit {0}
 IsForm (Ask pred args many) = Unit {0}
+IsForm (Holds place args many) = Unit {0}
+IsForm (IsObject a many) = Unit {0}
 IsForm (Now place args sets) = Unit {0}
 IsForm (Query a b many) = Unit {0}
 IsForm (Either lists) = Unit {0}
@@ -43,7 +45,6 @@ IsForm (Accumulate term goals into) = Unit {0}
 IsForm (Stoppable goals) = Unit {0}
 IsForm (Select site mode lists) = Unit {0}
 IsForm Stop = Unit {0}
-IsForm _ = ⊥
 
 -- A goal of one of these forms.
 abbrev pub IsBuiltGoal : Goal → Type 0

@@ -21,7 +21,7 @@ use Rattle.dg_interp.specs.declared.frames.Left.{Left}
 use Rattle.dg_interp.specs.declared.frames.Choice.{Choice}
 use Rattle.dg_interp.specs.declared.engine.Engine.{Engine}
 use Rattle.dg_interp.specs.Frames.{values_in, kind_of, branches_of, lives_of, ways_of, AreChoices, IsLeft, IsOrdinary, StandOn, GoBackTo, stays_with}
-use Rattle.dg_interp.specs.Engine.{store_in, KeepsPlaces, HasPlace, Within, IsSound, StandsAt, FailsAt, BeginsAt, SameLimits, steps_of, kept_if, open_in}
+use Rattle.dg_interp.specs.Engine.{store_in, KeepsPlaces, HasPlace, Within, There, IsSound, StandsAt, FailsAt, BeginsAt, SameLimits, steps_of, kept_if, open_in}
 use Rattle.dg_interp.specs.Outside.{InWorld}
 use Rattle.dg_interp.proofs.Links.{SameBy, same_here, branches_same, choices_same, back_same, frames_raise, stand_raise}
 use Rattle.dg_interp.proofs.Stores.{all_hold, values_kept, hold_front, front_same}
@@ -55,7 +55,7 @@ module _ (old : Engine) (left : Left) (b : Bool) (place : Place) (store1 : ListB
   abbrev pub begun_engine : Frame → Engine
   begun_engine here = record old { store = store1; refs = refs1; choices = choices; made = made1; here = here }
 
-  front : take (length xs) ys ≡ take (length xs) xs
+  pub front : take (length xs) ys ≡ take (length xs) xs
   front = front_same xs made ys is
 
   longer : length xs ≤ length ys
@@ -65,7 +65,7 @@ module _ (old : Engine) (left : Left) (b : Bool) (place : Place) (store1 : ListB
   pub begun_values : SameBy (length xs) (values_in s xs) (values_in s1 ys)
   begun_values = values_kept (length xs) s s1 xs ys k (hold_front s xs sound.base.hold) front
 
-  stand : StandOn fs (length fs) (length xs) old.newest (kept_if b o os)
+  pub stand : StandOn fs (length fs) (length xs) old.newest (kept_if b o os)
   stand = kept_stand b fs (length fs) (length xs) old.newest o os (omega arith) (omega arith) (omega arith) fits same_b plain sound.base.frames sound.base.choices
 
   pub begun_limits : (here : Frame) → SameLimits old (begun_engine here)
@@ -103,11 +103,11 @@ module _ (old : Engine) (left : Left) (b : Bool) (place : Place) (store1 : ListB
     abbrev pub begun_live : Live
     begun_live = record { kind = kind_of all; tag = r.next_tag; others = others; height = open_in old; ways_on = st.at.ways }
 
-    are : others ≡ branches_of g (values_in st.back.store xs) fs (length fs) left r
+    pub are : others ≡ branches_of g (values_in st.back.store xs) fs (length fs) left r
     are =
         branches_same g (length fs) (length xs) (values_in st.back.store xs) (values_in s xs) fs fs left r fits sound.base.frames (values_kept (length xs) st.back.store s xs xs st.is.kept (hold_front st.back.store xs st.is.hold) refl) (same_here (length fs) fs)
 
-    stays_so : b ≡ stays (kind_of all) others
+    pub stays_so : b ≡ stays (kind_of all) others
     stays_so = same_b ∙ sym (branches_stay g (values_in s xs) fs (length fs) left r) ∙ ap (λ q. stays q others) kind
 
     abbrev inside_begun : (v : World) → InWorld old.outside g v → Within old.program.now old.outside store1 ys fs (reverse choices.items) g v
@@ -124,20 +124,21 @@ module _ (old : Engine) (left : Left) (b : Bool) (place : Place) (store1 : ListB
       world = world;
     }
 
-    -- the run comes from where the engine is then
-    pub begun_stands : (here : Frame) (v : World) (r' : Registers) → InWorld old.outside g v → Agrees s1 r' → r'.next_tag ≡ old.newest + 1 → r'.stoppable ≡ r.stoppable → Stands g (pushed begun_live st.at.inside.lives) st.at.ways (path_of (steps_of (begun_engine here)) r') n v run → StandsAt (begun_engine here) g n v run
-    begun_stands here v r' world agrees tag part stands = record {
-      at = record {
-        inside = inside_begun v world;
-        ways = st.at.ways;
-        ways_are = st.at.ways_are ∙ kept_ways b o os begun_live st.at.inside.entries plain ∙ ap (λ l. ways_of l (kept_if b begun_live st.at.inside.entries)) (sym kept);
-        registers = r';
-        agrees = agrees;
-        tag = tag;
-        stop = part ∙ st.at.stop;
-      };
-      stands = stands;
+    -- the engine is there then
+    abbrev pub begun_there : (here : Frame) (v : World) (r' : Registers) → InWorld old.outside g v → Agrees s1 r' → r'.next_tag ≡ old.newest + 1 → r'.stoppable ≡ r.stoppable → There (begun_engine here) (old.newest + 1) g v
+    begun_there here v r' world agrees tag part = record {
+      inside = inside_begun v world;
+      ways = st.at.ways;
+      ways_are = st.at.ways_are ∙ kept_ways b o os begun_live st.at.inside.entries plain ∙ ap (λ l. ways_of l (kept_if b begun_live st.at.inside.entries)) (sym kept);
+      registers = r';
+      agrees = agrees;
+      tag = tag;
+      stop = part ∙ st.at.stop;
     }
+
+    -- the run comes from where it is
+    pub begun_stands : (here : Frame) (v : World) (r' : Registers) → InWorld old.outside g v → Agrees s1 r' → r'.next_tag ≡ old.newest + 1 → r'.stoppable ≡ r.stoppable → Stands g (pushed begun_live st.at.inside.lives) st.at.ways (path_of (steps_of (begun_engine here)) r') n v run → StandsAt (begun_engine here) g n v run
+    begun_stands here v r' world agrees tag part stands = record { at = begun_there here v r' world agrees tag part; stands = stands }
 
     -- or from its failure
     pub begun_fails : (here : Frame) (v : World) → InWorld old.outside g v → Failed g (pushed begun_live st.at.inside.lives) n v run → FailsAt (begun_engine here) g n v run

@@ -24,7 +24,7 @@ use Rattle.dg_interp.specs.declared.frames.Choice.{Choice}
 use Rattle.dg_interp.specs.declared.engine.Engine.{Engine}
 use Rattle.dg_interp.specs.Frames.{values_in, kind_of, branches_of, cut_of, cut_if, lives_of, ways_of, IsChoice, AreChoices, AreFrames, IsLeft, IsNoted, StandOn, GoBackTo, TakesNewest, left_in, stays_with, all_left}
 use Rattle.dg_interp.specs.declared.frames.Left.{Left}
-use Rattle.dg_interp.specs.declared.frames.Left.TheVariants.{Rules, Lists, Ways, Way as OneWay, Behind, TakeOut}
+use Rattle.dg_interp.specs.declared.frames.Left.TheVariants.{Rules, Lists, Ways, Way as OneWay, Behind, TakeOut, Things}
 use Rattle.dg_interp.specs.declared.outside.Outside.{Outside}
 use Rattle.dg_interp.specs.Outside.{InWorld, MayPick, closed_to, picks_in}
 use Rattle.dg_interp.specs.Engine.{store_in, KeepsPlaces, open_in, HasPlaces, Sound, Within, HasPlace, IsPlace, Cuts, Retries, Point, IsSound, StandsAt, FailsAt, BeginsAt, Adds, Then, Leads, FullAt, SameLimits, WentOn, WentWrong, HasEndedSo, AtGoal, Branches, GoesBack, Tries, branches_left}
@@ -48,6 +48,7 @@ takes_it (Lists env tag lists) t k bs v h = tt
 takes_it (Ways first other) t k bs v h = tt
 takes_it (OneWay frame) t k bs v h = tt
 takes_it (Behind frame cut) t k bs v h = tt
+takes_it (Things trial args) t k bs v h = tt
 
 -- ## The store to which a choice goes back
 
@@ -268,6 +269,7 @@ module _ (old : Engine) (o : Choice) (choices : Vec Choice Global) (sound : IsSo
       popped_takes n v run resumed (Ways first other) t e = tt
       popped_takes n v run resumed (OneWay frame) t e = tt
       popped_takes n v run resumed (Behind frame waits) t e = tt
+      popped_takes n v run resumed (Things trial args) t e = tt
       popped_takes n v run resumed (TakeOut whole into frame) t e = takes_newest g c (lives_of os cs) is.registers.next_tag _ _ _ [] n v run resumed e
 
       begins : (n : ℕ) (w v : World) (run : Run) → InWorld out g v → length v.gathered ≡ open_at c.others c.height → Adds [] w v → Resumed g c (lives_of os cs) n v run → Then [] w (λ u. BeginsAt o.left o.place mid g n u run)

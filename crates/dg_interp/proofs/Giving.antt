@@ -10,7 +10,7 @@ use Rattle.dg_base.specs.declared.program.CoreProgram.{CoreProgram}
 use Rattle.dg_base.specs.Goals.{terms_held}
 use Rattle.dg_meaning.specs.Values.{Num, Value, Node, leaf}
 use Rattle.dg_meaning.specs.Substitutions.{IsSubstitution, Extends}
-use Rattle.dg_meaning.specs.Unify.{Unified, unify}
+use Rattle.dg_meaning.specs.Unify.{Unified, Equations, solve}
 use Rattle.dg_meaning.specs.Numbers.{of_numbers}
 use Rattle.dg_meaning.specs.World.{Game, World, worked}
 use Rattle.dg_meaning.specs.Cells.{cells, writing}
@@ -32,7 +32,7 @@ use Rattle.dg_interp.specs.Terms.{Overflows}
 use Rattle.dg_interp.specs.Frames.{values_in}
 use Rattle.dg_interp.specs.Engine.{Point, store_in, KeepsPlaces, steps_of, There, IsReady, TakesAt, StandsAt, FailsAt, FullAt, Leads, SameLimits, WentOn, Branches}
 use Rattle.dg_interp.specs.Outside.{InWorld}
-use Rattle.dg_interp.specs.Giving.{number_in, ActsAt, UnifiesAt, GivesAt}
+use Rattle.dg_interp.specs.Giving.{number_in, ActsAt, SolvesAt, UnifiesAt, GivesAt}
 use Rattle.dg_interp.proofs.Stores.{trail_append, trail_within, made_is, values_kept, hold_front, told_kept}
 use Rattle.dg_interp.proofs.Places.{inside_kept, adds_nothing}
 use Rattle.dg_interp.proofs.Links.{same_here, at_same}
@@ -125,9 +125,9 @@ module _ (x : Goal) (ts : List Term) (held : terms_held (out-Goal x) ≡ ts) (ol
               (subst (λ o. After g st.at.inside.lives st.at.ways n o run) (is g r t st.at.inside.program (written_agrees g n w run st).bound) (comes_of x old g n w run st));
         }
 
--- ## A unification
+-- ## Equations
 
-module _ (a b : Ref) (old : Engine) (sound : IsSubstitution (store_in old.store).state.subst) (g : Game) (n : ℕ) (w : World) (run : Run) (st : UnifiesAt a b old g n w run) where
+module _ (es : Equations) (old : Engine) (sound : IsSubstitution (store_in old.store).state.subst) (g : Game) (n : ℕ) (w : World) (run : Run) (st : SolvesAt es old g n w run) where
   abbrev s : Store
   s = store_in old.store
 
@@ -135,19 +135,19 @@ module _ (a b : Ref) (old : Engine) (sound : IsSubstitution (store_in old.store)
   r = st.at.registers
 
   abbrev u : Unified
-  u = unify r.bound (told s a) (told s b)
+  u = solve r.bound es
 
   abbrev after : Registers
   after = bound_by u (length (made_since r.bound u.subst)) r
 
   abbrev bound_in : World
-  bound_in = begun after (unifying r.bound ((told s a, told s b) ∷ [])) w
+  bound_in = begun after (unifying r.bound es) w
 
-  meant : unify s.state.subst (told s a) (told s b) ≡ u
-  meant = ap (λ S. unify S (told s a) (told s b)) (sym st.at.agrees.bound)
+  meant : solve s.state.subst es ≡ u
+  meant = ap (λ S. solve S es) (sym st.at.agrees.bound)
 
   extends : Extends r.bound u.subst
-  extends = solve_extends r.bound ((told s a, told s b) ∷ []) (subst IsSubstitution (sym st.at.agrees.bound) sound)
+  extends = solve_extends r.bound es (subst IsSubstitution (sym st.at.agrees.bound) sound)
 
   counted_trail : after.trail ≡ r.trail + length extends.made
   counted_trail = ap (λ l. r.trail + length l) (made_is extends.made r.bound u.subst extends.is)
@@ -158,8 +158,8 @@ module _ (a b : Ref) (old : Engine) (sound : IsSubstitution (store_in old.store)
   before : trail_of s.state.since s.state.subst ≡ trail_of s.state.since r.bound
   before = ap (trail_of s.state.since) (sym st.at.agrees.bound)
 
-  pub unified_agrees : (new : Store) (found : Bool) → Does s new (unify s.state.subst (told s a) (told s b)) found → Agrees new after
-  unified_agrees new found does =
+  pub solved_agrees : (new : Store) (found : Bool) → Does s new (solve s.state.subst es) found → Agrees new after
+  solved_agrees new found does =
       let now = taken s.state.since in
       let few = trail_within s.state.since extends.made in
       let behind : trail_of s.state.since new.state.subst ≡ trail_of s.state.since u.subst = ap (trail_of s.state.since) (does.subst ∙ ap (λ (v : Unified). v.subst) meant) in
@@ -171,58 +171,62 @@ module _ (a b : Ref) (old : Engine) (sound : IsSubstitution (store_in old.store)
         since = omega (arith, does.binds.since, does.binds.vars, st.at.agrees.since);
       }
 
-  pub unified_comes : (found : Bool) → found ≡ (unify s.state.subst (told s a) (told s b)).agrees → Went g st.at.inside.lives st.at.ways n (goes_on_if found (steps_of old) after bound_in) run
-  unified_comes found is = subst (λ o. Went g st.at.inside.lives st.at.ways n (goes_on_if o (steps_of old) after bound_in) run) (sym (is ∙ ap (λ (v : Unified). v.agrees) meant)) st.went
+  pub solved_comes : (found : Bool) → found ≡ (solve s.state.subst es).agrees → Went g st.at.inside.lives st.at.ways n (goes_on_if found (steps_of old) after bound_in) run
+  solved_comes found is = subst (λ o. Went g st.at.inside.lives st.at.ways n (goes_on_if o (steps_of old) after bound_in) run) (sym (is ∙ ap (λ (v : Unified). v.agrees) meant)) st.went
 
   world_is : (o : Bool) → world_at (goes_on_if o (steps_of old) after bound_in) ≡ bound_in
   world_is true = refl
   world_is false = refl
 
-  pub unified_trail : (limit : ℕ) → limit + trail_of s.state.since s.state.subst < s.state.trail + trail_of s.state.since (unify s.state.subst (told s a) (told s b)).subst → limit < run.world.meters.trail
-  unified_trail limit h =
+  pub solved_trail : (limit : ℕ) → limit + trail_of s.state.since s.state.subst < s.state.trail + trail_of s.state.since (solve s.state.subst es).subst → limit < run.world.meters.trail
+  solved_trail limit h =
       let now = taken s.state.since in
       let few = trail_within s.state.since extends.made in
-      let behind : trail_of s.state.since (unify s.state.subst (told s a) (told s b)).subst ≡ trail_of s.state.since u.subst = ap (λ (v : Unified). trail_of s.state.since v.subst) meant in
+      let behind : trail_of s.state.since (solve s.state.subst es).subst ≡ trail_of s.state.since u.subst = ap (λ (v : Unified). trail_of s.state.since v.subst) meant in
       let grows : Grows bound_in run.world = subst (λ v. Grows v run.world) (world_is u.agrees) (has_happened g st.at.inside.lives st.at.ways n (Moves (goes_on_if u.agrees (steps_of old) after bound_in)) run st.went) in
       omega (arith, h, before, behind, now, few, counted_trail, st.at.agrees.trail, grows.meters.trail)
 
-pub unified_full : (a b : Ref) (old : Engine) → IsSubstitution (store_in old.store).state.subst → (e : Full) → UnifyFull (store_in old.store) (unify (store_in old.store).state.subst (told (store_in old.store) a) (told (store_in old.store) b)) e → FullAt (UnifiesAt a b old) (store_in old.store) e
-unified_full a b old sound full.Heap h = absurd h
-unified_full a b old sound full.Trail h = λ g n w run st. unified_trail a b old sound g n w run st (store_in old.store).trail_limit h
-unified_full a b old sound full.OutOfMemory h = tt
+pub solved_full : (es : Equations) (old : Engine) → IsSubstitution (store_in old.store).state.subst → (e : Full) → UnifyFull (store_in old.store) (solve (store_in old.store).state.subst es) e → FullAt (SolvesAt es old) (store_in old.store) e
+solved_full es old sound full.Heap h = absurd h
+solved_full es old sound full.Trail h = λ g n w run st. solved_trail es old sound g n w run st (store_in old.store).trail_limit h
+solved_full es old sound full.OutOfMemory h = tt
 
-module _ (a b : Ref) (old : Engine) (store : ListBindings) (ready : IsReady old) (sound : IsSubstitution (store_in old.store).state.subst) (k : Kept (store_in old.store) (store_in store)) (saved : (ms : List Saved) → KeepsPlaces old.store ms → KeepsPlaces store ms)
-    (found : Bool) (does : Does (store_in old.store) (store_in store) (unify (store_in old.store).state.subst (told (store_in old.store) a) (told (store_in old.store) b)) found) where
-  abbrev unified_to : Engine
-  unified_to = with_store old store old.made ready k saved
+module _ (es : Equations) (old : Engine) (store : ListBindings) (ready : IsReady old) (sound : IsSubstitution (store_in old.store).state.subst) (k : Kept (store_in old.store) (store_in store)) (saved : (ms : List Saved) → KeepsPlaces old.store ms → KeepsPlaces store ms)
+    (found : Bool) (does : Does (store_in old.store) (store_in store) (solve (store_in old.store).state.subst es) found) where
+  abbrev solved_to : Engine
+  solved_to = with_store old store old.made ready k saved
 
-  pub unified_on : found ≡ true → WentOn (UnifiesAt a b old) old unified_to
-  unified_on is = record {
+  pub solved_on : found ≡ true → WentOn (SolvesAt es old) old solved_to
+  solved_on is = record {
     ready = store_ready old store old.made k saved ready;
     left = refl;
     limits = kept_limits old store old.made ready k saved;
     leads = λ g n w run st. record {
-      world = bound_in a b old sound g n w run st;
+      world = bound_in es old sound g n w run st;
       adds = record { prints_are = (adds_nothing w).prints_are; typed = refl };
-      holds = stands_on old store old.made ready k saved g n w (bound_in a b old sound g n w run st) run st.at st.at.inside.world (after a b old sound g n w run st) (unified_agrees a b old sound g n w run st (store_in store) found does) refl refl
-          (subst (λ o. Went g st.at.inside.lives st.at.ways n (goes_on_if o (steps_of old) (after a b old sound g n w run st) (bound_in a b old sound g n w run st)) run) is (unified_comes a b old sound g n w run st found does.agrees));
+      holds = stands_on old store old.made ready k saved g n w (bound_in es old sound g n w run st) run st.at st.at.inside.world (after es old sound g n w run st) (solved_agrees es old sound g n w run st (store_in store) found does) refl refl
+          (subst (λ o. Went g st.at.inside.lives st.at.ways n (goes_on_if o (steps_of old) (after es old sound g n w run st) (bound_in es old sound g n w run st)) run) is (solved_comes es old sound g n w run st found does.agrees));
     };
   }
 
-  pub unified_fails : found ≡ false → Leads (UnifiesAt a b old) (FailsAt unified_to)
-  unified_fails is g n w run st = record {
-    world = bound_in a b old sound g n w run st;
+  pub solved_fails : found ≡ false → Leads (SolvesAt es old) (FailsAt solved_to)
+  solved_fails is g n w run st = record {
+    world = bound_in es old sound g n w run st;
     adds = record { prints_are = (adds_nothing w).prints_are; typed = refl };
-    holds = fails_on old store old.made ready k saved g n w (bound_in a b old sound g n w run st) run st.at st.at.inside.world
-        (subst (λ o. Went g st.at.inside.lives st.at.ways n (goes_on_if o (steps_of old) (after a b old sound g n w run st) (bound_in a b old sound g n w run st)) run) is (unified_comes a b old sound g n w run st found does.agrees));
+    holds = fails_on old store old.made ready k saved g n w (bound_in es old sound g n w run st) run st.at st.at.inside.world
+        (subst (λ o. Went g st.at.inside.lives st.at.ways n (goes_on_if o (steps_of old) (after es old sound g n w run st) (bound_in es old sound g n w run st)) run) is (solved_comes es old sound g n w run st found does.agrees));
   }
+
+-- two values are one equation
+abbrev pub equation : Ref → Ref → Engine → Equations
+equation a b e = (told (store_in e.store) a, told (store_in e.store) b) ∷ []
 
 -- ## A number that is given
 
 pub none_given : (into : Ref) (old : Engine) → Leads (GivesAt None into old) (FailsAt old)
 none_given into old g n w run st = record { world = w; adds = adds_nothing w; holds = record { inside = st.at.inside; failed = st.went } }
 
-same_agrees : (s t : Store) (r : Registers) → t.state ≡ s.state → Agrees s r → Agrees t r
+pub same_agrees : (s t : Store) (r : Registers) → t.state ≡ s.state → Agrees s r → Agrees t r
 same_agrees s t r is h = record {
   bound = h.bound ∙ ap (λ (x : State). x.subst) (sym is);
   vars = h.vars ∙ ap (λ (x : State). x.vars) (sym is);

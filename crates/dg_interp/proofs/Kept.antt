@@ -1,5 +1,5 @@
 -- A choice is kept where it stays, and where a run stands behind its first branch.
-use Rattle.std.proofs.Common.{◌≡◌, ℕ, ◌+◌, ◌≤◌, List, [], ◌∷◌, Bool, true, false, refl, sym, ap, ◌∙◌, subst, arith, take}
+use Rattle.std.proofs.Common.{◌≡◌, ℕ, ◌+◌, ◌-◌, ◌≤◌, List, [], ◌∷◌, Bool, true, false, refl, sym, ap, ◌∙◌, subst, arith, take}
 use Rattle.std.specs.Prelude.{if◌then◌else◌}
 use Rattle.std.specs.List.{All}
 use Rattle.dg_meaning.specs.World.{Game, World}
@@ -19,12 +19,15 @@ use Rattle.dg_unify.specs.declared.list.ListBindings.{ListBindings}
 use Rattle.dg_interp.specs.declared.frames.Env.{Env}
 use Rattle.dg_interp.specs.declared.frames.Frame.{Frame}
 use Rattle.dg_interp.specs.declared.frames.Left.{Left}
-use Rattle.dg_interp.specs.declared.frames.Left.TheVariants.{Rules, Lists, Ways, Way as OneWay, Behind, TakeOut}
+use Rattle.dg_interp.specs.declared.frames.Left.TheVariants.{Rules, Lists, Ways, Way as OneWay, Behind, TakeOut, Things}
 use Rattle.dg_interp.specs.declared.frames.Choice.{Choice}
 use Rattle.dg_interp.specs.Frames.{values_in, steps_behind, kind_of, branches_of, AreChoices, AreFrames, IsLeft, StandOn, GoBackTo, IsOrdinary, IsNoted, cut_if, lives_of, ways_of, left_in, all_left, has_some, stays_with, cells_if}
 use Rattle.dg_unify.specs.Engines.{Agrees}
 use Rattle.dg_interp.specs.Engine.{KeepsPlaces, kept_if}
 use Rattle.dg_interp.proofs.Links.{stand_raise, no_part, plain_cut, plain_way}
+use Rattle.dg_meaning.specs.Facts.{kinds_of}
+use Rattle.dg_interp.specs.Trying.{may_find, counted}
+use Rattle.dg_interp.proofs.Trials.{counted_some, trials_stay, trials_open}
 
 pub kept_places : (b : Bool) (s : ListBindings) (m : Saved) (ms : List Saved) → KeepsPlaces s (m ∷ ms) → KeepsPlaces s (kept_if b m ms)
 kept_places false s m ms h = saves_drops true (fields_of s) m ms h
@@ -52,6 +55,7 @@ branches_stay g values fs height (Ways first other) r = refl
 branches_stay g values fs height (OneWay frame) r = refl
 branches_stay g values fs height (Behind frame cut) r = refl
 branches_stay g values fs height (TakeOut whole into frame) r = refl
+branches_stay g values fs height (Things trial args) r = trials_stay (may_find (kinds_of g.program) trial.place) trial.place (values args) trial.many (steps_behind values fs height) r (counted trial.from (trial.end - trial.from)) ∙ counted_some trial.from trial.end
 
 rule_open : (excluded agrees : Bool) (r : Registers) (path : Path) (work h : ℕ) (bs : List Branch) → open_at (unless_excluded excluded r work (enter_if agrees path work) ∷ bs) h ≡ h
 rule_open true agrees r path work h bs = refl
@@ -74,6 +78,7 @@ branches_open g values fs height (Ways first other) r h o = refl
 branches_open g values fs height (OneWay frame) r h o = refl
 branches_open g values fs height (Behind frame cut) r h o = absurd o
 branches_open g values fs height (TakeOut whole into frame) r h o = absurd o
+branches_open g values fs height (Things trial args) r h o = trials_open (may_find (kinds_of g.program) trial.place) trial.place (values args) trial.many (steps_behind values fs height) r (counted trial.from (trial.end - trial.from)) h
 
 -- a choice goes on inside as many gatherings as are open, but for one that it takes out, which is left without branches
 pub tried_inside : (g : Game) (values : Env → List Value) (fs : List Frame) (height : ℕ) (left : Left) (r : Registers) (t h k : ℕ) (ways : List Way) (lives : List Live) (n : ℕ) (w : World) (run : Run) → open_at (branches_of g values fs height left r) h ≡ k →
@@ -86,6 +91,8 @@ tried_inside g values fs height (Ways first other) r t h k ways lives n w run e 
 tried_inside g values fs height (OneWay frame) r t h k ways lives n w run e = subst (λ i. Tried g Plain t i ways lives (branches_of g values fs height (OneWay frame) r) n w run) e
 tried_inside g values fs height (Behind frame cut) r t h k ways lives n w run e = subst (λ i. Tried g Plain t i ways lives (branches_of g values fs height (Behind frame cut) r) n w run) e
 tried_inside g values fs height (TakeOut whole into frame) r t h k ways lives n w run e = λ x. x
+tried_inside g values fs height (Things trial args) r t h k ways lives n w run e =
+    subst (λ i. Tried g Plain t i ways lives (branches_of g values fs height (Things trial args) r) n w run) (sym (branches_open g values fs height (Things trial args) r h tt) ∙ e)
 
 pub kept_choices : (g : Game) (refs : List Ref) (fs : List Frame) (o : Choice) (os : List Choice) (height : ℕ) → (m : Saved) (ms : List Saved) (es : List Live) (r : Registers) (k : Kind) (ways : List Way) (bs : List Branch) (b : Bool) → open_at bs height ≡ o.gathered → bs ≡ branches_of g (values_in m.store refs) fs o.height o.left r → k ≡ kind_of o.left → r.next_tag ≡ o.tag → r.stoppable ≡ o.stoppable → ways ≡ ways_of os es →
     Agrees m.store r → All (Holds m.store) (take o.refs refs) → m.mark ≡ o.place → AreChoices g refs fs os ms es → AreChoices g refs fs (kept_if b o os) (kept_if b m ms) (kept_if b (record { kind = k; tag = r.next_tag; others = bs; height = height; ways_on = ways }) es)

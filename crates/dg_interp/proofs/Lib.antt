@@ -10,6 +10,7 @@ pub mod Stores
 pub mod BothLemmas
 pub mod Entering
 pub mod BodyLemmas
+pub mod Trials
 pub mod Kept
 pub mod Begun
 pub mod Begins
@@ -52,3 +53,5 @@ pub mod Throws
 pub mod Gathered
 pub mod TakingOut
 pub mod GatherOpens
+pub mod Findings
+pub mod Tryings

@@ -1,5 +1,5 @@
 -- Laws of linked frames and open choices.
-use Rattle.std.proofs.Common.{◌≡◌, ℕ, zero, suc, ◌+◌, ◌<◌, ◌≤◌, inl, inr, List, [], ◌∷◌, ◌++◌, Option, Some, None, refl, sym, ap, ◌∙◌, subst, arith, length, map, take, drop, length-append, length-take}
+use Rattle.std.proofs.Common.{◌≡◌, ℕ, zero, suc, ◌+◌, ◌-◌, ◌<◌, ◌≤◌, inl, inr, List, [], ◌∷◌, ◌++◌, Option, Some, None, refl, sym, ap, ◌∙◌, subst, arith, length, map, take, drop, length-append, length-take}
 use Rattle.std.specs.List.{All}
 use Rattle.std.specs.Prelude.{min, eqb, nat_lt, slice_get, if◌then◌else◌}
 use Rattle.std.proofs.lemmas.Bool.{cond_both, cond-true, cond-false, cases_lt, eq-eqb, ne_eqb, ltb-true, ltb-false, lt-ltb, le-ltb}
@@ -14,10 +14,12 @@ use Rattle.dg_unify.specs.declared.bindings.Ref.{Ref}
 use Rattle.dg_interp.specs.declared.frames.Env.{Env}
 use Rattle.dg_interp.specs.declared.frames.Frame.{Frame}
 use Rattle.dg_interp.specs.declared.frames.Left.{Left}
-use Rattle.dg_interp.specs.declared.frames.Left.TheVariants.{Rules, Lists, Ways, Way, Behind, TakeOut}
+use Rattle.dg_interp.specs.declared.frames.Left.TheVariants.{Rules, Lists, Ways, Way, Behind, TakeOut, Things}
 use Rattle.dg_interp.specs.declared.frames.Choice.{Choice}
 use Rattle.dg_interp.specs.Frames.{stretch, values_in, frame_steps, found_steps, steps_below, steps_behind, steps_at, kind_of, whole_of, branches_of, cut_of, cut_if, lives_of, with_way, ways_of, IsNoPart, IsOrdinary, IsChoice, AreChoices, EndsBy, IsFrame, AreFrames, IsLeft, IsNoted, noting, StandOn, GoBackTo, floor_of, left_in, all_left}
 use Rattle.dg_interp.specs.Engine.{waits_in, left_by, with_older, older_than}
+use Rattle.dg_meaning.specs.Facts.{kinds_of}
+use Rattle.dg_interp.specs.Trying.{may_find, counted, trial_branches}
 
 -- ## Stretches
 
@@ -168,6 +170,7 @@ left_raise h k m n (Ways first other) le le' s = (frame_raise h k m n first le l
 left_raise h k m n (Way frame) le le' s = frame_raise h k m n frame le le' s
 left_raise h k m n (Behind frame cut) le le' s = frame_raise h k m n frame le le' s
 left_raise h k m n (TakeOut whole into frame) le le' s = (frame_raise h k m n frame le le' s.0, omega (arith, s.1))
+left_raise h k m n (Things trial args) le le' s = (omega (arith, s.0), s.1)
 
 pub stand_raise : (fs : List Frame) (h k m n t u : ℕ) (os : List Choice) → h ≤ k → m ≤ n → t ≤ u → StandOn fs h m t os → StandOn fs k n u os
 stand_raise fs h k m n t u [] le le' le'' s = tt
@@ -196,6 +199,11 @@ branches_same g h m vs us fs gs (Behind frame cut) r is are same to = ap (λ s. 
 branches_same g h m vs us fs gs (TakeOut whole into frame) r is are same to =
     ap (λ v. TakeOutBranch r.next_tag (whole_of whole) (value_of_var v 0) (path_of (steps_at us gs frame) (inside 0 r)) ∷ []) (same into is.1)
     ∙ ap (λ s. TakeOutBranch r.next_tag (whole_of whole) (value_of_var (vs into) 0) (path_of s (inside 0 r)) ∷ []) (at_same m vs us fs gs h frame is.0 same are to)
+branches_same g h m vs us fs gs (Things trial args) r is are same to =
+    let may = may_find (kinds_of g.program) trial.place in
+    let os = counted trial.from (trial.end - trial.from) in
+    ap (λ v. trial_branches may trial.place v trial.many (steps_behind us gs h) r os) (same args is.0)
+    ∙ ap (λ s. trial_branches may trial.place (vs args) trial.many s r os) (behind_same m vs us fs gs h h (omega arith) same are to)
 
 choice_same : (g : Game) (xs ys : List Ref) (fs gs : List Frame) (h m t : ℕ) (o : Choice) (os : List Choice) (s : Saved) (ws : List WayOn) (c : Live) → take m ys ≡ take m xs → SameTo h fs gs → StandOn fs h m t (o ∷ os) → IsChoice g xs fs o s ws c → IsChoice g ys gs o s ws c
 choice_same g xs ys fs gs h m t o os s ws c refs to st k =
@@ -243,6 +251,7 @@ left_in_case P t o (Ways first other) waits gone = gone tt
 left_in_case P t o (Way frame) waits gone = gone tt
 left_in_case P t o (Behind frame cut) waits gone = waits frame cut refl
 left_in_case P t o (TakeOut whole into frame) waits gone = gone tt
+left_in_case P t o (Things trial args) waits gone = gone tt
 
 -- what is left of a choice, case by case: it is older, or the cut waits in it, or it is gone
 pub left_cases : (P : Option Choice → Type 0) (t : ℕ) (o : Choice) → (o.tag < t → P (Some o)) → ((frame : Frame) (cut : Option ℕ) → t ≤ o.tag → o.left ≡ Behind frame cut → P (Some (record o { left = Behind frame (noting t cut) }))) → (t ≤ o.tag → IsNoPart o.left → P None) → P (left_by t o)
@@ -258,6 +267,7 @@ no_part (Ways first other) h = tt
 no_part (Way frame) h = tt
 no_part (Behind frame cut) h = absurd h
 no_part (TakeOut whole into frame) h = absurd h
+no_part (Things trial args) h = tt
 
 pub plain_cut : (left : Left) → IsNoPart left → cut_of left ≡ None
 plain_cut (Rules query args rules) h = refl
@@ -266,6 +276,7 @@ plain_cut (Ways first other) h = refl
 plain_cut (Way frame) h = refl
 plain_cut (Behind frame cut) h = absurd h
 plain_cut (TakeOut whole into frame) h = refl
+plain_cut (Things trial args) h = refl
 
 pub plain_way : (left : Left) (c : Live) (ws : List WayOn) → IsNoPart left → with_way left c ws ≡ ws
 plain_way (Rules query args rules) c ws h = refl
@@ -274,6 +285,7 @@ plain_way (Ways first other) c ws h = refl
 plain_way (Way frame) c ws h = refl
 plain_way (Behind frame cut) c ws h = absurd h
 plain_way (TakeOut whole into frame) c ws h = refl
+plain_way (Things trial args) c ws h = refl
 
 -- of what stands in step with choices, what stands with those that a cut leaves
 abbrev pub with_rest : {A : Type 0} → Option Choice → List A → List A → List A

@@ -24,11 +24,11 @@ use Rattle.dg_interp.specs.declared.frames.Env.{Env}
 use Rattle.dg_interp.specs.declared.frames.Frame.{Frame}
 use Rattle.dg_interp.specs.declared.frames.Choice.{Choice}
 use Rattle.dg_interp.specs.declared.frames.Left.{Left}
-use Rattle.dg_interp.specs.declared.frames.Left.TheVariants.{Rules, Lists, Ways, Way as OneWay, Behind, TakeOut}
+use Rattle.dg_interp.specs.declared.frames.Left.TheVariants.{Rules, Lists, Ways, Way as OneWay, Behind, TakeOut, Things}
 use Rattle.dg_interp.specs.declared.engine.Engine.{Engine}
 use Rattle.dg_interp.specs.Frames.{values_in, steps_behind, steps_at, kind_of, branches_of, AreChoices, AreFrames, IsLeft, IsFrame, StandOn, GoBackTo, IsOrdinary, TakesNewest}
 use Rattle.dg_unify.specs.Engines.{Agrees}
-use Rattle.dg_interp.specs.Engine.{store_in, KeepsPlaces, HasPlace, IsPlace, BeginsAt, steps_of, IsSound, IsReady, TakesAt, OpensAt, open_in, IsPushed, Leads, SameLimits}
+use Rattle.dg_interp.specs.Engine.{store_in, KeepsPlaces, HasPlace, IsPlace, BeginsAt, steps_of, IsSound, IsReady, There, TakesAt, OpensAt, open_in, IsPushed, Leads, SameLimits}
 use Rattle.dg_interp.proofs.Links.{same_here, same_append, same_values, behind_new, at_same, frame_raise, frames_append, choices_same, stand_raise, stand_same, branches_same}
 use Rattle.dg_interp.proofs.Stores.{kept_here, all_hold, values_kept, hold_front}
 use Rattle.dg_interp.proofs.Kept.{back_limits}
@@ -37,7 +37,7 @@ use Rattle.dg_interp.proofs.Goals.{no_cells}
 use Rattle.dg_interp.proofs.Takes.{behind, taken_in, comes_of, adds_taken}
 
 -- a choice between goals is tried
-chosen : (g : Game) (lives : List Live) (ways : List Way) (n : ℕ) (run : Run) (t : ℕ) (bs : List Branch) (w : World) → After g lives ways n (choice Plain t bs w) run → Tried g Plain t (length w.gathered) ways lives bs n w run
+pub chosen : (g : Game) (lives : List Live) (ways : List Way) (n : ℕ) (run : Run) (t : ℕ) (bs : List Branch) (w : World) → After g lives ways n (choice Plain t bs w) run → Tried g Plain t (length w.gathered) ways lives bs n w run
 chosen g lives ways n run t [] w h = h
 chosen g lives ways n run t (b ∷ bs) w h = h
 
@@ -136,26 +136,29 @@ module _ (old : Engine) (frame : Frame) (frames : Vec Frame Global) (ready : IsR
   pub pushed_same : (f : Frame) → IsFrame (length fs) n f → steps_at vs frames.items f ≡ steps_at vs fs f
   pushed_same f h = ap (λ (l : List Frame). steps_at vs l f) pushed_on ∙ at_same n vs vs fs gs (length fs) f h (same_values n vs) ready.sound.base.frames (same_append fs frame)
 
+  abbrev pub pushed_there : (next : ℕ) (g : Game) (w : World) → There old next g w → There new next g w
+  pushed_there next g w at = record {
+    inside = record {
+      program = at.inside.program;
+      entries = at.inside.entries;
+      lives = at.inside.lives;
+      lives_are = at.inside.lives_are;
+      saved = at.inside.saved;
+      keeps = at.inside.keeps;
+      choices = subst (λ l. AreChoices g old.refs.items l os at.inside.saved at.inside.entries) (sym pushed_on) (choices_same g old.refs.items old.refs.items fs gs (length fs) n old.newest os at.inside.saved at.inside.entries refl (same_append fs frame) ready.sound.base.choices at.inside.choices);
+      world = at.inside.world;
+    };
+    ways = at.ways;
+    ways_are = at.ways_are;
+    registers = at.registers;
+    agrees = at.agrees;
+    tag = at.tag;
+    stop = at.stop;
+  }
+
   pub pushed_takes : (x : Goal) (g : Game) (k : ℕ) (w : World) (run : Run) → TakesAt x old g k w run → TakesAt x new g k w run
   pushed_takes x g k w run st = record {
-    at = record {
-      inside = record {
-        program = st.at.inside.program;
-        entries = st.at.inside.entries;
-        lives = st.at.inside.lives;
-        lives_are = st.at.inside.lives_are;
-        saved = st.at.inside.saved;
-        keeps = st.at.inside.keeps;
-        choices = subst (λ l. AreChoices g old.refs.items l os st.at.inside.saved st.at.inside.entries) (sym pushed_on) (choices_same g old.refs.items old.refs.items fs gs (length fs) n old.newest os st.at.inside.saved st.at.inside.entries refl (same_append fs frame) ready.sound.base.choices st.at.inside.choices);
-        world = st.at.inside.world;
-      };
-      ways = st.at.ways;
-      ways_are = st.at.ways_are;
-      registers = st.at.registers;
-      agrees = st.at.agrees;
-      tag = st.at.tag;
-      stop = st.at.stop;
-    };
+    at = pushed_there (old.newest + 1) g w st.at;
     stands = subst (λ (l : List Step). Stands g st.at.inside.lives st.at.ways (path_of (Do x (vs old.here.env) old.here.tag ∷ l) st.at.registers) (suc k) w run) (sym (pushed_same old.here ready.here)) st.stands;
   }
 
@@ -168,6 +171,7 @@ ordinary_newest (Ways first other) t w h = tt
 ordinary_newest (OneWay frame) t w h = tt
 ordinary_newest (Behind frame cut) t w h = absurd h
 ordinary_newest (TakeOut whole into frame) t w h = absurd h
+ordinary_newest (Things trial args) t w h = tt
 
 module _ (old : Engine) (left : Left) (place : Place) (store : ListBindings) (ready : IsReady old) (k : Kept (store_in old.store) (store_in store)) (state : (store_in store).state ≡ marked (store_in old.store).state)
     (saved : (ms : List Saved) → KeepsPlaces old.store ms → KeepsPlaces store (record { mark = place; store = store_in store } ∷ ms)) where

@@ -21,7 +21,7 @@ use Rattle.dg_unify.specs.declared.bindings.Ref.{Ref}
 use Rattle.dg_unify.specs.declared.list.ListBindings.{ListBindings}
 use Rattle.dg_interp.specs.declared.frames.Frame.{Frame}
 use Rattle.dg_interp.specs.declared.frames.Left.{Left}
-use Rattle.dg_interp.specs.declared.frames.Left.TheVariants.{Rules, Lists, Ways, Way, Behind, TakeOut}
+use Rattle.dg_interp.specs.declared.frames.Left.TheVariants.{Rules, Lists, Ways, Way, Behind, TakeOut, Things}
 use Rattle.dg_interp.specs.declared.frames.Choice.{Choice}
 use Rattle.dg_interp.specs.declared.engine.Engine.{Engine}
 use Rattle.dg_interp.specs.Frames.{values_in, branches_of, cut_of, cut_if, lives_of, with_way, ways_of, IsChoice, AreChoices, IsLeft, IsNoted, StandOn, all_left}
@@ -42,6 +42,7 @@ way_cases P (Lists env tag lists) c ws h k = h
 way_cases P (Ways first other) c ws h k = h
 way_cases P (Way frame) c ws h k = h
 way_cases P (TakeOut whole into frame) c ws h k = h
+way_cases P (Things trial args) c ws h k = h
 way_cases P (Behind frame cut) c ws h k = k
 
 -- a part to which a stop leads isn't younger than the choices
@@ -78,6 +79,7 @@ part_is here tag (Lists env t lists) p e = absurd (let none : Some p ≡ None = 
 part_is here tag (Ways first other) p e = absurd (let none : Some p ≡ None = e in cc)
 part_is here tag (Way frame) p e = absurd (let none : Some p ≡ None = e in cc)
 part_is here tag (TakeOut whole into frame) p e = absurd (let none : Some p ≡ None = e in cc)
+part_is here tag (Things trial args) p e = absurd (let none : Some p ≡ None = e in cc)
 
 -- another part isn't the one to which the stop leads
 other_part : (tag : ℕ) (left : Left) (c : Live) (ws : List WayOn) → None ≡ part_at (eqb c.tag tag) tag left → way_to tag (with_way left c ws) ≡ way_to tag ws
@@ -86,6 +88,7 @@ other_part tag (Lists env t lists) c ws e = refl
 other_part tag (Ways first other) c ws e = refl
 other_part tag (Way frame) c ws e = refl
 other_part tag (TakeOut whole into frame) c ws e = refl
+other_part tag (Things trial args) c ws e = refl
 other_part tag (Behind frame cut) c ws e =
     cond_both (eqb c.tag tag) (Some (record { tag = c.tag; others = c.others; height = c.height }, ws)) (way_to tag ws) (λ q. q ≡ way_to tag ws)
     (λ same. absurd (let none : None ≡ part_at true tag (Behind frame cut) = e ∙ ap (λ b. part_at b tag (Behind frame cut)) same in cc)) (λ d. refl)

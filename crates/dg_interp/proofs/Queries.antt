@@ -157,7 +157,7 @@ body_there [] i body is h = absurd (let no : None ≡ Some body = is in cc)
 body_there (c ∷ cs) zero body is h = subst IsBuiltBody (let same : Some c ≡ Some body = is in cc) (all_first IsBuiltBody c cs h)
 body_there (c ∷ cs) (suc i) body is h = body_there cs i body is (all_rest IsBuiltBody c cs h)
 
-marked : (values : List Value) (many : Bool) (t tag : ℕ) (rest : List Step) → mark_steps values (mark_of many t) tag rest ≡ first_alone many t rest
+pub marked : (values : List Value) (many : Bool) (t tag : ℕ) (rest : List Step) → mark_steps values (mark_of many t) tag rest ≡ first_alone many t rest
 marked values true t tag rest = refl
 marked values false t tag rest = refl
 

@@ -13,7 +13,7 @@ use Rattle.dg_meaning.specs.ValueCells.{cells_of, cells_of_all}
 use Rattle.dg_meaning.specs.Copies.{list_of, values_of, vars_in, vars_in_all, copy_from, copies_from, copy_cells, all_copy_cells}
 use Rattle.dg_meaning.specs.Numbers.{total}
 use Rattle.dg_meaning.specs.Letters.{copied}
-use Rattle.dg_meaning.specs.Unify.{Unified, Equations, size, solve, unify}
+use Rattle.dg_meaning.specs.Unify.{Unified, Equations, size, solve}
 use Rattle.dg_meaning.specs.World.{Game, World, Gathering, gathered_at, gathered_without, dropped}
 use Rattle.dg_meaning.specs.Path.{Step, Registers, Moves, Move}
 use Rattle.dg_meaning.specs.Moves.{begun, bound_by, made_since, goes_on_if, unified, unifying, inside, behind_copy, copy_of, gives_number, takes_out, move_of}
@@ -41,37 +41,37 @@ use Rattle.dg_interp.specs.declared.outside.Outside.{Outside}
 use Rattle.dg_interp.specs.declared.engine.Engine.{Engine}
 use Rattle.dg_interp.specs.Outside.{row_of, InWorld, MayPick, closed_to, picks_in}
 use Rattle.dg_interp.specs.Frames.{values_in, steps_at, whole_of, IsLeft}
-use Rattle.dg_interp.specs.Giving.{UnifiesAt, GivesAt}
+use Rattle.dg_interp.specs.Giving.{SolvesAt, UnifiesAt, GivesAt}
 use Rattle.dg_interp.specs.Gathering.{TakesOutAt}
 use Rattle.dg_interp.specs.Engine.{Point, store_in, steps_of, KeepsPlaces, open_in, IsSound, IsReady, FailsAt, FullAt, BeginsAt, Leads, SameLimits, WentWrong, Tries}
 use Rattle.dg_interp.proofs.Stores.{values_kept, hold_front, told_kept}
 use Rattle.dg_interp.proofs.Links.{same_here, at_same}
 use Rattle.dg_interp.proofs.Places.{adds_nothing, world_closed, open_still}
 use Rattle.dg_interp.proofs.Takes.{store_sound, store_ready}
-use Rattle.dg_interp.proofs.Giving.{steps_kept, kept_limits, unified_on, unified_fails, unified_full}
+use Rattle.dg_interp.proofs.Giving.{steps_kept, kept_limits, solved_on, solved_fails, solved_full}
 
--- ## Two values that meet
+-- ## Equations where a branch begins
 
-module _ (a b : Ref) (old : Engine) (store : ListBindings) (ready : IsReady old) (k : Kept (store_in old.store) (store_in store)) (saved : (ms : List Saved) → KeepsPlaces old.store ms → KeepsPlaces store ms) where
+module _ (es : Equations) (old : Engine) (store : ListBindings) (ready : IsReady old) (k : Kept (store_in old.store) (store_in store)) (saved : (ms : List Saved) → KeepsPlaces old.store ms → KeepsPlaces store ms) where
   abbrev meant : Unified
-  meant = unify (store_in old.store).state.subst (told (store_in old.store) a) (told (store_in old.store) b)
+  meant = solve (store_in old.store).state.subst es
 
-  met_so : (found : Bool) → Does (store_in old.store) (store_in store) meant found → Tries (UnifiesAt a b old) found old (record old { store = store })
-  met_so true does = unified_on a b old store ready old.store.sound.fits.sound k saved true does refl
+  met_so : (found : Bool) → Does (store_in old.store) (store_in store) meant found → Tries (SolvesAt es old) found old (record old { store = store })
+  met_so true does = solved_on es old store ready old.store.sound.fits.sound k saved true does refl
   met_so false does = record {
     sound = store_sound old store old.made k saved ready.sound;
     left = refl;
     limits = kept_limits old store old.made ready k saved;
-    leads = unified_fails a b old store ready old.store.sound.fits.sound k saved false does refl;
+    leads = solved_fails es old store ready old.store.sound.fits.sound k saved false does refl;
   }
 
-  pub met : (r : Answer Bool Full) → Follows (store_in old.store) (store_in store) meant r → IfOk r (λ found. Tries (UnifiesAt a b old) found old (record old { store = store }))
+  pub met : (r : Answer Bool Full) → Follows (store_in old.store) (store_in store) meant r → IfOk r (λ found. Tries (SolvesAt es old) found old (record old { store = store }))
   met (Ok found) h = met_so found h
   met (Err e) h = tt
 
-  pub met_full : (r : Answer Bool Full) → Follows (store_in old.store) (store_in store) meant r → IfErr r (λ e. FullAt (UnifiesAt a b old) (store_in old.store) e)
+  pub met_full : (r : Answer Bool Full) → Follows (store_in old.store) (store_in store) meant r → IfErr r (λ e. FullAt (SolvesAt es old) (store_in old.store) e)
   met_full (Ok found) h = tt
-  met_full (Err e) h = unified_full a b old old.store.sound.fits.sound e h.cause
+  met_full (Err e) h = solved_full es old old.store.sound.fits.sound e h.cause
 
 pub no_more : (r : Answer Bool Full) (n : ℕ) → OnOk r (n ≤ n + 1)
 no_more (Ok found) n = omega arith
@@ -236,7 +236,7 @@ heap_reached : (b : Bool) (steps : List Step) (r : Registers) (w : World) → r.
 heap_reached true steps r w h = h
 heap_reached false steps r w h = h
 
-made_heap : (es : Equations) (steps : List Step) (r : Registers) (w : World) → r.heap ≤ (world_at (unified es steps r w)).meters.heap
+pub made_heap : (es : Equations) (steps : List Step) (r : Registers) (w : World) → r.heap ≤ (world_at (unified es steps r w)).meters.heap
 made_heap es steps r w =
     let u = solve r.bound es in
     let s = bound_by u (length (made_since r.bound u.subst)) r in

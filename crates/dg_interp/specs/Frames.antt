@@ -1,9 +1,10 @@
 -- What the frames and choices of an engine are in the meaning. Hold it against the Dialog manual, chapter "Choice points".
-use Rattle.std.specs.Prelude.{ℕ, zero, suc, ◌+◌, ◌≡◌, ◌<◌, ◌≤◌, ◌++◌, min, eqb, List, [], ◌∷◌, Option, Some, None, Bool, true, false, length, map, take, drop, slice_get, if◌then◌else◌}
+use Rattle.std.specs.Prelude.{ℕ, zero, suc, ◌+◌, ◌-◌, ◌≡◌, ◌<◌, ◌≤◌, ◌++◌, min, eqb, nat_lt, List, [], ◌∷◌, Option, Some, None, Bool, true, false, length, map, take, drop, slice_get, if◌then◌else◌}
 use Rattle.std.specs.List.{All}
 use Rattle.dg_base.specs.declared.program.Goal.{Goal}
 use Rattle.dg_base.specs.declared.program.Term.TheVariants.{Var as Var-Term}
 use Rattle.dg_meaning.specs.Values.{Value, value_of_var}
+use Rattle.dg_meaning.specs.Facts.{kinds_of}
 use Rattle.dg_meaning.specs.World.{Game, World}
 use Rattle.dg_meaning.specs.Path.{Step, Answers, Cut, Refuse, Back, Keep, Leave, Registers, Whole, AsList, AsSum, Branch, TakeOut as TakeOutBranch, Kind, Plain, Rules as RulesOf}
 use Rattle.dg_meaning.specs.Moves.{path_of, goals_at, first_alone, inside, enter, list_branches, rule_branches}
@@ -20,8 +21,9 @@ use Rattle.dg_interp.specs.declared.frames.Whole.{Whole as TheWhole}
 use Rattle.dg_interp.specs.declared.frames.Whole.TheVariants.{List as InList, Sum}
 use Rattle.dg_interp.specs.declared.frames.Frame.{Frame}
 use Rattle.dg_interp.specs.declared.frames.Left.{Left}
-use Rattle.dg_interp.specs.declared.frames.Left.TheVariants.{Rules, Lists, Ways, Way, Behind, TakeOut}
+use Rattle.dg_interp.specs.declared.frames.Left.TheVariants.{Rules, Lists, Ways, Way, Behind, TakeOut, Things}
 use Rattle.dg_interp.specs.declared.frames.Choice.{Choice}
+use Rattle.dg_interp.specs.Trying.{may_find, counted, trial_branches}
 
 -- ## Values
 
@@ -90,6 +92,8 @@ branches_of g values fs height (Way frame) registers = enter 0 0 registers (step
 branches_of g values fs height (Behind frame cut) registers = enter 0 0 registers (steps_at values fs frame) ∷ []
 branches_of g values fs height (TakeOut whole into frame) registers = TakeOutBranch registers.next_tag (whole_of whole) (value_of_var (values into) 0)
     (path_of (steps_at values fs frame) (inside 0 registers)) ∷ []
+branches_of g values fs height (Things trial args) registers = trial_branches (may_find (kinds_of g.program) trial.place) trial.place (values args)
+    trial.many (steps_behind values fs height) registers (counted trial.from (trial.end - trial.from))
 
 -- How many branches a choice has left.
 abbrev pub left_in : Left → ℕ
@@ -99,6 +103,7 @@ left_in (Ways first other) = 2
 left_in (Way frame) = 1
 left_in (Behind frame cut) = 1
 left_in (TakeOut whole into frame) = 1
+left_in (Things trial args) = trial.end - trial.from
 
 -- There is something in a list.
 abbrev pub has_some : {A : Type 0} → List A → Bool
@@ -108,6 +113,7 @@ has_some (x ∷ xs) = true
 -- A choice between rules stays as long as it isn't cut, and any other as long as it has a branch left.
 abbrev pub stays_with : Left → Bool
 stays_with (Lists env tag lists) = has_some lists.now
+stays_with (Things trial args) = nat_lt trial.from trial.end
 stays_with other = true
 
 -- What a choice between goals takes of the heap, where it stays.
@@ -207,6 +213,7 @@ IsLeft height n (Ways first other) = IsFrame height n first × IsFrame height n 
 IsLeft height n (Way frame) = IsFrame height n frame
 IsLeft height n (Behind frame cut) = IsFrame height n frame
 IsLeft height n (TakeOut whole into frame) = IsFrame height n frame × EndsBy n into
+IsLeft height n (Things trial args) = EndsBy n args × (0 < args.len)
 
 -- A cut that waits isn't younger than its stoppable part.
 abbrev pub IsNoted : ℕ → Option ℕ → Type 0

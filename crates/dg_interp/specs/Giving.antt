@@ -4,6 +4,7 @@ use Rattle.dg_meaning.specs.Values.{Num, Value, Node}
 use Rattle.dg_base.specs.declared.program.Goal.{Goal}
 use Rattle.dg_base.specs.declared.program.Goal.TheVariants.{GapN}
 use Rattle.dg_base.specs.declared.program.Term.{Term}
+use Rattle.dg_meaning.specs.Unify.{Equations}
 use Rattle.dg_meaning.specs.World.{Game, World, Print, SpacesOf}
 use Rattle.dg_meaning.specs.Path.{Registers, Act, Unifies}
 use Rattle.dg_meaning.specs.Moves.{move_of, gives_number}
@@ -24,9 +25,13 @@ pub record ActsAt (act : Registers → World → Act) (e : Engine) (g : Game) (n
   pub at : There e (e.newest + 1) g w
   pub went : Went g at.inside.lives at.ways n (move_of (steps_of e) at.registers (act at.registers w)) run
 
+-- The run comes from these equations.
+abbrev pub SolvesAt : Equations → Engine → Point
+SolvesAt es e = ActsAt (λ r w. Unifies r es w) e
+
 -- The run comes from the unification of what stands at two Refs.
 abbrev pub UnifiesAt : Ref → Ref → Engine → Point
-UnifiesAt a b e = ActsAt (λ r w. Unifies r ((told (store_in e.store) a, told (store_in e.store) b) ∷ []) w) e
+UnifiesAt a b e = SolvesAt ((told (store_in e.store) a, told (store_in e.store) b) ∷ []) e
 
 -- The run comes from a number that is unified with what stands at a Ref, if there is a number.
 abbrev pub GivesAt : Option ℕ → Ref → Engine → Point

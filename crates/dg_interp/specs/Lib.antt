@@ -19,3 +19,5 @@ pub mod Subjects
 pub mod Changing
 pub mod Made
 pub mod Gathering
+pub mod Trying
+pub mod Finding

@@ -24,6 +24,7 @@ mod acting;
 mod changing;
 mod comparing;
 mod control;
+mod finding;
 mod gathering;
 mod giving;
 mod passing;
@@ -31,6 +32,7 @@ mod querying;
 mod selecting;
 mod stopping;
 mod throwing;
+mod trying;
 mod wording;
 
 use crate::frames::{Choice, Env, Frame, Left, Mark, Query};
@@ -573,6 +575,7 @@ impl<'p> Engine<'p> {
                 Ok(true)
             }
             Left::TakeOut(whole, into, frame) => self.take_out(whole, into, frame),
+            Left::Things(trial, args) => self.begin_object(trial, args, place),
         }
     }
 

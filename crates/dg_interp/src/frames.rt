@@ -47,9 +47,19 @@ pub struct Frame<'p> {
     pub behind: usize,
 }
 
+/// The objects from one on up to an end, which are tried at a place, or without one as objects alone; only the first answer
+/// counts, unless many are asked for.
+#[derive(Clone, Copy, Drop)]
+pub struct Trial {
+    pub place: Option<u16>,
+    pub many: bool,
+    pub from: u16,
+    pub end: u16,
+}
+
 /// The branches that a choice has left: rules of a query with its arguments, lists of goals, two ways on, one, the way on
-/// behind a stoppable part that is open, with the oldest tag that was cut inside it, or one on which a gathering is taken out
-/// and unified with a value.
+/// behind a stoppable part that is open, with the oldest tag that was cut inside it, one on which a gathering is taken out
+/// and unified with a value, or objects that are tried with the arguments of a query.
 #[derive(Clone, Copy, Drop)]
 pub enum Left<'p> {
     Rules(Query, Env, &'p [Rule]),
@@ -58,6 +68,7 @@ pub enum Left<'p> {
     Way(Frame<'p>),
     Behind(Frame<'p>, Option<u64>),
     TakeOut(Whole, Env, Frame<'p>),
+    Things(Trial, Env),
 }
 
 /// A choice with branches left, the numbers of frames, of Refs and of open gatherings that stand behind them, the place of

@@ -5,6 +5,7 @@ mod bodies;
 mod calculating;
 mod changing;
 mod engine;
+mod finding;
 mod frames;
 mod interpreter;
 mod lack;

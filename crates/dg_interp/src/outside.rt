@@ -59,7 +59,7 @@ fn new_row(alloc: Global, count: u32) -> Result<Vec<Cell>, AllocError>
 }
 
 /// How many objects a program has.
-fn objects_of(program: &CoreProgram) -> u16
+pub fn objects_of(program: &CoreProgram) -> u16
     requires sound { IsSound program.now }
     ensures { result ≡ length program.now.objects }
 {

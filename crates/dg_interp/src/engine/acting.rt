@@ -41,6 +41,8 @@ impl<'p> Engine<'p> {
                 };
                 self.ask(query, args.as_slice())
             }
+            Goal::Holds(place, terms, many) => self.holds(*place, terms.as_slice(), *many),
+            Goal::IsObject(term, many) => self.is_object(term, *many),
             Goal::Query(term, arg, many) => self.query(term, arg, *many),
             Goal::Either(lists) => self.either(lists.as_slice()),
             Goal::Once(goals) => self.once(goals.as_slice()),

@@ -13,7 +13,7 @@ use dg_base::Term;
 use dg_unify::{Full, Ref};
 
 // What is done behind a body: only its first answer counts, unless many are asked for.
-fn body_mark(many: bool, tag: u64) -> Mark
+pub fn body_mark(many: bool, tag: u64) -> Mark
     ensures { result ≡ mark_of many tag }
 {
     if many {

@@ -57,3 +57,18 @@ returns-in-TakeOut-clause-full c = rw c.in-TakeOut.is (c.take_out.ensures.full c
 
 pub returns-in-TakeOut-clause-fewer : goal.returns-in-TakeOut-clause-fewer
 returns-in-TakeOut-clause-fewer c = rw c.in-TakeOut.is c.take_out.ensures.fewer
+
+pub begin_object-requires-clause-left : goal.begin_object-requires-clause-left
+begin_object-requires-clause-left c = rw c.in-Things.is at c.requires.left
+
+pub begin_object-requires-clause-some : goal.begin_object-requires-clause-some
+begin_object-requires-clause-some c = rw c.in-Things.is at c.requires.some
+
+pub returns-in-Things-clause-tried : goal.returns-in-Things-clause-tried
+returns-in-Things-clause-tried c = rw c.in-Things.is c.begin_object.ensures.tried
+
+pub returns-in-Things-clause-full : goal.returns-in-Things-clause-full
+returns-in-Things-clause-full c = rw c.in-Things.is c.begin_object.ensures.full
+
+pub returns-in-Things-clause-fewer : goal.returns-in-Things-clause-fewer
+returns-in-Things-clause-fewer c = rw c.in-Things.is c.begin_object.ensures.fewer
