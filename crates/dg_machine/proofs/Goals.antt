@@ -33,6 +33,15 @@ use Rattle.dg_machine.specs.Built.{OpBuilt, OpsBuilt, IsBuilt, IsQuiet, IsQuietO
 use Rattle.dg_machine.specs.Layout.{HasRoom, Holds}
 use Rattle.dg_machine.specs.Standing.{CodeIs, Stands, Falls, DoesOp, DoesMark, Asks, AsksLast, EntersRule, IsThere, GoesOn, FailsTo, HasStatus}
 use Rattle.dg_machine.specs.Running.{rests, DoesMarks, HasText, GoalDone, GoalLost}
+use Rattle.std.proofs.Common.{map}
+use Rattle.dg_base.specs.declared.program.CoreProgram.{CoreProgram}
+use Rattle.dg_meaning.specs.Values.{value_of}
+use Rattle.dg_arena.specs.Held.{meaning_of}
+use Rattle.dg_mid.specs.State.{ToPred, vars_of}
+use Rattle.dg_mid.specs.Step.{charged, asks, last, call_of}
+use Rattle.dg_machine.specs.Refs.{RefsAt, AreRefs}
+use Rattle.dg_machine.specs.Built.{ArePlain}
+use Rattle.dg_machine.proofs.TermLemmas.{plain_cells}
 use Rattle.dg_machine.proofs.Opens.{roomy}
 use Rattle.dg_machine.proofs.Hands.{nothing_more, no_jump}
 use Rattle.dg_machine.proofs.Leaving.{block_is}
@@ -131,24 +140,48 @@ held_of code r now s e = held_in code s.limits r now s.status e s.stands
 pub room_of : (code : Code) (r : Memory) (now : Now) → HasStatus code r now → rests now ≡ false → HasRoom r
 room_of code r now s e = (held_of code r now s e).held.0.room
 
-there_in : (code : Code) (l : Limits) (r : Memory) (way : Way) (s : Status) → Stands code l r (Resumes way) s → IsThere code way
+there_in : (code : Code) (l : Limits) (r : Memory) (way : Way) (s : Status) → Stands code l r (Resumes way) s → IsThere code r way
 there_in code l r (Goes b) s h = tt
-there_in code l r (Calls k pred left) (ResumesOf (CallsOf c rules) m) h = h.0.there
+there_in code l r (Calls k pred left) (ResumesOf (CallsOf c rules) m) h = (h.0.there, (c.args, h.0.call.args))
 there_in code l r (Calls k pred left) (ResumesOf on m) h = absurd h.0
 there_in code l r (Calls k pred left) s h = absurd h
 
-pub there_of : (code : Code) (r : Memory) (now : Now) (way : Way) → HasStatus code r now → now ≡ Resumes way → IsThere code way
+pub there_of : (code : Code) (r : Memory) (now : Now) (way : Way) → HasStatus code r now → now ≡ Resumes way → IsThere code r way
 there_of code r now way s is = there_in code s.limits r way s.status (subst (λ n. Stands code s.limits r n s.status) is s.stands)
+
+pub is_there : (code : Code) (r : Memory) (way : Way) (k : Call) (pred left : ℕ) → way ≡ Calls k pred left → IsThere code r way → IsThere code r (Calls k pred left)
+is_there code r way k pred left is h = subst (IsThere code r) is h
+
+-- a rule that is entered is built, and its arguments are there
+pub record MayEnter (r : Memory) (ops : List Op) : Type 0 where
+  pub built : OpsBuilt ops
+  pub args : AreRefs (meaning_of r.arena) r.args.items
+
+entering_in : (code : Code) (l : Limits) (r : Memory) (k : Call) (ops : Bor (List Op)) (s : Status) → Stands code l r (Enters k ops) s → MayEnter r ops.now
+entering_in code l r k ops (EntersOf c m) h = record { built = h.0.1; args = (c.args, h.1.args) }
+entering_in code l r k ops s h = absurd h
+
+pub entering_of : (code : Code) (r : Memory) (now : Now) (k : Call) (ops : Bor (List Op)) → HasStatus code r now → now ≡ Enters k ops → MayEnter r ops.now
+entering_of code r now k ops s is = entering_in code s.limits r k ops s.status (subst (λ n. Stands code s.limits r n s.status) is s.stands)
+
+pub built_first : (all : List Op) (x : Op) (rest : List Op) → all ≡ x ∷ rest → OpsBuilt all → OpBuilt x
+built_first all x rest is h = let parts : OpsBuilt (x ∷ rest) = subst OpsBuilt is h in parts.0
 
 -- ## Instructions that take a goal
 
-pub asks_op : (code : Code) (old new : Memory) (now : Now) (pred next : ℕ) (terms : List Term) (many : Bool) (rest : List Op) → Asks code old pred many next new now → DoesOp code old (op.Ask pred terms many next) rest new now
-asks_op code old new now pred next terms many rest asked g l m o b at h =
-    subst (λ ts. Stands code l new now (does (setting g code l) (op.Ask pred ts many next) m)) (sym b) (asked g l (more 0 m) (nothing_more code l old m h))
+pub asks_op : (code : Code) (old mid new : Memory) (now : Now) (pred next : ℕ) (terms : List Term) (many : Bool) (rest : List Op) → ArePlain terms → Asks code mid pred many next new now → ((l : Limits) (m : Mid) → Holds code l old m → Holds code l mid m) →
+    ((l : Limits) (m : Mid) (p : CoreProgram) → Holds code l old m → RefsAt (meaning_of mid.arena) mid.args.items (map (value_of p (vars_of m.frames)) terms)) → DoesOp code old (op.Ask pred terms many next) rest new now
+asks_op code old mid new now pred next terms many rest plain asked held args g l m o b at h =
+    let vs = map (value_of g.program (vars_of m.frames)) terms in
+    subst (λ n. Stands code l new now (charged (setting g code l) n m (asks (setting g code l) pred (call_of vs many next (more n m)) (more n m)))) (sym (plain_cells g.program terms plain))
+    (asked g l (more 0 m) vs (nothing_more code l mid m (held l m h)) (args l m g.program h))
 
-pub asks_last_op : (code : Code) (old new : Memory) (now : Now) (pred : ℕ) (terms : List Term) (many : Bool) (rest : List Op) → AsksLast code old pred many new now → DoesOp code old (op.LastAsk pred terms many) rest new now
-asks_last_op code old new now pred terms many rest asked g l m o b at h =
-    subst (λ ts. Stands code l new now (does (setting g code l) (op.LastAsk pred ts many) m)) (sym b) (asked g l (more 0 m) (nothing_more code l old m h))
+pub asks_last_op : (code : Code) (old mid new : Memory) (now : Now) (pred : ℕ) (terms : List Term) (many : Bool) (rest : List Op) → ArePlain terms → AsksLast code mid pred many new now → ((l : Limits) (m : Mid) → Holds code l old m → Holds code l mid m) →
+    ((l : Limits) (m : Mid) (p : CoreProgram) → Holds code l old m → RefsAt (meaning_of mid.arena) mid.args.items (map (value_of p (vars_of m.frames)) terms)) → DoesOp code old (op.LastAsk pred terms many) rest new now
+asks_last_op code old mid new now pred terms many rest plain asked held args g l m o b at h =
+    let vs = map (value_of g.program (vars_of m.frames)) terms in
+    subst (λ n. Stands code l new now (charged (setting g code l) n m (last (setting g code l) (ToPred pred) vs many m.frames (more n m)))) (sym (plain_cells g.program terms plain))
+    (asked g l (more 0 m) vs (nothing_more code l mid m (held l m h)) (args l m g.program h))
 
 pub takes_op : (code : Code) (r : Memory) (rest : Bor (List Op)) → DoesOp code r op.Take rest.now r (Runs rest)
 takes_op code r rest g l m o b at h = (at, h)

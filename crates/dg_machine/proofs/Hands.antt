@@ -18,8 +18,9 @@ use Rattle.dg_machine.specs.declared.now.Frame.{Frame}
 use Rattle.dg_machine.specs.declared.now.Inner.{Inner}
 use Rattle.dg_machine.specs.declared.now.Choice.{Choice}
 use Rattle.dg_machine.specs.declared.memory.Memory.{Memory}
+use Rattle.dg_machine.specs.Refs.{RowAt}
 use Rattle.dg_machine.specs.Links.{named, below}
-use Rattle.dg_machine.specs.Layout.{ValuesAt, InnersAt, FramesAt, ChoicesAt, HasRoom, Holds, heap_in, limit_in}
+use Rattle.dg_machine.specs.Layout.{InnersAt, FramesAt, ChoicesAt, HasRoom, Holds, heap_in, limit_in}
 use Rattle.dg_machine.specs.Measure.{choices_left}
 use Rattle.dg_machine.proofs.Cuts.{cut_is}
 use Rattle.dg_machine.proofs.Opens.{inner_within, frame_within, left_more}
@@ -34,8 +35,7 @@ pub record NewestFrame (s : Store) (inners : List Inner) (xs : List Frame) (e : 
   pub next : newest.next ≡ frame.next
   pub many : newest.many ≡ frame.many
   pub cut : newest.cut.height ≡ frame.cut
-  pub vars : ValuesAt s frame.vars newest.vars
-  pub count : length newest.vars ≡ frame.count
+  pub vars : RowAt s frame.vars newest.vars
   pub inner_is : InnersAt inners frame.inner newest.inner
   pub older : frame.behind < e
   pub behind_is : FramesAt s inners xs frame.behind behind
@@ -51,8 +51,7 @@ some_frame s is xs e frame (f ∷ fs) n h =
       next = h.next ∙ ap (λ (x : Frame). x.next) same;
       many = h.many ∙ ap (λ (x : Frame). x.many) same;
       cut = h.cut ∙ ap (λ (x : Frame). x.cut) same;
-      vars = subst (λ (x : Frame). ValuesAt s x.vars f.vars) same h.vars;
-      count = h.count ∙ ap (λ (x : Frame). x.count) same;
+      vars = subst (λ (x : Frame). RowAt s x.vars f.vars) same h.vars;
       inner_is = subst (λ (x : Frame). InnersAt is x.inner f.inner) same h.inner_is;
       older = subst (λ (x : Frame). x.behind < e) same h.older;
       behind_is = subst (λ (x : Frame). FramesAt s is xs x.behind fs) same h.behind_is;
@@ -97,7 +96,7 @@ nothing_more code l r m h =
 
 pub cut_held : (code : Code) (l : Limits) (m : Mid) (p : Place) (to : ℕ) (r new : Memory) → Holds code l r m → p.height ≡ to → AgreeAll m.choices p → reverse new.choices.items ≡ below to (reverse r.choices.items) → HasRoom (record r { choices = new.choices }) → Holds code l (record r { choices = new.choices }) (cut_to p m)
 cut_held code l m p to r new h height agree left room =
-    let c = cut_is code r.frames.items r.inners.items r.arena p to h.0.saves (reverse r.choices.items) m.choices height agree h.0.choices_are in (
+    let c = cut_is code r.frames.items r.inners.items r.kept.items r.arena p to h.0.saves (reverse r.choices.items) m.choices height agree h.0.choices_are in (
       record {
         saves = c.saves;
         stand = c.stand h.0.stand;
@@ -105,7 +104,7 @@ cut_held code l m p to r new h height agree left room =
         limits = h.0.limits;
         frames_are = h.0.frames_are;
         inner_are = h.0.inner_are;
-        choices_are = subst (λ ks. ChoicesAt code r.frames.items r.inners.items c.saves ks (cut_choices p m.choices)) (sym left) c.choices;
+        choices_are = subst (λ ks. ChoicesAt code r.frames.items r.inners.items r.kept.items c.saves ks (cut_choices p m.choices)) (sym left) c.choices;
         room = room;
       },
       h.1,
@@ -119,6 +118,7 @@ cut_room r new h capacity fewer = record {
   frames_few = h.frames_few;
   inners_few = h.inners_few;
   choices_few = omega (arith, h.choices_few, fewer);
+  refs = h.refs;
 }
 
 -- nothing is older than the beginning

@@ -1,5 +1,5 @@
 -- What lies in memory still lies there where only more was added.
-use Rattle.std.proofs.Common.{◌≡◌, ℕ, zero, suc, List, [], ◌∷◌, Some, sym, subst}
+use Rattle.std.proofs.Common.{◌++◌, ◌≡◌, ℕ, zero, suc, List, [], ◌∷◌, Some, sym, subst}
 use Rattle.std.specs.List.{slice_get}
 use Rattle.dg_meaning.specs.Values.{Value}
 use Rattle.dg_meaning.specs.OneRun.{Begins}
@@ -7,12 +7,18 @@ use Rattle.dg_meaning.proofs.OneRun.{begins_on}
 use Rattle.dg_unify.specs.Store.{Store, Saved, Kept}
 use Rattle.dg_unify.proofs.Lists.{get_append}
 use Rattle.dg_mid.specs.declared.code.Code.{Code}
-use Rattle.dg_mid.specs.State.{Place, Frame as FrameOf, Choice as ChoiceOf}
+use Rattle.dg_mid.specs.State.{Place, Frame as FrameOf, Choice as ChoiceOf, Call as CallOf, Way as WayOf, Goes as GoesOf, Calls as CallsOf}
+use Rattle.dg_unify.specs.declared.bindings.Ref.{Ref}
+use Rattle.dg_machine.specs.declared.now.Row.{Row}
+use Rattle.dg_machine.specs.declared.now.Call.{Call}
+use Rattle.dg_machine.specs.declared.now.Way.{Way}
+use Rattle.dg_machine.specs.declared.now.Way.TheVariants.{Goes, Calls}
 use Rattle.dg_machine.specs.declared.now.Frame.{Frame}
 use Rattle.dg_machine.specs.declared.now.Inner.{Inner}
 use Rattle.dg_machine.specs.declared.now.Choice.{Choice}
 use Rattle.dg_machine.specs.Links.{named}
-use Rattle.dg_machine.specs.Layout.{ValuesAt, InnersAt, FramesAt, ChoicesAt}
+use Rattle.dg_machine.specs.Refs.{ValuesAt, RowAt, RefsAt, AreRefs}
+use Rattle.dg_machine.specs.Layout.{CallAt, WayAt, InnersAt, FramesAt, ChoicesAt}
 
 -- what is named is still named so
 pub named_kept : {A : Type 0} (xs ys : List A) (n : ℕ) (x : A) → Begins xs ys → named xs n ≡ Some x → named ys n ≡ Some x
@@ -33,6 +39,34 @@ pub values_kept : (s t : Store) (at : ℕ) (vs : List Value) → Kept s t → Va
 values_kept s t at [] k h = tt
 values_kept s t at (v ∷ vs) k h = (k.values (record { 0 = at }) v h.0, values_kept s t (suc at) vs k h.1)
 
+pub row_kept : (s t : Store) (row : Row) (vs : List Value) → Kept s t → RowAt s row vs → RowAt t row vs
+row_kept s t row vs k h = record { values = values_kept s t row.first vs k h.values; count = h.count }
+
+pub refs_kept : (s t : Store) (rs : List Ref) (vs : List Value) → Kept s t → RefsAt s rs vs → RefsAt t rs vs
+refs_kept s t [] [] k h = tt
+refs_kept s t (r ∷ rs) (v ∷ vs) k h = (k.values r v h.0, refs_kept s t rs vs k h.1)
+refs_kept s t [] (v ∷ vs) k h = h
+refs_kept s t (r ∷ rs) [] k h = h
+
+pub are_refs_kept : (s t : Store) (rs : List Ref) → Kept s t → AreRefs s rs → AreRefs t rs
+are_refs_kept s t rs k h = (h.0, refs_kept s t rs h.0 k h.1)
+
+-- Refs that are the same stand for the same in a later store
+pub moved_to : (s t : Store) (rs qs : List Ref) (vs : List Value) → qs ≡ rs → Kept s t → RefsAt s rs vs → RefsAt t qs vs
+moved_to s t rs qs vs e k h = subst (λ xs. RefsAt t xs vs) (sym e) (refs_kept s t rs vs k h)
+
+pub refs_moved : (s t : Store) (rs qs : List Ref) → qs ≡ rs → Kept s t → AreRefs s rs → AreRefs t qs
+refs_moved s t rs qs e k h = (h.0, moved_to s t rs qs h.0 e k h.1)
+
+pub call_kept : (s t : Store) (rs : List Ref) (k : Call) (c : CallOf) → Kept s t → CallAt s rs k c → CallAt t rs k c
+call_kept s t rs k c kept h = record { args = refs_kept s t rs c.args kept h.args; next = h.next; many = h.many; cut = h.cut }
+
+pub way_kept : (code : Code) (s t : Store) (rs : List Ref) (way : Way) (on : WayOf) → Kept s t → WayAt code s rs way on → WayAt code t rs way on
+way_kept code s t rs (Goes b) (GoesOf b') kept h = h
+way_kept code s t rs (Calls k pred left) (CallsOf c rules) kept h = record { call = call_kept s t rs k c kept h.call; there = h.there; rules_are = h.rules_are }
+way_kept code s t rs (Goes b) on kept h = absurd h
+way_kept code s t rs (Calls k pred left) on kept h = absurd h
+
 pub frames_kept : (s t : Store) (is js : List Inner) (xs ys : List Frame) (e : ℕ) (fs : List FrameOf) → Kept s t → Begins is js → Begins xs ys → FramesAt s is xs e fs → FramesAt t js ys e fs
 frames_kept s t is js xs ys e [] k a b h = h
 frames_kept s t is js xs ys e (f ∷ fs) k a b h = record {
@@ -41,17 +75,17 @@ frames_kept s t is js xs ys e (f ∷ fs) k a b h = record {
   next = h.next;
   many = h.many;
   cut = h.cut;
-  vars = values_kept s t h.frame.vars f.vars k h.vars;
-  count = h.count;
+  vars = row_kept s t h.frame.vars f.vars k h.vars;
   inner_is = inners_kept is js h.frame.inner f.inner a h.inner_is;
   older = h.older;
   behind_is = frames_kept s t is js xs ys h.frame.behind fs k a b h.behind_is;
 }
 
-pub choices_kept : (code : Code) (xs ys : List Frame) (is js : List Inner) (ms : List Saved) (ks : List Choice) (cs : List ChoiceOf) → Begins xs ys → Begins is js → ChoicesAt code xs is ms ks cs → ChoicesAt code ys js ms ks cs
-choices_kept code xs ys is js [] [] [] a b h = h
-choices_kept code xs ys is js (m ∷ ms) (k ∷ ks) (c ∷ cs) a b h = (
+pub choices_kept : (code : Code) (xs ys : List Frame) (is js : List Inner) (rs qs : List Ref) (ms : List Saved) (ks : List Choice) (cs : List ChoiceOf) → Begins xs ys → Begins is js → Begins rs qs → ChoicesAt code xs is rs ms ks cs → ChoicesAt code ys js qs ms ks cs
+choices_kept code xs ys is js rs qs [] [] [] a b d h = h
+choices_kept code xs ys is js rs qs (m ∷ ms) (k ∷ ks) (c ∷ cs) a b d h = (
   record {
+    args = h.0.args;
     way = h.0.way;
     mark = h.0.mark;
     state = h.0.state;
@@ -62,6 +96,12 @@ choices_kept code xs ys is js (m ∷ ms) (k ∷ ks) (c ∷ cs) a b h = (
     inners_begin = begins_on h.0.inners_then is js h.0.inners_begin b;
     frames_len = h.0.frames_len;
     inners_len = h.0.inners_len;
+    refs_then = h.0.refs_then;
+    refs_begin = begins_on (h.0.refs_then ++ h.0.args) rs qs h.0.refs_begin d;
+    refs_len = h.0.refs_len;
+    args_len = h.0.args_len;
+    args_few = h.0.args_few;
+    refs_few = h.0.refs_few;
     frames_are = h.0.frames_are;
     inner_are = h.0.inner_are;
     frames_few = h.0.frames_few;
@@ -71,7 +111,7 @@ choices_kept code xs ys is js (m ∷ ms) (k ∷ ks) (c ∷ cs) a b h = (
   },
   h.1,
 )
-choices_kept code xs ys is js [] [] (c ∷ cs) a b h = h
-choices_kept code xs ys is js [] (k ∷ ks) cs a b h = h
-choices_kept code xs ys is js (m ∷ ms) [] cs a b h = h
-choices_kept code xs ys is js (m ∷ ms) (k ∷ ks) [] a b h = h
+choices_kept code xs ys is js rs qs [] [] (c ∷ cs) a b d h = h
+choices_kept code xs ys is js rs qs [] (k ∷ ks) cs a b d h = h
+choices_kept code xs ys is js rs qs (m ∷ ms) [] cs a b d h = h
+choices_kept code xs ys is js rs qs (m ∷ ms) (k ∷ ks) [] a b d h = h

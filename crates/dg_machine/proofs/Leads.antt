@@ -49,8 +49,8 @@ full_stands code g l n m next old new h lacks =
 pub height_now : (code : Code) (l : Limits) (m : Mid) (r : Memory) (h : ℕ) → Holds code l r m → h ≡ heap_in r → (place_of m).height ≡ h
 height_now code l m r h holds is = sym (is ∙ ap (λ (s : State). s.heap) holds.0.state_is)
 
-pub few_more : (way : Way) (old new : Memory) → HasRoom old → Opened way old new → 10 * length new.inners.items + 10 ≤ heap_in new
-few_more way old new room o = let heap = o.heap in let inners = ap (λ v. length v.items) o.inners in let few = room.inners_few in omega (arith, heap, inners, few)
+pub few_more : (way : Way) (n : ℕ) (old new : Memory) → HasRoom old → Opened way n old new → 10 * length new.inners.items + 10 ≤ heap_in new
+few_more way n old new room o = let heap = o.heap in let inners = ap (λ v. length v.items) o.inners in let few = room.inners_few in omega (arith, heap, inners, few)
 
 -- ## Cuts
 
@@ -92,7 +92,7 @@ pub left_inner : (code : Code) (l : Limits) (m : Mid) (inner : Inner) (r mid : M
 left_inner code l m inner r mid o h is left capacity fewer same =
     let x = some_inner r.inners.items r.inner inner m.inner is h.0.inner_are in
     let named_all : PlacesNamed m.next_tag m.state.heap m.choices (x.innermost ∷ x.around) = subst (PlacesNamed m.next_tag m.state.heap m.choices) x.is o.named.inner_are in
-    let out : Holds code l (record r { inner = inner.around }) (record m { inner = x.around }) = (record { saves = h.0.saves; stand = h.0.stand; state_is = h.0.state_is; limits = h.0.limits; frames_are = h.0.frames_are; inner_are = x.around_is; choices_are = h.0.choices_are; room = record { frames_fit = h.0.room.frames_fit; inners_fit = h.0.room.inners_fit; choices_fit = h.0.room.choices_fit; frames_few = h.0.room.frames_few; inners_few = h.0.room.inners_few; choices_few = h.0.room.choices_few } }, h.1) in
+    let out : Holds code l (record r { inner = inner.around }) (record m { inner = x.around }) = (record { saves = h.0.saves; stand = h.0.stand; state_is = h.0.state_is; limits = h.0.limits; frames_are = h.0.frames_are; inner_are = x.around_is; choices_are = h.0.choices_are; room = record { frames_fit = h.0.room.frames_fit; inners_fit = h.0.room.inners_fit; choices_fit = h.0.room.choices_fit; frames_few = h.0.room.frames_few; inners_few = h.0.room.inners_few; choices_few = h.0.room.choices_few; refs = h.0.room.refs } }, h.1) in
     record {
       innermost = x.innermost;
       around = x.around;

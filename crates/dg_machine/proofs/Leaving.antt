@@ -1,27 +1,28 @@
 -- What is left, called and entered.
-use Rattle.std.proofs.Common.{◌≡◌, ℕ, zero, suc, ◌+◌, ◌-◌, ◌<◌, ◌≤◌, List, [], ◌∷◌, Some, None, Bool, true, false, refl, sym, ap, ◌∙◌, subst, arith, length, drop, take, nat_lt, reverse, vec_capacity, length-drop, get_or}
+use Rattle.std.proofs.Common.{◌≡◌, ℕ, suc, ◌+◌, ◌-◌, ◌<◌, ◌≤◌, List, [], ◌∷◌, Some, None, Bool, true, false, refl, sym, ap, ◌∙◌, subst, arith, length, drop, take, nat_lt, reverse, vec_capacity, length-drop, get_or}
 use Rattle.std.proofs.Math.Seq.{take-length}
 use Rattle.std.specs.Borrow.{Bor}
-use Rattle.std.proofs.lemmas.Bool.{cond-false, le-ltb}
+use Rattle.std.proofs.lemmas.Bool.{cond-true, cond-false, lt-ltb, le-ltb}
+use Rattle.std.specs.List.{zip}
+use Rattle.std.proofs.Common.{Option, map}
 use Rattle.dg_base.specs.declared.run.Limits.{Limits}
 use Rattle.dg_base.specs.declared.run.Ending.TheVariants as ending
 use Rattle.dg_base.specs.declared.program.Term.{Term}
-use Rattle.dg_meaning.specs.Substitutions.{Substitution, IsSubstitution}
-use Rattle.dg_meaning.specs.Unify.{agreed, solve}
-use Rattle.dg_meaning.specs.Values.{Value}
+use Rattle.dg_meaning.specs.Unify.{Unified, solve}
+use Rattle.dg_meaning.specs.Values.{Value, value_of}
 use Rattle.dg_meaning.specs.Cells.{cells}
-use Rattle.dg_meaning.specs.Moves.{made_since, new_vars}
+use Rattle.dg_meaning.specs.Moves.{new_vars}
 use Rattle.dg_meaning.specs.World.{Game}
-use Rattle.dg_meaning.proofs.Solving.{solve_is}
-use Rattle.dg_unify.specs.Store.{State, trail_of}
+use Rattle.dg_unify.specs.Store.{State, Store}
+use Rattle.dg_unify.specs.declared.bindings.View.{View}
 use Rattle.dg_arena.specs.Held.{meaning_of}
 use Rattle.dg_mid.specs.declared.code.Op.{Op}
 use Rattle.dg_mid.specs.declared.code.Op.TheVariants as op
 use Rattle.dg_mid.specs.declared.code.Code.{Code}
 use Rattle.dg_mid.specs.declared.code.RuleCode.{RuleCode}
 use Rattle.dg_mid.specs.Code.{block_at, rules_at, selected}
-use Rattle.dg_mid.specs.State.{Mid, Frame as FrameOf, Call as CallOf, Choice as ChoiceOf, Way as WayOf, ToPred, Goes as GoesOf, Calls as CallsOf, Status, Runs as RunsOf, Enters as EntersOf, Ended as EndedOf}
-use Rattle.dg_mid.specs.Step.{Setting, setting, cut_to, bound, unified, trail_more, inside, passed, at_rule, begins, enter, entered, returns, returned, resumed, goes_on, goes_back, call_of, asks, asks_last, last}
+use Rattle.dg_mid.specs.State.{Mid, Frame as FrameOf, Call as CallOf, Choice as ChoiceOf, Way as WayOf, ToPred, Goes as GoesOf, Calls as CallsOf, Status, Runs as RunsOf, Enters as EntersOf, Fails as FailsOf, Ended as EndedOf}
+use Rattle.dg_mid.specs.Step.{Setting, setting, cut_to, bound, unified, trail_more, inside, passed, at_rule, begins, enters as enters_of, first_of, if_agreed, charged, enter, entered, returns, returned, resumed, goes_on, goes_back, call_of, asks, asks_last, last}
 use Rattle.dg_mid.specs.Heights.{AgreeAll, FramesNamed, MidOrdered}
 use Rattle.dg_mid.specs.Potential.{Tidy, begins_goto}
 use Rattle.dg_machine.specs.declared.now.Frame.{Frame}
@@ -32,14 +33,19 @@ use Rattle.dg_machine.specs.declared.now.Now.{Now}
 use Rattle.dg_machine.specs.declared.now.Now.TheVariants.{Runs, Enters, Resumes, Fails, Ended}
 use Rattle.dg_machine.specs.declared.memory.Memory.{Memory}
 use Rattle.dg_machine.specs.Links.{named, below}
-use Rattle.dg_machine.specs.Built.{OpBuilt, OpsBuilt, IsBuilt}
-use Rattle.dg_machine.specs.Layout.{HoldsWith, Holds, Roomy, Lacks, CallAt, WayAt, Opened, WentBack, made_state, in_frame, last_rules, heap_in}
+use Rattle.dg_machine.specs.Built.{ArePlain, OpBuilt, OpsBuilt, IsBuilt}
+use Rattle.dg_machine.specs.Refs.{RefsAt}
+use Rattle.dg_machine.specs.Passing.{codes_from, IsFirst}
+use Rattle.dg_machine.specs.Layout.{Holds, Roomy, Lacks, CallAt, RulesAt, WayAt, Opened, WentBack, Matched, Unmatched, made_state, in_frame, last_rules, heap_in}
 use Rattle.dg_machine.specs.Measure.{way_left, choices_left}
-use Rattle.dg_machine.specs.Standing.{CodeIs, Stands, Falls, EntersIn, CallBegins, CallsRules}
-use Rattle.dg_machine.proofs.Opens.{left_more}
-use Rattle.dg_machine.proofs.Rows.{lacks_more}
+use Rattle.dg_unify.specs.declared.bindings.Ref.{Ref}
+use Rattle.dg_machine.specs.Standing.{CodeIs, Stands, Falls, EntersWith, EntersIn, CallBegins, CallsRules}
+use Rattle.dg_machine.proofs.Kept.{call_kept}
+use Rattle.dg_machine.proofs.Opens.{left_more, fits}
+use Rattle.dg_machine.proofs.TermLemmas.{plain_cells}
+use Rattle.dg_machine.proofs.PassedRules.{codes_selected, EndsIn, ends_on, selected_end, last_end, next_end, AreLast, are_last, no_longer}
 use Rattle.dg_machine.proofs.Hands.{some_frame, no_frame, no_jump, few, at_most_one}
-use Rattle.dg_machine.proofs.Leads.{was_cut, charged_stands, full_stands, height_now}
+use Rattle.dg_machine.proofs.Leads.{was_cut, charged_on, charged_stands, full_stands, height_now}
 
 -- ## The answer of a rule
 
@@ -67,7 +73,7 @@ left_frame code l m frame r o h is =
       many = x.many;
       cut = x.cut;
       named_cut = named_all.0.agrees;
-      held = (record { saves = h.0.saves; stand = h.0.stand; state_is = h.0.state_is; limits = h.0.limits; frames_are = x.behind_is; inner_are = x.inner_is; choices_are = h.0.choices_are; room = record { frames_fit = h.0.room.frames_fit; inners_fit = h.0.room.inners_fit; choices_fit = h.0.room.choices_fit; frames_few = h.0.room.frames_few; inners_few = h.0.room.inners_few; choices_few = h.0.room.choices_few } }, h.1);
+      held = (record { saves = h.0.saves; stand = h.0.stand; state_is = h.0.state_is; limits = h.0.limits; frames_are = x.behind_is; inner_are = x.inner_is; choices_are = h.0.choices_are; room = record { frames_fit = h.0.room.frames_fit; inners_fit = h.0.room.inners_fit; choices_fit = h.0.room.choices_fit; frames_few = h.0.room.frames_few; inners_few = h.0.room.inners_few; choices_few = h.0.room.choices_few; refs = h.0.room.refs } }, h.1);
       older = x.older;
     }
 
@@ -112,58 +118,49 @@ not_answered code g l m r ops h is = subst (λ fs. Falls code l r (Runs ops) r F
 
 -- ## Calls
 
-dropped : {A : Type 0} (n : ℕ) (all : List A) (c : A) (cs : List A) → drop n all ≡ c ∷ cs → drop (suc n) all ≡ cs
-dropped zero [] c cs e = absurd (cc)
-dropped zero (x ∷ xs) c cs e = cc
-dropped (suc n) [] c cs e = absurd (cc)
-dropped (suc n) (x ∷ xs) c cs e = dropped n xs c cs e
-
-further_rules : (n left : ℕ) (all : List RuleCode) (c d : RuleCode) (cs : List RuleCode) → n ≡ length all → c ∷ d ∷ cs ≡ drop (n - left) all → left ≤ n → d ∷ cs ≡ drop (n - (left - 1)) all
-further_rules n left all c d cs len e le =
-    let count = ap length e ∙ length-drop (n - left) all in
-    let next : n - (left - 1) ≡ suc (n - left) = omega (arith, count, len, le) in
-    subst (λ k. d ∷ cs ≡ drop k all) (sym next) (sym (dropped (n - left) all c (d ∷ cs) (sym e)))
-
 module _ (code : Code) (g : Game) (l : Limits) (m : Mid) (k : Call) (pred left : ℕ) (r new : Memory) (block : Bor (List Op)) (built : IsBuilt code) (h : Holds code l r m) where
   abbrev set_b : Setting
   set_b = setting g code l
 
+  abbrev s_b : Store
+  s_b = meaning_of r.arena
+
   pub calls_none : (c : CallOf) → CallBegins code l r k pred left r Fails (begins set_b c [] m)
   calls_none c = record { stands = h; falls = omega arith }
 
-  pub calls_last : (c : CallOf) (rule : RuleCode) → CallAt k c → block.now ≡ block_at code rule.block → CallBegins code l r k pred left r (Enters k block) (begins set_b c (rule ∷ []) m)
-  calls_last c rule at is = record { stands = (block_is code rule.block block.now (passed (at_rule set_b rule m)) built is refl, at, h); falls = omega arith }
+  -- the only rule that is left is entered
+  pub enters_last : (c : CallOf) (rule : RuleCode) (rules : List RuleCode) → length rules ≡ 0 → CallAt s_b r.args.items k c → block.now ≡ block_at code rule.block → CallBegins code l r k pred 1 r (Enters k block) (enters_of set_b c rule rules m)
+  enters_last c rule [] none at is = record { stands = (block_is code rule.block block.now (passed (at_rule set_b rule m)) built is refl, at, h); falls = omega arith }
+  enters_last c rule (q ∷ qs) none at is = absurd (omega (arith, none))
 
-  -- a call without arguments
-  abbrev bare : CallOf → CallOf
-  bare c = record c { args = [] }
-
-  opened_stands : (c : CallOf) (rule next : RuleCode) (rest : List RuleCode) → CallAt k c → block.now ≡ block_at code rule.block → Holds code l new (inside (CallsOf (bare c) (next ∷ rest)) 0 m) → Opened (Calls k pred (left - 1)) r new → 1 ≤ left → CallBegins code l r k pred left new (Enters k block) (begins set_b (bare c) (rule ∷ next ∷ rest) m)
-  opened_stands c rule next rest at is held o some =
-      let m' = inside (CallsOf (bare c) (next ∷ rest)) 0 m in
-      let left_now : choices_left new.choices.items ≡ choices_left r.choices.items + suc (left - 1) = ap choices_left o.choices ∙ left_more r.choices.items o.choice ∙ ap (λ w. choices_left r.choices.items + way_left w) o.goes in
+  -- the first of several is entered
+  pub enters_first : (c : CallOf) (rule : RuleCode) (rules : List RuleCode) (n : ℕ) → 1 ≤ length rules → n ≡ length c.args → CallAt s_b r.args.items k c → block.now ≡ block_at code rule.block → Holds code l new (inside (CallsOf c rules) n m) → Opened (Calls k pred left) n r new → CallBegins code l r k pred (suc left) new (Enters k block) (enters_of set_b c rule rules m)
+  enters_first c rule [] n some count at is held o = absurd (omega (arith, some))
+  enters_first c rule (q ∷ qs) n some count at is held o =
+      let held' : Holds code l new (inside (CallsOf c (q ∷ qs)) (length c.args) m) = subst (λ i. Holds code l new (inside (CallsOf c (q ∷ qs)) i m)) count held in
+      let m' = inside (CallsOf c (q ∷ qs)) (length c.args) m in
+      let left_now : choices_left new.choices.items ≡ choices_left r.choices.items + suc left = ap choices_left o.choices ∙ left_more r.choices.items o.choice ∙ ap (λ w. choices_left r.choices.items + way_left w) o.goes in
+      let here : CallAt (meaning_of new.arena) new.args.items k c = subst (λ v. CallAt (meaning_of new.arena) v k c) (sym (ap (λ v. v.items) o.args)) (call_kept s_b (meaning_of new.arena) r.args.items k c o.values at) in
       record {
-        stands = charged_stands code g l 10 (at_rule set_b rule m) (record m' { ops = block_at code rule.block }) (EntersOf (bare c) (record m' { ops = block_at code rule.block })) new (Enters k block) held refl
-            (block_is code rule.block block.now (record m' { ops = block_at code rule.block }) built is refl, record { args = refl; next = at.next; many = at.many; cut = at.cut }, held);
-        falls = omega (arith, left_now, some);
+        stands = charged_stands code g l (10 + length c.args) m (record m' { ops = block_at code rule.block }) (EntersOf c (record m' { ops = block_at code rule.block })) new (Enters k block) held' refl
+            (block_is code rule.block block.now (record m' { ops = block_at code rule.block }) built is refl, here, held');
+        falls = omega (arith, left_now);
       }
 
-  full_begins : (c : CallOf) (rule next : RuleCode) (rest : List RuleCode) → Lacks 10 l m.state.heap new → CallBegins code l r k pred left new (Ended ending.HeapLimit) (begins set_b (bare c) (rule ∷ next ∷ rest) m)
-  full_begins c rule next rest over = record {
-    stands = full_stands code g l 10 (at_rule set_b rule m) (EntersOf (bare c) (inside (CallsOf (bare c) (next ∷ rest)) 0 (at_rule set_b rule m))) r new h over;
+  pub enters_not : (c : CallOf) (rule : RuleCode) (rules : List RuleCode) (n : ℕ) → 1 ≤ length rules → n ≡ length c.args → Lacks (10 + n) l m.state.heap new → CallBegins code l r k pred (suc left) new (Ended ending.HeapLimit) (enters_of set_b c rule rules m)
+  enters_not c rule [] n some count over = absurd (omega (arith, some))
+  enters_not c rule (q ∷ qs) n some count over = record {
+    stands = full_stands code g l (10 + length c.args) m (EntersOf c (inside (CallsOf c (q ∷ qs)) (length c.args) (at_rule set_b rule m))) r new h (subst (λ i. Lacks (10 + i) l m.state.heap new) count over);
     falls = omega arith;
   }
 
-  same_call : (c : CallOf) → c.args ≡ [] → c ≡ bare c
-  same_call c e = ap (λ vs. record c { args = vs }) e
+-- a call with fewer rules left has fallen further
+pub begins_on : (code : Code) (l : Limits) (r new : Memory) (k : Call) (pred n left : ℕ) (now : Now) (s : Status) → n ≤ left → CallBegins code l r k pred n new now s → CallBegins code l r k pred left new now s
+begins_on code l r new k pred n left now s le x = let falls = x.falls in record { stands = x.stands; falls = omega (arith, falls, le) }
 
-  pub calls_more : (c : CallOf) (rule next : RuleCode) (rest : List RuleCode) → CallAt k c → block.now ≡ block_at code rule.block → Holds code l new (inside (CallsOf c (next ∷ rest)) 0 m) → Opened (Calls k pred (left - 1)) r new → 1 ≤ left → CallBegins code l r k pred left new (Enters k block) (begins set_b c (rule ∷ next ∷ rest) m)
-  calls_more c rule next rest at is held o some =
-      subst (λ x. CallBegins code l r k pred left new (Enters k block) (begins set_b x (rule ∷ next ∷ rest) m)) (sym (same_call c at.args))
-      (opened_stands c rule next rest at is (subst (λ x. Holds code l new (inside (CallsOf x (next ∷ rest)) 0 m)) (same_call c at.args) held) o some)
-
-  pub calls_full : (c : CallOf) (rule next : RuleCode) (rest : List RuleCode) → CallAt k c → Lacks 10 l m.state.heap new → CallBegins code l r k pred left new (Ended ending.HeapLimit) (begins set_b c (rule ∷ next ∷ rest) m)
-  calls_full c rule next rest at over = subst (λ x. CallBegins code l r k pred left new (Ended ending.HeapLimit) (begins set_b x (rule ∷ next ∷ rest) m)) (sym (same_call c at.args)) (full_begins c rule next rest over)
+-- the first argument of a call, as memory holds it
+pub selected_in : (code : Code) (l : Limits) (m : Mid) (r : Memory) (first : Option View) (c : CallOf) (rules : List RuleCode) → Holds code l r m → IsFirst (meaning_of r.arena) r.args.items first → RefsAt (meaning_of r.arena) r.args.items c.args → codes_from first rules ≡ selected (first_of m.state.subst c) rules
+selected_in code l m r first c rules h is at = codes_selected (meaning_of r.arena) r.args.items first c is at rules ∙ ap (λ (s : State). selected (first_of s.subst c) rules) h.0.state_is
 
 -- ## Entering
 
@@ -173,77 +170,67 @@ split_list (y ∷ ys) x le e =
     let one : length (y ∷ ys) - 1 ≡ length ys = omega arith in
     ap (λ z. z ∷ ys) (sym e) ∙ ap (λ l. x ∷ l) (sym (ap (λ n. take n ys) one ∙ take-length ys))
 
-solved : (S : Substitution) → IsSubstitution S → solve S [] ≡ agreed S
-solved S sound = solve_is 1 S [] (agreed S) sound refl
+pub unified_on : (g : Setting) (u : Unified) (m : Mid) (next : Status) → trail_more m.state u ≤ g.limits.trail → unified g u m next ≡ if_agreed u.agrees (bound u m) next
+unified_on g u m next le = cond-false (nat_lt g.limits.trail (trail_more m.state u)) (EndedOf ending.TrailLimit) (if_agreed u.agrees (bound u m) next) (le-ltb g.limits.trail (trail_more m.state u) le)
 
-nothing_made : (S : Substitution) → made_since S S ≡ []
-nothing_made S = let none : length S - length S ≡ 0 = omega arith in ap (λ k. take k S) none
+pub unified_off : (g : Setting) (u : Unified) (m : Mid) (next : Status) → g.limits.trail < trail_more m.state u → unified g u m next ≡ EndedOf ending.TrailLimit
+unified_off g u m next lt = cond-true (nat_lt g.limits.trail (trail_more m.state u)) (EndedOf ending.TrailLimit) (if_agreed u.agrees (bound u m) next) (lt-ltb g.limits.trail (trail_more m.state u) lt)
 
-module _ (code : Code) (g : Game) (l : Limits) (m : Mid) (k : Call) (c : CallOf) (vars : ℕ) (r new : Memory) (ops rest : Bor (List Op)) (h : Holds code l r m) where
+module _ (code : Code) (g : Game) (l : Limits) (m : Mid) (k : Call) (c : CallOf) (vars : ℕ) (head : List Term) (plain : ArePlain head) (r new : Memory) (ops rest : Bor (List Op)) (at : CodeIs rest.now m) (h : Holds code l r m) where
   abbrev set_c : Setting
   set_c = setting g code l
-
-  -- a machine as it is where values agree that bind nothing
-  unified_nothing : (m' : Mid) (next : Status) → m'.state.subst ≡ m.state.subst → m'.state.trail ≡ m.state.trail → unified set_c (agreed m.state.subst) m' next ≡ next
-  unified_nothing m' next same trail =
-      let none : trail_more m'.state (agreed m.state.subst) ≡ m.state.trail =
-      ap (λ S. m'.state.trail + trail_of m'.state.since (made_since S m.state.subst)) same ∙ ap (λ S. m'.state.trail + trail_of m'.state.since S) (nothing_made m.state.subst) ∙ omega (arith, trail) in
-      let within : (meaning_of r.arena).state.trail ≤ (meaning_of r.arena).trail_limit = r.arena.sound.trail_fits in
-      let state = ap (λ (s : State). s.trail) h.0.state_is in
-      let limit = h.0.limits.trail in
-      cond-false (nat_lt l.trail (trail_more m'.state (agreed m.state.subst))) (EndedOf ending.TrailLimit) next (le-ltb l.trail (trail_more m'.state (agreed m.state.subst)) (omega (arith, none, within, state, limit)))
-
-  abbrev bare_call : CallOf
-  bare_call = record c { args = [] }
 
   abbrev made : List Value
   made = new_vars vars m.state.vars
 
-  abbrev made_vars : Mid
-  made_vars = record m { ops = rest.now; state = record m.state { vars = m.state.vars + vars; heap = m.state.heap + (6 + vars + cells g.program []) } }
+  -- the machine with the variables of the rule
+  abbrev made_mid : Mid
+  made_mid = record m { state = made_state vars m.state }
 
-  none_more : trail_more made_vars.state (agreed m.state.subst) ≡ m.state.trail
-  none_more = ap (λ S. m.state.trail + trail_of m.state.since S) (nothing_made m.state.subst) ∙ (let e : m.state.trail + 0 ≡ m.state.trail = omega arith in e)
+  abbrev u_c : Unified
+  u_c = solve m.state.subst (zip c.args (map (value_of g.program made) head))
 
-  same_state : (bound (agreed m.state.subst) made_vars).state ≡ made_state vars m.state
-  same_state =
-      let heap : m.state.heap + (6 + vars + 0) ≡ m.state.heap + (6 + vars) = omega arith in
-      ap (λ n. record (bound (agreed m.state.subst) made_vars).state { heap = n }) heap ∙ ap (λ n. record (made_state vars m.state) { trail = n }) none_more
+  abbrev next_c : Status
+  next_c = RunsOf (in_frame c made (bound u_c made_mid))
 
-  held_inside : Holds code l new (in_frame c made (record m { state = made_state vars m.state })) → Holds code l new (in_frame bare_call made (bound (agreed m.state.subst) made_vars))
-  held_inside held = (subst (λ s. HoldsWith code l new s (in_frame bare_call made made_vars).frames [] m.choices) (sym same_state) held.0, held.1)
+  enter_is : enter set_c c vars head m ≡ charged set_c (6 + vars) m (unified set_c u_c made_mid next_c)
+  enter_is =
+      let none : 6 + vars + cells g.program head ≡ 6 + vars = omega (arith, plain_cells g.program head plain) in
+      ap (λ n. charged set_c n m (unified set_c u_c (record m { state = record m.state { vars = m.state.vars + vars; heap = m.state.heap + n } }) (RunsOf (in_frame c made (bound u_c (record m { state = record m.state { vars = m.state.vars + vars; heap = m.state.heap + n } })))))) none
 
-  enters_bare : OpsBuilt rest.now → Holds code l new (in_frame c made (record m { state = made_state vars m.state })) → Stands code l new (Runs rest) (enter set_c bare_call vars [] (record m { ops = rest.now }))
-  enters_bare built held =
-      let sound : IsSubstitution m.state.subst = subst (λ (s : State). IsSubstitution s.subst) h.0.state_is r.arena.sound.fits.sound in
-      let m' = in_frame bare_call made (bound (agreed m.state.subst) made_vars) in
-      charged_stands code g l (6 + vars + cells g.program []) (record m { ops = rest.now }) m' (unified set_c (solve m.state.subst []) made_vars (RunsOf (in_frame bare_call made (bound (solve m.state.subst []) made_vars)))) new (Runs rest) (held_inside held) refl
-      (subst (λ u. Stands code l new (Runs rest) (unified set_c u made_vars (RunsOf (in_frame bare_call made (bound u made_vars))))) (sym (solved m.state.subst sound))
-      (subst (Stands code l new (Runs rest)) (sym (unified_nothing made_vars (RunsOf m') refl refl)) ((refl, built), held_inside held)))
+  pub enters_full : Lacks (6 + vars) l m.state.heap new → Falls code l r (Enters k ops) new (Ended ending.HeapLimit) (enter set_c c vars head m)
+  enters_full over = record {
+    stands = subst (Stands code l new (Ended ending.HeapLimit)) (sym enter_is) (full_stands code g l (6 + vars) m (unified set_c u_c made_mid next_c) r new h over);
+    falls = omega arith;
+  }
 
-  bare_is : c.args ≡ [] → c ≡ bare_call
-  bare_is none = ap (λ vs. record c { args = vs }) none
+  -- what the unification leads to is stood for, where its cells were taken
+  led_to : (mid : Memory) (m' : Mid) (now : Now) → Holds code l mid m' → m'.state.heap ≡ m.state.heap + (6 + vars) → Stands code l new now (unified set_c u_c made_mid next_c) → Stands code l new now (enter set_c c vars head m)
+  led_to mid m' now held heap stands =
+      let within = fits code l m' mid held in
+      subst (Stands code l new now) (sym (enter_is ∙ charged_on set_c (6 + vars) m (unified set_c u_c made_mid next_c) (omega (arith, within, heap)))) stands
 
-  pub enters : c.args ≡ [] → CodeIs rest.now m → Holds code l new (in_frame c made (record m { state = made_state vars m.state })) → new.choices ≡ r.choices → Falls code l r (Enters k ops) new (Runs rest) (enter set_c c vars [] m)
-  enters none at held same =
-      let bounds = few code l new (in_frame c made (record m { state = made_state vars m.state })) held in
+  pub enters_unmatched : (mid : Memory) → Holds code l mid made_mid → Unmatched l u_c made_mid new → Falls code l r (Enters k ops) new (Ended ending.TrailLimit) (enter set_c c vars head m)
+  enters_unmatched mid held x = record {
+    stands = led_to mid made_mid (Ended ending.TrailLimit) held refl (subst (Stands code l new (Ended ending.TrailLimit)) (sym (unified_off set_c u_c made_mid next_c x.over)) (refl, x.roomy));
+    falls = omega arith;
+  }
+
+  pub enters_clash : (mid : Memory) (b : Bool) → b ≡ false → Holds code l mid made_mid → Matched code l u_c made_mid new b → new.choices ≡ r.choices → Falls code l r (Enters k ops) new Fails (enter set_c c vars head m)
+  enters_clash mid b e held x same =
+      let left_now : choices_left new.choices.items ≡ choices_left r.choices.items = ap (λ v. choices_left v.items) same in
+      let failed : unified set_c u_c made_mid next_c ≡ FailsOf (bound u_c made_mid) = unified_on set_c u_c made_mid next_c x.fits ∙ ap (λ a. if_agreed a (bound u_c made_mid) next_c) (sym x.agrees ∙ e) in
+      record { stands = led_to mid made_mid Fails held refl (subst (Stands code l new Fails) (sym failed) x.held); falls = omega (arith, left_now) }
+
+  pub enters : (mid last : Memory) (b : Bool) → b ≡ true → Holds code l mid made_mid → Matched code l u_c made_mid last b → Holds code l new (in_frame c made (bound u_c made_mid)) → new.choices ≡ r.choices → Falls code l r (Enters k ops) new (Runs rest) (enter set_c c vars head m)
+  enters mid last b agree held x here same =
+      let bounds = few code l new (in_frame c made (bound u_c made_mid)) here in
       let frame = bounds.frame in
       let inner = bounds.inner in
       let jumps = at_most_one rest.now in
       let left_now : choices_left new.choices.items ≡ choices_left r.choices.items = ap (λ v. choices_left v.items) same in
-      record {
-        stands = subst (λ x. Stands code l new (Runs rest) (enter set_c x vars [] m)) (sym (bare_is none)) (subst (λ xs. Stands code l new (Runs rest) (enter set_c bare_call vars [] (record m { ops = xs }))) (sym at.0) (enters_bare at.1 held));
-        falls = omega (arith, left_now, frame, inner, jumps);
-      }
-
-  pub enters_full : c.args ≡ [] → Lacks (6 + vars) l m.state.heap new → Falls code l r (Enters k ops) new (Ended ending.HeapLimit) (enter set_c c vars [] m)
-  enters_full none over =
-      let over' : Lacks (6 + vars + cells g.program []) l m.state.heap new = lacks_more l (6 + vars) (6 + vars + cells g.program []) m.state.heap new (let le : 6 + vars ≤ 6 + vars + 0 = omega arith in le) over in
-      record {
-        stands = subst (λ x. Stands code l new (Ended ending.HeapLimit) (enter set_c x vars [] m)) (sym (bare_is none))
-            (full_stands code g l (6 + vars + cells g.program []) m (unified set_c (solve m.state.subst []) (record made_vars { ops = m.ops }) (RunsOf (in_frame bare_call made (bound (solve m.state.subst []) (record made_vars { ops = m.ops }))))) r new h over');
-        falls = omega arith;
-      }
+      let agreed : unified set_c u_c made_mid next_c ≡ next_c = unified_on set_c u_c made_mid next_c x.fits ∙ ap (λ a. if_agreed a (bound u_c made_mid) next_c) (sym x.agrees ∙ agree) in
+      record { stands = led_to mid made_mid (Runs rest) held refl (subst (Stands code l new (Runs rest)) (sym agreed) (at, here)); falls = omega (arith, left_now, frame, inner, jumps) }
 
 -- ## Going on
 
@@ -277,7 +264,7 @@ module _ (code : Code) (g : Game) (l : Limits) (b : ℕ) (m : Mid) (r new : Memo
       (subst (Falls code l r (Resumes (Goes b)) r (Runs ops)) (sym same) (record { stands = ((refl, subst OpsBuilt (sym is) (built b)), h); falls = omega (arith, none, frame, inner) }))
 
   -- it is kept with an earlier block
-  pub goes_kept : (alt : ℕ) (rest : Bor (List Op)) → ops.now ≡ op.Retry alt ∷ rest.now → Holds code l new (inside (GoesOf alt) 0 (record m { ops = rest.now })) → Opened (Goes alt) r new → Falls code l r (Resumes (Goes b)) new (Runs rest) (resumed set_d (block_at code b) m)
+  pub goes_kept : (alt : ℕ) (rest : Bor (List Op)) → ops.now ≡ op.Retry alt ∷ rest.now → Holds code l new (inside (GoesOf alt) 0 (record m { ops = rest.now })) → Opened (Goes alt) 0 r new → Falls code l r (Resumes (Goes b)) new (Runs rest) (resumed set_d (block_at code b) m)
   goes_kept alt rest kept held o =
       let block : block_at code b ≡ op.Retry alt ∷ rest.now = sym is ∙ kept in
       let earlier = tidy.earlier b alt rest.now block in
@@ -312,117 +299,135 @@ failed_to code l m way r new (c ∷ cs) w left = record { stands = w; falls = om
 
 -- ## Last queries
 
-module _ (code : Code) (g : Game) (l : Limits) (pred : ℕ) (many : Bool) (m : Mid) (r new : Memory) (now : Now) (h : Holds code l r m) where
+module _ (code : Code) (g : Game) (l : Limits) (pred : ℕ) (many : Bool) (vs : List Value) (m : Mid) (r new : Memory) (now : Now) (h : Holds code l r m) where
   abbrev set_e : Setting
   set_e = setting g code l
 
   -- memory without inner constructs at hand
   pub no_inner_held : Holds code l (record r { inner = 0 }) (record m { inner = [] })
-  no_inner_held = (record { saves = h.0.saves; stand = h.0.stand; state_is = h.0.state_is; limits = h.0.limits; frames_are = h.0.frames_are; inner_are = refl; choices_are = h.0.choices_are; room = record { frames_fit = h.0.room.frames_fit; inners_fit = h.0.room.inners_fit; choices_fit = h.0.room.choices_fit; frames_few = h.0.room.frames_few; inners_few = h.0.room.inners_few; choices_few = h.0.room.choices_few } }, h.1)
+  no_inner_held = (record { saves = h.0.saves; stand = h.0.stand; state_is = h.0.state_is; limits = h.0.limits; frames_are = h.0.frames_are; inner_are = refl; choices_are = h.0.choices_are; room = record { frames_fit = h.0.room.frames_fit; inners_fit = h.0.room.inners_fit; choices_fit = h.0.room.choices_fit; frames_few = h.0.room.frames_few; inners_few = h.0.room.inners_few; choices_few = h.0.room.choices_few; refs = h.0.room.refs } }, h.1)
 
-  pub asks_behind : (frame : Frame) → named r.frames.items r.frame ≡ Some frame → frame.many ≡ true → ((m' : Mid) → Holds code l (record r { frame = frame.behind; inner = frame.inner }) m' → Stands code l new now (asks set_e pred (call_of [] many frame.next m') m')) → Stands code l new now (last set_e (ToPred pred) [] many m.frames m)
+  pub asks_behind : (frame : Frame) → named r.frames.items r.frame ≡ Some frame → frame.many ≡ true → ((m' : Mid) → Holds code l (record r { frame = frame.behind; inner = frame.inner }) m' → Stands code l new now (asks set_e pred (call_of vs many frame.next m') m')) → Stands code l new now (last set_e (ToPred pred) vs many m.frames m)
   asks_behind frame is all asked =
       let x = some_frame (meaning_of r.arena) r.inners.items r.frames.items r.frame frame m.frames is h.0.frames_are in
       let held : Holds code l (record r { frame = frame.behind; inner = frame.inner }) (record m { frames = x.behind; inner = x.newest.inner }) =
-      (record { saves = h.0.saves; stand = h.0.stand; state_is = h.0.state_is; limits = h.0.limits; frames_are = x.behind_is; inner_are = x.inner_is; choices_are = h.0.choices_are; room = record { frames_fit = h.0.room.frames_fit; inners_fit = h.0.room.inners_fit; choices_fit = h.0.room.choices_fit; frames_few = h.0.room.frames_few; inners_few = h.0.room.inners_few; choices_few = h.0.room.choices_few } }, h.1) in
+      (record { saves = h.0.saves; stand = h.0.stand; state_is = h.0.state_is; limits = h.0.limits; frames_are = x.behind_is; inner_are = x.inner_is; choices_are = h.0.choices_are; room = record { frames_fit = h.0.room.frames_fit; inners_fit = h.0.room.inners_fit; choices_fit = h.0.room.choices_fit; frames_few = h.0.room.frames_few; inners_few = h.0.room.inners_few; choices_few = h.0.room.choices_few; refs = h.0.room.refs } }, h.1) in
       let m' = record m { frames = x.behind; inner = x.newest.inner } in
-      subst (λ fs. Stands code l new now (last set_e (ToPred pred) [] many fs m)) (sym x.is)
-      (subst (λ b. Stands code l new now (asks_last set_e (ToPred pred) [] many b x.newest x.behind m)) (sym (x.many ∙ all))
-      (subst (λ n. Stands code l new now (asks set_e pred (call_of [] many n m) m')) (sym x.next) (asked m' held)))
+      subst (λ fs. Stands code l new now (last set_e (ToPred pred) vs many fs m)) (sym x.is)
+      (subst (λ b. Stands code l new now (asks_last set_e (ToPred pred) vs many b x.newest x.behind m)) (sym (x.many ∙ all))
+      (subst (λ n. Stands code l new now (asks set_e pred (call_of vs many n m) m')) (sym x.next) (asked m' held)))
 
-  asks_here : ((m' : Mid) → Holds code l (record r { inner = 0 }) m' → Stands code l new now (asks set_e pred (call_of [] many 0 m') m')) → Stands code l new now (asks set_e pred (call_of [] many 0 m) (record m { inner = [] }))
+  asks_here : ((m' : Mid) → Holds code l (record r { inner = 0 }) m' → Stands code l new now (asks set_e pred (call_of vs many 0 m') m')) → Stands code l new now (asks set_e pred (call_of vs many 0 m) (record m { inner = [] }))
   asks_here asked = asked (record m { inner = [] }) no_inner_held
 
-  pub asks_first : named r.frames.items r.frame ≡ None → ((m' : Mid) → Holds code l (record r { inner = 0 }) m' → Stands code l new now (asks set_e pred (call_of [] many 0 m') m')) → Stands code l new now (last set_e (ToPred pred) [] many m.frames m)
-  asks_first is asked = subst (λ fs. Stands code l new now (last set_e (ToPred pred) [] many fs m)) (sym (no_frame (meaning_of r.arena) r.inners.items r.frames.items r.frame m.frames is h.0.frames_are)) (asks_here asked)
+  pub asks_first : named r.frames.items r.frame ≡ None → ((m' : Mid) → Holds code l (record r { inner = 0 }) m' → Stands code l new now (asks set_e pred (call_of vs many 0 m') m')) → Stands code l new now (last set_e (ToPred pred) vs many m.frames m)
+  asks_first is asked = subst (λ fs. Stands code l new now (last set_e (ToPred pred) vs many fs m)) (sym (no_frame (meaning_of r.arena) r.inners.items r.frames.items r.frame m.frames is h.0.frames_are)) (asks_here asked)
 
-  pub asks_inside : (frame : Frame) → named r.frames.items r.frame ≡ Some frame → frame.many ≡ false → ((m' : Mid) → Holds code l (record r { inner = 0 }) m' → Stands code l new now (asks set_e pred (call_of [] many 0 m') m')) → Stands code l new now (last set_e (ToPred pred) [] many m.frames m)
+  pub asks_inside : (frame : Frame) → named r.frames.items r.frame ≡ Some frame → frame.many ≡ false → ((m' : Mid) → Holds code l (record r { inner = 0 }) m' → Stands code l new now (asks set_e pred (call_of vs many 0 m') m')) → Stands code l new now (last set_e (ToPred pred) vs many m.frames m)
   asks_inside frame is one asked =
       let x = some_frame (meaning_of r.arena) r.inners.items r.frames.items r.frame frame m.frames is h.0.frames_are in
-      subst (λ fs. Stands code l new now (last set_e (ToPred pred) [] many fs m)) (sym x.is)
-      (subst (λ b. Stands code l new now (asks_last set_e (ToPred pred) [] many b x.newest x.behind m)) (sym (x.many ∙ one)) (asks_here asked))
+      subst (λ fs. Stands code l new now (last set_e (ToPred pred) vs many fs m)) (sym x.is)
+      (subst (λ b. Stands code l new now (asks_last set_e (ToPred pred) vs many b x.newest x.behind m)) (sym (x.many ∙ one)) (asks_here asked))
 
--- all rules are those that a call without arguments selects
-all_selected : (rules : List RuleCode) → selected None rules ≡ rules
-all_selected [] = refl
-all_selected (c ∷ cs) = refl
-
-pub asked_all : (code : Code) (g : Game) (l : Limits) (pred next left cut : ℕ) (many : Bool) (m : Mid) (r new : Memory) (now : Now) → Holds code l r m → left ≡ length (rules_at code pred) → cut ≡ heap_in r → CallsRules code r (record { next = next; many = many; cut = cut }) pred left new now → Stands code l new now (asks (setting g code l) pred (call_of [] many next m) m)
-asked_all code g l pred next left cut many m r new now h len height calls =
+pub asked_all : (code : Code) (g : Game) (l : Limits) (pred next left cut : ℕ) (many : Bool) (vs : List Value) (first : Option View) (m : Mid) (r new : Memory) (now : Now) → Holds code l r m → RefsAt (meaning_of r.arena) r.args.items vs → IsFirst (meaning_of r.arena) r.args.items first →
+    left ≡ length (codes_from first (rules_at code pred)) → cut ≡ heap_in r → CallsRules code r (record { next = next; many = many; cut = cut }) pred left new now → Stands code l new now (asks (setting g code l) pred (call_of vs many next m) m)
+asked_all code g l pred next left cut many vs first m r new now h refs is len height calls =
     let all = rules_at code pred in
-    let none : length all - left ≡ 0 = omega (arith, len) in
     let k : Call = record { next = next; many = many; cut = cut } in
-    let at : CallAt k (call_of [] many next m) = record { args = refl; next = refl; many = refl; cut = height_now code l m r cut h height } in
-    let c = calls g l m (call_of [] many next m) (selected None all) h (record { call = at; there = omega (arith, len); rules_are = all_selected all ∙ sym (ap (λ n. drop n all) none) }) in
-    c.stands
+    let c = call_of vs many next m in
+    let rules = selected (first_of m.state.subst c) all in
+    let at : CallAt (meaning_of r.arena) r.args.items k c = record { args = refs; next = refl; many = refl; cut = height_now code l m r cut h height } in
+    let same : left ≡ length rules = len ∙ ap length (selected_in code l m r first c all h is refs) in
+    let last = are_last code pred rules (selected_end (first_of m.state.subst c) all) in
+    let done = calls g l m c rules h (record { call = at; there = subst (λ n. n ≤ length all) (sym same) last.there; rules_are = last.are ∙ ap (last_rules code pred) (sym same) }) in
+    done.stands
 
 -- ## Slices of rules
+
+pub split_first : {A : Type 0} (xs : List A) (d : A) → 1 ≤ length xs → xs ≡ get_or xs 0 d ∷ take (length xs - 1) (drop 1 xs)
+split_first [] d le = absurd (omega (arith, le))
+split_first (y ∷ ys) d le =
+    let one : length (y ∷ ys) - 1 ≡ length ys = omega arith in
+    ap (λ l. y ∷ l) (sym (ap (λ n. take n ys) one ∙ take-length ys))
+
+pub rules_count : (code : Code) (s : Store) (refs : List Ref) (k : Call) (pred left : ℕ) (c : CallOf) (rules : List RuleCode) → RulesAt code s refs k pred left c rules → length rules ≡ left
+rules_count code s refs k pred left c rules at =
+    let all = rules_at code pred in
+    ap length at.rules_are ∙ length-drop (length all - left) all ∙ (let e : length all - (length all - left) ≡ left = omega (arith, at.there) in e)
 
 sliced : (all : List RuleCode) (left : ℕ) → left ≤ length all → take (length all - (length all - left)) (drop (length all - left) all) ≡ drop (length all - left) all
 sliced all left le =
     let count = length-drop (length all - left) all in
     ap (λ n. take n (drop (length all - left) all)) (sym count) ∙ take-length (drop (length all - left) all)
 
-pub record TwoOf (xs : List RuleCode) (d : RuleCode) : Type 0 where
-  pub next : RuleCode
-  pub rest : List RuleCode
-  pub is : xs ≡ get_or xs 0 d ∷ next ∷ rest
+-- the last so many rules of a predicate as a slice
+pub slice_is : (code : Code) (pred left : ℕ) (all : List RuleCode) → all ≡ rules_at code pred → left ≤ length (rules_at code pred) → take (length all - (length all - left)) (drop (length all - left) all) ≡ last_rules code pred left
+slice_is code pred left all same there = sliced all left (subst (λ xs. left ≤ length xs) (sym same) there) ∙ ap (λ xs. drop (length xs - left) xs) same
 
-two_of : (xs : List RuleCode) (d : RuleCode) → 2 ≤ length xs → TwoOf xs d
-two_of [] d le = absurd (omega (arith, le))
-two_of (x ∷ []) d le = absurd (omega (arith, le))
-two_of (x ∷ y ∷ ys) d le = record { next = y; rest = ys; is = refl }
+-- the rules that a call enters, and those that its first argument leaves behind the first
+pub record Further (code : Code) (m : Mid) (c : CallOf) (pred left : ℕ) (rules : List RuleCode) (rule : RuleCode) (n : ℕ) : Type 0 where
+  pub others : List RuleCode
+  pub is : rules ≡ rule ∷ others
+  pub count : n ≡ length (selected (first_of m.state.subst c) others)
+  pub last : AreLast code pred (selected (first_of m.state.subst c) others)
+  pub fewer : suc n ≤ left
 
--- the last so many rules of a predicate as a slice, of which there are two or more
-pub record Split (code : Code) (pred left : ℕ) (rules xs : List RuleCode) (d : RuleCode) : Type 0 where
-  pub next : RuleCode
-  pub rest : List RuleCode
-  pub is : rules ≡ get_or xs 0 d ∷ next ∷ rest
-  pub further : next ∷ rest ≡ last_rules code pred (left - 1)
-  pub some : 1 ≤ left
-
-pub split_rules : (code : Code) (pred left : ℕ) (all rules : List RuleCode) (d : RuleCode) → all ≡ rules_at code pred → rules ≡ last_rules code pred left → left ≤ length (rules_at code pred) →
-    2 ≤ length (take (length all - (length all - left)) (drop (length all - left) all)) → Split code pred left rules (take (length all - (length all - left)) (drop (length all - left) all)) d
-split_rules code pred left all rules d same is there two =
-    let within : left ≤ length all = subst (λ xs. left ≤ length xs) (sym same) there in
-    let slice = sliced all left within in
-    let count = ap length slice ∙ length-drop (length all - left) all in
-    let t = two_of (take (length all - (length all - left)) (drop (length all - left) all)) d two in
-    let rules_is : rules ≡ take (length all - (length all - left)) (drop (length all - left) all) = is ∙ ap (λ xs. drop (length xs - left) xs) (sym same) ∙ sym slice in
+pub further_in : (code : Code) (l : Limits) (m : Mid) (r : Memory) (first : Option View) (c : CallOf) (k : Call) (pred left n : ℕ) (rules xs others : List RuleCode) (rule : RuleCode) → Holds code l r m → IsFirst (meaning_of r.arena) r.args.items first → RulesAt code (meaning_of r.arena) r.args.items k pred left c rules →
+    xs ≡ last_rules code pred left → xs ≡ rule ∷ others → n ≡ length (codes_from first others) → Further code m c pred left rules rule n
+further_in code l m r first c k pred left n rules xs others rule h is at slice split len =
+    let all = rules_at code pred in
+    let chosen = selected (first_of m.state.subst c) others in
+    let whole : rules ≡ rule ∷ others = at.rules_are ∙ sym slice ∙ split in
+    let end : EndsIn all (rule ∷ others) = subst (EndsIn all) (sym slice ∙ split) (last_end code pred left) in
+    let count : n ≡ length chosen = len ∙ ap length (selected_in code l m r first c others h is at.call.args) in
+    let chosen_end = selected_end (first_of m.state.subst c) others in
+    let short = no_longer others chosen chosen_end in
+    let left_is : length (rule ∷ others) ≡ left = ap length (sym (sym slice ∙ split)) ∙ length-drop (length all - left) all ∙ (let e : length all - (length all - left) ≡ left = omega (arith, at.there) in e) in
     record {
-      next = t.next;
-      rest = t.rest;
-      is = rules_is ∙ t.is;
-      further = further_rules (length (rules_at code pred)) left (rules_at code pred) (get_or (take (length all - (length all - left)) (drop (length all - left) all)) 0 d) t.next t.rest refl (sym (rules_is ∙ t.is) ∙ is) there;
-      some = omega (arith, count, two);
+      others = others;
+      is = whole;
+      count = count;
+      last = are_last code pred chosen (ends_on all others chosen (next_end rule all others end) chosen_end);
+      fewer = omega (arith, count, short, left_is);
     }
+
+-- what is said of entering the first of them is said of the call
+pub further_begins : (code : Code) (g : Game) (l : Limits) (m : Mid) (r new : Memory) (c : CallOf) (k : Call) (pred left n : ℕ) (rules : List RuleCode) (rule : RuleCode) (now : Now) → Holds code l r m → CallAt (meaning_of r.arena) r.args.items k c → Further code m c pred left rules rule n →
+    EntersWith code r k rule.block pred n new now → CallBegins code l r k pred left new now (begins (setting g code l) c rules m)
+further_begins code g l m r new c k pred left n rules rule now h at f enters =
+    let chosen = selected (first_of m.state.subst c) f.others in
+    let there : n ≤ length (rules_at code pred) = subst (λ i. i ≤ length (rules_at code pred)) (sym f.count) f.last.there in
+    let done = enters g l m c rule chosen h refl (record { call = at; there = there; rules_are = f.last.are ∙ ap (last_rules code pred) (sym f.count) }) in
+    subst (λ rs. CallBegins code l r k pred left new now (begins (setting g code l) c rs m)) (sym f.is) (begins_on code l r new k pred (suc n) left now (enters_of (setting g code l) c rule chosen m) f.fewer done)
 
 -- ## Ways
 
-pub go_calls : (code : Code) (g : Game) (l : Limits) (m : Mid) (k : Call) (pred left : ℕ) (r new : Memory) (now : Now) (on : WayOf) → WayAt code (Calls k pred left) on → CallsRules code r k pred left new now → Holds code l r m → Falls code l r (Resumes (Calls k pred left)) new now (goes_on (setting g code l) on m)
+pub go_calls : (code : Code) (g : Game) (l : Limits) (m : Mid) (k : Call) (pred left : ℕ) (r new : Memory) (now : Now) (on : WayOf) → WayAt code (meaning_of r.arena) r.args.items (Calls k pred left) on → CallsRules code r k pred left new now → Holds code l r m → Falls code l r (Resumes (Calls k pred left)) new now (goes_on (setting g code l) on m)
 go_calls code g l m k pred left r new now (CallsOf c rules) at calls h = let x = calls g l m c rules h at in record { stands = x.stands; falls = x.falls }
 go_calls code g l m k pred left r new now on at calls h = absurd at
 
-pub go_goes : (code : Code) (g : Game) (l : Limits) (m : Mid) (b : ℕ) (r new : Memory) (now : Now) (on : WayOf) → WayAt code (Goes b) on → Falls code l r (Resumes (Goes b)) new now (goes_on (setting g code l) (GoesOf b) m) → Falls code l r (Resumes (Goes b)) new now (goes_on (setting g code l) on m)
+pub go_goes : (code : Code) (g : Game) (l : Limits) (m : Mid) (b : ℕ) (r new : Memory) (now : Now) (on : WayOf) → WayAt code (meaning_of r.arena) r.args.items (Goes b) on → Falls code l r (Resumes (Goes b)) new now (goes_on (setting g code l) (GoesOf b) m) → Falls code l r (Resumes (Goes b)) new now (goes_on (setting g code l) on m)
 go_goes code g l m b r new now (GoesOf b') at falls = subst (λ k. Falls code l r (Resumes (Goes b)) new now (goes_on (setting g code l) (GoesOf k) m)) (sym at) falls
 go_goes code g l m b r new now on at falls = absurd at
 
 -- ## The first of a rule
 
-pub record EntersBare (all rest : List Op) (vars : ℕ) : Type 0 where
-  pub is : all ≡ op.Enter vars [] ∷ rest
+-- code that begins with the entering of a rule
+pub record EntersAt (all rest : List Op) (vars : ℕ) (head : List Term) : Type 0 where
+  pub is : all ≡ op.Enter vars head ∷ rest
+  pub plain : ArePlain head
   pub built : OpsBuilt rest
 
-pub entering_is : (all : List Op) (x : Op) (rest : List Op) (vars : ℕ) (head : List Term) → all ≡ x ∷ rest → x ≡ op.Enter vars head → OpsBuilt all → EntersBare all rest vars
+pub entering_is : (all : List Op) (x : Op) (rest : List Op) (vars : ℕ) (head : List Term) → all ≡ x ∷ rest → x ≡ op.Enter vars head → OpsBuilt all → EntersAt all rest vars head
 entering_is all x rest vars head is enter built =
     let whole : all ≡ op.Enter vars head ∷ rest = is ∙ ap (λ y. y ∷ rest) enter in
     let parts : OpsBuilt (op.Enter vars head ∷ rest) = subst OpsBuilt whole built in
-    record { is = whole ∙ ap (λ ts. op.Enter vars ts ∷ rest) parts.0; built = parts.1 }
+    record { is = whole; plain = parts.0; built = parts.1 }
 
 -- what is said of the first of a rule is said of its entering
-pub rule_entered : (code : Code) (g : Game) (l : Limits) (m : Mid) (k : Call) (c : CallOf) (vars : ℕ) (r new : Memory) (now : Now) (ops : Bor (List Op)) (rest : List Op) → EntersBare ops.now rest vars → m.ops ≡ ops.now → CallAt k c → Holds code l r m →
-    EntersIn code r k vars [] rest new now → Falls code l r (Enters k ops) new now (entered (setting g code l) c m.ops m)
-rule_entered code g l m k c vars r new now ops rest e at call h does =
+pub rule_entered : (code : Code) (g : Game) (l : Limits) (m : Mid) (k : Call) (c : CallOf) (vars : ℕ) (head : List Term) (r new : Memory) (now : Now) (ops : Bor (List Op)) (rest : List Op) → EntersAt ops.now rest vars head → m.ops ≡ ops.now → CallAt (meaning_of r.arena) r.args.items k c → Holds code l r m →
+    EntersIn code r k vars head rest new now → Falls code l r (Enters k ops) new now (entered (setting g code l) c m.ops m)
+rule_entered code g l m k c vars head r new now ops rest e at call h does =
     subst (λ xs. Falls code l r (Enters k ops) new now (entered (setting g code l) c xs m)) (sym (at ∙ e.is)) (does g l (record m { ops = rest }) c ops (refl, e.built) call h)
 
 -- ## The answer of a rule that cuts

@@ -1,7 +1,11 @@
 pub mod Kept
 pub mod Cuts
 pub mod Opens
-pub mod Rows
+pub mod RowLemmas
+pub mod TermLemmas
+pub mod Matching
+pub mod HeadLemmas
+pub mod PassedRules
 pub mod Hands
 pub mod Leads
 pub mod Leaving

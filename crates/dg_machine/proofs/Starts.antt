@@ -1,7 +1,6 @@
 -- The start of a run.
 use Rattle.std.proofs.Common.{◌≡◌, ℕ, List, [], refl, sym, ap, ◌∙◌, subst, arith, length, reverse, vec_capacity, Result, Ok, Err, IfOk, OnErr}
 use Rattle.std.specs.Borrow.{Bor}
-use Rattle.dg_base.specs.declared.program.CoreProgram.{CoreProgram}
 use Rattle.dg_base.specs.declared.run.Ending.{Ending}
 use Rattle.dg_base.specs.declared.run.Limits.{Limits}
 use Rattle.dg_base.specs.Written.{SinkView}
@@ -17,36 +16,52 @@ use Rattle.dg_spacing.specs.Spacer.{StandsFor}
 use Rattle.dg_machine.specs.declared.now.Now.{Now}
 use Rattle.dg_machine.specs.declared.now.Now.TheVariants.{Runs}
 use Rattle.dg_machine.specs.declared.memory.Memory.{Memory}
+use Rattle.dg_machine.proofs.TermLemmas.{no_program}
 use Rattle.dg_machine.specs.Built.{OpsBuilt, IsBuilt}
 use Rattle.dg_machine.specs.Layout.{ChoicesAt, Roomy, HoldsWith, limit_in, at_rest}
 use Rattle.dg_machine.specs.Running.{game, HasText, IsAt, IsSomewhere, Finishes, LosesRun}
 
+-- what was emptied has its room
+pub record Emptied (r new : Memory) : Type 0 where
+  pub frames : new.frames.items ≡ []
+  pub inners : new.inners.items ≡ []
+  pub choices : new.choices.items ≡ []
+  pub kept : new.kept.items ≡ []
+  pub args : new.args.items ≡ []
+  pub frames_room : vec_capacity new.frames ≡ vec_capacity r.frames
+  pub inners_room : vec_capacity new.inners ≡ vec_capacity r.inners
+  pub choices_room : vec_capacity new.choices ≡ vec_capacity r.choices
+  pub kept_room : vec_capacity new.kept ≡ vec_capacity r.kept
+  pub args_room : vec_capacity new.args ≡ vec_capacity r.args
+  pub frame : new.frame ≡ 0
+  pub inner : new.inner ≡ 0
+
 -- memory that was emptied holds nothing
 pub cleared : (code : Code) (l : Limits) (r new : Memory) → Roomy l r → (meaning_of new.arena).state ≡ at_rest → (meaning_of new.arena).heap_limit ≡ (meaning_of r.arena).heap_limit → (meaning_of new.arena).trail_limit ≡ (meaning_of r.arena).trail_limit →
-    new.frames.items ≡ [] → new.inners.items ≡ [] → new.choices.items ≡ [] → vec_capacity new.frames ≡ vec_capacity r.frames → vec_capacity new.inners ≡ vec_capacity r.inners → vec_capacity new.choices ≡ vec_capacity r.choices → new.frame ≡ 0 → new.inner ≡ 0 → HoldsWith code l new at_rest [] [] []
-cleared code l r new x state heap trail frames inners choices fcap icap ccap frame inner =
+    Emptied r new → HoldsWith code l new at_rest [] [] []
+cleared code l r new x state heap trail e =
     let limit : limit_in new ≡ l.heap = heap ∙ x.limits.heap in
-    let a = x.frames in
-    let b = x.inners in
-    let d = x.choices in
-    let fs = ap length frames in
-    let is = ap length inners in
-    let cs = ap length choices in
+    let fs = ap length e.frames in
+    let is = ap length e.inners in
+    let cs = ap length e.choices in
+    let ks = ap length e.kept in
+    let us = ap length e.args in
     record {
       saves = [];
       stand = (tt, tt);
       state_is = state;
       limits = record { heap = limit; trail = trail ∙ x.limits.trail };
-      frames_are = frame;
-      inner_are = inner;
-      choices_are = subst (λ ks. ChoicesAt code new.frames.items new.inners.items [] (reverse ks) []) (sym choices) tt;
+      frames_are = e.frame;
+      inner_are = e.inner;
+      choices_are = subst (λ ks. ChoicesAt code new.frames.items new.inners.items new.kept.items [] (reverse ks) []) (sym e.choices) tt;
       room = record {
-        frames_fit = omega (arith, limit, a, fcap);
-        inners_fit = omega (arith, limit, b, icap);
-        choices_fit = omega (arith, limit, d, ccap);
+        frames_fit = omega (arith, limit, x.frames, e.frames_room);
+        inners_fit = omega (arith, limit, x.inners, e.inners_room);
+        choices_fit = omega (arith, limit, x.choices, e.choices_room);
         frames_few = omega (arith, fs);
         inners_few = omega (arith, is);
         choices_few = omega (arith, cs);
+        refs = record { kept_fit = omega (arith, limit, x.kept, e.kept_room); kept_few = omega (arith, ks); args_fit = omega (arith, x.args, e.args_room); args_few = omega (arith, us) };
       };
     }
 
@@ -61,10 +76,6 @@ at_start code g l typed r block s k built is held new = record {
   goals_is = refl;
   text = no_text s k new;
 }
-
--- a program of nothing
-no_program : CoreProgram
-no_program = record { preds = []; closures = []; places = []; objects = []; words = []; sites = 0; entry = 0 }
 
 pub a_game : Game
 a_game = game no_program []

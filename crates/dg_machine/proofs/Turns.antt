@@ -17,6 +17,7 @@ use Rattle.dg_spacing.specs.declared.spacer.Spacer.{Spacer}
 use Rattle.dg_machine.specs.declared.now.Now.{Now}
 use Rattle.dg_machine.specs.declared.now.Now.TheVariants.{Runs, Enters, Resumes, Fails, Ended}
 use Rattle.dg_machine.specs.declared.memory.Memory.{Memory}
+use Rattle.dg_machine.specs.Built.{OpsBuilt}
 use Rattle.dg_machine.specs.Layout.{HasRoom}
 use Rattle.dg_machine.specs.Standing.{Stands}
 use Rattle.dg_machine.specs.Running.{rests, HasText, DoesMarks, DoesGoal, Settles, IsAt, IsLost, IsSomewhere, HasEnded, IsLostWithin}
@@ -26,6 +27,10 @@ use Rattle.dg_machine.proofs.Runs.{goal_at, one_mark}
 -- memory has room where the machine is at a goal of some run
 pub room_at : (code : Code) (r : Memory) (ops : Bor (List Op)) → IsSomewhere code r (Runs ops) → HasRoom r
 room_at code r ops s = (goal_at code s.game s.limits s.typed r ops (after (setting s.game code s.limits) s.typed s.steps).now s.stands).held.0.room
+
+-- and its code is built
+pub built_at : (code : Code) (r : Memory) (ops : Bor (List Op)) → IsSomewhere code r (Runs ops) → OpsBuilt ops.now
+built_at code r ops s = (goal_at code s.game s.limits s.typed r ops (after (setting s.game code s.limits) s.typed s.steps).now s.stands).code_is.1
 
 -- behind a goal it is somewhere still
 pub somewhere_behind : (code : Code) (old new : Memory) (ops : Bor (List Op)) (next : Now) (s s' : Spacer) (k k' : SinkView) → at_goal ops.now ≡ true → DoesGoal code old ops.now new next s s' k k' → IsSomewhere code old (Runs ops) → IsSomewhere code new next

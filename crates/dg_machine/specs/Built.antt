@@ -1,5 +1,8 @@
 -- The instructions that a machine runs so far. Hold it against the README.
-use Rattle.std.specs.Prelude.{ℕ, ◌≡◌, List, [], ◌∷◌}
+use Rattle.std.specs.Prelude.{ℕ, ◌≤◌, List, [], ◌∷◌, length}
+use Rattle.std.specs.List.{All}
+use Rattle.dg_base.specs.declared.program.Term.{Term, out-Term}
+use Rattle.dg_base.specs.declared.program.Term.TheOpen as term
 use Rattle.dg_mid.specs.declared.code.Op.{Op}
 use Rattle.dg_mid.specs.declared.code.Op.TheVariants as op
 use Rattle.dg_mid.specs.declared.code.Action.{Action}
@@ -17,11 +20,30 @@ ActionBuilt action.Quit = Unit {0}
 ActionBuilt action.Stop = Unit {0}
 ActionBuilt a = ⊥
 
+-- A term without parts that reads nothing of the program.
+abbrev pub IsPlain : term.Term-F Term → Type 0
+IsPlain (term.Pair head tail) = ⊥
+IsPlain (term.Closure c) = ⊥
+IsPlain other = Unit {0}
+
+-- Each of some terms.
+abbrev pub ArePlain : List Term → Type 0
+ArePlain terms = All (λ (t : Term). IsPlain (out-Term t)) terms
+
+-- How many arguments a query has at most.
+abbrev pub most_args : ℕ
+most_args = 12
+
+-- The arguments of a query.
+pub record AreArguments (terms : List Term) : Type 0 where
+  pub plain : ArePlain terms
+  pub few : length terms ≤ most_args
+
 -- An instruction.
 abbrev pub OpBuilt : Op → Type 0
 OpBuilt (op.Do a) = ActionBuilt a
-OpBuilt (op.Ask pred terms many next) = terms ≡ []
-OpBuilt (op.LastAsk pred terms many) = terms ≡ []
+OpBuilt (op.Ask pred terms many next) = AreArguments terms
+OpBuilt (op.LastAsk pred terms many) = AreArguments terms
 OpBuilt op.Take = Unit {0}
 OpBuilt (op.Branch alt) = Unit {0}
 OpBuilt op.Once = Unit {0}
@@ -32,7 +54,7 @@ OpBuilt op.Refuse = Unit {0}
 OpBuilt op.Back = Unit {0}
 OpBuilt op.Return = Unit {0}
 OpBuilt (op.Goto b) = Unit {0}
-OpBuilt (op.Enter vars head) = head ≡ []
+OpBuilt (op.Enter vars head) = ArePlain head
 OpBuilt op.Done = Unit {0}
 OpBuilt x = ⊥
 

@@ -1,16 +1,19 @@
 -- How what a machine is in lies in memory. Hold it against the Dialog manual, chapters "Choice points" and "Control flow".
-use Rattle.std.specs.Prelude.{ℕ, suc, ◌+◌, ◌*◌, ◌-◌, ◌≡◌, ◌<◌, ◌≤◌, ◌++◌, List, [], ◌∷◌, Option, Some, None, length, reverse, drop, vec_capacity}
+use Rattle.std.specs.Prelude.{ℕ, ◌+◌, ◌*◌, ◌-◌, ◌≡◌, ◌<◌, ◌≤◌, ◌++◌, List, [], ◌∷◌, Option, Some, None, length, reverse, drop, vec_capacity, Bool}
 use Rattle.dg_base.specs.declared.run.Limits.{Limits}
 use Rattle.dg_meaning.specs.Values.{Value}
 use Rattle.dg_meaning.specs.OneRun.{Begins}
 use Rattle.dg_meaning.specs.Moves.{new_vars}
-use Rattle.dg_unify.specs.Store.{State, Store, Saved}
+use Rattle.dg_meaning.specs.Unify.{Unified}
+use Rattle.dg_unify.specs.Store.{State, Store, Saved, Kept}
 use Rattle.dg_arena.specs.Held.{meaning_of, saves_of}
 use Rattle.dg_mid.specs.declared.code.Code.{Code}
 use Rattle.dg_mid.specs.declared.code.RuleCode.{RuleCode}
 use Rattle.dg_mid.specs.Code.{rules_at}
 use Rattle.dg_mid.specs.State.{Place, Mid, Stop, Frame as FrameOf, Call as CallOf, Way as WayOf, Goes as GoesOf, Calls as CallsOf, Choice as ChoiceOf}
-use Rattle.dg_mid.specs.Step.{back_at}
+use Rattle.dg_mid.specs.Step.{back_at, bound, trail_more}
+use Rattle.dg_unify.specs.declared.bindings.Ref.{Ref}
+use Rattle.dg_machine.specs.declared.now.Row.{Row}
 use Rattle.dg_machine.specs.declared.now.Frame.{Frame}
 use Rattle.dg_machine.specs.declared.now.Inner.{Inner}
 use Rattle.dg_machine.specs.declared.now.Call.{Call}
@@ -19,13 +22,10 @@ use Rattle.dg_machine.specs.declared.now.Way.{Way}
 use Rattle.dg_machine.specs.declared.now.Way.TheVariants.{Goes, Calls}
 use Rattle.dg_machine.specs.declared.memory.Memory.{Memory}
 use Rattle.dg_machine.specs.Links.{named}
+use Rattle.dg_machine.specs.Refs.{RowAt, RefsAt}
+use Rattle.dg_machine.specs.Built.{most_args}
 
 -- ## Frames and inner constructs
-
--- Values stand at places in a row.
-abbrev pub ValuesAt : Store → ℕ → List Value → Type 0
-ValuesAt s at [] = Unit {0}
-ValuesAt s at (v ∷ vs) = (s.value (record { 0 = at }) ≡ Some v) × ValuesAt s (suc at) vs
 
 -- An inner construct begins at the height of its place, and stands behind the one around it.
 pub record InnerAt (around : ℕ → Type 0) (inners : List Inner) (l : ℕ) (p : Place) : Type 0 where
@@ -47,8 +47,7 @@ pub record FrameAt (behind : ℕ → Type 0) (s : Store) (inners : List Inner) (
   pub next : f.next ≡ frame.next
   pub many : f.many ≡ frame.many
   pub cut : f.cut.height ≡ frame.cut
-  pub vars : ValuesAt s frame.vars f.vars
-  pub count : length f.vars ≡ frame.count
+  pub vars : RowAt s frame.vars f.vars
   pub inner_is : InnersAt inners frame.inner f.inner
   pub older : frame.behind < e
   pub behind_is : behind frame.behind
@@ -60,9 +59,9 @@ FramesAt s inners frames e (f ∷ fs) = FrameAt (λ k. FramesAt s inners frames 
 
 -- ## Choices
 
--- A call is kept; it has no arguments.
-pub record CallAt (k : Call) (c : CallOf) : Type 0 where
-  pub args : c.args ≡ []
+-- A call is kept, and Refs of its arguments.
+pub record CallAt (s : Store) (refs : List Ref) (k : Call) (c : CallOf) : Type 0 where
+  pub args : RefsAt s refs c.args
   pub next : c.next ≡ k.next
   pub many : c.many ≡ k.many
   pub cut : c.cut.height ≡ k.cut
@@ -72,16 +71,16 @@ abbrev pub last_rules : Code → ℕ → ℕ → List RuleCode
 last_rules code pred left = let rules = rules_at code pred in drop (length rules - left) rules
 
 -- The last rules of a predicate are kept by their number, and the call that they are for.
-pub record RulesAt (code : Code) (k : Call) (pred left : ℕ) (c : CallOf) (rules : List RuleCode) : Type 0 where
-  pub call : CallAt k c
+pub record RulesAt (code : Code) (s : Store) (refs : List Ref) (k : Call) (pred left : ℕ) (c : CallOf) (rules : List RuleCode) : Type 0 where
+  pub call : CallAt s refs k c
   pub there : left ≤ length (rules_at code pred)
   pub rules_are : rules ≡ last_rules code pred left
 
--- What a choice goes on with is kept.
-abbrev pub WayAt : Code → Way → WayOf → Type 0
-WayAt code (Goes b) (GoesOf b') = b' ≡ b
-WayAt code (Calls k pred left) (CallsOf c rules) = RulesAt code k pred left c rules
-WayAt code way other = ⊥
+-- What a choice goes on with is kept, with Refs of its arguments.
+abbrev pub WayAt : Code → Store → List Ref → Way → WayOf → Type 0
+WayAt code s refs (Goes b) (GoesOf b') = b' ≡ b
+WayAt code s refs (Calls k pred left) (CallsOf c rules) = RulesAt code s refs k pred left c rules
+WayAt code s refs way other = ⊥
 
 -- No stoppable part and no gathering is open.
 pub record NoneOpen (stops : List Stop) (stop : Option ℕ) (height : ℕ) : Type 0 where
@@ -89,11 +88,12 @@ pub record NoneOpen (stops : List Stop) (stop : Option ℕ) (height : ℕ) : Typ
   pub stop_is : stop ≡ None
   pub height_is : height ≡ 0
 
--- A choice keeps where it goes back to: of the store a mark that stands, and of frames and inner constructs how many there were. The older choices were
--- made among those.
-pub record ChoiceAt (older : List Frame → List Inner → Type 0) (code : Code) (frames : List Frame) (inners : List Inner) (m : Saved) (k : Choice)
-    (c : ChoiceOf) : Type 0 where
-  pub way : WayAt code k.way c.way
+-- A choice keeps where it goes back to: of the store a mark that stands, and of frames, inner constructs and Refs how many there were; Refs of its
+-- arguments stand behind those. The older choices were made among them.
+pub record ChoiceAt (older : List Frame → List Inner → List Ref → Type 0) (code : Code) (frames : List Frame) (inners : List Inner) (refs : List Ref)
+    (m : Saved) (k : Choice) (c : ChoiceOf) : Type 0 where
+  pub args : List Ref
+  pub way : WayAt code m.store args k.way c.way
   pub mark : m.mark ≡ k.mark
   pub state : m.store.state ≡ c.state
   pub height : c.place.height ≡ k.mark.heap
@@ -103,19 +103,25 @@ pub record ChoiceAt (older : List Frame → List Inner → Type 0) (code : Code)
   pub inners_begin : Begins inners_then inners
   pub frames_len : length frames_then ≡ k.frames
   pub inners_len : length inners_then ≡ k.inners
+  pub refs_then : List Ref
+  pub refs_begin : Begins (refs_then ++ args) refs
+  pub refs_len : length refs_then ≡ k.refs
+  pub args_len : length args ≡ k.args
+  pub args_few : length args ≤ most_args
+  pub refs_few : length refs_then ≤ c.state.heap
   pub frames_are : FramesAt m.store inners_then frames_then k.frame c.frames
   pub inner_are : InnersAt inners_then k.inner c.inner
   pub frames_few : 6 * length frames_then ≤ c.state.heap
   pub inners_few : 10 * length inners_then ≤ c.state.heap
   pub none_open : NoneOpen c.stops c.stop c.height
-  pub older_are : older frames_then inners_then
+  pub older_are : older frames_then inners_then refs_then
 
 -- So does each of some choices, the newest first; each has room for those that are older.
-abbrev pub ChoicesAt : Code → List Frame → List Inner → List Saved → List Choice → List ChoiceOf → Type 0
-ChoicesAt code frames inners [] [] [] = Unit {0}
-ChoicesAt code frames inners (m ∷ ms) (k ∷ ks) (c ∷ cs) =
-    ChoiceAt (λ fs is. ChoicesAt code fs is ms ks cs) code frames inners m k c × (10 * length ks ≤ c.state.heap)
-ChoicesAt code frames inners ms ks cs = ⊥
+abbrev pub ChoicesAt : Code → List Frame → List Inner → List Ref → List Saved → List Choice → List ChoiceOf → Type 0
+ChoicesAt code frames inners refs [] [] [] = Unit {0}
+ChoicesAt code frames inners refs (m ∷ ms) (k ∷ ks) (c ∷ cs) =
+    ChoiceAt (λ fs is rs. ChoicesAt code fs is rs ms ks cs) code frames inners refs m k c × (10 * length ks ≤ c.state.heap)
+ChoicesAt code frames inners refs ms ks cs = ⊥
 
 -- ## Memory
 
@@ -126,6 +132,13 @@ heap_in r = (meaning_of r.arena).state.heap
 abbrev pub limit_in : Memory → ℕ
 limit_in r = (meaning_of r.arena).heap_limit
 
+-- There is room for the Refs that choices keep, one for each cell of the heap, and for the arguments of a call.
+pub record RefsFit (limit heap kept_room : ℕ) (kept : List Ref) (args_room : ℕ) (args : List Ref) : Type 0 where
+  pub kept_fit : limit ≤ kept_room
+  pub kept_few : length kept ≤ heap
+  pub args_fit : most_args ≤ args_room
+  pub args_few : length args ≤ most_args
+
 -- There is room for all that the heap may count: a frame is six cells or more, an inner construct and a choice ten.
 pub record HasRoom (r : Memory) : Type 0 where
   pub frames_fit : limit_in r < 6 * vec_capacity r.frames + 6
@@ -134,6 +147,7 @@ pub record HasRoom (r : Memory) : Type 0 where
   pub frames_few : 6 * length r.frames.items ≤ heap_in r
   pub inners_few : 10 * length r.inners.items ≤ heap_in r
   pub choices_few : 10 * length r.choices.items ≤ heap_in r
+  pub refs : RefsFit (limit_in r) (heap_in r) (vec_capacity r.kept) r.kept.items (vec_capacity r.args) r.args.items
 
 -- The limits are those of the store.
 pub record Limited (l : Limits) (s : Store) : Type 0 where
@@ -150,6 +164,8 @@ pub record Roomy (l : Limits) (r : Memory) : Type 0 where
   pub frames : l.heap < 6 * vec_capacity r.frames + 6
   pub inners : l.heap < 10 * vec_capacity r.inners + 10
   pub choices : l.heap < 10 * vec_capacity r.choices + 10
+  pub kept : l.heap ≤ vec_capacity r.kept
+  pub args : most_args ≤ vec_capacity r.args
 
 -- So many cells more than were taken are too many, and room is left as it was.
 pub record Lacks (n : ℕ) (l : Limits) (heap : ℕ) (r : Memory) : Type 0 where
@@ -165,7 +181,7 @@ pub record HoldsWith (code : Code) (l : Limits) (r : Memory) (state : State) (fr
   pub limits : Limited l (meaning_of r.arena)
   pub frames_are : FramesAt (meaning_of r.arena) r.inners.items r.frames.items r.frame frames
   pub inner_are : InnersAt r.inners.items r.inner inner
-  pub choices_are : ChoicesAt code r.frames.items r.inners.items saves (reverse r.choices.items) choices
+  pub choices_are : ChoicesAt code r.frames.items r.inners.items r.kept.items saves (reverse r.choices.items) choices
   pub room : HasRoom r
 
 -- Memory holds what a machine is in; nothing stoppable and no gathering is open in it.
@@ -180,9 +196,11 @@ pub record Took (n : ℕ) (old new : Memory) : Type 0 where
   pub others : new ≡ record old { arena = new.arena }
   pub room : HasRoom new
 
--- A choice was opened, and took ten of the heap.
-pub record Opened (way : Way) (old new : Memory) : Type 0 where
-  pub heap : heap_in new ≡ heap_in old + 10
+-- A choice with so many arguments was opened, and took ten of the heap and one for each.
+pub record Opened (way : Way) (count : ℕ) (old new : Memory) : Type 0 where
+  pub heap : heap_in new ≡ heap_in old + (10 + count)
+  pub values : Kept (meaning_of old.arena) (meaning_of new.arena)
+  pub args : new.args ≡ old.args
   pub inners : new.inners ≡ old.inners
   pub frame : new.frame ≡ old.frame
   pub inner : new.inner ≡ old.inner
@@ -191,25 +209,20 @@ pub record Opened (way : Way) (old new : Memory) : Type 0 where
   pub goes : choice.way ≡ way
   pub choices : new.choices.items ≡ old.choices.items ++ choice ∷ []
 
--- The newest choice is gone, and memory holds what it goes back to; or there was none.
+-- The newest choice is gone, and memory holds what it goes back to, with its arguments; or there was none.
 abbrev pub WentBack : Code → Limits → Option Way → Memory → Mid → List ChoiceOf → Type 0
-WentBack code l (Some way) new m (c ∷ cs) = WayAt code way c.way × Holds code l new (back_at c cs m)
+WentBack code l (Some way) new m (c ∷ cs) = WayAt code (meaning_of new.arena) new.args.items way c.way × Holds code l new (back_at c cs m)
 WentBack code l None new m [] = Unit {0}
 WentBack code l way new m cs = ⊥
-
--- So many new variables stand at places in a row from one on, and each took one of the heap.
-pub record MadeRow (n : ℕ) (old new : Store) (at : ℕ) : Type 0 where
-  pub state : new.state ≡ record old.state { vars = old.state.vars + n; heap = old.state.heap + n }
-  pub values : ValuesAt new at (new_vars n old.state.vars)
 
 -- The state of a machine with a rule's cells and variables made.
 abbrev pub made_state : ℕ → State → State
 made_state n s = record s { vars = s.vars + n; heap = s.heap + (6 + n) }
 
--- A rule's cells were taken, and its variables stand in a row; there is room for one more frame.
-pub record MadeRule (code : Code) (l : Limits) (n : ℕ) (m : Mid) (new : Memory) (at : ℕ) : Type 0 where
+-- A rule's cells were taken, and its variables stand in a row.
+pub record MadeRule (code : Code) (l : Limits) (n : ℕ) (m : Mid) (new : Memory) (row : Row) : Type 0 where
   pub held : Holds code l new (record m { state = made_state n m.state })
-  pub values : ValuesAt (meaning_of new.arena) at (new_vars n m.state.vars)
+  pub row_is : RowAt (meaning_of new.arena) row (new_vars n m.state.vars)
 
 -- There is room for one more frame.
 abbrev pub HasFrameRoom : Memory → Type 0
@@ -218,3 +231,14 @@ HasFrameRoom r = 6 * length r.frames.items + 6 ≤ heap_in r
 -- A machine in a new frame of these variables, which a call has entered.
 abbrev pub in_frame : CallOf → List Value → Mid → Mid
 in_frame c vs m = record m { frames = record { vars = vs; cut = c.cut; many = c.many; next = c.next; inner = m.inner } ∷ m.frames; inner = [] }
+
+-- Arguments were unified with a head, which led to this: it is told whether they agree, memory holds what was bound, and that is within the trail.
+pub record Matched (code : Code) (l : Limits) (u : Unified) (m : Mid) (new : Memory) (yes : Bool) : Type 0 where
+  pub agrees : yes ≡ u.agrees
+  pub held : Holds code l new (bound u m)
+  pub fits : trail_more m.state u ≤ l.trail
+
+-- What would be bound is too much for the trail, and room is left as it was.
+pub record Unmatched (l : Limits) (u : Unified) (m : Mid) (new : Memory) : Type 0 where
+  pub over : l.trail < trail_more m.state u
+  pub roomy : Roomy l new

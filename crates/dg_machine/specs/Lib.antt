@@ -1,4 +1,6 @@
 pub mod Links
+pub mod Refs
+pub mod Passing
 pub mod Layout
 pub mod Built
 pub mod Measure

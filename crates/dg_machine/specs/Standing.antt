@@ -1,9 +1,11 @@
 -- What a machine with its memory stands for. Hold it against the Dialog manual, chapter "Choice points".
-use Rattle.std.specs.Prelude.{ℕ, ◌≡◌, ◌<◌, ◌≤◌, List, [], Bool, length}
+use Rattle.std.specs.Prelude.{ℕ, suc, ◌≡◌, ◌<◌, ◌≤◌, List, Bool, length}
 use Rattle.std.specs.Borrow.{Bor}
 use Rattle.dg_base.specs.declared.program.Term.{Term}
 use Rattle.dg_base.specs.declared.run.Limits.{Limits}
 use Rattle.dg_meaning.specs.World.{Game}
+use Rattle.dg_meaning.specs.Values.{Value}
+use Rattle.dg_arena.specs.Held.{meaning_of}
 use Rattle.dg_mid.specs.declared.code.Op.{Op}
 use Rattle.dg_mid.specs.declared.code.Code.{Code}
 use Rattle.dg_mid.specs.declared.code.RuleCode.{RuleCode}
@@ -12,13 +14,14 @@ use Rattle.dg_mid.specs.State.{Mid, Call as CallOf, Way as WayOf, Goes as GoesOf
 use Rattle.dg_mid.specs.State.{Status, Runs as RunsOf, Enters as EntersOf, Resumes as ResumesOf, Fails as FailsOf, Ended as EndedOf}
 use Rattle.dg_mid.specs.Heights.{MidOrdered, StatusOrdered}
 use Rattle.dg_mid.specs.Potential.{Tidy}
-use Rattle.dg_mid.specs.Step.{setting, call_of, begins, asks, last, does, enter, entered, goes_on, goes_back, step}
+use Rattle.dg_mid.specs.Step.{setting, call_of, begins, enters, asks, last, does, enter, entered, goes_on, goes_back, step}
 use Rattle.dg_machine.specs.declared.now.Call.{Call}
 use Rattle.dg_machine.specs.declared.now.Way.{Way}
 use Rattle.dg_machine.specs.declared.now.Way.TheVariants.{Goes, Calls}
 use Rattle.dg_machine.specs.declared.now.Now.{Now}
 use Rattle.dg_machine.specs.declared.now.Now.TheVariants.{Runs, Enters, Resumes, Fails, Ended}
 use Rattle.dg_machine.specs.declared.memory.Memory.{Memory}
+use Rattle.dg_machine.specs.Refs.{RefsAt, AreRefs}
 use Rattle.dg_machine.specs.Layout.{CallAt, RulesAt, WayAt, Roomy, Holds}
 use Rattle.dg_machine.specs.Measure.{left_of}
 use Rattle.dg_machine.specs.Built.{OpBuilt, OpsBuilt, IsBuilt}
@@ -30,8 +33,8 @@ CodeIs ops m = (m.ops ≡ ops) × OpsBuilt ops
 -- What is done next is what a status is in, and memory holds it; where the run has ended it has room still.
 abbrev pub Stands : Code → Limits → Memory → Now → Status → Type 0
 Stands code l r (Runs ops) (RunsOf m) = CodeIs ops.now m × Holds code l r m
-Stands code l r (Enters k ops) (EntersOf c m) = CodeIs ops.now m × CallAt k c × Holds code l r m
-Stands code l r (Resumes way) (ResumesOf way' m) = WayAt code way way' × Holds code l r m
+Stands code l r (Enters k ops) (EntersOf c m) = CodeIs ops.now m × CallAt (meaning_of r.arena) r.args.items k c × Holds code l r m
+Stands code l r (Resumes way) (ResumesOf way' m) = WayAt code (meaning_of r.arena) r.args.items way way' × Holds code l r m
 Stands code l r Fails (FailsOf m) = Holds code l r m
 Stands code l r (Ended e) (EndedOf e') = (e' ≡ e) × Roomy l r
 Stands code l r now s = ⊥
@@ -64,32 +67,38 @@ pub record CallBegins (code : Code) (l : Limits) (old : Memory) (k : Call) (pred
 
 abbrev pub CallsRules : Code → Memory → Call → ℕ → ℕ → Memory → Now → Type 0
 CallsRules code old k pred left new after = (g : Game) (l : Limits) (m : Mid) (c : CallOf) (rules : List RuleCode) → Holds code l old m →
-    RulesAt code k pred left c rules → CallBegins code l old k pred left new after (begins (setting g code l) c rules m)
+    RulesAt code (meaning_of old.arena) old.args.items k pred left c rules → CallBegins code l old k pred left new after (begins (setting g code l) c rules m)
 
--- A predicate is asked by a call without arguments that goes on at a block.
+-- A call enters a rule of this block, with the last so many rules of a predicate left.
+abbrev pub EntersWith : Code → Memory → Call → ℕ → ℕ → ℕ → Memory → Now → Type 0
+EntersWith code old k block pred left new after = (g : Game) (l : Limits) (m : Mid) (c : CallOf) (rule : RuleCode) (rules : List RuleCode) →
+    Holds code l old m → rule.block ≡ block → RulesAt code (meaning_of old.arena) old.args.items k pred left c rules →
+    CallBegins code l old k pred (suc left) new after (enters (setting g code l) c rule rules m)
+
+-- A predicate is asked with the arguments at hand by a call that goes on at a block.
 abbrev pub Asks : Code → Memory → ℕ → Bool → ℕ → Memory → Now → Type 0
-Asks code old pred many next new after = (g : Game) (l : Limits) (m : Mid) → Holds code l old m →
-    Stands code l new after (asks (setting g code l) pred (call_of [] many next m) m)
+Asks code old pred many next new after = (g : Game) (l : Limits) (m : Mid) (vs : List Value) → Holds code l old m →
+    RefsAt (meaning_of old.arena) old.args.items vs → Stands code l new after (asks (setting g code l) pred (call_of vs many next m) m)
 
 -- The same of the last query of a rule.
 abbrev pub AsksLast : Code → Memory → ℕ → Bool → Memory → Now → Type 0
-AsksLast code old pred many new after = (g : Game) (l : Limits) (m : Mid) → Holds code l old m →
-    Stands code l new after (last (setting g code l) (ToPred pred) [] many m.frames m)
+AsksLast code old pred many new after = (g : Game) (l : Limits) (m : Mid) (vs : List Value) → Holds code l old m →
+    RefsAt (meaning_of old.arena) old.args.items vs → Stands code l new after (last (setting g code l) (ToPred pred) vs many m.frames m)
 
 -- A call enters a rule.
 abbrev pub EntersRule : Code → Memory → Call → Bor (List Op) → Memory → Now → Type 0
-EntersRule code old k ops new after = (g : Game) (l : Limits) (m : Mid) (c : CallOf) → CodeIs ops.now m → CallAt k c → Holds code l old m →
-    Falls code l old (Enters k ops) new after (entered (setting g code l) c m.ops m)
+EntersRule code old k ops new after = (g : Game) (l : Limits) (m : Mid) (c : CallOf) → CodeIs ops.now m →
+    CallAt (meaning_of old.arena) old.args.items k c → Holds code l old m → Falls code l old (Enters k ops) new after (entered (setting g code l) c m.ops m)
 
 -- A call enters a rule of so many variables and this head, with these instructions behind it.
 abbrev pub EntersIn : Code → Memory → Call → ℕ → List Term → List Op → Memory → Now → Type 0
-EntersIn code old k vars head rest new after = (g : Game) (l : Limits) (m : Mid) (c : CallOf) (ops : Bor (List Op)) → CodeIs rest m → CallAt k c →
-    Holds code l old m → Falls code l old (Enters k ops) new after (enter (setting g code l) c vars head m)
+EntersIn code old k vars head rest new after = (g : Game) (l : Limits) (m : Mid) (c : CallOf) (ops : Bor (List Op)) → CodeIs rest m →
+    CallAt (meaning_of old.arena) old.args.items k c → Holds code l old m → Falls code l old (Enters k ops) new after (enter (setting g code l) c vars head m)
 
--- The rules that a choice goes on with are there.
-abbrev pub IsThere : Code → Way → Type 0
-IsThere code (Goes b) = Unit {0}
-IsThere code (Calls k pred left) = left ≤ length (rules_at code pred)
+-- The rules that a choice goes on with are there, and the arguments at hand.
+abbrev pub IsThere : Code → Memory → Way → Type 0
+IsThere code r (Goes b) = Unit {0}
+IsThere code r (Calls k pred left) = (left ≤ length (rules_at code pred)) × AreRefs (meaning_of r.arena) r.args.items
 
 -- A choice goes on at a block, with a number of an earlier block where that begins with it.
 abbrev pub GoesOnAt : Code → ℕ → Memory → Bor (List Op) → Memory → Now → Type 0
@@ -98,7 +107,7 @@ GoesOnAt code b old ops new after = (g : Game) (l : Limits) (m : Mid) → Tidy c
 
 -- A choice goes on.
 abbrev pub GoesOn : Code → Memory → Way → Memory → Now → Type 0
-GoesOn code old way new after = (g : Game) (l : Limits) (m : Mid) (on : WayOf) → WayAt code way on → Holds code l old m →
+GoesOn code old way new after = (g : Game) (l : Limits) (m : Mid) (on : WayOf) → WayAt code (meaning_of old.arena) old.args.items way on → Holds code l old m →
     Falls code l old (Resumes way) new after (goes_on (setting g code l) on m)
 
 -- It fails.

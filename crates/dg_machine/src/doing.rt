@@ -1,19 +1,23 @@
 // What an instruction does in memory.
-ghost use Rattle.std.specs.Prelude.{◌≡◌, ◌<◌, ◌≤◌, ℕ, List, [], length};
+ghost use Rattle.std.specs.Prelude.{◌≡◌, ◌<◌, ◌≤◌, ℕ, List, length};
 ghost use Rattle.dg_base.specs.declared.run.Limits.{Limits};
 ghost use Rattle.dg_mid.specs.declared.code.Code.{Code as TheCode};
+ghost use Rattle.dg_mid.specs.declared.code.Op.{Op as TheOp};
 ghost use Rattle.dg_mid.specs.declared.code.Op.TheVariants as op;
 ghost use Rattle.dg_mid.specs.declared.code.Action.TheVariants as action;
 ghost use Rattle.dg_mid.specs.Code.{block_at, rules_at};
 ghost use Rattle.dg_mid.specs.State.{Mid};
 ghost use Rattle.dg_mid.specs.Potential.{Tidy};
-ghost use Rattle.dg_machine.specs.Built.{IsBuilt};
+ghost use Rattle.dg_arena.specs.Held.{meaning_of};
+ghost use Rattle.dg_machine.specs.Built.{ArePlain, AreArguments, OpsBuilt, IsBuilt};
+ghost use Rattle.dg_machine.specs.Refs.{AreRefs};
 ghost use Rattle.dg_machine.specs.Layout.{HasRoom, Holds};
-ghost use Rattle.dg_machine.specs.Standing.{DoesOp, DoesMark, CallsRules, Asks, AsksLast, EntersRule, EntersIn, IsThere, GoesOnAt, GoesOn, FailsTo};
+ghost use Rattle.dg_machine.specs.Standing.{DoesOp, DoesMark, CallsRules, EntersWith, Asks, AsksLast, EntersRule, EntersIn, IsThere, GoesOnAt, GoesOn, FailsTo};
 
 use crate::memory::Memory;
 use crate::now::{Call, Now, Way};
-use dg_base::Ending;
+use crate::passing::pass;
+use dg_base::{Ending, Term};
 use dg_mid::{Code, Op, RuleCode};
 
 /// The instructions of a block.
@@ -42,7 +46,7 @@ impl Memory {
         requires room { HasRoom self.old }
         ensures { (code : TheCode) → DoesOp code self.old (op.Branch alt) rest.now self.new result }
     {
-        match self.open(Way::Goes(alt)) {
+        match self.open(Way::Goes(alt), 0) {
             Ok(()) => Now::Runs(rest),
             Err(_) => Now::Ended(Ending::HeapLimit),
         }
@@ -54,7 +58,7 @@ impl Memory {
         ensures { (code : TheCode) → DoesOp code self.old (op.Try alt) rest.now self.new result }
     {
         let height = self.arena.heap();
-        match self.open(Way::Goes(alt)) {
+        match self.open(Way::Goes(alt), 0) {
             Ok(()) => {
                 self.begin(height);
                 Now::Runs(rest)
@@ -144,80 +148,146 @@ impl Memory {
         }
     }
 
-    /// A call enters the first of the last so many rules of a predicate.
+    /// A call enters the rule of a block, with the last so many rules of its predicate left.
+    fn enter_with<'p>(
+        &mut self,
+        code: &'p Code,
+        call: Call,
+        block: u32,
+        pred: u16,
+        left: usize,
+    ) -> Now<'p>
+        requires room { HasRoom self.old }
+        requires built { IsBuilt code.now }
+        ensures { EntersWith code.now self.old call block pred left self.new result }
+    {
+        let ops = code_at(code, block);
+        if left == 0 {
+            return Now::Enters(call, ops);
+        }
+        let count = self.args.len();
+        match self.open(Way::Calls(call, pred, left), count) {
+            Ok(()) => Now::Enters(call, ops),
+            Err(_) => Now::Ended(Ending::HeapLimit),
+        }
+    }
+
+    /// A call enters the first of the last so many rules of a predicate; those that its first argument excludes aren't left.
     pub fn call<'p>(&mut self, code: &'p Code, call: Call, pred: u16, left: usize) -> Now<'p>
         requires room { HasRoom self.old }
         requires built { IsBuilt code.now }
         requires there { left ≤ length (rules_at code.now pred) }
+        requires args { AreRefs (meaning_of self.old.arena) self.old.args.items }
         ensures { CallsRules code.now self.old call pred left self.new result }
     {
         let all = rules_of(code, pred);
         let rules = &all[all.len() - left..];
         match rules {
             [] => Now::Fails,
-            [rule] => Now::Enters(call, code_at(code, rule.block)),
-            [rule, ..] => match self.open(Way::Calls(call, pred, left - 1)) {
-                Ok(()) => Now::Enters(call, code_at(code, rule.block)),
-                Err(_) => Now::Ended(Ending::HeapLimit),
-            },
+            [rule, others @ ..] => {
+                let first = self.first_argument();
+                let further = pass(first, others).len();
+                self.enter_with(code, call, rule.block, pred, further)
+            }
         }
     }
 
-    /// A predicate is asked.
-    pub fn ask<'p>(&mut self, code: &'p Code, pred: u16, many: bool, next: u32) -> Now<'p>
+    /// A predicate is asked with the arguments at hand.
+    fn ask_rules<'p>(&mut self, code: &'p Code, pred: u16, many: bool, next: u32) -> Now<'p>
         requires room { HasRoom self.old }
         requires built { IsBuilt code.now }
+        requires args { AreRefs (meaning_of self.old.arena) self.old.args.items }
         ensures { Asks code.now self.old pred many next self.new result }
     {
         let cut = self.arena.heap();
-        let left = rules_of(code, pred).len();
+        let first = self.first_argument();
+        let left = pass(first, rules_of(code, pred)).len();
         self.call(code, Call { next, many, cut }, pred, left)
     }
 
-    /// A predicate is asked in the last query of a rule, which goes on where the rule does, unless the rule still has to cut.
-    pub fn ask_last<'p>(&mut self, code: &'p Code, pred: u16, many: bool) -> Now<'p>
+    /// A predicate is asked with the arguments at hand in the last query of a rule, which goes on where the rule does, unless the
+    /// rule still has to cut.
+    fn ask_last_rules<'p>(&mut self, code: &'p Code, pred: u16, many: bool) -> Now<'p>
         requires room { HasRoom self.old }
         requires built { IsBuilt code.now }
+        requires args { AreRefs (meaning_of self.old.arena) self.old.args.items }
         ensures { AsksLast code.now self.old pred many self.new result }
     {
         match self.frame_at_hand() {
             Some(frame) if frame.many => {
                 self.frame = frame.behind;
                 self.inner = frame.inner;
-                self.ask(code, pred, many, frame.next)
+                self.ask_rules(code, pred, many, frame.next)
             }
             _ => {
                 self.inner = 0;
-                self.ask(code, pred, many, 0)
+                self.ask_rules(code, pred, many, 0)
             }
+        }
+    }
+
+    /// A predicate is asked.
+    pub fn ask<'p>(
+        &mut self,
+        code: &'p Code,
+        pred: u16,
+        terms: &[Term],
+        many: bool,
+        next: u32,
+    ) -> Now<'p>
+        requires some { (l : Limits) × (m : Mid) × Holds code.now l self.old m }
+        requires built { IsBuilt code.now }
+        requires terms { AreArguments terms.now }
+        ensures { (rest : List TheOp) → DoesOp code.now self.old (op.Ask pred terms.now many next) rest self.new result }
+    {
+        self.put_args(terms);
+        self.ask_rules(code, pred, many, next)
+    }
+
+    /// A predicate is asked in the last query of a rule.
+    pub fn ask_last<'p>(&mut self, code: &'p Code, pred: u16, terms: &[Term], many: bool) -> Now<'p>
+        requires some { (l : Limits) × (m : Mid) × Holds code.now l self.old m }
+        requires built { IsBuilt code.now }
+        requires terms { AreArguments terms.now }
+        ensures { (rest : List TheOp) → DoesOp code.now self.old (op.LastAsk pred terms.now many) rest self.new result }
+    {
+        self.put_args(terms);
+        self.ask_last_rules(code, pred, many)
+    }
+
+    /// A rule of so many variables and this head is entered.
+    fn enter<'p>(&mut self, call: Call, vars: u16, head: &[Term], rest: &'p [Op]) -> Now<'p>
+        requires room { HasRoom self.old }
+        requires args { AreRefs (meaning_of self.old.arena) self.old.args.items }
+        requires head { ArePlain head.now }
+        ensures { (code : TheCode) → EntersIn code self.old call vars head.now rest.now self.new result }
+    {
+        match self.make_rule(vars) {
+            Err(_) => Now::Ended(Ending::HeapLimit),
+            Ok(row) => match self.match_args(head, row) {
+                Err(_) => Now::Ended(Ending::TrailLimit),
+                Ok(false) => Now::Fails,
+                Ok(true) => {
+                    self.push_frame(call, row);
+                    Now::Runs(rest)
+                }
+            },
         }
     }
 
     /// A call enters a rule.
     pub fn enter_rule<'p>(&mut self, call: Call, ops: &'p [Op]) -> Now<'p>
         requires room { HasRoom self.old }
+        requires args { AreRefs (meaning_of self.old.arena) self.old.args.items }
+        requires built { OpsBuilt ops.now }
         ensures { (code : TheCode) → EntersRule code self.old call ops.entry self.new result }
     {
         match ops {
             [] => Now::Fails,
             [op, rest @ ..] => match op {
-                Op::Enter(vars, _) => self.enter(call, *vars, rest),
+                Op::Enter(vars, head) => self.enter(call, *vars, head.as_slice(), rest),
                 _ => Now::Fails,
             },
-        }
-    }
-
-    /// A rule of so many variables is entered.
-    fn enter<'p>(&mut self, call: Call, vars: u16, rest: &'p [Op]) -> Now<'p>
-        requires room { HasRoom self.old }
-        ensures { (code : TheCode) → EntersIn code self.old call vars [] rest.now self.new result }
-    {
-        match self.make_rule(vars) {
-            Err(_) => Now::Ended(Ending::HeapLimit),
-            Ok(first) => {
-                self.push_frame(call, first, vars);
-                Now::Runs(rest)
-            }
         }
     }
 
@@ -229,7 +299,7 @@ impl Memory {
         match ops {
             [] => Now::Runs(ops),
             [op, rest @ ..] => match op {
-                Op::Retry(alt) => match self.open(Way::Goes(*alt)) {
+                Op::Retry(alt) => match self.open(Way::Goes(*alt), 0) {
                     Ok(()) => Now::Runs(rest),
                     Err(_) => Now::Ended(Ending::HeapLimit),
                 },
@@ -243,7 +313,7 @@ impl Memory {
         requires room { HasRoom self.old }
         requires built { IsBuilt code.now }
         requires tidy { Tidy code.now }
-        requires there { IsThere code.now way }
+        requires there { IsThere code.now self.old way }
         ensures { GoesOn code.now self.old way self.new result }
     {
         match way {

@@ -5,8 +5,12 @@ mod doing;
 mod machine;
 mod memory;
 mod now;
+mod passing;
+mod refs;
+mod rows;
 mod steps;
+mod terms;
 
 pub use machine::Machine;
 pub use memory::Memory;
-pub use now::{Call, Choice, Frame, Inner, Now, Way};
+pub use now::{Call, Choice, Frame, Inner, Now, Row, Way};

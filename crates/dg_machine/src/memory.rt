@@ -1,28 +1,42 @@
-// The memory of a run: a store, and areas of frames, inner constructs and choices.
-ghost use Rattle.std.specs.Prelude.{◌≡◌, ◌<◌, ◌≤◌, ◌+◌, ◌*◌, ℕ, List, [], ◌∷◌, IfOk, OnOk, MatchResult, length, reverse, vec_capacity};
+// The memory of a run: a store, areas of frames, inner constructs, choices and Refs, and the arguments of a call.
+ghost use Rattle.std.specs.Prelude.{◌≡◌, ◌<◌, ◌≤◌, ◌+◌, ◌*◌, ℕ, List, [], ◌∷◌, IfOk, OnOk, MatchResult, length, map, take, reverse, vec_capacity};
+ghost use Rattle.std.specs.List.{zip};
+ghost use Rattle.dg_base.specs.declared.program.CoreProgram.{CoreProgram};
 ghost use Rattle.dg_base.specs.declared.run.Limits.{Limits};
-ghost use Rattle.dg_meaning.specs.Values.{Value};
-ghost use Rattle.dg_unify.specs.Store.{Saved, Kept};
-ghost use Rattle.dg_arena.specs.Held.{meaning_of, saves_of};
+ghost use Rattle.dg_meaning.specs.Values.{Value, value_of};
+ghost use Rattle.dg_meaning.specs.Moves.{new_vars};
+ghost use Rattle.dg_meaning.specs.Unify.{solve};
+ghost use Rattle.dg_unify.specs.Store.{Store, Kept};
+ghost use Rattle.dg_unify.specs.declared.bindings.Ref.{Ref};
+ghost use Rattle.dg_arena.specs.Held.{meaning_of};
 ghost use Rattle.dg_mid.specs.declared.code.Code.{Code};
-ghost use Rattle.dg_mid.specs.State.{Mid, Place, Call as CallOf, Way as WayOf};
+ghost use Rattle.dg_mid.specs.State.{Mid, Place, Call as CallOf, Way as WayOf, vars_of};
 ghost use Rattle.dg_mid.specs.Step.{more, inside, within};
-ghost use Rattle.dg_machine.specs.Layout.{MadeRow, ValuesAt};
+ghost use Rattle.dg_machine.specs.Built.{ArePlain, AreArguments};
 ghost use Rattle.dg_machine.specs.Links.{named, below};
 ghost use Rattle.dg_machine.specs.Measure.{way_left, choices_left};
+ghost use Rattle.dg_machine.specs.Passing.{IsFirst};
+ghost use Rattle.dg_machine.specs.Refs.{RowAt, RefsAt, AreRefs};
 
-use crate::now::{Call, Choice, Frame, Inner, Way};
+use crate::now::{Call, Choice, Frame, Inner, Row, Way};
+use crate::refs::{MOST_ARGS, move_refs, push_refs};
+use crate::rows::make_row;
+use crate::terms::{match_head, write_args};
 use dg_arena::Arena;
-use dg_unify::{Bindings, Full};
+use dg_base::Term;
+use dg_unify::{Bindings, Full, Ref, View};
 use std::alloc::{AllocError, Global};
 
-/// A store, with areas of frames, of inner constructs and of choices, and which frame and which inner construct are at hand.
+/// A store, with areas of frames, of inner constructs, of choices and of the Refs that these keep, the arguments of a call, and
+/// which frame and which inner construct are at hand.
 #[derive(Drop)]
 pub struct Memory {
     pub arena: Arena,
     pub frames: Vec<Frame>,
     pub inners: Vec<Inner>,
     pub choices: Vec<Choice>,
+    pub kept: Vec<Ref>,
+    pub args: Vec<Ref>,
     pub frame: usize,
     pub inner: usize,
 }
@@ -41,31 +55,9 @@ fn drop_to(choices: &mut Vec<Choice>, to: u32)
     }
 }
 
-/// Makes so many new variables at places in a row, and answers the first of them.
-fn make_row(arena: &mut Arena, count: u16) -> Result<u32, Full>
-    ensures kept { Kept (meaning_of arena.old) (meaning_of arena.new) }
-    ensures saved { (ms : List Saved) → saves_of arena.old ms → saves_of arena.new ms }
-    ensures made { MatchResult result (λ at. MadeRow count (meaning_of arena.old) (meaning_of arena.new) at)
-        (λ _. (meaning_of arena.old).heap_limit < (meaning_of arena.old).state.heap + count) }
-{
-    if count == 0 {
-        return Ok(0);
-    }
-    let first = match arena.fresh() {
-        Err(full) => return Err(full),
-        Ok(var) => var.0,
-    };
-    'variables: for _ in 1..count {
-        match arena.fresh() {
-            Err(full) => return Err(full),
-            Ok(_) => {}
-        }
-    }
-    Ok(first)
-}
-
 impl Memory {
-    ghost use Rattle.dg_machine.specs.Layout.{at_rest, HoldsWith, WayAt, CallAt, HasRoom, Holds, Took, Opened, WentBack, Roomy, Lacks, heap_in, MadeRule, HasFrameRoom, in_frame};
+    ghost use Rattle.dg_machine.specs.Layout.{at_rest, HoldsWith, WayAt, CallAt, HasRoom, Holds, Took, Opened, WentBack, Roomy, Lacks, heap_in, MadeRule};
+    ghost use Rattle.dg_machine.specs.Layout.{HasFrameRoom, in_frame, Matched, Unmatched};
     ghost use Rattle.dg_machine.specs.Measure.{left_by};
 
     /// Memory for runs with these limits of heap and trail, which is taken at once.
@@ -76,11 +68,15 @@ impl Memory {
         let frames = Vec::with_capacity(alloc, (heap / 6) as usize)?;
         let inners = Vec::with_capacity(alloc, (heap / 10) as usize)?;
         let choices = Vec::with_capacity(alloc, (heap / 10) as usize)?;
+        let kept = Vec::with_capacity(alloc, heap as usize)?;
+        let args = Vec::with_capacity(alloc, MOST_ARGS)?;
         Ok(Memory {
             arena,
             frames,
             inners,
             choices,
+            kept,
+            args,
             frame: 0,
             inner: 0,
         })
@@ -94,6 +90,8 @@ impl Memory {
         self.frames.clear();
         self.inners.clear();
         self.choices.clear();
+        self.kept.clear();
+        self.args.clear();
         self.frame = 0;
         self.inner = 0;
     }
@@ -141,23 +139,29 @@ impl Memory {
         }
     }
 
-    /// Opens a choice, which takes ten cells.
-    pub fn open(&mut self, way: Way) -> Result<(), Full>
+    /// Opens a choice that keeps so many arguments, which takes ten cells, and one for each.
+    pub fn open(&mut self, way: Way, count: usize) -> Result<(), Full>
         requires room { HasRoom self.old }
-        ensures held { (code : Code) → (l : Limits) → (m : Mid) → (on : WayOf) → Holds code l self.old m → WayAt code way on →
-            MatchResult result (λ _. Holds code l self.new (inside on 0 m)) (λ _. Lacks 10 l m.state.heap self.new) }
-        ensures opened { OnOk result (Opened way self.old self.new) }
+        requires count { count ≤ length self.old.args.items }
+        ensures held { (code : Code) → (l : Limits) → (m : Mid) → (on : WayOf) → Holds code l self.old m →
+            WayAt code (meaning_of self.old.arena) (take count self.old.args.items) way on →
+            MatchResult result (λ _. Holds code l self.new (inside on count m)) (λ _. Lacks (10 + count) l m.state.heap self.new) }
+        ensures opened { OnOk result (Opened way count self.old self.new) }
     {
         let mark = self.arena.mark();
-        match self.arena.charge(10) {
+        match self.arena.charge(10 + count as u32) {
             Err(full) => Err(full),
             Ok(()) => {
+                let refs = self.kept.len();
+                push_refs(&mut self.kept, &self.args[..count]);
                 self.choices.push_reserved(Choice {
                     way,
                     frame: self.frame,
                     inner: self.inner,
                     frames: self.frames.len(),
                     inners: self.inners.len(),
+                    refs,
+                    args: count,
                     mark,
                 });
                 Ok(())
@@ -179,30 +183,90 @@ impl Memory {
         self.inner = self.inners.len();
     }
 
-    /// Takes a rule's six cells, and makes so many variables in a row, of which it answers the first.
-    pub fn make_rule(&mut self, vars: u16) -> Result<u32, Full>
+    /// The variables at hand.
+    fn row_at_hand(&self) -> Row
+        ensures { (code : Code) → (l : Limits) → (m : Mid) → Holds code l self.now m → RowAt (meaning_of self.now.arena) result (vars_of m.frames) }
+    {
+        match self.frame_at_hand() {
+            Some(frame) => frame.vars,
+            None => Row { first: 0, count: 0 },
+        }
+    }
+
+    /// Puts the values of terms, among the variables at hand, into the register of arguments.
+    pub fn put_args(&mut self, terms: &[Term])
+        requires some { (code : Code) × (l : Limits) × (m : Mid) × Holds code l self.old m }
+        requires terms { AreArguments terms.now }
+        ensures held { (code : Code) → (l : Limits) → (m : Mid) → Holds code l self.old m → Holds code l self.new m }
+        ensures args { (code : Code) → (l : Limits) → (m : Mid) → (p : CoreProgram) → Holds code l self.old m →
+            RefsAt (meaning_of self.new.arena) self.new.args.items (map (value_of p (vars_of m.frames)) terms.now) }
+        ensures refs { AreRefs (meaning_of self.new.arena) self.new.args.items }
+        ensures room { HasRoom self.new }
+    {
+        let row = self.row_at_hand();
+        write_args(&mut self.arena, row, terms, &mut self.args);
+    }
+
+    /// What the first argument shows, if there is one.
+    pub fn first_argument(&self) -> Option<View>
+        requires args { AreRefs (meaning_of self.now.arena) self.now.args.items }
+        ensures { IsFirst (meaning_of self.now.arena) self.now.args.items result }
+    {
+        match self.args.as_slice() {
+            [] => None,
+            [first, ..] => Some(self.arena.walk(*first)),
+        }
+    }
+
+    /// Takes a rule's six cells, and makes its variables in a row.
+    pub fn make_rule(&mut self, vars: u16) -> Result<Row, Full>
         requires room { HasRoom self.old }
         ensures held { (code : Code) → (l : Limits) → (m : Mid) → Holds code l self.old m →
-            MatchResult result (λ at. MadeRule code l vars m self.new at) (λ _. Lacks (6 + vars) l m.state.heap self.new) }
-        ensures room { OnOk result (HasFrameRoom self.new) }
-        ensures same { OnOk result (HasRoom self.new) }
+            MatchResult result (λ row. MadeRule code l vars m self.new row) (λ _. Lacks (6 + vars) l m.state.heap self.new) }
+        ensures room { OnOk result (HasRoom self.new) }
+        ensures few { OnOk result (HasFrameRoom self.new) }
+        ensures row { IfOk result (λ row. RowAt (meaning_of self.new.arena) row (new_vars vars (meaning_of self.old.arena).state.vars)) }
+        ensures values { Kept (meaning_of self.old.arena) (meaning_of self.new.arena) }
+        ensures args { self.new.args ≡ self.old.args }
         ensures choices { self.new.choices ≡ self.old.choices }
     {
         match self.arena.charge(6) {
             Err(full) => Err(full),
             Ok(()) => match make_row(&mut self.arena, vars) {
                 Err(full) => Err(full),
-                Ok(first) => Ok(first),
+                Ok(row) => Ok(row),
             },
         }
     }
 
-    /// Makes the frame of a rule that a call has entered, whose variables stand in a row; its cells were taken.
-    pub fn push_frame(&mut self, call: Call, vars: u32, count: u16)
+    /// Unifies the arguments with the values of a rule's head, whose variables stand in a row, and answers whether they agree.
+    pub fn match_args(&mut self, head: &[Term], row: Row) -> Result<bool, Full>
         requires room { HasRoom self.old }
         requires few { HasFrameRoom self.old }
-        ensures held { (code : Code) → (l : Limits) → (m : Mid) → (c : CallOf) → (vs : List Value) → Holds code l self.old m → CallAt call c →
-            ValuesAt (meaning_of self.old.arena) vars vs → length vs ≡ count → Holds code l self.new (in_frame c vs m) }
+        requires args { AreRefs (meaning_of self.old.arena) self.old.args.items }
+        requires row { (vs : List Value) × RowAt (meaning_of self.old.arena) row vs }
+        requires head { ArePlain head.now }
+        ensures matched { (code : Code) → (l : Limits) → (m : Mid) → (p : CoreProgram) → (args vs : List Value) → Holds code l self.old m →
+            RefsAt (meaning_of self.old.arena) self.old.args.items args → RowAt (meaning_of self.old.arena) row vs →
+            MatchResult result (Matched code l (solve m.state.subst (zip args (map (value_of p vs) head.now))) m self.new)
+            (λ _. Unmatched l (solve m.state.subst (zip args (map (value_of p vs) head.now))) m self.new) }
+        ensures room { OnOk result (HasRoom self.new) }
+        ensures few { OnOk result (HasFrameRoom self.new) }
+        ensures values { Kept (meaning_of self.old.arena) (meaning_of self.new.arena) }
+        ensures choices { self.new.choices ≡ self.old.choices }
+    {
+        match match_head(&mut self.arena, self.args.as_slice(), head, row) {
+            Err(full) => Err(full),
+            Ok(agreed) => Ok(agreed),
+        }
+    }
+
+    /// Makes the frame of a rule that a call has entered, whose variables stand in a row; its cells were taken.
+    pub fn push_frame(&mut self, call: Call, vars: Row)
+        requires room { HasRoom self.old }
+        requires few { HasFrameRoom self.old }
+        ensures held { (code : Code) → (l : Limits) → (m : Mid) → (c : CallOf) → (s : Store) → (refs : List Ref) → (vs : List Value) →
+            Holds code l self.old m → CallAt s refs call c → RowAt (meaning_of self.old.arena) vars vs → Holds code l self.new (in_frame c vs m) }
         ensures choices { self.new.choices ≡ self.old.choices }
     {
         self.frames.push_reserved(Frame {
@@ -210,7 +274,6 @@ impl Memory {
             many: call.many,
             cut: call.cut,
             vars,
-            count,
             inner: self.inner,
             behind: self.frame,
         });
@@ -218,7 +281,7 @@ impl Memory {
         self.inner = 0;
     }
 
-    /// Goes back to the newest choice, which is gone.
+    /// Goes back to the newest choice, which is gone, with its arguments.
     pub fn back(&mut self) -> Option<Way>
         requires some { (code : Code) × (l : Limits) × (m : Mid) × Holds code l self.old m }
         ensures back { (code : Code) → (l : Limits) → (m : Mid) → Holds code l self.old m → WentBack code l result self.new m m.choices }
@@ -231,6 +294,7 @@ impl Memory {
                 self.arena.undo(choice.mark);
                 self.frames.truncate(choice.frames);
                 self.inners.truncate(choice.inners);
+                move_refs(&mut self.kept, choice.refs, choice.args, &mut self.args);
                 self.frame = choice.frame;
                 self.inner = choice.inner;
                 Some(choice.way)

@@ -1,19 +1,28 @@
 // What a machine keeps of the code that it runs.
 
+ghost use Rattle.std.specs.Prelude.{◌+◌, ◌≤◌};
+
 use dg_base::Ending;
 use dg_mid::Op;
 use dg_unify::Mark;
 
+/// Variables in a row of the store: the place of the first, and how many there are.
+#[derive(Clone, Copy, Drop)]
+pub struct Row {
+    pub first: u32,
+    pub count: u16,
+    ghost low: { first + count ≤ 2147483648 },
+}
+
 /// A rule that is being run: the block behind its answer, whether all its answers are wanted, the height of the heap to which
-/// its (just) cuts, the first of its variables and how many there are, the inner constructs that are open behind it, and the
-/// frame behind it. A frame and an inner construct are named by their places, counted from 1.
+/// its (just) cuts, its variables, the inner constructs that are open behind it, and the frame behind it. A frame and an
+/// inner construct are named by their places, counted from 1.
 #[derive(Clone, Copy, Drop)]
 pub struct Frame {
     pub next: u32,
     pub many: bool,
     pub cut: u32,
-    pub vars: u32,
-    pub count: u16,
+    pub vars: Row,
     pub inner: usize,
     pub behind: usize,
 }
@@ -25,7 +34,8 @@ pub struct Inner {
     pub around: usize,
 }
 
-/// A query that is about to enter a rule: the block behind it, whether all its answers are wanted, and where it cuts to.
+/// A query that is about to enter a rule: the block behind it, whether all its answers are wanted, and where it cuts to. Its
+/// arguments are in the register.
 #[derive(Clone, Copy, Drop)]
 pub struct Call {
     pub next: u32,
@@ -40,8 +50,8 @@ pub enum Way {
     Calls(Call, u16, usize),
 }
 
-/// A choice: what it goes on with, the frame and the inner construct there, how many of them there were, and the place of the
-/// store to which it goes back.
+/// A choice: what it goes on with, the frame and the inner construct there, how many of them there were, how many Refs were
+/// kept, how many arguments it keeps behind them, and the place of the store to which it goes back.
 #[derive(Clone, Copy, Drop)]
 pub struct Choice {
     pub way: Way,
@@ -49,6 +59,8 @@ pub struct Choice {
     pub inner: usize,
     pub frames: usize,
     pub inners: usize,
+    pub refs: usize,
+    pub args: usize,
     pub mark: Mark,
 }
 

@@ -7,8 +7,10 @@ ghost use Rattle.dg_mid.specs.declared.code.Op.TheVariants as op;
 ghost use Rattle.dg_mid.specs.Step.{at_goal, is_goal as takes_goal};
 ghost use Rattle.dg_mid.specs.Potential.{Tidy};
 ghost use Rattle.dg_machine.specs.declared.now.Now.TheVariants.{Runs};
-ghost use Rattle.dg_machine.specs.Built.{IsBuilt, IsQuiet, IsQuietOp};
-ghost use Rattle.dg_machine.specs.Layout.{HasRoom};
+ghost use Rattle.dg_machine.specs.Built.{OpBuilt, OpsBuilt, IsBuilt, IsQuiet, IsQuietOp};
+ghost use Rattle.dg_base.specs.declared.run.Limits.{Limits};
+ghost use Rattle.dg_mid.specs.State.{Mid};
+ghost use Rattle.dg_machine.specs.Layout.{HasRoom, Holds};
 ghost use Rattle.dg_machine.specs.Standing.{DoesOp, DoesMark, HasStatus};
 ghost use Rattle.dg_machine.specs.Running.{rests, DoesMarks, DoesGoal, LosesGoal, IsSomewhere, Settles, Takes, Loses, Finishes, LosesRun};
 
@@ -135,15 +137,17 @@ fn act<'p>(memory: &mut Memory, action: &'p Action, rest: &'p [Op]) -> Now<'p>
 /// Does an instruction that takes a goal and prints nothing.
 fn do_quiet<'p>(memory: &mut Memory, code: &'p Code, op: &'p Op, rest: &'p [Op]) -> Now<'p>
     requires room { HasRoom memory.old }
+    requires some { (l : Limits) × (m : Mid) × Holds code.now l memory.old m }
     requires built { IsBuilt code.now }
+    requires op_built { OpBuilt op.now }
     requires goal { takes_goal op.now ≡ true }
     requires quiet { IsQuietOp op.now }
     ensures { DoesOp code.now memory.old op.now rest.now memory.new result }
 {
     match op {
         Op::Do(action) => act(memory, action, rest),
-        Op::Ask(pred, _, many, next) => memory.ask(code, *pred, *many, *next),
-        Op::LastAsk(pred, _, many) => memory.ask_last(code, *pred, *many),
+        Op::Ask(pred, terms, many, next) => memory.ask(code, *pred, terms.as_slice(), *many, *next),
+        Op::LastAsk(pred, terms, many) => memory.ask_last(code, *pred, terms.as_slice(), *many),
         Op::Take => Now::Runs(rest),
         Op::Branch(alt) => memory.branch(*alt, rest),
         Op::Once => memory.once(rest),
@@ -189,7 +193,9 @@ fn goal_step<'p, K: Sink>(
     sink: &mut K,
 ) -> Result<Now<'p>, WriteFault>
     requires room { HasRoom memory.old }
+    requires some { (l : Limits) × (m : Mid) × Holds code.now l memory.old m }
     requires built { IsBuilt code.now }
+    requires ops_built { OpsBuilt ops.now }
     requires goal { at_goal ops.now ≡ true }
     ensures ok { IfOk result (λ now. DoesGoal code.now memory.old ops.now memory.new now spacer.old spacer.new (K.view sink.old) (K.view sink.new)) }
     ensures err { OnErr result (LosesGoal code.now memory.old ops.now spacer.old (K.view sink.old) (K.view sink.new)) }

@@ -1,7 +1,7 @@
-use Rattle.std.proofs.Common.{ap, length}
-use Rattle.dg_machine.proofs.Leaving.{asked_all}
+use Rattle.dg_machine.proofs.Goals.{asks_op}
 use Rattle.dg_machine.proofs.memory.Memory.ask.Goals as goal
 
 pub returns : goal.returns
-returns c g l m h =
-    asked_all c.args.code.now g l c.args.pred c.args.next (length c.rules_of-left.result.now) c.heap-cut.result c.args.many m c.args.self.now c.call.new.self c.call.result h (ap length c.rules_of-left.ensures) c.heap-cut.ensures c.call.ensures
+returns c rest =
+    asks_op c.args.code.now c.args.self.now c.put_args.new.self c.ask_rules.new.self c.ask_rules.result c.args.pred c.args.next c.args.terms.now c.args.many rest c.requires.terms.plain c.ask_rules.ensures
+    (λ l m h. c.put_args.ensures.held c.args.code.now l m h) (λ l m p h. c.put_args.ensures.args c.args.code.now l m p h)

@@ -1,14 +1,7 @@
-use Rattle.std.proofs.Common.{sym, ◌∙◌}
-use Rattle.dg_machine.proofs.Leaving.{asks_behind, asks_first, asks_inside}
+use Rattle.dg_machine.proofs.Goals.{asks_last_op}
 use Rattle.dg_machine.proofs.memory.Memory.ask_last.Goals as goal
-use Rattle.dg_machine.proofs.memory.Memory.ask_last.Goals.{in_default-via-in-Some+else-frame, in_default-via-in_default}
 
-pub returns-in-Some : goal.returns-in-Some
-returns-in-Some c g l m h = asks_behind c.args.code.now g l c.args.pred c.args.many m c.args.self.now c.ask.new.self c.ask.result h c.in-Some.frame (sym c.in-Some.ensures) c.if-frame.true (λ m' held. c.ask.ensures g l m' held)
-
-pub returns-in_default : goal.returns-in_default
-returns-in_default c g l m h =
-    elim c.in_default.branch [
-      | in_default-via-in-Some+else-frame w ↦ asks_inside c.args.code.now g l c.args.pred c.args.many m c.args.self.now c.ask-in_default.new.self c.ask-in_default.result h w.in-Some.frame (sym w.in-Some.ensures) w.if-frame.false (λ m' held. c.ask-in_default.ensures g l m' held)
-      | in_default-via-in_default w ↦ asks_first c.args.code.now g l c.args.pred c.args.many m c.args.self.now c.ask-in_default.new.self c.ask-in_default.result h (sym c.frame_at_hand.ensures ∙ w.in_default.is) (λ m' held. c.ask-in_default.ensures g l m' held)
-    ]
+pub returns : goal.returns
+returns c rest =
+    asks_last_op c.args.code.now c.args.self.now c.put_args.new.self c.ask_last_rules.new.self c.ask_last_rules.result c.args.pred c.args.terms.now c.args.many rest c.requires.terms.plain c.ask_last_rules.ensures
+    (λ l m h. c.put_args.ensures.held c.args.code.now l m h) (λ l m p h. c.put_args.ensures.args c.args.code.now l m p h)

@@ -7,7 +7,7 @@ use Rattle.dg_machine.proofs.Leads.{charged_stands, full_stands, height_now, few
 use Rattle.dg_machine.proofs.memory.Memory.attempt.Goals as goal
 
 pub begin-requires-clause-few : goal.begin-requires-clause-few
-begin-requires-clause-few c = few_more (GoesTo c.args.alt) c.args.self.now c.open.new.self c.requires.room c.in-Ok.ensures.opened
+begin-requires-clause-few c = few_more (GoesTo c.args.alt) 0 c.args.self.now c.open.new.self c.requires.room c.in-Ok.ensures.opened
 
 pub begin-requires-clause-room : goal.begin-requires-clause-room
 begin-requires-clause-room c = c.in-Ok.ensures.opened.room

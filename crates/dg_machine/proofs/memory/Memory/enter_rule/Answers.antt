@@ -1,4 +1,5 @@
-use Rattle.std.proofs.Common.{take, drop, length, ◌-◌}
+use Rattle.std.proofs.Common.{ap, take, drop, length, ◌-◌, ◌∙◌, sym}
+use Rattle.dg_mid.specs.declared.code.Op.TheVariants as op
 use Rattle.dg_machine.proofs.Leaving.{split_list, entering_is, rule_entered}
 use Rattle.dg_machine.proofs.memory.Memory.enter_rule.Goals as goal
 
@@ -7,5 +8,5 @@ returns-in-Enter c code g l m call at k h =
     let all = c.args.ops.now in
     let rest = take (length all - 1) (drop 1 all) in
     let split = split_list all c.op-item.result c.in-len1-up.len_at_least c.op-item.is in
-    rule_entered code g l m c.args.call call c.in-Enter.vars c.args.self.now c.enter.new.self c.enter.result c.args.ops rest
-    (entering_is all c.op-item.result rest c.in-Enter.vars c.in-Enter.field-1 split c.in-Enter.is at.1) at.0 k h (c.enter.ensures code)
+    rule_entered code g l m c.args.call call c.in-Enter.vars c.as_slice.result.now c.args.self.now c.enter.new.self c.enter.result c.args.ops rest
+    (entering_is all c.op-item.result rest c.in-Enter.vars c.as_slice.result.now split (c.in-Enter.is ∙ ap (op.Enter c.in-Enter.vars) (sym c.as_slice.ensures)) at.1) at.0 k h (c.enter.ensures code)

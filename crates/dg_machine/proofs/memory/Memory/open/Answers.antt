@@ -1,5 +1,7 @@
-use Rattle.std.proofs.Common.{refl, ap, arith}
+use Rattle.std.proofs.Common.{◌≡◌, ◌∙◌, ◌++◌, refl, ap, arith, ◌+◌, take}
 use Rattle.dg_unify.specs.Store.{State}
+use Rattle.dg_unify.proofs.StoreLemmas.{kept_on}
+use Rattle.dg_arena.specs.Held.{meaning_of}
 use Rattle.dg_machine.specs.declared.now.Choice.{Choice}
 use Rattle.dg_machine.specs.declared.memory.Memory.{Memory}
 use Rattle.dg_machine.proofs.Opens.{opened, opened_room, lacks}
@@ -8,13 +10,36 @@ use Rattle.dg_machine.proofs.memory.Memory.open.Goals as goal
 pub returns-in-Ok-clause-held : goal.returns-in-Ok-clause-held
 returns-in-Ok-clause-held c code l m on h way =
     let r = c.args.self.now in
-    let k : Choice = record { way = c.args.way; frame = r.frame; inner = r.inner; frames = c.len.result; inners = c.len-in-Ok.result; mark = c.mark-mark.result } in
-    let new : Memory = record r { arena = c.charge.new.self; choices = c.push_reserved.new.self } in
+    let k : Choice = record { way = c.args.way; frame = r.frame; inner = r.inner; frames = c.len.result; inners = c.len-in-Ok.result; refs = c.len-refs.result; args = c.args.count; mark = c.mark-mark.result } in
+    let new : Memory = record r { arena = c.charge.new.self; choices = c.push_reserved.new.self; kept = c.push_refs.new.to } in
     let marks = c.mark-mark.ensures in
     let taken = c.in-Ok.ensures in
-    opened code l m on r new c.mark-mark.new.self k h way refl refl (omega (arith, c.len.ensures, r.frames.ok.0)) (omega (arith, c.len-in-Ok.ensures, r.inners.ok.0)) marks.kept marks.saved marks.same taken.kept taken.saved taken.made
-    c.push_reserved.ensures.items (opened_room r new c.mark-mark.new.self k c.requires.room marks.kept marks.same taken.kept taken.made c.push_reserved.ensures.items c.push_reserved.ensures.capacity)
+    let items : c.push_refs.new.to.items ≡ r.kept.items ++ take c.args.count r.args.items = c.push_refs.ensures.items ∙ ap (λ xs. r.kept.items ++ take c.args.count xs) c.deref.ensures.value in
+    opened code l m on c.args.count r new c.mark-mark.new.self k h way c.requires.count refl refl (omega (arith, c.len.ensures, r.frames.ok.0)) (omega (arith, c.len-in-Ok.ensures, r.inners.ok.0)) (omega (arith, c.len-refs.ensures, r.kept.ok.0)) refl
+    marks.kept marks.saved marks.same taken.kept taken.saved taken.made items c.push_reserved.ensures.items
+    (opened_room c.args.count r new c.mark-mark.new.self k c.requires.room c.requires.count marks.kept marks.same taken.kept taken.made items c.push_refs.ensures.capacity c.push_reserved.ensures.items c.push_reserved.ensures.capacity)
+
+pub returns-in-Ok-clause-opened : goal.returns-in-Ok-clause-opened
+returns-in-Ok-clause-opened c =
+    let r = c.args.self.now in
+    let k : Choice = record { way = c.args.way; frame = r.frame; inner = r.inner; frames = c.len.result; inners = c.len-in-Ok.result; refs = c.len-refs.result; args = c.args.count; mark = c.mark-mark.result } in
+    let new : Memory = record r { arena = c.charge.new.self; choices = c.push_reserved.new.self; kept = c.push_refs.new.to } in
+    let marks = c.mark-mark.ensures in
+    let taken = c.in-Ok.ensures in
+    let items : c.push_refs.new.to.items ≡ r.kept.items ++ take c.args.count r.args.items = c.push_refs.ensures.items ∙ ap (λ xs. r.kept.items ++ take c.args.count xs) c.deref.ensures.value in
+    record {
+      heap = ap (λ (s : State). s.heap) taken.made.state ∙ ap (λ (s : State). s.heap + (10 + c.args.count)) marks.same;
+      values = kept_on (meaning_of r.arena) (meaning_of c.mark-mark.new.self) (meaning_of c.charge.new.self) marks.kept taken.kept;
+      args = refl;
+      inners = refl;
+      frame = refl;
+      inner = refl;
+      room = opened_room c.args.count r new c.mark-mark.new.self k c.requires.room c.requires.count marks.kept marks.same taken.kept taken.made items c.push_refs.ensures.capacity c.push_reserved.ensures.items c.push_reserved.ensures.capacity;
+      choice = k;
+      goes = refl;
+      choices = c.push_reserved.ensures.items;
+    }
 
 pub returns-in-Err-clause-held : goal.returns-in-Err-clause-held
 returns-in-Err-clause-held c code l m on h way =
-    lacks code l m 10 c.args.self.now c.mark-mark.new.self c.charge.new.self c.in-Err.full h c.mark-mark.ensures.kept (ap (λ (s : State). s.heap) c.mark-mark.ensures.same) c.in-Err.ensures.kept c.in-Err.ensures.made
+    lacks code l m (10 + c.args.count) c.args.self.now c.mark-mark.new.self c.charge.new.self c.in-Err.full h c.mark-mark.ensures.kept (ap (λ (s : State). s.heap) c.mark-mark.ensures.same) c.in-Err.ensures.kept c.in-Err.ensures.made

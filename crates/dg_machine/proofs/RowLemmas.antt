@@ -11,9 +11,12 @@ use Rattle.dg_arena.specs.Held.{meaning_of, saves_of}
 use Rattle.dg_mid.specs.declared.code.Code.{Code}
 use Rattle.dg_mid.specs.State.{Mid}
 use Rattle.dg_machine.specs.declared.memory.Memory.{Memory}
-use Rattle.dg_machine.specs.Layout.{ValuesAt, Holds, HasRoom, Lacks, MadeRow, MadeRule, made_state, HasFrameRoom, heap_in}
+use Rattle.dg_machine.specs.declared.now.Row.{Row}
+use Rattle.dg_machine.specs.Refs.{ValuesAt, RowAt, MadeRow, Keeps}
+use Rattle.dg_unify.proofs.StoreLemmas.{kept_on}
+use Rattle.dg_machine.specs.Layout.{Holds, HasRoom, Lacks, MadeRule, made_state, HasFrameRoom, heap_in}
 use Rattle.dg_machine.proofs.Kept.{values_kept}
-use Rattle.dg_machine.proofs.Opens.{heap_full, roomy, roomy_on, on_arena}
+use Rattle.dg_machine.proofs.Opens.{heap_full, roomy, roomy_on, on_arena, refs_on}
 
 new_vars_more : (n v : ℕ) → new_vars (suc n) v ≡ new_vars n v ++ Var (v + n) ∷ []
 new_vars_more zero v = ap (λ x. Var x ∷ []) (omega arith)
@@ -30,67 +33,75 @@ values_end s at (w ∷ vs) v h e =
     (h.0, values_end s (suc at) vs v h.1 (subst (λ n. s.value (record { 0 = n }) ≡ Some v) next e))
 
 -- so many variables were made in a row, and the next one will stand behind them
-pub record Row (n : ℕ) (old now : Store) (first : ℕ) : Type 0 where
-  pub row : MadeRow n old now first
+pub record Begun (n : ℕ) (old now : Store) (first : ℕ) : Type 0 where
+  pub state : now.state ≡ record old.state { vars = old.state.vars + n; heap = old.state.heap + n }
+  pub values : ValuesAt now first (new_vars n old.state.vars)
   pub next : now.places ≡ first + n
 
-pub row_starts : (s t : Store) (r : Ref) → Fresh s t r → Row 1 s t r.0
+pub row_starts : (s t : Store) (r : Ref) → Fresh s t r → Begun 1 s t r.0
 row_starts s t r f = record {
-  row = record { state = f.state; values = (f.value, tt) };
+  state = f.state;
+  values = (f.value, tt);
   next = omega (arith, f.next, f.place);
 }
 
-pub row_on : (n m : ℕ) (s t u : Store) (first : ℕ) (r : Ref) → m ≡ n + 1 → Row n s t first → Kept t u → Fresh t u r → Row m s u first
+pub row_on : (n m : ℕ) (s t u : Store) (first : ℕ) (r : Ref) → m ≡ n + 1 → Begun n s t first → Kept t u → Fresh t u r → Begun m s u first
 row_on n m s t u first r e x kept f =
-    let vars : t.state.vars ≡ s.state.vars + n = ap (λ (y : State). y.vars) x.row.state in
+    let vars : t.state.vars ≡ s.state.vars + n = ap (λ (y : State). y.vars) x.state in
     let more : new_vars m s.state.vars ≡ new_vars n s.state.vars ++ Var (s.state.vars + n) ∷ [] = ap (λ k. new_vars k s.state.vars) (let one : m ≡ suc n = omega (arith, e) in one) ∙ new_vars_more n s.state.vars in
     let place : r.0 ≡ first + length (new_vars n s.state.vars) = omega (arith, f.place, x.next, new_vars_length n s.state.vars) in
     let there : u.value (record { 0 = first + length (new_vars n s.state.vars) }) ≡ Some (Var (s.state.vars + n)) = subst (λ k. u.value (record { 0 = k }) ≡ Some (Var (s.state.vars + n))) place (f.value ∙ ap (λ k. Some (Var k)) vars) in
     let heap : s.state.heap + n + 1 ≡ s.state.heap + m = omega (arith, e) in
     let count : s.state.vars + n + 1 ≡ s.state.vars + m = omega (arith, e) in
     record {
-      row = record {
-        state =
-            f.state
-            ∙ ap (λ (y : State). record y { vars = y.vars + 1; heap = y.heap + 1 }) x.row.state
-            ∙ ap (λ k. record s.state { vars = k; heap = s.state.heap + n + 1 }) count
-            ∙ ap (λ k. record s.state { vars = s.state.vars + m; heap = k }) heap;
-        values = subst (ValuesAt u first) (sym more) (values_end u first (new_vars n s.state.vars) (Var (s.state.vars + n)) (values_kept t u first (new_vars n s.state.vars) kept x.row.values) there);
-      };
+      state =
+          f.state
+          ∙ ap (λ (y : State). record y { vars = y.vars + 1; heap = y.heap + 1 }) x.state
+          ∙ ap (λ k. record s.state { vars = k; heap = s.state.heap + n + 1 }) count
+          ∙ ap (λ k. record s.state { vars = s.state.vars + m; heap = k }) heap;
+      values = subst (ValuesAt u first) (sym more) (values_end u first (new_vars n s.state.vars) (Var (s.state.vars + n)) (values_kept t u first (new_vars n s.state.vars) kept x.values) there);
       next = omega (arith, f.next, x.next, e);
     }
 
-pub row_none : (s : Store) → MadeRow 0 s s 0
-row_none s =
+pub row_none : (s : Store) (row : Row) → row.count ≡ 0 → MadeRow 0 s s row
+row_none s row e =
     let heap : s.state.heap ≡ s.state.heap + 0 = omega arith in
     let vars : s.state.vars ≡ s.state.vars + 0 = omega arith in
-    record { state = ap (λ k. record s.state { heap = k }) heap ∙ ap (λ k. record s.state { vars = k; heap = s.state.heap + 0 }) vars; values = tt }
+    record { state = ap (λ k. record s.state { heap = k }) heap ∙ ap (λ k. record s.state { vars = k; heap = s.state.heap + 0 }) vars; row_is = record { values = tt; count = sym e } }
 
-pub row_full : (n m : ℕ) (a b d : Arena) (first : ℕ) (e : Full) → n + 1 ≤ m → Kept (meaning_of a) (meaning_of b) → Row n (meaning_of a) (meaning_of b) first → HeapFull 1 (meaning_of b) (meaning_of d) e → (meaning_of a).heap_limit < (meaning_of a).state.heap + m
+pub row_made : (n : ℕ) (s t : Store) (row : Row) → Begun n s t row.first → row.count ≡ n → MadeRow n s t row
+row_made n s t row x e = record { state = x.state; row_is = record { values = x.values; count = new_vars_length n s.state.vars ∙ sym e } }
+
+pub row_low : (n : ℕ) (s : Store) (a : Arena) (first : ℕ) → Begun n s (meaning_of a) first → first + n ≤ 2147483648
+row_low n s a first x =
+    let places : (meaning_of a).places ≡ length a.cells.items = refl in
+    omega (arith, x.next, places, a.roomy.counted, a.roomy.small, a.sound.heap_fits)
+
+pub row_full : (n m : ℕ) (a b d : Arena) (first : ℕ) (e : Full) → n + 1 ≤ m → Kept (meaning_of a) (meaning_of b) → Begun n (meaning_of a) (meaning_of b) first → HeapFull 1 (meaning_of b) (meaning_of d) e → (meaning_of a).heap_limit < (meaning_of a).state.heap + m
 row_full n m a b d first e le kept x f =
     let over = heap_full 1 b d e f in
-    let heap : (meaning_of b).state.heap ≡ (meaning_of a).state.heap + n = ap (λ (y : State). y.heap) x.row.state in
+    let heap : (meaning_of b).state.heap ≡ (meaning_of a).state.heap + n = ap (λ (y : State). y.heap) x.state in
     omega (arith, over, heap, kept.heap_limit, le)
 
 -- ## A rule
 
-pub ruled : (code : Code) (l : Limits) (m : Mid) (n at : ℕ) (r : Memory) (a b : Arena) → Holds code l r m → Kept (meaning_of r.arena) (meaning_of a) → ((ms : List Saved) → saves_of r.arena ms → saves_of a ms) → Charged 6 (meaning_of r.arena) (meaning_of a) →
-    Kept (meaning_of a) (meaning_of b) → ((ms : List Saved) → saves_of a ms → saves_of b ms) → MadeRow n (meaning_of a) (meaning_of b) at → MadeRule code l n m (record r { arena = b }) at
-ruled code l m n at r a b h kept saved charged kept' saved' row =
+pub ruled : (code : Code) (l : Limits) (m : Mid) (n : ℕ) (row : Row) (r : Memory) (a b : Arena) → Holds code l r m → Kept (meaning_of r.arena) (meaning_of a) → ((ms : List Saved) → saves_of r.arena ms → saves_of a ms) → Charged 6 (meaning_of r.arena) (meaning_of a) →
+    Keeps a b → MadeRow n (meaning_of a) (meaning_of b) row → MadeRule code l n m (record r { arena = b }) row
+ruled code l m n row r a b h kept saved charged keeps made =
     let first : (meaning_of a).state ≡ record m.state { heap = m.state.heap + 6 } = charged.state ∙ ap (λ (s : State). record s { heap = s.heap + 6 }) h.0.state_is in
     let heap : m.state.heap + 6 + n ≡ m.state.heap + (6 + n) = omega arith in
-    let state : (meaning_of b).state ≡ made_state n m.state = row.state ∙ ap (λ (s : State). record s { vars = s.vars + n; heap = s.heap + n }) first ∙ ap (λ k. record m.state { vars = m.state.vars + n; heap = k }) heap in
+    let state : (meaning_of b).state ≡ made_state n m.state = made.state ∙ ap (λ (s : State). record s { vars = s.vars + n; heap = s.heap + n }) first ∙ ap (λ k. record m.state { vars = m.state.vars + n; heap = k }) heap in
     let vars : (meaning_of a).state.vars ≡ m.state.vars = ap (λ (s : State). s.vars) first in
     let stays = on_arena code l m (record m.state { heap = m.state.heap + 6 }) r a h kept saved first (omega arith) in
     record {
-      held = on_arena code l (record m { state = record m.state { heap = m.state.heap + 6 } }) (made_state n m.state) (record r { arena = a }) b stays kept' saved' state (omega arith);
-      values = subst (λ k. ValuesAt (meaning_of b) at (new_vars n k)) vars row.values;
+      held = on_arena code l (record m { state = record m.state { heap = m.state.heap + 6 } }) (made_state n m.state) (record r { arena = a }) b stays keeps.kept keeps.saved state (omega arith);
+      row_is = subst (λ k. RowAt (meaning_of b) row (new_vars n k)) vars made.row_is;
     }
 
-pub rule_room : (n at : ℕ) (r : Memory) (a b : Arena) → HasRoom r → Kept (meaning_of r.arena) (meaning_of a) → Charged 6 (meaning_of r.arena) (meaning_of a) → Kept (meaning_of a) (meaning_of b) → MadeRow n (meaning_of a) (meaning_of b) at → HasRoom (record r { arena = b }) × HasFrameRoom (record r { arena = b })
-rule_room n at r a b h kept charged kept' row =
+pub rule_room : (n : ℕ) (row : Row) (r : Memory) (a b : Arena) → HasRoom r → Kept (meaning_of r.arena) (meaning_of a) → Charged 6 (meaning_of r.arena) (meaning_of a) → Kept (meaning_of a) (meaning_of b) → MadeRow n (meaning_of a) (meaning_of b) row → HasRoom (record r { arena = b }) × HasFrameRoom (record r { arena = b })
+rule_room n row r a b h kept charged kept' made =
     let heap : (meaning_of a).state.heap ≡ heap_in r + 6 = ap (λ (s : State). s.heap) charged.state in
-    let heap' : (meaning_of b).state.heap ≡ (meaning_of a).state.heap + n = ap (λ (s : State). s.heap) row.state in
+    let heap' : (meaning_of b).state.heap ≡ (meaning_of a).state.heap + n = ap (λ (s : State). s.heap) made.state in
     let limit = kept.heap_limit in
     let limit' = kept'.heap_limit in (
       record {
@@ -100,6 +111,7 @@ rule_room n at r a b h kept charged kept' row =
         frames_few = omega (arith, heap, heap', h.frames_few);
         inners_few = omega (arith, heap, heap', h.inners_few);
         choices_few = omega (arith, heap, heap', h.choices_few);
+        refs = refs_on r b h (kept_on (meaning_of r.arena) (meaning_of a) (meaning_of b) kept kept') (omega (arith, heap, heap'));
       },
       omega (arith, heap, heap', h.frames_few),
     )

@@ -1,0 +1,195 @@
+-- How arguments and the head of a rule go on from one pair to the next.
+use Rattle.std.proofs.Common.{◌≡◌, ℕ, ◌+◌, ◌<◌, ◌≤◌, List, [], ◌∷◌, ◌++◌, append_assoc, true, false, inl, inr, refl, sym, ap, ◌∙◌, subst, arith, length, get_or, drop, MatchResult}
+use Rattle.std.specs.Prelude.{Bool, Result, Ok, Err, ◌⊎◌}
+use Rattle.std.specs.List.{zip}
+use Rattle.std.proofs.lemmas.List.{drop_more, drop_all}
+use Rattle.std.proofs.lemmas.Bool.{cond-true, cond-false}
+use Rattle.dg_base.specs.declared.run.Limits.{Limits}
+use Rattle.dg_meaning.specs.Values.{Value}
+use Rattle.dg_meaning.specs.Substitutions.{Substitution, IsSubstitution}
+use Rattle.dg_meaning.specs.Unify.{Equations, Unified, agreed, counted, solve, unify, and_then}
+use Rattle.dg_meaning.proofs.Solving.{solve_extends}
+use Rattle.dg_meaning.proofs.UnifyLaws.{solve_none, solve_first}
+use Rattle.dg_meaning.proofs.Bindings.{made_is}
+use Rattle.dg_unify.specs.Store.{State, Store, told, Kept, OnlyBinds, Does, BrokeOff, Follows, UnifyFull, trail_for, trail_of}
+use Rattle.dg_unify.specs.declared.bindings.Ref.{Ref}
+use Rattle.dg_unify.specs.declared.bindings.Full.{Full}
+use Rattle.dg_unify.specs.declared.bindings.Full.TheVariants as full
+use Rattle.dg_unify.proofs.StoreLemmas.{kept_same}
+use Rattle.dg_unify.proofs.Meets.{more_same}
+use Rattle.dg_unify.proofs.Goings.{counted_none, counted_twice, binds_on, broke_later, then_extends}
+use Rattle.dg_arena.specs.declared.arena.Arena.{Arena}
+use Rattle.dg_arena.specs.Held.{meaning_of}
+use Rattle.dg_mid.specs.declared.code.Code.{Code}
+use Rattle.dg_mid.specs.State.{Mid}
+use Rattle.dg_mid.specs.Step.{bound, trail_more}
+use Rattle.dg_machine.specs.declared.memory.Memory.{Memory}
+use Rattle.dg_machine.specs.Refs.{Keeps}
+use Rattle.dg_machine.specs.Layout.{Holds, HasRoom, Matched, Unmatched, heap_in}
+use Rattle.dg_machine.proofs.Opens.{roomy, roomy_on, on_arena, grows_not, refs_on}
+
+-- what the pairs from a number on have to become equal to
+abbrev pub pairs_from : List Value → List Value → ℕ → Equations
+pairs_from us ws n = zip (drop n us) (drop n ws)
+
+-- what is left, where the answer of the whole is that of the rest
+pub record Matching (old now : State) (us ws : List Value) (n : ℕ) : Type 0 where
+  pub binds : OnlyBinds old now
+  pub made : Substitution
+  pub grown : now.subst ≡ made ++ old.subst
+  pub before : ℕ
+  pub same : solve old.subst (pairs_from us ws 0) ≡ counted before (solve now.subst (pairs_from us ws n))
+
+pub matching_starts : (s : State) (us ws : List Value) → Matching s s us ws 0
+matching_starts s us ws = record { binds = more_same s; made = []; grown = refl; before = 0; same = counted_none (solve s.subst (pairs_from us ws 0)) }
+
+-- the answer of the rest is that of the whole
+matching_ends : (old now new : Store) (us ws : List Value) (n : ℕ) → Kept old now → Matching old.state now.state us ws n → (r : Result Bool Full) → Follows now new (solve now.state.subst (pairs_from us ws n)) r → Follows old new (solve old.state.subst (pairs_from us ws 0)) r
+matching_ends old now new us ws n kept m (Ok d) u = record {
+  agrees = u.agrees ∙ sym (ap (λ (x : Unified). x.agrees) m.same);
+  subst = u.subst ∙ sym (ap (λ (x : Unified). x.subst) m.same);
+  binds = binds_on old.state now.state new.state m.binds u.binds;
+}
+matching_ends old now new us ws n kept m (Err e) h =
+    broke_later old now new kept m.binds m.made m.grown (solve now.state.subst (pairs_from us ws n)) (solve old.state.subst (pairs_from us ws 0)) [] (ap (λ (x : Unified). x.subst) m.same) e h
+
+zip_none : {A B : Type 0} (xs : List A) → zip {K = A} {X = B} xs [] ≡ []
+zip_none [] = refl
+zip_none (x ∷ xs) = refl
+
+-- no pair is left
+none_left : (us ws : List Value) (n : ℕ) → (length us ≤ n) ⊎ (length ws ≤ n) → pairs_from us ws n ≡ []
+none_left us ws n (inl le) = ap (λ (l : List Value). zip l (drop n ws)) (drop_all n us le)
+none_left us ws n (inr le) = ap (λ (l : List Value). zip (drop n us) l) (drop_all n ws le) ∙ zip_none (drop n us)
+
+pub matched : (old now : Store) (us ws : List Value) (n : ℕ) → Kept old now → IsSubstitution now.state.subst → Matching old.state now.state us ws n → (length us ≤ n) ⊎ (length ws ≤ n) → Follows old now (solve old.state.subst (pairs_from us ws 0)) (Ok true)
+matched old now us ws n kept sound m le =
+    let e : solve now.state.subst (pairs_from us ws n) ≡ agreed now.state.subst = ap (solve now.state.subst) (none_left us ws n le) ∙ solve_none now.state.subst sound in
+    matching_ends old now now us ws n kept m (Ok true) (rw e (record { agrees = refl; subst = refl; binds = more_same now.state }))
+
+module _ (old now : Store) (kept : Kept old now) (sound : IsSubstitution now.state.subst) (us ws : List Value) (n : ℕ) (d : Value) (la : n < length us) (lb : n < length ws) (a b : Ref) (ea : told now a ≡ get_or us n d) (eb : told now b ≡ get_or ws n d) (m : Matching old.state now.state us ws n) where
+  abbrev S : Substitution
+  S = now.state.subst
+
+  abbrev one : Unified
+  one = unify S (told now a) (told now b)
+
+  abbrev rest : Equations
+  rest = pairs_from us ws (n + 1)
+
+  abbrev next : Substitution → Unified
+  next S' = solve S' rest
+
+  -- the first of the pairs that are left
+  first_then : solve S (pairs_from us ws n) ≡ and_then one next
+  first_then =
+      ap (λ (l : List Value). solve S (zip l (drop n ws))) (drop_more us n d la)
+      ∙ ap (λ (l : List Value). solve S (zip (get_or us n d ∷ drop (n + 1) us) l)) (drop_more ws n d lb)
+      ∙ ap (λ v. solve S ((v, get_or ws n d) ∷ rest)) (sym ea)
+      ∙ ap (λ v. solve S ((told now a, v) ∷ rest)) (sym eb)
+      ∙ solve_first S (told now a, told now b) rest sound
+
+  pub match_full : (new : Store) (e : Full) → BrokeOff now new one e → Follows old new (solve old.state.subst (pairs_from us ws 0)) (Err e)
+  match_full new e h =
+      let grew = solve_extends S ((told now a, told now b) ∷ []) sound in
+      let w = then_extends one next (λ S' is. solve_extends S' rest (subst IsSubstitution (sym is) grew.sound)) in
+      matching_ends old now new us ws n kept m (Err e) (broke_later now now new (kept_same now) (more_same now.state) [] refl one (solve S (pairs_from us ws n)) w.0 (ap (λ (x : Unified). x.subst) first_then ∙ w.1) e h)
+
+  pub match_clash : (new : Store) (answer : Bool) → answer ≡ false → Does now new one answer → Follows old new (solve old.state.subst (pairs_from us ws 0)) (Ok false)
+  match_clash new answer is h =
+      let e : solve S (pairs_from us ws n) ≡ one = first_then ∙ cond-false one.agrees (counted one.count (next one.subst)) one (sym h.agrees ∙ is) in
+      matching_ends old now new us ws n kept m (Ok false) (record {
+        agrees = sym is ∙ h.agrees ∙ sym (ap (λ (x : Unified). x.agrees) e);
+        subst = h.subst ∙ sym (ap (λ (x : Unified). x.subst) e);
+        binds = h.binds;
+      })
+
+  pub match_on : (new : Store) (answer : Bool) → answer ≡ true → Does now new one answer → Matching old.state new.state us ws (n + 1)
+  match_on new answer is h =
+      let same : solve S (pairs_from us ws n) ≡ counted one.count (solve new.state.subst rest) =
+      first_then ∙ cond-true one.agrees (counted one.count (next one.subst)) one (sym h.agrees ∙ is) ∙ ap (λ S'. counted one.count (solve S' rest)) (sym h.subst) in
+      let grew = solve_extends S ((told now a, told now b) ∷ []) sound in
+      record {
+        binds = binds_on old.state now.state new.state m.binds h.binds;
+        made = grew.made ++ m.made;
+        grown = h.subst ∙ grew.is ∙ ap (λ T. grew.made ++ T) m.grown ∙ sym (append_assoc grew.made m.made old.state.subst);
+        before = m.before + one.count;
+        same = m.same ∙ ap (counted m.before) same ∙ counted_twice m.before one.count (solve new.state.subst rest);
+      }
+
+-- ## In memory
+
+trail_append : (since : ℕ) (made S : Substitution) → trail_of since (made ++ S) ≡ trail_of since made + trail_of since S
+trail_append since [] S = omega arith
+trail_append since (p ∷ made) S = ap (λ n. trail_for since p.0 + n) (trail_append since made S) ∙ omega arith
+
+state_bound : (t s : State) (S : Substitution) (n : ℕ) → OnlyBinds s t → t.subst ≡ S → t.trail ≡ n → t ≡ record s { subst = S; trail = n }
+state_bound t s S n b e f =
+    ap (λ k. record t { vars = k }) b.vars
+    ∙ ap (λ k. record t { vars = s.vars; since = k }) b.since
+    ∙ ap (λ k. record t { vars = s.vars; since = s.since; heap = k }) b.heap
+    ∙ ap (λ T. record t { vars = s.vars; since = s.since; heap = s.heap; subst = T }) e
+    ∙ ap (λ k. record s { subst = S; trail = k }) f
+
+-- what the bindings that are meant take of the trail
+meant_trail : (s : State) (es : Equations) → IsSubstitution s.subst → trail_of s.since (solve s.subst es).subst + s.trail ≡ trail_of s.since s.subst + trail_more s (solve s.subst es)
+meant_trail s es sound =
+    let x = solve_extends s.subst es sound in
+    let all = ap (trail_of s.since) x.is ∙ trail_append s.since x.made s.subst in
+    let made = ap (trail_of s.since) (made_is s.subst (solve s.subst es).subst x) in
+    omega (arith, all, made)
+
+module _ (code : Code) (l : Limits) (m : Mid) (r : Memory) (a : Arena) (es : Equations) (h : Holds code l r m) (keeps : Keeps r.arena a) where
+  abbrev u : Unified
+  u = solve m.state.subst es
+
+  was : (meaning_of r.arena).state ≡ m.state
+  was = h.0.state_is
+
+  sound_here : IsSubstitution m.state.subst
+  sound_here = subst (λ (s : State). IsSubstitution s.subst) was r.arena.sound.fits.sound
+
+  matched_does : (b : Bool) → Does (meaning_of r.arena) (meaning_of a) u b → Matched code l u m (record r { arena = a }) b
+  matched_does b does =
+      let binds : OnlyBinds m.state (meaning_of a).state = subst (λ s. OnlyBinds s (meaning_of a).state) was does.binds in
+      let meant = meant_trail m.state es sound_here in
+      let now = ap (trail_of m.state.since) does.subst in
+      let trail : (meaning_of a).state.trail ≡ trail_more m.state u = omega (arith, meant, now, binds.trail) in
+      let fits : (meaning_of a).state.trail ≤ (meaning_of a).trail_limit = a.sound.trail_fits in
+      let state : (meaning_of a).state ≡ (bound u m).state = state_bound (meaning_of a).state m.state u.subst (trail_more m.state u) binds does.subst trail in
+      record {
+        agrees = does.agrees;
+        held = on_arena code l m (bound u m).state r a h keeps.kept keeps.saved state (omega arith);
+        fits = omega (arith, fits, trail, keeps.kept.trail_limit, h.0.limits.trail);
+      }
+
+  over_trail : (e : Full) → UnifyFull (meaning_of r.arena) u e → l.trail < trail_more m.state u
+  over_trail full.Heap f = absurd f
+  over_trail full.Trail f =
+      let meant = meant_trail m.state es sound_here in
+      let f' = subst (λ (s : State). (meaning_of r.arena).trail_limit + trail_of s.since s.subst < s.trail + trail_of s.since u.subst) was f in
+      omega (arith, meant, f', h.0.limits.trail)
+  over_trail full.OutOfMemory f = absurd (grows_not f)
+
+  pub matched_in : (result : Result Bool Full) → Follows (meaning_of r.arena) (meaning_of a) (solve (meaning_of r.arena).state.subst es) result → MatchResult result (Matched code l u m (record r { arena = a })) (λ _. Unmatched l u m (record r { arena = a }))
+  matched_in (Ok b) f = matched_does b (subst (λ (s : State). Does (meaning_of r.arena) (meaning_of a) (solve s.subst es) b) was f)
+  matched_in (Err e) f =
+      let f' = subst (λ (s : State). BrokeOff (meaning_of r.arena) (meaning_of a) (solve s.subst es) e) was f in
+      record { over = over_trail e f'.cause; roomy = roomy_on l r a (roomy code l m r h) keeps.kept }
+
+-- what a unification leaves of the heap, it leaves of room
+pub heap_after : (r : Memory) (a : Arena) (es : Equations) (b : Bool) → Follows (meaning_of r.arena) (meaning_of a) (solve (meaning_of r.arena).state.subst es) (Ok b) → heap_in (record r { arena = a }) ≡ heap_in r
+heap_after r a es b f = f.binds.heap
+
+pub room_after : (r : Memory) (a : Arena) → HasRoom r → Keeps r.arena a → heap_in (record r { arena = a }) ≡ heap_in r → HasRoom (record r { arena = a })
+room_after r a h keeps heap =
+    let limit = keeps.kept.heap_limit in
+    record {
+      frames_fit = omega (arith, limit, h.frames_fit);
+      inners_fit = omega (arith, limit, h.inners_fit);
+      choices_fit = omega (arith, limit, h.choices_fit);
+      frames_few = omega (arith, heap, h.frames_few);
+      inners_few = omega (arith, heap, h.inners_few);
+      choices_few = omega (arith, heap, h.choices_few);
+      refs = refs_on r a h keeps.kept (omega (arith, heap));
+    }

@@ -1,0 +1,88 @@
+// The values of terms, and arguments against the head of a rule.
+ghost use Rattle.std.specs.Prelude.{◌≡◌, ◌≤◌, List, Some, length, map, vec_capacity};
+ghost use Rattle.std.specs.List.{zip};
+ghost use Rattle.dg_base.specs.declared.program.Term.{out-Term};
+ghost use Rattle.dg_base.specs.declared.program.CoreProgram.{CoreProgram};
+ghost use Rattle.dg_meaning.specs.Values.{Value, leaf, value_of};
+ghost use Rattle.dg_meaning.specs.Unify.{solve};
+ghost use Rattle.dg_unify.specs.Store.{Follows, label_of};
+ghost use Rattle.dg_arena.specs.Held.{meaning_of};
+ghost use Rattle.dg_machine.specs.Built.{IsPlain, ArePlain};
+ghost use Rattle.dg_machine.specs.Refs.{RowAt, RefsAt, AreRefs, Keeps, Stays};
+
+use crate::now::Row;
+use dg_arena::Arena;
+use dg_base::{Simple, Term};
+use dg_unify::{Bindings, Full, Ref, unify};
+
+/// A value without parts.
+fn simple_value(arena: &mut Arena, simple: Simple) -> Ref
+    ensures stays { Stays arena.old arena.new }
+    ensures value { (meaning_of arena.new).value result ≡ Some (leaf (label_of simple)) }
+{
+    match arena.value(simple) {
+        Ok(value) => value,
+        Err(_) => unreachable!(),
+    }
+}
+
+/// The value of a term without parts, among variables in a row; one without a value is the empty list.
+fn plain_value(arena: &mut Arena, row: Row, term: &Term) -> Ref
+    requires plain { IsPlain (out-Term term.now) }
+    ensures stays { Stays arena.old arena.new }
+    ensures value { (p : CoreProgram) → (vs : List Value) → RowAt (meaning_of arena.old) row vs →
+        (meaning_of arena.new).value result ≡ Some (value_of p vs term.now) }
+{
+    match term {
+        Term::Num(n) => simple_value(arena, Simple::Num(*n)),
+        Term::Word(n) => simple_value(arena, Simple::Word(*n)),
+        Term::Object(n) => simple_value(arena, Simple::Object(*n)),
+        Term::Nil => simple_value(arena, Simple::Nil),
+        Term::Var(var) => match row.at(*var) {
+            Some(value) => value,
+            None => simple_value(arena, Simple::Nil),
+        },
+        Term::Closure(_) => unreachable!(),
+        Term::Pair(_, _) => unreachable!(),
+    }
+}
+
+/// Puts the values of terms without parts into a register that is emptied.
+pub fn write_args(arena: &mut Arena, row: Row, terms: &[Term], to: &mut Vec<Ref>)
+    requires plain { ArePlain terms.now }
+    requires room { length terms.now ≤ vec_capacity to.old }
+    ensures stays { Stays arena.old arena.new }
+    ensures values { (p : CoreProgram) → (vs : List Value) → RowAt (meaning_of arena.old) row vs →
+        RefsAt (meaning_of arena.new) to.new.items (map (value_of p vs) terms.now) }
+    ensures count { length to.new.items ≡ length terms.now }
+    ensures capacity { vec_capacity to.new ≡ vec_capacity to.old }
+{
+    to.clear();
+    'terms: for term in terms {
+        let value = plain_value(arena, row, term);
+        to.push_reserved(value);
+    }
+}
+
+/// Unifies each argument with the head's value at its place, from left to right up to the end of the shorter list or a clash,
+/// and answers whether all agree. What was bound stays bound.
+pub fn match_head(arena: &mut Arena, args: &[Ref], head: &[Term], row: Row) -> Result<bool, Full>
+    requires args { AreRefs (meaning_of arena.old) args.now }
+    requires row { (vs : List Value) × RowAt (meaning_of arena.old) row vs }
+    requires head { ArePlain head.now }
+    ensures keeps { Keeps arena.old arena.new }
+    ensures matched { (p : CoreProgram) → (us vs : List Value) → RefsAt (meaning_of arena.old) args.now us → RowAt (meaning_of arena.old) row vs →
+        Follows (meaning_of arena.old) (meaning_of arena.new) (solve (meaning_of arena.old).state.subst (zip us (map (value_of p vs) head.now))) result }
+{
+    let mut at = 0;
+    'pairs: while at < args.len() && at < head.len() {
+        let arg = args[at];
+        let value = plain_value(arena, row, &head[at]);
+        match unify(arena, arg, value) {
+            Err(full) => return Err(full),
+            Ok(false) => return Ok(false),
+            Ok(true) => at += 1,
+        }
+    }
+    Ok(true)
+}
