@@ -31,3 +31,4 @@ pub mod WritingLemmas
 pub mod Opening
 pub mod Selecting
 pub mod Rules
+pub mod Weights

@@ -1,5 +1,5 @@
 -- What is open while code is written.
-use Rattle.std.proofs.Common.{◌≡◌, ℕ, ◌<◌, arith, List, [], ◌∷◌, ◌++◌, refl, sym, ap, ◌∙◌, subst, length, append_assoc}
+use Rattle.std.proofs.Common.{◌≡◌, ℕ, ◌+◌, ◌<◌, ◌≤◌, arith, List, [], ◌∷◌, ◌++◌, refl, sym, ap, ◌∙◌, subst, length, append_assoc}
 use Rattle.std.specs.Prelude.{reverse, Option, Some, None, Bool, true, false}
 use Rattle.std.proofs.lemmas.List.{append-nil, reverse-append}
 use Rattle.dg_base.specs.declared.program.Goal.{Goal}
@@ -20,6 +20,8 @@ use Rattle.dg_mid.specs.Code.{block_at}
 use Rattle.dg_mid.specs.Codes.{End, Refuses, Backs, Commits, Leaves, Keeps, Stands, found_goals, found_end, jumps, commits, refuses, backs, leaves, keeps, collects, accumulates, once, negates, branch, exhausts, shields, forever, only, either, Others, last_list, more_lists}
 use Rattle.dg_mid.specs.Tidying.{BlocksTidy, DoesMore, Neat, IsPlain, TailTidy, LevelTidy, LevelsTidy, WorkTidy, LandsTidy}
 use Rattle.dg_mid.specs.Writing.{StandsFor, BlockFor, FoundAt, PutsFirst, Lands, Wraps, Leads, ComesTo, Moves, TailFor, Shares, OthersFor, ListLands, after_list, tail_ops, with_goal, with_level, gathers}
+use Rattle.dg_mid.specs.Weights.{op_weight, ops_weight, blocks_weight, body_weight, lists_weight, whole_weight, level_weight, levels_weight, work_weight}
+use Rattle.dg_mid.proofs.Weights.{ops_reverse, block_added, op_added, op_alone, body_one, goal_added, lists_append, level_added, weight_if, weight_either, weight_select, action_light}
 use Rattle.dg_mid.specs.Potential.{begins_return, begins_goto, OpsTidy}
 use Rattle.dg_mid.proofs.WritingLemmas.{reverse_put, block_made, made_begins, tail_neat_later, levels_later, neat_put, neat_tail, plain_first, plain_query, plain_return, no_answer_back, blocks_put, there_put, more_put, lands_neat, jump_neat, block_neat}
 
@@ -33,7 +35,7 @@ block_stands old now ops b made is rest end s code begins =
     subst (λ l. Stands code l rest end) (sym (block_made old now ops b code made is begins)) (s code (begins_on old now code.blocks (made_begins old now _ made) begins))
 
 pub lands_block : (old now : List Block) (ops : List Op) (b : ℕ) → now ≡ old ++ record { ops = reverse ops } ∷ [] → b ≡ length old → ((c : ℕ) → ops ≡ op.Goto c ∷ [] → ⊥) → Lands old now (reverse ops) b
-lands_block old now ops b made is not = record { stands = block_stands old now (reverse ops) b made is; neat = lands_neat old now ops b made is not }
+lands_block old now ops b made is not = record { stands = block_stands old now (reverse ops) b made is; neat = lands_neat old now ops b made is not; light = omega (arith, block_added old now ops made, ops_reverse ops) }
 
 of_jump : (code : Code) (b : ℕ) (rest : List Goal) (end : End) → Stands code (op.Goto b ∷ []) rest end → Stands code (block_at code b) rest end
 of_jump code b rest end (jumps c ops goals e h) = h
@@ -42,6 +44,7 @@ pub lands_jump : (blocks : List Block) (ops : List Op) (b : ℕ) → ops ≡ op.
 lands_jump blocks ops b e = record {
   stands = λ rest end s code begins. of_jump code b rest end (subst (λ l. Stands code (reverse l) rest end) e (s code begins));
   neat = jump_neat blocks ops b e;
+  light = omega arith;
 }
 
 pub tail_later : (old new : List Block) → Begins old new → (tail : Option ℕ) (rest : List Goal) (end : End) → TailFor old tail rest end → TailFor new tail rest end
@@ -57,13 +60,19 @@ pub tail_stands : (blocks : List Block) (tail : Option ℕ) (ops : List Op) (res
 tail_stands blocks None ops rest end e h = λ code begins. subst (λ l. Stands code (reverse l) rest end) (sym e) (h code begins)
 tail_stands blocks (Some b) ops rest end e h = λ code begins. subst (λ l. Stands code (reverse l) rest end) (sym e) (jumps b [] rest end (h code begins))
 
+-- what a way ends with is one instruction
+pub tail_weight : (tail : Option ℕ) (ops : List Op) → ops ≡ tail_ops tail → ops_weight ops ≡ 16
+tail_weight None ops e = omega (arith, ap ops_weight e)
+tail_weight (Some b) ops e = omega (arith, ap ops_weight e)
+
 pub shares_return : (blocks : List Block) (ops : List Op) → ops ≡ op.Return ∷ [] → Shares blocks blocks (reverse ops) None
-shares_return blocks ops e = record { stands = λ rest end s code begins. subst (λ l. Stands code (reverse l) rest end) e (s code begins); neat = λ h. (h.blocks_are, tt) }
+shares_return blocks ops e = record { stands = λ rest end s code begins. subst (λ l. Stands code (reverse l) rest end) e (s code begins); neat = λ h. (h.blocks_are, tt); light = omega arith }
 
 pub shares_block : (old new : List Block) (ops : List Op) (b : ℕ) → Lands old new (reverse ops) b → (ops ≡ op.Return ∷ [] → ⊥) → Shares old new (reverse ops) (Some b)
 shares_block old new ops b lands not = record {
   stands = lands.stands;
   neat = λ h. let l : LandsTidy new (reverse ops) b = lands.neat h in (l.blocks_are, l.more (no_answer_back old ops not h.first));
+  light = lands.light;
 }
 
 -- ## Levels
@@ -100,6 +109,9 @@ pub puts_moves : (old new : List Block) (before after : Work) (g : Goal) → aft
 puts_moves old new before after g same still on put = record {
   blocks = on;
   neat = λ h. record { neat = put.neat h.neat; levels = subst (λ l. LevelsTidy new (reverse l)) (sym still) (levels_later old new on (reverse before.levels) h.levels) };
+  light =
+      let l = put.light in
+      omega (arith, ops_reverse before.ops.items, ops_reverse after.ops.items, ap body_weight same, ap levels_weight still, goal_added before.goals g, body_one g);
   comes = λ wanted last h. record {
     rest = g ∷ h.rest;
     end = h.end;
@@ -118,9 +130,11 @@ pub record Opened (new : List Block) (ops : List Op) (x : Op) (inner : List Goal
 
 pub opens : (old new : List Block) (before after : Work) (ops : List Op) (g : Goal) (x : Op) (inner : List Goal) → Begins old new → after.ops.items ≡ ops → after.goals ≡ inner →
     after.levels ≡ before.levels ++ level.Inner x before.goals ∷ [] → IsPlain x → (Neat old (reverse before.ops.items) → Neat new (reverse ops)) →
+    (blocks_weight new + ops_weight ops + op_weight x + body_weight inner ≤ blocks_weight old + ops_weight before.ops.items + whole_weight g) →
     ((rest : List Goal) (end : End) → StandsFor old (reverse before.ops.items) rest end → Opened new (reverse ops) x inner g rest end) → Moves old (with_goal g before) new after
-opens old new before after ops g x inner on ops_are goals_are levels_are plain good opened = record {
+opens old new before after ops g x inner on ops_are goals_are levels_are plain good light opened = record {
   blocks = on;
+  light = omega (arith, ap ops_weight ops_are, ap body_weight goals_are, level_added before.levels after.levels (level.Inner x before.goals) levels_are, goal_added before.goals g);
   neat = λ h. record {
     neat = subst (λ l. Neat new (reverse l)) (sym ops_are) (good h.neat);
     levels = subst (LevelsTidy new) (sym (ap reverse levels_are ∙ reverse-append before.levels (level.Inner x before.goals ∷ []))) (plain, levels_later old new on (reverse before.levels) h.levels);
@@ -141,6 +155,8 @@ pub closes : (blocks : List Block) (before after : Work) (x : Op) (others : List
     Moves blocks (with_level (level.Inner x others) before) blocks after
 closes blocks before after x others none ops_are goals_are levels_are = record {
   blocks = begins_here blocks;
+  light = omega (arith, op_added before.ops.items after.ops.items x ops_are, ap body_weight goals_are, ap body_weight none, ap levels_weight levels_are,
+      level_added before.levels (before.levels ++ level.Inner x others ∷ []) (level.Inner x others) refl);
   neat = λ h.
       let l : LevelsTidy blocks (level.Inner x others ∷ reverse before.levels) = subst (LevelsTidy blocks) (reverse-append before.levels (level.Inner x others ∷ [])) h.levels in
       record { neat = neat_put blocks before.ops.items after.ops.items x ops_are l.0 h.neat; levels = subst (λ k. LevelsTidy blocks (reverse k)) (sym levels_are) l.1 };
@@ -229,6 +245,7 @@ puts_forever old new ops put jump n b same e made is e' = record {
   neat = λ h.
       let more : DoesMore new b = more_put old new (reverse put) b made is (ap begins_return (ap reverse e ∙ reverse_put ops (op.Branch n)) ∙ plain_return (op.Branch n) (reverse ops) tt) in
       neat_tail new (Some b) jump e' (block_neat old new ops put (op.Branch n) e made tt h) more;
+  light = omega (arith, block_added old new put made, op_added ops put (op.Branch n) e, op_alone jump (op.Goto b) e', ops_reverse ops, ops_reverse jump, body_one goal.Forever);
 }
 
 -- ## Objects
@@ -237,7 +254,7 @@ no_retry_here : (ops : List Op) (alt : ℕ) (rest : List Op) → op.Commit ∷ o
 no_retry_here ops alt rest e = cc
 
 pub found_here : (blocks : List Block) (b : ℕ) → FoundAt blocks blocks true b b
-found_here blocks b = record { blocks = begins_here blocks; stands = λ rest end h. h; neat = λ h. h }
+found_here blocks b = record { blocks = begins_here blocks; stands = λ rest end h. h; neat = λ h. h; light = omega arith }
 
 pub found_once : (old new : List Block) (jump put : List Op) (behind b : ℕ) → jump ≡ op.Goto behind ∷ [] → put ≡ jump ++ op.Commit ∷ [] → new ≡ old ++ record { ops = reverse put } ∷ [] → b ≡ length old → FoundAt old new false behind b
 found_once old new jump put behind b e e' made is =
@@ -248,12 +265,13 @@ found_once old new jump put behind b e e' made is =
           (commits (op.Goto behind ∷ []) rest end (jumps behind [] rest end (h code (begins_on old new code.blocks (made_begins old new _ made) begins))));
       neat = λ h. blocks_put old new (reverse put) made (ap begins_goto front) (λ code begins. subst (OpsTidy code) (sym front) (tt, (tt, tt)))
           (λ alt rest e''. absurd (no_retry_here (op.Goto behind ∷ []) alt rest (sym front ∙ e''))) h;
+      light = omega (arith, block_added old new put made, op_added jump put op.Commit e', op_alone jump (op.Goto behind) e);
     }
 
-pub puts_find : (old mid new : List Block) (ops jump put : List Op) (x : Op) (g : Goal) (behind b : ℕ) (many : Bool) → IsPlain x →
+pub puts_find : (old mid new : List Block) (ops jump put : List Op) (x : Op) (g : Goal) (behind b : ℕ) (many : Bool) → IsPlain x → op_weight x ≡ 16 →
     ((code : Code) (xs : List Op) (goals : List Goal) (end : End) → Stands code xs goals end → Stands code (block_at code b) (found_goals many goals) (found_end many goals end) → Stands code (x ∷ xs) (g ∷ goals) end) →
     Lands old mid (reverse ops) behind → FoundAt mid new many behind b → jump ≡ op.Goto behind ∷ [] → put ≡ jump ++ x ∷ [] → PutsFirst (g ∷ []) old new (reverse ops) (reverse put)
-puts_find old mid new ops jump put x g behind b many plain wraps lands found e e' =
+puts_find old mid new ops jump put x g behind b many plain weighs wraps lands found e e' =
     let front : reverse put ≡ x ∷ op.Goto behind ∷ [] = ap reverse (e' ∙ ap (λ l. l ++ x ∷ []) e) in
     record {
       stands = λ rest end h code begins.
@@ -265,6 +283,10 @@ puts_find old mid new ops jump put x g behind b many plain wraps lands found e e
         first = plain_first new x (op.Goto behind ∷ []) plain;
         queries = λ code begins. (plain_query code x plain, (tt, tt));
       });
+      light =
+          let l = lands.light in
+          let f = found.light in
+          omega (arith, ops_reverse ops, ops_reverse put, op_added jump put x e', op_alone jump (op.Goto behind) e, weighs, body_one g);
     }
 
 -- ## Conditions
@@ -273,6 +295,10 @@ pub opens_if : (old new : List Block) (before after : Work) (ops : List Op) (tes
     after.ops.items ≡ ops → after.goals ≡ other → after.levels ≡ before.levels ++ level.Other test first tail before.goals ∷ [] → Moves old (with_goal (goal.If test first other) before) new after
 opens_if old new before after ops test first other tail on shares e ops_are goals_are levels_are = record {
   blocks = on;
+  light =
+      let l = shares.light in
+      omega (arith, ops_reverse before.ops.items, ap ops_weight ops_are, tail_weight tail ops e, ap body_weight goals_are, level_added before.levels after.levels (level.Other test first tail before.goals) levels_are,
+          goal_added before.goals (goal.If test first other), weight_if test first other);
   neat = λ h.
       let s : BlocksTidy new × TailTidy new tail = shares.neat h.neat in
       record {
@@ -295,6 +321,12 @@ pub closes_other : (old new : List Block) (before after : Work) (ops : List Op) 
     after.ops.items ≡ ops → after.goals ≡ first → after.levels ≡ (before.levels ++ level.Inner (op.Try alt) others ∷ []) ++ level.Inner op.Commit test ∷ [] → Moves old (with_level (level.Other test first tail others) before) new after
 closes_other old new before after ops test first others tail alt none on lands e ops_are goals_are levels_are = record {
   blocks = on;
+  light =
+      let l = lands.light in
+      let once = before.levels ++ level.Inner (op.Try alt) others ∷ [] in
+      omega (arith, ops_reverse before.ops.items, ap ops_weight ops_are, tail_weight tail ops e, ap body_weight goals_are, ap body_weight none,
+          level_added once after.levels (level.Inner op.Commit test) levels_are, level_added before.levels once (level.Inner (op.Try alt) others) refl,
+          level_added before.levels (before.levels ++ level.Other test first tail others ∷ []) (level.Other test first tail others) refl);
   neat = λ h.
       let l : LevelsTidy old (level.Other test first tail others ∷ reverse before.levels) = subst (LevelsTidy old) (reverse-append before.levels (level.Other test first tail others ∷ [])) h.levels in
       let levels : reverse after.levels ≡ level.Inner op.Commit test ∷ level.Inner (op.Try alt) others ∷ reverse before.levels =
@@ -347,6 +379,10 @@ pub opens_lists : (old new : List Block) (before after : Work) (ops : List Op) (
     after.ops.items ≡ ops → after.goals ≡ list → after.levels ≡ before.levels ++ level.Lists left None tail before.goals ∷ [] → Moves old (with_goal (goal.Either (left ++ list ∷ [])) before) new after
 opens_lists old new before after ops left list tail on shares e ops_are goals_are levels_are = record {
   blocks = on;
+  light =
+      let l = shares.light in
+      omega (arith, ops_reverse before.ops.items, ap ops_weight ops_are, tail_weight tail ops e, ap body_weight goals_are, level_added before.levels after.levels (level.Lists left None tail before.goals) levels_are,
+          goal_added before.goals (goal.Either (left ++ list ∷ [])), weight_either (left ++ list ∷ []), lists_append left (list ∷ []));
   neat = λ h.
       let s : BlocksTidy new × TailTidy new tail = shares.neat h.neat in
       record {
@@ -377,6 +413,7 @@ pub last_lands : (old new : List Block) (ops : List Op) (b : ℕ) → Lands old 
 last_lands old new ops b lands = record {
   stands = λ list lists rest end h none code begins. subst (λ l. Others code b (list ∷ l) rest end) (sym none) (last_list b list rest end (lands.stands (list ++ rest) end h code begins));
   neat = λ h _. let l : LandsTidy new ops b = lands.neat h in (l.blocks_are, l.there);
+  light = let l = lands.light in omega arith;
 }
 
 retried : (next alt : ℕ) (ops rest : List Op) (n : ℕ) → op.Retry next ∷ ops ≡ op.Retry alt ∷ rest → next < n → alt < n
@@ -393,6 +430,7 @@ retry_lands old new ops put next b e made is = record {
         (λ alt rest e'. retried next alt (reverse ops) rest (length old) (sym front ∙ e') t) h.blocks_are,
     there_put old new (reverse put) b made is,
   );
+  light = omega (arith, block_added old new put made, op_added ops put (op.Retry next) e, ops_reverse ops);
 }
 
 pub after_first : (left : List (List Goal)) (b : ℕ) (tail : Option ℕ) (others : List Goal) → left ≡ [] → after_list left b tail others ≡ level.Inner (op.Branch b) others
@@ -413,10 +451,19 @@ after_neat : (new : List Block) (left : List (List Goal)) (b : ℕ) (tail : Opti
 after_neat new [] b tail others there t = tt
 after_neat new (p ∷ ps) b tail others there t = (there, t)
 
+after_light : (left : List (List Goal)) (b : ℕ) (tail : Option ℕ) (others : List Goal) → level_weight (after_list left b tail others) ≤ 32 + lists_weight left + body_weight others
+after_light [] b tail others = omega arith
+after_light (list ∷ lists) b tail others = omega arith
+
 pub closes_list : (old new : List Block) (before after : Work) (ops : List Op) (left popped : List (List Goal)) (list : List Goal) (alt tail : Option ℕ) (others : List Goal) (b : ℕ) → before.goals ≡ [] → left ≡ popped ++ list ∷ [] → Begins old new →
     ListLands old new (reverse before.ops.items) alt b → ops ≡ tail_ops tail → after.ops.items ≡ ops → after.goals ≡ list → after.levels ≡ before.levels ++ after_list popped b tail others ∷ [] → Moves old (with_level (level.Lists left alt tail others) before) new after
 closes_list old new before after ops left popped list alt tail others b none split on lands e ops_are goals_are levels_are = record {
   blocks = on;
+  light =
+      let l = lands.light in
+      omega (arith, ops_reverse before.ops.items, ap ops_weight ops_are, tail_weight tail ops e, ap body_weight goals_are, ap body_weight none,
+          level_added before.levels after.levels (after_list popped b tail others) levels_are, after_light popped b tail others,
+          level_added before.levels (before.levels ++ level.Lists left alt tail others ∷ []) (level.Lists left alt tail others) refl, ap lists_weight split, lists_append popped (list ∷ []));
   neat = λ h.
       let l : LevelsTidy old (level.Lists left alt tail others ∷ reverse before.levels) = subst (LevelsTidy old) (reverse-append before.levels (level.Lists left alt tail others ∷ [])) h.levels in
       let made : BlocksTidy new × (b < length new) = lands.neat h.neat l.0.0 in
@@ -454,11 +501,12 @@ abbrev pub Carries : List Block → List Op → List Goal → List Block → Wor
 Carries first ops goals now work =
     Begins first now × ((rest : List Goal) (end : End) → StandsFor first (reverse ops) rest end → ComesTo now work (goals ++ rest) end)
     × (Neat first (reverse ops) → WorkTidy now work)
+    × (blocks_weight now + work_weight work ≤ blocks_weight first + ops_weight ops + body_weight goals)
 
 pub carries_on : (first : List Block) (ops : List Op) (goals : List Goal) (old new : List Block) (work before after : Work) → Carries first ops goals old work → work ≡ before → Moves old before new after →
     Carries first ops goals new after
 carries_on first ops goals old new work before after h e m =
-    (begins_on first old new h.0 m.blocks, λ rest end s. m.comes (goals ++ rest) end (subst (λ w. ComesTo old w (goals ++ rest) end) e (h.1 rest end s)), λ n. m.neat (subst (WorkTidy old) e (h.2 n)))
+    (begins_on first old new h.0 m.blocks, λ rest end s. m.comes (goals ++ rest) end (subst (λ w. ComesTo old w (goals ++ rest) end) e (h.1 rest end s)), λ n. m.neat (subst (WorkTidy old) e (h.2 n)), (let l = m.light in omega (arith, ap work_weight e, h.3)))
 
 pub carries_to : (first : List Block) (ops : List Op) (goals : List Goal) (new now : List Block) (after work : Work) → Carries first ops goals new after → now ≡ new → work ≡ after → Carries first ops goals now work
 carries_to first ops goals new now after work h e e' = subst (λ b. Carries first ops goals b work) (sym e) (subst (Carries first ops goals new) (sym e') h)
@@ -473,6 +521,7 @@ carries_first blocks work none = (
     leads = subst (λ l. Leads blocks (reverse l) (work.goals ++ rest) end (work.goals ++ rest) end) (sym none) (refl, refl);
   },
   λ n. record { neat = n; levels = subst (λ l. LevelsTidy blocks (reverse l)) (sym none) tt },
+  omega (arith, ap levels_weight none),
 )
 
 pub ends_written : (blocks : List Block) (work : Work) (wanted : List Goal) (last : End) → work.goals ≡ [] → work.levels ≡ [] → ComesTo blocks work wanted last → StandsFor blocks (reverse work.ops.items) wanted last

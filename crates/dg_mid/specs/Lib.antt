@@ -14,3 +14,4 @@ pub mod Laws
 pub mod Tidying
 pub mod Writing
 pub mod Copying
+pub mod Weights

@@ -1,6 +1,6 @@
 -- What code that is being written stands for: it is written from the last goal to the first, and what was written stays. Hold it against the Dialog
 -- manual, chapter "Choice points".
-use Rattle.std.specs.Prelude.{ℕ, List, [], ◌∷◌, ◌++◌, ◌≡◌, Option, Some, None, Bool, false, reverse}
+use Rattle.std.specs.Prelude.{ℕ, ◌+◌, ◌≤◌, List, [], ◌∷◌, ◌++◌, ◌≡◌, Option, Some, None, Bool, false, reverse}
 use Rattle.std.specs.List.{slice_get}
 use Rattle.dg_base.specs.declared.program.Goal.{Goal}
 use Rattle.dg_base.specs.declared.program.Goal.TheVariants as goal
@@ -24,6 +24,7 @@ use Rattle.dg_mid.specs.declared.writing.Work.{Work}
 use Rattle.dg_mid.specs.declared.branches.Branching.{Branching}
 use Rattle.dg_mid.specs.Code.{block_at, codes_of}
 use Rattle.dg_mid.specs.Tidying.{BlocksTidy, Neat, LandsTidy, TailTidy, IsThere, WorkTidy}
+use Rattle.dg_mid.specs.Weights.{ops_weight, blocks_weight, body_weight, work_weight}
 use Rattle.dg_mid.specs.Codes.{End, Stands, RuleStands, RulesStand, Others, Branches, BodyStands, found_goals, found_end}
 
 -- ## Growing
@@ -32,19 +33,21 @@ use Rattle.dg_mid.specs.Codes.{End, Stands, RuleStands, RulesStand, Others, Bran
 abbrev pub StandsFor : List Block → List Op → List Goal → End → Type 0
 StandsFor blocks ops goals end = (code : Code) → Begins blocks code.blocks → Stands code ops goals end
 
--- Whatever the old instructions stand for, the new ones stand for these goals in front of it; they stay tidy.
+-- Whatever the old instructions stand for, the new ones stand for these goals in front of it; they stay tidy, and weigh no more than the goals do.
 pub record PutsFirst (goals : List Goal) (old new : List Block) (before after : List Op) : Type 0 where
   pub stands : (rest : List Goal) (end : End) → StandsFor old before rest end → StandsFor new after (goals ++ rest) end
   pub neat : Neat old before → Neat new after
+  pub light : blocks_weight new + ops_weight after ≤ blocks_weight old + ops_weight before + body_weight goals
 
 -- In every code that begins with these blocks, the block stands for the goals and what comes behind them.
 abbrev pub BlockFor : List Block → ℕ → List Goal → End → Type 0
 BlockFor blocks b goals end = (code : Code) → Begins blocks code.blocks → Stands code (block_at code b) goals end
 
--- Whatever the instructions stand for, the block does; it is tidy where they are.
+-- Whatever the instructions stand for, the block does; it is tidy where they are, and weighs no more than they do in a block of their own.
 pub record Lands (old new : List Block) (ops : List Op) (b : ℕ) : Type 0 where
   pub stands : (rest : List Goal) (end : End) → StandsFor old ops rest end → BlockFor new b rest end
   pub neat : Neat old ops → LandsTidy new ops b
+  pub light : blocks_weight new ≤ blocks_weight old + 16 + ops_weight ops
 
 -- What two ways end with stands for these goals: the answer of a rule, or a block.
 abbrev pub TailFor : List Block → Option ℕ → List Goal → End → Type 0
@@ -55,17 +58,20 @@ TailFor blocks (Some b) goals end = BlockFor blocks b goals end
 pub record Shares (old new : List Block) (ops : List Op) (tail : Option ℕ) : Type 0 where
   pub stands : (rest : List Goal) (end : End) → StandsFor old ops rest end → TailFor new tail rest end
   pub neat : Neat old ops → BlocksTidy new × TailTidy new tail
+  pub light : blocks_weight new ≤ blocks_weight old + 16 + ops_weight ops
 
 -- Where a block stands for goals, another stands for them where an object is found; the blocks stay tidy.
 pub record FoundAt (old new : List Block) (many : Bool) (behind b : ℕ) : Type 0 where
   pub blocks : Begins old new
   pub stands : (rest : List Goal) (end : End) → BlockFor old behind rest end → BlockFor new b (found_goals many rest) (found_end many rest end)
   pub neat : BlocksTidy old → BlocksTidy new
+  pub light : blocks_weight new ≤ blocks_weight old + 48
 
 -- The block stands for what two ways end with; the blocks stay tidy.
 pub record EndsAt (old new : List Block) (tail : Option ℕ) (b : ℕ) : Type 0 where
   pub stands : (rest : List Goal) (end : End) → TailFor old tail rest end → BlockFor new b rest end
   pub neat : BlocksTidy old → BlocksTidy new
+  pub light : blocks_weight new ≤ blocks_weight old + 32
 
 -- The instructions of what a way ends with.
 abbrev pub tail_ops : Option ℕ → List Op
@@ -82,6 +88,7 @@ pub record ListLands (old new : List Block) (ops : List Op) (alt : Option ℕ) (
   pub stands : (list : List Goal) (lists : List (List Goal)) (rest : List Goal) (end : End) → StandsFor old ops (list ++ rest) end →
       OthersFor old alt lists rest end → OthersFor new (Some b) (list ∷ lists) rest end
   pub neat : Neat old ops → IsThere old alt → BlocksTidy new × IsThere new (Some b)
+  pub light : blocks_weight new ≤ blocks_weight old + 32 + ops_weight ops
 
 -- What comes behind a list of a choice: the choice itself where it is the first, else the lists in front of it.
 abbrev pub after_list : List (List Goal) → ℕ → Option ℕ → List Goal → Level
@@ -138,10 +145,11 @@ pub record ComesTo (blocks : List Block) (work : Work) (wanted : List Goal) (las
   pub stands : StandsFor blocks (reverse work.ops.items) rest end
   pub leads : Leads blocks (reverse work.levels) (work.goals ++ rest) end wanted last
 
--- Blocks are only added, and what is being written comes to what it did and stays tidy.
+-- Blocks are only added, and what is being written comes to what it did, stays tidy and weighs no more.
 pub record Moves (old : List Block) (before : Work) (new : List Block) (after : Work) : Type 0 where
   pub blocks : Begins old new
   pub neat : WorkTidy old before → WorkTidy new after
+  pub light : blocks_weight new + work_weight after ≤ blocks_weight old + work_weight before
   pub comes : (wanted : List Goal) (last : End) → ComesTo old before wanted last → ComesTo new after wanted last
 
 -- What is being written, with one more goal to write first.

@@ -1,5 +1,5 @@
 // Selects, whose branches are written from the last to the first.
-ghost use Rattle.std.specs.Prelude.{List, ◌≡◌, [], ◌∷◌, IfOk, OnOk, reverse};
+ghost use Rattle.std.specs.Prelude.{List, ◌+◌, ◌≤◌, ◌≡◌, [], ◌∷◌, IfOk, OnOk, reverse};
 ghost use Rattle.dg_base.specs.declared.program.Goal.{Goal};
 ghost use Rattle.dg_base.specs.declared.program.Goal.TheVariants as goal;
 ghost use Rattle.dg_meaning.specs.OneRun.{Begins};
@@ -8,6 +8,7 @@ ghost use Rattle.dg_mid.specs.declared.code.Block.{Block};
 ghost use Rattle.dg_mid.specs.declared.code.Op.TheVariants as op;
 ghost use Rattle.dg_mid.specs.declared.writing.Level.TheVariants as level;
 ghost use Rattle.dg_mid.specs.Tidying.{BlocksTidy, LevelsTidy, TailTidy, WorkTidy};
+ghost use Rattle.dg_mid.specs.Weights.{body_weight, levels_weight, lists_weight, work_weight};
 ghost use Rattle.dg_mid.specs.Writing.{AtBranch, ComesTo, EndsAt, Moves, with_goal, with_level};
 
 use crate::code::Op;
@@ -98,6 +99,7 @@ fn at_branch(
         AtBranch blocks select others (reverse levels) wanted last → ComesTo blocks new wanted last) }
     ensures neat { IfOk result (λ new. (blocks : List Block) →
         BlocksTidy blocks → TailTidy blocks select.tail → LevelsTidy blocks (reverse levels) → WorkTidy blocks new) }
+    ensures light { IfOk result (λ new. work_weight new ≤ 16 + lists_weight select.left + body_weight others + levels_weight levels) }
 {
     let mut select = select;
     let Some(list) = select.left.pop() else {

@@ -1,8 +1,9 @@
 // Queries of closures, and the code of their bodies.
-ghost use Rattle.std.specs.Prelude.{◌≡◌, [], ◌∷◌, IfOk, OnOk, reverse};
+ghost use Rattle.std.specs.Prelude.{◌+◌, ◌≤◌, ◌≡◌, [], ◌∷◌, IfOk, OnOk, reverse};
 ghost use Rattle.dg_base.specs.declared.program.Goal.TheVariants as goal;
 ghost use Rattle.dg_meaning.specs.OneRun.{Begins};
 ghost use Rattle.dg_mid.specs.Tidying.{BlocksTidy};
+ghost use Rattle.dg_mid.specs.Weights.{blocks_weight, closures_weight};
 ghost use Rattle.dg_mid.specs.Writing.{BodiesFor, BodyFor, Moves, PutsFirst, with_goal};
 
 use crate::code::{BodyCode, Op};
@@ -51,6 +52,7 @@ impl Writer {
         ensures blocks { OnOk result (Begins self.old.blocks self.new.blocks) }
         ensures stands { IfOk result (λ c. BodyFor self.new.blocks c closure) }
         ensures neat { OnOk result (BlocksTidy self.old.blocks → BlocksTidy self.new.blocks) }
+        ensures light { OnOk result (blocks_weight self.new.blocks ≤ blocks_weight self.old.blocks + closures_weight (closure ∷ [])) }
     {
         let ClosureBody {
             captured: _captured,
@@ -68,6 +70,7 @@ impl Writer {
         ensures blocks { OnOk result (Begins self.old.blocks self.new.blocks) }
         ensures stand { IfOk result (λ codes. BodiesFor self.new.blocks codes closures) }
         ensures neat { OnOk result (BlocksTidy self.old.blocks → BlocksTidy self.new.blocks) }
+        ensures light { OnOk result (blocks_weight self.new.blocks ≤ blocks_weight self.old.blocks + closures_weight closures) }
     {
         let mut closures = closures;
         let mut codes = Vec::new(self.alloc);

@@ -1,11 +1,12 @@
-use Rattle.std.proofs.Common.{List, sym, subst}
+use Rattle.std.proofs.Common.{◌+◌, ◌≤◌, List, sym, subst}
 use Rattle.dg_meaning.specs.OneRun.{Begins}
 use Rattle.dg_meaning.proofs.OneRun.{begins_on}
 use Rattle.dg_mid.specs.declared.code.Block.{Block}
 use Rattle.dg_mid.specs.declared.code.Code.{Code}
 use Rattle.dg_mid.specs.Tidying.{BlocksTidy}
+use Rattle.dg_mid.specs.Weights.{blocks_weight, closures_weight}
 use Rattle.dg_mid.specs.Writing.{PredsFor, BodiesFor}
-use Rattle.dg_mid.proofs.Rules.{codes_made, preds_later, starting_neat, tidy_made}
+use Rattle.dg_mid.proofs.Rules.{codes_made, code_light, preds_later, starting_neat, tidy_made}
 use Rattle.dg_mid.proofs.programs.to_mid.Goals as goal
 
 pub returns-clause-codes : goal.returns-clause-codes
@@ -21,3 +22,9 @@ pub returns-clause-tidy : goal.returns-clause-tidy
 returns-clause-tidy c =
     let code : Code = record { blocks = c.blocks-2.result; preds = c.in_ok-preds.preds; closures = c.in_ok-closures.closures } in
     tidy_made code (subst BlocksTidy (sym c.blocks-2.ensures) (c.in_ok-closures.ensures.neat (c.in_ok-preds.ensures.neat (subst BlocksTidy (sym c.in_ok-writer.ensures) (starting_neat c.args.program.entry)))))
+
+pub returns-clause-light : goal.returns-clause-light
+returns-clause-light c =
+    let code : Code = record { blocks = c.blocks-2.result; preds = c.in_ok-preds.preds; closures = c.in_ok-closures.closures } in
+    code_light c.args.program code c.in_ok-writer.writer.blocks c.preds-2.new.self.blocks c.in_ok-writer.ensures c.in_ok-preds.ensures.light
+    (subst (λ (l : List Block). blocks_weight l ≤ blocks_weight c.preds-2.new.self.blocks + closures_weight c.args.program.closures) (sym c.blocks-2.ensures) c.in_ok-closures.ensures.light)

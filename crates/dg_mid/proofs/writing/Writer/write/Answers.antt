@@ -1,7 +1,9 @@
-use Rattle.std.proofs.Common.{rules, ◌≡◌, [], ◌∷◌, ◌++◌, ap, ◌∙◌}
+use Rattle.std.proofs.Common.{rules, ◌≡◌, [], ◌∷◌, ◌++◌, ap, ◌∙◌, arith}
 use Rattle.dg_mid.specs.declared.writing.Work.{Work}
 use Rattle.dg_mid.specs.declared.writing.Writer.{Writer}
 use Rattle.dg_mid.specs.Writing.{with_goal}
+use Rattle.dg_mid.specs.Weights.{body_weight, levels_weight}
+use Rattle.dg_mid.proofs.Weights.{ops_reverse}
 use Rattle.dg_mid.proofs.Opening.{Carries, carries_on, carries_to, carries_first, ends_written}
 use Rattle.dg_mid.proofs.writing.Writer.write.Goals as goal
 use Rattle.dg_mid.proofs.writing.Writer.write.Goals.{in-Some+in_ok-work-in-Some, in-None+in-Some-pop+in_ok-work-in-Some-pop}
@@ -16,6 +18,7 @@ returns-in-None-pop-clause-first c =
     record {
       stands = λ rest end s. ends_written c.loop-turn.self.blocks c.loop-turn.work (c.args.goals ++ rest) end none no_levels (c.loop-turn.invariant.1 rest end s);
       neat = λ h. (c.loop-turn.invariant.2 h).neat;
+      light = omega (arith, c.loop-turn.invariant.3, ops_reverse c.loop-turn.work.ops.items, ops_reverse c.args.ops.items, ap body_weight none, ap levels_weight no_levels);
     }
 
 pub loop-turn-preserved : goal.loop-turn-preserved
