@@ -1,5 +1,5 @@
 -- What is refused item by item, and what holds where nothing is refused.
-use Rattle.std.proofs.Common.{◌≡◌, ◌⊎◌, inl, inr, ◌||◌, ℕ, List, [], ◌∷◌, ◌++◌, Bool, true, false, Option, Some, None, nat_lt, refl, sym, ◌∙◌, ap, subst, append_assoc}
+use Rattle.std.proofs.Common.{◌≡◌, inl, inr, ◌||◌, List, [], ◌∷◌, ◌++◌, Bool, true, false, Option, Some, None, refl, sym, ◌∙◌, ap, subst, append_assoc}
 use Rattle.std.specs.Prelude.{Result, Ok, Err, if◌then◌else◌}
 use Rattle.std.specs.List.{All, list_any}
 use Rattle.std.proofs.lemmas.Bool.{or_parts}
@@ -15,7 +15,6 @@ use Rattle.dg_access.specs.Items.{plain_items}
 use Rattle.dg_access.proofs.FewLemmas.{small_few}
 use Rattle.dg_expand.specs.Answer.{cause_of, refused_or, first_refused, IsPut, IsExpanded, IsRewritten}
 use Rattle.dg_expand.specs.Expanded.{access_rules, is_bad, are_bad, put_item, put_items}
-use Rattle.dg_expand.specs.Loops.{first_looping}
 use Rattle.dg_expand.specs.Put.{Access}
 
 -- ---- one item more

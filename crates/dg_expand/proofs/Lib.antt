@@ -7,3 +7,5 @@ pub mod RowLemmas
 pub mod AnswerLemmas
 pub mod CarryLemmas
 pub mod LeftLemmas
+pub mod WeightLemmas
+pub mod OverLemmas

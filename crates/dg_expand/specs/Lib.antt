@@ -5,4 +5,5 @@ pub mod Answer
 pub mod Comes
 pub mod Left
 pub mod Putting
+pub mod Weights
 pub mod Rows

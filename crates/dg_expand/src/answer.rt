@@ -1,5 +1,5 @@
 // The tree in which access rules are put in, or why it is refused.
-ghost use Rattle.std.specs.Prelude.{◌≡◌, ◌++◌, List, Ok, Err, map, IfOk, IfErr, OnOk};
+ghost use Rattle.std.specs.Prelude.{◌≡◌, ◌++◌, List, None, Ok, Err, map, IfOk, IfErr, IfSome, IfNone, OnOk};
 ghost use Rattle.dg_access.specs.Scopes.{counts_of};
 ghost use Rattle.dg_access.specs.State.{counts_view};
 ghost use Rattle.dg_base.specs.Faults.{IsFault};
@@ -9,6 +9,7 @@ ghost use Rattle.dg_expand.specs.Answer as spec;
 ghost use Rattle.dg_expand.specs.Answer.{IsPut, IsExpanded, IsRewritten};
 ghost use Rattle.dg_expand.specs.Expanded.{put_item};
 ghost use Rattle.dg_expand.specs.Putting.{access_view};
+ghost use Rattle.dg_expand.specs.Weights.{IsOver};
 
 use crate::closed::are_bad;
 use crate::loops::first_looping;
@@ -47,18 +48,48 @@ fn cause_of(
     Ok(None)
 }
 
-// What becomes of an item.
+// What becomes of an item, and whether that could be built.
 fn new_items<'a>(
     alloc: Global,
     bump: &'a Bump,
     rules: &'a [Access<'a>],
     item: &'a Item,
-) -> Result<Vec<Item>, AllocError>
-    ensures { IfOk result (λ new. map item_view new.items ≡ put_item (map access_view rules.now) (item_view item.now)) }
+) -> Result<Option<Vec<Item>>, AllocError>
+    ensures new { IfOk result (λ all. IfSome all (λ new. map item_view new.items ≡ put_item (map access_view rules.now) (item_view item.now))) }
+    ensures large { IfOk result (λ all. IfNone all (IsOver (put_item (map access_view rules.now) (item_view item.now)))) }
 {
     let mut new = Vec::new(alloc);
-    put_item(alloc, bump, rules, &mut new, item)?;
-    Ok(new)
+    if put_item(alloc, bump, rules, &mut new, item)? {
+        Ok(Some(new))
+    } else {
+        Ok(None)
+    }
+}
+
+// Adds what becomes of an item, or tells why that is refused.
+fn add_item<'a>(
+    alloc: Global,
+    bump: &'a Bump,
+    rules: &'a [Access<'a>],
+    counts: &mut Counts,
+    out: &mut Vec<Item>,
+    item: &'a Item,
+) -> Result<Option<Kind>, AllocError>
+    ensures cause { counts_view counts.old ≡ counts_of (map item_view out.old.items) → IfOk result (λ cause. cause
+        ≡ spec.cause_of (map access_view rules.now) (map item_view out.old.items) (put_item (map access_view rules.now) (item_view item.now))) }
+    ensures added { IfOk result (λ cause. cause ≡ None → map item_view out.new.items
+        ≡ map item_view out.old.items ++ put_item (map access_view rules.now) (item_view item.now)) }
+    ensures counted { counts_view counts.old ≡ counts_of (map item_view out.old.items) → IfOk result (λ cause. cause ≡ None
+        → counts_view counts.new ≡ counts_of (map item_view out.new.items)) }
+{
+    match new_items(alloc, bump, rules, item)? {
+        Some(mut new) => {
+            let cause = cause_of(alloc, rules, counts, new.as_slice())?;
+            out.append(&mut new)?;
+            Ok(cause)
+        }
+        None => Ok(Some(Kind::TooMany)),
+    }
 }
 
 // The items with access rules put in, or the refusal of the first that is refused.
@@ -74,11 +105,9 @@ fn put_all<'a>(
     let mut out = Vec::new(alloc);
     let mut counts = uncounted();
     for item in items {
-        let mut new = new_items(alloc, bump, rules, item)?;
-        if let Some(kind) = cause_of(alloc, rules, &mut counts, new.as_slice())? {
+        if let Some(kind) = add_item(alloc, bump, rules, &mut counts, &mut out, item)? {
             return Err(refused(kind, item.line));
         }
-        out.append(&mut new)?;
     }
     Ok(out)
 }

@@ -1,65 +1,73 @@
 // What all that is left comes to: heads, bodies and declarations with access rules put in.
-ghost use Rattle.std.specs.Prelude.{◌≡◌, ◌∷◌, [], map, IfOk, OnOk};
+ghost use Rattle.std.specs.Prelude.{◌≡◌, ◌<◌, ◌≤◌, ◌∷◌, [], true, false, map, IfOk, IfSome, IfNone};
 ghost use Rattle.dg_base.specs.TreeView.{body_view, head_view, change_view};
 ghost use Rattle.dg_base.specs.Tree as tree;
 ghost use Rattle.dg_base.specs.Tree.{changes_of};
 ghost use Rattle.dg_access.specs.Building.{built_view, last_or};
 ghost use Rattle.dg_expand.specs.Put.{one_change, put_body, put_changes, put_parts};
 ghost use Rattle.dg_expand.specs.Putting.{around, run, numbered};
+ghost use Rattle.dg_expand.specs.Weights.{heavy, body_load, changes_load, parts_load};
 
 use crate::place::{Place, Uses};
 use crate::steps::step;
+use crate::weighed::{Weighed, numbered};
 use crate::work::Work;
-use dg_access::{Built, let_go, unbuilt};
+use dg_access::{Built, let_go};
 use dg_base::{Body, Head, Items, NowChange, Part};
 use std::alloc::{AllocError, Global};
 
-// How many steps one item is given before it counts as more than there is memory for.
-const STEPS: u64 = 1 << 24;
+/// What weighs more than this has more nodes or more queries than there may be.
+pub const MOST: usize = 2_500_000;
 
-// Does all that is left.
+// Does all that is left, unless what is built weighs too much before that: whether all is done.
 fn run_all<'a>(
     alloc: Global,
     uses: Uses<'a>,
     mut left: Vec<Work<'a>>,
-    built: &mut Built,
-) -> Result<(), AllocError>
-    ensures { OnOk result (built_view built.new ≡ run (around uses.entry) left.entry.items (built_view built.old)) }
+    weighed: &mut Weighed,
+) -> Result<bool, AllocError>
+    ensures whole { IfOk result (λ whole. whole ≡ true
+        → built_view weighed.new.built ≡ run (around uses.entry) left.entry.items (built_view weighed.old.built)) }
+    ensures large { IfOk result (λ whole. whole ≡ false → 2500000 < heavy (run (around uses.entry) left.entry.items (built_view weighed.old.built))) }
 {
-    for turn in 0..STEPS {
+    for turn in 0..u64::MAX {
+        if weighed.tally > MOST {
+            return Ok(false);
+        }
         match left.pop() {
-            Some(work) => step(alloc, uses, &mut left, built, work)?,
-            None => return Ok(()),
+            Some(work) => step(alloc, uses, &mut left, weighed, work)?,
+            None => return Ok(true),
         }
     }
     Err(AllocError)
 }
 
-// Nothing yet, the next new name having this number.
-fn numbered(alloc: Global, number: usize) -> Built
-    ensures { built_view result ≡ numbered number }
-{
-    let mut built = unbuilt(alloc);
-    built.at = number;
-    built
+fn leave(weighed: Weighed) {
+    let Weighed { built, tally: _ } = weighed;
+    let_go(built);
 }
 
-// What one part comes to.
+// What one part comes to, unless it weighs too much.
 fn built_of<'a>(
     alloc: Global,
     uses: Uses<'a>,
     number: usize,
     work: Work<'a>,
-) -> Result<Built, AllocError>
-    ensures { IfOk result (λ built. built_view built ≡ run (around uses.entry) (work.entry ∷ []) (numbered number)) }
+) -> Result<Option<Weighed>, AllocError>
+    ensures built { IfOk result (λ all. IfSome all (λ w. built_view w.built ≡ run (around uses.entry) (work.entry ∷ []) (numbered number))) }
+    ensures large { IfOk result (λ all. IfNone all (2500000 < heavy (run (around uses.entry) (work.entry ∷ []) (numbered number)))) }
 {
     let mut left = Vec::new(alloc);
     left.push(work)?;
-    let mut built = numbered(alloc, number);
-    match run_all(alloc, uses, left, &mut built) {
-        Ok(()) => Ok(built),
+    let mut weighed = numbered(alloc, number);
+    match run_all(alloc, uses, left, &mut weighed) {
+        Ok(true) => Ok(Some(weighed)),
+        Ok(false) => {
+            leave(weighed);
+            Ok(None)
+        }
         Err(fault) => {
-            let_go(built);
+            leave(weighed);
             Err(fault)
         }
     }
@@ -71,22 +79,11 @@ pub struct Heads {
     pub number: usize,
 }
 
-/// The heads that become of a head, each with its sign, and the number of the next new name.
-pub fn heads_of<'a>(
-    alloc: Global,
-    uses: Uses<'a>,
-    at: &'a Place<'a>,
-    set: bool,
-    head: &'a Head,
-) -> Result<Heads, AllocError>
-    ensures heads { IfOk result (λ new. changes_of (map change_view new.heads.items)
-        ≡ (put_changes (around uses.entry at.now).at (around uses.entry at.now).place 0
-        (one_change set (head_view head.now))).0) }
-    ensures number { IfOk result (λ new. new.number ≡ (put_changes (around uses.entry at.now).at (around uses.entry at.now).place 0
-        (one_change set (head_view head.now))).1) }
+// The heads that were built, and the number of the next new name.
+fn built_heads(built: Built) -> Heads
+    ensures heads { result.heads ≡ built.changes }
+    ensures number { result.number ≡ built.at }
 {
-    let parts = head.parts.as_slice();
-    let built = built_of(alloc, uses, 0, Work::Change(at, set, parts))?;
     let Built {
         at: number,
         values: _values,
@@ -98,7 +95,31 @@ pub fn heads_of<'a>(
         changes: heads,
         puts: _puts,
     } = built;
-    Ok(Heads { heads, number })
+    Heads { heads, number }
+}
+
+/// The heads that become of a head, each with its sign, and the number of the next new name; nothing where they weigh too much.
+pub fn heads_of<'a>(
+    alloc: Global,
+    uses: Uses<'a>,
+    at: &'a Place<'a>,
+    set: bool,
+    head: &'a Head,
+) -> Result<Option<Heads>, AllocError>
+    ensures heads { IfOk result (λ all. IfSome all (λ new. changes_of (map change_view new.heads.items)
+        ≡ (put_changes (around uses.entry at.now).at (around uses.entry at.now).place 0
+        (one_change set (head_view head.now))).0)) }
+    ensures number { IfOk result (λ all. IfSome all (λ new. new.number ≡ (put_changes (around uses.entry at.now).at (around uses.entry at.now).place 0
+        (one_change set (head_view head.now))).1)) }
+    ensures large { IfOk result (λ all. IfNone all (2500000 < changes_load (put_changes (around uses.entry at.now).at (around uses.entry at.now).place 0
+        (one_change set (head_view head.now))).0)) }
+{
+    let parts = head.parts.as_slice();
+    let built = built_of(alloc, uses, 0, Work::Change(at, set, parts))?;
+    match built {
+        Some(Weighed { built, tally: _ }) => Ok(Some(built_heads(built))),
+        None => Ok(None),
+    }
 }
 
 // The last of these bodies, or one without branches.
@@ -113,17 +134,16 @@ fn last_body(alloc: Global, mut bodies: Vec<Body>) -> Body
     }
 }
 
-/// What becomes of a body, the next new name having this number.
-pub fn body_of<'a>(
-    alloc: Global,
-    uses: Uses<'a>,
-    at: &'a Place<'a>,
-    number: usize,
-    body: &'a Body,
-) -> Result<Body, AllocError>
-    ensures { IfOk result (λ new. body_view new ≡ (put_body (around uses.entry at.now).at (around uses.entry at.now).place number (body_view body.now)).0) }
+/// A body, and what it weighs at least.
+pub struct BuiltBody {
+    pub body: Body,
+    pub tally: usize,
+}
+
+// The bodies that were built.
+fn built_bodies(built: Built) -> Vec<Body>
+    ensures { result ≡ built.bodies }
 {
-    let built = built_of(alloc, uses, number, Work::Body(at, body))?;
     let Built {
         at: _number,
         values: _values,
@@ -135,19 +155,38 @@ pub fn body_of<'a>(
         changes: _changes,
         puts: _puts,
     } = built;
-    Ok(last_body(alloc, bodies))
+    bodies
 }
 
-/// A declaration's head once more, where the place has no access rules.
-pub fn head_of<'a>(
+/// What becomes of a body, the next new name having this number; nothing where it weighs too much.
+pub fn body_of<'a>(
     alloc: Global,
     uses: Uses<'a>,
     at: &'a Place<'a>,
-    head: &'a Head,
-) -> Result<Head, AllocError>
-    ensures { IfOk result (λ new. head_view new ≡ (put_parts (around uses.entry at.now).at (around uses.entry at.now).place 0 (head_view head.now)).0) }
+    number: usize,
+    body: &'a Body,
+) -> Result<Option<BuiltBody>, AllocError>
+    ensures body { IfOk result (λ all. IfSome all (λ new. body_view new.body
+        ≡ (put_body (around uses.entry at.now).at (around uses.entry at.now).place number (body_view body.now)).0)) }
+    ensures tally { IfOk result (λ all. IfSome all (λ new. new.tally
+        ≤ body_load (put_body (around uses.entry at.now).at (around uses.entry at.now).place number (body_view body.now)).0)) }
+    ensures large { IfOk result (λ all. IfNone all (2500000
+        < body_load (put_body (around uses.entry at.now).at (around uses.entry at.now).place number (body_view body.now)).0)) }
 {
-    let built = built_of(alloc, uses, 0, Work::Parts(at, head.parts.as_slice()))?;
+    let built = built_of(alloc, uses, number, Work::Body(at, body))?;
+    match built {
+        Some(Weighed { built, tally }) => {
+            let body = last_body(alloc, built_bodies(built));
+            Ok(Some(BuiltBody { body, tally }))
+        }
+        None => Ok(None),
+    }
+}
+
+// The parts that were built, as a head.
+fn built_head(built: Built) -> Head
+    ensures { result.parts ≡ built.parts.items }
+{
     let Built {
         at: _number,
         values: _values,
@@ -159,7 +198,26 @@ pub fn head_of<'a>(
         changes: _changes,
         puts: _puts,
     } = built;
-    Ok(Head {
+    Head {
         parts: Items::from_vec(parts),
-    })
+    }
+}
+
+/// A declaration's head once more, where the place has no access rules; nothing where it weighs too much.
+pub fn head_of<'a>(
+    alloc: Global,
+    uses: Uses<'a>,
+    at: &'a Place<'a>,
+    head: &'a Head,
+) -> Result<Option<Head>, AllocError>
+    ensures head { IfOk result (λ all. IfSome all (λ new. head_view new
+        ≡ (put_parts (around uses.entry at.now).at (around uses.entry at.now).place 0 (head_view head.now)).0)) }
+    ensures large { IfOk result (λ all. IfNone all (2500000
+        < parts_load (put_parts (around uses.entry at.now).at (around uses.entry at.now).place 0 (head_view head.now)).0)) }
+{
+    let built = built_of(alloc, uses, 0, Work::Parts(at, head.parts.as_slice()))?;
+    match built {
+        Some(Weighed { built, tally: _ }) => Ok(Some(built_head(built))),
+        None => Ok(None),
+    }
 }

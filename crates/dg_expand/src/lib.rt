@@ -10,6 +10,7 @@ mod names;
 mod place;
 mod rules;
 mod steps;
+mod weighed;
 mod work;
 
 pub use answer::{expand, rewrite};

@@ -1,5 +1,5 @@
 // Items with access rules put in.
-ghost use Rattle.std.specs.Prelude.{◌≡◌, ◌++◌, ◌∷◌, [], None, length, map, IfOk, OnOk};
+ghost use Rattle.std.specs.Prelude.{◌≡◌, ◌<◌, ◌*◌, ◌++◌, ◌∷◌, [], None, true, false, length, map, IfOk, IfSome, IfNone, OnOk};
 ghost use Rattle.std.specs.Option.{option_to_list};
 ghost use Rattle.dg_base.specs.Heads.{name_of};
 ghost use Rattle.dg_base.specs.Tree as tree;
@@ -8,13 +8,17 @@ ghost use Rattle.dg_base.specs.TreeView.{body_view, head_view, change_view, said
 ghost use Rattle.dg_expand.specs.Expanded as spec;
 ghost use Rattle.dg_expand.specs.Put.{level, in_item, put_body};
 ghost use Rattle.dg_expand.specs.Putting.{access_view, around, standing_in};
+ghost use Rattle.dg_expand.specs.Weights.{body_load, IsOver};
 
-use crate::expanding::{Heads, body_of, head_of, heads_of};
+use crate::expanding::{BuiltBody, Heads, MOST, body_of, head_of, heads_of};
 use crate::place::{Access, Outer, Place, Uses, placed};
 use bumpalo::Bump;
 use dg_access::{copied, free_number};
 use dg_base::{Body, Head, Item, ItemBody, NowChange, name_of};
 use std::alloc::{AllocError, Global};
+
+// How many rules there may be.
+const RULES: usize = 16_000;
 
 fn access_of<'a>(
     alloc: Global,
@@ -102,7 +106,33 @@ fn signed(head: NowChange, body: Body) -> ItemBody
     }
 }
 
-// Adds a rule for each head, all of one body.
+// The body of each of so many rules, unless all these weigh too much.
+fn next_body<'a>(
+    alloc: Global,
+    uses: Uses<'a>,
+    at: &'a Place<'a>,
+    number: usize,
+    count: usize,
+    body: &'a Body,
+) -> Result<Option<Body>, AllocError>
+    requires { 0 < count }
+    ensures body { IfOk result (λ all. IfSome all (λ new. body_view new
+        ≡ (put_body (around uses.entry at.now).at (around uses.entry at.now).place number (body_view body.now)).0)) }
+    ensures large { IfOk result (λ all. IfNone all (2500000
+        < count * body_load (put_body (around uses.entry at.now).at (around uses.entry at.now).place number (body_view body.now)).0)) }
+{
+    match body_of(alloc, uses, at, number, body)? {
+        Some(BuiltBody { body, tally }) => {
+            if count.saturating_mul(tally) > MOST {
+                return Ok(None);
+            }
+            Ok(Some(body))
+        }
+        None => Ok(None),
+    }
+}
+
+// Adds a rule for each head, all of one body: whether this could be done.
 fn add_rules<'a>(
     alloc: Global,
     uses: Uses<'a>,
@@ -111,22 +141,28 @@ fn add_rules<'a>(
     line: u32,
     heads: Heads,
     body: &'a Body,
-) -> Result<(), AllocError>
-    ensures { OnOk result (map item_view out.new.items
+) -> Result<bool, AllocError>
+    ensures added { IfOk result (λ done. done ≡ true → map item_view out.new.items
         ≡ map item_view out.old.items ++ spec.on_line line (spec.rules_of (changes_of (map change_view heads.heads.items))
         (put_body (around uses.entry at.now).at (around uses.entry at.now).place heads.number (body_view body.now)).0)) }
+    ensures large { IfOk result (λ done. done ≡ false → IsOver (spec.on_line line (spec.rules_of (changes_of (map change_view heads.heads.items))
+        (put_body (around uses.entry at.now).at (around uses.entry at.now).place heads.number (body_view body.now)).0))) }
 {
     let Heads { mut heads, number } = heads;
+    let count = heads.len();
+    if count > RULES {
+        return Ok(false);
+    }
     for turn in 0..u64::MAX {
         match take_first(&mut heads) {
-            Some(head) => {
-                let body = body_of(alloc, uses, at, number, body)?;
-                out.push(Item {
+            Some(head) => match next_body(alloc, uses, at, number, count, body)? {
+                Some(body) => out.push(Item {
                     line,
                     body: signed(head, body),
-                })?;
-            }
-            None => return Ok(()),
+                })?,
+                None => return Ok(false),
+            },
+            None => return Ok(true),
         }
     }
     Err(AllocError)
@@ -140,14 +176,19 @@ fn put_rule<'a>(
     set: bool,
     head: &'a Head,
     body: &'a Body,
-) -> Result<(), AllocError>
-    ensures { OnOk result (map item_view out.new.items ≡ map item_view out.old.items ++ spec.on_line line
+) -> Result<bool, AllocError>
+    ensures added { IfOk result (λ done. done ≡ true → map item_view out.new.items ≡ map item_view out.old.items ++ spec.on_line line
         (spec.put_rule (level (map access_view uses.entry.rules.now) uses.entry.mark (length uses.entry.rules.now)) set
         (head_view head.now) (body_view body.now))) }
+    ensures large { IfOk result (λ done. done ≡ false → IsOver (spec.on_line line
+        (spec.put_rule (level (map access_view uses.entry.rules.now) uses.entry.mark (length uses.entry.rules.now)) set
+        (head_view head.now) (body_view body.now)))) }
 {
     let at = standing_in(uses, uses.rules.len())?;
-    let heads = heads_of(alloc, uses, at, set, head)?;
-    add_rules(alloc, uses, at, out, line, heads, body)
+    match heads_of(alloc, uses, at, set, head)? {
+        Some(heads) => add_rules(alloc, uses, at, out, line, heads, body),
+        None => Ok(false),
+    }
 }
 
 // A declaration stays as it stands.
@@ -157,9 +198,10 @@ fn put_declaration<'a>(
     out: &mut Vec<Item>,
     line: u32,
     head: &'a Head,
-) -> Result<(), AllocError>
-    ensures { OnOk result (map item_view out.new.items ≡ map item_view out.old.items ++ spec.on_line line
+) -> Result<bool, AllocError>
+    ensures added { IfOk result (λ done. done ≡ true → map item_view out.new.items ≡ map item_view out.old.items ++ spec.on_line line
         (tree.global_variable (spec.stay (head_view head.now)) ∷ [])) }
+    ensures large { IfOk result (λ done. done ≡ false → IsOver (spec.on_line line (tree.global_variable (spec.stay (head_view head.now)) ∷ []))) }
 {
     let none = Uses {
         bump: uses.bump,
@@ -167,33 +209,40 @@ fn put_declaration<'a>(
         mark: 0,
     };
     let at = standing_in(none, 0)?;
-    let head = head_of(alloc, none, at, head)?;
-    out.push(Item {
-        line,
-        body: ItemBody::Variable(head),
-    })?;
-    Ok(())
+    match head_of(alloc, none, at, head)? {
+        Some(head) => {
+            out.push(Item {
+                line,
+                body: ItemBody::Variable(head),
+            })?;
+            Ok(true)
+        }
+        None => Ok(false),
+    }
 }
 
-fn put_topic(alloc: Global, out: &mut Vec<Item>, line: u32, name: &[u8]) -> Result<(), AllocError>
-    ensures { OnOk result (map item_view out.new.items ≡ map item_view out.old.items ++ spec.on_line line (tree.topic name.now ∷ [])) }
+fn put_topic(alloc: Global, out: &mut Vec<Item>, line: u32, name: &[u8]) -> Result<bool, AllocError>
+    ensures added { OnOk result (map item_view out.new.items ≡ map item_view out.old.items ++ spec.on_line line (tree.topic name.now ∷ [])) }
+    ensures done { IfOk result (λ done. done ≡ true) }
 {
     out.push(Item {
         line,
         body: ItemBody::Topic(copied(alloc, name)?),
     })?;
-    Ok(())
+    Ok(true)
 }
 
-/// Adds what becomes of an item.
+/// Adds what becomes of an item, or answers no, since it is too much by itself.
 pub fn put_item<'a>(
     alloc: Global,
     bump: &'a Bump,
     rules: &'a [Access<'a>],
     out: &mut Vec<Item>,
     item: &'a Item,
-) -> Result<(), AllocError>
-    ensures { OnOk result (map item_view out.new.items ≡ map item_view out.old.items ++ spec.put_item (map access_view rules.now) (item_view item.now)) }
+) -> Result<bool, AllocError>
+    ensures added { IfOk result (λ done. done ≡ true → map item_view out.new.items
+        ≡ map item_view out.old.items ++ spec.put_item (map access_view rules.now) (item_view item.now)) }
+    ensures large { IfOk result (λ done. done ≡ false → IsOver (spec.put_item (map access_view rules.now) (item_view item.now))) }
 {
     let mark = free_number(alloc, &item.body)?;
     let uses = Uses { bump, rules, mark };
@@ -201,7 +250,7 @@ pub fn put_item<'a>(
         ItemBody::Topic(name) => put_topic(alloc, out, item.line, name.as_slice()),
         ItemBody::Rule(head, body) => put_rule(alloc, uses, out, item.line, true, head, body),
         ItemBody::Deny(head, body) => put_rule(alloc, uses, out, item.line, false, head, body),
-        ItemBody::Access(_, _) => Ok(()),
+        ItemBody::Access(_, _) => Ok(true),
         ItemBody::Variable(head) => put_declaration(alloc, uses, out, item.line, head),
     }
 }

@@ -6,7 +6,6 @@ ghost use Rattle.dg_base.specs.Tree.{parts_of, values_of, stmts_of, arms_of, cha
 ghost use Rattle.dg_base.specs.TreeView.{part_view, value_view, stmt_view, arm_view, body_view, change_view, branches_view, list_view, choice_view};
 ghost use Rattle.dg_access.specs.Building.{built_view, asked, closing};
 ghost use Rattle.dg_expand.specs.Put.{one_change, change_by, changes_in};
-ghost use Rattle.dg_access.specs.State.{setting_view};
 ghost use Rattle.dg_expand.specs.Putting.{around, bare, change_seen, wrap_of, after_body, after_value, after_values, after_parts, after_stmt, after_stmts, after_branches, after_arms, after_changes, does, IsStep, IsPutOff};
 
 use crate::names::own_name;
@@ -14,8 +13,9 @@ use crate::place::{
     Place, Uses, argument_at, changing_rule_at, in_closure, in_copy, is_own_parameter, queries_of,
     rule_at, within,
 };
+use crate::weighed::{Weighed, close, put_text, put_value, put_word, take_number};
 use crate::work::Work;
-use dg_access::{Asking, Built, Close, Setting, Wrap, close, copied, take_number};
+use dg_access::{Asking, Built, Close, Wrap, copied};
 use dg_base::{Arm, Body, Boxed, Head, Items, Name, NowChange, Part, Stmt, Value};
 use std::alloc::{AllocError, Global};
 
@@ -95,33 +95,6 @@ fn put_off_one<'a>(left: &mut Vec<Work<'a>>, one: Work<'a>) -> Result<(), AllocE
     Ok(())
 }
 
-fn put_value(built: &mut Built, value: Value) -> Result<(), AllocError>
-    ensures { OnOk result (built_view built.new ≡ record (built_view built.old) { values = map value_view built.old.values.items ++ value_view value ∷ [] }) }
-{
-    built.values.push(value)?;
-    Ok(())
-}
-
-fn put_word(alloc: Global, built: &mut Built, word: &[u8]) -> Result<(), AllocError>
-    ensures { OnOk result (built_view built.new ≡ record (built_view built.old) {
-      parts = map part_view built.old.parts.items
-          ++ tree.part_word word.now ∷ [];
-    }) }
-{
-    built.parts.push(Part::Word(copied(alloc, word)?))?;
-    Ok(())
-}
-
-fn put_text(alloc: Global, built: &mut Built, word: &[u8]) -> Result<(), AllocError>
-    ensures { OnOk result (built_view built.new ≡ record (built_view built.old) {
-      stmts = map stmt_view built.old.stmts.items
-          ++ tree.text word.now ∷ [];
-    }) }
-{
-    built.stmts.push(Stmt::Text(copied(alloc, word)?))?;
-    Ok(())
-}
-
 fn copied_words(alloc: Global, words: &[Name]) -> Result<Items<Name>, AllocError>
     ensures { IfOk result (λ new. new ≡ words.now) }
 {
@@ -137,19 +110,19 @@ fn look_variable<'a>(
     alloc: Global,
     uses: Uses<'a>,
     left: &mut Vec<Work<'a>>,
-    built: &mut Built,
+    weighed: &mut Weighed,
     at: &'a Place<'a>,
     name: &[u8],
 ) -> Result<(), AllocError>
     ensures { OnOk result (IsStep (around uses.entry)
-        (after_value (around uses.entry at.now) (tree.variable name.now)) left.old.items left.new.items built.old built.new) }
+        (after_value (around uses.entry at.now) (tree.variable name.now)) left.old.items left.new.items weighed.old.built weighed.new.built) }
 {
     if is_own_parameter(at, name) {
-        return put_value(built, Value::Var(copied(alloc, name)?));
+        return put_value(weighed, Value::Var(copied(alloc, name)?));
     }
     match argument_at(at, name) {
         Some((outer, value)) => put_off_one(left, Work::Value(outer, value)),
-        None => put_value(built, Value::Var(own_name(alloc, uses, at, name)?)),
+        None => put_value(weighed, Value::Var(own_name(alloc, uses, at, name)?)),
     }
 }
 
@@ -178,15 +151,15 @@ fn look_list<'a>(
 fn look_closure<'a>(
     uses: Uses<'a>,
     left: &mut Vec<Work<'a>>,
-    built: &mut Built,
+    weighed: &mut Weighed,
     at: &'a Place<'a>,
     body: &'a Body,
 ) -> Result<(), AllocError>
     ensures { OnOk result (IsStep (around uses.entry)
-        (after_value (around uses.entry at.now) (tree.closure (body_view body.now))) left.old.items left.new.items built.old built.new) }
+        (after_value (around uses.entry at.now) (tree.closure (body_view body.now))) left.old.items left.new.items weighed.old.built weighed.new.built) }
 {
     if at.moved {
-        let number = take_number(&mut built.at)?;
+        let number = take_number(weighed)?;
         let inner = in_copy(uses, at, number)?;
         put_off(left, Close::Closure, Work::Body(inner, body))
     } else {
@@ -210,26 +183,26 @@ fn look_value<'a>(
     alloc: Global,
     uses: Uses<'a>,
     left: &mut Vec<Work<'a>>,
-    built: &mut Built,
+    weighed: &mut Weighed,
     at: &'a Place<'a>,
     value: &'a Value,
 ) -> Result<(), AllocError>
     ensures { OnOk result (IsStep (around uses.entry)
-        (after_value (around uses.entry at.now) (value_view value.now)) left.old.items left.new.items built.old built.new) }
+        (after_value (around uses.entry at.now) (value_view value.now)) left.old.items left.new.items weighed.old.built weighed.new.built) }
 {
     match value {
-        Value::Num(number) => put_value(built, Value::Num(*number)),
-        Value::Word(word) => put_value(built, Value::Word(copied(alloc, word.as_slice())?)),
-        Value::Object(name) => put_value(built, Value::Object(copied(alloc, name.as_slice())?)),
-        Value::Topic => put_value(built, Value::Topic),
-        Value::Any => put_value(built, Value::Any),
+        Value::Num(number) => put_value(weighed, Value::Num(*number)),
+        Value::Word(word) => put_value(weighed, Value::Word(copied(alloc, word.as_slice())?)),
+        Value::Object(name) => put_value(weighed, Value::Object(copied(alloc, name.as_slice())?)),
+        Value::Topic => put_value(weighed, Value::Topic),
+        Value::Any => put_value(weighed, Value::Any),
         Value::Words(words) => put_value(
-            built,
+            weighed,
             Value::Words(copied_words(alloc, words.as_slice())?),
         ),
-        Value::Var(name) => look_variable(alloc, uses, left, built, at, name.as_slice()),
+        Value::Var(name) => look_variable(alloc, uses, left, weighed, at, name.as_slice()),
         Value::List(values, tail) => look_list(left, at, values.as_slice(), tail),
-        Value::Closure(body) => look_closure(uses, left, built, at, body),
+        Value::Closure(body) => look_closure(uses, left, weighed, at, body),
         Value::Query(head) => look_nested(left, at, head.parts.as_slice()),
     }
 }
@@ -255,18 +228,18 @@ fn look_parts<'a>(
     alloc: Global,
     uses: Uses<'a>,
     left: &mut Vec<Work<'a>>,
-    built: &mut Built,
+    weighed: &mut Weighed,
     at: &'a Place<'a>,
     parts: &'a [Part],
 ) -> Result<(), AllocError>
     ensures { OnOk result (IsStep (around uses.entry)
-        (after_parts (around uses.entry at.now) (parts_of (map part_view parts.now))) left.old.items left.new.items built.old built.new) }
+        (after_parts (around uses.entry at.now) (parts_of (map part_view parts.now))) left.old.items left.new.items weighed.old.built weighed.new.built) }
 {
     match parts {
         [] => Ok(()),
         [first, others @ ..] => match first {
             Part::Word(word) => {
-                put_word(alloc, built, word.as_slice())?;
+                put_word(alloc, weighed, word.as_slice())?;
                 put_off_one(left, Work::Parts(at, others))
             }
             Part::Value(value) => put_off_first(
@@ -365,17 +338,17 @@ fn wrap_of(asking: Asking) -> Wrap
 fn look_query<'a>(
     uses: Uses<'a>,
     left: &mut Vec<Work<'a>>,
-    built: &mut Built,
+    weighed: &mut Weighed,
     at: &'a Place<'a>,
     asking: Asking,
     parts: &'a [Part],
 ) -> Result<(), AllocError>
     ensures { OnOk result (IsStep (around uses.entry)
-        (after_stmt (around uses.entry at.now) (asked asking (parts_of (map part_view parts.now)))) left.old.items left.new.items built.old built.new) }
+        (after_stmt (around uses.entry at.now) (asked asking (parts_of (map part_view parts.now)))) left.old.items left.new.items weighed.old.built weighed.new.built) }
 {
     match rule_at(uses, at, parts) {
         Some(rule) => {
-            let number = take_number(&mut built.at)?;
+            let number = take_number(weighed)?;
             let inner = within(uses, at, rule, parts, number)?;
             put_off(
                 left,
@@ -395,17 +368,17 @@ fn look_query<'a>(
 fn look_change<'a>(
     uses: Uses<'a>,
     left: &mut Vec<Work<'a>>,
-    built: &mut Built,
+    weighed: &mut Weighed,
     at: &'a Place<'a>,
     set: bool,
     parts: &'a [Part],
 ) -> Result<(), AllocError>
     ensures { OnOk result (IsStep (around uses.entry)
-        (after_changes (around uses.entry at.now) (one_change set (parts_of (map part_view parts.now)))) left.old.items left.new.items built.old built.new) }
+        (after_changes (around uses.entry at.now) (one_change set (parts_of (map part_view parts.now)))) left.old.items left.new.items weighed.old.built weighed.new.built) }
 {
     match changing_rule_at(uses, at, set, parts) {
         Some(rule) => {
-            let number = take_number(&mut built.at)?;
+            let number = take_number(weighed)?;
             let inner = within(uses, at, rule, parts, number)?;
             put_off_one(left, Work::Queries(inner, set, queries_of(rule.body)))
         }
@@ -490,25 +463,39 @@ fn look_stmt<'a>(
     alloc: Global,
     uses: Uses<'a>,
     left: &mut Vec<Work<'a>>,
-    built: &mut Built,
+    weighed: &mut Weighed,
     at: &'a Place<'a>,
     stmt: &'a Stmt,
 ) -> Result<(), AllocError>
     ensures { OnOk result (IsStep (around uses.entry)
-        (after_stmt (around uses.entry at.now) (stmt_view stmt.now)) left.old.items left.new.items built.old built.new) }
+        (after_stmt (around uses.entry at.now) (stmt_view stmt.now)) left.old.items left.new.items weighed.old.built weighed.new.built) }
 {
     match stmt {
-        Stmt::Text(word) => put_text(alloc, built, word.as_slice()),
+        Stmt::Text(word) => put_text(alloc, weighed, word.as_slice()),
         Stmt::Print(value) => put_off(left, Close::Print, Work::Value(at, value)),
-        Stmt::Ask(head) => look_query(uses, left, built, at, Asking::One, head.parts.as_slice()),
-        Stmt::AskAll(head) => look_query(uses, left, built, at, Asking::All, head.parts.as_slice()),
-        Stmt::AskNot(head) => look_query(uses, left, built, at, Asking::Not, head.parts.as_slice()),
+        Stmt::Ask(head) => look_query(uses, left, weighed, at, Asking::One, head.parts.as_slice()),
+        Stmt::AskAll(head) => look_query(
+            uses,
+            left,
+            weighed,
+            at,
+            Asking::All,
+            head.parts.as_slice(),
+        ),
+        Stmt::AskNot(head) => look_query(
+            uses,
+            left,
+            weighed,
+            at,
+            Asking::Not,
+            head.parts.as_slice(),
+        ),
         Stmt::Group(body) => put_off(left, Close::Wrapped(Wrap::Group), Work::Body(at, body)),
         Stmt::NotGroup(body) => put_off(left, Close::Wrapped(Wrap::NotGroup), Work::Body(at, body)),
         Stmt::First(body) => put_off(left, Close::Wrapped(Wrap::First), Work::Body(at, body)),
         Stmt::Now(changes) => put_off_both(
             left,
-            Work::Now(height_of(built)),
+            Work::Now(height_of(&weighed.built)),
             Work::Changes(at, changes.as_slice()),
         ),
         Stmt::If(arms, other) => look_choice(left, at, arms.as_slice(), other),
@@ -528,17 +515,6 @@ fn look_stmt<'a>(
     }
 }
 
-// A setting in which a query stays one where it stands as a value.
-fn bare<'a>() -> Setting<'a>
-    ensures { setting_view result ≡ bare }
-{
-    Setting {
-        topic: None,
-        number: 0,
-        declares: true,
-    }
-}
-
 fn look_body<'a>(
     left: &mut Vec<Work<'a>>,
     at: &'a Place<'a>,
@@ -554,11 +530,12 @@ fn look_body<'a>(
 }
 
 // The changes that were begun behind so many.
-fn close_now(alloc: Global, built: &mut Built, height: usize) -> Result<(), AllocError>
-    ensures { OnOk result (built_view built.new ≡ closing bare (Close.Now (length built.old.changes.items - height)) (built_view built.old)) }
+fn close_now(alloc: Global, weighed: &mut Weighed, height: usize) -> Result<(), AllocError>
+    ensures { OnOk result (built_view weighed.new.built
+        ≡ closing bare (Close.Now (length weighed.old.built.changes.items - height)) (built_view weighed.old.built)) }
 {
-    let count = built.changes.len().saturating_sub(height);
-    close(alloc, bare(), built, Close::Now(count))
+    let count = weighed.built.changes.len().saturating_sub(height);
+    close(alloc, weighed, Close::Now(count))
 }
 
 /// Does what is next: closes a construct, or looks at a part of the tree.
@@ -566,25 +543,25 @@ pub fn step<'a>(
     alloc: Global,
     uses: Uses<'a>,
     left: &mut Vec<Work<'a>>,
-    built: &mut Built,
+    weighed: &mut Weighed,
     work: Work<'a>,
 ) -> Result<(), AllocError>
     ensures { OnOk result (IsStep (around uses.entry)
-        (does (around uses.entry) work.entry) left.old.items left.new.items built.old built.new) }
+        (does (around uses.entry) work.entry) left.old.items left.new.items weighed.old.built weighed.new.built) }
 {
     match work {
-        Work::Value(at, value) => look_value(alloc, uses, left, built, at, value),
+        Work::Value(at, value) => look_value(alloc, uses, left, weighed, at, value),
         Work::Values(at, values) => look_values(left, at, values),
-        Work::Parts(at, parts) => look_parts(alloc, uses, left, built, at, parts),
-        Work::Stmt(at, stmt) => look_stmt(alloc, uses, left, built, at, stmt),
+        Work::Parts(at, parts) => look_parts(alloc, uses, left, weighed, at, parts),
+        Work::Stmt(at, stmt) => look_stmt(alloc, uses, left, weighed, at, stmt),
         Work::Stmts(at, stmts) => look_stmts(left, at, stmts),
         Work::Branches(at, branches) => look_branches(left, at, branches),
         Work::Body(at, body) => look_body(left, at, body),
         Work::Arms(at, arms) => look_arms(left, at, arms),
-        Work::Change(at, set, parts) => look_change(uses, left, built, at, set, parts),
+        Work::Change(at, set, parts) => look_change(uses, left, weighed, at, set, parts),
         Work::Changes(at, changes) => look_changes(left, at, changes),
         Work::Queries(at, set, stmts) => look_queries(left, at, set, stmts),
-        Work::Now(height) => close_now(alloc, built, height),
-        Work::Close(construct) => close(alloc, bare(), built, construct),
+        Work::Now(height) => close_now(alloc, weighed, height),
+        Work::Close(construct) => close(alloc, weighed, construct),
     }
 }

@@ -1,21 +1,43 @@
-use Rattle.std.proofs.Common.{◌∙◌, ap}
-use Rattle.dg_base.specs.Tree.{Parts, changes_of}
-use Rattle.dg_access.specs.Building.{Built}
+use Rattle.std.proofs.Common.{◌≡◌, ◌∷◌, [], map, ◌∙◌, ap, arith}
+use Rattle.std.specs.Prelude.{◌<◌, Vec}
+use Rattle.std.specs.Global.{Global}
+use Rattle.dg_base.specs.Tree.{Parts, changes_of, parts_of}
+use Rattle.dg_base.specs.TreeView.{change_view, part_view}
+use Rattle.dg_base.specs.declared.tree.NowChange.{NowChange}
+use Rattle.dg_access.specs.Building.{Built, built_view}
 use Rattle.dg_expand.specs.Put.{put_changes, one_change}
-use Rattle.dg_expand.specs.Putting.{around}
+use Rattle.dg_expand.specs.Putting.{around, numbered, run}
+use Rattle.dg_expand.specs.Weights.{changes_load, heavy}
+use Rattle.dg_expand.specs.declared.weighed.Weighed.{Weighed}
+use Rattle.dg_expand.specs.declared.work.Work.TheVariants as work
 use Rattle.dg_expand.proofs.BuiltLemmas.{changes_again}
 use Rattle.dg_expand.proofs.StepLemmas.{head_parts}
+use Rattle.dg_expand.proofs.WeightLemmas.{some_holds, none_holds, changes_heavy}
 use Rattle.dg_expand.proofs.expanding.heads_of.Goals as goal
 
-pub returns-clause-heads : goal.returns-clause-heads
-returns-clause-heads c =
+pub returns-in-Some-clause-heads : goal.returns-in-Some-clause-heads
+returns-in-Some-clause-heads c =
     let a = around c.args.uses c.args.at.now in
-    ap (λ (s : Built). changes_of s.changes) c.in_ok-built.ensures
+    let whole = run (around c.args.uses) (work.Change c.args.at c.args.set c.as_slice-parts.result ∷ []) (numbered 0) in
+    let built = some_holds (λ (w : Weighed). built_view w.built ≡ whole) c.in_ok-built.built c.in-Some.field-0 c.in-Some.is c.in_ok-built.ensures.built in
+    ap (λ (l : Vec NowChange Global). changes_of (map change_view l.items)) c.built_heads.ensures.heads
+    ∙ ap (λ (s : Built). changes_of s.changes) built
     ∙ changes_again _
     ∙ ap (λ (ps : Parts). (put_changes a.at a.place 0 (one_change c.args.set ps)).0) (head_parts c.args.head.now c.as_slice-parts.result.now c.as_slice-parts.ensures)
 
-pub returns-clause-number : goal.returns-clause-number
-returns-clause-number c =
+pub returns-in-Some-clause-number : goal.returns-in-Some-clause-number
+returns-in-Some-clause-number c =
     let a = around c.args.uses c.args.at.now in
-    ap (λ (s : Built). s.at) c.in_ok-built.ensures
+    let whole = run (around c.args.uses) (work.Change c.args.at c.args.set c.as_slice-parts.result ∷ []) (numbered 0) in
+    let built = some_holds (λ (w : Weighed). built_view w.built ≡ whole) c.in_ok-built.built c.in-Some.field-0 c.in-Some.is c.in_ok-built.ensures.built in
+    c.built_heads.ensures.number
+    ∙ ap (λ (s : Built). s.at) built
     ∙ ap (λ (ps : Parts). (put_changes a.at a.place 0 (one_change c.args.set ps)).1) (head_parts c.args.head.now c.as_slice-parts.result.now c.as_slice-parts.ensures)
+
+pub returns-in-None-clause-large : goal.returns-in-None-clause-large
+returns-in-None-clause-large c =
+    let a = around c.args.uses c.args.at.now in
+    let whole = run (around c.args.uses) (work.Change c.args.at c.args.set c.as_slice-parts.result ∷ []) (numbered 0) in
+    let large = none_holds (2500000 < heavy whole) c.in_ok-built.built c.in-None.is c.in_ok-built.ensures.large in
+    let same = ap (λ (ps : Parts). changes_load (put_changes a.at a.place 0 (one_change c.args.set ps)).0) (head_parts c.args.head.now c.as_slice-parts.result.now c.as_slice-parts.ensures) in
+    omega (arith, large, same, changes_heavy a 0 (one_change c.args.set (parts_of (map part_view c.as_slice-parts.result.now))))

@@ -4,4 +4,4 @@ use Rattle.dg_expand.specs.Putting.{around, run}
 use Rattle.dg_expand.proofs.expanding.run_all.Given as goal
 
 abbrev pub invariant-loop-turn : goal.invariant-loop-turn
-invariant-loop-turn l = run (around l.uses) l.left.items (built_view l.built) ≡ run (around l.uses) l.initial.left.items (built_view l.initial.built)
+invariant-loop-turn l = run (around l.uses) l.left.items (built_view l.weighed.built) ≡ run (around l.uses) l.initial.left.items (built_view l.initial.weighed.built)

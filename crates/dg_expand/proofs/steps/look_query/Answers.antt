@@ -1,4 +1,4 @@
-use Rattle.std.proofs.Common.{ℕ, map, refl, sym, ◌-◌, ap}
+use Rattle.std.proofs.Common.{map, refl, sym, ◌-◌}
 use Rattle.dg_base.specs.Tree.{parts_of}
 use Rattle.dg_base.specs.TreeView.{part_view}
 use Rattle.dg_access.specs.Building.{built_view}
@@ -11,14 +11,14 @@ use Rattle.dg_expand.proofs.steps.look_query.Goals as goal
 
 pub returns-in_ok-inner-in-Some : goal.returns-in_ok-inner-in-Some
 returns-in_ok-inner-in-Some c =
-    let s = built_view c.args.built.now in
+    let s = built_view c.args.weighed.now.built in
     let rules = map access_view c.args.uses.rules.now in
     let depth = c.args.at.now.depth in
     let e = sym c.in-Some.ensures in
     on_ok c.put_off.result _ _ c.put_off.ensures
     (λ put. used_off c.args.at c.in_ok-inner-in-Some.inner (around c.args.uses) (level rules c.args.uses.mark (depth - 1)) c.args.asking c.in-Some.rule _ c.args.parts c.in_ok-number-in-Some.number s _ _ c.args.left.now.items _
     e (inner_is rules c.args.uses.mark depth (parts_of (map part_view c.args.parts.now)) (access_view c.in-Some.rule) e) c.in_ok-inner-in-Some.ensures c.in_ok-number-in-Some.ensures.number
-    (ap (λ (n : ℕ). record s { at = n }) c.in_ok-number-in-Some.ensures.at) c.wrap_of.ensures refl put)
+    c.in_ok-number-in-Some.ensures.built c.wrap_of.ensures refl put)
 
 pub returns-in-None : goal.returns-in-None
-returns-in-None c = on_ok c.put_off-in-None.result _ _ c.put_off-in-None.ensures (λ put. asked_off c.args.at (around c.args.uses) c.args.asking c.args.parts _ (built_view c.args.built.now) c.args.left.now.items _ (sym c.in-None.ensures) refl put)
+returns-in-None c = on_ok c.put_off-in-None.result _ _ c.put_off-in-None.ensures (λ put. asked_off c.args.at (around c.args.uses) c.args.asking c.args.parts _ (built_view c.args.weighed.now.built) c.args.left.now.items _ (sym c.in-None.ensures) refl put)
