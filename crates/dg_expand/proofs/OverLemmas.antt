@@ -10,7 +10,7 @@ use Rattle.dg_names.specs.Counts.{closures_at, selects_at}
 use Rattle.dg_access.specs.Building.{list_of_changes}
 use Rattle.dg_access.specs.Counts.{nodes_at, queries_at, rules_at, counted_of, counted_among, any_has_many, are_large, are_many}
 use Rattle.dg_expand.specs.Expanded.{signed, rules_of, on_line}
-use Rattle.dg_expand.specs.Weights.{load, parts_load, body_load, changes_load, IsOver}
+use Rattle.dg_expand.specs.Weights.{load, parts_load, body_load, changes_load, HasManyHeads, IsOver}
 use Rattle.dg_expand.proofs.BuiltLemmas.{changes_again}
 use Rattle.dg_expand.proofs.WeightLemmas.{join_load}
 
@@ -107,10 +107,14 @@ over_heads line hs b h = over_rules (on_line line (rules_of (changes_of hs) b)) 
 pub over_bodies : (line : ℕ) (hs : List (Parts × Bool)) (b : Body) → 2500000 < length hs * body_load b → IsOver (on_line line (rules_of (changes_of hs) b))
 over_bodies line hs b h = over_load (on_line line (rules_of (changes_of hs) b)) (omega (arith, h, rules_load line hs b))
 
-pub over_changes : (line : ℕ) (cs : Changes) (b : Body) → 2500000 < changes_load cs → IsOver (on_line line (rules_of cs b))
+over_changes : (line : ℕ) (cs : Changes) (b : Body) → 2500000 < changes_load cs → IsOver (on_line line (rules_of cs b))
 over_changes line cs b h =
     subst (λ (ds : Changes). 2500000 < changes_load ds → IsOver (on_line line (rules_of ds b))) (changes_again cs)
     (λ k. over_load (on_line line (rules_of (changes_of (list_of_changes cs)) b)) (omega (arith, k, rules_load line (list_of_changes cs) b))) h
+
+pub over_many_heads : (line : ℕ) (cs : Changes) (b : Body) → HasManyHeads cs → IsOver (on_line line (rules_of cs b))
+over_many_heads line cs b (inl h) = over_changes line cs b h
+over_many_heads line cs b (inr h) = subst (λ (ds : Changes). IsOver (on_line line (rules_of ds b))) (changes_again cs) (over_heads line (list_of_changes cs) b h)
 
 pub over_declared : (line : ℕ) (ps : Parts) → 2500000 < parts_load ps → IsOver (on_line line (tree.global_variable ps ∷ []))
 over_declared line ps h = over_load (on_line line (tree.global_variable ps ∷ [])) (omega (arith, h, weight_append load (things (counted_of (tree.global_variable ps))) []))

@@ -1,6 +1,9 @@
 -- What is built gets no lighter, and what weighs too much is refused as too many.
-use Rattle.std.proofs.Common.{◌≡◌, ◌≤◌, ◌+◌, ◌-◌, ℕ, List, [], ◌∷◌, ◌++◌, Bool, true, false, Option, Some, None, length, map, refl, ◌∙◌, ap, subst, arith}
+use Rattle.std.proofs.Common.{◌≡◌, ◌≤◌, ◌<◌, inl, inr, ◌+◌, ◌-◌, ℕ, List, [], ◌∷◌, ◌++◌, Bool, true, false, Option, Some, None, length, map, refl, ◌∙◌, ap, subst, arith}
 use Rattle.std.specs.Prelude.{sum_by, IfSome, IfNone}
+use Rattle.std.specs.List.{list_any}
+use Rattle.std.proofs.lemmas.Bool.{or_parts}
+use Rattle.std.proofs.lemmas.List.{length-append}
 use Rattle.std.proofs.lemmas.List.Sums.{sum_by-cons, sum_by-append, sum_by_push, sum_by-take-drop}
 use Rattle.dg_base.specs.Tree as tree
 use Rattle.dg_base.specs.Tree.{Part, Parts, Value, Values, Stmt, Stmts, Body, Arms, Changes, Said, Item, parts_of, values_of, stmts_of, branches_of, arms_of, changes_of}
@@ -13,12 +16,12 @@ use Rattle.dg_access.specs.declared.work.Close.TheVariants as close
 use Rattle.dg_access.specs.declared.work.Wrap.TheVariants as wrap
 use Rattle.dg_base.specs.TreeView.{part_view, value_view, stmt_view, arm_view, body_view, change_view, branches_view}
 use Rattle.dg_expand.specs.Put.{one_change, changes_in, put_value, put_values, put_parts, put_stmt, put_stmts, put_body, put_arms, put_changes}
-use Rattle.dg_expand.specs.Putting.{Around, after_body, after_changes, after_parts, bare, does, numbered, run}
+use Rattle.dg_expand.specs.Putting.{Around, after_body, after_changes, after_parts, bare, does, is_now, numbered, run}
 use Rattle.dg_expand.specs.declared.place.Place.{Place as CodePlace}
 use Rattle.dg_expand.specs.declared.work.Work.{Work}
 use Rattle.dg_expand.specs.declared.work.Work.TheVariants as work
 use Rattle.dg_expand.proofs.BuiltLemmas.{parts_again, changes_again}
-use Rattle.dg_expand.specs.Weights.{changes_load, load, load_of, value_load, parts_load, part_load, stmt_load, stmts_load, body_load, arm_load, change_load, heavy, gain}
+use Rattle.dg_expand.specs.Weights.{IsPast, HasManyHeads, changes_load, load, load_of, value_load, parts_load, part_load, stmt_load, stmts_load, body_load, arm_load, change_load, heavy, gain}
 
 -- ---- mentions
 
@@ -326,3 +329,66 @@ pub changes_heavy : (a : Around) (n : ℕ) (cs : Changes) → heavy (after_chang
 changes_heavy a n cs =
     let new = (put_changes a.at a.place n cs).0 in
     omega (arith, all_changes_load (list_of_changes new), ap changes_load (changes_again new))
+
+-- ---- heads
+
+-- where no changes go into a statement, there are as many behind a step at least
+does_keep : (at : CodePlace → Around) (w : Work) (s : Built) → is_now w ≡ false → length s.changes ≤ length (does at w s).changes
+does_keep at (work.Value p v) s e = omega arith
+does_keep at (work.Values p vs) s e = omega arith
+does_keep at (work.Parts p ps) s e = omega arith
+does_keep at (work.Stmt p x) s e = omega arith
+does_keep at (work.Stmts p ss) s e = omega arith
+does_keep at (work.Branches p bs) s e = omega arith
+does_keep at (work.Body p b) s e = omega arith
+does_keep at (work.Arms p arms) s e = omega arith
+does_keep at (work.Change p set ps) s e = let a = at p.now in omega (arith, length-append s.changes (list_of_changes (put_changes a.at a.place s.at (one_change set (parts_of (map part_view ps.now)))).0))
+does_keep at (work.Changes p cs) s e = let a = at p.now in omega (arith, length-append s.changes (list_of_changes (put_changes a.at a.place s.at (changes_of (map change_view cs.now))).0))
+does_keep at (work.Queries p set ss) s e = let a = at p.now in omega (arith, length-append s.changes (list_of_changes (put_changes a.at a.place s.at (changes_in set (stmts_of (map stmt_view ss.now)))).0))
+does_keep at (work.Now height) s e = cc
+does_keep at (work.Close (close.Now k)) s e = cc
+does_keep at (work.Close (close.Change set k)) s e = omega (arith, length-append s.changes ((parts_of (behind k s.parts), set) ∷ []))
+does_keep at (work.Close (close.List k)) s e = omega arith
+does_keep at (work.Close (close.Tailed k)) s e = omega arith
+does_keep at (work.Close close.Closure) s e = omega arith
+does_keep at (work.Close (close.Nested k)) s e = omega arith
+does_keep at (work.Close (close.Put k n)) s e = omega arith
+does_keep at (work.Close close.Part) s e = omega arith
+does_keep at (work.Close close.Print) s e = omega arith
+does_keep at (work.Close (close.Query q k)) s e = omega arith
+does_keep at (work.Close (close.Wrapped w)) s e = omega arith
+does_keep at (work.Close (close.If k)) s e = omega arith
+does_keep at (work.Close (close.IfElse k)) s e = omega arith
+does_keep at (work.Close close.Exhaust) s e = omega arith
+does_keep at (work.Close close.Stoppable) s e = omega arith
+does_keep at (work.Close close.Collect) s e = omega arith
+does_keep at (work.Close close.Accumulate) s e = omega arith
+does_keep at (work.Close (close.Select mode k)) s e = omega arith
+does_keep at (work.Close (close.Branch k)) s e = omega arith
+does_keep at (work.Close (close.Body k)) s e = omega arith
+does_keep at (work.Close close.Arm) s e = omega arith
+
+run_keeps : (at : CodePlace → Around) (ws : List Work) (s : Built) → list_any is_now ws ≡ false → length s.changes ≤ length (run at ws s).changes
+run_keeps at [] s e = omega arith
+run_keeps at (w ∷ ws) s e =
+    let both = or_parts (is_now w) (list_any is_now ws) e in
+    omega (arith, run_keeps at ws s both.1, does_keep at w (run at ws s) both.0)
+
+-- what is too much already is too much in the end
+pub past_by_weight : (at : CodePlace → Around) (ws : List Work) (s : Built) → 2500000 < heavy s → IsPast (run at ws s)
+past_by_weight at ws s h = inl (omega (arith, h, run_gains at ws s))
+
+pub past_by_heads : (at : CodePlace → Around) (ws : List Work) (s : Built) → 16000 < length s.changes → list_any is_now ws ≡ false → IsPast (run at ws s)
+past_by_heads at ws s h e = inr (omega (arith, h, run_keeps at ws s e))
+
+pub body_past : (a : Around) (n : ℕ) (b : Body) → IsPast (after_body a b (numbered n)) → 2500000 < body_load (put_body a.at a.place n b).0
+body_past a n b (inl h) = omega (arith, h, body_heavy a n b)
+body_past a n b (inr h) = absurd (omega (arith, h))
+
+pub parts_past : (a : Around) (n : ℕ) (ps : Parts) → IsPast (after_parts a ps (numbered n)) → 2500000 < parts_load (put_parts a.at a.place n ps).0
+parts_past a n ps (inl h) = omega (arith, h, parts_heavy a n ps)
+parts_past a n ps (inr h) = absurd (omega (arith, h))
+
+pub changes_past : (a : Around) (n : ℕ) (cs : Changes) → IsPast (after_changes a cs (numbered n)) → HasManyHeads (put_changes a.at a.place n cs).0
+changes_past a n cs (inl h) = inl (omega (arith, h, changes_heavy a n cs))
+changes_past a n cs (inr h) = inr (omega (arith, h))

@@ -1,5 +1,5 @@
 -- What is built where access rules are put in, and what each step comes to. The proofs alone rest on it.
-use Rattle.std.specs.Prelude.{◌≡◌, ℕ, ◌-◌, List, [], ◌∷◌, ◌++◌, Bool, Option, Some, None, length, map, if◌then◌else◌}
+use Rattle.std.specs.Prelude.{◌≡◌, ℕ, ◌-◌, List, [], ◌∷◌, ◌++◌, Bool, true, false, Option, Some, None, length, map, if◌then◌else◌}
 use Rattle.std.specs.Borrow.{Bor}
 use Rattle.std.specs.Str.{bytes_eq}
 use Rattle.dg_base.specs.Tree as tree
@@ -178,6 +178,12 @@ does at (work.Close k) s = closing bare k s
 abbrev pub run : (CodePlace → Around) → List Work → Built → Built
 run at [] s = s
 run at (w ∷ ws) s = does at w (run at ws s)
+
+-- The changes that are built go into a statement.
+abbrev pub is_now : Work → Bool
+is_now (work.Now height) = true
+is_now (work.Close (close.Now k)) = true
+is_now w = false
 
 -- Something was put off at a place: what is left comes to the same as it and what was left.
 abbrev pub IsPutOff : CodePlace → (Around → Built → Built) → List Work → List Work → Type 0

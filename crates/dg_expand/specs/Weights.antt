@@ -1,10 +1,10 @@
 -- How much a tree weighs that is built where access rules are put in, so that one of which too much comes is left before it is built. The proofs alone rest
 -- on it.
-use Rattle.std.specs.Prelude.{◌≡◌, ℕ, ◌+◌, ◌*◌, ◌||◌, List, ◌++◌, Bool, true, false, sum_by}
+use Rattle.std.specs.Prelude.{◌≡◌, ◌⊎◌, ◌<◌, ℕ, ◌+◌, ◌*◌, ◌||◌, List, ◌++◌, Bool, true, false, length, sum_by}
 use Rattle.dg_base.specs.Tree as tree
 use Rattle.dg_base.specs.Tree.{Part, Parts, Value, Stmt, Stmts, Body, Changes, Item}
 use Rattle.dg_base.specs.Mentions.{Thing, Mentions, things, weight_of, of_value, of_parts, of_stmt, of_stmts, of_branches, of_changes}
-use Rattle.dg_access.specs.Building.{Built}
+use Rattle.dg_access.specs.Building.{Built, list_of_changes}
 use Rattle.dg_access.specs.Counts.{nodes_at, queries_at, are_large, are_many}
 use Rattle.dg_access.specs.declared.work.Close.{Close}
 use Rattle.dg_access.specs.declared.work.Close.TheVariants as close
@@ -57,6 +57,14 @@ heavy s = sum_by value_load s.values
     + (sum_by body_load s.bodies
     + (sum_by arm_load s.arms
     + (sum_by change_load s.changes + sum_by stmt_load s.puts))))))
+
+-- What is built is too much: it weighs too much, or has more heads than there may be rules.
+abbrev pub IsPast : Built → Type 0
+IsPast s = (2500000 < heavy s) ⊎ (16000 < length s.changes)
+
+-- Heads that are too much: they weigh too much, or there may not be so many rules.
+abbrev pub HasManyHeads : Changes → Type 0
+HasManyHeads cs = (2500000 < changes_load cs) ⊎ (16000 < length (list_of_changes cs))
 
 -- What is added at least where a construct is closed.
 abbrev pub gain : Close → ℕ

@@ -1,25 +1,64 @@
 // What all that is left comes to: heads, bodies and declarations with access rules put in.
-ghost use Rattle.std.specs.Prelude.{◌≡◌, ◌<◌, ◌≤◌, ◌∷◌, [], true, false, map, IfOk, IfSome, IfNone};
+ghost use Rattle.std.specs.Prelude.{◌≡◌, ◌<◌, ◌≤◌, ◌∷◌, [], true, false, length, map, IfOk, IfSome, IfNone};
+ghost use Rattle.std.specs.List.{list_any};
 ghost use Rattle.dg_base.specs.TreeView.{body_view, head_view, change_view};
 ghost use Rattle.dg_base.specs.Tree as tree;
 ghost use Rattle.dg_base.specs.Tree.{changes_of};
 ghost use Rattle.dg_access.specs.Building.{built_view, last_or};
 ghost use Rattle.dg_expand.specs.Put.{one_change, put_body, put_changes, put_parts};
-ghost use Rattle.dg_expand.specs.Putting.{around, run, numbered};
-ghost use Rattle.dg_expand.specs.Weights.{heavy, body_load, changes_load, parts_load};
+ghost use Rattle.dg_expand.specs.Putting.{Around, around, is_now, run, numbered};
+ghost use Rattle.dg_expand.specs.Weights.{IsPast, HasManyHeads, body_load, parts_load};
+ghost use Rattle.dg_expand.specs.declared.place.Place.{Place as CodePlace};
 
 use crate::place::{Place, Uses};
 use crate::steps::step;
 use crate::weighed::{Weighed, numbered};
 use crate::work::Work;
-use dg_access::{Built, let_go};
+use dg_access::{Built, Close, let_go};
 use dg_base::{Body, Head, Items, NowChange, Part};
 use std::alloc::{AllocError, Global};
 
 /// What weighs more than this has more nodes or more queries than there may be.
 pub const MOST: usize = 2_500_000;
 
-// Does all that is left, unless what is built weighs too much before that: whether all is done.
+/// How many rules there may be.
+pub const RULES: usize = 16_000;
+
+// Heads are counted each time that so many steps were taken.
+const TURNS: u64 = 4096;
+
+// Whether the changes that are built go into a statement.
+fn is_now(work: &Work<'_>) -> bool
+    ensures { result ≡ is_now work.now }
+{
+    matches!(work, Work::Now(_) | Work::Close(Close::Now(_)))
+}
+
+fn any_is_now(left: &[Work<'_>]) -> bool
+    ensures { result ≡ list_any is_now left.now }
+{
+    left.iter().any(|work| is_now(work))
+}
+
+// Whether more heads are built than there may be rules. None of them is left to go into a statement.
+fn has_many_heads(left: &[Work<'_>], built: &Built) -> bool
+    ensures many { result ≡ true → 16000 < length built.now.changes.items }
+    ensures heads { result ≡ true → list_any is_now left.now ≡ false }
+{
+    built.changes.len() > RULES && !any_is_now(left)
+}
+
+// Whether what is built is too much already, whatever is left.
+fn is_past(turn: u64, left: &[Work<'_>], weighed: &Weighed) -> bool
+    ensures { (at : CodePlace → Around) → result ≡ true → IsPast (run at left.now (built_view weighed.now.built)) }
+{
+    if weighed.tally > MOST {
+        return true;
+    }
+    turn % TURNS == 0 && has_many_heads(left, &weighed.built)
+}
+
+// Does all that is left, unless what is built is too much before that: whether all is done.
 fn run_all<'a>(
     alloc: Global,
     uses: Uses<'a>,
@@ -28,10 +67,10 @@ fn run_all<'a>(
 ) -> Result<bool, AllocError>
     ensures whole { IfOk result (λ whole. whole ≡ true
         → built_view weighed.new.built ≡ run (around uses.entry) left.entry.items (built_view weighed.old.built)) }
-    ensures large { IfOk result (λ whole. whole ≡ false → 2500000 < heavy (run (around uses.entry) left.entry.items (built_view weighed.old.built))) }
+    ensures large { IfOk result (λ whole. whole ≡ false → IsPast (run (around uses.entry) left.entry.items (built_view weighed.old.built))) }
 {
     for turn in 0..u64::MAX {
-        if weighed.tally > MOST {
+        if is_past(turn, left.as_slice(), weighed) {
             return Ok(false);
         }
         match left.pop() {
@@ -55,7 +94,7 @@ fn built_of<'a>(
     work: Work<'a>,
 ) -> Result<Option<Weighed>, AllocError>
     ensures built { IfOk result (λ all. IfSome all (λ w. built_view w.built ≡ run (around uses.entry) (work.entry ∷ []) (numbered number))) }
-    ensures large { IfOk result (λ all. IfNone all (2500000 < heavy (run (around uses.entry) (work.entry ∷ []) (numbered number)))) }
+    ensures large { IfOk result (λ all. IfNone all (IsPast (run (around uses.entry) (work.entry ∷ []) (numbered number)))) }
 {
     let mut left = Vec::new(alloc);
     left.push(work)?;
@@ -111,7 +150,7 @@ pub fn heads_of<'a>(
         (one_change set (head_view head.now))).0)) }
     ensures number { IfOk result (λ all. IfSome all (λ new. new.number ≡ (put_changes (around uses.entry at.now).at (around uses.entry at.now).place 0
         (one_change set (head_view head.now))).1)) }
-    ensures large { IfOk result (λ all. IfNone all (2500000 < changes_load (put_changes (around uses.entry at.now).at (around uses.entry at.now).place 0
+    ensures large { IfOk result (λ all. IfNone all (HasManyHeads (put_changes (around uses.entry at.now).at (around uses.entry at.now).place 0
         (one_change set (head_view head.now))).0)) }
 {
     let parts = head.parts.as_slice();

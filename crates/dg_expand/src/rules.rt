@@ -10,15 +10,12 @@ ghost use Rattle.dg_expand.specs.Put.{level, in_item, put_body};
 ghost use Rattle.dg_expand.specs.Putting.{access_view, around, standing_in};
 ghost use Rattle.dg_expand.specs.Weights.{body_load, IsOver};
 
-use crate::expanding::{BuiltBody, Heads, MOST, body_of, head_of, heads_of};
+use crate::expanding::{BuiltBody, Heads, MOST, RULES, body_of, head_of, heads_of};
 use crate::place::{Access, Outer, Place, Uses, placed};
 use bumpalo::Bump;
 use dg_access::{copied, free_number};
 use dg_base::{Body, Head, Item, ItemBody, NowChange, name_of};
 use std::alloc::{AllocError, Global};
-
-// How many rules there may be.
-const RULES: usize = 16_000;
 
 fn access_of<'a>(
     alloc: Global,

@@ -1,15 +1,15 @@
 use Rattle.std.proofs.Common.{◌≡◌, ◌∷◌, [], map, ◌∙◌, ap, arith}
-use Rattle.std.specs.Prelude.{◌<◌, Vec}
+use Rattle.std.specs.Prelude.{Vec}
 use Rattle.std.specs.Global.{Global}
 use Rattle.dg_base.specs.Tree as tree
 use Rattle.dg_base.specs.TreeView.{body_view}
 use Rattle.dg_base.specs.declared.tree.Body.{Body}
 use Rattle.dg_access.specs.Building.{Built, built_view, last_or}
 use Rattle.dg_expand.specs.Putting.{around, numbered, run}
-use Rattle.dg_expand.specs.Weights.{heavy}
+use Rattle.dg_expand.specs.Weights.{heavy, IsPast}
 use Rattle.dg_expand.specs.declared.weighed.Weighed.{Weighed}
 use Rattle.dg_expand.specs.declared.work.Work.TheVariants as work
-use Rattle.dg_expand.proofs.WeightLemmas.{some_holds, none_holds, body_heavy}
+use Rattle.dg_expand.proofs.WeightLemmas.{some_holds, none_holds, body_heavy, body_past}
 use Rattle.dg_expand.proofs.expanding.body_of.Goals as goal
 
 pub returns-in-Some-clause-body : goal.returns-in-Some-clause-body
@@ -29,5 +29,5 @@ returns-in-Some-clause-tally c =
 pub returns-in-None-clause-large : goal.returns-in-None-clause-large
 returns-in-None-clause-large c =
     let whole = run (around c.args.uses) (work.Body c.args.at c.args.body ∷ []) (numbered c.args.number) in
-    let large = none_holds (2500000 < heavy whole) c.in_ok-built.built c.in-None.is c.in_ok-built.ensures.large in
-    omega (arith, large, body_heavy (around c.args.uses c.args.at.now) c.args.number (body_view c.args.body.now))
+    let past = none_holds (IsPast whole) c.in_ok-built.built c.in-None.is c.in_ok-built.ensures.large in
+    body_past (around c.args.uses c.args.at.now) c.args.number (body_view c.args.body.now) past

@@ -1,4 +1,4 @@
-use Rattle.std.proofs.Common.{◌≡◌, ◌∷◌, [], List, map, ◌∙◌, ap, arith}
+use Rattle.std.proofs.Common.{◌≡◌, ◌∷◌, [], List, map, ◌∙◌, ap, subst}
 use Rattle.std.specs.Prelude.{◌<◌}
 use Rattle.dg_base.specs.Tree.{Parts, parts_of}
 use Rattle.dg_base.specs.TreeView.{part_view}
@@ -7,12 +7,12 @@ use Rattle.dg_base.proofs.Views.{head_seen}
 use Rattle.dg_access.specs.Building.{Built, built_view}
 use Rattle.dg_expand.specs.Put.{put_parts}
 use Rattle.dg_expand.specs.Putting.{around, numbered, run}
-use Rattle.dg_expand.specs.Weights.{parts_load, heavy}
+use Rattle.dg_expand.specs.Weights.{parts_load, IsPast}
 use Rattle.dg_expand.specs.declared.weighed.Weighed.{Weighed}
 use Rattle.dg_expand.specs.declared.work.Work.TheVariants as work
 use Rattle.dg_expand.proofs.BuiltLemmas.{parts_again}
 use Rattle.dg_expand.proofs.StepLemmas.{head_parts}
-use Rattle.dg_expand.proofs.WeightLemmas.{some_holds, none_holds, parts_heavy}
+use Rattle.dg_expand.proofs.WeightLemmas.{some_holds, none_holds, parts_past}
 use Rattle.dg_expand.proofs.expanding.head_of.Goals as goal
 
 pub returns-in-Some-clause-head : goal.returns-in-Some-clause-head
@@ -30,6 +30,6 @@ pub returns-in-None-clause-large : goal.returns-in-None-clause-large
 returns-in-None-clause-large c =
     let a = around c.args.uses c.args.at.now in
     let whole = run (around c.args.uses) (work.Parts c.args.at c.as_slice.result ∷ []) (numbered 0) in
-    let large = none_holds (2500000 < heavy whole) c.in_ok-built.built c.in-None.is c.in_ok-built.ensures.large in
-    let same = ap (λ (ps : Parts). parts_load (put_parts a.at a.place 0 ps).0) (head_parts c.args.head.now c.as_slice.result.now c.as_slice.ensures) in
-    omega (arith, large, same, parts_heavy a 0 (parts_of (map part_view c.as_slice.result.now)))
+    let past = none_holds (IsPast whole) c.in_ok-built.built c.in-None.is c.in_ok-built.ensures.large in
+    subst (λ (ps : Parts). 2500000 < parts_load (put_parts a.at a.place 0 ps).0) (head_parts c.args.head.now c.as_slice.result.now c.as_slice.ensures)
+    (parts_past a 0 (parts_of (map part_view c.as_slice.result.now)) past)

@@ -1,5 +1,5 @@
-use Rattle.std.proofs.Common.{◌≡◌, ◌∷◌, [], map, ◌∙◌, ap, arith}
-use Rattle.std.specs.Prelude.{◌<◌, Vec}
+use Rattle.std.proofs.Common.{◌≡◌, ◌∷◌, [], map, ◌∙◌, ap, subst}
+use Rattle.std.specs.Prelude.{Vec}
 use Rattle.std.specs.Global.{Global}
 use Rattle.dg_base.specs.Tree.{Parts, changes_of, parts_of}
 use Rattle.dg_base.specs.TreeView.{change_view, part_view}
@@ -7,12 +7,12 @@ use Rattle.dg_base.specs.declared.tree.NowChange.{NowChange}
 use Rattle.dg_access.specs.Building.{Built, built_view}
 use Rattle.dg_expand.specs.Put.{put_changes, one_change}
 use Rattle.dg_expand.specs.Putting.{around, numbered, run}
-use Rattle.dg_expand.specs.Weights.{changes_load, heavy}
+use Rattle.dg_expand.specs.Weights.{HasManyHeads, IsPast}
 use Rattle.dg_expand.specs.declared.weighed.Weighed.{Weighed}
 use Rattle.dg_expand.specs.declared.work.Work.TheVariants as work
 use Rattle.dg_expand.proofs.BuiltLemmas.{changes_again}
 use Rattle.dg_expand.proofs.StepLemmas.{head_parts}
-use Rattle.dg_expand.proofs.WeightLemmas.{some_holds, none_holds, changes_heavy}
+use Rattle.dg_expand.proofs.WeightLemmas.{some_holds, none_holds, changes_past}
 use Rattle.dg_expand.proofs.expanding.heads_of.Goals as goal
 
 pub returns-in-Some-clause-heads : goal.returns-in-Some-clause-heads
@@ -38,6 +38,6 @@ pub returns-in-None-clause-large : goal.returns-in-None-clause-large
 returns-in-None-clause-large c =
     let a = around c.args.uses c.args.at.now in
     let whole = run (around c.args.uses) (work.Change c.args.at c.args.set c.as_slice-parts.result ∷ []) (numbered 0) in
-    let large = none_holds (2500000 < heavy whole) c.in_ok-built.built c.in-None.is c.in_ok-built.ensures.large in
-    let same = ap (λ (ps : Parts). changes_load (put_changes a.at a.place 0 (one_change c.args.set ps)).0) (head_parts c.args.head.now c.as_slice-parts.result.now c.as_slice-parts.ensures) in
-    omega (arith, large, same, changes_heavy a 0 (one_change c.args.set (parts_of (map part_view c.as_slice-parts.result.now))))
+    let past = none_holds (IsPast whole) c.in_ok-built.built c.in-None.is c.in_ok-built.ensures.large in
+    subst (λ (ps : Parts). HasManyHeads (put_changes a.at a.place 0 (one_change c.args.set ps)).0) (head_parts c.args.head.now c.as_slice-parts.result.now c.as_slice-parts.ensures)
+    (changes_past a 0 (one_change c.args.set (parts_of (map part_view c.as_slice-parts.result.now))) past)

@@ -1,10 +1,9 @@
-use Rattle.std.proofs.Common.{◌∷◌, [], List, sym, ◌∙◌, ap, arith}
+use Rattle.std.proofs.Common.{◌∷◌, [], List, sym, ◌∙◌, ap, subst}
 use Rattle.dg_access.specs.Building.{built_view}
 use Rattle.dg_expand.specs.Putting.{around, run}
-use Rattle.dg_expand.specs.Weights.{heavy}
+use Rattle.dg_expand.specs.Weights.{IsPast}
 use Rattle.dg_expand.specs.declared.work.Work.{Work}
 use Rattle.dg_expand.proofs.BuiltLemmas.{run_append}
-use Rattle.dg_expand.proofs.WeightLemmas.{run_gains}
 use Rattle.dg_expand.proofs.expanding.run_all.Goals as goal
 
 pub loop-turn-preserved : goal.loop-turn-preserved
@@ -15,8 +14,8 @@ loop-turn-preserved c =
     ∙ sym (ap (λ (ws : List Work). run d ws s) c.in-Some.ensures.items ∙ run_append d c.pop.new.self.items (c.in-Some.work ∷ []) s)
     ∙ c.loop-turn.invariant
 
-pub returns-then-weighed-gt-MOST-clause-large : goal.returns-then-weighed-gt-MOST-clause-large
-returns-then-weighed-gt-MOST-clause-large c =
+pub returns-then-is_past-clause-large : goal.returns-then-is_past-clause-large
+returns-then-is_past-clause-large c =
     let d = around c.args.uses in
-    let same = ap heavy c.loop-turn.invariant in
-    λ stopped. omega (arith, same, run_gains d c.loop-turn.left.items (built_view c.loop-turn.weighed.built), c.loop-turn.weighed.least, c.if-weighed-gt-MOST.true)
+    let s = built_view c.loop-turn.weighed.built in
+    λ stopped. subst IsPast (ap (λ (ws : List Work). run d ws s) c.as_slice.ensures.value ∙ c.loop-turn.invariant) (c.is_past.ensures d c.if-is_past.true)

@@ -1,9 +1,9 @@
-use Rattle.std.proofs.Common.{◌<◌, length, map, subst}
+use Rattle.std.proofs.Common.{length, map, subst}
 use Rattle.dg_base.specs.TreeView.{body_view, head_view}
 use Rattle.dg_expand.specs.Put.{level, in_item, one_change, put_body, put_changes}
 use Rattle.dg_expand.specs.Putting.{Around, access_view}
-use Rattle.dg_expand.specs.Weights.{changes_load}
-use Rattle.dg_expand.proofs.OverLemmas.{over_changes}
+use Rattle.dg_expand.specs.Weights.{HasManyHeads}
+use Rattle.dg_expand.proofs.OverLemmas.{over_many_heads}
 use Rattle.dg_expand.proofs.WeightLemmas.{none_holds}
 use Rattle.dg_expand.proofs.rules.put_rule.Goals as goal
 
@@ -12,5 +12,5 @@ returns-in-None-clause-large c =
     let l = level (map access_view c.args.uses.rules.now) c.args.uses.mark (length c.args.uses.rules.now) in
     let heads = put_changes l in_item 0 (one_change c.args.set (head_view c.args.head.now)) in
     let heavy = none_holds _ c.in_ok-heads.field-0 c.in-None.is c.in_ok-heads.ensures.large in
-    λ stopped. over_changes c.args.line heads.0 (put_body l in_item heads.1 (body_view c.args.body.now)).0
-    (subst (λ (a : Around). 2500000 < changes_load (put_changes a.at a.place 0 (one_change c.args.set (head_view c.args.head.now))).0) c.in_ok-at.ensures heavy)
+    λ stopped. over_many_heads c.args.line heads.0 (put_body l in_item heads.1 (body_view c.args.body.now)).0
+    (subst (λ (a : Around). HasManyHeads (put_changes a.at a.place 0 (one_change c.args.set (head_view c.args.head.now))).0) c.in_ok-at.ensures heavy)
