@@ -5,3 +5,5 @@ pub mod CodeFits
 pub mod SupportFits
 pub mod StoryFits
 pub mod RefusalLemmas
+pub mod Rooms
+pub mod Fitting

@@ -42,7 +42,7 @@ module _ (n : ℕ) (many : 10 ≤ n) where
   done_fits : Fits 0 DONE_ACTS
   done_fits = search rules
 
-  began_fits : (first : ℕ) → first < n → Fits 0 (acts.Copy 17 (atoms.Num 32768) ∷ acts.Copy 16 (atoms.Routine first) ∷ TRAMPOLINE)
+  began_fits : (first : ℕ) → first < n → Fits 0 (acts.Copy 16 (atoms.Routine first) ∷ TRAMPOLINE)
   began_fits first lt = search rules
 
   call_line : AreLines (counts n) (acts.Call None (atoms.Routine 2) args.Zero ∷ [])

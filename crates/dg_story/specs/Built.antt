@@ -58,10 +58,3 @@ pub record IsBuilt (program : CoreProgram) (built : Built) : Type 0 where
   pub tidy : Tidy code
   pub story : IsStoryOf code (keeps_within program) built.story.items
   pub rules : built.rule_routines ≡ rule_count program.preds
-
--- Some tidy code that stands for the program has no story.
-pub record IsTooLarge (program : CoreProgram) : Type 0 where
-  pub code : Code
-  pub codes : Codes program code
-  pub tidy : Tidy code
-  pub none : HasNoStory code (keeps_within program)

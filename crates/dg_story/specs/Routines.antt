@@ -27,10 +27,10 @@ closing_acts line = texts.closing_acts line
 
 -- ## The run-time
 
--- A story begins: its heap is empty, and one routine comes after another, the first of them this; or what starts keep passes its limit.
+-- A story begins: one routine comes after another, the first of them this; or what starts keep passes its limit.
 abbrev pub start_acts : Bool → ℕ → List Act
 start_acts false first = closing_acts KEEP_LINE
-start_acts true first = acts.Copy 17 (atoms.Num 32768) ∷ acts.Copy 16 (atoms.Routine first) ∷ TRAMPOLINE
+start_acts true first = acts.Copy 16 (atoms.Routine first) ∷ TRAMPOLINE
 
 abbrev pub runtime : Bool → ℕ → List Routine
 runtime keeps first =

@@ -12,11 +12,15 @@ use Rattle.dg_story.specs.declared.texts.Read.{Read}
 
 -- ## Characters
 
--- The first byte of a character in UTF-8: the character, or a part of one of two or three bytes.
+-- What is read with the first byte of a character of two or three in UTF-8; a byte that begins none is passed over.
+abbrev pub part_of : ℕ → Part
+part_of lead = if nat_lt lead 192 then part.Nothing else (if nat_lt lead 224 then part.Last (lead % 32) else part.Two lead)
+
+-- A first byte: a character, or a part of one.
 abbrev pub begun : ℕ → Read
 begun byte =
     if nat_lt byte 128 then record { letter = Some byte; part = part.Nothing }
-    else record { letter = None; part = if nat_lt byte 224 then part.Last (byte % 32) else part.Two byte }
+    else record { letter = None; part = part_of byte }
 
 -- A byte behind what is read of its character.
 abbrev pub read_byte : Part → ℕ → Read

@@ -1,5 +1,5 @@
 // The story of a program.
-ghost use Rattle.std.specs.Prelude.{◌≡◌, ◌+◌, ◌≤◌, None, IfOk, IsErrOf};
+ghost use Rattle.std.specs.Prelude.{◌≡◌, ◌≤◌, None, IfOk, IsErrOf};
 ghost use Rattle.dg_base.specs.Sound.{IsSound};
 ghost use Rattle.dg_story.specs.Refusals.{refusal_of};
 ghost use Rattle.dg_story.specs.Numbers.{too_large};
@@ -94,12 +94,12 @@ fn rule_count(preds: &[Pred]) -> u32
     count
 }
 
-/// The story of a plain program that isn't too large.
+/// The story of a program that isn't refused.
 pub fn build_story(alloc: Global, program: CoreProgram) -> Result<Built, BuildFault>
     requires sound { IsSound program }
     requires fits { refusal_of program ≡ None }
     ensures built { IfOk result (λ built. spec.IsBuilt program built) }
-    ensures large { IsErrOf result too_large → spec.IsTooLarge program }
+    ensures fits { IsErrOf result too_large → ⊥ }
 {
     let keeps = keeps_within(alloc, &program);
     let rule_routines = rule_count(program.preds.as_slice());
@@ -109,8 +109,11 @@ pub fn build_story(alloc: Global, program: CoreProgram) -> Result<Built, BuildFa
         Err(_) => Err(BuildFault::OutOfMemory),
     };
     let_go(alloc, code);
-    Ok(Built {
-        story: story?,
-        rule_routines,
-    })
+    match story {
+        Ok(story) => Ok(Built {
+            story,
+            rule_routines,
+        }),
+        Err(fault) => Err(fault),
+    }
 }

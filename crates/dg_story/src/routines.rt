@@ -6,8 +6,8 @@ ghost use Rattle.dg_story.specs.Routines as spec;
 use crate::instructions::{op_acts, op_way};
 use crate::numbering::{Numbers, PIECE};
 use crate::support::{
-    CHOOSE, CHOOSE_ACTS, DONE_ACTS, ENTER_ACTS, FAIL, FAIL_ACTS, FAILED_LINE, FIRST_PLACE, HEAP,
-    HEAP_LINE, KEEP_LINE, LEAVE_ACTS, NEWLINE_ACTS, NEXT, RUNTIME, SEPARATE_ACTS, TRAMPOLINE,
+    CHOOSE, CHOOSE_ACTS, DONE_ACTS, ENTER_ACTS, FAIL, FAIL_ACTS, FAILED_LINE, HEAP_LINE, KEEP_LINE,
+    LEAVE_ACTS, NEWLINE_ACTS, NEXT, RUNTIME, SEPARATE_ACTS, TRAMPOLINE,
 };
 use crate::texts::closing_acts;
 use dg_mid::{Block, Code, Op, RuleCode};
@@ -177,7 +177,6 @@ impl Routines {
             return self.put_closing(&KEEP_LINE);
         }
         let mut body = Items::new(self.alloc);
-        body.push(Act::Copy(HEAP, Atom::Num(FIRST_PLACE)))?;
         body.push(Act::Copy(NEXT, Atom::Routine(first)))?;
         body.append(Items::from_slice(self.alloc, &TRAMPOLINE)?)?;
         self.put(0, body)

@@ -4,7 +4,7 @@ use z_lang::{Act, Args, Atom, Comparison, Function, Print, Test, Width};
 /// The packed address of the routine that comes next.
 pub const NEXT: u8 = 16;
 
-/// The place of the first cell that isn't taken.
+/// How many cells are taken.
 pub const HEAP: u8 = 17;
 
 /// The place of the newest frame, or 0.
@@ -25,8 +25,8 @@ pub const LAST: u8 = 22;
 /// The place of the first cell; a cell's number is added to it.
 pub const FIRST_PLACE: u16 = 32_768;
 
-/// The place behind the last cell that may be taken.
-pub const LAST_PLACE: u16 = 42_768;
+/// The most cells that may be taken.
+pub const CELLS: u16 = 10_000;
 
 /// The number of the routine that a story begins with.
 pub const START: u16 = 0;
@@ -88,7 +88,12 @@ pub const FAIL_ACTS: [Act; 10] = [
         },
         0,
     ),
-    Act::Copy(HEAP, Atom::Var(CHOICE)),
+    Act::Compute(
+        HEAP,
+        Function::Sub,
+        Atom::Var(CHOICE),
+        Atom::Num(FIRST_PLACE),
+    ),
     Act::Compute(FRAME, Function::Word, Atom::Table(1), Atom::Var(CHOICE)),
     Act::Compute(BACK, Function::Word, Atom::Table(3), Atom::Var(CHOICE)),
     Act::Compute(1, Function::Word, Atom::Table(2), Atom::Var(CHOICE)),
@@ -133,13 +138,13 @@ pub const SEPARATE_ACTS: [Act; 4] = [
 
 /// It takes a frame of 6 cells: the frame behind it, the routine behind the query, and the choice to which its rule cuts.
 pub const ENTER_ACTS: [Act; 11] = [
-    Act::Copy(1, Atom::Var(HEAP)),
+    Act::Compute(1, Function::Add, Atom::Var(HEAP), Atom::Num(FIRST_PLACE)),
     Act::Compute(HEAP, Function::Add, Atom::Var(HEAP), Atom::Num(6)),
     Act::When(
         Test {
             comparison: Comparison::Greater,
             first: Atom::Var(HEAP),
-            second: Atom::Num(LAST_PLACE),
+            second: Atom::Num(CELLS),
             answer: true,
         },
         0,
@@ -156,13 +161,13 @@ pub const ENTER_ACTS: [Act; 11] = [
 
 /// It takes a choice of 10 cells: the choice behind it, the frame, the routine that it goes on with, and the one behind the query.
 pub const CHOOSE_ACTS: [Act; 12] = [
-    Act::Copy(2, Atom::Var(HEAP)),
+    Act::Compute(2, Function::Add, Atom::Var(HEAP), Atom::Num(FIRST_PLACE)),
     Act::Compute(HEAP, Function::Add, Atom::Var(HEAP), Atom::Num(10)),
     Act::When(
         Test {
             comparison: Comparison::Greater,
             first: Atom::Var(HEAP),
-            second: Atom::Num(LAST_PLACE),
+            second: Atom::Num(CELLS),
             answer: true,
         },
         0,

@@ -38,6 +38,20 @@ fn closes(byte: u8) -> bool
     )
 }
 
+// What is read with the first byte of a character of several; a byte that begins none is passed over.
+fn part_of(lead: u8) -> Part
+    ensures { result ≡ spec.part_of lead }
+{
+    if lead < 192 {
+        return Part::Nothing;
+    }
+    if lead < 224 {
+        Part::Last((lead % 32) as u16)
+    } else {
+        Part::Two(lead)
+    }
+}
+
 // A first byte.
 fn begin(byte: u8) -> Read
     ensures { result ≡ spec.begun byte }
@@ -48,12 +62,10 @@ fn begin(byte: u8) -> Read
             part: Part::Nothing,
         };
     }
-    let part = if byte < 224 {
-        Part::Last((byte % 32) as u16)
-    } else {
-        Part::Two(byte)
-    };
-    Read { letter: None, part }
+    Read {
+        letter: None,
+        part: part_of(byte),
+    }
 }
 
 // A byte.

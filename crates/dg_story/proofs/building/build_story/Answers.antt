@@ -1,7 +1,36 @@
-use Rattle.std.proofs.Common.{ap, arith}
+use Rattle.std.proofs.Common.{◌≡◌, ℕ, Result, Err, Vec, Global, ap, sym, ◌∙◌, arith}
 use Rattle.dg_story.specs.Built.{rule_count}
+use Rattle.dg_story.specs.declared.building.Built.{Built}
+use Rattle.dg_story.specs.declared.refusal.BuildFault.{BuildFault}
+use Rattle.dg_story.specs.declared.refusal.BuildFault.TheVariants.{OutOfMemory}
+use Rattle.dg_story.specs.Numbers.{too_large}
+use Rattle.dg_story.proofs.Fitting.{has_story}
 use Rattle.dg_story.proofs.RefusalLemmas.{rules_few}
 use Rattle.dg_story.proofs.building.build_story.Goals as goal
+use Rattle.dg_story.proofs.building.build_story.Goals.{in-Ok, in-Err}
+
+abbrev failed : BuildFault → Result (Vec ℕ Global) BuildFault
+failed fault = Err fault
+
+abbrev refused : BuildFault → Result Built BuildFault
+refused fault = Err fault
+
+same_fault : (fault : BuildFault) → refused fault ≡ refused too_large → fault ≡ too_large
+same_fault fault e = cc
+
+other_fault : (fault : BuildFault) → failed fault ≡ failed OutOfMemory → fault ≡ too_large → ⊥
+other_fault fault e f = cc
 
 pub rule_count-rule_routines-requires : goal.rule_count-rule_routines-requires
 rule_count-rule_routines-requires c = omega (arith, ap rule_count c.as_slice.ensures, rules_few c.args.program c.requires.fits)
+
+pub returns-in-Err-story-clause-fits : goal.returns-in-Err-story-clause-fits
+returns-in-Err-story-clause-fits c e =
+    let h = has_story c.args.program c.in_ok-code.code c.in_ok-code.ensures.codes c.in_ok-code.ensures.light c.requires.fits in
+    let f = same_fault c.in-Err-story.fault e in
+    elim c.match-keeps.branch [
+      | in-Ok w ↦ h w.in-Ok.keeps (w.story_of-story.ensures.large (sym w.story-is ∙ c.in-Err-story.is ∙ ap failed f))
+      | in-Err w ↦
+          let same = sym c.in-Err-story.is ∙ w.story-is in
+          other_fault c.in-Err-story.fault same f
+    ]
