@@ -9,6 +9,7 @@ pub mod PassedRules
 pub mod Hands
 pub mod Leads
 pub mod Leaving
+pub mod Unifying
 pub mod Texts
 pub mod Goals
 pub mod Runs

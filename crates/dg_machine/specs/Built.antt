@@ -10,16 +10,6 @@ use Rattle.dg_mid.specs.declared.code.Action.TheVariants as action
 use Rattle.dg_mid.specs.declared.code.Code.{Code}
 use Rattle.dg_mid.specs.Code.{block_at}
 
--- What is done at once.
-abbrev pub ActionBuilt : Action → Type 0
-ActionBuilt (action.Text name) = Unit {0}
-ActionBuilt (action.Gap kind) = Unit {0}
-ActionBuilt action.Just = Unit {0}
-ActionBuilt action.Fail = Unit {0}
-ActionBuilt action.Quit = Unit {0}
-ActionBuilt action.Stop = Unit {0}
-ActionBuilt a = ⊥
-
 -- A term without parts that reads nothing of the program.
 abbrev pub IsPlain : term.Term-F Term → Type 0
 IsPlain (term.Pair head tail) = ⊥
@@ -29,6 +19,17 @@ IsPlain other = Unit {0}
 -- Each of some terms.
 abbrev pub ArePlain : List Term → Type 0
 ArePlain terms = All (λ (t : Term). IsPlain (out-Term t)) terms
+
+-- What is done at once.
+abbrev pub ActionBuilt : Action → Type 0
+ActionBuilt (action.Text name) = Unit {0}
+ActionBuilt (action.Gap kind) = Unit {0}
+ActionBuilt (action.Equal a b) = IsPlain (out-Term a) × IsPlain (out-Term b)
+ActionBuilt action.Just = Unit {0}
+ActionBuilt action.Fail = Unit {0}
+ActionBuilt action.Quit = Unit {0}
+ActionBuilt action.Stop = Unit {0}
+ActionBuilt a = ⊥
 
 -- How many arguments a query has at most.
 abbrev pub most_args : ℕ

@@ -1,6 +1,7 @@
 // What an instruction does in memory.
 ghost use Rattle.std.specs.Prelude.{◌≡◌, ◌<◌, ◌≤◌, ℕ, List, length};
 ghost use Rattle.dg_base.specs.declared.run.Limits.{Limits};
+ghost use Rattle.dg_base.specs.declared.program.Term.{out-Term};
 ghost use Rattle.dg_mid.specs.declared.code.Code.{Code as TheCode};
 ghost use Rattle.dg_mid.specs.declared.code.Op.{Op as TheOp};
 ghost use Rattle.dg_mid.specs.declared.code.Op.TheVariants as op;
@@ -9,7 +10,7 @@ ghost use Rattle.dg_mid.specs.Code.{block_at, rules_at};
 ghost use Rattle.dg_mid.specs.State.{Mid};
 ghost use Rattle.dg_mid.specs.Potential.{Tidy};
 ghost use Rattle.dg_arena.specs.Held.{meaning_of};
-ghost use Rattle.dg_machine.specs.Built.{ArePlain, AreArguments, OpsBuilt, IsBuilt};
+ghost use Rattle.dg_machine.specs.Built.{IsPlain, ArePlain, AreArguments, OpsBuilt, IsBuilt};
 ghost use Rattle.dg_machine.specs.Refs.{AreRefs};
 ghost use Rattle.dg_machine.specs.Layout.{HasRoom, Holds};
 ghost use Rattle.dg_machine.specs.Standing.{DoesOp, DoesMark, CallsRules, EntersWith, Asks, AsksLast, EntersRule, EntersIn, IsThere, GoesOnAt, GoesOn, FailsTo};
@@ -95,6 +96,20 @@ impl Memory {
                 self.cut(0);
                 Now::Runs(rest)
             }
+        }
+    }
+
+    /// Two values are unified.
+    pub fn equal<'p>(&mut self, a: &Term, b: &Term, rest: &'p [Op]) -> Now<'p>
+        requires some { (code : TheCode) × (l : Limits) × (m : Mid) × Holds code l self.old m }
+        requires a_plain { IsPlain (out-Term a.now) }
+        requires b_plain { IsPlain (out-Term b.now) }
+        ensures { (code : TheCode) → DoesOp code self.old (op.Do (action.Equal a.now b.now)) rest.now self.new result }
+    {
+        match self.unify_terms(a, b) {
+            Err(_) => Now::Ended(Ending::TrailLimit),
+            Ok(false) => Now::Fails,
+            Ok(true) => Now::Runs(rest),
         }
     }
 

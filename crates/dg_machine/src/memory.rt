@@ -1,18 +1,19 @@
 // The memory of a run: a store, areas of frames, inner constructs, choices and Refs, and the arguments of a call.
 ghost use Rattle.std.specs.Prelude.{◌≡◌, ◌<◌, ◌≤◌, ◌+◌, ◌*◌, ℕ, List, [], ◌∷◌, IfOk, OnOk, MatchResult, length, map, take, reverse, vec_capacity};
 ghost use Rattle.std.specs.List.{zip};
+ghost use Rattle.dg_base.specs.declared.program.Term.{out-Term};
 ghost use Rattle.dg_base.specs.declared.program.CoreProgram.{CoreProgram};
 ghost use Rattle.dg_base.specs.declared.run.Limits.{Limits};
 ghost use Rattle.dg_meaning.specs.Values.{Value, value_of};
 ghost use Rattle.dg_meaning.specs.Moves.{new_vars};
-ghost use Rattle.dg_meaning.specs.Unify.{solve};
+ghost use Rattle.dg_meaning.specs.Unify.{solve, unify as unified};
 ghost use Rattle.dg_unify.specs.Store.{Store, Kept};
 ghost use Rattle.dg_unify.specs.declared.bindings.Ref.{Ref};
 ghost use Rattle.dg_arena.specs.Held.{meaning_of};
 ghost use Rattle.dg_mid.specs.declared.code.Code.{Code};
 ghost use Rattle.dg_mid.specs.State.{Mid, Place, Call as CallOf, Way as WayOf, vars_of};
 ghost use Rattle.dg_mid.specs.Step.{more, inside, within};
-ghost use Rattle.dg_machine.specs.Built.{ArePlain, AreArguments};
+ghost use Rattle.dg_machine.specs.Built.{IsPlain, ArePlain, AreArguments};
 ghost use Rattle.dg_machine.specs.Links.{named, below};
 ghost use Rattle.dg_machine.specs.Measure.{way_left, choices_left};
 ghost use Rattle.dg_machine.specs.Passing.{IsFirst};
@@ -21,7 +22,7 @@ ghost use Rattle.dg_machine.specs.Refs.{RowAt, RefsAt, AreRefs};
 use crate::now::{Call, Choice, Frame, Inner, Row, Way};
 use crate::refs::{MOST_ARGS, move_refs, push_refs};
 use crate::rows::make_row;
-use crate::terms::{match_head, write_args};
+use crate::terms::{match_head, unify_terms, write_args};
 use dg_arena::Arena;
 use dg_base::Term;
 use dg_unify::{Bindings, Full, Ref, View};
@@ -205,6 +206,22 @@ impl Memory {
     {
         let row = self.row_at_hand();
         write_args(&mut self.arena, row, terms, &mut self.args);
+    }
+
+    /// Unifies the values of two terms, among the variables at hand.
+    pub fn unify_terms(&mut self, a: &Term, b: &Term) -> Result<bool, Full>
+        requires some { (code : Code) × (l : Limits) × (m : Mid) × Holds code l self.old m }
+        requires a_plain { IsPlain (out-Term a.now) }
+        requires b_plain { IsPlain (out-Term b.now) }
+        ensures { (code : Code) → (l : Limits) → (m : Mid) → (p : CoreProgram) → Holds code l self.old m → MatchResult result
+            (Matched code l (unified m.state.subst (value_of p (vars_of m.frames) a.now) (value_of p (vars_of m.frames) b.now)) m self.new)
+            (λ _. Unmatched l (unified m.state.subst (value_of p (vars_of m.frames) a.now) (value_of p (vars_of m.frames) b.now)) m self.new) }
+    {
+        let row = self.row_at_hand();
+        match unify_terms(&mut self.arena, row, a, b) {
+            Err(full) => Err(full),
+            Ok(agreed) => Ok(agreed),
+        }
     }
 
     /// What the first argument shows, if there is one.

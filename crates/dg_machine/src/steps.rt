@@ -7,7 +7,7 @@ ghost use Rattle.dg_mid.specs.declared.code.Op.TheVariants as op;
 ghost use Rattle.dg_mid.specs.Step.{at_goal, is_goal as takes_goal};
 ghost use Rattle.dg_mid.specs.Potential.{Tidy};
 ghost use Rattle.dg_machine.specs.declared.now.Now.TheVariants.{Runs};
-ghost use Rattle.dg_machine.specs.Built.{OpBuilt, OpsBuilt, IsBuilt, IsQuiet, IsQuietOp};
+ghost use Rattle.dg_machine.specs.Built.{ActionBuilt, OpBuilt, OpsBuilt, IsBuilt, IsQuiet, IsQuietOp};
 ghost use Rattle.dg_base.specs.declared.run.Limits.{Limits};
 ghost use Rattle.dg_mid.specs.State.{Mid};
 ghost use Rattle.dg_machine.specs.Layout.{HasRoom, Holds};
@@ -123,10 +123,13 @@ fn event_of(kind: GapKind) -> Event<'static>
 
 /// Does an action that prints nothing.
 fn act<'p>(memory: &mut Memory, action: &'p Action, rest: &'p [Op]) -> Now<'p>
+    requires some { (code : TheCode) × (l : Limits) × (m : Mid) × Holds code l memory.old m }
+    requires built { ActionBuilt action.now }
     requires quiet { IsQuiet action.now }
     ensures { (code : TheCode) → DoesOp code memory.old (op.Do action.now) rest.now memory.new result }
 {
     match action {
+        Action::Equal(a, b) => memory.equal(a, b, rest),
         Action::Just => memory.just(rest),
         Action::Quit => Now::Ended(Ending::Quit),
         Action::Stop => Now::Ended(Ending::Stopped),
@@ -165,6 +168,8 @@ fn do_action<'p, K: Sink>(
     spacer: &mut Spacer,
     sink: &mut K,
 ) -> Result<Now<'p>, WriteFault>
+    requires some { (code : TheCode) × (l : Limits) × (m : Mid) × Holds code l memory.old m }
+    requires built { ActionBuilt action.now }
     requires whole { ops.now ≡ op.Do action.now ∷ rest.now }
     ensures ok { IfOk result (λ now. (code : TheCode) → DoesGoal code memory.old ops.now memory.new now spacer.old spacer.new
         (K.view sink.old) (K.view sink.new)) }

@@ -4,7 +4,7 @@ ghost use Rattle.std.specs.List.{zip};
 ghost use Rattle.dg_base.specs.declared.program.Term.{out-Term};
 ghost use Rattle.dg_base.specs.declared.program.CoreProgram.{CoreProgram};
 ghost use Rattle.dg_meaning.specs.Values.{Value, leaf, value_of};
-ghost use Rattle.dg_meaning.specs.Unify.{solve};
+ghost use Rattle.dg_meaning.specs.Unify.{solve, unify as unified};
 ghost use Rattle.dg_unify.specs.Store.{Follows, label_of};
 ghost use Rattle.dg_arena.specs.Held.{meaning_of};
 ghost use Rattle.dg_machine.specs.Built.{IsPlain, ArePlain};
@@ -85,4 +85,18 @@ pub fn match_head(arena: &mut Arena, args: &[Ref], head: &[Term], row: Row) -> R
         }
     }
     Ok(true)
+}
+
+/// Unifies the values of two terms without parts, among variables in a row.
+pub fn unify_terms(arena: &mut Arena, row: Row, a: &Term, b: &Term) -> Result<bool, Full>
+    requires a_plain { IsPlain (out-Term a.now) }
+    requires b_plain { IsPlain (out-Term b.now) }
+    requires row { (vs : List Value) × RowAt (meaning_of arena.old) row vs }
+    ensures keeps { Keeps arena.old arena.new }
+    ensures unified { (p : CoreProgram) → (vs : List Value) → RowAt (meaning_of arena.old) row vs →
+        Follows (meaning_of arena.old) (meaning_of arena.new) (unified (meaning_of arena.old).state.subst (value_of p vs a.now) (value_of p vs b.now)) result }
+{
+    let left = plain_value(arena, row, a);
+    let right = plain_value(arena, row, b);
+    unify(arena, left, right)
 }

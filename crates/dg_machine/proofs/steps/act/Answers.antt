@@ -5,3 +5,6 @@ use Rattle.dg_machine.proofs.steps.act.Goals as goal
 
 pub returns-in-Just : goal.returns-in-Just
 returns-in-Just c code = subst (λ a. DoesOp code c.args.memory.now (op.Do a) c.args.rest.now c.just.new.self c.just.result) (sym c.in-Just.is) (c.just.ensures code)
+
+pub returns-in-Equal : goal.returns-in-Equal
+returns-in-Equal c code = subst (λ a. DoesOp code c.args.memory.now (op.Do a) c.args.rest.now c.equal.new.self c.equal.result) (sym c.in-Equal.is) (c.equal.ensures code)
