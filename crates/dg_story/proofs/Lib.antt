@@ -7,3 +7,16 @@ pub mod StoryFits
 pub mod RefusalLemmas
 pub mod Rooms
 pub mod Fitting
+pub mod Cells
+pub mod Rules
+pub mod RunTime
+pub mod GoingBack
+pub mod TextRuns
+pub mod TextActs
+pub mod Closings
+pub mod FitsBy
+pub mod PlainLemmas
+pub mod PlainNexts
+pub mod PlainSteps
+pub mod PlainRuns
+pub mod Places

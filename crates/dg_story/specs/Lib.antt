@@ -8,3 +8,6 @@ pub mod Instructions
 pub mod Routines
 pub mod Built
 pub mod Agrees
+pub mod Cells
+pub mod Tells
+pub mod PlainCode

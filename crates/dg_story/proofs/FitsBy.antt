@@ -1,0 +1,55 @@
+-- A story whose turns are those of boundaries that tell the truth fits its program.
+use Rattle.std.proofs.Common.{◌≡◌, ℕ, ◌+◌, ◌≤◌, ◌⊎◌, inl, inr, ⊎_elim, List, ◌++◌, refl, sym, ap, ◌∙◌, subst, arith, append_assoc}
+use Rattle.dg_base.specs.declared.run.Ending.{Ending}
+use Rattle.dg_base.specs.declared.run.Ending.TheVariants as endings
+use Rattle.dg_meaning.specs.World.{Game}
+use Rattle.dg_meaning.specs.Transcript.{run, transcript}
+use Rattle.dg_meaning.specs.OneRun.{Begins}
+use Rattle.z_model.specs.declared.end.ZEnd.{ZEnd}
+use Rattle.z_model.specs.declared.end.ZEnd.TheVariants as ends
+use Rattle.dg_base.specs.Begins as base
+use Rattle.dg_meaning.proofs.OneRun.{begins_on}
+use Rattle.z_model.specs.Run.{ZGiven, ZState, ZRun, zrun}
+use Rattle.z_lang.specs.Turns.{Turn, To, Over, Turning, Reaches, printed_by}
+use Rattle.z_lang.specs.WholeRuns.{Within, IsOver, Shown, IsTurn}
+use Rattle.z_lang.proofs.Turns.{shows, suffices, ends_by}
+use Rattle.dg_story.specs.Agrees.{IsDone, IsCut, IsWhole, IsThere, IsAtLimit, Fits, body, enough_for}
+use Rattle.dg_story.specs.Tells.{InTime, reached, over, Tells}
+
+as_begins : (xs ys : List ℕ) → base.Begins xs ys → Begins xs ys
+as_begins xs ys b = record { behind = b.behind; is = b.is }
+
+-- a run whose budget was used up has no other ending
+not_input : (e : Ending) → e ≡ endings.StepLimit → e ≡ endings.InputEnded → ⊥
+not_input e p q = cc
+
+not_done : (e : Ending) → e ≡ endings.StepLimit → IsDone e → ⊥
+not_done e p d = subst (λ (x : Ending). IsDone x) p d
+
+module _ {A : Type 0} (w : ZGiven) (t : Turning ZEnd A) (Rep : A → ZState → Type 0) (turns : (a : A) (z : ZState) → Rep a z → IsTurn w (λ e. e) t Rep a z) (g : Game) (typed : List ℕ) (a : A) (tells : Tells g typed t a) (z : ZState) (rep : Rep a z) where
+  shown_by : (r : ZRun) → Shown (λ e. e) t a r → ((r.end ≡ ends.StepLimit) × IsCut g typed r.state.output) ⊎ IsWhole g typed r.end r.state.output
+  shown_by r s = ⊎_elim within over_by s.is
+    where
+      within : Within t s.b r → ((r.end ≡ ends.StepLimit) × IsCut g typed r.state.output) ⊎ IsWhole g typed r.end r.state.output
+      within h = inl (h.end, tells.between s.reached r.state.output (as_begins (t.out s.b) r.state.output h.least) (as_begins r.state.output (printed_by t (t.next s.b)) h.most))
+
+      over_by : IsOver (λ e. e) t s.b r → ((r.end ≡ ends.StepLimit) × IsCut g typed r.state.output) ⊎ IsWhole g typed r.end r.state.output
+      over_by h = inr (subst (λ (e : ZEnd). IsWhole g typed e r.state.output) (sym h.end_is) (subst (λ (bytes : List ℕ). IsWhole g typed h.end bytes) (sym h.output) (tells.whole s.reached h.end h.bytes h.next)))
+
+  enough_by : (steps n : ℕ) → enough_for g typed n ≤ steps → InTime g typed t a n → IsThere g typed n (zrun w steps z).state.output (zrun w steps z).end ⊎ IsAtLimit g typed n (zrun w steps z).state.output (zrun w steps z).end
+  enough_by steps n le (reached {b = b} {spent = spent} r in_time going printed) =
+      inl (record {
+        printed = begins_on (body g typed n) (t.out b) (zrun w steps z).state.output printed (as_begins (t.out b) (zrun w steps z).state.output (suffices w (λ e. e) t Rep turns steps z rep r (omega arith)));
+        input = λ e. absurd (not_input (run g typed n).ending going e);
+        done = λ d. absurd (not_done (run g typed n).ending going d);
+      })
+  enough_by steps n le (over {b = b} {spent = spent} {end = end} {bytes = bytes} r next in_time is) =
+      let there = ends_by w (λ e. e) t Rep turns steps end bytes z rep r next (omega arith) in
+      ⊎_elim
+      (λ i. inl (subst (λ (e : ZEnd). IsThere g typed n (zrun w steps z).state.output e) (sym there.0) (subst (λ (xs : List ℕ). IsThere g typed n xs end) (sym there.1) i)))
+      (λ i. inr (subst (λ (e : ZEnd). IsAtLimit g typed n (zrun w steps z).state.output e) (sym there.0) (subst (λ (xs : List ℕ). IsAtLimit g typed n xs end) (sym there.1) i)))
+      is
+
+  -- The whole run, for every number of instructions.
+  pub fits : (steps : ℕ) → Fits g typed steps (zrun w steps z).state.output (zrun w steps z).end
+  fits steps = record { shown = shown_by (zrun w steps z) (shows w (λ e. e) t Rep turns steps a z rep); enough = λ n le. enough_by steps n le (tells.in_time n) }
