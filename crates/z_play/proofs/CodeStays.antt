@@ -1,5 +1,5 @@
 -- What was decoded of the code stays right, since no instruction changes the code.
-use Rattle.std.proofs.Common.{◌≡◌, ◌≤◌, ℕ, List, [], length, get_or, Option, None, Ok, Fits, w8, sym, subst, arith}
+use Rattle.std.proofs.Common.{◌≡◌, ◌≤◌, ℕ, List, [], length, get_or, None, Ok, Fits, w8, sym, subst, arith}
 use Rattle.std.proofs.lemmas.Option.{get_or_from_slice_get}
 use Rattle.z_model.specs.declared.op.Found.{Found}
 use Rattle.z_model.specs.Decode.{op_at}
@@ -8,7 +8,7 @@ use Rattle.z_model.specs.declared.story.Layout.{Layout}
 use Rattle.z_model.specs.Table.{rows_of}
 use Rattle.z_model.specs.Machine.{Machine}
 use Rattle.z_model.specs.Laws.{KeepsCode, CodeStays, StandsOn, state_behind}
-use Rattle.z_model.specs.Run.{ZGiven, Next, zstep}
+use Rattle.z_model.specs.Run.{ZGiven, Next}
 use Rattle.z_play.specs.Scene.{Scene, state, Came}
 use Rattle.z_play.specs.Advancing.{next_from}
 use Rattle.z_play.specs.Recent.{IsRight, IsRecent}

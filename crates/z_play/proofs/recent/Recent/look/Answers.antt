@@ -1,4 +1,4 @@
-use Rattle.std.proofs.Common.{◌≡◌, ◌≤◌, ℕ, List, sym, arith}
+use Rattle.std.proofs.Common.{◌≤◌, ℕ, List, sym, arith}
 use Rattle.z_model.specs.Table.{rows_of}
 use Rattle.z_model.specs.declared.op.Found.{Found}
 use Rattle.z_play.specs.Recent.{Recalls}
