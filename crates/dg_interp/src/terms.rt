@@ -226,9 +226,8 @@ fn end_list<B: Bindings>(
     }
 }
 
-/// The value of a term, among the values of the variables around it. On a stack it keeps the elements of lists
-/// meanwhile.
-pub fn write_term<B: Bindings>(
+// The value of a term that may be a list, with lists in it.
+fn write_list<B: Bindings>(
     store: &mut B,
     program: &CoreProgram,
     env: &[Ref],
@@ -271,6 +270,29 @@ pub fn write_term<B: Bindings>(
                 list = outer;
             }
         }
+    }
+}
+
+/// The value of a term, among the values of the variables around it. On a stack it keeps the elements of lists
+/// meanwhile.
+pub fn write_term<B: Bindings>(
+    store: &mut B,
+    program: &CoreProgram,
+    env: &[Ref],
+    term: &Term,
+    stack: &mut Vec<Ref>,
+) -> Result<Ref, Full>
+    requires env { All (Holds (B.meaning store.old)) env.now }
+    ensures kept { Kept (B.meaning store.old) (B.meaning store.new) }
+    ensures saved { (ms : List Saved) → B.saves store.old ms → B.saves store.new ms }
+    ensures written { (p : Program) → program.now ≡ p → MatchResult result
+        (λ r. Made (cells p (term.now ∷ [])) (B.meaning store.old) (B.meaning store.new) r
+        (value_of p (map (told (B.meaning store.old)) env.now) term.now)) (λ e. Overflows (cells p (term.now ∷ [])) (B.meaning store.old) e) }
+    ensures stack { OnOk result (stack.new.items ≡ stack.old.items) }
+{
+    match term {
+        Term::Pair(_, _) => write_list(store, program, env, term, stack),
+        _ => write_leaf(store, program, env, term, stack),
     }
 }
 

@@ -5,7 +5,7 @@ use Rattle.dg_base.specs.declared.program.CoreProgram.{CoreProgram}
 use Rattle.dg_unify.specs.Store.{Saved, Kept, told}
 use Rattle.dg_interp.specs.declared.terms.Open.{Open}
 use Rattle.dg_interp.proofs.NestLemmas.{Writing}
-use Rattle.dg_interp.proofs.terms.write_term.Given as goal
+use Rattle.dg_interp.proofs.terms.write_list.Given as goal
 
 abbrev pub invariant-lists : goal.invariant-lists
 invariant-lists g l = record {

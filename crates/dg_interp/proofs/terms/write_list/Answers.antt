@@ -13,7 +13,7 @@ use Rattle.dg_unify.proofs.StoreLemmas.{kept_on, kept_same}
 use Rattle.dg_interp.specs.declared.terms.Open.{Open}
 use Rattle.dg_interp.proofs.TermLemmas.{all_kept, map_kept, pair_nodes}
 use Rattle.dg_interp.proofs.NestLemmas.{Writing, writing_starts, writing_on, writing_opens, writing_full, writing_cut, writing_ends, writing_next, reverse_push, stack_back, elements_hold}
-use Rattle.dg_interp.proofs.terms.write_term.Goals as goal
+use Rattle.dg_interp.proofs.terms.write_list.Goals as goal
 
 pub lists-init : goal.lists-init
 lists-init g c =
