@@ -20,3 +20,7 @@ pub mod PlainNexts
 pub mod PlainSteps
 pub mod PlainRuns
 pub mod Places
+pub mod Bounces
+pub mod Mapped
+pub mod Opening
+pub mod Zeros
