@@ -10,6 +10,7 @@ pub mod Hands
 pub mod Leads
 pub mod Leaving
 pub mod Unifying
+pub mod Compares
 pub mod Texts
 pub mod Goals
 pub mod Runs

@@ -1,6 +1,7 @@
 pub mod Links
 pub mod Refs
 pub mod Passing
+pub mod Comparing
 pub mod Layout
 pub mod Built
 pub mod Measure

@@ -18,7 +18,7 @@ ghost use Rattle.dg_machine.specs.Standing.{DoesOp, DoesMark, CallsRules, Enters
 use crate::memory::Memory;
 use crate::now::{Call, Now, Way};
 use crate::passing::pass;
-use dg_base::{Ending, Term};
+use dg_base::{CompareOp, Ending, Term};
 use dg_mid::{Code, Op, RuleCode};
 
 /// The instructions of a block.
@@ -110,6 +110,20 @@ impl Memory {
             Err(_) => Now::Ended(Ending::TrailLimit),
             Ok(false) => Now::Fails,
             Ok(true) => Now::Runs(rest),
+        }
+    }
+
+    /// Two values are compared.
+    pub fn compare<'p>(&mut self, by: CompareOp, a: &Term, b: &Term, rest: &'p [Op]) -> Now<'p>
+        requires some { (code : TheCode) × (l : Limits) × (m : Mid) × Holds code l self.old m }
+        requires a_plain { IsPlain (out-Term a.now) }
+        requires b_plain { IsPlain (out-Term b.now) }
+        ensures { (code : TheCode) → DoesOp code self.old (op.Do (action.Compare by a.now b.now)) rest.now self.new result }
+    {
+        if self.compare_terms(by, a, b) {
+            Now::Runs(rest)
+        } else {
+            Now::Fails
         }
     }
 

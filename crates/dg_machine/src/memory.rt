@@ -6,6 +6,8 @@ ghost use Rattle.dg_base.specs.declared.program.CoreProgram.{CoreProgram};
 ghost use Rattle.dg_base.specs.declared.run.Limits.{Limits};
 ghost use Rattle.dg_meaning.specs.Values.{Value, value_of};
 ghost use Rattle.dg_meaning.specs.Moves.{new_vars};
+ghost use Rattle.dg_meaning.specs.Numbers.{are_in_order};
+ghost use Rattle.dg_meaning.specs.Substitutions.{walk};
 ghost use Rattle.dg_meaning.specs.Unify.{solve, unify as unified};
 ghost use Rattle.dg_unify.specs.Store.{Store, Kept};
 ghost use Rattle.dg_unify.specs.declared.bindings.Ref.{Ref};
@@ -22,9 +24,9 @@ ghost use Rattle.dg_machine.specs.Refs.{RowAt, RefsAt, AreRefs};
 use crate::now::{Call, Choice, Frame, Inner, Row, Way};
 use crate::refs::{MOST_ARGS, move_refs, push_refs};
 use crate::rows::make_row;
-use crate::terms::{match_head, unify_terms, write_args};
+use crate::terms::{compare_terms, match_head, unify_terms, write_args};
 use dg_arena::Arena;
-use dg_base::Term;
+use dg_base::{CompareOp, Term};
 use dg_unify::{Bindings, Full, Ref, View};
 use std::alloc::{AllocError, Global};
 
@@ -222,6 +224,19 @@ impl Memory {
             Err(full) => Err(full),
             Ok(agreed) => Ok(agreed),
         }
+    }
+
+    /// Whether the values of two terms, among the variables at hand, are numbers in an order.
+    pub fn compare_terms(&mut self, op: CompareOp, a: &Term, b: &Term) -> bool
+        requires some { (code : Code) × (l : Limits) × (m : Mid) × Holds code l self.old m }
+        requires a_plain { IsPlain (out-Term a.now) }
+        requires b_plain { IsPlain (out-Term b.now) }
+        ensures held { (code : Code) → (l : Limits) → (m : Mid) → Holds code l self.old m → Holds code l self.new m }
+        ensures order { (code : Code) → (l : Limits) → (m : Mid) → (p : CoreProgram) → Holds code l self.old m → result ≡ are_in_order op
+            (walk m.state.subst (value_of p (vars_of m.frames) a.now)) (walk m.state.subst (value_of p (vars_of m.frames) b.now)) }
+    {
+        let row = self.row_at_hand();
+        compare_terms(&mut self.arena, row, op, a, b)
     }
 
     /// What the first argument shows, if there is one.

@@ -5,6 +5,9 @@ ghost use Rattle.dg_base.specs.declared.program.Term.{out-Term};
 ghost use Rattle.dg_base.specs.declared.program.CoreProgram.{CoreProgram};
 ghost use Rattle.dg_meaning.specs.Values.{Value, leaf, value_of};
 ghost use Rattle.dg_meaning.specs.Unify.{solve, unify as unified};
+ghost use Rattle.dg_meaning.specs.Numbers.{are_in_order};
+ghost use Rattle.dg_meaning.specs.Substitutions.{walk};
+ghost use Rattle.dg_machine.specs.Comparing.{order_of};
 ghost use Rattle.dg_unify.specs.Store.{Follows, label_of};
 ghost use Rattle.dg_arena.specs.Held.{meaning_of};
 ghost use Rattle.dg_machine.specs.Built.{IsPlain, ArePlain};
@@ -12,8 +15,9 @@ ghost use Rattle.dg_machine.specs.Refs.{RowAt, RefsAt, AreRefs, Keeps, Stays};
 
 use crate::now::Row;
 use dg_arena::Arena;
-use dg_base::{Simple, Term};
-use dg_unify::{Bindings, Full, Ref, unify};
+use dg_base::{CompareOp, Simple, Term};
+use dg_lists::compare;
+use dg_unify::{Bindings, Full, Ref, View, unify};
 
 /// A value without parts.
 fn simple_value(arena: &mut Arena, simple: Simple) -> Ref
@@ -99,4 +103,34 @@ pub fn unify_terms(arena: &mut Arena, row: Row, a: &Term, b: &Term) -> Result<bo
     let left = plain_value(arena, row, a);
     let right = plain_value(arena, row, b);
     unify(arena, left, right)
+}
+
+/// Whether what is shown are numbers in an order.
+fn are_ordered(op: CompareOp, a: View, b: View) -> bool
+    ensures { result ≡ order_of op a b }
+{
+    match a {
+        View::Simple(Simple::Num(m)) => match b {
+            View::Simple(Simple::Num(n)) => compare(op, m, n),
+            _ => false,
+        },
+        _ => false,
+    }
+}
+
+/// Whether the values of two terms without parts, among variables in a row, are numbers in an order.
+pub fn compare_terms(arena: &mut Arena, row: Row, op: CompareOp, a: &Term, b: &Term) -> bool
+    requires a_plain { IsPlain (out-Term a.now) }
+    requires b_plain { IsPlain (out-Term b.now) }
+    requires row { (vs : List Value) × RowAt (meaning_of arena.old) row vs }
+    ensures stays { Stays arena.old arena.new }
+    ensures order { (p : CoreProgram) → (vs : List Value) → RowAt (meaning_of arena.old) row vs →
+        result ≡ are_in_order op (walk (meaning_of arena.old).state.subst (value_of p vs a.now))
+        (walk (meaning_of arena.old).state.subst (value_of p vs b.now)) }
+{
+    let left = plain_value(arena, row, a);
+    let right = plain_value(arena, row, b);
+    let first = arena.walk(left);
+    let second = arena.walk(right);
+    are_ordered(op, first, second)
 }

@@ -8,3 +8,6 @@ returns-in-Just c code = subst (λ a. DoesOp code c.args.memory.now (op.Do a) c.
 
 pub returns-in-Equal : goal.returns-in-Equal
 returns-in-Equal c code = subst (λ a. DoesOp code c.args.memory.now (op.Do a) c.args.rest.now c.equal.new.self c.equal.result) (sym c.in-Equal.is) (c.equal.ensures code)
+
+pub returns-in-Compare : goal.returns-in-Compare
+returns-in-Compare c code = subst (λ a. DoesOp code c.args.memory.now (op.Do a) c.args.rest.now c.compare.new.self c.compare.result) (sym c.in-Compare.is) (c.compare.ensures code)
