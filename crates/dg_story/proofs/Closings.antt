@@ -18,11 +18,12 @@ use Rattle.z_lang.specs.Acts.{with_output}
 use Rattle.z_lang.specs.Runs.{Outcome, Runs, Stops, Returns, done, calls, quits}
 use Rattle.dg_story.specs.declared.support.TheConstants.{NEWLINE_ACTS, DONE_ACTS, FAILED_LINE, HEAP_LINE, KEEP_LINE}
 use Rattle.dg_story.specs.Texts.{letters_of, say, says, end_with, closing_acts}
+use Rattle.dg_story.specs.Ends.{kept_end}
 use Rattle.dg_story.specs.Cells.{Holds}
 use Rattle.dg_story.proofs.Rules.{says as prints_so}
 use Rattle.dg_story.proofs.RunTime.{newline_none, newline_some, newline_printed}
 use Rattle.dg_story.proofs.TextRuns.{letters_are, prints_all}
-use Rattle.dg_story.proofs.TextActs.{kept_end, end_code, LeadsOn}
+use Rattle.dg_story.proofs.TextActs.{end_code, LeadsOn}
 
 some_end : (b : Bool) → end_code b ≢ 0
 some_end true e = absurd (omega arith)

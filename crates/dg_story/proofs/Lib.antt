@@ -24,3 +24,7 @@ pub mod Bounces
 pub mod Mapped
 pub mod Opening
 pub mod Zeros
+pub mod Staying
+pub mod FailTurns
+pub mod JumpTurns
+pub mod AsciiLines

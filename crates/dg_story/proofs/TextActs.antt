@@ -16,15 +16,11 @@ use Rattle.z_lang.specs.Acts.{with_output}
 use Rattle.z_lang.specs.Runs.{Outcome, Runs, Stops, Returns, done, calls, quits}
 use Rattle.dg_story.specs.Texts.{letters_of, say, says, first_closes, end_with, end_of, separated, text_acts, closing_acts}
 use Rattle.dg_story.specs.declared.support.TheConstants.{NEWLINE_ACTS, SEPARATE_ACTS}
+use Rattle.dg_story.specs.Ends.{kept_end}
 use Rattle.dg_story.specs.Cells.{with_cell, replaced, Holds}
 use Rattle.dg_story.proofs.Rules.{copies, says as prints_so, IsPut, puts}
 use Rattle.dg_story.proofs.RunTime.{newline_none, newline_some, newline_printed, separate_none, separate_some}
 use Rattle.dg_story.proofs.TextRuns.{letters_are, prints_all}
-
--- how a text ends, as the register has it
-abbrev pub kept_end : Option ℕ → ℕ
-kept_end None = 0
-kept_end (Some last) = end_with (Some last)
 
 -- Acts lead on, at a cost of a few instructions more.
 pub record LeadsOn (p : Program) (f w : ℕ) (body acts : List Act) (s : State) (o : Outcome) (s' : State) (most n : ℕ) : Type 0 where

@@ -11,3 +11,6 @@ pub mod Agrees
 pub mod Cells
 pub mod Tells
 pub mod PlainCode
+pub mod Ends
+pub mod From
+pub mod Represents
