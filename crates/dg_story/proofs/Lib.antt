@@ -28,3 +28,5 @@ pub mod Staying
 pub mod FailTurns
 pub mod JumpTurns
 pub mod AsciiLines
+pub mod EndTurns
+pub mod EnterTurns
