@@ -30,3 +30,4 @@ pub mod JumpTurns
 pub mod AsciiLines
 pub mod EndTurns
 pub mod EnterTurns
+pub mod LeaveTurns
