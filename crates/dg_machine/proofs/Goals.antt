@@ -1,9 +1,18 @@
 -- What steps come to.
-use Rattle.std.proofs.Common.{◌≡◌, ℕ, ◌<◌, List, [], ◌∷◌, ◌++◌, Bool, true, false, refl, sym, ap, ◌∙◌, subst, arith, length, nat_lt}
+use Rattle.std.proofs.Common.{◌+◌, Option, Some, None, ◌≡◌, ℕ, ◌<◌, List, [], ◌∷◌, ◌++◌, Bool, true, false, refl, sym, ap, ◌∙◌, subst, arith, length, nat_lt}
 use Rattle.std.specs.Borrow.{Bor}
 use Rattle.std.proofs.lemmas.Bool.{cond-false, le-ltb}
 use Rattle.dg_base.specs.declared.program.Term.{Term}
 use Rattle.dg_base.specs.declared.program.CompareOp.{CompareOp}
+use Rattle.dg_base.specs.declared.program.ArithOp.{ArithOp}
+use Rattle.dg_meaning.specs.Values.{Value}
+use Rattle.dg_meaning.specs.Cells.{cells}
+use Rattle.dg_meaning.specs.Substitutions.{walk}
+use Rattle.dg_meaning.specs.Numbers.{of_numbers, calculated}
+use Rattle.dg_meaning.specs.Path.{Registers}
+use Rattle.dg_meaning.specs.World.{World, prints, worked}
+use Rattle.dg_meaning.specs.Moves.{gives_number, looked_up}
+use Rattle.dg_mid.specs.Actions.{terms_of, registers_of, world_of, said_by}
 use Rattle.dg_base.specs.declared.run.Limits.{Limits}
 use Rattle.dg_base.specs.declared.run.Ending.TheVariants as ending
 use Rattle.dg_base.specs.Written.{SinkView, Wrote, BrokeOff}
@@ -193,16 +202,17 @@ quits_op code r rest g l m o b at h = (refl, roomy code l m r h)
 pub stops_op : (code : Code) (r : Memory) (rest : List Op) → DoesOp code r (op.Do action.Stop) rest r (Ended ending.Stopped)
 stops_op code r rest g l m o b at h = subst (λ t. Stands code l r (Ended ending.Stopped) (stops (setting g code l) t (more 0 m))) (sym h.1.stop_is) (refl, roomy code l m r h)
 
-pub fails_act : (code : Code) (r : Memory) (a : Action) (rest : List Op) → IsQuiet a → (a ≡ action.Just → ⊥) → (a ≡ action.Quit → ⊥) → (a ≡ action.Stop → ⊥) → ((x y : Term) → a ≡ action.Equal x y → ⊥) → ((f : CompareOp) (x y : Term) → a ≡ action.Compare f x y → ⊥) → DoesOp code r (op.Do a) rest r Fails
-fails_act code r action.Fail rest q j u s k d g l m o b at h = nothing_more code l r m h
-fails_act code r action.Just rest q j u s k d g l m o b at h = absurd (j refl)
-fails_act code r action.Quit rest q j u s k d g l m o b at h = absurd (u refl)
-fails_act code r action.Stop rest q j u s k d g l m o b at h = absurd (s refl)
-fails_act code r (action.Text name) rest q j u s k d g l m o b at h = absurd q
-fails_act code r (action.Gap kind) rest q j u s k d g l m o b at h = absurd q
-fails_act code r (action.Compare f x y) rest q j u s k d g l m o b at h = absurd (d f x y refl)
-fails_act code r (action.Equal x y) rest q j u s k d g l m o b at h = absurd (k x y refl)
-fails_act code r a rest q j u s k d g l m o b at h = absurd b
+pub fails_act : (code : Code) (r : Memory) (a : Action) (rest : List Op) → IsQuiet a → (a ≡ action.Just → ⊥) → (a ≡ action.Quit → ⊥) → (a ≡ action.Stop → ⊥) → ((x y : Term) → a ≡ action.Equal x y → ⊥) → ((f : CompareOp) (x y : Term) → a ≡ action.Compare f x y → ⊥) → ((f : ArithOp) (x y z : Term) → a ≡ action.Arith f x y z → ⊥) → DoesOp code r (op.Do a) rest r Fails
+fails_act code r action.Fail rest q j u s k d v g l m o b at h = nothing_more code l r m h
+fails_act code r action.Just rest q j u s k d v g l m o b at h = absurd (j refl)
+fails_act code r action.Quit rest q j u s k d v g l m o b at h = absurd (u refl)
+fails_act code r action.Stop rest q j u s k d v g l m o b at h = absurd (s refl)
+fails_act code r (action.Text name) rest q j u s k d v g l m o b at h = absurd q
+fails_act code r (action.Gap kind) rest q j u s k d v g l m o b at h = absurd q
+fails_act code r (action.Arith f x y z) rest q j u s k d v g l m o b at h = absurd (v f x y z refl)
+fails_act code r (action.Compare f x y) rest q j u s k d v g l m o b at h = absurd (d f x y refl)
+fails_act code r (action.Equal x y) rest q j u s k d v g l m o b at h = absurd (k x y refl)
+fails_act code r a rest q j u s k d v g l m o b at h = absurd b
 
 pub other_goal : (x : Op) → is_goal x ≡ true → OpBuilt x → ((a : Action) → x ≡ op.Do a → ⊥) → ((pred : ℕ) (ts : List Term) (many : Bool) (next : ℕ) → x ≡ op.Ask pred ts many next → ⊥) → ((pred : ℕ) (ts : List Term) (many : Bool) → x ≡ op.LastAsk pred ts many → ⊥) →
     (x ≡ op.Take → ⊥) → ((alt : ℕ) → x ≡ op.Branch alt → ⊥) → (x ≡ op.Once → ⊥) → ((alt : ℕ) → x ≡ op.Try alt → ⊥) → ⊥
@@ -230,9 +240,18 @@ pub quiet_op : (x : Op) → ((a : Action) → x ≡ op.Do a → ⊥) → IsQuiet
 quiet_op (op.Do a) d = absurd (d a refl)
 quiet_op x d = tt
 
+quiet_gives : (o : Option ℕ) (v : Value) (r : Registers) (w : World) → said_by (gives_number o v r w) ≡ prints w.events
+quiet_gives None v r w = refl
+quiet_gives (Some n) v r w = refl
+
 quiet_goal : (g : Setting) (m : Mid) (x : Op) (rest : List Op) → IsQuietOp x → OpBuilt x → said_in g m (x ∷ rest) ≡ []
 quiet_goal g m (op.Do action.Just) rest q b = refl
 quiet_goal g m (op.Do (action.Equal x y)) rest q b = refl
+quiet_goal g m (op.Do (action.Arith f x y z)) rest q b =
+    let m' = more (cells g.game.program (terms_of (action.Arith f x y z))) m in
+    let v = value_of g.game.program (vars_of m.frames) x in
+    let u = value_of g.game.program (vars_of m.frames) y in
+    quiet_gives (of_numbers (calculated f) (walk m.state.subst v) (walk m.state.subst u)) (value_of g.game.program (vars_of m.frames) z) (registers_of m') (worked (looked_up (registers_of m') v + looked_up (registers_of m') u) (world_of [] m'))
 quiet_goal g m (op.Do (action.Compare f x y)) rest q b = refl
 quiet_goal g m (op.Do action.Fail) rest q b = refl
 quiet_goal g m (op.Do action.Quit) rest q b = refl

@@ -1,8 +1,9 @@
--- How two values compare that are shown. Hold it against docs/LANGUAGE.md, "Built-in queries".
-use Rattle.std.specs.Prelude.{Bool, false}
+-- How two values compare that are shown, and what is calculated of them. Hold it against docs/LANGUAGE.md, "Built-in queries".
+use Rattle.std.specs.Prelude.{ℕ, Option, None, Bool, false}
 use Rattle.dg_base.specs.declared.cells.Simple.TheVariants as simple
+use Rattle.dg_base.specs.declared.program.ArithOp.{ArithOp}
 use Rattle.dg_base.specs.declared.program.CompareOp.{CompareOp}
-use Rattle.dg_meaning.specs.Numbers.{in_order}
+use Rattle.dg_meaning.specs.Numbers.{in_order, calculated}
 use Rattle.dg_unify.specs.declared.bindings.View.{View}
 use Rattle.dg_unify.specs.declared.bindings.View.TheVariants as view
 
@@ -10,3 +11,8 @@ use Rattle.dg_unify.specs.declared.bindings.View.TheVariants as view
 abbrev pub order_of : CompareOp → View → View → Bool
 order_of op (view.Simple (simple.Num m)) (view.Simple (simple.Num n)) = in_order op m n
 order_of op v u = false
+
+-- What an operation makes of what is shown, if both are numbers and it makes one.
+abbrev pub made_of : ArithOp → View → View → Option ℕ
+made_of op (view.Simple (simple.Num m)) (view.Simple (simple.Num n)) = calculated op m n
+made_of op v u = None

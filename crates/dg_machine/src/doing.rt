@@ -18,7 +18,7 @@ ghost use Rattle.dg_machine.specs.Standing.{DoesOp, DoesMark, CallsRules, Enters
 use crate::memory::Memory;
 use crate::now::{Call, Now, Way};
 use crate::passing::pass;
-use dg_base::{CompareOp, Ending, Term};
+use dg_base::{ArithOp, CompareOp, Ending, Term};
 use dg_mid::{Code, Op, RuleCode};
 
 /// The instructions of a block.
@@ -124,6 +124,31 @@ impl Memory {
             Now::Runs(rest)
         } else {
             Now::Fails
+        }
+    }
+
+    /// What is calculated of two values is unified with a third.
+    pub fn arith<'p>(
+        &mut self,
+        by: ArithOp,
+        a: &Term,
+        b: &Term,
+        into: &Term,
+        rest: &'p [Op],
+    ) -> Now<'p>
+        requires some { (code : TheCode) × (l : Limits) × (m : Mid) × Holds code l self.old m }
+        requires a_plain { IsPlain (out-Term a.now) }
+        requires b_plain { IsPlain (out-Term b.now) }
+        requires into_plain { IsPlain (out-Term into.now) }
+        ensures { (code : TheCode) → DoesOp code self.old (op.Do (action.Arith by a.now b.now into.now)) rest.now self.new result }
+    {
+        match self.calculate_terms(by, a, b) {
+            None => Now::Fails,
+            Some(n) => match self.unify_number(into, n) {
+                Err(_) => Now::Ended(Ending::TrailLimit),
+                Ok(false) => Now::Fails,
+                Ok(true) => Now::Runs(rest),
+            },
         }
     }
 

@@ -4,9 +4,9 @@ ghost use Rattle.std.specs.List.{zip};
 ghost use Rattle.dg_base.specs.declared.program.Term.{out-Term};
 ghost use Rattle.dg_base.specs.declared.program.CoreProgram.{CoreProgram};
 ghost use Rattle.dg_base.specs.declared.run.Limits.{Limits};
-ghost use Rattle.dg_meaning.specs.Values.{Value, value_of};
+ghost use Rattle.dg_meaning.specs.Values.{Value, Num, leaf, value_of};
 ghost use Rattle.dg_meaning.specs.Moves.{new_vars};
-ghost use Rattle.dg_meaning.specs.Numbers.{are_in_order};
+ghost use Rattle.dg_meaning.specs.Numbers.{are_in_order, calculated, of_numbers};
 ghost use Rattle.dg_meaning.specs.Substitutions.{walk};
 ghost use Rattle.dg_meaning.specs.Unify.{solve, unify as unified};
 ghost use Rattle.dg_unify.specs.Store.{Store, Kept};
@@ -24,9 +24,11 @@ ghost use Rattle.dg_machine.specs.Refs.{RowAt, RefsAt, AreRefs};
 use crate::now::{Call, Choice, Frame, Inner, Row, Way};
 use crate::refs::{MOST_ARGS, move_refs, push_refs};
 use crate::rows::make_row;
-use crate::terms::{compare_terms, match_head, unify_terms, write_args};
+use crate::terms::{
+    calculate_terms, compare_terms, match_head, unify_number, unify_terms, write_args,
+};
 use dg_arena::Arena;
-use dg_base::{CompareOp, Term};
+use dg_base::{ArithOp, CompareOp, Term};
 use dg_unify::{Bindings, Full, Ref, View};
 use std::alloc::{AllocError, Global};
 
@@ -237,6 +239,34 @@ impl Memory {
     {
         let row = self.row_at_hand();
         compare_terms(&mut self.arena, row, op, a, b)
+    }
+
+    /// What an operation makes of the values of two terms, among the variables at hand, if it makes a number.
+    pub fn calculate_terms(&mut self, op: ArithOp, a: &Term, b: &Term) -> Option<u16>
+        requires some { (code : Code) × (l : Limits) × (m : Mid) × Holds code l self.old m }
+        requires a_plain { IsPlain (out-Term a.now) }
+        requires b_plain { IsPlain (out-Term b.now) }
+        ensures held { (code : Code) → (l : Limits) → (m : Mid) → Holds code l self.old m → Holds code l self.new m }
+        ensures number { (code : Code) → (l : Limits) → (m : Mid) → (p : CoreProgram) → Holds code l self.old m → result ≡ of_numbers (calculated op)
+            (walk m.state.subst (value_of p (vars_of m.frames) a.now)) (walk m.state.subst (value_of p (vars_of m.frames) b.now)) }
+    {
+        let row = self.row_at_hand();
+        calculate_terms(&mut self.arena, row, op, a, b)
+    }
+
+    /// Unifies the value of a term, among the variables at hand, with a number.
+    pub fn unify_number(&mut self, a: &Term, n: u16) -> Result<bool, Full>
+        requires some { (code : Code) × (l : Limits) × (m : Mid) × Holds code l self.old m }
+        requires a_plain { IsPlain (out-Term a.now) }
+        ensures { (code : Code) → (l : Limits) → (m : Mid) → (p : CoreProgram) → Holds code l self.old m → MatchResult result
+            (Matched code l (unified m.state.subst (value_of p (vars_of m.frames) a.now) (leaf (Num n))) m self.new)
+            (λ _. Unmatched l (unified m.state.subst (value_of p (vars_of m.frames) a.now) (leaf (Num n))) m self.new) }
+    {
+        let row = self.row_at_hand();
+        match unify_number(&mut self.arena, row, a, n) {
+            Err(full) => Err(full),
+            Ok(agreed) => Ok(agreed),
+        }
     }
 
     /// What the first argument shows, if there is one.

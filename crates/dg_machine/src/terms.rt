@@ -3,11 +3,11 @@ ghost use Rattle.std.specs.Prelude.{◌≡◌, ◌≤◌, List, Some, length, ma
 ghost use Rattle.std.specs.List.{zip};
 ghost use Rattle.dg_base.specs.declared.program.Term.{out-Term};
 ghost use Rattle.dg_base.specs.declared.program.CoreProgram.{CoreProgram};
-ghost use Rattle.dg_meaning.specs.Values.{Value, leaf, value_of};
+ghost use Rattle.dg_meaning.specs.Values.{Value, Num, leaf, value_of};
 ghost use Rattle.dg_meaning.specs.Unify.{solve, unify as unified};
-ghost use Rattle.dg_meaning.specs.Numbers.{are_in_order};
+ghost use Rattle.dg_meaning.specs.Numbers.{are_in_order, calculated, of_numbers};
 ghost use Rattle.dg_meaning.specs.Substitutions.{walk};
-ghost use Rattle.dg_machine.specs.Comparing.{order_of};
+ghost use Rattle.dg_machine.specs.Comparing.{order_of, made_of};
 ghost use Rattle.dg_unify.specs.Store.{Follows, label_of};
 ghost use Rattle.dg_arena.specs.Held.{meaning_of};
 ghost use Rattle.dg_machine.specs.Built.{IsPlain, ArePlain};
@@ -15,8 +15,8 @@ ghost use Rattle.dg_machine.specs.Refs.{RowAt, RefsAt, AreRefs, Keeps, Stays};
 
 use crate::now::Row;
 use dg_arena::Arena;
-use dg_base::{CompareOp, Simple, Term};
-use dg_lists::compare;
+use dg_base::{ArithOp, CompareOp, Simple, Term};
+use dg_lists::{arith, compare};
 use dg_unify::{Bindings, Full, Ref, View, unify};
 
 /// A value without parts.
@@ -133,4 +133,47 @@ pub fn compare_terms(arena: &mut Arena, row: Row, op: CompareOp, a: &Term, b: &T
     let first = arena.walk(left);
     let second = arena.walk(right);
     are_ordered(op, first, second)
+}
+
+/// What an operation makes of what is shown, if both are numbers and it makes one.
+fn made_of(op: ArithOp, a: View, b: View) -> Option<u16>
+    ensures { result ≡ made_of op a b }
+{
+    match a {
+        View::Simple(Simple::Num(m)) => match b {
+            View::Simple(Simple::Num(n)) => arith(op, m, n),
+            _ => None,
+        },
+        _ => None,
+    }
+}
+
+/// What an operation makes of the values of two terms without parts, among variables in a row, if it makes a number.
+pub fn calculate_terms(arena: &mut Arena, row: Row, op: ArithOp, a: &Term, b: &Term) -> Option<u16>
+    requires a_plain { IsPlain (out-Term a.now) }
+    requires b_plain { IsPlain (out-Term b.now) }
+    requires row { (vs : List Value) × RowAt (meaning_of arena.old) row vs }
+    ensures stays { Stays arena.old arena.new }
+    ensures number { (p : CoreProgram) → (vs : List Value) → RowAt (meaning_of arena.old) row vs →
+        result ≡ of_numbers (calculated op) (walk (meaning_of arena.old).state.subst (value_of p vs a.now))
+        (walk (meaning_of arena.old).state.subst (value_of p vs b.now)) }
+{
+    let left = plain_value(arena, row, a);
+    let right = plain_value(arena, row, b);
+    let first = arena.walk(left);
+    let second = arena.walk(right);
+    made_of(op, first, second)
+}
+
+/// Unifies the value of a term without parts, among variables in a row, with a number.
+pub fn unify_number(arena: &mut Arena, row: Row, a: &Term, n: u16) -> Result<bool, Full>
+    requires a_plain { IsPlain (out-Term a.now) }
+    requires row { (vs : List Value) × RowAt (meaning_of arena.old) row vs }
+    ensures keeps { Keeps arena.old arena.new }
+    ensures unified { (p : CoreProgram) → (vs : List Value) → RowAt (meaning_of arena.old) row vs →
+        Follows (meaning_of arena.old) (meaning_of arena.new) (unified (meaning_of arena.old).state.subst (value_of p vs a.now) (leaf (Num n))) result }
+{
+    let left = plain_value(arena, row, a);
+    let right = simple_value(arena, Simple::Num(n));
+    unify(arena, left, right)
 }

@@ -11,3 +11,6 @@ returns-in-Equal c code = subst (λ a. DoesOp code c.args.memory.now (op.Do a) c
 
 pub returns-in-Compare : goal.returns-in-Compare
 returns-in-Compare c code = subst (λ a. DoesOp code c.args.memory.now (op.Do a) c.args.rest.now c.compare.new.self c.compare.result) (sym c.in-Compare.is) (c.compare.ensures code)
+
+pub returns-in-Arith : goal.returns-in-Arith
+returns-in-Arith c code = subst (λ a. DoesOp code c.args.memory.now (op.Do a) c.args.rest.now c.arith.new.self c.arith.result) (sym c.in-Arith.is) (c.arith.ensures code)
