@@ -31,3 +31,4 @@ pub mod AsciiLines
 pub mod EndTurns
 pub mod EnterTurns
 pub mod LeaveTurns
+pub mod RuleTurns
