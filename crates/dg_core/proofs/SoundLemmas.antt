@@ -15,10 +15,10 @@ use Rattle.dg_base.specs.declared.refusal.Refusal.{Refusal}
 use Rattle.dg_core.proofs.FitLemmas.{all_declarable, declared_other}
 use Rattle.dg_core.proofs.StartLemmas.{MayBegin, fact_start, parts_hold, starts_sound, starts_distinct, declared_one_start}
 use Rattle.std.proofs.lemmas.List.Concat.{flat_map-append}
-use Rattle.std.proofs.lemmas.List.Elements.{All-nil, All-cons, All-append, All-head, All-tail, All-weaker, All-contains, Contains-append_left, Contains-append_right}
+use Rattle.std.proofs.lemmas.List.Elements.{All-nil, All-cons, All-append, All-head, All-tail, All-weaker, All-contains, Contains-append_right}
 use Rattle.dg_base.specs.Goals.{goals_of}
 use Rattle.dg_base.specs.Heads.{name_of}
-use Rattle.dg_base.specs.Mentions.{Thing, query, of_said, of_rule, of_parts, of_body, things, things_in, mentioned, names_in, variable, variable_in}
+use Rattle.dg_base.specs.Mentions.{Thing, query, closure, Mentions, nothing, thing, closed, of_said, of_rule, of_parts, of_body, things, things_in, mentioned, names_in, variable, variable_in}
 use Rattle.dg_base.specs.Names.{builtin_named}
 use Rattle.dg_base.specs.Sound.{IsSound, IsName, IsPredOf, IsRuleOf, IsGoalOf, IsTermOf, IsClosureOf, IsPlaceOf, IsStartOf, SameSite, all_goals}
 use Rattle.dg_base.specs.Tree as tree
@@ -34,6 +34,8 @@ use Rattle.dg_base.specs.declared.program.Rule.{Rule}
 use Rattle.dg_base.specs.declared.refusal.ReadFault.{ReadFault}
 use Rattle.dg_names.specs.Among.{IsAmong, HasPred}
 use Rattle.dg_names.specs.Named.{Named, firsts}
+use Rattle.dg_closures.specs.Held.{Holds}
+use Rattle.dg_closures.proofs.VariableLemmas.{all_held}
 use Rattle.dg_core.specs.Core.{outside, scope_of, rule_of, failing, rules_in, rules_from, selects_of, all_selects, pred_of, without_facts, entry_name, core_of, is_rule_for, has_entry, with_rules, rules_of, rules_at, rules_named, starts_from, declared_start, refusal_of, IsLowered}
 use Rattle.dg_core.specs.Given.{IsFit, IsFitItem, IsGiven}
 use Rattle.dg_core.specs.Goals.{Scope, number_in, unit, lists, selects}
@@ -42,7 +44,7 @@ use Rattle.dg_core.specs.Variables.{variables_of}
 use Rattle.dg_core.proofs.AskLemmas.{query_fits, place_in, place_fits, parents_fit, entry_fits}
 use Rattle.dg_core.proofs.GoalLemmas.{AreMade, made_none, made_join, body_made, goal_made}
 use Rattle.dg_core.proofs.HoldLemmas.{Hold, front, back, from_all, all_front, all_behind}
-use Rattle.dg_core.proofs.MemberLemmas.{alone_there, first_there, later_there, there_cases, nowhere, firsts_have}
+use Rattle.dg_core.proofs.MemberLemmas.{alone_there, first_there, later_there, there_cases, nowhere}
 use Rattle.dg_core.proofs.PlaceLemmas.{IsPlaced, changed_there}
 use Rattle.dg_core.proofs.SiteLemmas.{AreSited, sited_none, sited_join, sited_wider}
 use Rattle.dg_core.proofs.TermLemmas.{number_below, IsGround, IsKnown, parts_sound}
@@ -60,12 +62,17 @@ known_at s (variable n) a f p v = v n (alone_there n)
 known_at s (query (role.Changed set) ps) a f p v = p
 known_at s t a f p v = (a, f)
 
-known_all : (s : Scope) (ts : List Thing) → All (IsAmong s.names) ts → All IsFit ts → All (IsPlaced s.places) ts → ((n : List ℕ) → Contains (names_in variable_in ts) n → Contains s.variables n) → All (IsKnown s) ts
-known_all s [] a f p v = All-nil (IsKnown s)
-known_all s (t ∷ ts) a f p v =
-    All-cons (IsKnown s) t ts
-    (known_at s t (All-head (IsAmong s.names) t ts a) (All-head IsFit t ts f) (All-head (IsPlaced s.places) t ts p) (λ n k. v n (Contains-append_left (variable_in t) (names_in variable_in ts) n k)))
-    (known_all s ts (All-tail (IsAmong s.names) t ts a) (All-tail IsFit t ts f) (All-tail (IsPlaced s.places) t ts p) (λ n k. v n (Contains-append_right (variable_in t) (names_in variable_in ts) n k)))
+-- in a rule whose variables these are, each thing that stands outside its closures is known
+known_out : (s : Scope) (all : List (List ℕ)) (ms : Mentions) → Holds all s.variables ms → All (IsAmong s.names) (things ms) → All IsFit (things ms) → All (IsPlaced s.places) (things ms) → Hold (IsKnown s) ms
+known_out s all nothing v a f p = tt
+known_out s all (thing t ms) v a f p = (
+  known_at s t (All-head (IsAmong s.names) t (things ms) a) (All-head IsFit t (things ms) f) (All-head (IsPlaced s.places) t (things ms) p) v.0,
+  known_out s all ms v.1 (All-tail (IsAmong s.names) t (things ms) a) (All-tail IsFit t (things ms) f) (All-tail (IsPlaced s.places) t (things ms) p),
+)
+known_out s all (closed inner ms) v a f p = known_out s all ms v.2 (behind_closed (IsAmong s.names) inner ms a) (behind_closed IsFit inner ms f) (behind_closed (IsPlaced s.places) inner ms p)
+  where
+    behind_closed : (P : Thing → Type 0) (inner ms : Mentions) → All P (closure ∷ (things inner ++ things ms)) → All P (things ms)
+    behind_closed P inner ms h = all_behind P (things inner) (things ms) (All-tail P closure (things inner ++ things ms) h)
 
 -- ---- rules
 
@@ -90,9 +97,9 @@ ground names items ps b g few = record {
 
 known_rule : (names : Named) (items : List Item) (ps : Parts) (b : Body) → Asked names (place_names items) (things (of_rule role.Rule ps b)) → Hold (IsKnown (scope_of (outside names items) ps b)) (of_rule role.Rule ps b)
 known_rule names items ps b a =
-    let s = scope_of (outside names items) ps b in
-    let ts = things (of_rule role.Rule ps b) in
-    from_all (IsKnown s) (of_rule role.Rule ps b) (known_all s ts a.among a.fit a.changed (λ n k. firsts_have (names_in variable_in ts) n k))
+    let ms = of_rule role.Rule ps b in
+    let all = names_in variable_in (things ms) in
+    known_out (scope_of (outside names items) ps b) all ms (all_held all ms) a.among a.fit a.changed
 
 rule_made : (names : Named) (items : List Item) (n : ℕ) (ps : Parts) (b : Body) (behind : List Goal) → IsGiven names items → Asked names (place_names items) (things (of_rule role.Rule ps b)) → length (variables_of ps b) ≤ 65 → n + selects (of_body false b) ≤ all_selects items → AreMade (core_of names items) (vars_of ps b) (n + selects (of_body false b)) (n + selects (of_body false b)) behind → AreMade (core_of names items) (vars_of ps b) n (n + selects (of_body false b)) (rule_of (outside names items) n ps b behind).body
 rule_made names items n ps b behind g a few e k =

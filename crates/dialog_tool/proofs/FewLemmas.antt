@@ -1,5 +1,5 @@
 -- What a program's tree has that comes from a source: few variables in a rule, few branches in a select, few values of what is changed, and few places.
-use Rattle.std.proofs.Common.{◌≡◌, ◌≤◌, ◌⊎◌, ◌||◌, inl, inr, ℕ, zero, suc, List, [], ◌∷◌, ◌++◌, Bool, true, false, Option, Some, None, length, map, codes, nat_lt, refl, sym, ◌∙◌, ap, subst, arith}
+use Rattle.std.proofs.Common.{◌≡◌, ◌≤◌, ◌⊎◌, ◌||◌, inl, inr, ℕ, zero, suc, List, [], ◌∷◌, ◌++◌, Bool, true, false, Option, Some, None, length, map, nat_lt, refl, sym, ◌∙◌, ap, subst, arith}
 use Rattle.std.specs.Prelude.{if◌then◌else◌}
 use Rattle.std.specs.List.{All, Contains, list_all}
 use Rattle.std.specs.Option.{is_some}
@@ -10,27 +10,25 @@ use Rattle.std.proofs.lemmas.Bool.Decides.{nat_tests}
 use Rattle.std.proofs.lemmas.List.{map-append}
 use Rattle.std.proofs.lemmas.List.Elements.{All-nil, All-cons, All-head, All-tail, All-contains, Contains-append_left, Contains-append_right, Contains-append_cases}
 use Rattle.dg_access.specs.Comes.{is_free, ComesFrom, free, same, topic, again, asked, left, chosen, equation}
-use Rattle.dg_access.specs.Few.{HasFewVariables, AreFew, AllAreOut}
+use Rattle.dg_access.specs.Few.{HasFewVariables}
 use Rattle.dg_access.proofs.KeptLemmas.{all_front, all_back}
 use Rattle.dg_base.specs.Heads.{name_of}
-use Rattle.dg_base.specs.Mentions.{Thing, query, select, variable, closure, Mentions, nothing, thing, closed, closures, of_rule, things, things_in, mentioned, names_in, variable_in}
+use Rattle.dg_base.specs.Mentions.{Thing, query, select, Mentions, of_rule, things_in, mentioned, names_in}
 use Rattle.dg_base.specs.Names.{prelude_names, name_among, builtins, builtin_among, builtin_named}
 use Rattle.dg_base.specs.Tree as tree
-use Rattle.dg_base.specs.Tree.{Parts, Body, Said, Item}
+use Rattle.dg_base.specs.Tree.{Parts, Said, Item}
 use Rattle.dg_base.specs.declared.mentions.Role.TheVariants as role
 use Rattle.dg_base.specs.declared.names.Builtin.{Builtin}
 use Rattle.dg_base.specs.declared.names.Builtin.TheVariants as built_in
-use Rattle.dg_core.specs.Forms.{IsRun, AreRun}
+use Rattle.dg_closures.specs.Held.{RuleIsSmall}
 use Rattle.dg_core.specs.Given.{IsFit, IsFitItem}
 use Rattle.dg_core.specs.Places.{parent_name, declaration_in, declarations, changed_in, place_names, values_in}
-use Rattle.dg_core.specs.Variables as own
 use Rattle.dg_expand.specs.Comes as put
 use Rattle.dg_expand.specs.Comes.{is_made, PutFrom}
 use Rattle.dg_expand.specs.Expanded as expanded
 use Rattle.dg_expand.specs.Expanded.{is_fixed, is_closed, is_bad}
 use Rattle.dg_expand.specs.Put.{Access, rule_for}
 use Rattle.dg_names.specs.Among.{AreFirsts, IsSmall, HasPred, IsAmong}
-use Rattle.dg_names.specs.Counts.{counted_in}
 use Rattle.dg_names.specs.Named.{Named, firsts}
 use Rattle.dg_reader.specs.Readable as reading
 use Rattle.dialog_tool.proofs.DeclareLemmas.{IsDeclared, AreDeclared}
@@ -42,45 +40,13 @@ use Rattle.dialog_tool.proofs.Never.{never}
 abbrev pub FirstsAreNames : Type 0
 FirstsAreNames = (names : List (List ℕ)) → AreFirsts names (firsts names)
 
--- no closure stands where all can be run
-no_closures : (ms : Mentions) → All IsRun (things ms) → closures ms ≡ []
-no_closures nothing h = refl
-no_closures (thing t ms) h = no_closures ms (All-tail IsRun t (things ms) h)
-no_closures (closed inner ms) h = let no = All-head IsRun closure (things inner ++ things ms) h in cc
-
 only : (m n : List ℕ) → Contains (m ∷ []) n → m ≡ n
 only m n (zero, lt, e) = e
 only m n (suc k, lt, e) = absurd (omega arith)
 
-one_named : (t : Thing) (n : List ℕ) → bytes_eq n (codes "_") ≡ false → Contains (variable_in t) n → Contains (counted_in t) n
-one_named (variable m) n e h = here (bytes_eq m (codes "_")) refl (only m n h)
-  where
-    here : (b : Bool) → bytes_eq m (codes "_") ≡ b → m ≡ n → Contains (if b then [] else m ∷ []) n
-    here true q alike = let no = sym q ∙ ap (λ (x : List ℕ). bytes_eq x (codes "_")) alike ∙ e in cc
-    here false q alike = (0, omega arith, alike)
-one_named t n e h = absurd (let lt = h.1 in omega arith)
-
-all_named : (ts : List Thing) (n : List ℕ) → bytes_eq n (codes "_") ≡ false → Contains (names_in variable_in ts) n → Contains (names_in counted_in ts) n
-all_named [] n e h = h
-all_named (t ∷ ts) n e h = here (Contains-append_cases (variable_in t) (names_in variable_in ts) n h) (λ k. all_named ts n e k)
-  where
-    here : Contains (variable_in t) n ⊎ Contains (names_in variable_in ts) n → (Contains (names_in variable_in ts) n → Contains (names_in counted_in ts) n) → Contains (counted_in t ++ names_in counted_in ts) n
-    here (inl k) rest = Contains-append_left (counted_in t) (names_in counted_in ts) n (one_named t n e k)
-    here (inr k) rest = Contains-append_right (counted_in t) (names_in counted_in ts) n (rest k)
-
--- a variable is a closure's parameter, or counted
-among_counted : FirstsAreNames → (ts : List Thing) (n : List ℕ) (b : Bool) → bytes_eq n (codes "_") ≡ b → Contains (names_in variable_in ts) n → Contains (codes "_" ∷ firsts (names_in counted_in ts)) n
-among_counted law ts n true e h = (0, omega arith, sym ((bytes_decides n (codes "_")).0 e))
-among_counted law ts n false e h = Contains-append_right (codes "_" ∷ []) (firsts (names_in counted_in ts)) n ((law (names_in counted_in ts)).all n (all_named ts n e h))
-
-one_more : FirstsAreNames → (ts : List Thing) → length (firsts (names_in variable_in ts)) ≤ length (codes "_" ∷ firsts (names_in counted_in ts))
-one_more law ts = (law (names_in variable_in ts)).fewest (codes "_" ∷ firsts (names_in counted_in ts)) (λ n h. among_counted law ts n (bytes_eq n (codes "_")) refl h)
-
-rule_few : FirstsAreNames → ((all : List (List ℕ)) (ms : Mentions) → AllAreOut all ms) → (all : List (List ℕ)) (ps : Parts) (b : Body) → All IsRun (things (of_rule role.Rule ps b)) → AreFew all (of_rule role.Rule ps b) → length (own.variables_of ps b) ≤ 65
-rule_few law out all ps b h few =
-    let ms = of_rule role.Rule ps b in
-    let small : length (firsts (names_in counted_in (things ms))) ≤ 64 = subst (λ (l : List (List ℕ)). length (firsts l) ≤ 64) (out all ms (no_closures ms h)) few in
-    omega (arith, one_more law (things ms), small)
+-- a rule has few variables where few stand in it
+abbrev pub RulesAreSmall : Type 0
+RulesAreSmall = (all : List (List ℕ)) (ms : Mentions) → RuleIsSmall all ms
 
 -- what is declared isn't the place of parents, which is built in
 no_parent : (n : List ℕ) → builtin_named n ≡ None → bytes_eq parent_name n ≡ false
@@ -90,19 +56,19 @@ no_parent n none = here (bytes_eq parent_name n) refl
     here true e = let no : builtin_named parent_name ≡ None = ap builtin_named ((bytes_decides parent_name n).0 e) ∙ none in cc
     here false e = refl
 
-item_fit : FirstsAreNames → ((all : List (List ℕ)) (ms : Mentions) → AllAreOut all ms) → (said : Said) → All IsRun (things_in said) → HasFewVariables said → IsDeclared said → IsFitItem said
-item_fit law out (tree.topic n) h few d = tt
-item_fit law out (tree.rule ps b) h few d = rule_few law out _ ps b h few.0
-item_fit law out (tree.deny ps b) h few d = rule_few law out _ ps b h few.0
-item_fit law out (tree.access ps b) h few d = tt
-item_fit law out (tree.global_variable ps) h few d = record { one = d.1.0; value = d.1.1; other = no_parent (name_of ps) d.0 }
+item_fit : RulesAreSmall → (said : Said) → HasFewVariables said → IsDeclared said → IsFitItem said
+item_fit law (tree.topic n) few d = tt
+item_fit law (tree.rule ps b) few d = law _ (of_rule role.Rule ps b) few.0
+item_fit law (tree.deny ps b) few d = law _ (of_rule role.Rule ps b) few.0
+item_fit law (tree.access ps b) few d = tt
+item_fit law (tree.global_variable ps) few d = record { one = d.1.0; value = d.1.1; other = no_parent (name_of ps) d.0 }
 
-pub items_fit : FirstsAreNames → ((all : List (List ℕ)) (ms : Mentions) → AllAreOut all ms) → (is : List Item) → AreRun is → All (λ (i : Item). HasFewVariables i.said) is → AreDeclared is → All (λ (i : Item). IsFitItem i.said) is
-items_fit law out [] h few d = All-nil (λ (i : Item). IsFitItem i.said)
-items_fit law out (i ∷ is) h few d =
+pub items_fit : RulesAreSmall → (is : List Item) → All (λ (i : Item). HasFewVariables i.said) is → AreDeclared is → All (λ (i : Item). IsFitItem i.said) is
+items_fit law [] few d = All-nil (λ (i : Item). IsFitItem i.said)
+items_fit law (i ∷ is) few d =
     All-cons (λ (j : Item). IsFitItem j.said) i is
-    (item_fit law out i.said (all_front IsRun (things_in i.said) (mentioned is) h) (All-head (λ (j : Item). HasFewVariables j.said) i is few) (All-head (λ (j : Item). IsDeclared j.said) i is d))
-    (items_fit law out is (all_back IsRun (things_in i.said) (mentioned is) h) (All-tail (λ (j : Item). HasFewVariables j.said) i is few) (All-tail (λ (j : Item). IsDeclared j.said) i is d))
+    (item_fit law i.said (All-head (λ (j : Item). HasFewVariables j.said) i is few) (All-head (λ (j : Item). IsDeclared j.said) i is d))
+    (items_fit law is (All-tail (λ (j : Item). HasFewVariables j.said) i is few) (All-tail (λ (j : Item). IsDeclared j.said) i is d))
 
 -- ---- selects
 

@@ -10,7 +10,7 @@ use Rattle.dg_base.specs.Heads.{name_of}
 use Rattle.dg_base.specs.Tree.{Item}
 use Rattle.dg_base.specs.declared.program.CoreProgram.{CoreProgram as Core}
 use Rattle.dg_access.specs.Comes.{MentionsComeFrom}
-use Rattle.dg_access.specs.Few.{HasFewVariables, AllAreOut}
+use Rattle.dg_access.specs.Few.{HasFewVariables}
 use Rattle.dg_access.specs.Items.{plain_items}
 use Rattle.dg_core.specs.Core.{core_of, refusal_of}
 use Rattle.dg_core.specs.Forms.{first_unbuilt, AreRun}
@@ -35,7 +35,7 @@ use Rattle.dg_reader.specs.Readable as reading
 use Rattle.dialog_tool.specs.Source.{refused, given, all_names, with_prelude, Compiles}
 use Rattle.dialog_tool.proofs.ComeLemmas.{all_among, all_put_among}
 use Rattle.dialog_tool.proofs.DeclareLemmas.{IsDeclared, AreDeclared, all_declared}
-use Rattle.dialog_tool.proofs.FewLemmas.{FirstsAreNames, IsSelectFit, IsChangeable, items_fit, selects_fit, plain_fit, all_put_fit, all_changeable, things_fit, few_places}
+use Rattle.dialog_tool.proofs.FewLemmas.{FirstsAreNames, RulesAreSmall, IsSelectFit, IsChangeable, items_fit, selects_fit, plain_fit, all_put_fit, all_changeable, things_fit, few_places}
 use Rattle.dialog_tool.proofs.PreludeLemmas.{prelude_printable, four_names, prelude_among, prelude_things_fit, prelude_changeable, prelude_fit, prelude_declares, all_mentioned, all_run}
 use Rattle.dialog_tool.proofs.RunLemmas.{plain_run, all_put_run}
 
@@ -55,7 +55,7 @@ pub record Laws : Type 0 where
   pub declared : (ts : List Seen) (is : List Item) → IsRead ts (Ok is) → AreDeclarations false is
   pub changes : (is new : List Item) → IsRewritten is (Ok new) → All (λ t. is_bad (access_rules (plain_items None is)) t ≡ false) (mentioned new)
   pub variables : (is new : List Item) → IsRewritten is (Ok new) → All (λ (i : Item). HasFewVariables i.said) new
-  pub out : (all : List (List ℕ)) (ms : Mentions) → AllAreOut all ms
+  pub rules : RulesAreSmall
   pub run : (is : List Item) → first_unbuilt is ≡ None → AreRun is
   pub sound : (names : Named) (is : List Item) → IsGiven names is → refusal_of is (first_bad (placed_of is) [] is) ≡ None → IsSound (core_of names is)
   pub built : (names : Named) (is : List Item) → AreRun is → IsBuilt (core_of names is)
@@ -163,7 +163,7 @@ rewritten_given laws is r s n run d w =
       things = things;
       fit = fit_given laws is w s;
       items = All-append (λ (i : Item). IsFitItem i.said) (put_in is) (plain_items None prelude_rules)
-          (items_fit laws.firsts laws.out (put_in is) (run_given laws is run w) (laws.variables is (put_in is) w) declared) prelude_fit;
+          (items_fit laws.rules (put_in is) (laws.variables is (put_in is) w) declared) prelude_fit;
       few_places = few_places laws.firsts (all_names is) (with_prelude (put_in is)) things (changes_given laws is w) (declared_given rules is d) few_preds;
       preds = preds_given laws is names.preds;
       objects = names.objects;

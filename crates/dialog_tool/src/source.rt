@@ -125,7 +125,7 @@ pub fn programs_are_sound()
     dg_names::mentions_are_small();
     dg_names::firsts_are_names();
     dg_access::mentions_come_from_the_source();
-    dg_access::variables_are_named();
+    dg_closures::rules_are_small();
     dg_expand::mentions_are_put();
     dg_expand::none_is_closed();
     dg_expand::variables_are_few();
