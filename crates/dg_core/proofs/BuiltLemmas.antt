@@ -30,7 +30,8 @@ use Rattle.dg_built.specs.Built.{IsForm, IsBuilt, IsBuiltBody, IsBuiltGoal, IsBu
 use Rattle.dg_names.specs.Named.{Named, firsts}
 use Rattle.dg_core.specs.Core.{outside, scope_of, rule_of, failing, rules_in, rules_from, selects_of, pred_of, without_facts, core_of}
 use Rattle.dg_core.specs.Forms.{is_unbuilt, is_unbuilt_query, is_unbuilt_name, first_unbuilt, IsRun, AreRun}
-use Rattle.dg_core.specs.Goals.{Scope, in_16_bits, number_in, term_of, listed, terms_of, terms_of_values, arg, built_in_goal, place_goal, query_goal, asked, change_goals, unit, selects, stmt_goals, lists, arm_goals, body_goals}
+use Rattle.dg_core.specs.Bodies.{in_value, in_parts, in_stmt, in_stmts, in_branches, in_arms}
+use Rattle.dg_core.specs.Goals.{Scope, past, in_16_bits, number_in, term_of, listed, terms_of, terms_of_values, arg, built_in_goal, place_goal, query_goal, asked, change_goals, unit, selects, stmt_goals, lists, arm_goals, body_goals}
 use Rattle.dg_core.specs.Goals as lowered
 use Rattle.dg_core.specs.Places.{parent_name, declaration_in, declarations, changed_in, place_names, values_in, is_among}
 use Rattle.dg_core.proofs.HoldLemmas.{Hold, front, back, from_all, all_front, all_behind}
@@ -137,9 +138,9 @@ asked_whole s ps many m r = query_whole s ps many (builtin_named (name_of ps)) r
 changes_whole : (s : Scope) (cs : Changes) → IsRun (other thing_form.Now) → Whole (change_goals s cs)
 changes_whole s tree.no_changes r = nothing_whole
 changes_whole s (tree.change ps set cs) r =
-    joined (goal.Now _ (terms_of s ps) set ∷ []) (change_goals s cs)
+    joined (goal.Now _ (terms_of s ps) set ∷ []) (change_goals (past s (in_parts ps)) cs)
     (leaf _ (form.Now (number_in s.places (name_of ps)) (terms_of s ps) set) (goal.outs-Now _ _ _) refl (search rules))
-    (changes_whole s cs r)
+    (changes_whole (past s (in_parts ps)) cs r)
 
 -- ---- statements
 
@@ -164,19 +165,22 @@ mutual
   stmt_whole s n (tree.choice arms) m h = arms_whole s n arms [] m h.1 nothing_whole
   stmt_whole s n (tree.choice_else arms b) m h =
       let k = n + selects (of_arms false arms) in
-      arms_whole s n arms (unit (lists s k b)) m (front IsRun (of_arms false arms) (of_body false b) h.1) (unit_whole (lists s k b) (lists_whole s k b m (back IsRun (of_arms false arms) (of_body false b) h.1).1))
+      let behind = past s (in_arms arms) in
+      arms_whole s n arms (unit (lists behind k b)) m (front IsRun (of_arms false arms) (of_body false b) h.1) (unit_whole (lists behind k b) (lists_whole behind k b m (back IsRun (of_arms false arms) (of_body false b) h.1).1))
   stmt_whole s n (tree.exhaust x) m h = let r = h.0 in wrap _ (form.Exhaust (stmt_goals s n x)) (stmt_goals s n x) (goal.outs-Exhaust _) refl (search rules) (stmt_whole s n x m h.1)
   stmt_whole s n (tree.stoppable x) m h = let r = h.0 in wrap _ (form.Stoppable (stmt_goals s n x)) (stmt_goals s n x) (goal.outs-Stoppable _) refl (search rules) (stmt_whole s n x m h.1)
   stmt_whole s n (tree.collect v b into) m h =
       let r = h.0 in
       let rest = back IsRun (of_value false v) (join (of_body false b) (of_value false into)) h.1 in
-      wrap _ (form.Collect (term_of s v) (unit (lists s n b)) (term_of s into)) (unit (lists s n b)) (goal.outs-Collect _ _ _) refl (search rules)
-      (unit_whole (lists s n b) (lists_whole s n b m (front IsRun (of_body false b) (of_value false into) rest).1))
+      let within = past s (in_value v) in
+      wrap _ (form.Collect (term_of s v) (unit (lists within n b)) (term_of (past within (in_branches b)) into)) (unit (lists within n b)) (goal.outs-Collect _ _ _) refl (search rules)
+      (unit_whole (lists within n b) (lists_whole within n b m (front IsRun (of_body false b) (of_value false into) rest).1))
   stmt_whole s n (tree.accumulate v b into) m h =
       let r = h.0 in
       let rest = back IsRun (of_value false v) (join (of_body false b) (of_value false into)) h.1 in
-      wrap _ (form.Accumulate (term_of s v) (unit (lists s n b)) (term_of s into)) (unit (lists s n b)) (goal.outs-Accumulate _ _ _) refl (search rules)
-      (unit_whole (lists s n b) (lists_whole s n b m (front IsRun (of_body false b) (of_value false into) rest).1))
+      let within = past s (in_value v) in
+      wrap _ (form.Accumulate (term_of s v) (unit (lists within n b)) (term_of (past within (in_branches b)) into)) (unit (lists within n b)) (goal.outs-Accumulate _ _ _) refl (search rules)
+      (unit_whole (lists within n b) (lists_whole within n b m (front IsRun (of_body false b) (of_value false into) rest).1))
   stmt_whole s n (tree.select mode b) m h = let r = h.0 in goal_whole _ (form.Select n mode (lists s (n + 1) b)) (goal.outs-Select _ _ _) (search rules) (lists_whole s (n + 1) b m h.1)
   stmt_whole s n (tree.first_answer b) m h = wrap _ (form.Once (unit (lists s n b))) (unit (lists s n b)) (goal.outs-Once _) refl tt (unit_whole (lists s n b) (lists_whole s n b m h.1.1))
 
@@ -184,14 +188,14 @@ mutual
   stmts_whole s n tree.no_stmts m h = nothing_whole
   stmts_whole s n (tree.stmt x xs) m h =
       let k = n + selects (of_stmt false x) in
-      joined (stmt_goals s n x) (lowered.goals_of s k xs) (stmt_whole s n x m (front IsRun (of_stmt false x) (of_stmts false xs) h)) (stmts_whole s k xs m (back IsRun (of_stmt false x) (of_stmts false xs) h))
+      joined (stmt_goals s n x) (lowered.goals_of (past s (in_stmt x)) k xs) (stmt_whole s n x m (front IsRun (of_stmt false x) (of_stmts false xs) h)) (stmts_whole (past s (in_stmt x)) k xs m (back IsRun (of_stmt false x) (of_stmts false xs) h))
 
   lists_whole : (s : Scope) (n : ℕ) (b : Body) → MayAsk s.places → Hold IsRun (of_branches false b) → AllWhole (lists s n b)
   lists_whole s n tree.no_branches m h = nothing_whole
   lists_whole s n (tree.branch xs b) m h =
       let k = n + selects (of_stmts false xs) in
-      All-append IsBuiltGoal (goals_of (lowered.goals_of s n xs)) (flat_map goals_of (lists s k b))
-      (stmts_whole s n xs m (front IsRun (of_stmts false xs) (of_branches false b) h)) (lists_whole s k b m (back IsRun (of_stmts false xs) (of_branches false b) h))
+      All-append IsBuiltGoal (goals_of (lowered.goals_of s n xs)) (flat_map goals_of (lists (past s (in_stmts xs)) k b))
+      (stmts_whole s n xs m (front IsRun (of_stmts false xs) (of_branches false b) h)) (lists_whole (past s (in_stmts xs)) k b m (back IsRun (of_stmts false xs) (of_branches false b) h))
 
   arms_whole : (s : Scope) (n : ℕ) (arms : Arms) (last : List Goal) → MayAsk s.places → Hold IsRun (of_arms false arms) → Whole last → Whole (arm_goals s n arms last)
   arms_whole s n tree.no_arms last m h k = k
@@ -199,10 +203,12 @@ mutual
       let tail = back IsRun (of_body false c) (join (of_body false b) (of_arms false arms)) h in
       let i = n + selects (of_body false c) in
       let j = i + selects (of_body false b) in
-      if_whole (unit (lists s n c)) (unit (lists s i b)) (arm_goals s j arms last)
+      let between = past s (in_branches c) in
+      let behind = past between (in_branches b) in
+      if_whole (unit (lists s n c)) (unit (lists between i b)) (arm_goals behind j arms last)
       (unit_whole (lists s n c) (lists_whole s n c m (front IsRun (of_body false c) (join (of_body false b) (of_arms false arms)) h).1))
-      (unit_whole (lists s i b) (lists_whole s i b m (front IsRun (of_body false b) (of_arms false arms) tail).1))
-      (arms_whole s j arms last m (back IsRun (of_body false b) (of_arms false arms) tail) k)
+      (unit_whole (lists between i b) (lists_whole between i b m (front IsRun (of_body false b) (of_arms false arms) tail).1))
+      (arms_whole behind j arms last m (back IsRun (of_body false b) (of_arms false arms) tail) k)
 
 -- ---- rules and predicates
 
@@ -211,7 +217,7 @@ no_rules = All-nil IsBuiltRule
 
 rule_whole : (around : Scope) (n : ℕ) (ps : Parts) (b : Body) (behind : List Goal) → MayAsk around.places → Hold IsRun (of_rule role.Rule ps b) → Whole behind → IsBuiltRule (rule_of around n ps b behind)
 rule_whole around n ps b behind m h k =
-    let s = scope_of around ps b in
+    let s = past (scope_of around ps b) (in_parts ps) in
     joined (body_goals s n b) behind (unit_whole (lists s n b) (lists_whole s n b m (back IsRun (of_parts false ps) (of_body false b) h.1).1)) k
 
 failing_whole : Whole failing

@@ -2,10 +2,10 @@
 use Rattle.std.proofs.Common.{◌≡◌, ◌<◌, ◌||◌, ℕ, zero, suc, List, [], ◌∷◌, ◌++◌, Bool, true, false, length, get_or, nat_eq, lit<, refl, sym, ◌∙◌, ap, append_assoc, arith}
 use Rattle.std.specs.Prelude.{if◌then◌else◌}
 use Rattle.std.specs.List.{list_any}
-use Rattle.std.proofs.lemmas.List.{length-map}
 use Rattle.dg_base.specs.Heads.{is_special, escaped, parts_behind, name_of}
-use Rattle.dg_base.specs.Tree.{Parts, no_parts, part, part_word, part_value}
-use Rattle.dg_core.specs.Goals.{Scope, term_of, terms_of}
+use Rattle.dg_base.specs.Tree.{Parts, Value, no_parts, part, part_word, part_value}
+use Rattle.dg_core.specs.Bodies.{in_value}
+use Rattle.dg_core.specs.Goals.{Scope, past, terms_of, terms_of_values}
 use Rattle.dg_core.specs.Places.{values_in, values_named, values_behind}
 
 left_false : (a b : Bool) → (a || b) ≡ false → a ≡ false
@@ -51,4 +51,8 @@ name_places (part (part_value v) ps) = ap (λ (n : ℕ). suc n) (behind_places p
 
 -- a head or a query has as many terms as its name has places
 pub terms_counted : (scope : Scope) (ps : Parts) → length (terms_of scope ps) ≡ values_named (name_of ps)
-terms_counted scope ps = length-map (values_in ps) (term_of scope) ∙ sym (name_places ps)
+terms_counted scope ps = as_many scope (values_in ps) ∙ sym (name_places ps)
+  where
+    as_many : (s : Scope) (vs : List Value) → length (terms_of_values s vs) ≡ length vs
+    as_many s [] = refl
+    as_many s (v ∷ vs) = ap (λ (n : ℕ). suc n) (as_many (past s (in_value v)) vs)

@@ -1,6 +1,8 @@
 pub mod PredLemmas
 pub mod MemberLemmas
 pub mod SelectLemmas
+pub mod BodyLemmas
+pub mod ChangeLemmas
 pub mod MakingLemmas
 pub mod MakeLemmas
 pub mod PlaceLemmas

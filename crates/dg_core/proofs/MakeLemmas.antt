@@ -4,7 +4,8 @@ use Rattle.std.proofs.Math.Seq.{take-length}
 use Rattle.std.specs.Option.{option_map}
 use Rattle.std.specs.Prelude.{Result, Ok, Err, OnOk, IfOk}
 use Rattle.std.proofs.lemmas.List.{append-nil}
-use Rattle.dg_base.specs.Mentions.{of_stmt, of_stmts, of_body, of_branches, of_arms, join}
+use Rattle.dg_base.specs.Mentions as mentions
+use Rattle.dg_base.specs.Mentions.{of_stmt, of_stmts, of_body, of_branches, of_arms}
 use Rattle.dg_base.specs.Tree as tree
 use Rattle.dg_base.specs.Tree.{stmts_of, arms_of}
 use Rattle.dg_base.specs.TreeView.{value_view, stmt_view, body_view, arm_view, branches_view, choice_view}
@@ -18,8 +19,11 @@ use Rattle.dg_base.specs.declared.tree.Stmt
 use Rattle.dg_base.specs.declared.tree.Stmt.{Stmt}
 use Rattle.dg_base.specs.declared.tree.Value.{Value}
 use Rattle.dg_base.proofs.Views.{body_seen, choice_seen, choice_else_seen}
-use Rattle.dg_core.specs.Goals.{Scope, selects, unit, stmt_goals, goals_of, lists, arm_goals}
-use Rattle.dg_core.specs.Making.{Made, with_more, with_goals, otherwise, selects_otherwise, other_weight, goal_behind, goals_behind, goal_weight, goals_weight, Takes, ComesTo}
+use Rattle.dg_base.specs.declared.program.Term.{Term}
+use Rattle.dg_core.specs.Bodies.{Closed, no_closure, join, direct, in_value, in_stmt, in_stmts, in_branches, in_arms}
+use Rattle.dg_core.specs.Goals.{Scope, at, past, selects, unit, term_of, stmt_goals, goals_of, lists, arm_goals}
+use Rattle.dg_core.proofs.BodyLemmas.{past_none, past_past, found_past, found_join, found_none, join_none, join_join}
+use Rattle.dg_core.specs.Making.{Made, here, added, held, in_other, with_more, with_goals, otherwise, selects_otherwise, other_weight, goal_behind, goals_behind, goal_weight, goals_weight, Takes, ComesTo}
 use Rattle.dg_core.specs.declared.goals.Close.{Close}
 use Rattle.dg_core.specs.declared.goals.GoalWork.{GoalWork}
 use Rattle.dg_core.proofs.MakingLemmas.{takes, comes, push_two, push_four, reverse_push}
@@ -55,30 +59,42 @@ more_more : {A : Type 0} (a b : List A) (xss : List (List A)) → with_more b (w
 more_more a b [] = refl
 more_more a b (xs ∷ xss) = ap (λ l. l ∷ xss) (append_assoc xs a b)
 
-abbrev make : List (List Goal) → List (List (List Goal)) → ℕ → Made
-make g l k = record { goals = g; lists = l; sites = k }
+abbrev make : List (List Goal) → List (List (List Goal)) → List Term → ℕ → List tree.Body → Made
+make g l v k f = record { goals = g; lists = l; values = v; sites = k; found = f }
 
-same_made : (g g' : List (List Goal)) (l l' : List (List (List Goal))) (k k' : ℕ) → g ≡ g' → l ≡ l' → k ≡ k' → make g l k ≡ make g' l' k'
-same_made g g' l l' k k' e f h =
-    ap (λ (x : List (List Goal)). make x l k) e
-    ∙ ap (λ (x : List (List (List Goal))). make g' x k) f
-    ∙ ap (λ (x : ℕ). make g' l' x) h
+same_made : (g g' : List (List Goal)) (l l' : List (List (List Goal))) (v : List Term) (k k' : ℕ) (f f' : List tree.Body) → g ≡ g' → l ≡ l' → k ≡ k' → f ≡ f' → make g l v k f ≡ make g' l' v k' f'
+same_made g g' l l' v k k' f f' a b c d =
+    ap (λ (x : List (List Goal)). make x l v k f) a
+    ∙ ap (λ (x : List (List (List Goal))). make g' x v k f) b
+    ∙ ap (λ (x : ℕ). make g' l' v x f) c
+    ∙ ap (λ (x : List tree.Body). make g' l' v k' x) d
 
 -- no goals make nothing
-no_goals : (k : ℕ) (m : Made) → k ≡ 0 → m ≡ with_goals [] k m
-no_goals k m e = sym (same_made _ _ _ _ _ _ (more_none m.goals) refl (omega (arith, e)))
+no_goals : (k : ℕ) (m : Made) → k ≡ 0 → m ≡ with_goals [] k no_closure m
+no_goals k m e = sym (same_made _ _ _ _ _ _ _ _ _ (more_none m.goals) refl (omega (arith, e)) (sym (found_none m.found)))
+
+-- the scope behind what else was found
+here_past : (s : Scope) (m : Made) (cs : Closed) → at s (length (m.found ++ direct cs)) ≡ past (here s m) cs
+here_past s m cs = found_past s m.found cs
 
 -- ---- statements in a row
 
+abbrev rowed : Scope → Made → tree.Stmts → Made
+rowed s m all = with_goals (goals_of (here s m) m.sites all) (selects (of_stmts false all)) (in_stmts all) m
+
 pub stmts_none : (s : Scope) (m : Made) (ss : Bor (List Stmt)) → ss.now ≡ [] → m ≡ goal_behind s (GoalWork.Stmts ss) m
-stmts_none s m ss e = no_goals 0 m refl ∙ ap (λ (l : List Stmt). let all = stmts_of (map stmt_view l) in with_goals (goals_of s m.sites all) (selects (of_stmts false all)) m) (sym e)
+stmts_none s m ss e = no_goals 0 m refl ∙ ap (λ (l : List Stmt). rowed s m (stmts_of (map stmt_view l))) (sym e)
 
 pub stmts_make : (s : Scope) (m : Made) (ss : Bor (List Stmt)) (x : Bor Stmt) (others : Bor (List Stmt)) → ss.now ≡ x.now ∷ others.now → goals_behind s (GoalWork.Stmts others ∷ GoalWork.Stmt x ∷ []) m ≡ goal_behind s (GoalWork.Stmts ss) m
 stmts_make s m ss x others e =
     let rest = stmts_of (map stmt_view others.now) in
-    let k = selects (of_stmt false (stmt_view x.now)) in
-    same_made _ _ _ _ _ _ (more_more (stmt_goals s m.sites (stmt_view x.now)) (goals_of s (m.sites + k) rest) m.goals) refl (omega (arith, selects_join (of_stmt false (stmt_view x.now)) (of_stmts false rest)))
-    ∙ ap (λ (l : List Stmt). let all = stmts_of (map stmt_view l) in with_goals (goals_of s m.sites all) (selects (of_stmts false all)) m) (sym e)
+    let y = stmt_view x.now in
+    let k = selects (of_stmt false y) in
+    same_made _ _ _ _ _ _ _ _ _
+    (more_more (stmt_goals (here s m) m.sites y) (goals_of (at s (length (m.found ++ direct (in_stmt y)))) (m.sites + k) rest) m.goals
+    ∙ ap (λ (t : Scope). with_more (stmt_goals (here s m) m.sites y ++ goals_of t (m.sites + k) rest) m.goals) (here_past s m (in_stmt y)))
+    refl (omega (arith, selects_join (of_stmt false y) (of_stmts false rest))) (found_join m.found (in_stmt y) (in_stmts rest))
+    ∙ ap (λ (l : List Stmt). rowed s m (stmts_of (map stmt_view l))) (sym e)
 
 pub stmts_weigh : (ss : Bor (List Stmt)) (x : Bor Stmt) (others : Bor (List Stmt)) → ss.now ≡ x.now ∷ others.now → goals_weight (GoalWork.Stmts others ∷ GoalWork.Stmt x ∷ []) < goal_weight (GoalWork.Stmts ss)
 stmts_weigh ss x others e = let is = ap (λ (l : List Stmt). stmts_size (stmts_of (map stmt_view l))) e in omega (arith, is)
@@ -89,11 +105,11 @@ stmts_weigh_none ss e = let is = ap (λ (l : List Stmt). stmts_size (stmts_of (m
 -- ---- branches
 
 abbrev branched : Scope → Made → tree.Body → Made
-branched s m all = make m.goals (with_more (lists s m.sites all) m.lists) (m.sites + selects (of_branches false all))
+branched s m all = make m.goals (with_more (lists (here s m) m.sites all) m.lists) m.values (m.sites + selects (of_branches false all)) (m.found ++ direct (in_branches all))
 
 pub branches_none : (s : Scope) (m : Made) (bs : Bor (List (List Stmt))) → bs.now ≡ [] → m ≡ goal_behind s (GoalWork.Branches bs) m
 branches_none s m bs e =
-    sym (same_made _ _ _ _ _ _ refl (more_none m.lists) (omega arith))
+    sym (same_made _ _ _ _ _ _ _ _ _ refl (more_none m.lists) (omega arith) (sym (found_none m.found)))
     ∙ ap (λ (l : List (List Stmt)). branched s m (branches_view (map (map stmt_view) l))) (sym e)
 
 pub branches_weigh_none : (bs : Bor (List (List Stmt))) → bs.now ≡ [] → goals_weight [] < goal_weight (GoalWork.Branches bs)
@@ -101,10 +117,14 @@ branches_weigh_none bs e = let is = ap (λ (l : List (List Stmt)). branches_size
 
 pub branches_make : (s : Scope) (m : Made) (bs : Bor (List (List Stmt))) (first : List Stmt) (b : Bor (List Stmt)) (others : Bor (List (List Stmt))) → bs.now ≡ first ∷ others.now → b.now ≡ first → goals_behind s (GoalWork.Branches others ∷ GoalWork.Branch ∷ GoalWork.Stmts b ∷ GoalWork.Begin ∷ []) m ≡ goal_behind s (GoalWork.Branches bs) m
 branches_make s m bs first b others e same =
-    let here = stmts_of (map stmt_view b.now) in
+    let row = stmts_of (map stmt_view b.now) in
     let rest = branches_view (map (map stmt_view) others.now) in
-    let k = selects (of_stmts false here) in
-    same_made _ _ _ _ _ _ refl (more_more (goals_of s m.sites here ∷ []) (lists s (m.sites + k) rest) m.lists) (omega (arith, selects_join (of_stmts false here) (of_branches false rest)))
+    let k = selects (of_stmts false row) in
+    let first_list = goals_of (here s m) m.sites row in
+    same_made _ _ _ _ _ _ _ _ _ refl
+    (more_more (first_list ∷ []) (lists (at s (length (m.found ++ direct (in_stmts row)))) (m.sites + k) rest) m.lists
+    ∙ ap (λ (t : Scope). with_more (first_list ∷ lists t (m.sites + k) rest) m.lists) (here_past s m (in_stmts row)))
+    (omega (arith, selects_join (of_stmts false row) (of_branches false rest))) (found_join m.found (in_stmts row) (in_branches rest))
     ∙ ap (λ (l : List (List Stmt)). branched s m (branches_view (map (map stmt_view) l))) (ap (λ (ss : List Stmt). ss ∷ others.now) same ∙ sym e)
 
 pub branches_weigh : (bs : Bor (List (List Stmt))) (first : List Stmt) (b : Bor (List Stmt)) (others : Bor (List (List Stmt))) → bs.now ≡ first ∷ others.now → b.now ≡ first → goals_weight (GoalWork.Branches others ∷ GoalWork.Branch ∷ GoalWork.Stmts b ∷ GoalWork.Begin ∷ []) < goal_weight (GoalWork.Branches bs)
@@ -115,7 +135,7 @@ branches_weigh bs first b others e same =
 -- ---- a body
 
 abbrev bodied : Scope → Made → tree.Body → Made
-bodied s m b = with_goals (unit (lists s m.sites b)) (selects (of_body false b)) m
+bodied s m b = with_goals (unit (lists (here s m) m.sites b)) (selects (of_body false b)) (in_branches b) m
 
 body_is : (b : Bor Body) (bs : List (List Stmt)) → b.now.branches ≡ bs → body_view b.now ≡ branches_view (map (map stmt_view) bs)
 body_is b bs e = body_seen b.now ∙ ap (λ (l : List (List Stmt)). branches_view (map (map stmt_view) l)) e
@@ -128,8 +148,9 @@ body_weighs_none b = omega arith
 
 pub body_one : (s : Scope) (m : Made) (b : Bor Body) (ss : Bor (List Stmt)) → b.now.branches ≡ ss.now ∷ [] → goals_behind s (GoalWork.Stmts ss ∷ []) m ≡ goal_behind s (GoalWork.Body b) m
 body_one s m b ss e =
-    let here = stmts_of (map stmt_view ss.now) in
-    same_made _ _ _ _ _ _ refl refl (omega (arith, selects_join (of_stmts false here) (of_branches false tree.no_branches)))
+    let row = stmts_of (map stmt_view ss.now) in
+    same_made _ _ _ _ _ _ _ _ _ refl refl (omega (arith, selects_join (of_stmts false row) (of_branches false tree.no_branches)))
+    (ap (λ (c : Closed). m.found ++ direct c) (sym (join_none (in_stmts row))))
     ∙ ap (bodied s m) (sym (body_is b (ss.now ∷ []) e))
 
 pub body_weighs_one : (b : Bor Body) (ss : Bor (List Stmt)) → b.now.branches ≡ ss.now ∷ [] → goals_weight (GoalWork.Stmts ss ∷ []) < goal_weight (GoalWork.Body b)
@@ -142,7 +163,7 @@ many_lists s n (a ∷ b ∷ bs) many = refl
 
 pub body_many : (s : Scope) (m : Made) (b : Bor Body) (bs : Bor (List (List Stmt))) → b.now.branches ≡ bs.now → 2 ≤ length bs.now → goals_behind s (GoalWork.End Close.Either ∷ GoalWork.Branches bs ∷ GoalWork.BeginLists ∷ []) m ≡ goal_behind s (GoalWork.Body b) m
 body_many s m b bs e many =
-    same_made _ _ _ _ _ _ (ap (λ (l : List Goal). with_more l m.goals) (many_lists s m.sites bs.now many)) refl refl
+    same_made _ _ _ _ _ _ _ _ _ (ap (λ (l : List Goal). with_more l m.goals) (many_lists (here s m) m.sites bs.now many)) refl refl refl
     ∙ ap (bodied s m) (sym (body_is b bs.now e))
 
 pub body_weighs_many : (b : Bor Body) (bs : Bor (List (List Stmt))) → b.now.branches ≡ bs.now → goals_weight (GoalWork.End Close.Either ∷ GoalWork.Branches bs ∷ GoalWork.BeginLists ∷ []) < goal_weight (GoalWork.Body b)
@@ -153,11 +174,11 @@ body_weighs_many b bs e = let is = ap branches_size (body_is b bs.now e) in omeg
 abbrev armed : Scope → Made → Option Body → tree.Arms → Made
 armed s m other all =
     let behind = m.sites + selects (of_arms false all) in
-    make (with_more (arm_goals s m.sites all (otherwise s behind other)) m.goals) m.lists (behind + selects_otherwise other)
+    make (with_more (arm_goals (here s m) m.sites all (otherwise (past (here s m) (in_arms all)) behind other)) m.goals) m.lists m.values (behind + selects_otherwise other) (m.found ++ direct (join (in_arms all) (in_other other)))
 
 pub arms_none : (s : Scope) (m : Made) (arms : Bor (List Arm)) (other : Bor (Option Body)) → arms.now ≡ [] → other.now ≡ None → m ≡ goal_behind s (GoalWork.Arms arms other) m
 arms_none s m arms other e f =
-    sym (same_made _ _ _ _ _ _ (more_none m.goals) refl (omega arith))
+    sym (same_made _ _ _ _ _ _ _ _ _ (more_none m.goals) refl (omega arith) (sym (found_none m.found)))
     ∙ ap (λ (o : Option Body). armed s m o tree.no_arms) (sym f)
     ∙ ap (λ (l : List Arm). armed s m other.now (arms_of (map arm_view l))) (sym e)
 
@@ -170,7 +191,10 @@ arms_weigh_none arms other e f = omega (arith, arms_weight_none arms e, ap other
 pub arms_other : (s : Scope) (m : Made) (arms : Bor (List Arm)) (other : Bor (Option Body)) (b : Bor Body) → arms.now ≡ [] → other.now ≡ Some b.now → goals_behind s (GoalWork.Body b ∷ []) m ≡ goal_behind s (GoalWork.Arms arms other) m
 arms_other s m arms other b e f =
     let zero_more : m.sites ≡ m.sites + 0 = omega arith in
-    same_made _ _ _ _ _ _ (ap (λ (k : ℕ). with_more (unit (lists s k (body_view b.now))) m.goals) zero_more) refl (omega arith)
+    same_made _ _ _ _ _ _ _ _ _
+    (ap (λ (k : ℕ). with_more (unit (lists (here s m) k (body_view b.now))) m.goals) zero_more
+    ∙ ap (λ (t : Scope). with_more (unit (lists t (m.sites + 0) (body_view b.now))) m.goals) (past_none s (length m.found)))
+    refl (omega arith) refl
     ∙ ap (λ (o : Option Body). armed s m o tree.no_arms) (sym f)
     ∙ ap (λ (l : List Arm). armed s m other.now (arms_of (map arm_view l))) (sym e)
 
@@ -186,14 +210,29 @@ arms_are arms a c b others e seen = ap arms_of (ap (map arm_view) e ∙ ap (λ (
 pub arms_make : (s : Scope) (m : Made) (arms : Bor (List Arm)) (other : Bor (Option Body)) (a : Arm) (c b : Bor Body) (others : Bor (List Arm)) → arms.now ≡ a ∷ others.now → arm_view a ≡ (body_view c.now, body_view b.now) → goals_behind s (put_of others other c b) m ≡ goal_behind s (GoalWork.Arms arms other) m
 arms_make s m arms other a c b others e seen =
     let rest = arms_of (map arm_view others.now) in
-    let i = m.sites + selects (of_body false (body_view c.now)) in
-    let j = i + selects (of_body false (body_view b.now)) in
-    let all = tree.arm (body_view c.now) (body_view b.now) rest in
-    let one = selects_join (of_body false (body_view c.now)) (join (of_body false (body_view b.now)) (of_arms false rest)) in
-    let two = selects_join (of_body false (body_view b.now)) (of_arms false rest) in
+    let test = body_view c.now in
+    let next = body_view b.now in
+    let i = m.sites + selects (of_body false test) in
+    let j = i + selects (of_body false next) in
+    let all = tree.arm test next rest in
+    let one = selects_join (of_body false test) (mentions.join (of_body false next) (of_arms false rest)) in
+    let two = selects_join (of_body false next) (of_arms false rest) in
     let ends : j + selects (of_arms false rest) ≡ m.sites + selects (of_arms false all) = omega (arith, one, two) in
-    same_made _ _ _ _ _ _
-    (ap (λ (k : ℕ). with_more (arm_goals s m.sites all (otherwise s k other.now)) m.goals) ends) refl (ap (λ (k : ℕ). k + selects_otherwise other.now) ends)
+    let found = m.found ++ direct (in_branches test) in
+    let p = past (here s m) (in_branches test) in
+    let q = past p (in_branches next) in
+    let made : Scope → Scope → Scope → ℕ → List (List Goal) = λ x y z k. with_more (goal.If (unit (lists (here s m) m.sites test)) (unit (lists x i next)) (arm_goals y j rest (otherwise z k other.now)) ∷ []) m.goals in
+    let behind = j + selects (of_arms false rest) in
+    let far = at s (length (found ++ direct (in_branches next))) in
+    same_made _ _ _ _ _ _ _ _ _
+    (ap (λ (x : Scope). made x far (past far (in_arms rest)) behind) (here_past s m (in_branches test))
+    ∙ ap (λ (y : Scope). made p y (past y (in_arms rest)) behind) (found_past s found (in_branches next) ∙ ap (λ (x : Scope). past x (in_branches next)) (here_past s m (in_branches test)))
+    ∙ ap (λ (z : Scope). made p q z behind) (past_past p (in_branches next) (in_arms rest) ∙ past_past (here s m) (in_branches test) (join (in_branches next) (in_arms rest)))
+    ∙ ap (λ (k : ℕ). made p q (past (here s m) (in_arms all)) k) ends)
+    refl (ap (λ (k : ℕ). k + selects_otherwise other.now) ends)
+    (ap (λ (l : List tree.Body). l ++ direct (join (in_arms rest) (in_other other.now))) (found_join m.found (in_branches test) (in_branches next))
+    ∙ found_join m.found (join (in_branches test) (in_branches next)) (join (in_arms rest) (in_other other.now))
+    ∙ ap (λ (x : Closed). m.found ++ direct x) (sym (join_join (join (in_branches test) (in_branches next)) (in_arms rest) (in_other other.now)) ∙ ap (λ (x : Closed). join x (in_other other.now)) (join_join (in_branches test) (in_branches next) (in_arms rest))))
     ∙ ap (armed s m other.now) (sym (arms_are arms a c b others e seen))
 
 pub arms_weigh : (arms : Bor (List Arm)) (other : Bor (Option Body)) (a : Arm) (c b : Bor Body) (others : Bor (List Arm)) → arms.now ≡ a ∷ others.now → arm_view a ≡ (body_view c.now, body_view b.now) → goals_weight (put_of others other c b) < goal_weight (GoalWork.Arms arms other)
@@ -201,41 +240,76 @@ arms_weigh arms other a c b others e seen = let is = ap arms_size (arms_are arms
 
 -- ---- statements that hold others
 
+-- what is made behind a statement
+abbrev pub stated : Scope → tree.Stmt → Made → Made
+stated s y m = with_goals (stmt_goals (here s m) m.sites y) (selects (of_stmt false y)) (in_stmt y) m
+
 -- a statement by what it is
-pub stmt_is : (s : Scope) (x : Bor Stmt) (y : tree.Stmt) (old new ws : List GoalWork) (before after : Made) → stmt_view x.now ≡ y → new ≡ old ++ ws → goals_behind s ws after ≡ with_goals (stmt_goals s before.sites y) (selects (of_stmt false y)) before → goals_weight ws < 3 * stmt_size y → Takes s (GoalWork.Stmt x) old new before after
+pub stmt_is : (s : Scope) (x : Bor Stmt) (y : tree.Stmt) (old new ws : List GoalWork) (before after : Made) → stmt_view x.now ≡ y → new ≡ old ++ ws → goals_behind s ws after ≡ stated s y before → goals_weight ws < 3 * stmt_size y → Takes s (GoalWork.Stmt x) old new before after
 stmt_is s x y old new ws before after is e h k =
     takes s old new ws (GoalWork.Stmt x) before after e
-    (h ∙ ap (λ (z : tree.Stmt). with_goals (stmt_goals s before.sites z) (selects (of_stmt false z)) before) (sym is))
+    (h ∙ ap (λ (z : tree.Stmt). stated s z before) (sym is))
     (let size = ap stmt_size is in omega (arith, k, size))
 
 -- a statement that makes goals at once
-pub stmt_adds : (s : Scope) (x : Bor Stmt) (y : tree.Stmt) (old : List GoalWork) (before after : Made) (gs : List Goal) → stmt_view x.now ≡ y → after ≡ record before { goals = with_more gs before.goals } → gs ≡ stmt_goals s before.sites y → selects (of_stmt false y) ≡ 0 → 0 < stmt_size y → Takes s (GoalWork.Stmt x) old old before after
+pub stmt_adds : (s : Scope) (x : Bor Stmt) (y : tree.Stmt) (old : List GoalWork) (before after : Made) (gs : List Goal) → stmt_view x.now ≡ y → after ≡ added gs (in_stmt y) before → gs ≡ stmt_goals (here s before) before.sites y → selects (of_stmt false y) ≡ 0 → 0 < stmt_size y → Takes s (GoalWork.Stmt x) old old before after
 stmt_adds s x y old before after gs is e same none some =
     stmt_is s x y old old [] before after is (nothing_put old)
-    (e ∙ same_made _ _ _ _ _ _ (ap (λ (l : List Goal). with_more l before.goals) same) refl (omega (arith, none)))
+    (e ∙ same_made _ _ _ _ _ _ _ _ _ (ap (λ (l : List Goal). with_more l before.goals) same) refl (omega (arith, none)) refl)
     (omega (arith, some))
 
+-- goals without closures
+pub kept_added : (m after : Made) (gs : List Goal) → after ≡ record m { goals = with_more gs m.goals } → after ≡ added gs no_closure m
+kept_added m after gs e = e ∙ ap (λ (l : List tree.Body). record m { goals = with_more gs m.goals; found = l }) (found_none m.found)
+
 -- a statement with goals of which something is made
-pub collect_makes : (s : Scope) (m : Made) (v : Bor Value) (b : Bor Body) (into : Bor Value) → goals_behind s (GoalWork.End (Close.Collect v into) ∷ GoalWork.Body b ∷ GoalWork.Begin ∷ []) m ≡ with_goals (stmt_goals s m.sites (tree.collect (value_view v.now) (body_view b.now) (value_view into.now))) (selects (of_stmt false (tree.collect (value_view v.now) (body_view b.now) (value_view into.now)))) m
-collect_makes s m v b into = same_made _ _ _ _ _ _ refl refl (omega (arith, gathering_counted (value_view v.now) (body_view b.now) (value_view into.now)))
+abbrev gathering : tree.Value → Body → tree.Value → Closed
+gathering v b into = join (in_value v) (join (in_branches (body_view b)) (in_value into))
 
-pub accumulate_makes : (s : Scope) (m : Made) (v : Bor Value) (b : Bor Body) (into : Bor Value) → goals_behind s (GoalWork.End (Close.Accumulate v into) ∷ GoalWork.Body b ∷ GoalWork.Begin ∷ []) m ≡ with_goals (stmt_goals s m.sites (tree.accumulate (value_view v.now) (body_view b.now) (value_view into.now))) (selects (of_stmt false (tree.accumulate (value_view v.now) (body_view b.now) (value_view into.now)))) m
-accumulate_makes s m v b into = same_made _ _ _ _ _ _ refl refl (omega (arith, gathering_counted (value_view v.now) (body_view b.now) (value_view into.now)))
+gathered_found : (m : Made) (v : tree.Value) (b : Body) (into : tree.Value) → ((m.found ++ direct (in_value v)) ++ direct (in_branches (body_view b))) ++ direct (in_value into) ≡ m.found ++ direct (gathering v b into)
+gathered_found m v b into =
+    ap (λ (l : List tree.Body). l ++ direct (in_value into)) (found_join m.found (in_value v) (in_branches (body_view b)))
+    ∙ found_join m.found (join (in_value v) (in_branches (body_view b))) (in_value into)
+    ∙ ap (λ (c : Closed). m.found ++ direct c) (join_join (in_value v) (in_branches (body_view b)) (in_value into))
 
-pub select_makes : (s : Scope) (m after : Made) (site : ℕ) (mode : Mode) (bs : Bor (List (List Stmt))) → after ≡ record m { sites = m.sites + 1 } → site ≡ m.sites → goals_behind s (GoalWork.End (Close.Select site mode) ∷ GoalWork.Branches bs ∷ GoalWork.BeginLists ∷ []) after ≡ with_goals (stmt_goals s m.sites (tree.select mode (branches_view (map (map stmt_view) bs.now)))) (selects (of_stmt false (tree.select mode (branches_view (map (map stmt_view) bs.now))))) m
+-- the scopes of the goals and of the last value
+gathered_made : (f : Term → List Goal → Term → Goal) (s : Scope) (m : Made) (v : tree.Value) (b : Body) (into : tree.Value) →
+    (let found = m.found ++ direct (in_value v) in f (term_of (here s m) v) (unit (lists (at s (length found)) m.sites (body_view b))) (term_of (at s (length (found ++ direct (in_branches (body_view b))))) into))
+    ≡ (let within = past (here s m) (in_value v) in f (term_of (here s m) v) (unit (lists within m.sites (body_view b))) (term_of (past within (in_branches (body_view b))) into))
+gathered_made f s m v b into =
+    let found = m.found ++ direct (in_value v) in
+    let body = body_view b in
+    let made : Scope → Scope → Goal = λ x y. f (term_of (here s m) v) (unit (lists x m.sites body)) (term_of y into) in
+    ap (λ (y : Scope). made (at s (length found)) y) (found_past s found (in_branches body))
+    ∙ ap (λ (x : Scope). made x (past x (in_branches body))) (here_past s m (in_value v))
+
+pub collect_makes : (s : Scope) (m after : Made) (v : tree.Value) (b : Bor Body) (into : Bor Value) → after ≡ held s v m → goals_behind s (GoalWork.End (Close.Collect into) ∷ GoalWork.Body b ∷ GoalWork.Begin ∷ []) after ≡ stated s (tree.collect v (body_view b.now) (value_view into.now)) m
+collect_makes s m after v b into e =
+    ap (goals_behind s (GoalWork.End (Close.Collect into) ∷ GoalWork.Body b ∷ GoalWork.Begin ∷ [])) e
+    ∙ same_made _ _ _ _ _ _ _ _ _ (ap (λ (g : Goal). with_more (g ∷ []) m.goals) (gathered_made goal.Collect s m v b.now (value_view into.now))) refl (omega (arith, gathering_counted v (body_view b.now) (value_view into.now))) (gathered_found m v b.now (value_view into.now))
+
+pub accumulate_makes : (s : Scope) (m after : Made) (v : tree.Value) (b : Bor Body) (into : Bor Value) → after ≡ held s v m → goals_behind s (GoalWork.End (Close.Accumulate into) ∷ GoalWork.Body b ∷ GoalWork.Begin ∷ []) after ≡ stated s (tree.accumulate v (body_view b.now) (value_view into.now)) m
+accumulate_makes s m after v b into e =
+    ap (goals_behind s (GoalWork.End (Close.Accumulate into) ∷ GoalWork.Body b ∷ GoalWork.Begin ∷ [])) e
+    ∙ same_made _ _ _ _ _ _ _ _ _ (ap (λ (g : Goal). with_more (g ∷ []) m.goals) (gathered_made goal.Accumulate s m v b.now (value_view into.now))) refl (omega (arith, gathering_counted v (body_view b.now) (value_view into.now))) (gathered_found m v b.now (value_view into.now))
+
+pub select_makes : (s : Scope) (m after : Made) (site : ℕ) (mode : Mode) (bs : Bor (List (List Stmt))) → after ≡ record m { sites = m.sites + 1 } → site ≡ m.sites → goals_behind s (GoalWork.End (Close.Select site mode) ∷ GoalWork.Branches bs ∷ GoalWork.BeginLists ∷ []) after ≡ stated s (tree.select mode (branches_view (map (map stmt_view) bs.now))) m
 select_makes s m after site mode bs e is =
     ap (goals_behind s (GoalWork.End (Close.Select site mode) ∷ GoalWork.Branches bs ∷ GoalWork.BeginLists ∷ [])) e
-    ∙ same_made _ _ _ _ _ _ (ap (λ (k : ℕ). with_more (goal.Select k mode (lists s (m.sites + 1) (branches_view (map (map stmt_view) bs.now))) ∷ []) m.goals) is) refl (omega arith)
+    ∙ same_made _ _ _ _ _ _ _ _ _ (ap (λ (k : ℕ). with_more (goal.Select k mode (lists (here s m) (m.sites + 1) (branches_view (map (map stmt_view) bs.now))) ∷ []) m.goals) is) refl (omega arith) refl
 
 pub choice_is : (x : Stmt) (arms : List Arm) (other : Option Body) → x ≡ Stmt.If arms other → stmt_view x ≡ choice_view (map arm_view arms) (option_map body_view other)
 choice_is x arms None e = ap stmt_view e ∙ choice_seen arms
 choice_is x arms (Some b) e = ap stmt_view e ∙ choice_else_seen arms b
 
-pub choice_makes : (s : Scope) (m : Made) (arms : Bor (List Arm)) (other : Bor (Option Body)) (o : Option Body) → other.now ≡ o → goals_behind s (GoalWork.Arms arms other ∷ []) m ≡ with_goals (stmt_goals s m.sites (choice_view (map arm_view arms.now) (option_map body_view o))) (selects (of_stmt false (choice_view (map arm_view arms.now) (option_map body_view o)))) m
-choice_makes s m arms other None e = ap (λ (x : Option Body). armed s m x (arms_of (map arm_view arms.now))) e ∙ same_made _ _ _ _ _ _ refl refl (omega arith)
+pub choice_makes : (s : Scope) (m : Made) (arms : Bor (List Arm)) (other : Bor (Option Body)) (o : Option Body) → other.now ≡ o → goals_behind s (GoalWork.Arms arms other ∷ []) m ≡ stated s (choice_view (map arm_view arms.now) (option_map body_view o)) m
+choice_makes s m arms other None e =
+    let all = arms_of (map arm_view arms.now) in
+    ap (λ (x : Option Body). armed s m x all) e
+    ∙ same_made _ _ _ _ _ _ _ _ _ refl refl (omega arith) (ap (λ (c : Closed). m.found ++ direct c) (join_none (in_arms all)))
 choice_makes s m arms other (Some b) e =
     ap (λ (x : Option Body). armed s m x (arms_of (map arm_view arms.now))) e
-    ∙ same_made _ _ _ _ _ _ refl refl (omega (arith, selects_join (of_arms false (arms_of (map arm_view arms.now))) (of_body false (body_view b))))
+    ∙ same_made _ _ _ _ _ _ _ _ _ refl refl (omega (arith, selects_join (of_arms false (arms_of (map arm_view arms.now))) (of_body false (body_view b)))) refl
 
 pub choice_weighs : (arms : Bor (List Arm)) (other : Bor (Option Body)) (o : Option Body) → other.now ≡ o → goals_weight (GoalWork.Arms arms other ∷ []) < 3 * stmt_size (choice_view (map arm_view arms.now) (option_map body_view o))
 choice_weighs arms other None e = omega (arith, ap other_weight e)
@@ -283,14 +357,14 @@ arms_come old new arms other rest a c b others e same is seen =
     (let weight = ap other_weight same in let less = arms_weigh arms rest a c b others is seen in omega (arith, weight, less))
 
 -- a statement with one part in it
-pub stmt_puts : (s : Scope) (x : Bor Stmt) (y : tree.Stmt) (old new : List GoalWork) (before after : Made) (w : GoalWork) → new ≡ old ++ w ∷ [] → stmt_view x.now ≡ y → goal_behind s w after ≡ with_goals (stmt_goals s before.sites y) (selects (of_stmt false y)) before → goal_weight w < 3 * stmt_size y → Takes s (GoalWork.Stmt x) old new before after
+pub stmt_puts : (s : Scope) (x : Bor Stmt) (y : tree.Stmt) (old new : List GoalWork) (before after : Made) (w : GoalWork) → new ≡ old ++ w ∷ [] → stmt_view x.now ≡ y → goal_behind s w after ≡ stated s y before → goal_weight w < 3 * stmt_size y → Takes s (GoalWork.Stmt x) old new before after
 stmt_puts s x y old new before after w e is h k = stmt_is s x y old new (w ∷ []) before after is e h (omega (arith, k))
 
-pub collect_taken : (s : Scope) (x : Bor Stmt) (old new : List GoalWork) (m : Made) (v : Bor Value) (b : Bor Body) (into : Bor Value) → new ≡ old ++ GoalWork.End (Close.Collect v into) ∷ GoalWork.Body b ∷ GoalWork.Begin ∷ [] → stmt_view x.now ≡ tree.collect (value_view v.now) (body_view b.now) (value_view into.now) → Takes s (GoalWork.Stmt x) old new m m
-collect_taken s x old new m v b into e is = stmt_is s x (tree.collect (value_view v.now) (body_view b.now) (value_view into.now)) old new (GoalWork.End (Close.Collect v into) ∷ GoalWork.Body b ∷ GoalWork.Begin ∷ []) m m is e (collect_makes s m v b into) (omega arith)
+pub collect_taken : (s : Scope) (x : Bor Stmt) (old new : List GoalWork) (m after : Made) (v : tree.Value) (b : Bor Body) (into : Bor Value) → after ≡ held s v m → new ≡ old ++ GoalWork.End (Close.Collect into) ∷ GoalWork.Body b ∷ GoalWork.Begin ∷ [] → stmt_view x.now ≡ tree.collect v (body_view b.now) (value_view into.now) → Takes s (GoalWork.Stmt x) old new m after
+collect_taken s x old new m after v b into kept e is = stmt_is s x (tree.collect v (body_view b.now) (value_view into.now)) old new (GoalWork.End (Close.Collect into) ∷ GoalWork.Body b ∷ GoalWork.Begin ∷ []) m after is e (collect_makes s m after v b into kept) (omega arith)
 
-pub accumulate_taken : (s : Scope) (x : Bor Stmt) (old new : List GoalWork) (m : Made) (v : Bor Value) (b : Bor Body) (into : Bor Value) → new ≡ old ++ GoalWork.End (Close.Accumulate v into) ∷ GoalWork.Body b ∷ GoalWork.Begin ∷ [] → stmt_view x.now ≡ tree.accumulate (value_view v.now) (body_view b.now) (value_view into.now) → Takes s (GoalWork.Stmt x) old new m m
-accumulate_taken s x old new m v b into e is = stmt_is s x (tree.accumulate (value_view v.now) (body_view b.now) (value_view into.now)) old new (GoalWork.End (Close.Accumulate v into) ∷ GoalWork.Body b ∷ GoalWork.Begin ∷ []) m m is e (accumulate_makes s m v b into) (omega arith)
+pub accumulate_taken : (s : Scope) (x : Bor Stmt) (old new : List GoalWork) (m after : Made) (v : tree.Value) (b : Bor Body) (into : Bor Value) → after ≡ held s v m → new ≡ old ++ GoalWork.End (Close.Accumulate into) ∷ GoalWork.Body b ∷ GoalWork.Begin ∷ [] → stmt_view x.now ≡ tree.accumulate v (body_view b.now) (value_view into.now) → Takes s (GoalWork.Stmt x) old new m after
+accumulate_taken s x old new m after v b into kept e is = stmt_is s x (tree.accumulate v (body_view b.now) (value_view into.now)) old new (GoalWork.End (Close.Accumulate into) ∷ GoalWork.Body b ∷ GoalWork.Begin ∷ []) m after is e (accumulate_makes s m after v b into kept) (omega arith)
 
 pub choice_taken : (s : Scope) (x : Bor Stmt) (old new : List GoalWork) (m : Made) (arms : List Arm) (o : Option Body) (lent : Bor (List Arm)) (other : Bor (Option Body)) → new ≡ old ++ GoalWork.Arms lent other ∷ [] → x.now ≡ Stmt.If arms o → lent.now ≡ arms → other.now ≡ o → Takes s (GoalWork.Stmt x) old new m m
 choice_taken s x old new m arms o lent other e is same rest =

@@ -15,7 +15,7 @@ use Rattle.dg_base.specs.declared.refusal.Refusal.{Refusal}
 use Rattle.dg_core.proofs.FitLemmas.{all_declarable, declared_other}
 use Rattle.dg_core.proofs.StartLemmas.{MayBegin, fact_start, parts_hold, starts_sound, starts_distinct, declared_one_start}
 use Rattle.std.proofs.lemmas.List.Concat.{flat_map-append}
-use Rattle.std.proofs.lemmas.List.Elements.{All-nil, All-cons, All-append, All-head, All-tail, All-weaker, All-contains, Contains-append_right}
+use Rattle.std.proofs.lemmas.List.Elements.{All-nil, All-cons, All-append, All-head, All-tail, All-weaker, All-contains, Contains-append_left, Contains-append_right}
 use Rattle.dg_base.specs.Goals.{goals_of}
 use Rattle.dg_base.specs.Heads.{name_of}
 use Rattle.dg_base.specs.Mentions.{Thing, query, closure, Mentions, nothing, thing, closed, of_said, of_rule, of_parts, of_body, things, things_in, mentioned, names_in, variable, variable_in}
@@ -38,16 +38,17 @@ use Rattle.dg_closures.specs.Held.{Holds}
 use Rattle.dg_closures.proofs.VariableLemmas.{all_held}
 use Rattle.dg_core.specs.Core.{outside, scope_of, rule_of, failing, rules_in, rules_from, selects_of, all_selects, pred_of, without_facts, entry_name, core_of, is_rule_for, has_entry, with_rules, rules_of, rules_at, rules_named, starts_from, declared_start, refusal_of, IsLowered}
 use Rattle.dg_core.specs.Given.{IsFit, IsFitItem, IsGiven}
-use Rattle.dg_core.specs.Goals.{Scope, number_in, unit, lists, selects}
+use Rattle.dg_core.specs.Bodies.{in_parts}
+use Rattle.dg_core.specs.Goals.{Scope, past, number_in, unit, lists, selects}
 use Rattle.dg_core.specs.Places.{Placed, is_among, parent_name, place_names, placed_of, declaration_in, declarations, declared_names, changed_in, kind_by, kind_of, values_named, values_in, are_fact, is_empty, is_no_fact, is_bad, declared_behind, first_bad}
 use Rattle.dg_core.specs.Variables.{variables_of}
 use Rattle.dg_core.proofs.AskLemmas.{query_fits, place_in, place_fits, parents_fit, entry_fits}
 use Rattle.dg_core.proofs.GoalLemmas.{AreMade, made_none, made_join, body_made, goal_made}
 use Rattle.dg_core.proofs.HoldLemmas.{Hold, front, back, from_all, all_front, all_behind}
-use Rattle.dg_core.proofs.MemberLemmas.{alone_there, first_there, later_there, there_cases, nowhere}
+use Rattle.dg_core.proofs.MemberLemmas.{alone_there, first_there, later_there, there_cases, nowhere, firsts_have}
 use Rattle.dg_core.proofs.PlaceLemmas.{IsPlaced, changed_there}
 use Rattle.dg_core.proofs.SiteLemmas.{AreSited, sited_none, sited_join, sited_wider}
-use Rattle.dg_core.proofs.TermLemmas.{number_below, IsGround, IsKnown, parts_sound}
+use Rattle.dg_core.proofs.TermLemmas.{number_below, IsGround, ground_past, IsKnown, parts_sound}
 
 -- ---- what is known of the things of an item
 
@@ -85,14 +86,18 @@ few_vars n h = omega arith
 abbrev vars_of : Parts → Body → ℕ
 vars_of ps b = min (length (variables_of ps b)) 65535
 
+no_closures : {P : Type 0} (k c : ℕ) → slice_get [] k ≡ Some c → P
+no_closures k c e = absurd (let no : None ≡ Some c = e in cc)
+
 ground : (names : Named) (items : List Item) (ps : Parts) (b : Body) → IsGiven names items → length (variables_of ps b) ≤ 65 → IsGround (core_of names items) (vars_of ps b) (scope_of (outside names items) ps b)
 ground names items ps b g few = record {
   words = λ w there. number_below w names.words there g.few_words;
   objects = λ n there. number_below n names.objects there g.few_objects;
   variables = λ n there. subst (λ (k : ℕ). number_in (variables_of ps b) n < k) (sym (all_vars (length (variables_of ps b)) few)) (number_below n (variables_of ps b) there (let many : length (variables_of ps b) ≤ 65535 = omega arith in many));
-  preds = λ qs there. query_fits names items (scope_of (outside names items) ps b) qs there g.few_preds;
-  places = λ qs there. place_fits names items (scope_of (outside names items) ps b) qs g there;
+  preds = λ s qs there. query_fits names items s qs there g.few_preds;
+  places = λ s qs there. place_fits names items s qs g there;
   parents = parents_fit names items;
+  closures = λ k c e. no_closures k c e;
 }
 
 known_rule : (names : Named) (items : List Item) (ps : Parts) (b : Body) → Asked names (place_names items) (things (of_rule role.Rule ps b)) → Hold (IsKnown (scope_of (outside names items) ps b)) (of_rule role.Rule ps b)
@@ -105,8 +110,9 @@ rule_made : (names : Named) (items : List Item) (n : ℕ) (ps : Parts) (b : Body
 rule_made names items n ps b behind g a few e k =
     let s = scope_of (outside names items) ps b in
     let h = known_rule names items ps b a in
-    made_join (core_of names items) (vars_of ps b) n (n + selects (of_body false b)) (n + selects (of_body false b)) (unit (lists s n b)) behind
-    (body_made (core_of names items) (vars_of ps b) s n b (ground names items ps b g few) (back (IsKnown s) (of_parts false ps) (of_body false b) h.1) e) k
+    let t = past s (in_parts ps) in
+    made_join (core_of names items) (vars_of ps b) n (n + selects (of_body false b)) (n + selects (of_body false b)) (unit (lists t n b)) behind
+    (body_made (core_of names items) (vars_of ps b) t n b (ground_past (core_of names items) (vars_of ps b) s (in_parts ps) (ground names items ps b g few)) (back (IsKnown s) (of_parts false ps) (of_body false b) h.1) e) k
 
 rule_sound : (names : Named) (items : List Item) (n : ℕ) (ps : Parts) (b : Body) (behind : List Goal) → IsGiven names items → Asked names (place_names items) (things (of_rule role.Rule ps b)) → length (variables_of ps b) ≤ 65 → n + selects (of_body false b) ≤ all_selects items → AreMade (core_of names items) (vars_of ps b) (n + selects (of_body false b)) (n + selects (of_body false b)) behind → IsRuleOf (core_of names items) (rule_of (outside names items) n ps b behind)
 rule_sound names items n ps b behind g a few e k =
@@ -375,9 +381,10 @@ outside_ground names items g = record {
   words = λ w there. number_below w names.words there g.few_words;
   objects = λ n there. number_below n names.objects there g.few_objects;
   variables = λ n there. absurd (nowhere n there);
-  preds = λ qs there. query_fits names items (outside names items) qs there g.few_preds;
-  places = λ qs there. place_fits names items (outside names items) qs g there;
+  preds = λ s qs there. query_fits names items s qs there g.few_preds;
+  places = λ s qs there. place_fits names items s qs g there;
   parents = parents_fit names items;
+  closures = λ k c e. no_closures k c e;
 }
 
 heads_hold : (names : Named) (is : List Item) → All (IsAmong names) (mentioned is) → All (λ (ps : Parts). Hold (IsAmong names) (of_parts false ps)) (declarations is)

@@ -23,10 +23,11 @@ use Rattle.dg_base.specs.declared.program.Term.TheOpen as top
 use Rattle.dg_names.specs.Among.{IsAmong}
 use Rattle.dg_core.specs.Core.{object_number, object_of, simple, value_of, start_of, starts_from, is_unset, value_start, or_else, head_start, declared_start}
 use Rattle.dg_core.specs.Given.{IsSet, AreSet, MayStart, IsDeclarable}
-use Rattle.dg_core.specs.Goals.{Scope, number_in, term_of, listed, terms_of_values}
+use Rattle.dg_core.specs.Bodies.{in_value, in_values}
+use Rattle.dg_core.specs.Goals.{Scope, past, number_in, term_of, listed, terms_of_values}
 use Rattle.dg_core.specs.Places.{are_fact, is_object, is_simple, values_in}
 use Rattle.dg_core.proofs.HoldLemmas.{Hold, front, back}
-use Rattle.dg_core.proofs.TermLemmas.{IsGround, IsKnown, leaf_sound, nil_sound, nodes_are}
+use Rattle.dg_core.proofs.TermLemmas.{IsGround, ground_past, IsKnown, leaf_sound, nil_sound, nodes_are}
 
 -- ---- the values of facts
 
@@ -121,15 +122,15 @@ fact_start p vars s ObjectVar [] e g h = cc
 fact_start p vars s ObjectVar (v ∷ []) e g h = cc
 fact_start p vars s ObjectVar (v ∷ w ∷ []) e g h =
     let each = and_parts (is_object v) (is_simple w) e in
-    let begin = simple_begins p vars s w each.1 g h.1.0 in
+    let begin = simple_begins p vars (past s (in_value v)) w each.1 (ground_past p vars s (in_value v) g) h.1.0 in
     record { fits = (object_below p vars s v each.0 g h.0, begin.kind); value = begin.value }
 fact_start p vars s ObjectVar (v ∷ w ∷ x ∷ vs) e g h = cc
 fact_start p vars s Parent [] e g h = cc
 fact_start p vars s Parent (v ∷ []) e g h = cc
 fact_start p vars s Parent (v ∷ w ∷ []) e g h =
     let each = and_parts (is_object v) (is_object w) e in
-    let begin = simple_begins p vars s w (object_simple w each.1) g h.1.0 in
-    record { fits = (object_below p vars s v each.0 g h.0, object_kept s w each.1); value = begin.value }
+    let begin = simple_begins p vars (past s (in_value v)) w (object_simple w each.1) (ground_past p vars s (in_value v) g) h.1.0 in
+    record { fits = (object_below p vars s v each.0 g h.0, object_kept (past s (in_value v)) w each.1); value = begin.value }
 fact_start p vars s Parent (v ∷ w ∷ x ∷ vs) e g h = cc
 fact_start p vars s Global [] e g h = cc
 fact_start p vars s Global (v ∷ vs) e g h = cc
@@ -258,7 +259,8 @@ mutual
   set_declared p vars s (tree.object_name w) e g h = declared_leaf p (term.Object _) (top.Object (number_in s.names.objects w)) refl (term.outs-Object _) (g.objects w h.0) tt
   set_declared p vars s (tree.plain_list vs) e g h = list_declared p vars s vs term.Nil e g h.1 (declared_leaf p term.Nil top.Nil refl term.outs-Nil tt tt)
   set_declared p vars s (tree.tailed_list vs v) e g h =
-      list_declared p vars s vs (term_of s v) e.0 g (front (IsAmong s.names) (of_values false vs) (of_value false v) h.1) (set_declared p vars s v e.1 g (back (IsAmong s.names) (of_values false vs) (of_value false v) h.1))
+      let behind = past s (in_values vs) in
+      list_declared p vars s vs (term_of behind v) e.0 g (front (IsAmong s.names) (of_values false vs) (of_value false v) h.1) (set_declared p vars behind v e.1 (ground_past p vars s (in_values vs) g) (back (IsAmong s.names) (of_values false vs) (of_value false v) h.1))
   set_declared p vars s tree.current_topic e g h = absurd e
   set_declared p vars s tree.anonymous e g h = absurd e
   set_declared p vars s (tree.variable w) e g h = absurd e
@@ -269,8 +271,9 @@ mutual
   list_declared : (p : Core) (vars : ℕ) (s : Scope) (vs : Values) (tail : Term) → AreSet vs → IsGround p vars s → Hold (IsAmong s.names) (of_values false vs) → IsDeclared p tail → IsDeclared p (listed s vs tail)
   list_declared p vars s tree.no_values tail e g h k = k
   list_declared p vars s (tree.value v vs) tail e g h k =
-      declared_pair p (term_of s v) (listed s vs tail) (set_declared p vars s v e.0 g (front (IsAmong s.names) (of_value false v) (of_values false vs) h))
-      (list_declared p vars s vs tail e.1 g (back (IsAmong s.names) (of_value false v) (of_values false vs) h) k)
+      let behind = past s (in_value v) in
+      declared_pair p (term_of s v) (listed behind vs tail) (set_declared p vars s v e.0 g (front (IsAmong s.names) (of_value false v) (of_values false vs) h))
+      (list_declared p vars behind vs tail e.1 (ground_past p vars s (in_value v) g) (back (IsAmong s.names) (of_value false v) (of_values false vs) h) k)
 
 -- a declared variable starts with its value
 pub declared_begins : (p : Core) (vars : ℕ) (s : Scope) (v : Value) → IsSet v → IsGround p vars s → Hold (IsAmong s.names) (of_value false v) → IsStartOf p Global (0, term_of s v)

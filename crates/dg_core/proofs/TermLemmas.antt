@@ -1,5 +1,5 @@
 -- The terms of a tree that is given are sound.
-use Rattle.std.proofs.Common.{◌≡◌, ◌<◌, ◌≤◌, ℕ, zero, suc, List, [], ◌∷◌, ◌++◌, Bool, Option, length, position, refl, sym, ◌∙◌, ap, subst, arith}
+use Rattle.std.proofs.Common.{◌≡◌, ◌<◌, ◌≤◌, ℕ, zero, suc, List, [], ◌∷◌, ◌++◌, Bool, Option, Some, None, length, position, refl, sym, ◌∙◌, ap, subst, arith}
 use Rattle.std.specs.Prelude.{slice_get}
 use Rattle.std.specs.List.{All, Contains}
 use Rattle.std.specs.Str.{bytes_eq}
@@ -19,7 +19,8 @@ use Rattle.dg_base.specs.declared.program.Term.TheBlock.{hidden-the_row-Term-0}
 use Rattle.dg_base.specs.declared.program.Term.TheOpen as top
 use Rattle.dg_names.specs.Among.{IsAmong}
 use Rattle.dg_core.specs.Given.{IsFit}
-use Rattle.dg_core.specs.Goals.{Scope, or_zero, in_16_bits, number_in, term_of, listed, terms_of, terms_of_values, arg}
+use Rattle.dg_core.specs.Bodies.{Closed, in_value, in_values}
+use Rattle.dg_core.specs.Goals.{Scope, past, or_zero, in_16_bits, number_in, closure_of, term_of, listed, terms_of, arg}
 use Rattle.dg_core.proofs.AskLemmas.{place_if, small}
 use Rattle.dg_core.proofs.HoldLemmas.{Hold, front, back}
 
@@ -36,9 +37,22 @@ pub record IsGround (program : Core) (vars : ℕ) (s : Scope) : Type 0 where
   pub words : (w : List ℕ) → Contains s.names.words w → number_in s.names.words w < length program.words
   pub objects : (n : List ℕ) → Contains s.names.objects n → number_in s.names.objects n < length program.objects
   pub variables : (n : List ℕ) → Contains s.variables n → number_in s.variables n < vars
-  pub preds : (ps : Parts) → Contains s.names.preds (name_of ps) → FitsHeads (length (terms_of s ps)) (slice_get program.preds (number_in s.names.preds (name_of ps)))
-  pub places : (ps : Parts) → Contains s.places (name_of ps) → FitsPlace (length (terms_of s ps)) (slice_get program.places (number_in s.places (name_of ps)))
+  pub preds : (t : Scope) (ps : Parts) → Contains s.names.preds (name_of ps) → FitsHeads (length (terms_of t ps)) (slice_get program.preds (number_in s.names.preds (name_of ps)))
+  pub places : (t : Scope) (ps : Parts) → Contains s.places (name_of ps) → FitsPlace (length (terms_of t ps)) (slice_get program.places (number_in s.places (name_of ps)))
   pub parents : FitsPlace 2 (slice_get program.places 0)
+  pub closures : (k c : ℕ) → slice_get s.closures k ≡ Some c → IsTermOf program vars (term.Closure (in_16_bits c))
+
+-- so is what they stand for behind some closures
+pub ground_past : (p : Core) (vars : ℕ) (s : Scope) (cs : Closed) → IsGround p vars s → IsGround p vars (past s cs)
+ground_past p vars s cs g = record {
+  words = g.words;
+  objects = g.objects;
+  variables = g.variables;
+  preds = g.preds;
+  places = g.places;
+  parents = g.parents;
+  closures = g.closures;
+}
 
 -- one thing is among the names, and a variable among those of the scope
 abbrev pub IsKnown : Scope → Thing → Type 0
@@ -71,6 +85,10 @@ pair_sound p vars h t a b =
     (All-cons (IsNode p vars) (term.Pair h t) ((nodes h ++ []) ++ (nodes t ++ [])) (subst (IsNodeOf p vars) (sym (term.outs-Pair h t)) tt)
     (All-append (IsNode p vars) (nodes h ++ []) (nodes t ++ []) (and_nothing p vars (nodes h) a) (and_nothing p vars (nodes t) b)))
 
+closure_sound : (p : Core) (vars : ℕ) (s : Scope) (k : ℕ) (o : Option ℕ) → slice_get s.closures k ≡ o → IsGround p vars s → IsTermOf p vars (closure_of o)
+closure_sound p vars s k None e g = nil_sound p vars
+closure_sound p vars s k (Some c) e g = g.closures k c e
+
 mutual
   pub term_sound : (p : Core) (vars : ℕ) (s : Scope) (t : Bool) (v : Value) → IsGround p vars s → Hold (IsKnown s) (of_value t v) → IsTermOf p vars (term_of s v)
   term_sound p vars s t (tree.num n) g h = leaf_sound p vars (term.Num n) (top.Num n) refl (term.outs-Num n) h.0.0
@@ -79,24 +97,28 @@ mutual
   term_sound p vars s t (tree.variable n) g h = leaf_sound p vars (term.Var _) (top.Var (number_in s.variables n)) refl (term.outs-Var _) (g.variables n h.0)
   term_sound p vars s t (tree.plain_list vs) g h = list_sound p vars s t vs term.Nil g h.1 (nil_sound p vars)
   term_sound p vars s t (tree.tailed_list vs v) g h =
-      list_sound p vars s t vs (term_of s v) g (front (IsKnown s) (of_values t vs) (of_value t v) h.1) (term_sound p vars s t v g (back (IsKnown s) (of_values t vs) (of_value t v) h.1))
+      let behind = past s (in_values vs) in
+      list_sound p vars s t vs (term_of behind v) g (front (IsKnown s) (of_values t vs) (of_value t v) h.1) (term_sound p vars behind t v (ground_past p vars s (in_values vs) g) (back (IsKnown s) (of_values t vs) (of_value t v) h.1))
+  term_sound p vars s t (tree.closure b) g h = closure_sound p vars s s.before (slice_get s.closures s.before) refl g
   term_sound p vars s t v g h = nil_sound p vars
 
   list_sound : (p : Core) (vars : ℕ) (s : Scope) (t : Bool) (vs : Values) (tail : Term) → IsGround p vars s → Hold (IsKnown s) (of_values t vs) → IsTermOf p vars tail → IsTermOf p vars (listed s vs tail)
   list_sound p vars s t tree.no_values tail g h k = k
   list_sound p vars s t (tree.value v vs) tail g h k =
-      pair_sound p vars (term_of s v) (listed s vs tail) (term_sound p vars s t v g (front (IsKnown s) (of_value t v) (of_values t vs) h))
-      (list_sound p vars s t vs tail g (back (IsKnown s) (of_value t v) (of_values t vs) h) k)
+      let behind = past s (in_value v) in
+      pair_sound p vars (term_of s v) (listed behind vs tail) (term_sound p vars s t v g (front (IsKnown s) (of_value t v) (of_values t vs) h))
+      (list_sound p vars behind t vs tail (ground_past p vars s (in_value v) g) (back (IsKnown s) (of_value t v) (of_values t vs) h) k)
 
 pub parts_sound : (p : Core) (vars : ℕ) (s : Scope) (t : Bool) (ps : Parts) → IsGround p vars s → Hold (IsKnown s) (of_parts t ps) → All (IsTermOf p vars) (terms_of s ps)
 parts_sound p vars s t tree.no_parts g h = All-nil (IsTermOf p vars)
 parts_sound p vars s t (tree.part (tree.part_word n) ps) g h = parts_sound p vars s t ps g h
 parts_sound p vars s t (tree.part (tree.part_value v) ps) g h =
-    All-cons (IsTermOf p vars) (term_of s v) (terms_of s ps) (term_sound p vars s t v g (front (IsKnown s) (of_value t v) (of_parts t ps) h))
-    (parts_sound p vars s t ps g (back (IsKnown s) (of_value t v) (of_parts t ps) h))
+    let behind = past s (in_value v) in
+    All-cons (IsTermOf p vars) (term_of s v) (terms_of behind ps) (term_sound p vars s t v g (front (IsKnown s) (of_value t v) (of_parts t ps) h))
+    (parts_sound p vars behind t ps (ground_past p vars s (in_value v) g) (back (IsKnown s) (of_value t v) (of_parts t ps) h))
 
 -- each value of a query, or the empty list
-pub arg_sound : (p : Core) (vars : ℕ) (s : Scope) (vs : List Value) (k : ℕ) → All (IsTermOf p vars) (terms_of_values s vs) → IsTermOf p vars (arg s vs k)
-arg_sound p vars s [] k h = nil_sound p vars
-arg_sound p vars s (v ∷ vs) zero h = All-head (IsTermOf p vars) (term_of s v) (terms_of_values s vs) h
-arg_sound p vars s (v ∷ vs) (suc k) h = arg_sound p vars s vs k (All-tail (IsTermOf p vars) (term_of s v) (terms_of_values s vs) h)
+pub arg_sound : (p : Core) (vars : ℕ) (ts : List Term) (k : ℕ) → All (IsTermOf p vars) ts → IsTermOf p vars (arg ts k)
+arg_sound p vars [] k h = nil_sound p vars
+arg_sound p vars (t ∷ ts) zero h = All-head (IsTermOf p vars) t ts h
+arg_sound p vars (t ∷ ts) (suc k) h = arg_sound p vars ts k (All-tail (IsTermOf p vars) t ts h)

@@ -21,24 +21,25 @@ use Rattle.dg_base.specs.declared.refusal.Kind.TheVariants.{BadInitial, NoEntry}
 use Rattle.dg_names.specs.Named.{Named}
 use Rattle.dg_core.specs.Variables.{variables_of}
 use Rattle.dg_core.specs.Places.{Placed, is_among, declarations, place_names, declared_names, placed_of, kind_of, values_in, first_bad}
-use Rattle.dg_core.specs.Goals.{Scope, number_in, term_of, terms_of, body_goals, selects}
+use Rattle.dg_core.specs.Bodies.{in_parts}
+use Rattle.dg_core.specs.Goals.{Scope, past, number_in, term_of, terms_of, body_goals, selects}
 
 -- ---- rules
 
 -- What names stand for outside a rule: those of the program, and its places.
 abbrev pub outside : Named → List Item → Scope
-outside names items = record { names = names; places = place_names items; variables = [] }
+outside names items = record { names = names; places = place_names items; variables = []; closures = []; before = 0 }
 
--- What the names in a rule stand for.
+-- What the names in a rule stand for. Its closures have no numbers as yet.
 abbrev pub scope_of : Scope → Parts → Body → Scope
-scope_of around ps b = record around { variables = variables_of ps b }
+scope_of around ps b = record around { variables = variables_of ps b; closures = []; before = 0 }
 
 -- A rule with so many selects before it, whose body is followed by these goals.
 abbrev pub rule_of : Scope → ℕ → Parts → Body → List Goal → Rule
 rule_of around n ps b behind = record {
   vars = min (length (variables_of ps b)) 65535;
   head = terms_of (scope_of around ps b) ps;
-  body = body_goals (scope_of around ps b) n b ++ behind;
+  body = body_goals (past (scope_of around ps b) (in_parts ps)) n b ++ behind;
 }
 
 -- A negated rule lets its predicate fail behind its body.

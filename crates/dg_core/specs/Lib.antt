@@ -1,8 +1,9 @@
 pub mod Forms
 pub mod Variables
+pub mod Bodies
 pub mod Places
 pub mod Goals
 pub mod Core
-pub mod View
 pub mod Making
+pub mod View
 pub mod Given

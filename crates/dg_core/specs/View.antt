@@ -1,24 +1,48 @@
 -- What the code holds, as plain data. The proofs alone rest on it.
-use Rattle.std.specs.Prelude.{ℕ, ◌++◌, List, [], ◌∷◌, map, Bool, true, false, nat_eq, if◌then◌else◌}
+use Rattle.std.specs.Prelude.{ℕ, ◌++◌, List, [], ◌∷◌, map, length, reverse, Bool, true, false, nat_eq, if◌then◌else◌}
 use Rattle.std.specs.Borrow.{Bor}
 use Rattle.std.specs.Str.{bytes_eq}
 use Rattle.dg_base.specs.Tree as tree
 use Rattle.dg_base.specs.Tree.{Parts, Said, Item}
 use Rattle.dg_base.specs.TreeView.{value_view, head_view}
+use Rattle.dg_base.specs.declared.tree.Body.{Body}
 use Rattle.dg_base.specs.declared.tree.Head.{Head}
 use Rattle.dg_base.specs.declared.tree.Value.{Value}
 use Rattle.dg_base.specs.declared.program.Pred.{Pred}
 use Rattle.dg_base.specs.declared.program.Rule.{Rule}
 use Rattle.dg_names.specs.State.{names_view, listed, seen}
 use Rattle.dg_core.specs.Core.{rules_in, rules_from}
+use Rattle.dg_base.specs.declared.program.Term.{Term}
+use Rattle.dg_core.specs.Bodies.{direct, in_value}
 use Rattle.dg_core.specs.Goals as spec
+use Rattle.dg_core.specs.Goals.{at}
+use Rattle.dg_core.specs.Making.{bodies_view, Terms}
 use Rattle.dg_core.specs.Places.{Placed, values_named, values_behind}
 use Rattle.dg_core.specs.declared.scope.Places.{Places}
 use Rattle.dg_core.specs.declared.scope.Scope.{Scope}
 
 -- What the names in a rule stand for.
 abbrev pub scope_view : Scope → spec.Scope
-scope_view scope = record { names = names_view scope.names.now; places = listed scope.places.now.names; variables = seen scope.variables.items }
+scope_view scope = record {
+  names = names_view scope.names.now;
+  places = listed scope.places.now.names;
+  variables = seen scope.variables.items;
+  closures = scope.closures.items;
+  before = 0;
+}
+
+-- A scope where these closures were found before.
+abbrev pub scope_behind : Scope → List (Bor Body) → spec.Scope
+scope_behind scope found = at (scope_view scope) (length (bodies_view found))
+
+-- The terms that were made, the last of them first, with the closures that were found.
+abbrev pub terms_made : List Term → List (Bor Body) → Terms
+terms_made terms found = record { terms = reverse terms; found = bodies_view found }
+
+-- The closures that stand directly in values.
+abbrev pub directs : List tree.Value → List tree.Body
+directs [] = []
+directs (v ∷ vs) = direct (in_value v) ++ directs vs
 
 -- The names of places, and which of them are declared.
 abbrev pub places_view : Places → Placed

@@ -4,13 +4,14 @@ ghost use Rattle.dg_base.specs.Mentions.{of_body};
 ghost use Rattle.dg_base.specs.Tree.{changes_of};
 ghost use Rattle.dg_base.specs.TreeView.{stmt_view, value_view, body_view, head_view, change_view};
 ghost use Rattle.dg_core.specs.Goals as spec;
-ghost use Rattle.dg_core.specs.Making.{made, first_of, others_of, with_more, closed_by, body_behind, Takes, ComesTo};
-ghost use Rattle.dg_core.specs.View.{scope_view};
+ghost use Rattle.dg_core.specs.Bodies.{direct, in_value, in_parts, in_changes, in_branches};
+ghost use Rattle.dg_core.specs.Making.{made, bodies_view, here, added, held, first_of, others_of, other_terms, last_term, with_more, closed_by, body_behind, Takes, ComesTo};
+ghost use Rattle.dg_core.specs.View.{scope_view, scope_behind};
 
 use crate::queries::{add_changes, asked};
 use crate::scope::Scope;
 use crate::terms::term_of;
-use dg_base::{Arm, Body, Goal, Head, Items, Mode, NowChange, Stmt, Value};
+use dg_base::{Arm, Body, Goal, Head, Items, Mode, NowChange, Stmt, Term, Value};
 use std::alloc::{AllocError, Global};
 
 /// What is made of the goals of a list or of the lists of a body, once they are there.
@@ -20,8 +21,8 @@ pub enum Close<'a> {
     Once,
     Exhaust,
     Stoppable,
-    Collect(&'a Value, &'a Value),
-    Accumulate(&'a Value, &'a Value),
+    Collect(&'a Value),
+    Accumulate(&'a Value),
     If,
     Either,
     Select(u16, Mode),
@@ -42,29 +43,32 @@ pub enum GoalWork<'a> {
     End(Close<'a>),
 }
 
-/// The lists of goals and the lists of lists that were begun, the last begun last, and the number of selects so far.
+/// The lists of goals and the lists of lists that were begun, the last begun last, with the values that wait for goals behind them, the number of
+/// selects so far, and the bodies of the closures that were found.
 #[derive(Drop)]
-pub struct Making {
+pub struct Making<'a> {
     pub goals: Items<Items<Goal>>,
     pub lists: Items<Items<Items<Goal>>>,
+    pub values: Items<Term>,
     pub sites: u16,
+    pub found: Items<&'a Body>,
 }
 
 // ---- lists that are begun
 
-fn begin_goals(alloc: Global, making: &mut Making) -> Result<(), AllocError>
+fn begin_goals(alloc: Global, making: &mut Making<'_>) -> Result<(), AllocError>
     ensures { OnOk result (made making.new ≡ record (made making.old) { goals = [] ∷ (made making.old).goals }) }
 {
     making.goals.push(Items::new(alloc))
 }
 
-fn begin_lists(alloc: Global, making: &mut Making) -> Result<(), AllocError>
+fn begin_lists(alloc: Global, making: &mut Making<'_>) -> Result<(), AllocError>
     ensures { OnOk result (made making.new ≡ record (made making.old) { lists = [] ∷ (made making.old).lists }) }
 {
     making.lists.push(Items::new(alloc))
 }
 
-fn end_goals(alloc: Global, making: &mut Making) -> Items<Goal>
+fn end_goals(alloc: Global, making: &mut Making<'_>) -> Items<Goal>
     ensures goals { result ≡ first_of (made making.old).goals }
     ensures kept { made making.new ≡ record (made making.old) { goals = others_of (made making.old).goals } }
 {
@@ -74,7 +78,7 @@ fn end_goals(alloc: Global, making: &mut Making) -> Items<Goal>
     }
 }
 
-fn end_lists(alloc: Global, making: &mut Making) -> Items<Items<Goal>>
+fn end_lists(alloc: Global, making: &mut Making<'_>) -> Items<Items<Goal>>
     ensures lists { result ≡ first_of (made making.old).lists }
     ensures kept { made making.new ≡ record (made making.old) { lists = others_of (made making.old).lists } }
 {
@@ -84,7 +88,7 @@ fn end_lists(alloc: Global, making: &mut Making) -> Items<Items<Goal>>
     }
 }
 
-fn add_goal(making: &mut Making, goal: Goal) -> Result<(), AllocError>
+fn add_goal(making: &mut Making<'_>, goal: Goal) -> Result<(), AllocError>
     ensures { OnOk result (made making.new ≡ record (made making.old) { goals = with_more (goal ∷ []) (made making.old).goals }) }
 {
     if let Some(mut goals) = making.goals.pop() {
@@ -94,7 +98,17 @@ fn add_goal(making: &mut Making, goal: Goal) -> Result<(), AllocError>
     Ok(())
 }
 
-fn add_list(making: &mut Making, list: Items<Goal>) -> Result<(), AllocError>
+fn add_goals(making: &mut Making<'_>, more: Items<Goal>) -> Result<(), AllocError>
+    ensures { OnOk result (made making.new ≡ record (made making.old) { goals = with_more more (made making.old).goals }) }
+{
+    if let Some(mut goals) = making.goals.pop() {
+        goals.append(more)?;
+        making.goals.push(goals)?;
+    }
+    Ok(())
+}
+
+fn add_list(making: &mut Making<'_>, list: Items<Goal>) -> Result<(), AllocError>
     ensures { OnOk result (made making.new ≡ record (made making.old) { lists = with_more (list ∷ []) (made making.old).lists }) }
 {
     if let Some(mut lists) = making.lists.pop() {
@@ -104,7 +118,7 @@ fn add_list(making: &mut Making, list: Items<Goal>) -> Result<(), AllocError>
     Ok(())
 }
 
-fn end_branch(alloc: Global, making: &mut Making) -> Result<(), AllocError>
+fn end_branch(alloc: Global, making: &mut Making<'_>) -> Result<(), AllocError>
     ensures { OnOk result (made making.new ≡ record (made making.old) {
       goals = others_of (made making.old).goals;
       lists = with_more
@@ -115,7 +129,7 @@ fn end_branch(alloc: Global, making: &mut Making) -> Result<(), AllocError>
     add_list(making, list)
 }
 
-fn end_choice(alloc: Global, scope: &Scope<'_>, making: &mut Making) -> Result<(), AllocError>
+fn end_choice(alloc: Global, scope: &Scope<'_>, making: &mut Making<'_>) -> Result<(), AllocError>
     ensures { OnOk result (made making.new ≡ closed_by (scope_view scope.now) Close.If (made making.old)) }
 {
     let other = end_goals(alloc, making);
@@ -124,48 +138,57 @@ fn end_choice(alloc: Global, scope: &Scope<'_>, making: &mut Making) -> Result<(
     add_goal(making, Goal::If(condition, then, other))
 }
 
-fn end_collect(
+// The last value that waits, the empty list where none does.
+fn end_value(making: &mut Making<'_>) -> Term
+    ensures value { result ≡ last_term (made making.old).values }
+    ensures kept { made making.new ≡ record (made making.old) { values = other_terms (made making.old).values } }
+{
+    match making.values.pop() {
+        Some(value) => value,
+        None => Term::Nil,
+    }
+}
+
+fn end_collect<'a>(
     alloc: Global,
     scope: &Scope<'_>,
-    making: &mut Making,
-    value: &Value,
-    into: &Value,
+    making: &mut Making<'a>,
+    into: &'a Value,
 ) -> Result<(), AllocError>
-    ensures { OnOk result (made making.new ≡ closed_by (scope_view scope.now) (Close.Collect value.entry into.entry) (made making.old)) }
+    ensures { OnOk result (made making.new ≡ closed_by (scope_view scope.now) (Close.Collect into.entry) (made making.old)) }
 {
-    let value = term_of(alloc, scope, value)?;
-    let into = term_of(alloc, scope, into)?;
+    let into = term_of(alloc, scope, &mut making.found, into)?;
     let goals = end_goals(alloc, making);
+    let value = end_value(making);
     add_goal(making, Goal::Collect(value, goals, into))
 }
 
-fn end_accumulate(
+fn end_accumulate<'a>(
     alloc: Global,
     scope: &Scope<'_>,
-    making: &mut Making,
-    value: &Value,
-    into: &Value,
+    making: &mut Making<'a>,
+    into: &'a Value,
 ) -> Result<(), AllocError>
-    ensures { OnOk result (made making.new ≡ closed_by (scope_view scope.now) (Close.Accumulate value.entry into.entry) (made making.old)) }
+    ensures { OnOk result (made making.new ≡ closed_by (scope_view scope.now) (Close.Accumulate into.entry) (made making.old)) }
 {
-    let value = term_of(alloc, scope, value)?;
-    let into = term_of(alloc, scope, into)?;
+    let into = term_of(alloc, scope, &mut making.found, into)?;
     let goals = end_goals(alloc, making);
+    let value = end_value(making);
     add_goal(making, Goal::Accumulate(value, goals, into))
 }
 
 // Ends what was begun, and adds what is made of it.
-fn end(
+fn end<'a>(
     alloc: Global,
     scope: &Scope<'_>,
-    making: &mut Making,
-    close: Close<'_>,
+    making: &mut Making<'a>,
+    close: Close<'a>,
 ) -> Result<(), AllocError>
     ensures { OnOk result (made making.new ≡ closed_by (scope_view scope.now) close.entry (made making.old)) }
 {
     match close {
-        Close::Collect(value, into) => end_collect(alloc, scope, making, value, into),
-        Close::Accumulate(value, into) => end_accumulate(alloc, scope, making, value, into),
+        Close::Collect(into) => end_collect(alloc, scope, making, into),
+        Close::Accumulate(into) => end_accumulate(alloc, scope, making, into),
         Close::If => end_choice(alloc, scope, making),
         Close::Either => {
             let lists = end_lists(alloc, making);
@@ -196,46 +219,83 @@ fn end(
 
 // ---- statements
 
-fn add_text(alloc: Global, making: &mut Making, word: &[u8]) -> Result<(), AllocError>
+fn add_text(alloc: Global, making: &mut Making<'_>, word: &[u8]) -> Result<(), AllocError>
     ensures { OnOk result (made making.new ≡ record (made making.old) { goals = with_more (Goal.Text word.now ∷ []) (made making.old).goals }) }
 {
     let text = Items::from_slice(alloc, word)?;
     add_goal(making, Goal::Text(text))
 }
 
-// Adds a query that is to have no answer.
-fn add_not(
+fn add_print<'a>(
     alloc: Global,
     scope: &Scope<'_>,
-    making: &mut Making,
-    head: &Head,
+    making: &mut Making<'a>,
+    value: &'a Value,
 ) -> Result<(), AllocError>
-    ensures { OnOk result (made making.new ≡ record (made making.old) {
-      goals = with_more
-          (Goal.Not (spec.asked (scope_view scope.now) (head_view head.now) false ∷ []) ∷ []) (made making.old).goals;
-    }) }
+    ensures { OnOk result (made making.new ≡ added
+        (Goal.Print (spec.term_of (here (scope_view scope.now) (made making.old)) (value_view value.now)) ∷ [])
+        (in_value (value_view value.now)) (made making.old)) }
+{
+    let term = term_of(alloc, scope, &mut making.found, value)?;
+    add_goal(making, Goal::Print(term))
+}
+
+fn add_asked<'a>(
+    alloc: Global,
+    scope: &Scope<'_>,
+    making: &mut Making<'a>,
+    head: &'a Head,
+    many: bool,
+) -> Result<(), AllocError>
+    ensures { OnOk result (made making.new ≡ added
+        (spec.asked (here (scope_view scope.now) (made making.old)) (head_view head.now) many ∷ []) (in_parts (head_view head.now)) (made making.old)) }
+{
+    let query = asked(alloc, scope, &mut making.found, head, many)?;
+    add_goal(making, query)
+}
+
+// Adds a query that is to have no answer.
+fn add_not<'a>(
+    alloc: Global,
+    scope: &Scope<'_>,
+    making: &mut Making<'a>,
+    head: &'a Head,
+) -> Result<(), AllocError>
+    ensures { OnOk result (made making.new ≡ added
+        (Goal.Not (spec.asked (here (scope_view scope.now) (made making.old)) (head_view head.now) false ∷ []) ∷ [])
+        (in_parts (head_view head.now)) (made making.old)) }
 {
     let mut query = Items::new(alloc);
-    query.push(asked(alloc, scope, head, false)?)?;
+    query.push(asked(alloc, scope, &mut making.found, head, false)?)?;
     add_goal(making, Goal::Not(query))
 }
 
-fn add_now(
+fn add_now<'a>(
     alloc: Global,
     scope: &Scope<'_>,
-    making: &mut Making,
-    changes: &[NowChange],
+    making: &mut Making<'a>,
+    changes: &'a [NowChange],
 ) -> Result<(), AllocError>
-    ensures { OnOk result (made making.new ≡ record (made making.old) {
-      goals = with_more
-          (spec.change_goals (scope_view scope.now) (changes_of (map change_view changes.now))) (made making.old).goals;
-    }) }
+    ensures { OnOk result (made making.new ≡ added
+        (spec.change_goals (here (scope_view scope.now) (made making.old)) (changes_of (map change_view changes.now)))
+        (in_changes (changes_of (map change_view changes.now))) (made making.old)) }
 {
-    if let Some(mut goals) = making.goals.pop() {
-        add_changes(alloc, scope, changes, &mut goals)?;
-        making.goals.push(goals)?;
-    }
-    Ok(())
+    let mut goals = Items::new(alloc);
+    add_changes(alloc, scope, &mut making.found, changes, &mut goals)?;
+    add_goals(making, goals)
+}
+
+// Keeps a value until the goals behind it are made.
+fn hold_value<'a>(
+    alloc: Global,
+    scope: &Scope<'_>,
+    making: &mut Making<'a>,
+    value: &'a Value,
+) -> Result<(), AllocError>
+    ensures { OnOk result (made making.new ≡ held (scope_view scope.now) (value_view value.now) (made making.old)) }
+{
+    let term = term_of(alloc, scope, &mut making.found, value)?;
+    making.values.push(term)
 }
 
 // Puts on what is left a list of goals of which something is made.
@@ -265,7 +325,7 @@ fn put_branches<'a>(
 }
 
 // The number of the next select. More of them than a program can number take more memory than it has.
-fn next_site(making: &mut Making) -> Result<u16, AllocError>
+fn next_site(making: &mut Making<'_>) -> Result<u16, AllocError>
     ensures site { IfOk result (λ site. site ≡ (made making.old).sites) }
     ensures next { OnOk result (made making.new ≡ record (made making.old) { sites = (made making.old).sites + 1 }) }
 {
@@ -283,16 +343,16 @@ fn take_stmt<'a>(
     alloc: Global,
     scope: &Scope<'_>,
     left: &mut Items<GoalWork<'a>>,
-    making: &mut Making,
+    making: &mut Making<'a>,
     stmt: &'a Stmt,
 ) -> Result<(), AllocError>
     ensures { OnOk result (Takes (scope_view scope.now) (GoalWork.Stmt stmt.entry) left.old left.new (made making.old) (made making.new)) }
 {
     match stmt {
         Stmt::Text(word) => add_text(alloc, making, word.as_slice()),
-        Stmt::Print(value) => add_goal(making, Goal::Print(term_of(alloc, scope, value)?)),
-        Stmt::Ask(head) => add_goal(making, asked(alloc, scope, head, false)?),
-        Stmt::AskAll(head) => add_goal(making, asked(alloc, scope, head, true)?),
+        Stmt::Print(value) => add_print(alloc, scope, making, value),
+        Stmt::Ask(head) => add_asked(alloc, scope, making, head, false),
+        Stmt::AskAll(head) => add_asked(alloc, scope, making, head, true),
         Stmt::AskNot(head) => add_not(alloc, scope, making, head),
         Stmt::Now(changes) => add_now(alloc, scope, making, changes.as_slice()),
         Stmt::Group(body) => left.push(GoalWork::Body(body)),
@@ -302,10 +362,12 @@ fn take_stmt<'a>(
         Stmt::Exhaust(inner) => put_inner(left, Close::Exhaust, GoalWork::Stmt(inner.get())),
         Stmt::Stoppable(inner) => put_inner(left, Close::Stoppable, GoalWork::Stmt(inner.get())),
         Stmt::Collect(value, body, into) => {
-            put_inner(left, Close::Collect(value, into), GoalWork::Body(body))
+            hold_value(alloc, scope, making, value)?;
+            put_inner(left, Close::Collect(into), GoalWork::Body(body))
         }
         Stmt::Accumulate(value, body, into) => {
-            put_inner(left, Close::Accumulate(value, into), GoalWork::Body(body))
+            hold_value(alloc, scope, making, value)?;
+            put_inner(left, Close::Accumulate(into), GoalWork::Body(body))
         }
         Stmt::Select(mode, branches) => {
             let site = next_site(making)?;
@@ -394,7 +456,7 @@ fn take<'a>(
     alloc: Global,
     scope: &Scope<'_>,
     left: &mut Items<GoalWork<'a>>,
-    making: &mut Making,
+    making: &mut Making<'a>,
     work: GoalWork<'a>,
 ) -> Result<(), AllocError>
     ensures { OnOk result (Takes (scope_view scope.now) work.entry left.old left.new (made making.old) (made making.new)) }
@@ -413,11 +475,11 @@ fn take<'a>(
 }
 
 // Makes what is left of a body.
-fn make(
+fn make<'a>(
     alloc: Global,
     scope: &Scope<'_>,
-    making: &mut Making,
-    body: &Body,
+    making: &mut Making<'a>,
+    body: &'a Body,
 ) -> Result<(), AllocError>
     ensures { OnOk result (made making.new ≡ body_behind (scope_view scope.now) (body_view body.now) (made making.old)) }
 {
@@ -429,14 +491,17 @@ fn make(
     Ok(())
 }
 
-/// The goals of a body with so many selects before it, whose number grows by those that stand in it.
-pub fn goals_of(
+/// The goals of a body with so many selects before it, whose number grows by those that stand in it, behind the closures that were found; those
+/// that stand directly in it are found as well.
+pub fn goals_of<'a>(
     alloc: Global,
     scope: &Scope<'_>,
     sites: &mut u16,
-    body: &Body,
-) -> Result<Items<Goal>, AllocError>
-    ensures goals { IfOk result (λ goals. goals ≡ spec.body_goals (scope_view scope.now) sites.old (body_view body.now)) }
+    found: Items<&'a Body>,
+    body: &'a Body,
+) -> Result<(Items<Goal>, Items<&'a Body>), AllocError>
+    ensures goals { IfOk result (λ made. made.0 ≡ spec.body_goals (scope_behind scope.now found.entry) sites.old (body_view body.now)) }
+    ensures found { IfOk result (λ made. bodies_view made.1 ≡ bodies_view found.entry ++ direct (in_branches (body_view body.now))) }
     ensures sites { OnOk result (sites.new ≡ sites.old + spec.selects (of_body false (body_view body.now))) }
 {
     let mut goals = Items::new(alloc);
@@ -444,9 +509,12 @@ pub fn goals_of(
     let mut making = Making {
         goals,
         lists: Items::new(alloc),
+        values: Items::new(alloc),
         sites: *sites,
+        found,
     };
     make(alloc, scope, &mut making, body)?;
     *sites = making.sites;
-    Ok(end_goals(alloc, &mut making))
+    let goals = end_goals(alloc, &mut making);
+    Ok((goals, making.found))
 }

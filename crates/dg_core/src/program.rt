@@ -62,12 +62,15 @@ fn rule_of(
         names: around.names,
         places: around.places,
         variables,
+        closures: Vec::new(alloc),
     };
-    let mut goals = goals_of(alloc, &scope, sites, body)?;
+    let mut found = Items::new(alloc);
+    let head = terms_of(alloc, &scope, &mut found, head)?;
+    let (mut goals, _found) = goals_of(alloc, &scope, sites, found, body)?;
     goals.append(behind)?;
     Ok(Rule {
         vars,
-        head: terms_of(alloc, &scope, head)?,
+        head,
         body: goals,
     })
 }
@@ -206,6 +209,7 @@ fn program_of(
         names,
         places,
         variables: Vec::new(alloc),
+        closures: Vec::new(alloc),
     };
     let (mut preds, sites) = preds_of(alloc, &around, items)?;
     let places = places_with_starts(alloc, &around, items, preds.as_slice())?;

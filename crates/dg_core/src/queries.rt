@@ -1,30 +1,27 @@
 // From queries and changes to goals.
-ghost use Rattle.std.specs.Prelude.{◌≡◌, ◌++◌, ◌∷◌, [], None, Some, map, OnOk, IfOk};
+ghost use Rattle.std.specs.Prelude.{◌≡◌, ◌+◌, ◌++◌, ◌∷◌, [], ℕ, None, map, OnOk, IfOk};
 ghost use Rattle.dg_base.specs.Tree.{changes_of};
 ghost use Rattle.dg_base.specs.TreeView.{head_view, change_view};
+ghost use Rattle.dg_core.specs.Bodies.{direct, in_parts, in_changes};
 ghost use Rattle.dg_core.specs.Goals as spec;
-ghost use Rattle.dg_core.specs.View.{scope_view, values_view};
+ghost use Rattle.dg_core.specs.Making.{bodies_view};
+ghost use Rattle.dg_core.specs.View.{scope_view, scope_behind};
 
-use crate::facts::values_in;
 use crate::places::place_in;
 use crate::scope::Scope;
-use crate::terms::{number_in, number_of, term_of, terms_of};
-use dg_base::{Builtin, Goal, Head, Items, NowChange, Term, Value, builtin_of, name_of};
+use crate::terms::{number_in, number_of, terms_of};
+use dg_base::{Body, Builtin, Goal, Head, Items, NowChange, Term, builtin_of, name_of};
 use std::alloc::{AllocError, Global};
 
-// The term of the value with this number.
-fn arg(
-    alloc: Global,
-    scope: &Scope<'_>,
-    values: &[&Value],
-    number: usize,
-) -> Result<Term, AllocError>
-    ensures { IfOk result (λ term. term ≡ spec.arg (scope_view scope.now) (values_view values.now) number) }
+// Takes the first of these terms, the empty list where there is none.
+fn take_first(terms: &mut Items<Term>) -> Term
+    ensures first { result ≡ spec.arg terms.old 0 }
+    ensures others { (k : ℕ) → spec.arg terms.new k ≡ spec.arg terms.old (k + 1) }
 {
-    match values.get(number) {
-        Some(value) => term_of(alloc, scope, value),
-        None => Ok(Term::Nil),
+    if terms.is_empty() {
+        return Term::Nil;
     }
+    terms.remove(0)
 }
 
 fn two(alloc: Global, first: Term, second: Term) -> Result<Items<Term>, AllocError>
@@ -72,39 +69,33 @@ fn built_in_goal(
 
 fn built_in_with(
     alloc: Global,
-    scope: &Scope<'_>,
-    values: &[&Value],
+    terms: Items<Term>,
     many: bool,
     builtin: Builtin,
 ) -> Result<Goal, AllocError>
-    ensures { IfOk result (λ goal. goal ≡ spec.goal_with (scope_view scope.now) (values_view values.now) many builtin) }
+    ensures { IfOk result (λ goal. goal ≡ spec.goal_with terms many builtin) }
 {
-    let a = arg(alloc, scope, values, 0)?;
-    let b = arg(alloc, scope, values, 1)?;
-    let c = arg(alloc, scope, values, 2)?;
+    let mut terms = terms;
+    let a = take_first(&mut terms);
+    let b = take_first(&mut terms);
+    let c = take_first(&mut terms);
     let goal = built_in_goal(alloc, a, b, c, many, builtin)?;
     Ok(goal)
 }
 
-fn built_in(
+// The goal of a query of a predicate with these terms, which may have a place.
+fn predicate(
     alloc: Global,
     scope: &Scope<'_>,
     head: &Head,
+    terms: Items<Term>,
     many: bool,
-    builtin: Builtin,
 ) -> Result<Goal, AllocError>
-    ensures { IfOk result (λ goal. goal ≡ spec.query_goal (scope_view scope.now) (head_view head.now) many (Some builtin)) }
-{
-    let values = values_in(alloc, head.parts.as_slice())?;
-    built_in_with(alloc, scope, values.as_slice(), many, builtin)
-}
-
-// The goal of a query of a predicate, which may have a place.
-fn predicate(alloc: Global, scope: &Scope<'_>, head: &Head, many: bool) -> Result<Goal, AllocError>
-    ensures { IfOk result (λ goal. goal ≡ spec.query_goal (scope_view scope.now) (head_view head.now) many None) }
+    ensures { IfOk result (λ goal. (around : spec.Scope) → around.names ≡ (scope_view scope.now).names →
+        around.places ≡ (scope_view scope.now).places → terms ≡ spec.terms_of around (head_view head.now) → goal
+        ≡ spec.query_goal around (head_view head.now) many None) }
 {
     let name = name_of(alloc, head)?;
-    let terms = terms_of(alloc, scope, head)?;
     match place_in(&scope.places.names, name.as_slice()) {
         Some(place) => Ok(Goal::Holds(number_of(Some(place)), terms, many)),
         None => Ok(Goal::Ask(number_in(&scope.names.preds, name.as_slice()), terms, many)),
@@ -112,34 +103,54 @@ fn predicate(alloc: Global, scope: &Scope<'_>, head: &Head, many: bool) -> Resul
 }
 
 /// The goal of a query, which asks for many answers or for the first.
-pub fn asked(alloc: Global, scope: &Scope<'_>, head: &Head, many: bool) -> Result<Goal, AllocError>
-    ensures { IfOk result (λ goal. goal ≡ spec.asked (scope_view scope.now) (head_view head.now) many) }
+pub fn asked<'a>(
+    alloc: Global,
+    scope: &Scope<'_>,
+    found: &mut Items<&'a Body>,
+    head: &'a Head,
+    many: bool,
+) -> Result<Goal, AllocError>
+    ensures goal { IfOk result (λ goal. goal ≡ spec.asked (scope_behind scope.now found.old) (head_view head.now) many) }
+    ensures found { OnOk result (bodies_view found.new ≡ bodies_view found.old ++ direct (in_parts (head_view head.now))) }
 {
+    let terms = terms_of(alloc, scope, found, head)?;
     match builtin_of(head.parts.as_slice()) {
-        Some(builtin) => built_in(alloc, scope, head, many, builtin),
-        None => predicate(alloc, scope, head, many),
+        Some(builtin) => built_in_with(alloc, terms, many, builtin),
+        None => predicate(alloc, scope, head, terms, many),
     }
 }
 
-fn change_goal(alloc: Global, scope: &Scope<'_>, change: &NowChange) -> Result<Goal, AllocError>
-    ensures { IfOk result (λ goal. goal ∷ [] ≡ spec.change_goals (scope_view scope.now) (changes_of (change_view change.now ∷ []))) }
+fn change_goal<'a>(
+    alloc: Global,
+    scope: &Scope<'_>,
+    found: &mut Items<&'a Body>,
+    change: &'a NowChange,
+) -> Result<Goal, AllocError>
+    ensures goal { IfOk result (λ goal. goal ∷ [] ≡ spec.change_goals (scope_behind scope.now found.old) (changes_of (change_view change.now ∷ []))) }
+    ensures found { OnOk result (bodies_view found.new ≡ bodies_view found.old ++ direct (in_changes (changes_of (change_view change.now ∷ [])))) }
 {
     let name = name_of(alloc, &change.head)?;
     let place = number_in(&scope.places.names, name.as_slice());
-    Ok(Goal::Now(place, terms_of(alloc, scope, &change.head)?, change.set))
+    Ok(Goal::Now(
+        place,
+        terms_of(alloc, scope, found, &change.head)?,
+        change.set,
+    ))
 }
 
 /// Adds the goals of changes, one after the other.
-pub fn add_changes(
+pub fn add_changes<'a>(
     alloc: Global,
     scope: &Scope<'_>,
-    changes: &[NowChange],
+    found: &mut Items<&'a Body>,
+    changes: &'a [NowChange],
     goals: &mut Items<Goal>,
 ) -> Result<(), AllocError>
-    ensures { OnOk result (goals.new ≡ goals.old ++ spec.change_goals (scope_view scope.now) (changes_of (map change_view changes.now))) }
+    ensures goals { OnOk result (goals.new ≡ goals.old ++ spec.change_goals (scope_behind scope.now found.old) (changes_of (map change_view changes.now))) }
+    ensures found { OnOk result (bodies_view found.new ≡ bodies_view found.old ++ direct (in_changes (changes_of (map change_view changes.now)))) }
 {
     for change in changes {
-        goals.push(change_goal(alloc, scope, change)?)?;
+        goals.push(change_goal(alloc, scope, found, change)?)?;
     }
     Ok(())
 }

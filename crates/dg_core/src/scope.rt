@@ -10,10 +10,12 @@ pub struct Places {
     pub declared: IndexSet<Vec<u8>>,
 }
 
-/// The names of the program, its places, and the variables of a rule in order of first appearance.
+/// The names of the program, its places, the variables of a rule in order of first appearance, and the numbers of the closures that stand
+/// directly in it.
 #[derive(Drop)]
 pub struct Scope<'a> {
     pub names: &'a Names,
     pub places: &'a Places,
     pub variables: Vec<&'a [u8]>,
+    pub closures: Vec<u16>,
 }

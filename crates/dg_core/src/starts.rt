@@ -120,7 +120,7 @@ fn value_start(
     let mut start = Items::new(alloc);
     if let [value, ..] = values {
         if !is_unset(value) {
-            let term = term_of(alloc, around, value)?;
+            let term = term_of(alloc, around, &mut Items::new(alloc), value)?;
             start.push((0, term))?;
         }
     }

@@ -1,18 +1,20 @@
 // From values to terms.
-ghost use Rattle.std.specs.Prelude.{◌≡◌, ◌+◌, ◌<◌, ◌++◌, ◌∷◌, [], map, position, reverse, IfOk, OnOk};
+ghost use Rattle.std.specs.Prelude.{◌≡◌, ◌+◌, ◌<◌, ◌++◌, ◌∷◌, [], List, map, length, position, reverse, slice_get, IfOk, OnOk};
+ghost use Rattle.dg_base.specs.Tree as tree;
 ghost use Rattle.std.specs.Option.{option_map};
 ghost use Rattle.std.specs.Str.{bytes_eq};
 ghost use Rattle.dg_base.specs.Tree.{parts_of, values_of};
 ghost use Rattle.dg_base.specs.TreeView.{part_view, value_view, head_view};
 ghost use Rattle.dg_names.specs.State.{seen, listed as names_listed};
 ghost use Rattle.dg_core.specs.Goals as spec;
-ghost use Rattle.dg_core.specs.Making.{paired, last_term, term_behind, terms_behind, term_weight, terms_weight};
-ghost use Rattle.dg_core.specs.View.{scope_view, values_view};
+ghost use Rattle.dg_core.specs.Bodies.{direct, in_value, in_parts};
+ghost use Rattle.dg_core.specs.Making.{bodies_view, paired, last_term, term_behind, terms_behind, term_weight, terms_weight};
+ghost use Rattle.dg_core.specs.View.{scope_view, scope_behind, terms_made, directs, values_view};
 
 use crate::facts::values_in;
 use crate::places::place_in;
 use crate::scope::Scope;
-use dg_base::{Boxed, Head, Items, Part, Term, Value};
+use dg_base::{Body, Boxed, Head, Items, Term, Value};
 use indexmap::IndexSet;
 use std::alloc::{AllocError, Global};
 
@@ -112,42 +114,69 @@ fn put_first<'a>(
     left.push(TermWork::Value(first))
 }
 
+// The closure that stands behind so many others of its scope.
+fn closure_of(scope: &Scope<'_>, before: usize) -> Term
+    ensures { result ≡ spec.closure_of (slice_get (scope_view scope.now).closures before) }
+{
+    match scope.closures.get(before) {
+        Some(number) => Term::Closure(*number),
+        None => Term::Nil,
+    }
+}
+
+// Adds a closure's number to the terms, and its body to those that were found.
+fn add_closure<'a>(
+    scope: &Scope<'_>,
+    found: &mut Items<&'a Body>,
+    terms: &mut Items<Term>,
+    body: &'a Body,
+) -> Result<(), AllocError>
+    ensures terms { OnOk result (terms.new ≡ terms.old ++ spec.closure_of (slice_get (scope_view scope.now).closures (length found.old)) ∷ []) }
+    ensures found { OnOk result (found.new ≡ found.old ++ body.entry ∷ []) }
+{
+    terms.push(closure_of(scope, found.len()))?;
+    found.push(body)
+}
+
 fn take_value<'a>(
     scope: &Scope<'_>,
+    found: &mut Items<&'a Body>,
     left: &mut Items<TermWork<'a>>,
     terms: &mut Items<Term>,
     value: &'a Value,
 ) -> Result<(), AllocError>
-    ensures behind { OnOk result (terms_behind (scope_view scope.now) left.new (reverse terms.new)
-        ≡ terms_behind (scope_view scope.now) left.old (spec.term_of (scope_view scope.now) (value_view value.now) ∷ reverse terms.old)) }
+    ensures behind { OnOk result (terms_behind (scope_view scope.now) left.new (terms_made terms.new found.new)
+        ≡ terms_behind (scope_view scope.now) left.old (term_behind (scope_view scope.now) (TermWork.Value value.entry) (terms_made terms.old found.old))) }
     ensures weight { OnOk result (terms_weight left.new < term_weight (TermWork.Value value.entry) + terms_weight left.old) }
 {
     match value {
+        Value::List(values, tail) => {
+            put_list(left, values.as_slice(), tail)?;
+            Ok(())
+        }
+        Value::Closure(body) => {
+            add_closure(scope, found, terms, body)?;
+            Ok(())
+        }
         Value::Num(number) => terms.push(Term::Num(*number)),
         Value::Word(word) => terms.push(Term::Word(number_in(&scope.names.words, word.as_slice()))),
         Value::Object(name) => {
             terms.push(Term::Object(number_in(&scope.names.objects, name.as_slice())))
         }
         Value::Var(name) => terms.push(Term::Var(variable(scope, name.as_slice()))),
-        Value::List(values, tail) => {
-            put_list(left, values.as_slice(), tail)?;
-            Ok(())
-        }
-        Value::Topic | Value::Any | Value::Closure(_) | Value::Query(_) | Value::Words(_) => {
-            terms.push(Term::Nil)
-        }
+        Value::Topic | Value::Any | Value::Query(_) | Value::Words(_) => terms.push(Term::Nil),
     }
 }
 
 fn take_values<'a>(
-    scope: &Scope<'_>,
     left: &mut Items<TermWork<'a>>,
     terms: &mut Items<Term>,
     values: &'a [Value],
     tail: &'a Option<Boxed<Value>>,
 ) -> Result<(), AllocError>
-    ensures behind { OnOk result (terms_behind (scope_view scope.now) left.new (reverse terms.new)
-        ≡ terms_behind (scope_view scope.now) left.old (term_behind (scope_view scope.now) (TermWork.Values values.entry tail.entry) (reverse terms.old))) }
+    ensures behind { OnOk result ((scope : spec.Scope) (found : List tree.Body) →
+        terms_behind scope left.new (record { terms = reverse terms.new; found = found })
+        ≡ terms_behind scope left.old (term_behind scope (TermWork.Values values.entry tail.entry) (record { terms = reverse terms.old; found = found }))) }
     ensures weight { OnOk result (terms_weight left.new < term_weight (TermWork.Values values.entry tail.entry) + terms_weight left.old) }
 {
     match values {
@@ -169,53 +198,68 @@ fn take_values<'a>(
 fn take<'a>(
     alloc: Global,
     scope: &Scope<'_>,
+    found: &mut Items<&'a Body>,
     left: &mut Items<TermWork<'a>>,
     terms: &mut Items<Term>,
     work: TermWork<'a>,
 ) -> Result<(), AllocError>
-    ensures behind { OnOk result (terms_behind (scope_view scope.now) left.new (reverse terms.new)
-        ≡ terms_behind (scope_view scope.now) left.old (term_behind (scope_view scope.now) work.entry (reverse terms.old))) }
+    ensures behind { OnOk result (terms_behind (scope_view scope.now) left.new (terms_made terms.new found.new)
+        ≡ terms_behind (scope_view scope.now) left.old (term_behind (scope_view scope.now) work.entry (terms_made terms.old found.old))) }
     ensures weight { OnOk result (terms_weight left.new < term_weight work.entry + terms_weight left.old) }
 {
     match work {
-        TermWork::Value(value) => take_value(scope, left, terms, value),
-        TermWork::Values(values, tail) => take_values(scope, left, terms, values, tail),
+        TermWork::Value(value) => take_value(scope, found, left, terms, value),
+        TermWork::Values(values, tail) => take_values(left, terms, values, tail),
         TermWork::Pair => pair(alloc, terms),
     }
 }
 
-/// The term of a value.
-pub fn term_of(alloc: Global, scope: &Scope<'_>, value: &Value) -> Result<Term, AllocError>
-    ensures { IfOk result (λ term. term ≡ spec.term_of (scope_view scope.now) (value_view value.now)) }
+/// The term of a value, so many closures being found before it. Those that stand directly in it are found as well.
+pub fn term_of<'a>(
+    alloc: Global,
+    scope: &Scope<'_>,
+    found: &mut Items<&'a Body>,
+    value: &'a Value,
+) -> Result<Term, AllocError>
+    ensures term { IfOk result (λ term. term ≡ spec.term_of (scope_behind scope.now found.old) (value_view value.now)) }
+    ensures found { OnOk result (bodies_view found.new ≡ bodies_view found.old ++ direct (in_value (value_view value.now))) }
 {
     let mut left = Items::new(alloc);
     left.push(TermWork::Value(value))?;
     let mut terms = Items::new(alloc);
     while let Some(work) = left.pop() {
-        take(alloc, scope, &mut left, &mut terms, work)?;
+        take(alloc, scope, found, &mut left, &mut terms, work)?;
     }
     Ok(last_of(terms))
 }
 
 /// The terms of values.
-pub fn terms_of_values(
+pub fn terms_of_values<'a>(
     alloc: Global,
     scope: &Scope<'_>,
-    values: &[&Value],
+    found: &mut Items<&'a Body>,
+    values: &[&'a Value],
 ) -> Result<Items<Term>, AllocError>
-    ensures { IfOk result (λ terms. terms ≡ spec.terms_of_values (scope_view scope.now) (values_view values.now)) }
+    ensures terms { IfOk result (λ terms. terms ≡ spec.terms_of_values (scope_behind scope.now found.old) (values_view values.now)) }
+    ensures found { OnOk result (bodies_view found.new ≡ bodies_view found.old ++ directs (values_view values.now)) }
 {
     let mut terms = Items::new(alloc);
     for value in values {
-        terms.push(term_of(alloc, scope, value)?)?;
+        terms.push(term_of(alloc, scope, found, value)?)?;
     }
     Ok(terms)
 }
 
 /// The terms of a head or a query.
-pub fn terms_of(alloc: Global, scope: &Scope<'_>, head: &Head) -> Result<Items<Term>, AllocError>
-    ensures { IfOk result (λ terms. terms ≡ spec.terms_of (scope_view scope.now) (head_view head.now)) }
+pub fn terms_of<'a>(
+    alloc: Global,
+    scope: &Scope<'_>,
+    found: &mut Items<&'a Body>,
+    head: &'a Head,
+) -> Result<Items<Term>, AllocError>
+    ensures terms { IfOk result (λ terms. terms ≡ spec.terms_of (scope_behind scope.now found.old) (head_view head.now)) }
+    ensures found { OnOk result (bodies_view found.new ≡ bodies_view found.old ++ direct (in_parts (head_view head.now))) }
 {
     let values = values_in(alloc, head.parts.as_slice())?;
-    terms_of_values(alloc, scope, values.as_slice())
+    terms_of_values(alloc, scope, found, values.as_slice())
 }

@@ -6,7 +6,7 @@ use Rattle.dg_core.proofs.MakingLemmas.{goals_next, goals_smaller}
 use Rattle.dg_core.proofs.goals.make.Goals as goal
 
 pub loop-work-preserved : goal.loop-work-preserved
-loop-work-preserved c = c.in_ok-take.ensures.behind ∙ sym (goals_next _ _ _ _ _ c.in-Some.ensures) ∙ c.loop-work.invariant
+loop-work-preserved c = c.in_ok-take.ensures.behind ∙ sym (goals_next (scope_view c.args.scope.now) _ _ _ _ c.in-Some.ensures) ∙ c.loop-work.invariant
 
 pub loop-work-smaller : goal.loop-work-smaller
 loop-work-smaller c = goals_smaller _ _ _ _ c.in-Some.ensures c.in_ok-take.ensures.weight
