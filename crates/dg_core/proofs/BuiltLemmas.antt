@@ -29,7 +29,7 @@ use Rattle.dg_base.proofs.NodeLemmas.{inside, within_out}
 use Rattle.dg_built.specs.Built.{IsForm, IsBuilt, IsBuiltBody, IsBuiltGoal, IsBuiltRule}
 use Rattle.dg_names.specs.Named.{Named, firsts}
 use Rattle.dg_core.specs.Core.{outside, scope_of, rule_of, failing, rules_in, rules_from, selects_of, pred_of, without_facts, core_of}
-use Rattle.dg_core.specs.Forms.{is_unbuilt, is_unbuilt_query, is_unbuilt_name, first_unbuilt, IsRun, AreRun}
+use Rattle.dg_core.specs.Forms.{is_unbuilt, first_unbuilt, IsRun, AreRun}
 use Rattle.dg_core.specs.Bodies.{in_value, in_parts, in_stmt, in_stmts, in_branches, in_arms}
 use Rattle.dg_core.specs.Goals.{Scope, past, in_16_bits, number_in, term_of, listed, terms_of, terms_of_values, arg, built_in_goal, place_goal, query_goal, asked, change_goals, unit, selects, stmt_goals, lists, arm_goals, body_goals}
 use Rattle.dg_core.specs.Goals as lowered
@@ -94,26 +94,26 @@ unit_whole (goals ∷ more ∷ ls) h = goal_whole (goal.Either (goals ∷ more �
 
 -- ---- queries
 
-built_in_whole : (a b c : Term) (many : Bool) (q : Builtin) → is_unbuilt_query q ≡ false → Whole (built_in_goal a b c many q ∷ [])
-built_in_whole a b c many built_in.Equal r = leaf _ (form.Equal a b) (goal.outs-Equal _ _) refl (search rules)
-built_in_whole a b c many (built_in.Arith op) r = leaf _ (form.Arith op a b c) (goal.outs-Arith _ _ _ _) refl (search rules)
-built_in_whole a b c many (built_in.Compare op) r = leaf _ (form.Compare op a b) (goal.outs-Compare _ _ _) refl (search rules)
-built_in_whole a b c many built_in.Random r = leaf _ (form.Random a b c) (goal.outs-Random _ _ _) refl (search rules)
-built_in_whole a b c many (built_in.Test kind) r = leaf _ (form.Test kind a) (goal.outs-Test _ _) refl (search rules)
-built_in_whole a b c many built_in.Object r = leaf _ (form.IsObject a many) (goal.outs-IsObject _ _) refl (search rules)
-built_in_whole a b c many built_in.Fail r = leaf _ form.Fail goal.outs-Fail refl (search rules)
-built_in_whole a b c many built_in.Just r = leaf _ form.Just goal.outs-Just refl (search rules)
-built_in_whole a b c many built_in.Stop r = leaf _ form.Stop goal.outs-Stop refl (search rules)
-built_in_whole a b c many built_in.Quit r = leaf _ form.Quit goal.outs-Quit refl (search rules)
-built_in_whole a b c many built_in.RepeatForever r = leaf _ form.Forever goal.outs-Forever refl (search rules)
-built_in_whole a b c many built_in.Query r = leaf _ (form.Query a None many) (goal.outs-Query _ _ _) refl (search rules)
-built_in_whole a b c many built_in.QueryWith r = leaf _ (form.Query a (Some b) many) (goal.outs-Query _ _ _) refl (search rules)
-built_in_whole a b c many built_in.GetInput r = leaf _ (form.Input a) (goal.outs-Input _) refl (search rules)
-built_in_whole a b c many built_in.SplitWord r = leaf _ (form.SplitWord a b) (goal.outs-SplitWord _ _) refl (search rules)
-built_in_whole a b c many built_in.JoinWords r = leaf _ (form.JoinWords a b) (goal.outs-JoinWords _ _) refl (search rules)
-built_in_whole a b c many (built_in.Gap kind) r = leaf _ (form.Gap kind) (goal.outs-Gap _) refl (search rules)
-built_in_whole a b c many built_in.Spaces r = leaf _ (form.GapN a) (goal.outs-GapN _) refl (search rules)
-built_in_whole a b c many built_in.HasParent r = leaf _ (form.Holds 0 (a ∷ b ∷ []) many) (goal.outs-Holds _ _ _) refl (search rules)
+built_in_whole : (a b c : Term) (many : Bool) (q : Builtin) → Whole (built_in_goal a b c many q ∷ [])
+built_in_whole a b c many built_in.Equal = leaf _ (form.Equal a b) (goal.outs-Equal _ _) refl (search rules)
+built_in_whole a b c many (built_in.Arith op) = leaf _ (form.Arith op a b c) (goal.outs-Arith _ _ _ _) refl (search rules)
+built_in_whole a b c many (built_in.Compare op) = leaf _ (form.Compare op a b) (goal.outs-Compare _ _ _) refl (search rules)
+built_in_whole a b c many built_in.Random = leaf _ (form.Random a b c) (goal.outs-Random _ _ _) refl (search rules)
+built_in_whole a b c many (built_in.Test kind) = leaf _ (form.Test kind a) (goal.outs-Test _ _) refl (search rules)
+built_in_whole a b c many built_in.Object = leaf _ (form.IsObject a many) (goal.outs-IsObject _ _) refl (search rules)
+built_in_whole a b c many built_in.Fail = leaf _ form.Fail goal.outs-Fail refl (search rules)
+built_in_whole a b c many built_in.Just = leaf _ form.Just goal.outs-Just refl (search rules)
+built_in_whole a b c many built_in.Stop = leaf _ form.Stop goal.outs-Stop refl (search rules)
+built_in_whole a b c many built_in.Quit = leaf _ form.Quit goal.outs-Quit refl (search rules)
+built_in_whole a b c many built_in.RepeatForever = leaf _ form.Forever goal.outs-Forever refl (search rules)
+built_in_whole a b c many built_in.Query = leaf _ (form.Query a None many) (goal.outs-Query _ _ _) refl (search rules)
+built_in_whole a b c many built_in.QueryWith = leaf _ (form.Query a (Some b) many) (goal.outs-Query _ _ _) refl (search rules)
+built_in_whole a b c many built_in.GetInput = leaf _ (form.Input a) (goal.outs-Input _) refl (search rules)
+built_in_whole a b c many built_in.SplitWord = leaf _ (form.SplitWord a b) (goal.outs-SplitWord _ _) refl (search rules)
+built_in_whole a b c many built_in.JoinWords = leaf _ (form.JoinWords a b) (goal.outs-JoinWords _ _) refl (search rules)
+built_in_whole a b c many (built_in.Gap kind) = leaf _ (form.Gap kind) (goal.outs-Gap _) refl (search rules)
+built_in_whole a b c many built_in.Spaces = leaf _ (form.GapN a) (goal.outs-GapN _) refl (search rules)
+built_in_whole a b c many built_in.HasParent = leaf _ (form.Holds 0 (a ∷ b ∷ []) many) (goal.outs-Holds _ _ _) refl (search rules)
 
 -- a query of a place can be run
 abbrev AskPlaces : Type 0
@@ -128,12 +128,12 @@ place_whole s ps many None e n m = leaf _ (form.Ask (number_in s.names.preds (na
 place_whole s ps many (Some place) e n m =
     leaf _ (form.Holds (in_16_bits place) (terms_of s ps) many) (goal.outs-Holds _ _ _) refl (m (name_of ps) n (there_at (name_of ps) s.places place e) (in_16_bits place) (terms_of s ps) many)
 
-query_whole : (s : Scope) (ps : Parts) (many : Bool) (o : Option Builtin) → builtin_named (name_of ps) ≡ o → MayAsk s.places → is_unbuilt_name (name_of ps) o ≡ false → Whole (query_goal s ps many o ∷ [])
-query_whole s ps many (Some b) e m r = built_in_whole _ _ _ many b r
-query_whole s ps many None e m r = place_whole s ps many (position (bytes_eq (name_of ps)) s.places) refl e m
+query_whole : (s : Scope) (ps : Parts) (many : Bool) (o : Option Builtin) → builtin_named (name_of ps) ≡ o → MayAsk s.places → Whole (query_goal s ps many o ∷ [])
+query_whole s ps many (Some b) e m = built_in_whole _ _ _ many b
+query_whole s ps many None e m = place_whole s ps many (position (bytes_eq (name_of ps)) s.places) refl e m
 
-asked_whole : (s : Scope) (ps : Parts) (many : Bool) → MayAsk s.places → is_unbuilt_name (name_of ps) (builtin_named (name_of ps)) ≡ false → Whole (asked s ps many ∷ [])
-asked_whole s ps many m r = query_whole s ps many (builtin_named (name_of ps)) refl m r
+asked_whole : (s : Scope) (ps : Parts) (many : Bool) → MayAsk s.places → Whole (asked s ps many ∷ [])
+asked_whole s ps many m = query_whole s ps many (builtin_named (name_of ps)) refl m
 
 changes_whole : (s : Scope) (cs : Changes) → IsRun (other thing_form.Now) → Whole (change_goals s cs)
 changes_whole s tree.no_changes r = nothing_whole
@@ -156,9 +156,9 @@ mutual
   stmt_whole : (s : Scope) (n : ℕ) (x : Stmt) → MayAsk s.places → Hold IsRun (of_stmt false x) → Whole (stmt_goals s n x)
   stmt_whole s n (tree.text w) m h = leaf _ (form.Text w) (goal.outs-Text w) refl tt
   stmt_whole s n (tree.print v) m h = leaf _ (form.Print (term_of s v)) (goal.outs-Print _) refl tt
-  stmt_whole s n (tree.ask ps) m h = asked_whole s ps false m h.0
-  stmt_whole s n (tree.ask_all ps) m h = asked_whole s ps true m h.0
-  stmt_whole s n (tree.ask_not ps) m h = not_whole (asked s ps false ∷ []) (asked_whole s ps false m h.0)
+  stmt_whole s n (tree.ask ps) m h = asked_whole s ps false m
+  stmt_whole s n (tree.ask_all ps) m h = asked_whole s ps true m
+  stmt_whole s n (tree.ask_not ps) m h = not_whole (asked s ps false ∷ []) (asked_whole s ps false m)
   stmt_whole s n (tree.group b) m h = unit_whole (lists s n b) (lists_whole s n b m h.1.1)
   stmt_whole s n (tree.not_group b) m h = not_whole (unit (lists s n b)) (unit_whole (lists s n b) (lists_whole s n b m h.1.1))
   stmt_whole s n (tree.now cs) m h = changes_whole s cs h.0

@@ -116,10 +116,44 @@ const SHUT: &str =
 const USES: &str =
     "@(small $X) *(p $X) *(p $Y) ($X < $Y)\n(p 1)\n(p 2)\n(p 3)\n(program entry point) { (small $A) $A (line) (fail) (or) *(small $A) $A (fail) (or) (line) ~(small 3) done }";
 
+const CHANGED: &str =
+    "(global variable (score 0))\n(program entry point) { (now) (score 5) (fail) (or) (score $S) $S }";
+
+const CLOSED: &str =
+    "@($X is closed) ~($X is open)\n(#lid is open)\n(program entry point) (now) (#lid is closed) (if) (#lid is closed) (then) shut (endif)";
+
+const UNDER: &str =
+    "@($X is $R $P) ($X has relation $R) ($X has parent $P)\n(#lamp is #on #table)\n(program entry point) *($X is #on #table) $X";
+
+const KEEPS_MORE: &str =
+    "(global variable (l []))\n(program entry point) *(repeat forever) (l $L) (now) (l [$L | $L]) (fail)";
+
+const IN_ORDER: &str =
+    "(#b is open)\n(#a is open)\n(program entry point) (now) ~(#b is open) *($X is open) $X";
+
+const NO_OBJECT: &str = "(program entry point) (if) (now) (5 is open) (then) y (else) n (endif)";
+
+// The first fact of an object decides, and an unset variable has no value.
+const BEGUN: &str =
+    "(global variable (none $))\n~(#b is open)\n(#b is open)\n(#a is open)\n(#c is open)\n(program entry point) { *($X is open) $X (now) ~(#c is open) (fail) (or) ~(none $) (now) ~($ is open) ~($ is open) done }";
+
 const GATHERS_FOREVER: &str = "(program entry point) x (collect 1) (repeat forever) (into $)\n";
 
 // The words of the command, the source, the status and the transcript.
-const TRANSCRIPTS: [(&str, &str, u8, &str); 40] = [
+const TRANSCRIPTS: [(&str, &str, u8, &str); 48] = [
+    ("debug p.dg", CHANGED, 0, "5\n"),
+    ("debug p.dg", CLOSED, 0, "shut\n"),
+    ("debug p.dg", UNDER, 0, "#lamp\n"),
+    ("debug p.dg", KEEPS_MORE, 3, "[Keep limit]\n"),
+    ("debug p.dg", IN_ORDER, 0, "#a\n"),
+    ("debug p.dg", NO_OBJECT, 0, "n\n"),
+    ("debug p.dg", BEGUN, 0, "#a done\n"),
+    (
+        "debug p.dg",
+        "#hall\n#lamp\n(program entry point) *(object $X) $X (fail)",
+        0,
+        "#hall #lamp\n[Failed]\n",
+    ),
     ("debug p.dg", PLACED, 0, "#lamp\n"),
     ("debug p.dg", SHUT, 0, "n\n"),
     ("debug p.dg", USES, 0, "1\n1 1 2\ndone\n"),
@@ -224,7 +258,37 @@ fn sources_give_their_transcript(rt: HostRuntime) -> Result<(), Fail> {
 }
 
 // The words of the command, the source, the status and the line.
-const REFUSALS: [(&str, &str, u8, &str); 23] = [
+const REFUSALS: [(&str, &str, u8, &str); 28] = [
+    (
+        "debug p.dg",
+        "(program entry point) (now) (a 1 2 3)",
+        1,
+        "p.dg:1: cannot be changed here\n",
+    ),
+    (
+        "debug p.dg",
+        "(program entry point)\n  (now) (#a is one of [])",
+        1,
+        "p.dg:1: cannot be changed here\n",
+    ),
+    (
+        "debug p.dg",
+        "(program entry point) x\n(p) (now) (#a = #b)",
+        1,
+        "p.dg:2: cannot be changed here\n",
+    ),
+    (
+        "debug p.dg",
+        "($X is open) ($X = #lid)\n(program entry point) (now) (#lid is open)",
+        1,
+        "p.dg:1: bad initial value\n",
+    ),
+    (
+        "debug p.dg",
+        "(global variable (score 0))\n(p) x\n(score 5)\n(program entry point) x",
+        1,
+        "p.dg:3: bad initial value\n",
+    ),
     (
         "debug p.dg",
         "@(a) (b)\n@(b) (a)\n(program entry point) x",
@@ -294,7 +358,7 @@ const REFUSALS: [(&str, &str, u8, &str); 23] = [
     ),
     (
         "debug p.dg",
-        "(a) b\n(c)\n  (now) (a)",
+        "(a) b\n(c)\n  (query { b })",
         1,
         "p.dg:2: not built yet\n",
     ),

@@ -123,10 +123,10 @@ declared_given : (rules : List Access) (is : List Item) → AreDeclarations fals
 declared_given rules is d = All-append (λ (i : Item). IsDeclared i.said) (put_items rules (plain_items None is)) (plain_items None prelude_rules) (all_declared rules is d) prelude_declares
 
 -- what can be run of a source can be run once it is rewritten
-run_given : (laws : Laws) (is : List Item) → AreRun is → IsRewritten is (Ok (put_in is)) → AreRun (put_in is)
-run_given laws is run w =
+run_given : (laws : Laws) (is : List Item) → AreRun is → AreRun (put_in is)
+run_given laws is run =
     let heads = plain_items None is in
-    all_put_run (access_rules heads) heads (put_in is) (laws.put heads) (laws.changes is (put_in is) w) (plain_run is (laws.come is) run)
+    all_put_run heads (put_in is) (laws.put heads) (plain_run is (laws.come is) run)
 
 all_if : (P : List ℕ → Type 0) (ns : List (List ℕ)) → ((n : List ℕ) → Contains ns n → P n) → All P ns
 all_if P [] h = All-nil P
@@ -200,5 +200,5 @@ compiled_built laws source p (given ts l (given is read (refused r h e))) = cc
 compiled_built laws source p (given ts l (given is read (given n h (refused r k e)))) = cc
 compiled_built laws source p (given ts l (given is read (given n h (given all u (refused r k e))))) = cc
 compiled_built laws source p (given ts l (given is read (given n h (given all u (given plain w e))))) =
-    let run = subst AreRun (sym w.1.1) (run_given laws is (laws.run is u) (subst (λ (l : List Item). IsRewritten is (Ok l)) w.1.1 w)) in
+    let run = subst AreRun (sym w.1.1) (run_given laws is (laws.run is u)) in
     subst IsBuilt (sym e.1) (laws.built (all_names is) (with_prelude plain) (all_run plain (laws.come prelude_rules) run))
