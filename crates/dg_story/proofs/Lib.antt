@@ -32,3 +32,4 @@ pub mod EndTurns
 pub mod EnterTurns
 pub mod LeaveTurns
 pub mod RuleTurns
+pub mod BareTurns
