@@ -2,7 +2,6 @@
 use Rattle.std.proofs.Common.{◌≡◌, ℕ, zero, suc, ◌+◌, ◌^◌, ◌<◌, ◌≤◌, List, [], ◌∷◌, ◌++◌, true, refl, sym, ap, ◌∙◌, subst, arith, length, length-append, map, take, Bor}
 use Rattle.std.specs.Prelude.{slice_get, reverse}
 use Rattle.std.specs.List.{All}
-use Rattle.std.proofs.lemmas.List.Elements.{All-append}
 use Rattle.std.specs.declared.vec.Vec.{Vec}
 use Rattle.std.specs.declared.alloc.Global.{Global}
 use Rattle.dg_base.specs.declared.program.Goal.{Goal, out-Goal}
@@ -39,9 +38,10 @@ use Rattle.dg_interp.specs.Terms.{Overflows, Written}
 use Rattle.dg_interp.specs.Frames.{stretch, values_in, steps_behind, AreChoices, AreFrames, IsLeft, StandOn, GoBackTo}
 use Rattle.dg_interp.specs.Engine.{store_in, open_in, KeepsPlaces, HasPlace, IsPlace, Point, IsSound, IsReady, TakesAt, FailsAt, BeginsAt, FullAt, Adds, Leads, SameLimits, steps_of}
 use Rattle.dg_unify.specs.Engines.{Agrees}
-use Rattle.dg_interp.proofs.Links.{SameBy, same_here, same_append, behind_new, at_same, frame_raise, frames_raise, frames_append, choices_same, back_same, stand_raise, stand_same}
-use Rattle.dg_interp.proofs.Stores.{kept_here, all_hold, values_kept, hold_front, front_same, appended_stretch}
+use Rattle.dg_interp.proofs.Links.{SameBy, same_here, same_append, behind_new, at_same, frame_raise, frames_append, choices_same, stand_raise, stand_same}
+use Rattle.dg_interp.proofs.Stores.{kept_here, all_hold, values_kept, hold_front, appended_stretch}
 use Rattle.dg_interp.proofs.Kept.{back_limits}
+use Rattle.dg_interp.proofs.Grown.{grown_front, grown_longer, grown_values, grown_hold, grown_back, grown_base, grown_choices}
 use Rattle.dg_interp.proofs.Places.{open_still, adds_on, adds_noted}
 use Rattle.dg_interp.proofs.Takes.{behind, taken_in, comes_of, adds_taken, terms_full}
 use Rattle.dg_interp.proofs.Turns.{all_first, all_rest}
@@ -100,16 +100,16 @@ module _ (old : Engine) (query : Query) (terms : List Term) (store1 : ListBindin
   made = there.written.appended.made
 
   front : take (length xs) ys ≡ take (length xs) xs
-  front = front_same xs made ys there.written.appended.is
+  front = grown_front old store1 refs1 made ready k1 saved1 there.written.appended.is there.written.appended.hold
 
   longer : length xs ≤ length ys
-  longer = omega (arith, ap length there.written.appended.is, length-append xs made)
+  longer = grown_longer old store1 refs1 made ready k1 saved1 there.written.appended.is there.written.appended.hold
 
   same_values : SameBy (length xs) (values_in s xs) (values_in s1 ys)
-  same_values = values_kept (length xs) s s1 xs ys k1 (hold_front s xs ready.sound.base.hold) front
+  same_values = grown_values old store1 refs1 made ready k1 saved1 there.written.appended.is there.written.appended.hold
 
   hold : All (Holds s1) ys
-  hold = subst (All (Holds s1)) (sym there.written.appended.is) (All-append (Holds s1) xs made (all_hold s s1 xs k1 ready.sound.base.hold) there.written.appended.hold)
+  hold = grown_hold old store1 refs1 made ready k1 saved1 there.written.appended.is there.written.appended.hold
 
   -- the values of the arguments
   args_are : (g : Game) → old.program.now ≡ g.program → values_in s1 ys args ≡ map (value_of g.program (values_in s xs old.here.env)) terms
@@ -160,28 +160,13 @@ module _ (old : Engine) (query : Query) (terms : List Term) (store1 : ListBindin
     failing_keeps = saved1 ready.sound.base.places.saved ready.sound.base.places.keeps
 
     failing_back : GoBackTo ys s1.heap_limit s1.trail_limit os ready.sound.base.places.saved
-    failing_back = back_limits ys s.heap_limit s.trail_limit s1.heap_limit s1.trail_limit os ready.sound.base.places.saved (sym k1.heap_limit) (sym k1.trail_limit) (back_same xs ys fs (length fs) (length xs) old.newest s.heap_limit s.trail_limit os ready.sound.base.places.saved front ready.sound.base.choices ready.sound.base.places.back_to)
+    failing_back = grown_back old store1 refs1 made ready k1 saved1 there.written.appended.is there.written.appended.hold
 
     pub failing_sound : IsSound failing
-    failing_sound = record {
-      base = record {
-        program = ready.sound.base.program;
-        sound = ready.sound.base.sound;
-        hold = hold;
-        frames = frames_raise (length fs) (length xs) (length ys) fs longer ready.sound.base.frames;
-        choices = stand_raise fs (length fs) (length fs) (length xs) (length ys) old.newest old.newest os (omega arith) longer (omega arith) ready.sound.base.choices;
-        places = record {
-          saved = ready.sound.base.places.saved;
-          keeps = failing_keeps;
-          back_to = failing_back;
-        };
-      };
-      room = ready.sound.room;
-      picks = ready.sound.picks;
-    }
+    failing_sound = record { base = grown_base old store1 refs1 made ready k1 saved1 there.written.appended.is there.written.appended.hold; room = ready.sound.room; picks = ready.sound.picks }
 
     choices_now : (g : Game) (ms : List Saved) (cs : List Live) → AreChoices g xs fs os ms cs → AreChoices g ys fs os ms cs
-    choices_now g ms cs h = choices_same g xs ys fs fs (length fs) (length xs) old.newest os ms cs front (same_here (length fs) fs) ready.sound.base.choices h
+    choices_now g ms cs h = grown_choices old store1 refs1 made ready k1 saved1 there.written.appended.is there.written.appended.hold g ms cs h
 
     pub asks_none : rules.now ≡ [] → Leads from (FailsAt failing)
     asks_none none g n w run st =

@@ -4,7 +4,6 @@ use Rattle.std.specs.Prelude.{Ok, Err, slice_get, not, filter, nat_eq}
 use Rattle.std.specs.Prelude.{Result as Answer}
 use Rattle.std.specs.List.{All}
 use Rattle.std.proofs.lemmas.List.Elements.{All-cons, All-head, All-tail}
-use denote.Hole.Carrier.{out}
 use Rattle.dg_base.specs.declared.program.Goal.{Goal, out-Goal}
 use Rattle.dg_base.specs.declared.program.Goal.TheVariants.{Now, outs-Now}
 use Rattle.dg_base.specs.declared.program.PlaceKind.{PlaceKind}
@@ -35,7 +34,7 @@ use Rattle.dg_interp.specs.declared.engine.Engine.{Engine}
 use Rattle.dg_interp.specs.declared.outside.Outside.{Outside}
 use Rattle.dg_interp.specs.Frames.{values_in}
 use Rattle.dg_interp.specs.Outside.{outline, HaveGathered, InWorld}
-use Rattle.dg_interp.specs.Engine.{store_in, limit_in, KeepsPlaces, steps_of, IsReady, IsOnStore, TakesAt, StandsAt, FailsAt, PassesLimit, Leads, Then, SameLimits, WentOn}
+use Rattle.dg_interp.specs.Engine.{store_in, limit_in, KeepsPlaces, steps_of, IsReady, TakesAt, StandsAt, FailsAt, PassesLimit, Leads, Then, SameLimits, WentOn}
 use Rattle.dg_interp.specs.Changing.{all_in_store, SetsFormed, Became}
 use Rattle.dg_interp.specs.Made.{MadeArgs, changes_at, ChangedMade}
 use Rattle.dg_interp.proofs.Takes.{behind, taken_in, comes_of}

@@ -1,5 +1,5 @@
 -- What a goal that reads a line comes to.
-use Rattle.std.proofs.Common.{◌≡◌, ◌≢◌, ◌⊎◌, inl, inr, ℕ, zero, suc, ◌+◌, ◌<◌, ◌≤◌, List, [], ◌∷◌, ◌++◌, Bool, true, false, cond, eqb, Option, Some, None, refl, sym, ap, ◌∙◌, subst, arith, length, length-append, Ok, Err}
+use Rattle.std.proofs.Common.{◌≡◌, ◌≢◌, inl, inr, ℕ, suc, ◌+◌, ◌<◌, ◌≤◌, List, [], ◌∷◌, ◌++◌, Bool, true, false, cond, eqb, Option, Some, None, refl, sym, ap, ◌∙◌, subst, arith, length, length-append, Ok, Err}
 use Rattle.std.specs.Prelude.{Result, IfOk, IfErr, encode_utf8_all}
 use Rattle.std.specs.Io.KnownBytes.{IsAtEnd, Keeps}
 use Rattle.std.proofs.lemmas.List.{append-nil, append_cancel_left}
@@ -10,22 +10,21 @@ use Rattle.dg_base.specs.declared.program.Goal.TheVariants.{Input}
 use Rattle.dg_base.specs.declared.program.GapKind.TheVariants.{Line}
 use Rattle.dg_base.specs.declared.program.Term.{Term}
 use Rattle.dg_base.specs.declared.run.Ending.{Ending}
-use Rattle.dg_base.specs.declared.run.Ending.TheVariants.{Failed, InputEnded, StepLimit}
+use Rattle.dg_base.specs.declared.run.Ending.TheVariants.{Failed, InputEnded}
 use Rattle.dg_base.specs.declared.run.RunFault.{RunFault}
-use Rattle.dg_base.specs.declared.run.RunFault.TheVariants.{Read, Write, OutOfMemory}
+use Rattle.dg_base.specs.declared.run.RunFault.TheVariants.{Write, OutOfMemory}
 use Rattle.dg_base.proofs.WrittenLemmas.{broke_later}
-use Rattle.dg_meaning.specs.Copies.{copy_cells}
 use Rattle.dg_meaning.specs.Letters.{copied}
 use Rattle.dg_meaning.specs.Values.{Value}
-use Rattle.dg_meaning.specs.Words.{line_within, behind_line, behind_first, first_line, letters_of, line_value, reading}
+use Rattle.dg_meaning.specs.Words.{behind_line, behind_first, first_line, letters_of, line_value, reading}
 use Rattle.dg_base.specs.Units.{units_of}
-use Rattle.dg_meaning.specs.World.{Game, World, Event, Print, Prints, GapOf, prints, worked}
+use Rattle.dg_meaning.specs.World.{Game, World, Print, Prints, GapOf, prints, worked}
 use Rattle.dg_meaning.specs.Path.{Failing, End}
-use Rattle.dg_meaning.specs.Moves.{printed, move_of, gives, takes_line}
+use Rattle.dg_meaning.specs.Moves.{printed, move_of, takes_line}
 use Rattle.dg_meaning.specs.Render.{render}
 use Rattle.dg_meaning.specs.Growth.{growth}
-use Rattle.dg_meaning.specs.OneRun.{Begins, Grows}
-use Rattle.dg_meaning.specs.Peaks.{Area, Heap, Trail, Aux, Keep, greatest, limit_ending}
+use Rattle.dg_meaning.specs.OneRun.{Grows}
+use Rattle.dg_meaning.specs.Peaks.{Area, Heap, Trail, greatest}
 use Rattle.dg_meaning.specs.Keeps.{Finished, Went}
 use Rattle.dg_meaning.specs.Shows.{IsLeft}
 use Rattle.dg_meaning.specs.Transcript.{Run, text_of, start_world}
@@ -40,16 +39,15 @@ use Rattle.dg_words.specs.Lines.{Took, IsOver}
 use Rattle.dg_words.specs.Letters.{IsLine}
 use Rattle.dg_words.proofs.LineLemmas.{left_shorter}
 use Rattle.dg_interp.specs.declared.engine.Engine.{Engine}
-use Rattle.dg_interp.specs.declared.lack.Lack.{Lack}
-use Rattle.dg_interp.specs.Lacks.{area_of, lack_of, as_stored}
-use Rattle.dg_interp.specs.Engine.{store_in, steps_of, limit_in, There, IsReady, StandsAt, TakesAt, Taken, Then, WentOn, HasEndedSo, Branches, FullAt, PassesLimit, LackAt, LacksIn, SameLimits}
+use Rattle.dg_interp.specs.Lacks.{as_stored}
+use Rattle.dg_interp.specs.Engine.{store_in, steps_of, limit_in, StandsAt, Taken, Then, WentOn, HasEndedSo, Branches, FullAt, PassesLimit, SameLimits}
 use Rattle.dg_interp.specs.Interpret.{game, told_behind, left_told}
 use Rattle.dg_interp.specs.Printing.{Added}
-use Rattle.dg_interp.specs.Running.{HasText, Writes, Gave, LeftBehind, Awaits, Stretch, Reaches, HasEnded, MeetsLimit, Ended, IsBroken, IsLimited, TakesMore, LosesInput, Broken, GoalDone, DoesGoal, ending_at, over, outcome_of}
+use Rattle.dg_interp.specs.Running.{HasText, Writes, Gave, Awaits, Stretch, Reaches, HasEnded, MeetsLimit, IsBroken, IsLimited, TakesMore, LosesInput, Broken, GoalDone, DoesGoal, over, outcome_of}
 use Rattle.dg_interp.specs.Spelling.{IsShort, SpellsSome}
 use Rattle.dg_interp.specs.Wording.{words_in, MakesAt, TakesLineAt, AwaitsInput}
 use Rattle.dg_interp.proofs.Places.{inside_in, limits_at, limits_on, adds_nothing}
-use Rattle.dg_interp.proofs.Runs.{gave_nothing, as_told, stretched, reads_nothing, writes_nothing, text_added, text_begins, render_grows, finished_so, lack_from, ended_at, limited_at, no_more}
+use Rattle.dg_interp.proofs.Runs.{as_told, stretched, writes_nothing, text_added, text_begins, render_grows, finished_so, ended_at, limited_at, no_more}
 use Rattle.dg_interp.proofs.Rounds.{stretch_on}
 use Rattle.dg_interp.proofs.Wordings.{made_grows, made_later}
 use Rattle.dg_interp.proofs.TypedLetters.{line_short}

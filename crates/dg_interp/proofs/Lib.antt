@@ -13,6 +13,7 @@ pub mod BodyLemmas
 pub mod Trials
 pub mod Kept
 pub mod Begun
+pub mod Grown
 pub mod Begins
 pub mod Branches
 pub mod PassedRules

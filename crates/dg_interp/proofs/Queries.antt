@@ -3,7 +3,6 @@ use Rattle.std.proofs.Common.{◌≡◌, ℕ, zero, suc, ◌+◌, ◌-◌, ◌^�
 use Rattle.std.specs.Prelude.{slice_get, reverse}
 use Rattle.std.specs.List.{All, zip}
 use Rattle.std.proofs.lemmas.List.{append-nil}
-use Rattle.std.proofs.lemmas.List.Elements.{All-append}
 use Rattle.std.specs.declared.vec.Vec.{Vec}
 use Rattle.std.specs.declared.alloc.Global.{Global}
 use Rattle.dg_base.specs.declared.program.Goal.{Goal, out-Goal}
@@ -41,9 +40,9 @@ use Rattle.dg_interp.specs.Terms.{Overflows, BothMade}
 use Rattle.dg_interp.specs.Engine.{store_in, KeepsPlaces, Point, IsSound, IsReady, TakesAt, FailsAt, FullAt, Adds, Leads, SameLimits, WentOn, steps_of}
 use Rattle.dg_interp.specs.Querying.{QueriesAt, mark_of}
 use Rattle.dg_interp.proofs.Begins.{began_peaks}
-use Rattle.dg_interp.proofs.Links.{SameBy, same_here, same_append, behind_new, at_same, frame_raise, frames_raise, frames_append, choices_same, back_same, stand_raise, stand_same}
-use Rattle.dg_interp.proofs.Stores.{all_hold, values_kept, hold_front, front_same, appended_stretch, trail_append, trail_older, made_is}
-use Rattle.dg_interp.proofs.Kept.{back_limits}
+use Rattle.dg_interp.proofs.Links.{SameBy, same_here, same_append, behind_new, at_same, frame_raise, frames_append, choices_same, stand_raise, stand_same}
+use Rattle.dg_interp.proofs.Stores.{values_kept, hold_front, appended_stretch, trail_append, trail_older, made_is}
+use Rattle.dg_interp.proofs.Grown.{grown_front, grown_longer, grown_values, grown_hold, grown_back, grown_base, grown_choices}
 use Rattle.dg_interp.proofs.Places.{inside_kept, adds_nothing}
 use Rattle.dg_interp.proofs.Takes.{behind as after_terms, taken_in, comes_of, adds_taken, terms_full}
 use Rattle.dg_interp.proofs.Values.{made_among, term_full, agrees_behind}
@@ -265,16 +264,16 @@ module _ (value : Ref) (many : Bool) (old : Engine) (ready : IsReady old) where
       made = enters.appended.made
 
       front : take (length xs) ys ≡ take (length xs) xs
-      front = front_same xs made ys enters.appended.is
+      front = grown_front old store2 refs2 made ready k2 saved2 enters.appended.is enters.appended.hold
 
       longer : length xs ≤ length ys
-      longer = omega (arith, ap length enters.appended.is, length-append xs made)
+      longer = grown_longer old store2 refs2 made ready k2 saved2 enters.appended.is enters.appended.hold
 
       now : SameBy (length xs) (values_in s xs) (values_in s2 ys)
-      now = values_kept (length xs) s s2 xs ys k2 (hold_front s xs ready.sound.base.hold) front
+      now = grown_values old store2 refs2 made ready k2 saved2 enters.appended.is enters.appended.hold
 
       hold : All (Holds s2) ys
-      hold = subst (All (Holds s2)) (sym enters.appended.is) (All-append (Holds s2) xs made (all_hold s s2 xs k2 ready.sound.base.hold) enters.appended.hold)
+      hold = grown_hold old store2 refs2 made ready k2 saved2 enters.appended.is enters.appended.hold
 
       abbrev pub entering : Engine
       entering = record old { store = store2; refs = refs2 }
@@ -283,24 +282,13 @@ module _ (value : Ref) (many : Bool) (old : Engine) (ready : IsReady old) where
       entering_limits = record { heap = k2.heap_limit; trail = k2.trail_limit; aux = refl; keep = refl }
 
       back_now : GoBackTo ys s2.heap_limit s2.trail_limit os ready.sound.base.places.saved
-      back_now = back_limits ys s.heap_limit s.trail_limit s2.heap_limit s2.trail_limit os ready.sound.base.places.saved (sym k2.heap_limit) (sym k2.trail_limit) (back_same xs ys fs (length fs) (length xs) old.newest s.heap_limit s.trail_limit os ready.sound.base.places.saved front ready.sound.base.choices ready.sound.base.places.back_to)
+      back_now = grown_back old store2 refs2 made ready k2 saved2 enters.appended.is enters.appended.hold
 
       pub entering_sound : IsSound entering
-      entering_sound = record {
-        base = record {
-          program = ready.sound.base.program;
-          sound = ready.sound.base.sound;
-          hold = hold;
-          frames = frames_raise (length fs) (length xs) (length ys) fs longer ready.sound.base.frames;
-          choices = stand_raise fs (length fs) (length fs) (length xs) (length ys) old.newest old.newest os (omega arith) longer (omega arith) ready.sound.base.choices;
-          places = record { saved = ready.sound.base.places.saved; keeps = saved2 ready.sound.base.places.saved ready.sound.base.places.keeps; back_to = back_now };
-        };
-        room = ready.sound.room;
-        picks = ready.sound.picks;
-      }
+      entering_sound = record { base = grown_base old store2 refs2 made ready k2 saved2 enters.appended.is enters.appended.hold; room = ready.sound.room; picks = ready.sound.picks }
 
       choices_now : (g : Game) (ms : List Saved) (cs : List Live) → AreChoices g xs fs os ms cs → AreChoices g ys fs os ms cs
-      choices_now g ms cs h = choices_same g xs ys fs fs (length fs) (length xs) old.newest os ms cs front (same_here (length fs) fs) ready.sound.base.choices h
+      choices_now g ms cs h = grown_choices old store2 refs2 made ready k2 saved2 enters.appended.is enters.appended.hold g ms cs h
 
       adds_begun : (r : Registers) (work : ℕ) (w : World) → Adds [] w (begun r work w)
       adds_begun r work w = record { prints_are = sym (append-nil (prints w.events)); typed = refl }

@@ -1,7 +1,7 @@
 -- Words and numbers by their letters.
 use Rattle.std.proofs.Common.{◌≡◌, ℕ, zero, suc, ◌+◌, ◌<◌, ◌≤◌, Bool, true, false, cond, List, [], ◌∷◌, ◌++◌, Option, Some, None, inl, inr, refl, sym, ap, ◌∙◌, subst, arith, length, append_assoc, append-nil}
 use Rattle.std.specs.Prelude.{◌*◌, ◌-◌, ◌↔◌, map, take, drop, get_or, slice_get, Result, Ok, Err, MatchResult, eqb, count_by, encode_utf8_all, option_map, IfSome}
-use Rattle.std.specs.List.{All, sum_by}
+use Rattle.std.specs.List.{All}
 use Rattle.std.specs.Str.{chars, IsAscii, all_scalars}
 use Rattle.std.specs.Fmt.{decimal}
 use Rattle.std.proofs.Math.Seq.{drop-append_seam, take-append_seam}
@@ -14,7 +14,7 @@ use Rattle.std.proofs.lemmas.Bool.{le-leb, lt-leb, cases_lt}
 use Rattle.std.proofs.lemmas.Option.{slice_get_within, get_or_from_slice_get, slice_get_cases}
 use Rattle.std.proofs.Math.Utf8.{encode}
 use Rattle.dg_base.specs.Sound.{IsName, IsPrintable}
-use Rattle.dg_meaning.specs.Values.{Label, Num, Word, Unknown, Object, Nil, Pair, Closure, Value, Var, Node, Values, NoMore, More, leaf, pair}
+use Rattle.dg_meaning.specs.Values.{Label, Num, Word, Unknown, Object, Nil, Pair, Closure, Value, Var, Node, Values, NoMore, leaf, pair}
 use Rattle.dg_meaning.specs.Substitutions.{resolved, all_resolved, IsSubstitution}
 use Rattle.dg_meaning.proofs.Walks.{resolved_node, resolved_unbound, walked}
 use Rattle.dg_meaning.specs.Copies.{copy_cells, list_of}

@@ -1,10 +1,9 @@
 -- Objects that are tried with the arguments of a query.
-use Rattle.std.proofs.Common.{◌≡◌, ℕ, ◌+◌, ◌-◌, ◌<◌, ◌≤◌, List, [], ◌∷◌, ◌++◌, Bool, true, false, Option, Some, None, refl, sym, ap, ◌∙◌, subst, arith, length, length-append, map, take, Bor}
+use Rattle.std.proofs.Common.{◌≡◌, ℕ, ◌+◌, ◌-◌, ◌<◌, ◌≤◌, List, [], ◌∷◌, ◌++◌, Bool, true, false, Option, Some, None, refl, sym, ap, ◌∙◌, subst, arith, length, map, Bor}
 use Rattle.std.specs.Prelude.{nat_lt, reverse, if◌then◌else◌}
 use Rattle.std.specs.List.{All, zip}
 use Rattle.std.proofs.lemmas.Bool.{ltb-true}
 use Rattle.std.proofs.lemmas.List.{append-nil}
-use Rattle.std.proofs.lemmas.List.Elements.{All-append}
 use Rattle.std.specs.declared.vec.Vec.{Vec}
 use Rattle.std.specs.declared.alloc.Global.{Global}
 use Rattle.dg_base.specs.declared.cells.Simple.{Simple}
@@ -47,8 +46,9 @@ use Rattle.dg_interp.specs.Giving.{SolvesAt}
 use Rattle.dg_interp.specs.Finding.{made_values, TriesObjectsAt, FindsAt}
 use Rattle.dg_interp.specs.Engine.{Point, store_in, KeepsPlaces, steps_of, HasPlace, IsSound, IsReady, IsPushed, FailsAt, FullAt, BeginsAt, OpensAt, Leads, SameLimits, WentWrong, kept_if, open_in}
 use Rattle.dg_interp.proofs.Trials.{numbers_counted, counted_first, counted_some, trials_all}
-use Rattle.dg_interp.proofs.Stores.{kept_here, values_kept, values_count, hold_front, front_same, appended_stretch}
-use Rattle.dg_interp.proofs.Links.{SameBy, same_here, behind_same, at_same, frame_raise, frames_raise, choices_same, back_same, stand_raise}
+use Rattle.dg_interp.proofs.Stores.{kept_here, values_kept, values_count, hold_front, appended_stretch}
+use Rattle.dg_interp.proofs.Links.{SameBy, same_here, behind_same, at_same, frame_raise}
+use Rattle.dg_interp.proofs.Grown.{grown_longer, grown_values, grown_base, grown_choices}
 use Rattle.dg_interp.proofs.MatchLemmas.{zip_none}
 use Rattle.dg_interp.proofs.Places.{adds_nothing, inside_in, open_still, limits_here}
 use Rattle.dg_interp.proofs.Queries.{marked}
@@ -333,38 +333,14 @@ module _ (old : Engine) (refs1 : Vec Ref Global) (made : List Ref) (ready : IsRe
   abbrev pub grown : Engine
   grown = record old { refs = refs1 }
 
-  front : take (length before) after ≡ take (length before) before
-  front = front_same before made after is
-
-  longer : length before ≤ length after
-  longer = omega (arith, ap length is, length-append before made)
-
-  grown_values : SameBy (length before) (values_in s2 before) (values_in s2 after)
-  grown_values = values_kept (length before) s2 s2 before after (kept_here s2) (hold_front s2 before ready.sound.base.hold) front
-
   pub grown_ready : IsReady grown
   grown_ready = record {
-    sound = record {
-      base = record {
-        program = ready.sound.base.program;
-        sound = ready.sound.base.sound;
-        hold = subst (All (Holds s2)) (sym is) (All-append (Holds s2) before made ready.sound.base.hold hold);
-        frames = frames_raise (length all_frames) (length before) (length after) all_frames longer ready.sound.base.frames;
-        choices = stand_raise all_frames (length all_frames) (length all_frames) (length before) (length after) old.newest old.newest all_choices (omega arith) longer (omega arith) ready.sound.base.choices;
-        places = record {
-          saved = ready.sound.base.places.saved;
-          keeps = ready.sound.base.places.keeps;
-          back_to = back_same before after all_frames (length all_frames) (length before) old.newest s2.heap_limit s2.trail_limit all_choices ready.sound.base.places.saved front ready.sound.base.choices ready.sound.base.places.back_to;
-        };
-      };
-      room = ready.sound.room;
-      picks = ready.sound.picks;
-    };
-    here = frame_raise (length all_frames) (length all_frames) (length before) (length after) old.here (omega arith) longer ready.here;
+    sound = record { base = grown_base old old.store refs1 made ready (kept_here s2) (λ ms h. h) is hold; room = ready.sound.room; picks = ready.sound.picks };
+    here = frame_raise (length all_frames) (length all_frames) (length before) (length after) old.here (omega arith) (grown_longer old old.store refs1 made ready (kept_here s2) (λ ms h. h) is hold) ready.here;
   }
 
   grown_steps : steps_of grown ≡ steps_of old
-  grown_steps = at_same (length before) (values_in s2 before) (values_in s2 after) all_frames all_frames (length all_frames) old.here ready.here grown_values ready.sound.base.frames (same_here (length all_frames) all_frames)
+  grown_steps = at_same (length before) (values_in s2 before) (values_in s2 after) all_frames all_frames (length all_frames) old.here ready.here (grown_values old old.store refs1 made ready (kept_here s2) (λ ms h. h) is hold) ready.sound.base.frames (same_here (length all_frames) all_frames)
 
   module _ (place : Option ℕ) (many : Bool) (next : Engine) (end : ℕ) (push : IsPushed grown.here grown next) (may : may_find (kinds_of old.program.now) place ≡ true) (end_is : end ≡ length old.program.now.objects) (made_is : made ≡ old.made.items) where
     abbrev pub all_tried : Trial
@@ -422,7 +398,7 @@ module _ (old : Engine) (refs1 : Vec Ref Global) (made : List Ref) (ready : IsRe
                 lives_are = at.inside.lives_are;
                 saved = at.inside.saved;
                 keeps = at.inside.keeps;
-                choices = choices_same g before after all_frames all_frames (length all_frames) (length before) old.newest all_choices at.inside.saved at.inside.entries front (same_here (length all_frames) all_frames) ready.sound.base.choices at.inside.choices;
+                choices = grown_choices old old.store refs1 made ready (kept_here s2) (λ ms h. h) is hold g at.inside.saved at.inside.entries at.inside.choices;
                 world = at.inside.world;
               };
               ways = at.ways;

@@ -1,10 +1,10 @@
 -- What splitting and joining words and reading a line come to.
-use Rattle.std.proofs.Common.{◌≡◌, ℕ, ◌+◌, ◌<◌, List, [], ◌∷◌, ◌++◌, Bool, true, false, Option, Some, None, refl, sym, ap, ◌∙◌, subst, arith, length}
-use Rattle.std.specs.Prelude.{Ok, Err, IfOk, IfErr, MatchResult}
+use Rattle.std.proofs.Common.{◌≡◌, ℕ, ◌+◌, List, [], ◌∷◌, Bool, true, false, Option, Some, None, refl, sym, ap, ◌∙◌, subst, arith, length}
+use Rattle.std.specs.Prelude.{IfOk, IfErr}
 use Rattle.std.specs.Prelude.{Result as Answer}
 use Rattle.std.specs.declared.vec.Vec.{Vec}
 use Rattle.std.specs.declared.alloc.Global.{Global}
-use Rattle.dg_base.specs.declared.program.Goal.{Goal, out-Goal}
+use Rattle.dg_base.specs.declared.program.Goal.{out-Goal}
 use Rattle.dg_base.specs.declared.program.Goal.TheVariants.{SplitWord, JoinWords, Input, outs-SplitWord, outs-JoinWords, outs-Input}
 use Rattle.dg_base.specs.declared.program.Term.{Term}
 use Rattle.dg_base.specs.declared.program.CoreProgram.{CoreProgram}
@@ -17,9 +17,9 @@ use Rattle.dg_meaning.specs.Substitutions.{walk, resolved}
 use Rattle.dg_meaning.specs.Unify.{Unified, solve}
 use Rattle.dg_meaning.specs.Words.{letters_in_word, joined_letters, each_alone, spelled_value, spelled_list, reading}
 use Rattle.dg_meaning.specs.World.{Game, World, worked}
-use Rattle.dg_meaning.specs.Path.{Registers, Step, Act, Unifies, Fails, Moves, Failing}
+use Rattle.dg_meaning.specs.Path.{Registers, Unifies, Fails, Moves}
 use Rattle.dg_meaning.specs.Moves.{looked_up, whole_looks, outcome, move_of, more_heap, gives, splits, joins, takes_line, begun, unifying, bound_by, made_since, goes_on_if}
-use Rattle.dg_meaning.specs.OneRun.{Grows, Begins}
+use Rattle.dg_meaning.specs.OneRun.{Grows}
 use Rattle.dg_meaning.specs.Transcript.{Run}
 use Rattle.dg_meaning.specs.Keeps.{Went, world_at}
 use Rattle.dg_meaning.proofs.Keeps.{has_happened}
@@ -33,16 +33,15 @@ use Rattle.dg_interp.specs.declared.engine.Engine.{Engine}
 use Rattle.dg_interp.specs.Frames.{values_in}
 use Rattle.dg_interp.specs.Terms.{Overflows, BothMade}
 use Rattle.dg_interp.specs.Engine.{store_in, KeepsPlaces, steps_of, IsReady, TakesAt, FailsAt, FullAt, Leads, Branches}
-use Rattle.dg_interp.specs.Giving.{ActsAt, UnifiesAt}
+use Rattle.dg_interp.specs.Giving.{UnifiesAt}
 use Rattle.dg_interp.specs.Interpret.{game}
-use Rattle.dg_interp.specs.Spelling.{MakesValue}
-use Rattle.dg_interp.specs.Wording.{words_in, MakesAt, TakesLineAt, AwaitsInput}
+use Rattle.dg_interp.specs.Wording.{words_in, MakesAt, AwaitsInput}
 use Rattle.dg_meaning.proofs.OneRun.{grows_on, begun_grows}
 use Rattle.dg_interp.proofs.Stores.{told_kept}
 use Rattle.dg_interp.proofs.Takes.{store_ready}
 use Rattle.dg_interp.proofs.Places.{adds_nothing}
 use Rattle.dg_interp.proofs.BothLemmas.{made_holds}
-use Rattle.dg_interp.proofs.Giving.{with_store, kept_limits, acts_on, written_acts, written_full, branches_made}
+use Rattle.dg_interp.proofs.Giving.{with_store, kept_limits, acts_on, written_acts, branches_made}
 use Rattle.dg_interp.proofs.Branches.{full_made}
 
 -- ## A value that is made

@@ -4,7 +4,7 @@ use Rattle.dg_base.specs.declared.run.Ending.{Ending}
 use Rattle.dg_base.specs.declared.run.Ending.TheVariants.{Failed, InputEnded, StepLimit, HeapLimit, TrailLimit, AuxLimit, KeepLimit}
 use Rattle.dg_base.specs.declared.run.RunFault.{RunFault}
 use Rattle.dg_base.specs.declared.run.RunFault.TheVariants.{Read, Write, OutOfMemory}
-use Rattle.dg_meaning.specs.World.{Game, World, Event, Print, prints}
+use Rattle.dg_meaning.specs.World.{Game, World, Print, prints}
 use Rattle.dg_meaning.specs.Render.{render}
 use Rattle.dg_meaning.specs.Transcript.{Run, text_of}
 use Rattle.dg_meaning.specs.OneRun.{Begins, EndsWith, Grows}

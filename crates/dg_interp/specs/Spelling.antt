@@ -1,6 +1,6 @@
 -- What words and numbers become that are read letter by letter. Hold it against docs/LANGUAGE.md, "Typed lines and words", and "Built-in queries" on
 -- splitting and joining words.
-use Rattle.std.specs.Prelude.{◌≡◌, ◌<◌, ◌≤◌, ◌++◌, ℕ, List, [], ◌∷◌, Option, Some, None, Bool, true, false, Result, MatchResult, map, length, count_by, encode_utf8_all}
+use Rattle.std.specs.Prelude.{◌≡◌, ◌<◌, ◌≤◌, ◌++◌, ℕ, List, Option, Some, None, Bool, true, false, Result, MatchResult, map, length, count_by, encode_utf8_all}
 use Rattle.std.specs.List.{sum_by}
 use Rattle.dg_meaning.specs.Copies.{copy_cells}
 use Rattle.dg_meaning.specs.Values.{Value}

@@ -1,4 +1,4 @@
-use Rattle.std.proofs.Common.{◌≡◌, ℕ, List, true, false, Ok, sym, subst, ap, ◌∙◌}
+use Rattle.std.proofs.Common.{Ok, sym, subst, ap, ◌∙◌}
 use Rattle.dg_words.specs.Lines.{Took, IsOver}
 use Rattle.dg_words.specs.Letters.{IsLine, ReadsLine}
 use Rattle.dg_meaning.specs.Words.{letters_of, first_line}

@@ -1,9 +1,9 @@
-use Rattle.std.proofs.Common.{◌≡◌, true, false, refl, sym, subst, ap, arith, rules}
+use Rattle.std.proofs.Common.{◌≡◌, true, false, subst, ap, arith, rules}
 use Rattle.dg_meaning.specs.Unify.{size}
 use Rattle.dg_meaning.specs.Words.{letters_in_word}
 use Rattle.dg_unify.proofs.StoreLemmas.{walked_to}
 use Rattle.dg_interp.specs.Printing.{value_at}
-use Rattle.dg_interp.specs.Spelling.{JoinsWord, IsJoined}
+use Rattle.dg_interp.specs.Spelling.{JoinsWord}
 use Rattle.dg_interp.proofs.PrintLemmas.{pair_of}
 use Rattle.dg_interp.proofs.SpellLemmas.{joining_starts, joining_on, joining_refused, joining_over, word_walked, end_shown}
 use Rattle.dg_interp.proofs.spelling.join_list.Goals as goal

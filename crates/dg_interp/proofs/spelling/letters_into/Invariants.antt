@@ -1,4 +1,4 @@
-use Rattle.std.proofs.Common.{◌≡◌, ◌≤◌, ◌-◌, ℕ, List, length}
+use Rattle.std.proofs.Common.{◌-◌, ℕ, List}
 use Rattle.dg_unify.specs.Store.{IsUnknownAt}
 use Rattle.dg_interp.proofs.SpellLemmas.{LettersTo}
 use Rattle.dg_interp.proofs.spelling.letters_into.Given as goal

@@ -1,5 +1,5 @@
-use Rattle.std.proofs.Common.{◌≡◌, ◌∙◌, ◌+◌, ◌-◌, ◌<◌, ◌≤◌, List, ℕ, refl, sym, ap, subst, arith, length, take}
-use Rattle.std.specs.Prelude.{drop, encode_utf8_all}
+use Rattle.std.proofs.Common.{◌≡◌, ◌∙◌, ◌+◌, ◌-◌, refl, ap, arith, length, take}
+use Rattle.std.specs.Prelude.{drop}
 use Rattle.std.proofs.Math.Utf8.{encode}
 use Rattle.dg_unify.proofs.StoreLemmas.{kept_on, kept_same}
 use Rattle.dg_interp.proofs.SpellLemmas.{letters_start, letter_here, letter_end, letters_go, letters_full, letters_done, short_letter, letter_bytes, some_left, encoded_some}

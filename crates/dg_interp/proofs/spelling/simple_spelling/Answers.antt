@@ -1,4 +1,4 @@
-use Rattle.std.proofs.Common.{◌≡◌, Some, sym, ap, ◌∙◌, subst}
+use Rattle.std.proofs.Common.{Some, sym, ap, ◌∙◌, subst}
 use Rattle.std.specs.Prelude.{encode_utf8_all, option_map, IfSome}
 use Rattle.dg_meaning.specs.Values.{leaf}
 use Rattle.dg_meaning.specs.Words.{letters_in_word}

@@ -1,5 +1,5 @@
-use Rattle.std.proofs.Common.{◌≡◌, length, sym, rules}
-use Rattle.dg_meaning.specs.Words.{each_alone, spellings_of}
+use Rattle.std.proofs.Common.{rules}
+use Rattle.dg_meaning.specs.Words.{spellings_of}
 use Rattle.dg_interp.proofs.SpellLemmas.{list_made, list_full}
 use Rattle.dg_interp.proofs.spelling.write_line.Goals as goal
 

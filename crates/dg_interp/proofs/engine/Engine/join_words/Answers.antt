@@ -1,5 +1,4 @@
-use Rattle.std.proofs.Common.{◌≡◌, [], ◌∷◌, Some, None, true, false, rules, refl, sym, subst, ap, ◌∙◌, List, ℕ, Option}
-use Rattle.dg_base.specs.declared.program.CoreProgram.{CoreProgram}
+use Rattle.std.proofs.Common.{◌≡◌, [], ◌∷◌, None, true, false, rules, refl, subst, ap, ◌∙◌}
 use Rattle.dg_base.specs.declared.program.Goal.TheVariants.{JoinWords}
 use Rattle.dg_meaning.specs.Words.{joined_letters, spelled_value}
 use Rattle.dg_interp.specs.Frames.{stretch}

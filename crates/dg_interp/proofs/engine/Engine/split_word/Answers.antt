@@ -1,10 +1,7 @@
-use Rattle.std.proofs.Common.{◌≡◌, [], ◌∷◌, Some, None, refl, sym, subst, ap, ◌∙◌, List, ℕ, Option}
-use Rattle.std.specs.Prelude.{IfSome}
-use Rattle.dg_base.specs.declared.program.CoreProgram.{CoreProgram}
+use Rattle.std.proofs.Common.{◌≡◌, [], ◌∷◌, Some, None, refl, sym, ap, ◌∙◌}
 use Rattle.dg_base.specs.declared.program.Goal.TheVariants.{SplitWord}
 use Rattle.dg_meaning.specs.Words.{letters_in_word, each_alone, spelled_list}
 use Rattle.dg_unify.proofs.StoreLemmas.{walked_to}
-use Rattle.dg_words.specs.Letters.{AreSmall}
 use Rattle.dg_interp.specs.Frames.{stretch}
 use Rattle.dg_interp.specs.Engine.{store_in, FailsAt, TakesAt}
 use Rattle.dg_interp.specs.Wording.{words_in, MakesAt}
