@@ -59,6 +59,16 @@ row_at_map f (x ∷ rules) behind zero r e = ap f (first e)
     first e = cc
 row_at_map f (x ∷ rules) behind (suc k) r e = row_at_map f rules behind k r e
 
+off : (b c : Bool) → b ≡ (b || (false && c))
+off true c = refl
+off false c = refl
+
+-- a way that leads nowhere adds nothing
+pub joined_off : (row through : List Bool) → row ≡ joined false row through
+joined_off [] through = refl
+joined_off (x ∷ row) [] = ap (λ (l : List Bool). x ∷ l) (joined_off row []) ∙ ap (λ (b : Bool). b ∷ joined false row []) (off x false)
+joined_off (x ∷ row) (y ∷ through) = ap (λ (l : List Bool). x ∷ l) (joined_off row through) ∙ ap (λ (b : Bool). b ∷ joined false row through) (off x y)
+
 joined_map : (over : Bool) (f g : Access → Bool) (rules : List Access) → joined over (map f rules) (map g rules) ≡ map (λ (t : Access). f t || (over && g t)) rules
 joined_map over f g [] = refl
 joined_map over f g (x ∷ rules) = ap (λ l. (f x || (over && g x)) ∷ l) (joined_map over f g rules)

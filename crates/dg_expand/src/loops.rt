@@ -1,5 +1,5 @@
 // Access rules that loop or are repeated.
-ghost use Rattle.std.specs.Prelude.{◌≡◌, ◌||◌, ◌&&◌, [], map, IfOk};
+ghost use Rattle.std.specs.Prelude.{◌≡◌, ◌||◌, [], true, map, IfOk};
 ghost use Rattle.std.specs.List.{list_any};
 ghost use Rattle.std.specs.Option.{option_map};
 ghost use Rattle.dg_base.specs.Mentions.{query, things_in};
@@ -89,10 +89,23 @@ fn is_set(row: &[bool], index: usize) -> bool
     index < row.len() && row[index]
 }
 
-fn met(over: bool, here: bool, there: bool) -> bool
-    ensures { result ≡ (here || (over && there)) }
+fn either(here: bool, there: bool) -> bool
+    ensures { result ≡ (here || there) }
 {
-    here || (over && there)
+    here || there
+}
+
+// A row, with all that another one has.
+fn united(alloc: Global, row: &[bool], through: &[bool]) -> Result<Vec<bool>, AllocError>
+    ensures { IfOk result (λ new. new.items ≡ joined true row.now through.now) }
+{
+    let mut new = Vec::new(alloc);
+    for index in 0..row.len() {
+        let here = is_set(row, index);
+        let there = is_set(through, index);
+        new.push(either(here, there))?;
+    }
+    Ok(new)
 }
 
 // A row, with all that another one has where this way leads there.
@@ -104,12 +117,11 @@ fn joined(
 ) -> Result<Vec<bool>, AllocError>
     ensures { IfOk result (λ new. new.items ≡ joined over row.now through.now) }
 {
-    let mut new = Vec::new(alloc);
-    for index in 0..row.len() {
-        let here = is_set(row, index);
-        let there = is_set(through, index);
-        new.push(met(over, here, there))?;
+    if over {
+        return united(alloc, row, through);
     }
+    let mut new = Vec::new(alloc);
+    new.extend_from_slice(row)?;
     Ok(new)
 }
 

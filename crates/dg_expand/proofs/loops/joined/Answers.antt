@@ -1,18 +1,11 @@
-use Rattle.std.proofs.Common.{◌+◌, List, [], ◌∷◌, ◌++◌, ◌||◌, ◌&&◌, Bool, drop, refl, sym, ◌∙◌, ap, append_assoc}
-use Rattle.dg_expand.specs.Rows.{joined, is_set}
-use Rattle.dg_expand.proofs.RowLemmas.{joined_set}
+use Rattle.std.proofs.Common.{rules, ◌≡◌, Bool, sym, ◌∙◌, ap}
+use Rattle.dg_expand.specs.Rows.{joined}
+use Rattle.dg_expand.proofs.RowLemmas.{joined_off}
 use Rattle.dg_expand.proofs.loops.joined.Goals as goal
 
-pub loop-index-preserved : goal.loop-index-preserved
-loop-index-preserved c =
+pub returns : goal.returns
+returns c =
     let row = c.args.row.now in
     let through = c.args.through.now in
-    let over = c.args.over in
-    let i = c.loop-index.index in
-    let made = c.loop-index.new.items in
-    let others = joined over (drop (i + 1) row) (drop (i + 1) through) in
-    ap (λ (l : List Bool). l ++ others) c.in_ok-push.ensures.items
-    ∙ append_assoc made (c.met.result ∷ []) others
-    ∙ ap (λ (b : Bool). made ++ (b ∷ others)) (c.met.ensures ∙ ap (λ (b : Bool). b || (over && c.is_set-there.result)) c.is_set-here.ensures ∙ ap (λ (b : Bool). is_set row i || (over && b)) c.is_set-there.ensures)
-    ∙ sym (ap (λ (l : List Bool). made ++ l) (joined_set over row through i (i + 1) refl c.loop-index-test.true))
-    ∙ c.loop-index.invariant
+    let copied : c.extend_from_slice.new.self.items ≡ row = search rules in
+    copied ∙ joined_off row through ∙ ap (λ (over : Bool). joined over row through) (sym c.if-over.false)
