@@ -344,7 +344,8 @@ fn look_query<'a>(
     parts: &'a [Part],
 ) -> Result<(), AllocError>
     ensures { OnOk result (IsStep (around uses.entry)
-        (after_stmt (around uses.entry at.now) (asked asking (parts_of (map part_view parts.now)))) left.old.items left.new.items weighed.old.built weighed.new.built) }
+        (after_stmt (around uses.entry at.now) (asked asking (parts_of (map part_view parts.now))))
+        left.old.items left.new.items weighed.old.built weighed.new.built) }
 {
     match rule_at(uses, at, parts) {
         Some(rule) => {
@@ -374,7 +375,8 @@ fn look_change<'a>(
     parts: &'a [Part],
 ) -> Result<(), AllocError>
     ensures { OnOk result (IsStep (around uses.entry)
-        (after_changes (around uses.entry at.now) (one_change set (parts_of (map part_view parts.now)))) left.old.items left.new.items weighed.old.built weighed.new.built) }
+        (after_changes (around uses.entry at.now) (one_change set (parts_of (map part_view parts.now))))
+        left.old.items left.new.items weighed.old.built weighed.new.built) }
 {
     match changing_rule_at(uses, at, set, parts) {
         Some(rule) => {
