@@ -114,7 +114,8 @@ const SHUT: &str =
 
 // A query of an access rule has one answer, one with a star all; each use has variables of its own.
 const USES: &str =
-    "@(small $X) *(p $X) *(p $Y) ($X < $Y)\n(p 1)\n(p 2)\n(p 3)\n(program entry point) { (small $A) $A (line) (fail) (or) *(small $A) $A (fail) (or) (line) ~(small 3) done }";
+    "@(small $X) *(p $X) *(p $Y) ($X < $Y)\n(p 1)\n(p 2)\n(p 3)\n\
+     (program entry point) { (small $A) $A (line) (fail) (or) *(small $A) $A (fail) (or) (line) ~(small 3) done }";
 
 const CHANGED: &str =
     "(global variable (score 0))\n(program entry point) { (now) (score 5) (fail) (or) (score $S) $S }";
@@ -135,7 +136,8 @@ const NO_OBJECT: &str = "(program entry point) (if) (now) (5 is open) (then) y (
 
 // The first fact of an object decides, and an unset variable has no value.
 const BEGUN: &str =
-    "(global variable (none $))\n~(#b is open)\n(#b is open)\n(#a is open)\n(#c is open)\n(program entry point) { *($X is open) $X (now) ~(#c is open) (fail) (or) ~(none $) (now) ~($ is open) ~($ is open) done }";
+    "(global variable (none $))\n~(#b is open)\n(#b is open)\n(#a is open)\n(#c is open)\n\
+     (program entry point) { *($X is open) $X (now) ~(#c is open) (fail) (or) ~(none $) (now) ~($ is open) ~($ is open) done }";
 
 const GATHERS_FOREVER: &str = "(program entry point) x (collect 1) (repeat forever) (into $)\n";
 
