@@ -142,7 +142,7 @@ const BEGUN: &str =
 const GATHERS_FOREVER: &str = "(program entry point) x (collect 1) (repeat forever) (into $)\n";
 
 // The words of the command, the source, the status and the transcript.
-const TRANSCRIPTS: [(&str, &str, u8, &str); 48] = [
+const TRANSCRIPTS: [(&str, &str, u8, &str); 50] = [
     ("debug p.dg", CHANGED, 0, "5\n"),
     ("debug p.dg", CLOSED, 0, "shut\n"),
     ("debug p.dg", UNDER, 0, "#lamp\n"),
@@ -184,6 +184,18 @@ const TRANSCRIPTS: [(&str, &str, u8, &str); 48] = [
     ),
     ("debug p.dg", SPLIT, 0, "[a] [c d]\n"),
     ("singles p.dg", SPLIT, 0, "single (program entry point)\n"),
+    (
+        "make 2",
+        ORDER,
+        0,
+        "source 11 lines 300 bytes\noutput 27 bytes\ngoals 27\nending Done\n",
+    ),
+    (
+        "make 10",
+        ORDER,
+        0,
+        "source 27 lines 556 bytes\noutput 100 bytes\ngoals 107\nending Done\n",
+    ),
     (
         "debug p.dg",
         "(program entry point) Hello, world!",
@@ -260,7 +272,7 @@ fn sources_give_their_transcript(rt: HostRuntime) -> Result<(), Fail> {
 }
 
 // The words of the command, the source, the status and the line.
-const REFUSALS: [(&str, &str, u8, &str); 28] = [
+const REFUSALS: [(&str, &str, u8, &str); 32] = [
     (
         "debug p.dg",
         "(program entry point) (now) (a 1 2 3)",
@@ -371,6 +383,10 @@ const REFUSALS: [(&str, &str, u8, &str); 28] = [
     ("debug p.dg --heap 1 --heap 1", ORDER, 2, USAGE),
     ("debug p.dg --dice 65536", ORDER, 2, USAGE),
     ("singles p.dg --steps 5", ORDER, 2, USAGE),
+    ("make 0", ORDER, 2, USAGE),
+    ("make 401", ORDER, 2, USAGE),
+    ("make p.dg", ORDER, 2, USAGE),
+    ("make 2 --steps 5", ORDER, 2, USAGE),
     ("build p.dg p.z8", ORDER, 2, USAGE),
     ("play p.dg", ORDER, 4, "p.dg: story too short\n"),
     ("play p.dg --heap 1", ORDER, 2, USAGE),

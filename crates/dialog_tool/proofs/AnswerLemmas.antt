@@ -14,7 +14,7 @@ use Rattle.dg_interp.specs.Interpret.{left_told, ForTyped, HasShown, HasLostInpu
 use Rattle.z_model.specs.Story.{refusal_of}
 use Rattle.z_model.specs.declared.story.StoryRefusal.{StoryRefusal}
 use Rattle.z_model.specs.declared.story.StoryRefusal.TheVariants.{BadLength}
-use Rattle.dialog_tool.specs.Command.{Command, debug, play, singles, Task, limits_of, file_named, source_named}
+use Rattle.dialog_tool.specs.Command.{Command, debug, play, singles, make, Task, limits_of, file_named, source_named}
 use Rattle.dialog_tool.specs.Call.{Call, Outside, Finds, IsAsTold, IsFetched}
 use Rattle.dialog_tool.specs.Lines.{Says, said, unsaid, usage_line, refusal_line, story_line, file_fault_line}
 use Rattle.dialog_tool.specs.Report.{report}
@@ -191,7 +191,7 @@ says_report c name file result words f p is set single same says = by_says says
 
 -- ## Where nothing runs
 
-keeps_same : (told : Told) → KeepsAll told told
+pub keeps_same : (told : Told) → KeepsAll told told
 keeps_same None = tt
 keeps_same (Some contents) = λ name. refl
 
@@ -215,6 +215,7 @@ source_is_file None name h = h
 source_is_file (Some (debug t)) name h = h
 source_is_file (Some (play t)) name h = cc
 source_is_file (Some (singles n)) name h = h
+source_is_file (Some (make n)) name h = cc
 
 -- the shelf failed
 pub file_lost : (c : Call) (name : List ℕ) (result : ℕ) → file_named c.command ≡ Some name → KeepsAll c.shelf.contents c.shelf_after.contents → Rose c.shelf.faults c.shelf_after.faults

@@ -1,5 +1,6 @@
 pub mod Never
 pub mod ReportLemmas
+pub mod MakeLemmas
 pub mod DigitLemmas
 pub mod DiceLemmas
 pub mod SeedLemmas

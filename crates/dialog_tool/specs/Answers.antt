@@ -1,5 +1,5 @@
 -- The answers of the program, one by one: hold them against the table of statuses in man/dialog.1.
-use Rattle.std.specs.Prelude.{◌≡◌, ◌⊎◌, ℕ, List, Some, None, Bool, IsTrue, IsSome, Ok, Err}
+use Rattle.std.specs.Prelude.{◌≡◌, ◌⊎◌, ◌<◌, ℕ, List, [], length, codes, Option, Some, None, Bool, IsTrue, IsSome, Ok, Err}
 use Rattle.dg_base.specs.Causes.{Rose}
 use Rattle.dg_base.specs.Shelves.{WhereTold, KeepsAll}
 use Rattle.dg_base.specs.Written.{Wrote, BrokeOff}
@@ -10,16 +10,18 @@ use Rattle.dg_base.specs.declared.run.Ending.TheVariants.{Done, Quit, Failed, St
 use Rattle.dg_base.specs.declared.run.Outcome.{Outcome}
 use Rattle.dg_base.specs.declared.run.Fault.TheVariants.{Read, Write}
 use Rattle.dg_meaning.specs.World.{Game}
-use Rattle.dg_meaning.specs.Shows.{MayWrite}
+use Rattle.dg_make.specs.Made.{made_source}
+use Rattle.dg_meaning.specs.Shows.{MayWrite, Shows}
 use Rattle.dg_meaning.specs.Transcript.{no_memory_line}
 use Rattle.dg_interp.specs.Interpret.{game, left_told, HasShown, HasLostInput, HasLostMemory}
 use Rattle.z_model.specs.Story.{refusal_of}
 use Rattle.z_model.specs.declared.end.ZEnd.{ZEnd}
 use Rattle.z_model.specs.declared.story.StoryRefusal.{StoryRefusal}
 use Rattle.dg_single.specs.Singles.{AreSingles}
-use Rattle.dialog_tool.specs.Command.{debug, play, singles, Task, limits_of, file_named, source_named}
+use Rattle.dialog_tool.specs.Command.{debug, play, singles, make, Task, limits_of, file_named, source_named}
 use Rattle.dialog_tool.specs.Call.{Call, Outside, Finds, file_at, file_of, dice_for}
 use Rattle.dialog_tool.specs.Lines.{usage_line, refusal_line, story_line, file_fault_line}
+use Rattle.dialog_tool.specs.Making.{made_limits, most_output, made_report, too_long_line}
 use Rattle.dialog_tool.specs.Playing.{run_of, status_of_end, TaskPlays, MayTell}
 use Rattle.dialog_tool.specs.Report.{report}
 use Rattle.dialog_tool.specs.Source.{Compiles}
@@ -69,6 +71,16 @@ pub record IsStory (c : Call) (o : Outside) (t : Task) : Type 0 where
 pub record IsNoStory (c : Call) (o : Outside) (t : Task) (r : StoryRefusal) : Type 0 where
   pub words : c.command ≡ Some (play t)
   pub refused : refusal_of (file_of o t) ≡ Some r
+
+-- The words make a source of a number, and it is this program.
+pub record IsMade (c : Call) (n : ℕ) (p : Core) : Type 0 where
+  pub words : c.command ≡ Some (make n)
+  pub compiles : Compiles (made_source n) (Ok p)
+
+-- The words make a source of a number, and it is refused.
+pub record IsMadeBadly (c : Call) (n : ℕ) (r : Refusal) : Type 0 where
+  pub words : c.command ≡ Some (make n)
+  pub compiles : Compiles (made_source n) (Err r)
 
 -- the game of a program
 abbrev pub game_of : Call → Task → Core → Game
@@ -132,6 +144,23 @@ pub record ListedSource (c : Call) (o : Outside) : Type 0 where
   pub wrote : Wrote c.out c.out_after (report program set)
   pub input_stays : c.input_after ≡ c.input
 
+-- What a made source comes to, as a status and a text: a report on a run of it without typed bytes, 3 where such a run would write too
+-- much, or 1 and a line where it is refused.
+pub data Makes (c : Call) (status : ℕ) (text : List ℕ) : Type 0 where
+  reports : (n : ℕ) (p : Core) → IsMade c n p → (output : List ℕ) (outcome : Outcome) (left : Option (List ℕ))
+      → Shows (game p c.dice) [] made_limits output outcome left
+      → status ≡ status_of outcome.ending → text ≡ made_report (made_source n) output outcome → Makes c status text
+  overflows : (n : ℕ) (p : Core) → IsMade c n p → (output : List ℕ) → MayWrite (game p c.dice) [] made_limits output → most_output < length output
+      → status ≡ 3 → text ≡ too_long_line → Makes c status text
+  refused_made : (n : ℕ) (r : Refusal) → IsMadeBadly c n r → status ≡ 1 → text ≡ refusal_line (codes "make") r → Makes c status text
+
+-- 0, 1 and 3: the words make a source of a number, and out took the whole text that it comes to
+pub record MadeSource (c : Call) (status : ℕ) : Type 0 where
+  pub text : List ℕ
+  pub makes : Makes c status text
+  pub wrote : Wrote c.out c.out_after text
+  pub input_stays : c.input_after ≡ c.input
+
 -- what a call comes to where nothing fails
 pub data Ends (c : Call) (o : Outside) (result : ℕ) : Type 0 where
   misused : result ≡ 2 → Misused c → Ends c o result
@@ -140,6 +169,7 @@ pub data Ends (c : Call) (o : Outside) (result : ℕ) : Type 0 where
   listed : result ≡ 0 → ListedSource c o → Ends c o result
   refused_story : result ≡ 4 → RefusedStory c o → Ends c o result
   played : PlayedStory c o result → Ends c o result
+  made : MadeSource c result → Ends c o result
 
 -- ---- where something fails
 
@@ -174,6 +204,7 @@ pub data MayPrint (c : Call) (o : Outside) (text : List ℕ) : Type 0 where
       MayPrint c o text
   story_refusal : (t : Task) → (r : StoryRefusal) → IsNoStory c o t r → text ≡ story_line t.name r → MayPrint c o text
   file_fault : (name : List ℕ) → LostFile c name → text ≡ file_fault_line name → MayPrint c o text
+  made_text : (status : ℕ) → Makes c status text → MayPrint c o text
   no_memory : text ≡ no_memory_line → MayPrint c o text
 
 -- What failed, at 5: the shelf, and out took the line that names the file; the input; or out within a text, of which it took a
@@ -185,8 +216,8 @@ pub data Fails (c : Call) (o : Outside) : Type 0 where
   out : (text : List ℕ) → MayPrint c o text → BrokeOff c.out c.out_after text → Fails c o
   story_out : (t : Task) → IsStory c o t → Rose c.out.faults c.out_after.faults → LostOut c o t → Fails c o
 
--- Where no memory was found, at 6: nothing ran, and out took the line that says so; or a source's run was broken off, and the line
--- stands behind what it printed
+-- Where no memory was found, at 6: nothing ran, or nothing of a made source's run is told, and out took the line that says so; or a
+-- source's run was broken off, and the line stands behind what it printed
 pub data Lacks (c : Call) (o : Outside) : Type 0 where
   nothing_ran : Wrote c.out c.out_after no_memory_line → c.input_after ≡ c.input → Lacks c o
   in_run : (t : Task) → (p : Core) → IsProgram c o t p → HasLostMemory (game_of c t p) o.typed (limits_of t) c.input_after.left c.out c.out_after →
@@ -208,6 +239,8 @@ pub record Decides (c : Call) (result : ℕ) : Type 0 where
   pub refuses : (o : Outside) → c.shelf.contents ≡ Some o.contents → (name : List ℕ) → (r : Refusal) → IsRefused c o name r → Comes 1 result
   pub runs : (o : Outside) → c.shelf.contents ≡ Some o.contents → (t : Task) → (p : Core) → IsProgram c o t p → (result ≡ 0) ⊎ Comes 3 result
   pub lists : (o : Outside) → c.shelf.contents ≡ Some o.contents → (name : List ℕ) → (p : Core) → IsReported c o name p → Comes 0 result
+  pub makes : (n : ℕ) → (p : Core) → IsMade c n p → (result ≡ 0) ⊎ Comes 3 result
+  pub makes_badly : (n : ℕ) → (r : Refusal) → IsMadeBadly c n r → Comes 1 result
   pub no_story : (o : Outside) → c.shelf.contents ≡ Some o.contents → (t : Task) → (r : StoryRefusal) → IsNoStory c o t r → Comes 4 result
   pub plays : (o : Outside) → c.shelf.contents ≡ Some o.contents → c.input.left ≡ Some o.typed
       → (t : Task) → IsStory c o t → Comes (status_of_end (run_of c o t t.steps).end) result

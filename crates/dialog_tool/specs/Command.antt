@@ -19,11 +19,13 @@ pub record Task : Type 0 where
   pub trail : ℕ
   pub dice : Option (List ℕ)
 
--- what is to be done: a source is run, a story is played, or the predicates of the source in a file are listed
+-- what is to be done: a source is run, a story is played, the predicates of the source in a file are listed, or a source is made of a
+-- number and run
 pub data Command : Type 0 where
   debug : Task → Command
   play : Task → Command
   singles : List ℕ → Command
+  make : ℕ → Command
 
 -- a file name isn't empty and doesn't begin with two dashes
 abbrev pub is_file_name : List ℕ → Bool
@@ -134,6 +136,11 @@ abbrev pub singles_with : List ℕ → List (List ℕ) → Option Command
 singles_with name [] = Some (singles name)
 singles_with name (option ∷ others) = None
 
+-- a source is made of a number from 1 to 400; there are no options
+abbrev pub make_with : List ℕ → List (List ℕ) → Option Command
+make_with word [] = option_map make (number_of 1 400 word)
+make_with word (option ∷ others) = None
+
 -- the limits of a task
 abbrev pub limits_of : Task → Limits
 limits_of task = record { steps = task.steps; heap = task.heap; trail = task.trail; aux = 100000; keep = 10000 }
@@ -151,6 +158,7 @@ file_named None = None
 file_named (Some (debug t)) = Some t.name
 file_named (Some (play t)) = Some t.name
 file_named (Some (singles name)) = Some name
+file_named (Some (make n)) = None
 
 -- the source that a command names
 abbrev pub source_named : Option Command → Option (List ℕ)
@@ -158,6 +166,7 @@ source_named None = None
 source_named (Some (debug t)) = Some t.name
 source_named (Some (play t)) = None
 source_named (Some (singles name)) = Some name
+source_named (Some (make n)) = None
 
 -- ---- the words
 
@@ -172,6 +181,7 @@ with_options command name options =
 abbrev pub command_named : List ℕ → List ℕ → List (List ℕ) → Option Command
 command_named command name options =
     if bytes_eq command (codes "singles") then singles_with name options
+    else if bytes_eq command (codes "make") then make_with name options
     else with_options command name options
 
 -- the command that these words are

@@ -3,7 +3,7 @@ use Rattle.std.specs.Prelude.{◌<◌, length, IfSome}
 use Rattle.std.specs.Option.{option_map}
 use Rattle.dialog_tool.specs.Command as spec
 use Rattle.dialog_tool.specs.declared.command.Command.{Command}
-use Rattle.dialog_tool.specs.declared.command.Command.TheVariants.{Debug, Play, Singles}
+use Rattle.dialog_tool.specs.declared.command.Command.TheVariants.{Debug, Play, Singles, Make}
 use Rattle.dialog_tool.specs.declared.command.Task.{Task}
 use Rattle.dialog_tool.specs.declared.command.Values.{Values}
 
@@ -14,6 +14,7 @@ abbrev pub command_view : Command → spec.Command
 command_view (Debug task) = spec.debug (task_view task)
 command_view (Play task) = spec.play (task_view task)
 command_view (Singles name) = spec.singles name.now
+command_view (Make n) = spec.make n
 
 abbrev pub values_view : Values → spec.Values
 values_view g = record {
@@ -31,3 +32,4 @@ abbrev pub CommandHasDice : Command → Type 0
 CommandHasDice (Debug task) = HasDice task
 CommandHasDice (Play task) = HasDice task
 CommandHasDice (Singles name) = Unit {0}
+CommandHasDice (Make n) = Unit {0}

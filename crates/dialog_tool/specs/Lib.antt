@@ -6,4 +6,5 @@ pub mod Lines
 pub mod Call
 pub mod Playing
 pub mod Report
+pub mod Making
 pub mod Answers

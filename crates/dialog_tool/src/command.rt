@@ -17,6 +17,8 @@ const MOST_STEPS: u64 = 1_000_000_000_000;
 
 const MOST_CELLS: u64 = 16_000_000;
 
+const MOST_ROOMS: u64 = 400;
+
 /// A file's name and what the options say of its run: goals or instructions, cells of the heap, bindings to be undone, and dice
 /// in place of those that are handed in.
 #[derive(Drop)]
@@ -28,12 +30,14 @@ pub struct Task<'a> {
     pub dice: Option<Vec<u16>>,
 }
 
-/// What is to be done: a source is run, a story is played, or the predicates of the source in a file are listed.
+/// What is to be done: a source is run, a story is played, the predicates of the source in a file are listed, or a source is made
+/// of a number and run.
 #[derive(Drop)]
 pub enum Command<'a> {
     Debug(Task<'a>),
     Play(Task<'a>),
     Singles(&'a str),
+    Make(u16),
 }
 
 // The words behind the options.
@@ -242,6 +246,17 @@ fn singles<'a>(name: &'a str, options: &[String]) -> Option<Command<'a>>
     }
 }
 
+fn make<'a>(word: &str, options: &[String]) -> Option<Command<'a>>
+    ensures command { option_map command_view result ≡ spec.make_with word.now (texts options.now) }
+    ensures dice { IfSome result CommandHasDice }
+{
+    if !options.is_empty() {
+        return None;
+    }
+    let number = number_of(1, MOST_ROOMS, word)?;
+    Some(Command::Make(number as u16))
+}
+
 // The command with options that this word names.
 fn with_options<'a>(
     alloc: Global,
@@ -274,6 +289,7 @@ fn command_named<'a>(
 {
     match command {
         "singles" => Ok(singles(name, options)),
+        "make" => Ok(make(name, options)),
         _ => with_options(alloc, command, name, options),
     }
 }

@@ -3,35 +3,24 @@ ghost use Rattle.std.specs.Prelude.{◌≡◌, ◌<◌, ℕ, List, length, Some,
 ghost use Rattle.dg_base.specs.Shelves.{ShelfView};
 ghost use Rattle.dg_base.specs.Sound.{IsSound};
 ghost use Rattle.dg_built.specs.Built.{IsBuilt};
-ghost use Rattle.dialog_tool.specs.Answers.{status_of, Answers, Decides};
+ghost use Rattle.dialog_tool.specs.Answers.{Answers, Decides};
 ghost use Rattle.dialog_tool.specs.Call.{call, IsFetched};
 ghost use Rattle.dialog_tool.specs.Command.{texts, command_of, debug as debug_command, limits_of};
 ghost use Rattle.dialog_tool.specs.CommandView.{task_view, HasDice};
 ghost use Rattle.dialog_tool.specs.Source.{Compiles};
 
 use crate::command::{Command, Task, command_of};
-use crate::lines::{DONE, FAULT, LIMIT, NO_MEMORY, no_memory, usage};
+use crate::lines::{FAULT, NO_MEMORY, no_memory, usage};
 use crate::listing::list_file;
+use crate::making::make;
 use crate::playing::{play, thrown};
 use crate::reading::program_in;
 use crate::source::sources_have_one_answer;
-use dg_base::{CoreProgram, Ending, Limits, RunFault, Shelf, Sink, Source};
+use crate::statuses::status_of;
+use dg_base::{CoreProgram, Limits, RunFault, Shelf, Sink, Source};
 use dg_core::let_go;
 use dg_interp::interpret;
 use std::alloc::Global;
-
-fn status_of(ending: Ending) -> u8
-    ensures { result ≡ status_of ending }
-{
-    match ending {
-        Ending::Done | Ending::Quit | Ending::Failed | Ending::Stopped | Ending::InputEnded => DONE,
-        Ending::StepLimit
-        | Ending::HeapLimit
-        | Ending::TrailLimit
-        | Ending::AuxLimit
-        | Ending::KeepLimit => LIMIT,
-    }
-}
 
 fn limits_of(task: &Task<'_>) -> Limits
     ensures { result ≡ limits_of (task_view task.now) }
@@ -111,6 +100,7 @@ fn answer<F: Shelf, S: Source, K: Sink>(
         Ok(Some(Command::Debug(task))) => debug(alloc, &task, shelf, input, out, dice),
         Ok(Some(Command::Play(task))) => play(alloc, &task, shelf, input, out, dice),
         Ok(Some(Command::Singles(name))) => list_file(alloc, name, shelf, out),
+        Ok(Some(Command::Make(n))) => make(alloc, n, out, dice),
         Ok(None) => usage(out),
         Err(_) => no_memory(out),
     }

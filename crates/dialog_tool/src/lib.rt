@@ -8,10 +8,12 @@ mod dice;
 mod dispatch;
 mod lines;
 mod listing;
+mod making;
 mod numbers;
 mod playing;
 mod reading;
 mod source;
+mod statuses;
 
 pub use adapters::{FileShelf, StdinSource, StdoutSink};
 pub use dice::dice_of;
