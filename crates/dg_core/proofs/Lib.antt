@@ -3,6 +3,7 @@ pub mod MemberLemmas
 pub mod SelectLemmas
 pub mod BodyLemmas
 pub mod ChangeLemmas
+pub mod MatchLemmas
 pub mod MakingLemmas
 pub mod MakeLemmas
 pub mod PlaceLemmas

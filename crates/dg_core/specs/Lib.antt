@@ -1,6 +1,7 @@
 pub mod Forms
 pub mod Variables
 pub mod Bodies
+pub mod Matches
 pub mod Places
 pub mod Goals
 pub mod Core

@@ -1,14 +1,17 @@
 // What the definitions alone say.
-ghost use Rattle.std.specs.Prelude.{◌≡◌, ◌≤◌, List, [], None, length, slice_get, Contains};
+ghost use Rattle.std.specs.Prelude.{◌≡◌, ◌≤◌, List, [], None, false, length, slice_get, Contains};
 ghost use Rattle.dg_base.specs.Heads.{name_of};
+ghost use Rattle.dg_base.specs.Mentions.{of_body};
 ghost use Rattle.dg_base.specs.Sound.{FitsHeads, IsEntry, IsSound};
-ghost use Rattle.dg_base.specs.Tree.{Parts, Item};
+ghost use Rattle.dg_base.specs.Tree.{Parts, Body, Item};
 ghost use Rattle.dg_built.specs.Built.{IsBuilt};
 ghost use Rattle.dg_names.specs.Named.{Named};
+ghost use Rattle.dg_core.specs.Bodies.{in_branches};
 ghost use Rattle.dg_core.specs.Core.{core_of, entry_name, refusal_of};
 ghost use Rattle.dg_core.specs.Forms.{AreRun, first_unbuilt};
 ghost use Rattle.dg_core.specs.Given.{IsGiven};
 ghost use Rattle.dg_core.specs.Goals.{Scope, number_in, terms_of};
+ghost use Rattle.dg_core.specs.Matches.{ArePlain, Matches};
 ghost use Rattle.dg_core.specs.Places.{placed_of, first_bad};
 
 /// A query of a predicate among the names has as many terms as the heads of its rules.
@@ -38,4 +41,9 @@ pub fn sources_are_run()
 /// The goals of a tree that mentions only what can be run are those that the interpreter runs.
 pub fn goals_are_built()
     ensures { (names : Named) (items : List Item) → AreRun items → IsBuilt (core_of names items) }
+{}
+
+/// The closures that stand in a body are those that it mentions, where no query stands as a value.
+pub fn closures_match()
+    ensures { (b : Body) → ArePlain (of_body false b) → Matches (of_body false b) (in_branches b) }
 {}
