@@ -14,6 +14,7 @@ pub mod FitLemmas
 pub mod AskLemmas
 pub mod HoldLemmas
 pub mod TermLemmas
+pub mod RowLemmas
 pub mod SiteLemmas
 pub mod GoalLemmas
 pub mod StartLemmas

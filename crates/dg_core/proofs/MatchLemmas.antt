@@ -1,9 +1,10 @@
 -- The closures that stand in a rule are those that it mentions, where no query stands as a value.
 use Rattle.std.proofs.Common.{false, refl}
 use Rattle.dg_base.specs.Mentions as mentions
-use Rattle.dg_base.specs.Mentions.{Mentions, nothing, thing, closed, of_parts, of_value, of_values, of_stmt, of_stmts, of_branches, of_body, of_arms, of_changes}
+use Rattle.dg_base.specs.Mentions.{Mentions, nothing, thing, closed, of_parts, of_value, of_values, of_stmt, of_stmts, of_branches, of_body, of_arms, of_changes, of_rule}
 use Rattle.dg_base.specs.Tree as tree
 use Rattle.dg_base.specs.Tree.{Parts, Value, Values, Stmt, Stmts, Body, Arms, Changes}
+use Rattle.dg_base.specs.declared.mentions.Role.TheVariants as role
 use Rattle.dg_core.specs.Bodies.{Closed, no_closure, a_closure, join, in_value, in_values, in_parts, in_stmt, in_stmts, in_branches, in_arms, in_changes}
 use Rattle.dg_core.specs.Matches.{ArePlain, Matches}
 
@@ -92,3 +93,6 @@ mutual
   changes_match : (cs : Changes) → ArePlain (of_changes false cs) → Matches (of_changes false cs) (in_changes cs)
   changes_match tree.no_changes h = tt
   changes_match (tree.change ps set cs) h = joined (of_parts false ps) (of_changes false cs) (in_parts ps) (in_changes cs) (parts_match ps (plain_front (of_parts false ps) (of_changes false cs) h.1)) (changes_match cs (plain_back (of_parts false ps) (of_changes false cs) h.1))
+
+pub rule_matches : (ps : Parts) (b : Body) → ArePlain (of_rule role.Rule ps b) → Matches (of_rule role.Rule ps b) (join (in_parts ps) (in_branches b))
+rule_matches ps b h = joined (of_parts false ps) (of_body false b) (in_parts ps) (in_branches b) (parts_match ps (plain_front (of_parts false ps) (of_body false b) h.1)) (branches_match b (plain_back (of_parts false ps) (of_body false b) h.1).1)

@@ -4,6 +4,7 @@ pub mod Bodies
 pub mod Matches
 pub mod Places
 pub mod Goals
+pub mod Rows
 pub mod Core
 pub mod Making
 pub mod View

@@ -1,18 +1,21 @@
 // What the definitions alone say.
-ghost use Rattle.std.specs.Prelude.{◌≡◌, ◌≤◌, List, [], None, false, length, slice_get, Contains};
+ghost use Rattle.std.specs.Prelude.{◌≡◌, ◌≤◌, ℕ, List, [], All, None, length, slice_get, Contains};
 ghost use Rattle.dg_base.specs.Heads.{name_of};
-ghost use Rattle.dg_base.specs.Mentions.{of_body};
+ghost use Rattle.dg_base.specs.Mentions.{of_rule, closures};
 ghost use Rattle.dg_base.specs.Sound.{FitsHeads, IsEntry, IsSound};
-ghost use Rattle.dg_base.specs.Tree.{Parts, Body, Item};
+ghost use Rattle.dg_base.specs.Tree.{Parts, Body, rule, Item};
+ghost use Rattle.dg_base.specs.declared.mentions.Role.TheVariants as role;
+ghost use Rattle.dg_access.specs.Few.{HasFewVariables};
 ghost use Rattle.dg_built.specs.Built.{IsBuilt};
 ghost use Rattle.dg_names.specs.Named.{Named};
-ghost use Rattle.dg_core.specs.Bodies.{in_branches};
 ghost use Rattle.dg_core.specs.Core.{core_of, entry_name, refusal_of};
 ghost use Rattle.dg_core.specs.Forms.{AreRun, first_unbuilt};
 ghost use Rattle.dg_core.specs.Given.{IsGiven};
 ghost use Rattle.dg_core.specs.Goals.{Scope, number_in, terms_of};
 ghost use Rattle.dg_core.specs.Matches.{ArePlain, Matches};
 ghost use Rattle.dg_core.specs.Places.{placed_of, first_bad};
+ghost use Rattle.dg_core.specs.Rows.{in_rule, names_of, rows_of, AreCaught, IsSmallRow};
+ghost use Rattle.dg_core.specs.Variables.{variables_of};
 
 /// A query of a predicate among the names has as many terms as the heads of its rules.
 pub fn queries_fit()
@@ -43,7 +46,21 @@ pub fn goals_are_built()
     ensures { (names : Named) (items : List Item) → AreRun items → IsBuilt (core_of names items) }
 {}
 
-/// The closures that stand in a body are those that it mentions, where no query stands as a value.
+/// The closures that stand in a rule are those that it mentions, where no query stands as a value.
 pub fn closures_match()
-    ensures { (b : Body) → ArePlain (of_body false b) → Matches (of_body false b) (in_branches b) }
+    ensures { (ps : Parts) (b : Body) → ArePlain (of_rule role.Rule ps b) → Matches (of_rule role.Rule ps b) (in_rule ps b) }
 {}
+
+/// Each closure of a rule has its row, which captures variables of what the closure stands in, where few variables stand in each.
+pub fn closures_have_rows()
+    ensures counted { (around : Scope) (first n : ℕ) (ps : Parts) (b : Body) → ArePlain (of_rule role.Rule ps b) →
+        length (rows_of around first n ps b) ≡ length (closures (of_rule role.Rule ps b)) }
+    ensures caught { (around : Scope) (first n : ℕ) (ps : Parts) (b : Body) → ArePlain (of_rule role.Rule ps b) → HasFewVariables (rule ps b) →
+        AreCaught (rows_of around first n ps b) (names_of ps b) (variables_of ps b) 0 (of_rule role.Rule ps b) }
+    ensures small { (around : Scope) (first n : ℕ) (ps : Parts) (b : Body) → ArePlain (of_rule role.Rule ps b) → HasFewVariables (rule ps b) →
+        All IsSmallRow (rows_of around first n ps b) }
+{
+    dg_closures::variables_are_held();
+    dg_closures::closures_are_small();
+    dg_closures::rules_are_small();
+}
