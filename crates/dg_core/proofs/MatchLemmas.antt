@@ -24,7 +24,7 @@ joined nothing b no_closure ds h k = k
 joined nothing b (a_closure x inner cs) ds h k = absurd h
 joined (thing t ms) b cs ds h k = joined ms b cs ds h k
 joined (closed within ms) b no_closure ds h k = absurd h
-joined (closed within ms) b (a_closure x inner cs) ds h k = (h.0, h.1, joined ms b cs ds h.2 k)
+joined (closed within ms) b (a_closure x inner cs) ds h k = (h.0, h.1, h.2, joined ms b cs ds h.3 k)
 
 mutual
   pub value_matches : (v : Value) → ArePlain (of_value false v) → Matches (of_value false v) (in_value v)
@@ -37,7 +37,7 @@ mutual
   value_matches (tree.plain_list vs) h = values_match vs h.1
   value_matches (tree.tailed_list vs v) h =
       joined (of_values false vs) (of_value false v) (in_values vs) (in_value v) (values_match vs (plain_front (of_values false vs) (of_value false v) h.1)) (value_matches v (plain_back (of_values false vs) (of_value false v) h.1))
-  value_matches (tree.closure b) h = (refl, branches_match b h.0.1, tt)
+  value_matches (tree.closure b) h = (refl, refl, branches_match b h.0.1, tt)
   value_matches (tree.nested ps) h = absurd h.0
   value_matches (tree.word_choice ws) h = tt
 

@@ -1,6 +1,6 @@
 -- The closures of a rule stand at their places, and capture what is there.
-use Rattle.std.proofs.Common.{◌≡◌, ◌+◌, ◌<◌, ◌≤◌, ◌∙◌, ℕ, zero, suc, List, [], ◌∷◌, ◌++◌, Some, false, length, length-append, map, refl, sym, ap, subst, append_assoc, arith}
-use Rattle.std.proofs.lemmas.List.{append-nil, length-map}
+use Rattle.std.proofs.Common.{◌≡◌, ◌+◌, ◌<◌, ◌≤◌, ◌∙◌, ℕ, zero, suc, Bor, get_or, drop, List, [], ◌∷◌, ◌++◌, Some, false, length, length-append, map, refl, sym, ap, subst, append_assoc, arith}
+use Rattle.std.proofs.lemmas.List.{append-nil, length-map, drop_more}
 use Rattle.std.specs.Prelude.{min, slice_get}
 use Rattle.std.specs.List.{All}
 use Rattle.std.proofs.lemmas.List.Elements.{All-nil, All-cons, All-append, All-head, All-tail, Contains-append_right}
@@ -14,6 +14,7 @@ use Rattle.dg_access.specs.Counts.{names_out}
 use Rattle.dg_access.specs.Few.{HasFewVariables}
 use Rattle.dg_closures.specs.Closures.{Layout, layout_by, variables_in, places_from, behind, layouts_from, layouts_of}
 use Rattle.dg_closures.specs.Held.{Within, Holds, IsSmall, AllAreSmall, RuleIsSmall}
+use Rattle.dg_names.specs.State.{seen}
 use Rattle.dg_core.specs.Bodies.{Closed, no_closure, a_closure}
 use Rattle.dg_core.specs.Goals.{Scope, number_in, selects}
 use Rattle.dg_core.specs.Matches.{ArePlain, Matches}
@@ -35,7 +36,7 @@ size_matches nothing no_closure h = refl
 size_matches nothing (a_closure b inner cs) h = absurd h
 size_matches (thing t ms) cs h = size_matches ms cs h
 size_matches (closed within ms) no_closure h = absurd h
-size_matches (closed within ms) (a_closure b inner cs) h = omega (arith, length-append (closures within) (closures ms), size_matches within inner h.1, size_matches ms cs h.2)
+size_matches (closed within ms) (a_closure b inner cs) h = omega (arith, length-append (closures within) (closures ms), size_matches within inner h.2, size_matches ms cs h.3)
 
 numbers_below : (ns vars : List (List ℕ)) → Within ns vars → length vars ≤ 65535 → All (λ v. v < length vars) (map (number_in vars) ns)
 numbers_below [] vars w few = All-nil (λ v. v < length vars)
@@ -62,7 +63,7 @@ caught_rows around all first vars n k (closed within ms) (a_closure b inner cs) 
     let j = k + 1 + size inner in
     let whole = pre ++ ((r ∷ (inside ++ rest j)) ++ post) in
     let counted = rows_counted around all first (variables_in l) m (k + 1) inner in
-    let far : j ≡ behind k within = omega (arith, size_matches within inner h.1) in
+    let far : j ≡ behind k within = omega (arith, size_matches within inner h.2) in
     let blank = layout_by all (names_out all within) [] in
     let names : blank ≡ layout_by all (names_out all (of_body false b)) [] = ap (λ (x : Mentions). layout_by all (names_out all x) []) h.0 in
     let same_vars : variables_in blank ≡ variables_in l = ap variables_in names in
@@ -75,9 +76,9 @@ caught_rows around all first vars n k (closed within ms) (a_closure b inner cs) 
     let front = pre ++ (r ∷ inside) in
     let same_near : near ++ (inside ++ (rest j ++ post)) ≡ whole = append_assoc pre (r ∷ []) (inside ++ (rest j ++ post)) ∙ ap (λ (x : List ClosureBody). pre ++ (r ∷ x)) (sym (append_assoc inside (rest j) post)) in
     let same_front : front ++ (rest j ++ post) ≡ whole = append_assoc pre (r ∷ inside) (rest j ++ post) ∙ ap (λ (x : List ClosureBody). pre ++ (r ∷ x)) (sym (append_assoc inside (rest j) post)) in
-    let those_in = caught_rows around all first (variables_in l) m (k + 1) within inner near (rest j ++ post) few_in (omega (arith, length-append pre (r ∷ []), e)) h.1 held_in (all_front IsSmall (layouts_from all (k + 1) within) (layouts_from all (behind k within) ms) are_small) in
+    let those_in = caught_rows around all first (variables_in l) m (k + 1) within inner near (rest j ++ post) few_in (omega (arith, length-append pre (r ∷ []), e)) h.2 held_in (all_front IsSmall (layouts_from all (k + 1) within) (layouts_from all (behind k within) ms) are_small) in
     let small_rest = subst (λ (i : ℕ). All IsSmall (layouts_from all i ms)) (sym far) (all_behind IsSmall (layouts_from all (k + 1) within) (layouts_from all (behind k within) ms) are_small) in
-    let others = caught_rows around all first vars (m + selects_within inner) j ms cs front post few (omega (arith, length-append pre (r ∷ inside), counted, e)) h.2 held.2 small_rest in (
+    let others = caught_rows around all first vars (m + selects_within inner) j ms cs front post few (omega (arith, length-append pre (r ∷ inside), counted, e)) h.3 held.2 small_rest in (
       subst (Captures (length vars)) (sym (at_front pre ((inside ++ rest j) ++ post) r k e)) caught,
       subst (λ (v : List (List ℕ)). AreCaught whole all v (k + 1) within) (sym same_vars) (subst (λ (rs : List ClosureBody). AreCaught rs all (variables_in l) (k + 1) within) same_near those_in),
       subst (λ (rs : List ClosureBody). AreCaught rs all vars (behind k within) ms) same_front (subst (λ (i : ℕ). AreCaught (front ++ (rest j ++ post)) all vars i ms) far others),
@@ -108,7 +109,7 @@ small_rows around all first vars n k (closed within ms) (a_closure b inner cs) h
     let inside = rows around all first (variables_in l) m (k + 1) inner in
     let j = k + 1 + size inner in
     let rest = rows around all first vars (m + selects_within inner) j cs in
-    let far : j ≡ behind k within = omega (arith, size_matches within inner h.1) in
+    let far : j ≡ behind k within = omega (arith, size_matches within inner h.2) in
     let here = layout_by all (names_out all within) (places_from (k + 1) within) in
     let behind_it = layouts_from all (k + 1) within ++ layouts_from all (behind k within) ms in
     let same : here ≡ l = ap (λ (x : Mentions). layout_by all (names_out all x) (places_from (k + 1) x)) h.0 in
@@ -116,8 +117,8 @@ small_rows around all first vars n k (closed within ms) (a_closure b inner cs) h
     let are_small = All-tail IsSmall here behind_it small in
     All-cons IsSmallRow (row_of around first vars n l b) (inside ++ rest) (small_row around first vars n l b is_small (omega arith))
     (All-append IsSmallRow inside rest
-    (small_rows around all first (variables_in l) m (k + 1) within inner h.1 (all_front IsSmall (layouts_from all (k + 1) within) (layouts_from all (behind k within) ms) are_small))
-    (small_rows around all first vars (m + selects_within inner) j ms cs h.2 (subst (λ (i : ℕ). All IsSmall (layouts_from all i ms)) (sym far) (all_behind IsSmall (layouts_from all (k + 1) within) (layouts_from all (behind k within) ms) are_small))))
+    (small_rows around all first (variables_in l) m (k + 1) within inner h.2 (all_front IsSmall (layouts_from all (k + 1) within) (layouts_from all (behind k within) ms) are_small))
+    (small_rows around all first vars (m + selects_within inner) j ms cs h.3 (subst (λ (i : ℕ). All IsSmall (layouts_from all i ms)) (sym far) (all_behind IsSmall (layouts_from all (k + 1) within) (layouts_from all (behind k within) ms) are_small))))
 
 -- ---- the closures of a rule
 
@@ -141,3 +142,14 @@ rule_caught laws around first n ps b plain few =
 pub rule_small : Laws → (around : Scope) (first n : ℕ) (ps : Parts) (b : Body) → ArePlain (of_rule role.Rule ps b) → HasFewVariables (tree.rule ps b) → All IsSmallRow (rows_of around first n ps b)
 rule_small laws around first n ps b plain few =
     small_rows around (names_of ps b) first (variables_of ps b) n 0 (of_rule role.Rule ps b) (in_rule ps b) (rule_matches ps b plain) (laws.closures (names_of ps b) 0 (of_rule role.Rule ps b) few.1)
+
+-- ---- the numbers of what is captured
+
+pub more_numbered : (vars : List (List ℕ)) (ns : List (Bor (List ℕ))) (i x : ℕ) (d : Bor (List ℕ)) (done next all : List ℕ) → i < length ns → x ≡ number_in vars (get_or ns i d).now → next ≡ done ++ x ∷ [] → done ++ map (number_in vars) (seen (drop i ns)) ≡ all → next ++ map (number_in vars) (seen (drop (i + 1) ns)) ≡ all
+more_numbered vars ns i x d done next all lt is pushed e =
+    let later : List ℕ = map (number_in vars) (seen (drop (i + 1) ns)) in
+    ap (λ (l : List ℕ). l ++ later) pushed
+    ∙ append_assoc done (x ∷ []) later
+    ∙ ap (λ (y : ℕ). done ++ y ∷ later) is
+    ∙ ap (λ (l : List (Bor (List ℕ))). done ++ map (number_in vars) (seen l)) (sym (drop_more ns i d lt))
+    ∙ e

@@ -29,13 +29,21 @@ layout_at all k b = let ms = of_body false b in layout_by all (names_out all ms)
 abbrev pub scope_in : Scope → ℕ → List (List ℕ) → List ℕ → Scope
 scope_in around first variables places = record around { variables = variables; closures = map (λ p. first + p) places; before = 0 }
 
--- A closure of this layout and body in something with these variables, so many selects standing before.
-abbrev pub row_of : Scope → ℕ → List (List ℕ) → ℕ → Layout → Body → ClosureBody
-row_of around first enclosing n l b = record {
-  captured = map (number_in enclosing) l.captured;
+-- A closure of this layout and body that captures these variables, so many selects standing before.
+abbrev pub row_with : Scope → ℕ → List ℕ → ℕ → Layout → Body → ClosureBody
+row_with around first captured n l b = record {
+  captured = captured;
   own = min (length l.own) 65535;
   body = body_goals (scope_in around first (variables_in l) l.places) n b;
 }
+
+-- The numbers of what a closure captures, among the variables of what it stands in.
+abbrev pub captured_in : List (List ℕ) → Layout → List ℕ
+captured_in enclosing l = map (number_in enclosing) l.captured
+
+-- A closure of this layout and body in something with these variables.
+abbrev pub row_of : Scope → ℕ → List (List ℕ) → ℕ → Layout → Body → ClosureBody
+row_of around first enclosing n l b = row_with around first (captured_in enclosing l) n l b
 
 -- The closures that stand in something with these variables, the first at this place: each before those within it.
 abbrev pub rows : Scope → List (List ℕ) → ℕ → List (List ℕ) → ℕ → ℕ → Closed → List ClosureBody

@@ -9,6 +9,7 @@ mod letting;
 mod places;
 mod program;
 mod queries;
+mod rows;
 mod scope;
 mod starts;
 mod terms;

@@ -46,10 +46,17 @@ fn place_of(names: &[&[u8]], name: &[u8]) -> Option<usize>
     None
 }
 
+/// The number of a name among variables.
+pub fn number_among(names: &[&[u8]], name: &[u8]) -> u16
+    ensures { result ≡ spec.number_in (seen names.now) name.now }
+{
+    number_of(place_of(names, name))
+}
+
 fn variable(scope: &Scope<'_>, name: &[u8]) -> u16
     ensures { result ≡ spec.number_in (scope_view scope.now).variables name.now }
 {
-    number_of(place_of(scope.variables.as_slice(), name))
+    number_among(scope.variables.as_slice(), name)
 }
 
 /// What is left of a value: a value, elements in front of a tail, or a pair to be made of the last two terms.

@@ -1,0 +1,116 @@
+// From the closures of a rule to their rows.
+ghost use Rattle.std.specs.Prelude.{◌≡◌, ◌+◌, ◌++◌, false, map, IfOk, OnOk};
+ghost use Rattle.dg_base.specs.Mentions.{of_body};
+ghost use Rattle.dg_base.specs.TreeView.{body_view};
+ghost use Rattle.dg_closures.specs.Closures as closures;
+ghost use Rattle.dg_closures.specs.View.{layout_view};
+ghost use Rattle.dg_names.specs.State.{seen};
+ghost use Rattle.dg_core.specs.Bodies.{direct, in_branches};
+ghost use Rattle.dg_core.specs.Goals.{number_in, selects};
+ghost use Rattle.dg_core.specs.Making.{bodies_view};
+ghost use Rattle.dg_core.specs.Rows as spec;
+ghost use Rattle.dg_core.specs.View.{scope_view};
+
+use crate::goals::goals_of;
+use crate::scope::Scope;
+use crate::terms::number_among;
+use dg_base::{Body, ClosureBody, Items};
+use dg_closures::Layout;
+use std::alloc::{AllocError, Global};
+
+// The number of a closure. More of them than a program can number take more memory than it has.
+fn number_at(first: usize, place: usize) -> Result<u16, AllocError>
+    ensures { IfOk result (λ number. number ≡ first + place) }
+{
+    match first.checked_add(place) {
+        Some(number) if number <= 65535 => Ok(number as u16),
+        _ => Err(AllocError),
+    }
+}
+
+// The numbers of the closures at these places.
+fn numbers_from(alloc: Global, first: usize, places: &[usize]) -> Result<Vec<u16>, AllocError>
+    ensures { IfOk result (λ numbers. numbers.items ≡ map (λ p. first + p) places.now) }
+{
+    let mut numbers = Vec::new(alloc);
+    for place in places {
+        numbers.push(number_at(first, *place)?)?;
+    }
+    Ok(numbers)
+}
+
+// Adds names to variables.
+fn add_names<'a>(variables: &mut Vec<&'a [u8]>, names: &[&'a [u8]]) -> Result<(), AllocError>
+    ensures { OnOk result (variables.new.items ≡ variables.old.items ++ names.now) }
+{
+    for name in names {
+        variables.push(*name)?;
+    }
+    Ok(())
+}
+
+// The variables of a closure.
+fn variables_in<'a>(alloc: Global, layout: &Layout<'a>) -> Result<Vec<&'a [u8]>, AllocError>
+    ensures { IfOk result (λ variables. seen variables.items ≡ closures.variables_in (layout_view layout.now)) }
+{
+    let mut variables = Vec::new(alloc);
+    add_names(&mut variables, layout.captured.as_slice())?;
+    add_names(&mut variables, layout.own.as_slice())?;
+    Ok(variables)
+}
+
+fn numbers_among(
+    alloc: Global,
+    variables: &[&[u8]],
+    names: &[&[u8]],
+) -> Result<Items<u16>, AllocError>
+    ensures { IfOk result (λ numbers. numbers ≡ map (number_in (seen variables.now)) (seen names.now)) }
+{
+    let mut numbers = Items::new(alloc);
+    for name in names {
+        numbers.push(number_among(variables, *name))?;
+    }
+    Ok(numbers)
+}
+
+/// The numbers of what a closure captures, among the variables of what it stands in.
+pub fn captured_in(
+    alloc: Global,
+    variables: &[&[u8]],
+    layout: &Layout<'_>,
+) -> Result<Items<u16>, AllocError>
+    ensures { IfOk result (λ numbers. numbers ≡ spec.captured_in (seen variables.now) (layout_view layout.now)) }
+{
+    numbers_among(alloc, variables, layout.captured.as_slice())
+}
+
+/// The row of a closure of this layout that captures these variables, and the bodies of the closures directly in it. The number of selects grows
+/// by those of its body.
+pub fn row_of<'a>(
+    alloc: Global,
+    around: &Scope<'_>,
+    first: usize,
+    captured: Items<u16>,
+    sites: &mut u16,
+    layout: &Layout<'_>,
+    body: &'a Body,
+) -> Result<(ClosureBody, Items<&'a Body>), AllocError>
+    ensures row { IfOk result (λ made. made.0
+        ≡ spec.row_with (scope_view around.now) first captured sites.old (layout_view layout.now) (body_view body.now)) }
+    ensures found { IfOk result (λ made. bodies_view made.1 ≡ direct (in_branches (body_view body.now))) }
+    ensures sites { OnOk result (sites.new ≡ sites.old + selects (of_body false (body_view body.now))) }
+{
+    let scope = Scope {
+        names: around.names,
+        places: around.places,
+        variables: variables_in(alloc, layout)?,
+        closures: numbers_from(alloc, first, layout.places.as_slice())?,
+    };
+    let (goals, found) = goals_of(alloc, &scope, sites, Items::new(alloc), body)?;
+    let row = ClosureBody {
+        captured,
+        own: layout.own.len().min(65535) as u16,
+        body: goals,
+    };
+    Ok((row, found))
+}
