@@ -15,6 +15,7 @@ pub mod AskLemmas
 pub mod HoldLemmas
 pub mod TermLemmas
 pub mod RowLemmas
+pub mod WaitLemmas
 pub mod SiteLemmas
 pub mod GoalLemmas
 pub mod StartLemmas

@@ -31,7 +31,7 @@ rows_counted around all first vars n k (a_closure b inner cs) =
     let m = n + selects (of_body false b) in
     omega (arith, length-append (rows around all first (variables_in l) m (k + 1) inner) (rows around all first vars (m + selects_within inner) (k + 1 + size inner) cs), rows_counted around all first (variables_in l) m (k + 1) inner, rows_counted around all first vars (m + selects_within inner) (k + 1 + size inner) cs)
 
-size_matches : (ms : Mentions) (cs : Closed) → Matches ms cs → size cs ≡ length (closures ms)
+pub size_matches : (ms : Mentions) (cs : Closed) → Matches ms cs → size cs ≡ length (closures ms)
 size_matches nothing no_closure h = refl
 size_matches nothing (a_closure b inner cs) h = absurd h
 size_matches (thing t ms) cs h = size_matches ms cs h

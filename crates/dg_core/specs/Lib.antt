@@ -5,6 +5,7 @@ pub mod Matches
 pub mod Places
 pub mod Goals
 pub mod Rows
+pub mod Waiting
 pub mod Core
 pub mod Making
 pub mod View
