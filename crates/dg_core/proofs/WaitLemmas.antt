@@ -135,19 +135,19 @@ next_made around first ls all w n m old new rs rows l vars found row there is ma
     let one : l ≡ lay = ap (λ (o : Option Layout). or_layout lay o) same in
     let come = waiting_of all (variables_in lay) (w.place + 1) inner in
     let waits : new ≡ come ++ old = put
-        ∙ ap (λ (v : List (List ℕ)). waiting_from ls v l.places 0 found ++ old) names
-        ∙ ap (λ (x : Layout). waiting_from ls (variables_in x) x.places 0 found ++ old) one
-        ∙ ap (λ (bs : List Body). waiting_from ls (variables_in lay) lay.places 0 bs ++ old) bodies
-        ∙ ap (λ (x : List Waiting). x ++ old) (waiting_is ls all (variables_in lay) (w.place + 1) 0 ms inner [] refl is.matches is.within) in
+    ∙ ap (λ (v : List (List ℕ)). waiting_from ls v l.places 0 found ++ old) names
+    ∙ ap (λ (x : Layout). waiting_from ls (variables_in x) x.places 0 found ++ old) one
+    ∙ ap (λ (bs : List Body). waiting_from ls (variables_in lay) lay.places 0 bs ++ old) bodies
+    ∙ ap (λ (x : List Waiting). x ++ old) (waiting_is ls all (variables_in lay) (w.place + 1) 0 ms inner [] refl is.matches is.within) in
     let k = n + selects ms in
     record {
       made =
-        ap (λ (x : List ClosureBody). x ++ pending around all first m new) pushed
-        ∙ append_assoc rs (row ∷ []) (pending around all first m new)
-        ∙ ap (λ (x : ClosureBody). rs ++ x ∷ pending around all first m new) (made ∙ ap (λ (x : Layout). row_with around first w.captured n x w.body) one)
-        ∙ ap (λ (x : ℕ). rs ++ row_with around first w.captured n lay w.body ∷ pending around all first x new) sites
-        ∙ ap (λ (x : List Waiting). rs ++ row_with around first w.captured n lay w.body ∷ pending around all first k x) waits
-        ∙ ap (λ (x : List ClosureBody). rs ++ x) (sym (pending_next around all first n w old is.matches));
+          ap (λ (x : List ClosureBody). x ++ pending around all first m new) pushed
+          ∙ append_assoc rs (row ∷ []) (pending around all first m new)
+          ∙ ap (λ (x : ClosureBody). rs ++ x ∷ pending around all first m new) (made ∙ ap (λ (x : Layout). row_with around first w.captured n x w.body) one)
+          ∙ ap (λ (x : ℕ). rs ++ row_with around first w.captured n lay w.body ∷ pending around all first x new) sites
+          ∙ ap (λ (x : List Waiting). rs ++ row_with around first w.captured n lay w.body ∷ pending around all first k x) waits
+          ∙ ap (λ (x : List ClosureBody). rs ++ x) (sym (pending_next around all first n w old is.matches));
       waits = λ h. subst (All (IsWaiting ls all)) (sym waits) (All-append (IsWaiting ls all) come old (all_wait ls all (variables_in lay) (w.place + 1) ms inner is.matches is.within) h);
       fewer = omega (arith, ap left_of waits, found_left all (variables_in lay) (w.place + 1) ms inner old is.matches);
     }

@@ -16,7 +16,10 @@ mod terms;
 mod variables;
 
 pub use forms::first_unbuilt;
-pub use laws::{closures_have_rows, closures_match, core_is_sound, entry_fits, goals_are_built, queries_fit, sources_are_run};
+pub use laws::{
+    closures_have_rows, closures_match, core_is_sound, entry_fits, goals_are_built, queries_fit,
+    sources_are_run,
+};
 pub use letting::let_go;
 pub use places::add_name;
 pub use program::lower;

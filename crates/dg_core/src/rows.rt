@@ -200,13 +200,28 @@ fn add_row<'a>(
 ) -> Result<(), AllocError>
     ensures { OnOk result ((all : List (List ℕ)) → IsWaiting (map layout_view layouts.now) all (waiting_view waiting.entry) →
         IsNext (scope_view around.now) first (map layout_view layouts.now) all (waiting_view waiting.entry) sites.old (stack_of left.old) rows.old
-            sites.new (stack_of left.new) rows.new) }
+        sites.new (stack_of left.new) rows.new) }
 {
     let Some(layout) = layouts.get(waiting.place) else {
         return Ok(());
     };
     let variables = variables_in(alloc, layout)?;
-    let (row, found) = row_of(alloc, around, first, waiting.captured, sites, layout, waiting.body)?;
+    let (row, found) = row_of(
+        alloc,
+        around,
+        first,
+        waiting.captured,
+        sites,
+        layout,
+        waiting.body,
+    )?;
     rows.push(row)?;
-    put_found(alloc, layouts, variables.as_slice(), layout.places.as_slice(), found, left)
+    put_found(
+        alloc,
+        layouts,
+        variables.as_slice(),
+        layout.places.as_slice(),
+        found,
+        left,
+    )
 }

@@ -155,8 +155,14 @@ pub closes : (blocks : List Block) (before after : Work) (x : Op) (others : List
     Moves blocks (with_level (level.Inner x others) before) blocks after
 closes blocks before after x others none ops_are goals_are levels_are = record {
   blocks = begins_here blocks;
-  light = omega (arith, op_added before.ops.items after.ops.items x ops_are, ap body_weight goals_are, ap body_weight none, ap levels_weight levels_are,
-      level_added before.levels (before.levels ++ level.Inner x others ∷ []) (level.Inner x others) refl);
+  light = omega (
+    arith,
+    op_added before.ops.items after.ops.items x ops_are,
+    ap body_weight goals_are,
+    ap body_weight none,
+    ap levels_weight levels_are,
+    level_added before.levels (before.levels ++ level.Inner x others ∷ []) (level.Inner x others) refl,
+  );
   neat = λ h.
       let l : LevelsTidy blocks (level.Inner x others ∷ reverse before.levels) = subst (LevelsTidy blocks) (reverse-append before.levels (level.Inner x others ∷ [])) h.levels in
       record { neat = neat_put blocks before.ops.items after.ops.items x ops_are l.0 h.neat; levels = subst (λ k. LevelsTidy blocks (reverse k)) (sym levels_are) l.1 };
@@ -297,8 +303,16 @@ opens_if old new before after ops test first other tail on shares e ops_are goal
   blocks = on;
   light =
       let l = shares.light in
-      omega (arith, ops_reverse before.ops.items, ap ops_weight ops_are, tail_weight tail ops e, ap body_weight goals_are, level_added before.levels after.levels (level.Other test first tail before.goals) levels_are,
-          goal_added before.goals (goal.If test first other), weight_if test first other);
+      omega (
+        arith,
+        ops_reverse before.ops.items,
+        ap ops_weight ops_are,
+        tail_weight tail ops e,
+        ap body_weight goals_are,
+        level_added before.levels after.levels (level.Other test first tail before.goals) levels_are,
+        goal_added before.goals (goal.If test first other),
+        weight_if test first other,
+      );
   neat = λ h.
       let s : BlocksTidy new × TailTidy new tail = shares.neat h.neat in
       record {
@@ -324,9 +338,17 @@ closes_other old new before after ops test first others tail alt none on lands e
   light =
       let l = lands.light in
       let once = before.levels ++ level.Inner (op.Try alt) others ∷ [] in
-      omega (arith, ops_reverse before.ops.items, ap ops_weight ops_are, tail_weight tail ops e, ap body_weight goals_are, ap body_weight none,
-          level_added once after.levels (level.Inner op.Commit test) levels_are, level_added before.levels once (level.Inner (op.Try alt) others) refl,
-          level_added before.levels (before.levels ++ level.Other test first tail others ∷ []) (level.Other test first tail others) refl);
+      omega (
+        arith,
+        ops_reverse before.ops.items,
+        ap ops_weight ops_are,
+        tail_weight tail ops e,
+        ap body_weight goals_are,
+        ap body_weight none,
+        level_added once after.levels (level.Inner op.Commit test) levels_are,
+        level_added before.levels once (level.Inner (op.Try alt) others) refl,
+        level_added before.levels (before.levels ++ level.Other test first tail others ∷ []) (level.Other test first tail others) refl,
+      );
   neat = λ h.
       let l : LevelsTidy old (level.Other test first tail others ∷ reverse before.levels) = subst (LevelsTidy old) (reverse-append before.levels (level.Other test first tail others ∷ [])) h.levels in
       let levels : reverse after.levels ≡ level.Inner op.Commit test ∷ level.Inner (op.Try alt) others ∷ reverse before.levels =
@@ -381,8 +403,17 @@ opens_lists old new before after ops left list tail on shares e ops_are goals_ar
   blocks = on;
   light =
       let l = shares.light in
-      omega (arith, ops_reverse before.ops.items, ap ops_weight ops_are, tail_weight tail ops e, ap body_weight goals_are, level_added before.levels after.levels (level.Lists left None tail before.goals) levels_are,
-          goal_added before.goals (goal.Either (left ++ list ∷ [])), weight_either (left ++ list ∷ []), lists_append left (list ∷ []));
+      omega (
+        arith,
+        ops_reverse before.ops.items,
+        ap ops_weight ops_are,
+        tail_weight tail ops e,
+        ap body_weight goals_are,
+        level_added before.levels after.levels (level.Lists left None tail before.goals) levels_are,
+        goal_added before.goals (goal.Either (left ++ list ∷ [])),
+        weight_either (left ++ list ∷ []),
+        lists_append left (list ∷ []),
+      );
   neat = λ h.
       let s : BlocksTidy new × TailTidy new tail = shares.neat h.neat in
       record {
@@ -461,9 +492,19 @@ closes_list old new before after ops left popped list alt tail others b none spl
   blocks = on;
   light =
       let l = lands.light in
-      omega (arith, ops_reverse before.ops.items, ap ops_weight ops_are, tail_weight tail ops e, ap body_weight goals_are, ap body_weight none,
-          level_added before.levels after.levels (after_list popped b tail others) levels_are, after_light popped b tail others,
-          level_added before.levels (before.levels ++ level.Lists left alt tail others ∷ []) (level.Lists left alt tail others) refl, ap lists_weight split, lists_append popped (list ∷ []));
+      omega (
+        arith,
+        ops_reverse before.ops.items,
+        ap ops_weight ops_are,
+        tail_weight tail ops e,
+        ap body_weight goals_are,
+        ap body_weight none,
+        level_added before.levels after.levels (after_list popped b tail others) levels_are,
+        after_light popped b tail others,
+        level_added before.levels (before.levels ++ level.Lists left alt tail others ∷ []) (level.Lists left alt tail others) refl,
+        ap lists_weight split,
+        lists_append popped (list ∷ []),
+      );
   neat = λ h.
       let l : LevelsTidy old (level.Lists left alt tail others ∷ reverse before.levels) = subst (LevelsTidy old) (reverse-append before.levels (level.Lists left alt tail others ∷ [])) h.levels in
       let made : BlocksTidy new × (b < length new) = lands.neat h.neat l.0.0 in

@@ -159,8 +159,15 @@ pub light_next : (s t : Branching) (popped : List (List Goal)) (list others : Li
     after.ops.items ≡ tail_ops s.tail → after.goals ≡ list → after.levels ≡ levels ++ level.Branches t others ∷ [] →
     work_weight after ≤ 16 + lists_weight s.left + body_weight others + levels_weight levels
 light_next s t popped list others levels after split same ops_are goals_are levels_are =
-    omega (arith, ap lists_weight split, lists_append popped (list ∷ []), ap lists_weight same, tail_weight s.tail after.ops.items ops_are, ap body_weight goals_are,
-        level_added levels after.levels (level.Branches t others) levels_are)
+    omega (
+      arith,
+      ap lists_weight split,
+      lists_append popped (list ∷ []),
+      ap lists_weight same,
+      tail_weight s.tail after.ops.items ops_are,
+      ap body_weight goals_are,
+      level_added levels after.levels (level.Branches t others) levels_are,
+    )
 
 pub light_end : (s : Branching) (others : List Goal) (levels : List Level) (after : Work) → after.ops.items ≡ op.Select s.site s.mode (reverse s.blocks.items) s.behind ∷ [] → after.goals ≡ others → after.levels ≡ levels →
     work_weight after ≤ 16 + lists_weight s.left + body_weight others + levels_weight levels

@@ -69,8 +69,7 @@ const SECOND_RULE: &str = "(p 1)\n(p 2)\n(program entry point) (p 2) done\n";
 const NESTED: &str = "(q 1)\n(q 2)\n(p (q $X)) $X\n(program entry point) *(p 2)\n";
 
 // Two values that are doubled thirty times each: as trees they have a thousand million parts.
-const DOUBLED: &str =
-    "(twice [] $X $X)\n(twice [$ | $N] $X $Y) (twice $N [$X | $X] $Y)\n\
+const DOUBLED: &str = "(twice [] $X $X)\n(twice [$ | $N] $X $Y) (twice $N [$X | $X] $Y)\n\
      (value $X $Y) (twice [0 0 0 0 0 0 0 0 0 0 0 0 0 0 0 0 0 0 0 0 0 0 0 0 0 0 0 0 0 0] [$X] $Y)\n\
      (program entry point) (value $A $X) (value $B $Y) ($X = $Y) ($A = 1) (fully bound $X) $B\n";
 
@@ -113,8 +112,7 @@ const SHUT: &str =
     "@($X shut) ~($X open)\n(#lid open)\n(program entry point) (if) (#lid shut) (then) y (else) n (endif)";
 
 // A query of an access rule has one answer, one with a star all; each use has variables of its own.
-const USES: &str =
-    "@(small $X) *(p $X) *(p $Y) ($X < $Y)\n(p 1)\n(p 2)\n(p 3)\n\
+const USES: &str = "@(small $X) *(p $X) *(p $Y) ($X < $Y)\n(p 1)\n(p 2)\n(p 3)\n\
      (program entry point) { (small $A) $A (line) (fail) (or) *(small $A) $A (fail) (or) (line) ~(small 3) done }";
 
 const CHANGED: &str =

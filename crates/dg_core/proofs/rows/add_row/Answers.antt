@@ -21,7 +21,7 @@ returns c =
     let vars = seen c.as_slice.result.now in
     let found = bodies_view c.in_ok-row.found in
     on_ok c.put_found.result
-        (λ put all is. next_made (scope_view c.args.around.now) c.args.first ls all (waiting_view c.args.waiting) c.args.sites.now c.row_of.new.sites (stack_of c.args.left.now) (stack_of c.put_found.new.left) c.args.rows.now c.push.new.self l vars found c.in_ok-row.row
-            there is c.in_ok-row.ensures.row c.in_ok-row.ensures.found c.in_ok-row.ensures.sites c.in_ok-push.ensures.ok (ap seen c.as_slice.ensures.value ∙ c.in_ok-variables.ensures)
-            (put ∙ ap (λ (ps : List ℕ). waiting_from ls vars ps 0 found ++ stack_of c.args.left.now) c.as_slice-2.ensures.value))
-        c.put_found.ensures
+    (λ put all is. next_made (scope_view c.args.around.now) c.args.first ls all (waiting_view c.args.waiting) c.args.sites.now c.row_of.new.sites (stack_of c.args.left.now) (stack_of c.put_found.new.left) c.args.rows.now c.push.new.self l vars found c.in_ok-row.row
+    there is c.in_ok-row.ensures.row c.in_ok-row.ensures.found c.in_ok-row.ensures.sites c.in_ok-push.ensures.ok (ap seen c.as_slice.ensures.value ∙ c.in_ok-variables.ensures)
+    (put ∙ ap (λ (ps : List ℕ). waiting_from ls vars ps 0 found ++ stack_of c.args.left.now) c.as_slice-2.ensures.value))
+    c.put_found.ensures
