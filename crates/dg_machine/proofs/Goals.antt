@@ -5,6 +5,7 @@ use Rattle.std.proofs.lemmas.Bool.{cond-false, le-ltb}
 use Rattle.dg_base.specs.declared.program.Term.{Term}
 use Rattle.dg_base.specs.declared.program.CompareOp.{CompareOp}
 use Rattle.dg_base.specs.declared.program.ArithOp.{ArithOp}
+use Rattle.dg_base.specs.declared.program.TestKind.{TestKind}
 use Rattle.dg_meaning.specs.Values.{Value}
 use Rattle.dg_meaning.specs.Cells.{cells}
 use Rattle.dg_meaning.specs.Substitutions.{walk}
@@ -202,17 +203,18 @@ quits_op code r rest g l m o b at h = (refl, roomy code l m r h)
 pub stops_op : (code : Code) (r : Memory) (rest : List Op) → DoesOp code r (op.Do action.Stop) rest r (Ended ending.Stopped)
 stops_op code r rest g l m o b at h = subst (λ t. Stands code l r (Ended ending.Stopped) (stops (setting g code l) t (more 0 m))) (sym h.1.stop_is) (refl, roomy code l m r h)
 
-pub fails_act : (code : Code) (r : Memory) (a : Action) (rest : List Op) → IsQuiet a → (a ≡ action.Just → ⊥) → (a ≡ action.Quit → ⊥) → (a ≡ action.Stop → ⊥) → ((x y : Term) → a ≡ action.Equal x y → ⊥) → ((f : CompareOp) (x y : Term) → a ≡ action.Compare f x y → ⊥) → ((f : ArithOp) (x y z : Term) → a ≡ action.Arith f x y z → ⊥) → DoesOp code r (op.Do a) rest r Fails
-fails_act code r action.Fail rest q j u s k d v g l m o b at h = nothing_more code l r m h
-fails_act code r action.Just rest q j u s k d v g l m o b at h = absurd (j refl)
-fails_act code r action.Quit rest q j u s k d v g l m o b at h = absurd (u refl)
-fails_act code r action.Stop rest q j u s k d v g l m o b at h = absurd (s refl)
-fails_act code r (action.Text name) rest q j u s k d v g l m o b at h = absurd q
-fails_act code r (action.Gap kind) rest q j u s k d v g l m o b at h = absurd q
-fails_act code r (action.Arith f x y z) rest q j u s k d v g l m o b at h = absurd (v f x y z refl)
-fails_act code r (action.Compare f x y) rest q j u s k d v g l m o b at h = absurd (d f x y refl)
-fails_act code r (action.Equal x y) rest q j u s k d v g l m o b at h = absurd (k x y refl)
-fails_act code r a rest q j u s k d v g l m o b at h = absurd b
+pub fails_act : (code : Code) (r : Memory) (a : Action) (rest : List Op) → IsQuiet a → (a ≡ action.Just → ⊥) → (a ≡ action.Quit → ⊥) → (a ≡ action.Stop → ⊥) → ((x y : Term) → a ≡ action.Equal x y → ⊥) → ((f : CompareOp) (x y : Term) → a ≡ action.Compare f x y → ⊥) → ((f : ArithOp) (x y z : Term) → a ≡ action.Arith f x y z → ⊥) → ((f : TestKind) (x : Term) → a ≡ action.Test f x → ⊥) → DoesOp code r (op.Do a) rest r Fails
+fails_act code r action.Fail rest q j u s k d v t g l m o b at h = nothing_more code l r m h
+fails_act code r action.Just rest q j u s k d v t g l m o b at h = absurd (j refl)
+fails_act code r action.Quit rest q j u s k d v t g l m o b at h = absurd (u refl)
+fails_act code r action.Stop rest q j u s k d v t g l m o b at h = absurd (s refl)
+fails_act code r (action.Text name) rest q j u s k d v t g l m o b at h = absurd q
+fails_act code r (action.Gap kind) rest q j u s k d v t g l m o b at h = absurd q
+fails_act code r (action.Arith f x y z) rest q j u s k d v t g l m o b at h = absurd (v f x y z refl)
+fails_act code r (action.Test f x) rest q j u s k d v t g l m o b at h = absurd (t f x refl)
+fails_act code r (action.Compare f x y) rest q j u s k d v t g l m o b at h = absurd (d f x y refl)
+fails_act code r (action.Equal x y) rest q j u s k d v t g l m o b at h = absurd (k x y refl)
+fails_act code r a rest q j u s k d v t g l m o b at h = absurd b
 
 pub other_goal : (x : Op) → is_goal x ≡ true → OpBuilt x → ((a : Action) → x ≡ op.Do a → ⊥) → ((pred : ℕ) (ts : List Term) (many : Bool) (next : ℕ) → x ≡ op.Ask pred ts many next → ⊥) → ((pred : ℕ) (ts : List Term) (many : Bool) → x ≡ op.LastAsk pred ts many → ⊥) →
     (x ≡ op.Take → ⊥) → ((alt : ℕ) → x ≡ op.Branch alt → ⊥) → (x ≡ op.Once → ⊥) → ((alt : ℕ) → x ≡ op.Try alt → ⊥) → ⊥
@@ -252,6 +254,7 @@ quiet_goal g m (op.Do (action.Arith f x y z)) rest q b =
     let v = value_of g.game.program (vars_of m.frames) x in
     let u = value_of g.game.program (vars_of m.frames) y in
     quiet_gives (of_numbers (calculated f) (walk m.state.subst v) (walk m.state.subst u)) (value_of g.game.program (vars_of m.frames) z) (registers_of m') (worked (looked_up (registers_of m') v + looked_up (registers_of m') u) (world_of [] m'))
+quiet_goal g m (op.Do (action.Test f x)) rest q b = refl
 quiet_goal g m (op.Do (action.Compare f x y)) rest q b = refl
 quiet_goal g m (op.Do action.Fail) rest q b = refl
 quiet_goal g m (op.Do action.Quit) rest q b = refl

@@ -11,6 +11,7 @@ pub mod Leads
 pub mod Leaving
 pub mod Unifying
 pub mod Compares
+pub mod Tests
 pub mod Texts
 pub mod Goals
 pub mod Runs

@@ -25,6 +25,7 @@ abbrev pub ActionBuilt : Action → Type 0
 ActionBuilt (action.Text name) = Unit {0}
 ActionBuilt (action.Gap kind) = Unit {0}
 ActionBuilt (action.Equal a b) = IsPlain (out-Term a) × IsPlain (out-Term b)
+ActionBuilt (action.Test kind a) = IsPlain (out-Term a)
 ActionBuilt (action.Arith f a b c) = IsPlain (out-Term a) × IsPlain (out-Term b) × IsPlain (out-Term c)
 ActionBuilt (action.Compare f a b) = IsPlain (out-Term a) × IsPlain (out-Term b)
 ActionBuilt action.Just = Unit {0}

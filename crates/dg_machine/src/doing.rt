@@ -18,7 +18,7 @@ ghost use Rattle.dg_machine.specs.Standing.{DoesOp, DoesMark, CallsRules, Enters
 use crate::memory::Memory;
 use crate::now::{Call, Now, Way};
 use crate::passing::pass;
-use dg_base::{ArithOp, CompareOp, Ending, Term};
+use dg_base::{ArithOp, CompareOp, Ending, Term, TestKind};
 use dg_mid::{Code, Op, RuleCode};
 
 /// The instructions of a block.
@@ -110,6 +110,19 @@ impl Memory {
             Err(_) => Now::Ended(Ending::TrailLimit),
             Ok(false) => Now::Fails,
             Ok(true) => Now::Runs(rest),
+        }
+    }
+
+    /// A value is tested.
+    pub fn test<'p>(&mut self, kind: TestKind, a: &Term, rest: &'p [Op]) -> Now<'p>
+        requires some { (code : TheCode) × (l : Limits) × (m : Mid) × Holds code l self.old m }
+        requires a_plain { IsPlain (out-Term a.now) }
+        ensures { (code : TheCode) → DoesOp code self.old (op.Do (action.Test kind a.now)) rest.now self.new result }
+    {
+        if self.test_term(kind, a) {
+            Now::Runs(rest)
+        } else {
+            Now::Fails
         }
     }
 

@@ -10,6 +10,7 @@ mod refs;
 mod rows;
 mod steps;
 mod terms;
+mod testing;
 
 pub use machine::Machine;
 pub use memory::Memory;

@@ -8,6 +8,7 @@ ghost use Rattle.dg_meaning.specs.Values.{Value, Num, leaf, value_of};
 ghost use Rattle.dg_meaning.specs.Moves.{new_vars};
 ghost use Rattle.dg_meaning.specs.Numbers.{are_in_order, calculated, of_numbers};
 ghost use Rattle.dg_meaning.specs.Substitutions.{walk};
+ghost use Rattle.dg_meaning.specs.TypeTests.{passes};
 ghost use Rattle.dg_meaning.specs.Unify.{solve, unify as unified};
 ghost use Rattle.dg_unify.specs.Store.{Store, Kept};
 ghost use Rattle.dg_unify.specs.declared.bindings.Ref.{Ref};
@@ -25,10 +26,10 @@ use crate::now::{Call, Choice, Frame, Inner, Row, Way};
 use crate::refs::{MOST_ARGS, move_refs, push_refs};
 use crate::rows::make_row;
 use crate::terms::{
-    calculate_terms, compare_terms, match_head, unify_number, unify_terms, write_args,
+    calculate_terms, compare_terms, match_head, test_term, unify_number, unify_terms, write_args,
 };
 use dg_arena::Arena;
-use dg_base::{ArithOp, CompareOp, Term};
+use dg_base::{ArithOp, CompareOp, Term, TestKind};
 use dg_unify::{Bindings, Full, Ref, View};
 use std::alloc::{AllocError, Global};
 
@@ -226,6 +227,18 @@ impl Memory {
             Err(full) => Err(full),
             Ok(agreed) => Ok(agreed),
         }
+    }
+
+    /// Whether the value of a term, among the variables at hand, passes a test.
+    pub fn test_term(&mut self, kind: TestKind, a: &Term) -> bool
+        requires some { (code : Code) × (l : Limits) × (m : Mid) × Holds code l self.old m }
+        requires a_plain { IsPlain (out-Term a.now) }
+        ensures held { (code : Code) → (l : Limits) → (m : Mid) → Holds code l self.old m → Holds code l self.new m }
+        ensures passed { (code : Code) → (l : Limits) → (m : Mid) → (p : CoreProgram) → Holds code l self.old m →
+            result ≡ passes m.state.subst kind (value_of p (vars_of m.frames) a.now) }
+    {
+        let row = self.row_at_hand();
+        test_term(&mut self.arena, row, kind, a)
     }
 
     /// Whether the values of two terms, among the variables at hand, are numbers in an order.

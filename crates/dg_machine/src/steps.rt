@@ -130,6 +130,7 @@ fn act<'p>(memory: &mut Memory, action: &'p Action, rest: &'p [Op]) -> Now<'p>
 {
     match action {
         Action::Equal(a, b) => memory.equal(a, b, rest),
+        Action::Test(kind, a) => memory.test(*kind, a, rest),
         Action::Arith(by, a, b, into) => memory.arith(*by, a, b, into, rest),
         Action::Compare(by, a, b) => memory.compare(*by, a, b, rest),
         Action::Just => memory.just(rest),

@@ -7,6 +7,7 @@ ghost use Rattle.dg_meaning.specs.Values.{Value, Num, leaf, value_of};
 ghost use Rattle.dg_meaning.specs.Unify.{solve, unify as unified};
 ghost use Rattle.dg_meaning.specs.Numbers.{are_in_order, calculated, of_numbers};
 ghost use Rattle.dg_meaning.specs.Substitutions.{walk};
+ghost use Rattle.dg_meaning.specs.TypeTests.{passes};
 ghost use Rattle.dg_machine.specs.Comparing.{order_of, made_of};
 ghost use Rattle.dg_unify.specs.Store.{Follows, label_of};
 ghost use Rattle.dg_arena.specs.Held.{meaning_of};
@@ -14,8 +15,9 @@ ghost use Rattle.dg_machine.specs.Built.{IsPlain, ArePlain};
 ghost use Rattle.dg_machine.specs.Refs.{RowAt, RefsAt, AreRefs, Keeps, Stays};
 
 use crate::now::Row;
+use crate::testing::test;
 use dg_arena::Arena;
-use dg_base::{ArithOp, CompareOp, Simple, Term};
+use dg_base::{ArithOp, CompareOp, Simple, Term, TestKind};
 use dg_lists::{arith, compare};
 use dg_unify::{Bindings, Full, Ref, View, unify};
 
@@ -103,6 +105,18 @@ pub fn unify_terms(arena: &mut Arena, row: Row, a: &Term, b: &Term) -> Result<bo
     let left = plain_value(arena, row, a);
     let right = plain_value(arena, row, b);
     unify(arena, left, right)
+}
+
+/// Whether the value of a term without parts, among variables in a row, passes a test.
+pub fn test_term(arena: &mut Arena, row: Row, kind: TestKind, a: &Term) -> bool
+    requires a_plain { IsPlain (out-Term a.now) }
+    requires row { (vs : List Value) × RowAt (meaning_of arena.old) row vs }
+    ensures stays { Stays arena.old arena.new }
+    ensures passed { (p : CoreProgram) → (vs : List Value) → RowAt (meaning_of arena.old) row vs →
+        result ≡ passes (meaning_of arena.old).state.subst kind (value_of p vs a.now) }
+{
+    let value = plain_value(arena, row, a);
+    test(arena, kind, value)
 }
 
 /// Whether what is shown are numbers in an order.

@@ -14,3 +14,6 @@ returns-in-Compare c code = subst (λ a. DoesOp code c.args.memory.now (op.Do a)
 
 pub returns-in-Arith : goal.returns-in-Arith
 returns-in-Arith c code = subst (λ a. DoesOp code c.args.memory.now (op.Do a) c.args.rest.now c.arith.new.self c.arith.result) (sym c.in-Arith.is) (c.arith.ensures code)
+
+pub returns-in-Test : goal.returns-in-Test
+returns-in-Test c code = subst (λ a. DoesOp code c.args.memory.now (op.Do a) c.args.rest.now c.test.new.self c.test.result) (sym c.in-Test.is) (c.test.ensures code)
