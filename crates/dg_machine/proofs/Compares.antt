@@ -1,31 +1,35 @@
--- What a comparison comes to.
-use Rattle.std.proofs.Common.{◌≡◌, ℕ, [], ◌∷◌, sym, ap, ◌∙◌}
+-- What a comparison and a calculation come to.
+use Rattle.std.proofs.Common.{◌≡◌, ℕ, List, [], ◌∷◌, Bool, true, false, Option, Some, None, refl, sym, ap, ◌∙◌, subst}
+use Rattle.std.specs.Borrow.{Bor}
 use Rattle.dg_base.specs.declared.cells.Simple.TheVariants as simple
+use Rattle.dg_base.specs.declared.program.ArithOp.{ArithOp}
 use Rattle.dg_base.specs.declared.program.CompareOp.{CompareOp}
-use Rattle.dg_base.specs.declared.program.Term.{Term, out-Term}
+use Rattle.dg_base.specs.declared.run.Ending.TheVariants.{HeapLimit}
 use Rattle.dg_base.specs.declared.run.Limits.{Limits}
-use Rattle.dg_meaning.specs.Values.{Value, Num, leaf, value_of}
-use Rattle.dg_meaning.specs.Substitutions.{walk}
+use Rattle.dg_meaning.specs.Values.{Value, Num, leaf}
+use Rattle.dg_meaning.specs.Cells.{cells}
 use Rattle.dg_meaning.specs.Numbers.{are_in_order, of_numbers, calculated}
 use Rattle.dg_meaning.specs.Unify.{unify}
-use Rattle.dg_meaning.specs.Moves.{gives_number, looked_up}
-use Rattle.std.proofs.Common.{◌+◌, Option, Some, None, refl}
-use Rattle.std.proofs.lemmas.List.Elements.{All-cons}
-use Rattle.dg_base.specs.declared.program.ArithOp.{ArithOp}
-use Rattle.dg_meaning.specs.World.{Game, World, worked}
+use Rattle.dg_meaning.specs.Moves.{gives_number}
+use Rattle.dg_meaning.specs.World.{Game, World}
 use Rattle.dg_unify.specs.Store.{Store, Shows}
 use Rattle.dg_unify.specs.declared.bindings.View.{View}
 use Rattle.dg_unify.specs.declared.bindings.View.TheVariants as view
+use Rattle.dg_mid.specs.declared.code.Op.{Op}
 use Rattle.dg_mid.specs.declared.code.Op.TheVariants as op
-use Rattle.dg_mid.specs.declared.code.Action.TheVariants as action
+use Rattle.dg_mid.specs.declared.code.Action.{Action}
 use Rattle.dg_mid.specs.declared.code.Code.{Code}
-use Rattle.dg_mid.specs.Actions.{act_at, registers_of, world_of}
-use Rattle.dg_mid.specs.State.{Mid, vars_of, Runs as RunsOf, Fails as FailsOf}
-use Rattle.dg_mid.specs.Step.{Setting, setting, more, bound, charged, done, does, if_passed, unified}
-use Rattle.dg_machine.specs.Built.{IsPlain, ArePlain}
+use Rattle.dg_mid.specs.Actions.{terms_of, act_at, registers_of, outside_in}
+use Rattle.dg_mid.specs.State.{Mid, Runs as RunsOf, Fails as FailsOf}
+use Rattle.dg_mid.specs.Step.{Setting, setting, more, bound, done, does, if_passed, unified}
+use Rattle.dg_machine.specs.declared.now.Now.{Now}
+use Rattle.dg_machine.specs.declared.now.Now.TheVariants.{Runs, Fails, Ended}
+use Rattle.dg_machine.specs.declared.memory.Memory.{Memory}
 use Rattle.dg_machine.specs.Comparing.{order_of, made_of}
-use Rattle.dg_machine.proofs.TermLemmas.{plain_cells}
-use Rattle.dg_machine.proofs.Unifying.{two_plain, done_unifies}
+use Rattle.dg_machine.specs.Layout.{Holds, Lacks}
+use Rattle.dg_machine.specs.Standing.{CodeIs, Stands}
+use Rattle.dg_machine.proofs.Leads.{charged_led, full_stands}
+use Rattle.dg_machine.proofs.Unifying.{done_unifies}
 
 order_with : (f : CompareOp) (s : Store) (m : ℕ) (u : Value) (second : View) → Shows s u second → order_of f (view.Simple (simple.Num m)) second ≡ are_in_order f (leaf (Num m)) u
 order_with f s m u (view.Unbound r) h = ap (are_in_order f (leaf (Num m))) (sym h.is)
@@ -67,39 +71,31 @@ made_shown f s v u (view.Pair a b) second h k = ap (λ x. of_numbers (calculated
 made_shown f s v u (view.Closure place r) second h k = ap (λ x. of_numbers (calculated f) x u) (sym h.is)
 made_shown f s v u (view.Unknown r) second h k = ap (λ x. of_numbers (calculated f) x u) (sym h.is)
 
-module _ (code : Code) (g : Game) (l : Limits) (f : ArithOp) (a b into : Term) (m : Mid) (ha : IsPlain (out-Term a)) (hb : IsPlain (out-Term b)) (hc : IsPlain (out-Term into)) where
+-- what is calculated is unified
+module _ (g : Setting) (w : Value) (m : Mid) (world : World) (is : outside_in world m ≡ m) where
+  pub gives_none : (o : Option ℕ) → None ≡ o → done g (gives_number o w (registers_of m) world) m ≡ FailsOf m
+  gives_none o e = ap (λ x. done g (gives_number x w (registers_of m) world) m) (sym e) ∙ ap FailsOf is
+
+  pub gives_some : (o : Option ℕ) (n : ℕ) → Some n ≡ o → done g (gives_number o w (registers_of m) world) m ≡ unified g (unify m.state.subst w (leaf (Num n))) m (RunsOf (bound (unify m.state.subst w (leaf (Num n))) m))
+  gives_some o n e = ap (λ x. done g (gives_number x w (registers_of m) world) m) (sym e) ∙ done_unifies g ((w, leaf (Num n)) ∷ []) m world is
+
+-- an action is done behind its cells
+module _ (code : Code) (g : Game) (l : Limits) (a : Action) (m : Mid) where
   abbrev set_m : Setting
   set_m = setting g code l
 
-  abbrev v_m : Value
-  v_m = value_of g.program (vars_of m.frames) a
+  abbrev n_m : ℕ
+  n_m = cells g.program (terms_of a)
 
-  abbrev u_m : Value
-  u_m = value_of g.program (vars_of m.frames) b
+  pub act_full : (old new : Memory) → Holds code l old m → Lacks n_m l m.state.heap new → Stands code l new (Ended HeapLimit) (does set_m (op.Do a) m)
+  act_full old new h over = full_stands code g l n_m m (done set_m (act_at g [] a (more n_m m)) (more n_m m)) old new h over
 
-  abbrev into_m : Value
-  into_m = value_of g.program (vars_of m.frames) into
+  pub act_led : (mid new : Memory) (now : Now) → Holds code l mid (more n_m m) → Stands code l new now (done set_m (act_at g [] a (more n_m m)) (more n_m m)) → Stands code l new now (does set_m (op.Do a) m)
+  act_led mid new now held stands = charged_led code g l n_m m (more n_m m) (done set_m (act_at g [] a (more n_m m)) (more n_m m)) mid new now held refl stands
 
-  abbrev world_m : World
-  world_m = worked (looked_up (registers_of (more 0 m)) v_m + looked_up (registers_of (more 0 m)) u_m) (world_of [] (more 0 m))
+-- it goes on where a test is passed
+pub passed_on : (code : Code) (l : Limits) (m : Mid) (r : Memory) (rest : Bor (List Op)) (b : Bool) → true ≡ b → CodeIs rest.now m → Holds code l r m → Stands code l r (Runs rest) (if_passed b m)
+passed_on code l m r rest b e at h = subst (λ x. Stands code l r (Runs rest) (if_passed x m)) e (at, h)
 
-  plain_m : ArePlain (a ∷ b ∷ into ∷ [])
-  plain_m = All-cons (λ (t : Term). IsPlain (out-Term t)) a (b ∷ into ∷ []) ha (two_plain b into hb hc)
-
-  arith_is : (o : Option ℕ) → o ≡ of_numbers (calculated f) (walk m.state.subst v_m) (walk m.state.subst u_m) → does set_m (op.Do (action.Arith f a b into)) m ≡ done set_m (gives_number o into_m (registers_of (more 0 m)) world_m) (more 0 m)
-  arith_is o e =
-      ap (λ n. charged set_m n m (done set_m (act_at g [] (action.Arith f a b into) (more n m)) (more n m))) (plain_cells g.program (a ∷ b ∷ into ∷ []) plain_m)
-      ∙ ap (λ x. done set_m (gives_number x into_m (registers_of (more 0 m)) world_m) (more 0 m)) (sym e)
-
-  pub arith_none : None ≡ of_numbers (calculated f) (walk m.state.subst v_m) (walk m.state.subst u_m) → does set_m (op.Do (action.Arith f a b into)) m ≡ FailsOf (more 0 m)
-  arith_none e = arith_is None e
-
-  pub arith_some : (n : ℕ) → Some n ≡ of_numbers (calculated f) (walk m.state.subst v_m) (walk m.state.subst u_m) →
-      does set_m (op.Do (action.Arith f a b into)) m ≡ unified set_m (unify m.state.subst into_m (leaf (Num n))) (more 0 m) (RunsOf (bound (unify m.state.subst into_m (leaf (Num n))) (more 0 m)))
-  arith_some n e = arith_is (Some n) e ∙ done_unifies set_m ((into_m, leaf (Num n)) ∷ []) (more 0 m) world_m refl
-
-pub compare_is : (code : Code) (g : Game) (l : Limits) (f : CompareOp) (a b : Term) (m : Mid) → IsPlain (out-Term a) → IsPlain (out-Term b) →
-    does (setting g code l) (op.Do (action.Compare f a b)) m ≡ if_passed (are_in_order f (walk m.state.subst (value_of g.program (vars_of m.frames) a)) (walk m.state.subst (value_of g.program (vars_of m.frames) b))) (more 0 m)
-compare_is code g l f a b m ha hb =
-    let set = setting g code l in
-    ap (λ n. charged set n m (done set (act_at g [] (action.Compare f a b) (more n m)) (more n m))) (plain_cells g.program (a ∷ b ∷ []) (two_plain a b ha hb))
+pub passed_not : (code : Code) (l : Limits) (m : Mid) (r : Memory) (b : Bool) → false ≡ b → Holds code l r m → Stands code l r Fails (if_passed b m)
+passed_not code l m r b e h = subst (λ x. Stands code l r Fails (if_passed x m)) e h

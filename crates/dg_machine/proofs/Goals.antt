@@ -41,7 +41,7 @@ use Rattle.dg_machine.specs.declared.now.Now.{Now}
 use Rattle.dg_machine.specs.declared.now.Now.TheVariants.{Runs, Enters, Resumes, Fails, Ended}
 use Rattle.dg_machine.specs.declared.memory.Memory.{Memory}
 use Rattle.dg_machine.specs.Built.{OpBuilt, OpsBuilt, IsBuilt, IsQuiet, IsQuietOp}
-use Rattle.dg_machine.specs.Layout.{HasRoom, Holds}
+use Rattle.dg_machine.specs.Layout.{HasRoom, HasPut, Holds}
 use Rattle.dg_machine.specs.Standing.{CodeIs, Stands, Falls, DoesOp, DoesMark, Asks, AsksLast, EntersRule, IsThere, GoesOn, FailsTo, HasStatus}
 use Rattle.dg_machine.specs.Running.{rests, DoesMarks, HasText, GoalDone, GoalLost}
 use Rattle.std.proofs.Common.{map}
@@ -49,12 +49,11 @@ use Rattle.dg_base.specs.declared.program.CoreProgram.{CoreProgram}
 use Rattle.dg_meaning.specs.Values.{value_of}
 use Rattle.dg_arena.specs.Held.{meaning_of}
 use Rattle.dg_mid.specs.State.{ToPred, vars_of}
-use Rattle.dg_mid.specs.Step.{charged, asks, last, call_of}
-use Rattle.dg_machine.specs.Refs.{RefsAt, AreRefs}
-use Rattle.dg_machine.specs.Built.{ArePlain}
-use Rattle.dg_machine.proofs.TermLemmas.{plain_cells}
+use Rattle.dg_mid.specs.Step.{asks, last, call_of}
+use Rattle.dg_machine.specs.Refs.{AreRefs}
 use Rattle.dg_machine.proofs.Opens.{roomy}
 use Rattle.dg_machine.proofs.Hands.{nothing_more, no_jump}
+use Rattle.dg_machine.proofs.Leads.{charged_led}
 use Rattle.dg_machine.proofs.Leaving.{block_is}
 use Rattle.dg_machine.proofs.Texts.{render_grows}
 
@@ -180,19 +179,21 @@ built_first all x rest is h = let parts : OpsBuilt (x ∷ rest) = subst OpsBuilt
 
 -- ## Instructions that take a goal
 
-pub asks_op : (code : Code) (old mid new : Memory) (now : Now) (pred next : ℕ) (terms : List Term) (many : Bool) (rest : List Op) → ArePlain terms → Asks code mid pred many next new now → ((l : Limits) (m : Mid) → Holds code l old m → Holds code l mid m) →
-    ((l : Limits) (m : Mid) (p : CoreProgram) → Holds code l old m → RefsAt (meaning_of mid.arena) mid.args.items (map (value_of p (vars_of m.frames)) terms)) → DoesOp code old (op.Ask pred terms many next) rest new now
-asks_op code old mid new now pred next terms many rest plain asked held args g l m o b at h =
-    let vs = map (value_of g.program (vars_of m.frames)) terms in
-    subst (λ n. Stands code l new now (charged (setting g code l) n m (asks (setting g code l) pred (call_of vs many next (more n m)) (more n m)))) (sym (plain_cells g.program terms plain))
-    (asked g l (more 0 m) vs (nothing_more code l mid m (held l m h)) (args l m g.program h))
+module _ (code : Code) (old mid new : Memory) (now : Now) (pred : ℕ) (terms : List Term) (many : Bool) (rest : List Op)
+    (put : (l : Limits) (m : Mid) (p : CoreProgram) → Holds code l old m → HasPut code l (cells p terms) (map (value_of p (vars_of m.frames)) terms) m mid) where
+  pub asks_op : (next : ℕ) → Asks code mid pred many next new now → DoesOp code old (op.Ask pred terms many next) rest new now
+  asks_op next asked g l m o b at h =
+      let n = cells g.program terms in
+      let vs = map (value_of g.program (vars_of m.frames)) terms in
+      let x = put l m g.program h in
+      charged_led code g l n m (more n m) (asks (setting g code l) pred (call_of vs many next (more n m)) (more n m)) mid new now x.held refl (asked g l (more n m) vs x.held x.args)
 
-pub asks_last_op : (code : Code) (old mid new : Memory) (now : Now) (pred : ℕ) (terms : List Term) (many : Bool) (rest : List Op) → ArePlain terms → AsksLast code mid pred many new now → ((l : Limits) (m : Mid) → Holds code l old m → Holds code l mid m) →
-    ((l : Limits) (m : Mid) (p : CoreProgram) → Holds code l old m → RefsAt (meaning_of mid.arena) mid.args.items (map (value_of p (vars_of m.frames)) terms)) → DoesOp code old (op.LastAsk pred terms many) rest new now
-asks_last_op code old mid new now pred terms many rest plain asked held args g l m o b at h =
-    let vs = map (value_of g.program (vars_of m.frames)) terms in
-    subst (λ n. Stands code l new now (charged (setting g code l) n m (last (setting g code l) (ToPred pred) vs many m.frames (more n m)))) (sym (plain_cells g.program terms plain))
-    (asked g l (more 0 m) vs (nothing_more code l mid m (held l m h)) (args l m g.program h))
+  pub asks_last_op : AsksLast code mid pred many new now → DoesOp code old (op.LastAsk pred terms many) rest new now
+  asks_last_op asked g l m o b at h =
+      let n = cells g.program terms in
+      let vs = map (value_of g.program (vars_of m.frames)) terms in
+      let x = put l m g.program h in
+      charged_led code g l n m (more n m) (last (setting g code l) (ToPred pred) vs many m.frames (more n m)) mid new now x.held refl (asked g l (more n m) vs x.held x.args)
 
 pub takes_op : (code : Code) (r : Memory) (rest : Bor (List Op)) → DoesOp code r op.Take rest.now r (Runs rest)
 takes_op code r rest g l m o b at h = (at, h)

@@ -22,7 +22,7 @@ use Rattle.dg_mid.specs.declared.code.Code.{Code}
 use Rattle.dg_mid.specs.declared.code.RuleCode.{RuleCode}
 use Rattle.dg_mid.specs.Code.{block_at, rules_at, selected}
 use Rattle.dg_mid.specs.State.{Mid, Frame as FrameOf, Call as CallOf, Choice as ChoiceOf, Way as WayOf, ToPred, Goes as GoesOf, Calls as CallsOf, Status, Runs as RunsOf, Enters as EntersOf, Fails as FailsOf, Ended as EndedOf}
-use Rattle.dg_mid.specs.Step.{Setting, setting, cut_to, bound, unified, trail_more, inside, passed, at_rule, begins, enters as enters_of, first_of, if_agreed, charged, enter, entered, returns, returned, resumed, goes_on, goes_back, call_of, asks, asks_last, last}
+use Rattle.dg_mid.specs.Step.{Setting, setting, cut_to, bound, unified, trail_more, inside, passed, at_rule, begins, enters as enters_of, first_of, if_agreed, enter, entered, returns, returned, resumed, goes_on, goes_back, call_of, asks, asks_last, last}
 use Rattle.dg_mid.specs.Heights.{AgreeAll, FramesNamed, MidOrdered}
 use Rattle.dg_mid.specs.Potential.{Tidy, begins_goto}
 use Rattle.dg_machine.specs.declared.now.Frame.{Frame}
@@ -33,19 +33,18 @@ use Rattle.dg_machine.specs.declared.now.Now.{Now}
 use Rattle.dg_machine.specs.declared.now.Now.TheVariants.{Runs, Enters, Resumes, Fails, Ended}
 use Rattle.dg_machine.specs.declared.memory.Memory.{Memory}
 use Rattle.dg_machine.specs.Links.{named, below}
-use Rattle.dg_machine.specs.Built.{ArePlain, OpBuilt, OpsBuilt, IsBuilt}
+use Rattle.dg_machine.specs.Built.{AreArguments, OpBuilt, OpsBuilt, IsBuilt}
 use Rattle.dg_machine.specs.Refs.{RefsAt}
 use Rattle.dg_machine.specs.Passing.{codes_from, IsFirst}
-use Rattle.dg_machine.specs.Layout.{Holds, Roomy, Lacks, CallAt, RulesAt, WayAt, Opened, WentBack, Matched, Unmatched, made_state, in_frame, last_rules, heap_in}
+use Rattle.dg_machine.specs.Layout.{Holds, Roomy, Lacks, CallAt, RulesAt, WayAt, Opened, WentBack, Matched, Unmatched, headed_state, in_frame, last_rules, heap_in}
 use Rattle.dg_machine.specs.Measure.{way_left, choices_left}
 use Rattle.dg_unify.specs.declared.bindings.Ref.{Ref}
 use Rattle.dg_machine.specs.Standing.{CodeIs, Stands, Falls, EntersWith, EntersIn, CallBegins, CallsRules}
 use Rattle.dg_machine.proofs.Kept.{call_kept}
-use Rattle.dg_machine.proofs.Opens.{left_more, fits}
-use Rattle.dg_machine.proofs.TermLemmas.{plain_cells}
+use Rattle.dg_machine.proofs.Opens.{left_more}
 use Rattle.dg_machine.proofs.PassedRules.{codes_selected, EndsIn, ends_on, selected_end, last_end, next_end, AreLast, are_last, no_longer}
 use Rattle.dg_machine.proofs.Hands.{some_frame, no_frame, no_jump, few, at_most_one}
-use Rattle.dg_machine.proofs.Leads.{was_cut, charged_on, charged_stands, full_stands, height_now}
+use Rattle.dg_machine.proofs.Leads.{was_cut, charged_led, charged_stands, full_stands, height_now}
 
 -- ## The answer of a rule
 
@@ -176,16 +175,19 @@ unified_on g u m next le = cond-false (nat_lt g.limits.trail (trail_more m.state
 pub unified_off : (g : Setting) (u : Unified) (m : Mid) (next : Status) → g.limits.trail < trail_more m.state u → unified g u m next ≡ EndedOf ending.TrailLimit
 unified_off g u m next lt = cond-true (nat_lt g.limits.trail (trail_more m.state u)) (EndedOf ending.TrailLimit) (if_agreed u.agrees (bound u m) next) (lt-ltb g.limits.trail (trail_more m.state u) lt)
 
-module _ (code : Code) (g : Game) (l : Limits) (m : Mid) (k : Call) (c : CallOf) (vars : ℕ) (head : List Term) (plain : ArePlain head) (r new : Memory) (ops rest : Bor (List Op)) (at : CodeIs rest.now m) (h : Holds code l r m) where
+module _ (code : Code) (g : Game) (l : Limits) (m : Mid) (k : Call) (c : CallOf) (vars : ℕ) (head : List Term) (r new : Memory) (ops rest : Bor (List Op)) (at : CodeIs rest.now m) (h : Holds code l r m) where
   abbrev set_c : Setting
   set_c = setting g code l
 
   abbrev made : List Value
   made = new_vars vars m.state.vars
 
-  -- the machine with the variables of the rule
+  -- the cells of the rule, and the machine with its variables and its head
+  abbrev cells_c : ℕ
+  cells_c = 6 + vars + cells g.program head
+
   abbrev made_mid : Mid
-  made_mid = record m { state = made_state vars m.state }
+  made_mid = record m { state = headed_state vars (cells g.program head) m.state }
 
   abbrev u_c : Unified
   u_c = solve m.state.subst (zip c.args (map (value_of g.program made) head))
@@ -193,26 +195,16 @@ module _ (code : Code) (g : Game) (l : Limits) (m : Mid) (k : Call) (c : CallOf)
   abbrev next_c : Status
   next_c = RunsOf (in_frame c made (bound u_c made_mid))
 
-  enter_is : enter set_c c vars head m ≡ charged set_c (6 + vars) m (unified set_c u_c made_mid next_c)
-  enter_is =
-      let none : 6 + vars + cells g.program head ≡ 6 + vars = omega (arith, plain_cells g.program head plain) in
-      ap (λ n. charged set_c n m (unified set_c u_c (record m { state = record m.state { vars = m.state.vars + vars; heap = m.state.heap + n } }) (RunsOf (in_frame c made (bound u_c (record m { state = record m.state { vars = m.state.vars + vars; heap = m.state.heap + n } })))))) none
-
-  pub enters_full : Lacks (6 + vars) l m.state.heap new → Falls code l r (Enters k ops) new (Ended ending.HeapLimit) (enter set_c c vars head m)
-  enters_full over = record {
-    stands = subst (Stands code l new (Ended ending.HeapLimit)) (sym enter_is) (full_stands code g l (6 + vars) m (unified set_c u_c made_mid next_c) r new h over);
-    falls = omega arith;
-  }
+  pub enters_full : Lacks cells_c l m.state.heap new → Falls code l r (Enters k ops) new (Ended ending.HeapLimit) (enter set_c c vars head m)
+  enters_full over = record { stands = full_stands code g l cells_c m (unified set_c u_c made_mid next_c) r new h over; falls = omega arith }
 
   -- what the unification leads to is stood for, where its cells were taken
-  led_to : (mid : Memory) (m' : Mid) (now : Now) → Holds code l mid m' → m'.state.heap ≡ m.state.heap + (6 + vars) → Stands code l new now (unified set_c u_c made_mid next_c) → Stands code l new now (enter set_c c vars head m)
-  led_to mid m' now held heap stands =
-      let within = fits code l m' mid held in
-      subst (Stands code l new now) (sym (enter_is ∙ charged_on set_c (6 + vars) m (unified set_c u_c made_mid next_c) (omega (arith, within, heap)))) stands
+  led_to : (mid : Memory) (now : Now) → Holds code l mid made_mid → Stands code l new now (unified set_c u_c made_mid next_c) → Stands code l new now (enter set_c c vars head m)
+  led_to mid now held stands = charged_led code g l cells_c m made_mid (unified set_c u_c made_mid next_c) mid new now held refl stands
 
   pub enters_unmatched : (mid : Memory) → Holds code l mid made_mid → Unmatched l u_c made_mid new → Falls code l r (Enters k ops) new (Ended ending.TrailLimit) (enter set_c c vars head m)
   enters_unmatched mid held x = record {
-    stands = led_to mid made_mid (Ended ending.TrailLimit) held refl (subst (Stands code l new (Ended ending.TrailLimit)) (sym (unified_off set_c u_c made_mid next_c x.over)) (refl, x.roomy));
+    stands = led_to mid (Ended ending.TrailLimit) held (subst (Stands code l new (Ended ending.TrailLimit)) (sym (unified_off set_c u_c made_mid next_c x.over)) (refl, x.roomy));
     falls = omega arith;
   }
 
@@ -220,7 +212,7 @@ module _ (code : Code) (g : Game) (l : Limits) (m : Mid) (k : Call) (c : CallOf)
   enters_clash mid b e held x same =
       let left_now : choices_left new.choices.items ≡ choices_left r.choices.items = ap (λ v. choices_left v.items) same in
       let failed : unified set_c u_c made_mid next_c ≡ FailsOf (bound u_c made_mid) = unified_on set_c u_c made_mid next_c x.fits ∙ ap (λ a. if_agreed a (bound u_c made_mid) next_c) (sym x.agrees ∙ e) in
-      record { stands = led_to mid made_mid Fails held refl (subst (Stands code l new Fails) (sym failed) x.held); falls = omega (arith, left_now) }
+      record { stands = led_to mid Fails held (subst (Stands code l new Fails) (sym failed) x.held); falls = omega (arith, left_now) }
 
   pub enters : (mid last : Memory) (b : Bool) → b ≡ true → Holds code l mid made_mid → Matched code l u_c made_mid last b → Holds code l new (in_frame c made (bound u_c made_mid)) → new.choices ≡ r.choices → Falls code l r (Enters k ops) new (Runs rest) (enter set_c c vars head m)
   enters mid last b agree held x here same =
@@ -230,7 +222,7 @@ module _ (code : Code) (g : Game) (l : Limits) (m : Mid) (k : Call) (c : CallOf)
       let jumps = at_most_one rest.now in
       let left_now : choices_left new.choices.items ≡ choices_left r.choices.items = ap (λ v. choices_left v.items) same in
       let agreed : unified set_c u_c made_mid next_c ≡ next_c = unified_on set_c u_c made_mid next_c x.fits ∙ ap (λ a. if_agreed a (bound u_c made_mid) next_c) (sym x.agrees ∙ agree) in
-      record { stands = led_to mid made_mid (Runs rest) held refl (subst (Stands code l new (Runs rest)) (sym agreed) (at, here)); falls = omega (arith, left_now, frame, inner, jumps) }
+      record { stands = led_to mid (Runs rest) held (subst (Stands code l new (Runs rest)) (sym agreed) (at, here)); falls = omega (arith, left_now, frame, inner, jumps) }
 
 -- ## Going on
 
@@ -415,14 +407,14 @@ go_goes code g l m b r new now on at falls = absurd at
 -- code that begins with the entering of a rule
 pub record EntersAt (all rest : List Op) (vars : ℕ) (head : List Term) : Type 0 where
   pub is : all ≡ op.Enter vars head ∷ rest
-  pub plain : ArePlain head
+  pub args : AreArguments head
   pub built : OpsBuilt rest
 
 pub entering_is : (all : List Op) (x : Op) (rest : List Op) (vars : ℕ) (head : List Term) → all ≡ x ∷ rest → x ≡ op.Enter vars head → OpsBuilt all → EntersAt all rest vars head
 entering_is all x rest vars head is enter built =
     let whole : all ≡ op.Enter vars head ∷ rest = is ∙ ap (λ y. y ∷ rest) enter in
     let parts : OpsBuilt (op.Enter vars head ∷ rest) = subst OpsBuilt whole built in
-    record { is = whole; plain = parts.0; built = parts.1 }
+    record { is = whole; args = parts.0; built = parts.1 }
 
 -- what is said of the first of a rule is said of its entering
 pub rule_entered : (code : Code) (g : Game) (l : Limits) (m : Mid) (k : Call) (c : CallOf) (vars : ℕ) (head : List Term) (r new : Memory) (now : Now) (ops : Bor (List Op)) (rest : List Op) → EntersAt ops.now rest vars head → m.ops ≡ ops.now → CallAt (meaning_of r.arena) r.args.items k c → Holds code l r m →

@@ -1,8 +1,12 @@
 pub mod Kept
 pub mod Cuts
 pub mod Opens
+pub mod Putting
 pub mod RowLemmas
 pub mod TermLemmas
+pub mod PathLemmas
+pub mod WriteSteps
+pub mod RegisterLemmas
 pub mod Matching
 pub mod HeadLemmas
 pub mod PassedRules

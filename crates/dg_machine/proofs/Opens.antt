@@ -74,12 +74,12 @@ heap_full n a b full.Heap h = h.0
 heap_full n a b full.Trail h = absurd h
 heap_full n a b full.OutOfMemory h = absurd (grows_not h.0)
 
-pub refs_fit_on : (limit limit' heap heap' kept_room args_room : ℕ) (kept args : List Ref) → limit' ≡ limit → heap ≤ heap' → RefsFit limit heap kept_room kept args_room args → RefsFit limit' heap' kept_room kept args_room args
-refs_fit_on limit limit' heap heap' kept_room args_room kept args e le h = record { kept_fit = omega (arith, e, h.kept_fit); kept_few = omega (arith, le, h.kept_few); args_fit = h.args_fit; args_few = h.args_few }
+pub refs_fit_on : (limit limit' heap heap' kept_room args_room heads_room path_room : ℕ) (kept args : List Ref) → limit' ≡ limit → heap ≤ heap' → RefsFit limit heap kept_room kept args_room args heads_room path_room → RefsFit limit' heap' kept_room kept args_room args heads_room path_room
+refs_fit_on limit limit' heap heap' kept_room args_room heads_room path_room kept args e le h = record { kept_fit = omega (arith, e, h.kept_fit); kept_few = omega (arith, le, h.kept_few); args_fit = h.args_fit; args_few = h.args_few; heads_fit = h.heads_fit; path_fit = omega (arith, e, h.path_fit) }
 
 -- the same areas with another store
-pub refs_on : (r : Memory) (a : Arena) → HasRoom r → Kept (meaning_of r.arena) (meaning_of a) → heap_in r ≤ heap_in (record r { arena = a }) → RefsFit (limit_in (record r { arena = a })) (heap_in (record r { arena = a })) (vec_capacity r.kept) r.kept.items (vec_capacity r.args) r.args.items
-refs_on r a h kept le = refs_fit_on (limit_in r) (limit_in (record r { arena = a })) (heap_in r) (heap_in (record r { arena = a })) (vec_capacity r.kept) (vec_capacity r.args) r.kept.items r.args.items kept.heap_limit le h.refs
+pub refs_on : (r : Memory) (a : Arena) → HasRoom r → Kept (meaning_of r.arena) (meaning_of a) → heap_in r ≤ heap_in (record r { arena = a }) → RefsFit (limit_in (record r { arena = a })) (heap_in (record r { arena = a })) (vec_capacity r.kept) r.kept.items (vec_capacity r.args) r.args.items (vec_capacity r.heads) (vec_capacity r.path)
+refs_on r a h kept le = refs_fit_on (limit_in r) (limit_in (record r { arena = a })) (heap_in r) (heap_in (record r { arena = a })) (vec_capacity r.kept) (vec_capacity r.args) (vec_capacity r.heads) (vec_capacity r.path) r.kept.items r.args.items kept.heap_limit le h.refs
 
 pub took_room : (n : ℕ) (r : Memory) (a : Arena) → HasRoom r → Kept (meaning_of r.arena) (meaning_of a) → Charged n (meaning_of r.arena) (meaning_of a) → HasRoom (record r { arena = a })
 took_room n r a h kept charged =
@@ -138,9 +138,9 @@ on_arena code l m s r a h kept saved state more_heap =
       h.1,
     )
 
--- other arguments are at hand
-pub args_held : (code : Code) (l : Limits) (m : Mid) (r new : Memory) → Holds code l r m → vec_capacity new.args ≡ vec_capacity r.args → length new.args.items ≤ most_args → Holds code l (record r { args = new.args }) m
-args_held code l m r new h capacity few =
+-- other values are at hand
+pub registers_held : (code : Code) (l : Limits) (m : Mid) (r new : Memory) → Holds code l r m → vec_capacity new.args ≡ vec_capacity r.args → length new.args.items ≤ most_args → vec_capacity new.heads ≡ vec_capacity r.heads → vec_capacity new.path ≡ vec_capacity r.path → Holds code l (record r { args = new.args; heads = new.heads; path = new.path }) m
+registers_held code l m r new h capacity few heads path =
     let room = h.0.room in (
       record {
         saves = h.0.saves;
@@ -157,7 +157,7 @@ args_held code l m r new h capacity few =
           frames_few = room.frames_few;
           inners_few = room.inners_few;
           choices_few = room.choices_few;
-          refs = record { kept_fit = room.refs.kept_fit; kept_few = room.refs.kept_few; args_fit = omega (arith, capacity, room.refs.args_fit); args_few = few };
+          refs = record { kept_fit = room.refs.kept_fit; kept_few = room.refs.kept_few; args_fit = omega (arith, capacity, room.refs.args_fit); args_few = few; heads_fit = omega (arith, heads, room.refs.heads_fit); path_fit = omega (arith, path, room.refs.path_fit) };
         };
       },
       h.1,
@@ -174,11 +174,17 @@ roomy code l m r h =
       choices = omega (arith, limit, room.choices_fit);
       kept = omega (arith, limit, room.refs.kept_fit);
       args = room.refs.args_fit;
+      heads = room.refs.heads_fit;
+      path = omega (arith, limit, room.refs.path_fit);
     }
 
 -- the same room, where the store keeps its limits
 pub roomy_on : (l : Limits) (r : Memory) (a : Arena) → Roomy l r → Kept (meaning_of r.arena) (meaning_of a) → Roomy l (record r { arena = a })
-roomy_on l r a h kept = record { limits = record { heap = kept.heap_limit ∙ h.limits.heap; trail = kept.trail_limit ∙ h.limits.trail }; frames = h.frames; inners = h.inners; choices = h.choices; kept = h.kept; args = h.args }
+roomy_on l r a h kept = record { limits = record { heap = kept.heap_limit ∙ h.limits.heap; trail = kept.trail_limit ∙ h.limits.trail }; frames = h.frames; inners = h.inners; choices = h.choices; kept = h.kept; args = h.args; heads = h.heads; path = h.path }
+
+-- the same room in other registers
+pub registers_roomy : (l : Limits) (r new : Memory) → Roomy l r → vec_capacity new.args ≡ vec_capacity r.args → vec_capacity new.heads ≡ vec_capacity r.heads → vec_capacity new.path ≡ vec_capacity r.path → Roomy l (record r { args = new.args; heads = new.heads; path = new.path })
+registers_roomy l r new h args heads path = record { limits = h.limits; frames = h.frames; inners = h.inners; choices = h.choices; kept = h.kept; args = let x = h.args in omega (arith, x, args); heads = let x = h.heads in omega (arith, x, heads); path = let x = h.path in omega (arith, x, path) }
 
 pub fits : (code : Code) (l : Limits) (m : Mid) (r : Memory) → Holds code l r m → m.state.heap ≤ l.heap
 fits code l m r h =
@@ -278,6 +284,8 @@ opened_room n r new a k h few_args kept same kept' charged kept_items kept_capac
         kept_few = omega (arith, heap, count, more_refs, h.refs.kept_few);
         args_fit = h.refs.args_fit;
         args_few = h.refs.args_few;
+        heads_fit = h.refs.heads_fit;
+        path_fit = omega (arith, limit, h.refs.path_fit);
       };
     }
 
@@ -412,6 +420,8 @@ pub record WentBackTo (k : Choice) (r new : Memory) : Type 0 where
   pub choices_room : vec_capacity new.choices ≡ vec_capacity r.choices
   pub kept_room : vec_capacity new.kept ≡ vec_capacity r.kept
   pub args_room : vec_capacity new.args ≡ vec_capacity r.args
+  pub heads_room : vec_capacity new.heads ≡ vec_capacity r.heads
+  pub path_room : vec_capacity new.path ≡ vec_capacity r.path
   pub frame : new.frame ≡ k.frame
   pub inner : new.inner ≡ k.inner
 
@@ -470,6 +480,8 @@ back_in code l m r new k ks (sv ∷ ms) (c ∷ cs) h is older back saved to stan
               kept_few = omega (arith, x.refs_few, heap, few_refs);
               args_fit = omega (arith, room.refs.args_fit, to.args_room);
               args_few = omega (arith, x.args_few, few_args);
+              heads_fit = omega (arith, room.refs.heads_fit, to.heads_room);
+              path_fit = omega (arith, room.refs.path_fit, limit, to.path_room);
             };
           };
         },

@@ -33,6 +33,8 @@ pub record Emptied (r new : Memory) : Type 0 where
   pub choices_room : vec_capacity new.choices ≡ vec_capacity r.choices
   pub kept_room : vec_capacity new.kept ≡ vec_capacity r.kept
   pub args_room : vec_capacity new.args ≡ vec_capacity r.args
+  pub heads_room : vec_capacity new.heads ≡ vec_capacity r.heads
+  pub path_room : vec_capacity new.path ≡ vec_capacity r.path
   pub frame : new.frame ≡ 0
   pub inner : new.inner ≡ 0
 
@@ -61,7 +63,7 @@ cleared code l r new x state heap trail e =
         frames_few = omega (arith, fs);
         inners_few = omega (arith, is);
         choices_few = omega (arith, cs);
-        refs = record { kept_fit = omega (arith, limit, x.kept, e.kept_room); kept_few = omega (arith, ks); args_fit = omega (arith, x.args, e.args_room); args_few = omega (arith, us) };
+        refs = record { kept_fit = omega (arith, limit, x.kept, e.kept_room); kept_few = omega (arith, ks); args_fit = omega (arith, x.args, e.args_room); args_few = omega (arith, us); heads_fit = omega (arith, x.heads, e.heads_room); path_fit = omega (arith, limit, x.path, e.path_room) };
       };
     }
 

@@ -1,23 +1,19 @@
 -- The values of plain terms, and what they take.
-use Rattle.std.proofs.Common.{◌≡◌, ℕ, zero, suc, ◌+◌, ◌<◌, ◌≤◌, List, [], ◌∷◌, ◌++◌, Some, None, inl, inr, refl, sym, ap, ◌∙◌, subst, arith, length, map, take, get_or, nat_lt}
-use Rattle.std.specs.List.{flat_map, sum_by}
+use Rattle.std.proofs.Common.{◌≡◌, ℕ, zero, suc, ◌+◌, ◌<◌, ◌≤◌, List, [], ◌∷◌, ◌++◌, Some, None, inl, inr, refl, sym, ap, ◌∙◌, subst, arith, length, get_or, nat_lt}
+use Rattle.std.specs.List.{sum_by}
 use Rattle.std.proofs.lemmas.Bool.{cond-true, cond-false, cases_lt, lt-ltb, le-ltb}
-use Rattle.std.proofs.lemmas.List.{map_more, take_all}
-use Rattle.std.proofs.lemmas.List.Elements.{All-head, All-tail}
-use Rattle.std.proofs.lemmas.List.Sums.{sum_by-append}
 use Rattle.dg_base.specs.declared.program.Term.{Term, Pair', out-Term}
 use Rattle.dg_base.specs.declared.program.Term.TheOpen as term
 use Rattle.dg_base.specs.declared.program.Term.TheVariants.{Num as Num-Term, Word as Word-Term, Object as Object-Term, Nil as Nil-Term, Var as Var-Term}
 use Rattle.dg_base.specs.declared.program.CoreProgram.{CoreProgram}
 use Rattle.dg_base.specs.Terms.{nodes}
 use Rattle.dg_meaning.specs.Values.{Value, Num, Word, Object, Nil, leaf, value_of, value_of_var}
-use Rattle.dg_meaning.specs.Cells.{node_cells, cells}
-use Rattle.dg_unify.specs.Store.{Store, Kept}
+use Rattle.dg_meaning.specs.Cells.{node_cells}
+use Rattle.dg_unify.specs.Store.{Store}
 use Rattle.dg_unify.specs.declared.bindings.Ref.{Ref}
 use Rattle.dg_machine.specs.declared.now.Row.{Row}
-use Rattle.dg_machine.specs.Built.{IsPlain, ArePlain}
+use Rattle.dg_machine.specs.Built.{IsPlain}
 use Rattle.dg_machine.specs.Refs.{ValuesAt, RowAt, RefsAt, ref_in}
-use Rattle.dg_machine.proofs.Kept.{refs_kept}
 
 -- ## One term
 
@@ -97,17 +93,6 @@ refs_get s (r ∷ rs) [] n d e h lt = absurd h
 refs_get s (r ∷ rs) (v ∷ vs) zero d e h lt = h.0
 refs_get s (r ∷ rs) (v ∷ vs) (suc n) d e h lt = refs_get s rs vs n d e h.1 (omega (arith, lt))
 
--- one more term was written
-pub term_on : (p : CoreProgram) (vs : List Value) (terms : List Term) (n : ℕ) (x : Term) (s t : Store) (rs : List Ref) (r : Ref) → x ≡ get_or terms n x → n < length terms → Kept s t → RefsAt s rs (map (value_of p vs) (take n terms)) → t.value r ≡ Some (value_of p vs x) →
-    RefsAt t (rs ++ r ∷ []) (map (value_of p vs) (take (n + 1) terms))
-term_on p vs terms n x s t rs r is lt kept h value =
-    let f = value_of p vs in
-    let more : map f (take (n + 1) terms) ≡ map f (take n terms) ++ f x ∷ [] = map_more f terms n x lt ∙ ap (λ y. map f (take n terms) ++ f y ∷ []) (sym is) in
-    subst (RefsAt t (rs ++ r ∷ [])) (sym more) (refs_end t rs (map f (take n terms)) r (f x) (refs_kept s t rs (map f (take n terms)) kept h) value)
-
-pub terms_all : (p : CoreProgram) (vs : List Value) (terms : List Term) (n : ℕ) (s : Store) (rs : List Ref) → length terms ≤ n → RefsAt s rs (map (value_of p vs) (take n terms)) → RefsAt s rs (map (value_of p vs) terms)
-terms_all p vs terms n s rs le h = subst (λ ts. RefsAt s rs (map (value_of p vs) ts)) (take_all n terms le) h
-
 -- ## Cells
 
 plain_node : (p : CoreProgram) (o : term.Term-F Term) → IsPlain o → node_cells p o ≡ 0
@@ -115,23 +100,10 @@ plain_node p (term.Pair head tail) h = absurd h
 plain_node p (term.Closure c) h = absurd h
 plain_node p other h = refl
 
-plain_nodes : (p : CoreProgram) (t : Term) → IsPlain (out-Term t) → sum_by (λ (x : Term). node_cells p (out-Term x)) (nodes t) ≡ 0
+pub plain_nodes : (p : CoreProgram) (t : Term) → IsPlain (out-Term t) → sum_by (λ (x : Term). node_cells p (out-Term x)) (nodes t) ≡ 0
 unfolding out-Term denote.Hole.Carrier.out
 plain_nodes p (Pair' s head t tail) h = absurd h
 plain_nodes p other h = omega (arith, plain_node p (out-Term other) h)
-
-pub plain_cells : (p : CoreProgram) (terms : List Term) → ArePlain terms → cells p terms ≡ 0
-plain_cells p [] h = refl
-plain_cells p (t ∷ ts) h =
-    let f = λ (x : Term). node_cells p (out-Term x) in
-    let first = plain_nodes p t (All-head (λ (x : Term). IsPlain (out-Term x)) t ts h) in
-    let rest = plain_cells p ts (All-tail (λ (x : Term). IsPlain (out-Term x)) t ts h) in
-    sum_by-append f (nodes t) (flat_map nodes ts) ∙ omega (arith, first, rest)
-
-pub map_get : {A B : Type 0} (f : A → B) (xs : List A) (n : ℕ) (d : A) (e : B) → n < length xs → get_or (map f xs) n e ≡ f (get_or xs n d)
-map_get f [] n d e lt = absurd (omega (arith, lt))
-map_get f (x ∷ xs) zero d e lt = refl
-map_get f (x ∷ xs) (suc n) d e lt = map_get f xs n d e (omega (arith, lt))
 
 -- a program of nothing
 pub no_program : CoreProgram

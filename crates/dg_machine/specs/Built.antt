@@ -3,6 +3,7 @@ use Rattle.std.specs.Prelude.{ℕ, ◌≤◌, List, [], ◌∷◌, length}
 use Rattle.std.specs.List.{All}
 use Rattle.dg_base.specs.declared.program.Term.{Term, out-Term}
 use Rattle.dg_base.specs.declared.program.Term.TheOpen as term
+use Rattle.dg_base.specs.Terms.{nodes}
 use Rattle.dg_mid.specs.declared.code.Op.{Op}
 use Rattle.dg_mid.specs.declared.code.Op.TheVariants as op
 use Rattle.dg_mid.specs.declared.code.Action.{Action}
@@ -16,31 +17,40 @@ IsPlain (term.Pair head tail) = ⊥
 IsPlain (term.Closure c) = ⊥
 IsPlain other = Unit {0}
 
--- Each of some terms.
-abbrev pub ArePlain : List Term → Type 0
-ArePlain terms = All (λ (t : Term). IsPlain (out-Term t)) terms
+-- A term that isn't a closure.
+abbrev pub NoClosure : term.Term-F Term → Type 0
+NoClosure (term.Closure c) = ⊥
+NoClosure other = Unit {0}
+
+-- No closure stands in a term.
+abbrev pub IsFree : Term → Type 0
+IsFree t = All (λ (x : Term). NoClosure (out-Term x)) (nodes t)
+
+-- Nor in any of some terms.
+abbrev pub AreFree : List Term → Type 0
+AreFree terms = All IsFree terms
 
 -- What is done at once.
 abbrev pub ActionBuilt : Action → Type 0
 ActionBuilt (action.Text name) = Unit {0}
 ActionBuilt (action.Gap kind) = Unit {0}
-ActionBuilt (action.Equal a b) = IsPlain (out-Term a) × IsPlain (out-Term b)
-ActionBuilt (action.Test kind a) = IsPlain (out-Term a)
-ActionBuilt (action.Arith f a b c) = IsPlain (out-Term a) × IsPlain (out-Term b) × IsPlain (out-Term c)
-ActionBuilt (action.Compare f a b) = IsPlain (out-Term a) × IsPlain (out-Term b)
+ActionBuilt (action.Equal a b) = IsFree a × IsFree b
+ActionBuilt (action.Test kind a) = IsFree a
+ActionBuilt (action.Arith f a b c) = IsFree a × IsFree b × IsFree c
+ActionBuilt (action.Compare f a b) = IsFree a × IsFree b
 ActionBuilt action.Just = Unit {0}
 ActionBuilt action.Fail = Unit {0}
 ActionBuilt action.Quit = Unit {0}
 ActionBuilt action.Stop = Unit {0}
 ActionBuilt a = ⊥
 
--- How many arguments a query has at most.
+-- How many arguments a query has at most, and how many terms a head.
 abbrev pub most_args : ℕ
 most_args = 12
 
--- The arguments of a query.
+-- The arguments of a query, or a head.
 pub record AreArguments (terms : List Term) : Type 0 where
-  pub plain : ArePlain terms
+  pub free : AreFree terms
   pub few : length terms ≤ most_args
 
 -- An instruction.
@@ -58,7 +68,7 @@ OpBuilt op.Refuse = Unit {0}
 OpBuilt op.Back = Unit {0}
 OpBuilt op.Return = Unit {0}
 OpBuilt (op.Goto b) = Unit {0}
-OpBuilt (op.Enter vars head) = ArePlain head
+OpBuilt (op.Enter vars head) = AreArguments head
 OpBuilt op.Done = Unit {0}
 OpBuilt x = ⊥
 

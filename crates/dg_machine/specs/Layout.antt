@@ -11,7 +11,7 @@ use Rattle.dg_mid.specs.declared.code.Code.{Code}
 use Rattle.dg_mid.specs.declared.code.RuleCode.{RuleCode}
 use Rattle.dg_mid.specs.Code.{rules_at}
 use Rattle.dg_mid.specs.State.{Place, Mid, Stop, Frame as FrameOf, Call as CallOf, Way as WayOf, Goes as GoesOf, Calls as CallsOf, Choice as ChoiceOf}
-use Rattle.dg_mid.specs.Step.{back_at, bound, trail_more}
+use Rattle.dg_mid.specs.Step.{more, back_at, bound, trail_more}
 use Rattle.dg_unify.specs.declared.bindings.Ref.{Ref}
 use Rattle.dg_machine.specs.declared.now.Row.{Row}
 use Rattle.dg_machine.specs.declared.now.Frame.{Frame}
@@ -132,12 +132,15 @@ heap_in r = (meaning_of r.arena).state.heap
 abbrev pub limit_in : Memory → ℕ
 limit_in r = (meaning_of r.arena).heap_limit
 
--- There is room for the Refs that choices keep, one for each cell of the heap, and for the arguments of a call.
-pub record RefsFit (limit heap kept_room : ℕ) (kept : List Ref) (args_room : ℕ) (args : List Ref) : Type 0 where
+-- There is room for the Refs that choices keep, one for each cell of the heap, for the arguments of a call and the values of a head, and for a path
+-- into a term whose pairs the heap has room for.
+pub record RefsFit (limit heap kept_room : ℕ) (kept : List Ref) (args_room : ℕ) (args : List Ref) (heads_room path_room : ℕ) : Type 0 where
   pub kept_fit : limit ≤ kept_room
   pub kept_few : length kept ≤ heap
   pub args_fit : most_args ≤ args_room
   pub args_few : length args ≤ most_args
+  pub heads_fit : most_args ≤ heads_room
+  pub path_fit : limit < 3 * path_room + 3
 
 -- There is room for all that the heap may count: a frame is six cells or more, an inner construct and a choice ten.
 pub record HasRoom (r : Memory) : Type 0 where
@@ -147,7 +150,8 @@ pub record HasRoom (r : Memory) : Type 0 where
   pub frames_few : 6 * length r.frames.items ≤ heap_in r
   pub inners_few : 10 * length r.inners.items ≤ heap_in r
   pub choices_few : 10 * length r.choices.items ≤ heap_in r
-  pub refs : RefsFit (limit_in r) (heap_in r) (vec_capacity r.kept) r.kept.items (vec_capacity r.args) r.args.items
+  pub refs : RefsFit (limit_in r) (heap_in r) (vec_capacity r.kept) r.kept.items (vec_capacity r.args) r.args.items (vec_capacity r.heads)
+      (vec_capacity r.path)
 
 -- The limits are those of the store.
 pub record Limited (l : Limits) (s : Store) : Type 0 where
@@ -166,6 +170,8 @@ pub record Roomy (l : Limits) (r : Memory) : Type 0 where
   pub choices : l.heap < 10 * vec_capacity r.choices + 10
   pub kept : l.heap ≤ vec_capacity r.kept
   pub args : most_args ≤ vec_capacity r.args
+  pub heads : most_args ≤ vec_capacity r.heads
+  pub path : l.heap < 3 * vec_capacity r.path + 3
 
 -- So many cells more than were taken are too many, and room is left as it was.
 pub record Lacks (n : ℕ) (l : Limits) (heap : ℕ) (r : Memory) : Type 0 where
@@ -223,6 +229,26 @@ made_state n s = record s { vars = s.vars + n; heap = s.heap + (6 + n) }
 pub record MadeRule (code : Code) (l : Limits) (n : ℕ) (m : Mid) (new : Memory) (row : Row) : Type 0 where
   pub held : Holds code l new (record m { state = made_state n m.state })
   pub row_is : RowAt (meaning_of new.arena) row (new_vars n m.state.vars)
+
+-- The same, where the head took so many cells.
+abbrev pub headed_state : ℕ → ℕ → State → State
+headed_state n cells s = record s { vars = s.vars + n; heap = s.heap + (6 + n + cells) }
+
+-- The values of the rule's head stand in their register as well.
+pub record MadeHead (code : Code) (l : Limits) (n cells : ℕ) (m : Mid) (values : List Value) (new : Memory) (row : Row) : Type 0 where
+  pub held : Holds code l new (record m { state = headed_state n cells m.state })
+  pub row_is : RowAt (meaning_of new.arena) row (new_vars n m.state.vars)
+  pub heads : RefsAt (meaning_of new.arena) new.heads.items values
+
+-- Values stand in the register of arguments, and took so many cells.
+pub record HasPut (code : Code) (l : Limits) (n : ℕ) (values : List Value) (m : Mid) (new : Memory) : Type 0 where
+  pub held : Holds code l new (more n m)
+  pub args : RefsAt (meaning_of new.arena) new.args.items values
+
+-- Values stand in the register of heads, and took so many cells.
+pub record HasHeads (code : Code) (l : Limits) (n : ℕ) (values : List Value) (m : Mid) (new : Memory) : Type 0 where
+  pub held : Holds code l new (more n m)
+  pub heads : RefsAt (meaning_of new.arena) new.heads.items values
 
 -- There is room for one more frame.
 abbrev pub HasFrameRoom : Memory → Type 0

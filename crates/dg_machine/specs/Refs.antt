@@ -2,7 +2,7 @@
 use Rattle.std.specs.Prelude.{ℕ, suc, ◌+◌, ◌≡◌, nat_lt, List, [], ◌∷◌, Option, Some, None, length, if◌then◌else◌}
 use Rattle.dg_meaning.specs.Values.{Value}
 use Rattle.dg_meaning.specs.Moves.{new_vars}
-use Rattle.dg_unify.specs.Store.{Store, Saved, Kept}
+use Rattle.dg_unify.specs.Store.{Store, Saved, Kept, Charged}
 use Rattle.dg_unify.specs.declared.bindings.Ref.{Ref}
 use Rattle.dg_arena.specs.declared.arena.Arena.{Arena}
 use Rattle.dg_arena.specs.Held.{meaning_of, saves_of}
@@ -47,6 +47,11 @@ pub record Keeps (old new : Arena) : Type 0 where
 pub record Stays (old new : Arena) : Type 0 where
   pub keeps : Keeps old new
   pub state : (meaning_of new).state ≡ (meaning_of old).state
+
+-- Refs of these values stand in a register, and so many cells were taken.
+pub record Puts (n : ℕ) (vs : List Value) (old new : Store) (refs : List Ref) : Type 0 where
+  pub charged : Charged n old new
+  pub refs_are : RefsAt new refs vs
 
 -- So many new variables stand in a row, and each took one of the heap.
 pub record MadeRow (n : ℕ) (old new : Store) (row : Row) : Type 0 where

@@ -1,9 +1,14 @@
 -- What a machine with its memory stands for. Hold it against the Dialog manual, chapter "Choice points".
-use Rattle.std.specs.Prelude.{ℕ, suc, ◌≡◌, ◌<◌, ◌≤◌, List, Bool, length}
+use Rattle.std.specs.Prelude.{ℕ, suc, ◌≡◌, ◌+◌, ◌<◌, ◌≤◌, List, [], ◌∷◌, Bool, length}
 use Rattle.std.specs.Borrow.{Bor}
 use Rattle.dg_base.specs.declared.program.Term.{Term}
 use Rattle.dg_base.specs.declared.run.Limits.{Limits}
-use Rattle.dg_meaning.specs.World.{Game}
+use Rattle.dg_meaning.specs.World.{Game, worked}
+use Rattle.dg_meaning.specs.Numbers.{of_numbers, calculated}
+use Rattle.dg_meaning.specs.Substitutions.{walk}
+use Rattle.dg_meaning.specs.Moves.{gives_number, looked_up}
+use Rattle.dg_base.specs.declared.program.ArithOp.{ArithOp}
+use Rattle.dg_mid.specs.Actions.{registers_of, world_of}
 use Rattle.dg_meaning.specs.Values.{Value}
 use Rattle.dg_arena.specs.Held.{meaning_of}
 use Rattle.dg_mid.specs.declared.code.Op.{Op}
@@ -14,7 +19,7 @@ use Rattle.dg_mid.specs.State.{Mid, Call as CallOf, Way as WayOf, Goes as GoesOf
 use Rattle.dg_mid.specs.State.{Status, Runs as RunsOf, Enters as EntersOf, Resumes as ResumesOf, Fails as FailsOf, Ended as EndedOf}
 use Rattle.dg_mid.specs.Heights.{MidOrdered, StatusOrdered}
 use Rattle.dg_mid.specs.Potential.{Tidy}
-use Rattle.dg_mid.specs.Step.{setting, call_of, begins, enters, asks, last, does, enter, entered, goes_on, goes_back, step}
+use Rattle.dg_mid.specs.Step.{setting, call_of, begins, enters, asks, last, does, done, enter, entered, goes_on, goes_back, step}
 use Rattle.dg_machine.specs.declared.now.Call.{Call}
 use Rattle.dg_machine.specs.declared.now.Way.{Way}
 use Rattle.dg_machine.specs.declared.now.Way.TheVariants.{Goes, Calls}
@@ -109,6 +114,13 @@ GoesOnAt code b old ops new after = (g : Game) (l : Limits) (m : Mid) → Tidy c
 abbrev pub GoesOn : Code → Memory → Way → Memory → Now → Type 0
 GoesOn code old way new after = (g : Game) (l : Limits) (m : Mid) (on : WayOf) → WayAt code (meaning_of old.arena) old.args.items way on → Holds code l old m →
     Falls code l old (Resumes way) new after (goes_on (setting g code l) on m)
+
+-- What is calculated of two values at hand is unified with a third.
+abbrev pub Calculates : Code → ArithOp → Memory → List Op → Memory → Now → Type 0
+Calculates code by old rest new after = (g : Game) (l : Limits) (m : Mid) (u v w : Value) → CodeIs rest m → Holds code l old m →
+    RefsAt (meaning_of old.arena) old.args.items (u ∷ v ∷ w ∷ []) → Stands code l new after (done (setting g code l)
+    (gives_number (of_numbers (calculated by) (walk m.state.subst u) (walk m.state.subst v)) w (registers_of m)
+    (worked (looked_up (registers_of m) u + looked_up (registers_of m) v) (world_of [] m))) m)
 
 -- It fails.
 abbrev pub FailsTo : Code → Memory → Memory → Now → Type 0

@@ -1,7 +1,7 @@
 // What an instruction does in memory.
-ghost use Rattle.std.specs.Prelude.{◌≡◌, ◌<◌, ◌≤◌, ℕ, List, length};
+ghost use Rattle.std.specs.Prelude.{◌≡◌, ◌<◌, ◌≤◌, ℕ, List, [], ◌∷◌, length};
 ghost use Rattle.dg_base.specs.declared.run.Limits.{Limits};
-ghost use Rattle.dg_base.specs.declared.program.Term.{out-Term};
+ghost use Rattle.dg_meaning.specs.Values.{Value};
 ghost use Rattle.dg_mid.specs.declared.code.Code.{Code as TheCode};
 ghost use Rattle.dg_mid.specs.declared.code.Op.{Op as TheOp};
 ghost use Rattle.dg_mid.specs.declared.code.Op.TheVariants as op;
@@ -10,10 +10,11 @@ ghost use Rattle.dg_mid.specs.Code.{block_at, rules_at};
 ghost use Rattle.dg_mid.specs.State.{Mid};
 ghost use Rattle.dg_mid.specs.Potential.{Tidy};
 ghost use Rattle.dg_arena.specs.Held.{meaning_of};
-ghost use Rattle.dg_machine.specs.Built.{IsPlain, ArePlain, AreArguments, OpsBuilt, IsBuilt};
-ghost use Rattle.dg_machine.specs.Refs.{AreRefs};
+ghost use Rattle.dg_machine.specs.Built.{IsFree, AreArguments, OpsBuilt, IsBuilt};
+ghost use Rattle.dg_machine.specs.Refs.{RefsAt, AreRefs};
 ghost use Rattle.dg_machine.specs.Layout.{HasRoom, Holds};
-ghost use Rattle.dg_machine.specs.Standing.{DoesOp, DoesMark, CallsRules, EntersWith, Asks, AsksLast, EntersRule, EntersIn, IsThere, GoesOnAt, GoesOn, FailsTo};
+ghost use Rattle.dg_machine.specs.Standing.{DoesOp, DoesMark, CallsRules, EntersWith, Asks, AsksLast, Calculates};
+ghost use Rattle.dg_machine.specs.Standing.{EntersRule, EntersIn, IsThere, GoesOnAt, GoesOn, FailsTo};
 
 use crate::memory::Memory;
 use crate::now::{Call, Now, Way};
@@ -102,41 +103,69 @@ impl Memory {
     /// Two values are unified.
     pub fn equal<'p>(&mut self, a: &Term, b: &Term, rest: &'p [Op]) -> Now<'p>
         requires some { (code : TheCode) × (l : Limits) × (m : Mid) × Holds code l self.old m }
-        requires a_plain { IsPlain (out-Term a.now) }
-        requires b_plain { IsPlain (out-Term b.now) }
+        requires a_free { IsFree a.now }
+        requires b_free { IsFree b.now }
         ensures { (code : TheCode) → DoesOp code self.old (op.Do (action.Equal a.now b.now)) rest.now self.new result }
     {
-        match self.unify_terms(a, b) {
-            Err(_) => Now::Ended(Ending::TrailLimit),
-            Ok(false) => Now::Fails,
-            Ok(true) => Now::Runs(rest),
+        match self.put_both(a, b) {
+            Err(_) => Now::Ended(Ending::HeapLimit),
+            Ok(()) => match self.unify_args() {
+                Err(_) => Now::Ended(Ending::TrailLimit),
+                Ok(false) => Now::Fails,
+                Ok(true) => Now::Runs(rest),
+            },
         }
     }
 
     /// A value is tested.
     pub fn test<'p>(&mut self, kind: TestKind, a: &Term, rest: &'p [Op]) -> Now<'p>
         requires some { (code : TheCode) × (l : Limits) × (m : Mid) × Holds code l self.old m }
-        requires a_plain { IsPlain (out-Term a.now) }
+        requires a_free { IsFree a.now }
         ensures { (code : TheCode) → DoesOp code self.old (op.Do (action.Test kind a.now)) rest.now self.new result }
     {
-        if self.test_term(kind, a) {
-            Now::Runs(rest)
-        } else {
-            Now::Fails
+        match self.put_one(a) {
+            Err(_) => Now::Ended(Ending::HeapLimit),
+            Ok(()) => {
+                if self.test_arg(kind) {
+                    Now::Runs(rest)
+                } else {
+                    Now::Fails
+                }
+            }
         }
     }
 
     /// Two values are compared.
     pub fn compare<'p>(&mut self, by: CompareOp, a: &Term, b: &Term, rest: &'p [Op]) -> Now<'p>
         requires some { (code : TheCode) × (l : Limits) × (m : Mid) × Holds code l self.old m }
-        requires a_plain { IsPlain (out-Term a.now) }
-        requires b_plain { IsPlain (out-Term b.now) }
+        requires a_free { IsFree a.now }
+        requires b_free { IsFree b.now }
         ensures { (code : TheCode) → DoesOp code self.old (op.Do (action.Compare by a.now b.now)) rest.now self.new result }
     {
-        if self.compare_terms(by, a, b) {
-            Now::Runs(rest)
-        } else {
-            Now::Fails
+        match self.put_both(a, b) {
+            Err(_) => Now::Ended(Ending::HeapLimit),
+            Ok(()) => {
+                if self.compare_args(by) {
+                    Now::Runs(rest)
+                } else {
+                    Now::Fails
+                }
+            }
+        }
+    }
+
+    /// What is calculated of two arguments is unified with a third.
+    fn calculate<'p>(&mut self, by: ArithOp, rest: &'p [Op]) -> Now<'p>
+        requires { (u v w : Value) × RefsAt (meaning_of self.old.arena) self.old.args.items (u ∷ v ∷ w ∷ []) }
+        ensures { (code : TheCode) → Calculates code by self.old rest.now self.new result }
+    {
+        match self.calculate_args(by) {
+            None => Now::Fails,
+            Some(n) => match self.unify_number(n) {
+                Err(_) => Now::Ended(Ending::TrailLimit),
+                Ok(false) => Now::Fails,
+                Ok(true) => Now::Runs(rest),
+            },
         }
     }
 
@@ -150,18 +179,14 @@ impl Memory {
         rest: &'p [Op],
     ) -> Now<'p>
         requires some { (code : TheCode) × (l : Limits) × (m : Mid) × Holds code l self.old m }
-        requires a_plain { IsPlain (out-Term a.now) }
-        requires b_plain { IsPlain (out-Term b.now) }
-        requires into_plain { IsPlain (out-Term into.now) }
+        requires a_free { IsFree a.now }
+        requires b_free { IsFree b.now }
+        requires into_free { IsFree into.now }
         ensures { (code : TheCode) → DoesOp code self.old (op.Do (action.Arith by a.now b.now into.now)) rest.now self.new result }
     {
-        match self.calculate_terms(by, a, b) {
-            None => Now::Fails,
-            Some(n) => match self.unify_number(into, n) {
-                Err(_) => Now::Ended(Ending::TrailLimit),
-                Ok(false) => Now::Fails,
-                Ok(true) => Now::Runs(rest),
-            },
+        match self.put_three(a, b, into) {
+            Err(_) => Now::Ended(Ending::HeapLimit),
+            Ok(()) => self.calculate(by, rest),
         }
     }
 
@@ -307,8 +332,10 @@ impl Memory {
         requires terms { AreArguments terms.now }
         ensures { (rest : List TheOp) → DoesOp code.now self.old (op.Ask pred terms.now many next) rest self.new result }
     {
-        self.put_args(terms);
-        self.ask_rules(code, pred, many, next)
+        match self.put_args(terms) {
+            Err(_) => Now::Ended(Ending::HeapLimit),
+            Ok(()) => self.ask_rules(code, pred, many, next),
+        }
     }
 
     /// A predicate is asked in the last query of a rule.
@@ -318,20 +345,22 @@ impl Memory {
         requires terms { AreArguments terms.now }
         ensures { (rest : List TheOp) → DoesOp code.now self.old (op.LastAsk pred terms.now many) rest self.new result }
     {
-        self.put_args(terms);
-        self.ask_last_rules(code, pred, many)
+        match self.put_args(terms) {
+            Err(_) => Now::Ended(Ending::HeapLimit),
+            Ok(()) => self.ask_last_rules(code, pred, many),
+        }
     }
 
     /// A rule of so many variables and this head is entered.
     fn enter<'p>(&mut self, call: Call, vars: u16, head: &[Term], rest: &'p [Op]) -> Now<'p>
         requires room { HasRoom self.old }
         requires args { AreRefs (meaning_of self.old.arena) self.old.args.items }
-        requires head { ArePlain head.now }
+        requires head { AreArguments head.now }
         ensures { (code : TheCode) → EntersIn code self.old call vars head.now rest.now self.new result }
     {
-        match self.make_rule(vars) {
+        match self.make_head(vars, head) {
             Err(_) => Now::Ended(Ending::HeapLimit),
-            Ok(row) => match self.match_args(head, row) {
+            Ok(row) => match self.match_args() {
                 Err(_) => Now::Ended(Ending::TrailLimit),
                 Ok(false) => Now::Fails,
                 Ok(true) => {

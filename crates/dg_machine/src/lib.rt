@@ -7,11 +7,13 @@ mod memory;
 mod now;
 mod passing;
 mod refs;
+mod register;
 mod rows;
 mod steps;
 mod terms;
 mod testing;
+mod writing;
 
 pub use machine::Machine;
 pub use memory::Memory;
-pub use now::{Call, Choice, Frame, Inner, Now, Row, Way};
+pub use now::{Call, Choice, Frame, Inner, Now, Row, Side, Way};

@@ -1,10 +1,10 @@
-// The memory of a run: a store, areas of frames, inner constructs, choices and Refs, and the arguments of a call.
-ghost use Rattle.std.specs.Prelude.{◌≡◌, ◌<◌, ◌≤◌, ◌+◌, ◌*◌, ℕ, List, [], ◌∷◌, IfOk, OnOk, MatchResult, length, map, take, reverse, vec_capacity};
+// The memory of a run: a store, areas of frames, inner constructs, choices and Refs, and registers.
+ghost use Rattle.std.specs.Prelude.{◌≡◌, ◌<◌, ◌≤◌, ◌+◌, ◌*◌, ℕ, List, [], ◌∷◌, Some, IfOk, OnOk, MatchResult, length, map, take, get_or, reverse, vec_capacity};
 ghost use Rattle.std.specs.List.{zip};
-ghost use Rattle.dg_base.specs.declared.program.Term.{out-Term};
 ghost use Rattle.dg_base.specs.declared.program.CoreProgram.{CoreProgram};
 ghost use Rattle.dg_base.specs.declared.run.Limits.{Limits};
-ghost use Rattle.dg_meaning.specs.Values.{Value, Num, leaf, value_of};
+ghost use Rattle.dg_meaning.specs.Cells.{cells};
+ghost use Rattle.dg_meaning.specs.Values.{Value, Num, Nil, leaf, value_of};
 ghost use Rattle.dg_meaning.specs.Moves.{new_vars};
 ghost use Rattle.dg_meaning.specs.Numbers.{are_in_order, calculated, of_numbers};
 ghost use Rattle.dg_meaning.specs.Substitutions.{walk};
@@ -16,25 +16,25 @@ ghost use Rattle.dg_arena.specs.Held.{meaning_of};
 ghost use Rattle.dg_mid.specs.declared.code.Code.{Code};
 ghost use Rattle.dg_mid.specs.State.{Mid, Place, Call as CallOf, Way as WayOf, vars_of};
 ghost use Rattle.dg_mid.specs.Step.{more, inside, within};
-ghost use Rattle.dg_machine.specs.Built.{IsPlain, ArePlain, AreArguments};
+ghost use Rattle.dg_machine.specs.Built.{IsFree, AreArguments};
 ghost use Rattle.dg_machine.specs.Links.{named, below};
 ghost use Rattle.dg_machine.specs.Measure.{way_left, choices_left};
 ghost use Rattle.dg_machine.specs.Passing.{IsFirst};
 ghost use Rattle.dg_machine.specs.Refs.{RowAt, RefsAt, AreRefs};
 
-use crate::now::{Call, Choice, Frame, Inner, Row, Way};
+use crate::now::{Call, Choice, Frame, Inner, Row, Side, Way};
 use crate::refs::{MOST_ARGS, move_refs, push_refs};
+use crate::register::{write_both, write_one, write_terms, write_three};
 use crate::rows::make_row;
-use crate::terms::{
-    calculate_terms, compare_terms, match_head, test_term, unify_number, unify_terms, write_args,
-};
+use crate::terms::{are_ordered, made_of, match_heads, simple_value};
+use crate::testing::test;
 use dg_arena::Arena;
-use dg_base::{ArithOp, CompareOp, Term, TestKind};
-use dg_unify::{Bindings, Full, Ref, View};
+use dg_base::{ArithOp, CompareOp, Simple, Term, TestKind};
+use dg_unify::{Bindings, Full, Ref, View, unify};
 use std::alloc::{AllocError, Global};
 
-/// A store, with areas of frames, of inner constructs, of choices and of the Refs that these keep, the arguments of a call, and
-/// which frame and which inner construct are at hand.
+/// A store, with areas of frames, of inner constructs, of choices and of the Refs that these keep, the arguments of a call, the
+/// values of a head, a path into a term that is written, and which frame and which inner construct are at hand.
 #[derive(Drop)]
 pub struct Memory {
     pub arena: Arena,
@@ -43,6 +43,8 @@ pub struct Memory {
     pub choices: Vec<Choice>,
     pub kept: Vec<Ref>,
     pub args: Vec<Ref>,
+    pub heads: Vec<Ref>,
+    pub path: Vec<Side>,
     pub frame: usize,
     pub inner: usize,
 }
@@ -63,7 +65,7 @@ fn drop_to(choices: &mut Vec<Choice>, to: u32)
 
 impl Memory {
     ghost use Rattle.dg_machine.specs.Layout.{at_rest, HoldsWith, WayAt, CallAt, HasRoom, Holds, Took, Opened, WentBack, Roomy, Lacks, heap_in, MadeRule};
-    ghost use Rattle.dg_machine.specs.Layout.{HasFrameRoom, in_frame, Matched, Unmatched};
+    ghost use Rattle.dg_machine.specs.Layout.{HasFrameRoom, in_frame, Matched, Unmatched, MadeHead, HasPut, HasHeads};
     ghost use Rattle.dg_machine.specs.Measure.{left_by};
 
     /// Memory for runs with these limits of heap and trail, which is taken at once.
@@ -76,6 +78,8 @@ impl Memory {
         let choices = Vec::with_capacity(alloc, (heap / 10) as usize)?;
         let kept = Vec::with_capacity(alloc, heap as usize)?;
         let args = Vec::with_capacity(alloc, MOST_ARGS)?;
+        let heads = Vec::with_capacity(alloc, MOST_ARGS)?;
+        let path = Vec::with_capacity(alloc, (heap / 3) as usize)?;
         Ok(Memory {
             arena,
             frames,
@@ -83,6 +87,8 @@ impl Memory {
             choices,
             kept,
             args,
+            heads,
+            path,
             frame: 0,
             inner: 0,
         })
@@ -200,83 +206,149 @@ impl Memory {
     }
 
     /// Puts the values of terms, among the variables at hand, into the register of arguments.
-    pub fn put_args(&mut self, terms: &[Term])
+    pub fn put_args(&mut self, terms: &[Term]) -> Result<(), Full>
         requires some { (code : Code) × (l : Limits) × (m : Mid) × Holds code l self.old m }
         requires terms { AreArguments terms.now }
-        ensures held { (code : Code) → (l : Limits) → (m : Mid) → Holds code l self.old m → Holds code l self.new m }
-        ensures args { (code : Code) → (l : Limits) → (m : Mid) → (p : CoreProgram) → Holds code l self.old m →
-            RefsAt (meaning_of self.new.arena) self.new.args.items (map (value_of p (vars_of m.frames)) terms.now) }
-        ensures refs { AreRefs (meaning_of self.new.arena) self.new.args.items }
-        ensures room { HasRoom self.new }
+        ensures { (code : Code) → (l : Limits) → (m : Mid) → (p : CoreProgram) → Holds code l self.old m → MatchResult result
+            (λ _. HasPut code l (cells p terms.now) (map (value_of p (vars_of m.frames)) terms.now) m self.new)
+            (λ _. Lacks (cells p terms.now) l m.state.heap self.new) }
     {
         let row = self.row_at_hand();
-        write_args(&mut self.arena, row, terms, &mut self.args);
+        match write_terms(&mut self.arena, row, terms, &mut self.args, &mut self.path) {
+            Err(full) => Err(full),
+            Ok(()) => Ok(()),
+        }
     }
 
-    /// Unifies the values of two terms, among the variables at hand.
-    pub fn unify_terms(&mut self, a: &Term, b: &Term) -> Result<bool, Full>
+    /// The same of one term.
+    pub fn put_one(&mut self, a: &Term) -> Result<(), Full>
         requires some { (code : Code) × (l : Limits) × (m : Mid) × Holds code l self.old m }
-        requires a_plain { IsPlain (out-Term a.now) }
-        requires b_plain { IsPlain (out-Term b.now) }
+        requires a_free { IsFree a.now }
         ensures { (code : Code) → (l : Limits) → (m : Mid) → (p : CoreProgram) → Holds code l self.old m → MatchResult result
-            (Matched code l (unified m.state.subst (value_of p (vars_of m.frames) a.now) (value_of p (vars_of m.frames) b.now)) m self.new)
-            (λ _. Unmatched l (unified m.state.subst (value_of p (vars_of m.frames) a.now) (value_of p (vars_of m.frames) b.now)) m self.new) }
+            (λ _. HasPut code l (cells p (a.now ∷ [])) (map (value_of p (vars_of m.frames)) (a.now ∷ [])) m self.new)
+            (λ _. Lacks (cells p (a.now ∷ [])) l m.state.heap self.new) }
     {
         let row = self.row_at_hand();
-        match unify_terms(&mut self.arena, row, a, b) {
+        match write_one(&mut self.arena, row, a, &mut self.args, &mut self.path) {
+            Err(full) => Err(full),
+            Ok(()) => Ok(()),
+        }
+    }
+
+    /// The same of two terms.
+    pub fn put_both(&mut self, a: &Term, b: &Term) -> Result<(), Full>
+        requires some { (code : Code) × (l : Limits) × (m : Mid) × Holds code l self.old m }
+        requires a_free { IsFree a.now }
+        requires b_free { IsFree b.now }
+        ensures { (code : Code) → (l : Limits) → (m : Mid) → (p : CoreProgram) → Holds code l self.old m → MatchResult result
+            (λ _. HasPut code l (cells p (a.now ∷ b.now ∷ [])) (map (value_of p (vars_of m.frames)) (a.now ∷ b.now ∷ [])) m self.new)
+            (λ _. Lacks (cells p (a.now ∷ b.now ∷ [])) l m.state.heap self.new) }
+    {
+        let row = self.row_at_hand();
+        match write_both(&mut self.arena, row, a, b, &mut self.args, &mut self.path) {
+            Err(full) => Err(full),
+            Ok(()) => Ok(()),
+        }
+    }
+
+    /// The same of three terms.
+    pub fn put_three(&mut self, a: &Term, b: &Term, c: &Term) -> Result<(), Full>
+        requires some { (code : Code) × (l : Limits) × (m : Mid) × Holds code l self.old m }
+        requires a_free { IsFree a.now }
+        requires b_free { IsFree b.now }
+        requires c_free { IsFree c.now }
+        ensures { (code : Code) → (l : Limits) → (m : Mid) → (p : CoreProgram) → Holds code l self.old m → MatchResult result
+            (λ _. HasPut code l (cells p (a.now ∷ b.now ∷ c.now ∷ [])) (map (value_of p (vars_of m.frames)) (a.now ∷ b.now ∷ c.now ∷ [])) m self.new)
+            (λ _. Lacks (cells p (a.now ∷ b.now ∷ c.now ∷ [])) l m.state.heap self.new) }
+    {
+        let row = self.row_at_hand();
+        match write_three(
+            &mut self.arena,
+            row,
+            a,
+            b,
+            c,
+            &mut self.args,
+            &mut self.path,
+        ) {
+            Err(full) => Err(full),
+            Ok(()) => Ok(()),
+        }
+    }
+
+    /// The argument of that number.
+    fn arg(&self, at: usize) -> Ref
+        requires { (vs : List Value) × RefsAt (meaning_of self.now.arena) self.now.args.items vs × (at < length vs) }
+        ensures { (vs : List Value) → RefsAt (meaning_of self.now.arena) self.now.args.items vs →
+            (meaning_of self.now.arena).value result ≡ Some (get_or vs at (leaf Nil)) }
+    {
+        self.args[at]
+    }
+
+    /// Unifies the first two arguments.
+    pub fn unify_args(&mut self) -> Result<bool, Full>
+        requires { (u v : Value) × RefsAt (meaning_of self.old.arena) self.old.args.items (u ∷ v ∷ []) }
+        ensures { (code : Code) → (l : Limits) → (m : Mid) → (u v : Value) → Holds code l self.old m →
+            RefsAt (meaning_of self.old.arena) self.old.args.items (u ∷ v ∷ []) → MatchResult result
+            (Matched code l (unified m.state.subst u v) m self.new) (λ _. Unmatched l (unified m.state.subst u v) m self.new) }
+    {
+        let a = self.arg(0);
+        let b = self.arg(1);
+        match unify(&mut self.arena, a, b) {
             Err(full) => Err(full),
             Ok(agreed) => Ok(agreed),
         }
     }
 
-    /// Whether the value of a term, among the variables at hand, passes a test.
-    pub fn test_term(&mut self, kind: TestKind, a: &Term) -> bool
-        requires some { (code : Code) × (l : Limits) × (m : Mid) × Holds code l self.old m }
-        requires a_plain { IsPlain (out-Term a.now) }
+    /// Whether the argument passes a test.
+    pub fn test_arg(&mut self, kind: TestKind) -> bool
+        requires { (v : Value) × RefsAt (meaning_of self.old.arena) self.old.args.items (v ∷ []) }
         ensures held { (code : Code) → (l : Limits) → (m : Mid) → Holds code l self.old m → Holds code l self.new m }
-        ensures passed { (code : Code) → (l : Limits) → (m : Mid) → (p : CoreProgram) → Holds code l self.old m →
-            result ≡ passes m.state.subst kind (value_of p (vars_of m.frames) a.now) }
+        ensures passed { (code : Code) → (l : Limits) → (m : Mid) → (v : Value) → Holds code l self.old m →
+            RefsAt (meaning_of self.old.arena) self.old.args.items (v ∷ []) → result ≡ passes m.state.subst kind v }
     {
-        let row = self.row_at_hand();
-        test_term(&mut self.arena, row, kind, a)
+        let value = self.arg(0);
+        test(&mut self.arena, kind, value)
     }
 
-    /// Whether the values of two terms, among the variables at hand, are numbers in an order.
-    pub fn compare_terms(&mut self, op: CompareOp, a: &Term, b: &Term) -> bool
-        requires some { (code : Code) × (l : Limits) × (m : Mid) × Holds code l self.old m }
-        requires a_plain { IsPlain (out-Term a.now) }
-        requires b_plain { IsPlain (out-Term b.now) }
-        ensures held { (code : Code) → (l : Limits) → (m : Mid) → Holds code l self.old m → Holds code l self.new m }
-        ensures order { (code : Code) → (l : Limits) → (m : Mid) → (p : CoreProgram) → Holds code l self.old m → result ≡ are_in_order op
-            (walk m.state.subst (value_of p (vars_of m.frames) a.now)) (walk m.state.subst (value_of p (vars_of m.frames) b.now)) }
+    /// Whether the first two arguments are numbers in an order.
+    pub fn compare_args(&self, op: CompareOp) -> bool
+        requires { (u v : Value) × RefsAt (meaning_of self.now.arena) self.now.args.items (u ∷ v ∷ []) }
+        ensures { (code : Code) → (l : Limits) → (m : Mid) → (u v : Value) → Holds code l self.now m →
+            RefsAt (meaning_of self.now.arena) self.now.args.items (u ∷ v ∷ []) →
+            result ≡ are_in_order op (walk m.state.subst u) (walk m.state.subst v) }
     {
-        let row = self.row_at_hand();
-        compare_terms(&mut self.arena, row, op, a, b)
+        let a = self.arg(0);
+        let b = self.arg(1);
+        let first = self.arena.walk(a);
+        let second = self.arena.walk(b);
+        are_ordered(op, first, second)
     }
 
-    /// What an operation makes of the values of two terms, among the variables at hand, if it makes a number.
-    pub fn calculate_terms(&mut self, op: ArithOp, a: &Term, b: &Term) -> Option<u16>
-        requires some { (code : Code) × (l : Limits) × (m : Mid) × Holds code l self.old m }
-        requires a_plain { IsPlain (out-Term a.now) }
-        requires b_plain { IsPlain (out-Term b.now) }
-        ensures held { (code : Code) → (l : Limits) → (m : Mid) → Holds code l self.old m → Holds code l self.new m }
-        ensures number { (code : Code) → (l : Limits) → (m : Mid) → (p : CoreProgram) → Holds code l self.old m → result ≡ of_numbers (calculated op)
-            (walk m.state.subst (value_of p (vars_of m.frames) a.now)) (walk m.state.subst (value_of p (vars_of m.frames) b.now)) }
+    /// What an operation makes of the first two of three arguments, if it makes a number.
+    pub fn calculate_args(&self, op: ArithOp) -> Option<u16>
+        requires { (u v w : Value) × RefsAt (meaning_of self.now.arena) self.now.args.items (u ∷ v ∷ w ∷ []) }
+        ensures { (code : Code) → (l : Limits) → (m : Mid) → (u v w : Value) → Holds code l self.now m →
+            RefsAt (meaning_of self.now.arena) self.now.args.items (u ∷ v ∷ w ∷ []) →
+            result ≡ of_numbers (calculated op) (walk m.state.subst u) (walk m.state.subst v) }
     {
-        let row = self.row_at_hand();
-        calculate_terms(&mut self.arena, row, op, a, b)
+        let a = self.arg(0);
+        let b = self.arg(1);
+        let first = self.arena.walk(a);
+        let second = self.arena.walk(b);
+        made_of(op, first, second)
     }
 
-    /// Unifies the value of a term, among the variables at hand, with a number.
-    pub fn unify_number(&mut self, a: &Term, n: u16) -> Result<bool, Full>
-        requires some { (code : Code) × (l : Limits) × (m : Mid) × Holds code l self.old m }
-        requires a_plain { IsPlain (out-Term a.now) }
-        ensures { (code : Code) → (l : Limits) → (m : Mid) → (p : CoreProgram) → Holds code l self.old m → MatchResult result
-            (Matched code l (unified m.state.subst (value_of p (vars_of m.frames) a.now) (leaf (Num n))) m self.new)
-            (λ _. Unmatched l (unified m.state.subst (value_of p (vars_of m.frames) a.now) (leaf (Num n))) m self.new) }
+    /// Unifies the third argument with a number.
+    pub fn unify_number(&mut self, n: u16) -> Result<bool, Full>
+        requires { (u v w : Value) × RefsAt (meaning_of self.old.arena) self.old.args.items (u ∷ v ∷ w ∷ []) }
+        ensures { (code : Code) → (l : Limits) → (m : Mid) → (u v w : Value) → Holds code l self.old m →
+            RefsAt (meaning_of self.old.arena) self.old.args.items (u ∷ v ∷ w ∷ []) → MatchResult result
+            (Matched code l (unified m.state.subst w (leaf (Num n))) m self.new) (λ _. Unmatched l (unified m.state.subst w (leaf (Num n))) m self.new) }
     {
-        let row = self.row_at_hand();
-        match unify_number(&mut self.arena, row, a, n) {
+        let into = self.arg(2);
+        let number = simple_value(&mut self.arena, Simple::Num(n));
+        match unify(&mut self.arena, into, number) {
             Err(full) => Err(full),
             Ok(agreed) => Ok(agreed),
         }
@@ -314,23 +386,66 @@ impl Memory {
         }
     }
 
-    /// Unifies the arguments with the values of a rule's head, whose variables stand in a row, and answers whether they agree.
-    pub fn match_args(&mut self, head: &[Term], row: Row) -> Result<bool, Full>
+    /// Puts the values of a rule's head, among its variables in a row, into the register of heads.
+    fn write_head(&mut self, head: &[Term], row: Row) -> Result<(), Full>
+        requires room { HasRoom self.old }
+        requires few { HasFrameRoom self.old }
+        requires row { (vs : List Value) × RowAt (meaning_of self.old.arena) row vs }
+        requires head { AreArguments head.now }
+        ensures put { (code : Code) → (l : Limits) → (m : Mid) → (p : CoreProgram) → (vs : List Value) → Holds code l self.old m →
+            RowAt (meaning_of self.old.arena) row vs → MatchResult result (λ _. HasHeads code l (cells p head.now) (map (value_of p vs) head.now) m self.new)
+            (λ _. Lacks (cells p head.now) l m.state.heap self.new) }
+        ensures heads { OnOk result (AreRefs (meaning_of self.new.arena) self.new.heads.items) }
+        ensures room { OnOk result (HasRoom self.new) }
+        ensures few { OnOk result (HasFrameRoom self.new) }
+        ensures values { Kept (meaning_of self.old.arena) (meaning_of self.new.arena) }
+        ensures args { self.new.args ≡ self.old.args }
+        ensures choices { self.new.choices ≡ self.old.choices }
+    {
+        match write_terms(&mut self.arena, row, head, &mut self.heads, &mut self.path) {
+            Err(full) => Err(full),
+            Ok(()) => Ok(()),
+        }
+    }
+
+    /// Takes a rule's six cells, makes its variables in a row, and puts the values of its head into the register of heads.
+    pub fn make_head(&mut self, vars: u16, head: &[Term]) -> Result<Row, Full>
+        requires room { HasRoom self.old }
+        requires head { AreArguments head.now }
+        ensures made { (code : Code) → (l : Limits) → (m : Mid) → (p : CoreProgram) → Holds code l self.old m → MatchResult result
+            (λ row. MadeHead code l vars (cells p head.now) m (map (value_of p (new_vars vars m.state.vars)) head.now) self.new row)
+            (λ _. Lacks (6 + vars + cells p head.now) l m.state.heap self.new) }
+        ensures heads { OnOk result (AreRefs (meaning_of self.new.arena) self.new.heads.items) }
+        ensures room { OnOk result (HasRoom self.new) }
+        ensures few { OnOk result (HasFrameRoom self.new) }
+        ensures values { Kept (meaning_of self.old.arena) (meaning_of self.new.arena) }
+        ensures args { self.new.args ≡ self.old.args }
+        ensures choices { self.new.choices ≡ self.old.choices }
+    {
+        match self.make_rule(vars) {
+            Err(full) => Err(full),
+            Ok(row) => match self.write_head(head, row) {
+                Err(full) => Err(full),
+                Ok(()) => Ok(row),
+            },
+        }
+    }
+
+    /// Unifies the arguments with the values of a head, and answers whether they agree.
+    pub fn match_args(&mut self) -> Result<bool, Full>
         requires room { HasRoom self.old }
         requires few { HasFrameRoom self.old }
         requires args { AreRefs (meaning_of self.old.arena) self.old.args.items }
-        requires row { (vs : List Value) × RowAt (meaning_of self.old.arena) row vs }
-        requires head { ArePlain head.now }
-        ensures matched { (code : Code) → (l : Limits) → (m : Mid) → (p : CoreProgram) → (args vs : List Value) → Holds code l self.old m →
-            RefsAt (meaning_of self.old.arena) self.old.args.items args → RowAt (meaning_of self.old.arena) row vs →
-            MatchResult result (Matched code l (solve m.state.subst (zip args (map (value_of p vs) head.now))) m self.new)
-            (λ _. Unmatched l (solve m.state.subst (zip args (map (value_of p vs) head.now))) m self.new) }
+        requires heads { AreRefs (meaning_of self.old.arena) self.old.heads.items }
+        ensures matched { (code : Code) → (l : Limits) → (m : Mid) → (us ws : List Value) → Holds code l self.old m →
+            RefsAt (meaning_of self.old.arena) self.old.args.items us → RefsAt (meaning_of self.old.arena) self.old.heads.items ws →
+            MatchResult result (Matched code l (solve m.state.subst (zip us ws)) m self.new) (λ _. Unmatched l (solve m.state.subst (zip us ws)) m self.new) }
         ensures room { OnOk result (HasRoom self.new) }
         ensures few { OnOk result (HasFrameRoom self.new) }
         ensures values { Kept (meaning_of self.old.arena) (meaning_of self.new.arena) }
         ensures choices { self.new.choices ≡ self.old.choices }
     {
-        match match_head(&mut self.arena, self.args.as_slice(), head, row) {
+        match match_heads(&mut self.arena, self.args.as_slice(), self.heads.as_slice()) {
             Err(full) => Err(full),
             Ok(agreed) => Ok(agreed),
         }

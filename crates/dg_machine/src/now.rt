@@ -4,7 +4,7 @@ ghost use Rattle.std.specs.Prelude.{◌+◌, ◌≤◌};
 
 use dg_base::Ending;
 use dg_mid::Op;
-use dg_unify::Mark;
+use dg_unify::{Mark, Ref};
 
 /// Variables in a row of the store: the place of the first, and how many there are.
 #[derive(Clone, Copy, Drop)]
@@ -62,6 +62,13 @@ pub struct Choice {
     pub refs: usize,
     pub args: usize,
     pub mark: Mark,
+}
+
+/// Where a pair is gone into that is being written: into its head, or behind it, with the value of its head.
+#[derive(Clone, Copy, Drop)]
+pub enum Side {
+    Head,
+    Tail(Ref),
 }
 
 /// What is done next: the code at hand, a rule is entered, what a choice had left goes on, it fails, or the run has ended.

@@ -27,7 +27,7 @@ returns-in-None-clause-back c code l m h = went_nowhere code l m c.args.self.now
 pub returns-in-Some-clause-back : goal.returns-in-Some-clause-back
 returns-in-Some-clause-back c code l m h =
     let k = c.in-Some.choice in
-    let new : Memory = record { arena = c.undo.new.self; frames = c.truncate.new.self; inners = c.truncate-in-Some.new.self; choices = c.pop.new.self; kept = c.move_refs.new.from; args = c.move_refs.new.to; frame = k.frame; inner = k.inner } in
+    let new : Memory = record { arena = c.undo.new.self; frames = c.truncate.new.self; inners = c.truncate-in-Some.new.self; choices = c.pop.new.self; kept = c.move_refs.new.from; args = c.move_refs.new.to; heads = c.args.self.now.heads; path = c.args.self.now.path; frame = k.frame; inner = k.inner } in
     went_back code l m c.args.self.now new k h c.in-Some.ensures.items c.undo.ensures.back c.undo.ensures.saved (record {
       frames = c.truncate.ensures.items;
       inners = c.truncate-in-Some.ensures.items;
@@ -38,6 +38,8 @@ returns-in-Some-clause-back c code l m h =
       choices_room = c.in-Some.ensures.capacity;
       kept_room = c.move_refs.ensures.from_room;
       args_room = c.move_refs.ensures.to_room;
+      heads_room = refl;
+      path_room = refl;
       frame = refl;
       inner = refl;
     })
@@ -49,7 +51,7 @@ pub returns-in-None-clause-roomy : goal.returns-in-None-clause-roomy
 returns-in-None-clause-roomy c code l m h =
     let x = roomy code l m c.args.self.now h in
     let capacity = c.in-None.ensures.capacity in
-    record { limits = x.limits; frames = x.frames; inners = x.inners; choices = let y = x.choices in omega (arith, y, capacity); kept = x.kept; args = x.args }
+    record { limits = x.limits; frames = x.frames; inners = x.inners; choices = let y = x.choices in omega (arith, y, capacity); kept = x.kept; args = x.args; heads = x.heads; path = x.path }
 
 pub returns-in-Some-clause-roomy : goal.returns-in-Some-clause-roomy
 returns-in-Some-clause-roomy c code l m h =
@@ -70,4 +72,6 @@ returns-in-Some-clause-roomy c code l m h =
       choices = omega (arith, d, c.in-Some.ensures.capacity);
       kept = omega (arith, e, c.move_refs.ensures.from_room);
       args = omega (arith, f, c.move_refs.ensures.to_room);
+      heads = x.heads;
+      path = x.path;
     }

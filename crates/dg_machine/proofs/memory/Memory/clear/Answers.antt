@@ -5,7 +5,7 @@ use Rattle.dg_machine.proofs.memory.Memory.clear.Goals as goal
 
 pub returns : goal.returns
 returns c code l x =
-    let new : Memory = record { arena = c.clear.new.self; frames = c.clear-2.new.self; inners = c.clear-3.new.self; choices = c.clear-4.new.self; kept = c.clear-5.new.self; args = c.clear-6.new.self; frame = 0; inner = 0 } in
+    let new : Memory = record { arena = c.clear.new.self; frames = c.clear-2.new.self; inners = c.clear-3.new.self; choices = c.clear-4.new.self; kept = c.clear-5.new.self; args = c.clear-6.new.self; heads = c.args.self.now.heads; path = c.args.self.now.path; frame = 0; inner = 0 } in
     cleared code l c.args.self.now new x c.clear.ensures.state c.clear.ensures.heap_limit c.clear.ensures.trail_limit (record {
       frames = c.clear-2.ensures.items;
       inners = c.clear-3.ensures.items;
@@ -17,6 +17,8 @@ returns c code l x =
       choices_room = c.clear-4.ensures.capacity;
       kept_room = c.clear-5.ensures.capacity;
       args_room = c.clear-6.ensures.capacity;
+      heads_room = refl;
+      path_room = refl;
       frame = refl;
       inner = refl;
     })

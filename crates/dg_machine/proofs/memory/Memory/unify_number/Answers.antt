@@ -1,22 +1,44 @@
-use Rattle.std.proofs.Common.{[], ◌∷◌}
+use Rattle.std.proofs.Common.{◌∷◌, [], arith}
 use Rattle.std.specs.Prelude.{Ok, Err}
-use Rattle.dg_meaning.specs.Values.{Num, leaf, value_of}
+use Rattle.dg_meaning.specs.Values.{Num, leaf}
 use Rattle.dg_meaning.specs.Unify.{Equations}
-use Rattle.dg_mid.specs.State.{vars_of}
+use Rattle.dg_unify.proofs.StoreLemmas.{holds_some}
+use Rattle.dg_arena.specs.Held.{meaning_of}
+use Rattle.dg_machine.specs.Refs.{Keeps}
 use Rattle.dg_machine.proofs.Matching.{matched_in}
+use Rattle.dg_machine.proofs.HeadLemmas.{keeps_on, follows_back}
 use Rattle.dg_machine.proofs.memory.Memory.unify_number.Goals as goal
 
+pub arg-into-requires : goal.arg-into-requires
+arg-into-requires c = let some = c.requires in (some.0 ∷ some.1 ∷ some.2 ∷ [], some.3, omega arith)
+
+pub unify-requires-clause-a_in : goal.unify-requires-clause-a_in
+unify-requires-clause-a_in c =
+    let some = c.requires in
+    let t = meaning_of c.simple_value-number.new.arena in
+    holds_some t c.arg-into.result some.2 (c.simple_value-number.ensures.stays.keeps.kept.values c.arg-into.result some.2 (c.arg-into.ensures (some.0 ∷ some.1 ∷ some.2 ∷ []) some.3))
+
+pub unify-requires-clause-b_in : goal.unify-requires-clause-b_in
+unify-requires-clause-b_in c = holds_some (meaning_of c.simple_value-number.new.arena) c.simple_value-number.result (leaf (Num c.args.n)) c.simple_value-number.ensures.value
+
 pub returns-in-Err : goal.returns-in-Err
-returns-in-Err c code l m p h =
-    let vs = vars_of m.frames in
-    let es : Equations = (value_of p vs c.args.a.now, leaf (Num c.args.n)) ∷ [] in
-    matched_in code l m c.args.self.now c.unify_number.new.arena es h c.in-Err.ensures.keeps (Err c.in-Err.full) (c.in-Err.ensures.unified p vs (c.row_at_hand-row.ensures code l m h))
+returns-in-Err c code l m u v w h refs =
+    let r = c.args.self.now in
+    let mid = c.simple_value-number.new.arena in
+    let stays = c.simple_value-number.ensures.stays in
+    let es : Equations = (w, leaf (Num c.args.n)) ∷ [] in
+    let keeps : Keeps mid c.unify.new.store = record { kept = c.in-Err.ensures.kept; saved = c.in-Err.ensures.saved } in
+    matched_in code l m r c.unify.new.store es h (keeps_on r.arena mid c.unify.new.store stays.keeps keeps) (Err c.in-Err.full)
+    (follows_back r.arena mid c.unify.new.store w (leaf (Num c.args.n)) c.arg-into.result c.simple_value-number.result (Err c.in-Err.full) stays
+    (stays.keeps.kept.values c.arg-into.result w (c.arg-into.ensures (u ∷ v ∷ w ∷ []) refs)) c.simple_value-number.ensures.value c.in-Err.ensures.unified)
 
 pub returns-in-Ok : goal.returns-in-Ok
-returns-in-Ok c code l m p h =
-    let vs = vars_of m.frames in
-    let es : Equations = (value_of p vs c.args.a.now, leaf (Num c.args.n)) ∷ [] in
-    matched_in code l m c.args.self.now c.unify_number.new.arena es h c.in-Ok.ensures.keeps (Ok c.in-Ok.agreed) (c.in-Ok.ensures.unified p vs (c.row_at_hand-row.ensures code l m h))
-
-pub unify_number-requires-clause-row : goal.unify_number-requires-clause-row
-unify_number-requires-clause-row c = let some = c.requires.some in (vars_of some.2.frames, c.row_at_hand-row.ensures some.0 some.1 some.2 some.3)
+returns-in-Ok c code l m u v w h refs =
+    let r = c.args.self.now in
+    let mid = c.simple_value-number.new.arena in
+    let stays = c.simple_value-number.ensures.stays in
+    let es : Equations = (w, leaf (Num c.args.n)) ∷ [] in
+    let keeps : Keeps mid c.unify.new.store = record { kept = c.in-Ok.ensures.kept; saved = c.in-Ok.ensures.saved } in
+    matched_in code l m r c.unify.new.store es h (keeps_on r.arena mid c.unify.new.store stays.keeps keeps) (Ok c.in-Ok.agreed)
+    (follows_back r.arena mid c.unify.new.store w (leaf (Num c.args.n)) c.arg-into.result c.simple_value-number.result (Ok c.in-Ok.agreed) stays
+    (stays.keeps.kept.values c.arg-into.result w (c.arg-into.ensures (u ∷ v ∷ w ∷ []) refs)) c.simple_value-number.ensures.value c.in-Ok.ensures.unified)

@@ -1,0 +1,155 @@
+-- Paths into a term that is written.
+use Rattle.std.proofs.Common.{◌≡◌, ℕ, suc, ◌+◌, ◌*◌, ◌<◌, ◌≤◌, List, [], ◌∷◌, ◌++◌, refl, sym, ap, ◌∙◌, subst, arith, length, append-nil, take, get_or}
+use Rattle.std.specs.List.{All, sum_by}
+use Rattle.std.proofs.lemmas.List.{length-append, take_more}
+use Rattle.std.proofs.lemmas.List.Elements.{All-head, All-tail, All-cons}
+use Rattle.std.proofs.lemmas.List.Sums.{sum_by-append}
+use Rattle.dg_base.specs.declared.program.Term.{Term, Pair', out-Term, roll-Term, roll-out-Term}
+use Rattle.dg_base.specs.declared.program.Term.TheOpen as term
+use Rattle.dg_base.specs.declared.program.Term.TheBlock.{hidden-the_row-Term-0}
+use Rattle.dg_base.specs.declared.program.Term.TheVariants.{Pair as Pair-Term, outs-Pair, rolls-Pair}
+use Rattle.dg_base.specs.declared.program.CoreProgram.{CoreProgram}
+use Rattle.dg_base.specs.Terms.{nodes}
+use Rattle.dg_meaning.specs.Values.{Value, pair, value_of}
+use Rattle.dg_meaning.specs.Cells.{node_cells}
+use Rattle.dg_unify.specs.Store.{Store, Kept}
+use Rattle.dg_unify.specs.declared.bindings.Ref.{Ref}
+use Rattle.dg_machine.specs.declared.now.Side.{Side}
+use Rattle.dg_machine.specs.declared.now.Side.TheVariants.{Head, Tail}
+use Rattle.dg_machine.specs.Built.{NoClosure, IsPlain, IsFree}
+use Rattle.dg_machine.specs.Writing.{part_in, part_of, reached, IsHead, IsGone, AreGone, left_in, left_around, cells_of, nodes_of, cells_around}
+
+-- ## Pairs
+
+nodes_are : (h t : Term) → nodes (Pair-Term h t) ≡ Pair-Term h t ∷ ((nodes h ++ []) ++ (nodes t ++ []))
+unfolding hidden-the_row-Term-0 denote.Hole.Carrier.hidden
+nodes_are h t = refl
+
+pair_cells : (p : CoreProgram) (h t : Term) → node_cells p (out-Term (Pair-Term h t)) ≡ 3
+unfolding out-Term denote.Hole.Carrier.out
+pair_cells p h t = refl
+
+pub cells_pair : (p : CoreProgram) (x h t : Term) → x ≡ Pair-Term h t → cells_of p x ≡ 3 + (cells_of p h + cells_of p t)
+cells_pair p x h t is =
+    let f = λ (y : Term). node_cells p (out-Term y) in
+    let e : cells_of p (Pair-Term h t) ≡ sum_by f (Pair-Term h t ∷ (((nodes h ++ []) ++ (nodes t ++ [])) ++ [])) = ap (λ l. sum_by f (l ++ [])) (nodes_are h t) in
+    let a = sum_by-append f (nodes h ++ []) (nodes t ++ []) in
+    let b = sum_by-append f ((nodes h ++ []) ++ (nodes t ++ [])) [] in
+    let first = sum_by-append f (Pair-Term h t ∷ []) (((nodes h ++ []) ++ (nodes t ++ [])) ++ []) in
+    let top : sum_by f (Pair-Term h t ∷ []) ≡ 0 + f (Pair-Term h t) = refl in
+    let head : cells_of p h ≡ sum_by f (nodes h ++ []) = refl in
+    let tail : cells_of p t ≡ sum_by f (nodes t ++ []) = refl in
+    let none : sum_by f [] ≡ 0 = refl in
+    omega (arith, ap (cells_of p) is, e, a, b, first, top, head, tail, none, pair_cells p h t)
+
+pair_value : (p : CoreProgram) (vs : List Value) (h t : Term) → value_of p vs (Pair-Term h t) ≡ pair (value_of p vs h) (value_of p vs t)
+unfolding hidden-the_row-Term-0 denote.Hole.Carrier.hidden
+pair_value p vs h t = refl
+
+pub value_pair : (p : CoreProgram) (vs : List Value) (x h t : Term) → x ≡ Pair-Term h t → value_of p vs x ≡ pair (value_of p vs h) (value_of p vs t)
+value_pair p vs x h t is = ap (value_of p vs) is ∙ pair_value p vs h t
+
+pub nodes_pair : (x h t : Term) → x ≡ Pair-Term h t → nodes_of x ≡ suc (nodes_of h + nodes_of t)
+nodes_pair x h t is =
+    let a = length-append (nodes h ++ []) (nodes t ++ []) in
+    let b = ap length (append-nil (nodes h)) in
+    let c = ap length (append-nil (nodes t)) in
+    omega (arith, ap nodes_of is, ap length (nodes_are h t), a, b, c)
+
+pub some_node : (x : Term) → 1 ≤ nodes_of x
+some_node (Pair' s head t tail) = omega arith
+some_node other = omega arith
+
+-- ## No closures
+
+all_front : {A : Type 0} (P : A → Type 0) (xs ys : List A) → All P (xs ++ ys) → All P xs
+all_front P [] ys h = λ k d le. absurd (omega (arith, le))
+all_front P (x ∷ xs) ys h = All-cons P x xs (All-head P x (xs ++ ys) h) (all_front P xs ys (All-tail P x (xs ++ ys) h))
+
+all_behind : {A : Type 0} (P : A → Type 0) (xs ys : List A) → All P (xs ++ ys) → All P ys
+all_behind P [] ys h = h
+all_behind P (x ∷ xs) ys h = all_behind P xs ys (All-tail P x (xs ++ ys) h)
+
+pub free_pair : (x h t : Term) → x ≡ Pair-Term h t → IsFree x → IsFree h × IsFree t
+free_pair x h t is free =
+    let f = λ (y : Term). NoClosure (out-Term y) in
+    let all : All f (Pair-Term h t ∷ ((nodes h ++ []) ++ (nodes t ++ []))) = subst (All f) (ap nodes is ∙ nodes_are h t) free in
+    let parts = All-tail f (Pair-Term h t) ((nodes h ++ []) ++ (nodes t ++ [])) all in
+    (all_front f (nodes h) [] (all_front f (nodes h ++ []) (nodes t ++ []) parts), all_front f (nodes t) [] (all_behind f (nodes h ++ []) (nodes t ++ []) parts))
+
+pub free_top : (x : Term) → IsFree x → NoClosure (out-Term x)
+free_top (Pair' s head t tail) free = All-head (λ (y : Term). NoClosure (out-Term y)) (Pair' s head t tail) _ free
+free_top other free = All-head (λ (y : Term). NoClosure (out-Term y)) other [] free
+
+top_plain : (x : Term) (o : term.Term-F Term) → out-Term x ≡ o → NoClosure o → ((h t : Term) → x ≡ Pair-Term h t → ⊥) → IsPlain o
+top_plain x (term.Pair h t) e free other = other h t (sym (roll-out-Term x) ∙ ap roll-Term e ∙ rolls-Pair h t)
+top_plain x (term.Closure c) e free other = free
+top_plain x o e free other = tt
+
+-- a term that is no pair has no parts
+pub plain_of : (x : Term) → IsFree x → ((h t : Term) → x ≡ Pair-Term h t → ⊥) → IsPlain (out-Term x)
+plain_of x free other = top_plain x (out-Term x) refl (free_top x free) other
+
+-- ## Sides
+
+pub head_part : (x h t : Term) → x ≡ Pair-Term h t → part_of Head x ≡ h
+head_part x h t is = ap (part_of Head) is ∙ ap (λ o. part_in Head o (Pair-Term h t)) (outs-Pair h t)
+
+pub tail_part : (r : Ref) (x h t : Term) → x ≡ Pair-Term h t → part_of (Tail r) x ≡ t
+tail_part r x h t is = ap (part_of (Tail r)) is ∙ ap (λ o. part_in (Tail r) o (Pair-Term h t)) (outs-Pair h t)
+
+pub head_left : (one : ℕ) (all : Term → ℕ) (x h t : Term) → x ≡ Pair-Term h t → left_in one all Head (out-Term x) ≡ one + all t
+head_left one all x h t is = ap (λ y. left_in one all Head (out-Term y)) is ∙ ap (left_in one all Head) (outs-Pair h t)
+
+pub tail_left : (one : ℕ) (all : Term → ℕ) (r : Ref) (x h t : Term) → x ≡ Pair-Term h t → left_in one all (Tail r) (out-Term x) ≡ one
+tail_left one all r x h t is = ap (λ y. left_in one all (Tail r) (out-Term y)) is ∙ ap (left_in one all (Tail r)) (outs-Pair h t)
+
+-- ## One side more
+
+pub reached_push : (path : List Side) (side : Side) (t : Term) → reached (path ++ side ∷ []) t ≡ part_of side (reached path t)
+reached_push [] side t = refl
+reached_push (x ∷ path) side t = reached_push path side (part_of x t)
+
+pub left_push : (one : ℕ) (all : Term → ℕ) (path : List Side) (side : Side) (t : Term) → left_around one all (path ++ side ∷ []) t ≡ left_around one all path t + left_in one all side (out-Term (reached path t))
+left_push one all [] side t = omega arith
+left_push one all (x ∷ path) side t = let rest = left_push one all path side (part_of x t) in omega (arith, rest)
+
+pub reached_more : (path : List Side) (n : ℕ) (t : Term) → n < length path → reached (take (n + 1) path) t ≡ part_of (get_or path n Head) (reached (take n path) t)
+reached_more path n t lt = ap (λ l. reached l t) (take_more path n Head lt) ∙ reached_push (take n path) (get_or path n Head) t
+
+module _ (s : Store) (p : CoreProgram) (vs : List Value) where
+  pub gone_push : (path : List Side) (side : Side) (t : Term) → AreGone s p vs path t → IsGone s p vs side (reached path t) → AreGone s p vs (path ++ side ∷ []) t
+  gone_push [] side t h g = (g, tt)
+  gone_push (x ∷ path) side t h g = (h.0, gone_push path side (part_of x t) h.1 g)
+
+  pub gone_pop : (path : List Side) (side : Side) (t : Term) → AreGone s p vs (path ++ side ∷ []) t → AreGone s p vs path t × IsGone s p vs side (reached path t)
+  gone_pop [] side t h = (tt, h.0)
+  gone_pop (x ∷ path) side t h = let rest = gone_pop path side (part_of x t) h.1 in ((h.0, rest.0), rest.1)
+
+  least_in : (side : Side) (t : Term) → IsGone s p vs side t → 3 ≤ left_in 3 (cells_of p) side (out-Term t)
+  least_in Head t g = let e = head_left 3 (cells_of p) t g.head g.tail g.is in omega (arith, e)
+  least_in (Tail r) t g = let e = tail_left 3 (cells_of p) r t g.head g.tail g.is in omega (arith, e)
+
+  -- each pair of a path has its cells to come
+  pub least_left : (path : List Side) (t : Term) → AreGone s p vs path t → 3 * length path ≤ cells_around p path t
+  least_left [] t h = omega arith
+  least_left (x ∷ path) t h = let first = least_in x t h.0 in let rest = least_left path (part_of x t) h.1 in omega (arith, first, rest)
+
+  free_part : (side : Side) (t : Term) → IsGone s p vs side t → IsFree t → IsFree (part_of side t)
+  free_part Head t g free = let parts = free_pair t g.head g.tail g.is free in subst IsFree (sym (head_part t g.head g.tail g.is)) parts.0
+  free_part (Tail r) t g free = let parts = free_pair t g.head g.tail g.is free in subst IsFree (sym (tail_part r t g.head g.tail g.is)) parts.1
+
+  pub free_reached : (path : List Side) (t : Term) → AreGone s p vs path t → IsFree t → IsFree (reached path t)
+  free_reached [] t h free = free
+  free_reached (x ∷ path) t h free = free_reached path (part_of x t) h.1 (free_part x t h.0 free)
+
+  head_kept : (u : Store) (side : Side) (v : Value) → Kept s u → IsHead s side v → IsHead u side v
+  head_kept u Head v kept h = tt
+  head_kept u (Tail r) v kept h = kept.values r v h
+
+  pub gone_kept : (u : Store) (path : List Side) (t : Term) → Kept s u → AreGone s p vs path t → AreGone u p vs path t
+  gone_kept u [] t kept h = tt
+  gone_kept u (x ∷ path) t kept h = (
+    record { head = h.0.head; tail = h.0.tail; is = h.0.is; value = head_kept u x (value_of p vs h.0.head) kept h.0.value },
+    gone_kept u path (part_of x t) kept h.1,
+  )

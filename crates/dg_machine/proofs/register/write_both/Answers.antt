@@ -1,0 +1,23 @@
+use Rattle.std.proofs.Common.{◌∷◌, []}
+use Rattle.dg_meaning.specs.Values.{value_of}
+use Rattle.dg_meaning.specs.Cells.{cells}
+use Rattle.dg_arena.specs.Held.{meaning_of}
+use Rattle.dg_machine.proofs.Kept.{row_kept}
+use Rattle.dg_machine.proofs.WriteSteps.{overflows_more}
+use Rattle.dg_machine.proofs.RegisterLemmas.{put_behind, cells_two}
+use Rattle.dg_machine.proofs.register.write_both.Goals as goal
+
+pub write_next-requires-clause-row : goal.write_next-requires-clause-row
+write_next-requires-clause-row c = let row = c.requires.row in (row.0, row_kept (meaning_of c.args.arena.now) (meaning_of c.write_one.new.arena) c.args.row row.0 c.in-Ok.ensures.keeps.kept row.1)
+
+pub returns-in-Err-clause-put : goal.returns-in-Err-clause-put
+returns-in-Err-clause-put c p vs at = overflows_more (cells p (c.args.a.now ∷ [])) (cells p (c.args.b.now ∷ [])) (cells p (c.args.a.now ∷ c.args.b.now ∷ [])) (meaning_of c.args.arena.now) (cells_two p c.args.a.now c.args.b.now) (c.in-Err.ensures.put p vs at)
+
+pub returns-in-Ok-clause-put : goal.returns-in-Ok-clause-put
+returns-in-Ok-clause-put c p vs at =
+    let old = meaning_of c.args.arena.now in
+    let mid = meaning_of c.write_one.new.arena in
+    let first = c.in-Ok.ensures.put p vs at in
+    let us = value_of p vs c.args.a.now ∷ [] in
+    put_behind (cells p (c.args.a.now ∷ [])) (cells p (c.args.b.now ∷ [])) (cells p (c.args.a.now ∷ c.args.b.now ∷ [])) us (value_of p vs c.args.a.now ∷ value_of p vs c.args.b.now ∷ []) old mid (meaning_of c.write_next.new.arena) c.write_one.new.to.items c.write_next.new.to.items c.write_next.result
+    (cells_two p c.args.a.now c.args.b.now) c.in-Ok.ensures.keeps.kept first (c.write_next.ensures.put p us vs first.refs_are (row_kept old mid c.args.row vs c.in-Ok.ensures.keeps.kept at))

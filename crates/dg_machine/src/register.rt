@@ -1,0 +1,161 @@
+// Values of terms in a register.
+ghost use Rattle.std.specs.Prelude.{◌≡◌, ◌<◌, ◌≤◌, ◌+◌, ◌*◌, ◌++◌, List, [], ◌∷◌, MatchResult, OnOk, length, map, vec_capacity};
+ghost use Rattle.dg_base.specs.declared.program.CoreProgram.{CoreProgram};
+ghost use Rattle.dg_meaning.specs.Values.{Value, value_of};
+ghost use Rattle.dg_meaning.specs.Cells.{cells};
+ghost use Rattle.dg_arena.specs.Held.{meaning_of};
+ghost use Rattle.dg_machine.specs.Built.{IsFree, AreFree};
+ghost use Rattle.dg_machine.specs.Refs.{RowAt, RefsAt, Keeps, Puts};
+ghost use Rattle.dg_machine.specs.Writing.{Overflows};
+
+use crate::now::{Row, Side};
+use crate::writing::write_term;
+use dg_arena::Arena;
+use dg_base::Term;
+use dg_unify::{Full, Ref};
+
+/// Puts the value of a term, among variables in a row, behind others.
+fn write_next(
+    arena: &mut Arena,
+    row: Row,
+    term: &Term,
+    to: &mut Vec<Ref>,
+    path: &mut Vec<Side>,
+) -> Result<(), Full>
+    requires free { IsFree term.now }
+    requires fits { (meaning_of arena.old).heap_limit < 3 * vec_capacity path.old + 3 }
+    requires row { (vs : List Value) × RowAt (meaning_of arena.old) row vs }
+    requires room { length to.old.items < vec_capacity to.old }
+    ensures keeps { Keeps arena.old arena.new }
+    ensures put { (p : CoreProgram) → (us vs : List Value) → RefsAt (meaning_of arena.old) to.old.items us → RowAt (meaning_of arena.old) row vs →
+        MatchResult result (λ _. Puts (cells p (term.now ∷ [])) (us ++ value_of p vs term.now ∷ []) (meaning_of arena.old) (meaning_of arena.new) to.new.items)
+        (λ _. Overflows (cells p (term.now ∷ [])) (meaning_of arena.old)) }
+    ensures count { OnOk result (length to.new.items ≡ length to.old.items + 1) }
+    ensures few { length to.new.items ≤ length to.old.items + 1 }
+    ensures capacity { vec_capacity to.new ≡ vec_capacity to.old }
+    ensures path { vec_capacity path.new ≡ vec_capacity path.old }
+{
+    match write_term(arena, row, term, path) {
+        Err(full) => Err(full),
+        Ok(value) => {
+            to.push_reserved(value);
+            Ok(())
+        }
+    }
+}
+
+/// Puts the values of terms, among variables in a row, into a register that is emptied.
+pub fn write_terms(
+    arena: &mut Arena,
+    row: Row,
+    terms: &[Term],
+    to: &mut Vec<Ref>,
+    path: &mut Vec<Side>,
+) -> Result<(), Full>
+    requires free { AreFree terms.now }
+    requires fits { (meaning_of arena.old).heap_limit < 3 * vec_capacity path.old + 3 }
+    requires row { (vs : List Value) × RowAt (meaning_of arena.old) row vs }
+    requires room { length terms.now ≤ vec_capacity to.old }
+    ensures keeps { Keeps arena.old arena.new }
+    ensures put { (p : CoreProgram) → (vs : List Value) → RowAt (meaning_of arena.old) row vs →
+        MatchResult result (λ _. Puts (cells p terms.now) (map (value_of p vs) terms.now) (meaning_of arena.old) (meaning_of arena.new) to.new.items)
+        (λ _. Overflows (cells p terms.now) (meaning_of arena.old)) }
+    ensures few { length to.new.items ≤ length terms.now }
+    ensures capacity { vec_capacity to.new ≡ vec_capacity to.old }
+    ensures path { vec_capacity path.new ≡ vec_capacity path.old }
+{
+    to.clear();
+    'terms: for term in terms {
+        match write_next(arena, row, term, to, path) {
+            Err(full) => return Err(full),
+            Ok(()) => {}
+        }
+    }
+    Ok(())
+}
+
+/// Puts the value of a term, among variables in a row, into a register that is emptied.
+pub fn write_one(
+    arena: &mut Arena,
+    row: Row,
+    a: &Term,
+    to: &mut Vec<Ref>,
+    path: &mut Vec<Side>,
+) -> Result<(), Full>
+    requires free { IsFree a.now }
+    requires fits { (meaning_of arena.old).heap_limit < 3 * vec_capacity path.old + 3 }
+    requires row { (vs : List Value) × RowAt (meaning_of arena.old) row vs }
+    requires room { 1 ≤ vec_capacity to.old }
+    ensures keeps { Keeps arena.old arena.new }
+    ensures put { (p : CoreProgram) → (vs : List Value) → RowAt (meaning_of arena.old) row vs →
+        MatchResult result (λ _. Puts (cells p (a.now ∷ [])) (value_of p vs a.now ∷ []) (meaning_of arena.old) (meaning_of arena.new) to.new.items)
+        (λ _. Overflows (cells p (a.now ∷ [])) (meaning_of arena.old)) }
+    ensures few { length to.new.items ≤ 1 }
+    ensures count { OnOk result (length to.new.items ≡ 1) }
+    ensures capacity { vec_capacity to.new ≡ vec_capacity to.old }
+    ensures path { vec_capacity path.new ≡ vec_capacity path.old }
+{
+    to.clear();
+    write_next(arena, row, a, to, path)
+}
+
+/// Puts the values of two terms, among variables in a row, into a register that is emptied.
+pub fn write_both(
+    arena: &mut Arena,
+    row: Row,
+    a: &Term,
+    b: &Term,
+    to: &mut Vec<Ref>,
+    path: &mut Vec<Side>,
+) -> Result<(), Full>
+    requires a_free { IsFree a.now }
+    requires b_free { IsFree b.now }
+    requires fits { (meaning_of arena.old).heap_limit < 3 * vec_capacity path.old + 3 }
+    requires row { (vs : List Value) × RowAt (meaning_of arena.old) row vs }
+    requires room { 2 ≤ vec_capacity to.old }
+    ensures keeps { Keeps arena.old arena.new }
+    ensures put { (p : CoreProgram) → (vs : List Value) → RowAt (meaning_of arena.old) row vs →
+        MatchResult result (λ _. Puts (cells p (a.now ∷ b.now ∷ [])) (value_of p vs a.now ∷ value_of p vs b.now ∷ []) (meaning_of arena.old)
+        (meaning_of arena.new) to.new.items)
+        (λ _. Overflows (cells p (a.now ∷ b.now ∷ [])) (meaning_of arena.old)) }
+    ensures few { length to.new.items ≤ 2 }
+    ensures count { OnOk result (length to.new.items ≡ 2) }
+    ensures capacity { vec_capacity to.new ≡ vec_capacity to.old }
+    ensures path { vec_capacity path.new ≡ vec_capacity path.old }
+{
+    match write_one(arena, row, a, to, path) {
+        Err(full) => Err(full),
+        Ok(()) => write_next(arena, row, b, to, path),
+    }
+}
+
+/// Puts the values of three terms, among variables in a row, into a register that is emptied.
+pub fn write_three(
+    arena: &mut Arena,
+    row: Row,
+    a: &Term,
+    b: &Term,
+    c: &Term,
+    to: &mut Vec<Ref>,
+    path: &mut Vec<Side>,
+) -> Result<(), Full>
+    requires a_free { IsFree a.now }
+    requires b_free { IsFree b.now }
+    requires c_free { IsFree c.now }
+    requires fits { (meaning_of arena.old).heap_limit < 3 * vec_capacity path.old + 3 }
+    requires row { (vs : List Value) × RowAt (meaning_of arena.old) row vs }
+    requires room { 3 ≤ vec_capacity to.old }
+    ensures keeps { Keeps arena.old arena.new }
+    ensures put { (p : CoreProgram) → (vs : List Value) → RowAt (meaning_of arena.old) row vs →
+        MatchResult result (λ _. Puts (cells p (a.now ∷ b.now ∷ c.now ∷ [])) (value_of p vs a.now ∷ value_of p vs b.now ∷ value_of p vs c.now ∷ [])
+        (meaning_of arena.old) (meaning_of arena.new) to.new.items)
+        (λ _. Overflows (cells p (a.now ∷ b.now ∷ c.now ∷ [])) (meaning_of arena.old)) }
+    ensures few { length to.new.items ≤ 3 }
+    ensures capacity { vec_capacity to.new ≡ vec_capacity to.old }
+    ensures path { vec_capacity path.new ≡ vec_capacity path.old }
+{
+    match write_both(arena, row, a, b, to, path) {
+        Err(full) => Err(full),
+        Ok(()) => write_next(arena, row, c, to, path),
+    }
+}
