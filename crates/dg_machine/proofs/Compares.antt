@@ -25,11 +25,21 @@ use Rattle.dg_mid.specs.Step.{Setting, setting, more, bound, done, does, if_pass
 use Rattle.dg_machine.specs.declared.now.Now.{Now}
 use Rattle.dg_machine.specs.declared.now.Now.TheVariants.{Runs, Fails, Ended}
 use Rattle.dg_machine.specs.declared.memory.Memory.{Memory}
-use Rattle.dg_machine.specs.Comparing.{order_of, made_of}
+use Rattle.dg_machine.specs.Comparing.{number_in, number_shown, order_of, made_of}
 use Rattle.dg_machine.specs.Layout.{Holds, Lacks}
 use Rattle.dg_machine.specs.Standing.{CodeIs, Stands}
 use Rattle.dg_machine.proofs.Leads.{charged_led, full_stands}
 use Rattle.dg_machine.proofs.Unifying.{done_unifies}
+
+pub number_is : (s : Store) (v : Value) (first : View) → Shows s v first → number_shown first ≡ number_in v
+number_is s v (view.Unbound r) h = ap number_in (sym h.is)
+number_is s v (view.Simple (simple.Num n)) h = ap number_in (sym h)
+number_is s v (view.Simple (simple.Word n)) h = ap number_in (sym h)
+number_is s v (view.Simple (simple.Object n)) h = ap number_in (sym h)
+number_is s v (view.Simple simple.Nil) h = ap number_in (sym h)
+number_is s v (view.Pair a b) h = ap number_in (sym h.is)
+number_is s v (view.Closure place r) h = ap number_in (sym h.is)
+number_is s v (view.Unknown r) h = ap number_in (sym h.is)
 
 order_with : (f : CompareOp) (s : Store) (m : ℕ) (u : Value) (second : View) → Shows s u second → order_of f (view.Simple (simple.Num m)) second ≡ are_in_order f (leaf (Num m)) u
 order_with f s m u (view.Unbound r) h = ap (are_in_order f (leaf (Num m))) (sym h.is)

@@ -15,6 +15,7 @@ use Rattle.dg_meaning.specs.World.{World, prints, worked}
 use Rattle.dg_meaning.specs.Moves.{gives_number, looked_up}
 use Rattle.dg_mid.specs.Actions.{terms_of, registers_of, world_of, said_by}
 use Rattle.dg_base.specs.declared.run.Limits.{Limits}
+use Rattle.dg_base.specs.declared.run.Ending.{Ending}
 use Rattle.dg_base.specs.declared.run.Ending.TheVariants as ending
 use Rattle.dg_base.specs.Written.{SinkView, Wrote, BrokeOff}
 use Rattle.dg_base.proofs.WrittenLemmas.{wrote_on, broke_later}
@@ -41,7 +42,7 @@ use Rattle.dg_machine.specs.declared.now.Now.{Now}
 use Rattle.dg_machine.specs.declared.now.Now.TheVariants.{Runs, Enters, Resumes, Fails, Ended}
 use Rattle.dg_machine.specs.declared.memory.Memory.{Memory}
 use Rattle.dg_machine.specs.Built.{OpBuilt, OpsBuilt, IsBuilt, IsQuiet, IsQuietOp}
-use Rattle.dg_machine.specs.Layout.{HasRoom, HasPut, Holds}
+use Rattle.dg_machine.specs.Layout.{HasRoom, HasPut, Holds, Roomy}
 use Rattle.dg_machine.specs.Standing.{CodeIs, Stands, Falls, DoesOp, DoesMark, Asks, AsksLast, EntersRule, IsThere, GoesOn, FailsTo, HasStatus}
 use Rattle.dg_machine.specs.Running.{rests, DoesMarks, HasText, GoalDone, GoalLost}
 use Rattle.std.proofs.Common.{map}
@@ -211,6 +212,7 @@ fails_act code r action.Quit rest q j u s k d v t g l m o b at h = absurd (u ref
 fails_act code r action.Stop rest q j u s k d v t g l m o b at h = absurd (s refl)
 fails_act code r (action.Text name) rest q j u s k d v t g l m o b at h = absurd q
 fails_act code r (action.Gap kind) rest q j u s k d v t g l m o b at h = absurd q
+fails_act code r (action.GapN x) rest q j u s k d v t g l m o b at h = absurd q
 fails_act code r (action.Arith f x y z) rest q j u s k d v t g l m o b at h = absurd (v f x y z refl)
 fails_act code r (action.Test f x) rest q j u s k d v t g l m o b at h = absurd (t f x refl)
 fails_act code r (action.Compare f x y) rest q j u s k d v t g l m o b at h = absurd (d f x y refl)
@@ -234,10 +236,11 @@ other_goal (op.Shield alt) e b d k la t br on tr = b
 other_goal (op.Collect x y alt) e b d k la t br on tr = b
 other_goal x e b d k la t br on tr = absurd (cc)
 
-pub quiet_else : (a : Action) → ((name : _) → a ≡ action.Text name → ⊥) → ((kind : _) → a ≡ action.Gap kind → ⊥) → IsQuiet a
-quiet_else (action.Text name) t g = t name refl
-quiet_else (action.Gap kind) t g = g kind refl
-quiet_else a t g = tt
+pub quiet_else : (a : Action) → ((name : _) → a ≡ action.Text name → ⊥) → ((kind : _) → a ≡ action.Gap kind → ⊥) → ((x : Term) → a ≡ action.GapN x → ⊥) → IsQuiet a
+quiet_else (action.Text name) t g n = t name refl
+quiet_else (action.Gap kind) t g n = g kind refl
+quiet_else (action.GapN x) t g n = n x refl
+quiet_else a t g n = tt
 
 pub quiet_op : (x : Op) → ((a : Action) → x ≡ op.Do a → ⊥) → IsQuietOp x
 quiet_op (op.Do a) d = absurd (d a refl)
@@ -262,6 +265,7 @@ quiet_goal g m (op.Do action.Quit) rest q b = refl
 quiet_goal g m (op.Do action.Stop) rest q b = refl
 quiet_goal g m (op.Do (action.Text name)) rest q b = absurd q
 quiet_goal g m (op.Do (action.Gap kind)) rest q b = absurd q
+quiet_goal g m (op.Do (action.GapN x)) rest q b = absurd q
 quiet_goal g m (op.Do a) rest q b = absurd b
 quiet_goal g m x rest q b = refl
 
@@ -272,45 +276,67 @@ module _ (code : Code) (g : Game) (l : Limits) (m : Mid) (old new : Memory) (now
   is_first : m.ops ≡ x ∷ rest
   is_first = at.0 ∙ split
 
-  pub quiet_done : (s : Spacer) (k : SinkView) → MidOrdered m → IsQuietOp x → DoesOp code old x rest new now → GoalDone code g l new now s s k k m
-  quiet_done s k o quiet does =
+  -- an instruction that prints nothing here
+  pub silent_done : (s : Spacer) (k : SinkView) → MidOrdered m → said_in set m (x ∷ rest) ≡ [] → DoesOp code old x rest new now → GoalDone code g l new now s s k k m
+  silent_done s k o silent does =
       let built : OpsBuilt (x ∷ rest) = subst OpsBuilt split at.1 in
-      let none : said set (RunsOf m) ≡ [] = ap (λ ps. said_to ps (step set (RunsOf m))) (ap (said_in set m) is_first ∙ quiet_goal set m x rest quiet built.0) in
+      let none : said set (RunsOf m) ≡ [] = ap (λ ps. said_to ps (step set (RunsOf m))) (ap (said_in set m) is_first ∙ silent) in
       record {
         stands = subst (λ xs. Stands code l new now (runs set xs m)) (sym is_first) (does g l (record m { ops = rest }) o built.0 (refl, built.1) h);
         writes = λ start ps text. subst (λ qs. HasText s start k (followed ps qs)) (sym none) text;
       }
 
+  pub quiet_done : (s : Spacer) (k : SinkView) → MidOrdered m → IsQuietOp x → DoesOp code old x rest new now → GoalDone code g l new now s s k k m
+  quiet_done s k o quiet does = let built : OpsBuilt (x ∷ rest) = subst OpsBuilt split at.1 in silent_done s k o (quiet_goal set m x rest quiet built.0) does
+
+said_ended : (ps : List Print) (e : Ending) → said_to ps (EndedOf e) ≡ []
+said_ended [] e = refl
+said_ended (p ∷ ps) e = refl
+
+-- an instruction at which the run ends prints nothing
+pub ended_done : (code : Code) (g : Game) (l : Limits) (m : Mid) (new : Memory) (e : Ending) (ops : List Op) (x : Op) (rest : List Op) (s : Spacer) (k : SinkView) → ops ≡ x ∷ rest → CodeIs ops m → does (setting g code l) x (record m { ops = rest }) ≡ EndedOf e → Roomy l new → GoalDone code g l new (Ended e) s s k k m
+ended_done code g l m new e ops x rest s k split at is room =
+    let set = setting g code l in
+    let ends : step set (RunsOf m) ≡ EndedOf e = ap (λ xs. runs set xs m) (at.0 ∙ split) ∙ is in
+    let none : said set (RunsOf m) ≡ [] = ap (said_to (said_in set m m.ops)) ends ∙ said_ended (said_in set m m.ops) e in
+    record {
+      stands = subst (Stands code l new (Ended e)) (sym ends) (refl, room);
+      writes = λ start ps text. subst (λ qs. HasText s start k (followed ps qs)) (sym none) text;
+    }
+
+-- nothing is kept that is too much
+pub keeps_none : (g : Game) (code : Code) (l : Limits) (next : Status) → keeps_within (setting g code l) 0 next ≡ next
+keeps_none g code l next = cond-false (nat_lt l.keep 0) (EndedOf ending.KeepLimit) next (le-ltb l.keep 0 (omega arith))
+
 -- ## What is printed
 
-module _ (code : Code) (g : Game) (l : Limits) (m : Mid) (r : Memory) (ops : List Op) (a : Action) (p : Print) (rest : Bor (List Op)) (split : ops ≡ op.Do a ∷ rest.now) (at : CodeIs ops m) (h : Holds code l r m)
-    (done_is : (x : Mid) → does (setting g code l) (op.Do a) x ≡ keeps_within (setting g code l) 0 (RunsOf (more 0 x))) (said_is : said_in (setting g code l) m (op.Do a ∷ rest.now) ≡ p ∷ []) where
+-- an action has taken so many cells, and goes on with what it prints
+module _ (code : Code) (g : Game) (l : Limits) (m : Mid) (r : Memory) (n : ℕ) (ops : List Op) (a : Action) (p : Print) (rest : Bor (List Op)) (split : ops ≡ op.Do a ∷ rest.now) (at : CodeIs ops m) (h : Holds code l r (more n m))
+    (done_is : does (setting g code l) (op.Do a) (record m { ops = rest.now }) ≡ RunsOf (more n (record m { ops = rest.now }))) (said_is : said_in (setting g code l) m (op.Do a ∷ rest.now) ≡ p ∷ []) where
   abbrev set_p : Setting
   set_p = setting g code l
 
   first_is : m.ops ≡ op.Do a ∷ rest.now
   first_is = at.0 ∙ split
 
-  step_is : step set_p (RunsOf m) ≡ RunsOf (more 0 (record m { ops = rest.now }))
-  step_is =
-      ap (λ xs. runs set_p xs m) first_is ∙ done_is (record m { ops = rest.now })
-      ∙ cond-false (nat_lt l.keep 0) (EndedOf ending.KeepLimit) (RunsOf (more 0 (record m { ops = rest.now }))) (le-ltb l.keep 0 (omega arith))
+  step_is : step set_p (RunsOf m) ≡ RunsOf (more n (record m { ops = rest.now }))
+  step_is = ap (λ xs. runs set_p xs m) first_is ∙ done_is
 
   says : said set_p (RunsOf m) ≡ p ∷ []
-  says = ap (λ s. said_to (said_in set_p m m.ops) s) step_is ∙ ap (λ ps. said_to ps (RunsOf (more 0 (record m { ops = rest.now })))) (ap (said_in set_p m) first_is ∙ said_is)
+  says = ap (λ s. said_to (said_in set_p m m.ops) s) step_is ∙ ap (λ ps. said_to ps (RunsOf (more n (record m { ops = rest.now })))) (ap (said_in set_p m) first_is ∙ said_is)
 
   pub printed_done : (s s' : Spacer) (k k' : SinkView) → ((ps : List Print) → StandsFor s ps → StandsFor s' (ps ++ p ∷ [])) → ((ps : List Print) → StandsFor s ps → Wrote k k' (growth ps p)) → GoalDone code g l r (Runs rest) s s' k k' m
   printed_done s s' k k' stands wrote =
       let built : OpsBuilt (op.Do a ∷ rest.now) = subst OpsBuilt split at.1 in
       record {
-        stands = subst (Stands code l r (Runs rest)) (sym step_is) ((refl, built.1), nothing_more code l r m h);
+        stands = subst (Stands code l r (Runs rest)) (sym step_is) ((refl, built.1), h);
         writes = λ start ps text. subst (λ qs. HasText s' start k' (followed ps qs)) (sym says)
             (record { stands = stands ps text.stands; wrote = subst (Wrote start k') (sym (render_grows ps p)) (wrote_on start k k' (render ps) (growth ps p) text.wrote (wrote ps text.stands)) });
       }
 
   pub printed_lost : (s : Spacer) (k k' : SinkView) (start : SinkView) (ps : List Print) → ((ps : List Print) → StandsFor s ps → BrokeOff k k' (growth ps p)) → HasText s start k ps → GoalLost g code l k k' m start ps
   printed_lost s k k' start ps broke text = record {
-    behind = more 0 (record m { ops = rest.now });
+    behind = more n (record m { ops = rest.now });
     goes = step_is;
     broke = subst (λ qs. BrokeOff start k' (render (followed ps qs))) (sym says) (subst (BrokeOff start k') (sym (render_grows ps p)) (broke_later start k k' (render ps) (growth ps p) text.wrote (broke ps text.stands)));
   }

@@ -18,6 +18,7 @@ pub mod Compares
 pub mod Tests
 pub mod Texts
 pub mod Goals
+pub mod Spaces
 pub mod Runs
 pub mod Turns
 pub mod Starts

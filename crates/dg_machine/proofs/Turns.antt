@@ -9,7 +9,7 @@ use Rattle.dg_meaning.specs.World.{Game}
 use Rattle.dg_mid.specs.declared.code.Op.{Op}
 use Rattle.dg_mid.specs.declared.code.Code.{Code}
 use Rattle.dg_mid.specs.Heights.{StatusOrdered}
-use Rattle.dg_mid.specs.State.{Status, Runs as RunsOf, Ended as EndedOf}
+use Rattle.dg_mid.specs.State.{Mid, Status, Runs as RunsOf, Ended as EndedOf}
 use Rattle.dg_mid.specs.Step.{Setting, setting, step, takes_goal, at_goal}
 use Rattle.dg_mid.specs.Runs.{after}
 use Rattle.dg_mid.proofs.Heights.{all_ordered}
@@ -18,7 +18,7 @@ use Rattle.dg_machine.specs.declared.now.Now.{Now}
 use Rattle.dg_machine.specs.declared.now.Now.TheVariants.{Runs, Enters, Resumes, Fails, Ended}
 use Rattle.dg_machine.specs.declared.memory.Memory.{Memory}
 use Rattle.dg_machine.specs.Built.{OpsBuilt}
-use Rattle.dg_machine.specs.Layout.{HasRoom}
+use Rattle.dg_machine.specs.Layout.{HasRoom, Holds, Roomy}
 use Rattle.dg_machine.specs.Standing.{Stands}
 use Rattle.dg_machine.specs.Running.{rests, HasText, DoesMarks, DoesGoal, Settles, IsAt, IsLost, IsSomewhere, HasEnded, IsLostWithin}
 use Rattle.dg_machine.proofs.Opens.{roomy}
@@ -79,10 +79,10 @@ module _ (code : Code) (g : Game) (l : Limits) (typed : List ℕ) where
   limited_at r Fails goals left s start k e other none h = absurd (cc)
 
   -- the output was lost at the next goal, within the budget
-  pub lost_within : (r : Memory) (ops : Bor (List Op)) (goals budget : ℕ) (s : Spacer) (start k k' : SinkView) → suc goals ≤ budget → IsLost code g l typed (suc goals) start k' → IsAt code g l typed r (Runs ops) goals s start k → IsLostWithin code g l typed budget r start k'
-  lost_within r ops goals budget s start k k' le lost h =
+  pub lost_within : (r new : Memory) (ops : Bor (List Op)) (goals budget : ℕ) (s : Spacer) (start k k' : SinkView) → suc goals ≤ budget → ((l : Limits) (m : Mid) → Holds code l r m → Roomy l new) → IsLost code g l typed (suc goals) start k' → IsAt code g l typed r (Runs ops) goals s start k → IsLostWithin code g l typed budget new start k'
+  lost_within r new ops goals budget s start k k' le room lost h =
       let at = goal_at code g l typed r ops (after set typed h.steps).now h.stands in
-      record { goals = suc goals; within = le; lost = lost; roomy = roomy code l at.mid r at.held }
+      record { goals = suc goals; within = le; lost = lost; roomy = room l at.mid at.held }
 
   -- the same of a machine that is told to be so
   pub finished : (r : Memory) (now : Now) (e : Ending) (n left : ℕ) (s : Spacer) (start k : SinkView) → now ≡ Ended e → IsAt code g l typed r now (n + 0) s start k → HasEnded code g l typed n e left r s start k
@@ -95,10 +95,10 @@ module _ (code : Code) (g : Game) (l : Limits) (typed : List ℕ) where
       let same : n + 0 ≡ n = omega arith in
       limited_at r now n left s start k e other none (subst (λ m. IsAt code g l typed r now m s start k) same h)
 
-  pub lost : (r new : Memory) (now : Now) (ops : Bor (List Op)) (n budget : ℕ) (s : Spacer) (start k k' : SinkView) → new ≡ r → now ≡ Runs ops → suc (n + 0) ≤ budget → ((goals : ℕ) → IsAt code g l typed r (Runs ops) goals s start k → IsLost code g l typed (suc goals) start k') → IsAt code g l typed r now (n + 0) s start k → IsLostWithin code g l typed budget new start k'
-  lost r new now ops n budget s start k k' same is le loses h =
+  pub lost : (r new : Memory) (now : Now) (ops : Bor (List Op)) (n budget : ℕ) (s : Spacer) (start k k' : SinkView) → ((l : Limits) (m : Mid) → Holds code l r m → Roomy l new) → now ≡ Runs ops → suc (n + 0) ≤ budget → ((goals : ℕ) → IsAt code g l typed r (Runs ops) goals s start k → IsLost code g l typed (suc goals) start k') → IsAt code g l typed r now (n + 0) s start k → IsLostWithin code g l typed budget new start k'
+  lost r new now ops n budget s start k k' room is le loses h =
       let here = subst (λ x. IsAt code g l typed r x (n + 0) s start k) is h in
-      subst (λ x. IsLostWithin code g l typed budget x start k') (sym same) (lost_within r ops (n + 0) budget s start k k' le (loses (n + 0) here) here)
+      lost_within r new ops (n + 0) budget s start k k' le room (loses (n + 0) here) here
 
 pub rests_else : (now : Now) → rests now ≡ true → ((ops : Bor (List Op)) → now ≡ Runs ops → ⊥) → ((e : Ending) → now ≡ Ended e → ⊥) → ⊥
 rests_else (Runs ops) e r x = r ops refl

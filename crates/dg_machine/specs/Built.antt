@@ -34,6 +34,7 @@ AreFree terms = All IsFree terms
 abbrev pub ActionBuilt : Action → Type 0
 ActionBuilt (action.Text name) = Unit {0}
 ActionBuilt (action.Gap kind) = Unit {0}
+ActionBuilt (action.GapN a) = IsFree a
 ActionBuilt (action.Equal a b) = IsFree a × IsFree b
 ActionBuilt (action.Test kind a) = IsFree a
 ActionBuilt (action.Arith f a b c) = IsFree a × IsFree b × IsFree c
@@ -85,6 +86,7 @@ IsBuilt code = (b : ℕ) → OpsBuilt (block_at code b)
 abbrev pub IsQuiet : Action → Type 0
 IsQuiet (action.Text name) = ⊥
 IsQuiet (action.Gap kind) = ⊥
+IsQuiet (action.GapN a) = ⊥
 IsQuiet a = Unit {0}
 
 -- Nor does an instruction.

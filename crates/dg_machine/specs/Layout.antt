@@ -245,6 +245,11 @@ pub record HasPut (code : Code) (l : Limits) (n : ℕ) (values : List Value) (m 
   pub held : Holds code l new (more n m)
   pub args : RefsAt (meaning_of new.arena) new.args.items values
 
+-- A number, or none, was read of a value, which took so many cells.
+pub record HasNumber (code : Code) (l : Limits) (n : ℕ) (meant : Option ℕ) (m : Mid) (new : Memory) (number : Option ℕ) : Type 0 where
+  pub held : Holds code l new (more n m)
+  pub number_is : number ≡ meant
+
 -- Values stand in the register of heads, and took so many cells.
 pub record HasHeads (code : Code) (l : Limits) (n : ℕ) (values : List Value) (m : Mid) (new : Memory) : Type 0 where
   pub held : Holds code l new (more n m)

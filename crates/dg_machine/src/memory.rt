@@ -17,6 +17,7 @@ ghost use Rattle.dg_mid.specs.declared.code.Code.{Code};
 ghost use Rattle.dg_mid.specs.State.{Mid, Place, Call as CallOf, Way as WayOf, vars_of};
 ghost use Rattle.dg_mid.specs.Step.{more, inside, within};
 ghost use Rattle.dg_machine.specs.Built.{IsFree, AreArguments};
+ghost use Rattle.dg_machine.specs.Comparing.{number_in};
 ghost use Rattle.dg_machine.specs.Links.{named, below};
 ghost use Rattle.dg_machine.specs.Measure.{way_left, choices_left};
 ghost use Rattle.dg_machine.specs.Passing.{IsFirst};
@@ -26,7 +27,7 @@ use crate::now::{Call, Choice, Frame, Inner, Row, Side, Way};
 use crate::refs::{MOST_ARGS, move_refs, push_refs};
 use crate::register::{write_both, write_one, write_terms, write_three};
 use crate::rows::make_row;
-use crate::terms::{are_ordered, made_of, match_heads, simple_value};
+use crate::terms::{are_ordered, made_of, match_heads, number_shown, simple_value};
 use crate::testing::test;
 use dg_arena::Arena;
 use dg_base::{ArithOp, CompareOp, Simple, Term, TestKind};
@@ -65,7 +66,7 @@ fn drop_to(choices: &mut Vec<Choice>, to: u32)
 
 impl Memory {
     ghost use Rattle.dg_machine.specs.Layout.{at_rest, HoldsWith, WayAt, CallAt, HasRoom, Holds, Took, Opened, WentBack, Roomy, Lacks, heap_in, MadeRule};
-    ghost use Rattle.dg_machine.specs.Layout.{HasFrameRoom, in_frame, Matched, Unmatched, MadeHead, HasPut, HasHeads};
+    ghost use Rattle.dg_machine.specs.Layout.{HasFrameRoom, in_frame, Matched, Unmatched, MadeHead, HasPut, HasHeads, HasNumber};
     ghost use Rattle.dg_machine.specs.Measure.{left_by};
 
     /// Memory for runs with these limits of heap and trail, which is taken at once.
@@ -309,6 +310,31 @@ impl Memory {
     {
         let value = self.arg(0);
         test(&mut self.arena, kind, value)
+    }
+
+    /// The number that the argument is.
+    pub fn number_arg(&self) -> Option<u16>
+        requires { (v : Value) × RefsAt (meaning_of self.now.arena) self.now.args.items (v ∷ []) }
+        ensures { (code : Code) → (l : Limits) → (m : Mid) → (v : Value) → Holds code l self.now m →
+            RefsAt (meaning_of self.now.arena) self.now.args.items (v ∷ []) → result ≡ number_in (walk m.state.subst v) }
+    {
+        let a = self.arg(0);
+        let first = self.arena.walk(a);
+        number_shown(first)
+    }
+
+    /// The number that the value of a term is, among the variables at hand.
+    pub fn number_of(&mut self, a: &Term) -> Result<Option<u16>, Full>
+        requires some { (code : Code) × (l : Limits) × (m : Mid) × Holds code l self.old m }
+        requires a_free { IsFree a.now }
+        ensures { (code : Code) → (l : Limits) → (m : Mid) → (p : CoreProgram) → Holds code l self.old m → MatchResult result
+            (HasNumber code l (cells p (a.now ∷ [])) (number_in (walk m.state.subst (value_of p (vars_of m.frames) a.now))) m self.new)
+            (λ _. Lacks (cells p (a.now ∷ [])) l m.state.heap self.new) }
+    {
+        match self.put_one(a) {
+            Err(full) => Err(full),
+            Ok(()) => Ok(self.number_arg()),
+        }
     }
 
     /// Whether the first two arguments are numbers in an order.

@@ -4,20 +4,21 @@ ghost use Rattle.dg_meaning.specs.World.{GapOf};
 ghost use Rattle.dg_spacing.specs.Gaps.{print_of};
 ghost use Rattle.dg_mid.specs.declared.code.Code.{Code as TheCode};
 ghost use Rattle.dg_mid.specs.declared.code.Op.TheVariants as op;
+ghost use Rattle.dg_mid.specs.declared.code.Action.TheVariants as action;
 ghost use Rattle.dg_mid.specs.Step.{at_goal, is_goal as takes_goal};
 ghost use Rattle.dg_mid.specs.Potential.{Tidy};
 ghost use Rattle.dg_machine.specs.declared.now.Now.TheVariants.{Runs};
-ghost use Rattle.dg_machine.specs.Built.{ActionBuilt, OpBuilt, OpsBuilt, IsBuilt, IsQuiet, IsQuietOp};
+ghost use Rattle.dg_machine.specs.Built.{IsFree, ActionBuilt, OpBuilt, OpsBuilt, IsBuilt, IsQuiet, IsQuietOp};
 ghost use Rattle.dg_base.specs.declared.run.Limits.{Limits};
 ghost use Rattle.dg_mid.specs.State.{Mid};
-ghost use Rattle.dg_machine.specs.Layout.{HasRoom, Holds};
+ghost use Rattle.dg_machine.specs.Layout.{HasRoom, Holds, Roomy};
 ghost use Rattle.dg_machine.specs.Standing.{DoesOp, DoesMark, HasStatus};
 ghost use Rattle.dg_machine.specs.Running.{rests, DoesMarks, DoesGoal, LosesGoal, IsSomewhere, Settles, Takes, Loses, Finishes, LosesRun};
 
 use crate::doing::code_at;
 use crate::memory::Memory;
 use crate::now::Now;
-use dg_base::{Ending, GapKind, Sink, WriteFault};
+use dg_base::{Ending, GapKind, Sink, Term, WriteFault};
 use dg_mid::{Action, Code, Op};
 use dg_spacing::{Event, Spacer};
 
@@ -162,6 +163,33 @@ fn do_quiet<'p>(memory: &mut Memory, code: &'p Code, op: &'p Op, rest: &'p [Op])
     }
 }
 
+/// As many spaces are printed as the value of a term says, or it fails where that is no number.
+fn print_spaces<'p, K: Sink>(
+    memory: &mut Memory,
+    ops: &'p [Op],
+    term: &'p Term,
+    rest: &'p [Op],
+    spacer: &mut Spacer,
+    sink: &mut K,
+) -> Result<Now<'p>, WriteFault>
+    requires some { (code : TheCode) × (l : Limits) × (m : Mid) × Holds code l memory.old m }
+    requires free { IsFree term.now }
+    requires whole { ops.now ≡ op.Do (action.GapN term.now) ∷ rest.now }
+    ensures ok { IfOk result (λ now. (code : TheCode) → DoesGoal code memory.old ops.now memory.new now spacer.old spacer.new
+        (K.view sink.old) (K.view sink.new)) }
+    ensures err { OnErr result ((code : TheCode) → LosesGoal code memory.old ops.now spacer.old (K.view sink.old) (K.view sink.new)) }
+    ensures roomy { OnErr result ((code : TheCode) → (l : Limits) → (m : Mid) → Holds code l memory.old m → Roomy l memory.new) }
+{
+    match memory.number_of(term) {
+        Err(_) => Ok(Now::Ended(Ending::HeapLimit)),
+        Ok(None) => Ok(Now::Fails),
+        Ok(Some(count)) => match spacer.event(sink, Event::Spaces(count)) {
+            Ok(()) => Ok(Now::Runs(rest)),
+            Err(fault) => Err(fault),
+        },
+    }
+}
+
 /// Does an action.
 fn do_action<'p, K: Sink>(
     memory: &mut Memory,
@@ -177,7 +205,7 @@ fn do_action<'p, K: Sink>(
     ensures ok { IfOk result (λ now. (code : TheCode) → DoesGoal code memory.old ops.now memory.new now spacer.old spacer.new
         (K.view sink.old) (K.view sink.new)) }
     ensures err { OnErr result ((code : TheCode) → LosesGoal code memory.old ops.now spacer.old (K.view sink.old) (K.view sink.new)) }
-    ensures same { OnErr result (memory.new ≡ memory.old) }
+    ensures roomy { OnErr result ((code : TheCode) → (l : Limits) → (m : Mid) → Holds code l memory.old m → Roomy l memory.new) }
 {
     match action {
         Action::Text(name) => match spacer.event(sink, Event::Piece(name.as_slice())) {
@@ -188,6 +216,7 @@ fn do_action<'p, K: Sink>(
             Ok(()) => Ok(Now::Runs(rest)),
             Err(fault) => Err(fault),
         },
+        Action::GapN(term) => print_spaces(memory, ops, term, rest, spacer, sink),
         action => Ok(act(memory, action, rest)),
     }
 }
@@ -207,7 +236,7 @@ fn goal_step<'p, K: Sink>(
     requires goal { at_goal ops.now ≡ true }
     ensures ok { IfOk result (λ now. DoesGoal code.now memory.old ops.now memory.new now spacer.old spacer.new (K.view sink.old) (K.view sink.new)) }
     ensures err { OnErr result (LosesGoal code.now memory.old ops.now spacer.old (K.view sink.old) (K.view sink.new)) }
-    ensures same { OnErr result (memory.new ≡ memory.old) }
+    ensures roomy { OnErr result ((l : Limits) → (m : Mid) → Holds code.now l memory.old m → Roomy l memory.new) }
 {
     match ops {
         [] => Ok(Now::Fails),
@@ -250,7 +279,7 @@ fn turn<'p, K: Sink>(
     requires some { IsSomewhere code.now memory.old (Runs ops) }
     ensures ok { IfOk result (λ now. Takes code.now 1 memory.old (Runs ops.entry) spacer.old (K.view sink.old) memory.new now spacer.new (K.view sink.new)) }
     ensures err { OnErr result (Loses code.now memory.old (Runs ops.entry) spacer.old (K.view sink.old) (K.view sink.new)) }
-    ensures same { OnErr result (memory.new ≡ memory.old) }
+    ensures roomy { OnErr result ((l : Limits) → (m : Mid) → Holds code.now l memory.old m → Roomy l memory.new) }
     ensures some { IfOk result (λ now. IsSomewhere code.now memory.new now) }
     ensures rests { IfOk result (λ now. rests now ≡ true) }
 {

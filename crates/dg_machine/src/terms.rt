@@ -5,7 +5,7 @@ ghost use Rattle.dg_base.specs.declared.program.Term.{out-Term};
 ghost use Rattle.dg_base.specs.declared.program.CoreProgram.{CoreProgram};
 ghost use Rattle.dg_meaning.specs.Values.{Value, leaf, value_of};
 ghost use Rattle.dg_meaning.specs.Unify.{solve};
-ghost use Rattle.dg_machine.specs.Comparing.{order_of, made_of};
+ghost use Rattle.dg_machine.specs.Comparing.{number_shown, order_of, made_of};
 ghost use Rattle.dg_unify.specs.Store.{Follows, label_of};
 ghost use Rattle.dg_arena.specs.Held.{meaning_of};
 ghost use Rattle.dg_machine.specs.Built.{IsPlain};
@@ -69,6 +69,16 @@ pub fn match_heads(arena: &mut Arena, args: &[Ref], heads: &[Ref]) -> Result<boo
         }
     }
     Ok(true)
+}
+
+/// The number that is shown.
+pub fn number_shown(view: View) -> Option<u16>
+    ensures { result ≡ number_shown view }
+{
+    match view {
+        View::Simple(Simple::Num(n)) => Some(n),
+        _ => None,
+    }
 }
 
 /// Whether what is shown are numbers in an order.

@@ -54,5 +54,5 @@ returns-in-Err-clause-err g c game l typed start at =
     let some = c.goals-test.true in
     let within = c.goals.invariant.within in
     let le : suc (c.args.steps - c.goals.left + 0) ≤ c.args.steps = omega (arith, some, within) in
-    lost c.args.code.now game l typed c.goals.memory c.turn.new.memory c.goals.now c.in-Runs.ops (c.args.steps - c.goals.left) c.args.steps c.goals.spacer start (g.K.Sink.view c.goals.sink) (g.K.Sink.view c.turn.new.sink) c.in-Err.ensures.same c.in-Runs.is le
+    lost c.args.code.now game l typed c.goals.memory c.turn.new.memory c.goals.now c.in-Runs.ops (c.args.steps - c.goals.left) c.args.steps c.goals.spacer start (g.K.Sink.view c.goals.sink) (g.K.Sink.view c.turn.new.sink) c.in-Err.ensures.roomy c.in-Runs.is le
     (λ goals here. c.in-Err.ensures.err game l typed goals start here) (c.goals.invariant.takes game l typed 0 start at)

@@ -13,3 +13,6 @@ returns-in-Ok-clause-ok g c = c.in-Ok.ensures.ok c.args.code.now
 
 pub returns-in-Err-clause-err : goal.returns-in-Err-clause-err
 returns-in-Err-clause-err g c = c.in-Err.ensures.err c.args.code.now
+
+pub returns-in-Err-clause-roomy : goal.returns-in-Err-clause-roomy
+returns-in-Err-clause-roomy g c l m h = c.in-Err.ensures.roomy c.args.code.now l m h
