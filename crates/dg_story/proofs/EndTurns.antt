@@ -32,6 +32,7 @@ use Rattle.dg_story.proofs.FailTurns.{Represented}
 -- The story ends in so many instructions, with this output.
 pub record Over (t : Telling) (bytes : List ℕ) (most : ℕ) (z : ZState) : Type 0 where
   pub count : ℕ
+  pub some : 1 ≤ count
   pub few : count ≤ most
   pub last : ZState
   pub output : last.output ≡ bytes
@@ -61,6 +62,7 @@ module _ (t : Telling) (story : List ℕ) (stands : Stands t.p story) (labels : 
       let over = stop t.p story stands labels pc placed from c room map.base memory2 r.typed text r.drawn y n (replaced cells 0 y) _ AtQuit (routine 0 (closing_acts FAILED_LINE)) b.kept b.holds refl (routines 8 (routine 0 (closing_acts FAILED_LINE)) refl) (omega arith) closing.runs in
       record {
         count = 4 + suc n;
+        some = omega arith;
         few = omega arith;
         last = over.0;
         output = over.1;

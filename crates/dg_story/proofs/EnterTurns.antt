@@ -33,7 +33,7 @@ use Rattle.dg_story.proofs.Staying.{SameBelow, alike, frames_stay, choices_stay}
 use Rattle.dg_story.proofs.JumpTurns.{mid_next}
 use Rattle.dg_story.proofs.FailTurns.{Represented, Turned}
 
-same_cell : (cells : ℕ → ℕ) (k x : ℕ) → replaced cells k x k ≡ x
+pub same_cell : (cells : ℕ → ℕ) (k x : ℕ) → replaced cells k x k ≡ x
 same_cell cells k x = rw (eq-eqb k k refl) refl
 
 -- the words with a frame more at a cell

@@ -33,3 +33,11 @@ pub mod EnterTurns
 pub mod LeaveTurns
 pub mod RuleTurns
 pub mod BareTurns
+pub mod Stepping
+pub mod Playing
+pub mod AskTurns
+pub mod ChooseTurns
+pub mod LimitTurns
+pub mod TextTurns
+pub mod StepTurns
+pub mod PointTurns

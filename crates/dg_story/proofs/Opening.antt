@@ -10,7 +10,7 @@ use Rattle.z_lang.specs.declared.act.Act.TheVariants as acts
 use Rattle.z_lang.specs.declared.act.Atom.TheVariants as atoms
 use Rattle.z_lang.specs.declared.act.Routine.{Routine}
 use Rattle.z_lang.specs.State.{State, Program}
-use Rattle.z_lang.specs.Runs.{Rests, Runs, rests, done}
+use Rattle.z_lang.specs.Runs.{Outcome, Rests, Runs, rests, done}
 use Rattle.z_lang.specs.Code.{code as code_of}
 use Rattle.z_lang.specs.Leads.{Leads}
 use Rattle.z_lang.specs.Standing.{Stands, IsKept, Context, HasRoom, Follows, ComesAt, state_at}
@@ -30,25 +30,26 @@ use Rattle.dg_story.specs.Cells.{with_cell, state}
 use Rattle.dg_story.proofs.Rules.{put_register, copies}
 use Rattle.dg_story.proofs.Mapped.{p, mapped, routine_is, globals_are}
 
-module _ (code : Code) (story : List ℕ) (is : IsStoryOf code true story) (dice typed : List ℕ) where
+module _ (code : Code) (keeps : Bool) (story : List ℕ) (is : IsStoryOf code keeps story) (dice typed : List ℕ) where
   abbrev q : Program
-  q = p code true story is dice
+  q = p code keeps story is dice
 
   abbrev image_first : ℕ
-  image_first = first_of (image_of (parts_of code true))
+  image_first = first_of (image_of (parts_of code keeps))
 
   -- the packed address of the routine that asks the entry
   abbrev pub asks_entry : ℕ
   asks_entry = q.names.routine (block_number (numbers_of code) 1)
 
-  abbrev first : Routine
-  first = routine 0 (start_acts true (block_number (numbers_of code) 1))
+  abbrev pub first : Routine
+  first = routine 0 (start_acts keeps (block_number (numbers_of code) 1))
 
-  abbrev c : Context
+  -- where it is called from
+  abbrev pub c : Context
   c = from_opening (end_at image_first call_first)
 
   first_there : q.routine_at (q.names.routine 0) ≡ Some first
-  first_there = routine_is code true story is dice 0 first refl
+  first_there = routine_is code keeps story is dice 0 first refl
 
   memory_is : memory_of story ≡ story
   memory_is = ap (λ (n : ℕ). take n story) is.assembled.header.length ∙ take-length story
@@ -56,10 +57,10 @@ module _ (code : Code) (story : List ℕ) (is : IsStoryOf code true story) (dice
   pub starts_kept : IsKept q.world.layout.base story (memory_of story)
   starts_kept = ap (λ (l : List ℕ). drop q.world.layout.base l) memory_is
 
-  abbrev at_first : ZState
+  abbrev pub at_first : ZState
   at_first = state_at (state (memory_of story) [] typed 0 []) c (8 * q.names.routine 0 + 1)
 
-  first_step : zstep q.world (start_state story typed) ≡ on at_first
+  pub first_step : zstep q.world (start_state story typed) ≡ on at_first
   first_step =
       let base = is.assembled.header.base in
       subst (λ (pc : ℕ). zstep q.world (state_at (start_of_play (memory_of story) typed) opening pc) ≡ on at_first) (sym is.assembled.header.start)
@@ -69,28 +70,43 @@ module _ (code : Code) (story : List ℕ) (is : IsStoryOf code true story) (dice
   pub room : (m t o : List ℕ) (d : ℕ) → HasRoom c (state m [] t d o) 8 100
   room m t o d = record { frames = omega arith; words = omega arith }
 
-  sets_next : Runs q 8 100 first.body first.body (state (memory_of story) [] typed 0 []) (Rests TRAMPOLINE) (state (with_cell (memory_of story) 0 asks_entry) [] typed 0 []) 1
-  sets_next =
-      done (copies q (state (memory_of story) [] typed 0 []) (state (with_cell (memory_of story) 0 asks_entry) [] typed 0 []) 16 (atoms.Routine (block_number (numbers_of code) 1)) asks_entry refl
-      (put_register q (state (memory_of story) [] typed 0 []) 16 asks_entry (globals_are code true story is dice) (omega arith) (omega arith)))
-      rests
-
   abbrev pub labels : ℕ → ℕ
   labels = label_from (8 * q.names.routine 0 + 1) (code_of first.body)
 
-  pub follows : Follows q story labels c (Rests TRAMPOLINE) (state (with_cell (memory_of story) 0 asks_entry) [] typed 0 []) 1 at_first
-  follows = (is.does.does dice 0 first refl).comes c 8 100 1 (state (memory_of story) [] typed 0 []) (state (with_cell (memory_of story) 0 asks_entry) [] typed 0 []) (Rests TRAMPOLINE) starts_kept (room (memory_of story) typed [] 0) sets_next
+  -- The first routine does what its acts mean.
+  pub first_follows : (n : ℕ) (o : Outcome) (s' : State) → Runs q 8 100 first.body first.body (state (memory_of story) [] typed 0 []) o s' n → Follows q story labels c o s' n at_first
+  first_follows n o s' runs = (is.does.does dice 0 first refl).comes c 8 100 n (state (memory_of story) [] typed 0 []) s' o starts_kept (room (memory_of story) typed [] 0) runs
+
+module _ (code : Code) (story : List ℕ) (is : IsStoryOf code true story) (dice typed : List ℕ) where
+  abbrev r : Program
+  r = p code true story is dice
+
+  abbrev asked : ℕ
+  asked = asks_entry code true story is dice typed
+
+  abbrev begun_first : List Act
+  begun_first = (first code true story is dice typed).body
+
+  sets_next : Runs r 8 100 begun_first begun_first (state (memory_of story) [] typed 0 []) (Rests TRAMPOLINE) (state (with_cell (memory_of story) 0 asked) [] typed 0 []) 1
+  sets_next =
+      done (copies r (state (memory_of story) [] typed 0 []) (state (with_cell (memory_of story) 0 asked) [] typed 0 []) 16 (atoms.Routine (block_number (numbers_of code) 1)) asked refl
+      (put_register r (state (memory_of story) [] typed 0 []) 16 asked (globals_are code true story is dice) (omega arith) (omega arith)))
+      rests
+
+  pub follows : Follows r story (labels code true story is dice typed) (c code true story is dice typed) (Rests TRAMPOLINE) (state (with_cell (memory_of story) 0 asked) [] typed 0 []) 1 (at_first code true story is dice typed)
+  follows = first_follows code true story is dice typed 1 (Rests TRAMPOLINE) (state (with_cell (memory_of story) 0 asked) [] typed 0 []) sets_next
 
   -- where the trampoline stands
   abbrev pub pc : ℕ
   pc = follows.comes.pc
 
-  pub placed : Placed story q.names labels pc (code_of (trampoline 16))
+  pub placed : Placed story r.names (labels code true story is dice typed) pc (code_of (trampoline 16))
   placed = follows.comes.placed
 
-  pub from : q.world.layout.base ≤ pc
+  pub from : r.world.layout.base ≤ pc
   from = follows.comes.from
 
   -- The run comes to it with two instructions, and the entry is asked next.
-  pub opens : Leads q.world 2 (start_state story typed) (state_at (state (with_cell (memory_of story) 0 asks_entry) [] typed 0 []) c pc)
-  opens = leads_step q.world 1 (start_state story typed) at_first (state_at (state (with_cell (memory_of story) 0 asks_entry) [] typed 0 []) c pc) first_step follows.comes.leads
+  pub opens : Leads r.world 2 (start_state story typed) (state_at (state (with_cell (memory_of story) 0 asked) [] typed 0 []) (c code true story is dice typed) pc)
+  opens =
+      leads_step r.world 1 (start_state story typed) (at_first code true story is dice typed) (state_at (state (with_cell (memory_of story) 0 asked) [] typed 0 []) (c code true story is dice typed) pc) (first_step code true story is dice typed) follows.comes.leads

@@ -30,7 +30,7 @@ use Rattle.dg_story.proofs.PlainNexts.{plain_next}
 use Rattle.dg_story.proofs.PlainSteps.{pred_rules}
 
 -- nothing is excluded where there is no first argument
-selected_none : (rs : List RuleCode) → selected None rs ≡ rs
+pub selected_none : (rs : List RuleCode) → selected None rs ≡ rs
 selected_none [] = refl
 selected_none (r ∷ rs) = refl
 

@@ -52,7 +52,7 @@ module _ (byte : ℕ) (bytes : List ℕ) (none : length (letters_from part.Nothi
   begun_few : length (letters_from part.Nothing (byte ∷ bytes)) ≤ characters (byte ∷ bytes)
   begun_few = by_small (nat_lt byte 128) refl
 
-letters_few : (p : Part) (bytes : List ℕ) → length (letters_from p bytes) ≤ begun_letters p + characters bytes
+pub letters_few : (p : Part) (bytes : List ℕ) → length (letters_from p bytes) ≤ begun_letters p + characters bytes
 letters_few p [] = omega arith
 letters_few part.Nothing (byte ∷ bytes) =
     let none = letters_few part.Nothing bytes in
@@ -112,7 +112,7 @@ text_bytes text =
       num_bytes (nat_lt (end_of text) 256),
     )
 
-text_many : (text : List ℕ) → length (text_acts text) ≤ 2 + characters text
+pub text_many : (text : List ℕ) → length (text_acts text) ≤ 2 + characters text
 text_many text =
     let few = letters_few part.Nothing text in
     omega (arith, length-append (separated text) (says text ++ keeps_end text), length-append (says text) (keeps_end text), separated_many text, says_many (letters_of text))

@@ -38,6 +38,15 @@ space_if b = if b then [] else 32 ∷ []
 abbrev call_if : Bool → List Act
 call_if b = if b then [] else acts.Call None (atoms.Routine 3) args.Zero ∷ []
 
+-- no space stands in front of a character that closes
+pub no_space : (last : Option ℕ) (first : ℕ) → closes first ≡ true → separator [] last first ≡ []
+no_space None first c = refl
+no_space (Some b) first c = by_open (opens b)
+  where
+    by_open : (x : Bool) → space_if (x || closes first) ≡ []
+    by_open true = refl
+    by_open false = ap space_if c
+
 module _ (p : Program) (f w : ℕ) (some : 1 ≤ f) (base : p.world.layout.base ≡ 20670) (s : State) (cells : ℕ → ℕ) (h : Holds p.world.layout s.memory cells) where
   nothing : (body more : List Act) (o : Outcome) (s' : State) (n : ℕ) → Runs p f w body more (with_output s []) o s' n → Runs p f w body more s o s' n
   nothing body more o s' n rest = subst (λ (out : List ℕ). Runs p f w body more (record s { output = out }) o s' n) (append-nil s.output) rest
@@ -45,7 +54,7 @@ module _ (p : Program) (f w : ℕ) (some : 1 ≤ f) (base : p.world.layout.base 
   -- ## The space in front
 
   -- the routine is called that prints a space, if there is one
-  calls_separate : (body more : List Act) (o : Outcome) (s' : State) (n : ℕ) → p.routine_at (p.names.routine 3) ≡ Some (record { locals = 0; body = SEPARATE_ACTS }) → (last : Option ℕ) → cells 6 ≡ kept_end last →
+  pub calls_separate : (body more : List Act) (o : Outcome) (s' : State) (n : ℕ) → p.routine_at (p.names.routine 3) ≡ Some (record { locals = 0; body = SEPARATE_ACTS }) → (last : Option ℕ) → cells 6 ≡ kept_end last →
       (first : ℕ) → closes first ≡ false → Runs p f w body more (with_output s (separator [] last first)) o s' n → LeadsOn p f w body (acts.Call None (atoms.Routine 3) args.Zero ∷ more) s o s' 4 n
   calls_separate body more o s' n at None e first c rest =
       let ne : cells 6 ≢ 2 = omega arith in
@@ -83,17 +92,9 @@ module _ (p : Program) (f w : ℕ) (some : 1 ≤ f) (base : p.world.layout.base 
       (first : ℕ) (text : List ℕ) → Runs p f w body more (with_output s (separator [] last first)) o s' n → LeadsOn p f w body (separated (first ∷ text) ++ more) s o s' 4 n
   separates body more o s' n at last e first text rest = by_closing (closes first) refl
     where
-      closed : (l : Option ℕ) → closes first ≡ true → separator [] l first ≡ []
-      closed None c = refl
-      closed (Some b) c = by_open (opens b)
-        where
-          by_open : (x : Bool) → space_if (x || closes first) ≡ []
-          by_open true = refl
-          by_open false = ap space_if c
-
       by_closing : (b : Bool) → closes first ≡ b → LeadsOn p f w body (call_if b ++ more) s o s' 4 n
       by_closing true c =
-          record { count = 0; few = omega arith; runs = nothing' (subst (λ (t : List ℕ). Runs p f w body more (with_output s t) o s' n) (closed last c) rest) }
+          record { count = 0; few = omega arith; runs = nothing' (subst (λ (t : List ℕ). Runs p f w body more (with_output s t) o s' n) (no_space last first c) rest) }
         where
           nothing' : Runs p f w body more (with_output s []) o s' n → Runs p f w body more s o s' (0 + n)
           nothing' r = let q : n ≡ 0 + n = omega arith in subst (λ (k : ℕ). Runs p f w body more s o s' k) q (nothing body more o s' n r)

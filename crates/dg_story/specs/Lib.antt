@@ -14,3 +14,4 @@ pub mod PlainCode
 pub mod Ends
 pub mod From
 pub mod Represents
+pub mod Stepping
