@@ -41,3 +41,6 @@ pub mod LimitTurns
 pub mod TextTurns
 pub mod StepTurns
 pub mod PointTurns
+pub mod Happened
+pub mod PointsTell
+pub mod Agreeing

@@ -24,6 +24,14 @@ pub story_fits : (p : CoreProgram) → refusal_of p ≡ None → story_size p �
 story_fits p e =
     ltb-false 440000 (story_size p) (last_false (is_plain p) (nat_lt 8000 (world_size p)) (nat_lt 20000 (words_size p.words)) (nat_lt 440000 (story_size p)) e)
 
+first_true : (a b c d : Bool) → (if not a then Some NotBuiltYet else (if b then Some WorldTooLarge else (if c then Some WordsTooLarge else (if d then Some StoryTooLarge else None)))) ≡ None → a ≡ true
+first_true true b c d e = refl
+first_true false b c d e = absurd (search rules)
+
+-- All rules are plain, to which a run may come.
+pub rules_plain : (p : CoreProgram) → refusal_of p ≡ None → is_plain p ≡ true
+rules_plain p e = first_true (is_plain p) (nat_lt 8000 (world_size p)) (nat_lt 20000 (words_size p.words)) (nat_lt 440000 (story_size p)) e
+
 rules_least : (rs : List Rule) → 100 * length rs ≤ rules_size rs
 rules_least [] = omega arith
 rules_least (r ∷ rs) = omega (arith, rules_least rs)
