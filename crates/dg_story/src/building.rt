@@ -1,6 +1,7 @@
 // The story of a program.
 ghost use Rattle.std.specs.Prelude.{◌≡◌, ◌≤◌, None, IfOk, IsErrOf};
 ghost use Rattle.dg_base.specs.Sound.{IsSound};
+ghost use Rattle.dg_story.specs.Agrees.{Agrees};
 ghost use Rattle.dg_story.specs.Refusals.{refusal_of};
 ghost use Rattle.dg_story.specs.Numbers.{too_large};
 ghost use Rattle.dg_story.specs.Built as spec;
@@ -9,7 +10,7 @@ use crate::numbering::numbers_of;
 use crate::refusal::{BuildFault, BuildRefusal};
 use crate::routines::all_routines;
 use dg_base::{CoreProgram, Pred};
-use dg_mid::{Code, let_go, to_mid};
+use dg_mid::{Code, code_costs_its_work, code_moves_on, code_runs_as_searched, let_go, to_mid};
 use dg_world::World;
 use sqlite_items::Items;
 use std::alloc::{AllocError, Global};
@@ -99,8 +100,12 @@ pub fn build_story(alloc: Global, program: CoreProgram) -> Result<Built, BuildFa
     requires sound { IsSound program }
     requires fits { refusal_of program ≡ None }
     ensures built { IfOk result (λ built. spec.IsBuilt program built) }
+    ensures agrees { IfOk result (λ built. Agrees built.story.items program) }
     ensures fits { IsErrOf result too_large → ⊥ }
 {
+    code_runs_as_searched();
+    code_costs_its_work();
+    code_moves_on();
     let keeps = keeps_within(alloc, &program);
     let rule_routines = rule_count(program.preds.as_slice());
     let code = to_mid(program, alloc)?;
