@@ -37,7 +37,8 @@ use Rattle.z_lang.specs.WholeRuns.{IsTurn}
 use Rattle.z_lang.proofs.Stretches.{ends_step}
 use Rattle.z_story.specs.Parts.{image_of}
 use Rattle.dg_story.specs.declared.support.TheConstants.{NEWLINE_ACTS, KEEP_LINE}
-use Rattle.dg_story.specs.Agrees.{Fits, Agrees, IsWhole, IsLimitText, by_limit, of_limit}
+use Rattle.dg_mid.specs.Step.{setting}
+use Rattle.dg_story.specs.Agrees.{story_limits, Fits, Agrees, IsWhole, IsLimitText, by_limit, of_limit}
 use Rattle.dg_story.specs.Built.{parts_of, keeps_within, IsStoryOf}
 use Rattle.dg_story.specs.Cells.{replaced, with_cell, state}
 use Rattle.dg_story.specs.Numbers.{numbers_of, block_number}
@@ -51,9 +52,10 @@ use Rattle.dg_story.proofs.Mapped.{p, mapped, routine_is}
 use Rattle.dg_story.proofs.Opening as opening
 use Rattle.dg_story.proofs.Zeros.{starts_holding}
 use Rattle.dg_story.proofs.TextActs.{LeadsOn}
-use Rattle.dg_story.proofs.Closings.{closing_runs}
-use Rattle.dg_story.proofs.AsciiLines.{ascii_printable, ascii_encoded}
+use Rattle.dg_story.proofs.Closings.{line_runs}
+use Rattle.dg_story.proofs.AsciiLines.{keep_ascii}
 use Rattle.dg_story.proofs.PlainSteps.{pred_rules}
+use Rattle.dg_story.proofs.Stepping.{plain_begins}
 use Rattle.dg_story.proofs.JumpTurns.{block_in}
 use Rattle.dg_story.proofs.FitsBy.{fits}
 use Rattle.dg_story.proofs.Playing.{Playing}
@@ -112,7 +114,7 @@ module _ (program : CoreProgram) (code : Code) (sound : IsSound program) (plain 
     asked = opening.asks_entry code true story is dice typed
 
     first_in : StatusIn t (replaced zeros 0 asked) [] (points g t typed 0).now
-    first_in = (record { heap = refl; few = omega arith; frames = refl; choice = refl; choices = tt; last = refl }, record { number = block_number (numbers_of code) 1; ops_are = block_in program t rules 1 starts; next = refl })
+    first_in = (record { heap = refl; few = omega arith; frames = refl; choice = refl; choices = tt; last = refl }, record { number = block_number (numbers_of code) 1; ops_are = block_in t 1 (plain_begins program (setting g code story_limits) rules (block_at code 1) starts); next = refl })
 
     first : Before g t typed codes.answers rules starts story called at plays 0 (start_state story typed)
     unfolding render
@@ -125,13 +127,15 @@ module _ (program : CoreProgram) (code : Code) (sound : IsSound program) (plain 
           there = state_at (state memory [] typed 0 []) called at;
           leads = opening.opens code story is dice typed;
           represents = record {
-            memory = memory;
-            typed = typed;
-            drawn = 0;
             cells = replaced zeros 0 asked;
-            is = refl;
-            kept = (opening.follows code story is dice typed).kept;
-            holds = holds_with t.p.world.layout (memory_of story) zeros 0 asked (starts_holding code true story is dice) (omega (arith, base)) (plays.words (block_number (numbers_of code) 1));
+            lands = record {
+              memory = memory;
+              typed = typed;
+              drawn = 0;
+              is = refl;
+              kept = (opening.follows code story is dice typed).kept;
+              holds = holds_with t.p.world.layout (memory_of story) zeros 0 asked (starts_holding code true story is dice) (omega (arith, base)) (plays.words (block_number (numbers_of code) 1));
+            };
             stands_for = first_in;
           };
           printed = refl;
@@ -178,16 +182,14 @@ module _ (program : CoreProgram) (code : Code) (sound : IsSound program) (plain 
     abbrev from : State
     from = state (memory_of story) [] typed 0 []
 
-    line_runs : LeadsOn q 8 100 (closing_acts KEEP_LINE) (closing_acts KEEP_LINE) from (Stops AtQuit) (with_output from (KEEP_LINE ++ 10 ∷ [])) 4 14
-    line_runs =
-        closing_runs q 8 100 (omega arith) (mapped code false story is dice).base from (λ k. 0) (starts_holding code false story is dice) (routine_is code false story is dice 2 (routine 0 NEWLINE_ACTS) refl) None refl KEEP_LINE KEEP_LINE
-        (ascii_printable KEEP_LINE (omega arith, omega arith, (omega arith, omega arith, (omega arith, omega arith, (omega arith, omega arith, (omega arith, omega arith, (omega arith, omega arith, (omega arith, omega arith, (omega arith, omega arith, (omega arith, omega arith, (omega arith, omega arith, (omega arith, omega arith, (omega arith, omega arith, tt)))))))))))))
-        (ascii_encoded KEEP_LINE (omega arith, omega arith, (omega arith, omega arith, (omega arith, omega arith, (omega arith, omega arith, (omega arith, omega arith, (omega arith, omega arith, (omega arith, omega arith, (omega arith, omega arith, (omega arith, omega arith, (omega arith, omega arith, (omega arith, omega arith, (omega arith, omega arith, tt)))))))))))))
+    keep_runs : LeadsOn q 8 100 (closing_acts KEEP_LINE) (closing_acts KEEP_LINE) from (Stops AtQuit) (with_output from (KEEP_LINE ++ 10 ∷ [])) 4 14
+    keep_runs =
+        line_runs q 8 100 (omega arith) (mapped code false story is dice).base from (λ k. 0) (starts_holding code false story is dice) (routine_is code false story is dice 2 (routine 0 NEWLINE_ACTS) refl) None refl KEEP_LINE keep_ascii
 
     turns_over : (k : ℕ) (z : ZState) → z ≡ start_state story typed → IsTurn q.world (λ e. e) closing (λ a y. y ≡ start_state story typed) k z
     unfolding render
     turns_over k z e =
-        let runs = line_runs in
+        let runs = keep_runs in
         let few = runs.few in
         let n = runs.count + 14 in
         let f = (opening.first_follows code false story is dice typed n (Stops AtQuit) (with_output from (KEEP_LINE ++ 10 ∷ [])) runs.runs).comes in

@@ -1,11 +1,12 @@
 -- The lines of closings are characters of ASCII.
-use Rattle.std.proofs.Common.{◌≡◌, ◌≢◌, ℕ, zero, suc, ◌+◌, ◌<◌, ◌≤◌, List, [], ◌∷◌, ◌++◌, refl, sym, ap, ◌∙◌, arith}
+use Rattle.std.proofs.Common.{◌≡◌, ℕ, ◌<◌, ◌≤◌, List, [], ◌∷◌, ◌++◌, refl, ap, ◌∙◌, arith}
 use Rattle.std.specs.Prelude.{encode_utf8_all}
 use Rattle.std.specs.List.{All}
 use Rattle.std.proofs.lemmas.Bool.{lt-ltb}
 use Rattle.std.proofs.lemmas.List.Elements.{All-cons}
 use Rattle.std.proofs.Math.Utf8.{encode, low_scalar}
 use Rattle.dg_base.specs.Sound.{IsPrintable}
+use Rattle.dg_story.specs.declared.support.TheConstants.{FAILED_LINE, HEAP_LINE, KEEP_LINE}
 
 -- printable characters of ASCII
 abbrev pub AreAscii : List ℕ → Type 0
@@ -28,3 +29,14 @@ ascii_encoded [] h = refl
 ascii_encoded (c ∷ cs) h =
     let to = h.1 in
     ap (λ (l : List ℕ). l ++ encode_utf8_all cs) (itself c (omega arith)) ∙ ap (λ (l : List ℕ). c ∷ l) (ascii_encoded cs h.2)
+
+-- ## The lines of closings
+
+pub failed_ascii : AreAscii FAILED_LINE
+failed_ascii = (omega arith, omega arith, (omega arith, omega arith, (omega arith, omega arith, (omega arith, omega arith, (omega arith, omega arith, (omega arith, omega arith, (omega arith, omega arith, (omega arith, omega arith, tt))))))))
+
+pub heap_ascii : AreAscii HEAP_LINE
+heap_ascii = (omega arith, omega arith, (omega arith, omega arith, (omega arith, omega arith, (omega arith, omega arith, (omega arith, omega arith, (omega arith, omega arith, (omega arith, omega arith, (omega arith, omega arith, (omega arith, omega arith, (omega arith, omega arith, (omega arith, omega arith, (omega arith, omega arith, tt))))))))))))
+
+pub keep_ascii : AreAscii KEEP_LINE
+keep_ascii = (omega arith, omega arith, (omega arith, omega arith, (omega arith, omega arith, (omega arith, omega arith, (omega arith, omega arith, (omega arith, omega arith, (omega arith, omega arith, (omega arith, omega arith, (omega arith, omega arith, (omega arith, omega arith, (omega arith, omega arith, (omega arith, omega arith, tt))))))))))))

@@ -13,15 +13,15 @@ use Rattle.z_lang.specs.Runs.{done, returns}
 use Rattle.z_lang.specs.Standing.{Context}
 use Rattle.dg_story.specs.Numbers.{numbers_of, block_number, pred_number, first_rule, pred_starts, number_or_fail}
 use Rattle.dg_story.specs.Instructions.{ask_acts}
-use Rattle.dg_story.specs.Routines.{going, ops_routines, rules_routines, all_routines}
+use Rattle.dg_story.specs.Routines.{going, rules_routines, all_routines}
 use Rattle.dg_story.specs.Cells.{with_cell, replaced, state}
 use Rattle.dg_story.specs.From.{From}
 use Rattle.dg_story.specs.Represents.{Telling, choice_word, MidIn, CallsIn, at_number, at_block}
 use Rattle.dg_story.proofs.Rules.{copies, puts}
 use Rattle.dg_story.proofs.RunTime.{other_cell, reg}
 use Rattle.dg_story.proofs.Places.{pred_from}
-use Rattle.dg_story.proofs.FailTurns.{Represented}
-use Rattle.dg_story.proofs.Playing.{Playing, Lands, Moved, Comes, landed, comes_with, moves, mid_as}
+use Rattle.dg_story.proofs.JumpTurns.{OpsFrom}
+use Rattle.dg_story.proofs.Playing.{Playing, Lands, Represented, Moved, Comes, comes_with, moves, mid_as}
 use Rattle.dg_story.specs.Stepping.{SameMid}
 
 -- ## Predicates
@@ -77,12 +77,12 @@ module _ (t : Telling) (story : List ℕ) (c : Context) (pc : ℕ) (plays : Play
       second.holds (plays.words pred)
 
   module _ (prints : List Print) (m m' : Mid) (call : Call) (pred : ℕ) (z : ZState) (same : SameMid m m')
-      (there : (k : ℕ) → From (all_routines t.code t.keeps) k (ops_routines (numbers_of t.code) k m.ops) → slice_get (all_routines t.code t.keeps) k ≡ Some (going (ask_acts (block_number (numbers_of t.code) call.next)) (pred_number (numbers_of t.code) pred)))
+      (there : (k : ℕ) → OpsFrom t k m.ops → slice_get (all_routines t.code t.keeps) k ≡ Some (going (ask_acts (block_number (numbers_of t.code) call.next)) (pred_number (numbers_of t.code) pred)))
       (r : Represented t story c pc prints (Runs m) z) where
     asked : Moved t story c pc (render prints) (asked_cells r.cells (at_block t call.next) (at_number t (pred_number (numbers_of t.code) pred))) 5 z
     asked =
         let here = r.stands_for.1 in
-        ask_moves (render prints) r.cells z (landed t story c pc prints (Runs m) z r) here.number (block_number (numbers_of t.code) call.next) (pred_number (numbers_of t.code) pred) here.next (there here.number here.ops_are)
+        ask_moves (render prints) r.cells z r.lands here.number (block_number (numbers_of t.code) call.next) (pred_number (numbers_of t.code) pred) here.next (there here.number here.ops_are)
 
     -- A query goes on with the first rule of its predicate.
     pub turn_asks : (x : RuleCode) (xs : List RuleCode) → rules_at t.code pred ≡ x ∷ xs → cut_choices call.cut m.choices ≡ m.choices → Comes t story c pc prints (Resumes (Calls call (x ∷ xs)) m') 5 z

@@ -1,17 +1,16 @@
 -- One routine after another: a turn of the routine that calls the one that comes next.
-use Rattle.std.proofs.Common.{◌≡◌, ℕ, zero, suc, ◌+◌, ◌*◌, ◌<◌, ◌≤◌, List, [], ◌∷◌, Some, refl, sym, ap, ◌∙◌, subst, arith}
+use Rattle.std.proofs.Common.{◌≡◌, ℕ, suc, ◌+◌, ◌<◌, ◌≤◌, List, [], Some, ap, ◌∙◌, arith}
 use Rattle.z_model.specs.declared.end.Halt.{Halt}
 use Rattle.z_code.specs.Targets.{Placed}
-use Rattle.z_lang.specs.declared.act.Atom.TheVariants as atoms
 use Rattle.z_lang.specs.declared.act.Routine.{Routine}
-use Rattle.z_lang.specs.State.{State, Program, value, put}
+use Rattle.z_lang.specs.State.{State, Program}
 use Rattle.z_lang.specs.Runs.{Returns, Stops, Runs, entered, left_with}
 use Rattle.z_lang.specs.Code.{code}
 use Rattle.z_lang.specs.Leads.{Leads}
 use Rattle.z_lang.specs.Standing.{Stands, IsKept, Context, HasRoom, state_at, ComesTo}
-use Rattle.z_lang.proofs.Trampoline.{trampoline, Bounces, bounces, stops}
+use Rattle.z_lang.proofs.Trampoline.{trampoline, bounces, stops}
 use Rattle.dg_story.specs.Cells.{with_cell, replaced, Holds, state}
-use Rattle.dg_story.proofs.Rules.{register, IsPut, puts}
+use Rattle.dg_story.proofs.Rules.{register, puts}
 
 -- A turn of the player, where the routine that comes next returns another.
 pub record Bounced (p : Program) (story : List ℕ) (c : Context) (pc : ℕ) (memory typed output memory' typed' output' : List ℕ) (drawn drawn' y n : ℕ) (cells' : ℕ → ℕ) : Type 0 where

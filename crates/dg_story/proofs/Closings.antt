@@ -1,12 +1,11 @@
 -- What the routines do that end a run.
-use Rattle.std.proofs.Common.{◌≡◌, ◌≢◌, ℕ, zero, suc, ◌+◌, ◌*◌, ◌<◌, ◌≤◌, Bool, true, false, List, [], ◌∷◌, ◌++◌, length, map, Option, Some, None, refl, sym, ap, ◌∙◌, subst, arith, append_assoc}
-use Rattle.std.specs.Prelude.{if◌then◌else◌, encode_utf8_all, codes}
+use Rattle.std.proofs.Common.{◌≡◌, ◌≢◌, ℕ, ◌+◌, ◌≤◌, Bool, true, false, List, [], ◌∷◌, ◌++◌, length, map, Option, Some, None, refl, sym, ap, ◌∙◌, subst, arith, append_assoc}
+use Rattle.std.specs.Prelude.{encode_utf8_all}
 use Rattle.std.specs.List.{All}
 use Rattle.std.proofs.lemmas.List.{append-nil}
 use Rattle.dg_base.specs.Sound.{IsPrintable}
-use Rattle.dg_base.specs.declared.run.Ending.TheVariants as endings
 use Rattle.dg_meaning.specs.Render.{opens}
-use Rattle.dg_meaning.specs.Transcript.{newline_behind, line_of}
+use Rattle.dg_meaning.specs.Transcript.{newline_behind}
 use Rattle.z_model.specs.declared.end.Halt.TheVariants.{AtQuit}
 use Rattle.z_lang.specs.declared.act.Atom.TheVariants as atoms
 use Rattle.z_lang.specs.declared.act.Args.TheVariants as args
@@ -15,13 +14,14 @@ use Rattle.z_lang.specs.declared.act.Act.{Act}
 use Rattle.z_lang.specs.declared.act.Act.TheVariants as acts
 use Rattle.z_lang.specs.State.{State, Program}
 use Rattle.z_lang.specs.Acts.{with_output}
-use Rattle.z_lang.specs.Runs.{Outcome, Runs, Stops, Returns, done, calls, quits}
-use Rattle.dg_story.specs.declared.support.TheConstants.{NEWLINE_ACTS, DONE_ACTS, FAILED_LINE, HEAP_LINE, KEEP_LINE}
-use Rattle.dg_story.specs.Texts.{letters_of, say, says, end_with, closing_acts}
+use Rattle.z_lang.specs.Runs.{Outcome, Runs, Stops, done, calls, quits}
+use Rattle.dg_story.specs.declared.support.TheConstants.{NEWLINE_ACTS, DONE_ACTS}
+use Rattle.dg_story.specs.Texts.{letters_of, say, says, closing_acts}
 use Rattle.dg_story.specs.Ends.{kept_end}
 use Rattle.dg_story.specs.Cells.{Holds}
 use Rattle.dg_story.proofs.Rules.{says as prints_so}
 use Rattle.dg_story.proofs.RunTime.{newline_none, newline_some, newline_printed}
+use Rattle.dg_story.proofs.AsciiLines.{AreAscii, ascii_printable, ascii_encoded}
 use Rattle.dg_story.proofs.TextRuns.{letters_are, prints_all}
 use Rattle.dg_story.proofs.TextActs.{end_code, LeadsOn}
 
@@ -69,3 +69,7 @@ module _ (p : Program) (f w : ℕ) (some : 1 ≤ f) (base : p.world.layout.base 
       let said = prints_all p f w body rest (Stops AtQuit) end 2 cs first all newline in
       let said2 = subst (λ (l : List ℕ). Runs p f w body (map say l ++ rest) first (Stops AtQuit) end (length cs + 2)) (sym letters) said in
       calls_newline body (says line ++ rest) (Stops AtQuit) end (length cs + 2) last e said2
+
+  -- So it is with a line of ASCII.
+  pub line_runs : (last : Option ℕ) → cells 6 ≡ kept_end last → (line : List ℕ) → AreAscii line → LeadsOn p f w (closing_acts line) (closing_acts line) s (Stops AtQuit) (with_output s (newline_behind last ++ (line ++ 10 ∷ []))) 4 (length line + 2)
+  line_runs last e line ascii = closing_runs last e line line (ascii_printable line ascii) (ascii_encoded line ascii)

@@ -1,5 +1,5 @@
 -- The routines of rules and blocks fit.
-use Rattle.std.proofs.Common.{◌≡◌, ℕ, zero, suc, ◌+◌, ◌-◌, ◌*◌, ◌/◌, ◌%◌, ◌<◌, ◌≤◌, List, [], ◌∷◌, ◌++◌, length, map, Option, Some, None, refl, sym, ap, ◌∙◌, subst, arith, length-append}
+use Rattle.std.proofs.Common.{◌≡◌, ℕ, zero, suc, ◌+◌, ◌/◌, ◌<◌, ◌≤◌, List, [], ◌∷◌, ◌++◌, length, map, Option, Some, None, refl, arith}
 use Rattle.std.specs.Prelude.{Bool, true, false, if◌then◌else◌, nat_lt}
 use Rattle.std.specs.List.{slice_get}
 use Rattle.std.proofs.lemmas.Bool.{ltb-true}
@@ -11,11 +11,9 @@ use Rattle.dg_mid.specs.declared.code.Block.{Block}
 use Rattle.dg_mid.specs.declared.code.RuleCode.{RuleCode}
 use Rattle.dg_mid.specs.declared.code.Code.{Code}
 use Rattle.z_code.specs.Open.{Counts}
-use Rattle.z_lang.specs.declared.act.Act.{Act}
 use Rattle.z_lang.specs.declared.act.Act.TheVariants as acts
 use Rattle.z_lang.specs.declared.act.Args.TheVariants as args
 use Rattle.z_lang.specs.declared.act.Atom.TheVariants as atoms
-use Rattle.z_lang.specs.declared.act.Print.TheVariants as prints
 use Rattle.z_lang.specs.Sizes.{act_bytes}
 use Rattle.z_story.specs.Parts.{AreRoutines}
 use Rattle.dg_story.specs.declared.numbering.Numbers.{Numbers}
@@ -24,8 +22,8 @@ use Rattle.dg_story.specs.declared.texts.Part.TheVariants as part
 use Rattle.dg_story.specs.Texts.{begun, read_byte, with_letter, letters_from, say, says, letters_of, first_closes, end_with, end_of, separated, text_acts}
 use Rattle.dg_story.specs.Numbers.{op_size, ops_size, blocks_size, rules_count, block_starts, first_rule, pred_starts, numbers_of, number_or_fail, block_number, pred_number, routine_count}
 use Rattle.dg_story.specs.Instructions.{ask_acts, op_acts, op_way}
-use Rattle.dg_story.specs.Routines.{choosing, rule_routine, rules_routines, preds_routines, op_routines, ops_routines, blocks_routines}
-use Rattle.dg_story.proofs.Lines.{IsLine, AreLines, lines_append, going_fits, pieces_fit, routines_append}
+use Rattle.dg_story.specs.Routines.{choosing, rules_routines, preds_routines, op_routines, ops_routines, blocks_routines}
+use Rattle.dg_story.proofs.Lines.{AreLines, lines_append, going_fits, pieces_fit, routines_append}
 
 -- ## Numbers
 

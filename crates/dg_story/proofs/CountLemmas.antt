@@ -1,5 +1,5 @@
 -- What bodies and terms count, by their parts.
-use Rattle.std.proofs.Common.{◌≡◌, ℕ, suc, ◌+◌, ◌-◌, ◌*◌, ◌≤◌, length, take, get_or, List, [], ◌∷◌, ◌++◌, refl, sym, ap, ◌∙◌, arith, length-append}
+use Rattle.std.proofs.Common.{◌≡◌, ◌+◌, ◌-◌, ◌*◌, ◌≤◌, length, take, get_or, List, [], ◌∷◌, ◌++◌, refl, sym, ap, ◌∙◌, arith, length-append}
 use Rattle.std.specs.List.{flat_map}
 use Rattle.std.proofs.lemmas.List.{take_more, take_all, append-nil}
 use Rattle.dg_base.specs.declared.program.Goal.{Goal, out-Goal}
@@ -12,7 +12,7 @@ use Rattle.dg_base.specs.Goals.{goals_within, goals_of}
 use Rattle.dg_base.proofs.NodeLemmas.{inside, within_out}
 use Rattle.dg_story.specs.declared.counting.Left.{Left}
 use Rattle.dg_story.specs.Sizes.{lists_held, goals_size, body_size}
-use Rattle.dg_story.specs.Counting.{part_size, left_size, lists_size, whole_size}
+use Rattle.dg_story.specs.Counting.{left_size, lists_size, whole_size}
 
 pub left_append : (xs ys : List Left) → left_size (xs ++ ys) ≡ left_size xs + left_size ys
 left_append [] ys = omega arith

@@ -1,37 +1,27 @@
 -- A rule is entered: one turn of the story.
-use Rattle.std.proofs.Common.{◌≡◌, ◌≢◌, ℕ, zero, suc, ◌+◌, ◌<◌, ◌≤◌, List, [], ◌∷◌, ◌++◌, None, Some, refl, sym, ap, ◌∙◌, subst, arith}
-use Rattle.std.specs.Prelude.{slice_get}
+use Rattle.std.proofs.Common.{◌≡◌, ◌≢◌, ℕ, suc, ◌+◌, ◌<◌, ◌≤◌, List, [], ◌∷◌, ◌++◌, None, refl, sym, ap, ◌∙◌, subst, arith}
 use Rattle.std.proofs.lemmas.Bool.{eq-eqb}
 use Rattle.dg_meaning.specs.World.{Print}
 use Rattle.dg_meaning.specs.Render.{render}
 use Rattle.dg_mid.specs.declared.code.Op.{Op}
 use Rattle.dg_mid.specs.declared.code.Op.TheVariants as op
-use Rattle.dg_mid.specs.State.{Place, Frame, Call, Choice, Mid, Status, Runs, Enters, cut_choices}
+use Rattle.dg_mid.specs.State.{Place, Frame, Call, Choice, Mid, Runs, Enters, cut_choices}
 use Rattle.z_model.specs.Run.{ZState}
-use Rattle.z_code.specs.Targets.{Placed}
 use Rattle.z_lang.specs.declared.act.Act.{Act}
 use Rattle.z_lang.specs.declared.act.Act.TheVariants as acts
 use Rattle.z_lang.specs.declared.act.Args.TheVariants as args
 use Rattle.z_lang.specs.declared.act.Atom.TheVariants as atoms
-use Rattle.z_lang.specs.declared.act.Routine.{Routine}
-use Rattle.z_lang.specs.State.{State, Program}
 use Rattle.z_lang.specs.Runs.{Runs as Leading, Returns, calls, returns}
-use Rattle.z_lang.specs.Code.{code as code_of}
-use Rattle.z_lang.specs.Leads.{Leads}
-use Rattle.z_lang.specs.Standing.{Stands, IsKept, Context, HasRoom, state_at}
-use Rattle.z_lang.proofs.Trampoline.{trampoline}
+use Rattle.z_lang.specs.Standing.{Context}
 use Rattle.dg_story.specs.declared.support.TheConstants.{ENTER_ACTS}
-use Rattle.dg_story.specs.Numbers.{numbers_of}
-use Rattle.dg_story.specs.Routines.{routine, going, ops_routines, all_routines}
-use Rattle.dg_story.specs.Cells.{heap_at, with_cell, replaced, Holds, IsMapped, state}
-use Rattle.dg_story.specs.From.{From}
-use Rattle.dg_story.specs.Represents.{Telling, choice_word, FrameIn, FramesIn, MidIn, OpsIn, ChoicesIn, StatusIn, at_number, at_block}
-use Rattle.dg_story.proofs.RunTime.{other_cell, enters, entered_memory, entered_cells, entered_holds}
-use Rattle.dg_story.proofs.Bounces.{bounce}
+use Rattle.dg_story.specs.Routines.{routine, going}
+use Rattle.dg_story.specs.Cells.{heap_at, replaced, state}
+use Rattle.dg_story.specs.Represents.{Telling, choice_word, FrameIn, FramesIn, MidIn, OpsIn, ChoicesIn, at_number, at_block}
+use Rattle.dg_story.proofs.RunTime.{other_cell, enters, entered_memory, entered_holds}
 use Rattle.dg_story.proofs.Places.{op_here, ops_behind}
 use Rattle.dg_story.proofs.Staying.{SameBelow, alike, frames_stay, choices_stay}
-use Rattle.dg_story.proofs.JumpTurns.{mid_next}
-use Rattle.dg_story.proofs.FailTurns.{Represented, Turned}
+use Rattle.dg_story.proofs.Playing.{Playing, Represented, Comes, comes_with, moves, mid_next}
+use Rattle.dg_story.proofs.JumpTurns.{OpsFrom, ops_at}
 
 pub same_cell : (cells : ℕ → ℕ) (k x : ℕ) → replaced cells k x k ≡ x
 same_cell cells k x = rw (eq-eqb k k refl) refl
@@ -99,14 +89,13 @@ frame_in t cells prints m m' f j mid top room back cut frames_are choices_are he
 
 -- ## The turn
 
-module _ (t : Telling) (story : List ℕ) (stands : Stands t.p story) (labels : ℕ → ℕ) (pc : ℕ) (placed : Placed story t.p.names labels pc (code_of (trampoline 16))) (from : t.p.world.layout.base ≤ pc) (c : Context)
-    (room : (m u o : List ℕ) (d : ℕ) → HasRoom c (state m [] u d o) 8 100) (map : IsMapped t.p) (routines : (k : ℕ) (r : Routine) → slice_get (all_routines t.code t.keeps) k ≡ Some r → t.p.routine_at (t.p.names.routine k) ≡ Some r)
-    (words : (k : ℕ) → t.p.names.routine k < 65536) where
+module _ (t : Telling) (story : List ℕ) (c : Context) (pc : ℕ) (plays : Playing t story c pc) where
   -- A rule that is entered within the heap's limit is a turn of twelve instructions.
   pub turn_enters : (prints : List Print) (call : Call) (m m' : Mid) (f : Frame) (rest : List Op) (z : ZState) → m.ops ≡ op.Enter 0 [] ∷ rest → m.state.heap + 6 ≤ 10000 → Represented t story c pc prints (Enters call m) z →
-      f.next ≡ call.next → f.cut ≡ call.cut → m'.frames ≡ f ∷ m.frames → m'.choices ≡ m.choices → m'.state.heap ≡ m.state.heap + 6 → m'.ops ≡ rest → Turned t story c pc prints (Runs m') 12 z
+      f.next ≡ call.next → f.cut ≡ call.cut → m'.frames ≡ f ∷ m.frames → m'.choices ≡ m.choices → m'.state.heap ≡ m.state.heap + 6 → m'.ops ≡ rest → Comes t story c pc prints (Runs m') 12 z
   turn_enters prints call m m' f rest z e within r next_same cut_same frames_are choices_are heap_is ops_are =
       let cells = r.cells in
+      let l = r.lands in
       let j = m.state.heap in
       let mid = r.stands_for.0 in
       let here = r.stands_for.1 in
@@ -114,26 +103,16 @@ module _ (t : Telling) (story : List ℕ) (stands : Stands t.p story) (labels : 
       let text = render prints in
       let n = here.number in
       let y = at_number t (n + 1) in
-      let ops = subst (λ (ops : List Op). From (all_routines t.code t.keeps) n (ops_routines (numbers_of t.code) n ops)) e here.ops_are in
-      let body = acts.Call None (atoms.Routine 4) args.Zero ∷ [] in
+      let ops = ops_at t cells m (op.Enter 0 [] ∷ rest) e here in
+      let body : List Act = acts.Call None (atoms.Routine 4) args.Zero ∷ [] in
       let there = op_here t.code t.keeps n (op.Enter 0 []) rest refl refl ops in
-      let memory' = entered_memory t.p map 6 50 r.memory r.typed text r.drawn cells r.holds 0 j mid.heap few within in
-      let entering = enters t.p map 6 50 r.memory r.typed text r.drawn cells r.holds 0 j mid.heap few within in
-      let holds' = entered_holds t.p map 6 50 r.memory r.typed text r.drawn cells r.holds 0 j mid.heap few within in
-      let runs : Leading t.p 7 80 (body ++ acts.Return (atoms.Routine (n + 1)) ∷ []) (body ++ acts.Return (atoms.Routine (n + 1)) ∷ []) (state r.memory [] r.typed r.drawn text) (Returns y) (state memory' [] r.typed r.drawn text) (suc 8 + 1) =
-      calls {r = routine 1 ENTER_ACTS} refl refl (routines 4 (routine 1 ENTER_ACTS) refl) (omega arith) (omega arith) entering refl (returns refl) in
-      let b = bounce t.p story stands labels pc placed from c room map.base r.memory r.typed text memory' r.typed text [] r.drawn r.drawn (at_number t n) y 10 cells (frame_cells cells j) (going body (n + 1)) r.kept r.holds here.next
-      (routines n (going body (n + 1)) there) (omega arith) runs holds' (words (n + 1)) in
-      let memory2 = with_cell memory' 0 y in
+      let memory' = entered_memory t.p plays.map 6 50 l.memory l.typed text l.drawn cells l.holds 0 j mid.heap few within in
+      let entering = enters t.p plays.map 6 50 l.memory l.typed text l.drawn cells l.holds 0 j mid.heap few within in
+      let holds' = entered_holds t.p plays.map 6 50 l.memory l.typed text l.drawn cells l.holds 0 j mid.heap few within in
+      let runs : Leading t.p 7 80 (body ++ acts.Return (atoms.Routine (n + 1)) ∷ []) (body ++ acts.Return (atoms.Routine (n + 1)) ∷ []) (state l.memory [] l.typed l.drawn text) (Returns y) (state memory' [] l.typed l.drawn text) (suc 8 + 1) =
+      calls {r = routine 1 ENTER_ACTS} refl refl (plays.routines 4 (routine 1 ENTER_ACTS) refl) (omega arith) (omega arith) entering refl (returns refl) in
+      let moved = moves t story c pc plays text cells z l n (going body (n + 1)) here.next there (omega arith) y 10 text memory' [] (frame_cells cells j) runs holds' (plays.words (n + 1)) in
       let framed = frame_in t cells prints m m' f j mid refl within (r.stands_for.2 ∙ ap (at_block t) (sym next_same)) (r.stands_for.3 ∙ ap (λ (p : Place). choice_word (cut_choices p m.choices)) (sym cut_same)) frames_are choices_are heap_is in
-      let behind = mid_next t (frame_cells cells j) prints m' y framed in
-      let at_ops : OpsIn t (replaced (frame_cells cells j) 0 y) m' = record {
-        number = n + 1;
-        ops_are = subst (λ (ops : List Op). From (all_routines t.code t.keeps) (n + 1) (ops_routines (numbers_of t.code) (n + 1) ops)) (sym ops_are) (ops_behind t.code t.keeps n (op.Enter 0 []) rest ops);
-        next = refl;
-      } in
-      record {
-        there = state_at (state memory2 [] r.typed r.drawn text) c pc;
-        represents = record { memory = memory2; typed = r.typed; drawn = r.drawn; cells = replaced (frame_cells cells j) 0 y; is = refl; kept = b.kept; holds = b.holds; stands_for = (behind, at_ops) };
-        leads = subst (λ (y : ZState). Leads t.p.world 12 y (state_at (state memory2 [] r.typed r.drawn text) c pc)) (sym r.is) b.leads;
-      }
+      let new = replaced (frame_cells cells j) 0 y in
+      let at_ops : OpsIn t new m' = record { number = n + 1; ops_are = subst (OpsFrom t (n + 1)) (sym ops_are) (ops_behind t.code t.keeps n (op.Enter 0 []) rest ops); next = refl } in
+      comes_with t story c pc prints (Runs m') new 12 z moved (mid_next t (frame_cells cells j) prints m' y framed, at_ops)

@@ -1,16 +1,16 @@
 -- A story whose turns are those of boundaries that tell the truth fits its program.
-use Rattle.std.proofs.Common.{◌≡◌, ℕ, ◌+◌, ◌≤◌, ◌⊎◌, inl, inr, ⊎_elim, List, ◌++◌, refl, sym, ap, ◌∙◌, subst, arith, append_assoc}
+use Rattle.std.proofs.Common.{◌≡◌, ℕ, ◌≤◌, ◌⊎◌, inl, inr, ⊎_elim, List, sym, subst, arith}
 use Rattle.dg_base.specs.declared.run.Ending.{Ending}
 use Rattle.dg_base.specs.declared.run.Ending.TheVariants as endings
 use Rattle.dg_meaning.specs.World.{Game}
-use Rattle.dg_meaning.specs.Transcript.{run, transcript}
+use Rattle.dg_meaning.specs.Transcript.{run}
 use Rattle.dg_meaning.specs.OneRun.{Begins}
 use Rattle.z_model.specs.declared.end.ZEnd.{ZEnd}
 use Rattle.z_model.specs.declared.end.ZEnd.TheVariants as ends
 use Rattle.dg_base.specs.Begins as base
 use Rattle.dg_meaning.proofs.OneRun.{begins_on}
 use Rattle.z_model.specs.Run.{ZGiven, ZState, ZRun, zrun}
-use Rattle.z_lang.specs.Turns.{Turn, To, Over, Turning, Reaches, printed_by}
+use Rattle.z_lang.specs.Turns.{Turning, printed_by}
 use Rattle.z_lang.specs.WholeRuns.{Within, IsOver, Shown, IsTurn}
 use Rattle.z_lang.proofs.Turns.{shows, suffices, ends_by}
 use Rattle.dg_story.specs.Agrees.{IsDone, IsCut, IsWhole, IsThere, IsAtLimit, Fits, body, enough_for}

@@ -1,5 +1,5 @@
 -- A program that isn't refused has a story.
-use Rattle.std.proofs.Common.{◌≡◌, ℕ, zero, suc, ◌+◌, ◌*◌, ◌<◌, ◌≤◌, ◌⊎◌, inl, inr, List, [], ◌∷◌, ◌++◌, length, Bool, Some, None, refl, sym, ap, ◌∙◌, arith}
+use Rattle.std.proofs.Common.{◌≡◌, ℕ, suc, ◌+◌, ◌*◌, ◌≤◌, inl, inr, List, [], ◌∷◌, ◌++◌, length, Bool, None, refl, ap, arith}
 use Rattle.std.specs.List.{slice_get}
 use Rattle.dg_base.specs.declared.program.Goal.{Goal, out-Goal}
 use Rattle.dg_base.specs.declared.program.Goal.TheOpen as form
@@ -7,7 +7,7 @@ use Rattle.dg_base.specs.declared.program.Rule.{Rule}
 use Rattle.dg_base.specs.declared.program.Pred.{Pred}
 use Rattle.dg_base.specs.declared.program.ClosureBody.{ClosureBody}
 use Rattle.dg_base.specs.declared.program.CoreProgram.{CoreProgram}
-use Rattle.dg_base.specs.Goals.{goals_of, terms_held}
+use Rattle.dg_base.specs.Goals.{goals_of}
 use Rattle.dg_meaning.specs.Moves.{rules_of}
 use Rattle.dg_mid.specs.declared.code.RuleCode.{RuleCode}
 use Rattle.dg_mid.specs.declared.code.Code.{Code}
@@ -16,7 +16,7 @@ use Rattle.dg_mid.specs.Codes.{Codes, RulesStand}
 use Rattle.dg_mid.specs.Weights.{text_weight, lists_in, goal_weight, goals_weight, body_weight, rules_weight, preds_weight, closures_weight, blocks_weight, IsLight}
 use Rattle.z_asm.specs.Story as image
 use Rattle.z_story.specs.Parts.{image_of}
-use Rattle.dg_story.specs.Sizes.{text_size, lists_held, goal_size, goals_size, body_size, rules_size, preds_size, closures_size, story_size}
+use Rattle.dg_story.specs.Sizes.{text_size, lists_held, goal_size, goals_size, body_size, rules_size, preds_size, closures_size}
 use Rattle.dg_story.specs.Refusals.{refusal_of}
 use Rattle.dg_story.specs.Numbers.{numbers_of, rules_count, block_number, routine_count}
 use Rattle.dg_story.specs.Routines.{runtime, preds_routines, blocks_routines, all_routines}

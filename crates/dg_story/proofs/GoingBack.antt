@@ -1,12 +1,10 @@
 -- What the routines do that go back to a choice and leave a frame.
-use Rattle.std.proofs.Common.{◌≡◌, ◌≢◌, ℕ, zero, suc, ◌+◌, ◌-◌, ◌*◌, ◌%◌, ◌<◌, ◌≤◌, Bool, true, false, List, [], ◌∷◌, ◌++◌, drop, Some, refl, sym, ap, ◌∙◌, arith}
+use Rattle.std.proofs.Common.{◌≡◌, ℕ, ◌+◌, ◌<◌, ◌≤◌, true, false, List, [], ◌∷◌, refl, ap, ◌∙◌, arith}
 use Rattle.z_lang.specs.declared.act.Atom.TheVariants as atoms
 use Rattle.z_lang.specs.declared.act.Function.TheVariants as functions
 use Rattle.z_lang.specs.declared.act.Comparison.TheVariants as comparisons
-use Rattle.z_lang.specs.declared.act.Act.{Act}
-use Rattle.z_lang.specs.declared.act.Act.TheVariants as acts
-use Rattle.z_lang.specs.State.{State, Program, value, put}
-use Rattle.z_lang.specs.Runs.{Outcome, Runs, Returns, at_label, taken, passed, done, returns, behind}
+use Rattle.z_lang.specs.State.{State, Program}
+use Rattle.z_lang.specs.Runs.{Runs, Returns, taken, passed, done, returns, behind}
 use Rattle.dg_story.specs.declared.support.TheConstants.{FAIL_ACTS, LEAVE_ACTS}
 use Rattle.dg_story.specs.Cells.{heap_at, with_cell, replaced, Holds, IsMapped, state}
 use Rattle.dg_story.proofs.Rules.{word, tested, computes, copies, IsPut, puts, local_1, put_1, reads_place}

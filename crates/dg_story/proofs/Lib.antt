@@ -32,12 +32,9 @@ pub mod EndTurns
 pub mod EnterTurns
 pub mod LeaveTurns
 pub mod RuleTurns
-pub mod BareTurns
 pub mod Stepping
 pub mod Playing
 pub mod AskTurns
-pub mod ChooseTurns
-pub mod LimitTurns
 pub mod TextTurns
 pub mod StepTurns
 pub mod PointTurns

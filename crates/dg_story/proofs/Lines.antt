@@ -1,5 +1,5 @@
 -- Acts without labels, and the routines made of them.
-use Rattle.std.proofs.Common.{◌≡◌, ℕ, zero, suc, ◌+◌, ◌-◌, ◌*◌, ◌/◌, ◌<◌, ◌≤◌, List, [], ◌∷◌, ◌++◌, length, take, drop, map, refl, sym, ap, ◌∙◌, subst, arith, append_assoc, length-take, length-drop, length-append}
+use Rattle.std.proofs.Common.{◌≡◌, ℕ, zero, suc, ◌+◌, ◌*◌, ◌/◌, ◌<◌, ◌≤◌, List, [], ◌∷◌, ◌++◌, length, take, drop, sym, ap, ◌∙◌, arith, append_assoc, length-take, length-drop, length-append}
 use Rattle.z_code.specs.Open.{Counts}
 use Rattle.z_code.specs.declared.target.LOp.{LOp}
 use Rattle.z_lang.specs.declared.act.Act.{Act}

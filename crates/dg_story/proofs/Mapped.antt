@@ -1,12 +1,10 @@
 -- Where the heap's tables, the base and the routines of a built story are.
-use Rattle.std.proofs.Common.{◌≡◌, ℕ, zero, suc, ◌+◌, ◌*◌, ◌<◌, ◌≤◌, List, [], ◌∷◌, Bool, Some, refl, sym, ap, ◌∙◌, subst, arith}
+use Rattle.std.proofs.Common.{◌≡◌, ℕ, zero, suc, ◌+◌, ◌<◌, List, Bool, Some, refl, arith}
 use Rattle.std.specs.Prelude.{slice_get}
 use Rattle.dg_mid.specs.declared.code.Code.{Code}
-use Rattle.z_asm.specs.Assembled.{IsAssembled}
 use Rattle.z_lang.specs.State.{Program}
 use Rattle.z_lang.specs.declared.act.Routine.{Routine}
-use Rattle.z_story.specs.Parts.{image_of}
-use Rattle.z_story.specs.Does.{program, packed_at}
+use Rattle.z_story.specs.Does.{program}
 use Rattle.dg_story.specs.Routines.{all_routines}
 use Rattle.dg_story.specs.Built.{parts_of, IsStoryOf}
 use Rattle.dg_story.specs.Cells.{at_cell, heap_at, IsMapped}

@@ -1,34 +1,31 @@
 -- The beginning of a story's run: its first two instructions come to the trampoline.
-use Rattle.std.proofs.Common.{◌≡◌, ℕ, zero, suc, ◌+◌, ◌*◌, ◌<◌, ◌≤◌, List, [], ◌∷◌, length, take, drop, Bool, true, Some, None, refl, sym, ap, ◌∙◌, subst, arith}
-use Rattle.std.specs.Prelude.{slice_get}
+use Rattle.std.proofs.Common.{◌≡◌, ℕ, ◌+◌, ◌*◌, ◌≤◌, List, [], take, drop, Bool, true, Some, refl, sym, ap, ◌∙◌, subst, arith}
 use Rattle.std.proofs.Math.Seq.{take-length}
 use Rattle.z_model.specs.Run.{ZState, zstep}
-use Rattle.z_model.specs.Story.{given_of, start_state, memory_of}
+use Rattle.z_model.specs.Story.{start_state, memory_of}
 use Rattle.z_code.specs.Targets.{Placed, label_from}
 use Rattle.z_lang.specs.declared.act.Act.{Act}
-use Rattle.z_lang.specs.declared.act.Act.TheVariants as acts
 use Rattle.z_lang.specs.declared.act.Atom.TheVariants as atoms
 use Rattle.z_lang.specs.declared.act.Routine.{Routine}
 use Rattle.z_lang.specs.State.{State, Program}
 use Rattle.z_lang.specs.Runs.{Outcome, Rests, Runs, rests, done}
 use Rattle.z_lang.specs.Code.{code as code_of}
 use Rattle.z_lang.specs.Leads.{Leads}
-use Rattle.z_lang.specs.Standing.{Stands, IsKept, Context, HasRoom, Follows, ComesAt, state_at}
+use Rattle.z_lang.specs.Standing.{IsKept, Context, HasRoom, Follows, state_at}
 use Rattle.z_lang.proofs.Stretches.{leads_step}
 use Rattle.z_lang.proofs.Follows.{end_at, on}
 use Rattle.z_lang.proofs.Start.{opening, start_of_play, from_opening, begins}
 use Rattle.z_lang.proofs.Trampoline.{trampoline}
 use Rattle.z_asm.specs.Story.{first_of, first_ops, call_first}
 use Rattle.z_story.specs.Parts.{image_of}
-use Rattle.z_story.specs.Does.{begun, first_at}
 use Rattle.dg_mid.specs.declared.code.Code.{Code}
 use Rattle.dg_story.specs.declared.support.TheConstants.{TRAMPOLINE}
 use Rattle.dg_story.specs.Numbers.{numbers_of, block_number}
-use Rattle.dg_story.specs.Routines.{routine, start_acts, all_routines}
+use Rattle.dg_story.specs.Routines.{routine, start_acts}
 use Rattle.dg_story.specs.Built.{parts_of, IsStoryOf}
 use Rattle.dg_story.specs.Cells.{with_cell, state}
 use Rattle.dg_story.proofs.Rules.{put_register, copies}
-use Rattle.dg_story.proofs.Mapped.{p, mapped, routine_is, globals_are}
+use Rattle.dg_story.proofs.Mapped.{p, routine_is, globals_are}
 
 module _ (code : Code) (keeps : Bool) (story : List ℕ) (is : IsStoryOf code keeps story) (dice typed : List ℕ) where
   abbrev q : Program

@@ -1,5 +1,5 @@
 -- Where the routines of rules and blocks stand among all routines of a story.
-use Rattle.std.proofs.Common.{◌≡◌, ℕ, zero, suc, ◌+◌, ◌-◌, ◌<◌, ◌≤◌, ◌/◌, Bool, List, [], ◌∷◌, ◌++◌, length, take, drop, Option, Some, None, refl, sym, ap, ◌∙◌, subst, arith, append_assoc, length-append}
+use Rattle.std.proofs.Common.{◌≡◌, ℕ, zero, suc, ◌+◌, ◌/◌, Bool, List, [], ◌∷◌, ◌++◌, length, drop, Some, refl, sym, ap, ◌∙◌, subst, append_assoc}
 use Rattle.std.specs.Prelude.{slice_get}
 use Rattle.std.proofs.lemmas.List.{drop-drop, append-nil}
 use Rattle.dg_mid.specs.declared.code.Op.{Op}
@@ -8,7 +8,7 @@ use Rattle.dg_mid.specs.declared.code.RuleCode.{RuleCode}
 use Rattle.dg_mid.specs.declared.code.Code.{Code}
 use Rattle.z_lang.specs.declared.act.Routine.{Routine}
 use Rattle.dg_story.specs.declared.numbering.Numbers.{Numbers}
-use Rattle.dg_story.specs.Numbers.{op_size, ops_size, blocks_size, rules_count, block_starts, first_rule, pred_starts, numbers_of, number_or_fail, block_number, pred_number}
+use Rattle.dg_story.specs.Numbers.{op_size, ops_size, rules_count, block_starts, first_rule, pred_starts, numbers_of, number_or_fail, block_number, pred_number}
 use Rattle.dg_story.specs.Instructions.{op_acts, op_way}
 use Rattle.dg_story.specs.Routines.{going, runtime, rule_routine, rules_routines, preds_routines, pieces, op_routines, ops_routines, blocks_routines, all_routines}
 use Rattle.dg_story.specs.From.{From}

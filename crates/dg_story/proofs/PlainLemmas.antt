@@ -1,29 +1,23 @@
 -- Plain code goes on plainly.
-use Rattle.std.proofs.Common.{◌≡◌, ◌≢◌, ℕ, zero, suc, ◌+◌, ◌<◌, ◌≤◌, ◌⊎◌, inl, inr, ⊎_elim, Bool, true, false, not, ◌&&◌, ◌||◌, List, [], ◌∷◌, ◌++◌, length, Option, Some, None, refl, sym, ap, ◌∙◌, subst, arith}
+use Rattle.std.proofs.Common.{◌≡◌, ℕ, inl, Bool, true, false, not, ◌&&◌, ◌||◌, List, [], ◌∷◌, ◌++◌, length, refl, sym, ap, ◌∙◌, subst, arith}
 use Rattle.std.specs.Prelude.{◌==◌, slice_get}
-use Rattle.std.specs.List.{All, flat_map}
+use Rattle.std.specs.List.{All}
 use Rattle.std.proofs.lemmas.List.Elements.{All-head, All-tail}
 use Rattle.std.proofs.lemmas.Bool.{eqb-true}
-use Rattle.dg_base.specs.declared.program.Goal.{Goal, out-Goal, out-roll-Goal}
-use Rattle.dg_base.specs.declared.program.Goal.TheVariants as goal
+use Rattle.dg_base.specs.declared.program.Goal.{Goal, out-Goal}
 use Rattle.dg_base.specs.declared.program.Goal.TheOpen as form
 use Rattle.dg_base.specs.declared.program.Term.{Term}
 use Rattle.dg_base.specs.declared.program.Rule.{Rule}
-use Rattle.dg_base.specs.declared.program.Pred.{Pred}
 use Rattle.dg_base.specs.declared.program.CoreProgram.{CoreProgram}
-use Rattle.dg_base.specs.Goals.{goals_within, goals_of}
-use Rattle.dg_base.specs.Sound.{IsName, FitsHeads, FitsProgram, IsGoalOf, IsRuleOf, IsPredOf, IsSound}
+use Rattle.dg_base.specs.Goals.{goals_of}
+use Rattle.dg_base.specs.Sound.{FitsHeads, FitsProgram, IsGoalOf, IsRuleOf}
 use Rattle.dg_base.proofs.NodeLemmas.{inside, within_out}
-use Rattle.dg_meaning.specs.Moves.{rules_of}
-use Rattle.dg_mid.specs.declared.code.Action.TheVariants as action
-use Rattle.dg_mid.specs.declared.code.Op.{Op}
 use Rattle.dg_mid.specs.declared.code.Op.TheVariants as op
 use Rattle.dg_mid.specs.declared.code.RuleCode.{RuleCode}
 use Rattle.dg_mid.specs.declared.code.Code.{Code}
-use Rattle.dg_mid.specs.Code.{block_at, rules_at}
-use Rattle.dg_mid.specs.Codes.{End, Returns, Finishes, Stands, RuleStands, RulesStand, Codes}
-use Rattle.dg_story.specs.Plain.{are_none, is_plain_goal, are_plain_goals, is_plain_rule, rule_fits, rules_fit, preds_fit, is_plain}
-use Rattle.dg_story.specs.PlainCode.{PlainGoal, PlainGoals, PlainOps, PlainRule, PlainRules}
+use Rattle.dg_mid.specs.Codes.{Returns, RuleStands, RulesStand}
+use Rattle.dg_story.specs.Plain.{are_none, is_plain_goal, are_plain_goals, is_plain_rule, rule_fits, rules_fit}
+use Rattle.dg_story.specs.PlainCode.{PlainGoal, PlainGoals, PlainRule, PlainRules}
 
 -- ## Tests
 

@@ -1,21 +1,18 @@
 -- Each step of plain code leads to plain code.
-use Rattle.std.proofs.Common.{◌≡◌, ℕ, zero, suc, ◌+◌, ◌≤◌, Bool, true, false, List, [], ◌∷◌, length, Option, Some, None, inl, inr, refl, sym, ap, ◌∙◌, subst, arith}
+use Rattle.std.proofs.Common.{◌≡◌, ℕ, zero, suc, ◌+◌, Bool, true, false, List, [], ◌∷◌, length, Option, None, inl, refl, sym, ap, ◌∙◌, subst, arith}
 use Rattle.std.specs.Prelude.{slice_get, nat_lt, if◌then◌else◌}
 use Rattle.dg_base.specs.declared.program.CoreProgram.{CoreProgram}
 use Rattle.dg_base.specs.declared.run.Ending.{Ending}
-use Rattle.dg_base.specs.Sound.{FitsHeads, IsSound}
+use Rattle.dg_base.specs.Sound.{FitsHeads}
 use Rattle.dg_meaning.specs.Values.{Value}
-use Rattle.dg_meaning.specs.Substitutions.{Substitution}
 use Rattle.dg_meaning.specs.Unify.{Unified}
-use Rattle.dg_mid.specs.declared.code.Action.TheVariants as action
 use Rattle.dg_mid.specs.declared.code.Op.{Op}
 use Rattle.dg_mid.specs.declared.code.Op.TheVariants as op
 use Rattle.dg_mid.specs.declared.code.RuleCode.{RuleCode}
-use Rattle.dg_mid.specs.declared.code.Code.{Code}
 use Rattle.dg_mid.specs.Code.{block_at, rules_at, selected}
-use Rattle.dg_mid.specs.Codes.{Codes, Returns, Stands, returns}
+use Rattle.dg_mid.specs.Codes.{Returns, Stands, returns}
 use Rattle.dg_mid.specs.State.{Place, Frame, Call, ToPred, Way, Calls, Choice, Mid, Status, Runs, Enters, Resumes, Fails, Ended, cut_choices}
-use Rattle.dg_meaning.specs.World.{World, Piece}
+use Rattle.dg_meaning.specs.World.{Piece}
 use Rattle.dg_meaning.specs.Moves.{printed}
 use Rattle.dg_meaning.specs.Values.{value_of}
 use Rattle.dg_meaning.specs.Unify.{solve}
@@ -23,11 +20,9 @@ use Rattle.dg_meaning.specs.Cells.{cells}
 use Rattle.std.specs.List.{zip}
 use Rattle.std.specs.Prelude.{map}
 use Rattle.dg_mid.specs.Actions.{world_of, outside_in}
-use Rattle.dg_mid.specs.Step.{more, inside, at_rule, new_choice, new_frame, trail_more, Setting, charged, if_agreed, unified, bound, first_of, walked, enters, begins, asks, asks_last, last, returned, returns as returns_to, runs, enter, entered, goes_on, goes_back, step, call_of, values}
-use Rattle.dg_story.specs.Plain.{is_plain}
-use Rattle.dg_story.specs.PlainCode.{PlainOps, PlainRule, PlainRules, PlainNext, a_text, an_ask, a_last_ask, a_return, a_goto, a_done, GoesPlainly, PlainFrame, PlainFrames, PlainCall, PlainWay, PlainChoice, PlainChoices, PlainMid, AtRule, PlainStatus}
+use Rattle.dg_mid.specs.Step.{more, inside, at_rule, new_choice, new_frame, trail_more, Setting, charged, if_agreed, unified, bound, first_of, walked, enters, begins, asks, asks_last, last, returned, returns as returns_to, runs, enter, entered, goes_on, goes_back, step}
+use Rattle.dg_story.specs.PlainCode.{PlainOps, PlainRule, PlainRules, PlainNext, a_text, an_ask, a_last_ask, a_return, a_goto, a_done, GoesPlainly, PlainFrame, PlainFrames, PlainCall, PlainWay, PlainChoices, PlainMid, PlainStatus}
 use Rattle.dg_story.proofs.PlainNexts.{plain_next}
-use Rattle.dg_story.proofs.PlainSteps.{pred_rules}
 
 -- nothing is excluded where there is no first argument
 pub selected_none : (rs : List RuleCode) → selected None rs ≡ rs

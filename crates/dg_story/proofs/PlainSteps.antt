@@ -1,16 +1,14 @@
 -- A machine that runs plain code goes on so.
-use Rattle.std.proofs.Common.{◌≡◌, ℕ, zero, suc, ◌+◌, ◌≤◌, Bool, true, false, List, [], ◌∷◌, length, Option, Some, None, inl, inr, refl, sym, ap, ◌∙◌, subst, arith}
-use Rattle.std.specs.Prelude.{slice_get, nat_lt, if◌then◌else◌}
+use Rattle.std.proofs.Common.{◌≡◌, ℕ, zero, suc, true, List, [], ◌∷◌, Option, Some, None, refl, subst}
+use Rattle.std.specs.Prelude.{slice_get}
 use Rattle.std.specs.List.{All}
 use Rattle.std.proofs.lemmas.List.Elements.{All-head, All-tail}
-use Rattle.dg_base.specs.declared.program.Rule.{Rule}
 use Rattle.dg_base.specs.declared.program.Pred.{Pred}
 use Rattle.dg_base.specs.declared.program.CoreProgram.{CoreProgram}
-use Rattle.dg_base.specs.Sound.{FitsHeads, IsEntry, IsPredOf, IsSound}
+use Rattle.dg_base.specs.Sound.{FitsHeads, IsPredOf, IsSound}
 use Rattle.dg_meaning.specs.Moves.{rules_of}
-use Rattle.dg_mid.specs.declared.code.RuleCode.{RuleCode}
 use Rattle.dg_mid.specs.declared.code.Code.{Code}
-use Rattle.dg_mid.specs.Code.{block_at, rules_at}
+use Rattle.dg_mid.specs.Code.{rules_at}
 use Rattle.dg_mid.specs.Codes.{RulesStand, Codes}
 use Rattle.dg_story.specs.Plain.{rules_fit, preds_fit, is_plain}
 use Rattle.dg_story.specs.PlainCode.{PlainRules}

@@ -25,9 +25,8 @@ use Rattle.dg_story.specs.Agrees.{story_limits}
 use Rattle.dg_story.specs.PlainCode.{PlainOps, PlainRules, PlainStatus}
 use Rattle.dg_story.specs.Represents.{Telling}
 use Rattle.dg_story.proofs.PlainRuns.{step_plain}
-use Rattle.dg_story.proofs.FailTurns.{Represented}
 use Rattle.dg_story.specs.Stepping.{StepsTo, prints, asks, returns, fails_bare, jumps, finishes, enters, enters_not, resumes, goes_back, has_failed, StatusUnder}
-use Rattle.dg_story.proofs.Playing.{Playing, Comes}
+use Rattle.dg_story.proofs.Playing.{Playing, Represented, Comes}
 use Rattle.dg_story.proofs.Stepping.{steps_to, step_under}
 use Rattle.dg_story.proofs.StepTurns.{Next, step_turn, gap_stays}
 
@@ -113,21 +112,21 @@ module _ (g : Game) (t : Telling) (typed : List ℕ) where
 
     under_next : (now : Status) → PlainStatus g.program t.code now → StatusUnder now → StatusUnder (step set now)
     under_next (Ended e) is h = h
-    under_next (Runs m) is h = step_under g.program set (steps_to g.program set rules (Runs m) is h (λ o. o)) h
-    under_next (Enters call m) is h = step_under g.program set (steps_to g.program set rules (Enters call m) is h (λ o. o)) h
-    under_next (Resumes way m) is h = step_under g.program set (steps_to g.program set rules (Resumes way m) is h (λ o. o)) h
-    under_next (Fails m) is h = step_under g.program set (steps_to g.program set rules (Fails m) is h (λ o. o)) h
+    under_next (Runs m) is h = step_under set (steps_to g.program set rules (Runs m) is h (λ o. o)) h
+    under_next (Enters call m) is h = step_under set (steps_to g.program set rules (Enters call m) is h (λ o. o)) h
+    under_next (Resumes way m) is h = step_under set (steps_to g.program set rules (Resumes way m) is h (λ o. o)) h
+    under_next (Fails m) is h = step_under set (steps_to g.program set rules (Fails m) is h (λ o. o)) h
 
     pub under_at : (k : ℕ) → StatusUnder (points k).now
     under_at zero = (record { choices = tt; trail = refl }, tt)
     under_at (suc k) = under_next (points k).now (plain_at k) (under_at k)
 
-    gap_step : {now next : Status} {out : List Print} (ps : List Print) → StepsTo g.program set now out next → (met_from nothing_met ps).gap ≡ [] → (met_from nothing_met (followed ps out)).gap ≡ []
+    gap_step : {now next : Status} {out : List Print} (ps : List Print) → StepsTo set now out next → (met_from nothing_met ps).gap ≡ [] → (met_from nothing_met (followed ps out)).gap ≡ []
     gap_step ps (prints m m' text rest e name same tagged ops) h = gap_stays ps text h
     gap_step ps (asks m m' x rest pred call now e for cut same tagged begun) h = h
-    gap_step ps (returns m m' f fs rest e is plain frames choices heap tagged ops) h = h
+    gap_step ps (returns m m' f fs rest e is some frames choices heap tagged ops) h = h
     gap_step ps (fails_bare m m' rest e is same tagged) h = h
-    gap_step ps (jumps m b rest e plain) h = h
+    gap_step ps (jumps m m' b rest e some same tagged ops) h = h
     gap_step ps (finishes m rest e) h = h
     gap_step ps (enters call m m' f rest e room next cut frames choices heap tagged ops) h = h
     gap_step ps (enters_not call m rest e lt) h = h
@@ -166,12 +165,12 @@ module _ (g : Game) (t : Telling) (typed : List ℕ) where
 
       comes_so : (k most : ℕ) (z : ZState) (now : Status) → (IsOver now → ⊥) → (points k).now ≡ now → Comes t story c pc (points k).prints now most z → Went (To k) most z
       comes_so k most z now on e h =
-          let there = h.turned.there in
-          let rep : Represented t story c pc (points k).prints (points k).now there = subst (λ (x : Status). Represented t story c pc (points k).prints x there) (sym e) h.turned.represents in
-          let none : Before k there = record { count = 0; few = omega arith; there = there; leads = leads_none t.p.world there; represents = rep; printed = ap (λ (z : ZState). z.output) rep.is; on = λ o. on (subst IsOver e o) } in
-          record { count = h.count; some = h.some; few = h.few; does = (there, none, h.turned.leads) }
+          let there = h.there in
+          let rep : Represented t story c pc (points k).prints (points k).now there = subst (λ (x : Status). Represented t story c pc (points k).prints x there) (sym e) h.represents in
+          let none : Before k there = record { count = 0; few = omega arith; there = there; leads = leads_none t.p.world there; represents = rep; printed = ap (λ (z : ZState). z.output) rep.lands.is; on = λ o. on (subst IsOver e o) } in
+          record { count = h.count; some = h.some; few = h.few; does = (there, none, h.leads) }
 
-      goes_so : (k most : ℕ) (z : ZState) (now : Status) → (points k).now ≡ now → Next g t rules story c pc plays (points k).prints now most z → Went (turn_to (points k).prints now k) most z
+      goes_so : (k most : ℕ) (z : ZState) (now : Status) → (points k).now ≡ now → Next g t story c pc plays (points k).prints now most z → Went (turn_to (points k).prints now k) most z
       goes_so k most z (Ended e) q h = record { count = h.count; some = h.some; few = h.few; does = (h.last, h.output, h.ends) }
       goes_so k most z (Runs m) q h = comes_so k most z (Runs m) (λ o. o) q h
       goes_so k most z (Enters call m) q h = comes_so k most z (Enters call m) (λ o. o) q h
@@ -187,7 +186,7 @@ module _ (g : Game) (t : Telling) (typed : List ℕ) where
       turns k z h =
           let p = points k in
           let u = units set p.prints p.now in
-          let turn = step_turn g t rules story c pc plays p.prints h.there (steps_to g.program set rules p.now (plain_at k) (under_at k) h.on) (under_at k) (gap_at k) h.represents in
+          let turn = step_turn g t story c pc plays p.prints h.there (steps_to g.program set rules p.now (plain_at k) (under_at k) h.on) (under_at k) (gap_at k) h.represents in
           let went = goes_so (suc k) (100 * u) h.there (points (suc k)).now refl turn in
           let some = went.some in
           let few = went.few in

@@ -1,12 +1,11 @@
 -- What follows where a program isn't refused.
-use Rattle.std.proofs.Common.{◌≡◌, ℕ, ◌+◌, ◌*◌, ◌≤◌, List, [], ◌∷◌, length, Some, None, Bool, true, false, refl, arith}
+use Rattle.std.proofs.Common.{◌≡◌, ◌*◌, ◌≤◌, List, [], ◌∷◌, length, Some, None, Bool, true, false, refl, arith}
 use Rattle.std.proofs.Common.{rules}
 use Rattle.std.specs.Prelude.{not, nat_lt, if◌then◌else◌}
 use Rattle.std.proofs.lemmas.Bool.{ltb-false}
 use Rattle.dg_base.specs.declared.program.Rule.{Rule}
 use Rattle.dg_base.specs.declared.program.Pred.{Pred}
 use Rattle.dg_base.specs.declared.program.CoreProgram.{CoreProgram}
-use Rattle.dg_story.specs.declared.refusal.BuildRefusal.{BuildRefusal}
 use Rattle.dg_story.specs.declared.refusal.BuildRefusal.TheVariants.{NotBuiltYet, WorldTooLarge, WordsTooLarge, StoryTooLarge}
 use Rattle.dg_story.specs.Plain.{is_plain}
 use Rattle.dg_story.specs.Sizes.{world_size, words_size, rules_size, preds_size, story_size}

@@ -1,6 +1,6 @@
 -- How much room the routines of a story take.
-use Rattle.std.proofs.Common.{◌≡◌, ℕ, zero, suc, ◌+◌, ◌-◌, ◌*◌, ◌/◌, ◌%◌, ◌<◌, ◌≤◌, List, [], ◌∷◌, ◌++◌, length, map, take, drop, None, Bool, true, false, refl, sym, ap, ◌∙◌, arith, length-append, length-take, length-drop}
-use Rattle.std.specs.Prelude.{if◌then◌else◌, nat_lt, nat_le}
+use Rattle.std.proofs.Common.{◌≡◌, ℕ, zero, suc, ◌+◌, ◌*◌, ◌/◌, ◌%◌, ◌≤◌, List, [], ◌∷◌, ◌++◌, length, map, take, drop, None, Bool, true, false, refl, arith, length-append}
+use Rattle.std.specs.Prelude.{if◌then◌else◌, nat_lt}
 use Rattle.std.proofs.lemmas.Bool.{ltb-false, le-leb}
 use Rattle.dg_meaning.specs.Render.{characters}
 use Rattle.dg_mid.specs.declared.code.Action.TheVariants as action
@@ -15,7 +15,7 @@ use Rattle.z_lang.specs.declared.act.Act.TheVariants as acts
 use Rattle.z_lang.specs.declared.act.Args.TheVariants as args
 use Rattle.z_lang.specs.declared.act.Atom.TheVariants as atoms
 use Rattle.z_lang.specs.declared.act.Routine.{Routine}
-use Rattle.z_lang.specs.Sizes.{act_bytes, body_bytes}
+use Rattle.z_lang.specs.Sizes.{body_bytes}
 use Rattle.z_lang.proofs.Sizes.{takes_bytes}
 use Rattle.z_story.specs.Parts.{code_of}
 use Rattle.dg_story.specs.declared.numbering.Numbers.{Numbers}
@@ -23,7 +23,6 @@ use Rattle.dg_story.specs.declared.texts.Part.{Part}
 use Rattle.dg_story.specs.declared.texts.Part.TheVariants as part
 use Rattle.dg_story.specs.Texts.{letters_from, letters_of, say, says, first_closes, end_of, separated, text_acts}
 use Rattle.dg_story.specs.Numbers.{op_size, ops_size, blocks_size, rules_count, block_number}
-use Rattle.dg_story.specs.Instructions.{op_acts, op_way}
 use Rattle.dg_story.specs.Routines.{going, choosing, rules_routines, preds_routines, pieces, op_routines, ops_routines, blocks_routines, runtime}
 
 -- ## Characters

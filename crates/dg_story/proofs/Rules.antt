@@ -1,8 +1,7 @@
 -- Rules by which a routine's acts are followed.
-use Rattle.std.proofs.Common.{◌≡◌, ℕ, zero, suc, ◌+◌, ◌-◌, ◌*◌, ◌%◌, ◌<◌, ◌≤◌, Bool, true, false, List, [], ◌∷◌, ◌++◌, length, Option, Some, None, refl, sym, ap, ◌∙◌, subst, arith}
-use Rattle.std.specs.Prelude.{nat_lt, ◌==◌, if◌then◌else◌, int_lt}
+use Rattle.std.proofs.Common.{◌≡◌, ℕ, ◌+◌, ◌-◌, ◌<◌, ◌≤◌, Bool, List, ◌∷◌, length, Option, Some, refl, ap, arith}
+use Rattle.std.specs.Prelude.{nat_lt}
 use Rattle.std.proofs.lemmas.Bool.{lt-ltb, le-ltb, ne_eqb}
-use Rattle.z_model.specs.Numbers.{signed_16}
 use Rattle.z_lang.specs.declared.act.Atom.{Atom}
 use Rattle.z_lang.specs.declared.act.Atom.TheVariants as atoms
 use Rattle.z_lang.specs.declared.act.Function.{Function}
@@ -11,12 +10,11 @@ use Rattle.z_lang.specs.declared.act.Width.{Width}
 use Rattle.z_lang.specs.declared.act.Width.TheVariants as widths
 use Rattle.z_lang.specs.declared.act.Comparison.{Comparison}
 use Rattle.z_lang.specs.declared.act.Comparison.TheVariants as comparisons
-use Rattle.z_lang.specs.declared.act.Test.{Test}
 use Rattle.z_lang.specs.declared.act.Print.{Print}
 use Rattle.z_lang.specs.declared.act.Act.TheVariants as acts
-use Rattle.z_lang.specs.State.{◌>>=◌, State, Program, variable, value, put, with_local}
+use Rattle.z_lang.specs.State.{State, Program, variable, value, put, with_local}
 use Rattle.z_lang.specs.Acts.{computed, written, printed, compared, does, answer_of, with_output}
-use Rattle.dg_story.specs.Cells.{at_cell, heap_at, cell, with_cell, replaced, Holds, IsMapped, state}
+use Rattle.dg_story.specs.Cells.{heap_at, with_cell, replaced, Holds, IsMapped, state}
 use Rattle.dg_story.proofs.Cells.{holds_with, global_is, with_global_is, reads_cell, writes_cell, some_list}
 
 abbrev pub word : ℕ → Option ℕ

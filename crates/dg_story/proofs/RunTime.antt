@@ -1,27 +1,23 @@
 -- What the routines of the run-time do.
-use Rattle.std.proofs.Common.{◌≡◌, ◌≢◌, ℕ, zero, suc, ◌+◌, ◌-◌, ◌*◌, ◌%◌, ◌<◌, ◌≤◌, Bool, true, false, List, [], ◌∷◌, ◌++◌, drop, Option, Some, None, refl, sym, ap, ◌∙◌, subst, arith}
-use Rattle.std.specs.Prelude.{nat_lt, ◌==◌}
+use Rattle.std.proofs.Common.{◌≡◌, ◌≢◌, ℕ, suc, ◌+◌, ◌-◌, ◌<◌, ◌≤◌, Bool, true, false, List, [], ◌∷◌, drop, Some, refl, ap, ◌∙◌, arith}
+use Rattle.std.specs.Prelude.{nat_lt}
 use Rattle.std.proofs.lemmas.Bool.{lt-ltb, le-ltb, eq-eqb, ne_eqb}
-use Rattle.z_model.specs.declared.end.Halt.{Halt}
 use Rattle.z_model.specs.declared.end.Halt.TheVariants.{AtQuit}
 use lib.Utf8.{encode}
 use Rattle.z_model.specs.Zscii.{code_bytes}
 use Rattle.z_lang.specs.declared.act.Atom.TheVariants as atoms
-use Rattle.z_lang.specs.declared.act.Args.TheVariants as args
 use Rattle.z_lang.specs.declared.act.Function.TheVariants as functions
 use Rattle.z_lang.specs.declared.act.Width.TheVariants as widths
 use Rattle.z_lang.specs.declared.act.Comparison.TheVariants as comparisons
 use Rattle.z_lang.specs.declared.act.Print.TheVariants as prints
 use Rattle.z_lang.specs.declared.act.Act.{Act}
-use Rattle.z_lang.specs.declared.act.Act.TheVariants as acts
-use Rattle.z_lang.specs.declared.act.Routine.{Routine}
-use Rattle.z_lang.specs.State.{State, Program, value, put}
-use Rattle.z_lang.specs.Acts.{computed, printed, compared, does, answer_of, with_output}
-use Rattle.z_lang.specs.Runs.{Outcome, Runs, Returns, Stops, rests, at_label, goes, taken, passed, done, calls, calls_last, returns, quits, behind}
-use Rattle.dg_story.specs.declared.support.TheConstants.{NEWLINE_ACTS, SEPARATE_ACTS, ENTER_ACTS, CHOOSE_ACTS, FAIL_ACTS, LEAVE_ACTS}
-use Rattle.dg_story.specs.Cells.{at_cell, heap_at, with_cell, replaced, Holds, IsMapped, state}
+use Rattle.z_lang.specs.State.{State, Program, value}
+use Rattle.z_lang.specs.Acts.{computed, printed, compared, answer_of, with_output}
+use Rattle.z_lang.specs.Runs.{Outcome, Runs, Returns, Stops, at_label, taken, passed, done, calls_last, returns, behind}
+use Rattle.dg_story.specs.declared.support.TheConstants.{NEWLINE_ACTS, SEPARATE_ACTS, ENTER_ACTS, CHOOSE_ACTS}
+use Rattle.dg_story.specs.Cells.{heap_at, with_cell, replaced, Holds, IsMapped, state}
 use Rattle.dg_story.proofs.Cells.{holds_with}
-use Rattle.dg_story.proofs.Rules.{word, bool, some_state, tested, computes, copies, writes, says, register, IsPut, puts, local_1, local_2, put_1, put_2, reads_place, writes_place, greater, sum}
+use Rattle.dg_story.proofs.Rules.{word, bool, tested, computes, copies, writes, says, register, IsPut, puts, local_1, local_2, put_1, put_2, writes_place, greater, sum}
 
 -- a word is the one of that number, or another
 pub same : (p : Program) (s : State) (x y : ℕ) → x ≡ y → compared p s comparisons.Equal x y ≡ bool true

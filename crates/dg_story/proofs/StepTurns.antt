@@ -3,7 +3,6 @@ use Rattle.std.proofs.Common.{◌≡◌, ℕ, ◌+◌, ◌*◌, ◌≤◌, Bool,
 use Rattle.std.specs.Prelude.{slice_get, nat_lt, nat_le, ◌||◌, if◌then◌else◌}
 use Rattle.std.proofs.lemmas.Bool.{lt-ltb, le-ltb, ltb-false}
 use Rattle.dg_base.specs.declared.run.Ending.TheVariants as endings
-use Rattle.dg_base.specs.Sound.{FitsHeads}
 use Rattle.dg_meaning.specs.World.{Game, Prints, Print, Piece, prints as prints_of}
 use Rattle.dg_meaning.specs.Render.{Met, separator, written, nothing_met, met_from, characters}
 use Rattle.dg_meaning.specs.Transcript.{line_of}
@@ -11,7 +10,7 @@ use Rattle.dg_mid.specs.declared.code.Action.TheVariants as action
 use Rattle.dg_mid.specs.declared.code.Op.{Op}
 use Rattle.dg_mid.specs.declared.code.Op.TheVariants as op
 use Rattle.dg_mid.specs.declared.code.RuleCode.{RuleCode}
-use Rattle.dg_mid.specs.Code.{block_at, rules_at}
+use Rattle.dg_mid.specs.Code.{rules_at}
 use Rattle.dg_mid.specs.State.{Place, Frame, Call, Calls, Choice, Mid, Status, Runs, Enters, Resumes, Fails, Ended, cut_choices}
 use Rattle.dg_mid.specs.Step.{Setting, setting, back_at, followed}
 use Rattle.dg_mid.specs.Units.{units, units_of}
@@ -23,22 +22,18 @@ use Rattle.dg_story.specs.Numbers.{numbers_of, block_number, pred_number}
 use Rattle.dg_story.specs.Instructions.{ask_acts}
 use Rattle.dg_story.specs.Routines.{going, ops_routines, all_routines}
 use Rattle.dg_story.specs.From.{From}
-use Rattle.dg_story.specs.PlainCode.{PlainRules}
 use Rattle.dg_story.specs.Represents.{Telling}
 use Rattle.dg_story.proofs.Places.{op_here}
 use Rattle.dg_story.proofs.Staying.{CutAlike}
-use Rattle.dg_story.proofs.FailTurns.{Represented, Turned, turn_fails}
-use Rattle.dg_story.proofs.EndTurns.{Over, turn_failed}
+use Rattle.dg_story.specs.Stepping.{SameMid, IsTagged, Begun, no_rule, last_rule, further, no_room, AsksFor, first, last, StepsTo, prints, asks, returns, fails_bare, jumps, finishes, enters, enters_not, resumes, goes_back, has_failed, FramesUnder, ChoicesUnder, StatusUnder}
+use Rattle.dg_story.proofs.Playing.{Playing, Represented, Comes, Over, comes_then, over_then, comes_within, over_within}
+use Rattle.dg_story.proofs.FailTurns.{turn_fails}
 use Rattle.dg_story.proofs.JumpTurns.{turn_goto}
 use Rattle.dg_story.proofs.EnterTurns.{turn_enters}
-use Rattle.dg_story.proofs.LeaveTurns.{turn_returns}
-use Rattle.dg_story.proofs.BareTurns.{turn_fails_bare}
-use Rattle.dg_story.proofs.RuleTurns.{turn_last_rule}
-use Rattle.dg_story.specs.Stepping.{SameMid, IsTagged, Begun, no_rule, last_rule, further, no_room, AsksFor, first, last, StepsTo, prints, asks, returns, fails_bare, jumps, finishes, enters, enters_not, resumes, goes_back, has_failed, FramesUnder, ChoicesUnder, StatusUnder}
-use Rattle.dg_story.proofs.Playing.{Playing, Comes, turned_comes, comes_then, over_then, mid_as}
+use Rattle.dg_story.proofs.LeaveTurns.{turn_returns, turn_fails_bare}
+use Rattle.dg_story.proofs.RuleTurns.{turn_last_rule, turn_chooses}
+use Rattle.dg_story.proofs.EndTurns.{turn_failed, turn_enters_not, turn_chooses_not, turn_done}
 use Rattle.dg_story.proofs.AskTurns.{turn_asks, turn_asks_none}
-use Rattle.dg_story.proofs.ChooseTurns.{turn_chooses}
-use Rattle.dg_story.proofs.LimitTurns.{turn_enters_not, turn_chooses_not, turn_done}
 use Rattle.dg_story.proofs.TextTurns.{turn_text, met_more, piece_met, piece_written}
 use Rattle.dg_story.proofs.Stepping.{frames_under, frames_lower}
 
@@ -101,7 +96,7 @@ units_text s ps text ops m e =
 pub gap_stays : (ps : List Print) (text : List ℕ) → (met_from nothing_met ps).gap ≡ [] → (met_from nothing_met (ps ++ Piece text ∷ [])).gap ≡ []
 gap_stays ps text e = ap (λ (x : Met). x.gap) (met_more nothing_met ps (Piece text ∷ []) ∙ piece_met (met_from nothing_met ps) text e)
 
-module _ (g : Game) (t : Telling) (rules : (pred : ℕ) → FitsHeads 0 (slice_get g.program.preds pred) → PlainRules g.program t.code (rules_at t.code pred)) (story : List ℕ) (c : Context) (pc : ℕ) (plays : Playing t story c pc) where
+module _ (g : Game) (t : Telling) (story : List ℕ) (c : Context) (pc : ℕ) (plays : Playing t story c pc) where
   abbrev pub set : Setting
   set = setting g t.code story_limits
 
@@ -113,21 +108,15 @@ module _ (g : Game) (t : Telling) (rules : (pred : ℕ) → FitsHeads 0 (slice_g
   Next ps (Resumes way m) most z = Comes t story c pc ps (Resumes way m) most z
   Next ps (Fails m) most z = Comes t story c pc ps (Fails m) most z
 
-  comes_within : (ps : List Print) (now : Status) (a b : ℕ) (z : ZState) → a ≤ b → Comes t story c pc ps now a z → Comes t story c pc ps now b z
-  comes_within ps now a b z le h = let few = h.few in record { count = h.count; some = h.some; few = omega arith; turned = h.turned }
-
-  over_within : (bytes : List ℕ) (a b : ℕ) (z : ZState) → a ≤ b → Over t bytes a z → Over t bytes b z
-  over_within bytes a b z le h = let few = h.few in record { count = h.count; some = h.some; few = omega arith; last = h.last; output = h.output; ends = h.ends }
-
   next_within : (ps : List Print) (now : Status) (a b : ℕ) (z : ZState) → a ≤ b → Next ps now a z → Next ps now b z
-  next_within ps (Ended e) a b z le h = over_within (closed_text ps (line_of e)) a b z le h
-  next_within ps (Runs m) a b z le h = comes_within ps (Runs m) a b z le h
-  next_within ps (Enters call m) a b z le h = comes_within ps (Enters call m) a b z le h
-  next_within ps (Resumes way m) a b z le h = comes_within ps (Resumes way m) a b z le h
-  next_within ps (Fails m) a b z le h = comes_within ps (Fails m) a b z le h
+  next_within ps (Ended e) a b z le h = over_within t story c pc (closed_text ps (line_of e)) a b z le h
+  next_within ps (Runs m) a b z le h = comes_within t story c pc ps (Runs m) a b z le h
+  next_within ps (Enters call m) a b z le h = comes_within t story c pc ps (Enters call m) a b z le h
+  next_within ps (Resumes way m) a b z le h = comes_within t story c pc ps (Resumes way m) a b z le h
+  next_within ps (Fails m) a b z le h = comes_within t story c pc ps (Fails m) a b z le h
 
   next_then : (ps : List Print) (mid now : Status) (a b most : ℕ) (z : ZState) → a + b ≤ most → Comes t story c pc ps mid a z → ((y : ZState) → Represented t story c pc ps mid y → Next ps now b y) → Next ps now most z
-  next_then ps mid (Ended e) a b most z le h k = over_then t story c pc ps mid (closed_text ps (line_of e)) a b most z le h k
+  next_then ps mid (Ended e) a b most z le h k = over_then t story c pc (closed_text ps (line_of e)) a b most h.count z h.there le h.few h.leads (k h.there h.represents)
   next_then ps mid (Runs m) a b most z le h k = comes_then t story c pc ps ps mid (Runs m) a b most z le h k
   next_then ps mid (Enters call m) a b most z le h k = comes_then t story c pc ps ps mid (Enters call m) a b most z le h k
   next_then ps mid (Resumes way m) a b most z le h k = comes_then t story c pc ps ps mid (Resumes way m) a b most z le h k
@@ -137,14 +126,13 @@ module _ (g : Game) (t : Telling) (rules : (pred : ℕ) → FitsHeads 0 (slice_g
   begun_turn : (ps : List Print) (call : Call) {r : RuleCode} {rs : List RuleCode} {m : Mid} {now : Status} (z : ZState) → Begun set call (r ∷ rs) m now → call.cut.tag ≤ m.next_tag → FramesUnder call.cut.tag m.frames →
       Represented t story c pc ps (Resumes (Calls call (r ∷ rs)) m) z → Next ps now 40 z
   begun_turn ps call z (last_rule r m m' some same tagged ops) le under rep =
-      comes_within ps (Enters call m') 3 40 z (omega arith)
-      (turned_comes t story c pc ps (Enters call m') 3 z (omega arith)
-      (turn_last_rule t story plays.stands plays.labels pc plays.placed plays.from c plays.room plays.map plays.routines plays.words ps call r m m' some.first some.rest z some.is rep same.frames same.choices same.heap ops))
+      comes_within t story c pc ps (Enters call m') 3 40 z (omega arith)
+      (turn_last_rule t story c pc plays ps call r m m' z some rep same ops)
   begun_turn ps call z (further r q qs m m' x some room is frames choices heap tagged ops) le under rep =
       let at = is.tag in
       let cut : cut_choices call.cut m'.choices ≡ m.choices = ap (cut_choices call.cut) choices ∙ cut_newer call.cut x m.choices (omega arith) ∙ rep.stands_for.1.cut_is in
-      comes_within ps (Enters call m') 13 40 z (omega arith)
-      (turn_chooses t story c pc plays ps call r q qs m m' x some.first some.rest z some.is room rep (opened_alike x m.choices call.cut.tag m.frames (omega arith) under) is.way_is is.frames is.heap frames choices heap ops cut)
+      comes_within t story c pc ps (Enters call m') 13 40 z (omega arith)
+      (turn_chooses t story c pc plays ps call r q qs m m' x z some room rep (opened_alike x m.choices call.cut.tag m.frames (omega arith) under) is frames choices heap ops cut)
   begun_turn ps call z (no_room r q qs m lt) le under rep = turn_chooses_not t story c pc plays ps call r q qs m z lt rep
 
   asked_here : (pred next k : ℕ) (x : Op) (rest : List Op) → AsksFor pred x next → From (all_routines t.code t.keeps) k (ops_routines (numbers_of t.code) k (x ∷ rest)) →
@@ -155,7 +143,7 @@ module _ (g : Game) (t : Telling) (rules : (pred : ℕ) → FitsHeads 0 (slice_g
   asks_turn : (ps : List Print) (m m' : Mid) (x : Op) (rest : List Op) (pred : ℕ) (call : Call) (now : Status) (rs : List RuleCode) (z : ZState) → rules_at t.code pred ≡ rs → m.ops ≡ x ∷ rest → AsksFor pred x call.next → call.cut.tag ≡ m.next_tag → SameMid m m' → IsTagged m m' m.next_tag →
       Begun set call rs m' now → StatusUnder (Runs m) → Represented t story c pc ps (Runs m) z → Next ps now 45 z
   asks_turn ps m m' x rest pred call now [] z is e for cut same tagged (no_rule y) h rep =
-      comes_within ps (Fails m') 5 45 z (omega arith)
+      comes_within t story c pc ps (Fails m') 5 45 z (omega arith)
       (turn_asks_none t story c pc plays ps m m' call pred z same (λ k from. asked_here pred call.next k x rest for (subst (λ (ops : List Op). From (all_routines t.code t.keeps) k (ops_routines (numbers_of t.code) k ops)) e from)) rep is)
   asks_turn ps m m' x rest pred call now (r ∷ rs) z is e for cut same tagged begun h rep =
       let q = tagged.tag in
@@ -163,57 +151,36 @@ module _ (g : Game) (t : Telling) (rules : (pred : ℕ) → FitsHeads 0 (slice_g
       let asked = turn_asks t story c pc plays ps m m' call pred z same (λ k from. asked_here pred call.next k x rest for (subst (λ (ops : List Op). From (all_routines t.code t.keeps) k (ops_routines (numbers_of t.code) k ops)) e from)) rep r rs is older in
       next_then ps (Resumes (Calls call (r ∷ rs)) m') now 5 40 45 z (omega arith) asked (λ y rep'. begun_turn ps call y begun (omega arith) (frames_under m m' m.next_tag call.cut.tag m.frames same.frames (omega arith) h.1) rep')
 
-  -- a failure of a machine with the same frames and choices
-  fails_as : (ps : List Print) (m m' : Mid) (z : ZState) → SameMid m m' → Represented t story c pc ps (Fails m) z → Represented t story c pc ps (Fails m') z
-  fails_as ps m m' z same r = record {
-    memory = r.memory;
-    typed = r.typed;
-    drawn = r.drawn;
-    cells = r.cells;
-    is = r.is;
-    kept = r.kept;
-    holds = r.holds;
-    stands_for = (mid_as t r.cells r.cells ps m m' (λ k a b. refl) refl refl refl refl same r.stands_for.0, r.stands_for.1);
-  }
-
-  comes_as : (ps : List Print) (m m' : Mid) (n : ℕ) (z : ZState) → SameMid m m' → 1 ≤ n → Turned t story c pc ps (Fails m) n z → Comes t story c pc ps (Fails m') n z
-  comes_as ps m m' n z same some h =
-      record { count = n; some = some; few = omega arith; turned = record { there = h.there; represents = fails_as ps m m' h.there same h.represents; leads = h.leads } }
-
   -- A step is a turn.
-  pub step_turn : {now next : Status} {said : List Print} (ps : List Print) (z : ZState) → StepsTo g.program set now said next → StatusUnder now → (met_from nothing_met ps).gap ≡ [] → Represented t story c pc ps now z → Next (followed ps said) next (100 * units set ps now) z
+  pub step_turn : {now next : Status} {said : List Print} (ps : List Print) (z : ZState) → StepsTo set now said next → StatusUnder now → (met_from nothing_met ps).gap ≡ [] → Represented t story c pc ps now z → Next (followed ps said) next (100 * units set ps now) z
   step_turn ps z (prints m m' text rest e name same tagged ops) h gap rep =
       let many : 1 + characters text ≤ units_of set ps m.ops m = subst (λ (l : List Op). 1 + characters text ≤ units_of set ps l m) (sym e) (units_text set ps text rest m gap) in
-      comes_within (ps ++ Piece text ∷ []) (Runs m') (4 * characters text + 14) (100 * units_of set ps m.ops m) z (omega arith) (turn_text t story c pc plays ps m m' text rest z e name gap same ops rep)
+      comes_within t story c pc (ps ++ Piece text ∷ []) (Runs m') (4 * characters text + 14) (100 * units_of set ps m.ops m) z (omega arith) (turn_text t story c pc plays ps m m' text rest z e name gap same ops rep)
   step_turn ps z (asks m m' x rest pred call now e for cut same tagged begun) h gap rep =
       let some = units_some set ps m.ops m in
       next_within ps now 45 (100 * units_of set ps m.ops m) z (omega arith) (asks_turn ps m m' x rest pred call now (rules_at t.code pred) z refl e for cut same tagged begun h rep)
-  step_turn ps z (returns m m' f fs rest e is plain frames choices heap tagged ops) h gap rep =
-      let some = units_some set ps m.ops m in
+  step_turn ps z (returns m m' f fs rest e is some frames choices heap tagged ops) h gap rep =
+      let one = units_some set ps m.ops m in
       let all : FramesUnder m.next_tag (f ∷ fs) = subst (FramesUnder m.next_tag) is h.1 in
-      comes_within ps (Runs m') 10 (100 * units_of set ps m.ops m) z (omega arith)
-      (turned_comes t story c pc ps (Runs m') 10 z (omega arith)
-      (turn_returns g.program t rules story plays.stands plays.labels pc plays.placed plays.from c plays.room plays.map plays.routines plays.words ps m m' f fs rest z e is (answered_alike f.cut m.choices fs all.1) plain rep frames choices heap ops))
+      comes_within t story c pc ps (Runs m') 10 (100 * units_of set ps m.ops m) z (omega arith)
+      (turn_returns t story c pc plays ps m m' rest z e rep f fs is (answered_alike f.cut m.choices fs all.1) some frames choices heap ops)
   step_turn ps z (fails_bare m m' rest e is same tagged) h gap rep =
       let some = units_some set ps m.ops m in
-      comes_within ps (Fails m') 7 (100 * units_of set ps m.ops m) z (omega arith)
-      (comes_as ps m m' 7 z same (omega arith) (turn_fails_bare t story plays.stands plays.labels pc plays.placed plays.from c plays.room plays.map plays.routines plays.words ps m rest z e is rep))
-  step_turn ps z (jumps m b rest e plain) h gap rep =
-      let some = units_some set ps m.ops m in
-      let m' : Mid = record m { ops = block_at t.code b } in
-      comes_within ps (Runs m') 3 (100 * units_of set ps m.ops m) z (omega arith)
-      (turned_comes t story c pc ps (Runs m') 3 z (omega arith) (turn_goto g.program t rules story plays.stands plays.labels pc plays.placed plays.from c plays.room plays.map plays.routines plays.words ps m b rest z e plain rep))
+      comes_within t story c pc ps (Fails m') 7 (100 * units_of set ps m.ops m) z (omega arith)
+      (turn_fails_bare t story c pc plays ps m m' rest z e rep is same)
+  step_turn ps z (jumps m m' b rest e some same tagged ops) h gap rep =
+      let one = units_some set ps m.ops m in
+      comes_within t story c pc ps (Runs m') 3 (100 * units_of set ps m.ops m) z (omega arith) (turn_goto t story c pc plays ps m m' b rest z e some same ops rep)
   step_turn ps z (finishes m rest e) h gap rep =
       let some = units_some set ps m.ops m in
-      over_within (closed_text ps (line_of endings.Done)) 40 (100 * units_of set ps m.ops m) z (omega arith) (turn_done t story c pc plays ps m rest z e rep)
+      over_within t story c pc (closed_text ps (line_of endings.Done)) 20 (100 * units_of set ps m.ops m) z (omega arith) (turn_done t story c pc plays ps m rest z e rep)
   step_turn ps z (enters call m m' f rest e room next cut frames choices heap tagged ops) h gap rep =
-      comes_within ps (Runs m') 12 (100 * units set ps (Enters call m)) z (omega arith)
-      (turned_comes t story c pc ps (Runs m') 12 z (omega arith)
-      (turn_enters t story plays.stands plays.labels pc plays.placed plays.from c plays.room plays.map plays.routines plays.words ps call m m' f rest z e room rep next cut frames choices heap ops))
-  step_turn ps z (enters_not call m rest e lt) h gap rep = over_within (closed_text ps (line_of endings.HeapLimit)) 40 (100 * units set ps (Enters call m)) z (omega arith) (turn_enters_not t story c pc plays ps call m rest z e lt rep)
+      comes_within t story c pc ps (Runs m') 12 (100 * units set ps (Enters call m)) z (omega arith)
+      (turn_enters t story c pc plays ps call m m' f rest z e room rep next cut frames choices heap ops)
+  step_turn ps z (enters_not call m rest e lt) h gap rep = over_within t story c pc (closed_text ps (line_of endings.HeapLimit)) 40 (100 * units set ps (Enters call m)) z (omega arith) (turn_enters_not t story c pc plays ps call m rest z e lt rep)
   step_turn ps z (resumes call r rs m now begun) h gap rep = next_within ps now 40 100 z (omega arith) (begun_turn ps call z begun h.1.0 h.1.1 rep)
   step_turn ps z (goes_back m x xs e) h gap rep =
-      comes_within ps (Resumes x.way (back_at x xs m)) 10 (100 * units set ps (Fails m)) z (omega arith)
-      (turned_comes t story c pc ps (Resumes x.way (back_at x xs m)) 10 z (omega arith) (turn_fails t story plays.stands plays.labels pc plays.placed plays.from c plays.room plays.map plays.routines ps m x xs z e rep))
+      comes_within t story c pc ps (Resumes x.way (back_at x xs m)) 10 (100 * units set ps (Fails m)) z (omega arith)
+      (turn_fails t story c pc plays ps m x xs z e rep)
   step_turn ps z (has_failed m e) h gap rep =
-      over_within (closed_text ps (line_of endings.Failed)) 20 (100 * units set ps (Fails m)) z (omega arith) (turn_failed t story plays.stands plays.labels pc plays.placed plays.from c plays.room plays.map plays.routines plays.words ps m z e rep)
+      over_within t story c pc (closed_text ps (line_of endings.Failed)) 20 (100 * units set ps (Fails m)) z (omega arith) (turn_failed t story c pc plays ps m z e rep)

@@ -12,6 +12,7 @@ use Rattle.dg_meaning.specs.Unify.{Unified, Equations, agreed, solve}
 use Rattle.dg_meaning.specs.World.{Print, Piece}
 use Rattle.dg_meaning.specs.Moves.{printed, made_since}
 use Rattle.dg_meaning.proofs.UnifyLaws.{solve_nothing}
+use Rattle.dg_mid.specs.declared.code.Action.TheVariants as action
 use Rattle.dg_mid.specs.declared.code.Op.{Op}
 use Rattle.dg_mid.specs.declared.code.Op.TheVariants as op
 use Rattle.dg_mid.specs.declared.code.RuleCode.{RuleCode}
@@ -20,7 +21,7 @@ use Rattle.dg_mid.specs.State.{Place, Frame, Call, ToPred, Way, Goes, Calls, Tri
 use Rattle.dg_mid.specs.Actions.{world_of, outside_in}
 use Rattle.dg_mid.specs.Potential.{IsOver}
 use Rattle.dg_mid.specs.Step.{Setting, more, passed, inside, at_rule, new_choice, new_frame, trail_more, charged, unified, bound, first_of, walked, enters as enters_by, begins, asks as asks_by, asks_last, last as last_by, returned, returns as returns_to, runs, enter, entered, goes_on, goes_back as back_to, step, call_of, said, said_in, said_to}
-use Rattle.dg_story.specs.PlainCode.{PlainRule, PlainRules, PlainNext, a_text, an_ask, a_last_ask, a_return, a_goto, a_done, PlainFrames, PlainWay, PlainStatus}
+use Rattle.dg_story.specs.PlainCode.{PlainOps, PlainRule, PlainRules, PlainNext, a_text, an_ask, a_last_ask, a_return, a_goto, a_done, PlainFrames, PlainWay, PlainStatus}
 use Rattle.dg_story.proofs.PlainNexts.{plain_next}
 use Rattle.dg_story.proofs.PlainRuns.{selected_none}
 use Rattle.dg_story.specs.Stepping.{BeginsSo, Begun, no_rule, last_rule, further, no_room, first, last, StepsTo, prints, asks, returns, fails_bare, jumps, finishes, enters, enters_not, resumes, goes_back, has_failed, FramesUnder, WayUnder, ChoicesUnder, MidUnder, StatusUnder}
@@ -30,6 +31,18 @@ none_made : (S : Substitution) → made_since S S ≡ []
 none_made S = let e : length S - length S ≡ 0 = omega arith in ap (λ (n : ℕ). take n S) e
 
 module _ (program : CoreProgram) (s : Setting) (rules : (pred : ℕ) → FitsHeads 0 (slice_get program.preds pred) → PlainRules program s.code (rules_at s.code pred)) where
+  -- plain instructions begin with one
+  begins_plain : (ops : List Op) → PlainNext program s.code ops → BeginsSo ops
+  begins_plain ops (a_text text rest name after) = record { first = op.Do (action.Text text); rest = rest; is = refl }
+  begins_plain ops (an_ask pred next rest rs after) = record { first = op.Ask pred [] false next; rest = rest; is = refl }
+  begins_plain ops (a_last_ask pred rest rs) = record { first = op.LastAsk pred [] false; rest = rest; is = refl }
+  begins_plain ops (a_return rest) = record { first = op.Return; rest = rest; is = refl }
+  begins_plain ops (a_goto b rest after) = record { first = op.Goto b; rest = rest; is = refl }
+  begins_plain ops (a_done rest) = record { first = op.Done; rest = rest; is = refl }
+
+  pub plain_begins : (ops : List Op) → PlainOps program s.code ops → BeginsSo ops
+  plain_begins ops plain = begins_plain ops (plain_next program s.code rules ops plain)
+
   begins_so : (r : RuleCode) → PlainRule program s.code r → BeginsSo (block_at s.code r.block)
   begins_so r rule = record { first = op.Enter 0 []; rest = rule.ops; is = rule.block }
 
@@ -66,39 +79,39 @@ module _ (program : CoreProgram) (s : Setting) (rules : (pred : ℕ) → FitsHea
   -- ## Instructions
 
   Is : Mid → List Print → Status → Type 0
-  Is m ps now = StepsTo program s (Runs m) ps now
+  Is m ps now = StepsTo s (Runs m) ps now
 
   same_heap : (m : Mid) → m.state.heap + 0 ≡ m.state.heap
   same_heap m = omega arith
 
   asks_last_so : (m : Mid) (pred : ℕ) (rest : List Op) (fs : List Frame) → m.ops ≡ op.LastAsk pred [] false ∷ rest → PlainRules program s.code (rules_at s.code pred) → PlainFrames program s.code fs → m.frames ≡ fs →
-      StepsTo program s (Runs m) [] (last_by s (ToPred pred) [] false fs (more 0 (record m { ops = rest })))
+      StepsTo s (Runs m) [] (last_by s (ToPred pred) [] false fs (more 0 (record m { ops = rest })))
   asks_last_so m pred rest [] e rs plain is =
       let m' : Mid = record (more 0 (record m { ops = rest })) { inner = [] } in
       let call = call_of [] false 0 (more 0 (record m { ops = rest })) in
       asks m m' (op.LastAsk pred [] false) rest pred call _ e last refl (record { frames = refl; choices = refl; heap = same_heap m }) (record { tag = refl; trail = refl }) (asks_begun pred call m' refl rs)
   asks_last_so m pred rest (f ∷ fs) e rs plain is = by_many f.many plain.0.many
     where
-      by_many : (b : Bool) → b ≡ false → StepsTo program s (Runs m) [] (asks_last s (ToPred pred) [] false b f fs (more 0 (record m { ops = rest })))
+      by_many : (b : Bool) → b ≡ false → StepsTo s (Runs m) [] (asks_last s (ToPred pred) [] false b f fs (more 0 (record m { ops = rest })))
       by_many true q = absurd (cc)
       by_many false q =
           let m' : Mid = record (more 0 (record m { ops = rest })) { inner = [] } in
           let call = call_of [] false 0 (more 0 (record m { ops = rest })) in
           asks m m' (op.LastAsk pred [] false) rest pred call _ e last refl (record { frames = refl; choices = refl; heap = same_heap m }) (record { tag = refl; trail = refl }) (asks_begun pred call m' refl rs)
 
-  returns_so : (m : Mid) (rest : List Op) (fs : List Frame) → m.ops ≡ op.Return ∷ rest → m.frames ≡ fs → PlainFrames program s.code fs → StepsTo program s (Runs m) [] (returns_to s fs (record m { ops = rest }))
+  returns_so : (m : Mid) (rest : List Op) (fs : List Frame) → m.ops ≡ op.Return ∷ rest → m.frames ≡ fs → PlainFrames program s.code fs → StepsTo s (Runs m) [] (returns_to s fs (record m { ops = rest }))
   returns_so m rest [] e is plain = fails_bare m (record m { ops = rest }) rest e is (record { frames = refl; choices = refl; heap = refl }) (record { tag = refl; trail = refl })
   returns_so m rest (f ∷ fs) e is plain = by_many f.many plain.0.many
     where
-      by_many : (b : Bool) → b ≡ false → StepsTo program s (Runs m) [] (Runs (returned s b f fs (record m { ops = rest })))
+      by_many : (b : Bool) → b ≡ false → StepsTo s (Runs m) [] (Runs (returned s b f fs (record m { ops = rest })))
       by_many true q = absurd (cc)
-      by_many false q = returns m (returned s false f fs (record m { ops = rest })) f fs rest e is plain.0.next refl refl refl (record { tag = refl; trail = refl }) refl
+      by_many false q = returns m (returned s false f fs (record m { ops = rest })) f fs rest e is (plain_begins (block_at s.code f.next) plain.0.next) refl refl refl (record { tag = refl; trail = refl }) refl
 
-  runs_so : (m : Mid) (ops : List Op) → m.ops ≡ ops → PlainNext program s.code ops → PlainFrames program s.code m.frames → StepsTo program s (Runs m) (said_to (said_in s m ops) (runs s ops m)) (runs s ops m)
+  runs_so : (m : Mid) (ops : List Op) → m.ops ≡ ops → PlainNext program s.code ops → PlainFrames program s.code m.frames → StepsTo s (Runs m) (said_to (said_in s m ops) (runs s ops m)) (runs s ops m)
   runs_so m ops e (a_text text rest name after) plain =
       let m1 : Mid = more 0 (record m { ops = rest }) in
       let next : Mid = outside_in (printed (Piece text) (world_of [] m1)) m1 in
-      subst (λ (b : Bool). StepsTo program s (Runs m) (said_to (Piece text ∷ []) (if b then Ended endings.KeepLimit else Runs next)) (if b then Ended endings.KeepLimit else Runs next)) (sym (le-ltb s.limits.keep 0 (omega arith)))
+      subst (λ (b : Bool). StepsTo s (Runs m) (said_to (Piece text ∷ []) (if b then Ended endings.KeepLimit else Runs next)) (if b then Ended endings.KeepLimit else Runs next)) (sym (le-ltb s.limits.keep 0 (omega arith)))
       (prints m next text rest e name (record { frames = refl; choices = refl; heap = same_heap m }) (record { tag = refl; trail = refl }) refl)
   runs_so m ops e (an_ask pred next rest rs after) plain =
       let m' : Mid = more 0 (record m { ops = rest }) in
@@ -106,7 +119,7 @@ module _ (program : CoreProgram) (s : Setting) (rules : (pred : ℕ) → FitsHea
       asks m m' (op.Ask pred [] false next) rest pred call _ e (first next) refl (record { frames = refl; choices = refl; heap = same_heap m }) (record { tag = refl; trail = refl }) (asks_begun pred call m' refl rs)
   runs_so m ops e (a_last_ask pred rest rs) plain = asks_last_so m pred rest m.frames e rs plain refl
   runs_so m ops e (a_return rest) plain = returns_so m rest m.frames e refl plain
-  runs_so m ops e (a_goto b rest after) plain = jumps m b rest e after
+  runs_so m ops e (a_goto b rest after) plain = jumps m (record m { ops = block_at s.code b }) b rest e (plain_begins (block_at s.code b) after) (record { frames = refl; choices = refl; heap = refl }) (record { tag = refl; trail = refl }) refl
   runs_so m ops e (a_done rest) plain = finishes m rest e
 
   -- ## Entering and going back
@@ -128,7 +141,7 @@ module _ (program : CoreProgram) (s : Setting) (rules : (pred : ℕ) → FitsHea
     trail_none = rw (none_made m.state.subst) (omega arith)
 
     abbrev EntersSo : Bool → Type 0
-    EntersSo b = StepsTo program s (Enters call m) [] (if b then Ended endings.HeapLimit else unified s u taken (Runs in_rule))
+    EntersSo b = StepsTo s (Enters call m) [] (if b then Ended endings.HeapLimit else unified s u taken (Runs in_rule))
 
     full : s.limits.heap < m.state.heap + 6 → EntersSo (nat_lt s.limits.heap (m.state.heap + 6))
     full lt = subst (λ (b : Bool). EntersSo b) (sym (lt-ltb s.limits.heap (m.state.heap + 6) lt)) (enters_not call m ops e lt)
@@ -137,34 +150,34 @@ module _ (program : CoreProgram) (s : Setting) (rules : (pred : ℕ) → FitsHea
     fits le =
         let t = trail_none in
         subst (λ (b : Bool). EntersSo b) (sym (le-ltb s.limits.heap (m.state.heap + 6) le))
-        (subst (λ (b : Bool). StepsTo program s (Enters call m) [] (if b then Ended endings.TrailLimit else Runs in_rule)) (sym (le-ltb s.limits.trail (trail_more taken.state u) (omega arith)))
+        (subst (λ (b : Bool). StepsTo s (Enters call m) [] (if b then Ended endings.TrailLimit else Runs in_rule)) (sym (le-ltb s.limits.trail (trail_more taken.state u) (omega arith)))
         (enters call m in_rule frame ops e le refl refl refl refl refl (record { tag = refl; trail = t }) refl))
 
-    enter_so : call.args ≡ [] → StepsTo program s (Enters call m) [] (enter s call 0 [] (record m { ops = ops }))
+    enter_so : call.args ≡ [] → StepsTo s (Enters call m) [] (enter s call 0 [] (record m { ops = ops }))
     enter_so none =
         let es : Equations = zip call.args (map (value_of s.game.program frame.vars) []) in
         let no_equation : es ≡ [] = ap (λ (args : List Value). zip args (map (value_of s.game.program frame.vars) [])) none in
         let agrees : solve m.state.subst es ≡ u = ap (solve m.state.subst) no_equation ∙ solve_nothing m.state.subst in
-        subst (λ (x : Unified). StepsTo program s (Enters call m) [] (charged s 6 m (unified s x taken (Runs (record (bound x taken) { frames = frame ∷ m.frames; inner = [] }))))) (sym agrees)
+        subst (λ (x : Unified). StepsTo s (Enters call m) [] (charged s 6 m (unified s x taken (Runs (record (bound x taken) { frames = frame ∷ m.frames; inner = [] }))))) (sym agrees)
         (⊎_elim full fits (cases_lt s.limits.heap (m.state.heap + 6)))
 
-  back_so : (m : Mid) (cs : List Choice) → m.choices ≡ cs → StepsTo program s (Fails m) [] (back_to cs m)
+  back_so : (m : Mid) (cs : List Choice) → m.choices ≡ cs → StepsTo s (Fails m) [] (back_to cs m)
   back_so m [] e = has_failed m e
   back_so m (c ∷ cs) e = goes_back m c cs e
 
-  resumes_so : (call : Call) (rs : List RuleCode) (m : Mid) → call.args ≡ [] → PlainRules program s.code rs → 1 ≤ length rs → StepsTo program s (Resumes (Calls call rs) m) [] (begins s call rs m)
+  resumes_so : (call : Call) (rs : List RuleCode) (m : Mid) → call.args ≡ [] → PlainRules program s.code rs → 1 ≤ length rs → StepsTo s (Resumes (Calls call rs) m) [] (begins s call rs m)
   resumes_so call [] m none rules some = absurd (omega arith)
   resumes_so call (r ∷ rs) m none rules some = resumes call r rs m _ (begins_begun call (r ∷ rs) m none rules)
 
-  goes_so : (way : Way) (m : Mid) → PlainWay program s.code way → StepsTo program s (Resumes way m) [] (goes_on s way m)
+  goes_so : (way : Way) (m : Mid) → PlainWay program s.code way → StepsTo s (Resumes way m) [] (goes_on s way m)
   goes_so (Calls call rs) m w = resumes_so call rs m w.0.args w.1 w.2
   goes_so (Goes b) m w = absurd w
   goes_so (Tries f objects) m w = absurd w
 
   -- Each step of plain code is one of these.
-  pub steps_to : (now : Status) → PlainStatus program s.code now → StatusUnder now → (IsOver now → ⊥) → StepsTo program s now (said s now) (step s now)
+  pub steps_to : (now : Status) → PlainStatus program s.code now → StatusUnder now → (IsOver now → ⊥) → StepsTo s now (said s now) (step s now)
   steps_to (Runs m) is under on = runs_so m m.ops refl (plain_next program s.code rules m.ops is.1) is.0.frames
-  steps_to (Enters call m) is under on = subst (λ (ops : List Op). StepsTo program s (Enters call m) [] (entered s call ops m)) (sym is.2.is) (enter_so call m is.2.ops is.2.is under.0.trail is.1.args)
+  steps_to (Enters call m) is under on = subst (λ (ops : List Op). StepsTo s (Enters call m) [] (entered s call ops m)) (sym is.2.is) (enter_so call m is.2.ops is.2.is under.0.trail is.1.args)
   steps_to (Resumes way m) is under on = goes_so way m is.1
   steps_to (Fails m) is under on = back_so m m.choices refl
   steps_to (Ended e) is under on = absurd (on tt)
@@ -193,7 +206,7 @@ mid_under m m' t cs e q trail h bare = record { choices = subst (λ (n : ℕ). C
 pub frames_under : (m m' : Mid) (t t' : ℕ) (fs : List Frame) → m'.frames ≡ fs → t ≤ t' → FramesUnder t fs → FramesUnder t' m'.frames
 frames_under m m' t t' fs e le h = subst (FramesUnder t') (sym e) (frames_lower t t' fs le h)
 
-module _ (program : CoreProgram) (s : Setting) where
+module _ (s : Setting) where
   begun_under : (call : Call) {rs : List RuleCode} {m : Mid} {now : Status} → Begun s call rs m now → MidUnder m → call.cut.tag ≤ m.next_tag → FramesUnder call.cut.tag m.frames → StatusUnder now
   begun_under call (no_rule m) h le under = h
   begun_under call (last_rule r m m' some same tagged ops) h le under =
@@ -212,7 +225,7 @@ module _ (program : CoreProgram) (s : Setting) where
   begun_under call (no_room r q qs m lt) h le under = tt
 
   -- What holds between steps is kept.
-  pub step_under : {now next : Status} {ps : List Print} → StepsTo program s now ps next → StatusUnder now → StatusUnder next
+  pub step_under : {now next : Status} {ps : List Print} → StepsTo s now ps next → StatusUnder now → StatusUnder next
   step_under (prints m m' text rest e name same tagged ops) h =
       let q = tagged.tag in
       (mid_under m m' m.next_tag m.choices same.choices q tagged.trail h.0.choices h.0.trail, frames_under m m' m.next_tag m'.next_tag m.frames same.frames (omega arith) h.1)
@@ -225,7 +238,9 @@ module _ (program : CoreProgram) (s : Setting) where
       let first = all.0 in
       (mid_under m m' m.next_tag (cut_choices f.cut m.choices) choices q tagged.trail (cut_under m.next_tag f.cut m.choices h.0.choices) h.0.trail, frames_under m m' f.cut.tag m'.next_tag fs frames (omega arith) all.1)
   step_under (fails_bare m m' rest e is same tagged) h = mid_under m m' m.next_tag m.choices same.choices tagged.tag tagged.trail h.0.choices h.0.trail
-  step_under (jumps m b rest e plain) h = (record { choices = h.0.choices; trail = h.0.trail }, h.1)
+  step_under (jumps m m' b rest e some same tagged ops) h =
+      let q = tagged.tag in
+      (mid_under m m' m.next_tag m.choices same.choices q tagged.trail h.0.choices h.0.trail, frames_under m m' m.next_tag m'.next_tag m.frames same.frames (omega arith) h.1)
   step_under (finishes m rest e) h = tt
   step_under (enters call m m' f rest e room next cut frames choices heap tagged ops) h =
       let q = tagged.tag in

@@ -1,5 +1,5 @@
 -- The routines of the run-time fit.
-use Rattle.std.proofs.Common.{◌≡◌, ℕ, suc, ◌+◌, ◌*◌, ◌<◌, ◌≤◌, ◌⊎◌, inl, inr, List, [], ◌∷◌, ◌++◌, length, None, Bool, true, false, refl, arith, rules, length-append}
+use Rattle.std.proofs.Common.{ℕ, ◌<◌, ◌≤◌, List, [], ◌∷◌, length, None, Bool, true, false, arith, rules, length-append}
 use Rattle.z_code.specs.Open.{Counts}
 use Rattle.z_lang.specs.declared.act.Act.{Act}
 use Rattle.z_lang.specs.declared.act.Act.TheVariants as acts
@@ -8,9 +8,9 @@ use Rattle.z_lang.specs.declared.act.Atom.TheVariants as atoms
 use Rattle.z_lang.specs.declared.act.Print.TheVariants as prints
 use Rattle.z_story.specs.Parts.{IsRoutine, AreRoutines}
 use Rattle.dg_story.specs.declared.support.TheConstants.{TRAMPOLINE, FAIL_ACTS, NEWLINE_ACTS, SEPARATE_ACTS, ENTER_ACTS, CHOOSE_ACTS, LEAVE_ACTS, DONE_ACTS, FAILED_LINE, HEAP_LINE, KEEP_LINE}
-use Rattle.dg_story.specs.Texts.{says, say, letters_of}
+use Rattle.dg_story.specs.Texts.{says}
 use Rattle.dg_story.specs.Routines.{routine, closing_acts, start_acts, runtime}
-use Rattle.dg_story.proofs.Lines.{IsLine, AreLines, lines_append, straight}
+use Rattle.dg_story.proofs.Lines.{AreLines, lines_append, straight}
 use Rattle.dg_story.proofs.CodeFits.{letters_lines}
 
 -- there are so many routines, the four tables of the heap, and no texts

@@ -1,25 +1,23 @@
 -- What the acts of a text and of a closing do.
-use Rattle.std.proofs.Common.{◌≡◌, ◌≢◌, ℕ, zero, suc, ◌+◌, ◌*◌, ◌<◌, ◌≤◌, Bool, true, false, List, [], ◌∷◌, ◌++◌, length, map, Option, Some, None, refl, sym, ap, ◌∙◌, subst, arith, append_assoc}
+use Rattle.std.proofs.Common.{◌≡◌, ◌≢◌, ℕ, suc, ◌+◌, ◌<◌, ◌≤◌, Bool, true, false, List, [], ◌∷◌, ◌++◌, length, map, Option, Some, None, refl, sym, ap, ◌∙◌, subst, arith, append_assoc}
 use Rattle.std.specs.Prelude.{◌||◌, if◌then◌else◌, encode_utf8_all}
 use Rattle.std.specs.List.{All}
 use Rattle.std.proofs.lemmas.List.{append-nil}
 use Rattle.dg_base.specs.Sound.{IsPrintable}
-use Rattle.dg_meaning.specs.Render.{opens, closes, separator, space_for, first_of, last_of}
-use Rattle.z_model.specs.declared.end.Halt.TheVariants.{AtQuit}
+use Rattle.dg_meaning.specs.Render.{opens, closes, separator, last_of}
 use Rattle.z_lang.specs.declared.act.Atom.TheVariants as atoms
 use Rattle.z_lang.specs.declared.act.Args.TheVariants as args
-use Rattle.z_lang.specs.declared.act.Print.TheVariants as prints
 use Rattle.z_lang.specs.declared.act.Act.{Act}
 use Rattle.z_lang.specs.declared.act.Act.TheVariants as acts
 use Rattle.z_lang.specs.State.{State, Program}
 use Rattle.z_lang.specs.Acts.{with_output}
-use Rattle.z_lang.specs.Runs.{Outcome, Runs, Stops, Returns, done, calls, quits}
-use Rattle.dg_story.specs.Texts.{letters_of, say, says, first_closes, end_with, end_of, separated, text_acts, closing_acts}
-use Rattle.dg_story.specs.declared.support.TheConstants.{NEWLINE_ACTS, SEPARATE_ACTS}
+use Rattle.z_lang.specs.Runs.{Outcome, Runs, done, calls}
+use Rattle.dg_story.specs.Texts.{letters_of, say, says, end_with, end_of, separated, text_acts}
+use Rattle.dg_story.specs.declared.support.TheConstants.{SEPARATE_ACTS}
 use Rattle.dg_story.specs.Ends.{kept_end}
-use Rattle.dg_story.specs.Cells.{with_cell, replaced, Holds}
-use Rattle.dg_story.proofs.Rules.{copies, says as prints_so, IsPut, puts}
-use Rattle.dg_story.proofs.RunTime.{newline_none, newline_some, newline_printed, separate_none, separate_some}
+use Rattle.dg_story.specs.Cells.{with_cell, Holds}
+use Rattle.dg_story.proofs.Rules.{copies, puts}
+use Rattle.dg_story.proofs.RunTime.{separate_none, separate_some}
 use Rattle.dg_story.proofs.TextRuns.{letters_are, prints_all}
 
 -- Acts lead on, at a cost of a few instructions more.

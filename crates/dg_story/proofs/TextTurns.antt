@@ -36,8 +36,8 @@ use Rattle.dg_story.proofs.TextActs.{LeadsOn, end_code, no_space, calls_separate
 use Rattle.dg_story.proofs.TextRuns.{letters_are, prints_all}
 use Rattle.dg_story.proofs.Rooms.{letters_few, text_many}
 use Rattle.dg_story.proofs.Places.{from_front, from_behind, from_here, ops_behind}
-use Rattle.dg_story.proofs.FailTurns.{Represented}
-use Rattle.dg_story.proofs.Playing.{Playing, Lands, Moved, Comes, landed, comes_with, moves, moves_on, mid_with}
+use Rattle.dg_story.proofs.JumpTurns.{OpsFrom, ops_at}
+use Rattle.dg_story.proofs.Playing.{Playing, Lands, Represented, Moved, Comes, comes_with, moves, moves_on, moved_within, mid_with}
 use Rattle.dg_story.specs.Stepping.{SameMid}
 
 -- ## Acts that print
@@ -177,17 +177,15 @@ module _ (t : Telling) (story : List ℕ) (c : Context) (pc : ℕ) (plays : Play
       let led = acting_runs t.p 7 80 base a whole (acts.Return (atoms.Routine way) ∷ []) s s' (Returns (at_number t way)) 1 cells l.holds is (returns refl) in
       let m = moves t story c pc plays output cells z l number (going body way) next at (omega arith) (at_number t way) (led.count + 1) (output ++ out) memory' [] (set_cells e cells) led.runs (set_holds t.p 7 80 base e last n body out a l.memory cells l.holds) (plays.words way) in
       let few = led.few in
-      let few' = m.few in
-      record { there = m.there; lands = m.lands; count = m.count; some = m.some; few = omega arith; leads = m.leads }
+      moved_within t story c pc (output ++ out) (replaced (set_cells e cells) 0 (at_number t way)) (led.count + 1 + 2) (n + 3) z (omega arith) m
 
   pieces_move : (further : ℕ) (output out : List ℕ) (cells : ℕ → ℕ) (z : ZState) (number way last n : ℕ) (body : List Act) (e : Option ℕ) → Lands t story c pc output cells z → cells 0 ≡ at_number t number → cells 6 ≡ last →
       From (all_routines t.code t.keeps) number (pieces further number body way) → Acting t.p 7 80 last body out e n → Told t story c pc (output ++ out) cells way (now e last) (n + 3 * suc further) z
   pieces_move zero output out cells z number way last n body e l next is from a =
       let m = piece_moves output out cells z number way last n body e l next is (from_here (all_routines t.code t.keeps) number (going body way) [] from) a in
-      let few = m.few in
       record {
         new = replaced (set_cells e cells) 0 (at_number t way);
-        moved = record { there = m.there; lands = m.lands; count = m.count; some = m.some; few = omega arith; leads = m.leads };
+        moved = moved_within t story c pc (output ++ out) (replaced (set_cells e cells) 0 (at_number t way)) (n + 3) (n + 3 * suc zero) z (omega arith) m;
         next = refl;
         last_is = set_last e cells last is;
         others = λ k a b. other_cell (set_cells e cells) 0 (at_number t way) k a ∙ set_other e cells k b;
@@ -315,31 +313,23 @@ module _ (t : Telling) (story : List ℕ) (c : Context) (pc : ℕ) (plays : Play
       let ns = numbers_of t.code in
       let x = op.Do (action.Text (first ∷ text)) in
       let before = (met_from nothing_met prints).last in
-      let l = landed t story c pc prints (Runs m) z r in
-      let ops = subst (λ (ops : List Op). From (all_routines t.code t.keeps) n (ops_routines ns n ops)) e here.ops_are in
+      let ops = ops_at t cells m (op.Do (action.Text (first ∷ text)) ∷ rest) e here in
       let acting = text_acting t.p 7 80 (omega arith) plays.map.base (plays.routines 3 (routine 0 SEPARATE_ACTS) refl) (cells 6) before mid.last cs first text all is in
       let further = length (text_acts (first ∷ text)) / 1000 in
       let way = n + op_size x in
-      let told = pieces_move t story c pc plays further (render prints) (separator [] before first ++ (first ∷ text)) cells z n way (cells 6) acting.n (text_acts (first ∷ text)) (Some (end_of (first ∷ text))) l here.next refl
+      let told = pieces_move t story c pc plays further (render prints) (separator [] before first ++ (first ∷ text)) cells z n way (cells 6) acting.n (text_acts (first ∷ text)) (Some (end_of (first ∷ text))) r.lands here.next refl
       (from_front (all_routines t.code t.keeps) n (op_routines ns n x) (ops_routines ns way rest) ops) acting.acting in
       let many = text_many (first ∷ text) in
       let letters : length cs ≡ length (letters_of (first ∷ text)) = ap length (sym (sym (ap letters_of is) ∙ letters_are cs all)) in
       let short = letters_few part.Nothing (first ∷ text) in
       let few = acting.few in
-      let moved = told.moved in
-      let few' = moved.few in
       let new = told.new in
       let printed : render prints ++ (separator [] before first ++ (first ∷ text)) ≡ render (prints ++ Piece (first ∷ text) ∷ []) = sym (piece_rendered prints first text gap) in
-      let there : Moved t story c pc (render prints ++ (separator [] before first ++ (first ∷ text))) new (4 * characters (first ∷ text) + 14) z =
-      record { there = moved.there; lands = moved.lands; count = moved.count; some = moved.some; few = omega arith; leads = moved.leads } in
+      let there = moved_within t story c pc (render prints ++ (separator [] before first ++ (first ∷ text))) new (acting.n + 3 * suc further) (4 * characters (first ∷ text) + 14) z (omega arith) told.moved in
       let behind : MidIn t new (prints ++ Piece (first ∷ text) ∷ []) m' =
       mid_with t cells new prints (prints ++ Piece (first ∷ text) ∷ []) m m' (λ k a b. told.others k (omega arith) (omega arith)) (told.others 1 (omega arith) (omega arith)) (told.others 2 (omega arith) (omega arith)) (told.others 3 (omega arith) (omega arith))
       (told.last_is ∙ end_kept prints first text gap) same mid in
-      let at_ops : OpsIn t new m' = record {
-        number = way;
-        ops_are = subst (λ (ops : List Op). From (all_routines t.code t.keeps) way (ops_routines ns way ops)) (sym ops_are) (ops_behind t.code t.keeps n x rest ops);
-        next = told.next;
-      } in
+      let at_ops : OpsIn t new m' = record { number = way; ops_are = subst (OpsFrom t way) (sym ops_are) (ops_behind t.code t.keeps n x rest ops); next = told.next } in
       comes_with t story c pc (prints ++ Piece (first ∷ text) ∷ []) (Runs m') new (4 * characters (first ∷ text) + 14) z (subst (λ (out : List ℕ). Moved t story c pc out new (4 * characters (first ∷ text) + 14) z) printed there) (behind, at_ops)
 
   -- A text is printed.

@@ -1,10 +1,9 @@
 -- The memory of a built story begins with zeros, as far as it may be written.
-use Rattle.std.proofs.Common.{◌≡◌, ℕ, zero, suc, ◌+◌, ◌-◌, ◌*◌, ◌/◌, ◌%◌, ◌<◌, ◌≤◌, List, [], ◌∷◌, ◌++◌, length, take, drop, replicate, get_or, Bool, true, false, refl, sym, ap, ◌∙◌, subst, arith, append_assoc, length-append}
+use Rattle.std.proofs.Common.{◌≡◌, ℕ, zero, suc, ◌+◌, ◌-◌, ◌*◌, ◌<◌, ◌≤◌, List, [], ◌∷◌, ◌++◌, length, take, replicate, get_or, Bool, true, false, refl, sym, ap, ◌∙◌, arith, append_assoc, length-append}
 use Rattle.std.specs.Prelude.{slice_index}
 use Rattle.std.proofs.Math.Seq.{take-length}
 use Rattle.std.proofs.lemmas.List.{length-replicate}
 use Rattle.z_model.specs.Story.{memory_of}
-use Rattle.z_asm.specs.Header.{header_bytes}
 use Rattle.z_code.specs.Targets.{label_from, ops_bytes}
 use Rattle.z_asm.specs.declared.image.Image.{Image}
 use Rattle.z_asm.specs.Story.{story_of, header_of, bytes_behind, dictionary, names_of, first_of, first_ops, all_strings, all_routines, end_of}
@@ -12,7 +11,7 @@ use Rattle.z_asm.specs.Layout.{aligned, table_bytes}
 use Rattle.z_story.specs.Parts.{image_of}
 use Rattle.dg_mid.specs.declared.code.Code.{Code}
 use Rattle.dg_story.specs.Built.{heap_tables, parts_of, IsStoryOf}
-use Rattle.dg_story.specs.Cells.{cell, Holds}
+use Rattle.dg_story.specs.Cells.{Holds}
 use Rattle.dg_story.proofs.Mapped.{p, mapped, globals_are}
 
 -- all bytes are zeros

@@ -1,5 +1,5 @@
 -- Which programs have only plain rules, as far as a run of them may come.
-use Rattle.std.specs.Prelude.{ℕ, List, [], ◌∷◌, Bool, true, false, not, ◌&&◌, ◌||◌, ◌==◌}
+use Rattle.std.specs.Prelude.{List, [], ◌∷◌, Bool, true, false, not, ◌&&◌, ◌||◌, ◌==◌}
 use Rattle.dg_base.specs.declared.program.Goal.{Goal, out-Goal}
 use Rattle.dg_base.specs.declared.program.Goal.TheOpen.{Goal-F, Text, Ask}
 use Rattle.dg_base.specs.declared.program.Term.{Term}

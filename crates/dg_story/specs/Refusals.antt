@@ -1,5 +1,5 @@
 -- Why a program has no story. Hold it against docs/REFUSALS.md, "Of a build".
-use Rattle.std.specs.Prelude.{ℕ, Option, Some, None, Bool, not, nat_lt, if◌then◌else◌}
+use Rattle.std.specs.Prelude.{Option, Some, None, not, nat_lt, if◌then◌else◌}
 use Rattle.dg_base.specs.declared.program.CoreProgram.{CoreProgram}
 use Rattle.dg_story.specs.declared.refusal.BuildRefusal.{BuildRefusal}
 use Rattle.dg_story.specs.declared.refusal.BuildRefusal.TheVariants.{NotBuiltYet, WorldTooLarge, WordsTooLarge, StoryTooLarge}

@@ -1,6 +1,5 @@
 -- The steps of plain code, and what holds of a machine between them. The proofs alone rest on it.
 use Rattle.std.specs.Prelude.{◌≡◌, ℕ, ◌+◌, ◌<◌, ◌≤◌, List, [], ◌∷◌, false}
-use Rattle.dg_base.specs.declared.program.CoreProgram.{CoreProgram}
 use Rattle.dg_base.specs.declared.run.Ending.{Ending}
 use Rattle.dg_base.specs.declared.run.Ending.TheVariants as endings
 use Rattle.dg_base.specs.Sound.{IsName}
@@ -12,7 +11,6 @@ use Rattle.dg_mid.specs.declared.code.RuleCode.{RuleCode}
 use Rattle.dg_mid.specs.Code.{block_at, rules_at}
 use Rattle.dg_mid.specs.State.{Frame, Call, Way, Calls, Choice, Mid, Status, Runs, Enters, Resumes, Fails, Ended, cut_choices}
 use Rattle.dg_mid.specs.Step.{Setting, back_at}
-use Rattle.dg_story.specs.PlainCode.{PlainOps}
 
 -- ## Steps
 
@@ -57,28 +55,28 @@ pub data AsksFor (pred : ℕ) : Op → ℕ → Type 0 where
   last : AsksFor pred (op.LastAsk pred [] false) 0
 
 -- A step of plain code, with what it prints.
-pub data StepsTo (program : CoreProgram) (s : Setting) : Status → List Print → Status → Type 0 where
+pub data StepsTo (s : Setting) : Status → List Print → Status → Type 0 where
   prints : (m m' : Mid) (text : List ℕ) (rest : List Op) → m.ops ≡ op.Do (action.Text text) ∷ rest → IsName text → SameMid m m' → IsTagged m m' m.next_tag →
-      m'.ops ≡ rest → StepsTo program s (Runs m) (Piece text ∷ []) (Runs m')
+      m'.ops ≡ rest → StepsTo s (Runs m) (Piece text ∷ []) (Runs m')
   asks : (m m' : Mid) (x : Op) (rest : List Op) (pred : ℕ) (call : Call) (now : Status) → m.ops ≡ x ∷ rest → AsksFor pred x call.next →
-      call.cut.tag ≡ m.next_tag → SameMid m m' → IsTagged m m' m.next_tag → Begun s call (rules_at s.code pred) m' now → StepsTo program s (Runs m) [] now
+      call.cut.tag ≡ m.next_tag → SameMid m m' → IsTagged m m' m.next_tag → Begun s call (rules_at s.code pred) m' now → StepsTo s (Runs m) [] now
   returns : (m m' : Mid) (f : Frame) (fs : List Frame) (rest : List Op) → m.ops ≡ op.Return ∷ rest → m.frames ≡ f ∷ fs →
-      PlainOps program s.code (block_at s.code f.next) → m'.frames ≡ fs → m'.choices ≡ cut_choices f.cut m.choices → m'.state.heap ≡ m.state.heap →
-      IsTagged m m' m.next_tag → m'.ops ≡ block_at s.code f.next → StepsTo program s (Runs m) [] (Runs m')
+      BeginsSo (block_at s.code f.next) → m'.frames ≡ fs → m'.choices ≡ cut_choices f.cut m.choices → m'.state.heap ≡ m.state.heap →
+      IsTagged m m' m.next_tag → m'.ops ≡ block_at s.code f.next → StepsTo s (Runs m) [] (Runs m')
   fails_bare : (m m' : Mid) (rest : List Op) → m.ops ≡ op.Return ∷ rest → m.frames ≡ [] → SameMid m m' → IsTagged m m' m.next_tag →
-      StepsTo program s (Runs m) [] (Fails m')
-  jumps : (m : Mid) (b : ℕ) (rest : List Op) → m.ops ≡ op.Goto b ∷ rest → PlainOps program s.code (block_at s.code b) →
-      StepsTo program s (Runs m) [] (Runs (record m { ops = block_at s.code b }))
-  finishes : (m : Mid) (rest : List Op) → m.ops ≡ op.Done ∷ rest → StepsTo program s (Runs m) [] (Ended endings.Done)
+      StepsTo s (Runs m) [] (Fails m')
+  jumps : (m m' : Mid) (b : ℕ) (rest : List Op) → m.ops ≡ op.Goto b ∷ rest → BeginsSo (block_at s.code b) → SameMid m m' → IsTagged m m' m.next_tag →
+      m'.ops ≡ block_at s.code b → StepsTo s (Runs m) [] (Runs m')
+  finishes : (m : Mid) (rest : List Op) → m.ops ≡ op.Done ∷ rest → StepsTo s (Runs m) [] (Ended endings.Done)
   enters : (call : Call) (m m' : Mid) (f : Frame) (rest : List Op) → m.ops ≡ op.Enter 0 [] ∷ rest → m.state.heap + 6 ≤ s.limits.heap →
       f.next ≡ call.next → f.cut ≡ call.cut → m'.frames ≡ f ∷ m.frames → m'.choices ≡ m.choices → m'.state.heap ≡ m.state.heap + 6 →
-      IsTagged m m' m.next_tag → m'.ops ≡ rest → StepsTo program s (Enters call m) [] (Runs m')
+      IsTagged m m' m.next_tag → m'.ops ≡ rest → StepsTo s (Enters call m) [] (Runs m')
   enters_not : (call : Call) (m : Mid) (rest : List Op) → m.ops ≡ op.Enter 0 [] ∷ rest → s.limits.heap < m.state.heap + 6 →
-      StepsTo program s (Enters call m) [] (Ended endings.HeapLimit)
+      StepsTo s (Enters call m) [] (Ended endings.HeapLimit)
   resumes : (call : Call) (r : RuleCode) (rules : List RuleCode) (m : Mid) (now : Status) → Begun s call (r ∷ rules) m now →
-      StepsTo program s (Resumes (Calls call (r ∷ rules)) m) [] now
-  goes_back : (m : Mid) (c : Choice) (cs : List Choice) → m.choices ≡ c ∷ cs → StepsTo program s (Fails m) [] (Resumes c.way (back_at c cs m))
-  has_failed : (m : Mid) → m.choices ≡ [] → StepsTo program s (Fails m) [] (Ended endings.Failed)
+      StepsTo s (Resumes (Calls call (r ∷ rules)) m) [] now
+  goes_back : (m : Mid) (c : Choice) (cs : List Choice) → m.choices ≡ c ∷ cs → StepsTo s (Fails m) [] (Resumes c.way (back_at c cs m))
+  has_failed : (m : Mid) → m.choices ≡ [] → StepsTo s (Fails m) [] (Ended endings.Failed)
 
 -- ## Between steps
 

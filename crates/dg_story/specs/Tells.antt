@@ -5,7 +5,7 @@ use Rattle.dg_meaning.specs.World.{Game}
 use Rattle.dg_meaning.specs.Transcript.{run}
 use Rattle.dg_meaning.specs.OneRun.{Begins}
 use Rattle.z_model.specs.declared.end.ZEnd.{ZEnd}
-use Rattle.z_lang.specs.Turns.{Turn, To, Over, Turning, Reaches, printed_by}
+use Rattle.z_lang.specs.Turns.{Over, Turning, Reaches, printed_by}
 use Rattle.dg_story.specs.Agrees.{IsCut, IsWhole, IsThere, IsAtLimit, body, enough_for}
 
 -- n goals' bodies are printed at a boundary that is reached in time, and the run goes on; or it is over in time with what they show.

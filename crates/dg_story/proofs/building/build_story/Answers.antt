@@ -1,7 +1,7 @@
 use Rattle.std.proofs.Common.{◌≡◌, ℕ, Bool, IfOk, Result, Ok, Err, Vec, Global, inr, ap, sym, ◌∙◌, subst, arith}
 use Rattle.z_asm.specs.Story.{IsTooLarge}
 use Rattle.z_story.specs.Parts.{image_of}
-use Rattle.dg_story.specs.Built.{parts_of, IsStoryOf, keeps_within, rule_count}
+use Rattle.dg_story.specs.Built.{parts_of, IsStoryOf, rule_count}
 use Rattle.dg_story.specs.declared.building.Built.{Built}
 use Rattle.dg_story.specs.declared.refusal.BuildFault.{BuildFault}
 use Rattle.dg_story.specs.declared.refusal.BuildFault.TheVariants.{OutOfMemory}

@@ -1,5 +1,4 @@
-use Rattle.std.proofs.Common.{◌≡◌, List, [], ◌∷◌, ◌++◌}
-use Rattle.z_lang.specs.declared.act.Routine.{Routine}
+use Rattle.std.proofs.Common.{[], ◌∷◌}
 use Rattle.dg_story.specs.declared.support.TheConstants.{FAIL_ACTS, NEWLINE_ACTS, SEPARATE_ACTS, ENTER_ACTS, CHOOSE_ACTS, LEAVE_ACTS, DONE_ACTS, FAILED_LINE, HEAP_LINE}
 use Rattle.dg_story.specs.Routines.{routine, start_acts, closing_acts}
 use Rattle.dg_story.proofs.Lines.{then_one}
