@@ -1,14 +1,13 @@
 -- Where what an item becomes isn't too large, its variables are few.
-use Rattle.std.proofs.Common.{◌≡◌, ◌≤◌, ℕ, List, [], ◌∷◌, ◌++◌, ◌||◌, Bool, true, false, nat_lt, refl, ap, arith}
+use Rattle.std.proofs.Common.{◌≡◌, ◌≤◌, ℕ, List, [], ◌∷◌, ◌||◌, Bool, true, false, nat_lt, arith}
 use Rattle.std.specs.List.{All, list_any}
 use Rattle.std.proofs.lemmas.Bool.{or_parts}
 use Rattle.std.proofs.lemmas.Bool.Decides.{nat_tests}
 use Rattle.std.proofs.lemmas.List.Elements.{All-nil, All-cons}
 use Rattle.dg_base.specs.Tree.{Said, Item}
-use Rattle.dg_base.specs.Mentions.{Mentions, nothing, thing, closed, things, closures, names_in, weight_of, variable_in}
-use Rattle.dg_names.specs.Counts.{counted_in}
+use Rattle.dg_base.specs.Mentions.{Mentions, things, closures, names_in, weight_of, variable_in}
 use Rattle.dg_access.specs.Counts.{variables_of, is_full, counted_of, counted_among, has_many_variables, any_has_many, queries_at}
-use Rattle.dg_access.specs.Few.{AreFew, HasFewVariables, SmallAreFew, AllAreOut}
+use Rattle.dg_access.specs.Few.{AreFew, HasFewVariables, SmallAreFew}
 
 not_over : (k : ℕ) → nat_lt 64 k ≡ false → k ≤ 64
 not_over k h = grind (arith, nat_tests, h)
@@ -34,8 +33,3 @@ any_few (i ∷ is) e =
 
 pub small_few : (is : List Item) → SmallAreFew is
 small_few is e = any_few is (or_parts (nat_lt 10000 (weight_of queries_at (counted_among is))) (any_has_many is) e).1
-
-pub all_out : (all : List (List ℕ)) (ms : Mentions) → AllAreOut all ms
-all_out all nothing e = refl
-all_out all (thing t ms) e = ap (λ (l : List (List ℕ)). counted_in t ++ l) (all_out all ms e)
-all_out all (closed inner ms) e = cc

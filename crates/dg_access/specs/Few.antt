@@ -1,10 +1,9 @@
 -- How many variables an item has: hold it against docs/LANGUAGE.md, "Limits".
-use Rattle.std.specs.Prelude.{◌≡◌, ◌≤◌, ℕ, List, [], false}
+use Rattle.std.specs.Prelude.{◌≡◌, ◌≤◌, ℕ, List, false}
 use Rattle.std.specs.List.{All}
 use Rattle.dg_base.specs.Tree.{Said, Item}
 use Rattle.dg_base.specs.Mentions.{Mentions, things, closures, names_in, variable_in}
-use Rattle.dg_names.specs.Counts.{counted_in}
-use Rattle.dg_access.specs.Counts.{names_out, variables_of, counted_of, are_large}
+use Rattle.dg_access.specs.Counts.{variables_of, counted_of, are_large}
 
 -- At most 64 variables, of all the names in an item.
 abbrev pub AreFew : List (List ℕ) → Mentions → Type 0
@@ -17,7 +16,3 @@ HasFewVariables said = let ms = counted_of said in let all = names_in variable_i
 -- What one item becomes has few variables where it isn't too large.
 abbrev pub SmallAreFew : List Item → Type 0
 SmallAreFew is = are_large is ≡ false → All (λ (i : Item). HasFewVariables i.said) is
-
--- Where no closure stands, the variables are all that are named.
-abbrev pub AllAreOut : List (List ℕ) → Mentions → Type 0
-AllAreOut all ms = closures ms ≡ [] → names_out all ms ≡ names_in counted_in (things ms)

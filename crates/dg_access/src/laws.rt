@@ -1,10 +1,10 @@
 // What the definitions of new names alone say.
 ghost use Rattle.std.specs.Prelude.{◌≡◌, ◌<◌, ◌^◌, ℕ, List, Option};
-ghost use Rattle.dg_base.specs.Mentions.{Mentions};
-ghost use Rattle.dg_base.specs.Tree.{Item};
-ghost use Rattle.dg_access.specs.Plain.{unnamed_name, choice_name};
+ghost use Rattle.dg_base.specs.Heads.{name_of};
+ghost use Rattle.dg_base.specs.Tree.{Parts, Item};
+ghost use Rattle.dg_access.specs.Plain.{Setting, plain_parts, unnamed_name, choice_name};
 ghost use Rattle.dg_access.specs.Comes.{MentionsComeFrom};
-ghost use Rattle.dg_access.specs.Few.{AllAreOut};
+ghost use Rattle.dg_access.specs.Few.{SmallAreFew};
 ghost use Rattle.dg_access.specs.Items.{plain_items};
 ghost use Rattle.dg_access.specs.Left.{IsPlain};
 
@@ -28,7 +28,12 @@ pub fn mentions_come_from_the_source()
     ensures { (is : List Item) → MentionsComeFrom is }
 {}
 
-/// Where no closure stands, the variables are all that are named, but for a closure's parameter.
-pub fn variables_are_named()
-    ensures { (all : List (List ℕ)) (ms : Mentions) → AllAreOut all ms }
+/// A head keeps its name.
+pub fn plain_heads_keep_names()
+    ensures { (c : Setting) (n : ℕ) (ps : Parts) → name_of (plain_parts c n ps) ≡ name_of ps }
+{}
+
+/// Where what an item becomes isn't too large, its rules and their closures have few variables.
+pub fn small_items_have_few_variables()
+    ensures { (is : List Item) → SmallAreFew is }
 {}

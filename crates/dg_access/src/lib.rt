@@ -21,8 +21,8 @@ pub use built::{Built, close, let_go, unbuilt};
 pub use counts::{Counts, add_items, uncounted};
 pub use fresh::{copied, take_number};
 pub use laws::{
-    choices_differ, mentions_come_from_the_source, nothing_is_left, unnamed_variables_differ,
-    variables_are_named,
+    choices_differ, mentions_come_from_the_source, nothing_is_left, plain_heads_keep_names,
+    small_items_have_few_variables, unnamed_variables_differ,
 };
 pub use numbers::free_number;
 pub use rules::plain_tree;

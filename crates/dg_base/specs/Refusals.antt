@@ -7,7 +7,7 @@ use Rattle.dg_base.specs.declared.run.Fault.{Fault}
 use Rattle.dg_base.specs.declared.run.Fault.TheVariants as fault
 use Rattle.dg_base.specs.declared.run.RunFault.{RunFault}
 use Rattle.dg_base.specs.declared.run.RunFault.TheVariants as running
-use Rattle.dg_base.specs.declared.refusal.Kind.TheVariants.{BadByte, Unclosed, Unexpected, NotInProfile, BadHead, AccessLoop, BadNow, BadInitial, TooMany, NoEntry, SourceTooLong, NotBuiltYet}
+use Rattle.dg_base.specs.declared.refusal.Kind.TheVariants.{BadByte, Unclosed, Unexpected, NotInProfile, BadHead, AccessLoop, BadNow, BadInitial, TooMany, NoEntry, SourceTooLong}
 
 -- the text of a kind of refusal
 abbrev pub text_of_kind : Kind → List ℕ
@@ -22,7 +22,6 @@ text_of_kind BadInitial = codes "bad initial value"
 text_of_kind TooMany = codes "too many"
 text_of_kind NoEntry = codes "no rule for (program entry point)"
 text_of_kind SourceTooLong = codes "source too long"
-text_of_kind NotBuiltYet = codes "not built yet"
 
 -- what a fault of a run that takes no memory shows
 abbrev pub fault_text : Fault → List ℕ

@@ -21,7 +21,6 @@ pub enum Kind {
     TooMany,
     NoEntry,
     SourceTooLong,
-    NotBuiltYet,
 }
 
 /// What a source is refused for, and the line that is named, from 1.
@@ -85,6 +84,5 @@ pub fn text_of(kind: Kind) -> &'static str
         Kind::TooMany => "too many",
         Kind::NoEntry => "no rule for (program entry point)",
         Kind::SourceTooLong => "source too long",
-        Kind::NotBuiltYet => "not built yet",
     }
 }

@@ -1,4 +1,4 @@
--- The programs that the interpreter runs. Hold it against docs/LANGUAGE.md, where it says what is built so far.
+-- The programs that the interpreter runs: every sound one. Hold the forms against those of `Goal` in dg_base.
 use Rattle.std.specs.Prelude.{◌≤◌, List}
 use Rattle.std.specs.List.{All}
 use Rattle.dg_base.specs.declared.program.Goal.{Goal, Goal-F, out-Goal}

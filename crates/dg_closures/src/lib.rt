@@ -7,4 +7,4 @@ mod scanning;
 
 pub use laws::{closures_are_small, rules_are_small, variables_are_held};
 pub use layouts::{Layout, Layouts};
-pub use scanning::layouts_of;
+pub use scanning::{blank, layouts_of};

@@ -17,7 +17,8 @@ use std::mem;
 
 const PARAMETER: &[u8] = b"_";
 
-fn blank<'a>(alloc: Global) -> Layout<'a>
+/// The layout of a closure without variables or closures in it.
+pub fn blank<'a>(alloc: Global) -> Layout<'a>
     ensures { layout_view result ≡ record { captured = []; own = []; places = [] } }
 {
     Layout {

@@ -1,5 +1,5 @@
 -- The queries of a core program fit the heads of its rules.
-use Rattle.std.proofs.Common.{◌≡◌, ◌<◌, ◌≤◌, ℕ, List, [], ◌∷◌, Bool, true, false, Option, Some, None, ◌+◌, length, map, get_or, nat_lt, position, refl, sym, ◌∙◌, ap, subst, arith}
+use Rattle.std.proofs.Common.{◌≡◌, ◌<◌, ◌≤◌, ℕ, List, [], ◌∷◌, Bool, true, false, Option, Some, None, length, map, get_or, nat_lt, position, refl, sym, ◌∙◌, ap, subst, arith}
 use Rattle.std.specs.Prelude.{if◌then◌else◌, slice_get}
 use Rattle.std.specs.List.{All, Contains}
 use Rattle.std.specs.Option.{option_map}
@@ -18,7 +18,7 @@ use Rattle.dg_base.specs.declared.program.Pred.{Pred}
 use Rattle.dg_base.specs.declared.program.Rule.{Rule}
 use Rattle.dg_base.specs.declared.program.Term.{Term}
 use Rattle.dg_names.specs.Named.{Named}
-use Rattle.dg_core.specs.Core.{outside, scope_of, rule_of, failing, rules_in, rules_from, selects_of, pred_of, place_of, without_facts, with_rules, entry_name, core_of}
+use Rattle.dg_core.specs.Core.{Before, outside, scope_of, rule_of, failing, rules_in, behind_item, none_before, rules_from, pred_of, place_of, without_facts, with_rules, entry_name, core_of}
 use Rattle.dg_core.specs.Given.{IsGiven}
 use Rattle.dg_core.specs.Goals.{Scope, or_zero, in_16_bits, number_in, terms_of}
 use Rattle.dg_core.specs.Places.{is_among, values_named, declarations, place_names, placed_of}
@@ -56,22 +56,22 @@ numbered n ms there few =
 abbrev HasValues : List ℕ → Rule → Type 0
 HasValues name r = length r.head ≡ values_named name
 
-one_rule : (around : Scope) (n : ℕ) (name : List ℕ) (ps : Parts) (b : Body) (behind : List Goal) (t : Bool) → bytes_eq (name_of ps) name ≡ t → All (HasValues name) (if t then rule_of around n ps b behind ∷ [] else [])
+one_rule : (around : Scope) (n : Before) (name : List ℕ) (ps : Parts) (b : Body) (behind : List Goal) (t : Bool) → bytes_eq (name_of ps) name ≡ t → All (HasValues name) (if t then rule_of around n ps b behind ∷ [] else [])
 one_rule around n name ps b behind true e =
-    All-cons (HasValues name) (rule_of around n ps b behind) [] (terms_counted (scope_of around ps b) ps ∙ ap values_named ((bytes_decides (name_of ps) name).0 e)) (All-nil (HasValues name))
+    All-cons (HasValues name) (rule_of around n ps b behind) [] (terms_counted (scope_of around n.closures ps b) ps ∙ ap values_named ((bytes_decides (name_of ps) name).0 e)) (All-nil (HasValues name))
 one_rule around n name ps b behind false e = All-nil (HasValues name)
 
-item_rules : (around : Scope) (n : ℕ) (name : List ℕ) (said : Said) → All (HasValues name) (rules_in around n name said)
+item_rules : (around : Scope) (n : Before) (name : List ℕ) (said : Said) → All (HasValues name) (rules_in around n name said)
 item_rules around n name (rule ps b) = one_rule around n name ps b [] (bytes_eq (name_of ps) name) refl
 item_rules around n name (deny ps b) = one_rule around n name ps b failing (bytes_eq (name_of ps) name) refl
 item_rules around n name (topic w) = All-nil (HasValues name)
 item_rules around n name (access ps b) = All-nil (HasValues name)
 item_rules around n name (global_variable ps) = All-nil (HasValues name)
 
-all_rules : (around : Scope) (n : ℕ) (name : List ℕ) (is : List Item) → All (HasValues name) (rules_from around n name is)
+all_rules : (around : Scope) (n : Before) (name : List ℕ) (is : List Item) → All (HasValues name) (rules_from around n name is)
 all_rules around n name [] = All-nil (HasValues name)
 all_rules around n name (i ∷ is) =
-    All-append (HasValues name) (rules_in around n name i.said) (rules_from around (n + selects_of i.said) name is) (item_rules around n name i.said) (all_rules around (n + selects_of i.said) name is)
+    All-append (HasValues name) (rules_in around n name i.said) (rules_from around (behind_item n i.said) name is) (item_rules around n name i.said) (all_rules around (behind_item n i.said) name is)
 
 kept : (name : List ℕ) (b : Bool) (rs : List Rule) → All (HasValues name) rs → All (HasValues name) (if b then [] else rs)
 kept name true rs h = All-nil (HasValues name)
@@ -82,7 +82,7 @@ abbrev pred_in : Named → List Item → List ℕ → Pred
 pred_in names items n = without_facts (place_names items) (pred_of (outside names items) items n)
 
 pred_rules : (names : Named) (items : List Item) (n : List ℕ) → All (HasValues n) (pred_in names items n).rules
-pred_rules names items n = kept n (is_among n (place_names items)) (rules_from (outside names items) 0 n items) (all_rules (outside names items) 0 n items)
+pred_rules names items n = kept n (is_among n (place_names items)) (rules_from (outside names items) none_before n items) (all_rules (outside names items) none_before n items)
 
 pred_at : (names : Named) (items : List Item) (n : List ℕ) → Contains names.preds n → length names.preds ≤ 65535 → slice_get (core_of names items).preds (number_in names.preds n) ≡ Some (pred_in names items n)
 pred_at names items n there few =

@@ -16,8 +16,9 @@ pub mod HoldLemmas
 pub mod TermLemmas
 pub mod RowLemmas
 pub mod WaitLemmas
+pub mod KeptLemmas
 pub mod SiteLemmas
 pub mod GoalLemmas
+pub mod ClosureLemmas
 pub mod StartLemmas
 pub mod SoundLemmas
-pub mod BuiltLemmas

@@ -9,16 +9,19 @@ use Rattle.std.proofs.lemmas.Grind.{common_steps}
 use Rattle.std.proofs.lemmas.List.{get_or-map, length-map}
 use Rattle.std.proofs.lemmas.List.Quantifiers.{position-Some}
 use Rattle.std.proofs.lemmas.Map.Keys.{IsDistinct-head, IsDistinct-tail}
-use Rattle.dg_base.specs.Tree.{Said, topic, access, global_variable, Item}
+use Rattle.dg_base.specs.Heads.{name_of}
+use Rattle.dg_base.specs.Tree.{Said, Item}
 use Rattle.dg_base.specs.TreeView.{said_view, head_view, body_view}
 use Rattle.dg_base.specs.declared.tree.Body.{Body}
 use Rattle.dg_base.specs.declared.tree.Head.{Head}
 use Rattle.dg_base.specs.declared.tree.Item.{Item as TreeItem}
 use Rattle.dg_base.specs.declared.tree.ItemBody.{ItemBody}
-use Rattle.dg_base.specs.declared.tree.ItemBody.TheVariants.{Topic, Access, Variable}
+use Rattle.dg_base.specs.declared.tree.ItemBody.TheVariants.{Deny, Topic, Access, Variable}
+use Rattle.dg_base.specs.declared.program.Goal.{Goal}
 use Rattle.dg_base.specs.declared.program.Pred.{Pred}
 use Rattle.dg_base.specs.declared.program.Rule.{Rule}
-use Rattle.dg_core.specs.Core.{rules_in, rules_from, selects_of, pred_of}
+use Rattle.dg_core.specs.Bodies.{no_closure}
+use Rattle.dg_core.specs.Core.{Before, none_before, behind_item, rule_of, failing, rules_in, rules_from, rows_in, selects_of, closures_of, numbered, pred_of}
 use Rattle.dg_core.specs.Goals.{Scope}
 use Rattle.dg_core.specs.View.{with_rule, with_rules_in, with_all, pred_names}
 
@@ -119,13 +122,13 @@ listed_distinct (k ∷ ks) distinct = (listed_apart k ks distinct.0, listed_dist
 
 -- ---- the rules of items
 
-nothing_added : (around : Scope) (k : ℕ) (said : Said) (ps : List Pred) → ((name : List ℕ) → rules_in around k name said ≡ []) → map (with_rules_in around k said) ps ≡ ps
+nothing_added : (around : Scope) (k : Before) (said : Said) (ps : List Pred) → ((name : List ℕ) → rules_in around k name said ≡ []) → map (with_rules_in around k said) ps ≡ ps
 nothing_added around k said [] none = refl
 nothing_added around k said (p ∷ ps) none =
     ap (λ (q : Pred). q ∷ map (with_rules_in around k said) ps) (ap (λ (rs : List Rule). record p { rules = p.rules ++ rs }) (none p.name) ∙ as_it_was p)
     ∙ ap (λ (l : List Pred). p ∷ l) (nothing_added around k said ps none)
 
-pub bare_all : (around : Scope) (is : List Item) (ns : List (List ℕ)) → map (with_all around 0 is) (map (pred_of around []) ns) ≡ map (pred_of around is) ns
+pub bare_all : (around : Scope) (is : List Item) (ns : List (List ℕ)) → map (with_all around none_before is) (map (pred_of around []) ns) ≡ map (pred_of around is) ns
 bare_all around is [] = refl
 bare_all around is (n ∷ ns) = ap (λ (l : List Pred). pred_of around is n ∷ l) (bare_all around is ns)
 
@@ -133,17 +136,17 @@ pub bare_names : (around : Scope) (is : List Item) (ns : List (List ℕ)) → pr
 bare_names around is [] = refl
 bare_names around is (n ∷ ns) = ap (λ (l : List (List ℕ)). n ∷ l) (bare_names around is ns)
 
-pub names_kept : (around : Scope) (k : ℕ) (said : Said) (ps : List Pred) → pred_names (map (with_rules_in around k said) ps) ≡ pred_names ps
+pub names_kept : (around : Scope) (k : Before) (said : Said) (ps : List Pred) → pred_names (map (with_rules_in around k said) ps) ≡ pred_names ps
 names_kept around k said [] = refl
 names_kept around k said (p ∷ ps) = ap (λ (l : List (List ℕ)). p.name ∷ l) (names_kept around k said ps)
 
-pub all_more : (around : Scope) (k : ℕ) (i : Item) (is : List Item) (ps : List Pred) → map (with_all around (k + selects_of i.said) is) (map (with_rules_in around k i.said) ps) ≡ map (with_all around k (i ∷ is)) ps
+pub all_more : (around : Scope) (k : Before) (i : Item) (is : List Item) (ps : List Pred) → map (with_all around (behind_item k i.said) is) (map (with_rules_in around k i.said) ps) ≡ map (with_all around k (i ∷ is)) ps
 all_more around k i is [] = refl
 all_more around k i is (p ∷ ps) =
-    ap (λ (rs : List Rule). record p { rules = rs } ∷ map (with_all around (k + selects_of i.said) is) (map (with_rules_in around k i.said) ps)) (append_assoc p.rules (rules_in around k p.name i.said) (rules_from around (k + selects_of i.said) p.name is))
+    ap (λ (rs : List Rule). record p { rules = rs } ∷ map (with_all around (behind_item k i.said) is) (map (with_rules_in around k i.said) ps)) (append_assoc p.rules (rules_in around k p.name i.said) (rules_from around (behind_item k i.said) p.name is))
     ∙ ap (λ (l : List Pred). with_all around k (i ∷ is) p ∷ l) (all_more around k i is ps)
 
-pub all_done : (around : Scope) (k : ℕ) (ps : List Pred) → map (with_all around k []) ps ≡ ps
+pub all_done : (around : Scope) (k : Before) (ps : List Pred) → map (with_all around k []) ps ≡ ps
 all_done around k [] = refl
 all_done around k (p ∷ ps) =
     ap (λ (q : Pred). q ∷ map (with_all around k []) ps) (as_it_was p)
@@ -157,17 +160,38 @@ next_item is k i h e =
 
 -- ---- items without a rule
 
-pub topic_adds : (around : Scope) (k : ℕ) (said : ItemBody) (n : List ℕ) (ps : List Pred) → said ≡ Topic n → ps ≡ map (with_rules_in around k (said_view said)) ps
-topic_adds around k said n ps e =
-    sym (subst (λ (s : ItemBody). map (with_rules_in around k (said_view s)) ps ≡ ps) (sym e) (nothing_added around k (topic n) ps (λ name. refl)))
+pub record HasNoRule (said : Said) : Type 0 where
+  pub rules : (around : Scope) (n : Before) (name : List ℕ) → rules_in around n name said ≡ []
+  pub rows : (around : Scope) (n : Before) → rows_in around n said ≡ []
+  pub selects : selects_of said ≡ 0
+  pub closures : closures_of said ≡ no_closure
+  pub numbered : numbered said ≡ 0
 
-pub access_adds : (around : Scope) (k : ℕ) (said : ItemBody) (h : Head) (b : Body) (ps : List Pred) → said ≡ Access h b → ps ≡ map (with_rules_in around k (said_view said)) ps
-access_adds around k said h b ps e =
-    sym (subst (λ (s : ItemBody). map (with_rules_in around k (said_view s)) ps ≡ ps) (sym e) (nothing_added around k (access (head_view h) (body_view b)) ps (λ name. refl)))
+pub topic_has_none : (said : ItemBody) (n : List ℕ) → said ≡ Topic n → HasNoRule (said_view said)
+topic_has_none said n e =
+    subst (λ (s : ItemBody). HasNoRule (said_view s)) (sym e) (record { rules = λ around k name. refl; rows = λ around k. refl; selects = refl; closures = refl; numbered = refl })
 
-pub variable_adds : (around : Scope) (k : ℕ) (said : ItemBody) (h : Head) (ps : List Pred) → said ≡ Variable h → ps ≡ map (with_rules_in around k (said_view said)) ps
-variable_adds around k said h ps e =
-    sym (subst (λ (s : ItemBody). map (with_rules_in around k (said_view s)) ps ≡ ps) (sym e) (nothing_added around k (global_variable (head_view h)) ps (λ name. refl)))
+pub access_has_none : (said : ItemBody) (h : Head) (b : Body) → said ≡ Access h b → HasNoRule (said_view said)
+access_has_none said h b e =
+    subst (λ (s : ItemBody). HasNoRule (said_view s)) (sym e) (record { rules = λ around k name. refl; rows = λ around k. refl; selects = refl; closures = refl; numbered = refl })
 
-pub no_sites : (k : ℕ) (said : ItemBody) → selects_of (said_view said) ≡ 0 → k ≡ k + selects_of (said_view said)
-no_sites k said e = omega (arith, e)
+pub variable_has_none : (said : ItemBody) (h : Head) → said ≡ Variable h → HasNoRule (said_view said)
+variable_has_none said h e =
+    subst (λ (s : ItemBody). HasNoRule (said_view s)) (sym e) (record { rules = λ around k name. refl; rows = λ around k. refl; selects = refl; closures = refl; numbered = refl })
+
+pub no_rule_added : (around : Scope) (k : Before) (said : Said) (ps : List Pred) → HasNoRule said → ps ≡ map (with_rules_in around k said) ps
+no_rule_added around k said ps none = sym (nothing_added around k said ps (none.rules around k))
+
+pub nothing_before : (k : Before) (said : Said) → HasNoRule said → k ≡ behind_item k said
+nothing_before k said none =
+    let a : k.selects ≡ k.selects + selects_of said = omega (arith, none.selects) in
+    let b : k.closures ≡ k.closures + numbered said = omega (arith, none.numbered) in
+    ap (λ (x : ℕ). record { selects = x; closures = k.closures }) a ∙ ap (λ (x : ℕ). record { selects = k.selects + selects_of said; closures = x }) b
+
+-- ---- a negated rule
+
+pub denied_adds : (around : Scope) (k : Before) (said : ItemBody) (h : Head) (b : Body) (behind : List Goal) (old new : List Pred) → said ≡ Deny h b → behind ≡ failing → new ≡ map (with_rule (name_of (head_view h)) (rule_of around k (head_view h) (body_view b) behind)) old → new ≡ map (with_rules_in around k (said_view said)) old
+denied_adds around k said h b behind old new is fails added =
+    added
+    ∙ ap (λ (gs : List Goal). map (with_rule (name_of (head_view h)) (rule_of around k (head_view h) (body_view b) gs)) old) fails
+    ∙ ap (λ (s : ItemBody). map (with_rules_in around k (said_view s)) old) (sym is)

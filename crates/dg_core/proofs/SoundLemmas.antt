@@ -4,7 +4,7 @@ use Rattle.std.specs.Prelude.{◌≢◌, filter, if◌then◌else◌, min, posit
 use Rattle.std.specs.List.{All, Contains, flat_map}
 use Rattle.std.specs.Str.{bytes_eq}
 use Rattle.std.specs.Cmp.Lexicographic.{bytes_decides}
-use Rattle.std.proofs.lemmas.List.{length-map, get_or-map}
+use Rattle.std.proofs.lemmas.List.{append-nil, length-map, get_or-map}
 use Rattle.std.proofs.lemmas.Bool.{and_parts}
 use Rattle.std.proofs.lemmas.List.Quantifiers.{position-Some}
 use Rattle.std.proofs.lemmas.Option.{slice_get-get_or}
@@ -18,9 +18,9 @@ use Rattle.std.proofs.lemmas.List.Concat.{flat_map-append}
 use Rattle.std.proofs.lemmas.List.Elements.{All-nil, All-cons, All-append, All-head, All-tail, All-weaker, All-contains, Contains-append_left, Contains-append_right}
 use Rattle.dg_base.specs.Goals.{goals_of}
 use Rattle.dg_base.specs.Heads.{name_of}
-use Rattle.dg_base.specs.Mentions.{Thing, query, closure, Mentions, nothing, thing, closed, of_said, of_rule, of_parts, of_body, things, things_in, mentioned, names_in, variable, variable_in}
+use Rattle.dg_base.specs.Mentions.{query, of_said, of_rule, of_parts, of_body, things_in, mentioned, names_in}
 use Rattle.dg_base.specs.Names.{builtin_named}
-use Rattle.dg_base.specs.Sound.{IsSound, IsName, IsPredOf, IsRuleOf, IsGoalOf, IsTermOf, IsClosureOf, IsPlaceOf, IsStartOf, SameSite, all_goals}
+use Rattle.dg_base.specs.Sound.{IsSound, IsName, IsPredOf, IsRuleOf, IsGoalOf, IsTermOf, IsPlaceOf, IsStartOf, SameSite, all_goals}
 use Rattle.dg_base.specs.Tree as tree
 use Rattle.dg_base.specs.Tree.{Parts, Body, Said, Item}
 use Rattle.dg_base.specs.declared.mentions.Role.TheVariants as role
@@ -34,51 +34,24 @@ use Rattle.dg_base.specs.declared.program.Rule.{Rule}
 use Rattle.dg_base.specs.declared.refusal.ReadFault.{ReadFault}
 use Rattle.dg_names.specs.Among.{IsAmong, HasPred}
 use Rattle.dg_names.specs.Named.{Named, firsts}
-use Rattle.dg_closures.specs.Held.{Holds}
-use Rattle.dg_closures.proofs.VariableLemmas.{all_held}
-use Rattle.dg_core.specs.Core.{outside, scope_of, rule_of, failing, rules_in, rules_from, selects_of, all_selects, pred_of, without_facts, entry_name, core_of, is_rule_for, has_entry, with_rules, rules_of, rules_at, rules_named, starts_from, declared_start, refusal_of, IsLowered}
-use Rattle.dg_core.specs.Given.{IsFit, IsFitItem, IsGiven}
+use Rattle.dg_closures.proofs.VariableLemmas.{all_held, rule_small}
+use Rattle.dg_core.specs.Core.{Before, outside, scope_of, rule_of, failing, rules_in, behind_item, none_before, rules_from, selects_of, all_selects, inner_selects, pred_of, without_facts, entry_name, core_of, is_rule_for, has_entry, with_rules, rules_of, rules_at, rules_named, starts_from, declared_start, refusal_of, IsLowered}
+use Rattle.dg_core.specs.Given.{IsGiven}
 use Rattle.dg_core.specs.Bodies.{in_parts}
-use Rattle.dg_core.specs.Goals.{Scope, past, number_in, unit, lists, selects}
+use Rattle.dg_core.specs.Goals.{Scope, past, unit, lists, selects}
 use Rattle.dg_core.specs.Places.{Placed, is_among, parent_name, place_names, placed_of, declaration_in, declarations, declared_names, changed_in, kind_by, kind_of, values_named, values_in, are_fact, is_empty, is_no_fact, is_bad, declared_behind, first_bad}
-use Rattle.dg_core.specs.Variables.{variables_of}
+use Rattle.dg_core.specs.Rows.{names_of, AreCaught}
+use Rattle.dg_core.specs.Variables.{layouts_in, variables_of}
 use Rattle.dg_core.proofs.AskLemmas.{query_fits, place_in, place_fits, parents_fit, entry_fits}
+use Rattle.dg_core.proofs.ClosureLemmas.{known_out, few_closures, IsRuleKnown, IsItemKnown, AreItemsKnown, items_known, ground, row_goals, closures_made}
 use Rattle.dg_core.proofs.GoalLemmas.{AreMade, made_none, made_join, body_made, goal_made}
 use Rattle.dg_core.proofs.HoldLemmas.{Hold, front, back, from_all, all_front, all_behind}
-use Rattle.dg_core.proofs.MemberLemmas.{alone_there, first_there, later_there, there_cases, nowhere, firsts_have}
-use Rattle.dg_core.proofs.PlaceLemmas.{IsPlaced, changed_there}
+use Rattle.dg_core.proofs.MemberLemmas.{first_there, later_there, there_cases, nowhere}
+use Rattle.dg_core.proofs.RowLemmas.{at_most}
 use Rattle.dg_core.proofs.SiteLemmas.{AreSited, sited_none, sited_join, sited_wider}
 use Rattle.dg_core.proofs.TermLemmas.{number_below, IsGround, ground_past, IsKnown, parts_sound}
 
--- ---- what is known of the things of an item
-
--- what is asked of each thing of all items
-record Asked (names : Named) (placed : List (List ℕ)) (ts : List Thing) : Type 0 where
-  among : All (IsAmong names) ts
-  fit : All IsFit ts
-  changed : All (IsPlaced placed) ts
-
-known_at : (s : Scope) (t : Thing) → IsAmong s.names t → IsFit t → IsPlaced s.places t → ((n : List ℕ) → Contains (variable_in t) n → Contains s.variables n) → IsKnown s t
-known_at s (variable n) a f p v = v n (alone_there n)
-known_at s (query (role.Changed set) ps) a f p v = p
-known_at s t a f p v = (a, f)
-
--- in a rule whose variables these are, each thing that stands outside its closures is known
-known_out : (s : Scope) (all : List (List ℕ)) (ms : Mentions) → Holds all s.variables ms → All (IsAmong s.names) (things ms) → All IsFit (things ms) → All (IsPlaced s.places) (things ms) → Hold (IsKnown s) ms
-known_out s all nothing v a f p = tt
-known_out s all (thing t ms) v a f p = (
-  known_at s t (All-head (IsAmong s.names) t (things ms) a) (All-head IsFit t (things ms) f) (All-head (IsPlaced s.places) t (things ms) p) v.0,
-  known_out s all ms v.1 (All-tail (IsAmong s.names) t (things ms) a) (All-tail IsFit t (things ms) f) (All-tail (IsPlaced s.places) t (things ms) p),
-)
-known_out s all (closed inner ms) v a f p = known_out s all ms v.2 (behind_closed (IsAmong s.names) inner ms a) (behind_closed IsFit inner ms f) (behind_closed (IsPlaced s.places) inner ms p)
-  where
-    behind_closed : (P : Thing → Type 0) (inner ms : Mentions) → All P (closure ∷ (things inner ++ things ms)) → All P (things ms)
-    behind_closed P inner ms h = all_behind P (things inner) (things ms) (All-tail P closure (things inner ++ things ms) h)
-
 -- ---- rules
-
-all_vars : (n : ℕ) → n ≤ 65 → min n 65535 ≡ n
-all_vars n h = omega arith
 
 few_vars : (n : ℕ) → n ≤ 65 → min n 65535 ≤ 65
 few_vars n h = omega arith
@@ -86,42 +59,40 @@ few_vars n h = omega arith
 abbrev vars_of : Parts → Body → ℕ
 vars_of ps b = min (length (variables_of ps b)) 65535
 
-no_closures : {P : Type 0} (k c : ℕ) → slice_get [] k ≡ Some c → P
-no_closures k c e = absurd (let no : None ≡ Some c = e in cc)
+rule_few : (names : Named) (items : List Item) (first : ℕ) (ps : Parts) (b : Body) → IsRuleKnown names items first ps b → length (variables_of ps b) ≤ 65
+rule_few names items first ps b h = rule_small (names_of ps b) (of_rule role.Rule ps b) h.fit.few.0
 
-ground : (names : Named) (items : List Item) (ps : Parts) (b : Body) → IsGiven names items → length (variables_of ps b) ≤ 65 → IsGround (core_of names items) (vars_of ps b) (scope_of (outside names items) ps b)
-ground names items ps b g few = record {
-  words = λ w there. number_below w names.words there g.few_words;
-  objects = λ n there. number_below n names.objects there g.few_objects;
-  variables = λ n there. subst (λ (k : ℕ). number_in (variables_of ps b) n < k) (sym (all_vars (length (variables_of ps b)) few)) (number_below n (variables_of ps b) there (let many : length (variables_of ps b) ≤ 65535 = omega arith in many));
-  preds = λ s qs there. query_fits names items s qs there g.few_preds;
-  places = λ s qs there. place_fits names items s qs g there;
-  parents = parents_fit names items;
-  closures = λ k c e. no_closures k c e;
-}
-
-known_rule : (names : Named) (items : List Item) (ps : Parts) (b : Body) → Asked names (place_names items) (things (of_rule role.Rule ps b)) → Hold (IsKnown (scope_of (outside names items) ps b)) (of_rule role.Rule ps b)
-known_rule names items ps b a =
+rule_ground : (names : Named) (items : List Item) (first : ℕ) (ps : Parts) (b : Body) → IsGiven names items → IsRuleKnown names items first ps b → IsGround (core_of names items) (vars_of ps b) (scope_of (outside names items) first ps b)
+rule_ground names items first ps b g h =
+    let few = rule_few names items first ps b h in
+    let vars = variables_of ps b in
     let ms = of_rule role.Rule ps b in
-    let all = names_in variable_in (things ms) in
-    known_out (scope_of (outside names items) ps b) all ms (all_held all ms) a.among a.fit a.changed
+    subst (λ (v : ℕ). IsGround (core_of names items) v (scope_of (outside names items) first ps b)) (sym (at_most (length vars) few))
+    (ground names items (layouts_in ps b).closures (names_of ps b) vars first 0 ms g (omega (arith, few)) (subst (λ (k : ℕ). AreCaught (core_of names items).closures (names_of ps b) vars k ms) (omega arith) h.caught))
 
-rule_made : (names : Named) (items : List Item) (n : ℕ) (ps : Parts) (b : Body) (behind : List Goal) → IsGiven names items → Asked names (place_names items) (things (of_rule role.Rule ps b)) → length (variables_of ps b) ≤ 65 → n + selects (of_body false b) ≤ all_selects items → AreMade (core_of names items) (vars_of ps b) (n + selects (of_body false b)) (n + selects (of_body false b)) behind → AreMade (core_of names items) (vars_of ps b) n (n + selects (of_body false b)) (rule_of (outside names items) n ps b behind).body
-rule_made names items n ps b behind g a few e k =
-    let s = scope_of (outside names items) ps b in
-    let h = known_rule names items ps b a in
+known_rule : (names : Named) (items : List Item) (first : ℕ) (ps : Parts) (b : Body) → IsRuleKnown names items first ps b → Hold (IsKnown (scope_of (outside names items) first ps b)) (of_rule role.Rule ps b)
+known_rule names items first ps b h = known_out (scope_of (outside names items) first ps b) (names_of ps b) (of_rule role.Rule ps b) (all_held (names_of ps b) (of_rule role.Rule ps b)) h.asked
+
+-- the sites of rules are below those of closures
+below_all : (names : Named) (items : List Item) (n : ℕ) → n ≤ all_selects items → n ≤ (core_of names items).sites
+below_all names items n e = omega (arith, e)
+
+rule_made : (names : Named) (items : List Item) (n : Before) (ps : Parts) (b : Body) (behind : List Goal) → IsGiven names items → IsRuleKnown names items n.closures ps b → n.selects + selects (of_body false b) ≤ all_selects items → AreMade (core_of names items) (vars_of ps b) (n.selects + selects (of_body false b)) (n.selects + selects (of_body false b)) behind → AreMade (core_of names items) (vars_of ps b) n.selects (n.selects + selects (of_body false b)) (rule_of (outside names items) n ps b behind).body
+rule_made names items n ps b behind g h e k =
+    let p = core_of names items in
+    let s = scope_of (outside names items) n.closures ps b in
     let t = past s (in_parts ps) in
-    made_join (core_of names items) (vars_of ps b) n (n + selects (of_body false b)) (n + selects (of_body false b)) (unit (lists t n b)) behind
-    (body_made (core_of names items) (vars_of ps b) t n b (ground_past (core_of names items) (vars_of ps b) s (in_parts ps) (ground names items ps b g few)) (back (IsKnown s) (of_parts false ps) (of_body false b) h.1) e) k
+    let m = n.selects + selects (of_body false b) in
+    made_join p (vars_of ps b) n.selects m m (unit (lists t n.selects b)) behind
+    (body_made p (vars_of ps b) t n.selects b (ground_past p (vars_of ps b) s (in_parts ps) (rule_ground names items n.closures ps b g h)) (back (IsKnown s) (of_parts false ps) (of_body false b) (known_rule names items n.closures ps b h).1) (below_all names items m e)) k
 
-rule_sound : (names : Named) (items : List Item) (n : ℕ) (ps : Parts) (b : Body) (behind : List Goal) → IsGiven names items → Asked names (place_names items) (things (of_rule role.Rule ps b)) → length (variables_of ps b) ≤ 65 → n + selects (of_body false b) ≤ all_selects items → AreMade (core_of names items) (vars_of ps b) (n + selects (of_body false b)) (n + selects (of_body false b)) behind → IsRuleOf (core_of names items) (rule_of (outside names items) n ps b behind)
-rule_sound names items n ps b behind g a few e k =
-    let s = scope_of (outside names items) ps b in
-    let h = known_rule names items ps b a in
+rule_sound : (names : Named) (items : List Item) (n : Before) (ps : Parts) (b : Body) (behind : List Goal) → IsGiven names items → IsRuleKnown names items n.closures ps b → n.selects + selects (of_body false b) ≤ all_selects items → AreMade (core_of names items) (vars_of ps b) (n.selects + selects (of_body false b)) (n.selects + selects (of_body false b)) behind → IsRuleOf (core_of names items) (rule_of (outside names items) n ps b behind)
+rule_sound names items n ps b behind g h e k =
+    let s = scope_of (outside names items) n.closures ps b in
     record {
-      few = few_vars (length (variables_of ps b)) few;
-      head = parts_sound (core_of names items) (vars_of ps b) s false ps (ground names items ps b g few) (front (IsKnown s) (of_parts false ps) (of_body false b) h.1);
-      body = (rule_made names items n ps b behind g a few e k).sound;
+      few = few_vars (length (variables_of ps b)) (rule_few names items n.closures ps b h);
+      head = parts_sound (core_of names items) (vars_of ps b) s false ps (rule_ground names items n.closures ps b g h) (front (IsKnown s) (of_parts false ps) (of_body false b) (known_rule names items n.closures ps b h).1);
+      body = (rule_made names items n ps b behind g h e k).sound;
     }
 
 failing_made : (p : Core) (vars n : ℕ) → AreMade p vars n n failing
@@ -134,39 +105,21 @@ given : (p : Core) (same : Bool) (r : Rule) → IsRuleOf p r → All (IsRuleOf p
 given p true r h = All-cons (IsRuleOf p) r [] h (All-nil (IsRuleOf p))
 given p false r h = All-nil (IsRuleOf p)
 
-item_sound : (names : Named) (items : List Item) (n : ℕ) (name : List ℕ) (said : Said) → IsGiven names items → Asked names (place_names items) (things_in said) → IsFitItem said → n + selects_of said ≤ all_selects items → All (IsRuleOf (core_of names items)) (rules_in (outside names items) n name said)
-item_sound names items n name (tree.topic w) g a few e = All-nil (IsRuleOf (core_of names items))
-item_sound names items n name (tree.rule ps b) g a few e =
-    given (core_of names items) (bytes_eq (name_of ps) name) (rule_of (outside names items) n ps b []) (rule_sound names items n ps b [] g a few e (made_none (core_of names items) (vars_of ps b) _ _ (omega arith)))
-item_sound names items n name (tree.deny ps b) g a few e =
-    given (core_of names items) (bytes_eq (name_of ps) name) (rule_of (outside names items) n ps b failing) (rule_sound names items n ps b failing g a few e (failing_made (core_of names items) (vars_of ps b) _))
-item_sound names items n name (tree.access ps b) g a few e = All-nil (IsRuleOf (core_of names items))
-item_sound names items n name (tree.global_variable ps) g a few e = All-nil (IsRuleOf (core_of names items))
+item_sound : (names : Named) (items : List Item) (n : Before) (name : List ℕ) (said : Said) → IsGiven names items → IsItemKnown names items n.closures said → n.selects + selects_of said ≤ all_selects items → All (IsRuleOf (core_of names items)) (rules_in (outside names items) n name said)
+item_sound names items n name (tree.topic w) g h e = All-nil (IsRuleOf (core_of names items))
+item_sound names items n name (tree.rule ps b) g h e =
+    given (core_of names items) (bytes_eq (name_of ps) name) (rule_of (outside names items) n ps b []) (rule_sound names items n ps b [] g h e (made_none (core_of names items) (vars_of ps b) _ _ (omega arith)))
+item_sound names items n name (tree.deny ps b) g h e =
+    given (core_of names items) (bytes_eq (name_of ps) name) (rule_of (outside names items) n ps b failing) (rule_sound names items n ps b failing g h e (failing_made (core_of names items) (vars_of ps b) _))
+item_sound names items n name (tree.access ps b) g h e = All-nil (IsRuleOf (core_of names items))
+item_sound names items n name (tree.global_variable ps) g h e = All-nil (IsRuleOf (core_of names items))
 
--- what is asked of the things of items, from an item on
-asked_front : (names : Named) (placed : List (List ℕ)) (i : Item) (is : List Item) → Asked names placed (mentioned (i ∷ is)) → Asked names placed (things_in i.said)
-asked_front names placed i is a = record {
-  among = all_front (IsAmong names) (things_in i.said) (mentioned is) a.among;
-  fit = all_front IsFit (things_in i.said) (mentioned is) a.fit;
-  changed = all_front (IsPlaced placed) (things_in i.said) (mentioned is) a.changed;
-}
-
-asked_behind : (names : Named) (placed : List (List ℕ)) (i : Item) (is : List Item) → Asked names placed (mentioned (i ∷ is)) → Asked names placed (mentioned is)
-asked_behind names placed i is a = record {
-  among = all_behind (IsAmong names) (things_in i.said) (mentioned is) a.among;
-  fit = all_behind IsFit (things_in i.said) (mentioned is) a.fit;
-  changed = all_behind (IsPlaced placed) (things_in i.said) (mentioned is) a.changed;
-}
-
-items_sound : (names : Named) (items : List Item) (n : ℕ) (name : List ℕ) (is : List Item) → IsGiven names items → Asked names (place_names items) (mentioned is) → All (λ (i : Item). IsFitItem i.said) is → n + all_selects is ≤ all_selects items → All (IsRuleOf (core_of names items)) (rules_from (outside names items) n name is)
-items_sound names items n name [] g a few e = All-nil (IsRuleOf (core_of names items))
-items_sound names items n name (i ∷ is) g a few e =
-    All-append (IsRuleOf (core_of names items)) (rules_in (outside names items) n name i.said) (rules_from (outside names items) (n + selects_of i.said) name is)
-    (item_sound names items n name i.said g (asked_front names (place_names items) i is a) (All-head (λ (j : Item). IsFitItem j.said) i is few) (omega (arith, e)))
-    (items_sound names items (n + selects_of i.said) name is g (asked_behind names (place_names items) i is a) (All-tail (λ (j : Item). IsFitItem j.said) i is few) (omega (arith, e)))
-
-all_asked : (names : Named) (items : List Item) → IsGiven names items → Asked names (place_names items) (mentioned items)
-all_asked names items g = record { among = g.things; fit = g.fit; changed = changed_there items }
+items_sound : (names : Named) (items : List Item) (n : Before) (name : List ℕ) (is : List Item) → IsGiven names items → AreItemsKnown names items n.closures is → n.selects + all_selects is ≤ all_selects items → All (IsRuleOf (core_of names items)) (rules_from (outside names items) n name is)
+items_sound names items n name [] g h e = All-nil (IsRuleOf (core_of names items))
+items_sound names items n name (i ∷ is) g h e =
+    All-append (IsRuleOf (core_of names items)) (rules_in (outside names items) n name i.said) (rules_from (outside names items) (behind_item n i.said) name is)
+    (item_sound names items n name i.said g h.0 (omega (arith, e)))
+    (items_sound names items (behind_item n i.said) name is g h.1 (omega (arith, e)))
 
 kept : (p : Core) (b : Bool) (rs : List Rule) → All (IsRuleOf p) rs → All (IsRuleOf p) (if b then [] else rs)
 kept p true rs h = All-nil (IsRuleOf p)
@@ -178,37 +131,37 @@ preds_sound names items (n ∷ ns) g m =
     let q = pred_of (outside names items) items n in
     let here : IsPredOf (core_of names items) (without_facts (place_names items) q) = record {
       name = All-head IsName n ns m;
-      rules = kept (core_of names items) _ q.rules (items_sound names items 0 n items g (all_asked names items g) g.items (omega arith));
+      rules = kept (core_of names items) _ q.rules (items_sound names items none_before n items g (items_known names items g) (omega arith));
     } in
     All-cons (IsPredOf (core_of names items)) (without_facts (place_names items) q) (map (without_facts (place_names items)) (map (pred_of (outside names items) items) ns)) here (preds_sound names items ns g (All-tail IsName n ns m))
 
 -- ---- sites
 
 -- the goals that an item gives
-abbrev body_in : Scope → ℕ → Said → List Goal
+abbrev body_in : Scope → Before → Said → List Goal
 body_in around n (tree.rule ps b) = (rule_of around n ps b []).body
 body_in around n (tree.deny ps b) = (rule_of around n ps b failing).body
 body_in around n said = []
 
-abbrev goals_from : Scope → ℕ → List Item → List Goal
+abbrev goals_from : Scope → Before → List Item → List Goal
 goals_from around n [] = []
-goals_from around n (i ∷ is) = goals_of (body_in around n i.said) ++ goals_from around (n + selects_of i.said) is
+goals_from around n (i ∷ is) = goals_of (body_in around n i.said) ++ goals_from around (behind_item n i.said) is
 
-item_sited : (names : Named) (items : List Item) (n : ℕ) (said : Said) → IsGiven names items → Asked names (place_names items) (things_in said) → IsFitItem said → n + selects_of said ≤ all_selects items → AreSited n (n + selects_of said) (goals_of (body_in (outside names items) n said))
-item_sited names items n (tree.topic w) g a few e = sited_none n _ (omega arith)
-item_sited names items n (tree.rule ps b) g a few e = (rule_made names items n ps b [] g a few e (made_none (core_of names items) (vars_of ps b) _ _ (omega arith))).sited
-item_sited names items n (tree.deny ps b) g a few e = (rule_made names items n ps b failing g a few e (failing_made (core_of names items) (vars_of ps b) _)).sited
-item_sited names items n (tree.access ps b) g a few e = sited_none n _ (omega arith)
-item_sited names items n (tree.global_variable ps) g a few e = sited_none n _ (omega arith)
+item_sited : (names : Named) (items : List Item) (n : Before) (said : Said) → IsGiven names items → IsItemKnown names items n.closures said → n.selects + selects_of said ≤ all_selects items → AreSited n.selects (n.selects + selects_of said) (goals_of (body_in (outside names items) n said))
+item_sited names items n (tree.topic w) g h e = sited_none n.selects _ (omega arith)
+item_sited names items n (tree.rule ps b) g h e = (rule_made names items n ps b [] g h e (made_none (core_of names items) (vars_of ps b) _ _ (omega arith))).sited
+item_sited names items n (tree.deny ps b) g h e = (rule_made names items n ps b failing g h e (failing_made (core_of names items) (vars_of ps b) _)).sited
+item_sited names items n (tree.access ps b) g h e = sited_none n.selects _ (omega arith)
+item_sited names items n (tree.global_variable ps) g h e = sited_none n.selects _ (omega arith)
 
-items_sited : (names : Named) (items : List Item) (n : ℕ) (is : List Item) → IsGiven names items → Asked names (place_names items) (mentioned is) → All (λ (i : Item). IsFitItem i.said) is → n + all_selects is ≤ all_selects items → AreSited n (n + all_selects is) (goals_from (outside names items) n is)
-items_sited names items n [] g a few e = sited_none n _ (omega arith)
-items_sited names items n (i ∷ is) g a few e =
-    let k = n + selects_of i.said in
-    sited_wider n (k + all_selects is) n _ _ (omega arith) (omega arith)
-    (sited_join n k (k + all_selects is) (goals_of (body_in (outside names items) n i.said)) (goals_from (outside names items) k is)
-    (item_sited names items n i.said g (asked_front names (place_names items) i is a) (All-head (λ (j : Item). IsFitItem j.said) i is few) (omega (arith, e)))
-    (items_sited names items k is g (asked_behind names (place_names items) i is a) (All-tail (λ (j : Item). IsFitItem j.said) i is few) (omega (arith, e))))
+items_sited : (names : Named) (items : List Item) (n : Before) (is : List Item) → IsGiven names items → AreItemsKnown names items n.closures is → n.selects + all_selects is ≤ all_selects items → AreSited n.selects (n.selects + all_selects is) (goals_from (outside names items) n is)
+items_sited names items n [] g h e = sited_none n.selects _ (omega arith)
+items_sited names items n (i ∷ is) g h e =
+    let next = behind_item n i.said in
+    sited_wider n.selects (next.selects + all_selects is) n.selects _ _ (omega arith) (omega arith)
+    (sited_join n.selects next.selects (next.selects + all_selects is) (goals_of (body_in (outside names items) n i.said)) (goals_from (outside names items) next is)
+    (item_sited names items n i.said g h.0 (omega (arith, e)))
+    (items_sited names items next is g h.1 (omega (arith, e))))
 
 -- ---- each goal of the program is one of these
 
@@ -229,17 +182,17 @@ one_rule_had : (b : Bool) (r : Rule) (hs : List Goal) → All (Has (goals_of r.b
 one_rule_had true r hs = All-append (Has (goals_of r.body ++ hs)) (goals_of r.body) [] (all_had (goals_of r.body) hs) (All-nil (Has (goals_of r.body ++ hs)))
 one_rule_had false r hs = All-nil (Has (goals_of r.body ++ hs))
 
-item_had : (around : Scope) (n : ℕ) (name : List ℕ) (said : Said) (hs : List Goal) → All (Has (goals_of (body_in around n said) ++ hs)) (rule_goals (rules_in around n name said))
+item_had : (around : Scope) (n : Before) (name : List ℕ) (said : Said) (hs : List Goal) → All (Has (goals_of (body_in around n said) ++ hs)) (rule_goals (rules_in around n name said))
 item_had around n name (tree.topic w) hs = All-nil (Has hs)
 item_had around n name (tree.rule ps b) hs = one_rule_had (bytes_eq (name_of ps) name) (rule_of around n ps b []) hs
 item_had around n name (tree.deny ps b) hs = one_rule_had (bytes_eq (name_of ps) name) (rule_of around n ps b failing) hs
 item_had around n name (tree.access ps b) hs = All-nil (Has hs)
 item_had around n name (tree.global_variable ps) hs = All-nil (Has hs)
 
-rules_had : (around : Scope) (n : ℕ) (name : List ℕ) (is : List Item) → All (Has (goals_from around n is)) (rule_goals (rules_from around n name is))
+rules_had : (around : Scope) (n : Before) (name : List ℕ) (is : List Item) → All (Has (goals_from around n is)) (rule_goals (rules_from around n name is))
 rules_had around n name [] = All-nil (Has [])
 rules_had around n name (i ∷ is) =
-    let k = n + selects_of i.said in
+    let k = behind_item n i.said in
     let all = goals_from around n (i ∷ is) in
     subst (All (Has all)) (sym (flat_map-append (λ (r : Rule). goals_of r.body) (rules_in around n name i.said) (rules_from around k name is)))
     (All-append (Has all) (rule_goals (rules_in around n name i.said)) (rule_goals (rules_from around k name is)) (item_had around n name i.said (goals_from around k is))
@@ -249,20 +202,32 @@ kept_had : (gs : List Goal) (b : Bool) (rs : List Rule) → All (Has gs) (rule_g
 kept_had gs true rs h = All-nil (Has gs)
 kept_had gs false rs h = h
 
-preds_had : (names : Named) (items : List Item) (ns : List (List ℕ)) → All (Has (goals_from (outside names items) 0 items)) (flat_map (λ (q : Pred). rule_goals q.rules) (map (without_facts (place_names items)) (map (pred_of (outside names items) items) ns)))
-preds_had names items [] = All-nil (Has (goals_from (outside names items) 0 items))
+preds_had : (names : Named) (items : List Item) (ns : List (List ℕ)) → All (Has (goals_from (outside names items) none_before items)) (flat_map (λ (q : Pred). rule_goals q.rules) (map (without_facts (place_names items)) (map (pred_of (outside names items) items) ns)))
+preds_had names items [] = All-nil (Has (goals_from (outside names items) none_before items))
 preds_had names items (n ∷ ns) =
-    let all = goals_from (outside names items) 0 items in
-    let rules = rules_from (outside names items) 0 n items in
+    let all = goals_from (outside names items) none_before items in
+    let rules = rules_from (outside names items) none_before n items in
     All-append (Has all) (rule_goals (without_facts (place_names items) (pred_of (outside names items) items n)).rules) (flat_map (λ (q : Pred). rule_goals q.rules) (map (without_facts (place_names items)) (map (pred_of (outside names items) items) ns)))
-    (kept_had all _ rules (rules_had (outside names items) 0 n items)) (preds_had names items ns)
+    (kept_had all _ rules (rules_had (outside names items) none_before n items)) (preds_had names items ns)
+
+-- each of some goals is there with others before it
+all_there : (gs hs : List Goal) → All (Has (gs ++ hs)) hs
+all_there gs hs = had_behind gs hs hs (subst (λ (xs : List Goal). All (Has xs) hs) (append-nil hs) (all_had hs []))
+
+had_in_front : (gs hs xs : List Goal) → All (Has gs) xs → All (Has (gs ++ hs)) xs
+had_in_front gs hs xs h = All-weaker (Has gs) (Has (gs ++ hs)) (λ a k. Contains-append_left gs hs a k) xs h
 
 program_sites : (names : Named) (items : List Item) → IsGiven names items → (a b : Goal) → Contains (all_goals (core_of names items)) a → Contains (all_goals (core_of names items)) b → SameSite (out-Goal a) (out-Goal b)
 program_sites names items g a b there other =
-    let all = goals_from (outside names items) 0 items in
-    let sited = items_sited names items 0 items g (all_asked names items g) g.items (omega arith) in
-    let has : All (Has all) (all_goals (core_of names items)) = All-append (Has all) (flat_map (λ (q : Pred). rule_goals q.rules) (core_of names items).preds) [] (preds_had names items names.preds) (All-nil (Has all)) in
-    sited.same a b (All-contains (Has all) (all_goals (core_of names items)) a has there) (All-contains (Has all) (all_goals (core_of names items)) b has other)
+    let p = core_of names items in
+    let of_rules = goals_from (outside names items) none_before items in
+    let of_closures = row_goals p.closures in
+    let all = of_rules ++ of_closures in
+    let first = sited_wider 0 (0 + all_selects items) 0 (all_selects items) of_rules (omega arith) (omega arith) (items_sited names items none_before items g (items_known names items g) (omega arith)) in
+    let sited = sited_join 0 (all_selects items) (all_selects items + inner_selects items) of_rules of_closures first (closures_made names items g).sited in
+    let rules = flat_map (λ (q : Pred). rule_goals q.rules) p.preds in
+    let has : All (Has all) (all_goals p) = All-append (Has all) rules of_closures (had_in_front of_rules of_closures rules (preds_had names items names.preds)) (all_there of_rules of_closures) in
+    sited.same a b (All-contains (Has all) (all_goals p) a has there) (All-contains (Has all) (all_goals p) b has other)
 
 -- ---- the entry
 
@@ -317,31 +282,31 @@ among_there n (m ∷ ns) h = here (bytes_eq n m) refl (there_cases m ns n h) (λ
     here false q (inl k) rest = absurd (let no : true ≡ false = sym ((bytes_decides n m).1 (sym k)) ∙ q in cc)
     here false q (inr k) rest = rest k
 
-rule_begins : (names : Named) (items : List Item) (n : ℕ) (name : List ℕ) (ps : Parts) (b : Body) (behind : List Goal) (t : Bool) → bytes_eq (name_of ps) name ≡ t → IsGiven names items → Contains (place_names items) name → Asked names (place_names items) (things (of_rule role.Rule ps b)) → length (variables_of ps b) ≤ 65 → is_no_fact (placed_of items) ps b ≡ false → All (MayBegin (core_of names items) (kind_of (declared_names items) name)) (if t then rule_of (outside names items) n ps b behind ∷ [] else [])
-rule_begins names items n name ps b behind false q g there a few e = All-nil (MayBegin (core_of names items) (kind_of (declared_names items) name))
-rule_begins names items n name ps b behind true q g there a few e =
-    let s = scope_of (outside names items) ps b in
+rule_begins : (names : Named) (items : List Item) (n : Before) (name : List ℕ) (ps : Parts) (b : Body) (behind : List Goal) (t : Bool) → bytes_eq (name_of ps) name ≡ t → IsGiven names items → Contains (place_names items) name → IsRuleKnown names items n.closures ps b → is_no_fact (placed_of items) ps b ≡ false → All (MayBegin (core_of names items) (kind_of (declared_names items) name)) (if t then rule_of (outside names items) n ps b behind ∷ [] else [])
+rule_begins names items n name ps b behind false q g there k e = All-nil (MayBegin (core_of names items) (kind_of (declared_names items) name))
+rule_begins names items n name ps b behind true q g there k e =
+    let s = scope_of (outside names items) n.closures ps b in
     let same = (bytes_decides (name_of ps) name).0 q in
     let placed : is_among (name_of ps) (place_names items) ≡ true = among_there (name_of ps) (place_names items) (subst (Contains (place_names items)) (sym same) there) in
     let fact = (and_parts (is_empty b) (are_fact (kind_of (declared_names items) (name_of ps)) (values_in ps)) (second (is_among (name_of ps) (place_names items)) _ placed e)).1 in
-    let h = known_rule names items ps b a in
-    let begin = fact_start (core_of names items) (vars_of ps b) s (kind_of (declared_names items) (name_of ps)) (values_in ps) fact (ground names items ps b g few) (parts_hold s ps (front (IsKnown s) (of_parts false ps) (of_body false b) h.1)) in
+    let h = known_rule names items n.closures ps b k in
+    let begin = fact_start (core_of names items) (vars_of ps b) s (kind_of (declared_names items) (name_of ps)) (values_in ps) fact (rule_ground names items n.closures ps b g k) (parts_hold s ps (front (IsKnown s) (of_parts false ps) (of_body false b) h.1)) in
     let r = rule_of (outside names items) n ps b behind in
     All-cons (MayBegin (core_of names items) (kind_of (declared_names items) name)) r [] (subst (λ (m : List ℕ). MayBegin (core_of names items) (kind_of (declared_names items) m) r) same begin) (All-nil (MayBegin (core_of names items) (kind_of (declared_names items) name)))
 
-item_begins : (names : Named) (items : List Item) (n : ℕ) (name : List ℕ) (said : Said) → IsGiven names items → Contains (place_names items) name → Asked names (place_names items) (things_in said) → IsFitItem said → IsFact (placed_of items) said → All (MayBegin (core_of names items) (kind_of (declared_names items) name)) (rules_in (outside names items) n name said)
-item_begins names items n name (tree.topic w) g there a few e = All-nil (MayBegin (core_of names items) (kind_of (declared_names items) name))
-item_begins names items n name (tree.rule ps b) g there a few e = rule_begins names items n name ps b [] (bytes_eq (name_of ps) name) refl g there a few e
-item_begins names items n name (tree.deny ps b) g there a few e = rule_begins names items n name ps b failing (bytes_eq (name_of ps) name) refl g there a few e
-item_begins names items n name (tree.access ps b) g there a few e = All-nil (MayBegin (core_of names items) (kind_of (declared_names items) name))
-item_begins names items n name (tree.global_variable ps) g there a few e = All-nil (MayBegin (core_of names items) (kind_of (declared_names items) name))
+item_begins : (names : Named) (items : List Item) (n : Before) (name : List ℕ) (said : Said) → IsGiven names items → Contains (place_names items) name → IsItemKnown names items n.closures said → IsFact (placed_of items) said → All (MayBegin (core_of names items) (kind_of (declared_names items) name)) (rules_in (outside names items) n name said)
+item_begins names items n name (tree.topic w) g there h e = All-nil (MayBegin (core_of names items) (kind_of (declared_names items) name))
+item_begins names items n name (tree.rule ps b) g there h e = rule_begins names items n name ps b [] (bytes_eq (name_of ps) name) refl g there h e
+item_begins names items n name (tree.deny ps b) g there h e = rule_begins names items n name ps b failing (bytes_eq (name_of ps) name) refl g there h e
+item_begins names items n name (tree.access ps b) g there h e = All-nil (MayBegin (core_of names items) (kind_of (declared_names items) name))
+item_begins names items n name (tree.global_variable ps) g there h e = All-nil (MayBegin (core_of names items) (kind_of (declared_names items) name))
 
-items_begin : (names : Named) (items : List Item) (n : ℕ) (name : List ℕ) (is : List Item) → IsGiven names items → Contains (place_names items) name → Asked names (place_names items) (mentioned is) → All (λ (i : Item). IsFitItem i.said) is → All (λ (i : Item). IsFact (placed_of items) i.said) is → All (MayBegin (core_of names items) (kind_of (declared_names items) name)) (rules_from (outside names items) n name is)
-items_begin names items n name [] g there a few e = All-nil (MayBegin (core_of names items) (kind_of (declared_names items) name))
-items_begin names items n name (i ∷ is) g there a few e =
-    All-append (MayBegin (core_of names items) (kind_of (declared_names items) name)) (rules_in (outside names items) n name i.said) (rules_from (outside names items) (n + selects_of i.said) name is)
-    (item_begins names items n name i.said g there (asked_front names (place_names items) i is a) (All-head (λ (j : Item). IsFitItem j.said) i is few) (All-head (λ (j : Item). IsFact (placed_of items) j.said) i is e))
-    (items_begin names items (n + selects_of i.said) name is g there (asked_behind names (place_names items) i is a) (All-tail (λ (j : Item). IsFitItem j.said) i is few) (All-tail (λ (j : Item). IsFact (placed_of items) j.said) i is e))
+items_begin : (names : Named) (items : List Item) (n : Before) (name : List ℕ) (is : List Item) → IsGiven names items → Contains (place_names items) name → AreItemsKnown names items n.closures is → All (λ (i : Item). IsFact (placed_of items) i.said) is → All (MayBegin (core_of names items) (kind_of (declared_names items) name)) (rules_from (outside names items) n name is)
+items_begin names items n name [] g there h e = All-nil (MayBegin (core_of names items) (kind_of (declared_names items) name))
+items_begin names items n name (i ∷ is) g there h e =
+    All-append (MayBegin (core_of names items) (kind_of (declared_names items) name)) (rules_in (outside names items) n name i.said) (rules_from (outside names items) (behind_item n i.said) name is)
+    (item_begins names items n name i.said g there h.0 (All-head (λ (j : Item). IsFact (placed_of items) j.said) i is e))
+    (items_begin names items (behind_item n i.said) name is g there h.1 (All-tail (λ (j : Item). IsFact (placed_of items) j.said) i is e))
 
 -- ---- the rules of the predicate with a name
 
@@ -352,22 +317,22 @@ get_or_same (q ∷ qs) (suc k) d e h = get_or_same qs k d e (omega (arith, h))
 
 -- a predicate has the rules of its name
 abbrev IsOwn : Scope → List Item → Pred → Type 0
-IsOwn around items q = q.rules ≡ rules_from around 0 q.name items
+IsOwn around items q = q.rules ≡ rules_from around none_before q.name items
 
 all_own : (around : Scope) (items : List Item) (ns : List (List ℕ)) → All (IsOwn around items) (map (pred_of around items) ns)
 all_own around items [] = All-nil (IsOwn around items)
 all_own around items (n ∷ ns) = All-cons (IsOwn around items) (pred_of around items n) (map (pred_of around items) ns) refl (all_own around items ns)
 
-rules_found : (P : Rule → Type 0) (around : Scope) (items : List Item) (name : List ℕ) (qs : List Pred) (k : ℕ) → All (IsOwn around items) qs → All P (rules_from around 0 name items) → (k < length (map (λ (q : Pred). q.name) qs)) × (bytes_eq name (get_or (map (λ (q : Pred). q.name) qs) k name) ≡ true) → All P (rules_of (slice_get qs k))
+rules_found : (P : Rule → Type 0) (around : Scope) (items : List Item) (name : List ℕ) (qs : List Pred) (k : ℕ) → All (IsOwn around items) qs → All P (rules_from around none_before name items) → (k < length (map (λ (q : Pred). q.name) qs)) × (bytes_eq name (get_or (map (λ (q : Pred). q.name) qs) k name) ≡ true) → All P (rules_of (slice_get qs k))
 rules_found P around items name qs k own h found =
     let below : k < length qs = subst (λ (i : ℕ). k < i) (length-map qs (λ (q : Pred). q.name)) found.0 in
     let d = pred_of around items name in
     let q = get_or qs k d in
     let same : name ≡ q.name = (bytes_decides name (get_or (map (λ (q : Pred). q.name) qs) k name)).0 found.1 ∙ get_or-map (λ (q : Pred). q.name) qs k d name below in
-    let rules : q.rules ≡ rules_from around 0 name items = All-contains (IsOwn around items) qs q own (k, below, get_or_same qs k d q below) ∙ ap (λ (m : List ℕ). rules_from around 0 m items) (sym same) in
+    let rules : q.rules ≡ rules_from around none_before name items = All-contains (IsOwn around items) qs q own (k, below, get_or_same qs k d q below) ∙ ap (λ (m : List ℕ). rules_from around none_before m items) (sym same) in
     subst (λ (o : Option Pred). All P (rules_of o)) (sym (slice_get-get_or qs k d below)) (subst (All P) (sym rules) h)
 
-named_rules : (P : Rule → Type 0) (around : Scope) (items : List Item) (name : List ℕ) (qs : List Pred) → All (IsOwn around items) qs → All P (rules_from around 0 name items) → All P (rules_named name qs)
+named_rules : (P : Rule → Type 0) (around : Scope) (items : List Item) (name : List ℕ) (qs : List Pred) → All (IsOwn around items) qs → All P (rules_from around none_before name items) → All P (rules_named name qs)
 named_rules P around items name qs own h = here (position (bytes_eq name) (map (λ (q : Pred). q.name) qs)) refl
   where
     here : (o : Option ℕ) → position (bytes_eq name) (map (λ (q : Pred). q.name) qs) ≡ o → All P (rules_at qs o)
@@ -384,7 +349,7 @@ outside_ground names items g = record {
   preds = λ s qs there. query_fits names items s qs there g.few_preds;
   places = λ s qs there. place_fits names items s qs g there;
   parents = parents_fit names items;
-  closures = λ k c e. no_closures k c e;
+  closures = λ k c e. absurd (let no : None ≡ Some c = e in cc);
 }
 
 heads_hold : (names : Named) (is : List Item) → All (IsAmong names) (mentioned is) → All (λ (ps : Parts). Hold (IsAmong names) (of_parts false ps)) (declarations is)
@@ -410,7 +375,7 @@ place_sound names items n g e there = here (is_among n (declared_names items)) r
     here false q =
         let kind = kind_of (declared_names items) n in
         let begin = named_rules (MayBegin (core_of names items) kind) (outside names items) items n (with_rules names items).preds (all_own (outside names items) items names.preds)
-        (items_begin names items 0 n items g there (all_asked names items g) g.items (facts_of (placed_of items) [] items e)) in
+        (items_begin names items none_before n items g there (items_known names items g) (facts_of (placed_of items) [] items e)) in
         record { starts = starts_sound (core_of names items) kind [] (rules_named n (with_rules names items).preds) begin; once = starts_distinct [] (rules_named n (with_rules names items).preds) }
 
 places_sound : (names : Named) (items : List Item) (ns : List (List ℕ)) → ((n : List ℕ) → Contains ns n → Contains (place_names items) n) → IsGiven names items → first_bad (placed_of items) [] items ≡ None → All (IsPlaceOf (core_of names items)) (map (place_in names items) ns)
@@ -456,10 +421,9 @@ not_refused items None e = here (has_entry items) refl e
 pub core_sound : (names : Named) (items : List Item) → IsGiven names items → refusal_of items (first_bad (placed_of items) [] items) ≡ None → IsSound (core_of names items)
 core_sound names items g r =
     let each = not_refused items (first_bad (placed_of items) [] items) r in
-    let p = core_of names items in
     record {
       preds = preds_sound names items names.preds g g.preds;
-      closures = All-nil (IsClosureOf p);
+      closures = (closures_made names items g).sound;
       places = places_sound names items (place_names items) (λ n k. k) g each.0;
       parent = (refl, others_kept names items (firsts (map name_of (declarations items) ++ names_in changed_in (mentioned items))));
       objects = g.objects;
@@ -468,7 +432,7 @@ core_sound names items g r =
       sites = program_sites names items g;
       entry = entry_fits names items (entry_there names items g.things each.1) g.few_preds;
       few_preds = let few : length (map (without_facts (place_names items)) (map (pred_of (outside names items) items) names.preds)) ≤ 65535 = rw length-map (rw length-map g.few_preds) in few;
-      few_closures = omega arith;
+      few_closures = few_closures names items g;
       few_places = let few : length (map (place_in names items) (place_names items)) ≤ 65535 = rw length-map g.few_places in few;
       few_objects = g.few_objects;
       few_words = g.few_words;

@@ -1,76 +1,117 @@
--- The rows of closures come in the order of their places where those in a closure are taken before what waits.
-use Rattle.std.proofs.Common.{◌≡◌, ◌+◌, ◌∙◌, ℕ, zero, suc, Bor, get_or, List, [], ◌∷◌, ◌++◌, Option, Some, None, false, length, length-append, refl, sym, ap, subst, append_assoc, arith}
-use Rattle.std.specs.Prelude.{slice_get}
+-- The rows of closures come in the order of what waits, where those in a closure are taken before what waited already.
+use Rattle.std.proofs.Common.{◌≡◌, ◌<◌, ◌+◌, ◌∙◌, ℕ, Bor, get_or, min, List, [], ◌∷◌, ◌++◌, false, length, length-append, refl, sym, ap, append_assoc, arith}
 use Rattle.std.proofs.lemmas.List.{length-map, map-append}
-use Rattle.std.specs.List.{All}
-use Rattle.std.proofs.lemmas.List.Elements.{All-nil, All-cons, All-append}
-use Rattle.dg_base.specs.Mentions.{Mentions, nothing, thing, closed, closures, of_body}
-use Rattle.dg_base.specs.Tree.{Body}
+use Rattle.dg_base.specs.Mentions.{of_body}
+use Rattle.dg_base.specs.Tree as tree
+use Rattle.dg_base.specs.Tree.{Parts, Value, Values, Stmt, Stmts, Body, Arms, Changes}
 use Rattle.dg_base.specs.TreeView.{body_view}
-use Rattle.dg_base.specs.declared.tree.Body.{Body as CodeBody}
 use Rattle.dg_base.specs.declared.program.ClosureBody.{ClosureBody}
-use Rattle.dg_access.specs.Counts.{names_out}
-use Rattle.dg_closures.specs.Closures.{Layout, layout_by, variables_in, places_from, behind}
-use Rattle.dg_core.specs.Bodies.{Closed, no_closure, a_closure, direct, in_branches}
-use Rattle.dg_core.specs.Goals.{Scope, selects}
+use Rattle.dg_base.specs.declared.program.Goal.{Goal}
+use Rattle.dg_base.specs.declared.tree.Body.{Body as CodeBody}
+use Rattle.dg_closures.specs.Closures.{Layout, variables_in}
+use Rattle.dg_core.specs.Bodies.{Closed, no_closure, a_closure, join, direct, in_value, in_values, in_parts, in_stmt, in_stmts, in_branches, in_arms, in_changes}
+use Rattle.dg_core.specs.Goals.{Scope, selects, body_goals}
 use Rattle.dg_core.specs.Making.{bodies_view}
-use Rattle.dg_core.specs.Matches.{Matches}
-use Rattle.dg_core.specs.Rows.{size, selects_within, layout_at, row_with, captured_in, rows}
-use Rattle.dg_core.specs.Waiting.{Waiting, waiting_of, pending, left_of, AreLaid, IsWaiting, waiting_view, captured_by, stack_of, waiting_at, waiting_from, IsNext}
+use Rattle.dg_core.specs.Rows.{size, selects_within, layout_at, Home, scope_in, row_with, captured_in, rows, in_rule}
+use Rattle.dg_core.specs.Waiting.{Waiting, pending, left_of, selects_left, waiting_view, stack_of, waiting_at, waiting_from, IsNext}
 use Rattle.dg_core.specs.declared.rows.Waiting.{Waiting as CodeWaiting}
-use Rattle.dg_core.proofs.RowLemmas.{size_matches}
 
-pub pending_found : (around : Scope) (all : List (List ℕ)) (first : ℕ) (vars : List (List ℕ)) (n k : ℕ) (ms : Mentions) (cs : Closed) (ws : List Waiting) → Matches ms cs → pending around all first n (waiting_of all vars k cs ++ ws) ≡ rows around all first vars n k cs ++ pending around all first (n + selects_within cs) ws
-pending_found around all first vars n k nothing no_closure ws h = ap (λ (i : ℕ). pending around all first i ws) (omega arith)
-pending_found around all first vars n k nothing (a_closure b inner cs) ws h = absurd h
-pending_found around all first vars n k (thing t ms) cs ws h = pending_found around all first vars n k ms cs ws h
-pending_found around all first vars n k (closed within ms) no_closure ws h = absurd h
-pending_found around all first vars n k (closed within ms) (a_closure b inner cs) ws h =
-    let l = layout_at all k b in
+-- ---- what is found in a body
+
+-- in each closure stand those of its body
+abbrev pub HaveTheirs : Closed → Type 0
+HaveTheirs no_closure = Unit {0}
+HaveTheirs (a_closure b inner cs) = (inner ≡ in_branches b) × HaveTheirs cs
+
+joined : (cs ds : Closed) → HaveTheirs cs → HaveTheirs ds → HaveTheirs (join cs ds)
+joined no_closure ds h k = k
+joined (a_closure b inner cs) ds h k = (h.0, joined cs ds h.1 k)
+
+mutual
+  value_has : (v : Value) → HaveTheirs (in_value v)
+  value_has (tree.num n) = tt
+  value_has (tree.dict_word w) = tt
+  value_has (tree.object_name n) = tt
+  value_has tree.current_topic = tt
+  value_has tree.anonymous = tt
+  value_has (tree.variable n) = tt
+  value_has (tree.plain_list vs) = values_have vs
+  value_has (tree.tailed_list vs v) = joined (in_values vs) (in_value v) (values_have vs) (value_has v)
+  value_has (tree.closure b) = (refl, tt)
+  value_has (tree.nested ps) = tt
+  value_has (tree.word_choice ws) = tt
+
+  values_have : (vs : Values) → HaveTheirs (in_values vs)
+  values_have tree.no_values = tt
+  values_have (tree.value v vs) = joined (in_value v) (in_values vs) (value_has v) (values_have vs)
+
+  parts_have : (ps : Parts) → HaveTheirs (in_parts ps)
+  parts_have tree.no_parts = tt
+  parts_have (tree.part (tree.part_word w) ps) = parts_have ps
+  parts_have (tree.part (tree.part_value v) ps) = joined (in_value v) (in_parts ps) (value_has v) (parts_have ps)
+
+  stmt_has : (s : Stmt) → HaveTheirs (in_stmt s)
+  stmt_has (tree.text w) = tt
+  stmt_has (tree.print v) = value_has v
+  stmt_has (tree.ask ps) = parts_have ps
+  stmt_has (tree.ask_all ps) = parts_have ps
+  stmt_has (tree.ask_not ps) = parts_have ps
+  stmt_has (tree.group b) = branches_have b
+  stmt_has (tree.not_group b) = branches_have b
+  stmt_has (tree.now cs) = changes_have cs
+  stmt_has (tree.choice arms) = arms_have arms
+  stmt_has (tree.choice_else arms b) = joined (in_arms arms) (in_branches b) (arms_have arms) (branches_have b)
+  stmt_has (tree.exhaust s) = stmt_has s
+  stmt_has (tree.stoppable s) = stmt_has s
+  stmt_has (tree.collect v b into) = joined (in_value v) (join (in_branches b) (in_value into)) (value_has v) (joined (in_branches b) (in_value into) (branches_have b) (value_has into))
+  stmt_has (tree.accumulate v b into) = joined (in_value v) (join (in_branches b) (in_value into)) (value_has v) (joined (in_branches b) (in_value into) (branches_have b) (value_has into))
+  stmt_has (tree.select mode b) = branches_have b
+  stmt_has (tree.first_answer b) = branches_have b
+
+  stmts_have : (ss : Stmts) → HaveTheirs (in_stmts ss)
+  stmts_have tree.no_stmts = tt
+  stmts_have (tree.stmt s ss) = joined (in_stmt s) (in_stmts ss) (stmt_has s) (stmts_have ss)
+
+  pub branches_have : (b : Body) → HaveTheirs (in_branches b)
+  branches_have tree.no_branches = tt
+  branches_have (tree.branch ss b) = joined (in_stmts ss) (in_branches b) (stmts_have ss) (branches_have b)
+
+  arms_have : (arms : Arms) → HaveTheirs (in_arms arms)
+  arms_have tree.no_arms = tt
+  arms_have (tree.arm c b arms) = joined (in_branches c) (join (in_branches b) (in_arms arms)) (branches_have c) (joined (in_branches b) (in_arms arms) (branches_have b) (arms_have arms))
+
+  changes_have : (cs : Changes) → HaveTheirs (in_changes cs)
+  changes_have tree.no_changes = tt
+  changes_have (tree.change ps set cs) = joined (in_parts ps) (in_changes cs) (parts_have ps) (changes_have cs)
+
+pub rule_has : (ps : Parts) (b : Body) → HaveTheirs (in_rule ps b)
+rule_has ps b = joined (in_parts ps) (in_branches b) (parts_have ps) (branches_have b)
+
+-- ---- what comes of those that were found
+
+pub pending_found : (home : Home) (vars : List (List ℕ)) (ps : List ℕ) (i n : ℕ) (cs : Closed) (ws : List Waiting) → HaveTheirs cs → pending home n (waiting_from home.layouts vars ps i (direct cs) ++ ws) ≡ rows home vars ps i n cs ++ pending home (n + selects_within cs) ws
+pending_found home vars ps i n no_closure ws h = ap (λ (k : ℕ). pending home k ws) (omega arith)
+pending_found home vars ps i n (a_closure b inner cs) ws h =
+    let l = layout_at home.layouts (get_or ps i 0) in
     let m = n + selects (of_body false b) in
-    let r = row_with around first (captured_in vars l) n l b in
-    let j = k + 1 + size inner in
-    let others = waiting_of all vars j cs ++ ws in
-    let inside : Closed → List ClosureBody = λ c. rows around all first (variables_in l) m (k + 1) c in
-    let rest = rows around all first vars (m + selects_within inner) j cs in
-    let last : ℕ → List ClosureBody = λ i. pending around all first i ws in
-    ap (λ (c : Closed). r ∷ (inside c ++ pending around all first (m + selects_within c) others)) (sym h.1)
-    ∙ ap (λ (x : List ClosureBody). r ∷ (inside inner ++ x)) (pending_found around all first vars (m + selects_within inner) j ms cs ws h.3)
-    ∙ ap (λ (i : ℕ). r ∷ (inside inner ++ (rest ++ last i))) (omega arith)
+    let r = row_with home (captured_in vars l) n l b in
+    let others = waiting_from home.layouts vars ps (i + 1) (direct cs) ++ ws in
+    let inside : Closed → List ClosureBody = λ c. rows home (variables_in l) l.places 0 m c in
+    let rest = rows home vars ps (i + 1) (m + selects_within inner) cs in
+    let last : ℕ → List ClosureBody = λ k. pending home k ws in
+    ap (λ (c : Closed). r ∷ (inside c ++ pending home (m + selects_within c) others)) (sym h.0)
+    ∙ ap (λ (x : List ClosureBody). r ∷ (inside inner ++ x)) (pending_found home vars ps (i + 1) (m + selects_within inner) cs ws h.1)
+    ∙ ap (λ (k : ℕ). r ∷ (inside inner ++ (rest ++ last k))) (omega arith)
     ∙ ap (λ (x : List ClosureBody). r ∷ x) (sym (append_assoc (inside inner) rest (last (n + selects_within (a_closure b inner cs)))))
 
--- one row is made, and the closures directly in its body come to wait
-pub pending_next : (around : Scope) (all : List (List ℕ)) (first n : ℕ) (w : Waiting) (ws : List Waiting) → Matches (of_body false w.body) (in_branches w.body) → pending around all first n (w ∷ ws) ≡ row_with around first w.captured n (layout_at all w.place w.body) w.body ∷ pending around all first (n + selects (of_body false w.body)) (waiting_of all (variables_in (layout_at all w.place w.body)) (w.place + 1) (in_branches w.body) ++ ws)
-pending_next around all first n w ws h =
-    let l = layout_at all w.place w.body in
-    let m = n + selects (of_body false w.body) in
-    ap (λ (x : List ClosureBody). row_with around first w.captured n l w.body ∷ x) (sym (pending_found around all first (variables_in l) m (w.place + 1) (of_body false w.body) (in_branches w.body) ws h))
+pub selects_found : (ls : List Layout) (vars : List (List ℕ)) (ps : List ℕ) (i : ℕ) (cs : Closed) (ws : List Waiting) → HaveTheirs cs → selects_left (waiting_from ls vars ps i (direct cs) ++ ws) ≡ selects_within cs + selects_left ws
+selects_found ls vars ps i no_closure ws h = omega arith
+selects_found ls vars ps i (a_closure b inner cs) ws h = omega (arith, ap selects_within h.0, selects_found ls vars ps (i + 1) cs ws h.1)
 
 -- one row fewer is left
-pub found_left : (all vars : List (List ℕ)) (k : ℕ) (ms : Mentions) (cs : Closed) (ws : List Waiting) → Matches ms cs → left_of (waiting_of all vars k cs ++ ws) ≡ size cs + left_of ws
-found_left all vars k nothing no_closure ws h = omega arith
-found_left all vars k nothing (a_closure b inner cs) ws h = absurd h
-found_left all vars k (thing t ms) cs ws h = found_left all vars k ms cs ws h
-found_left all vars k (closed within ms) no_closure ws h = absurd h
-found_left all vars k (closed within ms) (a_closure b inner cs) ws h = omega (arith, ap size h.1, found_left all vars (k + 1 + size inner) ms cs ws h.3)
-
--- ---- the layouts of closures that wait
-
--- the closures that come to wait know their layouts
-pub all_wait : (ls : List Layout) (all vars : List (List ℕ)) (k : ℕ) (ms : Mentions) (cs : Closed) → Matches ms cs → AreLaid ls all k ms → All (IsWaiting ls all) (waiting_of all vars k cs)
-all_wait ls all vars k nothing no_closure h laid = All-nil (IsWaiting ls all)
-all_wait ls all vars k nothing (a_closure b inner cs) h laid = absurd h
-all_wait ls all vars k (thing t ms) cs h laid = all_wait ls all vars k ms cs h laid
-all_wait ls all vars k (closed within ms) no_closure h laid = absurd h
-all_wait ls all vars k (closed within ms) (a_closure b inner cs) h laid =
-    let far : behind k within ≡ k + 1 + size inner = omega (arith, size_matches within inner h.2) in
-    All-cons (IsWaiting ls all) (record { body = b; place = k; captured = captured_in vars (layout_at all k b) }) (waiting_of all vars (k + 1 + size inner) cs)
-    (record {
-      matches = subst (λ (c : Closed). Matches (of_body false b) c) h.1 (subst (λ (x : Mentions). Matches x inner) h.0 h.2);
-      layout = subst (λ (x : Mentions). slice_get ls k ≡ Some (layout_by all (names_out all x) (places_from (k + 1) x))) h.0 laid.0;
-      within = subst (λ (x : Mentions). AreLaid ls all (k + 1) x) h.0 laid.1;
-    })
-    (all_wait ls all vars (k + 1 + size inner) ms cs h.3 (subst (λ (i : ℕ). AreLaid ls all i ms) far laid.2))
+found_left : (ls : List Layout) (vars : List (List ℕ)) (ps : List ℕ) (i : ℕ) (cs : Closed) (ws : List Waiting) → HaveTheirs cs → left_of (waiting_from ls vars ps i (direct cs) ++ ws) ≡ size cs + left_of ws
+found_left ls vars ps i no_closure ws h = omega arith
+found_left ls vars ps i (a_closure b inner cs) ws h = omega (arith, ap size h.0, found_left ls vars ps (i + 1) cs ws h.1)
 
 -- ---- the code's stack
 
@@ -78,18 +119,18 @@ pub stack_pushed : (ws : List CodeWaiting) (w : CodeWaiting) → stack_of (ws ++
 stack_pushed [] w = refl
 stack_pushed (x ∷ ws) w = ap (λ (l : List Waiting). l ++ waiting_view x ∷ []) (stack_pushed ws w)
 
-pub last_waits : (ls : List Layout) (vars : List (List ℕ)) (ps : List ℕ) (i : ℕ) (bs : List Body) (b : Body) → waiting_from ls vars ps i (bs ++ b ∷ []) ≡ waiting_from ls vars ps i bs ++ waiting_at ls vars ps (i + length bs) b ∷ []
+last_waits : (ls : List Layout) (vars : List (List ℕ)) (ps : List ℕ) (i : ℕ) (bs : List Body) (b : Body) → waiting_from ls vars ps i (bs ++ b ∷ []) ≡ waiting_from ls vars ps i bs ++ waiting_at ls vars ps (i + length bs) b ∷ []
 last_waits ls vars ps i [] b = ap (λ (k : ℕ). waiting_at ls vars ps k b ∷ []) (omega arith)
 last_waits ls vars ps i (x ∷ bs) b =
     ap (λ (l : List Waiting). waiting_at ls vars ps i x ∷ l) (last_waits ls vars ps (i + 1) bs b ∙ ap (λ (k : ℕ). waiting_from ls vars ps (i + 1) bs ++ waiting_at ls vars ps k b ∷ []) (omega arith))
 
-pub put_waits : (ls : List Layout) (vars : List (List ℕ)) (ps : List ℕ) (old new : List CodeWaiting) (w : CodeWaiting) (i : ℕ) (b : Body) → new ≡ old ++ w ∷ [] → body_view w.body.now ≡ b → w.place ≡ get_or ps i 0 → w.captured ≡ captured_by vars (slice_get ls w.place) → stack_of new ≡ waiting_at ls vars ps i b ∷ stack_of old
+pub put_waits : (ls : List Layout) (vars : List (List ℕ)) (ps : List ℕ) (old new : List CodeWaiting) (w : CodeWaiting) (i : ℕ) (b : Body) → new ≡ old ++ w ∷ [] → body_view w.body.now ≡ b → w.place ≡ get_or ps i 0 → w.captured ≡ captured_in vars (layout_at ls w.place) → stack_of new ≡ waiting_at ls vars ps i b ∷ stack_of old
 put_waits ls vars ps old new w i b pushed is at caught =
     ap stack_of pushed
     ∙ stack_pushed old w
     ∙ ap (λ (x : Body). record { body = x; place = w.place; captured = w.captured } ∷ stack_of old) is
     ∙ ap (λ (x : List ℕ). record { body = b; place = w.place; captured = x } ∷ stack_of old) caught
-    ∙ ap (λ (k : ℕ). record { body = b; place = k; captured = captured_by vars (slice_get ls k) } ∷ stack_of old) at
+    ∙ ap (λ (k : ℕ). record { body = b; place = k; captured = captured_in vars (layout_at ls k) } ∷ stack_of old) at
 
 -- the last body that was found is put in front of what waits
 pub found_waits : (ls : List Layout) (vars : List (List ℕ)) (ps : List ℕ) (old new : List (Bor CodeBody)) (b : Bor CodeBody) (i : ℕ) (before after : List Waiting) (all : List Waiting) → old ≡ new ++ b ∷ [] → i ≡ length new → after ≡ waiting_at ls vars ps i (body_view b.now) ∷ before → waiting_from ls vars ps 0 (bodies_view old) ++ before ≡ all → waiting_from ls vars ps 0 (bodies_view new) ++ after ≡ all
@@ -104,54 +145,47 @@ found_waits ls vars ps old new b i before after all popped at put e =
     ∙ ap (λ (l : List (Bor CodeBody)). waiting_from ls vars ps 0 (bodies_view l) ++ before) (sym popped)
     ∙ e
 
-place_front : (pre post : List ℕ) (k i : ℕ) → length pre ≡ i → get_or (pre ++ k ∷ post) i 0 ≡ k
-place_front [] post k i e = ap (λ (j : ℕ). get_or (k ∷ post) j 0) (sym e)
-place_front (x ∷ pre) post k zero e = absurd (omega (arith, e))
-place_front (x ∷ pre) post k (suc i) e = place_front pre post k i (omega (arith, e))
+-- ---- a row is made
 
--- those that were found wait as their places and layouts say
-pub waiting_is : (ls : List Layout) (all vars : List (List ℕ)) (k i : ℕ) (ms : Mentions) (cs : Closed) (pre : List ℕ) → length pre ≡ i → Matches ms cs → AreLaid ls all k ms → waiting_from ls vars (pre ++ places_from k ms) i (direct cs) ≡ waiting_of all vars k cs
-waiting_is ls all vars k i nothing no_closure pre e h laid = refl
-waiting_is ls all vars k i nothing (a_closure b inner cs) pre e h laid = absurd h
-waiting_is ls all vars k i (thing t ms) cs pre e h laid = waiting_is ls all vars k i ms cs pre e h laid
-waiting_is ls all vars k i (closed within ms) no_closure pre e h laid = absurd h
-waiting_is ls all vars k i (closed within ms) (a_closure b inner cs) pre e h laid =
-    let rest = places_from (behind k within) ms in
-    let far : behind k within ≡ k + 1 + size inner = omega (arith, size_matches within inner h.2) in
-    let layout = laid.0 ∙ ap (λ (x : Mentions). Some (layout_by all (names_out all x) (places_from (k + 1) x))) h.0 in
-    let later = waiting_is ls all vars (behind k within) (i + 1) ms cs (pre ++ k ∷ []) (omega (arith, length-append pre (k ∷ []), e)) h.3 laid.2 in
-    ap (λ (p : ℕ). record { body = b; place = p; captured = captured_by vars (slice_get ls p) } ∷ waiting_from ls vars (pre ++ k ∷ rest) (i + 1) (direct cs)) (place_front pre rest k i e)
-    ∙ ap (λ (o : Option Layout). record { body = b; place = k; captured = captured_by vars o } ∷ waiting_from ls vars (pre ++ k ∷ rest) (i + 1) (direct cs)) layout
-    ∙ ap (λ (ps : List ℕ). record { body = b; place = k; captured = captured_in vars (layout_at all k b) } ∷ waiting_from ls vars ps (i + 1) (direct cs)) (sym (append_assoc pre (k ∷ []) rest))
-    ∙ ap (λ (l : List Waiting). record { body = b; place = k; captured = captured_in vars (layout_at all k b) } ∷ l) (later ∙ ap (λ (j : ℕ). waiting_of all vars j cs) far)
+pub row_made : (home : Home) (captured : List ℕ) (n : ℕ) (l : Layout) (b : Body) (scope : Scope) (goals : List Goal) → scope ≡ scope_in home (variables_in l) l.places → goals ≡ body_goals scope n b → record { captured = captured; own = min (length l.own) 65535; body = goals } ≡ row_with home captured n l b
+row_made home captured n l b scope goals inside made =
+    ap (λ (gs : List Goal). record { captured = captured; own = min (length l.own) 65535; body = gs }) (made ∙ ap (λ (s : Scope). body_goals s n b) inside)
 
--- a row is made of the layout at its place
-pub next_made : (around : Scope) (first : ℕ) (ls : List Layout) (all : List (List ℕ)) (w : Waiting) (n m : ℕ) (old new : List Waiting) (rs rows : List ClosureBody) (l : Layout) (vars : List (List ℕ)) (found : List Body) (row : ClosureBody) → slice_get ls w.place ≡ Some l → IsWaiting ls all w → row ≡ row_with around first w.captured n l w.body → found ≡ direct (in_branches w.body) → m ≡ n + selects (of_body false w.body) → rows ≡ rs ++ row ∷ [] → vars ≡ variables_in l → new ≡ waiting_from ls vars l.places 0 found ++ old → IsNext around first ls all w n old rs m new rows
-next_made around first ls all w n m old new rs rows l vars found row there is made bodies sites pushed names put =
+-- the row of a closure is made of the layout at its place, and those in it wait
+pub next_made : (home : Home) (w : Waiting) (n m : ℕ) (old new : List Waiting) (rs new_rows : List ClosureBody) (row : ClosureBody) (found : List Body) → row ≡ row_with home w.captured n (layout_at home.layouts w.place) w.body → found ≡ direct (in_branches w.body) → m ≡ n + selects (of_body false w.body) → new_rows ≡ rs ++ row ∷ [] → new ≡ waiting_from home.layouts (variables_in (layout_at home.layouts w.place)) (layout_at home.layouts w.place).places 0 found ++ old → IsNext home w n old rs m new new_rows
+next_made home w n m old new rs new_rows row found made bodies sites pushed put =
+    let l = layout_at home.layouts w.place in
     let inner = in_branches w.body in
-    let ms = of_body false w.body in
-    let lay = layout_at all w.place w.body in
-    let same : Some l ≡ Some lay = sym there ∙ is.layout in
-    let one : l ≡ lay = ap (λ (o : Option Layout). or_layout lay o) same in
-    let come = waiting_of all (variables_in lay) (w.place + 1) inner in
-    let waits : new ≡ come ++ old = put
-    ∙ ap (λ (v : List (List ℕ)). waiting_from ls v l.places 0 found ++ old) names
-    ∙ ap (λ (x : Layout). waiting_from ls (variables_in x) x.places 0 found ++ old) one
-    ∙ ap (λ (bs : List Body). waiting_from ls (variables_in lay) lay.places 0 bs ++ old) bodies
-    ∙ ap (λ (x : List Waiting). x ++ old) (waiting_is ls all (variables_in lay) (w.place + 1) 0 ms inner [] refl is.matches is.within) in
-    let k = n + selects ms in
+    let k = n + selects (of_body false w.body) in
+    let waits = put ∙ ap (λ (bs : List Body). waiting_from home.layouts (variables_in l) l.places 0 bs ++ old) bodies in
+    let theirs = branches_have w.body in
     record {
       made =
-          ap (λ (x : List ClosureBody). x ++ pending around all first m new) pushed
-          ∙ append_assoc rs (row ∷ []) (pending around all first m new)
-          ∙ ap (λ (x : ClosureBody). rs ++ x ∷ pending around all first m new) (made ∙ ap (λ (x : Layout). row_with around first w.captured n x w.body) one)
-          ∙ ap (λ (x : ℕ). rs ++ row_with around first w.captured n lay w.body ∷ pending around all first x new) sites
-          ∙ ap (λ (x : List Waiting). rs ++ row_with around first w.captured n lay w.body ∷ pending around all first k x) waits
-          ∙ ap (λ (x : List ClosureBody). rs ++ x) (sym (pending_next around all first n w old is.matches));
-      waits = λ h. subst (All (IsWaiting ls all)) (sym waits) (All-append (IsWaiting ls all) come old (all_wait ls all (variables_in lay) (w.place + 1) ms inner is.matches is.within) h);
-      fewer = omega (arith, ap left_of waits, found_left all (variables_in lay) (w.place + 1) ms inner old is.matches);
+          ap (λ (x : List ClosureBody). x ++ pending home m new) pushed
+          ∙ append_assoc rs (row ∷ []) (pending home m new)
+          ∙ ap (λ (x : ClosureBody). rs ++ x ∷ pending home m new) made
+          ∙ ap (λ (x : ℕ). rs ++ row_with home w.captured n l w.body ∷ pending home x new) sites
+          ∙ ap (λ (x : List Waiting). rs ++ row_with home w.captured n l w.body ∷ pending home k x) waits
+          ∙ ap (λ (x : List ClosureBody). rs ++ row_with home w.captured n l w.body ∷ x) (pending_found home (variables_in l) l.places 0 k inner old theirs);
+      sites = omega (arith, sites, ap selects_left waits, selects_found home.layouts (variables_in l) l.places 0 inner old theirs);
+      fewer = omega (arith, ap left_of waits, found_left home.layouts (variables_in l) l.places 0 inner old theirs);
     }
-  where
-    or_layout : Layout → Option Layout → Layout
-    or_layout d None = d
-    or_layout d (Some x) = x
+
+-- ---- along the loop
+
+pub next_rows : (home here : Home) (w : CodeWaiting) (old popped new : List CodeWaiting) (n m : ℕ) (rs new_rows all : List ClosureBody) → here ≡ home → old ≡ popped ++ w ∷ [] → IsNext here (waiting_view w) n (stack_of popped) rs m (stack_of new) new_rows → rs ++ pending home n (stack_of old) ≡ all → new_rows ++ pending home m (stack_of new) ≡ all
+next_rows home here w old popped new n m rs new_rows all same taken next e =
+    ap (λ (h : Home). new_rows ++ pending h m (stack_of new)) (sym same)
+    ∙ next.made
+    ∙ ap (λ (h : Home). rs ++ pending h n (waiting_view w ∷ stack_of popped)) same
+    ∙ ap (λ (l : List Waiting). rs ++ pending home n l) (sym (ap stack_of taken ∙ stack_pushed popped w))
+    ∙ e
+
+pub next_selects : (here : Home) (w : CodeWaiting) (old popped new : List CodeWaiting) (n m k : ℕ) (rs new_rows : List ClosureBody) → old ≡ popped ++ w ∷ [] → IsNext here (waiting_view w) n (stack_of popped) rs m (stack_of new) new_rows → n + selects_left (stack_of old) ≡ k → m + selects_left (stack_of new) ≡ k
+next_selects here w old popped new n m k rs new_rows taken next e =
+    next.sites ∙ ap (λ (l : List Waiting). n + selects_left l) (sym (ap stack_of taken ∙ stack_pushed popped w)) ∙ e
+
+pub next_fewer : (here : Home) (w : CodeWaiting) (old popped new : List CodeWaiting) (n m : ℕ) (rs new_rows : List ClosureBody) → old ≡ popped ++ w ∷ [] → IsNext here (waiting_view w) n (stack_of popped) rs m (stack_of new) new_rows → left_of (stack_of new) < left_of (stack_of old)
+next_fewer here w old popped new n m rs new_rows taken next =
+    let same = ap left_of (ap stack_of taken ∙ stack_pushed popped w) in
+    omega (arith, next.fewer, same)

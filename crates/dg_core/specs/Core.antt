@@ -10,6 +10,7 @@ use Rattle.dg_base.specs.Tree.{Parts, Value, anonymous, Body, Said, rule, deny, 
 use Rattle.dg_base.specs.declared.program.Term.{Term, out-Term}
 use Rattle.dg_base.specs.declared.program.Term.TheVariants as term
 use Rattle.dg_base.specs.declared.program.Term.TheOpen as top
+use Rattle.dg_base.specs.declared.program.ClosureBody.{ClosureBody}
 use Rattle.dg_base.specs.declared.program.Goal.{Goal}
 use Rattle.dg_base.specs.declared.program.Goal.TheVariants.{Just, Fail}
 use Rattle.dg_base.specs.declared.program.Rule.{Rule}
@@ -19,10 +20,11 @@ use Rattle.dg_base.specs.declared.program.CoreProgram.{CoreProgram as Core}
 use Rattle.dg_base.specs.declared.refusal.Refusal.{Refusal}
 use Rattle.dg_base.specs.declared.refusal.Kind.TheVariants.{BadInitial, NoEntry}
 use Rattle.dg_names.specs.Named.{Named}
-use Rattle.dg_core.specs.Variables.{variables_of}
+use Rattle.dg_core.specs.Variables.{layouts_in, variables_of}
 use Rattle.dg_core.specs.Places.{Placed, is_among, declarations, place_names, declared_names, placed_of, kind_of, values_in, first_bad}
-use Rattle.dg_core.specs.Bodies.{in_parts}
+use Rattle.dg_core.specs.Bodies.{Closed, no_closure, in_parts}
 use Rattle.dg_core.specs.Goals.{Scope, past, number_in, term_of, terms_of, body_goals, selects}
+use Rattle.dg_core.specs.Rows.{selects_within, scope_in, in_rule, rows_of}
 
 -- ---- rules
 
@@ -30,16 +32,21 @@ use Rattle.dg_core.specs.Goals.{Scope, past, number_in, term_of, terms_of, body_
 abbrev pub outside : Named → List Item → Scope
 outside names items = record { names = names; places = place_names items; variables = []; closures = []; before = 0 }
 
--- What the names in a rule stand for. Its closures have no numbers as yet.
-abbrev pub scope_of : Scope → Parts → Body → Scope
-scope_of around ps b = record around { variables = variables_of ps b; closures = []; before = 0 }
+-- How many selects and how many closures stand before something.
+pub record Before : Type 0 where
+  pub selects : ℕ
+  pub closures : ℕ
 
--- A rule with so many selects before it, whose body is followed by these goals.
-abbrev pub rule_of : Scope → ℕ → Parts → Body → List Goal → Rule
+-- What the names in a rule stand for, so many closures standing in the items before.
+abbrev pub scope_of : Scope → ℕ → Parts → Body → Scope
+scope_of around first ps b = let ls = layouts_in ps b in scope_in (record { around = around; layouts = ls.closures; first = first }) ls.variables ls.places
+
+-- A rule whose body is followed by these goals.
+abbrev pub rule_of : Scope → Before → Parts → Body → List Goal → Rule
 rule_of around n ps b behind = record {
   vars = min (length (variables_of ps b)) 65535;
-  head = terms_of (scope_of around ps b) ps;
-  body = body_goals (past (scope_of around ps b) (in_parts ps)) n b ++ behind;
+  head = terms_of (scope_of around n.closures ps b) ps;
+  body = body_goals (past (scope_of around n.closures ps b) (in_parts ps)) n.selects b ++ behind;
 }
 
 -- A negated rule lets its predicate fail behind its body.
@@ -47,30 +54,76 @@ abbrev pub failing : List Goal
 failing = Just ∷ Fail ∷ []
 
 -- The rule that an item gives to the predicate of this name, where it gives one.
-abbrev pub rules_in : Scope → ℕ → List ℕ → Said → List Rule
+abbrev pub rules_in : Scope → Before → List ℕ → Said → List Rule
 rules_in around n name (rule ps b) = if bytes_eq (name_of ps) name then rule_of around n ps b [] ∷ [] else []
 rules_in around n name (deny ps b) = if bytes_eq (name_of ps) name then rule_of around n ps b failing ∷ [] else []
 rules_in around n name said = []
 
--- The selects of an item.
+-- The selects of an item outside closures.
 abbrev pub selects_of : Said → ℕ
 selects_of (rule ps b) = selects (of_body false b)
 selects_of (deny ps b) = selects (of_body false b)
 selects_of said = 0
 
--- The rules that items give to the predicate of this name, in the order of the source, with so many selects before them.
-abbrev pub rules_from : Scope → ℕ → List ℕ → List Item → List Rule
-rules_from around n name [] = []
-rules_from around n name (i ∷ is) = rules_in around n name i.said ++ rules_from around (n + selects_of i.said) name is
+-- The closures of an item, and the selects in them.
+abbrev pub closures_of : Said → Closed
+closures_of (rule ps b) = in_rule ps b
+closures_of (deny ps b) = in_rule ps b
+closures_of said = no_closure
 
--- The selects of items.
+-- How many closures an item has, at every depth: as many as layouts.
+abbrev pub numbered : Said → ℕ
+numbered (rule ps b) = length (layouts_in ps b).closures
+numbered (deny ps b) = length (layouts_in ps b).closures
+numbered said = 0
+
+-- Behind an item.
+abbrev pub behind_item : Before → Said → Before
+behind_item n said = record { selects = n.selects + selects_of said; closures = n.closures + numbered said }
+
+-- The rules that items give to the predicate of this name, in the order of the source.
+abbrev pub rules_from : Scope → Before → List ℕ → List Item → List Rule
+rules_from around n name [] = []
+rules_from around n name (i ∷ is) = rules_in around n name i.said ++ rules_from around (behind_item n i.said) name is
+
+-- The selects of items outside closures.
 abbrev pub all_selects : List Item → ℕ
 all_selects [] = 0
 all_selects (i ∷ is) = selects_of i.said + all_selects is
 
+-- Nothing stands before the first item.
+abbrev pub none_before : Before
+none_before = record { selects = 0; closures = 0 }
+
 -- A predicate with its rules. Those of the prelude don't come from the source.
 abbrev pub pred_of : Scope → List Item → List ℕ → Pred
-pred_of around items name = record { name = name; from_source = not (name_among name prelude_names); rules = rules_from around 0 name items }
+pred_of around items name = record { name = name; from_source = not (name_among name prelude_names); rules = rules_from around none_before name items }
+
+-- ---- closures
+
+-- The rows of an item's closures, so many selects standing before those in them.
+abbrev pub rows_in : Scope → Before → Said → List ClosureBody
+rows_in around n (rule ps b) = rows_of around n.closures n.selects ps b
+rows_in around n (deny ps b) = rows_of around n.closures n.selects ps b
+rows_in around n said = []
+
+-- Behind the closures of an item.
+abbrev pub behind_rows : Before → Said → Before
+behind_rows n said = record { selects = n.selects + selects_within (closures_of said); closures = n.closures + numbered said }
+
+-- The rows of the closures of items, in the order of the source.
+abbrev pub rows_from : Scope → Before → List Item → List ClosureBody
+rows_from around n [] = []
+rows_from around n (i ∷ is) = rows_in around n i.said ++ rows_from around (behind_rows n i.said) is
+
+-- The selects in the closures of items.
+abbrev pub inner_selects : List Item → ℕ
+inner_selects [] = 0
+inner_selects (i ∷ is) = selects_within (closures_of i.said) + inner_selects is
+
+-- The selects in closures have numbers behind all others.
+abbrev pub behind_rules : List Item → Before
+behind_rules items = record { selects = all_selects items; closures = 0 }
 
 -- ---- the program with every rule
 
@@ -86,11 +139,11 @@ bare items name = record { kind = kind_of (declared_names items) name; start = [
 abbrev pub with_rules : Named → List Item → Core
 with_rules names items = record {
   preds = map (pred_of (outside names items) items) names.preds;
-  closures = [];
+  closures = rows_from (outside names items) (behind_rules items) items;
   places = map (bare items) (place_names items);
   objects = names.objects;
   words = names.words;
-  sites = all_selects items;
+  sites = all_selects items + inner_selects items;
   entry = number_in names.preds entry_name;
 }
 

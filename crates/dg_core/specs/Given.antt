@@ -1,16 +1,17 @@
 -- What a rewritten tree and its names have where they come from a source that was read: hold it against docs/LANGUAGE.md, "Names", "Characters and
 -- tokens", "The world" and "Limits".
-use Rattle.std.specs.Prelude.{◌≡◌, ◌≤◌, List, [], ◌∷◌, false, All, length}
+use Rattle.std.specs.Prelude.{◌≡◌, ◌≤◌, ◌+◌, ℕ, List, [], ◌∷◌, false, All, length}
 use Rattle.std.specs.List.{IsDistinct}
 use Rattle.std.specs.Str.{bytes_eq}
 use Rattle.dg_base.specs.Heads.{name_of}
-use Rattle.dg_base.specs.Mentions.{Thing, query, select, mentioned}
+use Rattle.dg_base.specs.Mentions.{Thing, query, select, closures, of_rule, of_said, mentioned}
 use Rattle.dg_base.specs.Sound.{IsName}
-use Rattle.dg_base.specs.Tree.{Parts, Value, num, dict_word, object_name, plain_list, tailed_list, Values, no_values, value, Said, rule, deny, global_variable, Item}
+use Rattle.dg_base.specs.Tree.{Parts, Value, num, dict_word, object_name, plain_list, tailed_list, Values, no_values, value, Body, Said, rule, deny, global_variable, Item}
 use Rattle.dg_base.specs.declared.mentions.Role.TheVariants as role
+use Rattle.dg_access.specs.Few.{HasFewVariables}
 use Rattle.dg_names.specs.Among.{IsAmong}
 use Rattle.dg_names.specs.Named.{Named}
-use Rattle.dg_core.specs.Variables.{variables_of}
+use Rattle.dg_core.specs.Matches.{ArePlain}
 use Rattle.dg_core.specs.Core.{is_unset}
 use Rattle.dg_core.specs.Places.{parent_name, place_names, values_in}
 
@@ -45,18 +46,28 @@ pub record IsDeclarable (ps : Parts) : Type 0 where
   pub value : MayStart (values_in ps)
   pub other : bytes_eq parent_name (name_of ps) ≡ false
 
--- A rule has at most 64 variables and the parameter of a closure.
+-- A rule and each closure in it has at most 64 variables, and no query stands as a value in it.
+pub record IsFitRule (ps : Parts) (b : Body) : Type 0 where
+  pub few : HasFewVariables (rule ps b)
+  pub plain : ArePlain (of_rule role.Rule ps b)
+
 abbrev pub IsFitItem : Said → Type 0
-IsFitItem (rule ps b) = length (variables_of ps b) ≤ 65
-IsFitItem (deny ps b) = length (variables_of ps b) ≤ 65
+IsFitItem (rule ps b) = IsFitRule ps b
+IsFitItem (deny ps b) = IsFitRule ps b
 IsFitItem (global_variable ps) = IsDeclarable ps
 IsFitItem said = Unit {0}
+
+-- How many closures stand in items.
+abbrev pub closures_among : List Item → ℕ
+closures_among [] = 0
+closures_among (i ∷ is) = length (closures (of_said i.said)) + closures_among is
 
 -- What a rewritten tree and its names have that come from a source.
 pub record IsGiven (names : Named) (is : List Item) : Type 0 where
   pub things : All (IsAmong names) (mentioned is)
   pub fit : All IsFit (mentioned is)
   pub items : All (λ (i : Item). IsFitItem i.said) is
+  pub few_closures : closures_among is ≤ 65535
   pub few_places : length (place_names is) ≤ 65535
   pub preds : All IsName names.preds
   pub objects : All IsName names.objects

@@ -1,4 +1,3 @@
-pub mod Forms
 pub mod Variables
 pub mod Bodies
 pub mod Matches

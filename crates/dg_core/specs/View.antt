@@ -1,5 +1,5 @@
 -- What the code holds, as plain data. The proofs alone rest on it.
-use Rattle.std.specs.Prelude.{ℕ, ◌++◌, List, [], ◌∷◌, map, length, reverse, Bool, true, false, nat_eq, if◌then◌else◌}
+use Rattle.std.specs.Prelude.{ℕ, ◌++◌, List, [], ◌∷◌, map, min, length, reverse, Bool, true, false, nat_eq, if◌then◌else◌}
 use Rattle.std.specs.Borrow.{Bor}
 use Rattle.std.specs.Str.{bytes_eq}
 use Rattle.dg_base.specs.Tree as tree
@@ -8,16 +8,18 @@ use Rattle.dg_base.specs.TreeView.{value_view, head_view}
 use Rattle.dg_base.specs.declared.tree.Body.{Body}
 use Rattle.dg_base.specs.declared.tree.Head.{Head}
 use Rattle.dg_base.specs.declared.tree.Value.{Value}
+use Rattle.dg_base.specs.declared.program.Goal.{Goal}
 use Rattle.dg_base.specs.declared.program.Pred.{Pred}
 use Rattle.dg_base.specs.declared.program.Rule.{Rule}
 use Rattle.dg_names.specs.State.{names_view, listed, seen}
-use Rattle.dg_core.specs.Core.{rules_in, rules_from}
+use Rattle.dg_core.specs.Core.{Before, rules_in, rules_from}
 use Rattle.dg_base.specs.declared.program.Term.{Term}
-use Rattle.dg_core.specs.Bodies.{direct, in_value}
+use Rattle.dg_core.specs.Bodies.{direct, in_value, in_parts}
 use Rattle.dg_core.specs.Goals as spec
-use Rattle.dg_core.specs.Goals.{at}
+use Rattle.dg_core.specs.Goals.{at, past}
 use Rattle.dg_core.specs.Making.{bodies_view, Terms}
 use Rattle.dg_core.specs.Places.{Placed, values_named, values_behind}
+use Rattle.dg_core.specs.declared.program.Before.{Before as CodeBefore}
 use Rattle.dg_core.specs.declared.scope.Places.{Places}
 use Rattle.dg_core.specs.declared.scope.Scope.{Scope}
 
@@ -70,8 +72,16 @@ named_behind false name = values_named name
 abbrev pub heads_view : List (Bor Head) → List Parts
 heads_view hs = map (λ (h : Bor Head). head_view h.now) hs
 
+-- A rule in this scope with so many selects before it, whose body is followed by these goals.
+abbrev pub rule_in : spec.Scope → ℕ → Parts → tree.Body → List Goal → Rule
+rule_in scope n ps b behind = record {
+  vars = min (length scope.variables) 65535;
+  head = spec.terms_of scope ps;
+  body = spec.body_goals (past scope (in_parts ps)) n b ++ behind;
+}
+
 -- A predicate to which an item gives its rule.
-abbrev pub with_rules_in : spec.Scope → ℕ → Said → Pred → Pred
+abbrev pub with_rules_in : spec.Scope → Before → Said → Pred → Pred
 with_rules_in around n said pred = record pred { rules = pred.rules ++ rules_in around n pred.name said }
 
 -- A predicate with one rule more where its name is this one.
@@ -79,8 +89,12 @@ abbrev pub with_rule : List ℕ → Rule → Pred → Pred
 with_rule name rule pred = record pred { rules = pred.rules ++ (if bytes_eq name pred.name then rule ∷ [] else []) }
 
 -- A predicate to which the items give their rules.
-abbrev pub with_all : spec.Scope → ℕ → List Item → Pred → Pred
+abbrev pub with_all : spec.Scope → Before → List Item → Pred → Pred
 with_all around n items pred = record pred { rules = pred.rules ++ rules_from around n pred.name items }
+
+-- How many selects and closures stand before an item.
+abbrev pub before_view : CodeBefore → Before
+before_view n = record { selects = n.selects; closures = n.closures }
 
 -- The names of predicates.
 abbrev pub pred_names : List Pred → List (List ℕ)

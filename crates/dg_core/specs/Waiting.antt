@@ -1,17 +1,19 @@
 -- What is left of the closures of a rule while their rows are made. The proofs alone rest on it.
-use Rattle.std.specs.Prelude.{◌≡◌, ℕ, ◌+◌, List, [], ◌∷◌, ◌++◌, false, Option, Some, None, slice_get, get_or}
-use Rattle.std.specs.List.{All}
-use Rattle.dg_base.specs.Mentions.{Mentions, nothing, thing, closed, of_body}
-use Rattle.dg_base.specs.Tree.{Body}
+use Rattle.std.specs.Prelude.{◌≡◌, ℕ, ◌+◌, List, [], ◌∷◌, ◌++◌, false, map, get_or}
+use Rattle.dg_base.specs.Mentions.{of_body}
+use Rattle.dg_base.specs.Tree.{Parts, Body, Said}
 use Rattle.dg_base.specs.TreeView.{body_view}
 use Rattle.dg_base.specs.declared.program.ClosureBody.{ClosureBody}
-use Rattle.dg_access.specs.Counts.{names_out}
-use Rattle.dg_closures.specs.Closures.{Layout, layout_by, variables_in, places_from, behind}
-use Rattle.dg_core.specs.Bodies.{Closed, no_closure, a_closure, in_branches}
+use Rattle.dg_closures.specs.Closures.{Layout, variables_in}
+use Rattle.dg_closures.specs.View.{layout_view}
+use Rattle.dg_core.specs.Bodies.{in_branches}
+use Rattle.dg_core.specs.Core.{rows_in, closures_of}
 use Rattle.dg_core.specs.Goals.{Scope, selects}
-use Rattle.dg_core.specs.Matches.{Matches}
-use Rattle.dg_core.specs.Rows.{size, selects_within, layout_at, row_with, captured_in, rows}
+use Rattle.dg_core.specs.Rows.{size, selects_within, layout_at, Home, row_with, captured_in, rows, in_rule, rows_of}
+use Rattle.dg_core.specs.View.{scope_view}
+use Rattle.dg_core.specs.declared.rows.Home.{Home as CodeHome}
 use Rattle.dg_core.specs.declared.rows.Waiting.{Waiting as CodeWaiting}
+use Rattle.dg_core.specs.declared.rows.Kept.{Kept}
 
 -- A closure that waits: its body, its place, and the numbers of what it captures.
 pub record Waiting : Type 0 where
@@ -19,42 +21,38 @@ pub record Waiting : Type 0 where
   pub place : ℕ
   pub captured : List ℕ
 
--- The closures that stand directly in something with these variables, the first at this place.
-abbrev pub waiting_of : List (List ℕ) → List (List ℕ) → ℕ → Closed → List Waiting
-waiting_of all vars k no_closure = []
-waiting_of all vars k (a_closure b inner cs) =
-    record { body = b; place = k; captured = captured_in vars (layout_at all k b) } ∷ waiting_of all vars (k + 1 + size inner) cs
+-- The closure of this body in something with these variables, by the place of this number.
+abbrev pub waiting_at : List Layout → List (List ℕ) → List ℕ → ℕ → Body → Waiting
+waiting_at ls vars ps i b = let p = get_or ps i 0 in record { body = b; place = p; captured = captured_in vars (layout_at ls p) }
+
+-- The closures of these bodies, by the places from this one on.
+abbrev pub waiting_from : List Layout → List (List ℕ) → List ℕ → ℕ → List Body → List Waiting
+waiting_from ls vars ps i [] = []
+waiting_from ls vars ps i (b ∷ bs) = waiting_at ls vars ps i b ∷ waiting_from ls vars ps (i + 1) bs
 
 -- The rows that come of closures that wait, so many selects standing before.
-abbrev pub pending : Scope → List (List ℕ) → ℕ → ℕ → List Waiting → List ClosureBody
-pending around all first n [] = []
-pending around all first n (w ∷ ws) =
-    let l = layout_at all w.place w.body in
+abbrev pub pending : Home → ℕ → List Waiting → List ClosureBody
+pending home n [] = []
+pending home n (w ∷ ws) =
+    let l = layout_at home.layouts w.place in
     let inner = in_branches w.body in
     let m = n + selects (of_body false w.body) in
-    row_with around first w.captured n l w.body ∷
-    (rows around all first (variables_in l) m (w.place + 1) inner ++ pending around all first (m + selects_within inner) ws)
+    row_with home w.captured n l w.body ∷
+    (rows home (variables_in l) l.places 0 m inner ++ pending home (m + selects_within inner) ws)
 
--- How many rows are left to make.
+-- How many rows are left to make, and how many selects stand in them.
 abbrev pub left_of : List Waiting → ℕ
 left_of [] = 0
 left_of (w ∷ ws) = size (in_branches w.body) + 1 + left_of ws
 
--- Each closure that is mentioned has its layout among these, the first at this place.
-abbrev pub AreLaid : List Layout → List (List ℕ) → ℕ → Mentions → Type 0
-AreLaid ls all k nothing = Unit {0}
-AreLaid ls all k (thing t ms) = AreLaid ls all k ms
-AreLaid ls all k (closed inner ms) =
-    (slice_get ls k ≡ Some (layout_by all (names_out all inner) (places_from (k + 1) inner))) ×
-    AreLaid ls all (k + 1) inner × AreLaid ls all (behind k inner) ms
-
--- A closure that waits has its layout, and so have those in it.
-pub record IsWaiting (ls : List Layout) (all : List (List ℕ)) (w : Waiting) : Type 0 where
-  pub matches : Matches (of_body false w.body) (in_branches w.body)
-  pub layout : slice_get ls w.place ≡ Some (layout_at all w.place w.body)
-  pub within : AreLaid ls all (w.place + 1) (of_body false w.body)
+abbrev pub selects_left : List Waiting → ℕ
+selects_left [] = 0
+selects_left (w ∷ ws) = selects (of_body false w.body) + selects_within (in_branches w.body) + selects_left ws
 
 -- ---- as the code holds them
+
+abbrev pub home_view : CodeHome → Home
+home_view home = record { around = scope_view home.around.now; layouts = map layout_view home.layouts.now; first = home.first }
 
 abbrev pub waiting_view : CodeWaiting → Waiting
 waiting_view w = record { body = body_view w.body.now; place = w.place; captured = w.captured }
@@ -64,23 +62,35 @@ abbrev pub stack_of : List CodeWaiting → List Waiting
 stack_of [] = []
 stack_of (w ∷ ws) = stack_of ws ++ waiting_view w ∷ []
 
--- What a closure captures by the layout that was found.
-abbrev pub captured_by : List (List ℕ) → Option Layout → List ℕ
-captured_by vars None = []
-captured_by vars (Some l) = captured_in vars l
-
--- The closure of this body, by the place of this number.
-abbrev pub waiting_at : List Layout → List (List ℕ) → List ℕ → ℕ → Body → Waiting
-waiting_at ls vars ps i b = let p = get_or ps i 0 in record { body = b; place = p; captured = captured_by vars (slice_get ls p) }
-
--- The closures of these bodies, by the places from this one on.
-abbrev pub waiting_from : List Layout → List (List ℕ) → List ℕ → ℕ → List Body → List Waiting
-waiting_from ls vars ps i [] = []
-waiting_from ls vars ps i (b ∷ bs) = waiting_at ls vars ps i b ∷ waiting_from ls vars ps (i + 1) bs
-
 -- What one closure fewer that waits comes to: its row is made, and those in it wait.
-pub record IsNext (around : Scope) (first : ℕ) (ls : List Layout) (all : List (List ℕ)) (w : Waiting)
-    (n : ℕ) (old : List Waiting) (rs : List ClosureBody) (m : ℕ) (new : List Waiting) (rows : List ClosureBody) : Type 0 where
-  pub made : rows ++ pending around all first m new ≡ rs ++ pending around all first n (w ∷ old)
-  pub waits : All (IsWaiting ls all) old → All (IsWaiting ls all) new
+pub record IsNext (home : Home) (w : Waiting) (n : ℕ) (old : List Waiting) (rs : List ClosureBody) (m : ℕ) (new : List Waiting)
+    (rows : List ClosureBody) : Type 0 where
+  pub made : rows ++ pending home m new ≡ rs ++ pending home n (w ∷ old)
+  pub sites : m + selects_left new ≡ n + selects_left (w ∷ old)
   pub fewer : left_of new + 1 ≡ left_of (w ∷ old)
+
+-- ---- the rules whose closures wait
+
+-- What its closures are made in.
+abbrev pub home_of : Scope → Kept → Home
+home_of around kept = record { around = around; layouts = map layout_view kept.layouts.items; first = kept.first }
+
+-- The rows of the closures of rules, so many selects standing before those in them.
+abbrev pub rows_kept : Scope → ℕ → List Kept → List ClosureBody
+rows_kept around n [] = []
+rows_kept around n (k ∷ ks) = pending (home_of around k) n (stack_of k.left) ++ rows_kept around (n + selects_left (stack_of k.left)) ks
+
+-- The selects in them.
+abbrev pub selects_kept : List Kept → ℕ
+selects_kept [] = 0
+selects_kept (k ∷ ks) = selects_left (stack_of k.left) + selects_kept ks
+
+-- The closures of a rule wait, so many standing in the items before.
+pub record Waits (around : Scope) (first : ℕ) (ps : Parts) (b : Body) (kept : Kept) : Type 0 where
+  pub rows : (n : ℕ) → pending (home_of around kept) n (stack_of kept.left) ≡ rows_of around first n ps b
+  pub selects : selects_left (stack_of kept.left) ≡ selects_within (in_rule ps b)
+
+-- The rules whose closures wait, with that of an item, before which so many closures stand.
+pub record Keeps (around : Scope) (first : ℕ) (said : Said) (old new : List Kept) : Type 0 where
+  pub rows : (n : ℕ) → rows_kept around n new ≡ rows_kept around n old ++ rows_in around (record { selects = n + selects_kept old; closures = first }) said
+  pub selects : selects_kept new ≡ selects_kept old + selects_within (closures_of said)

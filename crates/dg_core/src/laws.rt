@@ -6,10 +6,8 @@ ghost use Rattle.dg_base.specs.Sound.{FitsHeads, IsEntry, IsSound};
 ghost use Rattle.dg_base.specs.Tree.{Parts, Body, rule, Item};
 ghost use Rattle.dg_base.specs.declared.mentions.Role.TheVariants as role;
 ghost use Rattle.dg_access.specs.Few.{HasFewVariables};
-ghost use Rattle.dg_built.specs.Built.{IsBuilt};
 ghost use Rattle.dg_names.specs.Named.{Named};
 ghost use Rattle.dg_core.specs.Core.{core_of, entry_name, refusal_of};
-ghost use Rattle.dg_core.specs.Forms.{AreRun, first_unbuilt};
 ghost use Rattle.dg_core.specs.Given.{IsGiven};
 ghost use Rattle.dg_core.specs.Goals.{Scope, number_in, terms_of};
 ghost use Rattle.dg_core.specs.Matches.{ArePlain, Matches};
@@ -34,16 +32,6 @@ pub fn entry_fits()
 pub fn core_is_sound()
     ensures { (names : Named) (items : List Item) → IsGiven names items →
         refusal_of items (first_bad (placed_of items) [] items) ≡ None → IsSound (core_of names items) }
-{}
-
-/// All that a source mentions can be run, where no item of it is the first that can't.
-pub fn sources_are_run()
-    ensures { (items : List Item) → first_unbuilt items ≡ None → AreRun items }
-{}
-
-/// The goals of a tree that mentions only what can be run are those that the interpreter runs.
-pub fn goals_are_built()
-    ensures { (names : Named) (items : List Item) → AreRun items → IsBuilt (core_of names items) }
 {}
 
 /// The closures that stand in a rule are those that it mentions, where no query stands as a value.

@@ -2,7 +2,6 @@
 #![tactic(auto)]
 
 mod facts;
-mod forms;
 mod goals;
 mod laws;
 mod letting;
@@ -13,13 +12,8 @@ mod rows;
 mod scope;
 mod starts;
 mod terms;
-mod variables;
 
-pub use forms::first_unbuilt;
-pub use laws::{
-    closures_have_rows, closures_match, core_is_sound, entry_fits, goals_are_built, queries_fit,
-    sources_are_run,
-};
+pub use laws::{closures_have_rows, closures_match, core_is_sound, entry_fits, queries_fit};
 pub use letting::let_go;
 pub use places::add_name;
 pub use program::lower;

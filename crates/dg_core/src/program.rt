@@ -1,5 +1,5 @@
 // From items to the core program.
-ghost use Rattle.std.specs.Prelude.{◌≡◌, ◌+◌, ◌<◌, ◌∷◌, [], false, not, map, length, Ok, Err, OnOk, IfOk, IfErr, IsErrOf};
+ghost use Rattle.std.specs.Prelude.{◌≡◌, ◌+◌, ◌<◌, ◌∷◌, [], ℕ, false, not, map, length, Ok, Err, OnOk, IfOk, IfErr, IsErrOf};
 ghost use Rattle.std.specs.List.{IsDistinct, list_any};
 ghost use Rattle.std.specs.Str.{bytes_eq};
 ghost use Rattle.dg_base.specs.Faults.{IsFault};
@@ -7,29 +7,51 @@ ghost use Rattle.dg_base.specs.Heads.{name_of as head_name};
 ghost use Rattle.dg_base.specs.Mentions.{of_body};
 ghost use Rattle.dg_base.specs.Names.{prelude_names, name_among};
 ghost use Rattle.dg_base.specs.Sound.{IsSound};
+ghost use Rattle.dg_base.specs.Tree.{rule};
 ghost use Rattle.dg_base.specs.TreeView.{body_view, head_view, said_view, item_view, tree_view};
+ghost use Rattle.dg_closures.specs.View.{layouts_view};
 ghost use Rattle.dg_names.specs.State.{listed, names_view, seen};
+ghost use Rattle.dg_core.specs.Bodies.{direct};
 ghost use Rattle.dg_core.specs.Core as spec;
 ghost use Rattle.dg_core.specs.Given.{IsGiven};
 ghost use Rattle.dg_core.specs.Goals.{selects};
+ghost use Rattle.dg_core.specs.Making.{bodies_view};
 ghost use Rattle.dg_core.specs.Places.{placed_of, first_bad as spec_first_bad};
-ghost use Rattle.dg_core.specs.Variables.{variables_of as spec_variables};
-ghost use Rattle.dg_core.specs.View.{scope_view, places_view, with_rule, with_rules_in, pred_names};
+ghost use Rattle.dg_core.specs.Rows.{in_rule};
+ghost use Rattle.dg_core.specs.Variables.{layouts_in};
+ghost use Rattle.dg_core.specs.View.{scope_view, places_view, before_view, rule_in, with_rule, with_rules_in, pred_names};
+ghost use Rattle.dg_core.specs.Waiting.{rows_kept, selects_kept, Waits, Keeps};
 
 use crate::facts::first_bad;
 use crate::goals::goals_of;
 use crate::places::places_of;
+use crate::rows::{Kept, all_rows, kept_of, number_at, scope_in};
 use crate::scope::{Places, Scope};
 use crate::starts::{drop_facts, places_with_starts};
 use crate::terms::{number_in, terms_of};
-use crate::variables::variables_of;
 use dg_base::{
     Body, CoreProgram, Goal, Head, Item, ItemBody, Items, Kind, Name, PRELUDE_NAMES, Pred,
     ReadFault, Refusal, Rule, Tree, is_named,
 };
+use dg_closures::{Layouts, layouts_of};
 use dg_names::Names;
 use indexmap::IndexSet;
 use std::alloc::{AllocError, Global};
+
+/// How many selects outside closures, and how many closures, stand in the items before.
+#[derive(Drop)]
+pub struct Before {
+    pub selects: u16,
+    pub closures: u16,
+}
+
+/// What comes of items: the predicates with their rules, the rules whose closures wait, and what stands before the next item.
+#[derive(Drop)]
+pub struct Rules<'a> {
+    pub preds: Vec<Pred>,
+    pub kept: Vec<Kept<'a>>,
+    pub before: Before,
+}
 
 const ENTRY: &[u8] = b"(program entry point)";
 
@@ -43,36 +65,59 @@ fn failing(alloc: Global) -> Result<Items<Goal>, AllocError>
     Ok(goals)
 }
 
-// A rule whose body is followed by these goals. The number of selects grows by those of the body.
-fn rule_of(
+// A rule in this scope whose body is followed by these goals, and the bodies of the closures directly in it. The number of selects grows by those
+// of the body.
+fn rule_of<'a>(
     alloc: Global,
-    around: &Scope<'_>,
+    scope: &Scope<'_>,
     sites: &mut u16,
-    variables: Vec<&[u8]>,
-    head: &Head,
-    body: &Body,
+    head: &'a Head,
+    body: &'a Body,
     behind: Items<Goal>,
-) -> Result<Rule, AllocError>
-    requires { seen variables.items ≡ spec_variables (head_view head.now) (body_view body.now) }
-    ensures rule { IfOk result (λ rule. rule ≡ spec.rule_of (scope_view around.now) sites.old (head_view head.now) (body_view body.now) behind) }
+) -> Result<(Rule, Items<&'a Body>), AllocError>
+    ensures rule { IfOk result (λ made. made.0 ≡ rule_in (scope_view scope.now) sites.old (head_view head.now) (body_view body.now) behind) }
+    ensures found { IfOk result (λ made. bodies_view made.1 ≡ direct (in_rule (head_view head.now) (body_view body.now))) }
     ensures sites { OnOk result (sites.new ≡ sites.old + selects (of_body false (body_view body.now))) }
 {
-    let vars = variables.len().min(65535) as u16;
-    let scope = Scope {
-        names: around.names,
-        places: around.places,
-        variables,
-        closures: Vec::new(alloc),
-    };
     let mut found = Items::new(alloc);
-    let head = terms_of(alloc, &scope, &mut found, head)?;
-    let (mut goals, _found) = goals_of(alloc, &scope, sites, found, body)?;
+    let terms = terms_of(alloc, scope, &mut found, head)?;
+    let (mut goals, found) = goals_of(alloc, scope, sites, found, body)?;
     goals.append(behind)?;
-    Ok(Rule {
-        vars,
-        head,
+    let rule = Rule {
+        vars: scope.variables.len().min(65535) as u16,
+        head: terms,
         body: goals,
-    })
+    };
+    Ok((rule, found))
+}
+
+// A rule with these layouts, and its closures, which wait. What stands before an item comes to stand before the next one.
+fn rule_with<'a>(
+    alloc: Global,
+    around: &Scope<'a>,
+    before: &mut Before,
+    layouts: Layouts<'a>,
+    head: &'a Head,
+    body: &'a Body,
+    behind: Items<Goal>,
+) -> Result<(Rule, Kept<'a>), AllocError>
+    requires { layouts_view layouts ≡ layouts_in (head_view head.now) (body_view body.now) }
+    ensures rule { IfOk result (λ made. made.0
+        ≡ spec.rule_of (scope_view around.now) (before_view before.old) (head_view head.now) (body_view body.now) behind) }
+    ensures kept { IfOk result (λ made. Waits (scope_view around.now) before.old.closures (head_view head.now) (body_view body.now) made.1) }
+    ensures before { OnOk result (before_view before.new ≡ spec.behind_item (before_view before.old) (rule (head_view head.now) (body_view body.now))) }
+{
+    let Layouts {
+        variables,
+        places,
+        closures,
+    } = layouts;
+    let first = before.closures;
+    let scope = scope_in(alloc, around, first, variables, places.as_slice())?;
+    let (rule, found) = rule_of(alloc, &scope, &mut before.selects, head, body, behind)?;
+    before.closures = number_at(first, closures.len())?;
+    let kept = kept_of(alloc, first, &scope, closures, places.as_slice(), found)?;
+    Ok((rule, kept))
 }
 
 // Adds a rule to the predicate of its head.
@@ -94,37 +139,61 @@ fn add_rule(
     Ok(())
 }
 
-// Adds the rule of an item, where it has one.
-fn add_item(
+// Adds a rule with these layouts.
+fn add_with<'a>(
     alloc: Global,
-    around: &Scope<'_>,
-    sites: &mut u16,
-    preds: &mut Vec<Pred>,
-    said: &ItemBody,
+    around: &Scope<'a>,
+    rules: &mut Rules<'a>,
+    layouts: Layouts<'a>,
+    head: &'a Head,
+    body: &'a Body,
+    behind: Items<Goal>,
 ) -> Result<(), AllocError>
-    requires named { pred_names preds.old.items ≡ (scope_view around.now).names.preds }
+    requires layouts { layouts_view layouts ≡ layouts_in (head_view head.now) (body_view body.now) }
+    requires named { pred_names rules.old.preds.items ≡ (scope_view around.now).names.preds }
     requires distinct { IsDistinct bytes_eq (scope_view around.now).names.preds }
-    ensures preds { OnOk result (preds.new.items ≡ map (with_rules_in (scope_view around.now) sites.old (said_view said.now)) preds.old.items) }
-    ensures sites { OnOk result (sites.new ≡ sites.old + spec.selects_of (said_view said.now)) }
+    ensures preds { OnOk result (rules.new.preds.items ≡ map (with_rule (head_name (head_view head.now))
+        (spec.rule_of (scope_view around.now) (before_view rules.old.before) (head_view head.now) (body_view body.now) behind)) rules.old.preds.items) }
+    ensures kept { OnOk result (Keeps (scope_view around.now) rules.old.before.closures (rule (head_view head.now) (body_view body.now))
+        rules.old.kept.items rules.new.kept.items) }
+    ensures before { OnOk result (before_view rules.new.before
+        ≡ spec.behind_item (before_view rules.old.before) (rule (head_view head.now) (body_view body.now))) }
+{
+    let (rule, kept) = rule_with(
+        alloc,
+        around,
+        &mut rules.before,
+        layouts,
+        head,
+        body,
+        behind,
+    )?;
+    rules.kept.push(kept)?;
+    add_rule(alloc, around.names, &mut rules.preds, head, rule)
+}
+
+// Adds the rule of an item, where it has one.
+fn add_item<'a>(
+    alloc: Global,
+    around: &Scope<'a>,
+    rules: &mut Rules<'a>,
+    said: &'a ItemBody,
+) -> Result<(), AllocError>
+    requires named { pred_names rules.old.preds.items ≡ (scope_view around.now).names.preds }
+    requires distinct { IsDistinct bytes_eq (scope_view around.now).names.preds }
+    ensures preds { OnOk result (rules.new.preds.items
+        ≡ map (with_rules_in (scope_view around.now) (before_view rules.old.before) (said_view said.now)) rules.old.preds.items) }
+    ensures kept { OnOk result (Keeps (scope_view around.now) rules.old.before.closures (said_view said.now) rules.old.kept.items rules.new.kept.items) }
+    ensures before { OnOk result (before_view rules.new.before ≡ spec.behind_item (before_view rules.old.before) (said_view said.now)) }
 {
     match said {
         ItemBody::Rule(head, body) => {
-            let variables = variables_of(alloc, said)?;
-            let rule = rule_of(
-                alloc,
-                around,
-                sites,
-                variables,
-                head,
-                body,
-                Items::new(alloc),
-            )?;
-            add_rule(alloc, around.names, preds, head, rule)
+            let layouts = layouts_of(alloc, said)?;
+            add_with(alloc, around, rules, layouts, head, body, Items::new(alloc))
         }
         ItemBody::Deny(head, body) => {
-            let variables = variables_of(alloc, said)?;
-            let rule = rule_of(alloc, around, sites, variables, head, body, failing(alloc)?)?;
-            add_rule(alloc, around.names, preds, head, rule)
+            let layouts = layouts_of(alloc, said)?;
+            add_with(alloc, around, rules, layouts, head, body, failing(alloc)?)
         }
         ItemBody::Topic(_) => Ok(()),
         ItemBody::Access(_, _) => Ok(()),
@@ -166,23 +235,32 @@ fn bare_preds(alloc: Global, around: &Scope<'_>) -> Result<Vec<Pred>, AllocError
     Ok(preds)
 }
 
-// The predicates with their rules, in the order of the source, and the number of selects.
-fn preds_of(
+// The rules of items, in the order of the source.
+fn rules_of<'a>(
     alloc: Global,
-    around: &Scope<'_>,
-    items: &[Item],
-) -> Result<(Vec<Pred>, u16), AllocError>
-    ensures preds { IfOk result (λ all. all.0.items ≡ map (spec.pred_of (scope_view around.now) (map item_view items.now))
+    around: &Scope<'a>,
+    items: &'a [Item],
+) -> Result<Rules<'a>, AllocError>
+    ensures preds { IfOk result (λ all. all.preds.items ≡ map (spec.pred_of (scope_view around.now) (map item_view items.now))
         (scope_view around.now).names.preds) }
-    ensures named { IfOk result (λ all. pred_names all.0.items ≡ (scope_view around.now).names.preds) }
-    ensures sites { IfOk result (λ all. all.1 ≡ spec.all_selects (map item_view items.now)) }
+    ensures named { IfOk result (λ all. pred_names all.preds.items ≡ (scope_view around.now).names.preds) }
+    ensures kept { IfOk result (λ all. (n : ℕ) → rows_kept (scope_view around.now) n all.kept.items
+        ≡ spec.rows_from (scope_view around.now) (record { selects = n; closures = 0 }) (map item_view items.now)) }
+    ensures inner { IfOk result (λ all. selects_kept all.kept.items ≡ spec.inner_selects (map item_view items.now)) }
+    ensures sites { IfOk result (λ all. all.before.selects ≡ spec.all_selects (map item_view items.now)) }
 {
-    let mut preds = bare_preds(alloc, around)?;
-    let mut sites = 0;
+    let mut rules = Rules {
+        preds: bare_preds(alloc, around)?,
+        kept: Vec::new(alloc),
+        before: Before {
+            selects: 0,
+            closures: 0,
+        },
+    };
     for item in items {
-        add_item(alloc, around, &mut sites, &mut preds, &item.body)?;
+        add_item(alloc, around, &mut rules, &item.body)?;
     }
-    Ok((preds, sites))
+    Ok(rules)
 }
 
 fn copied(alloc: Global, names: &IndexSet<Vec<u8>>) -> Result<Items<Name>, AllocError>
@@ -211,12 +289,18 @@ fn program_of(
         variables: Vec::new(alloc),
         closures: Vec::new(alloc),
     };
-    let (mut preds, sites) = preds_of(alloc, &around, items)?;
+    let Rules {
+        mut preds,
+        kept,
+        before,
+    } = rules_of(alloc, &around, items)?;
+    let mut sites = before.selects;
+    let closures = all_rows(alloc, &around, &mut sites, kept)?;
     let places = places_with_starts(alloc, &around, items, preds.as_slice())?;
     drop_facts(alloc, &around, &mut preds);
     Ok(CoreProgram {
         preds: Items::from_vec(preds),
-        closures: Items::new(alloc),
+        closures,
         places,
         objects: copied(alloc, &names.objects)?,
         words: copied(alloc, &names.words)?,

@@ -1,23 +1,30 @@
 // From the closures of a rule to their rows.
-ghost use Rattle.std.specs.Prelude.{◌≡◌, ◌+◌, ◌++◌, ◌∷◌, ℕ, List, false, map, length, get_or, slice_get, IfOk, OnOk};
-ghost use Rattle.dg_base.specs.Mentions.{of_body};
+ghost use Rattle.std.specs.Prelude.{◌≡◌, ◌+◌, ◌++◌, ◌∷◌, [], map, min, length, get_or, IfOk, OnOk};
 ghost use Rattle.dg_base.specs.TreeView.{body_view};
 ghost use Rattle.dg_closures.specs.Closures as closures;
 ghost use Rattle.dg_closures.specs.View.{layout_view};
 ghost use Rattle.dg_names.specs.State.{seen};
-ghost use Rattle.dg_core.specs.Bodies.{direct, in_branches};
-ghost use Rattle.dg_core.specs.Goals.{number_in, selects};
+ghost use Rattle.dg_core.specs.Goals.{number_in};
 ghost use Rattle.dg_core.specs.Making.{bodies_view};
 ghost use Rattle.dg_core.specs.Rows as spec;
 ghost use Rattle.dg_core.specs.View.{scope_view};
-ghost use Rattle.dg_core.specs.Waiting.{stack_of, waiting_view, waiting_at, waiting_from, captured_by, IsWaiting, IsNext};
+ghost use Rattle.dg_core.specs.Waiting.{stack_of, waiting_view, waiting_at, waiting_from, home_view, home_of, pending, selects_left, rows_kept, selects_kept, IsNext};
 
 use crate::goals::goals_of;
 use crate::scope::Scope;
 use crate::terms::number_among;
-use dg_base::{Body, ClosureBody, Items};
-use dg_closures::Layout;
+use dg_base::{Body, ClosureBody, Goal, Items};
+use dg_closures::{Layout, blank};
 use std::alloc::{AllocError, Global};
+
+/// What the closures of a rule are made in: what names stand for outside it, the layouts of its closures, and how many closures stand in the
+/// items before.
+#[derive(Drop)]
+pub struct Home<'s, 'l> {
+    pub around: &'s Scope<'s>,
+    pub layouts: &'l [Layout<'l>],
+    pub first: u16,
+}
 
 /// A closure that waits for its row: its body, its place among those of its rule, and the numbers of what it captures.
 #[derive(Drop)]
@@ -27,18 +34,26 @@ pub struct Waiting<'a> {
     pub captured: Items<u16>,
 }
 
-// The number of a closure. More of them than a program can number take more memory than it has.
-fn number_at(first: usize, place: usize) -> Result<u16, AllocError>
+/// A rule whose closures wait: the layouts of all, how many closures stand in the items before, and those that wait for their rows.
+#[derive(Drop)]
+pub struct Kept<'a> {
+    pub layouts: Vec<Layout<'a>>,
+    pub first: u16,
+    pub left: Items<Waiting<'a>>,
+}
+
+/// The number of a closure. More of them than a program can number take more memory than it has.
+pub fn number_at(first: u16, place: usize) -> Result<u16, AllocError>
     ensures { IfOk result (λ number. number ≡ first + place) }
 {
-    match first.checked_add(place) {
+    match place.checked_add(usize::from(first)) {
         Some(number) if number <= 65535 => Ok(number as u16),
         _ => Err(AllocError),
     }
 }
 
 // The numbers of the closures at these places.
-fn numbers_from(alloc: Global, first: usize, places: &[usize]) -> Result<Vec<u16>, AllocError>
+fn numbers_from(alloc: Global, first: u16, places: &[usize]) -> Result<Vec<u16>, AllocError>
     ensures { IfOk result (λ numbers. numbers.items ≡ map (λ p. first + p) places.now) }
 {
     let mut numbers = Vec::new(alloc);
@@ -93,35 +108,23 @@ pub fn captured_in(
     numbers_among(alloc, variables, layout.captured.as_slice())
 }
 
-/// The row of a closure of this layout that captures these variables, and the bodies of the closures directly in it. The number of selects grows
-/// by those of its body.
-pub fn row_of<'a>(
+/// What names stand for in a rule or a closure with these variables and places of closures.
+pub fn scope_in<'a>(
     alloc: Global,
-    around: &Scope<'_>,
-    first: usize,
-    captured: Items<u16>,
-    sites: &mut u16,
-    layout: &Layout<'_>,
-    body: &'a Body,
-) -> Result<(ClosureBody, Items<&'a Body>), AllocError>
-    ensures row { IfOk result (λ made. made.0
-        ≡ spec.row_with (scope_view around.now) first captured sites.old (layout_view layout.now) (body_view body.now)) }
-    ensures found { IfOk result (λ made. bodies_view made.1 ≡ direct (in_branches (body_view body.now))) }
-    ensures sites { OnOk result (sites.new ≡ sites.old + selects (of_body false (body_view body.now))) }
+    around: &Scope<'a>,
+    first: u16,
+    variables: Vec<&'a [u8]>,
+    places: &[usize],
+) -> Result<Scope<'a>, AllocError>
+    ensures { IfOk result (λ scope. scope_view scope
+        ≡ record (scope_view around.now) { variables = seen variables.entry.items; closures = map (λ p. first + p) places.now; before = 0 }) }
 {
-    let scope = Scope {
+    Ok(Scope {
         names: around.names,
         places: around.places,
-        variables: variables_in(alloc, layout)?,
-        closures: numbers_from(alloc, first, layout.places.as_slice())?,
-    };
-    let (goals, found) = goals_of(alloc, &scope, sites, Items::new(alloc), body)?;
-    let row = ClosureBody {
-        captured,
-        own: layout.own.len().min(65535) as u16,
-        body: goals,
-    };
-    Ok((row, found))
+        variables,
+        closures: numbers_from(alloc, first, places)?,
+    })
 }
 
 fn captured_by(
@@ -130,7 +133,7 @@ fn captured_by(
     variables: &[&[u8]],
     place: usize,
 ) -> Result<Items<u16>, AllocError>
-    ensures { IfOk result (λ numbers. numbers ≡ captured_by (seen variables.now) (slice_get (map layout_view layouts.now) place)) }
+    ensures { IfOk result (λ numbers. numbers ≡ spec.captured_in (seen variables.now) (spec.layout_at (map layout_view layouts.now) place)) }
 {
     match layouts.get(place) {
         Some(layout) => captured_in(alloc, variables, layout),
@@ -187,41 +190,137 @@ pub fn put_found<'a>(
     Ok(())
 }
 
-// Makes the row of a closure, and lets the closures directly in it wait.
-fn add_row<'a>(
+/// A rule whose closures, found in something of this scope with these places, all wait.
+pub fn kept_of<'a>(
     alloc: Global,
-    around: &Scope<'_>,
-    first: usize,
+    first: u16,
+    scope: &Scope<'_>,
+    layouts: Vec<Layout<'a>>,
+    places: &[usize],
+    found: Items<&'a Body>,
+) -> Result<Kept<'a>, AllocError>
+    ensures layouts { IfOk result (λ kept. kept.layouts.items ≡ layouts.entry.items) }
+    ensures first { IfOk result (λ kept. kept.first ≡ first) }
+    ensures left { IfOk result (λ kept. stack_of kept.left
+        ≡ waiting_from (map layout_view layouts.entry.items) (scope_view scope.now).variables places.now 0 (bodies_view found.entry)) }
+{
+    let mut left = Items::new(alloc);
+    let variables = scope.variables.as_slice();
+    put_found(
+        alloc,
+        layouts.as_slice(),
+        variables,
+        places,
+        found,
+        &mut left,
+    )?;
+    Ok(Kept {
+        layouts,
+        first,
+        left,
+    })
+}
+
+fn row_of(captured: Items<u16>, layout: &Layout<'_>, body: Items<Goal>) -> ClosureBody
+    ensures { result ≡ record { captured = captured; own = min (length (layout_view layout.now).own) 65535; body = body } }
+{
+    ClosureBody {
+        captured,
+        own: layout.own.len().min(65535) as u16,
+        body,
+    }
+}
+
+// Makes the row of a closure of this layout, and lets the closures directly in it wait.
+fn add_row_with<'a>(
+    alloc: Global,
+    home: &Home<'_, '_>,
     sites: &mut u16,
-    layouts: &[Layout<'_>],
+    layout: &Layout<'_>,
     waiting: Waiting<'a>,
     left: &mut Items<Waiting<'a>>,
     rows: &mut Items<ClosureBody>,
 ) -> Result<(), AllocError>
-    ensures { OnOk result ((all : List (List ℕ)) → IsWaiting (map layout_view layouts.now) all (waiting_view waiting.entry) →
-        IsNext (scope_view around.now) first (map layout_view layouts.now) all (waiting_view waiting.entry) sites.old (stack_of left.old) rows.old
+    requires { layout_view layout.now ≡ spec.layout_at (home_view home.now).layouts waiting.place }
+    ensures { OnOk result (IsNext (home_view home.now) (waiting_view waiting.entry) sites.old (stack_of left.old) rows.old
         sites.new (stack_of left.new) rows.new) }
 {
-    let Some(layout) = layouts.get(waiting.place) else {
-        return Ok(());
-    };
+    let places = layout.places.as_slice();
     let variables = variables_in(alloc, layout)?;
-    let (row, found) = row_of(
-        alloc,
-        around,
-        first,
-        waiting.captured,
-        sites,
-        layout,
-        waiting.body,
-    )?;
-    rows.push(row)?;
+    let scope = scope_in(alloc, home.around, home.first, variables, places)?;
+    let (goals, found) = goals_of(alloc, &scope, sites, Items::new(alloc), waiting.body)?;
+    rows.push(row_of(waiting.captured, layout, goals))?;
     put_found(
         alloc,
-        layouts,
-        variables.as_slice(),
-        layout.places.as_slice(),
+        home.layouts,
+        scope.variables.as_slice(),
+        places,
         found,
         left,
     )
+}
+
+// Makes the row of a closure, and lets the closures directly in it wait.
+fn add_row<'a>(
+    alloc: Global,
+    home: &Home<'_, '_>,
+    sites: &mut u16,
+    waiting: Waiting<'a>,
+    left: &mut Items<Waiting<'a>>,
+    rows: &mut Items<ClosureBody>,
+) -> Result<(), AllocError>
+    ensures { OnOk result (IsNext (home_view home.now) (waiting_view waiting.entry) sites.old (stack_of left.old) rows.old
+        sites.new (stack_of left.new) rows.new) }
+{
+    match home.layouts.get(waiting.place) {
+        Some(layout) => add_row_with(alloc, home, sites, layout, waiting, left, rows),
+        None => {
+            let layout = blank(alloc);
+            add_row_with(alloc, home, sites, &layout, waiting, left, rows)
+        }
+    }
+}
+
+// Adds the rows of a rule's closures, each before those within it.
+fn add_rows(
+    alloc: Global,
+    around: &Scope<'_>,
+    sites: &mut u16,
+    kept: Kept<'_>,
+    rows: &mut Items<ClosureBody>,
+) -> Result<(), AllocError>
+    ensures rows { OnOk result (rows.new ≡ rows.old ++ pending (home_of (scope_view around.now) kept.entry) sites.old (stack_of kept.entry.left)) }
+    ensures sites { OnOk result (sites.new ≡ sites.old + selects_left (stack_of kept.entry.left)) }
+{
+    let Kept {
+        layouts,
+        first,
+        mut left,
+    } = kept;
+    let home = Home {
+        around,
+        layouts: layouts.as_slice(),
+        first,
+    };
+    while let Some(waiting) = left.pop() {
+        add_row(alloc, &home, sites, waiting, &mut left, rows)?;
+    }
+    Ok(())
+}
+
+/// The rows of the closures of rules, one rule after the other. The number of selects grows by those in them.
+pub fn all_rows(
+    alloc: Global,
+    around: &Scope<'_>,
+    sites: &mut u16,
+    kept: Vec<Kept<'_>>,
+) -> Result<Items<ClosureBody>, AllocError>
+    ensures rows { IfOk result (λ rows. rows ≡ rows_kept (scope_view around.now) sites.old kept.entry.items) }
+    ensures sites { OnOk result (sites.new ≡ sites.old + selects_kept kept.entry.items) }
+{
+    let mut rows = Items::new(alloc);
+    for rule in kept {
+        add_rows(alloc, around, sites, rule, &mut rows)?;
+    }
+    Ok(rows)
 }

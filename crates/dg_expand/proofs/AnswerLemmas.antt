@@ -1,21 +1,24 @@
 -- What is refused item by item, and what holds where nothing is refused.
-use Rattle.std.proofs.Common.{◌≡◌, inl, inr, ◌||◌, List, [], ◌∷◌, ◌++◌, Bool, true, false, Option, Some, None, refl, sym, ◌∙◌, ap, subst, append_assoc}
-use Rattle.std.specs.Prelude.{Result, Ok, Err, if◌then◌else◌}
+use Rattle.std.proofs.Common.{◌≡◌, inl, inr, ◌||◌, ◌≤◌, ℕ, List, [], ◌∷◌, ◌++◌, Bool, true, false, Option, Some, None, refl, sym, ◌∙◌, ap, subst, arith, append_assoc, append-nil}
+use Rattle.std.specs.Prelude.{Result, Ok, Err, nat_lt, if◌then◌else◌}
 use Rattle.std.specs.List.{All, list_any}
 use Rattle.std.proofs.lemmas.Bool.{or_parts}
+use Rattle.std.proofs.lemmas.Bool.Decides.{nat_tests}
 use Rattle.std.proofs.lemmas.List.Elements.{All-nil, All-cons, All-append}
-use Rattle.dg_base.specs.Tree.{Item}
-use Rattle.dg_base.specs.Mentions.{Thing, things_in, mentioned}
+use Rattle.dg_base.specs.Tree as tree
+use Rattle.dg_base.specs.Tree.{Parts, Body, Changes, Said, Item}
+use Rattle.dg_base.specs.Mentions.{Thing, Mentions, of_said, things, things_in, mentioned, weight_of}
 use Rattle.dg_base.specs.declared.refusal.Kind.{Kind}
 use Rattle.dg_base.specs.declared.refusal.Kind.TheVariants.{AccessLoop, BadNow, TooMany}
 use Rattle.dg_base.specs.declared.refusal.Refusal.{Refusal}
-use Rattle.dg_access.specs.Counts.{are_large, are_many}
+use Rattle.dg_access.specs.Counts.{rules_at, nodes_at, counted_of, counted_among, are_large, are_many}
 use Rattle.dg_access.specs.Few.{HasFewVariables}
 use Rattle.dg_access.specs.Items.{plain_items}
 use Rattle.dg_access.proofs.FewLemmas.{small_few}
 use Rattle.dg_expand.specs.Answer.{cause_of, refused_or, first_refused, IsPut, IsExpanded, IsRewritten}
-use Rattle.dg_expand.specs.Expanded.{access_rules, is_bad, are_bad, put_item, put_items}
+use Rattle.dg_expand.specs.Expanded.{access_rules, is_bad, are_bad, signed, rules_of, stay, put_said, on_line, put_item, put_items}
 use Rattle.dg_expand.specs.Put.{Access}
+use Rattle.dg_names.specs.Counts.{closures_at, selects_at}
 
 -- ---- one item more
 
@@ -49,10 +52,11 @@ not_refused rules before i is h = here (cause_of rules before (put_item rules i)
     here (Some kind) e f = cc
     here None e f = (e, f)
 
-no_cause : (rules : List Access) (before new : List Item) → cause_of rules before new ≡ None → (are_large new ≡ false) × (are_bad rules new ≡ false)
+no_cause : (rules : List Access) (before new : List Item) → cause_of rules before new ≡ None → (are_large new ≡ false) × (are_bad rules new ≡ false) × (are_many (before ++ new) ≡ false)
 no_cause rules before new h =
     let both = tests (are_large new || are_many (before ++ new)) (are_bad rules new) h in
-    ((or_parts (are_large new) (are_many (before ++ new)) both.0).0, both.1)
+    let counts = or_parts (are_large new) (are_many (before ++ new)) both.0 in
+    (counts.0, both.1, counts.1)
   where
     tests : (a b : Bool) → (if a then Some TooMany else if b then Some BadNow else None) ≡ None → (a ≡ false) × (b ≡ false)
     tests true b e = cc
@@ -90,6 +94,54 @@ items_open rules before (i ∷ is) h =
     let both = not_refused rules before i is h in
     all_mentioned (λ (t : Thing). is_bad rules t ≡ false) (put_item rules i) (put_items rules is)
     (none_bad rules (put_item rules i) (no_cause rules before (put_item rules i) both.0).1) (items_open rules (before ++ put_item rules i) is both.1)
+
+-- no count of what becomes of all items passes its number
+items_counted : (rules : List Access) (before is : List Item) → are_many before ≡ false → first_refused rules before is ≡ None → are_many (before ++ put_items rules is) ≡ false
+items_counted rules before [] e h = subst (λ (l : List Item). are_many l ≡ false) (sym (append-nil before)) e
+items_counted rules before (i ∷ is) e h =
+    let both = not_refused rules before i is h in
+    subst (λ (l : List Item). are_many l ≡ false) (append_assoc before (put_item rules i) (put_items rules is))
+    (items_counted rules (before ++ put_item rules i) is (no_cause rules before (put_item rules i) both.0).2 both.1)
+
+-- nothing of these items is left uncounted: no access rule is among them
+abbrev IsCounted : Said → Type 0
+IsCounted said = counted_of said ≡ of_said said
+
+signed_counted : (set : Bool) (ps : Parts) (b : Body) → IsCounted (signed set ps b)
+signed_counted true ps b = refl
+signed_counted false ps b = refl
+
+one_counted : (line : ℕ) (said : Said) (is : List Item) → IsCounted said → counted_among is ≡ mentioned is → counted_among (record { line = line; said = said } ∷ is) ≡ mentioned (record { line = line; said = said } ∷ is)
+one_counted line said is e h = ap (λ (ms : Mentions). things ms ++ counted_among is) e ∙ ap (λ (ts : List Thing). things_in said ++ ts) h
+
+rules_counted : (line : ℕ) (heads : Changes) (b : Body) (is : List Item) → counted_among is ≡ mentioned is → counted_among (on_line line (rules_of heads b) ++ is) ≡ mentioned (on_line line (rules_of heads b) ++ is)
+rules_counted line tree.no_changes b is h = h
+rules_counted line (tree.change ps set heads) b is h = one_counted line (signed set ps b) (on_line line (rules_of heads b) ++ is) (signed_counted set ps b) (rules_counted line heads b is h)
+
+said_counted : (rules : List Access) (line : ℕ) (said : Said) (is : List Item) → counted_among is ≡ mentioned is → counted_among (on_line line (put_said rules said) ++ is) ≡ mentioned (on_line line (put_said rules said) ++ is)
+said_counted rules line (tree.topic n) is h = one_counted line (tree.topic n) is refl h
+said_counted rules line (tree.rule ps b) is h = rules_counted line _ _ is h
+said_counted rules line (tree.deny ps b) is h = rules_counted line _ _ is h
+said_counted rules line (tree.access ps b) is h = h
+said_counted rules line (tree.global_variable ps) is h = one_counted line (tree.global_variable (stay ps)) is refl h
+
+all_counted : (rules : List Access) (is : List Item) → counted_among (put_items rules is) ≡ mentioned (put_items rules is)
+all_counted rules [] = refl
+all_counted rules (i ∷ is) = said_counted rules i.line i.said (put_items rules is) (all_counted rules is)
+
+few_closures : (is : List Item) → are_many is ≡ false → weight_of closures_at (counted_among is) ≤ 16000
+few_closures is e =
+    let ts = counted_among is in
+    let behind = or_parts (nat_lt 16000 (weight_of rules_at ts)) (nat_lt 16000 (weight_of closures_at ts) || (nat_lt 500 (weight_of selects_at ts) || nat_lt 2000000 (weight_of nodes_at ts))) e in
+    let few = or_parts (nat_lt 16000 (weight_of closures_at ts)) (nat_lt 500 (weight_of selects_at ts) || nat_lt 2000000 (weight_of nodes_at ts)) behind.1 in
+    grind (arith, nat_tests, few.0)
+
+pub rewritten_closed : (is new : List Item) → IsRewritten is (Ok new) → weight_of closures_at (mentioned new) ≤ 16000
+rewritten_closed is new h =
+    let plain = plain_items None is in
+    let rules = access_rules plain in
+    subst (λ (l : List Item). weight_of closures_at (mentioned l) ≤ 16000) (sym h.1.1)
+    (subst (λ (ts : List Thing). weight_of closures_at ts ≤ 16000) (all_counted rules plain) (few_closures (put_items rules plain) (items_counted rules [] plain refl h.1.0)))
 
 pub rewritten_few : (is new : List Item) → IsRewritten is (Ok new) → All (λ (i : Item). HasFewVariables i.said) new
 rewritten_few is new h =

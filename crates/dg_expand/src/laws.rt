@@ -1,15 +1,17 @@
 // What the definitions of access rules alone say.
-ghost use Rattle.std.specs.Prelude.{◌≡◌, List, false, Option, Result, Ok};
+ghost use Rattle.std.specs.Prelude.{◌≡◌, ◌≤◌, List, false, Option, Result, Ok};
 ghost use Rattle.std.specs.List.{All};
 ghost use Rattle.dg_access.specs.Few.{HasFewVariables};
 ghost use Rattle.dg_access.specs.Items.{plain_items};
-ghost use Rattle.dg_base.specs.Mentions.{mentioned};
-ghost use Rattle.dg_base.specs.Tree.{Item};
+ghost use Rattle.dg_base.specs.Heads.{name_of};
+ghost use Rattle.dg_base.specs.Mentions.{mentioned, weight_of};
+ghost use Rattle.dg_base.specs.Tree.{Parts, Item};
 ghost use Rattle.dg_base.specs.declared.refusal.Refusal.{Refusal};
 ghost use Rattle.dg_expand.specs.Answer.{IsRewritten};
 ghost use Rattle.dg_expand.specs.Comes.{MentionsArePut};
-ghost use Rattle.dg_expand.specs.Expanded.{access_rules, is_bad};
+ghost use Rattle.dg_expand.specs.Expanded.{access_rules, is_bad, stay};
 ghost use Rattle.dg_expand.specs.Left.{IsPutIn};
+ghost use Rattle.dg_names.specs.Counts.{closures_at};
 
 /// A tree has one answer: the tree with access rules put in, or why and at which line it is refused.
 pub fn one_answer()
@@ -24,6 +26,16 @@ pub fn mentions_are_put()
 /// Each rule of a rewritten tree, and each closure in it, has at most 64 variables.
 pub fn variables_are_few()
     ensures { (is new : List Item) → IsRewritten is (Ok new) → All (λ (i : Item). HasFewVariables i.said) new }
+{}
+
+/// At most 16,000 closures stand in a rewritten tree.
+pub fn closures_are_few()
+    ensures { (is new : List Item) → IsRewritten is (Ok new) → weight_of closures_at (mentioned new) ≤ 16000 }
+{}
+
+/// A declared head keeps its name.
+pub fn declared_heads_keep_names()
+    ensures { (ps : Parts) → name_of (stay ps) ≡ name_of ps }
 {}
 
 /// No head and no change stands in a rewritten tree where none may.

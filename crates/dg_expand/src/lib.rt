@@ -14,4 +14,7 @@ mod weighed;
 mod work;
 
 pub use answer::{expand, rewrite};
-pub use laws::{mentions_are_put, none_is_closed, nothing_is_left, one_answer, variables_are_few};
+pub use laws::{
+    closures_are_few, declared_heads_keep_names, mentions_are_put, none_is_closed, nothing_is_left,
+    one_answer, variables_are_few,
+};

@@ -2,7 +2,6 @@
 ghost use Rattle.std.specs.Prelude.{◌≡◌, ◌<◌, ◌≤◌, length, List, ℕ, Option, IfOk, IfErr, IsErrOf};
 ghost use Rattle.dg_base.specs.Causes.{Rose};
 ghost use Rattle.dg_meaning.specs.Transcript.{line_of};
-ghost use Rattle.dg_built.specs.Built.{IsBuilt};
 ghost use Rattle.dg_meaning.specs.Shows.{IsLeft};
 ghost use Rattle.dg_base.specs.Sound.{IsSound};
 ghost use Rattle.dg_interp.specs.Engine.{Starts};
@@ -14,6 +13,7 @@ use crate::lack::Lack;
 use crate::outside::Outside;
 use crate::run::{limit, run};
 use dg_base::{CoreProgram, Ending, Goal, Items, Limits, Outcome, RunFault, Sink, Source};
+use dg_built::programs_are_built;
 use dg_spacing::Spacer;
 use std::alloc::Global;
 
@@ -110,7 +110,6 @@ pub fn interpret<S: Source, K: Sink>(
     sink: &mut K,
 ) -> Result<Outcome, RunFault>
     requires dice { 0 < length dice.now }
-    requires built { IsBuilt program.now }
     requires sound { IsSound program.now }
     ensures shows { IfOk result (λ outcome. ForTyped (S.view source.old).left
         (λ typed. HasShown (game program.now dice.now) typed limits.now outcome (left_told (S.view source.old) (S.view source.new))
@@ -120,6 +119,7 @@ pub fn interpret<S: Source, K: Sink>(
     ensures read { IsErrOf result RunFault.Read → Rose (S.view source.old).faults (S.view source.new).faults }
     ensures later { (S.view source.old).faults ≤ (S.view source.new).faults }
 {
+    programs_are_built();
     match Outside::new(alloc, program, limits, dice) {
         Err(lack) => write_lack(program, limits, dice, lack, sink),
         Ok(outside) => {

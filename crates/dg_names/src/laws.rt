@@ -1,11 +1,12 @@
 // What the definitions alone say.
-ghost use Rattle.std.specs.Prelude.{◌≡◌, ℕ, List, Result, Ok, All};
+ghost use Rattle.std.specs.Prelude.{◌≡◌, ◌++◌, ℕ, List, Result, Ok, All};
 ghost use Rattle.dg_base.specs.Tree.{Item};
 ghost use Rattle.dg_base.specs.Mentions.{mentioned};
 ghost use Rattle.dg_base.specs.declared.refusal.Refusal.{Refusal};
 ghost use Rattle.dg_names.specs.Among.{AreFirsts, IsReadable, IsAmong, IsSmall, ArePrintable, AreFew};
 ghost use Rattle.dg_names.specs.Counts.{IsNamed};
 ghost use Rattle.dg_names.specs.Named.{Named, firsts, names_of};
+ghost use Rattle.dg_names.specs.Scopes.{with_names};
 
 /// A tree has one answer: its names, or the line at which it is refused.
 pub fn one_answer()
@@ -15,6 +16,11 @@ pub fn one_answer()
 /// Names in order of first appearance are those that are given, each once.
 pub fn firsts_are_names()
     ensures { (names : List (List ℕ)) → AreFirsts names (firsts names) }
+{}
+
+/// Names in order of first appearance, and then those of others that aren't among them, are all of them in order of first appearance.
+pub fn firsts_go_on()
+    ensures { (names more : List (List ℕ)) → with_names (firsts names) more ≡ firsts (names ++ more) }
 {}
 
 /// The names of a tree can be printed where what it mentions can.

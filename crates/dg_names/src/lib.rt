@@ -9,8 +9,8 @@ mod tally;
 mod variables;
 
 pub use laws::{
-    firsts_are_names, mentions_are_among, mentions_are_small, names_are_few, names_are_printable,
-    one_answer,
+    firsts_are_names, firsts_go_on, mentions_are_among, mentions_are_small, names_are_few,
+    names_are_printable, one_answer,
 };
 pub use state::Names;
 pub use variables::add_names;

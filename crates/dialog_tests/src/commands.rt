@@ -88,7 +88,18 @@ const LAST: &str = "(s) (select) A (or) B (or) C (stopping)\n(program entry poin
 const CIRCLE: &str =
     "(s) (select) a (or) b (cycling)\n(program entry point) { (s) (fail) (or) (s) (s) }";
 
-const NO_CLOSURE: &str = "(program entry point) (query 5) x";
+const NO_CLOSURE: &str =
+    "(program entry point) { (query 5) x (or) (query [] 1) y (or) (query $C) z (or) done }";
+
+const CAPTURED: &str =
+    "(program entry point) ($N = 3) ($C = { got $N $_ ($X = 7) }) (query $C 4) $X";
+
+// Each closure has a parameter of its own, which is unbound where none is given.
+const PARAMETERS: &str =
+    "(program entry point) ($C = { ($D = { $_ }) (query $D 1) $_ (query $D) }) (query $C 2)";
+
+const CLOSURE_ANSWERS: &str =
+    "(p 1)\n(p 2)\n(program entry point) ($C = { *(p $_) }) { *(query $C $X) $X (fail) (or) (query $C $X) $X (fail) (or) done }";
 
 const APPENDED: &str = "(program entry point) *(append $A $B [1 2]) $A $B (line) (fail)";
 
@@ -140,7 +151,7 @@ const BEGUN: &str =
 const GATHERS_FOREVER: &str = "(program entry point) x (collect 1) (repeat forever) (into $)\n";
 
 // The words of the command, the source, the status and the transcript.
-const TRANSCRIPTS: [(&str, &str, u8, &str); 50] = [
+const TRANSCRIPTS: [(&str, &str, u8, &str); 53] = [
     ("debug p.dg", CHANGED, 0, "5\n"),
     ("debug p.dg", CLOSED, 0, "shut\n"),
     ("debug p.dg", UNDER, 0, "#lamp\n"),
@@ -173,7 +184,10 @@ const TRANSCRIPTS: [(&str, &str, u8, &str); 50] = [
     ("debug p.dg --dice 4,4,4", OTHERS, 0, "B A B\n"),
     ("debug p.dg", LAST, 0, "A B C C\n"),
     ("debug p.dg", CIRCLE, 0, "a b a\n"),
-    ("debug p.dg", NO_CLOSURE, 0, "[Failed]\n"),
+    ("debug p.dg", NO_CLOSURE, 0, "done\n"),
+    ("debug p.dg", CAPTURED, 0, "got 3 4 7\n"),
+    ("debug p.dg", PARAMETERS, 0, "1 2 $\n"),
+    ("debug p.dg", CLOSURE_ANSWERS, 0, "1 2 1 done\n"),
     (
         "debug p.dg",
         APPENDED,
@@ -270,7 +284,7 @@ fn sources_give_their_transcript(rt: HostRuntime) -> Result<(), Fail> {
 }
 
 // The words of the command, the source, the status and the line.
-const REFUSALS: [(&str, &str, u8, &str); 32] = [
+const REFUSALS: [(&str, &str, u8, &str); 31] = [
     (
         "debug p.dg",
         "(program entry point) (now) (a 1 2 3)",
@@ -368,12 +382,6 @@ const REFUSALS: [(&str, &str, u8, &str); 32] = [
         1,
         "p.dg:1: unclosed construct\n",
     ),
-    (
-        "debug p.dg",
-        "(a) b\n(c)\n  (query { b })",
-        1,
-        "p.dg:2: not built yet\n",
-    ),
     ("debug", "", 2, USAGE),
     ("debug p.dg --steps 0", ORDER, 2, USAGE),
     ("debug p.dg --steps 1000000000001", ORDER, 2, USAGE),
@@ -452,8 +460,8 @@ fn nested(
 #[test]
 fn anonymous_variables_count_where_plain_heads_put_them(rt: HostRuntime) -> Result<(), Fail> {
     let alloc = rt.alloc();
-    let taken = "p.dg:1: not built yet\n";
-    let refused = "p.dg:1: too many\n";
+    let taken = (0, "x\n");
+    let refused = (1, "p.dg:1: too many\n");
     let cases = [
         ("(q {", "}) ", 32, 32, taken),
         ("(q {", "}) ", 33, 32, refused),
@@ -462,9 +470,17 @@ fn anonymous_variables_count_where_plain_heads_put_them(rt: HostRuntime) -> Resu
         ("(q [{", "}]) ", 33, 32, refused),
         ("(q 1 {", "}) ", 64, 64, taken),
     ];
-    for (open, close, first, second, text) in cases {
+    for (open, close, first, second, (status, text)) in cases {
         let source = nested(alloc, open, close, first, second)?;
-        gives(&rt, alloc, "debug p.dg", "p.dg", source.as_bytes(), 1, text)?;
+        gives(
+            &rt,
+            alloc,
+            "debug p.dg",
+            "p.dg",
+            source.as_bytes(),
+            status,
+            text,
+        )?;
     }
     Ok(())
 }

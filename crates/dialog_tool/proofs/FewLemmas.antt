@@ -1,5 +1,6 @@
--- What a program's tree has that comes from a source: few variables in a rule, few branches in a select, few values of what is changed, and few places.
-use Rattle.std.proofs.Common.{◌≡◌, ◌≤◌, ◌⊎◌, ◌||◌, inl, inr, ℕ, zero, suc, List, [], ◌∷◌, ◌++◌, Bool, true, false, Option, Some, None, length, map, nat_lt, refl, sym, ◌∙◌, ap, subst, arith}
+-- What a program's tree has that comes from a source: few variables in a rule, few branches in a select, few values of what is changed, few places
+-- and few closures.
+use Rattle.std.proofs.Common.{◌≡◌, ◌≤◌, ◌⊎◌, ◌||◌, ◌+◌, inl, inr, ℕ, zero, suc, List, [], ◌∷◌, ◌++◌, Bool, true, false, Option, Some, None, length, length-append, map, nat_lt, refl, sym, ◌∙◌, ap, subst, arith}
 use Rattle.std.specs.Prelude.{if◌then◌else◌}
 use Rattle.std.specs.List.{All, Contains, list_all}
 use Rattle.std.specs.Option.{is_some}
@@ -8,115 +9,34 @@ use Rattle.std.specs.Cmp.Lexicographic.{bytes_decides}
 use Rattle.std.proofs.lemmas.Bool.{and_parts, or_parts}
 use Rattle.std.proofs.lemmas.Bool.Decides.{nat_tests}
 use Rattle.std.proofs.lemmas.List.{map-append}
-use Rattle.std.proofs.lemmas.List.Elements.{All-nil, All-cons, All-head, All-tail, All-contains, Contains-append_left, Contains-append_right, Contains-append_cases}
-use Rattle.dg_access.specs.Comes.{is_free, ComesFrom, free, same, topic, again, asked, left, chosen, equation}
+use Rattle.std.proofs.lemmas.List.Elements.{All-nil, All-cons, All-head, All-tail, Contains-append_left, Contains-append_right, Contains-append_cases}
 use Rattle.dg_access.specs.Few.{HasFewVariables}
-use Rattle.dg_access.proofs.KeptLemmas.{all_front, all_back}
 use Rattle.dg_base.specs.Heads.{name_of}
-use Rattle.dg_base.specs.Mentions.{Thing, query, select, Mentions, of_rule, things_in, mentioned, names_in}
+use Rattle.dg_base.specs.Mentions.{Thing, query, select, closure, Mentions, nothing, thing, closed, closures, of_rule, of_said, things, things_in, mentioned, names_in, weight_of}
 use Rattle.dg_base.specs.Names.{prelude_names, name_among, builtins, builtin_among, builtin_named}
 use Rattle.dg_base.specs.Tree as tree
 use Rattle.dg_base.specs.Tree.{Parts, Said, Item}
 use Rattle.dg_base.specs.declared.mentions.Role.TheVariants as role
 use Rattle.dg_base.specs.declared.names.Builtin.{Builtin}
 use Rattle.dg_base.specs.declared.names.Builtin.TheVariants as built_in
-use Rattle.dg_closures.specs.Held.{RuleIsSmall}
-use Rattle.dg_core.specs.Given.{IsFit, IsFitItem}
+use Rattle.dg_core.specs.Given.{IsFit, IsFitItem, closures_among}
+use Rattle.dg_core.specs.Matches.{IsPlain, ArePlain}
 use Rattle.dg_core.specs.Places.{parent_name, declaration_in, declarations, changed_in, place_names, values_in}
-use Rattle.dg_expand.specs.Comes as put
-use Rattle.dg_expand.specs.Comes.{is_made, PutFrom}
 use Rattle.dg_expand.specs.Expanded as expanded
 use Rattle.dg_expand.specs.Expanded.{is_fixed, is_closed, is_bad}
 use Rattle.dg_expand.specs.Put.{Access, rule_for}
-use Rattle.dg_names.specs.Among.{AreFirsts, IsSmall, HasPred, IsAmong}
+use Rattle.dg_names.specs.Among.{AreFirsts, HasPred, IsAmong}
+use Rattle.dg_names.specs.Counts.{closures_at}
 use Rattle.dg_names.specs.Named.{Named, firsts}
-use Rattle.dg_reader.specs.Readable as reading
+use Rattle.dialog_tool.proofs.ComeLemmas.{IsSelectFit, IsPlainKnown}
 use Rattle.dialog_tool.proofs.DeclareLemmas.{IsDeclared, AreDeclared}
 use Rattle.dialog_tool.proofs.Never.{never}
-
--- ---- variables
 
 -- names in order of first appearance are those that are given
 abbrev pub FirstsAreNames : Type 0
 FirstsAreNames = (names : List (List ℕ)) → AreFirsts names (firsts names)
 
-only : (m n : List ℕ) → Contains (m ∷ []) n → m ≡ n
-only m n (zero, lt, e) = e
-only m n (suc k, lt, e) = absurd (omega arith)
-
--- a rule has few variables where few stand in it
-abbrev pub RulesAreSmall : Type 0
-RulesAreSmall = (all : List (List ℕ)) (ms : Mentions) → RuleIsSmall all ms
-
--- what is declared isn't the place of parents, which is built in
-no_parent : (n : List ℕ) → builtin_named n ≡ None → bytes_eq parent_name n ≡ false
-no_parent n none = here (bytes_eq parent_name n) refl
-  where
-    here : (b : Bool) → bytes_eq parent_name n ≡ b → b ≡ false
-    here true e = let no : builtin_named parent_name ≡ None = ap builtin_named ((bytes_decides parent_name n).0 e) ∙ none in cc
-    here false e = refl
-
-item_fit : RulesAreSmall → (said : Said) → HasFewVariables said → IsDeclared said → IsFitItem said
-item_fit law (tree.topic n) few d = tt
-item_fit law (tree.rule ps b) few d = law _ (of_rule role.Rule ps b) few.0
-item_fit law (tree.deny ps b) few d = law _ (of_rule role.Rule ps b) few.0
-item_fit law (tree.access ps b) few d = tt
-item_fit law (tree.global_variable ps) few d = record { one = d.1.0; value = d.1.1; other = no_parent (name_of ps) d.0 }
-
-pub items_fit : RulesAreSmall → (is : List Item) → All (λ (i : Item). HasFewVariables i.said) is → AreDeclared is → All (λ (i : Item). IsFitItem i.said) is
-items_fit law [] few d = All-nil (λ (i : Item). IsFitItem i.said)
-items_fit law (i ∷ is) few d =
-    All-cons (λ (j : Item). IsFitItem j.said) i is
-    (item_fit law i.said (All-head (λ (j : Item). HasFewVariables j.said) i is few) (All-head (λ (j : Item). IsDeclared j.said) i is d))
-    (items_fit law is (All-tail (λ (j : Item). HasFewVariables j.said) i is few) (All-tail (λ (j : Item). IsDeclared j.said) i is d))
-
--- ---- selects
-
--- a select has a branch, and few of them
-abbrev pub IsSelectFit : Thing → Type 0
-IsSelectFit (select n) = (1 ≤ n) × (n ≤ 500)
-IsSelectFit t = Unit {0}
-
-select_fit : (t : Thing) → reading.IsReadable t → IsSmall t → IsSelectFit t
-select_fit (select n) r s = (r, s)
-select_fit t r s = tt
-
-pub selects_fit : (ts : List Thing) → All reading.IsReadable ts → All IsSmall ts → All IsSelectFit ts
-selects_fit ts r s = λ k d lt. select_fit _ (r k d lt) (s k d lt)
-
-free_fit : (t : Thing) → is_free t ≡ true → IsSelectFit t
-free_fit (select n) e = cc
-free_fit t e = tt
-
-come_fit : (ts : List Thing) → All IsSelectFit ts → (t : Thing) → ComesFrom ts t → IsSelectFit t
-come_fit ts h t (free u e) = free_fit u e
-come_fit ts h t (same u c) = All-contains IsSelectFit ts u h c
-come_fit ts h t (topic n c) = tt
-come_fit ts h t (again r ps qs e c) = tt
-come_fit ts h t (asked ps qs e c) = tt
-come_fit ts h t (left a b c) = tt
-come_fit ts h t (chosen ws w c k) = tt
-come_fit ts h t (equation ps e) = tt
-
-pub plain_fit : (ts us : List Thing) → All IsSelectFit ts → All (ComesFrom ts) us → All IsSelectFit us
-plain_fit ts us h come = λ k d lt. come_fit ts h _ (come k d lt)
-
-made_fit : (t : Thing) → is_made t ≡ true → IsSelectFit t
-made_fit (select n) e = never e
-made_fit t e = tt
-
-put_fit : (ts : List Thing) → All IsSelectFit ts → (t : Thing) → PutFrom ts t → IsSelectFit t
-put_fit ts h t (put.made u e) = made_fit u e
-put_fit ts h t (put.same u c) = All-contains IsSelectFit ts u h c
-put_fit ts h t (put.again r ps qs e c) = tt
-put_fit ts h t (put.left a b c) = tt
-put_fit ts h t (put.changed s set r ks ps qs c turned e d) = tt
-put_fit ts h t (put.headed r ps qs turned e c) = tt
-
-pub all_put_fit : (ts us : List Thing) → All IsSelectFit ts → All (PutFrom ts) us → All IsSelectFit us
-all_put_fit ts us h come = λ k d lt. put_fit ts h _ (come k d lt)
-
--- ---- changes
+-- ---- each thing
 
 -- what is changed isn't built in, but for the place of parents, and has at most two values
 abbrev pub IsChangeable : Thing → Type 0
@@ -131,23 +51,92 @@ counted (tree.part (tree.part_value v) ps) = omega (arith, counted ps)
 at_most_two : (n m : ℕ) → nat_lt 2 m ≡ false → n ≡ m → n ≤ 2
 at_most_two n m e k = let low : m ≤ 2 = grind (arith, nat_tests, e) in omega (arith, low, k)
 
-pub changeable : (rules : List Access) (t : Thing) → is_bad rules t ≡ false → IsChangeable t
+changeable : (rules : List Access) (t : Thing) → is_bad rules t ≡ false → IsChangeable t
 changeable rules (query (role.Changed set) ps) e =
     let each = or_parts (is_closed rules ps) (nat_lt 2 (expanded.values_in ps)) e in
     let named = or_parts (is_fixed (builtin_named (name_of ps))) (name_among (name_of ps) prelude_names || is_some (rule_for rules ps)) each.0 in
     (named.0, at_most_two (length (values_in ps)) (expanded.values_in ps) each.1 (counted ps))
 changeable rules t e = tt
 
-pub all_changeable : (rules : List Access) (ts : List Thing) → All (λ t. is_bad rules t ≡ false) ts → All IsChangeable ts
-all_changeable rules ts h = λ k d lt. changeable rules _ (h k d lt)
+-- what is known of a thing that a program's tree mentions
+pub record IsReady (d : Named) (t : Thing) : Type 0 where
+  pub among : IsAmong d t
+  pub select : IsSelectFit t
+  pub plain : IsPlain t
+  pub changeable : IsChangeable t
 
-thing_fit : (t : Thing) → IsChangeable t → IsSelectFit t → IsFit t
-thing_fit (query (role.Changed set) ps) c s = c.1
-thing_fit (select n) c s = s
-thing_fit t c s = tt
+pub all_ready : (d : Named) (rules : List Access) (ts : List Thing) → All (IsPlainKnown d) ts → All (λ (t : Thing). is_bad rules t ≡ false) ts → All (IsReady d) ts
+all_ready d rules ts h none = λ k e lt.
+    let known = h k e lt in
+    record { among = known.0; select = known.1; plain = known.2; changeable = changeable rules _ (none k e lt) }
 
-pub things_fit : (ts : List Thing) → All IsChangeable ts → All IsSelectFit ts → All IsFit ts
-things_fit ts c s = λ k d lt. thing_fit _ (c k d lt) (s k d lt)
+thing_fit : (d : Named) (t : Thing) → IsReady d t → IsFit t
+thing_fit d (query (role.Changed set) ps) r = r.changeable.1
+thing_fit d (select n) r = r.select
+thing_fit d t r = tt
+
+pub things_fit : (d : Named) (ts : List Thing) → All (IsReady d) ts → All IsFit ts
+things_fit d ts h = λ k e lt. thing_fit d _ (h k e lt)
+
+-- ---- items
+
+-- each of these things is ready
+abbrev pub AreReady : Named → List Thing → Type 0
+AreReady d ts = (t : Thing) → Contains ts t → IsReady d t
+
+ready_front : (d : Named) (ts us : List Thing) → AreReady d (ts ++ us) → AreReady d ts
+ready_front d ts us r = λ t c. r t (Contains-append_left ts us t c)
+
+ready_behind : (d : Named) (ts us : List Thing) → AreReady d (ts ++ us) → AreReady d us
+ready_behind d ts us r = λ t c. r t (Contains-append_right ts us t c)
+
+are_plain : (d : Named) (ms : Mentions) → AreReady d (things ms) → ArePlain ms
+are_plain d nothing r = tt
+are_plain d (thing t ms) r = ((r t (0, omega arith, refl)).plain, are_plain d ms (ready_behind d (t ∷ []) (things ms) r))
+are_plain d (closed inner ms) r =
+    let within = ready_behind d (closure ∷ []) (things inner ++ things ms) r in
+    (are_plain d inner (ready_front d (things inner) (things ms) within), are_plain d ms (ready_behind d (things inner) (things ms) within))
+
+-- what is declared isn't the place of parents, which is built in
+no_parent : (n : List ℕ) → builtin_named n ≡ None → bytes_eq parent_name n ≡ false
+no_parent n none = here (bytes_eq parent_name n) refl
+  where
+    here : (b : Bool) → bytes_eq parent_name n ≡ b → b ≡ false
+    here true e = let no : builtin_named parent_name ≡ None = ap builtin_named ((bytes_decides parent_name n).0 e) ∙ none in cc
+    here false e = refl
+
+item_fit : (d : Named) (said : Said) → HasFewVariables said → IsDeclared said → AreReady d (things_in said) → IsFitItem said
+item_fit d (tree.topic n) few e r = tt
+item_fit d (tree.rule ps b) few e r = record { few = few; plain = are_plain d (of_rule role.Rule ps b) r }
+item_fit d (tree.deny ps b) few e r = record { few = few; plain = are_plain d (of_rule role.Rule ps b) r }
+item_fit d (tree.access ps b) few e r = tt
+item_fit d (tree.global_variable ps) few e r = record { one = e.one; value = e.value; other = no_parent (name_of ps) e.other }
+
+pub items_fit : (d : Named) (is : List Item) → All (λ (i : Item). HasFewVariables i.said) is → AreDeclared is → AreReady d (mentioned is) → All (λ (i : Item). IsFitItem i.said) is
+items_fit d [] few e r = All-nil (λ (i : Item). IsFitItem i.said)
+items_fit d (i ∷ is) few e r =
+    All-cons (λ (j : Item). IsFitItem j.said) i is
+    (item_fit d i.said (All-head (λ (j : Item). HasFewVariables j.said) i is few) (All-head (λ (j : Item). IsDeclared j.said) i is e) (ready_front d (things_in i.said) (mentioned is) r))
+    (items_fit d is (All-tail (λ (j : Item). HasFewVariables j.said) i is few) (All-tail (λ (j : Item). IsDeclared j.said) i is e) (ready_behind d (things_in i.said) (mentioned is) r))
+
+-- ---- closures
+
+weight_append : (f : Thing → ℕ) (a b : List Thing) → weight_of f (a ++ b) ≡ weight_of f a + weight_of f b
+weight_append f [] b = omega arith
+weight_append f (t ∷ a) b = omega (arith, weight_append f a b)
+
+closures_weigh : (ms : Mentions) → length (closures ms) ≤ weight_of closures_at (things ms)
+closures_weigh nothing = omega arith
+closures_weigh (thing t ms) = omega (arith, closures_weigh ms)
+closures_weigh (closed inner ms) = omega (arith, length-append (closures inner) (closures ms), weight_append closures_at (things inner) (things ms), closures_weigh inner, closures_weigh ms)
+
+pub few_closures : (is : List Item) → closures_among is ≤ weight_of closures_at (mentioned is)
+few_closures [] = omega arith
+few_closures (i ∷ is) = omega (arith, closures_weigh (of_said i.said), few_closures is, weight_append closures_at (things_in i.said) (mentioned is))
+
+pub closures_append : (a b : List Item) → closures_among (a ++ b) ≡ closures_among a + closures_among b
+closures_append [] b = omega arith
+closures_append (i ∷ a) b = omega (arith, closures_append a b)
 
 -- ---- places
 
@@ -189,40 +178,43 @@ either (inr k) f g = g k
 nowhere : {A : Type 0} (n : List ℕ) → Contains [] n → A
 nowhere n h = absurd (let lt = h.1 in omega arith)
 
-one_changed : (d : Named) (t : Thing) (n : List ℕ) → IsAmong d t → IsChangeable t → Contains (changed_in t) n → IsPlaced d n
-one_changed d (query (role.Changed set) ps) n a c h = subst (IsPlaced d) (only (name_of ps) n h) (name_placed d (name_of ps) (builtin_named (name_of ps)) refl a c.0)
-one_changed d t n a c h = nowhere n h
+only : (m n : List ℕ) → Contains (m ∷ []) n → m ≡ n
+only m n (zero, lt, e) = e
+only m n (suc k, lt, e) = absurd (omega arith)
 
-all_changed : (d : Named) (ts : List Thing) (n : List ℕ) → All (IsAmong d) ts → All IsChangeable ts → Contains (names_in changed_in ts) n → IsPlaced d n
-all_changed d [] n a c h = nowhere n h
-all_changed d (t ∷ ts) n a c h =
-    either (Contains-append_cases (changed_in t) (names_in changed_in ts) n h)
-    (one_changed d t n (All-head (IsAmong d) t ts a) (All-head IsChangeable t ts c))
-    (all_changed d ts n (All-tail (IsAmong d) t ts a) (All-tail IsChangeable t ts c))
+one_changed : (d : Named) (t : Thing) (n : List ℕ) → IsReady d t → Contains (changed_in t) n → IsPlaced d n
+one_changed d (query (role.Changed set) ps) n r h = subst (IsPlaced d) (only (name_of ps) n h) (name_placed d (name_of ps) (builtin_named (name_of ps)) refl r.among r.changeable.0)
+one_changed d t n r h = nowhere n h
 
-one_declared : (d : Named) (said : Said) (n : List ℕ) → All (IsAmong d) (things_in said) → IsDeclared said → Contains (map name_of (declaration_in said)) n → IsPlaced d n
-one_declared d (tree.global_variable ps) n a e h =
-    subst (IsPlaced d) (only (name_of ps) n h) (name_placed d (name_of ps) (builtin_named (name_of ps)) refl (All-head (IsAmong d) (query role.Declared ps) _ a) (ap is_fixed e.0))
-one_declared d (tree.topic w) n a e h = nowhere n h
-one_declared d (tree.rule ps b) n a e h = nowhere n h
-one_declared d (tree.deny ps b) n a e h = nowhere n h
-one_declared d (tree.access ps b) n a e h = nowhere n h
+all_changed : (d : Named) (ts : List Thing) (n : List ℕ) → AreReady d ts → Contains (names_in changed_in ts) n → IsPlaced d n
+all_changed d [] n r h = nowhere n h
+all_changed d (t ∷ ts) n r h =
+    either (Contains-append_cases (changed_in t) (names_in changed_in ts) n h) (one_changed d t n (r t (0, omega arith, refl)))
+    (all_changed d ts n (ready_behind d (t ∷ []) ts r))
 
-all_declared : (d : Named) (is : List Item) (n : List ℕ) → All (IsAmong d) (mentioned is) → AreDeclared is → Contains (map name_of (declarations is)) n → IsPlaced d n
-all_declared d [] n a e h = nowhere n h
-all_declared d (i ∷ is) n a e h =
+one_declared : (d : Named) (said : Said) (n : List ℕ) → AreReady d (things_in said) → IsDeclared said → Contains (map name_of (declaration_in said)) n → IsPlaced d n
+one_declared d (tree.global_variable ps) n r e h =
+    subst (IsPlaced d) (only (name_of ps) n h) (name_placed d (name_of ps) (builtin_named (name_of ps)) refl (r (query role.Declared ps) (0, omega arith, refl)).among (ap is_fixed e.other))
+one_declared d (tree.topic w) n r e h = nowhere n h
+one_declared d (tree.rule ps b) n r e h = nowhere n h
+one_declared d (tree.deny ps b) n r e h = nowhere n h
+one_declared d (tree.access ps b) n r e h = nowhere n h
+
+all_declared : (d : Named) (is : List Item) (n : List ℕ) → AreReady d (mentioned is) → AreDeclared is → Contains (map name_of (declarations is)) n → IsPlaced d n
+all_declared d [] n r e h = nowhere n h
+all_declared d (i ∷ is) n r e h =
     either
     (Contains-append_cases (map name_of (declaration_in i.said)) (map name_of (declarations is)) n (subst (λ (l : List (List ℕ)). Contains l n) (map-append name_of (declaration_in i.said) (declarations is)) h))
-    (one_declared d i.said n (all_front (IsAmong d) (things_in i.said) (mentioned is) a) (All-head (λ (j : Item). IsDeclared j.said) i is e))
-    (all_declared d is n (all_back (IsAmong d) (things_in i.said) (mentioned is) a) (All-tail (λ (j : Item). IsDeclared j.said) i is e))
+    (one_declared d i.said n (ready_front d (things_in i.said) (mentioned is) r) (All-head (λ (j : Item). IsDeclared j.said) i is e))
+    (all_declared d is n (ready_behind d (things_in i.said) (mentioned is) r) (All-tail (λ (j : Item). IsDeclared j.said) i is e))
 
 -- so places are few where predicates are
-pub few_places : FirstsAreNames → (d : Named) (is : List Item) → All (IsAmong d) (mentioned is) → All IsChangeable (mentioned is) → AreDeclared is → length d.preds ≤ 65534 → length (place_names is) ≤ 65535
-few_places law d is a c e few =
+pub few_places : FirstsAreNames → (d : Named) (is : List Item) → AreReady d (mentioned is) → AreDeclared is → length d.preds ≤ 65534 → length (place_names is) ≤ 65535
+few_places law d is r e few =
     let declared = map name_of (declarations is) in
     let changed = names_in changed_in (mentioned is) in
     let there : (n : List ℕ) → Contains (parent_name ∷ (declared ++ changed)) n → IsPlaced d n = λ n h.
     either (Contains-append_cases (parent_name ∷ []) (declared ++ changed) n h) (Contains-append_left (parent_name ∷ []) d.preds n)
-    (λ k. either (Contains-append_cases declared changed n k) (all_declared d is n a e) (all_changed d (mentioned is) n a c)) in
+    (λ k. either (Contains-append_cases declared changed n k) (all_declared d is n r e) (all_changed d (mentioned is) n r)) in
     let most = (law (parent_name ∷ (declared ++ changed))).fewest (parent_name ∷ d.preds) there in
     omega (arith, most, few)

@@ -9,9 +9,8 @@ pub mod SourceLemmas
 pub mod AnswerLemmas
 pub mod DecideLemmas
 pub mod PlayLemmas
-pub mod RunLemmas
+pub mod ComeLemmas
 pub mod DeclareLemmas
 pub mod FewLemmas
-pub mod ComeLemmas
 pub mod PreludeLemmas
 pub mod GivenLemmas

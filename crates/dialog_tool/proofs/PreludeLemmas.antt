@@ -1,6 +1,6 @@
--- What the prelude mentions can be run, its names can be printed, and its rules have few variables.
+-- What the prelude mentions is ready for a program, its names can be printed, and its rules have few variables.
 use Rattle.std.proofs.Common.{◌≡◌, ◌<◌, ◌≤◌, ◌+◌, ℕ, List, [], ◌∷◌, ◌++◌, Bool, true, false, ◌&&◌, ◌||◌, Option, Some, None, Bor, Vec, Global, length, length-append, map, get_or, drop, nat_lt, refl, sym, ◌∙◌, ap, subst, arith, append_assoc}
-use Rattle.std.specs.Prelude.{nat_le, not, encode_utf8_all, if◌then◌else◌}
+use Rattle.std.specs.Prelude.{nat_le, encode_utf8_all, if◌then◌else◌}
 use Rattle.std.specs.List.{All, Contains, list_all, list_any}
 use Rattle.std.specs.Option.{is_some}
 use Rattle.std.specs.Str.{bytes_eq}
@@ -11,28 +11,32 @@ use Rattle.std.proofs.lemmas.List.{drop_more, length-map}
 use Rattle.std.proofs.lemmas.List.Elements.{All-nil, All-cons, All-append, Contains-append_right}
 use Rattle.std.proofs.lemmas.Str.{encode_ascii}
 use lib.Utf8.{low_scalar}
-use Rattle.dg_access.specs.Comes.{MentionsComeFrom}
+use Rattle.dg_access.specs.Few.{HasFewVariables, SmallAreFew}
 use Rattle.dg_access.specs.Items.{plain_items}
 use Rattle.dg_base.specs.Heads.{name_of}
-use Rattle.dg_base.specs.Mentions.{Thing, query, variable, unnamed, other, branches, select, things_in, mentioned, names_in}
+use Rattle.dg_base.specs.Mentions.{Thing, query, variable, other, branches, things_in, mentioned, names_in}
 use Rattle.dg_base.specs.Names.{prelude_names, name_among, builtin_named}
 use Rattle.dg_base.specs.Sound.{IsPrintable, IsName}
-use Rattle.dg_base.specs.Tree.{Said, rule, Item}
+use Rattle.dg_base.specs.Tree.{Said, global_variable, Item}
 use Rattle.dg_base.specs.declared.mentions.Role.TheVariants as role
 use Rattle.dg_base.specs.declared.names.Builtin.{Builtin}
-use Rattle.dg_core.specs.Forms.{is_unbuilt, IsRun, AreRun}
-use Rattle.dg_core.specs.Given.{IsFit, IsFitItem}
-use Rattle.dg_core.specs.Variables.{variables_of}
-use Rattle.dg_names.specs.Among.{HasPred, IsAmong}
-use Rattle.dg_names.specs.Named.{Named, predicate_in, names_of}
+use Rattle.dg_core.specs.Given.{closures_among}
+use Rattle.dg_names.specs.Among.{HasPred}
+use Rattle.dg_names.specs.Counts.{is_rule}
+use Rattle.dg_names.specs.Named.{Named, firsts, predicate_in, names_of}
 use Rattle.dg_names.specs.Scopes.{with_name, with_names}
-use Rattle.dg_names.proofs.FirstLemmas.{firsts_more}
 use Rattle.dg_prelude.specs.Rules.{prelude_rules}
-use Rattle.dialog_tool.specs.Source.{all_names, with_prelude}
+use Rattle.dialog_tool.specs.Source.{all_names}
 use Rattle.dialog_tool.proofs.DeclareLemmas.{IsDeclared, AreDeclared}
-use Rattle.dialog_tool.proofs.FewLemmas.{IsChangeable}
+use Rattle.dialog_tool.proofs.FewLemmas.{IsReady}
 use Rattle.dialog_tool.proofs.Never.{never}
-use Rattle.dialog_tool.proofs.RunLemmas.{plain_run}
+
+-- what passes a test that decides this
+from_test : {A : Type 0} (P : A → Type 0) (test : A → Bool) → ((x : A) → test x ≡ true → P x) → (xs : List A) → list_all test xs ≡ true → All P xs
+from_test P test each [] e = All-nil P
+from_test P test each (x ∷ xs) e =
+    let parts = and_parts (test x) (list_all test xs) e in
+    All-cons P x xs (each x parts.0) (from_test P test each xs parts.1)
 
 -- ---- names
 
@@ -48,12 +52,6 @@ plain_printable : (c : ℕ) → is_plain c ≡ true → IsPrintable c
 plain_printable c e =
     let low = plain_low c e in
     record { from = low.0; to = omega (arith, low.1); scalar = low_scalar c (omega (arith, low.1)); no_delete = λ same. omega (arith, low.1, same) }
-
-all_printable : (cs : List ℕ) → list_all is_plain cs ≡ true → All IsPrintable cs
-all_printable [] e = All-nil IsPrintable
-all_printable (c ∷ cs) e =
-    let each = and_parts (is_plain c) (list_all is_plain cs) e in
-    All-cons IsPrintable c cs (plain_printable c each.0) (all_printable cs each.1)
 
 plain_encoded : (cs : List ℕ) → list_all is_plain cs ≡ true → cs ≡ encode_utf8_all cs
 plain_encoded [] e = refl
@@ -71,29 +69,24 @@ plain_name n e =
     record {
       characters = n;
       some = λ none. never (sym (ap (λ (l : List ℕ). nat_lt 0 (length l)) none) ∙ each.0);
-      printable = all_printable n each.1;
+      printable = from_test IsPrintable is_plain plain_printable n each.1;
       encoded = plain_encoded n each.1;
     }
 
-plain_names : (ns : List (List ℕ)) → list_all is_plain_name ns ≡ true → All IsName ns
-plain_names [] e = All-nil IsName
-plain_names (n ∷ ns) e =
-    let each = and_parts (is_plain_name n) (list_all is_plain_name ns) e in
-    All-cons IsName n ns (plain_name n each.0) (plain_names ns each.1)
-
 pub prelude_printable : All IsName prelude_names
-prelude_printable = plain_names prelude_names refl
+prelude_printable = from_test IsName is_plain_name plain_name prelude_names refl
 
 pub four_names : length prelude_names ≡ 4
 four_names = refl
 
 -- ---- what is mentioned
 
--- a query of a built-in predicate or of one of the prelude, or what says nothing of names
+-- a query of a built-in predicate or of one of the prelude that is no change and no value, or what says nothing of names
 abbrev is_ours : Thing → Bool
+is_ours (query (role.Changed set) ps) = false
+is_ours (query role.Nested ps) = false
 is_ours (query r ps) = is_some (builtin_named (name_of ps)) || name_among (name_of ps) prelude_names
 is_ours (variable n) = true
-is_ours (unnamed twice) = true
 is_ours (other form) = true
 is_ours (branches n) = true
 is_ours t = false
@@ -110,85 +103,41 @@ pred_among : (d : Named) (n : List ℕ) (o : Option Builtin) → (Contains prelu
 pred_among d n (Some b) h e = tt
 pred_among d n None h e = h (named_there n prelude_names e)
 
-ours_among : (d : Named) → ((n : List ℕ) → Contains prelude_names n → Contains d.preds n) → (t : Thing) → is_ours t ≡ true → IsAmong d t
-ours_among d h (query r ps) e = pred_among d (name_of ps) (builtin_named (name_of ps)) (h (name_of ps)) e
-ours_among d h (variable n) e = tt
-ours_among d h (unnamed twice) e = tt
-ours_among d h (other form) e = tt
-ours_among d h (branches n) e = tt
-ours_among d h t e = never e
+ours_ready : (d : Named) → ((n : List ℕ) → Contains prelude_names n → Contains d.preds n) → (t : Thing) → is_ours t ≡ true → IsReady d t
+ours_ready d h (query (role.Changed set) ps) e = never e
+ours_ready d h (query role.Nested ps) e = never e
+ours_ready d h (query r ps) e = record { among = pred_among d (name_of ps) (builtin_named (name_of ps)) (h (name_of ps)) e; select = tt; plain = tt; changeable = tt }
+ours_ready d h (variable n) e = record { among = tt; select = tt; plain = tt; changeable = tt }
+ours_ready d h (other form) e = record { among = tt; select = tt; plain = tt; changeable = tt }
+ours_ready d h (branches n) e = record { among = tt; select = tt; plain = tt; changeable = tt }
+ours_ready d h t e = never e
 
-from_test : (P : Thing → Type 0) (test : Thing → Bool) → ((t : Thing) → test t ≡ true → P t) → (ts : List Thing) → list_all test ts ≡ true → All P ts
-from_test P test each [] e = All-nil P
-from_test P test each (t ∷ ts) e =
-    let parts = and_parts (test t) (list_all test ts) e in
-    All-cons P t ts (each t parts.0) (from_test P test each ts parts.1)
+abbrev pub prelude_items : List Item
+prelude_items = plain_items None prelude_rules
 
-all_ours : list_all is_ours (mentioned prelude_rules) ≡ true
+all_ours : list_all is_ours (mentioned prelude_items) ≡ true
 all_ours = refl
 
-pub prelude_among : (d : Named) → ((n : List ℕ) → Contains prelude_names n → Contains d.preds n) → All (IsAmong d) (mentioned prelude_rules)
-prelude_among d h = from_test (IsAmong d) is_ours (ours_among d h) (mentioned prelude_rules) all_ours
-
--- what is neither a change nor a select
-abbrev is_calm : Thing → Bool
-is_calm (query (role.Changed set) ps) = false
-is_calm (select n) = false
-is_calm t = true
-
-calm_fit : (t : Thing) → is_calm t ≡ true → IsFit t
-calm_fit (query (role.Changed set) ps) e = never e
-calm_fit (select n) e = never e
-calm_fit t e = tt
-
-calm_changeable : (t : Thing) → is_calm t ≡ true → IsChangeable t
-calm_changeable (query (role.Changed set) ps) e = never e
-calm_changeable t e = tt
-
-all_calm : list_all is_calm (mentioned (plain_items None prelude_rules)) ≡ true
-all_calm = refl
-
-pub prelude_things_fit : All IsFit (mentioned (plain_items None prelude_rules))
-prelude_things_fit = from_test IsFit is_calm calm_fit (mentioned (plain_items None prelude_rules)) all_calm
-
-pub prelude_changeable : All IsChangeable (mentioned (plain_items None prelude_rules))
-prelude_changeable = from_test IsChangeable is_calm calm_changeable (mentioned (plain_items None prelude_rules)) all_calm
-
-can_run : (t : Thing) → not (is_unbuilt t) ≡ true → IsRun t
-can_run t e = here (is_unbuilt t) e
-  where
-    here : (b : Bool) → not b ≡ true → b ≡ false
-    here true k = never k
-    here false k = refl
-
-pub prelude_runs : AreRun prelude_rules
-prelude_runs = from_test IsRun (λ t. not (is_unbuilt t)) can_run (mentioned prelude_rules) refl
+pub prelude_ready : (d : Named) → ((n : List ℕ) → Contains prelude_names n → Contains d.preds n) → All (IsReady d) (mentioned prelude_items)
+prelude_ready d h = from_test (IsReady d) is_ours (ours_ready d h) (mentioned prelude_items) all_ours
 
 -- ---- its rules
 
-abbrev is_fit : Said → Bool
-is_fit (rule ps b) = nat_le (length (variables_of ps b)) 65
-is_fit said = false
+pub prelude_few : ((is : List Item) → SmallAreFew is) → All (λ (i : Item). HasFewVariables i.said) prelude_items
+prelude_few law = law prelude_items refl
 
-fit_said : (said : Said) → is_fit said ≡ true → IsFitItem said
-fit_said (rule ps b) e = grind (arith, nat_tests, e)
-fit_said said e = never e
+pub no_closures : closures_among prelude_items ≡ 0
+no_closures = refl
 
-fit_declares : (said : Said) → is_fit said ≡ true → IsDeclared said
-fit_declares (rule ps b) e = tt
-fit_declares said e = never e
+rule_declares : (i : Item) → is_rule i.said ≡ true → IsDeclared i.said
+rule_declares i e = here i.said e
+  where
+    here : (said : Said) → is_rule said ≡ true → IsDeclared said
+    here (global_variable ps) k = never k
+    here said k = tt
 
-fit_items : (P : Said → Type 0) → ((said : Said) → is_fit said ≡ true → P said) → (is : List Item) → list_all (λ (i : Item). is_fit i.said) is ≡ true → All (λ (i : Item). P i.said) is
-fit_items P each [] e = All-nil (λ (i : Item). P i.said)
-fit_items P each (i ∷ is) e =
-    let parts = and_parts (is_fit i.said) (list_all (λ (j : Item). is_fit j.said) is) e in
-    All-cons (λ (j : Item). P j.said) i is (each i.said parts.0) (fit_items P each is parts.1)
-
-pub prelude_fit : All (λ (i : Item). IsFitItem i.said) (plain_items None prelude_rules)
-prelude_fit = fit_items IsFitItem fit_said (plain_items None prelude_rules) refl
-
-pub prelude_declares : AreDeclared (plain_items None prelude_rules)
-prelude_declares = fit_items IsDeclared fit_declares (plain_items None prelude_rules) refl
+pub prelude_declares : AreDeclared prelude_items
+prelude_declares = from_test (λ (i : Item). IsDeclared i.said) (λ (i : Item). is_rule i.said) rule_declares prelude_items refl
 
 -- ---- the names of a program
 
@@ -200,10 +149,10 @@ name_next ks ns all k d n lt is e =
 abbrev pub grown : Named → Named
 grown d = record d { preds = with_names d.preds prelude_names }
 
-pub grown_is : (d : Named) (items : List Item) → d ≡ names_of items → grown d ≡ all_names items
-grown_is d items e =
+pub grown_is : ((names more : List (List ℕ)) → with_names (firsts names) more ≡ firsts (names ++ more)) → (d : Named) (items : List Item) → d ≡ names_of items → grown d ≡ all_names items
+grown_is law d items e =
     ap grown e
-    ∙ ap (λ (ns : List (List ℕ)). record (names_of items) { preds = ns }) (firsts_more (names_in predicate_in (mentioned items)) prelude_names)
+    ∙ ap (λ (ns : List (List ℕ)). record (names_of items) { preds = ns }) (law (names_in predicate_in (mentioned items)) prelude_names)
 
 more_if : (n : List ℕ) (ks : List (List ℕ)) (b : Bool) → length (if b then ks else ks ++ n ∷ []) ≤ length ks + 1
 more_if n ks true = omega arith
@@ -229,6 +178,3 @@ mentioned_append (i ∷ a) b = ap (λ (l : List Thing). things_in i.said ++ l) (
 -- what holds of all that two trees mention
 pub all_mentioned : (P : Thing → Type 0) (a b : List Item) → All P (mentioned a) → All P (mentioned b) → All P (mentioned (a ++ b))
 all_mentioned P a b h k = subst (All P) (sym (mentioned_append a b)) (All-append P (mentioned a) (mentioned b) h k)
-
-pub all_run : (plain : List Item) → MentionsComeFrom prelude_rules → AreRun plain → AreRun (with_prelude plain)
-all_run plain come h = all_mentioned IsRun plain (plain_items None prelude_rules) h (plain_run prelude_rules come prelude_runs)

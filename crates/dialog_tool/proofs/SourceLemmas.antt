@@ -17,7 +17,7 @@ use Rattle.dg_names.specs.Named.{Named}
 use Rattle.dg_names.specs.Counts.{IsNamed}
 use Rattle.dg_expand.specs.Answer.{IsRewritten}
 use Rattle.dg_core.specs.Core.{IsLowered}
-use Rattle.dialog_tool.specs.Source.{Then, refused, given, refusal_at, Lexes, Builds, all_names, with_prelude, Compiles, Meets}
+use Rattle.dialog_tool.specs.Source.{Then, refused, given, refusal_at, Lexes, all_names, with_prelude, Compiles, Meets}
 
 -- ## Steps
 
@@ -48,12 +48,6 @@ lexes_one source one (Ok ts) (Err s) h k = let no = sym h.0 ∙ k in cc
 lexes_one source one (Err r) (Ok us) h k = let no = sym k.0 ∙ h in cc
 lexes_one source one (Err r) (Err s) h k = let same = sym h ∙ k in cc
 
-builds_one : (items : List Item) → IsOne (Builds items)
-builds_one items (Ok a) (Ok b) h k = refl
-builds_one items (Ok a) (Err s) h k = let no = sym h ∙ k.1 in cc
-builds_one items (Err r) (Ok b) h k = let no = sym k ∙ h.1 in cc
-builds_one items (Err r) (Err s) h k = let line : h.0 ≡ k.0 = let same = sym h.1 ∙ k.1 in cc in ap Err (h.2 ∙ ap (λ l. refusal_at _ l) line ∙ sym k.2)
-
 lowers_one : (named : Named) (plain : List Item) → IsOne (IsLowered named plain)
 lowers_one named plain (Ok p) (Ok q) h k = ap Ok (h.1 ∙ sym k.1)
 lowers_one named plain (Ok p) (Err s) h k = let no = sym h.0 ∙ k in cc
@@ -64,7 +58,7 @@ pub compiles_one : (source : List ℕ) → ((source : List ℕ) (ts us : List To
     → ((ts : List Seen) → IsOne (IsRead ts)) → ((is : List Item) → IsOne (IsNamed is)) → ((is : List Item) → IsOne (IsRewritten is)) → IsOne (Compiles source)
 compiles_one source lexed read named rewritten =
     then_one _ _ (lexes_one source (lexed source)) (λ ts. then_one _ _ (read ts) (λ items.
-    then_one _ _ (named items) (λ n. then_one _ _ (builds_one items) (λ all. then_one _ _ (rewritten items) (λ new. lowers_one (all_names items) (with_prelude new))))))
+    then_one _ _ (named items) (λ n. then_one _ _ (rewritten items) (λ new. lowers_one (all_names items) (with_prelude new)))))
 
 -- ## From the calls to the answer
 

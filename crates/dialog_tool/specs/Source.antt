@@ -8,7 +8,6 @@ use Rattle.dg_base.specs.declared.refusal.Refusal.{Refusal}
 use Rattle.dg_base.specs.declared.refusal.ReadFault.{ReadFault}
 use Rattle.dg_base.specs.declared.refusal.ReadFault.TheVariants as fault
 use Rattle.dg_base.specs.declared.refusal.Kind.{Kind}
-use Rattle.dg_base.specs.declared.refusal.Kind.TheVariants.{NotBuiltYet}
 use Rattle.dg_lex.specs.Bad.{refusal_of}
 use Rattle.dg_lex.specs.Tokens.{IsLexed, Seen, seen}
 use Rattle.dg_lex.specs.declared.token.Token.{Token}
@@ -18,7 +17,6 @@ use Rattle.dg_names.specs.Named.{Named, firsts, predicate_in, names_of}
 use Rattle.dg_access.specs.Items.{plain_items}
 use Rattle.dg_expand.specs.Answer.{IsRewritten}
 use Rattle.dg_core.specs.Core.{IsLowered}
-use Rattle.dg_core.specs.Forms.{first_unbuilt}
 use Rattle.dg_prelude.specs.Rules.{prelude_rules}
 
 -- One step behind another: the first refuses, and that is the answer; or it gives what the second answers on.
@@ -34,11 +32,6 @@ abbrev pub Lexes : List ℕ → Result (List Seen) Refusal → Type 0
 Lexes source (Ok ts) = (refusal_of source ≡ None) × (tokens : List Token) × IsLexed source tokens × (ts ≡ map seen tokens)
 Lexes source (Err r) = refusal_of source ≡ Some r
 
--- a form isn't built yet, or all are
-abbrev pub Builds : List Item → Result (Unit {0}) Refusal → Type 0
-Builds items (Ok all) = first_unbuilt items ≡ None
-Builds items (Err r) = (line : ℕ) × (first_unbuilt items ≡ Some line) × (r ≡ refusal_at NotBuiltYet line)
-
 -- The names of a source, with those of the prelude that don't stand in it behind its predicates.
 abbrev pub all_names : List Item → Named
 all_names items = record (names_of items) { preds = firsts (names_in predicate_in (mentioned items) ++ prelude_names) }
@@ -47,12 +40,11 @@ all_names items = record (names_of items) { preds = firsts (names_in predicate_i
 abbrev pub with_prelude : List Item → List Item
 with_prelude new = new ++ plain_items None prelude_rules
 
--- What items are that were read: a count of the source passes, or a form isn't built yet, or an access rule loops or is repeated, or of
--- an item too much or a wrong change comes once heads are plain and access rules put in, or an initial value is bad, or the entry has no
--- rule, or they are a program, with the rules of the prelude behind theirs.
+-- What items are that were read: a count of the source passes, or an access rule loops or is repeated, or of an item too much or a wrong
+-- change comes once heads are plain and access rules put in, or an initial value is bad, or the entry has no rule, or they are a program, with
+-- the rules of the prelude behind theirs. Nothing else is refused of items: every form that the grammar has is run.
 abbrev pub Becomes : List Item → Result Core Refusal → Type 0
-Becomes items =
-    Then (IsNamed items) (λ named. Then (Builds items) (λ all. Then (IsRewritten items) (λ new. IsLowered (all_names items) (with_prelude new))))
+Becomes items = Then (IsNamed items) (λ named. Then (IsRewritten items) (λ new. IsLowered (all_names items) (with_prelude new)))
 
 -- What a source is: it is too long or has a bad character, or its tokens are no items, or what its items are.
 abbrev pub Compiles : List ℕ → Result Core Refusal → Type 0

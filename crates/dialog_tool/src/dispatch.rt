@@ -2,7 +2,6 @@
 ghost use Rattle.std.specs.Prelude.{◌≡◌, ◌<◌, ℕ, List, length, Some, Ok};
 ghost use Rattle.dg_base.specs.Shelves.{ShelfView};
 ghost use Rattle.dg_base.specs.Sound.{IsSound};
-ghost use Rattle.dg_built.specs.Built.{IsBuilt};
 ghost use Rattle.dialog_tool.specs.Answers.{Answers, Decides};
 ghost use Rattle.dialog_tool.specs.Call.{call, IsFetched};
 ghost use Rattle.dialog_tool.specs.Command.{texts, command_of, debug as debug_command, limits_of};
@@ -42,7 +41,6 @@ fn run_program<S: Source, K: Sink>(
     out: &mut K,
     dice: &[u16],
 ) -> u8
-    requires built { IsBuilt program.now }
     requires sound { IsSound program.now }
     requires own { HasDice task.now }
     requires dice { 0 < length dice.now }

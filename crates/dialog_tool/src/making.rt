@@ -3,7 +3,6 @@ ghost use Rattle.std.specs.Prelude.{◌≡◌, ◌<◌, ◌++◌, ℕ, Some, Ok,
 ghost use Rattle.dg_base.specs.Shelves.{ShelfView};
 ghost use Rattle.dg_base.specs.Sound.{IsSound};
 ghost use Rattle.dg_base.specs.Streams.{SourceView};
-ghost use Rattle.dg_built.specs.Built.{IsBuilt};
 ghost use Rattle.dg_make.specs.Made.{made_source};
 ghost use Rattle.dialog_tool.specs.Answers.{status_of, Answers, IsMade, Makes};
 ghost use Rattle.dialog_tool.specs.Call.{Call, call};
@@ -142,7 +141,6 @@ fn report_of(
     program: &CoreProgram,
     dice: &[u16],
 ) -> Result<Report, AllocError>
-    requires built { IsBuilt program.now }
     requires sound { IsSound program.now }
     requires dice { 0 < length dice.now }
     ensures { IfOk result (λ report. (c : Call) → (n : ℕ) → c.dice ≡ dice.now → source.now ≡ made_source n → IsMade c n program.now
@@ -175,7 +173,6 @@ fn make_program<K: Sink>(
     out: &mut K,
     dice: &[u16],
 ) -> u8
-    requires built { IsBuilt program.now }
     requires sound { IsSound program.now }
     requires dice { 0 < length dice.now }
     ensures { (n : ℕ) → (shelf : ShelfView) → (input : SourceView) → source.now ≡ made_source n → Compiles (made_source n) (Ok program.now) →

@@ -2,7 +2,6 @@
 ghost use Rattle.std.specs.Prelude.{◌≡◌, ℕ, List, Option, Some, Ok, IfOk, IfErr, OnOk};
 ghost use Rattle.dg_base.specs.Sound.{IsSound};
 ghost use Rattle.dg_base.specs.Streams.{SourceView};
-ghost use Rattle.dg_built.specs.Built.{IsBuilt};
 ghost use Rattle.dialog_tool.specs.Answers.{Answers};
 ghost use Rattle.dialog_tool.specs.Call.{call, IsFetched};
 ghost use Rattle.dialog_tool.specs.Command.{Command, source_named};
@@ -33,7 +32,6 @@ pub fn program_in<F: Shelf, K: Sink>(
 ) -> Result<CoreProgram, u8>
     ensures program { IfOk result (λ p.
         (file : List ℕ) × IsFetched (F.view shelf.old) (F.view shelf.new) name.now file × Compiles file (Ok p)) }
-    ensures built { IfOk result IsBuilt }
     ensures sound { IfOk result IsSound }
     ensures silent { OnOk result (K.view out.new ≡ K.view out.old) }
     ensures ends { IfErr result (λ status. (command : Option Command) → (dice : List ℕ) → (input : SourceView) → source_named command ≡ Some name.now →

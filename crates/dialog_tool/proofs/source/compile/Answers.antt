@@ -20,13 +20,4 @@ returns-clause-program c =
     (then_ok (IsRead (map seen c.deref.result.now)) Becomes (tree_view c.in-Ok-read.tree) c.program_of.result c.in-Ok-read.ensures.tree c.program_of.ensures)
 
 pub returns-clause-sound : goal.returns-clause-sound
-returns-clause-sound c =
-    meets_ok (Compiles c.args.source.now) _ c.program_of.result (c.programs_are_sound.ensures.sound c.args.source.now)
-    (then_ok (Lexes c.args.source.now) _ (map seen c.deref.result.now) c.program_of.result (c.in-Ok.ensures.accepted, c.in-Ok.tokens.items, c.in-Ok.ensures.tokens, ap (map seen) c.deref.ensures.value)
-    (then_ok (IsRead (map seen c.deref.result.now)) Becomes (tree_view c.in-Ok-read.tree) c.program_of.result c.in-Ok-read.ensures.tree c.program_of.ensures))
-
-pub returns-clause-built : goal.returns-clause-built
-returns-clause-built c =
-    meets_ok (Compiles c.args.source.now) _ c.program_of.result (c.programs_are_sound.ensures.built c.args.source.now)
-    (then_ok (Lexes c.args.source.now) _ (map seen c.deref.result.now) c.program_of.result (c.in-Ok.ensures.accepted, c.in-Ok.tokens.items, c.in-Ok.ensures.tokens, ap (map seen) c.deref.ensures.value)
-    (then_ok (IsRead (map seen c.deref.result.now)) Becomes (tree_view c.in-Ok-read.tree) c.program_of.result c.in-Ok-read.ensures.tree c.program_of.ensures))
+returns-clause-sound c = meets_ok (Compiles c.args.source.now) _ c.program_of.result (c.programs_are_sound.ensures c.args.source.now) (returns-clause-program c)
