@@ -1,18 +1,17 @@
 -- The rules whose closures wait give the rows of the items that they come from.
-use Rattle.std.proofs.Common.{◌≡◌, ◌+◌, ◌∙◌, ℕ, List, [], ◌∷◌, ◌++◌, map, refl, sym, ap, append_assoc, arith}
+use Rattle.std.proofs.Common.{◌≡◌, ◌+◌, ◌∙◌, ℕ, List, [], ◌∷◌, ◌++◌, map, sym, ap, append_assoc, arith}
 use Rattle.std.proofs.lemmas.List.{append-nil}
 use Rattle.dg_base.specs.Tree.{Parts, Body, Said, rule, deny, Item}
 use Rattle.dg_base.specs.declared.program.ClosureBody.{ClosureBody}
 use Rattle.dg_base.specs.declared.program.Goal.{Goal}
-use Rattle.dg_base.specs.declared.program.Rule.{Rule}
 use Rattle.dg_closures.specs.Closures.{Layout, Layouts}
-use Rattle.dg_core.specs.Bodies.{Closed, no_closure, direct}
-use Rattle.dg_core.specs.Core.{Before, rows_in, rows_from, rule_of, scope_of, behind_rows, closures_of, inner_selects, numbered}
+use Rattle.dg_core.specs.Bodies.{direct}
+use Rattle.dg_core.specs.Core.{Before, rows_in, rows_from, rule_of, numbered}
 use Rattle.dg_core.specs.Goals.{Scope}
-use Rattle.dg_core.specs.Rows.{Home, rows, selects_within, in_rule, rows_of}
+use Rattle.dg_core.specs.Rows.{Home, rows, selects_within, in_rule}
 use Rattle.dg_core.specs.Variables.{layouts_in}
 use Rattle.dg_core.specs.View.{rule_in}
-use Rattle.dg_core.specs.Waiting.{Waiting, waiting_from, pending, selects_left, stack_of, home_of, rows_kept, selects_kept, Waits, Keeps}
+use Rattle.dg_core.specs.Waiting.{waiting_from, pending, selects_left, stack_of, home_of, rows_kept, selects_kept, Waits, Keeps}
 use Rattle.dg_core.specs.declared.rows.Kept.{Kept}
 use Rattle.dg_core.proofs.PredLemmas.{HasNoRule}
 use Rattle.dg_core.proofs.WaitLemmas.{rule_has, pending_found, selects_found}

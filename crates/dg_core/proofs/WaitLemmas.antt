@@ -1,5 +1,5 @@
 -- The rows of closures come in the order of what waits, where those in a closure are taken before what waited already.
-use Rattle.std.proofs.Common.{◌≡◌, ◌<◌, ◌+◌, ◌∙◌, ℕ, Bor, get_or, min, List, [], ◌∷◌, ◌++◌, false, length, length-append, refl, sym, ap, append_assoc, arith}
+use Rattle.std.proofs.Common.{◌≡◌, ◌<◌, ◌+◌, ◌∙◌, ℕ, Bor, get_or, min, List, [], ◌∷◌, ◌++◌, false, length, refl, sym, ap, append_assoc, arith}
 use Rattle.std.proofs.lemmas.List.{length-map, map-append}
 use Rattle.dg_base.specs.Mentions.{of_body}
 use Rattle.dg_base.specs.Tree as tree

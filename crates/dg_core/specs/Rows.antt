@@ -6,10 +6,10 @@ use Rattle.dg_base.specs.Tree.{Parts, Body}
 use Rattle.dg_base.specs.declared.mentions.Role.TheVariants as role
 use Rattle.dg_base.specs.declared.program.ClosureBody.{ClosureBody}
 use Rattle.dg_access.specs.Counts.{names_out}
-use Rattle.dg_closures.specs.Closures.{Layout, layout_by, variables_in, behind, places_from}
+use Rattle.dg_closures.specs.Closures.{Layout, layout_by, variables_in, behind}
 use Rattle.dg_core.specs.Bodies.{Closed, no_closure, a_closure, join, in_parts, in_branches}
 use Rattle.dg_core.specs.Goals.{Scope, number_in, selects, body_goals}
-use Rattle.dg_core.specs.Variables.{layouts_in, variables_of}
+use Rattle.dg_core.specs.Variables.{layouts_in}
 
 -- How many closures stand here, at every depth.
 abbrev pub size : Closed → ℕ

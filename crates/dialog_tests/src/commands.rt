@@ -284,7 +284,7 @@ fn sources_give_their_transcript(rt: HostRuntime) -> Result<(), Fail> {
 }
 
 // The words of the command, the source, the status and the line.
-const REFUSALS: [(&str, &str, u8, &str); 31] = [
+const REFUSALS: [(&str, &str, u8, &str); 37] = [
     (
         "debug p.dg",
         "(program entry point) (now) (a 1 2 3)",
@@ -393,7 +393,18 @@ const REFUSALS: [(&str, &str, u8, &str); 31] = [
     ("make 401", ORDER, 2, USAGE),
     ("make p.dg", ORDER, 2, USAGE),
     ("make 2 --steps 5", ORDER, 2, USAGE),
-    ("build p.dg p.z8", ORDER, 2, USAGE),
+    ("build p.dg", ORDER, 2, USAGE),
+    ("build p.dg --p.z8", ORDER, 2, USAGE),
+    ("build p.dg p.z8 --steps 5", ORDER, 2, USAGE),
+    ("run p.dg --heap 5", ORDER, 2, USAGE),
+    ("build p.dg p.z8", FIRST_ANSWER, 7, "p.dg: not built yet\n"),
+    ("run p.dg", FIRST_ANSWER, 7, "p.dg: not built yet\n"),
+    (
+        "run p.dg",
+        "(p)",
+        1,
+        "p.dg:1: no rule for (program entry point)\n",
+    ),
     ("play p.dg", ORDER, 4, "p.dg: story too short\n"),
     ("play p.dg --heap 1", ORDER, 2, USAGE),
 ];
@@ -537,6 +548,29 @@ fn stories_are_played(rt: HostRuntime) -> Result<(), Fail> {
     for (line, code, status, text) in cases {
         let file = story(rt.alloc(), code)?;
         gives(&rt, rt.alloc(), line, "s.z8", &file, status, text)?;
+    }
+    Ok(())
+}
+
+#[test]
+fn sources_are_built_and_run(rt: HostRuntime) -> Result<(), Fail> {
+    let alloc = rt.alloc();
+    let mut shelf = SureShelf::new(alloc);
+    shelf.add(alloc, "p.dg", ORDER.as_bytes())?;
+    let cases = [
+        ("build p.dg s.z8", 0, ""),
+        ("play s.z8", 0, "x y z\n"),
+        ("run p.dg", 0, "x y z\n"),
+        ("run p.dg --steps 1", 3, "[Step limit]\n"),
+        ("build q.dg s.z8", 5, "q.dg: file fault\n"),
+    ];
+    for (line, status, text) in cases {
+        let mut input = SureSource::new(Vec::new(alloc));
+        let mut out = SureSink::new(alloc, 200)?;
+        let words = words(alloc, line)?;
+        let found = tool(alloc, &words, &mut shelf, &mut input, &mut out, &[0]);
+        assert_eq!(rt; found, status, "{line}");
+        assert_eq!(rt; out.taken(), text.as_bytes(), "{line}");
     }
     Ok(())
 }

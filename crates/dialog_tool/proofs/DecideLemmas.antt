@@ -1,93 +1,83 @@
--- Which statuses come where: each answer excludes the others.
+-- Which statuses come where: each command has its own answers.
 use Rattle.std.proofs.Common.{◌≡◌, ◌⊎◌, inl, inr, ℕ, List, Option, Some, None, Result, Ok, Err, refl, sym, ◌∙◌, ap, subst}
-use Rattle.std.specs.Prelude.{IsSome}
 use Rattle.dg_base.specs.declared.program.CoreProgram.{CoreProgram as Core}
 use Rattle.dg_base.specs.declared.refusal.Refusal.{Refusal}
 use Rattle.dg_base.specs.declared.run.Ending.{Ending}
 use Rattle.dg_base.specs.declared.run.Ending.TheVariants.{Done, Quit, Failed, Stopped, InputEnded, StepLimit, HeapLimit, TrailLimit, AuxLimit, KeepLimit}
+use Rattle.dg_make.specs.Made.{made_source}
+use Rattle.dg_story.specs.Refusals as build
+use Rattle.dg_story.specs.declared.refusal.BuildRefusal.{BuildRefusal}
 use Rattle.z_model.specs.Story.{refusal_of}
 use Rattle.z_model.specs.declared.story.StoryRefusal.{StoryRefusal}
-use Rattle.dialog_tool.specs.Command.{debug, play, singles, make, Command, Task, source_named}
-use Rattle.dg_make.specs.Made.{made_source}
+use Rattle.dialog_tool.specs.Command.{debug, play, run, build, singles, make, Command, Task, source_named}
 use Rattle.dialog_tool.specs.Call.{Call, Outside, IsAsTold, file_at, file_of}
-use Rattle.dialog_tool.specs.Playing.{status_of_end, run_of}
+use Rattle.dialog_tool.specs.Lines.{Says, said, unsaid}
+use Rattle.dialog_tool.specs.Playing.{status_of_end, run_of, PlaysStory, played, unread, unwritten}
 use Rattle.dialog_tool.specs.Source.{Compiles}
-use Rattle.dialog_tool.specs.Answers.{Answers, Comes, Decides, Ends, Fails, Lacks, status_of, misused, refused, ran, listed, refused_story, played, made, Makes, reports, overflows, refused_made, IsMade, IsMadeBadly, IsProgram, IsReported, IsRefused, IsStory, IsNoStory}
+use Rattle.dialog_tool.specs.Answers.{Answers, Comes, Decides, Prints, Reads, lost, refused, program, Runs, ran, input_lost, out_lost, no_room, Lists, Makes, reports, overflows, refuses, Reports, Loads, lost_story, no_story, story, HasStory, Builds, no_story_of, plays, HasNone, IsStored, held, not_held, no_room_for_it, Stores, Does, ComesTo, no_memory, does, stores, status_of}
+
+-- a source has one answer
+abbrev IsOne : Type 0
+IsOne = (source : List ℕ) (x y : Result Core Refusal) → Compiles source x → Compiles source y → x ≡ y
 
 -- ## What is told is one
-
-abbrev outside : (List ℕ → Option (List ℕ)) → List ℕ → Outside
-outside contents typed = record { contents = contents; typed = typed }
 
 as_told : {A : Type 0} (told : Option A) (a b : A) → told ≡ Some a → IsAsTold told b → a ≡ b
 as_told None a b e h = cc
 as_told (Some x) a b e h = let same : x ≡ a = cc in sym same ∙ h
 
-is_some : {A : Type 0} (told : Option A) (a : A) → told ≡ Some a → IsSome told
-is_some told a e = subst IsSome (sym e) refl
+-- what is printed at once comes with its status
+printed : (c : Call) (status : ℕ) (text : List ℕ) (result : ℕ) → Prints c status text result → Comes status result
+printed c status text result p = here p.says
+  where
+    here : Says status text c.out c.out_after result → Comes status result
+    here (said e w) = inl e
+    here (unsaid e b) = inr (inl e)
 
-same_story : (c : Call) (t u : Task) → c.command ≡ Some (play t) → c.command ≡ Some (play u) → t ≡ u
-same_story c t u h k = let same = sym h ∙ k in cc
+five : (c : Call) (text : List ℕ) (result : ℕ) → Prints c 5 text result → result ≡ 5
+five c text result p = here p.says
+  where
+    here : Says 5 text c.out c.out_after result → result ≡ 5
+    here (said e w) = e
+    here (unsaid e b) = e
 
-no_words : {A : Type 0} (c : Call) (x : Command) → c.command ≡ None → c.command ≡ Some x → A
-no_words c x h k = let no = sym h ∙ k in cc
+early : {status result : ℕ} → result ≡ 5 → Comes status result
+early e = inr (inl e)
 
-other_words : {A : Type 0} (c : Call) (t u : Task) → c.command ≡ Some (debug t) → c.command ≡ Some (play u) → A
-other_words c t u h k = let no = sym h ∙ k in cc
+late : (c : Call) (text : List ℕ) (result : ℕ) → Prints c 6 text result → (result ≡ 5) ⊎ (result ≡ 6)
+late c text result p = here p.says
+  where
+    here : Says 6 text c.out c.out_after result → (result ≡ 5) ⊎ (result ≡ 6)
+    here (said e w) = inr e
+    here (unsaid e b) = inl e
 
-no_report : {A : Type 0} (c : Call) (t : Task) (name : List ℕ) → c.command ≡ Some (debug t) → c.command ≡ Some (singles name) → A
-no_report c t name h k = let no = sym h ∙ k in cc
+-- ## Sources
 
-no_story_report : {A : Type 0} (c : Call) (t : Task) (name : List ℕ) → c.command ≡ Some (play t) → c.command ≡ Some (singles name) → A
-no_story_report c t name h k = let no = sym h ∙ k in cc
+no_program : {A : Type 0} → IsOne → (source : List ℕ) (p : Core) (r : Refusal) → Compiles source (Ok p) → Compiles source (Err r) → A
+no_program one source p r h k = let no = one source (Ok p) (Err r) h k in cc
 
--- what is made is made of a number
-made_words : (c : Call) (status : ℕ) (text : List ℕ) → Makes c status text → (n : ℕ) × (c.command ≡ Some (make n))
-made_words c status text (reports n p is output outcome left shows e d) = (n, is.words)
-made_words c status text (overflows n p is output may long e d) = (n, is.words)
-made_words c status text (refused_made n r is e d) = (n, is.words)
+-- where it is refused
+read_badly : IsOne → (c : Call) (o : Outside) (name : List ℕ) (P : Core → Type 0) (result : ℕ) (r : Refusal) → Compiles (file_at o name) (Err r) → Reads c o name P result → Comes 1 result
+read_badly one c o name P result r h (lost l p) = early (five c _ result p)
+read_badly one c o name P result r h (refused q k p) = printed c 1 _ result p
+read_badly one c o name P result r h (program q k d) = no_program one (file_at o name) q r k h
 
-no_make : {A : Type 0} (c : Call) (status : ℕ) (text : List ℕ) (x : Command) → ((n : ℕ) → x ≡ make n → A) → Makes c status text → c.command ≡ Some x → A
-no_make c status text x apart h k =
-    let words = made_words c status text h in
-    let same : x ≡ make words.0 = let both = sym k ∙ words.1 in cc in
-    apart words.0 same
+-- where it is a program
+read_well : IsOne → (c : Call) (o : Outside) (name : List ℕ) (P : Core → Type 0) (result : ℕ) (q : Core) → Compiles (file_at o name) (Ok q) → Reads c o name P result → (result ≡ 5) ⊎ P q
+read_well one c o name P result q h (lost l p) = inl (five c _ result p)
+read_well one c o name P result q h (refused r k p) = no_program one (file_at o name) q r h k
+read_well one c o name P result q h (program r k d) = let is = one (file_at o name) (Ok r) (Ok q) k h in inr (subst P (let same : r ≡ q = cc in same) d)
 
-no_run_made : {A : Type 0} (t : Task) (n : ℕ) → debug t ≡ make n → A
-no_run_made t n e = cc
+refused_as : IsOne → (c : Call) (o : Outside) (name : List ℕ) (r : Refusal) (result : ℕ) → Compiles (file_at o name) (Err r) → (command : Option Command) → source_named command ≡ Some name → Does c o command result → Comes 1 result
+refused_as one c o name r result h None e d = cc
+refused_as one c o name r result h (Some (debug t)) e d = read_badly one c o t.name _ result r (subst (λ (n : List ℕ). Compiles (file_at o n) (Err r)) (let same : name ≡ t.name = cc in same) h) d
+refused_as one c o name r result h (Some (play t)) e d = cc
+refused_as one c o name r result h (Some (run t)) e d = read_badly one c o t.name _ result r (subst (λ (n : List ℕ). Compiles (file_at o n) (Err r)) (let same : name ≡ t.name = cc in same) h) d
+refused_as one c o name r result h (Some (build n to)) e d = read_badly one c o n _ result r (subst (λ (m : List ℕ). Compiles (file_at o m) (Err r)) (let same : name ≡ n = cc in same) h) d
+refused_as one c o name r result h (Some (singles n)) e d = read_badly one c o n _ result r (subst (λ (m : List ℕ). Compiles (file_at o m) (Err r)) (let same : name ≡ n = cc in same) h) d
+refused_as one c o name r result h (Some (make n)) e d = cc
 
-no_play_made : {A : Type 0} (t : Task) (n : ℕ) → play t ≡ make n → A
-no_play_made t n e = cc
-
-no_report_made : {A : Type 0} (name : List ℕ) (n : ℕ) → singles name ≡ make n → A
-no_report_made name n e = cc
-
-no_source_made : {A : Type 0} (c : Call) (n : ℕ) (name : List ℕ) → c.command ≡ Some (make n) → source_named c.command ≡ Some name → A
-no_source_made c n name h k = let no = sym (ap source_named h) ∙ k in cc
-
-same_number : (c : Call) (n m : ℕ) → c.command ≡ Some (make n) → c.command ≡ Some (make m) → n ≡ m
-same_number c n m h k = let same = sym h ∙ k in cc
-
--- what names one source names no other, and what names none names none
-same_name : (c : Call) (x y : List ℕ) → source_named c.command ≡ Some x → source_named c.command ≡ Some y → x ≡ y
-same_name c x y h k = let same = sym h ∙ k in cc
-
-source_of_run : (c : Call) (t : Task) → c.command ≡ Some (debug t) → source_named c.command ≡ Some t.name
-source_of_run c t h = ap source_named h
-
-source_of_report : (c : Call) (name : List ℕ) → c.command ≡ Some (singles name) → source_named c.command ≡ Some name
-source_of_report c name h = ap source_named h
-
-no_source : {A : Type 0} (c : Call) (name : List ℕ) → c.command ≡ None → source_named c.command ≡ Some name → A
-no_source c name h k = let no = sym (ap source_named h) ∙ k in cc
-
-no_source_played : {A : Type 0} (c : Call) (t : Task) (name : List ℕ) → c.command ≡ Some (play t) → source_named c.command ≡ Some name → A
-no_source_played c t name h k = let no = sym (ap source_named h) ∙ k in cc
-
-same_file : (o p : Outside) (x y : List ℕ) → o.contents ≡ p.contents → x ≡ y → file_at o x ≡ file_at p y
-same_file o p x y h k = ap (λ (contents : List ℕ → Option (List ℕ)). file_at (outside contents o.typed) x) h ∙ ap (file_at p) k
-
--- ## Statuses
+-- ## Runs
 
 status_ends : (e : Ending) → (status_of e ≡ 0) ⊎ (status_of e ≡ 3)
 status_ends Done = inl refl
@@ -101,154 +91,132 @@ status_ends TrailLimit = inr refl
 status_ends AuxLimit = inr refl
 status_ends KeepLimit = inr refl
 
-comes : (c : Call) (o : Outside) (result status : ℕ) → (Ends c o result → result ≡ status) → Ends c o result ⊎ (((result ≡ 5) × Fails c o) ⊎ ((result ≡ 6) × Lacks c o)) → Comes status result
-comes c o result status f (inl e) = inl (f e)
-comes c o result status f (inr (inl h)) = inr (inl h.0)
-comes c o result status f (inr (inr h)) = inr (inr h.0)
-
-runs_so : (c : Call) (o : Outside) (result : ℕ) → (Ends c o result → (result ≡ 0) ⊎ (result ≡ 3)) → Ends c o result ⊎ (((result ≡ 5) × Fails c o) ⊎ ((result ≡ 6) × Lacks c o)) → (result ≡ 0) ⊎ Comes 3 result
-runs_so c o result f (inl e) = which (f e)
+ended : {result : ℕ} (e : Ending) → result ≡ status_of e → (result ≡ 0) ⊎ Comes 3 result
+ended {result = result} e is = which (status_ends e)
   where
-    which : (result ≡ 0) ⊎ (result ≡ 3) → (result ≡ 0) ⊎ Comes 3 result
-    which (inl zero) = inl zero
-    which (inr three) = inr (inl three)
-runs_so c o result f (inr (inl h)) = inr (inr (inl h.0))
-runs_so c o result f (inr (inr h)) = inr (inr (inr h.0))
+    which : (status_of e ≡ 0) ⊎ (status_of e ≡ 3) → (result ≡ 0) ⊎ Comes 3 result
+    which (inl zero) = inl (is ∙ zero)
+    which (inr three) = inr (inl (is ∙ three))
 
--- ## Each cause with its answer
+run_ended : (c : Call) (o : Outside) (t : Task) (p : Core) (result : ℕ) → (result ≡ 5) ⊎ Runs c o t p result → (result ≡ 0) ⊎ Comes 3 result
+run_ended c o t p result (inl e) = inr (early e)
+run_ended c o t p result (inr (ran outcome e shown)) = ended outcome.ending e
+run_ended c o t p result (inr (input_lost e rose h)) = inr (early e)
+run_ended c o t p result (inr (out_lost e h)) = inr (early e)
+run_ended c o t p result (inr (no_room e h)) = inr (inr (inr e))
 
--- no source is a program and refused
-apart : {A : Type 0} (one : (source : List ℕ) (x y : Result Core Refusal) → Compiles source x → Compiles source y → x ≡ y) (a b : List ℕ) (p : Core) (r : Refusal) → a ≡ b → Compiles a (Ok p) → Compiles b (Err r) → A
-apart one a b p r same h k = let no = one b (Ok p) (Err r) (subst (λ (l : List ℕ). Compiles l (Ok p)) same h) k in cc
+listed : (c : Call) (p : Core) (result : ℕ) → (result ≡ 5) ⊎ Lists c p result → Comes 0 result
+listed c p result (inl e) = early e
+listed c p result (inr l) = printed c 0 _ result l.prints
 
-none_ends : (c : Call) (o : Outside) (result : ℕ) → c.command ≡ None → Ends c o result → result ≡ 2
-none_ends c o result none (misused e m) = e
-none_ends c o result none (refused e h) = no_source c h.name none h.is.words
-none_ends c o result none (ran h) = no_words c (debug h.task) none h.is.words
-none_ends c o result none (listed e h) = no_words c (singles h.name) none h.is.words
-none_ends c o result none (refused_story e h) = no_words c (play h.task) none h.is.words
-none_ends c o result none (played h) = no_words c (play h.task) none h.is.words
-none_ends c o result none (made h) = let words = made_words c result h.text h.makes in no_words c (make words.0) none words.1
+-- ## What is made
 
-refused_ends : (c : Call) (o p : Outside) (result : ℕ) (name : List ℕ) (r : Refusal) → ((source : List ℕ) (x y : Result Core Refusal) → Compiles source x → Compiles source y → x ≡ y)
-    → p.contents ≡ o.contents → IsRefused c o name r → Ends c p result → result ≡ 1
-refused_ends c o p result name r one same is (misused e m) = no_source c name m.none is.words
-refused_ends c o p result name r one same is (refused e h) = e
-refused_ends c o p result name r one same is (ran h) =
-    apart one (file_of p h.task) (file_at o name) h.program r (same_file p o h.task.name name same (same_name c h.task.name name (source_of_run c h.task h.is.words) is.words)) h.is.compiles is.compiles
-refused_ends c o p result name r one same is (listed e h) =
-    apart one (file_at p h.name) (file_at o name) h.program r (same_file p o h.name name same (same_name c h.name name (source_of_report c h.name h.is.words) is.words)) h.is.compiles is.compiles
-refused_ends c o p result name r one same is (refused_story e h) = no_source_played c h.task name h.is.words is.words
-refused_ends c o p result name r one same is (played h) = no_source_played c h.task name h.is.words is.words
-refused_ends c o p result name r one same is (made h) = let words = made_words c result h.text h.makes in no_source_made c words.0 name words.1 is.words
-
-program_ends : (c : Call) (o p : Outside) (result : ℕ) (t : Task) (q : Core) → ((source : List ℕ) (x y : Result Core Refusal) → Compiles source x → Compiles source y → x ≡ y)
-    → p.contents ≡ o.contents → IsProgram c o t q → Ends c p result → (result ≡ 0) ⊎ (result ≡ 3)
-program_ends c o p result t q one same is (misused e m) = no_words c (debug t) m.none is.words
-program_ends c o p result t q one same is (refused e h) =
-    apart one (file_of o t) (file_at p h.name) q h.refusal (sym (same_file p o h.name t.name same (same_name c h.name t.name h.is.words (source_of_run c t is.words)))) is.compiles h.is.compiles
-program_ends c o p result t q one same is (ran h) = which (status_ends h.outcome.ending)
+made_so : IsOne → (c : Call) (n status result : ℕ) (text : List ℕ) (q : Core) → Compiles (made_source n) (Ok q) → Prints c status text result → Makes c.dice n status text → (result ≡ 0) ⊎ Comes 3 result
+made_so one c n status result text q h p (reports r k output outcome left shows e d) = here (printed c status text result p)
   where
-    which : (status_of h.outcome.ending ≡ 0) ⊎ (status_of h.outcome.ending ≡ 3) → (result ≡ 0) ⊎ (result ≡ 3)
-    which (inl zero) = inl (h.is_status ∙ zero)
-    which (inr three) = inr (h.is_status ∙ three)
-program_ends c o p result t q one same is (listed e h) = inl e
-program_ends c o p result t q one same is (refused_story e h) = other_words c t h.task is.words h.is.words
-program_ends c o p result t q one same is (played h) = other_words c t h.task is.words h.is.words
-program_ends c o p result t q one same is (made h) = no_make c result h.text (debug t) (no_run_made t) h.makes is.words
+    here : Comes status result → (result ≡ 0) ⊎ Comes 3 result
+    here (inl s) = ended outcome.ending (s ∙ e)
+    here (inr other) = inr (inr other)
+made_so one c n status result text q h p (overflows r k output may long e d) = inr (subst (λ (s : ℕ). Comes s result) e (printed c status text result p))
+made_so one c n status result text q h p (refuses r k e d) = no_program one (made_source n) q r h k
 
-reported_ends : (c : Call) (o p : Outside) (result : ℕ) (name : List ℕ) (q : Core) → ((source : List ℕ) (x y : Result Core Refusal) → Compiles source x → Compiles source y → x ≡ y)
-    → p.contents ≡ o.contents → IsReported c o name q → Ends c p result → result ≡ 0
-reported_ends c o p result name q one same is (misused e m) = no_words c (singles name) m.none is.words
-reported_ends c o p result name q one same is (refused e h) =
-    apart one (file_at o name) (file_at p h.name) q h.refusal (sym (same_file p o h.name name same (same_name c h.name name h.is.words (source_of_report c name is.words)))) is.compiles h.is.compiles
-reported_ends c o p result name q one same is (ran h) = no_report c h.task name h.is.words is.words
-reported_ends c o p result name q one same is (listed e h) = e
-reported_ends c o p result name q one same is (refused_story e h) = no_story_report c h.task name h.is.words is.words
-reported_ends c o p result name q one same is (played h) = no_story_report c h.task name h.is.words is.words
-reported_ends c o p result name q one same is (made h) = no_make c result h.text (singles name) (no_report_made name) h.makes is.words
+made_badly : IsOne → (c : Call) (n status result : ℕ) (text : List ℕ) (r : Refusal) → Compiles (made_source n) (Err r) → Prints c status text result → Makes c.dice n status text → Comes 1 result
+made_badly one c n status result text r h p (reports q k output outcome left shows e d) = no_program one (made_source n) q r k h
+made_badly one c n status result text r h p (overflows q k output may long e d) = no_program one (made_source n) q r k h
+made_badly one c n status result text r h p (refuses q k e d) = subst (λ (s : ℕ). Comes s result) e (printed c status text result p)
 
--- no file is a story and none
-story_apart : {A : Type 0} (a b : List ℕ) (r : StoryRefusal) → a ≡ b → refusal_of a ≡ None → refusal_of b ≡ Some r → A
-story_apart a b r same h k = let no = sym h ∙ ap refusal_of same ∙ k in cc
+-- ## Stories
 
-no_story_ends : (c : Call) (o p : Outside) (result : ℕ) (t : Task) (r : StoryRefusal) → p.contents ≡ o.contents → IsNoStory c o t r → Ends c p result → result ≡ 4
-no_story_ends c o p result t r same is (misused e m) = no_words c (play t) m.none is.words
-no_story_ends c o p result t r same is (refused e h) = no_source_played c t h.name is.words h.is.words
-no_story_ends c o p result t r same is (ran h) = other_words c h.task t h.is.words is.words
-no_story_ends c o p result t r same is (listed e h) = no_story_report c t h.name is.words h.is.words
-no_story_ends c o p result t r same is (refused_story e h) = e
-no_story_ends c o p result t r same is (played h) =
-    story_apart (file_of p h.task) (file_of o t) r (same_file p o h.task.name t.name same (ap (λ (u : Task). u.name) (same_story c h.task t h.is.words is.words))) h.is.accepted is.refused
-no_story_ends c o p result t r same is (made h) = no_make c result h.text (play t) (no_play_made t) h.makes is.words
+no_story_there : (c : Call) (o : Outside) (t : Task) (result : ℕ) (r : StoryRefusal) → refusal_of (file_of o t) ≡ Some r → Loads c o t result → Comes 4 result
+no_story_there c o t result r h (lost_story l p) = early (five c _ result p)
+no_story_there c o t result r h (no_story q k p) = printed c 4 _ result p
+no_story_there c o t result r h (story k p) = let no = sym h ∙ k in cc
 
-played_ends : (c : Call) (o p : Outside) (result : ℕ) (t : Task) → c.input.left ≡ Some o.typed → p ≡ o → IsStory c o t → Ends c p result → result ≡ status_of_end (run_of c o t t.steps).end
-played_ends c o p result t told same is (misused e m) = no_words c (play t) m.none is.words
-played_ends c o p result t told same is (refused e h) = no_source_played c t h.name is.words h.is.words
-played_ends c o p result t told same is (ran h) = other_words c h.task t h.is.words is.words
-played_ends c o p result t told same is (listed e h) = no_story_report c t h.name is.words h.is.words
-played_ends c o p result t told same is (refused_story e h) = story_apart (file_of o t) (file_of p h.task) h.refusal (ap (λ (q : Outside). file_of q t) (sym same) ∙ ap (file_of p) (same_story c t h.task is.words h.is.words)) is.accepted h.is.refused
-played_ends c o p result t told same is (played h) =
-    h.is_status ∙ ap status_of_end (h.played.plays.ends)
-    ∙ ap (λ (q : Outside). status_of_end (run_of c q h.task h.task.steps).end) same
-    ∙ ap (λ (u : Task). status_of_end (run_of c o u u.steps).end) (same_story c h.task t h.is.words is.words)
-played_ends c o p result t told same is (made h) = no_make c result h.text (play t) (no_play_made t) h.makes is.words
+played_so : (c : Call) (o : Outside) (t : Task) (result : ℕ) → refusal_of (file_of o t) ≡ None → Loads c o t result → Comes (status_of_end (run_of c o t (file_of o t)).end) result
+played_so c o t result h (lost_story l p) = early (five c _ result p)
+played_so c o t result h (no_story q k p) = let no = sym h ∙ k in cc
+played_so c o t result h (story k (played end e p)) = inl (e ∙ ap status_of_end p.plays.ends)
+played_so c o t result h (story k (unread e rose p)) = early e
+played_so c o t result h (story k (unwritten e rose p)) = early e
 
-made_so : (c : Call) (result : ℕ) (n : ℕ) (q : Core) (text : List ℕ) → ((source : List ℕ) (x y : Result Core Refusal) → Compiles source x → Compiles source y → x ≡ y)
-    → IsMade c n q → Makes c result text → (result ≡ 0) ⊎ (result ≡ 3)
-made_so c result n q text one is (reports m p was output outcome left shows e d) = which (status_ends outcome.ending)
-  where
-    which : (status_of outcome.ending ≡ 0) ⊎ (status_of outcome.ending ≡ 3) → (result ≡ 0) ⊎ (result ≡ 3)
-    which (inl zero) = inl (e ∙ zero)
-    which (inr three) = inr (e ∙ three)
-made_so c result n q text one is (overflows m p was output may long e d) = inr e
-made_so c result n q text one is (refused_made m r was e d) =
-    apart one (made_source n) (made_source m) q r (ap made_source (same_number c n m is.words was.words)) is.compiles was.compiles
+not_both : {A : Type 0} (p : Core) (r : BuildRefusal) → build.refusal_of p ≡ None → build.refusal_of p ≡ Some r → A
+not_both p r h k = let no = sym h ∙ k in cc
 
-made_ends : (c : Call) (p : Outside) (result : ℕ) (n : ℕ) (q : Core) → ((source : List ℕ) (x y : Result Core Refusal) → Compiles source x → Compiles source y → x ≡ y)
-    → IsMade c n q → Ends c p result → (result ≡ 0) ⊎ (result ≡ 3)
-made_ends c p result n q one is (misused e m) = no_words c (make n) m.none is.words
-made_ends c p result n q one is (refused e h) = no_source_made c n h.name is.words h.is.words
-made_ends c p result n q one is (ran h) = no_run_made h.task n (let both = sym h.is.words ∙ is.words in cc)
-made_ends c p result n q one is (listed e h) = inl e
-made_ends c p result n q one is (refused_story e h) = no_play_made h.task n (let both = sym h.is.words ∙ is.words in cc)
-made_ends c p result n q one is (played h) = no_play_made h.task n (let both = sym h.is.words ∙ is.words in cc)
-made_ends c p result n q one is (made h) = made_so c result n q h.text one is h.makes
+no_story_to_run : (c : Call) (o : Outside) (t : Task) (p : Core) (result : ℕ) (r : BuildRefusal) → build.refusal_of p ≡ Some r → (result ≡ 5) ⊎ Builds c o t p result → Comes 7 result
+no_story_to_run c o t p result r h (inl e) = early e
+no_story_to_run c o t p result r h (inr (no_story_of q k q')) = printed c 7 _ result q'
+no_story_to_run c o t p result r h (inr (plays bytes s k d)) = not_both p r s.fits h
 
-made_badly_so : (c : Call) (result : ℕ) (n : ℕ) (r : Refusal) (text : List ℕ) → ((source : List ℕ) (x y : Result Core Refusal) → Compiles source x → Compiles source y → x ≡ y)
-    → IsMadeBadly c n r → Makes c result text → result ≡ 1
-made_badly_so c result n r text one is (reports m p was output outcome left shows e d) =
-    apart one (made_source m) (made_source n) p r (ap made_source (same_number c m n was.words is.words)) was.compiles is.compiles
-made_badly_so c result n r text one is (overflows m p was output may long e d) =
-    apart one (made_source m) (made_source n) p r (ap made_source (same_number c m n was.words is.words)) was.compiles is.compiles
-made_badly_so c result n r text one is (refused_made m q was e d) = e
+no_story_to_store : (c : Call) (name : List ℕ) (p : Core) (result : ℕ) → (result ≡ 5) ⊎ HasNone c name p result → Comes 7 result
+no_story_to_store c name p result (inl e) = early e
+no_story_to_store c name p result (inr n) = printed c 7 _ result n.prints
 
-made_badly_ends : (c : Call) (p : Outside) (result : ℕ) (n : ℕ) (r : Refusal) → ((source : List ℕ) (x y : Result Core Refusal) → Compiles source x → Compiles source y → x ≡ y)
-    → IsMadeBadly c n r → Ends c p result → result ≡ 1
-made_badly_ends c p result n r one is (misused e m) = no_words c (make n) m.none is.words
-made_badly_ends c p result n r one is (refused e h) = e
-made_badly_ends c p result n r one is (ran h) = no_run_made h.task n (let both = sym h.is.words ∙ is.words in cc)
-made_badly_ends c p result n r one is (listed e h) = no_report_made h.name n (let both = sym h.is.words ∙ is.words in cc)
-made_badly_ends c p result n r one is (refused_story e h) = no_play_made h.task n (let both = sym h.is.words ∙ is.words in cc)
-made_badly_ends c p result n r one is (played h) = no_play_made h.task n (let both = sym h.is.words ∙ is.words in cc)
-made_badly_ends c p result n r one is (made h) = made_badly_so c result n r h.text one is h.makes
+a_story_to_store : (c : Call) (name : List ℕ) (p : Core) (result : ℕ) → build.refusal_of p ≡ None → (result ≡ 5) ⊎ HasNone c name p result → Comes 0 result
+a_story_to_store c name p result h (inl e) = early e
+a_story_to_store c name p result h (inr n) = not_both p n.refusal h n.refused
 
-pub decided : (c : Call) (result : ℕ) → ((source : List ℕ) (x y : Result Core Refusal) → Compiles source x → Compiles source y → x ≡ y) → Answers c result → Decides c result
+stored : (c : Call) (to bytes : List ℕ) (result : ℕ) → IsStored c to bytes result → Comes 0 result
+stored c to bytes result (held e w s i) = inl e
+stored c to bytes result (not_held rose sure p) = early (five c _ result p)
+stored c to bytes result (no_room_for_it p) = inr (late c _ result p)
+
+-- ## By the words
+
+-- what a call of these words comes to
+by_command : (c : Call) (o : Outside) (result : ℕ) (command : Option Command) (C : Type 0) → c.command ≡ command → ((result ≡ 5) ⊎ (result ≡ 6) → C) → (Does c o command result → C)
+    → ((name to : List ℕ) → command ≡ Some (build name to) → Stores c o name to result → C) → ComesTo c o result → C
+by_command c o result command C e short does_so stores_so (no_memory kept p) = short (late c _ result p)
+by_command c o result command C e short does_so stores_so (does kept d) = does_so (subst (λ (x : Option Command). Does c o x result) e d)
+by_command c o result command C e short does_so stores_so (stores name to words s) = stores_so name to (sym e ∙ words) s
+
+here_it_is : (told : Option (List ℕ → Option (List ℕ))) (p o : Outside) → told ≡ Some o.contents → IsAsTold told p.contents → o.contents ≡ p.contents
+here_it_is told p o e h = as_told told o.contents p.contents e h
+
+abbrev outside : (List ℕ → Option (List ℕ)) → List ℕ → Outside
+outside contents typed = record { contents = contents; typed = typed }
+
+outside_is : (p o : Outside) → o.contents ≡ p.contents → o.typed ≡ p.typed → o ≡ p
+outside_is p o h k = ap (λ (contents : List ℕ → Option (List ℕ)). outside contents o.typed) h ∙ ap (outside p.contents) k
+
+pub decided : (c : Call) (result : ℕ) → IsOne → Answers c result → Decides c result
 decided c result one a =
-    let contents : (o : Outside) → c.shelf.contents ≡ Some o.contents → a.outside.contents ≡ o.contents = λ o told. sym (as_told c.shelf.contents o.contents a.outside.contents told a.found.contents) in
+    let by : (command : Option Command) (C : Type 0) → c.command ≡ command → ((result ≡ 5) ⊎ (result ≡ 6) → C) → (Does c a.outside command result → C) → ((name to : List ℕ) → command ≡ Some (build name to) → Stores c a.outside name to result → C) → C =
+    λ command C e short d s. by_command c a.outside result command C e short d s a.answer in
+    let found : (o : Outside) → c.shelf.contents ≡ Some o.contents → (name : List ℕ) (P : List ℕ → Type 0) → P (file_at o name) → P (file_at a.outside name) =
+    λ o told name P h. subst (λ (contents : List ℕ → Option (List ℕ)). P (file_at (outside contents o.typed) name)) (here_it_is c.shelf.contents a.outside o told a.found.contents) h in
     record {
-      no_command = λ none. comes c a.outside result 2 (none_ends c a.outside result none) a.answer;
-      refuses = λ o told name r is. comes c a.outside result 1 (refused_ends c o a.outside result name r one (contents o told) is) a.answer;
-      runs = λ o told t p is. runs_so c a.outside result (program_ends c o a.outside result t p one (contents o told) is) a.answer;
-      lists = λ o told name p is. comes c a.outside result 0 (reported_ends c o a.outside result name p one (contents o told) is) a.answer;
-      makes = λ n p is. runs_so c a.outside result (made_ends c a.outside result n p one is) a.answer;
-      makes_badly = λ n r is. comes c a.outside result 1 (made_badly_ends c a.outside result n r one is) a.answer;
-      no_story = λ o told t r is. comes c a.outside result 4 (no_story_ends c o a.outside result t r (contents o told) is) a.answer;
-      plays = λ o told typed t is.
-          let both : a.outside ≡ o = outside_is a.outside o (contents o told) (sym (as_told c.input.left o.typed a.outside.typed typed a.found.typed)) in
-          comes c a.outside result _ (played_ends c o a.outside result t typed both is) a.answer;
+      no_command = λ none. by None _ none inr (λ d. printed c 2 _ result d.0) (λ name to e s. cc);
+      refuses = λ o told name words r h.
+          by c.command _ refl inr (refused_as one c a.outside name r result (found o told name (λ l. Compiles l (Err r)) h) c.command words) (λ n to e s. stored_anyway o told name words r h n to e s);
+      runs = λ o told t words p h.
+          by (Some (debug t)) _ words (λ s. inr (inr s)) (λ d. run_ended c a.outside t p result (read_well one c a.outside t.name _ result p (found o told t.name (λ l. Compiles l (Ok p)) h) d)) (λ name to e s. cc);
+      lists = λ o told name words p h.
+          by (Some (singles name)) _ words inr (λ d. listed c p result (read_well one c a.outside name _ result p (found o told name (λ l. Compiles l (Ok p)) h) d)) (λ n to e s. cc);
+      makes = λ n words p h. by (Some (make n)) _ words (λ s. inr (inr s)) (λ d. made_so one c n d.status result d.text p h d.prints d.makes) (λ name to e s. cc);
+      makes_badly = λ n words r h. by (Some (make n)) _ words inr (λ d. made_badly one c n d.status result d.text r h d.prints d.makes) (λ name to e s. cc);
+      builds = λ o told name to words p h fits.
+          by (Some (build name to)) _ words inr (λ d. a_story_to_store c name p result fits (read_well one c a.outside name _ result p (found o told name (λ l. Compiles l (Ok p)) h) d)) (λ n m e s. stored c m s.bytes result s.keeps);
+      builds_none = λ o told name to words p h r none.
+          by (Some (build name to)) _ words inr (λ d. no_story_to_store c name p result (read_well one c a.outside name _ result p (found o told name (λ l. Compiles l (Ok p)) h) d))
+          (λ n m e s. not_stored p r none n (found o told n (λ l. Compiles l (Ok p)) (subst (λ (l : List ℕ). Compiles (file_at o l) (Ok p)) (let same : name ≡ n = cc in same) h)) m s);
+      runs_none = λ o told t words p h r none.
+          by (Some (run t)) _ words inr (λ d. no_story_to_run c a.outside t p result r none (read_well one c a.outside t.name _ result p (found o told t.name (λ l. Compiles l (Ok p)) h) d)) (λ name to e s. cc);
+      no_story = λ o told t words r h. by (Some (play t)) _ words inr (no_story_there c a.outside t result r (found o told t.name (λ l. refusal_of l ≡ Some r) h)) (λ name to e s. cc);
+      plays = λ o told typed t words h.
+          let same = outside_is a.outside o (here_it_is c.shelf.contents a.outside o told a.found.contents) (as_told c.input.left o.typed a.outside.typed typed a.found.typed) in
+          by (Some (play t)) _ words inr (λ d. subst (λ (p : Outside). Comes (status_of_end (run_of c p t (file_of p t)).end) result) (sym same)
+          (played_so c a.outside t result (subst (λ (p : Outside). refusal_of (file_of p t) ≡ None) same h) d)) (λ name to e s. cc);
     }
   where
-    outside_is : (p o : Outside) → p.contents ≡ o.contents → p.typed ≡ o.typed → p ≡ o
-    outside_is p o h k =
-        ap (λ (contents : List ℕ → Option (List ℕ)). outside contents p.typed) h ∙ ap (outside o.contents) k
+    stored_anyway : (o : Outside) → c.shelf.contents ≡ Some o.contents → (name : List ℕ) → source_named c.command ≡ Some name → (r : Refusal) → Compiles (file_at o name) (Err r)
+        → (n to : List ℕ) → c.command ≡ Some (build n to) → Stores c a.outside n to result → Comes 1 result
+    stored_anyway o told name words r h n to e s =
+        let same : name ≡ n = (let named = sym words ∙ ap source_named e in cc) in
+        no_program one (file_at a.outside n) s.program r s.compiles
+        (subst (λ (contents : List ℕ → Option (List ℕ)). Compiles (file_at (outside contents o.typed) n) (Err r)) (here_it_is c.shelf.contents a.outside o told a.found.contents)
+        (subst (λ (l : List ℕ). Compiles (file_at o l) (Err r)) same h))
+
+    not_stored : (p : Core) (r : BuildRefusal) → build.refusal_of p ≡ Some r → (n : List ℕ) → Compiles (file_at a.outside n) (Ok p) → (m : List ℕ) → Stores c a.outside n m result → Comes 7 result
+    not_stored p r none n h m s =
+        let is = one (file_at a.outside n) (Ok s.program) (Ok p) s.compiles h in
+        not_both p r (subst (λ (q : Core). build.refusal_of q ≡ None) (let same : s.program ≡ p = cc in same) s.story.fits) none

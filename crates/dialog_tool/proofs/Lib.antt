@@ -7,6 +7,7 @@ pub mod SeedLemmas
 pub mod OptionLemmas
 pub mod SourceLemmas
 pub mod AnswerLemmas
+pub mod BuildLemmas
 pub mod DecideLemmas
 pub mod PlayLemmas
 pub mod ComeLemmas

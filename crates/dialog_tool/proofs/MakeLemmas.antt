@@ -12,26 +12,21 @@ use Rattle.dg_make.specs.Made.{made_source}
 use Rattle.dg_meaning.specs.Shows.{MayWrite, Shows}
 use Rattle.dg_meaning.specs.Transcript.{no_memory_line}
 use Rattle.dialog_tool.specs.Answers
+use Rattle.dialog_tool.specs.Answers.{Makes, reports, overflows, refuses}
 use Rattle.dialog_tool.specs.Call.{Call, Outside, call}
 use Rattle.dialog_tool.specs.Command.{make}
 use Rattle.dialog_tool.specs.Lines.{Says, said, unsaid, refusal_line}
 use Rattle.dialog_tool.specs.Making.{made_limits, most_output, made_report, too_long_line}
 use Rattle.dialog_tool.specs.Source.{Compiles}
-use Rattle.dialog_tool.proofs.AnswerLemmas.{Found, ended, failed, keeps_same, nothing_here, no_room_first}
+use Rattle.dialog_tool.proofs.AnswerLemmas.{answers, by_words, prints, keeps_same, nothing_here, no_room_first}
 
 -- a whole text is written, or out failed within it
-pub says_made : (n : ℕ) (dice : List ℕ) (shelf : ShelfView) (input : SourceView) (old new : SinkView) (status result : ℕ) (text : List ℕ) → Answers.Makes (call (Some (make n)) dice shelf shelf input input old new) status text → Says status text old new result → Answers.Answers (call (Some (make n)) dice shelf shelf input input old new) result
-says_made n dice shelf input old new status result text makes says = by_says says
-  where
-    c : Call
-    c = call (Some (make n)) dice shelf shelf input input old new
-
-    here : (o : Outside) × Found c o
-    here = nothing_here c (keeps_same shelf.contents)
-
-    by_says : Says status text old new result → Answers.Answers c result
-    by_says (said e w) = ended c here.0 result here.1 (Answers.made (record { text = text; makes = subst (λ (s : ℕ). Answers.Makes c s text) (sym e) makes; wrote = w; input_stays = refl }))
-    by_says (unsaid e b) = failed c here.0 result here.1 e (Answers.out text (Answers.made_text status makes) b)
+pub says_made : (n : ℕ) (dice : List ℕ) (shelf : ShelfView) (input : SourceView) (old new : SinkView) (status result : ℕ) (text : List ℕ) → Makes dice n status text → Says status text old new result → Answers.Answers (call (Some (make n)) dice shelf shelf input input old new) result
+says_made n dice shelf input old new status result text makes says =
+    let c = call (Some (make n)) dice shelf shelf input input old new in
+    let here = nothing_here c in
+    answers c here.0 result here.1 (by_words c here.0 result (Some (make n)) refl (keeps_same shelf.contents)
+    (record { status = status; text = text; makes = makes; prints = prints c status text result refl says }))
 
 -- no memory was found
 pub lacks_made : (n : ℕ) (dice : List ℕ) (shelf : ShelfView) (input : SourceView) (old new : SinkView) (result : ℕ) → Says 6 no_memory_line old new result → Answers.Answers (call (Some (make n)) dice shelf shelf input input old new) result
@@ -40,8 +35,7 @@ lacks_made n dice shelf input old new result says = no_room_first (call (Some (m
 -- the source is refused
 pub refuses_made : (n : ℕ) (dice : List ℕ) (shelf : ShelfView) (input : SourceView) (old new : SinkView) (result : ℕ) (r : Refusal) → Compiles (made_source n) (Err r) → Says 1 (refusal_line (codes "make") r) old new result → Answers.Answers (call (Some (make n)) dice shelf shelf input input old new) result
 refuses_made n dice shelf input old new result r is says =
-    says_made n dice shelf input old new 1 result (refusal_line (codes "make") r)
-    (Answers.refused_made n r (record { words = refl; compiles = is }) refl refl) says
+    says_made n dice shelf input old new 1 result (refusal_line (codes "make") r) (refuses r is refl refl) says
 
 -- what two clauses say of a value
 pub if_both : {A E : Type 0} (P Q R : A → Type 0) (r : Result A E) → ((x : A) → P x → Q x → R x) → IfOk r P → IfOk r Q → IfOk r R
@@ -53,17 +47,16 @@ abbrev pub telling : List ℕ → ℕ → ℕ → SinkView
 telling taken room faults = record { taken = Some taken; room = Some room; faults = faults }
 
 -- a run that ended wrote all that its sink holds
-pub made_whole : (c : Call) (n : ℕ) (p : Core) (dice source before output text : List ℕ) (outcome : Outcome) (left : Option (List ℕ)) (room faults room' faults' status : ℕ) → Answers.IsMade c n p
-    → c.dice ≡ dice → source ≡ made_source n → before ≡ [] → HasShown (game p dice) [] made_limits outcome left (telling before room faults) (telling output room' faults')
-    → text ≡ made_report source output outcome → status ≡ Answers.status_of outcome.ending → Answers.Makes c status text
-made_whole c n p dice source before output text outcome left room faults room' faults' status is thrown same empty shown e s =
+pub made_whole : (n : ℕ) (p : Core) (dice source before output text : List ℕ) (outcome : Outcome) (left : Option (List ℕ)) (room faults room' faults' status : ℕ) → Compiles (made_source n) (Ok p)
+    → source ≡ made_source n → before ≡ [] → HasShown (game p dice) [] made_limits outcome left (telling before room faults) (telling output room' faults')
+    → text ≡ made_report source output outcome → status ≡ Answers.status_of outcome.ending → Makes dice n status text
+made_whole n p dice source before output text outcome left room faults room' faults' status is same empty shown e s =
     let bytes : output ≡ shown.bytes = shown.wrote.taken ∙ ap (λ (l : List ℕ). l ++ shown.bytes) empty in
-    Answers.reports n p is shown.bytes outcome left (subst (λ (d : List ℕ). Shows (game p d) [] made_limits shown.bytes outcome left) (sym thrown) shown.shows) s
+    reports p is shown.bytes outcome left shown.shows s
     (e ∙ ap (λ (l : List ℕ). made_report l output outcome) same ∙ ap (λ (l : List ℕ). made_report (made_source n) l outcome) bytes)
 
 -- a run that its sink broke off may write more than there is room for
-pub made_long : (c : Call) (n : ℕ) (p : Core) (dice before text : List ℕ) (room faults status : ℕ) (new : SinkView) → Answers.IsMade c n p → c.dice ≡ dice → room ≡ most_output
-    → HasLostOutput (game p dice) [] made_limits (telling before room faults) new → text ≡ too_long_line → status ≡ 3 → Answers.Makes c status text
-made_long c n p dice before text room faults status new is thrown all lost e s =
-    Answers.overflows n p is lost.bytes (subst (λ (d : List ℕ). MayWrite (game p d) [] made_limits lost.bytes) (sym thrown) lost.may_write)
-    (subst (λ (r : ℕ). r < length lost.bytes) all lost.broke.over) s e
+pub made_long : (n : ℕ) (p : Core) (dice before text : List ℕ) (room faults status : ℕ) (new : SinkView) → Compiles (made_source n) (Ok p) → room ≡ most_output
+    → HasLostOutput (game p dice) [] made_limits (telling before room faults) new → text ≡ too_long_line → status ≡ 3 → Makes dice n status text
+made_long n p dice before text room faults status new is all lost e s =
+    overflows p is lost.bytes lost.may_write (subst (λ (r : ℕ). r < length lost.bytes) all lost.broke.over) s e

@@ -13,9 +13,9 @@ use Rattle.z_play.specs.Ready.{IsLoaded}
 use Rattle.z_play.specs.Laws.{PrintsBreakOff, RestsBreakOff}
 use Rattle.dialog_tool.specs.Command.{play, Task}
 use Rattle.dialog_tool.specs.Call.{Call, Outside, IsAsTold, IsFetched, dice_for}
-use Rattle.dialog_tool.specs.Playing.{status_of_end, story_of, start_of, TaskPlays, whole, cut_off}
+use Rattle.dialog_tool.specs.Playing.{status_of_end, story_of, start_of, TaskPlays, whole, cut_off, LostOut, PlaysStory, played, unread, unwritten, HasPlayed}
 use Rattle.dialog_tool.specs.Answers
-use Rattle.dialog_tool.proofs.AnswerLemmas.{HasFile, Found, file_here, outside, ended, failed}
+use Rattle.dialog_tool.proofs.AnswerLemmas.{file_here, outside, answers, by_words}
 use Rattle.dialog_tool.proofs.Never.{never}
 
 -- a loaded story runs as its file
@@ -71,53 +71,38 @@ some_plays answer c t file r = here c.input.left refl
       plays = r.untold.plays;
     }
 
--- the outside of a call that plays a file, with these typed bytes
-abbrev outside_at : (c : Call) (t : Task) (file : List ℕ) → HasFile c t.name file → List ℕ → Outside
-outside_at c t file h typed = outside h.contents typed
-
-found_at : (c : Call) (t : Task) (file : List ℕ) (h : HasFile c t.name file) (typed : List ℕ) → IsAsTold c.input.left typed → Found c (outside_at c t file h typed)
-found_at c t file h typed told = record { found = record { contents = h.told; typed = told }; kept = h.kept }
-
-task_plays : (answer : Result ZEnd Fault) (c : Call) (t : Task) (file : List ℕ) (h : HasFile c t.name file) (p : SomePlays answer c t file) → TaskPlays answer c (outside_at c t file h p.typed) t
-task_plays answer c t file h p = record {
-  left = p.left;
-  told = p.told;
-  plays = subst (λ (l : List ℕ). Plays answer (given_of l (dice_for c t)) (start_state l p.typed) t.steps (Some p.left) c.out c.out_after) h.is p.plays;
-}
-
-story : (c : Call) (t : Task) (file : List ℕ) (typed : List ℕ) → c.command ≡ Some (play t) → (h : HasFile c t.name file) → refusal_of file ≡ None → Answers.IsStory c (outside_at c t file h typed) t
-story c t file typed words h accepted = record { words = words; accepted = subst (λ (l : List ℕ). refusal_of l ≡ None) h.is accepted }
+task_plays : (answer : Result ZEnd Fault) (c : Call) (t : Task) (file : List ℕ) (p : SomePlays answer c t file) (contents : List ℕ → Option (List ℕ)) → TaskPlays answer c (outside contents p.typed) t file
+task_plays answer c t file p contents = record { left = p.left; told = p.told; plays = p.plays }
 
 -- out failed within the run or within the line behind it
-lost_out : PrintsBreakOff → RestsBreakOff → (c : Call) (o : Outside) (t : Task) → TaskPlays (Err Write) c o t → Answers.LostOut c o t
-lost_out prints rests c o t p = here p.plays
+lost_out : PrintsBreakOff → RestsBreakOff → (c : Call) (o : Outside) (t : Task) (bytes : List ℕ) → TaskPlays (Err Write) c o t bytes → LostOut c o t bytes
+lost_out prints rests c o t bytes p = here p.plays
   where
-    here : Plays (Err Write) (story_of c o t) (start_of o t) t.steps (Some p.left) c.out c.out_after → Answers.LostOut c o t
-    here (inl s) = record { text = _; may_tell = whole refl; broke = prints (story_of c o t) (start_of o t) t.steps (Some p.left) c.out c.out_after s; played = p }
+    here : Plays (Err Write) (story_of c t bytes) (start_of o bytes) t.steps (Some p.left) c.out c.out_after → LostOut c o t bytes
+    here (inl s) = record { text = _; may_tell = whole refl; broke = prints (story_of c t bytes) (start_of o bytes) t.steps (Some p.left) c.out c.out_after s; played = p }
     here (inr (inl s)) = record { text = _; may_tell = whole refl; broke = rests c.out c.out_after _ _ s.cut; played = p }
     here (inr (inr s)) = record { text = _; may_tell = cut_off s.m s.rest s.stopped refl; broke = rests c.out c.out_after _ _ s.cut; played = p }
 
-pub play_ends : (c : Call) (t : Task) (file : List ℕ) (result : ℕ) → c.command ≡ Some (play t) → IsFetched c.shelf c.shelf_after t.name file → refusal_of file ≡ None → (end : ZEnd) → result ≡ status_of_end end
-    → RunPlays (Ok end) c t file → Answers.Answers c result
-play_ends c t file result words f accepted end e plays =
-    let h = file_here c t.name file f in
-    let p = some_plays (Ok end) c t file plays in
-    ended c (outside_at c t file h p.typed) result (found_at c t file h p.typed p.as_told)
-    (Answers.played (record { task = t; is = story c t file p.typed words h accepted; end = end; is_status = e; played = task_plays (Ok end) c t file h p }))
+pub play_ends : (c : Call) (t : Task) (file : List ℕ) (result : ℕ) (end : ZEnd) → result ≡ status_of_end end → RunPlays (Ok end) c t file → HasPlayed c t file result
+play_ends c t file result end e r =
+    let p = some_plays (Ok end) c t file r in
+    record { typed = p.typed; told = p.as_told; plays = λ contents. played end e (task_plays (Ok end) c t file p contents) }
 
-pub play_unread : (c : Call) (t : Task) (file : List ℕ) (result : ℕ) → c.command ≡ Some (play t) → IsFetched c.shelf c.shelf_after t.name file → refusal_of file ≡ None → result ≡ 5 → Rose c.input.faults c.input_after.faults
-    → RunPlays (Err Read) c t file → Answers.Answers c result
-play_unread c t file result words f accepted e rose plays =
-    let h = file_here c t.name file f in
-    let p = some_plays (Err Read) c t file plays in
-    failed c (outside_at c t file h p.typed) result (found_at c t file h p.typed p.as_told) e
-    (Answers.story_input (record { rose = rose; task = t; is = story c t file p.typed words h accepted; lost = task_plays (Err Read) c t file h p }))
+pub play_unread : (c : Call) (t : Task) (file : List ℕ) (result : ℕ) → result ≡ 5 → Rose c.input.faults c.input_after.faults → RunPlays (Err Read) c t file → HasPlayed c t file result
+play_unread c t file result e rose r =
+    let p = some_plays (Err Read) c t file r in
+    record { typed = p.typed; told = p.as_told; plays = λ contents. unread e rose (task_plays (Err Read) c t file p contents) }
 
-pub play_unwritten : PrintsBreakOff → RestsBreakOff → (c : Call) (t : Task) (file : List ℕ) (result : ℕ) → c.command ≡ Some (play t) → IsFetched c.shelf c.shelf_after t.name file → refusal_of file ≡ None → result ≡ 5 → Rose c.out.faults c.out_after.faults
-    → RunPlays (Err Write) c t file → Answers.Answers c result
-play_unwritten prints rests c t file result words f accepted e rose plays =
+pub play_unwritten : PrintsBreakOff → RestsBreakOff → (c : Call) (t : Task) (file : List ℕ) (result : ℕ) → result ≡ 5 → Rose c.out.faults c.out_after.faults → RunPlays (Err Write) c t file → HasPlayed c t file result
+play_unwritten prints rests c t file result e rose r =
+    let p = some_plays (Err Write) c t file r in
+    record { typed = p.typed; told = p.as_told; plays = λ contents. unwritten e rose (lost_out prints rests c (outside contents p.typed) t file (task_plays (Err Write) c t file p contents)) }
+
+-- the file is a story and was played
+pub play_comes : (c : Call) (t : Task) (file : List ℕ) (result : ℕ) → c.command ≡ Some (play t) → IsFetched c.shelf c.shelf_after t.name file → refusal_of file ≡ None → HasPlayed c t file result → Answers.Answers c result
+play_comes c t file result words f accepted p =
     let h = file_here c t.name file f in
-    let p = some_plays (Err Write) c t file plays in
-    let o = outside_at c t file h p.typed in
-    failed c o result (found_at c t file h p.typed p.as_told) e
-    (Answers.story_out t (story c t file p.typed words h accepted) rose (lost_out prints rests c o t (task_plays (Err Write) c t file h p)))
+    let o = outside h.contents p.typed in
+    answers c o result (record { contents = h.told; typed = p.told })
+    (by_words c o result (Some (play t)) words h.kept
+    (Answers.story (subst (λ (l : List ℕ). refusal_of l ≡ None) h.is accepted) (subst (λ (l : List ℕ). PlaysStory c o t l result) h.is (p.plays h.contents))))

@@ -1,28 +1,30 @@
--- The answers of the program, one by one: hold them against the table of statuses in man/dialog.1.
-use Rattle.std.specs.Prelude.{◌≡◌, ◌⊎◌, ◌<◌, ℕ, List, [], length, codes, Option, Some, None, Bool, IsTrue, IsSome, Ok, Err}
+-- The answers of the program, command by command: hold them against the table of statuses in man/dialog.1.
+use Rattle.std.specs.Prelude.{◌≡◌, ◌⊎◌, ◌<◌, ℕ, List, [], length, codes, Option, Some, None, Bool, IsTrue, IsSome, Result, Ok, Err}
 use Rattle.dg_base.specs.Causes.{Rose}
-use Rattle.dg_base.specs.Shelves.{WhereTold, KeepsAll}
-use Rattle.dg_base.specs.Written.{Wrote, BrokeOff}
+use Rattle.dg_base.specs.Shelves.{WhereTold, KeepsAll, KeepsOthers}
 use Rattle.dg_base.specs.declared.program.CoreProgram.{CoreProgram as Core}
 use Rattle.dg_base.specs.declared.refusal.Refusal.{Refusal}
 use Rattle.dg_base.specs.declared.run.Ending.{Ending}
 use Rattle.dg_base.specs.declared.run.Ending.TheVariants.{Done, Quit, Failed, Stopped, InputEnded, StepLimit, HeapLimit, TrailLimit, AuxLimit, KeepLimit}
 use Rattle.dg_base.specs.declared.run.Outcome.{Outcome}
-use Rattle.dg_base.specs.declared.run.Fault.TheVariants.{Read, Write}
-use Rattle.dg_meaning.specs.World.{Game}
 use Rattle.dg_make.specs.Made.{made_source}
 use Rattle.dg_meaning.specs.Shows.{MayWrite, Shows}
 use Rattle.dg_meaning.specs.Transcript.{no_memory_line}
-use Rattle.dg_interp.specs.Interpret.{game, left_told, HasShown, HasLostInput, HasLostMemory}
-use Rattle.z_model.specs.Story.{refusal_of}
-use Rattle.z_model.specs.declared.end.ZEnd.{ZEnd}
-use Rattle.z_model.specs.declared.story.StoryRefusal.{StoryRefusal}
+use Rattle.dg_meaning.specs.World.{Game}
+use Rattle.dg_interp.specs.Interpret.{game, left_told, HasShown, HasLostInput, HasLostOutput, HasLostMemory}
 use Rattle.dg_single.specs.Singles.{AreSingles}
-use Rattle.dialog_tool.specs.Command.{debug, play, singles, make, Task, limits_of, file_named, source_named}
+use Rattle.dg_story.specs.Agrees.{Agrees}
+use Rattle.dg_story.specs.Built.{IsBuilt}
+use Rattle.dg_story.specs.Refusals as build
+use Rattle.dg_story.specs.declared.building.Built.{Built}
+use Rattle.dg_story.specs.declared.refusal.BuildRefusal.{BuildRefusal}
+use Rattle.z_model.specs.Story.{refusal_of}
+use Rattle.z_model.specs.declared.story.StoryRefusal.{StoryRefusal}
+use Rattle.dialog_tool.specs.Command.{Command, debug, play, run, build, singles, make, Task, limits_of, source_named}
 use Rattle.dialog_tool.specs.Call.{Call, Outside, Finds, file_at, file_of, dice_for}
-use Rattle.dialog_tool.specs.Lines.{usage_line, refusal_line, story_line, file_fault_line}
+use Rattle.dialog_tool.specs.Lines.{Says, usage_line, refusal_line, story_line, build_line, file_fault_line}
 use Rattle.dialog_tool.specs.Making.{made_limits, most_output, made_report, too_long_line}
-use Rattle.dialog_tool.specs.Playing.{run_of, status_of_end, TaskPlays, MayTell}
+use Rattle.dialog_tool.specs.Playing.{run_of, status_of_end, PlaysStory}
 use Rattle.dialog_tool.specs.Report.{report}
 use Rattle.dialog_tool.specs.Source.{Compiles}
 
@@ -45,202 +47,158 @@ status_of TrailLimit = 3
 status_of AuxLimit = 3
 status_of KeepLimit = 3
 
--- ---- what a task is
+-- ---- what is printed at once
 
--- The words run a source, and it is this program.
-pub record IsProgram (c : Call) (o : Outside) (t : Task) (p : Core) : Type 0 where
-  pub words : c.command ≡ Some (debug t)
-  pub compiles : Compiles (file_of o t) (Ok p)
+-- Out took this text, and the result is this status, or out failed within it, and the result is 5; the input is as it was.
+pub record Prints (c : Call) (status : ℕ) (text : List ℕ) (result : ℕ) : Type 0 where
+  pub says : Says status text c.out c.out_after result
+  pub input_stays : c.input_after ≡ c.input
 
--- The words list the predicates of a source, and it is this program.
-pub record IsReported (c : Call) (o : Outside) (name : List ℕ) (p : Core) : Type 0 where
-  pub words : c.command ≡ Some (singles name)
-  pub compiles : Compiles (file_at o name) (Ok p)
+-- The shelf keeps what it holds.
+abbrev pub Keeps : Call → Type 0
+Keeps c = KeepsAll c.shelf.contents c.shelf_after.contents
 
--- The words name a source, and it is refused.
-pub record IsRefused (c : Call) (o : Outside) (name : List ℕ) (r : Refusal) : Type 0 where
-  pub words : source_named c.command ≡ Some name
-  pub compiles : Compiles (file_at o name) (Err r)
+-- The shelf failed at the file of this name; one that is sure fails only where it has no such file.
+pub record LostFile (c : Call) (name : List ℕ) : Type 0 where
+  pub rose : Rose c.shelf.faults c.shelf_after.faults
+  pub missing : IsTrue c.shelf.sure → WhereTold c.shelf.contents (λ contents. IsSome (contents name) → ⊥)
 
--- The words play a file, and it is a story.
-pub record IsStory (c : Call) (o : Outside) (t : Task) : Type 0 where
-  pub words : c.command ≡ Some (play t)
-  pub accepted : refusal_of (file_of o t) ≡ None
+-- ---- sources
 
--- The words play a file, and it is no story.
-pub record IsNoStory (c : Call) (o : Outside) (t : Task) (r : StoryRefusal) : Type 0 where
-  pub words : c.command ≡ Some (play t)
-  pub refused : refusal_of (file_of o t) ≡ Some r
-
--- The words make a source of a number, and it is this program.
-pub record IsMade (c : Call) (n : ℕ) (p : Core) : Type 0 where
-  pub words : c.command ≡ Some (make n)
-  pub compiles : Compiles (made_source n) (Ok p)
-
--- The words make a source of a number, and it is refused.
-pub record IsMadeBadly (c : Call) (n : ℕ) (r : Refusal) : Type 0 where
-  pub words : c.command ≡ Some (make n)
-  pub compiles : Compiles (made_source n) (Err r)
+-- A source is read: its file is lost, at 5, or it is refused, at 1, or it is a program with which this is done.
+pub data Reads (c : Call) (o : Outside) (name : List ℕ) (Does : Core → Type 0) (result : ℕ) : Type 0 where
+  lost : LostFile c name → Prints c 5 (file_fault_line name) result → Reads c o name Does result
+  refused : (r : Refusal) → Compiles (file_at o name) (Err r) → Prints c 1 (refusal_line name r) result → Reads c o name Does result
+  program : (p : Core) → Compiles (file_at o name) (Ok p) → Does p → Reads c o name Does result
 
 -- the game of a program
 abbrev pub game_of : Call → Task → Core → Game
 game_of c t p = game p (dice_for c t)
 
--- The shelf failed at the file of the words; one that is sure fails only where it has no such file.
-pub record LostFile (c : Call) (name : List ℕ) : Type 0 where
-  pub words : file_named c.command ≡ Some name
-  pub rose : Rose c.shelf.faults c.shelf_after.faults
-  pub missing : IsTrue c.shelf.sure → WhereTold c.shelf.contents (λ contents. IsSome (contents name) → ⊥)
+-- A program is run: at 0 and 3 out took a text that shows a run of it on the typed bytes; at 5 the input failed, and out took the text up to
+-- there with its closing, or out failed within a text that it may be writing; at 6 no memory was found, and out took what was printed up to
+-- there with its closing.
+pub data Runs (c : Call) (o : Outside) (t : Task) (p : Core) (result : ℕ) : Type 0 where
+  ran : (outcome : Outcome) → result ≡ status_of outcome.ending
+      → HasShown (game_of c t p) o.typed (limits_of t) outcome (left_told c.input c.input_after) c.out c.out_after → Runs c o t p result
+  input_lost : result ≡ 5 → Rose c.input.faults c.input_after.faults
+      → HasLostInput (game_of c t p) o.typed (limits_of t) c.input_after.left c.out c.out_after → Runs c o t p result
+  out_lost : result ≡ 5 → HasLostOutput (game_of c t p) o.typed (limits_of t) c.out c.out_after → Runs c o t p result
+  no_room : result ≡ 6 → HasLostMemory (game_of c t p) o.typed (limits_of t) c.input_after.left c.out c.out_after → Runs c o t p result
 
--- ---- the answers
-
--- 2: the words are no command, and out took the usage line
-pub record Misused (c : Call) : Type 0 where
-  pub none : c.command ≡ None
-  pub wrote : Wrote c.out c.out_after usage_line
-  pub shelf_stays : c.shelf_after ≡ c.shelf
-  pub input_stays : c.input_after ≡ c.input
-
--- 1: the source is refused, and out took the line that says so
-pub record RefusedSource (c : Call) (o : Outside) : Type 0 where
-  pub name : List ℕ
-  pub refusal : Refusal
-  pub is : IsRefused c o name refusal
-  pub wrote : Wrote c.out c.out_after (refusal_line name refusal)
-  pub input_stays : c.input_after ≡ c.input
-
--- 0 and 3: the source is a program, and out took a text that shows a run of it on the typed bytes
-pub record RanSource (c : Call) (o : Outside) (status : ℕ) : Type 0 where
-  pub task : Task
-  pub program : Core
-  pub is : IsProgram c o task program
-  pub outcome : Outcome
-  pub shown : HasShown (game_of c task program) o.typed (limits_of task) outcome (left_told c.input c.input_after) c.out c.out_after
-  pub is_status : status ≡ status_of outcome.ending
-
--- 4: the file is no story, and out took the line that says why
-pub record RefusedStory (c : Call) (o : Outside) : Type 0 where
-  pub task : Task
-  pub refusal : StoryRefusal
-  pub is : IsNoStory c o task refusal
-  pub wrote : Wrote c.out c.out_after (story_line task.name refusal)
-  pub input_stays : c.input_after ≡ c.input
-
--- 0, 3 and 4: the file is a story and its run ended, and out took the run's output with the line of its end
-pub record PlayedStory (c : Call) (o : Outside) (status : ℕ) : Type 0 where
-  pub task : Task
-  pub is : IsStory c o task
-  pub end : ZEnd
-  pub is_status : status ≡ status_of_end end
-  pub played : TaskPlays (Ok end) c o task
-
--- 0: the source is a program, and out took the report on its predicates, of which those of the set are single
-pub record ListedSource (c : Call) (o : Outside) : Type 0 where
-  pub name : List ℕ
-  pub program : Core
-  pub is : IsReported c o name program
+-- The predicates of a program are listed, at 0: out took the report, by which those of the set are single.
+pub record Lists (c : Call) (p : Core) (result : ℕ) : Type 0 where
   pub set : List Bool
-  pub single : AreSingles program.preds set
-  pub wrote : Wrote c.out c.out_after (report program set)
-  pub input_stays : c.input_after ≡ c.input
+  pub single : AreSingles p.preds set
+  pub prints : Prints c 0 (report p set) result
 
--- What a made source comes to, as a status and a text: a report on a run of it without typed bytes, 3 where such a run would write too
--- much, or 1 and a line where it is refused.
-pub data Makes (c : Call) (status : ℕ) (text : List ℕ) : Type 0 where
-  reports : (n : ℕ) (p : Core) → IsMade c n p → (output : List ℕ) (outcome : Outcome) (left : Option (List ℕ))
-      → Shows (game p c.dice) [] made_limits output outcome left
-      → status ≡ status_of outcome.ending → text ≡ made_report (made_source n) output outcome → Makes c status text
-  overflows : (n : ℕ) (p : Core) → IsMade c n p → (output : List ℕ) → MayWrite (game p c.dice) [] made_limits output → most_output < length output
-      → status ≡ 3 → text ≡ too_long_line → Makes c status text
-  refused_made : (n : ℕ) (r : Refusal) → IsMadeBadly c n r → status ≡ 1 → text ≡ refusal_line (codes "make") r → Makes c status text
+-- ---- sources that are made
 
--- 0, 1 and 3: the words make a source of a number, and out took the whole text that it comes to
-pub record MadeSource (c : Call) (status : ℕ) : Type 0 where
+-- What the source of a number comes to, as a status and a text: a report on a run of it without typed bytes, 3 where such a run would write
+-- too much, or 1 and a line where it is refused.
+pub data Makes (dice : List ℕ) (n : ℕ) (status : ℕ) (text : List ℕ) : Type 0 where
+  reports : (p : Core) → Compiles (made_source n) (Ok p) → (output : List ℕ) (outcome : Outcome) (left : Option (List ℕ))
+      → Shows (game p dice) [] made_limits output outcome left
+      → status ≡ status_of outcome.ending → text ≡ made_report (made_source n) output outcome → Makes dice n status text
+  overflows : (p : Core) → Compiles (made_source n) (Ok p) → (output : List ℕ) → MayWrite (game p dice) [] made_limits output → most_output < length output
+      → status ≡ 3 → text ≡ too_long_line → Makes dice n status text
+  refuses : (r : Refusal) → Compiles (made_source n) (Err r) → status ≡ 1 → text ≡ refusal_line (codes "make") r → Makes dice n status text
+
+-- The source of a number is made and run, at 0, 1 and 3: out took the whole text that it comes to.
+pub record Reports (c : Call) (n : ℕ) (result : ℕ) : Type 0 where
+  pub status : ℕ
   pub text : List ℕ
-  pub makes : Makes c status text
-  pub wrote : Wrote c.out c.out_after text
-  pub input_stays : c.input_after ≡ c.input
+  pub makes : Makes c.dice n status text
+  pub prints : Prints c status text result
 
--- what a call comes to where nothing fails
-pub data Ends (c : Call) (o : Outside) (result : ℕ) : Type 0 where
-  misused : result ≡ 2 → Misused c → Ends c o result
-  refused : result ≡ 1 → RefusedSource c o → Ends c o result
-  ran : RanSource c o result → Ends c o result
-  listed : result ≡ 0 → ListedSource c o → Ends c o result
-  refused_story : result ≡ 4 → RefusedStory c o → Ends c o result
-  played : PlayedStory c o result → Ends c o result
-  made : MadeSource c result → Ends c o result
+-- ---- stories
 
--- ---- where something fails
+-- A file is loaded: it is lost, at 5, or it is no story, at 4, or it is a story and played.
+pub data Loads (c : Call) (o : Outside) (t : Task) (result : ℕ) : Type 0 where
+  lost_story : LostFile c t.name → Prints c 5 (file_fault_line t.name) result → Loads c o t result
+  no_story : (r : StoryRefusal) → refusal_of (file_of o t) ≡ Some r → Prints c 4 (story_line t.name r) result → Loads c o t result
+  story : refusal_of (file_of o t) ≡ None → PlaysStory c o t (file_of o t) result → Loads c o t result
 
--- 5: the input failed in a source's run, and out took the text up to there with its closing
-pub record CutOffSource (c : Call) (o : Outside) : Type 0 where
-  pub rose : Rose c.input.faults c.input_after.faults
-  pub task : Task
-  pub program : Core
-  pub is : IsProgram c o task program
-  pub lost : HasLostInput (game_of c task program) o.typed (limits_of task) c.input_after.left c.out c.out_after
+-- This is the story of a program that isn't refused, and it agrees with the program: what it writes fits what the program's runs write.
+pub record HasStory (p : Core) (bytes : List ℕ) : Type 0 where
+  pub fits : build.refusal_of p ≡ None
+  pub built : Built
+  pub is : IsBuilt p built
+  pub bytes_are : built.story.items ≡ bytes
+  pub agrees : Agrees bytes p
 
--- 5: the input failed in a story's run, and out took the output up to there with the line that says so
-pub record CutOffStory (c : Call) (o : Outside) : Type 0 where
-  pub rose : Rose c.input.faults c.input_after.faults
-  pub task : Task
-  pub is : IsStory c o task
-  pub lost : TaskPlays (Err Read) c o task
+-- A program is built in memory: it has no story, at 7, or its story, which the player takes, is played.
+pub data Builds (c : Call) (o : Outside) (t : Task) (p : Core) (result : ℕ) : Type 0 where
+  no_story_of : (r : BuildRefusal) → build.refusal_of p ≡ Some r → Prints c 7 (build_line t.name r) result → Builds c o t p result
+  plays : (bytes : List ℕ) → HasStory p bytes → refusal_of bytes ≡ None → PlaysStory c o t bytes result → Builds c o t p result
 
--- out failed within what a story's run may be writing
-pub record LostOut (c : Call) (o : Outside) (t : Task) : Type 0 where
-  pub text : List ℕ
-  pub may_tell : MayTell c o t text
-  pub broke : BrokeOff c.out c.out_after text
-  pub played : TaskPlays (Err Write) c o t
-
--- the texts that a call may be writing when out fails, but for those of a story
-pub data MayPrint (c : Call) (o : Outside) (text : List ℕ) : Type 0 where
-  usage : c.command ≡ None → text ≡ usage_line → MayPrint c o text
-  refusal : (name : List ℕ) → (r : Refusal) → IsRefused c o name r → text ≡ refusal_line name r → MayPrint c o text
-  shown : (t : Task) → (p : Core) → IsProgram c o t p → MayWrite (game_of c t p) o.typed (limits_of t) text → MayPrint c o text
-  listing : (name : List ℕ) → (p : Core) → IsReported c o name p → (set : List Bool) → AreSingles p.preds set → text ≡ report p set →
-      MayPrint c o text
-  story_refusal : (t : Task) → (r : StoryRefusal) → IsNoStory c o t r → text ≡ story_line t.name r → MayPrint c o text
-  file_fault : (name : List ℕ) → LostFile c name → text ≡ file_fault_line name → MayPrint c o text
-  made_text : (status : ℕ) → Makes c status text → MayPrint c o text
-  no_memory : text ≡ no_memory_line → MayPrint c o text
-
--- What failed, at 5: the shelf, and out took the line that names the file; the input; or out within a text, of which it took a
--- front. Where a room was told, the text is longer.
-pub data Fails (c : Call) (o : Outside) : Type 0 where
-  shelf : (name : List ℕ) → LostFile c name → Wrote c.out c.out_after (file_fault_line name) → c.input_after ≡ c.input → Fails c o
-  input : CutOffSource c o → Fails c o
-  story_input : CutOffStory c o → Fails c o
-  out : (text : List ℕ) → MayPrint c o text → BrokeOff c.out c.out_after text → Fails c o
-  story_out : (t : Task) → IsStory c o t → Rose c.out.faults c.out_after.faults → LostOut c o t → Fails c o
-
--- Where no memory was found, at 6: nothing ran, or nothing of a made source's run is told, and out took the line that says so; or a
--- source's run was broken off, and the line stands behind what it printed
-pub data Lacks (c : Call) (o : Outside) : Type 0 where
-  nothing_ran : Wrote c.out c.out_after no_memory_line → c.input_after ≡ c.input → Lacks c o
-  in_run : (t : Task) → (p : Core) → IsProgram c o t p → HasLostMemory (game_of c t p) o.typed (limits_of t) c.input_after.left c.out c.out_after →
-      Lacks c o
+-- A program that is to be stored has no story, at 7.
+pub record HasNone (c : Call) (name : List ℕ) (p : Core) (result : ℕ) : Type 0 where
+  pub refusal : BuildRefusal
+  pub refused : build.refusal_of p ≡ Some refusal
+  pub prints : Prints c 7 (build_line name refusal) result
 
 -- ---- the call
 
--- What a call comes to, for some outside as far as it is told; the shelf keeps what it holds.
+-- What a call of this command comes to, where the shelf keeps what it holds.
+abbrev pub Does : Call → Outside → Option Command → ℕ → Type 0
+Does c o None result = Prints c 2 usage_line result × (c.shelf_after ≡ c.shelf)
+Does c o (Some (debug t)) result = Reads c o t.name (λ p. Runs c o t p result) result
+Does c o (Some (play t)) result = Loads c o t result
+Does c o (Some (run t)) result = Reads c o t.name (λ p. Builds c o t p result) result
+Does c o (Some (build name to)) result = Reads c o name (λ p. HasNone c name p result) result
+Does c o (Some (singles name)) result = Reads c o name (λ p. Lists c p result) result
+Does c o (Some (make n)) result = Reports c n result
+
+-- How a story came to the shelf: it is held there, at 0, and nothing is printed; or the shelf failed, at 5, or found no memory, at 6.
+pub data IsStored (c : Call) (to story : List ℕ) (result : ℕ) : Type 0 where
+  held : result ≡ 0 → WhereTold c.shelf_after.contents (λ contents. contents to ≡ Some story) → c.out_after ≡ c.out → c.input_after ≡ c.input
+      → IsStored c to story result
+  not_held : Rose c.shelf.faults c.shelf_after.faults → (IsTrue c.shelf.sure → ⊥) → Prints c 5 (file_fault_line to) result → IsStored c to story result
+  no_room_for_it : Prints c 6 no_memory_line result → IsStored c to story result
+
+-- A source is a program, and its story is handed to the shelf, which keeps all else.
+pub record Stores (c : Call) (o : Outside) (name to : List ℕ) (result : ℕ) : Type 0 where
+  pub program : Core
+  pub compiles : Compiles (file_at o name) (Ok program)
+  pub bytes : List ℕ
+  pub story : HasStory program bytes
+  pub keeps : IsStored c to bytes result
+  pub others : KeepsOthers to c.shelf.contents c.shelf_after.contents
+
+-- No memory was found before anything was done, at 6; or what the command comes to.
+pub data ComesTo (c : Call) (o : Outside) (result : ℕ) : Type 0 where
+  no_memory : Keeps c → Prints c 6 no_memory_line result → ComesTo c o result
+  does : Keeps c → Does c o c.command result → ComesTo c o result
+  stores : (name to : List ℕ) → c.command ≡ Some (build name to) → Stores c o name to result → ComesTo c o result
+
+-- What a call comes to, for some outside as far as it is told.
 pub record Answers (c : Call) (result : ℕ) : Type 0 where
   pub outside : Outside
   pub found : Finds c outside
-  pub kept : KeepsAll c.shelf.contents c.shelf_after.contents
-  pub answer : Ends c outside result ⊎ (((result ≡ 5) × Fails c outside) ⊎ ((result ≡ 6) × Lacks c outside))
+  pub answer : ComesTo c outside result
 
--- Which statuses come where: 2 exactly where the words are no command; 1 exactly where the source is refused, 0 and 3 where it is a
--- program that is run, 0 where its predicates are listed; 4 exactly where the file is no story, and of a story the status of its run's end.
+-- ---- which statuses come where
+
+-- 2 exactly where the words are no command; 1 exactly where a source is refused, 0 and 3 where it is a program that is run, 0 where its predicates
+-- are listed; 7 where it has no story, 0 where its story is stored; 4 exactly where a file is no story, and of a story the status of its run's end.
 pub record Decides (c : Call) (result : ℕ) : Type 0 where
   pub no_command : c.command ≡ None → Comes 2 result
-  pub refuses : (o : Outside) → c.shelf.contents ≡ Some o.contents → (name : List ℕ) → (r : Refusal) → IsRefused c o name r → Comes 1 result
-  pub runs : (o : Outside) → c.shelf.contents ≡ Some o.contents → (t : Task) → (p : Core) → IsProgram c o t p → (result ≡ 0) ⊎ Comes 3 result
-  pub lists : (o : Outside) → c.shelf.contents ≡ Some o.contents → (name : List ℕ) → (p : Core) → IsReported c o name p → Comes 0 result
-  pub makes : (n : ℕ) → (p : Core) → IsMade c n p → (result ≡ 0) ⊎ Comes 3 result
-  pub makes_badly : (n : ℕ) → (r : Refusal) → IsMadeBadly c n r → Comes 1 result
-  pub no_story : (o : Outside) → c.shelf.contents ≡ Some o.contents → (t : Task) → (r : StoryRefusal) → IsNoStory c o t r → Comes 4 result
-  pub plays : (o : Outside) → c.shelf.contents ≡ Some o.contents → c.input.left ≡ Some o.typed
-      → (t : Task) → IsStory c o t → Comes (status_of_end (run_of c o t t.steps).end) result
+  pub refuses : (o : Outside) → c.shelf.contents ≡ Some o.contents → (name : List ℕ) → source_named c.command ≡ Some name
+      → (r : Refusal) → Compiles (file_at o name) (Err r) → Comes 1 result
+  pub runs : (o : Outside) → c.shelf.contents ≡ Some o.contents → (t : Task) → c.command ≡ Some (debug t)
+      → (p : Core) → Compiles (file_of o t) (Ok p) → (result ≡ 0) ⊎ Comes 3 result
+  pub lists : (o : Outside) → c.shelf.contents ≡ Some o.contents → (name : List ℕ) → c.command ≡ Some (singles name)
+      → (p : Core) → Compiles (file_at o name) (Ok p) → Comes 0 result
+  pub makes : (n : ℕ) → c.command ≡ Some (make n) → (p : Core) → Compiles (made_source n) (Ok p) → (result ≡ 0) ⊎ Comes 3 result
+  pub makes_badly : (n : ℕ) → c.command ≡ Some (make n) → (r : Refusal) → Compiles (made_source n) (Err r) → Comes 1 result
+  pub builds : (o : Outside) → c.shelf.contents ≡ Some o.contents → (name to : List ℕ) → c.command ≡ Some (build name to)
+      → (p : Core) → Compiles (file_at o name) (Ok p) → build.refusal_of p ≡ None → Comes 0 result
+  pub builds_none : (o : Outside) → c.shelf.contents ≡ Some o.contents → (name to : List ℕ) → c.command ≡ Some (build name to)
+      → (p : Core) → Compiles (file_at o name) (Ok p) → (r : BuildRefusal) → build.refusal_of p ≡ Some r → Comes 7 result
+  pub runs_none : (o : Outside) → c.shelf.contents ≡ Some o.contents → (t : Task) → c.command ≡ Some (run t)
+      → (p : Core) → Compiles (file_of o t) (Ok p) → (r : BuildRefusal) → build.refusal_of p ≡ Some r → Comes 7 result
+  pub no_story : (o : Outside) → c.shelf.contents ≡ Some o.contents → (t : Task) → c.command ≡ Some (play t)
+      → (r : StoryRefusal) → refusal_of (file_of o t) ≡ Some r → Comes 4 result
+  pub plays : (o : Outside) → c.shelf.contents ≡ Some o.contents → c.input.left ≡ Some o.typed → (t : Task) → c.command ≡ Some (play t)
+      → refusal_of (file_of o t) ≡ None → Comes (status_of_end (run_of c o t (file_of o t)).end) result

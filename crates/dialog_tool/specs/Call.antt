@@ -1,5 +1,5 @@
 -- A call of the program, and what it may find outside.
-use Rattle.std.specs.Prelude.{◌≡◌, ℕ, List, Option, Some, None}
+use Rattle.std.specs.Prelude.{◌≡◌, ◌≤◌, ℕ, List, Option, Some, None, IsTrue}
 use Rattle.dg_base.specs.Shelves.{ShelfView, held, WhereTold, KeepsAll}
 use Rattle.dg_base.specs.Streams.{SourceView}
 use Rattle.dg_base.specs.Written.{SinkView}
@@ -56,7 +56,9 @@ file_of o t = file_at o t.name
 abbrev pub dice_for : Call → Task → List ℕ
 dice_for c t = thrown t.dice c.dice
 
--- A shelf's file is this, as far as the shelf tells, and it keeps what it holds.
+-- A shelf's file is this, as far as the shelf tells; it keeps what it holds, has failed no less often, and stays sure.
 pub record IsFetched (before after : ShelfView) (name file : List ℕ) : Type 0 where
   pub told : WhereTold before.contents (λ contents. file ≡ held (contents name))
   pub kept : KeepsAll before.contents after.contents
+  pub later : before.faults ≤ after.faults
+  pub sure : IsTrue before.sure → IsTrue after.sure

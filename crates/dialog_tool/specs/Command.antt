@@ -19,11 +19,13 @@ pub record Task : Type 0 where
   pub trail : ℕ
   pub dice : Option (List ℕ)
 
--- what is to be done: a source is run, a story is played, the predicates of the source in a file are listed, or a source is made of a
--- number and run
+-- what is to be done: a source is run, a story is played, a source is built and its story played, the story of a source is stored under another
+-- name, the predicates of a source are listed, or a source is made of a number and run
 pub data Command : Type 0 where
   debug : Task → Command
   play : Task → Command
+  run : Task → Command
+  build : List ℕ → List ℕ → Command
   singles : List ℕ → Command
   make : ℕ → Command
 
@@ -127,9 +129,15 @@ task_of usual name values =
 abbrev pub debug_with : List ℕ → Values → Option Command
 debug_with name values = option_map debug (task_of 100000000 name values)
 
--- a story is played as its options say; it has no limits of heap and trail
-abbrev pub play_with : List ℕ → Values → Option Command
-play_with name values = if is_some values.heap || is_some values.trail then None else option_map play (task_of 1000000000 name values)
+-- a story is played as its options say; it has limits of heap and trail of its own
+abbrev pub story_task : List ℕ → Values → Option Task
+story_task name values = if is_some values.heap || is_some values.trail then None else task_of 1000000000 name values
+
+-- the story of a source is stored under a name; there are no options
+abbrev pub build_with : List ℕ → List (List ℕ) → Option Command
+build_with name [] = None
+build_with name (to ∷ []) = if is_file_name to then Some (build name to) else None
+build_with name (to ∷ other ∷ others) = None
 
 -- the predicates of a source are listed; there are no options
 abbrev pub singles_with : List ℕ → List (List ℕ) → Option Command
@@ -152,19 +160,13 @@ thrown (Some dice) handed = dice
 
 -- ---- files
 
--- the file that a command names
-abbrev pub file_named : Option Command → Option (List ℕ)
-file_named None = None
-file_named (Some (debug t)) = Some t.name
-file_named (Some (play t)) = Some t.name
-file_named (Some (singles name)) = Some name
-file_named (Some (make n)) = None
-
 -- the source that a command names
 abbrev pub source_named : Option Command → Option (List ℕ)
 source_named None = None
 source_named (Some (debug t)) = Some t.name
 source_named (Some (play t)) = None
+source_named (Some (run t)) = Some t.name
+source_named (Some (build name to)) = Some name
 source_named (Some (singles name)) = Some name
 source_named (Some (make n)) = None
 
@@ -174,13 +176,15 @@ source_named (Some (make n)) = None
 abbrev pub with_options : List ℕ → List ℕ → List (List ℕ) → Option Command
 with_options command name options =
     if bytes_eq command (codes "debug") then option_and_then (debug_with name) (values_of options)
-    else if bytes_eq command (codes "play") then option_and_then (play_with name) (values_of options)
+    else if bytes_eq command (codes "play") then option_and_then (λ values. option_map play (story_task name values)) (values_of options)
+    else if bytes_eq command (codes "run") then option_and_then (λ values. option_map run (story_task name values)) (values_of options)
     else None
 
 -- the command of this word
 abbrev pub command_named : List ℕ → List ℕ → List (List ℕ) → Option Command
 command_named command name options =
-    if bytes_eq command (codes "singles") then singles_with name options
+    if bytes_eq command (codes "build") then build_with name options
+    else if bytes_eq command (codes "singles") then singles_with name options
     else if bytes_eq command (codes "make") then make_with name options
     else with_options command name options
 

@@ -3,7 +3,7 @@ use Rattle.std.specs.Prelude.{◌<◌, length, IfSome}
 use Rattle.std.specs.Option.{option_map}
 use Rattle.dialog_tool.specs.Command as spec
 use Rattle.dialog_tool.specs.declared.command.Command.{Command}
-use Rattle.dialog_tool.specs.declared.command.Command.TheVariants.{Debug, Play, Singles, Make}
+use Rattle.dialog_tool.specs.declared.command.Command.TheVariants.{Debug, Play, Run, Build, Singles, Make}
 use Rattle.dialog_tool.specs.declared.command.Task.{Task}
 use Rattle.dialog_tool.specs.declared.command.Values.{Values}
 
@@ -13,6 +13,8 @@ task_view t = record { name = t.name.now; steps = t.steps; heap = t.heap; trail 
 abbrev pub command_view : Command → spec.Command
 command_view (Debug task) = spec.debug (task_view task)
 command_view (Play task) = spec.play (task_view task)
+command_view (Run task) = spec.run (task_view task)
+command_view (Build name to) = spec.build name.now to.now
 command_view (Singles name) = spec.singles name.now
 command_view (Make n) = spec.make n
 
@@ -31,5 +33,7 @@ HasDice task = IfSome task.dice (λ d. 0 < length d.items)
 abbrev pub CommandHasDice : Command → Type 0
 CommandHasDice (Debug task) = HasDice task
 CommandHasDice (Play task) = HasDice task
+CommandHasDice (Run task) = HasDice task
+CommandHasDice (Build name to) = Unit {0}
 CommandHasDice (Singles name) = Unit {0}
 CommandHasDice (Make n) = Unit {0}

@@ -7,4 +7,5 @@ pub mod Call
 pub mod Playing
 pub mod Report
 pub mod Making
+pub mod Building
 pub mod Answers

@@ -30,12 +30,14 @@ pub struct Task<'a> {
     pub dice: Option<Vec<u16>>,
 }
 
-/// What is to be done: a source is run, a story is played, the predicates of the source in a file are listed, or a source is made
-/// of a number and run.
+/// What is to be done: a source is run, a story is played, a source is built and its story played, the story of a source is stored
+/// under another name, the predicates of a source are listed, or a source is made of a number and run.
 #[derive(Drop)]
 pub enum Command<'a> {
     Debug(Task<'a>),
     Play(Task<'a>),
+    Run(Task<'a>),
+    Build(&'a str, &'a str),
     Singles(&'a str),
     Make(u16),
 }
@@ -217,21 +219,60 @@ fn debug<'a>(
     }
 }
 
+// The task of a story's run.
+fn story_task<'a>(
+    alloc: Global,
+    name: &'a str,
+    values: Values<'_>,
+) -> Result<Option<Task<'a>>, AllocError>
+    ensures task { IfOk result (λ task. option_map task_view task ≡ spec.story_task name.now (values_view values.entry)) }
+    ensures dice { IfOk result (λ task. IfSome task HasDice) }
+{
+    if values.heap.is_some() || values.trail.is_some() {
+        return Ok(None);
+    }
+    task_of(alloc, USUAL_INSTRUCTIONS, name, values)
+}
+
 fn play<'a>(
     alloc: Global,
     name: &'a str,
     values: Values<'_>,
 ) -> Result<Option<Command<'a>>, AllocError>
-    ensures command { IfOk result (λ command. option_map command_view command ≡ spec.play_with name.now (values_view values.entry)) }
+    ensures command { IfOk result (λ command. option_map command_view command
+        ≡ option_map spec.play (spec.story_task name.now (values_view values.entry))) }
     ensures dice { IfOk result (λ command. IfSome command CommandHasDice) }
 {
-    if values.heap.is_some() || values.trail.is_some() {
-        return Ok(None);
-    }
-    match task_of(alloc, USUAL_INSTRUCTIONS, name, values) {
+    match story_task(alloc, name, values) {
         Ok(Some(task)) => Ok(Some(Command::Play(task))),
         Ok(None) => Ok(None),
         Err(error) => Err(error),
+    }
+}
+
+fn run<'a>(
+    alloc: Global,
+    name: &'a str,
+    values: Values<'_>,
+) -> Result<Option<Command<'a>>, AllocError>
+    ensures command { IfOk result (λ command. option_map command_view command
+        ≡ option_map spec.run (spec.story_task name.now (values_view values.entry))) }
+    ensures dice { IfOk result (λ command. IfSome command CommandHasDice) }
+{
+    match story_task(alloc, name, values) {
+        Ok(Some(task)) => Ok(Some(Command::Run(task))),
+        Ok(None) => Ok(None),
+        Err(error) => Err(error),
+    }
+}
+
+fn build<'a>(name: &'a str, options: &'a [String]) -> Option<Command<'a>>
+    ensures command { option_map command_view result ≡ spec.build_with name.now (texts options.now) }
+    ensures dice { IfSome result CommandHasDice }
+{
+    match options {
+        [to] if is_file_name(to.as_str()) => Some(Command::Build(name, to.as_str())),
+        _ => None,
     }
 }
 
@@ -273,6 +314,7 @@ fn with_options<'a>(
     match command {
         "debug" => debug(alloc, name, values),
         "play" => play(alloc, name, values),
+        "run" => run(alloc, name, values),
         _ => Ok(None),
     }
 }
@@ -282,12 +324,13 @@ fn command_named<'a>(
     alloc: Global,
     command: &str,
     name: &'a str,
-    options: &[String],
+    options: &'a [String],
 ) -> Result<Option<Command<'a>>, AllocError>
     ensures command { IfOk result (λ made. option_map command_view made ≡ spec.command_named command.now name.now (texts options.now)) }
     ensures dice { IfOk result (λ made. IfSome made CommandHasDice) }
 {
     match command {
+        "build" => Ok(build(name, options)),
         "singles" => Ok(singles(name, options)),
         "make" => Ok(make(name, options)),
         _ => with_options(alloc, command, name, options),

@@ -8,6 +8,7 @@ ghost use Rattle.dialog_tool.specs.Command.{texts, command_of, debug as debug_co
 ghost use Rattle.dialog_tool.specs.CommandView.{task_view, HasDice};
 ghost use Rattle.dialog_tool.specs.Source.{Compiles};
 
+use crate::building::{build, run};
 use crate::command::{Command, Task, command_of};
 use crate::lines::{FAULT, NO_MEMORY, no_memory, usage};
 use crate::listing::list_file;
@@ -97,6 +98,8 @@ fn answer<F: Shelf, S: Source, K: Sink>(
     match command_of(alloc, words) {
         Ok(Some(Command::Debug(task))) => debug(alloc, &task, shelf, input, out, dice),
         Ok(Some(Command::Play(task))) => play(alloc, &task, shelf, input, out, dice),
+        Ok(Some(Command::Run(task))) => run(alloc, &task, shelf, input, out, dice),
+        Ok(Some(Command::Build(name, to))) => build(alloc, name, to, shelf, out),
         Ok(Some(Command::Singles(name))) => list_file(alloc, name, shelf, out),
         Ok(Some(Command::Make(n))) => make(alloc, n, out, dice),
         Ok(None) => usage(out),
@@ -104,9 +107,9 @@ fn answer<F: Shelf, S: Source, K: Sink>(
     }
 }
 
-/// Does what the words behind the program's name ask for, and answers the exit status: 0 the run ended or the report is written, 1 the source is refused,
-/// 2 the words are no command, 3 a limit was met, 4 the story is refused or broke, 5 the shelf, the input or the output failed,
-/// 6 memory ran out.
+/// Does what the words behind the program's name ask for, and answers the exit status: 0 the run ended, the report is written or the story is stored,
+/// 1 the source is refused, 2 the words are no command, 3 a limit was met, 4 the story is refused or broke, 5 the shelf, the input or the
+/// output failed, 6 memory ran out, 7 the source has no story.
 pub fn tool<F: Shelf, S: Source, K: Sink>(
     alloc: Global,
     words: &[String],

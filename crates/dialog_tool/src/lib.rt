@@ -3,6 +3,7 @@
 
 mod adapters;
 mod behind;
+mod building;
 mod command;
 mod dice;
 mod dispatch;

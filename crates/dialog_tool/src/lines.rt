@@ -3,9 +3,10 @@ ghost use Rattle.std.specs.Prelude.{◌≡◌, ◌++◌, codes};
 ghost use Rattle.dg_base.specs.Written.{texts, joined};
 ghost use Rattle.dg_meaning.specs.Transcript.{no_memory_line};
 ghost use Rattle.z_model.specs.Story.{text_of_story};
-ghost use Rattle.dialog_tool.specs.Lines.{Says, usage_line, refusal_line, story_line, file_fault_line};
+ghost use Rattle.dialog_tool.specs.Lines.{Says, usage_line, refusal_line, story_line, text_of_build, build_line, file_fault_line};
 
 use dg_base::{Refusal, Sink, text_of, write_pieces};
+use dg_story::BuildRefusal;
 use itoa::Buffer;
 use z_model::StoryRefusal;
 
@@ -22,6 +23,8 @@ pub const STORY: u8 = 4;
 pub const FAULT: u8 = 5;
 
 pub const NO_MEMORY: u8 = 6;
+
+pub const NO_STORY: u8 = 7;
 
 const USAGE_LINE: &[u8] =
     b"usage: dialog debug FILE, build FILE OUT, play STORY, run FILE, singles FILE, make N\n";
@@ -84,15 +87,34 @@ fn story_text(refusal: StoryRefusal) -> &'static [u8]
     }
 }
 
-fn say_story<'a, K: Sink>(out: &mut K, name: &'a [u8], text: &'a [u8]) -> u8
-    ensures { Says 4 (name.now ++ (codes ": " ++ (text.now ++ codes "\n"))) (K.view out.old) (K.view out.new) result }
+// Writes a line that names a file and says why.
+fn say_of<'a, K: Sink>(out: &mut K, status: u8, name: &'a [u8], text: &'a [u8]) -> u8
+    ensures { Says status (name.now ++ (codes ": " ++ (text.now ++ codes "\n"))) (K.view out.old) (K.view out.new) result }
 {
-    say(out, STORY, &[name, b": ", text, b"\n"])
+    say(out, status, &[name, b": ", text, b"\n"])
 }
 
 /// Writes the line of a file that is no story.
 pub fn refuse_story<K: Sink>(name: &str, refusal: StoryRefusal, out: &mut K) -> u8
     ensures { Says 4 (story_line name.now refusal) (K.view out.old) (K.view out.new) result }
 {
-    say_story(out, name.as_bytes(), story_text(refusal))
+    say_of(out, STORY, name.as_bytes(), story_text(refusal))
+}
+
+fn build_text(refusal: BuildRefusal) -> &'static [u8]
+    ensures { result.now ≡ text_of_build refusal }
+{
+    match refusal {
+        BuildRefusal::NotBuiltYet => b"not built yet",
+        BuildRefusal::WorldTooLarge => b"world too large",
+        BuildRefusal::WordsTooLarge => b"words too large",
+        BuildRefusal::StoryTooLarge => b"story too large",
+    }
+}
+
+/// Writes the line of a source that has no story.
+pub fn refuse_build<K: Sink>(name: &str, refusal: BuildRefusal, out: &mut K) -> u8
+    ensures { Says 7 (build_line name.now refusal) (K.view out.old) (K.view out.new) result }
+{
+    say_of(out, NO_STORY, name.as_bytes(), build_text(refusal))
 }

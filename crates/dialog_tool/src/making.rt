@@ -4,8 +4,8 @@ ghost use Rattle.dg_base.specs.Shelves.{ShelfView};
 ghost use Rattle.dg_base.specs.Sound.{IsSound};
 ghost use Rattle.dg_base.specs.Streams.{SourceView};
 ghost use Rattle.dg_make.specs.Made.{made_source};
-ghost use Rattle.dialog_tool.specs.Answers.{status_of, Answers, IsMade, Makes};
-ghost use Rattle.dialog_tool.specs.Call.{Call, call};
+ghost use Rattle.dialog_tool.specs.Answers.{status_of, Answers, Makes};
+ghost use Rattle.dialog_tool.specs.Call.{call};
 ghost use Rattle.dialog_tool.specs.Command.{make as make_command};
 ghost use Rattle.dialog_tool.specs.Lines.{Says};
 ghost use Rattle.dialog_tool.specs.Making as spec;
@@ -143,8 +143,8 @@ fn report_of(
 ) -> Result<Report, AllocError>
     requires sound { IsSound program.now }
     requires dice { 0 < length dice.now }
-    ensures { IfOk result (λ report. (c : Call) → (n : ℕ) → c.dice ≡ dice.now → source.now ≡ made_source n → IsMade c n program.now
-        → Makes c report.status report.text.items) }
+    ensures { IfOk result (λ report. (n : ℕ) → source.now ≡ made_source n → Compiles (made_source n) (Ok program.now)
+        → Makes dice.now n report.status report.text.items) }
 {
     let mut output = SureSink::new(alloc, MOST_OUTPUT)?;
     let mut input = SureSource::new(Vec::new(alloc));

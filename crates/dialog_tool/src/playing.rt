@@ -1,12 +1,13 @@
 // Plays stories.
-ghost use Rattle.std.specs.Prelude.{◌≡◌, ◌<◌, length, Some, IfSome};
+ghost use Rattle.std.specs.Prelude.{◌≡◌, ◌<◌, ℕ, List, Option, length, Some, IfSome};
 ghost use Rattle.std.specs.Option.{option_map};
 ghost use Rattle.dg_base.specs.Shelves.{ShelfView};
 ghost use Rattle.dialog_tool.specs.Answers.{Answers};
 ghost use Rattle.dialog_tool.specs.Call.{call, IsFetched};
-ghost use Rattle.dialog_tool.specs.Command.{thrown, play as play_command};
+ghost use Rattle.dialog_tool.specs.Command.{Command, thrown, play as play_command};
 ghost use Rattle.dialog_tool.specs.CommandView.{task_view, HasDice};
-ghost use Rattle.dialog_tool.specs.Playing.{status_of_end};
+ghost use Rattle.dialog_tool.specs.Playing.{status_of_end, HasPlayed};
+ghost use Rattle.z_play.specs.Ready.{IsLoaded};
 
 use crate::command::Task;
 use crate::lines::{DONE, FAULT, LIMIT, STORY, file_fault, no_memory, refuse_story};
@@ -40,6 +41,29 @@ fn status_of_end(end: ZEnd) -> u8
     }
 }
 
+/// Runs a loaded story as a task says.
+pub fn run_player<S: Source, K: Sink>(
+    task: &Task<'_>,
+    player: &mut Player,
+    input: &mut S,
+    out: &mut K,
+    dice: &[u16],
+) -> u8
+    requires own { HasDice task.now }
+    requires dice { 0 < length dice.now }
+    ensures { (command : Option Command) → (before after : ShelfView) → (bytes : List ℕ) → IsLoaded bytes player.old →
+        HasPlayed (call command dice.now before after (S.view input.old) (S.view input.new) (K.view out.old) (K.view out.new))
+        (task_view task.now) bytes result }
+{
+    fronts_are_written();
+    let dice = thrown(&task.dice, dice);
+    match player.run(task.steps, input, dice, out) {
+        Ok(end) => status_of_end(end),
+        Err(Fault::Read) => FAULT,
+        Err(Fault::Write) => FAULT,
+    }
+}
+
 // Loads and runs a story.
 fn play_file<S: Source, K: Sink>(
     alloc: Global,
@@ -55,17 +79,10 @@ fn play_file<S: Source, K: Sink>(
         Answers (call (Some (play_command (task_view task.now))) dice.now before after
         (S.view input.old) (S.view input.new) (K.view out.old) (K.view out.new)) result }
 {
-    let mut player = match Player::load(alloc, file) {
-        Ok(player) => player,
-        Err(LoadFault::Refused(refusal)) => return refuse_story(task.name, refusal, out),
-        Err(LoadFault::OutOfMemory) => return no_memory(out),
-    };
-    fronts_are_written();
-    let dice = thrown(&task.dice, dice);
-    match player.run(task.steps, input, dice, out) {
-        Ok(end) => status_of_end(end),
-        Err(Fault::Read) => FAULT,
-        Err(Fault::Write) => FAULT,
+    match Player::load(alloc, file) {
+        Ok(mut player) => run_player(task, &mut player, input, out, dice),
+        Err(LoadFault::Refused(refusal)) => refuse_story(task.name, refusal, out),
+        Err(LoadFault::OutOfMemory) => no_memory(out),
     }
 }
 

@@ -4,9 +4,8 @@ use Rattle.dg_closures.specs.View.{layout_view, layouts_view}
 use Rattle.dg_closures.specs.declared.layouts.Layout.{Layout}
 use Rattle.dg_core.specs.Goals.{Scope}
 use Rattle.dg_core.specs.Making.{bodies_view}
-use Rattle.dg_core.specs.Rows.{Home}
 use Rattle.dg_core.specs.View.{scope_view, before_view}
-use Rattle.dg_core.specs.Waiting.{home_of, stack_of, waiting_from}
+use Rattle.dg_core.specs.Waiting.{home_of, waiting_from}
 use Rattle.dg_core.proofs.KeptLemmas.{rule_is, rule_waits}
 use Rattle.dg_core.proofs.program.rule_with.Goals as goal
 

@@ -1,7 +1,6 @@
-use Rattle.std.proofs.Common.{◌≡◌, ◌+◌, ◌++◌, ◌∷◌, ℕ, List, [], drop, map, refl, sym, ◌∙◌, ap, arith}
+use Rattle.std.proofs.Common.{◌+◌, ◌++◌, ℕ, List, [], drop, map, sym, ◌∙◌, ap, arith}
 use Rattle.std.proofs.lemmas.List.{drop_all}
 use Rattle.dg_base.specs.TreeView.{item_view}
-use Rattle.dg_base.specs.declared.program.ClosureBody.{ClosureBody}
 use Rattle.dg_base.specs.declared.tree.Item.{Item}
 use Rattle.dg_core.specs.Core.{Before, none_before, rows_from, all_selects, inner_selects}
 use Rattle.dg_core.specs.View.{scope_view, before_view, with_all, with_rules_in, pred_names}

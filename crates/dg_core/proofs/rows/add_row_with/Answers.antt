@@ -1,5 +1,4 @@
-use Rattle.std.proofs.Common.{◌≡◌, ◌∙◌, ◌++◌, ℕ, List, Bor, ap, map}
-use Rattle.dg_base.specs.TreeView.{body_view}
+use Rattle.std.proofs.Common.{◌∙◌, ◌++◌, ℕ, List, Bor, ap}
 use Rattle.dg_base.specs.declared.tree.Body.{Body}
 use Rattle.dg_closures.specs.Closures.{Layout, variables_in}
 use Rattle.dg_closures.specs.View.{layout_view}

@@ -7,8 +7,8 @@ pub returns-in-Ok : goal.returns-in-Ok
 returns-in-Ok c =
     let shown = rw (c.debug-limits.ensures, c.new-input.ensures, c.new-2.ensures.items) at c.in-Ok.ensures.shows in
     if_both _ _ _ c.whole.result
-    (λ report text status call n dice source is.
-    made_whole call n c.args.program.now c.args.dice.now c.args.source.now c.in_ok-output.output.bytes c.interpret.new.sink.bytes report.text.items c.in-Ok.outcome _ _ _ _ _ report.status is dice source
+    (λ report text status n source is.
+    made_whole n c.args.program.now c.args.dice.now c.args.source.now c.in_ok-output.output.bytes c.interpret.new.sink.bytes report.text.items c.in-Ok.outcome _ _ _ _ _ report.status is source
     (ap (λ s. s.bytes) c.in_ok-output.ensures) shown (text ∙ ap (λ (l : List ℕ). made_report c.args.source.now l c.in-Ok.outcome) c.taken.ensures) status)
     c.whole.ensures.text c.whole.ensures.status
 
@@ -16,7 +16,7 @@ pub returns-in-Err-Write : goal.returns-in-Err-Write
 returns-in-Err-Write c =
     let lost = rw (c.in-Err-Write.field-0-is, c.debug-limits.ensures, c.new-input.ensures, c.new-2.ensures.items) at c.in-Err-Write.ensures.err in
     if_both _ _ _ c.too_long.result
-    (λ report text status call n dice source is.
-    made_long call n c.args.program.now c.args.dice.now c.in_ok-output.output.bytes report.text.items c.in_ok-output.output.room _ report.status _ is dice
+    (λ report text status n source is.
+    made_long n c.args.program.now c.args.dice.now c.in_ok-output.output.bytes report.text.items c.in_ok-output.output.room _ report.status _ is
     (ap (λ s. s.room) c.in_ok-output.ensures) lost text status)
     c.too_long.ensures.text c.too_long.ensures.status

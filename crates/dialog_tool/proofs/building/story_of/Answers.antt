@@ -1,0 +1,8 @@
+use Rattle.std.proofs.Common.{refl}
+use Rattle.dialog_tool.specs.Building.{none, no_room}
+use Rattle.dialog_tool.proofs.building.story_of.Goals as goal
+
+pub returns-in-Refused-clause-none : goal.returns-in-Refused-clause-none
+returns-in-Refused-clause-none g c =
+    let refused = rw c.in-Refused.is at c.in-Err.ensures.refused in
+    none c.in-Refused.refusal (refused c.in-Refused.refusal refl) c.refuse_build.ensures
