@@ -562,7 +562,11 @@ fn sources_are_built_and_run(rt: HostRuntime) -> Result<(), Fail> {
         ("play s.z8", 0, "x y z\n"),
         ("run p.dg", 0, "x y z\n"),
         ("run p.dg --steps 1", 3, "[Step limit]\n"),
-        ("build q.dg s.z8", 5, "q.dg: file fault\n"),
+        (
+            "build q.dg s.z8",
+            1,
+            "q.dg:1: no rule for (program entry point)\n",
+        ),
     ];
     for (line, status, text) in cases {
         let mut input = SureSource::new(Vec::new(alloc));
@@ -571,6 +575,48 @@ fn sources_are_built_and_run(rt: HostRuntime) -> Result<(), Fail> {
         let found = tool(alloc, &words, &mut shelf, &mut input, &mut out, &[0]);
         assert_eq!(rt; found, status, "{line}");
         assert_eq!(rt; out.taken(), text.as_bytes(), "{line}");
+    }
+    Ok(())
+}
+
+// The story that is built of a source; nothing where it is refused.
+fn built(alloc: Global, source: &str) -> Result<Vec<u8>, Fail> {
+    let mut shelf = SureShelf::new(alloc);
+    shelf.add(alloc, "p.dg", source.as_bytes())?;
+    let mut input = SureSource::new(Vec::new(alloc));
+    let mut out = SureSink::new(alloc, 99)?;
+    let build = words(alloc, "build p.dg p.z8")?;
+    tool(alloc, &build, &mut shelf, &mut input, &mut out, &[0]);
+    Ok(Vec::from_slice(alloc, shelf.contents("p.z8").unwrap_or(b""))?)
+}
+
+// The places where two stories differ, but for their checksums.
+fn differing(alloc: Global, first: &[u8], second: &[u8]) -> Result<Vec<usize>, Fail> {
+    let mut places = Vec::new(alloc);
+    for (place, (a, b)) in first.iter().zip(second).enumerate() {
+        if a != b && place != 0x1C && place != 0x1D {
+            places.push(place)?;
+        }
+    }
+    Ok(places)
+}
+
+// A letter of a rule's text is a byte of its story alone, so the text stands in one place.
+#[test]
+fn a_letter_is_one_byte_of_a_story(rt: HostRuntime) -> Result<(), Fail> {
+    let alloc = rt.alloc();
+    let story = built(alloc, ORDER)?;
+    let others = [
+        "(a) w (b)\n(a) y\n(b) (c)\n(program entry point) (a) z\n",
+        "(a) x (b)\n(a) \u{FF}\n(b) (c)\n(program entry point) (a) z\n",
+        "(a) x (b)\n(a) y\n(b) (c)\n(program entry point) (a) Z\n",
+    ];
+    for source in others {
+        let other = built(alloc, source)?;
+        let places = differing(alloc, &story, &other)?;
+        assert_eq!(rt; other.len(), story.len(), "{source}");
+        assert_eq!(rt; places.len(), 1, "{source}");
+        assert!(rt; places.first() >= Some(&64), "{source}");
     }
     Ok(())
 }
@@ -699,6 +745,20 @@ fn failing_objects_are_named(rt: HostRuntime) -> Result<(), Fail> {
     let status = tool(alloc, &debug, &mut shelf, &mut input, &mut small, &[0]);
     assert_eq!(rt; status, 5);
     assert_eq!(rt; small.taken(), b"x y".as_slice());
+    Ok(())
+}
+
+#[test]
+fn a_story_that_is_not_stored_is_named(rt: HostRuntime) -> Result<(), Fail> {
+    let alloc = rt.alloc();
+    let build = words(alloc, "build p.dg s.z8")?;
+    let mut input = SureSource::new(Vec::new(alloc));
+    let mut shelf = MapShelf::new(alloc, vec![in alloc; 1]?);
+    shelf.add(alloc, "p.dg", ORDER.as_bytes())?;
+    let mut out = SureSink::new(alloc, 99)?;
+    let status = tool(alloc, &build, &mut shelf, &mut input, &mut out, &[0]);
+    assert_eq!(rt; status, 5);
+    assert_eq!(rt; out.taken(), b"s.z8: file fault\n".as_slice());
     Ok(())
 }
 
