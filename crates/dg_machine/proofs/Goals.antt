@@ -41,6 +41,8 @@ use Rattle.dg_machine.specs.declared.now.Way.TheVariants.{Goes, Calls}
 use Rattle.dg_machine.specs.declared.now.Now.{Now}
 use Rattle.dg_machine.specs.declared.now.Now.TheVariants.{Runs, Enters, Resumes, Fails, Ended}
 use Rattle.dg_machine.specs.declared.memory.Memory.{Memory}
+use Rattle.dg_machine.specs.declared.tables.Tables.{Tables}
+use Rattle.dg_machine.specs.Tables.{IsOf}
 use Rattle.dg_machine.specs.Built.{OpBuilt, OpsBuilt, IsBuilt, IsQuiet, IsQuietOp}
 use Rattle.dg_machine.specs.Layout.{HasRoom, HasPut, Holds, Roomy}
 use Rattle.dg_machine.specs.Standing.{CodeIs, Stands, Falls, DoesOp, DoesMark, Asks, AsksLast, EntersRule, IsThere, GoesOn, FailsTo, HasStatus}
@@ -96,8 +98,8 @@ quiet_mark : (g : Setting) (m : Mid) (x : Op) (rest : List Op) → is_goal x ≡
 quiet_mark g m (op.Do a) rest e = absurd (cc)
 quiet_mark g m x rest e = refl
 
-pub marks_run : (code : Code) (old new : Memory) (now : Now) (ops : Bor (List Op)) (x : Op) (rest : List Op) → ops.now ≡ x ∷ rest → is_goal x ≡ false → DoesMark code old ops x rest new now → DoesMarks code old (Runs ops) new now
-marks_run code old new now ops x rest split e does g l (RunsOf m) o t h =
+pub marks_run : (tb : Tables) (code : Code) (old new : Memory) (now : Now) (ops : Bor (List Op)) (x : Op) (rest : List Op) → ops.now ≡ x ∷ rest → is_goal x ≡ false → DoesMark code old ops x rest new now → DoesMarks tb code old (Runs ops) new now
+marks_run tb code old new now ops x rest split e does g is_of l (RunsOf m) o t h =
     let is : m.ops ≡ x ∷ rest = h.0.0 ∙ split in
     let built : OpsBuilt (x ∷ rest) = subst OpsBuilt split h.0.1 in
     let done = does g l (record m { ops = rest }) o built.0 (refl, built.1) h.1 in
@@ -106,29 +108,29 @@ marks_run code old new now ops x rest split e does g l (RunsOf m) o t h =
       falls = λ over. done.falls;
       quiet = ap (λ ps. said_to ps (step (setting g code l) (RunsOf m))) (ap (said_in (setting g code l) m) is ∙ quiet_mark (setting g code l) m x rest e);
     }
-marks_run code old new now ops x rest split e does g l s o t h = absurd h
+marks_run tb code old new now ops x rest split e does g is_of l s o t h = absurd h
 
-pub marks_none : (code : Code) (r : Memory) (ops : Bor (List Op)) → length ops.now < 1 → DoesMarks code r (Runs ops) r Fails
-marks_none code r ops lt g l (RunsOf m) o t h =
+pub marks_none : (tb : Tables) (code : Code) (r : Memory) (ops : Bor (List Op)) → length ops.now < 1 → DoesMarks tb code r (Runs ops) r Fails
+marks_none tb code r ops lt g is_of l (RunsOf m) o t h =
     let none : m.ops ≡ [] = h.0.0 ∙ empty_list ops.now lt in
     record {
       stands = subst (λ xs. Stands code l r Fails (runs (setting g code l) xs m)) (sym none) h.1;
       falls = λ over. omega arith;
       quiet = ap (λ ps. said_to ps (step (setting g code l) (RunsOf m))) (ap (said_in (setting g code l) m) none);
     }
-marks_none code r ops lt g l s o t h = absurd h
+marks_none tb code r ops lt g is_of l s o t h = absurd h
 
-pub marks_enter : (code : Code) (old new : Memory) (now : Now) (k : Call) (ops : Bor (List Op)) → EntersRule code old k ops new now → DoesMarks code old (Enters k ops) new now
-marks_enter code old new now k ops enters g l (EntersOf c m) o t h = let done = enters g l m c h.0 h.1 h.2 in record { stands = done.stands; falls = λ over. done.falls; quiet = refl }
-marks_enter code old new now k ops enters g l s o t h = absurd h
+pub marks_enter : (tb : Tables) (code : Code) (old new : Memory) (now : Now) (k : Call) (ops : Bor (List Op)) → EntersRule tb code old k ops new now → DoesMarks tb code old (Enters k ops) new now
+marks_enter tb code old new now k ops enters g is_of l (EntersOf c m) o t h = let done = enters g is_of l m c h.0 h.1 h.2 in record { stands = done.stands; falls = λ over. done.falls; quiet = refl }
+marks_enter tb code old new now k ops enters g is_of l s o t h = absurd h
 
-pub marks_resume : (code : Code) (old new : Memory) (now : Now) (way : Way) → GoesOn code old way new now → DoesMarks code old (Resumes way) new now
-marks_resume code old new now way goes g l (ResumesOf on m) o t h = let done = goes g l m on h.0 h.1 in record { stands = done.stands; falls = λ over. done.falls; quiet = refl }
-marks_resume code old new now way goes g l s o t h = absurd h
+pub marks_resume : (tb : Tables) (code : Code) (old new : Memory) (now : Now) (way : Way) → GoesOn code old way new now → DoesMarks tb code old (Resumes way) new now
+marks_resume tb code old new now way goes g is_of l (ResumesOf on m) o t h = let done = goes g l m on h.0 h.1 in record { stands = done.stands; falls = λ over. done.falls; quiet = refl }
+marks_resume tb code old new now way goes g is_of l s o t h = absurd h
 
-pub marks_fail : (code : Code) (old new : Memory) (now : Now) → FailsTo code old new now → DoesMarks code old Fails new now
-marks_fail code old new now fails g l (FailsOf m) o t h = let done = fails l m h in record { stands = done.stands; falls = λ over. done.falls; quiet = refl }
-marks_fail code old new now fails g l s o t h = absurd h
+pub marks_fail : (tb : Tables) (code : Code) (old new : Memory) (now : Now) → FailsTo code old new now → DoesMarks tb code old Fails new now
+marks_fail tb code old new now fails g is_of l (FailsOf m) o t h = let done = fails l m h in record { stands = done.stands; falls = λ over. done.falls; quiet = refl }
+marks_fail tb code old new now fails g is_of l s o t h = absurd h
 
 -- ## What memory holds before a step
 
@@ -180,44 +182,44 @@ built_first all x rest is h = let parts : OpsBuilt (x ∷ rest) = subst OpsBuilt
 
 -- ## Instructions that take a goal
 
-module _ (code : Code) (old mid new : Memory) (now : Now) (pred : ℕ) (terms : List Term) (many : Bool) (rest : List Op)
-    (put : (l : Limits) (m : Mid) (p : CoreProgram) → Holds code l old m → HasPut code l (cells p terms) (map (value_of p (vars_of m.frames)) terms) m mid) where
-  pub asks_op : (next : ℕ) → Asks code mid pred many next new now → DoesOp code old (op.Ask pred terms many next) rest new now
-  asks_op next asked g l m o b at h =
+module _ (tb : Tables) (code : Code) (old mid new : Memory) (now : Now) (pred : ℕ) (terms : List Term) (many : Bool) (rest : List Op)
+    (put : (l : Limits) (m : Mid) (p : CoreProgram) → IsOf p tb → Holds code l old m → HasPut code l (cells p terms) (map (value_of p (vars_of m.frames)) terms) m mid) where
+  pub asks_op : (next : ℕ) → Asks code mid pred many next new now → DoesOp tb code old (op.Ask pred terms many next) rest new now
+  asks_op next asked g is_of l m o b at h =
       let n = cells g.program terms in
       let vs = map (value_of g.program (vars_of m.frames)) terms in
-      let x = put l m g.program h in
+      let x = put l m g.program is_of h in
       charged_led code g l n m (more n m) (asks (setting g code l) pred (call_of vs many next (more n m)) (more n m)) mid new now x.held refl (asked g l (more n m) vs x.held x.args)
 
-  pub asks_last_op : AsksLast code mid pred many new now → DoesOp code old (op.LastAsk pred terms many) rest new now
-  asks_last_op asked g l m o b at h =
+  pub asks_last_op : AsksLast code mid pred many new now → DoesOp tb code old (op.LastAsk pred terms many) rest new now
+  asks_last_op asked g is_of l m o b at h =
       let n = cells g.program terms in
       let vs = map (value_of g.program (vars_of m.frames)) terms in
-      let x = put l m g.program h in
+      let x = put l m g.program is_of h in
       charged_led code g l n m (more n m) (last (setting g code l) (ToPred pred) vs many m.frames (more n m)) mid new now x.held refl (asked g l (more n m) vs x.held x.args)
 
-pub takes_op : (code : Code) (r : Memory) (rest : Bor (List Op)) → DoesOp code r op.Take rest.now r (Runs rest)
-takes_op code r rest g l m o b at h = (at, h)
+pub takes_op : (tb : Tables) (code : Code) (r : Memory) (rest : Bor (List Op)) → DoesOp tb code r op.Take rest.now r (Runs rest)
+takes_op tb code r rest g is_of l m o b at h = (at, h)
 
-pub quits_op : (code : Code) (r : Memory) (rest : List Op) → DoesOp code r (op.Do action.Quit) rest r (Ended ending.Quit)
-quits_op code r rest g l m o b at h = (refl, roomy code l m r h)
+pub quits_op : (tb : Tables) (code : Code) (r : Memory) (rest : List Op) → DoesOp tb code r (op.Do action.Quit) rest r (Ended ending.Quit)
+quits_op tb code r rest g is_of l m o b at h = (refl, roomy code l m r h)
 
-pub stops_op : (code : Code) (r : Memory) (rest : List Op) → DoesOp code r (op.Do action.Stop) rest r (Ended ending.Stopped)
-stops_op code r rest g l m o b at h = subst (λ t. Stands code l r (Ended ending.Stopped) (stops (setting g code l) t (more 0 m))) (sym h.1.stop_is) (refl, roomy code l m r h)
+pub stops_op : (tb : Tables) (code : Code) (r : Memory) (rest : List Op) → DoesOp tb code r (op.Do action.Stop) rest r (Ended ending.Stopped)
+stops_op tb code r rest g is_of l m o b at h = subst (λ t. Stands code l r (Ended ending.Stopped) (stops (setting g code l) t (more 0 m))) (sym h.1.stop_is) (refl, roomy code l m r h)
 
-pub fails_act : (code : Code) (r : Memory) (a : Action) (rest : List Op) → IsQuiet a → (a ≡ action.Just → ⊥) → (a ≡ action.Quit → ⊥) → (a ≡ action.Stop → ⊥) → ((x y : Term) → a ≡ action.Equal x y → ⊥) → ((f : CompareOp) (x y : Term) → a ≡ action.Compare f x y → ⊥) → ((f : ArithOp) (x y z : Term) → a ≡ action.Arith f x y z → ⊥) → ((f : TestKind) (x : Term) → a ≡ action.Test f x → ⊥) → DoesOp code r (op.Do a) rest r Fails
-fails_act code r action.Fail rest q j u s k d v t g l m o b at h = nothing_more code l r m h
-fails_act code r action.Just rest q j u s k d v t g l m o b at h = absurd (j refl)
-fails_act code r action.Quit rest q j u s k d v t g l m o b at h = absurd (u refl)
-fails_act code r action.Stop rest q j u s k d v t g l m o b at h = absurd (s refl)
-fails_act code r (action.Text name) rest q j u s k d v t g l m o b at h = absurd q
-fails_act code r (action.Gap kind) rest q j u s k d v t g l m o b at h = absurd q
-fails_act code r (action.GapN x) rest q j u s k d v t g l m o b at h = absurd q
-fails_act code r (action.Arith f x y z) rest q j u s k d v t g l m o b at h = absurd (v f x y z refl)
-fails_act code r (action.Test f x) rest q j u s k d v t g l m o b at h = absurd (t f x refl)
-fails_act code r (action.Compare f x y) rest q j u s k d v t g l m o b at h = absurd (d f x y refl)
-fails_act code r (action.Equal x y) rest q j u s k d v t g l m o b at h = absurd (k x y refl)
-fails_act code r a rest q j u s k d v t g l m o b at h = absurd b
+pub fails_act : (tb : Tables) (code : Code) (r : Memory) (a : Action) (rest : List Op) → IsQuiet a → (a ≡ action.Just → ⊥) → (a ≡ action.Quit → ⊥) → (a ≡ action.Stop → ⊥) → ((x y : Term) → a ≡ action.Equal x y → ⊥) → ((f : CompareOp) (x y : Term) → a ≡ action.Compare f x y → ⊥) → ((f : ArithOp) (x y z : Term) → a ≡ action.Arith f x y z → ⊥) → ((f : TestKind) (x : Term) → a ≡ action.Test f x → ⊥) → DoesOp tb code r (op.Do a) rest r Fails
+fails_act tb code r action.Fail rest q j u s k d v t g is_of l m o b at h = nothing_more code l r m h
+fails_act tb code r action.Just rest q j u s k d v t g is_of l m o b at h = absurd (j refl)
+fails_act tb code r action.Quit rest q j u s k d v t g is_of l m o b at h = absurd (u refl)
+fails_act tb code r action.Stop rest q j u s k d v t g is_of l m o b at h = absurd (s refl)
+fails_act tb code r (action.Text name) rest q j u s k d v t g is_of l m o b at h = absurd q
+fails_act tb code r (action.Gap kind) rest q j u s k d v t g is_of l m o b at h = absurd q
+fails_act tb code r (action.GapN x) rest q j u s k d v t g is_of l m o b at h = absurd q
+fails_act tb code r (action.Arith f x y z) rest q j u s k d v t g is_of l m o b at h = absurd (v f x y z refl)
+fails_act tb code r (action.Test f x) rest q j u s k d v t g is_of l m o b at h = absurd (t f x refl)
+fails_act tb code r (action.Compare f x y) rest q j u s k d v t g is_of l m o b at h = absurd (d f x y refl)
+fails_act tb code r (action.Equal x y) rest q j u s k d v t g is_of l m o b at h = absurd (k x y refl)
+fails_act tb code r a rest q j u s k d v t g is_of l m o b at h = absurd b
 
 pub other_goal : (x : Op) → is_goal x ≡ true → OpBuilt x → ((a : Action) → x ≡ op.Do a → ⊥) → ((pred : ℕ) (ts : List Term) (many : Bool) (next : ℕ) → x ≡ op.Ask pred ts many next → ⊥) → ((pred : ℕ) (ts : List Term) (many : Bool) → x ≡ op.LastAsk pred ts many → ⊥) →
     (x ≡ op.Take → ⊥) → ((alt : ℕ) → x ≡ op.Branch alt → ⊥) → (x ≡ op.Once → ⊥) → ((alt : ℕ) → x ≡ op.Try alt → ⊥) → ⊥
@@ -269,7 +271,7 @@ quiet_goal g m (op.Do (action.GapN x)) rest q b = absurd q
 quiet_goal g m (op.Do a) rest q b = absurd b
 quiet_goal g m x rest q b = refl
 
-module _ (code : Code) (g : Game) (l : Limits) (m : Mid) (old new : Memory) (now : Now) (ops : List Op) (x : Op) (rest : List Op) (split : ops ≡ x ∷ rest) (at : CodeIs ops m) (h : Holds code l old m) where
+module _ (tb : Tables) (code : Code) (g : Game) (is_of : IsOf g.program tb) (l : Limits) (m : Mid) (old new : Memory) (now : Now) (ops : List Op) (x : Op) (rest : List Op) (split : ops ≡ x ∷ rest) (at : CodeIs ops m) (h : Holds code l old m) where
   abbrev set : Setting
   set = setting g code l
 
@@ -277,16 +279,16 @@ module _ (code : Code) (g : Game) (l : Limits) (m : Mid) (old new : Memory) (now
   is_first = at.0 ∙ split
 
   -- an instruction that prints nothing here
-  pub silent_done : (s : Spacer) (k : SinkView) → MidOrdered m → said_in set m (x ∷ rest) ≡ [] → DoesOp code old x rest new now → GoalDone code g l new now s s k k m
+  pub silent_done : (s : Spacer) (k : SinkView) → MidOrdered m → said_in set m (x ∷ rest) ≡ [] → DoesOp tb code old x rest new now → GoalDone code g l new now s s k k m
   silent_done s k o silent does =
       let built : OpsBuilt (x ∷ rest) = subst OpsBuilt split at.1 in
       let none : said set (RunsOf m) ≡ [] = ap (λ ps. said_to ps (step set (RunsOf m))) (ap (said_in set m) is_first ∙ silent) in
       record {
-        stands = subst (λ xs. Stands code l new now (runs set xs m)) (sym is_first) (does g l (record m { ops = rest }) o built.0 (refl, built.1) h);
+        stands = subst (λ xs. Stands code l new now (runs set xs m)) (sym is_first) (does g is_of l (record m { ops = rest }) o built.0 (refl, built.1) h);
         writes = λ start ps text. subst (λ qs. HasText s start k (followed ps qs)) (sym none) text;
       }
 
-  pub quiet_done : (s : Spacer) (k : SinkView) → MidOrdered m → IsQuietOp x → DoesOp code old x rest new now → GoalDone code g l new now s s k k m
+  pub quiet_done : (s : Spacer) (k : SinkView) → MidOrdered m → IsQuietOp x → DoesOp tb code old x rest new now → GoalDone code g l new now s s k k m
   quiet_done s k o quiet does = let built : OpsBuilt (x ∷ rest) = subst OpsBuilt split at.1 in silent_done s k o (quiet_goal set m x rest quiet built.0) does
 
 said_ended : (ps : List Print) (e : Ending) → said_to ps (EndedOf e) ≡ []

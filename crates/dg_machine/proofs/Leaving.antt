@@ -32,6 +32,8 @@ use Rattle.dg_machine.specs.declared.now.Way.TheVariants.{Goes, Calls}
 use Rattle.dg_machine.specs.declared.now.Now.{Now}
 use Rattle.dg_machine.specs.declared.now.Now.TheVariants.{Runs, Enters, Resumes, Fails, Ended}
 use Rattle.dg_machine.specs.declared.memory.Memory.{Memory}
+use Rattle.dg_machine.specs.declared.tables.Tables.{Tables}
+use Rattle.dg_machine.specs.Tables.{IsOf}
 use Rattle.dg_machine.specs.Links.{named, below}
 use Rattle.dg_machine.specs.Built.{AreArguments, OpBuilt, OpsBuilt, IsBuilt}
 use Rattle.dg_machine.specs.Refs.{RefsAt}
@@ -417,10 +419,10 @@ entering_is all x rest vars head is enter built =
     record { is = whole; args = parts.0; built = parts.1 }
 
 -- what is said of the first of a rule is said of its entering
-pub rule_entered : (code : Code) (g : Game) (l : Limits) (m : Mid) (k : Call) (c : CallOf) (vars : ℕ) (head : List Term) (r new : Memory) (now : Now) (ops : Bor (List Op)) (rest : List Op) → EntersAt ops.now rest vars head → m.ops ≡ ops.now → CallAt (meaning_of r.arena) r.args.items k c → Holds code l r m →
-    EntersIn code r k vars head rest new now → Falls code l r (Enters k ops) new now (entered (setting g code l) c m.ops m)
-rule_entered code g l m k c vars head r new now ops rest e at call h does =
-    subst (λ xs. Falls code l r (Enters k ops) new now (entered (setting g code l) c xs m)) (sym (at ∙ e.is)) (does g l (record m { ops = rest }) c ops (refl, e.built) call h)
+pub rule_entered : (tb : Tables) (code : Code) (g : Game) → IsOf g.program tb → (l : Limits) (m : Mid) (k : Call) (c : CallOf) (vars : ℕ) (head : List Term) (r new : Memory) (now : Now) (ops : Bor (List Op)) (rest : List Op) → EntersAt ops.now rest vars head → m.ops ≡ ops.now → CallAt (meaning_of r.arena) r.args.items k c → Holds code l r m →
+    EntersIn tb code r k vars head rest new now → Falls code l r (Enters k ops) new now (entered (setting g code l) c m.ops m)
+rule_entered tb code g is_of l m k c vars head r new now ops rest e at call h does =
+    subst (λ xs. Falls code l r (Enters k ops) new now (entered (setting g code l) c xs m)) (sym (at ∙ e.is)) (does g is_of l (record m { ops = rest }) c ops (refl, e.built) call h)
 
 -- ## The answer of a rule that cuts
 

@@ -4,6 +4,7 @@ pub mod Opens
 pub mod Putting
 pub mod RowLemmas
 pub mod TermLemmas
+pub mod TableLemmas
 pub mod PathLemmas
 pub mod WriteSteps
 pub mod RegisterLemmas

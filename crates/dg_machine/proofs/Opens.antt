@@ -139,8 +139,9 @@ on_arena code l m s r a h kept saved state more_heap =
     )
 
 -- other values are at hand
-pub registers_held : (code : Code) (l : Limits) (m : Mid) (r new : Memory) → Holds code l r m → vec_capacity new.args ≡ vec_capacity r.args → length new.args.items ≤ most_args → vec_capacity new.heads ≡ vec_capacity r.heads → vec_capacity new.path ≡ vec_capacity r.path → Holds code l (record r { args = new.args; heads = new.heads; path = new.path }) m
-registers_held code l m r new h capacity few heads path =
+pub registers_held : (code : Code) (l : Limits) (m : Mid) (r new : Memory) → Holds code l r m → vec_capacity new.args ≡ vec_capacity r.args → length new.args.items ≤ most_args → vec_capacity new.heads ≡ vec_capacity r.heads → vec_capacity new.path ≡ vec_capacity r.path → new.kept.items ≡ r.kept.items → vec_capacity new.kept ≡ vec_capacity r.kept →
+    Holds code l (record r { args = new.args; heads = new.heads; path = new.path; kept = new.kept }) m
+registers_held code l m r new h capacity few heads path kept kept_room =
     let room = h.0.room in (
       record {
         saves = h.0.saves;
@@ -149,7 +150,7 @@ registers_held code l m r new h capacity few heads path =
         limits = h.0.limits;
         frames_are = h.0.frames_are;
         inner_are = h.0.inner_are;
-        choices_are = h.0.choices_are;
+        choices_are = subst (λ rs. ChoicesAt code r.frames.items r.inners.items rs h.0.saves (reverse r.choices.items) m.choices) (sym kept) h.0.choices_are;
         room = record {
           frames_fit = room.frames_fit;
           inners_fit = room.inners_fit;
@@ -157,7 +158,7 @@ registers_held code l m r new h capacity few heads path =
           frames_few = room.frames_few;
           inners_few = room.inners_few;
           choices_few = room.choices_few;
-          refs = record { kept_fit = room.refs.kept_fit; kept_few = room.refs.kept_few; args_fit = omega (arith, capacity, room.refs.args_fit); args_few = few; heads_fit = omega (arith, heads, room.refs.heads_fit); path_fit = omega (arith, path, room.refs.path_fit) };
+          refs = record { kept_fit = omega (arith, kept_room, room.refs.kept_fit); kept_few = omega (arith, ap length kept, room.refs.kept_few); args_fit = omega (arith, capacity, room.refs.args_fit); args_few = few; heads_fit = omega (arith, heads, room.refs.heads_fit); path_fit = omega (arith, path, room.refs.path_fit) };
         };
       },
       h.1,
@@ -183,8 +184,8 @@ pub roomy_on : (l : Limits) (r : Memory) (a : Arena) → Roomy l r → Kept (mea
 roomy_on l r a h kept = record { limits = record { heap = kept.heap_limit ∙ h.limits.heap; trail = kept.trail_limit ∙ h.limits.trail }; frames = h.frames; inners = h.inners; choices = h.choices; kept = h.kept; args = h.args; heads = h.heads; path = h.path }
 
 -- the same room in other registers
-pub registers_roomy : (l : Limits) (r new : Memory) → Roomy l r → vec_capacity new.args ≡ vec_capacity r.args → vec_capacity new.heads ≡ vec_capacity r.heads → vec_capacity new.path ≡ vec_capacity r.path → Roomy l (record r { args = new.args; heads = new.heads; path = new.path })
-registers_roomy l r new h args heads path = record { limits = h.limits; frames = h.frames; inners = h.inners; choices = h.choices; kept = h.kept; args = let x = h.args in omega (arith, x, args); heads = let x = h.heads in omega (arith, x, heads); path = let x = h.path in omega (arith, x, path) }
+pub registers_roomy : (l : Limits) (r new : Memory) → Roomy l r → vec_capacity new.args ≡ vec_capacity r.args → vec_capacity new.heads ≡ vec_capacity r.heads → vec_capacity new.path ≡ vec_capacity r.path → vec_capacity new.kept ≡ vec_capacity r.kept → Roomy l (record r { args = new.args; heads = new.heads; path = new.path; kept = new.kept })
+registers_roomy l r new h args heads path kept = record { limits = h.limits; frames = h.frames; inners = h.inners; choices = h.choices; kept = let x = h.kept in omega (arith, x, kept); args = let x = h.args in omega (arith, x, args); heads = let x = h.heads in omega (arith, x, heads); path = let x = h.path in omega (arith, x, path) }
 
 pub fits : (code : Code) (l : Limits) (m : Mid) (r : Memory) → Holds code l r m → m.state.heap ≤ l.heap
 fits code l m r h =

@@ -1,13 +1,11 @@
 -- Paths into a term that is written.
-use Rattle.std.proofs.Common.{◌≡◌, ℕ, suc, ◌+◌, ◌*◌, ◌<◌, ◌≤◌, List, [], ◌∷◌, ◌++◌, refl, sym, ap, ◌∙◌, subst, arith, length, append-nil, take, get_or}
-use Rattle.std.specs.List.{All, sum_by}
+use Rattle.std.proofs.Common.{◌≡◌, ℕ, suc, ◌+◌, ◌*◌, ◌<◌, ◌≤◌, List, [], ◌∷◌, ◌++◌, refl, ap, ◌∙◌, arith, length, append-nil, take, get_or}
+use Rattle.std.specs.List.{sum_by}
 use Rattle.std.proofs.lemmas.List.{length-append, take_more}
-use Rattle.std.proofs.lemmas.List.Elements.{All-head, All-tail, All-cons}
 use Rattle.std.proofs.lemmas.List.Sums.{sum_by-append}
-use Rattle.dg_base.specs.declared.program.Term.{Term, Pair', out-Term, roll-Term, roll-out-Term}
-use Rattle.dg_base.specs.declared.program.Term.TheOpen as term
+use Rattle.dg_base.specs.declared.program.Term.{Term, Pair', out-Term}
 use Rattle.dg_base.specs.declared.program.Term.TheBlock.{hidden-the_row-Term-0}
-use Rattle.dg_base.specs.declared.program.Term.TheVariants.{Pair as Pair-Term, outs-Pair, rolls-Pair}
+use Rattle.dg_base.specs.declared.program.Term.TheVariants.{Pair as Pair-Term, outs-Pair}
 use Rattle.dg_base.specs.declared.program.CoreProgram.{CoreProgram}
 use Rattle.dg_base.specs.Terms.{nodes}
 use Rattle.dg_meaning.specs.Values.{Value, pair, value_of}
@@ -16,7 +14,6 @@ use Rattle.dg_unify.specs.Store.{Store, Kept}
 use Rattle.dg_unify.specs.declared.bindings.Ref.{Ref}
 use Rattle.dg_machine.specs.declared.now.Side.{Side}
 use Rattle.dg_machine.specs.declared.now.Side.TheVariants.{Head, Tail}
-use Rattle.dg_machine.specs.Built.{NoClosure, IsPlain, IsFree}
 use Rattle.dg_machine.specs.Writing.{part_in, part_of, reached, IsHead, IsGone, AreGone, left_in, left_around, cells_of, nodes_of, cells_around}
 
 -- ## Pairs
@@ -59,36 +56,6 @@ nodes_pair x h t is =
 pub some_node : (x : Term) → 1 ≤ nodes_of x
 some_node (Pair' s head t tail) = omega arith
 some_node other = omega arith
-
--- ## No closures
-
-all_front : {A : Type 0} (P : A → Type 0) (xs ys : List A) → All P (xs ++ ys) → All P xs
-all_front P [] ys h = λ k d le. absurd (omega (arith, le))
-all_front P (x ∷ xs) ys h = All-cons P x xs (All-head P x (xs ++ ys) h) (all_front P xs ys (All-tail P x (xs ++ ys) h))
-
-all_behind : {A : Type 0} (P : A → Type 0) (xs ys : List A) → All P (xs ++ ys) → All P ys
-all_behind P [] ys h = h
-all_behind P (x ∷ xs) ys h = all_behind P xs ys (All-tail P x (xs ++ ys) h)
-
-pub free_pair : (x h t : Term) → x ≡ Pair-Term h t → IsFree x → IsFree h × IsFree t
-free_pair x h t is free =
-    let f = λ (y : Term). NoClosure (out-Term y) in
-    let all : All f (Pair-Term h t ∷ ((nodes h ++ []) ++ (nodes t ++ []))) = subst (All f) (ap nodes is ∙ nodes_are h t) free in
-    let parts = All-tail f (Pair-Term h t) ((nodes h ++ []) ++ (nodes t ++ [])) all in
-    (all_front f (nodes h) [] (all_front f (nodes h ++ []) (nodes t ++ []) parts), all_front f (nodes t) [] (all_behind f (nodes h ++ []) (nodes t ++ []) parts))
-
-pub free_top : (x : Term) → IsFree x → NoClosure (out-Term x)
-free_top (Pair' s head t tail) free = All-head (λ (y : Term). NoClosure (out-Term y)) (Pair' s head t tail) _ free
-free_top other free = All-head (λ (y : Term). NoClosure (out-Term y)) other [] free
-
-top_plain : (x : Term) (o : term.Term-F Term) → out-Term x ≡ o → NoClosure o → ((h t : Term) → x ≡ Pair-Term h t → ⊥) → IsPlain o
-top_plain x (term.Pair h t) e free other = other h t (sym (roll-out-Term x) ∙ ap roll-Term e ∙ rolls-Pair h t)
-top_plain x (term.Closure c) e free other = free
-top_plain x o e free other = tt
-
--- a term that is no pair has no parts
-pub plain_of : (x : Term) → IsFree x → ((h t : Term) → x ≡ Pair-Term h t → ⊥) → IsPlain (out-Term x)
-plain_of x free other = top_plain x (out-Term x) refl (free_top x free) other
 
 -- ## Sides
 
@@ -134,14 +101,6 @@ module _ (s : Store) (p : CoreProgram) (vs : List Value) where
   pub least_left : (path : List Side) (t : Term) → AreGone s p vs path t → 3 * length path ≤ cells_around p path t
   least_left [] t h = omega arith
   least_left (x ∷ path) t h = let first = least_in x t h.0 in let rest = least_left path (part_of x t) h.1 in omega (arith, first, rest)
-
-  free_part : (side : Side) (t : Term) → IsGone s p vs side t → IsFree t → IsFree (part_of side t)
-  free_part Head t g free = let parts = free_pair t g.head g.tail g.is free in subst IsFree (sym (head_part t g.head g.tail g.is)) parts.0
-  free_part (Tail r) t g free = let parts = free_pair t g.head g.tail g.is free in subst IsFree (sym (tail_part r t g.head g.tail g.is)) parts.1
-
-  pub free_reached : (path : List Side) (t : Term) → AreGone s p vs path t → IsFree t → IsFree (reached path t)
-  free_reached [] t h free = free
-  free_reached (x ∷ path) t h free = free_reached path (part_of x t) h.1 (free_part x t h.0 free)
 
   head_kept : (u : Store) (side : Side) (v : Value) → Kept s u → IsHead s side v → IsHead u side v
   head_kept u Head v kept h = tt

@@ -14,7 +14,7 @@ use Rattle.dg_unify.specs.Store.{Store, Kept, Made}
 use Rattle.dg_unify.specs.declared.bindings.Ref.{Ref}
 use Rattle.dg_unify.specs.declared.bindings.Full.{Full}
 use Rattle.dg_machine.specs.Refs.{RefsAt, Puts}
-use Rattle.dg_machine.specs.Writing.{Overflows}
+use Rattle.dg_machine.specs.Writing.{Overflows, SpareFits}
 use Rattle.dg_machine.proofs.Kept.{refs_kept}
 use Rattle.dg_machine.proofs.TermLemmas.{refs_end}
 use Rattle.dg_machine.proofs.WriteSteps.{charged_none, charged_both, overflows_behind}
@@ -34,6 +34,10 @@ cells_front : (p : CoreProgram) (terms : List Term) (i : ℕ) → cells p (take 
 cells_front p terms i = let e = ap (cells p) (take-append-drop i terms) in omega (arith, e, cells_append p (take i terms) (drop i terms))
 
 -- ## One value more
+
+-- there is room still for what is kept behind others
+pub spare_on : (s t : Store) (xs ys : List Ref) (room room' : ℕ) → Kept s t → s.state.heap ≤ t.state.heap → ys ≡ xs → room' ≡ room → SpareFits s room xs → SpareFits t room' ys
+spare_on s t xs ys room room' kept le same e h = record { fits = omega (arith, h.fits, e, kept.heap_limit); few = omega (arith, h.few, ap length same, le) }
 
 pub puts_none : (s : Store) (refs : List Ref) → s.state.heap ≤ s.heap_limit → refs ≡ [] → Puts 0 [] s s refs
 puts_none s refs le none = record { charged = charged_none s s le refl; refs_are = subst (λ rs. RefsAt s rs []) (sym none) tt }

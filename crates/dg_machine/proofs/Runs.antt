@@ -37,6 +37,8 @@ use Rattle.dg_machine.specs.declared.memory.Memory.{Memory}
 use Rattle.dg_machine.specs.Layout.{Holds}
 use Rattle.dg_machine.specs.Measure.{left_of}
 use Rattle.dg_machine.specs.Standing.{CodeIs, Stands}
+use Rattle.dg_machine.specs.declared.tables.Tables.{Tables}
+use Rattle.dg_machine.specs.Tables.{IsOf}
 use Rattle.dg_machine.specs.Running.{rests, MarkDone, DoesMarks, DoesGoal, LosesGoal, HasText, HasSettled, Settles, IsAt, IsLost, EndsSo, HasEnded, IsLostWithin, HasShown, HasLostOutput}
 
 -- the whole text of a run may be written
@@ -75,12 +77,12 @@ module _ (code : Code) (g : Game) (l : Limits) (typed : List ℕ) where
   settled_nowhere r now steps h = record { further = steps; stands = h; goals = refl; prints = refl }
 
   -- one more step
-  pub one_mark : (r new : Memory) (now next : Now) (steps : ℕ) → rests now ≡ false → DoesMarks code r now new next → Stands code l r now (after set typed steps).now → MarkDone code g l r now new next (after set typed steps).now
-  one_mark r new now next steps e does h = does g l (after set typed steps).now (all_ordered set typed steps) (at_mark code l r now (after set typed steps).now e h).no_goal h
+  pub one_mark : (tb : Tables) → IsOf g.program tb → (r new : Memory) (now next : Now) (steps : ℕ) → rests now ≡ false → DoesMarks tb code r now new next → Stands code l r now (after set typed steps).now → MarkDone code g l r now new next (after set typed steps).now
+  one_mark tb is_of r new now next steps e does h = does g is_of l (after set typed steps).now (all_ordered set typed steps) (at_mark code l r now (after set typed steps).now e h).no_goal h
 
-  pub settled_on : (mid new : Memory) (now next : Now) (steps : ℕ) → rests now ≡ false → DoesMarks code mid now new next → HasSettled code g l typed steps mid now → HasSettled code g l typed steps new next
-  settled_on mid new now next steps e does h =
-      let done = one_mark mid new now next h.further e does h.stands in
+  pub settled_on : (tb : Tables) → IsOf g.program tb → (mid new : Memory) (now next : Now) (steps : ℕ) → rests now ≡ false → DoesMarks tb code mid now new next → HasSettled code g l typed steps mid now → HasSettled code g l typed steps new next
+  settled_on tb is_of mid new now next steps e does h =
+      let done = one_mark tb is_of mid new now next h.further e does h.stands in
       let mark = at_mark code l mid now (after set typed h.further).now e h.stands in
       record {
         further = suc h.further;
@@ -89,8 +91,8 @@ module _ (code : Code) (g : Game) (l : Limits) (typed : List ℕ) where
         prints = ap (followed (after set typed h.further).prints) done.quiet ∙ h.prints;
       }
 
-  pub mark_falls : (r new : Memory) (now next : Now) (steps : ℕ) → rests now ≡ false → DoesMarks code r now new next → Stands code l r now (after set typed steps).now → left_of new next < left_of r now
-  mark_falls r new now next steps e does h = (one_mark r new now next steps e does h).falls (at_mark code l r now (after set typed steps).now e h).goes_on
+  pub mark_falls : (tb : Tables) → IsOf g.program tb → (r new : Memory) (now next : Now) (steps : ℕ) → rests now ≡ false → DoesMarks tb code r now new next → Stands code l r now (after set typed steps).now → left_of new next < left_of r now
+  mark_falls tb is_of r new now next steps e does h = (one_mark tb is_of r new now next steps e does h).falls (at_mark code l r now (after set typed steps).now e h).goes_on
 
   -- ## Goals
 
@@ -106,14 +108,14 @@ module _ (code : Code) (g : Game) (l : Limits) (typed : List ℕ) where
   goal_at r ops s h = absurd h
 
   -- the next goal was taken, and steps behind it
-  pub took_goal : (old mid new : Memory) (ops : Bor (List Op)) (next now : Now) (s s' : Spacer) (k k' : SinkView) (goals : ℕ) (start : SinkView) → at_goal ops.now ≡ true → DoesGoal code old ops.now mid next s s' k k' → Settles code mid next new now →
+  pub took_goal : (tb : Tables) → IsOf g.program tb → (old mid new : Memory) (ops : Bor (List Op)) (next now : Now) (s s' : Spacer) (k k' : SinkView) (goals : ℕ) (start : SinkView) → at_goal ops.now ≡ true → DoesGoal tb code old ops.now mid next s s' k k' → Settles tb code mid next new now →
       IsAt code g l typed old (Runs ops) goals s start k → IsAt code g l typed new now (1 + goals) s' start k'
-  took_goal old mid new ops next now s s' k k' goals start e does settles h =
+  took_goal tb is_of old mid new ops next now s s' k k' goals start e does settles h =
       let at = goal_at old ops (after set typed h.steps).now h.stands in
       let ordered : StatusOrdered (RunsOf at.mid) = subst StatusOrdered at.is (all_ordered set typed h.steps) in
-      let done = does g l at.mid ordered e at.code_is at.held in
+      let done = does g is_of l at.mid ordered e at.code_is at.held in
       let stands : Stands code l mid next (after set typed (suc h.steps)).now = subst (λ x. Stands code l mid next (step set x)) (sym at.is) done.stands in
-      let settled = settles g l typed (suc h.steps) stands in
+      let settled = settles g is_of l typed (suc h.steps) stands in
       let taken : takes_goal (after set typed h.steps).now ≡ true = ap takes_goal at.is ∙ ap at_goal at.code_is.0 ∙ e in
       let one : (after set typed (suc h.steps)).goals ≡ 1 + goals = ap (λ b. one_if b + (after set typed h.steps).goals) taken ∙ ap (λ n. 1 + n) h.goals_is in
       let text : HasText s' start k' (after set typed (suc h.steps)).prints = subst (λ x. HasText s' start k' (followed (after set typed h.steps).prints (said set x))) (sym at.is) (done.writes start (after set typed h.steps).prints h.text) in
@@ -125,10 +127,10 @@ module _ (code : Code) (g : Game) (l : Limits) (typed : List ℕ) where
       }
 
   -- the output was lost at the next goal
-  pub lost_goal : (old : Memory) (ops : Bor (List Op)) (s : Spacer) (k k' : SinkView) (goals : ℕ) (start : SinkView) → at_goal ops.now ≡ true → LosesGoal code old ops.now s k k' → IsAt code g l typed old (Runs ops) goals s start k → IsLost code g l typed (suc goals) start k'
-  lost_goal old ops s k k' goals start e loses h =
+  pub lost_goal : (tb : Tables) → IsOf g.program tb → (old : Memory) (ops : Bor (List Op)) (s : Spacer) (k k' : SinkView) (goals : ℕ) (start : SinkView) → at_goal ops.now ≡ true → LosesGoal tb code old ops.now s k k' → IsAt code g l typed old (Runs ops) goals s start k → IsLost code g l typed (suc goals) start k'
+  lost_goal tb is_of old ops s k k' goals start e loses h =
       let at = goal_at old ops (after set typed h.steps).now h.stands in
-      let lost = loses g l at.mid at.code_is at.held start (after set typed h.steps).prints h.text in
+      let lost = loses g is_of l at.mid at.code_is at.held start (after set typed h.steps).prints h.text in
       let taken : takes_goal (after set typed h.steps).now ≡ true = ap takes_goal at.is ∙ ap at_goal at.code_is.0 ∙ e in
       record {
         steps = suc h.steps;

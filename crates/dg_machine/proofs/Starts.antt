@@ -16,7 +16,8 @@ use Rattle.dg_spacing.specs.Spacer.{StandsFor}
 use Rattle.dg_machine.specs.declared.now.Now.{Now}
 use Rattle.dg_machine.specs.declared.now.Now.TheVariants.{Runs}
 use Rattle.dg_machine.specs.declared.memory.Memory.{Memory}
-use Rattle.dg_machine.proofs.TermLemmas.{no_program}
+use Rattle.dg_machine.specs.declared.tables.Tables.{Tables}
+use Rattle.dg_machine.proofs.TableLemmas.{a_program, a_program_is}
 use Rattle.dg_machine.specs.Built.{OpsBuilt, IsBuilt}
 use Rattle.dg_machine.specs.Layout.{ChoicesAt, Roomy, HoldsWith, limit_in, at_rest}
 use Rattle.dg_machine.specs.Running.{game, HasText, IsAt, IsSomewhere, Finishes, LosesRun}
@@ -79,12 +80,13 @@ at_start code g l typed r block s k built is held new = record {
   text = no_text s k new;
 }
 
-pub a_game : Game
-a_game = game no_program []
+abbrev pub a_game : Tables → Game
+a_game tb = game (a_program tb) []
 
-pub somewhere_first : (code : Code) (l : Limits) (r : Memory) (block : Bor (List Op)) → IsBuilt code → block.now ≡ block_at code 1 → HoldsWith code l r at_rest [] [] [] → IsSomewhere code r (Runs block)
-somewhere_first code l r block built is held = record {
-  game = a_game;
+pub somewhere_first : (tb : Tables) (code : Code) (l : Limits) (r : Memory) (block : Bor (List Op)) → IsBuilt code → block.now ≡ block_at code 1 → HoldsWith code l r at_rest [] [] [] → IsSomewhere tb code r (Runs block)
+somewhere_first tb code l r block built is held = record {
+  game = a_game tb;
+  tabled = a_program_is tb;
   limits = l;
   typed = [];
   steps = 0;
@@ -92,6 +94,6 @@ somewhere_first code l r block built is held = record {
 }
 
 -- room is left whether a run has ended or has lost its output
-pub roomy_after : {E : Type 0} (code : Code) (l : Limits) (old new : Memory) (start : Now) (steps : ℕ) (s s' : Spacer) (k k' : SinkView) (result : Result (Ending × ℕ) E) → IfOk result (λ end. Finishes code old start steps s k end.0 end.1 new s' k') → OnErr result (LosesRun code old start steps s k new k') → IsAt code a_game l [] old start 0 s k k → Roomy l new
-roomy_after code l old new start steps s s' k k' (Ok end) ok err at = (ok a_game l [] k at).0.roomy
-roomy_after code l old new start steps s s' k k' (Err e) ok err at = (err a_game l [] k at).roomy
+pub roomy_after : {E : Type 0} (tb : Tables) (code : Code) (l : Limits) (old new : Memory) (start : Now) (steps : ℕ) (s s' : Spacer) (k k' : SinkView) (result : Result (Ending × ℕ) E) → IfOk result (λ end. Finishes tb code old start steps s k end.0 end.1 new s' k') → OnErr result (LosesRun tb code old start steps s k new k') → IsAt code (a_game tb) l [] old start 0 s k k → Roomy l new
+roomy_after tb code l old new start steps s s' k k' (Ok end) ok err at = (ok (a_game tb) (a_program_is tb) l [] k at).0.roomy
+roomy_after tb code l old new start steps s s' k k' (Err e) ok err at = (err (a_game tb) (a_program_is tb) l [] k at).roomy

@@ -20,44 +20,46 @@ use Rattle.dg_machine.specs.declared.memory.Memory.{Memory}
 use Rattle.dg_machine.specs.Built.{OpsBuilt}
 use Rattle.dg_machine.specs.Layout.{HasRoom, Holds, Roomy}
 use Rattle.dg_machine.specs.Standing.{Stands}
+use Rattle.dg_machine.specs.declared.tables.Tables.{Tables}
+use Rattle.dg_machine.specs.Tables.{IsOf}
 use Rattle.dg_machine.specs.Running.{rests, HasText, DoesMarks, DoesGoal, Settles, IsAt, IsLost, IsSomewhere, HasEnded, IsLostWithin}
 use Rattle.dg_machine.proofs.Opens.{roomy}
 use Rattle.dg_machine.proofs.Runs.{goal_at, one_mark}
 
 -- memory has room where the machine is at a goal of some run
-pub room_at : (code : Code) (r : Memory) (ops : Bor (List Op)) → IsSomewhere code r (Runs ops) → HasRoom r
-room_at code r ops s = (goal_at code s.game s.limits s.typed r ops (after (setting s.game code s.limits) s.typed s.steps).now s.stands).held.0.room
+pub room_at : (tb : Tables) (code : Code) (r : Memory) (ops : Bor (List Op)) → IsSomewhere tb code r (Runs ops) → HasRoom r
+room_at tb code r ops s = (goal_at code s.game s.limits s.typed r ops (after (setting s.game code s.limits) s.typed s.steps).now s.stands).held.0.room
 
 -- and its code is built
-pub built_at : (code : Code) (r : Memory) (ops : Bor (List Op)) → IsSomewhere code r (Runs ops) → OpsBuilt ops.now
-built_at code r ops s = (goal_at code s.game s.limits s.typed r ops (after (setting s.game code s.limits) s.typed s.steps).now s.stands).code_is.1
+pub built_at : (tb : Tables) (code : Code) (r : Memory) (ops : Bor (List Op)) → IsSomewhere tb code r (Runs ops) → OpsBuilt ops.now
+built_at tb code r ops s = (goal_at code s.game s.limits s.typed r ops (after (setting s.game code s.limits) s.typed s.steps).now s.stands).code_is.1
 
 -- behind a goal it is somewhere still
-pub somewhere_behind : (code : Code) (old new : Memory) (ops : Bor (List Op)) (next : Now) (s s' : Spacer) (k k' : SinkView) → at_goal ops.now ≡ true → DoesGoal code old ops.now new next s s' k k' → IsSomewhere code old (Runs ops) → IsSomewhere code new next
-somewhere_behind code old new ops next s s' k k' e does h =
+pub somewhere_behind : (tb : Tables) (code : Code) (old new : Memory) (ops : Bor (List Op)) (next : Now) (s s' : Spacer) (k k' : SinkView) → at_goal ops.now ≡ true → DoesGoal tb code old ops.now new next s s' k k' → IsSomewhere tb code old (Runs ops) → IsSomewhere tb code new next
+somewhere_behind tb code old new ops next s s' k k' e does h =
     let set = setting h.game code h.limits in
     let at = goal_at code h.game h.limits h.typed old ops (after set h.typed h.steps).now h.stands in
     let ordered : StatusOrdered (RunsOf at.mid) = subst StatusOrdered at.is (all_ordered set h.typed h.steps) in
-    let done = does h.game h.limits at.mid ordered e at.code_is at.held in
-    record { game = h.game; limits = h.limits; typed = h.typed; steps = suc h.steps; stands = subst (λ x. Stands code h.limits new next (step set x)) (sym at.is) done.stands }
+    let done = does h.game h.tabled h.limits at.mid ordered e at.code_is at.held in
+    record { game = h.game; tabled = h.tabled; limits = h.limits; typed = h.typed; steps = suc h.steps; stands = subst (λ x. Stands code h.limits new next (step set x)) (sym at.is) done.stands }
 
 -- and behind a step that takes none
-pub somewhere_marked : (code : Code) (r new : Memory) (now next : Now) → rests now ≡ false → DoesMarks code r now new next → IsSomewhere code r now → IsSomewhere code new next
-somewhere_marked code r new now next e does h = record { game = h.game; limits = h.limits; typed = h.typed; steps = suc h.steps; stands = (one_mark code h.game h.limits h.typed r new now next h.steps e does h.stands).stands }
+pub somewhere_marked : (tb : Tables) (code : Code) (r new : Memory) (now next : Now) → rests now ≡ false → DoesMarks tb code r now new next → IsSomewhere tb code r now → IsSomewhere tb code new next
+somewhere_marked tb code r new now next e does h = record { game = h.game; tabled = h.tabled; limits = h.limits; typed = h.typed; steps = suc h.steps; stands = (one_mark code h.game h.limits h.typed tb h.tabled r new now next h.steps e does h.stands).stands }
 
 -- and behind steps that take no goal
-pub somewhere_settled : (code : Code) (old new : Memory) (before now : Now) → Settles code old before new now → IsSomewhere code old before → IsSomewhere code new now
-somewhere_settled code old new before now settles h =
-    let x = settles h.game h.limits h.typed h.steps h.stands in
-    record { game = h.game; limits = h.limits; typed = h.typed; steps = x.further; stands = x.stands }
+pub somewhere_settled : (tb : Tables) (code : Code) (old new : Memory) (before now : Now) → Settles tb code old before new now → IsSomewhere tb code old before → IsSomewhere tb code new now
+somewhere_settled tb code old new before now settles h =
+    let x = settles h.game h.tabled h.limits h.typed h.steps h.stands in
+    record { game = h.game; tabled = h.tabled; limits = h.limits; typed = h.typed; steps = x.further; stands = x.stands }
 
 module _ (code : Code) (g : Game) (l : Limits) (typed : List ℕ) where
   abbrev set : Setting
   set = setting g code l
 
-  pub settled_at : (old new : Memory) (before now : Now) (goals : ℕ) (s : Spacer) (start k : SinkView) → Settles code old before new now → IsAt code g l typed old before goals s start k → IsAt code g l typed new now goals s start k
-  settled_at old new before now goals s start k settles h =
-      let x = settles g l typed h.steps h.stands in
+  pub settled_at : (tb : Tables) → IsOf g.program tb → (old new : Memory) (before now : Now) (goals : ℕ) (s : Spacer) (start k : SinkView) → Settles tb code old before new now → IsAt code g l typed old before goals s start k → IsAt code g l typed new now goals s start k
+  settled_at tb is_of old new before now goals s start k settles h =
+      let x = settles g is_of l typed h.steps h.stands in
       record { steps = x.further; stands = x.stands; goals_is = x.goals ∙ h.goals_is; text = subst (HasText s start k) (sym x.prints) h.text }
 
   -- the run has ended

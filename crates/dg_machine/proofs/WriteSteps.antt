@@ -10,7 +10,7 @@ use Rattle.dg_meaning.specs.Cells.{node_cells}
 use Rattle.dg_unify.specs.Store.{State, Store, told, Holds, Kept, Charged, HeapFull, Made}
 use Rattle.dg_unify.specs.declared.bindings.Ref.{Ref}
 use Rattle.dg_unify.specs.declared.bindings.Full.{Full}
-use Rattle.dg_unify.proofs.StoreLemmas.{told_is, holds_some}
+use Rattle.dg_unify.proofs.StoreLemmas.{told_is, holds_some, kept_on}
 use Rattle.dg_arena.specs.declared.arena.Arena.{Arena}
 use Rattle.dg_arena.specs.Held.{meaning_of}
 use Rattle.dg_machine.specs.declared.now.Side.{Side}
@@ -48,6 +48,9 @@ plain_cell p t h =
     let f = λ (x : Term). node_cells p (out-Term x) in
     sum_by-append f (nodes t) [] ∙ omega (arith, plain_nodes p t h)
 
+pub plain_made : (p : CoreProgram) (t : Term) (s u : Store) (r : Ref) (v : Value) → IsPlain (out-Term t) → s.state.heap ≤ s.heap_limit → u.state ≡ s.state → u.value r ≡ Some v → Made (cells_of p t) s u r v
+plain_made p t s u r v plain le same value = record { charged = subst (λ n. Charged n s u) (sym (plain_cell p t plain)) (charged_none s u le same); value = value }
+
 -- ## One side more
 
 module _ (p : CoreProgram) (vs : List Value) (t : Term) where
@@ -71,11 +74,11 @@ module _ (p : CoreProgram) (vs : List Value) (t : Term) where
 
   -- ## Going on into a term
 
-  pub descends_starts : (s : Store) (path : List Side) → AreGone s p vs path t → Descends p vs t s path path
-  descends_starts s path gone = record { gone = gone; left = refl; fewer = omega arith }
+  pub descends_starts : (s : Store) (path : List Side) → s.state.heap ≤ s.heap_limit → AreGone s p vs path t → Descends p vs t s s path path
+  descends_starts s path le gone = record { count = 0; charged = charged_none s s le refl; gone = gone; left = omega arith; fewer = omega arith }
 
-  pub descends_head : (s : Store) (before path : List Side) (x h tl : Term) → x ≡ reached path t → x ≡ Pair-Term h tl → Descends p vs t s before path → Descends p vs t s before (path ++ Head ∷ [])
-  descends_head s before path x h tl at is d =
+  pub descends_head : (old s : Store) (before path : List Side) (x h tl : Term) → x ≡ reached path t → x ≡ Pair-Term h tl → Descends p vs t old s before path → Descends p vs t old s before (path ++ Head ∷ [])
+  descends_head old s before path x h tl at is d =
       let around = cells_head path x h tl at is in
       let here = ap (cells_of p) (reached_head path x h tl at is) in
       let was = ap (cells_of p) (sym at) in
@@ -85,35 +88,46 @@ module _ (p : CoreProgram) (vs : List Value) (t : Term) where
       let n_was = ap nodes_of (sym at) in
       let n_whole = nodes_pair x h tl is in
       record {
+        count = d.count;
+        charged = d.charged;
         gone = gone_push s p vs path Head t d.gone (record { head = h; tail = tl; is = sym at ∙ is; value = tt });
         left = omega (arith, around, here, was, whole, d.left);
         fewer = omega (arith, n_around, n_here, n_was, n_whole, d.fewer);
       }
 
-  pub descends_tail : (s u : Store) (before path : List Side) (x h tl : Term) (r : Ref) → Kept s u → x ≡ reached path t → x ≡ Pair-Term h tl → IsPlain (out-Term h) → u.value r ≡ Some (value_of p vs h) → Descends p vs t s before path → Descends p vs t u before (path ++ Tail r ∷ [])
-  descends_tail s u before path x h tl r kept at is plain value d =
+  pub descends_tail : (old s u : Store) (before path : List Side) (x h tl : Term) (r : Ref) → Kept old s → Kept s u → x ≡ reached path t → x ≡ Pair-Term h tl → Made (cells_of p h) s u r (value_of p vs h) → Descends p vs t old s before path → Descends p vs t old u before (path ++ Tail r ∷ [])
+  descends_tail old s u before path x h tl r kept_old kept at is made d =
       let around = cells_tail path r x h tl at is in
       let here = ap (cells_of p) (reached_tail path r x h tl at is) in
       let was = ap (cells_of p) (sym at) in
       let whole = cells_pair p x h tl is in
-      let none = plain_cell p h plain in
       let n_around = nodes_tail path r x h tl at is in
       let n_here = ap nodes_of (reached_tail path r x h tl at is) in
       let n_was = ap nodes_of (sym at) in
       let n_whole = nodes_pair x h tl is in
       record {
-        gone = gone_push u p vs path (Tail r) t (gone_kept s p vs u path t kept d.gone) (record { head = h; tail = tl; is = sym at ∙ is; value = value });
-        left = omega (arith, around, here, was, whole, none, d.left);
+        count = d.count + cells_of p h;
+        charged = charged_both d.count (cells_of p h) (d.count + cells_of p h) old s u refl kept_old d.charged made.charged;
+        gone = gone_push u p vs path (Tail r) t (gone_kept s p vs u path t kept d.gone) (record { head = h; tail = tl; is = sym at ∙ is; value = made.value });
+        left = omega (arith, around, here, was, whole, d.left);
         fewer = omega (arith, n_around, n_here, n_was, n_whole, d.fewer);
       }
 
   -- a path for which there is no room has too many cells
-  pub descends_full : (s old : Store) (before path : List Side) (room : ℕ) (x h tl : Term) → x ≡ reached path t → x ≡ Pair-Term h tl → length path ≡ room → old.heap_limit < 3 * room + 3 → Descends p vs t s before path → Overflows (cells_left p before t) old
-  descends_full s old before path room x h tl at is full fits d =
+  pub descends_full : (old s : Store) (before path : List Side) (room : ℕ) (x h tl : Term) → Kept old s → x ≡ reached path t → x ≡ Pair-Term h tl → length path ≡ room → old.heap_limit < 3 * room + 3 → Descends p vs t old s before path → Overflows (cells_left p before t) old
+  descends_full old s before path room x h tl kept at is full fits d =
       let least = least_left s p vs path t d.gone in
       let was = ap (cells_of p) (sym at) in
       let whole = cells_pair p x h tl is in
-      omega (arith, least, was, whole, full, fits, d.left)
+      let over : Overflows (cells_left p path t) s = omega (arith, least, was, whole, full, fits, kept.heap_limit) in
+      overflows_behind d.count (cells_left p path t) (cells_left p before t) old s (omega (arith, d.left)) kept d.charged over
+
+  -- and so it is where a head can't be written
+  pub descends_over : (old s : Store) (before path : List Side) (x h tl : Term) → Kept old s → x ≡ reached path t → x ≡ Pair-Term h tl → Overflows (cells_of p h) s → Descends p vs t old s before path → Overflows (cells_left p before t) old
+  descends_over old s before path x h tl kept at is over d =
+      let was = ap (cells_of p) (sym at) in
+      let whole = cells_pair p x h tl is in
+      overflows_behind d.count (cells_of p h) (cells_left p before t) old s (omega (arith, d.left, was, whole)) kept d.charged over
 
   -- ## Pairs that are made
 
@@ -220,46 +234,57 @@ module _ (p : CoreProgram) (vs : List Value) (t : Term) where
     gone = subst (λ l. AreGone s p vs l t) (sym none) tt;
   }
 
-  -- the end of a list is at hand
-  pub at_end : (s u : Store) (before path : List Side) (end : Term) (r : Ref) → Kept s u → end ≡ reached path t → u.value r ≡ Some (value_of p vs end) → Descends p vs t s before path → IsAtPart u p vs path t r
-  at_end s u before path end r kept is value d = record { gone = gone_kept s p vs u path t kept d.gone; value = value ∙ ap (λ x. Some (value_of p vs x)) is }
+  -- the end of a list was written
+  module _ (old now mid last : Store) (before path : List Side) (end : Term) (r : Ref) (is : end ≡ reached path t) (w : IsWriting old now before) (kept : Kept old now) (d : Descends p vs t now mid before path) (kept_mid : Kept now mid) where
+    to_mid : Kept old mid
+    to_mid = kept_on old now mid kept kept_mid
 
-  -- what is left behind the end of a list
-  left_behind : (s : Store) (before path : List Side) (end : Term) → end ≡ reached path t → IsPlain (out-Term end) → Descends p vs t s before path → cells_around p path t ≡ cells_left p before t
-  left_behind s before path end is plain d =
-      let none = plain_cell p end plain in
-      let here = ap (cells_of p) is in
-      omega (arith, none, here, d.left)
+    charged_mid : Charged (w.count + d.count) old mid
+    charged_mid = charged_both w.count d.count (w.count + d.count) old now mid refl kept w.charged d.charged
 
-  module _ (old now mid : Store) (before path : List Side) (end : Term) (is : end ≡ reached path t) (plain : IsPlain (out-Term end)) (s : Store) (d : Descends p vs t s before path) (kept : Kept old now) (kept' : Kept now mid) (same : mid.state ≡ now.state) (w : IsWriting old now before) where
-    charged_mid : Charged w.count old mid
-    charged_mid = record { fits = w.charged.fits; state = same ∙ w.charged.state }
+    left_mid : w.count + d.count + cells_left p path t ≡ cells_of p t
+    left_mid = omega (arith, d.left, w.left)
 
-    pub writing_next : (new : Store) (behind : List Side) → Kept old mid → HeadMade p vs t mid new path behind → IsWriting old new behind
-    writing_next new behind k h =
-        let all = left_behind s before path end is plain d in
-        record {
-          count = w.count + h.count;
-          charged = charged_both w.count h.count (w.count + h.count) old mid new refl k charged_mid h.charged;
-          left = omega (arith, all, h.left, w.left);
-          gone = h.gone;
-        }
+    end_cells : cells_of p (reached path t) ≡ cells_of p end
+    end_cells = ap (cells_of p) (sym is)
 
-    pub writing_fewer : (new : Store) (behind : List Side) → HeadMade p vs t mid new path behind → nodes_left behind t < nodes_left before t
-    writing_fewer new behind h =
-        let some = some_node end in
-        let here = ap nodes_of is in
-        omega (arith, some, here, h.fewer, d.fewer)
+    pub end_over : Overflows (cells_of p end) mid → Overflows (cells_of p t) old
+    end_over over = overflows_behind (w.count + d.count) (cells_of p end) (cells_of p t) old mid (omega (arith, left_mid, end_cells)) to_mid charged_mid over
 
-    pub writing_ends : (new : Store) (r : Ref) → Kept old mid → Made (cells_around p path t) mid new r (value_of p vs t) → Made (cells_of p t) old new r (value_of p vs t)
-    writing_ends new r k m =
-        let all = left_behind s before path end is plain d in
-        record { charged = charged_both w.count (cells_around p path t) (cells_of p t) old mid new (omega (arith, all, w.left)) k charged_mid m.charged; value = m.value }
+    module _ (made : Made (cells_of p end) mid last r (value_of p vs end)) (kept_last : Kept mid last) where
+      charged_last : Charged (w.count + d.count + cells_of p end) old last
+      charged_last = charged_both (w.count + d.count) (cells_of p end) (w.count + d.count + cells_of p end) old mid last refl to_mid charged_mid made.charged
 
-    pub writing_full : Kept old mid → Overflows (cells_around p path t) mid → Overflows (cells_of p t) old
-    writing_full k over =
-        let all = left_behind s before path end is plain d in
-        overflows_behind w.count (cells_around p path t) (cells_of p t) old mid (omega (arith, all, w.left)) k charged_mid over
+      all_left : w.count + d.count + cells_of p end + cells_around p path t ≡ cells_of p t
+      all_left = omega (arith, left_mid, end_cells)
+
+      to_last : Kept old last
+      to_last = kept_on old mid last to_mid kept_last
+
+      pub at_end : IsAtPart last p vs path t r
+      at_end = record { gone = gone_kept mid p vs last path t kept_last d.gone; value = made.value ∙ ap (λ x. Some (value_of p vs x)) is }
+
+      pub writing_next : (new : Store) (behind : List Side) → HeadMade p vs t last new path behind → IsWriting old new behind
+      writing_next new behind h = record {
+        count = w.count + d.count + cells_of p end + h.count;
+        charged = charged_both (w.count + d.count + cells_of p end) h.count (w.count + d.count + cells_of p end + h.count) old last new refl to_last charged_last h.charged;
+        left = omega (arith, all_left, h.left);
+        gone = h.gone;
+      }
+
+      pub writing_fewer : (new : Store) (behind : List Side) → HeadMade p vs t last new path behind → nodes_left behind t < nodes_left before t
+      writing_fewer new behind h =
+          let some = some_node end in
+          let here = ap nodes_of is in
+          omega (arith, some, here, h.fewer, d.fewer)
+
+      pub writing_ends : (new : Store) (q : Ref) → Made (cells_around p path t) last new q (value_of p vs t) → Made (cells_of p t) old new q (value_of p vs t)
+      writing_ends new q m =
+          record { charged = charged_both (w.count + d.count + cells_of p end) (cells_around p path t) (cells_of p t) old last new (sym all_left) to_last charged_last m.charged; value = m.value }
+
+      pub writing_full : Overflows (cells_around p path t) last → Overflows (cells_of p t) old
+      writing_full over =
+          overflows_behind (w.count + d.count + cells_of p end) (cells_around p path t) (cells_of p t) old last (omega (arith, all_left)) to_last charged_last over
 
   pub writing_cut : (old now : Store) (path : List Side) → Kept old now → IsWriting old now path → Overflows (cells_left p path t) now → Overflows (cells_of p t) old
   writing_cut old now path kept w over = overflows_behind w.count (cells_left p path t) (cells_of p t) old now (omega (arith, w.left)) kept w.charged over

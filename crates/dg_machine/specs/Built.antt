@@ -1,9 +1,7 @@
 -- The instructions that a machine runs so far. Hold it against the README.
 use Rattle.std.specs.Prelude.{ℕ, ◌≤◌, List, [], ◌∷◌, length}
-use Rattle.std.specs.List.{All}
-use Rattle.dg_base.specs.declared.program.Term.{Term, out-Term}
+use Rattle.dg_base.specs.declared.program.Term.{Term}
 use Rattle.dg_base.specs.declared.program.Term.TheOpen as term
-use Rattle.dg_base.specs.Terms.{nodes}
 use Rattle.dg_mid.specs.declared.code.Op.{Op}
 use Rattle.dg_mid.specs.declared.code.Op.TheVariants as op
 use Rattle.dg_mid.specs.declared.code.Action.{Action}
@@ -17,28 +15,20 @@ IsPlain (term.Pair head tail) = ⊥
 IsPlain (term.Closure c) = ⊥
 IsPlain other = Unit {0}
 
--- A term that isn't a closure.
-abbrev pub NoClosure : term.Term-F Term → Type 0
-NoClosure (term.Closure c) = ⊥
-NoClosure other = Unit {0}
-
--- No closure stands in a term.
-abbrev pub IsFree : Term → Type 0
-IsFree t = All (λ (x : Term). NoClosure (out-Term x)) (nodes t)
-
--- Nor in any of some terms.
-abbrev pub AreFree : List Term → Type 0
-AreFree terms = All IsFree terms
+-- A term that isn't a pair.
+abbrev pub IsNoPair : term.Term-F Term → Type 0
+IsNoPair (term.Pair head tail) = ⊥
+IsNoPair other = Unit {0}
 
 -- What is done at once.
 abbrev pub ActionBuilt : Action → Type 0
 ActionBuilt (action.Text name) = Unit {0}
 ActionBuilt (action.Gap kind) = Unit {0}
-ActionBuilt (action.GapN a) = IsFree a
-ActionBuilt (action.Equal a b) = IsFree a × IsFree b
-ActionBuilt (action.Test kind a) = IsFree a
-ActionBuilt (action.Arith f a b c) = IsFree a × IsFree b × IsFree c
-ActionBuilt (action.Compare f a b) = IsFree a × IsFree b
+ActionBuilt (action.GapN a) = Unit {0}
+ActionBuilt (action.Equal a b) = Unit {0}
+ActionBuilt (action.Test kind a) = Unit {0}
+ActionBuilt (action.Arith f a b c) = Unit {0}
+ActionBuilt (action.Compare f a b) = Unit {0}
 ActionBuilt action.Just = Unit {0}
 ActionBuilt action.Fail = Unit {0}
 ActionBuilt action.Quit = Unit {0}
@@ -50,9 +40,8 @@ abbrev pub most_args : ℕ
 most_args = 12
 
 -- The arguments of a query, or a head.
-pub record AreArguments (terms : List Term) : Type 0 where
-  pub free : AreFree terms
-  pub few : length terms ≤ most_args
+abbrev pub AreArguments : List Term → Type 0
+AreArguments terms = length terms ≤ most_args
 
 -- An instruction.
 abbrev pub OpBuilt : Op → Type 0

@@ -1,5 +1,6 @@
 pub mod Links
 pub mod Refs
+pub mod Tables
 pub mod Writing
 pub mod Passing
 pub mod Comparing

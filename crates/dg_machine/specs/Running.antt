@@ -21,6 +21,8 @@ use Rattle.dg_mid.specs.Runs.{after}
 use Rattle.dg_machine.specs.declared.now.Now.{Now}
 use Rattle.dg_machine.specs.declared.now.Now.TheVariants.{Runs, Ended}
 use Rattle.dg_machine.specs.declared.memory.Memory.{Memory}
+use Rattle.dg_machine.specs.declared.tables.Tables.{Tables}
+use Rattle.dg_machine.specs.Tables.{IsOf}
 use Rattle.dg_machine.specs.Layout.{Roomy, Holds}
 use Rattle.dg_machine.specs.Standing.{CodeIs, Stands}
 use Rattle.dg_machine.specs.Measure.{left_of}
@@ -33,8 +35,9 @@ pub record MarkDone (code : Code) (g : Game) (l : Limits) (old : Memory) (before
   pub falls : (IsOver s → ⊥) → left_of new after < left_of old before
   pub quiet : said (setting g code l) s ≡ []
 
-abbrev pub DoesMarks : Code → Memory → Now → Memory → Now → Type 0
-DoesMarks code old before new after = (g : Game) (l : Limits) (s : Status) → StatusOrdered s → takes_goal s ≡ false → Stands code l old before s →
+abbrev pub DoesMarks : Tables → Code → Memory → Now → Memory → Now → Type 0
+DoesMarks t code old before new after =
+    (g : Game) → IsOf g.program t → (l : Limits) (s : Status) → StatusOrdered s → takes_goal s ≡ false → Stands code l old before s →
     MarkDone code g l old before new after s
 
 -- A machine that needs no step before its next goal, or has ended.
@@ -55,8 +58,9 @@ pub record GoalDone (code : Code) (g : Game) (l : Limits) (new : Memory) (after 
   pub stands : Stands code l new after (step (setting g code l) (RunsOf m))
   pub writes : (start : SinkView) (ps : List Print) → HasText s start k ps → HasText s' start k' (followed ps (said (setting g code l) (RunsOf m)))
 
-abbrev pub DoesGoal : Code → Memory → List Op → Memory → Now → Spacer → Spacer → SinkView → SinkView → Type 0
-DoesGoal code old ops new after s s' k k' = (g : Game) (l : Limits) (m : Mid) → MidOrdered m → at_goal ops ≡ true → CodeIs ops m → Holds code l old m →
+abbrev pub DoesGoal : Tables → Code → Memory → List Op → Memory → Now → Spacer → Spacer → SinkView → SinkView → Type 0
+DoesGoal t code old ops new after s s' k k' =
+    (g : Game) → IsOf g.program t → (l : Limits) (m : Mid) → MidOrdered m → at_goal ops ≡ true → CodeIs ops m → Holds code l old m →
     GoalDone code g l new after s s' k k' m
 
 -- The sink failed within what an instruction prints, and the code goes on behind it.
@@ -65,8 +69,9 @@ pub record GoalLost (g : Game) (code : Code) (l : Limits) (k k' : SinkView) (m :
   pub goes : step (setting g code l) (RunsOf m) ≡ RunsOf behind
   pub broke : BrokeOff start k' (render (followed ps (said (setting g code l) (RunsOf m))))
 
-abbrev pub LosesGoal : Code → Memory → List Op → Spacer → SinkView → SinkView → Type 0
-LosesGoal code old ops s k k' = (g : Game) (l : Limits) (m : Mid) → CodeIs ops m → Holds code l old m → (start : SinkView) (ps : List Print) →
+abbrev pub LosesGoal : Tables → Code → Memory → List Op → Spacer → SinkView → SinkView → Type 0
+LosesGoal t code old ops s k k' =
+    (g : Game) → IsOf g.program t → (l : Limits) (m : Mid) → CodeIs ops m → Holds code l old m → (start : SinkView) (ps : List Print) →
     HasText s start k ps → GoalLost g code l k k' m start ps
 
 -- ## Whole runs
@@ -79,8 +84,8 @@ pub record IsAt (code : Code) (g : Game) (l : Limits) (typed : List ℕ) (r : Me
   pub text : HasText s start k (after (setting g code l) typed steps).prints
 
 -- Wherever the machine was, it has taken so many goals from there.
-abbrev pub Takes : Code → ℕ → Memory → Now → Spacer → SinkView → Memory → Now → Spacer → SinkView → Type 0
-Takes code n old before s k new now s' k' = (g : Game) (l : Limits) (typed : List ℕ) (goals : ℕ) (start : SinkView) →
+abbrev pub Takes : Tables → Code → ℕ → Memory → Now → Spacer → SinkView → Memory → Now → Spacer → SinkView → Type 0
+Takes t code n old before s k new now s' k' = (g : Game) → IsOf g.program t → (l : Limits) (typed : List ℕ) (goals : ℕ) (start : SinkView) →
     IsAt code g l typed old before goals s start k → IsAt code g l typed new now (n + goals) s' start k'
 
 -- The output was lost: what broke off is within the text of what was printed up to some step, behind which the code goes on.
@@ -92,8 +97,8 @@ pub record IsLost (code : Code) (g : Game) (l : Limits) (typed : List ℕ) (goal
   pub broke : BrokeOff start k (render (after (setting g code l) typed steps).prints)
 
 -- Wherever the machine was, the next goal has lost the output.
-abbrev pub Loses : Code → Memory → Now → Spacer → SinkView → SinkView → Type 0
-Loses code old before s k k' = (g : Game) (l : Limits) (typed : List ℕ) (goals : ℕ) (start : SinkView) →
+abbrev pub Loses : Tables → Code → Memory → Now → Spacer → SinkView → SinkView → Type 0
+Loses t code old before s k k' = (g : Game) → IsOf g.program t → (l : Limits) (typed : List ℕ) (goals : ℕ) (start : SinkView) →
     IsAt code g l typed old before goals s start k → IsLost code g l typed (suc goals) start k'
 
 -- How a run has ended: as its code does, or at a goal for which no budget is left.
@@ -110,8 +115,8 @@ pub record HasEnded (code : Code) (g : Game) (l : Limits) (typed : List ℕ) (go
   pub roomy : Roomy l r
 
 -- Wherever the machine was with such a budget, it has ended so.
-abbrev pub Finishes : Code → Memory → Now → ℕ → Spacer → SinkView → Ending → ℕ → Memory → Spacer → SinkView → Type 0
-Finishes code old before budget s k e left new s' k' = (g : Game) (l : Limits) (typed : List ℕ) (start : SinkView) →
+abbrev pub Finishes : Tables → Code → Memory → Now → ℕ → Spacer → SinkView → Ending → ℕ → Memory → Spacer → SinkView → Type 0
+Finishes t code old before budget s k e left new s' k' = (g : Game) → IsOf g.program t → (l : Limits) (typed : List ℕ) (start : SinkView) →
     IsAt code g l typed old before 0 s start k → HasEnded code g l typed (budget - left) e left new s' start k' × (left ≤ budget)
 
 -- Or within its budget it has lost the output.
@@ -121,13 +126,14 @@ pub record IsLostWithin (code : Code) (g : Game) (l : Limits) (typed : List ℕ)
   pub lost : IsLost code g l typed goals start k
   pub roomy : Roomy l r
 
-abbrev pub LosesRun : Code → Memory → Now → ℕ → Spacer → SinkView → Memory → SinkView → Type 0
-LosesRun code old before budget s k new k' = (g : Game) (l : Limits) (typed : List ℕ) (start : SinkView) →
+abbrev pub LosesRun : Tables → Code → Memory → Now → ℕ → Spacer → SinkView → Memory → SinkView → Type 0
+LosesRun t code old before budget s k new k' = (g : Game) → IsOf g.program t → (l : Limits) (typed : List ℕ) (start : SinkView) →
     IsAt code g l typed old before 0 s start k → IsLostWithin code g l typed budget new start k'
 
--- A machine is where a run of some game is.
-pub record IsSomewhere (code : Code) (r : Memory) (now : Now) : Type 0 where
+-- A machine is where a run of some game is whose program has these tables.
+pub record IsSomewhere (t : Tables) (code : Code) (r : Memory) (now : Now) : Type 0 where
   pub game : Game
+  pub tabled : IsOf game.program t
   pub limits : Limits
   pub typed : List ℕ
   pub steps : ℕ
@@ -141,8 +147,8 @@ pub record HasSettled (code : Code) (g : Game) (l : Limits) (typed : List ℕ) (
   pub prints : (after (setting g code l) typed further).prints ≡ (after (setting g code l) typed steps).prints
 
 -- Wherever it was.
-abbrev pub Settles : Code → Memory → Now → Memory → Now → Type 0
-Settles code old before new now = (g : Game) (l : Limits) (typed : List ℕ) (steps : ℕ) →
+abbrev pub Settles : Tables → Code → Memory → Now → Memory → Now → Type 0
+Settles t code old before new now = (g : Game) → IsOf g.program t → (l : Limits) (typed : List ℕ) (steps : ℕ) →
     Stands code l old before (after (setting g code l) typed steps).now → HasSettled code g l typed steps new now
 
 -- ## What a run promises

@@ -29,6 +29,8 @@ use Rattle.dg_machine.specs.declared.memory.Memory.{Memory}
 use Rattle.dg_machine.specs.Refs.{RefsAt, AreRefs}
 use Rattle.dg_machine.specs.Layout.{CallAt, RulesAt, WayAt, Roomy, Holds}
 use Rattle.dg_machine.specs.Measure.{left_of}
+use Rattle.dg_machine.specs.declared.tables.Tables.{Tables}
+use Rattle.dg_machine.specs.Tables.{IsOf}
 use Rattle.dg_machine.specs.Built.{OpBuilt, OpsBuilt, IsBuilt}
 
 -- The code at hand is that of a machine, and all of it is built.
@@ -49,9 +51,10 @@ abbrev pub Steps : Code → Memory → Now → Memory → Now → Type 0
 Steps code old before new after =
     (g : Game) (l : Limits) (s : Status) → StatusOrdered s → Stands code l old before s → Stands code l new after (step (setting g code l) s)
 
--- An instruction that is built, with these behind it, is done: whatever memory held, it stands for what the instruction leads to.
-abbrev pub DoesOp : Code → Memory → Op → List Op → Memory → Now → Type 0
-DoesOp code old x rest new after = (g : Game) (l : Limits) (m : Mid) → MidOrdered m → OpBuilt x → CodeIs rest m → Holds code l old m →
+-- An instruction that is built, with these behind it, is done: whatever memory held, it stands for what the instruction leads to, in every game whose
+-- program has these tables.
+abbrev pub DoesOp : Tables → Code → Memory → Op → List Op → Memory → Now → Type 0
+DoesOp t code old x rest new after = (g : Game) → IsOf g.program t → (l : Limits) (m : Mid) → MidOrdered m → OpBuilt x → CodeIs rest m → Holds code l old m →
     Stands code l new after (does (setting g code l) x m)
 
 -- The same, and the number that falls between goals has fallen.
@@ -91,13 +94,13 @@ AsksLast code old pred many new after = (g : Game) (l : Limits) (m : Mid) (vs : 
     RefsAt (meaning_of old.arena) old.args.items vs → Stands code l new after (last (setting g code l) (ToPred pred) vs many m.frames m)
 
 -- A call enters a rule.
-abbrev pub EntersRule : Code → Memory → Call → Bor (List Op) → Memory → Now → Type 0
-EntersRule code old k ops new after = (g : Game) (l : Limits) (m : Mid) (c : CallOf) → CodeIs ops.now m →
+abbrev pub EntersRule : Tables → Code → Memory → Call → Bor (List Op) → Memory → Now → Type 0
+EntersRule t code old k ops new after = (g : Game) → IsOf g.program t → (l : Limits) (m : Mid) (c : CallOf) → CodeIs ops.now m →
     CallAt (meaning_of old.arena) old.args.items k c → Holds code l old m → Falls code l old (Enters k ops) new after (entered (setting g code l) c m.ops m)
 
 -- A call enters a rule of so many variables and this head, with these instructions behind it.
-abbrev pub EntersIn : Code → Memory → Call → ℕ → List Term → List Op → Memory → Now → Type 0
-EntersIn code old k vars head rest new after = (g : Game) (l : Limits) (m : Mid) (c : CallOf) (ops : Bor (List Op)) → CodeIs rest m →
+abbrev pub EntersIn : Tables → Code → Memory → Call → ℕ → List Term → List Op → Memory → Now → Type 0
+EntersIn t code old k vars head rest new after = (g : Game) → IsOf g.program t → (l : Limits) (m : Mid) (c : CallOf) (ops : Bor (List Op)) → CodeIs rest m →
     CallAt (meaning_of old.arena) old.args.items k c → Holds code l old m → Falls code l old (Enters k ops) new after (enter (setting g code l) c vars head m)
 
 -- The rules that a choice goes on with are there, and the arguments at hand.

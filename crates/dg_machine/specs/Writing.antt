@@ -88,12 +88,19 @@ nodes_left path t = nodes_around path t + nodes_of (reached path t)
 abbrev pub Overflows : ℕ → Store → Type 0
 Overflows n s = s.heap_limit < s.state.heap + n
 
+-- There is room for as many Refs more as the heap has cells left.
+pub record SpareFits (s : Store) (room : ℕ) (spare : List Ref) : Type 0 where
+  pub fits : s.heap_limit ≤ room
+  pub few : length spare ≤ s.state.heap
+
 -- ## Steps
 
--- A path goes on into a term, and no cell was taken.
-pub record Descends (p : CoreProgram) (vs : List Value) (t : Term) (new : Store) (before behind : List Side) : Type 0 where
+-- A path goes on into a term, and the heads that it passes are written.
+pub record Descends (p : CoreProgram) (vs : List Value) (t : Term) (old new : Store) (before behind : List Side) : Type 0 where
+  pub count : ℕ
+  pub charged : Charged count old new
   pub gone : AreGone new p vs behind t
-  pub left : cells_left p behind t ≡ cells_left p before t
+  pub left : count + cells_left p behind t ≡ cells_left p before t
   pub fewer : nodes_left behind t ≤ nodes_left before t
 
 -- The head is made of the newest pair that was gone into so.

@@ -10,7 +10,8 @@ ghost use Rattle.dg_mid.specs.Code.{block_at, rules_at};
 ghost use Rattle.dg_mid.specs.State.{Mid};
 ghost use Rattle.dg_mid.specs.Potential.{Tidy};
 ghost use Rattle.dg_arena.specs.Held.{meaning_of};
-ghost use Rattle.dg_machine.specs.Built.{IsFree, AreArguments, OpsBuilt, IsBuilt};
+ghost use Rattle.dg_machine.specs.Built.{AreArguments, OpsBuilt, IsBuilt};
+ghost use Rattle.dg_machine.specs.declared.tables.Tables.{Tables as TheTables};
 ghost use Rattle.dg_machine.specs.Refs.{RefsAt, AreRefs};
 ghost use Rattle.dg_machine.specs.Layout.{HasRoom, Holds};
 ghost use Rattle.dg_machine.specs.Standing.{DoesOp, DoesMark, CallsRules, EntersWith, Asks, AsksLast, Calculates};
@@ -19,6 +20,7 @@ ghost use Rattle.dg_machine.specs.Standing.{EntersRule, EntersIn, IsThere, GoesO
 use crate::memory::Memory;
 use crate::now::{Call, Now, Way};
 use crate::passing::pass;
+use crate::tables::Tables;
 use dg_base::{ArithOp, CompareOp, Ending, Term, TestKind};
 use dg_mid::{Code, Op, RuleCode};
 
@@ -46,7 +48,7 @@ impl Memory {
     /// A choice opens whose other way is a block.
     pub fn branch<'p>(&mut self, alt: u32, rest: &'p [Op]) -> Now<'p>
         requires room { HasRoom self.old }
-        ensures { (code : TheCode) → DoesOp code self.old (op.Branch alt) rest.now self.new result }
+        ensures { (t : TheTables) → (code : TheCode) → DoesOp t code self.old (op.Branch alt) rest.now self.new result }
     {
         match self.open(Way::Goes(alt), 0) {
             Ok(()) => Now::Runs(rest),
@@ -57,7 +59,7 @@ impl Memory {
     /// The same, and an inner construct begins.
     pub fn attempt<'p>(&mut self, alt: u32, rest: &'p [Op]) -> Now<'p>
         requires room { HasRoom self.old }
-        ensures { (code : TheCode) → DoesOp code self.old (op.Try alt) rest.now self.new result }
+        ensures { (t : TheTables) → (code : TheCode) → DoesOp t code self.old (op.Try alt) rest.now self.new result }
     {
         let height = self.arena.heap();
         match self.open(Way::Goes(alt), 0) {
@@ -72,7 +74,7 @@ impl Memory {
     /// An inner construct begins whose first answer is taken.
     pub fn once<'p>(&mut self, rest: &'p [Op]) -> Now<'p>
         requires room { HasRoom self.old }
-        ensures { (code : TheCode) → DoesOp code self.old op.Once rest.now self.new result }
+        ensures { (t : TheTables) → (code : TheCode) → DoesOp t code self.old op.Once rest.now self.new result }
     {
         let height = self.arena.heap();
         match self.charge(10) {
@@ -86,7 +88,7 @@ impl Memory {
 
     /// Cuts to where the rule at hand began.
     pub fn just<'p>(&mut self, rest: &'p [Op]) -> Now<'p>
-        ensures { (code : TheCode) → DoesOp code self.old (op.Do action.Just) rest.now self.new result }
+        ensures { (t : TheTables) → (code : TheCode) → DoesOp t code self.old (op.Do action.Just) rest.now self.new result }
     {
         match self.frame_at_hand() {
             Some(frame) => {
@@ -101,13 +103,11 @@ impl Memory {
     }
 
     /// Two values are unified.
-    pub fn equal<'p>(&mut self, a: &Term, b: &Term, rest: &'p [Op]) -> Now<'p>
-        requires some { (code : TheCode) × (l : Limits) × (m : Mid) × Holds code l self.old m }
-        requires a_free { IsFree a.now }
-        requires b_free { IsFree b.now }
-        ensures { (code : TheCode) → DoesOp code self.old (op.Do (action.Equal a.now b.now)) rest.now self.new result }
+    pub fn equal<'p>(&mut self, tables: &Tables, a: &Term, b: &Term, rest: &'p [Op]) -> Now<'p>
+        requires { (code : TheCode) × (l : Limits) × (m : Mid) × Holds code l self.old m }
+        ensures { (code : TheCode) → DoesOp tables.now code self.old (op.Do (action.Equal a.now b.now)) rest.now self.new result }
     {
-        match self.put_both(a, b) {
+        match self.put_both(tables, a, b) {
             Err(_) => Now::Ended(Ending::HeapLimit),
             Ok(()) => match self.unify_args() {
                 Err(_) => Now::Ended(Ending::TrailLimit),
@@ -118,12 +118,11 @@ impl Memory {
     }
 
     /// A value is tested.
-    pub fn test<'p>(&mut self, kind: TestKind, a: &Term, rest: &'p [Op]) -> Now<'p>
-        requires some { (code : TheCode) × (l : Limits) × (m : Mid) × Holds code l self.old m }
-        requires a_free { IsFree a.now }
-        ensures { (code : TheCode) → DoesOp code self.old (op.Do (action.Test kind a.now)) rest.now self.new result }
+    pub fn test<'p>(&mut self, tables: &Tables, kind: TestKind, a: &Term, rest: &'p [Op]) -> Now<'p>
+        requires { (code : TheCode) × (l : Limits) × (m : Mid) × Holds code l self.old m }
+        ensures { (code : TheCode) → DoesOp tables.now code self.old (op.Do (action.Test kind a.now)) rest.now self.new result }
     {
-        match self.put_one(a) {
+        match self.put_one(tables, a) {
             Err(_) => Now::Ended(Ending::HeapLimit),
             Ok(()) => {
                 if self.test_arg(kind) {
@@ -136,13 +135,18 @@ impl Memory {
     }
 
     /// Two values are compared.
-    pub fn compare<'p>(&mut self, by: CompareOp, a: &Term, b: &Term, rest: &'p [Op]) -> Now<'p>
-        requires some { (code : TheCode) × (l : Limits) × (m : Mid) × Holds code l self.old m }
-        requires a_free { IsFree a.now }
-        requires b_free { IsFree b.now }
-        ensures { (code : TheCode) → DoesOp code self.old (op.Do (action.Compare by a.now b.now)) rest.now self.new result }
+    pub fn compare<'p>(
+        &mut self,
+        tables: &Tables,
+        by: CompareOp,
+        a: &Term,
+        b: &Term,
+        rest: &'p [Op],
+    ) -> Now<'p>
+        requires { (code : TheCode) × (l : Limits) × (m : Mid) × Holds code l self.old m }
+        ensures { (code : TheCode) → DoesOp tables.now code self.old (op.Do (action.Compare by a.now b.now)) rest.now self.new result }
     {
-        match self.put_both(a, b) {
+        match self.put_both(tables, a, b) {
             Err(_) => Now::Ended(Ending::HeapLimit),
             Ok(()) => {
                 if self.compare_args(by) {
@@ -172,19 +176,17 @@ impl Memory {
     /// What is calculated of two values is unified with a third.
     pub fn arith<'p>(
         &mut self,
+        tables: &Tables,
         by: ArithOp,
         a: &Term,
         b: &Term,
         into: &Term,
         rest: &'p [Op],
     ) -> Now<'p>
-        requires some { (code : TheCode) × (l : Limits) × (m : Mid) × Holds code l self.old m }
-        requires a_free { IsFree a.now }
-        requires b_free { IsFree b.now }
-        requires into_free { IsFree into.now }
-        ensures { (code : TheCode) → DoesOp code self.old (op.Do (action.Arith by a.now b.now into.now)) rest.now self.new result }
+        requires { (code : TheCode) × (l : Limits) × (m : Mid) × Holds code l self.old m }
+        ensures { (code : TheCode) → DoesOp tables.now code self.old (op.Do (action.Arith by a.now b.now into.now)) rest.now self.new result }
     {
-        match self.put_three(a, b, into) {
+        match self.put_three(tables, a, b, into) {
             Err(_) => Now::Ended(Ending::HeapLimit),
             Ok(()) => self.calculate(by, rest),
         }
@@ -321,6 +323,7 @@ impl Memory {
     /// A predicate is asked.
     pub fn ask<'p>(
         &mut self,
+        tables: &Tables,
         code: &'p Code,
         pred: u16,
         terms: &[Term],
@@ -330,35 +333,49 @@ impl Memory {
         requires some { (l : Limits) × (m : Mid) × Holds code.now l self.old m }
         requires built { IsBuilt code.now }
         requires terms { AreArguments terms.now }
-        ensures { (rest : List TheOp) → DoesOp code.now self.old (op.Ask pred terms.now many next) rest self.new result }
+        ensures { (rest : List TheOp) → DoesOp tables.now code.now self.old (op.Ask pred terms.now many next) rest self.new result }
     {
-        match self.put_args(terms) {
+        match self.put_args(tables, terms) {
             Err(_) => Now::Ended(Ending::HeapLimit),
             Ok(()) => self.ask_rules(code, pred, many, next),
         }
     }
 
     /// A predicate is asked in the last query of a rule.
-    pub fn ask_last<'p>(&mut self, code: &'p Code, pred: u16, terms: &[Term], many: bool) -> Now<'p>
+    pub fn ask_last<'p>(
+        &mut self,
+        tables: &Tables,
+        code: &'p Code,
+        pred: u16,
+        terms: &[Term],
+        many: bool,
+    ) -> Now<'p>
         requires some { (l : Limits) × (m : Mid) × Holds code.now l self.old m }
         requires built { IsBuilt code.now }
         requires terms { AreArguments terms.now }
-        ensures { (rest : List TheOp) → DoesOp code.now self.old (op.LastAsk pred terms.now many) rest self.new result }
+        ensures { (rest : List TheOp) → DoesOp tables.now code.now self.old (op.LastAsk pred terms.now many) rest self.new result }
     {
-        match self.put_args(terms) {
+        match self.put_args(tables, terms) {
             Err(_) => Now::Ended(Ending::HeapLimit),
             Ok(()) => self.ask_last_rules(code, pred, many),
         }
     }
 
     /// A rule of so many variables and this head is entered.
-    fn enter<'p>(&mut self, call: Call, vars: u16, head: &[Term], rest: &'p [Op]) -> Now<'p>
+    fn enter<'p>(
+        &mut self,
+        tables: &Tables,
+        call: Call,
+        vars: u16,
+        head: &[Term],
+        rest: &'p [Op],
+    ) -> Now<'p>
         requires room { HasRoom self.old }
         requires args { AreRefs (meaning_of self.old.arena) self.old.args.items }
         requires head { AreArguments head.now }
-        ensures { (code : TheCode) → EntersIn code self.old call vars head.now rest.now self.new result }
+        ensures { (code : TheCode) → EntersIn tables.now code self.old call vars head.now rest.now self.new result }
     {
-        match self.make_head(vars, head) {
+        match self.make_head(tables, vars, head) {
             Err(_) => Now::Ended(Ending::HeapLimit),
             Ok(row) => match self.match_args() {
                 Err(_) => Now::Ended(Ending::TrailLimit),
@@ -372,16 +389,16 @@ impl Memory {
     }
 
     /// A call enters a rule.
-    pub fn enter_rule<'p>(&mut self, call: Call, ops: &'p [Op]) -> Now<'p>
+    pub fn enter_rule<'p>(&mut self, tables: &Tables, call: Call, ops: &'p [Op]) -> Now<'p>
         requires room { HasRoom self.old }
         requires args { AreRefs (meaning_of self.old.arena) self.old.args.items }
         requires built { OpsBuilt ops.now }
-        ensures { (code : TheCode) → EntersRule code self.old call ops.entry self.new result }
+        ensures { (code : TheCode) → EntersRule tables.now code self.old call ops.entry self.new result }
     {
         match ops {
             [] => Now::Fails,
             [op, rest @ ..] => match op {
-                Op::Enter(vars, head) => self.enter(call, *vars, head.as_slice(), rest),
+                Op::Enter(vars, head) => self.enter(tables, call, *vars, head.as_slice(), rest),
                 _ => Now::Fails,
             },
         }

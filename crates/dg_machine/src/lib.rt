@@ -1,6 +1,7 @@
 //! A machine that runs register code in a memory that is taken once.
 #![tactic(auto)]
 
+mod closures;
 mod doing;
 mod machine;
 mod memory;
@@ -10,10 +11,12 @@ mod refs;
 mod register;
 mod rows;
 mod steps;
+mod tables;
 mod terms;
 mod testing;
 mod writing;
 
 pub use machine::Machine;
 pub use memory::Memory;
-pub use now::{Call, Choice, Frame, Inner, Now, Row, Side, Way};
+pub use now::{Call, Captured, Choice, Frame, Inner, Now, Row, Side, Way};
+pub use tables::Tables;

@@ -5,6 +5,7 @@ ghost use Rattle.dg_meaning.specs.Transcript.{line_of};
 ghost use Rattle.dg_mid.specs.Codes.{Codes};
 ghost use Rattle.dg_mid.specs.Potential.{Tidy};
 ghost use Rattle.dg_machine.specs.Built.{IsBuilt};
+ghost use Rattle.dg_machine.specs.Tables.{IsOf};
 ghost use Rattle.dg_machine.specs.Layout.{Roomy};
 ghost use Rattle.dg_machine.specs.Running.{game, HasShown, HasLostOutput};
 
@@ -12,15 +13,17 @@ use crate::doing::code_at;
 use crate::memory::Memory;
 use crate::now::Now;
 use crate::steps::go;
+use crate::tables::Tables;
 use dg_base::{Ending, Fault, Limits, Outcome, Sink, Source};
 use dg_mid::Code;
 use dg_spacing::Spacer;
 use std::alloc::{AllocError, Global};
 
-/// Code with the limits of its runs, and a memory that was taken once.
+/// Code with the tables of its program, the limits of its runs, and a memory that was taken once.
 #[derive(Drop)]
 pub struct Machine {
     code: Code,
+    tables: Tables,
     limits: Limits,
     memory: Memory,
     ghost roomy: { Roomy limits memory },
@@ -43,14 +46,21 @@ fn line(ending: Ending) -> &'static [u8]
 }
 
 impl Machine {
-    /// A machine for this code and these limits, which takes all its memory.
-    pub fn new(alloc: Global, code: Code, limits: &Limits) -> Result<Machine, AllocError>
+    /// A machine for this code, these tables and these limits, which takes all its memory.
+    pub fn new(
+        alloc: Global,
+        code: Code,
+        tables: Tables,
+        limits: &Limits,
+    ) -> Result<Machine, AllocError>
         ensures code { IfOk result (λ m. m.code ≡ code) }
+        ensures tables { IfOk result (λ m. m.tables ≡ tables) }
         ensures limits { IfOk result (λ m. m.limits ≡ limits.now) }
     {
         let memory = Memory::new(alloc, limits.heap, limits.trail)?;
         Ok(Machine {
             code,
+            tables,
             limits: *limits,
             memory,
         })
@@ -65,13 +75,14 @@ impl Machine {
     ) -> Result<Outcome, Fault>
         requires built { IsBuilt self.old.code }
         requires tidy { Tidy self.old.code }
-        ensures shows { IfOk result (λ outcome. (p : CoreProgram) → Codes p self.old.code → (typed : List ℕ) →
+        ensures shows { IfOk result (λ outcome. (p : CoreProgram) → Codes p self.old.code → IsOf p self.old.tables → (typed : List ℕ) →
             HasShown (game p dice.now) typed self.old.limits outcome (K.view sink.old) (K.view sink.new)) }
-        ensures err { OnErr result ((p : CoreProgram) → Codes p self.old.code → (typed : List ℕ) →
+        ensures err { OnErr result ((p : CoreProgram) → Codes p self.old.code → IsOf p self.old.tables → (typed : List ℕ) →
             HasLostOutput (game p dice.now) typed self.old.limits (K.view sink.old) (K.view sink.new)) }
         ensures read { IsErrOf result Fault.Read → ⊥ }
         ensures source { S.view source.new ≡ S.view source.old }
         ensures code { self.new.code ≡ self.old.code }
+        ensures tables { self.new.tables ≡ self.old.tables }
         ensures limits { self.new.limits ≡ self.old.limits }
     {
         self.memory.clear();
@@ -81,6 +92,7 @@ impl Machine {
         match go(
             &mut self.memory,
             &self.code,
+            &self.tables,
             start,
             steps,
             &mut spacer,

@@ -16,7 +16,8 @@ ghost use Rattle.dg_arena.specs.Held.{meaning_of};
 ghost use Rattle.dg_mid.specs.declared.code.Code.{Code};
 ghost use Rattle.dg_mid.specs.State.{Mid, Place, Call as CallOf, Way as WayOf, vars_of};
 ghost use Rattle.dg_mid.specs.Step.{more, inside, within};
-ghost use Rattle.dg_machine.specs.Built.{IsFree, AreArguments};
+ghost use Rattle.dg_machine.specs.Built.{AreArguments};
+ghost use Rattle.dg_machine.specs.Tables.{IsOf};
 ghost use Rattle.dg_machine.specs.Comparing.{number_in};
 ghost use Rattle.dg_machine.specs.Links.{named, below};
 ghost use Rattle.dg_machine.specs.Measure.{way_left, choices_left};
@@ -27,6 +28,7 @@ use crate::now::{Call, Choice, Frame, Inner, Row, Side, Way};
 use crate::refs::{MOST_ARGS, move_refs, push_refs};
 use crate::register::{write_both, write_one, write_terms, write_three};
 use crate::rows::make_row;
+use crate::tables::Tables;
 use crate::terms::{are_ordered, made_of, match_heads, number_shown, simple_value};
 use crate::testing::test;
 use dg_arena::Arena;
@@ -207,70 +209,91 @@ impl Memory {
     }
 
     /// Puts the values of terms, among the variables at hand, into the register of arguments.
-    pub fn put_args(&mut self, terms: &[Term]) -> Result<(), Full>
+    pub fn put_args(&mut self, tables: &Tables, terms: &[Term]) -> Result<(), Full>
         requires some { (code : Code) × (l : Limits) × (m : Mid) × Holds code l self.old m }
         requires terms { AreArguments terms.now }
-        ensures { (code : Code) → (l : Limits) → (m : Mid) → (p : CoreProgram) → Holds code l self.old m → MatchResult result
+        ensures { (code : Code) → (l : Limits) → (m : Mid) → (p : CoreProgram) → IsOf p tables.now → Holds code l self.old m → MatchResult result
             (λ _. HasPut code l (cells p terms.now) (map (value_of p (vars_of m.frames)) terms.now) m self.new)
             (λ _. Lacks (cells p terms.now) l m.state.heap self.new) }
     {
         let row = self.row_at_hand();
-        match write_terms(&mut self.arena, row, terms, &mut self.args, &mut self.path) {
+        match write_terms(
+            &mut self.arena,
+            tables,
+            row,
+            terms,
+            &mut self.args,
+            &mut self.path,
+            &mut self.kept,
+        ) {
             Err(full) => Err(full),
             Ok(()) => Ok(()),
         }
     }
 
     /// The same of one term.
-    pub fn put_one(&mut self, a: &Term) -> Result<(), Full>
-        requires some { (code : Code) × (l : Limits) × (m : Mid) × Holds code l self.old m }
-        requires a_free { IsFree a.now }
-        ensures { (code : Code) → (l : Limits) → (m : Mid) → (p : CoreProgram) → Holds code l self.old m → MatchResult result
+    pub fn put_one(&mut self, tables: &Tables, a: &Term) -> Result<(), Full>
+        requires { (code : Code) × (l : Limits) × (m : Mid) × Holds code l self.old m }
+        ensures { (code : Code) → (l : Limits) → (m : Mid) → (p : CoreProgram) → IsOf p tables.now → Holds code l self.old m → MatchResult result
             (λ _. HasPut code l (cells p (a.now ∷ [])) (map (value_of p (vars_of m.frames)) (a.now ∷ [])) m self.new)
             (λ _. Lacks (cells p (a.now ∷ [])) l m.state.heap self.new) }
     {
         let row = self.row_at_hand();
-        match write_one(&mut self.arena, row, a, &mut self.args, &mut self.path) {
+        match write_one(
+            &mut self.arena,
+            tables,
+            row,
+            a,
+            &mut self.args,
+            &mut self.path,
+            &mut self.kept,
+        ) {
             Err(full) => Err(full),
             Ok(()) => Ok(()),
         }
     }
 
     /// The same of two terms.
-    pub fn put_both(&mut self, a: &Term, b: &Term) -> Result<(), Full>
-        requires some { (code : Code) × (l : Limits) × (m : Mid) × Holds code l self.old m }
-        requires a_free { IsFree a.now }
-        requires b_free { IsFree b.now }
-        ensures { (code : Code) → (l : Limits) → (m : Mid) → (p : CoreProgram) → Holds code l self.old m → MatchResult result
+    pub fn put_both(&mut self, tables: &Tables, a: &Term, b: &Term) -> Result<(), Full>
+        requires { (code : Code) × (l : Limits) × (m : Mid) × Holds code l self.old m }
+        ensures { (code : Code) → (l : Limits) → (m : Mid) → (p : CoreProgram) → IsOf p tables.now → Holds code l self.old m → MatchResult result
             (λ _. HasPut code l (cells p (a.now ∷ b.now ∷ [])) (map (value_of p (vars_of m.frames)) (a.now ∷ b.now ∷ [])) m self.new)
             (λ _. Lacks (cells p (a.now ∷ b.now ∷ [])) l m.state.heap self.new) }
     {
         let row = self.row_at_hand();
-        match write_both(&mut self.arena, row, a, b, &mut self.args, &mut self.path) {
+        match write_both(
+            &mut self.arena,
+            tables,
+            row,
+            a,
+            b,
+            &mut self.args,
+            &mut self.path,
+            &mut self.kept,
+        ) {
             Err(full) => Err(full),
             Ok(()) => Ok(()),
         }
     }
 
     /// The same of three terms.
-    pub fn put_three(&mut self, a: &Term, b: &Term, c: &Term) -> Result<(), Full>
-        requires some { (code : Code) × (l : Limits) × (m : Mid) × Holds code l self.old m }
-        requires a_free { IsFree a.now }
-        requires b_free { IsFree b.now }
-        requires c_free { IsFree c.now }
-        ensures { (code : Code) → (l : Limits) → (m : Mid) → (p : CoreProgram) → Holds code l self.old m → MatchResult result
+    pub fn put_three(&mut self, tables: &Tables, a: &Term, b: &Term, c: &Term) -> Result<(), Full>
+        requires { (code : Code) × (l : Limits) × (m : Mid) × Holds code l self.old m }
+        ensures { (code : Code) → (l : Limits) → (m : Mid) → (p : CoreProgram) → IsOf p tables.now → Holds code l self.old m → MatchResult result
             (λ _. HasPut code l (cells p (a.now ∷ b.now ∷ c.now ∷ [])) (map (value_of p (vars_of m.frames)) (a.now ∷ b.now ∷ c.now ∷ [])) m self.new)
             (λ _. Lacks (cells p (a.now ∷ b.now ∷ c.now ∷ [])) l m.state.heap self.new) }
     {
         let row = self.row_at_hand();
         match write_three(
             &mut self.arena,
+            tables,
             row,
             a,
             b,
             c,
             &mut self.args,
             &mut self.path,
+            &mut self.kept,
         ) {
             Err(full) => Err(full),
             Ok(()) => Ok(()),
@@ -324,14 +347,13 @@ impl Memory {
     }
 
     /// The number that the value of a term is, among the variables at hand.
-    pub fn number_of(&mut self, a: &Term) -> Result<Option<u16>, Full>
-        requires some { (code : Code) × (l : Limits) × (m : Mid) × Holds code l self.old m }
-        requires a_free { IsFree a.now }
-        ensures { (code : Code) → (l : Limits) → (m : Mid) → (p : CoreProgram) → Holds code l self.old m → MatchResult result
+    pub fn number_of(&mut self, tables: &Tables, a: &Term) -> Result<Option<u16>, Full>
+        requires { (code : Code) × (l : Limits) × (m : Mid) × Holds code l self.old m }
+        ensures { (code : Code) → (l : Limits) → (m : Mid) → (p : CoreProgram) → IsOf p tables.now → Holds code l self.old m → MatchResult result
             (HasNumber code l (cells p (a.now ∷ [])) (number_in (walk m.state.subst (value_of p (vars_of m.frames) a.now))) m self.new)
             (λ _. Lacks (cells p (a.now ∷ [])) l m.state.heap self.new) }
     {
-        match self.put_one(a) {
+        match self.put_one(tables, a) {
             Err(full) => Err(full),
             Ok(()) => Ok(self.number_arg()),
         }
@@ -413,12 +435,12 @@ impl Memory {
     }
 
     /// Puts the values of a rule's head, among its variables in a row, into the register of heads.
-    fn write_head(&mut self, head: &[Term], row: Row) -> Result<(), Full>
+    fn write_head(&mut self, tables: &Tables, head: &[Term], row: Row) -> Result<(), Full>
         requires room { HasRoom self.old }
         requires few { HasFrameRoom self.old }
         requires row { (vs : List Value) × RowAt (meaning_of self.old.arena) row vs }
         requires head { AreArguments head.now }
-        ensures put { (code : Code) → (l : Limits) → (m : Mid) → (p : CoreProgram) → (vs : List Value) → Holds code l self.old m →
+        ensures put { (code : Code) → (l : Limits) → (m : Mid) → (p : CoreProgram) → (vs : List Value) → IsOf p tables.now → Holds code l self.old m →
             RowAt (meaning_of self.old.arena) row vs → MatchResult result (λ _. HasHeads code l (cells p head.now) (map (value_of p vs) head.now) m self.new)
             (λ _. Lacks (cells p head.now) l m.state.heap self.new) }
         ensures heads { OnOk result (AreRefs (meaning_of self.new.arena) self.new.heads.items) }
@@ -428,17 +450,25 @@ impl Memory {
         ensures args { self.new.args ≡ self.old.args }
         ensures choices { self.new.choices ≡ self.old.choices }
     {
-        match write_terms(&mut self.arena, row, head, &mut self.heads, &mut self.path) {
+        match write_terms(
+            &mut self.arena,
+            tables,
+            row,
+            head,
+            &mut self.heads,
+            &mut self.path,
+            &mut self.kept,
+        ) {
             Err(full) => Err(full),
             Ok(()) => Ok(()),
         }
     }
 
     /// Takes a rule's six cells, makes its variables in a row, and puts the values of its head into the register of heads.
-    pub fn make_head(&mut self, vars: u16, head: &[Term]) -> Result<Row, Full>
+    pub fn make_head(&mut self, tables: &Tables, vars: u16, head: &[Term]) -> Result<Row, Full>
         requires room { HasRoom self.old }
         requires head { AreArguments head.now }
-        ensures made { (code : Code) → (l : Limits) → (m : Mid) → (p : CoreProgram) → Holds code l self.old m → MatchResult result
+        ensures made { (code : Code) → (l : Limits) → (m : Mid) → (p : CoreProgram) → IsOf p tables.now → Holds code l self.old m → MatchResult result
             (λ row. MadeHead code l vars (cells p head.now) m (map (value_of p (new_vars vars m.state.vars)) head.now) self.new row)
             (λ _. Lacks (6 + vars + cells p head.now) l m.state.heap self.new) }
         ensures heads { OnOk result (AreRefs (meaning_of self.new.arena) self.new.heads.items) }
@@ -450,7 +480,7 @@ impl Memory {
     {
         match self.make_rule(vars) {
             Err(full) => Err(full),
-            Ok(row) => match self.write_head(head, row) {
+            Ok(row) => match self.write_head(tables, head, row) {
                 Err(full) => Err(full),
                 Ok(()) => Ok(row),
             },

@@ -1,6 +1,6 @@
 // What a machine keeps of the code that it runs.
 
-ghost use Rattle.std.specs.Prelude.{◌+◌, ◌≤◌};
+ghost use Rattle.std.specs.Prelude.{◌+◌, ◌≤◌, length};
 
 use dg_base::Ending;
 use dg_mid::Op;
@@ -12,6 +12,13 @@ pub struct Row {
     pub first: u32,
     pub count: u16,
     ghost low: { first + count ≤ 2147483648 },
+}
+
+/// The variables that a closure captures; a store can't keep more.
+#[derive(Drop)]
+pub struct Captured {
+    pub vars: Vec<u16>,
+    ghost few: { length vars.items ≤ 65535 },
 }
 
 /// A rule that is being run: the block behind its answer, whether all its answers are wanted, the height of the heap to which

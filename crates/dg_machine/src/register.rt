@@ -4,11 +4,12 @@ ghost use Rattle.dg_base.specs.declared.program.CoreProgram.{CoreProgram};
 ghost use Rattle.dg_meaning.specs.Values.{Value, value_of};
 ghost use Rattle.dg_meaning.specs.Cells.{cells};
 ghost use Rattle.dg_arena.specs.Held.{meaning_of};
-ghost use Rattle.dg_machine.specs.Built.{IsFree, AreFree};
+ghost use Rattle.dg_machine.specs.Tables.{IsOf};
 ghost use Rattle.dg_machine.specs.Refs.{RowAt, RefsAt, Keeps, Puts};
-ghost use Rattle.dg_machine.specs.Writing.{Overflows};
+ghost use Rattle.dg_machine.specs.Writing.{Overflows, SpareFits};
 
 use crate::now::{Row, Side};
+use crate::tables::Tables;
 use crate::writing::write_term;
 use dg_arena::Arena;
 use dg_base::Term;
@@ -17,25 +18,30 @@ use dg_unify::{Full, Ref};
 /// Puts the value of a term, among variables in a row, behind others.
 fn write_next(
     arena: &mut Arena,
+    tables: &Tables,
     row: Row,
     term: &Term,
     to: &mut Vec<Ref>,
     path: &mut Vec<Side>,
+    spare: &mut Vec<Ref>,
 ) -> Result<(), Full>
-    requires free { IsFree term.now }
     requires fits { (meaning_of arena.old).heap_limit < 3 * vec_capacity path.old + 3 }
     requires row { (vs : List Value) × RowAt (meaning_of arena.old) row vs }
+    requires spare { SpareFits (meaning_of arena.old) (vec_capacity spare.old) spare.old.items }
     requires room { length to.old.items < vec_capacity to.old }
     ensures keeps { Keeps arena.old arena.new }
-    ensures put { (p : CoreProgram) → (us vs : List Value) → RefsAt (meaning_of arena.old) to.old.items us → RowAt (meaning_of arena.old) row vs →
-        MatchResult result (λ _. Puts (cells p (term.now ∷ [])) (us ++ value_of p vs term.now ∷ []) (meaning_of arena.old) (meaning_of arena.new) to.new.items)
+    ensures put { (p : CoreProgram) → (us vs : List Value) → IsOf p tables.now → RefsAt (meaning_of arena.old) to.old.items us →
+        RowAt (meaning_of arena.old) row vs → MatchResult result
+        (λ _. Puts (cells p (term.now ∷ [])) (us ++ value_of p vs term.now ∷ []) (meaning_of arena.old) (meaning_of arena.new) to.new.items)
         (λ _. Overflows (cells p (term.now ∷ [])) (meaning_of arena.old)) }
     ensures count { OnOk result (length to.new.items ≡ length to.old.items + 1) }
     ensures few { length to.new.items ≤ length to.old.items + 1 }
     ensures capacity { vec_capacity to.new ≡ vec_capacity to.old }
     ensures path { vec_capacity path.new ≡ vec_capacity path.old }
+    ensures spare { OnOk result (spare.new.items ≡ spare.old.items) }
+    ensures spare_room { vec_capacity spare.new ≡ vec_capacity spare.old }
 {
-    match write_term(arena, row, term, path) {
+    match write_term(arena, tables, row, term, path, spare) {
         Err(full) => Err(full),
         Ok(value) => {
             to.push_reserved(value);
@@ -47,26 +53,30 @@ fn write_next(
 /// Puts the values of terms, among variables in a row, into a register that is emptied.
 pub fn write_terms(
     arena: &mut Arena,
+    tables: &Tables,
     row: Row,
     terms: &[Term],
     to: &mut Vec<Ref>,
     path: &mut Vec<Side>,
+    spare: &mut Vec<Ref>,
 ) -> Result<(), Full>
-    requires free { AreFree terms.now }
     requires fits { (meaning_of arena.old).heap_limit < 3 * vec_capacity path.old + 3 }
     requires row { (vs : List Value) × RowAt (meaning_of arena.old) row vs }
+    requires spare { SpareFits (meaning_of arena.old) (vec_capacity spare.old) spare.old.items }
     requires room { length terms.now ≤ vec_capacity to.old }
     ensures keeps { Keeps arena.old arena.new }
-    ensures put { (p : CoreProgram) → (vs : List Value) → RowAt (meaning_of arena.old) row vs →
+    ensures put { (p : CoreProgram) → (vs : List Value) → IsOf p tables.now → RowAt (meaning_of arena.old) row vs →
         MatchResult result (λ _. Puts (cells p terms.now) (map (value_of p vs) terms.now) (meaning_of arena.old) (meaning_of arena.new) to.new.items)
         (λ _. Overflows (cells p terms.now) (meaning_of arena.old)) }
     ensures few { length to.new.items ≤ length terms.now }
     ensures capacity { vec_capacity to.new ≡ vec_capacity to.old }
     ensures path { vec_capacity path.new ≡ vec_capacity path.old }
+    ensures spare { OnOk result (spare.new.items ≡ spare.old.items) }
+    ensures spare_room { vec_capacity spare.new ≡ vec_capacity spare.old }
 {
     to.clear();
     'terms: for term in terms {
-        match write_next(arena, row, term, to, path) {
+        match write_next(arena, tables, row, term, to, path, spare) {
             Err(full) => return Err(full),
             Ok(()) => {}
         }
@@ -77,44 +87,49 @@ pub fn write_terms(
 /// Puts the value of a term, among variables in a row, into a register that is emptied.
 pub fn write_one(
     arena: &mut Arena,
+    tables: &Tables,
     row: Row,
     a: &Term,
     to: &mut Vec<Ref>,
     path: &mut Vec<Side>,
+    spare: &mut Vec<Ref>,
 ) -> Result<(), Full>
-    requires free { IsFree a.now }
     requires fits { (meaning_of arena.old).heap_limit < 3 * vec_capacity path.old + 3 }
     requires row { (vs : List Value) × RowAt (meaning_of arena.old) row vs }
+    requires spare { SpareFits (meaning_of arena.old) (vec_capacity spare.old) spare.old.items }
     requires room { 1 ≤ vec_capacity to.old }
     ensures keeps { Keeps arena.old arena.new }
-    ensures put { (p : CoreProgram) → (vs : List Value) → RowAt (meaning_of arena.old) row vs →
+    ensures put { (p : CoreProgram) → (vs : List Value) → IsOf p tables.now → RowAt (meaning_of arena.old) row vs →
         MatchResult result (λ _. Puts (cells p (a.now ∷ [])) (value_of p vs a.now ∷ []) (meaning_of arena.old) (meaning_of arena.new) to.new.items)
         (λ _. Overflows (cells p (a.now ∷ [])) (meaning_of arena.old)) }
     ensures few { length to.new.items ≤ 1 }
     ensures count { OnOk result (length to.new.items ≡ 1) }
     ensures capacity { vec_capacity to.new ≡ vec_capacity to.old }
     ensures path { vec_capacity path.new ≡ vec_capacity path.old }
+    ensures spare { OnOk result (spare.new.items ≡ spare.old.items) }
+    ensures spare_room { vec_capacity spare.new ≡ vec_capacity spare.old }
 {
     to.clear();
-    write_next(arena, row, a, to, path)
+    write_next(arena, tables, row, a, to, path, spare)
 }
 
 /// Puts the values of two terms, among variables in a row, into a register that is emptied.
 pub fn write_both(
     arena: &mut Arena,
+    tables: &Tables,
     row: Row,
     a: &Term,
     b: &Term,
     to: &mut Vec<Ref>,
     path: &mut Vec<Side>,
+    spare: &mut Vec<Ref>,
 ) -> Result<(), Full>
-    requires a_free { IsFree a.now }
-    requires b_free { IsFree b.now }
     requires fits { (meaning_of arena.old).heap_limit < 3 * vec_capacity path.old + 3 }
     requires row { (vs : List Value) × RowAt (meaning_of arena.old) row vs }
+    requires spare { SpareFits (meaning_of arena.old) (vec_capacity spare.old) spare.old.items }
     requires room { 2 ≤ vec_capacity to.old }
     ensures keeps { Keeps arena.old arena.new }
-    ensures put { (p : CoreProgram) → (vs : List Value) → RowAt (meaning_of arena.old) row vs →
+    ensures put { (p : CoreProgram) → (vs : List Value) → IsOf p tables.now → RowAt (meaning_of arena.old) row vs →
         MatchResult result (λ _. Puts (cells p (a.now ∷ b.now ∷ [])) (value_of p vs a.now ∷ value_of p vs b.now ∷ []) (meaning_of arena.old)
         (meaning_of arena.new) to.new.items)
         (λ _. Overflows (cells p (a.now ∷ b.now ∷ [])) (meaning_of arena.old)) }
@@ -122,40 +137,44 @@ pub fn write_both(
     ensures count { OnOk result (length to.new.items ≡ 2) }
     ensures capacity { vec_capacity to.new ≡ vec_capacity to.old }
     ensures path { vec_capacity path.new ≡ vec_capacity path.old }
+    ensures spare { OnOk result (spare.new.items ≡ spare.old.items) }
+    ensures spare_room { vec_capacity spare.new ≡ vec_capacity spare.old }
 {
-    match write_one(arena, row, a, to, path) {
+    match write_one(arena, tables, row, a, to, path, spare) {
         Err(full) => Err(full),
-        Ok(()) => write_next(arena, row, b, to, path),
+        Ok(()) => write_next(arena, tables, row, b, to, path, spare),
     }
 }
 
 /// Puts the values of three terms, among variables in a row, into a register that is emptied.
 pub fn write_three(
     arena: &mut Arena,
+    tables: &Tables,
     row: Row,
     a: &Term,
     b: &Term,
     c: &Term,
     to: &mut Vec<Ref>,
     path: &mut Vec<Side>,
+    spare: &mut Vec<Ref>,
 ) -> Result<(), Full>
-    requires a_free { IsFree a.now }
-    requires b_free { IsFree b.now }
-    requires c_free { IsFree c.now }
     requires fits { (meaning_of arena.old).heap_limit < 3 * vec_capacity path.old + 3 }
     requires row { (vs : List Value) × RowAt (meaning_of arena.old) row vs }
+    requires spare { SpareFits (meaning_of arena.old) (vec_capacity spare.old) spare.old.items }
     requires room { 3 ≤ vec_capacity to.old }
     ensures keeps { Keeps arena.old arena.new }
-    ensures put { (p : CoreProgram) → (vs : List Value) → RowAt (meaning_of arena.old) row vs →
+    ensures put { (p : CoreProgram) → (vs : List Value) → IsOf p tables.now → RowAt (meaning_of arena.old) row vs →
         MatchResult result (λ _. Puts (cells p (a.now ∷ b.now ∷ c.now ∷ [])) (value_of p vs a.now ∷ value_of p vs b.now ∷ value_of p vs c.now ∷ [])
         (meaning_of arena.old) (meaning_of arena.new) to.new.items)
         (λ _. Overflows (cells p (a.now ∷ b.now ∷ c.now ∷ [])) (meaning_of arena.old)) }
     ensures few { length to.new.items ≤ 3 }
     ensures capacity { vec_capacity to.new ≡ vec_capacity to.old }
     ensures path { vec_capacity path.new ≡ vec_capacity path.old }
+    ensures spare { OnOk result (spare.new.items ≡ spare.old.items) }
+    ensures spare_room { vec_capacity spare.new ≡ vec_capacity spare.old }
 {
-    match write_both(arena, row, a, b, to, path) {
+    match write_both(arena, tables, row, a, b, to, path, spare) {
         Err(full) => Err(full),
-        Ok(()) => write_next(arena, row, c, to, path),
+        Ok(()) => write_next(arena, tables, row, c, to, path, spare),
     }
 }

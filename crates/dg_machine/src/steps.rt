@@ -8,7 +8,7 @@ ghost use Rattle.dg_mid.specs.declared.code.Action.TheVariants as action;
 ghost use Rattle.dg_mid.specs.Step.{at_goal, is_goal as takes_goal};
 ghost use Rattle.dg_mid.specs.Potential.{Tidy};
 ghost use Rattle.dg_machine.specs.declared.now.Now.TheVariants.{Runs};
-ghost use Rattle.dg_machine.specs.Built.{IsFree, ActionBuilt, OpBuilt, OpsBuilt, IsBuilt, IsQuiet, IsQuietOp};
+ghost use Rattle.dg_machine.specs.Built.{ActionBuilt, OpBuilt, OpsBuilt, IsBuilt, IsQuiet, IsQuietOp};
 ghost use Rattle.dg_base.specs.declared.run.Limits.{Limits};
 ghost use Rattle.dg_mid.specs.State.{Mid};
 ghost use Rattle.dg_machine.specs.Layout.{HasRoom, Holds, Roomy};
@@ -18,6 +18,7 @@ ghost use Rattle.dg_machine.specs.Running.{rests, DoesMarks, DoesGoal, LosesGoal
 use crate::doing::code_at;
 use crate::memory::Memory;
 use crate::now::Now;
+use crate::tables::Tables;
 use dg_base::{Ending, GapKind, Sink, Term, WriteFault};
 use dg_mid::{Action, Code, Op};
 use dg_spacing::{Event, Spacer};
@@ -90,19 +91,19 @@ fn do_mark<'p>(
 }
 
 /// Does a step that takes no goal.
-fn mark_step<'p>(memory: &mut Memory, code: &'p Code, now: Now<'p>) -> Now<'p>
+fn mark_step<'p>(memory: &mut Memory, code: &'p Code, tables: &Tables, now: Now<'p>) -> Now<'p>
     requires built { IsBuilt code.now }
     requires tidy { Tidy code.now }
     requires some { HasStatus code.now memory.old now }
     requires mark { rests now ≡ false }
-    ensures { DoesMarks code.now memory.old now.entry memory.new result }
+    ensures { DoesMarks tables.now code.now memory.old now.entry memory.new result }
 {
     match now {
         Now::Runs(ops) => match ops {
             [] => Now::Fails,
             [op, rest @ ..] => do_mark(memory, code, ops, op, rest),
         },
-        Now::Enters(call, ops) => memory.enter_rule(call, ops),
+        Now::Enters(call, ops) => memory.enter_rule(tables, call, ops),
         Now::Resumes(way) => memory.go_on(code, way),
         Now::Fails => memory.fail(),
         Now::Ended(ending) => Now::Ended(ending),
@@ -123,17 +124,17 @@ fn event_of(kind: GapKind) -> Event<'static>
 }
 
 /// Does an action that prints nothing.
-fn act<'p>(memory: &mut Memory, action: &'p Action, rest: &'p [Op]) -> Now<'p>
+fn act<'p>(memory: &mut Memory, tables: &Tables, action: &'p Action, rest: &'p [Op]) -> Now<'p>
     requires some { (code : TheCode) × (l : Limits) × (m : Mid) × Holds code l memory.old m }
     requires built { ActionBuilt action.now }
     requires quiet { IsQuiet action.now }
-    ensures { (code : TheCode) → DoesOp code memory.old (op.Do action.now) rest.now memory.new result }
+    ensures { (code : TheCode) → DoesOp tables.now code memory.old (op.Do action.now) rest.now memory.new result }
 {
     match action {
-        Action::Equal(a, b) => memory.equal(a, b, rest),
-        Action::Test(kind, a) => memory.test(*kind, a, rest),
-        Action::Arith(by, a, b, into) => memory.arith(*by, a, b, into, rest),
-        Action::Compare(by, a, b) => memory.compare(*by, a, b, rest),
+        Action::Equal(a, b) => memory.equal(tables, a, b, rest),
+        Action::Test(kind, a) => memory.test(tables, *kind, a, rest),
+        Action::Arith(by, a, b, into) => memory.arith(tables, *by, a, b, into, rest),
+        Action::Compare(by, a, b) => memory.compare(tables, *by, a, b, rest),
         Action::Just => memory.just(rest),
         Action::Quit => Now::Ended(Ending::Quit),
         Action::Stop => Now::Ended(Ending::Stopped),
@@ -142,19 +143,38 @@ fn act<'p>(memory: &mut Memory, action: &'p Action, rest: &'p [Op]) -> Now<'p>
 }
 
 /// Does an instruction that takes a goal and prints nothing.
-fn do_quiet<'p>(memory: &mut Memory, code: &'p Code, op: &'p Op, rest: &'p [Op]) -> Now<'p>
+fn do_quiet<'p>(
+    memory: &mut Memory,
+    code: &'p Code,
+    tables: &Tables,
+    op: &'p Op,
+    rest: &'p [Op],
+) -> Now<'p>
     requires room { HasRoom memory.old }
     requires some { (l : Limits) × (m : Mid) × Holds code.now l memory.old m }
     requires built { IsBuilt code.now }
     requires op_built { OpBuilt op.now }
     requires goal { takes_goal op.now ≡ true }
     requires quiet { IsQuietOp op.now }
-    ensures { DoesOp code.now memory.old op.now rest.now memory.new result }
+    ensures { DoesOp tables.now code.now memory.old op.now rest.now memory.new result }
 {
     match op {
-        Op::Do(action) => act(memory, action, rest),
-        Op::Ask(pred, terms, many, next) => memory.ask(code, *pred, terms.as_slice(), *many, *next),
-        Op::LastAsk(pred, terms, many) => memory.ask_last(code, *pred, terms.as_slice(), *many),
+        Op::Do(action) => act(memory, tables, action, rest),
+        Op::Ask(pred, terms, many, next) => memory.ask(
+            tables,
+            code,
+            *pred,
+            terms.as_slice(),
+            *many,
+            *next,
+        ),
+        Op::LastAsk(pred, terms, many) => memory.ask_last(
+            tables,
+            code,
+            *pred,
+            terms.as_slice(),
+            *many,
+        ),
         Op::Take => Now::Runs(rest),
         Op::Branch(alt) => memory.branch(*alt, rest),
         Op::Once => memory.once(rest),
@@ -166,6 +186,7 @@ fn do_quiet<'p>(memory: &mut Memory, code: &'p Code, op: &'p Op, rest: &'p [Op])
 /// As many spaces are printed as the value of a term says, or it fails where that is no number.
 fn print_spaces<'p, K: Sink>(
     memory: &mut Memory,
+    tables: &Tables,
     ops: &'p [Op],
     term: &'p Term,
     rest: &'p [Op],
@@ -173,14 +194,13 @@ fn print_spaces<'p, K: Sink>(
     sink: &mut K,
 ) -> Result<Now<'p>, WriteFault>
     requires some { (code : TheCode) × (l : Limits) × (m : Mid) × Holds code l memory.old m }
-    requires free { IsFree term.now }
     requires whole { ops.now ≡ op.Do (action.GapN term.now) ∷ rest.now }
-    ensures ok { IfOk result (λ now. (code : TheCode) → DoesGoal code memory.old ops.now memory.new now spacer.old spacer.new
+    ensures ok { IfOk result (λ now. (code : TheCode) → DoesGoal tables.now code memory.old ops.now memory.new now spacer.old spacer.new
         (K.view sink.old) (K.view sink.new)) }
-    ensures err { OnErr result ((code : TheCode) → LosesGoal code memory.old ops.now spacer.old (K.view sink.old) (K.view sink.new)) }
+    ensures err { OnErr result ((code : TheCode) → LosesGoal tables.now code memory.old ops.now spacer.old (K.view sink.old) (K.view sink.new)) }
     ensures roomy { OnErr result ((code : TheCode) → (l : Limits) → (m : Mid) → Holds code l memory.old m → Roomy l memory.new) }
 {
-    match memory.number_of(term) {
+    match memory.number_of(tables, term) {
         Err(_) => Ok(Now::Ended(Ending::HeapLimit)),
         Ok(None) => Ok(Now::Fails),
         Ok(Some(count)) => match spacer.event(sink, Event::Spaces(count)) {
@@ -193,6 +213,7 @@ fn print_spaces<'p, K: Sink>(
 /// Does an action.
 fn do_action<'p, K: Sink>(
     memory: &mut Memory,
+    tables: &Tables,
     ops: &'p [Op],
     action: &'p Action,
     rest: &'p [Op],
@@ -202,9 +223,9 @@ fn do_action<'p, K: Sink>(
     requires some { (code : TheCode) × (l : Limits) × (m : Mid) × Holds code l memory.old m }
     requires built { ActionBuilt action.now }
     requires whole { ops.now ≡ op.Do action.now ∷ rest.now }
-    ensures ok { IfOk result (λ now. (code : TheCode) → DoesGoal code memory.old ops.now memory.new now spacer.old spacer.new
+    ensures ok { IfOk result (λ now. (code : TheCode) → DoesGoal tables.now code memory.old ops.now memory.new now spacer.old spacer.new
         (K.view sink.old) (K.view sink.new)) }
-    ensures err { OnErr result ((code : TheCode) → LosesGoal code memory.old ops.now spacer.old (K.view sink.old) (K.view sink.new)) }
+    ensures err { OnErr result ((code : TheCode) → LosesGoal tables.now code memory.old ops.now spacer.old (K.view sink.old) (K.view sink.new)) }
     ensures roomy { OnErr result ((code : TheCode) → (l : Limits) → (m : Mid) → Holds code l memory.old m → Roomy l memory.new) }
 {
     match action {
@@ -216,8 +237,8 @@ fn do_action<'p, K: Sink>(
             Ok(()) => Ok(Now::Runs(rest)),
             Err(fault) => Err(fault),
         },
-        Action::GapN(term) => print_spaces(memory, ops, term, rest, spacer, sink),
-        action => Ok(act(memory, action, rest)),
+        Action::GapN(term) => print_spaces(memory, tables, ops, term, rest, spacer, sink),
+        action => Ok(act(memory, tables, action, rest)),
     }
 }
 
@@ -225,6 +246,7 @@ fn do_action<'p, K: Sink>(
 fn goal_step<'p, K: Sink>(
     memory: &mut Memory,
     code: &'p Code,
+    tables: &Tables,
     ops: &'p [Op],
     spacer: &mut Spacer,
     sink: &mut K,
@@ -234,33 +256,33 @@ fn goal_step<'p, K: Sink>(
     requires built { IsBuilt code.now }
     requires ops_built { OpsBuilt ops.now }
     requires goal { at_goal ops.now ≡ true }
-    ensures ok { IfOk result (λ now. DoesGoal code.now memory.old ops.now memory.new now spacer.old spacer.new (K.view sink.old) (K.view sink.new)) }
-    ensures err { OnErr result (LosesGoal code.now memory.old ops.now spacer.old (K.view sink.old) (K.view sink.new)) }
+    ensures ok { IfOk result (λ now. DoesGoal tables.now code.now memory.old ops.now memory.new now spacer.old spacer.new (K.view sink.old) (K.view sink.new)) }
+    ensures err { OnErr result (LosesGoal tables.now code.now memory.old ops.now spacer.old (K.view sink.old) (K.view sink.new)) }
     ensures roomy { OnErr result ((l : Limits) → (m : Mid) → Holds code.now l memory.old m → Roomy l memory.new) }
 {
     match ops {
         [] => Ok(Now::Fails),
         [op, rest @ ..] => match op {
-            Op::Do(action) => match do_action(memory, ops, action, rest, spacer, sink) {
+            Op::Do(action) => match do_action(memory, tables, ops, action, rest, spacer, sink) {
                 Ok(now) => Ok(now),
                 Err(fault) => Err(fault),
             },
-            op => Ok(do_quiet(memory, code, op, rest)),
+            op => Ok(do_quiet(memory, code, tables, op, rest)),
         },
     }
 }
 
 /// Does steps up to the next goal, or the end.
-fn settle<'p>(memory: &mut Memory, code: &'p Code, now: Now<'p>) -> Now<'p>
+fn settle<'p>(memory: &mut Memory, code: &'p Code, tables: &Tables, now: Now<'p>) -> Now<'p>
     requires built { IsBuilt code.now }
     requires tidy { Tidy code.now }
-    requires some { IsSomewhere code.now memory.old now }
-    ensures comes { Settles code.now memory.old now.entry memory.new result }
+    requires some { IsSomewhere tables.now code.now memory.old now }
+    ensures comes { Settles tables.now code.now memory.old now.entry memory.new result }
     ensures rests { rests result ≡ true }
 {
     let mut now = now;
     'marks: while !rests(now) {
-        now = mark_step(memory, code, now);
+        now = mark_step(memory, code, tables, now);
     }
     now
 }
@@ -269,6 +291,7 @@ fn settle<'p>(memory: &mut Memory, code: &'p Code, now: Now<'p>) -> Now<'p>
 fn turn<'p, K: Sink>(
     memory: &mut Memory,
     code: &'p Code,
+    tables: &Tables,
     ops: &'p [Op],
     spacer: &mut Spacer,
     sink: &mut K,
@@ -276,16 +299,17 @@ fn turn<'p, K: Sink>(
     requires built { IsBuilt code.now }
     requires tidy { Tidy code.now }
     requires goal { at_goal ops.now ≡ true }
-    requires some { IsSomewhere code.now memory.old (Runs ops) }
-    ensures ok { IfOk result (λ now. Takes code.now 1 memory.old (Runs ops.entry) spacer.old (K.view sink.old) memory.new now spacer.new (K.view sink.new)) }
-    ensures err { OnErr result (Loses code.now memory.old (Runs ops.entry) spacer.old (K.view sink.old) (K.view sink.new)) }
+    requires some { IsSomewhere tables.now code.now memory.old (Runs ops) }
+    ensures ok { IfOk result (λ now. Takes tables.now code.now 1 memory.old (Runs ops.entry) spacer.old (K.view sink.old) memory.new now spacer.new
+        (K.view sink.new)) }
+    ensures err { OnErr result (Loses tables.now code.now memory.old (Runs ops.entry) spacer.old (K.view sink.old) (K.view sink.new)) }
     ensures roomy { OnErr result ((l : Limits) → (m : Mid) → Holds code.now l memory.old m → Roomy l memory.new) }
-    ensures some { IfOk result (λ now. IsSomewhere code.now memory.new now) }
+    ensures some { IfOk result (λ now. IsSomewhere tables.now code.now memory.new now) }
     ensures rests { IfOk result (λ now. rests now ≡ true) }
 {
-    match goal_step(memory, code, ops, spacer, sink) {
+    match goal_step(memory, code, tables, ops, spacer, sink) {
         Err(fault) => Err(fault),
-        Ok(now) => Ok(settle(memory, code, now)),
+        Ok(now) => Ok(settle(memory, code, tables, now)),
     }
 }
 
@@ -293,6 +317,7 @@ fn turn<'p, K: Sink>(
 pub fn go<'p, K: Sink>(
     memory: &mut Memory,
     code: &'p Code,
+    tables: &Tables,
     start: Now<'p>,
     steps: u64,
     spacer: &mut Spacer,
@@ -300,17 +325,17 @@ pub fn go<'p, K: Sink>(
 ) -> Result<(Ending, u64), WriteFault>
     requires built { IsBuilt code.now }
     requires tidy { Tidy code.now }
-    requires some { IsSomewhere code.now memory.old start }
-    ensures ok { IfOk result (λ end. Finishes code.now memory.old start.entry steps spacer.old (K.view sink.old) end.0 end.1
+    requires some { IsSomewhere tables.now code.now memory.old start }
+    ensures ok { IfOk result (λ end. Finishes tables.now code.now memory.old start.entry steps spacer.old (K.view sink.old) end.0 end.1
         memory.new spacer.new (K.view sink.new)) }
-    ensures err { OnErr result (LosesRun code.now memory.old start.entry steps spacer.old (K.view sink.old) memory.new (K.view sink.new)) }
+    ensures err { OnErr result (LosesRun tables.now code.now memory.old start.entry steps spacer.old (K.view sink.old) memory.new (K.view sink.new)) }
 {
-    let mut now = settle(memory, code, start);
+    let mut now = settle(memory, code, tables, start);
     let mut left = steps;
     'goals: while left > 0 {
         match now {
             Now::Ended(ending) => return Ok((ending, left)),
-            Now::Runs(ops) => match turn(memory, code, ops, spacer, sink) {
+            Now::Runs(ops) => match turn(memory, code, tables, ops, spacer, sink) {
                 Err(fault) => return Err(fault),
                 Ok(next) => {
                     now = next;

@@ -3,7 +3,7 @@ ghost use Rattle.std.specs.Prelude.{◌≡◌, List, Some};
 ghost use Rattle.std.specs.List.{zip};
 ghost use Rattle.dg_base.specs.declared.program.Term.{out-Term};
 ghost use Rattle.dg_base.specs.declared.program.CoreProgram.{CoreProgram};
-ghost use Rattle.dg_meaning.specs.Values.{Value, leaf, value_of};
+ghost use Rattle.dg_meaning.specs.Values.{Value, leaf, value_of, value_of_var};
 ghost use Rattle.dg_meaning.specs.Unify.{solve};
 ghost use Rattle.dg_machine.specs.Comparing.{number_shown, order_of, made_of};
 ghost use Rattle.dg_unify.specs.Store.{Follows, label_of};
@@ -28,7 +28,18 @@ pub fn simple_value(arena: &mut Arena, simple: Simple) -> Ref
     }
 }
 
-/// The value of a term without parts, among variables in a row; one without a value is the empty list.
+/// The value of a variable in a row; one without a value is the empty list.
+pub fn var_value(arena: &mut Arena, row: Row, var: u16) -> Ref
+    ensures stays { Stays arena.old arena.new }
+    ensures value { (vs : List Value) → RowAt (meaning_of arena.old) row vs → (meaning_of arena.new).value result ≡ Some (value_of_var vs var) }
+{
+    match row.at(var) {
+        Some(value) => value,
+        None => simple_value(arena, Simple::Nil),
+    }
+}
+
+/// The value of a term without parts, among variables in a row.
 pub fn plain_value(arena: &mut Arena, row: Row, term: &Term) -> Ref
     requires plain { IsPlain (out-Term term.now) }
     ensures stays { Stays arena.old arena.new }
@@ -40,10 +51,7 @@ pub fn plain_value(arena: &mut Arena, row: Row, term: &Term) -> Ref
         Term::Word(n) => simple_value(arena, Simple::Word(*n)),
         Term::Object(n) => simple_value(arena, Simple::Object(*n)),
         Term::Nil => simple_value(arena, Simple::Nil),
-        Term::Var(var) => match row.at(*var) {
-            Some(value) => value,
-            None => simple_value(arena, Simple::Nil),
-        },
+        Term::Var(var) => var_value(arena, row, *var),
         Term::Closure(_) => unreachable!(),
         Term::Pair(_, _) => unreachable!(),
     }

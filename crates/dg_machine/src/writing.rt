@@ -6,12 +6,14 @@ ghost use Rattle.dg_meaning.specs.Values.{Value, value_of};
 ghost use Rattle.dg_meaning.specs.Cells.{cells};
 ghost use Rattle.dg_unify.specs.Store.{Made};
 ghost use Rattle.dg_arena.specs.Held.{meaning_of};
-ghost use Rattle.dg_machine.specs.Built.{IsPlain, IsFree};
-ghost use Rattle.dg_machine.specs.Refs.{RowAt, Keeps, Stays};
-ghost use Rattle.dg_machine.specs.Writing.{part_of, reached, AreGone, IsAtPart, cells_left, cells_around, Descends, Closes, Overflows};
+ghost use Rattle.dg_machine.specs.Built.{IsNoPair};
+ghost use Rattle.dg_machine.specs.Tables.{IsOf};
+ghost use Rattle.dg_machine.specs.Refs.{RowAt, Keeps};
+ghost use Rattle.dg_machine.specs.Writing.{part_of, reached, AreGone, IsAtPart, cells_left, cells_around, Descends, Closes, Overflows, SpareFits};
 
+use crate::closures::leaf_value;
 use crate::now::{Row, Side};
-use crate::terms::plain_value;
+use crate::tables::Tables;
 use dg_arena::Arena;
 use dg_base::Term;
 use dg_unify::{Bindings, Full, Ref};
@@ -40,23 +42,29 @@ fn reach<'t>(whole: &'t Term, path: &[Side]) -> &'t Term
     term
 }
 
-/// Goes on along a term to the end of a list, and writes the heads without parts that it passes.
+/// Goes on along a term to the end of a list, and writes the heads that are no pairs and that it passes.
 fn descend<'t>(
     arena: &mut Arena,
+    tables: &Tables,
     row: Row,
     whole: &'t Term,
     path: &mut Vec<Side>,
+    spare: &mut Vec<Ref>,
 ) -> Result<&'t Term, Full>
-    requires free { IsFree whole.now }
     requires fits { (meaning_of arena.old).heap_limit < 3 * vec_capacity path.old + 3 }
-    requires some { (p : CoreProgram) × (vs : List Value) × RowAt (meaning_of arena.old) row vs × AreGone (meaning_of arena.old) p vs path.old.items whole.now }
-    ensures stays { Stays arena.old arena.new }
+    requires row { (vs : List Value) × RowAt (meaning_of arena.old) row vs }
+    requires spare { SpareFits (meaning_of arena.old) (vec_capacity spare.old) spare.old.items }
+    ensures keeps { Keeps arena.old arena.new }
     ensures capacity { vec_capacity path.new ≡ vec_capacity path.old }
-    ensures plain { IfOk result (λ end. IsPlain (out-Term end.now)) }
+    ensures leaf { IfOk result (λ end. IsNoPair (out-Term end.now)) }
     ensures end { IfOk result (λ end. end.now ≡ reached path.new.items whole.now) }
-    ensures gone { (p : CoreProgram) → (vs : List Value) → RowAt (meaning_of arena.old) row vs → AreGone (meaning_of arena.old) p vs path.old.items whole.now →
-        MatchResult result (λ _. Descends p vs whole.now (meaning_of arena.new) path.old.items path.new.items)
+    ensures gone { (p : CoreProgram) → (vs : List Value) → IsOf p tables.now → RowAt (meaning_of arena.old) row vs →
+        AreGone (meaning_of arena.old) p vs path.old.items whole.now → MatchResult result
+        (λ _. Descends p vs whole.now (meaning_of arena.old) (meaning_of arena.new) path.old.items path.new.items)
         (λ _. Overflows (cells_left p path.old.items whole.now) (meaning_of arena.old)) }
+    ensures spare { OnOk result (spare.new.items ≡ spare.old.items) }
+    ensures spare_room { vec_capacity spare.new ≡ vec_capacity spare.old }
+    ensures heap { OnOk result ((meaning_of arena.old).state.heap ≤ (meaning_of arena.new).state.heap) }
 {
     let mut term = reach(whole, path.as_slice());
     'pairs: while let Term::Pair(head, tail) = term {
@@ -68,8 +76,10 @@ fn descend<'t>(
             path.push_reserved(Side::Head);
             term = head;
         } else {
-            let value = plain_value(arena, row, head);
-            path.push_reserved(Side::Tail(value));
+            match leaf_value(arena, tables, row, head, spare) {
+                Err(full) => return Err(full),
+                Ok(value) => path.push_reserved(Side::Tail(value)),
+            }
             term = tail.get();
         }
     }
@@ -101,29 +111,36 @@ fn close(arena: &mut Arena, value: Ref, path: &mut Vec<Side>) -> Result<Option<R
     Ok(Some(value))
 }
 
-/// The value of a term without closures, among variables in a row. A path keeps how far the term is written.
+/// The value of a term, among variables in a row. A path keeps how far the term is written.
 pub fn write_term(
     arena: &mut Arena,
+    tables: &Tables,
     row: Row,
     whole: &Term,
     path: &mut Vec<Side>,
+    spare: &mut Vec<Ref>,
 ) -> Result<Ref, Full>
-    requires free { IsFree whole.now }
     requires fits { (meaning_of arena.old).heap_limit < 3 * vec_capacity path.old + 3 }
     requires row { (vs : List Value) × RowAt (meaning_of arena.old) row vs }
+    requires spare { SpareFits (meaning_of arena.old) (vec_capacity spare.old) spare.old.items }
     ensures keeps { Keeps arena.old arena.new }
     ensures capacity { vec_capacity path.new ≡ vec_capacity path.old }
-    ensures written { (p : CoreProgram) → (vs : List Value) → RowAt (meaning_of arena.old) row vs →
+    ensures written { (p : CoreProgram) → (vs : List Value) → IsOf p tables.now → RowAt (meaning_of arena.old) row vs →
         MatchResult result (λ r. Made (cells p (whole.now ∷ [])) (meaning_of arena.old) (meaning_of arena.new) r (value_of p vs whole.now))
         (λ _. Overflows (cells p (whole.now ∷ [])) (meaning_of arena.old)) }
+    ensures spare { OnOk result (spare.new.items ≡ spare.old.items) }
+    ensures spare_room { vec_capacity spare.new ≡ vec_capacity spare.old }
 {
     path.clear();
     'lists: loop {
-        let end = match descend(arena, row, whole, path) {
+        let end = match descend(arena, tables, row, whole, path, spare) {
             Err(full) => return Err(full),
             Ok(end) => end,
         };
-        let value = plain_value(arena, row, end);
+        let value = match leaf_value(arena, tables, row, end, spare) {
+            Err(full) => return Err(full),
+            Ok(value) => value,
+        };
         match close(arena, value, path) {
             Err(full) => return Err(full),
             Ok(Some(made)) => return Ok(made),

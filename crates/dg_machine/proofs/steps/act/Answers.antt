@@ -4,16 +4,16 @@ use Rattle.dg_machine.specs.Standing.{DoesOp}
 use Rattle.dg_machine.proofs.steps.act.Goals as goal
 
 pub returns-in-Just : goal.returns-in-Just
-returns-in-Just c code = subst (λ a. DoesOp code c.args.memory.now (op.Do a) c.args.rest.now c.just.new.self c.just.result) (sym c.in-Just.is) (c.just.ensures code)
+returns-in-Just c code = subst (λ a. DoesOp c.args.tables.now code c.args.memory.now (op.Do a) c.args.rest.now c.just.new.self c.just.result) (sym c.in-Just.is) (c.just.ensures c.args.tables.now code)
 
 pub returns-in-Equal : goal.returns-in-Equal
-returns-in-Equal c code = subst (λ a. DoesOp code c.args.memory.now (op.Do a) c.args.rest.now c.equal.new.self c.equal.result) (sym c.in-Equal.is) (c.equal.ensures code)
+returns-in-Equal c code = subst (λ a. DoesOp c.args.tables.now code c.args.memory.now (op.Do a) c.args.rest.now c.equal.new.self c.equal.result) (sym c.in-Equal.is) (c.equal.ensures code)
 
 pub returns-in-Compare : goal.returns-in-Compare
-returns-in-Compare c code = subst (λ a. DoesOp code c.args.memory.now (op.Do a) c.args.rest.now c.compare.new.self c.compare.result) (sym c.in-Compare.is) (c.compare.ensures code)
+returns-in-Compare c code = subst (λ a. DoesOp c.args.tables.now code c.args.memory.now (op.Do a) c.args.rest.now c.compare.new.self c.compare.result) (sym c.in-Compare.is) (c.compare.ensures code)
 
 pub returns-in-Arith : goal.returns-in-Arith
-returns-in-Arith c code = subst (λ a. DoesOp code c.args.memory.now (op.Do a) c.args.rest.now c.arith.new.self c.arith.result) (sym c.in-Arith.is) (c.arith.ensures code)
+returns-in-Arith c code = subst (λ a. DoesOp c.args.tables.now code c.args.memory.now (op.Do a) c.args.rest.now c.arith.new.self c.arith.result) (sym c.in-Arith.is) (c.arith.ensures code)
 
 pub returns-in-Test : goal.returns-in-Test
-returns-in-Test c code = subst (λ a. DoesOp code c.args.memory.now (op.Do a) c.args.rest.now c.test.new.self c.test.result) (sym c.in-Test.is) (c.test.ensures code)
+returns-in-Test c code = subst (λ a. DoesOp c.args.tables.now code c.args.memory.now (op.Do a) c.args.rest.now c.test.new.self c.test.result) (sym c.in-Test.is) (c.test.ensures code)

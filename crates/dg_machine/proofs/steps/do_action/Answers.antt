@@ -12,19 +12,19 @@ use Rattle.dg_machine.proofs.Goals.{printed_done, printed_lost, quiet_done, quie
 use Rattle.dg_machine.proofs.steps.do_action.Goals as goal
 
 pub returns-in-Ok-clause-ok : goal.returns-in-Ok-clause-ok
-returns-in-Ok-clause-ok g c code game l m o e at h =
+returns-in-Ok-clause-ok g c code game is_of l m o e at h =
     let bytes = c.as_slice.result.now in
     let split = c.requires.whole ∙ ap (λ a. op.Do a ∷ c.args.rest.now) (c.in-Text.is ∙ ap action.Text (sym c.as_slice.ensures)) in
     printed_done code game l m c.args.memory.now 0 c.args.ops.now (action.Text bytes) (Piece bytes) c.args.rest split at (nothing_more code l c.args.memory.now m h) (keeps_none game code l (RunsOf (more 0 (record m { ops = c.args.rest.now })))) refl c.args.spacer.now c.event.new.self (g.K.Sink.view c.args.sink.now) (g.K.Sink.view c.event.new.sink) c.in-Ok.ensures.stands c.in-Ok.ensures.ok
 
 pub returns-in-Err-clause-err : goal.returns-in-Err-clause-err
-returns-in-Err-clause-err g c code game l m at h start ps text =
+returns-in-Err-clause-err g c code game is_of l m at h start ps text =
     let bytes = c.as_slice.result.now in
     let split = c.requires.whole ∙ ap (λ a. op.Do a ∷ c.args.rest.now) (c.in-Text.is ∙ ap action.Text (sym c.as_slice.ensures)) in
     printed_lost code game l m c.args.memory.now 0 c.args.ops.now (action.Text bytes) (Piece bytes) c.args.rest split at (nothing_more code l c.args.memory.now m h) (keeps_none game code l (RunsOf (more 0 (record m { ops = c.args.rest.now })))) refl c.args.spacer.now (g.K.Sink.view c.args.sink.now) (g.K.Sink.view c.event.new.sink) start ps c.in-Err.ensures.err text
 
 pub returns-in-Ok-event-clause-ok : goal.returns-in-Ok-event-clause-ok
-returns-in-Ok-event-clause-ok g c code game l m o e at h =
+returns-in-Ok-event-clause-ok g c code game is_of l m o e at h =
     let split = c.requires.whole ∙ ap (λ a. op.Do a ∷ c.args.rest.now) c.in-Gap.is in
     let same = c.event_of.ensures in
     printed_done code game l m c.args.memory.now 0 c.args.ops.now (action.Gap c.in-Gap.kind) (GapOf c.in-Gap.kind) c.args.rest split at (nothing_more code l c.args.memory.now m h) (keeps_none game code l (RunsOf (more 0 (record m { ops = c.args.rest.now })))) refl c.args.spacer.now c.event-in-Gap.new.self (g.K.Sink.view c.args.sink.now) (g.K.Sink.view c.event-in-Gap.new.sink)
@@ -32,12 +32,12 @@ returns-in-Ok-event-clause-ok g c code game l m o e at h =
     (λ ps t. subst (λ p. Wrote (g.K.Sink.view c.args.sink.now) (g.K.Sink.view c.event-in-Gap.new.sink) (growth ps p)) same (c.in-Ok-event.ensures.ok ps t))
 
 pub returns-in-Err-event-clause-err : goal.returns-in-Err-event-clause-err
-returns-in-Err-event-clause-err g c code game l m at h start ps text =
+returns-in-Err-event-clause-err g c code game is_of l m at h start ps text =
     let split = c.requires.whole ∙ ap (λ a. op.Do a ∷ c.args.rest.now) c.in-Gap.is in
     let same = c.event_of.ensures in
     printed_lost code game l m c.args.memory.now 0 c.args.ops.now (action.Gap c.in-Gap.kind) (GapOf c.in-Gap.kind) c.args.rest split at (nothing_more code l c.args.memory.now m h) (keeps_none game code l (RunsOf (more 0 (record m { ops = c.args.rest.now })))) refl c.args.spacer.now (g.K.Sink.view c.args.sink.now) (g.K.Sink.view c.event-in-Gap.new.sink) start ps
     (λ qs t. subst (λ p. BrokeOff (g.K.Sink.view c.args.sink.now) (g.K.Sink.view c.event-in-Gap.new.sink) (growth qs p)) same (c.in-Err-event.ensures.err qs t)) text
 
 pub returns-in_default-clause-ok : goal.returns-in_default-clause-ok
-returns-in_default-clause-ok g c code game l m o e at h =
-    quiet_done code game l m c.args.memory.now c.act.new.memory c.act.result c.args.ops.now (op.Do c.args.action.now) c.args.rest.now c.requires.whole at h c.args.spacer.now (g.K.Sink.view c.args.sink.now) o (quiet_else c.args.action.now c.in_default.not-Text c.in_default.not-Gap c.in_default.not-GapN) (c.act.ensures code)
+returns-in_default-clause-ok g c code game is_of l m o e at h =
+    quiet_done c.args.tables.now code game is_of l m c.args.memory.now c.act.new.memory c.act.result c.args.ops.now (op.Do c.args.action.now) c.args.rest.now c.requires.whole at h c.args.spacer.now (g.K.Sink.view c.args.sink.now) o (quiet_else c.args.action.now c.in_default.not-Text c.in_default.not-Gap c.in_default.not-GapN) (c.act.ensures code)

@@ -4,8 +4,8 @@ use Rattle.dg_machine.proofs.steps.go.Given as goal
 
 abbrev pub invariant-goals : goal.invariant-goals
 invariant-goals g l = record {
-  takes : Takes l.code (l.steps - l.left) l.fn.memory l.start l.fn.spacer (g.K.Sink.view l.fn.sink) l.memory l.now l.spacer (g.K.Sink.view l.sink);
-  somewhere : IsSomewhere l.code l.memory l.now;
+  takes : Takes l.tables l.code (l.steps - l.left) l.fn.memory l.start l.fn.spacer (g.K.Sink.view l.fn.sink) l.memory l.now l.spacer (g.K.Sink.view l.sink);
+  somewhere : IsSomewhere l.tables l.code l.memory l.now;
   rests : rests l.now ≡ true;
   within : l.left ≤ l.steps;
 }

@@ -4,8 +4,8 @@ use Rattle.dg_machine.proofs.steps.settle.Given as goal
 
 abbrev pub invariant-marks : goal.invariant-marks
 invariant-marks l = record {
-  settles : Settles l.code l.fn.memory l.initial.now l.memory l.now;
-  somewhere : IsSomewhere l.code l.memory l.now;
+  settles : Settles l.tables l.code l.fn.memory l.initial.now l.memory l.now;
+  somewhere : IsSomewhere l.tables l.code l.memory l.now;
 }
 
 abbrev pub decreases-marks : goal.decreases-marks

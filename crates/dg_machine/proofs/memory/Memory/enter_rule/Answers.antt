@@ -4,9 +4,9 @@ use Rattle.dg_machine.proofs.Leaving.{split_list, entering_is, rule_entered}
 use Rattle.dg_machine.proofs.memory.Memory.enter_rule.Goals as goal
 
 pub returns-in-Enter : goal.returns-in-Enter
-returns-in-Enter c code g l m call at k h =
+returns-in-Enter c code g is_of l m call at k h =
     let all = c.args.ops.now in
     let rest = take (length all - 1) (drop 1 all) in
     let split = split_list all c.op-item.result c.in-len1-up.len_at_least c.op-item.is in
-    rule_entered code g l m c.args.call call c.in-Enter.vars c.as_slice.result.now c.args.self.now c.enter.new.self c.enter.result c.args.ops rest
+    rule_entered c.args.tables.now code g is_of l m c.args.call call c.in-Enter.vars c.as_slice.result.now c.args.self.now c.enter.new.self c.enter.result c.args.ops rest
     (entering_is all c.op-item.result rest c.in-Enter.vars c.as_slice.result.now split (c.in-Enter.is ∙ ap (op.Enter c.in-Enter.vars) (sym c.as_slice.ensures)) at.1) at.0 k h (c.enter.ensures code)

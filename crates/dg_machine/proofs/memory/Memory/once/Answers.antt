@@ -12,11 +12,11 @@ pub begin-requires-clause-room : goal.begin-requires-clause-room
 begin-requires-clause-room c = c.in-Ok.ensures.took.room
 
 pub returns-in-Ok : goal.returns-in-Ok
-returns-in-Ok c code g l m o b at h =
+returns-in-Ok c t code g is_of l m o b at h =
     let taken = c.in-Ok.ensures.held code l m h in
     let held = c.begin.ensures.held code l (more 10 (passed m)) (place_of m) taken (height_now code l m c.args.self.now c.heap-height.result h c.heap-height.ensures) in
     charged_stands code g l 10 m (within (place_of m) (more 10 (passed m))) (Runs (within (place_of m) (more 10 (passed m)))) c.begin.new.self (RunsNow c.args.rest) held refl (at, held)
 
 pub returns-in-Err : goal.returns-in-Err
-returns-in-Err c code g l m o b at h =
+returns-in-Err c t code g is_of l m o b at h =
     full_stands code g l 10 m (Runs (within (place_of m) (more 10 (passed m)))) c.args.self.now c.charge.new.self h (c.in-Err.ensures.held code l m h)

@@ -1,0 +1,53 @@
+// What a machine keeps of a program beside its code.
+ghost use Rattle.std.specs.Prelude.{◌≡◌, ◌≤◌, IfOk, length};
+ghost use Rattle.dg_machine.specs.Tables.{IsOf, captured_at};
+
+use crate::now::Captured;
+use dg_base::CoreProgram;
+use std::alloc::{AllocError, Global};
+
+/// For each closure of a program the variables that it captures.
+#[derive(Drop)]
+pub struct Tables {
+    pub captured: Vec<Captured>,
+}
+
+/// A copy of a list of variables.
+fn copied(alloc: Global, vars: &[u16]) -> Result<Vec<u16>, AllocError>
+    ensures { IfOk result (λ v. v.items ≡ vars.now) }
+{
+    let mut copy = Vec::with_capacity(alloc, vars.len())?;
+    'vars: for var in vars {
+        copy.push(*var)?;
+    }
+    Ok(copy)
+}
+
+impl Tables {
+    /// What is kept of a program. There is no room for a closure that captures more than 65,535 variables.
+    pub fn of(alloc: Global, program: &CoreProgram) -> Result<Tables, AllocError>
+        ensures { IfOk result (λ t. IsOf program.now t) }
+    {
+        let mut captured = Vec::new(alloc);
+        'closures: for closure in program.closures.as_slice() {
+            let vars = closure.captured.as_slice();
+            if vars.len() > 65535 {
+                return Err(AllocError);
+            }
+            let vars = copied(alloc, vars)?;
+            captured.push(Captured { vars })?;
+        }
+        Ok(Tables { captured })
+    }
+
+    /// The variables that the closure of a place captures.
+    pub fn captured_by(&self, place: u16) -> &[u16]
+        ensures captured { result.now ≡ captured_at self.now place }
+        ensures few { length result.now ≤ 65535 }
+    {
+        match self.captured.get(place as usize) {
+            Some(captured) => captured.vars.as_slice(),
+            None => &[],
+        }
+    }
+}
