@@ -150,8 +150,8 @@ const BEGUN: &str =
 
 const GATHERS_FOREVER: &str = "(program entry point) x (collect 1) (repeat forever) (into $)\n";
 
-// The words of the command, the source, the status and the transcript.
-const TRANSCRIPTS: [(&str, &str, u8, &str); 53] = [
+// The words of the command, the source, the status and the transcript: what the world keeps, and what is gathered.
+const WORLDS: [(&str, &str, u8, &str); 16] = [
     ("debug p.dg", CHANGED, 0, "5\n"),
     ("debug p.dg", CLOSED, 0, "shut\n"),
     ("debug p.dg", UNDER, 0, "#lamp\n"),
@@ -178,6 +178,10 @@ const TRANSCRIPTS: [(&str, &str, u8, &str); 53] = [
         0,
         "[]\n",
     ),
+];
+
+// The same of all else.
+const TRANSCRIPTS: [(&str, &str, u8, &str); 37] = [
     ("debug p.dg", PARTS, 0, "a\nc d e\n"),
     ("debug p.dg --dice 7", DIE, 0, "4\n"),
     ("debug p.dg", QUOTIENT, 0, "3 1\n"),
@@ -268,17 +272,19 @@ const TRANSCRIPTS: [(&str, &str, u8, &str); 53] = [
 ];
 
 #[test]
+fn worlds_give_their_transcript(rt: HostRuntime) -> Result<(), Fail> {
+    let alloc = rt.alloc();
+    for (line, source, status, text) in WORLDS {
+        gives(&rt, alloc, line, "p.dg", source.as_bytes(), status, text)?;
+    }
+    Ok(())
+}
+
+#[test]
 fn sources_give_their_transcript(rt: HostRuntime) -> Result<(), Fail> {
+    let alloc = rt.alloc();
     for (line, source, status, text) in TRANSCRIPTS {
-        gives(
-            &rt,
-            rt.alloc(),
-            line,
-            "p.dg",
-            source.as_bytes(),
-            status,
-            text,
-        )?;
+        gives(&rt, alloc, line, "p.dg", source.as_bytes(), status, text)?;
     }
     Ok(())
 }
