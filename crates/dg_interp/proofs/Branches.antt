@@ -25,13 +25,13 @@ use Rattle.dg_interp.specs.declared.engine.Engine.{Engine}
 use Rattle.dg_interp.specs.Frames.{values_in, kind_of, branches_of, cut_of, cut_if, lives_of, ways_of, IsChoice, AreChoices, AreFrames, IsLeft, IsNoted, StandOn, GoBackTo, TakesNewest, left_in, stays_with, all_left}
 use Rattle.dg_interp.specs.declared.frames.Left.{Left}
 use Rattle.dg_interp.specs.declared.frames.Left.TheVariants.{Rules, Lists, Ways, Way as OneWay, Behind, TakeOut, Things}
-use Rattle.dg_interp.specs.declared.outside.Outside.{Outside}
-use Rattle.dg_interp.specs.Outside.{InWorld, MayPick, closed_to, picks_in}
+use Rattle.dg_outside.specs.declared.outside.Outside.{Outside}
+use Rattle.dg_outside.specs.Outside.{InWorld, MayPick, Closes, picks_in}
 use Rattle.dg_interp.specs.Engine.{store_in, KeepsPlaces, open_in, HasPlaces, Sound, Within, HasPlace, IsPlace, Cuts, Retries, Point, IsSound, StandsAt, FailsAt, BeginsAt, Adds, Then, Leads, FullAt, SameLimits, WentOn, WentWrong, HasEndedSo, AtGoal, Branches, GoesBack, Tries, branches_left}
 use Rattle.dg_interp.proofs.Links.{SameBy, same_take, branches_same, frames_take, stand_raise, stand_same, choices_same, back_same, cut_gone, cut_fewer}
 use Rattle.dg_interp.proofs.Stores.{all_hold, values_kept, take_all}
 use Rattle.dg_interp.proofs.Kept.{back_limits, tried_inside}
-use Rattle.dg_interp.proofs.Places.{went_further, went_wrong, cut_base, cut_inside, adds_nothing, world_closed, open_still, world_tried, adds_on, adds_drops, adds_tried, leads_on, limits_on}
+use Rattle.dg_interp.proofs.Places.{went_further, went_wrong, cut_base, cut_inside, adds_nothing, open_still, world_tried, adds_on, adds_drops, adds_tried, leads_on, limits_on}
 use Rattle.dg_interp.proofs.Turns.{reverse_pop}
 
 -- ## What a choice takes out
@@ -151,7 +151,7 @@ module _ (old : Engine) (o : Choice) (choices : Vec Choice Global) (sound : IsSo
 
   -- ## A choice that was not cut
 
-  module _ (frames : Vec Frame Global) (refs : Vec Ref Global) (out : Outside) (store : ListBindings) (cut : frames.items ≡ take o.height fs) (cut_refs : refs.items ≡ take o.refs xs) (closed : out ≡ closed_to o.gathered old.outside)
+  module _ (frames : Vec Frame Global) (refs : Vec Ref Global) (out : Outside) (store : ListBindings) (cut : frames.items ≡ take o.height fs) (cut_refs : refs.items ≡ take o.refs xs) (closed : Closes o.gathered old.outside out)
       (back : (s : Store) (ms : List Saved) → KeepsPlaces old.store (record { mark = o.place; store = s } ∷ ms) → Back s (store_in store))
       (keeps : (s : Store) (ms : List Saved) → KeepsPlaces old.store (record { mark = o.place; store = s } ∷ ms) → KeepsPlaces store (record { mark = o.place; store = s } ∷ ms)) where
     abbrev mid : Engine
@@ -194,7 +194,7 @@ module _ (old : Engine) (o : Choice) (choices : Vec Choice Global) (sound : IsSo
 
     limits_of : (ms : List Saved) → GoBackTo xs (store_in old.store).heap_limit (store_in old.store).trail_limit (o ∷ os) ms → KeepsPlaces old.store ms → SameLimits old mid
     limits_of [] b h = absurd b
-    limits_of (m ∷ ms) b h = let is = is_place m ms b.0 b.1 h in record { heap = is.kept.heap_limit ∙ b.2; trail = is.kept.trail_limit ∙ b.3; aux = ap (λ (x : Outside). x.gathered.aux) closed; keep = ap (λ (x : Outside). x.world.area.keep) closed }
+    limits_of (m ∷ ms) b h = let is = is_place m ms b.0 b.1 h in record { heap = is.kept.heap_limit ∙ b.2; trail = is.kept.trail_limit ∙ b.3; aux = ap (λ (x : Outside). x.gathered.aux) closed.is; keep = ap (λ (x : Outside). x.world.area.keep) closed.is }
 
     pub popped_limits : SameLimits old mid
     popped_limits = limits_of sound.base.places.saved back_to sound.base.places.keeps
@@ -211,7 +211,7 @@ module _ (old : Engine) (o : Choice) (choices : Vec Choice Global) (sound : IsSo
         places = record { saved = popped_place.saved; keeps = saves_drops true (fields_of store) popped_place.back popped_place.saved popped_place.is.keeps; back_to = popped_place.back_to };
       };
       room = omega (arith, sound.room, stand.2);
-      picks = subst (λ (x : Outside). MayPick old.left (picks_in x)) (sym closed) sound.picks;
+      picks = subst (λ (x : Outside). MayPick old.left (picks_in x)) (sym closed.is) sound.picks;
     }
 
     pub popped_left : IsLeft (length frames.items) (length refs.items) o.left
@@ -260,7 +260,7 @@ module _ (old : Engine) (o : Choice) (choices : Vec Choice Global) (sound : IsSo
 
       -- gatherings that were opened since are dropped
       pub popped_world : (w v : World) → InWorld old.outside g w → Drops w v → length v.gathered ≡ open_at c.others c.height → InWorld out g v
-      popped_world w v world drops count = subst (λ x. InWorld x g v) (sym closed) (world_closed old.outside g w v o.gathered world drops (count ∙ is.height))
+      popped_world w v world drops count = closed.stands g w v world drops (count ∙ is.height)
 
       -- a gathering that is taken out is the newest
       popped_takes : (n : ℕ) (v : World) (run : Run) → Resumed g c (lives_of os cs) n v run → (left : Left) (t : ℕ) → c.others ≡ branches_of g (values_in (store_in store) refs.items) frames.items (length frames.items) left is.registers → TakesNewest left is.registers.next_tag v

@@ -31,11 +31,11 @@ use Rattle.dg_world.specs.declared.world.World.{World as FactsWorld}
 use Rattle.dg_choose.specs.Dice.{HasDrawn}
 use Rattle.dg_lists.specs.Formed.{IsFormed}
 use Rattle.dg_interp.specs.declared.engine.Engine.{Engine}
-use Rattle.dg_interp.specs.declared.outside.Outside.{Outside}
+use Rattle.dg_outside.specs.declared.outside.Outside.{Outside}
 use Rattle.dg_interp.specs.Frames.{values_in}
-use Rattle.dg_interp.specs.Outside.{outline, HaveGathered, InWorld}
+use Rattle.dg_outside.specs.Outside.{outline, HaveGathered, InWorld}
 use Rattle.dg_interp.specs.Engine.{store_in, limit_in, KeepsPlaces, steps_of, IsReady, TakesAt, StandsAt, FailsAt, PassesLimit, Leads, Then, SameLimits, WentOn}
-use Rattle.dg_interp.specs.Changing.{all_in_store, SetsFormed, Became}
+use Rattle.dg_outside.specs.Changing.{all_in_store, SetsFormed, Became}
 use Rattle.dg_interp.specs.Made.{MadeArgs, changes_at, ChangedMade}
 use Rattle.dg_interp.proofs.Takes.{behind, taken_in, comes_of}
 use Rattle.dg_interp.proofs.Giving.{written_agrees}

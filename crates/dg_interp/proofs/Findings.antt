@@ -42,11 +42,11 @@ use Rattle.dg_lists.specs.Reading.{Lacks, Copied}
 use Rattle.dg_world.specs.Tables.{Outline, IsKind, simple_value}
 use Rattle.dg_world.specs.Worlds.{StandsFor}
 use Rattle.dg_interp.specs.declared.engine.Engine.{Engine}
-use Rattle.dg_interp.specs.declared.subject.Subject.TheVariants.{Open, Thing, Other}
-use Rattle.dg_interp.specs.Subjects.{may_name, IsSubject}
+use Rattle.dg_outside.specs.declared.subject.Subject.TheVariants.{Open, Thing, Other}
+use Rattle.dg_outside.specs.Subjects.{may_name, IsSubject}
 use Rattle.dg_interp.specs.Frames.{values_in}
 use Rattle.dg_interp.specs.Made.{MadeArgs}
-use Rattle.dg_interp.specs.Outside.{outline, InWorld}
+use Rattle.dg_outside.specs.Outside.{outline, InWorld}
 use Rattle.dg_interp.specs.Trying.{may_find}
 use Rattle.dg_interp.specs.Giving.{ActsAt, UnifiesAt}
 use Rattle.dg_interp.specs.Finding.{EffectAt, made_values, AsksPlaceAt, AsksObjectsAt, TriesObjectsAt, ReadsAt}

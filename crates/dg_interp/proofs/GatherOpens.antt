@@ -41,7 +41,7 @@ use Rattle.dg_interp.specs.declared.frames.Whole.{Whole}
 use Rattle.dg_interp.specs.declared.frames.Whole.TheVariants.{List as InList, Sum as InSum}
 use Rattle.dg_interp.specs.declared.frames.Choice.{Choice}
 use Rattle.dg_interp.specs.declared.engine.Engine.{Engine}
-use Rattle.dg_interp.specs.Outside.{row_of, HaveGathered, InWorld}
+use Rattle.dg_outside.specs.Outside.{row_of, HaveGathered, InWorld}
 use Rattle.dg_interp.specs.Terms.{BothMade}
 use Rattle.dg_interp.specs.Frames.{values_in, steps_at, steps_behind, whole_of, lives_of, ways_of, IsChoice, AreChoices, IsFrame, AreFrames, StandOn, GoBackTo}
 use Rattle.dg_interp.specs.Gathering.{gathering_goal, gathering_live, GathersAt}

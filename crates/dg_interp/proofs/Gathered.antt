@@ -32,10 +32,10 @@ use Rattle.dg_lists.specs.Gathered.{Gathered, added, gathered_size as size_of_ro
 use Rattle.dg_lists.specs.Writing.{value_at}
 use Rattle.dg_interp.specs.declared.engine.Engine.{Engine}
 use Rattle.dg_interp.specs.Terms.{Overflows}
-use Rattle.dg_interp.specs.Lacks.{area_of}
-use Rattle.dg_interp.specs.declared.lack.Lack.{Lack}
+use Rattle.dg_outside.specs.Lacks.{area_of}
+use Rattle.dg_outside.specs.declared.lack.Lack.{Lack}
 use Rattle.dg_interp.specs.declared.frames.Env.{Env}
-use Rattle.dg_interp.specs.Outside.{row_of, HaveGathered, InWorld}
+use Rattle.dg_outside.specs.Outside.{row_of, HaveGathered, InWorld}
 use Rattle.dg_interp.specs.Frames.{stretch, values_in}
 use Rattle.dg_interp.specs.Gathering.{KeepsAt}
 use Rattle.dg_interp.specs.Engine.{Point, store_in, KeepsPlaces, IsReady, FullAt, LacksIn, LackAt, Leads, SameLimits, PassesLimit, WentWrong, limit_in}

@@ -31,7 +31,7 @@ use Rattle.dg_interp.specs.declared.engine.Engine.{Engine}
 use Rattle.dg_interp.specs.Terms.{Overflows}
 use Rattle.dg_interp.specs.Frames.{values_in}
 use Rattle.dg_interp.specs.Engine.{Point, store_in, KeepsPlaces, steps_of, There, IsReady, TakesAt, StandsAt, FailsAt, FullAt, Leads, SameLimits, WentOn, Branches}
-use Rattle.dg_interp.specs.Outside.{InWorld}
+use Rattle.dg_outside.specs.Outside.{InWorld}
 use Rattle.dg_interp.specs.Giving.{number_in, ActsAt, SolvesAt, UnifiesAt, GivesAt}
 use Rattle.dg_interp.proofs.Stores.{trail_append, trail_within, made_is, values_kept, hold_front, told_kept}
 use Rattle.dg_interp.proofs.Places.{inside_kept, adds_nothing}

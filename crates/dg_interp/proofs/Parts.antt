@@ -28,8 +28,8 @@ use Rattle.dg_interp.specs.Frames.{values_in, branches_of, cut_of, cut_if, lives
 use Rattle.dg_interp.specs.Engine.{store_in, KeepsPlaces, Within, IsSound, StandsAt, TakesAt, Then, Leads, Cuts, branches_left, WentOn, StopsAt, StopsWithin, StopsFurther, StopsOn, StopsTo, Stops, leaving, part_at, steps_of}
 use Rattle.dg_interp.proofs.Links.{cut_gone, cut_older, cut_fewer, rest_older}
 use Rattle.dg_interp.proofs.Places.{adds_nothing, adds_drops, leads_on, leads_nowhere, limits_on, limits_here, cut_base, cut_inside, ways_left, inside_in}
-use Rattle.dg_interp.specs.declared.outside.Outside.{Outside}
-use Rattle.dg_interp.specs.Outside.{InWorld, closed_to}
+use Rattle.dg_outside.specs.declared.outside.Outside.{Outside}
+use Rattle.dg_outside.specs.Outside.{InWorld, Closes}
 use Rattle.dg_interp.proofs.Turns.{reverse_pop}
 use Rattle.dg_interp.proofs.Takes.{behind, taken_in, comes_of, adds_taken}
 use Rattle.dg_interp.proofs.Branches.{fewer_left, popped_base, popped_sound, popped_limits, popped_left, popped_branches, popped_within, popped_world, popped_agrees, no_choice, went_on_from, ended_from}
@@ -200,7 +200,7 @@ module _ (old : Engine) (o : Choice) (choices : Vec Choice Global) (sound : IsSo
 
   -- ## The part to which the stop leads
 
-  module _ (frames : Vec Frame Global) (refs : Vec Ref Global) (out : Outside) (store : ListBindings) (cut : frames.items ≡ take o.height fs) (cut_refs : refs.items ≡ take o.refs xs) (closed : out ≡ closed_to o.gathered old.outside)
+  module _ (frames : Vec Frame Global) (refs : Vec Ref Global) (out : Outside) (store : ListBindings) (cut : frames.items ≡ take o.height fs) (cut_refs : refs.items ≡ take o.refs xs) (closed : Closes o.gathered old.outside out)
       (back : (s : Store) (ms : List Saved) → KeepsPlaces old.store (record { mark = o.place; store = s } ∷ ms) → Back s (store_in store))
       (keeps : (s : Store) (ms : List Saved) → KeepsPlaces old.store (record { mark = o.place; store = s } ∷ ms) → KeepsPlaces store (record { mark = o.place; store = s } ∷ ms))
       (rest : Vec Choice Global) (p : Frame × ℕ) (found : Some p ≡ part_at (eqb o.tag tag) tag o.left) (cuts : Cuts p.1 choices.items rest.items) where

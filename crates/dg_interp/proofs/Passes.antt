@@ -24,7 +24,7 @@ use Rattle.dg_interp.specs.declared.frames.Env.{Env}
 use Rattle.dg_interp.specs.declared.frames.Left.TheVariants.{Rules}
 use Rattle.dg_interp.specs.declared.engine.Engine.{Engine}
 use Rattle.dg_interp.specs.Frames.{values_in, steps_behind, IsLeft}
-use Rattle.dg_interp.specs.Outside.{InWorld}
+use Rattle.dg_outside.specs.Outside.{InWorld}
 use Rattle.dg_interp.proofs.Kept.{rules_open}
 use Rattle.dg_interp.specs.Engine.{store_in, open_in, Point, IsSound, FailsAt, BeginsAt, Adds, Leads, WentWrong}
 use Rattle.dg_interp.specs.Passing.{rules_from, IsFirst, IsCandidate}

@@ -1,15 +1,13 @@
 -- Where an engine stands, and how it goes on from there.
-use Rattle.std.proofs.Common.{◌≡◌, ◌≢◌, ℕ, zero, suc, ◌+◌, ◌-◌, ◌≤◌, List, [], ◌∷◌, ◌++◌, Option, Some, Bool, true, false, refl, sym, ap, ◌∙◌, subst, arith, length, map, take, drop, get_or, length-take, append_assoc}
+use Rattle.std.proofs.Common.{◌≡◌, ◌≢◌, ℕ, zero, suc, ◌+◌, ◌-◌, ◌≤◌, List, [], ◌∷◌, ◌++◌, Option, Some, Bool, true, false, refl, sym, ap, ◌∙◌, subst, arith, length, take, drop, get_or, length-take, append_assoc}
 use Rattle.std.specs.Prelude.{not, max, slice_get, reverse}
 use Rattle.std.proofs.lemmas.Option.{slice_get-get_or}
-use Rattle.std.specs.List.{All}
-use Rattle.std.proofs.lemmas.List.{append-nil, length-map, length-drop, drop-map, drop_all}
-use Rattle.std.proofs.lemmas.List.Elements.{All-drop}
+use Rattle.std.proofs.lemmas.List.{append-nil, length-map, length-drop, drop_all}
 use Rattle.std.specs.declared.vec.Vec.{Vec}
 use Rattle.std.specs.declared.alloc.Global.{Global}
 use Rattle.dg_base.specs.declared.program.CoreProgram.{CoreProgram}
 use Rattle.dg_base.specs.declared.run.Ending.TheVariants.{Done}
-use Rattle.dg_meaning.specs.World.{Game, World, Gathering, Event, Print, Answered, Retried, HasFailed, prints, noted}
+use Rattle.dg_meaning.specs.World.{Game, World, Event, Print, Answered, Retried, HasFailed, prints, noted}
 use Rattle.dg_meaning.specs.Path.{Step, Answers, Cut, Registers, End, Branch, Kind, Plain, Rules, Shield, Gathers}
 use Rattle.dg_meaning.specs.Moves.{path_of, first_alone}
 use Rattle.dg_meaning.specs.Peaks.{Area, Heap, Trail, Aux, Keep}
@@ -33,9 +31,8 @@ use Rattle.dg_interp.specs.declared.frames.Choice.{Choice}
 use Rattle.dg_interp.specs.declared.engine.Engine.{Engine}
 use Rattle.dg_interp.specs.Frames.{values_in, mark_steps, frame_steps, steps_behind, steps_at, lives_of, ways_of, AreChoices, IsFrame, AreFrames, StandOn, GoBackTo, floor_of, all_left}
 use Rattle.dg_interp.specs.Engine.{store_in, limit_in, KeepsPlaces, Within, On, There, Sound, IsReady, Point, StandsAt, FailsAt, Adds, Then, Leads, older_than, Cuts, branches_left, SameLimits, WentOn, WentWrong, HasEndedSo, MarkPassed, Refused, FrameLeft, steps_of}
-use Rattle.dg_interp.specs.declared.outside.Outside.{Outside}
-use Rattle.dg_lists.specs.Formed.{IsFormed}
-use Rattle.dg_interp.specs.Outside.{row_of, InWorld, closed_to}
+use Rattle.dg_outside.specs.declared.outside.Outside.{Outside}
+use Rattle.dg_outside.specs.Outside.{row_of, InWorld}
 use Rattle.dg_interp.specs.Gathering.{KeepsAt}
 use Rattle.dg_unify.specs.Engines.{Agrees}
 use Rattle.dg_interp.proofs.Links.{same_take, same_values, behind_same, behind_frame, behind_end, frames_take, choices_same, rest_older, choices_cut, lives_cut, ways_cut, back_cut, keeps_cut, stand_cut, stand_same, stand_floor, floor_within, cut_fewer}
@@ -54,33 +51,20 @@ adds_on w v u xs ys a b = record {
 pub adds_drops : (w v : World) → Drops w v → Adds [] w v
 adds_drops w v d = record { prints_are = ap (λ (x : World). prints x.events) d.is ∙ sym (append-nil (prints w.events)); typed = ap (λ (x : World). x.typed) d.is }
 
-dropped_to : {A : Type 0} (c h : ℕ) (xs : List A) → length (drop c xs) ≡ h → drop (length xs - h) xs ≡ drop c xs
-dropped_to c h [] e = drop_all (0 - h) [] (omega arith) ∙ sym (drop_all c [] (omega arith))
-dropped_to zero h (x ∷ xs) e = let none : length (x ∷ xs) - h ≡ 0 = omega (arith, e) in ap (λ n. drop n (x ∷ xs)) none
-dropped_to (suc c) h (x ∷ xs) e =
-    let more : length (x ∷ xs) - h ≡ suc (length xs - h) = omega (arith, e, length-drop c xs) in
-    ap (λ n. drop n (x ∷ xs)) more ∙ dropped_to c h xs e
-
--- gatherings were dropped, down to so many
-pub world_closed : (out : Outside) (g : Game) (w v : World) (h : ℕ) → InWorld out g w → Drops w v → length v.gathered ≡ h → InWorld (closed_to h out) g v
-world_closed out g w v h is d count =
-    let rows = out.gathered.rows in
-    let left : length (drop d.count w.gathered) ≡ h = ap (λ (x : World). length x.gathered) (sym d.is) ∙ count in
-    let long : length rows ≡ length w.gathered = ap length is.1.0 ∙ length-map w.gathered row_of in
-    let same : drop (length rows - h) rows ≡ map row_of (drop d.count w.gathered) =
-    ap (drop (length rows - h)) is.1.0 ∙ drop-map row_of (length rows - h) w.gathered ∙ ap (λ n. map row_of (drop (n - h) w.gathered)) long ∙ ap (map row_of) (dropped_to d.count h w.gathered left) in
-    subst (InWorld (closed_to h out) g) (sym d.is) (is.0, (same, All-drop (λ (x : Gathering). All IsFormed x.values) d.count w.gathered is.1.1), is.2, is.3)
-
 pub open_still : (out : Outside) (g : Game) (w : World) → InWorld out g w → length out.gathered.rows ≡ length w.gathered
 open_still out g w is = ap length is.1.0 ∙ length-map w.gathered row_of
+
+-- what drops nothing is the same
+drops_none : {A : Type 0} (c : ℕ) (xs : List A) → length (drop c xs) ≡ length xs → drop c xs ≡ xs
+drops_none c [] e = drop_all c [] (omega arith)
+drops_none zero (x ∷ xs) e = refl
+drops_none (suc c) (x ∷ xs) e = absurd (omega (arith, e, length-drop c xs))
 
 -- as many are open as before
 pub world_still : (out : Outside) (g : Game) (w v : World) → InWorld out g w → Drops w v → length v.gathered ≡ length out.gathered.rows → InWorld out g v
 world_still out g w v is d count =
-    let rows = out.gathered.rows in
-    let none : length rows - length rows ≡ 0 = omega arith in
-    let same : closed_to (length rows) out ≡ out = ap (λ n. record out { gathered = record out.gathered { rows = drop n rows } }) none in
-    subst (λ o. InWorld o g v) same (world_closed out g w v (length rows) is d count)
+    let same : drop d.count w.gathered ≡ w.gathered = drops_none d.count w.gathered (ap (λ (x : World). length x.gathered) (sym d.is) ∙ count ∙ open_still out g w is) in
+    subst (InWorld out g) (sym (d.is ∙ ap (λ l. record w { gathered = l }) same)) is
 
 pub world_tried : (out : Outside) (g : Game) (k : Kind) (bs : List Branch) (w : World) → InWorld out g w → InWorld out g (tried_in k bs w)
 world_tried out g k [] w is = is

@@ -1,5 +1,5 @@
 -- What a select comes to.
-use Rattle.std.proofs.Common.{◌≡◌, ℕ, zero, suc, ◌+◌, List, [], ◌∷◌, ◌++◌, refl, sym, ap, ◌∙◌, subst, arith, length, get_or, max, slice_set, Bor}
+use Rattle.std.proofs.Common.{◌≡◌, ℕ, zero, suc, ◌+◌, List, [], ◌∷◌, ◌++◌, refl, sym, ap, ◌∙◌, subst, arith, length, get_or, Bor}
 use Rattle.std.specs.List.{All}
 use Rattle.dg_base.specs.declared.program.Goal.{Goal, out-Goal}
 use Rattle.dg_base.specs.declared.program.Goal.TheVariants.{Select, outs-Select}
@@ -8,27 +8,22 @@ use Rattle.dg_base.specs.declared.program.Mode.{Mode}
 use Rattle.dg_base.specs.Goals.{terms_held}
 use Rattle.dg_meaning.specs.Values.{Value}
 use Rattle.dg_meaning.specs.World.{Game, World}
-use Rattle.std.specs.declared.vec.Vec.{Vec}
-use Rattle.std.specs.declared.alloc.Global.{Global}
-use Rattle.dg_base.specs.declared.cells.Cell.{Cell}
 use Rattle.dg_meaning.specs.Cells.{writing}
-use Rattle.dg_meaning.specs.Choosing.{die, Picks, picked, picks_at, Choice, choice}
+use Rattle.dg_meaning.specs.Choosing.{Choice}
 use Rattle.dg_meaning.specs.Path.{Registers}
 use Rattle.dg_meaning.specs.Moves.{goals_at, outcome, path_of, selects, selected}
 use Rattle.dg_meaning.specs.Transcript.{Run}
 use Rattle.dg_meaning.specs.Keeps.{After, Stands}
 use Rattle.dg_built.specs.Built.{AreBuilt}
 use Rattle.dg_built.proofs.BuiltLemmas.{built_inside, lists_built, all_none}
-use Rattle.dg_choose.specs.Dice.{HasDrawn}
 use Rattle.dg_lists.specs.Gathered.{Gathered}
 use Rattle.dg_world.specs.declared.world.World.{World as FactsWorld}
-use Rattle.dg_interp.specs.declared.outside.Outside.{Outside}
+use Rattle.dg_outside.specs.declared.outside.Outside.{Outside}
 use Rattle.dg_interp.specs.declared.engine.Engine.{Engine}
-use Rattle.dg_interp.specs.Outside.{picks_in, HasSet, HaveGathered, InWorld, MayPick, PicksOne}
+use Rattle.dg_outside.specs.Outside.{picks_in, MayPick, PicksOne}
 use Rattle.dg_interp.specs.Engine.{steps_of, IsReady, TakesAt, WentOn}
 use Rattle.dg_interp.proofs.Takes.{behind, taken_in, comes_of, adds_taken}
 use Rattle.dg_interp.proofs.Opens.{agrees_here}
-use Rattle.dg_interp.proofs.Picks.{may_behind, choice_of_none}
 use Rattle.dg_interp.proofs.Controls.{values_of, behind_all, then_frame, then_is}
 
 pub select_built : (site : ℕ) (mode : Mode) (lists : List (List Goal)) → AreBuilt (Select site mode lists ∷ []) → All AreBuilt lists
@@ -42,7 +37,7 @@ one_built (goals ∷ lists) (suc at) h = one_built lists at (λ k d lt. h (suc k
 
 -- the engine behind a pick, with all frames behind the list that was picked
 module _ (site : ℕ) (mode : Mode) (lists : List (List Goal)) (old : Engine) (out : Outside) (branch : ℕ) (goals : Bor (List Goal)) (ready : IsReady old) (all : behind_all old ≡ steps_of old)
-    (may : MayPick (old.left + 1) (picks_in old.outside)) (one : PicksOne site mode (max (length lists) 1) branch old.outside out) (is : goals.now ≡ get_or lists branch []) (built : AreBuilt goals.now) where
+    (may : MayPick (old.left + 1) (picks_in old.outside)) (one : PicksOne site mode (length lists) branch old.outside out) (is : goals.now ≡ get_or lists branch []) (built : AreBuilt goals.now) where
   abbrev x : Goal
   x = Select site mode lists
 
@@ -63,7 +58,7 @@ module _ (site : ℕ) (mode : Mode) (lists : List (List Goal)) (old : Engine) (o
     sound = record {
       base = ready.sound.base;
       room = ready.sound.room;
-      picks = subst (MayPick old.left) (sym one.picks) (may_behind old.left site branch (picks_in old.outside) may);
+      picks = one.may old.left may;
     };
     here = then_is goals old ready built;
   }
@@ -78,23 +73,8 @@ module _ (site : ℕ) (mode : Mode) (lists : List (List Goal)) (old : Engine) (o
     abbrev chosen : Choice
     chosen = selects g site mode (length lists) v
 
-    chosen_is : choice mode (max (length lists) 1) (picks_at (picks_in old.outside) site) (die g.dice w.dice) ≡ chosen
-    chosen_is = choice_of_none mode (length lists) (picks_at (picks_in old.outside) site) (die g.dice w.dice) ∙ ap (λ l. choice mode (length lists) (picks_at l site) (die g.dice w.dice)) (sym st.at.inside.world.3)
-
     branch_is : branch ≡ chosen.branch
-    branch_is = one.branch g.dice w.dice st.at.inside.world.2 ∙ ap (λ (c : Choice). c.branch) chosen_is
-
-    now : InWorld out g (selected site chosen v)
-    now =
-        let was = st.at.inside.world in (
-          subst (λ (row : Vec Cell Global). HasSet out.world (length row.items) g.program w.facts) (sym one.row)
-              (subst (λ (o : FactsWorld). HasSet o (length old.outside.row.items) g.program w.facts) (sym one.world) was.0),
-          subst (λ (o : Gathered). HaveGathered o.rows w.gathered) (sym one.gathered) was.1,
-          subst (λ (c : Choice). HasDrawn out.dice g.dice (w.dice + c.drawn)) chosen_is (one.dice g.dice w.dice was.2),
-          ap (λ b. slice_set w.sites site (picked b (picks_at w.sites site))) (sym branch_is)
-              ∙ ap (λ (l : List Picks). slice_set l site (picked branch (picks_at l site))) was.3
-              ∙ sym one.picks,
-        )
+    branch_is = one.chosen g v st.at.inside.world
 
     stands : Stands g st.at.inside.lives st.at.ways (path_of (steps_of picked_on) r) n (selected site chosen v) run
     stands =
@@ -123,7 +103,7 @@ module _ (site : ℕ) (mode : Mode) (lists : List (List Goal)) (old : Engine) (o
                 saved = st.at.inside.saved;
                 keeps = st.at.inside.keeps;
                 choices = st.at.inside.choices;
-                world = now g n w run st;
+                world = one.stands g (v g n w run st) st.at.inside.world;
               };
               ways = st.at.ways;
               ways_are = st.at.ways_are;

@@ -37,16 +37,16 @@ use Rattle.dg_interp.specs.declared.frames.Frame.{Frame}
 use Rattle.dg_interp.specs.declared.frames.Whole.{Whole}
 use Rattle.dg_interp.specs.declared.frames.Whole.TheVariants.{List as InList, Sum as InSum}
 use Rattle.dg_interp.specs.declared.frames.Left.TheVariants.{TakeOut}
-use Rattle.dg_interp.specs.declared.outside.Outside.{Outside}
+use Rattle.dg_outside.specs.declared.outside.Outside.{Outside}
 use Rattle.dg_interp.specs.declared.engine.Engine.{Engine}
-use Rattle.dg_interp.specs.Outside.{row_of, InWorld, MayPick, closed_to, picks_in}
+use Rattle.dg_outside.specs.Outside.{row_of, InWorld, MayPick, Closes, picks_in}
 use Rattle.dg_interp.specs.Frames.{values_in, steps_at, whole_of, IsLeft}
 use Rattle.dg_interp.specs.Giving.{SolvesAt, UnifiesAt, GivesAt}
 use Rattle.dg_interp.specs.Gathering.{TakesOutAt}
 use Rattle.dg_interp.specs.Engine.{Point, store_in, steps_of, KeepsPlaces, open_in, IsSound, IsReady, FailsAt, FullAt, BeginsAt, Leads, SameLimits, WentWrong, Tries}
 use Rattle.dg_interp.proofs.Stores.{values_kept, hold_front, told_kept}
 use Rattle.dg_interp.proofs.Links.{same_here, at_same}
-use Rattle.dg_interp.proofs.Places.{adds_nothing, world_closed, open_still}
+use Rattle.dg_interp.proofs.Places.{adds_nothing, open_still}
 use Rattle.dg_interp.proofs.Takes.{store_sound, store_ready}
 use Rattle.dg_interp.proofs.Giving.{steps_kept, kept_limits, solved_on, solved_fails, solved_full}
 
@@ -225,11 +225,11 @@ module _ (whole : Whole) (into : Ref) (old : Engine) (ready : IsReady old) where
     formed_here g n w run st = (subst (All (λ (x : Gathering). All IsFormed x.values)) st.is st.at.inside.world.1.1) 0 st.newest (omega arith)
 
     -- the newest is dropped
-    closed_here : (out : Outside) → out ≡ closed_to (open_in old - 1) old.outside → (g : Game) (n : ℕ) (w : World) (run : Run) (st : TakesOutAt whole into old g n w run) → InWorld out g (record w { gathered = st.others })
-    closed_here out is g n w run st =
+    closed_here : (out : Outside) → Closes (open_in old - 1) old.outside out → (g : Game) (n : ℕ) (w : World) (run : Run) (st : TakesOutAt whole into old g n w run) → InWorld out g (record w { gathered = st.others })
+    closed_here out closed g n w run st =
         let d : Drops w (record w { gathered = st.others }) = record { count = 1; is = ap (λ l. record w { gathered = drop 1 l }) (sym st.is) } in
         let count : length st.others ≡ open_in old - 1 = let a = open_still old.outside g w st.at.inside.world in let b = ap length st.is in omega (arith, a, b) in
-        subst (λ o. InWorld o g (record w { gathered = st.others })) (sym is) (world_closed old.outside g w (record w { gathered = st.others }) (open_in old - 1) st.at.inside.world d count)
+        closed.stands g w (record w { gathered = st.others }) st.at.inside.world d count
 
 -- what a unification reaches
 heap_reached : (b : Bool) (steps : List Step) (r : Registers) (w : World) → r.heap ≤ w.meters.heap → r.heap ≤ (world_at (goes_on_if b steps r w)).meters.heap
@@ -276,15 +276,15 @@ module _ (into : Ref) (old : Engine) (ready : IsReady old) (hold : Holds (store_
   list_full full.Trail h = λ g n w run st. absurd (h (parts_of st.newest.values) (parts_here g n w run st) (made_here g n w run st)).cause
   list_full full.OutOfMemory h = tt
 
-  module _ (stack : Vec Ref Global) (out : Outside) (list : Ref) (closed : out ≡ closed_to (open_in old - 1) old.outside) (copies : (vs : Values) → cells ≡ cells_of_all vs → AreFormed vs → ListCopied ls ls2 vs list) where
+  module _ (stack : Vec Ref Global) (out : Outside) (list : Ref) (closed : Closes (open_in old - 1) old.outside out) (copies : (vs : Values) → cells ≡ cells_of_all vs → AreFormed vs → ListCopied ls ls2 vs list) where
     abbrev pub listed_engine : Engine
     listed_engine = record old { store = store2; made = stack; outside = out }
 
     pub list_ready : IsReady listed_engine
-    list_ready = let now = store_ready old store2 stack k2 saved2 ready in record { sound = record { base = now.sound.base; room = now.sound.room; picks = subst (λ (o : Outside). MayPick old.left (picks_in o)) (sym closed) ready.sound.picks }; here = now.here }
+    list_ready = let now = store_ready old store2 stack k2 saved2 ready in record { sound = record { base = now.sound.base; room = now.sound.room; picks = subst (λ (o : Outside). MayPick old.left (picks_in o)) (sym closed.is) ready.sound.picks }; here = now.here }
 
     pub list_limits : SameLimits old listed_engine
-    list_limits = record { heap = k2.heap_limit; trail = k2.trail_limit; aux = ap (λ (o : Outside). o.gathered.aux) closed; keep = ap (λ (o : Outside). o.world.area.keep) closed }
+    list_limits = record { heap = k2.heap_limit; trail = k2.trail_limit; aux = ap (λ (o : Outside). o.gathered.aux) closed.is; keep = ap (λ (o : Outside). o.world.area.keep) closed.is }
 
     pub list_taken : Leads from (UnifiesAt into list listed_engine)
     list_taken g n w run st =
@@ -333,16 +333,16 @@ module _ (into : Ref) (old : Engine) (ready : IsReady old) (hold : Holds (store_
 
 -- ## As a sum
 
-module _ (into : Ref) (old : Engine) (ready : IsReady old) (cells : List Cell) (at_first : slice_get old.outside.gathered.rows 0 ≡ Some cells) (out : Outside) (closed : out ≡ closed_to (open_in old - 1) old.outside)
+module _ (into : Ref) (old : Engine) (ready : IsReady old) (cells : List Cell) (at_first : slice_get old.outside.gathered.rows 0 ≡ Some cells) (out : Outside) (closed : Closes (open_in old - 1) old.outside out)
     (n : Option ℕ) (sums : (vs : List Value) → cells ≡ flat_map cells_of vs → All IsFormed vs → n ≡ total vs) where
   abbrev pub summed_engine : Engine
   summed_engine = record old { outside = out }
 
   pub sum_ready : IsReady summed_engine
-  sum_ready = record { sound = record { base = ready.sound.base; room = ready.sound.room; picks = subst (λ (o : Outside). MayPick old.left (picks_in o)) (sym closed) ready.sound.picks }; here = ready.here }
+  sum_ready = record { sound = record { base = ready.sound.base; room = ready.sound.room; picks = subst (λ (o : Outside). MayPick old.left (picks_in o)) (sym closed.is) ready.sound.picks }; here = ready.here }
 
   pub sum_limits : SameLimits old summed_engine
-  sum_limits = record { heap = refl; trail = refl; aux = ap (λ (o : Outside). o.gathered.aux) closed; keep = ap (λ (o : Outside). o.world.area.keep) closed }
+  sum_limits = record { heap = refl; trail = refl; aux = ap (λ (o : Outside). o.gathered.aux) closed.is; keep = ap (λ (o : Outside). o.world.area.keep) closed.is }
 
   pub sum_taken : Leads (TakesOutAt InSum into old) (GivesAt n into summed_engine)
   sum_taken g k w run st =

@@ -23,7 +23,7 @@ use Rattle.dg_unify.specs.declared.list.ListBindings.{ListBindings}
 use Rattle.dg_choose.specs.Dice.{HasDrawn}
 use Rattle.dg_choose.specs.declared.dice.Dice.{Dice}
 use Rattle.dg_interp.specs.declared.engine.Engine.{Engine}
-use Rattle.dg_interp.specs.Outside.{InWorld}
+use Rattle.dg_outside.specs.Outside.{InWorld}
 use Rattle.dg_interp.specs.Terms.{ThreeMade}
 use Rattle.dg_interp.specs.Frames.{values_in}
 use Rattle.dg_interp.specs.Engine.{store_in, KeepsPlaces, steps_of, There, IsReady, SameLimits, TakesAt, Leads, Then}

@@ -32,11 +32,11 @@ use Rattle.dg_interp.specs.declared.frames.Choice.{Choice}
 use Rattle.dg_interp.specs.declared.engine.Engine.{Engine}
 use Rattle.dg_interp.specs.Frames.{values_in, frame_steps, steps_behind, steps_at, AreChoices, lives_of, ways_of, StandOn, GoBackTo}
 use Rattle.dg_unify.specs.Engines.{Agrees}
-use Rattle.dg_interp.specs.declared.outside.Outside.{Outside}
-use Rattle.dg_interp.specs.Outside.{picks_in, MayPick, StartsOutside}
+use Rattle.dg_outside.specs.declared.outside.Outside.{Outside}
+use Rattle.dg_meaning.specs.Choosing.{Picks}
+use Rattle.dg_outside.specs.Outside.{picks_in, MayPick, StartsOutside}
 use Rattle.dg_interp.specs.Engine.{store_in, limit_in, IsReady, StandsAt, Starts, Taken}
 use Rattle.dg_interp.proofs.Links.{behind_end}
-use Rattle.dg_interp.proofs.Picks.{may_fewer, may_new}
 
 -- ## Lists
 
@@ -61,6 +61,9 @@ pub reverse_pop : {A : Type 0} (old new : List A) (x : A) → old ≡ new ++ x �
 reverse_pop old new x e = ap reverse e ∙ reverse-append new (x ∷ [])
 
 -- ## A goal is taken
+
+may_fewer : (m n : ℕ) (picks : List Picks) → m ≤ n → MayPick n picks → MayPick m picks
+may_fewer m n picks le h k d lt = let few = h k d lt in omega (arith, le, few)
 
 module _ (old : Engine) (x : Goal) (goals : Bor (List Goal)) (left : ℕ) (ready : IsReady old) (split : old.here.goals.now ≡ x ∷ goals.now) (less : old.left ≡ suc left) where
   abbrev fs : List Frame
@@ -160,7 +163,7 @@ module _ (program : Bor CoreProgram) (entry : Bor (List Goal)) (store : ListBind
           places = record { saved = []; keeps = tt; back_to = subst (λ os. GoBackTo refs.items (store_in store).heap_limit (store_in store).trail_limit os []) (sym none) tt };
         };
         room = omega arith;
-        picks = subst (MayPick left) (sym out.none) (may_new left program.now.sites fits);
+        picks = out.may left fits;
       };
       here = record { built = subst AreBuilt (sym is) (entry_built program.now.entry); older = omega arith; env = omega arith };
     };

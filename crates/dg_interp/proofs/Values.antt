@@ -28,8 +28,8 @@ use Rattle.dg_interp.specs.declared.engine.Engine.{Engine}
 use Rattle.dg_interp.specs.Terms.{Overflows}
 use Rattle.dg_interp.specs.Frames.{stretch, values_in}
 use Rattle.dg_interp.specs.Engine.{store_in, KeepsPlaces, steps_of, IsReady, TakesAt, StandsAt, FailsAt, FullAt, Adds, Then, Leads, SameLimits, WentOn, pieces_at, WrotePrinted}
-use Rattle.dg_interp.specs.declared.outside.Outside.{Outside}
-use Rattle.dg_interp.specs.Outside.{InWorld}
+use Rattle.dg_outside.specs.declared.outside.Outside.{Outside}
+use Rattle.dg_outside.specs.Outside.{InWorld}
 use Rattle.dg_meaning.proofs.Dropping.{prints_append}
 use Rattle.dg_unify.specs.Engines.{Agrees}
 use Rattle.dg_interp.proofs.Places.{inside_kept, adds_nothing}

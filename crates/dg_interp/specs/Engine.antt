@@ -35,10 +35,10 @@ use Rattle.dg_interp.specs.declared.frames.Left.TheVariants.{Behind}
 use Rattle.dg_interp.specs.declared.frames.Frame.{Frame}
 use Rattle.dg_interp.specs.declared.frames.Choice.{Choice}
 use Rattle.dg_interp.specs.declared.engine.Engine.{Engine}
-use Rattle.dg_interp.specs.declared.lack.Lack.{Lack}
-use Rattle.dg_interp.specs.declared.outside.Outside.{Outside}
-use Rattle.dg_interp.specs.Lacks.{area_of}
-use Rattle.dg_interp.specs.Outside.{picks_in, InWorld, MayPick}
+use Rattle.dg_outside.specs.declared.lack.Lack.{Lack}
+use Rattle.dg_outside.specs.declared.outside.Outside.{Outside}
+use Rattle.dg_outside.specs.Lacks.{area_of}
+use Rattle.dg_outside.specs.Outside.{picks_in, InWorld, MayPick}
 use Rattle.dg_interp.specs.declared.engine.Settled.{Settled}
 use Rattle.dg_interp.specs.declared.engine.Settled.TheVariants as settled
 use Rattle.dg_interp.specs.Frames.{values_in, steps_at, kind_of, branches_of, AreChoices, IsFrame, AreFrames, StandOn, GoBackTo, lives_of, ways_of, noting, TakesNewest, all_left}

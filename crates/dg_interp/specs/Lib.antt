@@ -10,13 +10,9 @@ pub mod Interpret
 pub mod Passing
 pub mod Comparing
 pub mod Giving
-pub mod Lacks
-pub mod Outside
 pub mod Throwing
 pub mod Spelling
 pub mod Wording
-pub mod Subjects
-pub mod Changing
 pub mod Made
 pub mod Gathering
 pub mod Trying

@@ -12,7 +12,7 @@ use Rattle.dg_world.specs.Tables.{Outline}
 use Rattle.dg_world.specs.Worlds.{StandsFor}
 use Rattle.dg_world.specs.declared.change.KeepFull.{KeepFull}
 use Rattle.dg_interp.specs.declared.engine.Engine.{Engine}
-use Rattle.dg_interp.specs.Changing.{all_in_store, Became}
+use Rattle.dg_outside.specs.Changing.{all_in_store, Became}
 use Rattle.dg_interp.specs.Frames.{values_in}
 use Rattle.dg_interp.specs.Engine.{store_in, KeepsPlaces}
 use Rattle.dg_interp.specs.Terms.{Written}

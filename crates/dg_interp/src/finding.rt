@@ -14,9 +14,9 @@ ghost use Rattle.dg_world.specs.Worlds.{StandsFor};
 ghost use Rattle.dg_interp.specs.Engine.{KeepsPlaces, store_in};
 ghost use Rattle.dg_interp.specs.Trying.{has_objects, may_find as the_may_find};
 
-use crate::changing::kind_of;
 use dg_base::{Cell, CoreProgram, PlaceKind, Simple};
 use dg_lists::from_cells;
+use dg_outside::kind_of;
 use dg_unify::{Bindings, Full, ListBindings, Ref};
 use dg_world::World;
 

@@ -5,15 +5,14 @@ ghost use Rattle.dg_meaning.specs.Transcript.{line_of};
 ghost use Rattle.dg_meaning.specs.Shows.{IsLeft};
 ghost use Rattle.dg_base.specs.Sound.{IsSound};
 ghost use Rattle.dg_interp.specs.Engine.{Starts};
-ghost use Rattle.dg_interp.specs.Outside.{LacksAtStart};
+ghost use Rattle.dg_outside.specs.Outside.{LacksAtStart};
 ghost use Rattle.dg_interp.specs.Interpret.{game, left_told, ForTyped, HasShown, HasBrokenOff};
 
 use crate::engine::Engine;
-use crate::lack::Lack;
-use crate::outside::Outside;
 use crate::run::{limit, run};
 use dg_base::{CoreProgram, Ending, Goal, Items, Limits, Outcome, RunFault, Sink, Source};
 use dg_built::programs_are_built;
+use dg_outside::{Lack, Outside};
 use dg_spacing::Spacer;
 use std::alloc::Global;
 

@@ -3,19 +3,15 @@
 
 mod bodies;
 mod calculating;
-mod changing;
 mod engine;
 mod finding;
 mod frames;
 mod interpreter;
-mod lack;
 mod matching;
-mod outside;
 mod passing;
 mod printing;
 mod run;
 mod spelling;
-mod subject;
 mod terms;
 mod testing;
 

@@ -3,12 +3,12 @@ ghost use Rattle.std.specs.Prelude.{◌≡◌, ◌+◌, ◌<◌, ◌^◌, [], �
 ghost use Rattle.dg_base.specs.declared.program.Goal.{out-Goal};
 ghost use Rattle.dg_built.specs.Built.{AreBuilt, IsBuiltGoal};
 ghost use Rattle.dg_interp.specs.Engine.{IsReady, TakesAt, Branches, FullAt, LackAt, IsAct, IsOnStore, IsAgain, store_in};
-ghost use Rattle.dg_interp.specs.Outside.{picks_in, MayPick};
+ghost use Rattle.dg_outside.specs.Outside.{picks_in, MayPick};
 
 use super::Engine;
 use crate::frames::{Frame, Query, Whole};
-use crate::lack::{Lack, stored};
 use dg_base::Goal;
+use dg_outside::{Lack, stored};
 use dg_unify::Full;
 
 impl<'p> Engine<'p> {

@@ -9,10 +9,9 @@ ghost use Rattle.dg_interp.specs.Engine.{IsReady, TakesAt, Branches, LackAt, sto
 ghost use Rattle.dg_interp.specs.Made.{MadeArgs, ChangedMade};
 
 use super::{Engine, stretch};
-use crate::changing::kind_of;
-use crate::lack::{Lack, lacking, stored};
 use crate::terms::write_terms;
 use dg_base::Term;
+use dg_outside::{Lack, kind_of, lacking, stored};
 use dg_unify::Full;
 use dg_world::KeepFull;
 

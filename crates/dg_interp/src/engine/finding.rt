@@ -10,10 +10,9 @@ ghost use Rattle.dg_interp.specs.Trying.{may_find};
 ghost use Rattle.dg_interp.specs.Finding.{made_values, ReadsAt, AsksPlaceAt, AsksObjectsAt};
 
 use super::Engine;
-use crate::changing::kind_of;
 use crate::finding::{copy, first_of, found, second_of, simple};
-use crate::subject::{Subject, subject_of};
 use dg_base::{PlaceKind, Term};
+use dg_outside::{Subject, kind_of, subject_of};
 use dg_unify::{Bindings, Full};
 
 impl<'p> Engine<'p> {

@@ -18,10 +18,10 @@ ghost use Rattle.dg_unify.specs.declared.bindings.Mark.{Mark as ThePlace};
 use super::{Engine, stretch};
 use crate::calculating::number;
 use crate::frames::{Choice, Env, Frame, Left, Mark, Whole};
-use crate::lack::{Lack, lacking};
 use crate::terms::{write_both, write_var};
 use dg_base::{Cell, Goal, Term};
 use dg_lists::{list_from_cells, sum};
+use dg_outside::{Lack, lacking};
 use dg_unify::{Bindings, Full, ListBindings, Ref, unify};
 
 /// The list of copies of the values that stand in cells one after another. It keeps values in a row meanwhile.

@@ -3,7 +3,7 @@ ghost use Rattle.std.specs.Prelude.{◌≡◌, ◌+◌, [], All, IfOk, IfErr, ge
 ghost use Rattle.dg_base.specs.declared.program.Goal.TheVariants.{Select as SelectGoal};
 ghost use Rattle.dg_built.specs.Built.{AreBuilt};
 ghost use Rattle.dg_interp.specs.Engine.{IsReady, TakesAt, Branches, FullAt, store_in};
-ghost use Rattle.dg_interp.specs.Outside.{picks_in, MayPick};
+ghost use Rattle.dg_outside.specs.Outside.{picks_in, MayPick};
 
 use super::Engine;
 use crate::frames::{Frame, Mark};
@@ -34,7 +34,7 @@ impl<'p> Engine<'p> {
             return Err(Full::OutOfMemory);
         };
         self.push(self.here)?;
-        let branch = self.outside.pick(site, mode, branches.max(1));
+        let branch = self.outside.pick(site, mode, branches);
         self.here = Frame {
             goals: list_at(lists, branch),
             mark: Mark::Nothing,

@@ -13,8 +13,8 @@ use super::{Engine, keep, stretch};
 use crate::finding::{found, may_find, simple};
 use crate::frames::{Choice, Env, Frame, Left, Trial};
 use crate::matching::unify_all;
-use crate::outside::objects_of;
 use dg_base::Simple;
+use dg_outside::objects_of;
 use dg_unify::{Bindings, Full, Mark as Place};
 
 /// The cells of a choice between objects, which are tried with so many arguments.

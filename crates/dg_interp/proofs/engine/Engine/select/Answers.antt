@@ -1,8 +1,8 @@
-use Rattle.std.proofs.Common.{rules, ◌≡◌, ◌+◌, sym, subst, max, length}
+use Rattle.std.proofs.Common.{rules, ◌≡◌, ◌+◌, sym, subst, length}
 use Rattle.dg_base.specs.declared.program.Goal.TheVariants.{Select}
 use Rattle.dg_built.specs.Built.{AreBuilt}
 use Rattle.dg_interp.specs.declared.engine.Engine.{Engine}
-use Rattle.dg_interp.specs.Outside.{picks_in, MayPick, PicksOne}
+use Rattle.dg_outside.specs.Outside.{picks_in, MayPick, PicksOne}
 use Rattle.dg_interp.specs.Engine.{TakesAt}
 use Rattle.dg_interp.proofs.Branches.{went_on_from}
 use Rattle.dg_interp.proofs.Selects.{one_built, picked_on, select_goes}
@@ -21,8 +21,8 @@ returns-clause-done c =
     let x = Select site mode lists in
     let p = c.in_ok-push.ensures.pushed in
     let b = pushed_means old.here old e c.requires.ready c.requires.ready.here p in
-    let count : c.max.result ≡ max (length lists) 1 = search rules in
-    let one : PicksOne site mode (max (length lists) 1) branch e.outside out = subst (λ k. PicksOne site mode k branch e.outside out) count c.pick-branch.ensures in
+    let count : c.in-Ok.branches ≡ length lists = search rules in
+    let one : PicksOne site mode (length lists) branch e.outside out = subst (λ k. PicksOne site mode k branch e.outside out) count c.pick-branch.ensures in
     let may : MayPick (e.left + 1) (picks_in e.outside) = subst (λ (i : Engine). MayPick (i.left + 1) (picks_in i.outside)) (sym p.same) c.requires.may in
     let built : AreBuilt c.list_at.result.now = subst AreBuilt (sym c.list_at.ensures) (one_built lists branch c.requires.built) in
     let at : c.len.result ≡ length e.frames.items = search rules in

@@ -1,7 +1,7 @@
-use Rattle.std.proofs.Common.{◌-◌, subst, ap, ◌∙◌, arith, refl, Some, None}
+use Rattle.std.proofs.Common.{◌-◌, subst, arith, refl, Some, None}
 use Rattle.dg_unify.proofs.StoreLemmas.{holds_some}
 use Rattle.dg_interp.specs.declared.frames.Whole.TheVariants.{Sum as InSum}
-use Rattle.dg_interp.specs.Outside.{closed_to}
+use Rattle.dg_outside.specs.Outside.{Closes}
 use Rattle.dg_interp.specs.Giving.{UnifiesAt, GivesAt}
 use Rattle.dg_interp.specs.Gathering.{TakesOutAt}
 use Rattle.dg_interp.specs.Engine.{store_in, FailsAt, Leads}
@@ -23,7 +23,7 @@ pub returns-in-None-clause-tried : goal.returns-in-None-clause-tried
 returns-in-None-clause-tried c =
     let old = c.args.self.now in
     let e = record old { outside = c.close_to.new.self } in
-    let closed = c.close_to.ensures ∙ ap (λ n. closed_to (n - 1) old.outside) c.gatherings-outside.ensures in
+    let closed = subst (λ n. Closes (n - 1) old.outside c.close_to.new.self) c.gatherings-outside.ensures c.close_to.ensures in
     let taken = sum_taken c.args.into old c.requires.ready c.in-Some.cells.now c.in-Some.ensures c.close_to.new.self closed c.sum-total.result c.sum-total.ensures in
     record {
       sound = (sum_ready c.args.into old c.requires.ready c.in-Some.cells.now c.in-Some.ensures c.close_to.new.self closed c.sum-total.result c.sum-total.ensures).sound;
@@ -36,7 +36,7 @@ pub meet-requires-clause-ready : goal.meet-requires-clause-ready
 meet-requires-clause-ready c =
     let old = c.args.self.now in
     let e = record old { outside = c.close_to.new.self } in
-    let closed = c.close_to.ensures ∙ ap (λ n. closed_to (n - 1) old.outside) c.gatherings-outside.ensures in
+    let closed = subst (λ n. Closes (n - 1) old.outside c.close_to.new.self) c.gatherings-outside.ensures c.close_to.ensures in
     store_ready e c.number-made.new.store e.made c.number-made.ensures.kept c.number-made.ensures.saved (sum_ready c.args.into old c.requires.ready c.in-Some.cells.now c.in-Some.ensures c.close_to.new.self closed c.sum-total.result c.sum-total.ensures)
 
 pub meet-requires-clause-hold : goal.meet-requires-clause-hold
@@ -50,7 +50,7 @@ returns-in-Some-total-clause-tried c =
     let old = c.args.self.now in
     let e = record old { outside = c.close_to.new.self } in
     let f = record e { store = c.number-made.new.store } in
-    let closed = c.close_to.ensures ∙ ap (λ n. closed_to (n - 1) old.outside) c.gatherings-outside.ensures in
+    let closed = subst (λ n. Closes (n - 1) old.outside c.close_to.new.self) c.gatherings-outside.ensures c.close_to.ensures in
     let ready = sum_ready c.args.into old c.requires.ready c.in-Some.cells.now c.in-Some.ensures c.close_to.new.self closed c.sum-total.result c.sum-total.ensures in
     let taken = sum_taken c.args.into old c.requires.ready c.in-Some.cells.now c.in-Some.ensures c.close_to.new.self closed c.sum-total.result c.sum-total.ensures in
     tries_made (TakesOutAt InSum c.args.into old) (UnifiesAt c.args.into c.number-made.result f) old f c.meet.new.self refl
@@ -63,7 +63,7 @@ returns-in-Some-total-clause-full c =
     let old = c.args.self.now in
     let e = record old { outside = c.close_to.new.self } in
     let f = record e { store = c.number-made.new.store } in
-    let closed = c.close_to.ensures ∙ ap (λ n. closed_to (n - 1) old.outside) c.gatherings-outside.ensures in
+    let closed = subst (λ n. Closes (n - 1) old.outside c.close_to.new.self) c.gatherings-outside.ensures c.close_to.ensures in
     let ready = sum_ready c.args.into old c.requires.ready c.in-Some.cells.now c.in-Some.ensures c.close_to.new.self closed c.sum-total.result c.sum-total.ensures in
     let taken = sum_taken c.args.into old c.requires.ready c.in-Some.cells.now c.in-Some.ensures c.close_to.new.self closed c.sum-total.result c.sum-total.ensures in
     full_made (TakesOutAt InSum c.args.into old) (UnifiesAt c.args.into c.number-made.result f) (store_in old.store) (store_in c.number-made.new.store) c.meet.result c.number-made.ensures.kept.heap_limit c.number-made.ensures.kept.trail_limit

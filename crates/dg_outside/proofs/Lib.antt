@@ -1,0 +1,5 @@
+pub mod SubjectLemmas
+pub mod ChangeLemmas
+pub mod Picks
+pub mod Starting
+pub mod Closing

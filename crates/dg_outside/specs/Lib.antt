@@ -1,0 +1,4 @@
+pub mod Lacks
+pub mod Subjects
+pub mod Changing
+pub mod Outside

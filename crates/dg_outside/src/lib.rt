@@ -1,0 +1,12 @@
+//! What an engine has outside its store: the world, gatherings, dice, and what selects picked.
+#![tactic(auto)]
+
+mod changing;
+mod lack;
+mod outside;
+mod subject;
+
+pub use changing::kind_of;
+pub use lack::{Lack, lacking, stored};
+pub use outside::{Outside, objects_of};
+pub use subject::{Subject, subject_of};
