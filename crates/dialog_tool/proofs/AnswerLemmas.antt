@@ -18,11 +18,10 @@ use Rattle.dialog_tool.specs.Command.{Command, debug, play, run, build, singles,
 use Rattle.dialog_tool.specs.Call.{Call, Outside, Finds, IsAsTold, IsFetched, file_at}
 use Rattle.dialog_tool.specs.Lines.{Says, usage_line, refusal_line, story_line, file_fault_line}
 use Rattle.dialog_tool.specs.Report.{report}
-use Rattle.dialog_tool.specs.Source.{Compiles, refusal_at}
+use Rattle.dg_compile.specs.Source.{Compiles, refusal_at}
 use Rattle.dialog_tool.specs.Answers
 use Rattle.dialog_tool.specs.Answers.{Keeps, Prints, LostFile, Reads, Runs, Loads, Does, ComesTo, lost, refused, program, lost_story, no_story, no_memory, does}
 use Rattle.dialog_tool.proofs.Never.{never}
-use Rattle.dialog_tool.proofs.SourceLemmas.{too_long}
 
 -- ## What is told
 
@@ -133,12 +132,12 @@ source_refused c name file result r words f is same says =
     answers c o result (found_file c name file h) (does h.kept (reading c o result c.command name words (λ P. refused r why (prints c 1 (refusal_line name r) result same says))))
 
 -- the source is too long
-pub source_long : (c : Call) (name : List ℕ) (result : ℕ) (r : Refusal) → source_named c.command ≡ Some name → Keeps c → WhereTold c.shelf.contents (λ told. 1048576 < length (held (told name)))
+pub source_long : ((source : List ℕ) → 1048576 < length source → Compiles source (Err (refusal_at SourceTooLong 1))) → (c : Call) (name : List ℕ) (result : ℕ) (r : Refusal) → source_named c.command ≡ Some name → Keeps c → WhereTold c.shelf.contents (λ told. 1048576 < length (held (told name)))
     → r ≡ refusal_at SourceTooLong 1 → c.input_after ≡ c.input → Says 1 (refusal_line name r) c.out c.out_after result → Answers.Answers c result
-source_long c name result r words kept more e same says =
+source_long law c name result r words kept more e same says =
     let long = long_here c name 1048576 kept more in
     let o = outside_of c name long.0 long.2 in
-    let why = subst (λ (l : List ℕ). Compiles l (Err r)) long.2.is (rw e (too_long long.0 long.1)) in
+    let why = subst (λ (l : List ℕ). Compiles l (Err r)) long.2.is (rw e (law long.0 long.1)) in
     answers c o result (found_file c name long.0 long.2) (does kept (reading c o result c.command name words (λ P. refused r why (prints c 1 (refusal_line name r) result same says))))
 
 -- ## A source's run

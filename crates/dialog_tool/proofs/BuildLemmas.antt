@@ -14,7 +14,7 @@ use Rattle.dialog_tool.specs.Building.{HasNoStory, none, no_room}
 use Rattle.dialog_tool.specs.Call.{Call, Outside, IsFetched, call}
 use Rattle.dialog_tool.specs.Command.{Command, Task, build, run}
 use Rattle.dialog_tool.specs.Playing.{HasPlayed}
-use Rattle.dialog_tool.specs.Source.{Compiles}
+use Rattle.dg_compile.specs.Source.{Compiles}
 use Rattle.dialog_tool.proofs.AnswerLemmas.{any_typed, answers, prints, file_here, outside_of, found_file, with_program, no_room as no_memory_left}
 
 -- ## The shelf

@@ -13,7 +13,7 @@ use Rattle.dialog_tool.specs.Command.{debug, play, run, build, singles, make, Co
 use Rattle.dialog_tool.specs.Call.{Call, Outside, IsAsTold, file_at, file_of}
 use Rattle.dialog_tool.specs.Lines.{Says, said, unsaid}
 use Rattle.dialog_tool.specs.Playing.{status_of_end, run_of, PlaysStory, played, unread, unwritten}
-use Rattle.dialog_tool.specs.Source.{Compiles}
+use Rattle.dg_compile.specs.Source.{Compiles}
 use Rattle.dialog_tool.specs.Answers.{Answers, Comes, Decides, Prints, Reads, lost, refused, program, Runs, ran, input_lost, out_lost, no_room, Lists, Makes, reports, overflows, refuses, Reports, Loads, lost_story, no_story, story, HasStory, Builds, no_story_of, plays, HasNone, IsStored, held, not_held, no_room_for_it, Stores, Does, ComesTo, no_memory, does, stores, status_of}
 
 -- a source has one answer

@@ -5,13 +5,7 @@ pub mod DigitLemmas
 pub mod DiceLemmas
 pub mod SeedLemmas
 pub mod OptionLemmas
-pub mod SourceLemmas
 pub mod AnswerLemmas
 pub mod BuildLemmas
 pub mod DecideLemmas
 pub mod PlayLemmas
-pub mod ComeLemmas
-pub mod DeclareLemmas
-pub mod FewLemmas
-pub mod PreludeLemmas
-pub mod GivenLemmas

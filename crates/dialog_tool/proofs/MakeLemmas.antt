@@ -17,7 +17,7 @@ use Rattle.dialog_tool.specs.Call.{Call, Outside, call}
 use Rattle.dialog_tool.specs.Command.{make}
 use Rattle.dialog_tool.specs.Lines.{Says, said, unsaid, refusal_line}
 use Rattle.dialog_tool.specs.Making.{made_limits, most_output, made_report, too_long_line}
-use Rattle.dialog_tool.specs.Source.{Compiles}
+use Rattle.dg_compile.specs.Source.{Compiles}
 use Rattle.dialog_tool.proofs.AnswerLemmas.{answers, by_words, prints, keeps_same, nothing_here, no_room_first}
 
 -- a whole text is written, or out failed within it

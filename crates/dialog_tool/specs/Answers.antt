@@ -26,7 +26,7 @@ use Rattle.dialog_tool.specs.Lines.{Says, usage_line, refusal_line, story_line, 
 use Rattle.dialog_tool.specs.Making.{made_limits, most_output, made_report, too_long_line}
 use Rattle.dialog_tool.specs.Playing.{run_of, status_of_end, PlaysStory}
 use Rattle.dialog_tool.specs.Report.{report}
-use Rattle.dialog_tool.specs.Source.{Compiles}
+use Rattle.dg_compile.specs.Source.{Compiles}
 
 -- ---- statuses
 

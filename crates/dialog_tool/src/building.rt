@@ -10,7 +10,7 @@ ghost use Rattle.dialog_tool.specs.Building.{HasNoStory};
 ghost use Rattle.dialog_tool.specs.Call.{call, IsFetched};
 ghost use Rattle.dialog_tool.specs.Command.{build as build_command, run as run_command};
 ghost use Rattle.dialog_tool.specs.CommandView.{task_view, HasDice};
-ghost use Rattle.dialog_tool.specs.Source.{Compiles};
+ghost use Rattle.dg_compile.specs.Source.{Compiles};
 
 use crate::command::Task;
 use crate::lines::{DONE, file_fault, no_memory, refuse_build};

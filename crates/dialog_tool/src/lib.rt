@@ -2,7 +2,6 @@
 #![tactic(auto)]
 
 mod adapters;
-mod behind;
 mod building;
 mod command;
 mod dice;
@@ -13,7 +12,6 @@ mod making;
 mod numbers;
 mod playing;
 mod reading;
-mod source;
 mod statuses;
 
 pub use adapters::{FileShelf, StdinSource, StdoutSink};

@@ -8,7 +8,7 @@ ghost use Rattle.dialog_tool.specs.Call.{call, IsFetched};
 ghost use Rattle.dialog_tool.specs.Command.{singles as singles_command};
 ghost use Rattle.dialog_tool.specs.Lines.{Says};
 ghost use Rattle.dialog_tool.specs.Report.{answers_word, is_listed, line_of, report};
-ghost use Rattle.dialog_tool.specs.Source.{Compiles};
+ghost use Rattle.dg_compile.specs.Source.{Compiles};
 
 use crate::lines::{DONE, FAULT, no_memory};
 use crate::reading::program_in;

@@ -10,15 +10,15 @@ ghost use Rattle.dialog_tool.specs.Command.{make as make_command};
 ghost use Rattle.dialog_tool.specs.Lines.{Says};
 ghost use Rattle.dialog_tool.specs.Making as spec;
 ghost use Rattle.dialog_tool.specs.Making.{made_report, too_long_line};
-ghost use Rattle.dialog_tool.specs.Source.{Compiles};
+ghost use Rattle.dg_compile.specs.Source.{Compiles};
 
 use crate::lines::{FAULT, LIMIT, no_memory, refuse};
-use crate::source::compile;
 use crate::statuses::status_of;
 use dg_base::{
     CoreProgram, Ending, Limits, Outcome, ReadFault, RunFault, Sink, SureSink, SureSource,
     write_all,
 };
+use dg_compile::compile;
 use dg_core::let_go;
 use dg_interp::interpret;
 use dg_make::make_source;

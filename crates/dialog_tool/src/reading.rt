@@ -5,11 +5,11 @@ ghost use Rattle.dg_base.specs.Streams.{SourceView};
 ghost use Rattle.dialog_tool.specs.Answers.{Answers};
 ghost use Rattle.dialog_tool.specs.Call.{call, IsFetched};
 ghost use Rattle.dialog_tool.specs.Command.{Command, source_named};
-ghost use Rattle.dialog_tool.specs.Source.{Compiles, refusal_at};
+ghost use Rattle.dg_compile.specs.Source.{Compiles, refusal_at};
 
 use crate::lines::{file_fault, no_memory, refuse};
-use crate::source::compile;
 use dg_base::{CoreProgram, Kind, ReadFault, Refusal, Shelf, ShelfFault, Sink};
+use dg_compile::{compile, long_sources_are_refused};
 use std::alloc::Global;
 
 const MOST_BYTES: usize = 1_048_576;
@@ -37,6 +37,7 @@ pub fn program_in<F: Shelf, K: Sink>(
     ensures ends { IfErr result (λ status. (command : Option Command) → (dice : List ℕ) → (input : SourceView) → source_named command ≡ Some name.now →
         Answers (call command dice (F.view shelf.old) (F.view shelf.new) input input (K.view out.old) (K.view out.new)) status) }
 {
+    long_sources_are_refused();
     let source = match shelf.fetch(alloc, name, MOST_BYTES) {
         Ok(source) => source,
         Err(ShelfFault::TooLong) => return Err(refuse(name, &too_long(), out)),

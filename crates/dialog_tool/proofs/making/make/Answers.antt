@@ -1,5 +1,5 @@
 use Rattle.std.proofs.Common.{◌∙◌, List, ℕ, Ok, Err, subst}
-use Rattle.dialog_tool.specs.Source.{Compiles}
+use Rattle.dg_compile.specs.Source.{Compiles}
 use Rattle.dialog_tool.proofs.MakeLemmas.{lacks_made, refuses_made}
 use Rattle.dialog_tool.proofs.making.make.Goals as goal
 

@@ -5,7 +5,7 @@ use Rattle.dialog_tool.proofs.reading.program_in.Goals as goal
 pub returns-in-Err-TooLong-clause-ends : goal.returns-in-Err-TooLong-clause-ends
 returns-in-Err-TooLong-clause-ends g c = λ command dice input words.
     let long = rw c.in-Err-TooLong.field-0-is at c.in-Err-TooLong.ensures.too_long in
-    source_long _ c.args.name.now _ c.too_long.result words c.in-Err-TooLong.ensures.kept (long refl) c.too_long.ensures refl c.refuse.ensures
+    source_long c.long_sources_are_refused.ensures _ c.args.name.now _ c.too_long.result words c.in-Err-TooLong.ensures.kept (long refl) c.too_long.ensures refl c.refuse.ensures
 
 pub returns-in-Err-Failed-clause-ends : goal.returns-in-Err-Failed-clause-ends
 returns-in-Err-Failed-clause-ends g c = λ command dice input words.

@@ -1,0 +1,124 @@
+// From the bytes of a source to its core program.
+ghost use Rattle.std.specs.Prelude.{◌≡◌, ◌<◌, ◌≤◌, ℕ, List, length, Result, Ok, Err, IfOk};
+ghost use Rattle.dg_base.specs.Sound.{IsSound};
+ghost use Rattle.dg_base.specs.TreeView.{tree_view};
+ghost use Rattle.dg_base.specs.declared.program.CoreProgram.{CoreProgram as Core};
+ghost use Rattle.dg_base.specs.declared.refusal.Kind.TheVariants as kind;
+ghost use Rattle.dg_base.specs.declared.refusal.Refusal.{Refusal};
+ghost use Rattle.dg_base.specs.Tree.{Item};
+ghost use Rattle.dg_core.specs.Core.{IsLowered};
+ghost use Rattle.dg_expand.specs.Answer.{IsRewritten};
+ghost use Rattle.dg_names.specs.Counts.{IsNamed};
+ghost use Rattle.dg_names.specs.Named.{names_of};
+ghost use Rattle.dg_names.specs.State.{names_view};
+ghost use Rattle.dg_compile.specs.Source.{Then, all_names, with_prelude, Becomes, Compiles, Meets, refusal_at};
+
+use crate::behind::{add_prelude, with_prelude_names};
+use dg_base::{CoreProgram, ReadFault, Tree};
+use dg_core::lower;
+use dg_expand::rewrite;
+use dg_lex::{lex, tokens_are_one, tokens_are_spelled};
+use dg_names::{Names, firsts_go_on, names_are_few};
+use dg_reader::{declarations_are_kept, items_are_one, items_are_readable, read};
+use std::alloc::Global;
+
+// A function of its own, since each place that lets go of names is proved field by field.
+fn let_go(_names: Names) {}
+
+// The core program of rewritten items, with the rules of the prelude behind theirs.
+fn core_with_prelude(alloc: Global, new: Tree, names: Names) -> Result<CoreProgram, ReadFault>
+    requires { length (names_view names).preds ≤ 4000 }
+    ensures { (items : List Item) → names_view names ≡ names_of items → Meets (IsLowered (all_names items) (with_prelude (tree_view new))) result }
+{
+    firsts_go_on();
+    let names = with_prelude_names(alloc, names)?;
+    match add_prelude(alloc, new) {
+        Ok(all) => lower(alloc, all, names),
+        Err(_) => {
+            let_go(names);
+            Err(ReadFault::OutOfMemory)
+        }
+    }
+}
+
+// The core program of a tree that has these names.
+fn named_program(alloc: Global, tree: Tree, names: Names) -> Result<CoreProgram, ReadFault>
+    requires { IsNamed (tree_view tree) (Ok (names_view names)) }
+    ensures { Meets (Then (IsRewritten (tree_view tree)) (λ new. IsLowered (all_names (tree_view tree)) (with_prelude new))) result }
+{
+    names_are_few();
+    match rewrite(alloc, tree, &names) {
+        Ok(new) => core_with_prelude(alloc, new, names),
+        Err(fault) => {
+            let_go(names);
+            Err(fault)
+        }
+    }
+}
+
+// The core program of a tree, or why it is refused.
+fn program_of(alloc: Global, tree: Tree) -> Result<CoreProgram, ReadFault>
+    ensures { Meets (Becomes (tree_view tree)) result }
+{
+    match Names::of(alloc, &tree) {
+        Ok(names) => named_program(alloc, tree, names),
+        Err(fault) => Err(fault),
+    }
+}
+
+/// The core program of a source, or why the source is refused.
+pub fn compile(alloc: Global, source: &[u8]) -> Result<CoreProgram, ReadFault>
+    ensures program { Meets (Compiles source.now) result }
+    ensures sound { IfOk result IsSound }
+{
+    programs_are_sound();
+    let tokens = match lex(alloc, source) {
+        Ok(tokens) => tokens,
+        Err(fault) => return Err(fault),
+    };
+    let tree = match read(alloc, &tokens) {
+        Ok(tree) => tree,
+        Err(fault) => return Err(fault),
+    };
+    program_of(alloc, tree)
+}
+
+/// The program of a source is sound.
+pub fn programs_are_sound()
+    ensures { (source : List ℕ) (p : Core) → Compiles source (Ok p) → IsSound p }
+{
+    tokens_are_spelled();
+    items_are_readable();
+    declarations_are_kept();
+    dg_names::names_are_printable();
+    dg_names::mentions_are_among();
+    dg_names::names_are_few();
+    dg_names::mentions_are_small();
+    dg_names::firsts_are_names();
+    dg_access::mentions_come_from_the_source();
+    dg_access::nothing_is_left();
+    dg_access::plain_heads_keep_names();
+    dg_access::small_items_have_few_variables();
+    dg_expand::mentions_are_put();
+    dg_expand::declared_heads_keep_names();
+    dg_expand::none_is_closed();
+    dg_expand::variables_are_few();
+    dg_expand::closures_are_few();
+    dg_core::core_is_sound();
+    dg_prelude::prelude_names_are_printable();
+}
+
+/// A source has one answer: its program, or why and at which line it is refused.
+pub fn sources_have_one_answer()
+    ensures { (source : List ℕ) (x y : Result Core Refusal) → Compiles source x → Compiles source y → x ≡ y }
+{
+    tokens_are_one();
+    items_are_one();
+    dg_names::one_answer();
+    dg_expand::one_answer();
+}
+
+/// A source of more than 1,048,576 bytes is refused, at line 1.
+pub fn long_sources_are_refused()
+    ensures { (source : List ℕ) → 1048576 < length source → Compiles source (Err (refusal_at kind.SourceTooLong 1)) }
+{}
