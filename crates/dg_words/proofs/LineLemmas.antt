@@ -1,83 +1,34 @@
--- A typed line, byte by byte.
-use Rattle.std.proofs.Common.{◌≡◌, ◌≢◌, ℕ, zero, suc, ◌-◌, ◌<◌, ◌≤◌, Bool, true, false, cond, eqb, List, [], ◌∷◌, ◌++◌, length, take, Option, Some, None, Ok, refl, sym, ap, subst, ◌∙◌, arith, append_assoc}
-use Rattle.std.specs.Io.KnownBytes.{Consumes, IsAtEnd, Keeps}
+-- A line that is taken is the first line of the meaning.
+use Rattle.std.proofs.Common.{◌≡◌, ◌≢◌, ℕ, zero, suc, ◌-◌, ◌≤◌, Bool, true, false, cond, eqb, List, [], ◌∷◌, ◌++◌, length, Option, Some, None, inl, inr, refl, sym, ap, subst, ◌∙◌, arith, append_assoc}
+use Rattle.std.specs.Prelude.{All}
+use Rattle.std.specs.Io.KnownBytes.{Consumes}
 use Rattle.std.proofs.lemmas.Bool.{ne_eqb}
-use Rattle.dg_meaning.specs.Words.{first_line, behind_first, line_within, behind_line, without_return}
+use Rattle.std.proofs.lemmas.List.{append-nil}
+use Rattle.std.proofs.lemmas.List.Elements.{All-head, All-tail}
+use Rattle.dg_meaning.specs.Words.{first_line, behind_first, line_within, behind_line, without_return, longest}
 use Rattle.dg_meaning.specs.Shows.{IsLeft}
-use Rattle.dg_words.specs.Lines.{Took, IsNext, TakesNext, IsKept}
+use Rattle.dg_lines.specs.Lines.{IsPlain, Ends, TookLine, IsText}
+use Rattle.dg_lines.proofs.LineLemmas.{IsLine, line_told, line_untold}
+use Rattle.dg_words.specs.Lines.{Took}
 
--- So much of a line was read behind its first byte: the last byte is held back, and the bytes before it are kept.
-pub record ReadsOn (first : ℕ) (front : List ℕ) (held room : ℕ) (typed rest : List ℕ) : Type 0 where
-  pub line_is : first ∷ line_within 65535 typed ≡ front ++ held ∷ line_within room rest
-  pub left_is : behind_line 65535 typed ≡ behind_line room rest
+-- ---- the bytes of a line, and its end
 
-pub record Reading (first : ℕ) (line : List ℕ) (kept held room : ℕ) (old left : Option (List ℕ)) : Type 0 where
-  pub front : List ℕ
-  pub took : Took old left (ReadsOn first front held room)
-  pub keeps : IsKept line kept front
+passed : (bytes more : List ℕ) (n : ℕ) → All (λ b. b ≢ 10) bytes → length bytes ≤ n →
+    (line_within n (bytes ++ more) ≡ bytes ++ line_within (n - length bytes) more) × (behind_line n (bytes ++ more) ≡ behind_line (n - length bytes) more)
+passed [] more n plain few = let all : n - 0 ≡ n = omega arith in (rw all refl, rw all refl)
+passed (b ∷ bytes) more zero plain few = absurd (omega arith)
+passed (b ∷ bytes) more (suc n) plain few =
+    let other = ne_eqb b 10 (All-head (λ b. b ≢ 10) b bytes plain) in
+    let less : suc n - suc (length bytes) ≡ n - length bytes = omega arith in
+    let rest = passed bytes more n (All-tail (λ b. b ≢ 10) b bytes plain) (omega arith) in
+    (rw (other, less) (ap (λ (l : List ℕ). b ∷ l) rest.0), rw (other, less) rest.1)
 
--- ---- what a source gave
-
-byte_gave : (old new : Option (List ℕ)) (b : ℕ) → Consumes old new (b ∷ []) → (rest : List ℕ) → IsLeft new rest → IsLeft old ((b ∷ []) ++ rest)
-byte_gave None new b h rest is = tt
-byte_gave (Some xs) None b h rest is = absurd h
-byte_gave (Some xs) (Some ys) b h rest is = h ∙ ap (λ (l : List ℕ). b ∷ l) is
-
-pub took_byte : (old new : Option (List ℕ)) (b : ℕ) (P : List ℕ → List ℕ → Type 0) → Consumes old new (b ∷ []) → ((rest : List ℕ) → P (b ∷ rest) rest) → Took old new P
-took_byte old new b P h f = record { taken = b ∷ []; gave = byte_gave old new b h; holds = λ rest is. f rest }
-
-none_gave : (old new : Option (List ℕ)) → Keeps old new → (rest : List ℕ) → IsLeft new rest → IsLeft old rest
-none_gave None new k rest is = tt
-none_gave (Some xs) None k rest is = absurd k
-none_gave (Some xs) (Some ys) k rest is = sym k ∙ is
-
-pub took_nothing : (old new : Option (List ℕ)) (P : List ℕ → List ℕ → Type 0) → Keeps old new → ((rest : List ℕ) → P rest rest) → Took old new P
-took_nothing old new P k f = record { taken = []; gave = none_gave old new k; holds = λ rest is. f rest }
-
-pub took_here : (left : Option (List ℕ)) (P : List ℕ → List ℕ → Type 0) → ((rest : List ℕ) → P rest rest) → Took left left P
-took_here left P f = record { taken = []; gave = λ rest is. is; holds = λ rest is. f rest }
-
--- one stretch behind another
-pub took_on : (a b c : Option (List ℕ)) (P Q R : List ℕ → List ℕ → Type 0) → Took a b P → Took b c Q → ((typed between rest : List ℕ) → P typed between → Q between rest → R typed rest) → Took a c R
-took_on a b c P Q R h k f = record {
-  taken = h.taken ++ k.taken;
-  gave = λ rest is. subst (IsLeft a) (sym (append_assoc h.taken k.taken rest)) (h.gave (k.taken ++ rest) (k.gave rest is));
-  holds = λ rest is.
-      subst (λ (l : List ℕ). R l rest) (sym (append_assoc h.taken k.taken rest))
-      (f (h.taken ++ (k.taken ++ rest)) (k.taken ++ rest) rest (h.holds (k.taken ++ rest) (k.gave rest is)) (k.holds rest is));
-}
-
-pub took_so : (a b : Option (List ℕ)) (P Q : List ℕ → List ℕ → Type 0) → Took a b P → ((typed rest : List ℕ) → P typed rest → Q typed rest) → Took a b Q
-took_so a b P Q h f = record { taken = h.taken; gave = h.gave; holds = λ rest is. f (h.taken ++ rest) rest (h.holds rest is) }
-
--- ---- the end of a line, and a byte of it
-
-pub no_room : (room : ℕ) (typed : List ℕ) → room ≡ 0 → (line_within room typed ≡ []) × (behind_line room typed ≡ typed)
-no_room room typed e = (rw e refl, rw e refl)
-
-pub no_byte : (room : ℕ) (typed : List ℕ) → typed ≡ [] → (line_within room typed ≡ []) × (behind_line room typed ≡ [])
-no_byte zero typed e = (refl, e)
-no_byte (suc room) typed e = (rw e refl, rw e refl)
-
-pub at_newline : (room : ℕ) (typed rest : List ℕ) (b : ℕ) → 0 < room → b ≡ 10 → typed ≡ b ∷ rest → (line_within room typed ≡ []) × (behind_line room typed ≡ rest)
-at_newline zero typed rest b some e is = absurd (omega arith)
-at_newline (suc room) typed rest b some e is = (rw (is, e) refl, rw (is, e) refl)
-
-pub at_byte : (room : ℕ) (typed rest : List ℕ) (b : ℕ) → 0 < room → b ≢ 10 → typed ≡ b ∷ rest → (line_within room typed ≡ b ∷ line_within (room - 1) rest) × (behind_line room typed ≡ behind_line (room - 1) rest)
-at_byte zero typed rest b some e is = absurd (omega arith)
-at_byte (suc room) typed rest b some e is =
-    let less : suc room - 1 ≡ room = omega arith in
-    (rw (is, ne_eqb b 10 e, less) refl, rw (is, ne_eqb b 10 e, less) refl)
-
--- the end of what is left ends a line; where a source doesn't tell, a newline would have
-pub took_end : (old new : Option (List ℕ)) (room : ℕ) → 0 < room → IsAtEnd old → Keeps old new → Took old new (TakesNext (Ok None) room)
-took_end None new room some end keeps = record { taken = 10 ∷ []; gave = λ rest is. tt; holds = λ rest is. at_newline room (10 ∷ rest) rest 10 some refl refl }
-took_end (Some xs) None room some end keeps = absurd keeps
-took_end (Some xs) (Some ys) room some end keeps = record {
-  taken = [];
-  gave = λ rest is. sym keeps ∙ is;
-  holds = λ rest is. let none : rest ≡ [] = sym is ∙ keeps ∙ end in let over = no_byte room rest none in (over.0, over.1 ∙ sym none);
-}
+ended : (room : ℕ) (end rest : List ℕ) → Ends room (Some rest) [] end → (line_within room (end ++ rest) ≡ []) × (behind_line room (end ++ rest) ≡ rest)
+ended zero end rest (inl (some, is)) = absurd (omega arith)
+ended (suc room) end rest (inl (some, is)) = (rw is refl, rw is refl)
+ended room end rest (inr (inl full, is)) = (rw (is, full) refl, rw (is, full) refl)
+ended zero end rest (inr (inr over, is)) = (refl, rw is refl)
+ended (suc room) end rest (inr (inr over, is)) = (rw (is, over) refl, rw (is, over) refl)
 
 pub left_shorter : (room : ℕ) (typed : List ℕ) → length (behind_line room typed) ≤ length typed
 left_shorter zero typed = omega arith
@@ -90,55 +41,51 @@ left_shorter (suc room) (b ∷ typed) = by_test (eqb b 10) (left_shorter room ty
 
 -- ---- a carriage return at the end
 
-pub without_last : (front : List ℕ) (b : ℕ) → b ≡ 13 → without_return (front ++ b ∷ []) ≡ front
-without_last [] b e = rw e refl
-without_last (x ∷ []) b e = rw e refl
-without_last (x ∷ y ∷ front) b e = ap (λ (l : List ℕ). x ∷ l) (without_last (y ∷ front) b e)
+without_last : (front : List ℕ) → without_return (front ++ 13 ∷ []) ≡ front
+without_last [] = refl
+without_last (x ∷ []) = refl
+without_last (x ∷ y ∷ front) = ap (λ (l : List ℕ). x ∷ l) (without_last (y ∷ front))
 
-pub with_last : (front : List ℕ) (b : ℕ) → b ≢ 13 → without_return (front ++ b ∷ []) ≡ front ++ b ∷ []
-with_last [] b e = rw (ne_eqb b 13 e) refl
-with_last (x ∷ []) b e = rw (ne_eqb b 13 e) refl
-with_last (x ∷ y ∷ front) b e = ap (λ (l : List ℕ). x ∷ l) (with_last (y ∷ front) b e)
+with_last : (bytes : List ℕ) → ((front : List ℕ) → bytes ≢ front ++ 13 ∷ []) → without_return bytes ≡ bytes
+with_last [] other = refl
+with_last (b ∷ []) other = rw (ne_eqb b 13 (λ e. other [] (ap (λ (x : ℕ). x ∷ []) e))) refl
+with_last (b ∷ c ∷ bytes) other = ap (λ (l : List ℕ). b ∷ l) (with_last (c ∷ bytes) (λ front e. other (b ∷ front) (ap (λ (l : List ℕ). b ∷ l) e)))
+
+text_is : (text bytes : List ℕ) → IsText text bytes → without_return bytes ≡ text
+text_is text bytes (inl is) = ap without_return is ∙ without_last text
+text_is text bytes (inr (is, other)) = with_last bytes other ∙ is
 
 -- ---- a line
 
-pub reading_starts : (first : ℕ) (line : List ℕ) (left : Option (List ℕ)) → Reading first line 0 first 65535 left left
-reading_starts first line left = record {
-  front = [];
-  took = took_here left (ReadsOn first [] first 65535) (λ rest. record { line_is = refl; left_is = refl });
-  keeps = record { front = sym (take_none (length line)); count = ap length (sym (take_none (length line))) };
+pub line_is : (text bytes typed rest : List ℕ) → IsLine bytes typed rest → IsText text bytes → (first_line typed ≡ text) × (behind_first typed ≡ rest)
+line_is text bytes typed rest line is =
+    let front = passed bytes (line.end ++ rest) longest line.plain.no_newline line.plain.within in
+    let end = ended (longest - length bytes) line.end rest line.ends in (
+      ap first_line line.is ∙ ap without_return (front.0 ∙ ap (λ (l : List ℕ). bytes ++ l) end.0 ∙ append-nil bytes) ∙ text_is text bytes is,
+      ap behind_first line.is ∙ front.1 ∙ end.1,
+    )
+
+-- ---- what a source gave
+
+given : (old new : Option (List ℕ)) (taken : List ℕ) → Consumes old new taken → (rest : List ℕ) → IsLeft new rest → IsLeft old (taken ++ rest)
+given None new taken h rest is = tt
+given (Some xs) None taken h rest is = absurd h
+given (Some xs) (Some ys) taken h rest is = h ∙ ap (λ (l : List ℕ). taken ++ l) is
+
+pub took_line : (old new : Option (List ℕ)) (bytes : List ℕ) (P : List ℕ → List ℕ → Type 0) → TookLine bytes old new → ((typed rest : List ℕ) → IsLine bytes typed rest → P typed rest) → Took old new P
+took_line None new bytes P took f =
+    let line = line_untold bytes took.plain in
+    record { taken = bytes ++ line.0; gave = λ rest is. tt; holds = λ rest is. subst (λ (l : List ℕ). P l rest) (sym (append_assoc bytes line.0 rest)) (f (bytes ++ (line.0 ++ rest)) rest (line.1 rest)) }
+took_line (Some xs) None bytes P took f = absurd took.took
+took_line (Some xs) (Some ys) bytes P took f =
+    let line = line_told bytes xs (Some ys) took in
+    let same : ys ≡ line.0 = let e = line.1 in cc in
+    let gave = given (Some xs) (Some ys) (bytes ++ took.end) took.took in
+    record { taken = bytes ++ took.end; gave = gave; holds = λ rest is. subst (λ (l : List ℕ). P l rest) (gave rest is) (f xs rest (subst (λ (l : List ℕ). IsLine bytes xs l) (sym same ∙ is) line.2)) }
+
+pub took_part : (old new : Option (List ℕ)) (bytes : List ℕ) → IsPlain bytes → Consumes old new bytes → Took old new (λ typed rest. length (behind_first typed) ≤ length rest)
+took_part old new bytes plain took = record {
+  taken = bytes;
+  gave = given old new bytes took;
+  holds = λ rest is. subst (λ (l : List ℕ). length l ≤ length rest) (sym (passed bytes rest longest plain.no_newline plain.within).1) (left_shorter (longest - length bytes) rest);
 }
-  where
-    take_none : (n : ℕ) → take {A = ℕ} n [] ≡ []
-    take_none zero = refl
-    take_none (suc n) = refl
-
-pub reading_goes : (first : ℕ) (line line' : List ℕ) (kept kept' held room byte : ℕ) (old left left' : Option (List ℕ)) → (r : Reading first line kept held room old left) → Took left left' (IsNext byte room) → IsKept line' kept' (r.front ++ held ∷ []) → Reading first line' kept' byte (room - 1) old left'
-reading_goes first line line' kept kept' held room byte old left left' r next keeps = record {
-  front = r.front ++ held ∷ [];
-  took = took_on old left left' (ReadsOn first r.front held room) (IsNext byte room) (ReadsOn first (r.front ++ held ∷ []) byte (room - 1)) r.took next
-      (λ typed between rest a b. record {
-        line_is = a.line_is ∙ ap (λ (l : List ℕ). r.front ++ held ∷ l) b.line ∙ sym (append_assoc r.front (held ∷ []) (byte ∷ line_within (room - 1) rest));
-        left_is = a.left_is ∙ b.behind;
-      });
-  keeps = keeps;
-}
-
--- ---- the first byte
-
-pub typed_empty : (typed rest : List ℕ) (b : ℕ) → b ≡ 10 → typed ≡ b ∷ rest → (first_line typed ≡ []) × (behind_first typed ≡ rest)
-typed_empty typed rest b e is =
-    let line = at_newline 65536 typed rest b (omega arith) e is in
-    (rw line.0 refl, line.1)
-
-pub typed_more : (typed rest : List ℕ) (b : ℕ) → b ≢ 10 → typed ≡ b ∷ rest → (first_line typed ≡ without_return (b ∷ line_within 65535 rest)) × (behind_first typed ≡ behind_line 65535 rest)
-typed_more typed rest b e is =
-    let line = at_byte 65536 typed rest b (omega arith) e is in
-    (ap without_return line.0, line.1)
-
-pub not_empty : (typed rest : List ℕ) (b : ℕ) → typed ≡ b ∷ rest → typed ≢ []
-not_empty typed rest b is none = cc
-
-pub nothing_taken : (n : ℕ) (bytes : List ℕ) → bytes ≡ [] → [] ≡ take n bytes
-nothing_taken zero bytes e = refl
-nothing_taken (suc n) bytes e = rw e refl

@@ -8,7 +8,6 @@ mod decoding;
 mod joined;
 mod letters;
 mod line;
-mod lines;
 
 pub use chars::next_char;
 pub use classes::{Class, classify};
@@ -17,4 +16,3 @@ pub use decoding::read_letters;
 pub use joined::{Joined, TooLong};
 pub use letters::spell;
 pub use line::Line;
-pub use lines::take_line;

@@ -17,9 +17,8 @@ use Rattle.z_model.specs.Typed.{typed_bytes, typed_codes, typed_line, typed_left
 use Rattle.z_model.specs.Run.{ZGiven, line_read, with_line, next_drawn, key_code}
 use Rattle.z_play.specs.Effects.{CanFinish}
 use Rattle.z_play.specs.View.{Sets}
-use Rattle.z_play.specs.Lines.{StopsWithin}
 use Rattle.z_play.specs.Acting.{Finished, Unfinished}
-use Rattle.z_play.proofs.Reading.{left_shorter}
+use Rattle.z_play.proofs.Reading.{StopsWithin, left_shorter}
 
 -- ---- a line that fits its buffer is read
 

@@ -1,26 +1,27 @@
--- A typed line, byte by byte.
-use Rattle.std.proofs.Common.{◌≡◌, ◌≢◌, ℕ, zero, suc, ◌-◌, ◌<◌, ◌≤◌, Bool, true, false, cond, eqb, List, [], ◌∷◌, ◌++◌, length, take, Option, Some, None, refl, sym, ap, subst, ◌∙◌, arith, append_assoc}
+-- A line that is taken is the next typed line.
+use Rattle.std.proofs.Common.{◌≡◌, ◌≢◌, ℕ, zero, suc, ◌-◌, ◌<◌, ◌≤◌, Bool, true, false, cond, eqb, List, [], ◌∷◌, ◌++◌, length, take, Option, Some, None, inl, inr, refl, sym, ap, subst, ◌∙◌, arith}
+use Rattle.std.specs.Prelude.{All}
 use Rattle.std.specs.Io.KnownBytes.{Consumes, IsAtEnd, Keeps}
 use Rattle.std.proofs.lemmas.Bool.{ne_eqb}
+use Rattle.std.proofs.lemmas.List.{append-nil, length-append}
+use Rattle.std.proofs.lemmas.List.Elements.{All-head, All-tail}
 use Rattle.z_model.specs.Typed.{typed_bytes, typed_left, line_within, left_within, without_return}
-use Rattle.z_play.specs.Lines.{IsKept, StopsWithin}
+use Rattle.dg_lines.specs.Lines.{longest, IsPlain, Ends, IsText, KeepsText}
+use Rattle.dg_lines.proofs.LineLemmas.{IsLine}
 
--- So much of a line was read: the last byte is held back, and the codes of those before it are kept.
-pub record Reading (typed : List ℕ) (first : ℕ) (line : List ℕ) (kept held room : ℕ) (left : Option (List ℕ)) : Type 0 where
-  pub front : List ℕ
+-- So many bytes are left, and at least those behind the line.
+pub record StopsWithin (behind typed : List ℕ) (left : Option (List ℕ)) : Type 0 where
   pub rest : List ℕ
   pub is : left ≡ Some rest
-  pub line_is : first ∷ line_within 65535 typed ≡ front ++ held ∷ line_within room rest
-  pub left_is : left_within 65535 typed ≡ left_within room rest
-  pub keeps : IsKept line kept front
   pub most : length rest ≤ length typed
+  pub least : length behind ≤ length rest
 
 -- ---- what a source gave
 
-pub consumed : (old new : Option (List ℕ)) (typed : List ℕ) (b : ℕ) → old ≡ Some typed → Consumes old new (b ∷ []) → (rest : List ℕ) × (new ≡ Some rest) × (typed ≡ b ∷ rest)
-consumed None new typed b e h = absurd cc
-consumed (Some xs) None typed b e h = absurd h
-consumed (Some xs) (Some ys) typed b e h = let same : xs ≡ typed = cc in (ys, refl, sym same ∙ h)
+pub consumed : (old new : Option (List ℕ)) (typed taken : List ℕ) → old ≡ Some typed → Consumes old new taken → (rest : List ℕ) × (new ≡ Some rest) × (typed ≡ taken ++ rest)
+consumed None new typed taken e h = absurd cc
+consumed (Some xs) None typed taken e h = absurd h
+consumed (Some xs) (Some ys) typed taken e h = let same : xs ≡ typed = cc in (ys, refl, sym same ∙ h)
 
 pub ended : (old new : Option (List ℕ)) (typed : List ℕ) → old ≡ Some typed → IsAtEnd old → Keeps old new → (typed ≡ []) × (new ≡ Some [])
 ended None new typed e h k = absurd cc
@@ -32,28 +33,26 @@ stays None new typed e k = absurd cc
 stays (Some xs) None typed e k = absurd k
 stays (Some xs) (Some ys) typed e k = ap Some k ∙ e
 
--- ---- the end of a line, and a byte of it
+-- ---- the bytes of a line, and its end
 
-pub no_room : (room : ℕ) (typed : List ℕ) → room ≡ 0 → (line_within room typed ≡ []) × (left_within room typed ≡ typed)
+passed : (bytes more : List ℕ) (n : ℕ) → All (λ b. b ≢ 10) bytes → length bytes ≤ n →
+    (line_within n (bytes ++ more) ≡ bytes ++ line_within (n - length bytes) more) × (left_within n (bytes ++ more) ≡ left_within (n - length bytes) more)
 unfolding line_within left_within
-no_room room typed e = (rw e refl, rw e refl)
+passed [] more n plain few = let all : n - 0 ≡ n = omega arith in (rw all refl, rw all refl)
+passed (b ∷ bytes) more zero plain few = absurd (omega arith)
+passed (b ∷ bytes) more (suc n) plain few =
+    let other = ne_eqb b 10 (All-head (λ b. b ≢ 10) b bytes plain) in
+    let less : suc n - suc (length bytes) ≡ n - length bytes = omega arith in
+    let rest = passed bytes more n (All-tail (λ b. b ≢ 10) b bytes plain) (omega arith) in
+    (rw (other, less) (ap (λ (l : List ℕ). b ∷ l) rest.0), rw (other, less) rest.1)
 
-pub no_byte : (room : ℕ) (typed : List ℕ) → typed ≡ [] → (line_within room typed ≡ []) × (left_within room typed ≡ [])
+line_ends : (room : ℕ) (end rest : List ℕ) → Ends room (Some rest) [] end → (line_within room (end ++ rest) ≡ []) × (left_within room (end ++ rest) ≡ rest)
 unfolding line_within left_within
-no_byte zero typed e = (refl, e)
-no_byte (suc room) typed e = (rw e refl, rw e refl)
-
-pub at_newline : (room : ℕ) (typed rest : List ℕ) (b : ℕ) → 0 < room → b ≡ 10 → typed ≡ b ∷ rest → (line_within room typed ≡ []) × (left_within room typed ≡ rest)
-unfolding line_within left_within
-at_newline zero typed rest b some e is = absurd (omega arith)
-at_newline (suc room) typed rest b some e is = (rw (is, e) refl, rw (is, e) refl)
-
-pub at_byte : (room : ℕ) (typed rest : List ℕ) (b : ℕ) → 0 < room → b ≢ 10 → typed ≡ b ∷ rest → (line_within room typed ≡ b ∷ line_within (room - 1) rest) × (left_within room typed ≡ left_within (room - 1) rest)
-unfolding line_within left_within
-at_byte zero typed rest b some e is = absurd (omega arith)
-at_byte (suc room) typed rest b some e is =
-    let less : suc room - 1 ≡ room = omega arith in
-    (rw (is, ne_eqb b 10 e, less) refl, rw (is, ne_eqb b 10 e, less) refl)
+line_ends zero end rest (inl (some, is)) = absurd (omega arith)
+line_ends (suc room) end rest (inl (some, is)) = (rw is refl, rw is refl)
+line_ends room end rest (inr (inl full, is)) = (rw (is, full) refl, rw (is, full) refl)
+line_ends zero end rest (inr (inr over, is)) = (refl, rw is refl)
+line_ends (suc room) end rest (inr (inr over, is)) = (rw (is, over) refl, rw (is, over) refl)
 
 pub left_shorter : (room : ℕ) (typed : List ℕ) → length (left_within room typed) ≤ length typed
 unfolding left_within
@@ -67,77 +66,41 @@ left_shorter (suc room) (b ∷ typed) = by_test (eqb b 10) (left_shorter room ty
 
 -- ---- a carriage return at the end
 
-pub without_last : (front : List ℕ) (b : ℕ) → b ≡ 13 → without_return (front ++ b ∷ []) ≡ front
+without_last : (front : List ℕ) → without_return (front ++ 13 ∷ []) ≡ front
 unfolding without_return
-without_last [] b e = rw e refl
-without_last (x ∷ []) b e = rw e refl
-without_last (x ∷ y ∷ front) b e = ap (λ (l : List ℕ). x ∷ l) (without_last (y ∷ front) b e)
+without_last [] = refl
+without_last (x ∷ []) = refl
+without_last (x ∷ y ∷ front) = ap (λ (l : List ℕ). x ∷ l) (without_last (y ∷ front))
 
-pub with_last : (front : List ℕ) (b : ℕ) → b ≢ 13 → without_return (front ++ b ∷ []) ≡ front ++ b ∷ []
+with_last : (bytes : List ℕ) → ((front : List ℕ) → bytes ≢ front ++ 13 ∷ []) → without_return bytes ≡ bytes
 unfolding without_return
-with_last [] b e = rw (ne_eqb b 13 e) refl
-with_last (x ∷ []) b e = rw (ne_eqb b 13 e) refl
-with_last (x ∷ y ∷ front) b e = ap (λ (l : List ℕ). x ∷ l) (with_last (y ∷ front) b e)
+with_last [] other = refl
+with_last (b ∷ []) other = rw (ne_eqb b 13 (λ e. other [] (ap (λ (x : ℕ). x ∷ []) e))) refl
+with_last (b ∷ c ∷ bytes) other = ap (λ (l : List ℕ). b ∷ l) (with_last (c ∷ bytes) (λ front e. other (b ∷ front) (ap (λ (l : List ℕ). b ∷ l) e)))
+
+text_is : (text bytes : List ℕ) → IsText text bytes → without_return bytes ≡ text
+text_is text bytes (inl is) = ap without_return is ∙ without_last text
+text_is text bytes (inr (is, other)) = with_last bytes other ∙ is
 
 -- ---- a line
 
-pub reading_starts : (typed : List ℕ) (first : ℕ) (line : List ℕ) (left : Option (List ℕ)) → left ≡ Some typed → Reading typed first line 0 first 65535 left
-reading_starts typed first line left is = record {
-  front = [];
-  rest = typed;
-  is = is;
-  line_is = refl;
-  left_is = refl;
-  keeps = record { front = sym (take_none (length line)); count = ap length (sym (take_none (length line))) };
-  most = omega arith;
-}
-  where
-    take_none : (n : ℕ) → take {A = ℕ} n [] ≡ []
-    take_none zero = refl
-    take_none (suc n) = refl
-
-pub reading_goes : (typed : List ℕ) (first : ℕ) (line line' : List ℕ) (kept kept' held room byte : ℕ) (left left' : Option (List ℕ)) → (r : Reading typed first line kept held room left) → (rest : List ℕ) → left' ≡ Some rest → line_within room r.rest ≡ byte ∷ line_within (room - 1) rest → left_within room r.rest ≡ left_within (room - 1) rest → length rest ≤ length r.rest → IsKept line' kept' (r.front ++ held ∷ []) → Reading typed first line' kept' byte (room - 1) left'
-reading_goes typed first line line' kept kept' held room byte left left' r rest is line_is left_is most keeps = record {
-  front = r.front ++ held ∷ [];
-  rest = rest;
-  is = is;
-  line_is = r.line_is ∙ ap (λ (l : List ℕ). r.front ++ held ∷ l) line_is ∙ sym (append_assoc r.front (held ∷ []) (byte ∷ line_within (room - 1) rest));
-  left_is = r.left_is ∙ left_is;
-  keeps = keeps;
-  most = omega (arith, r.most);
-}
-
--- what is left where so much was read
-pub rest_is : (typed : List ℕ) (first : ℕ) (line : List ℕ) (kept held room : ℕ) (left : List ℕ) (r : Reading typed first line kept held room (Some left)) → left ≡ r.rest
-rest_is typed first line kept held room left r = let is = r.is in cc
-
--- ---- the first byte
-
-pub typed_empty : (typed rest : List ℕ) (b : ℕ) → b ≡ 10 → typed ≡ b ∷ rest → (typed_bytes typed ≡ []) × (typed_left typed ≡ rest)
-unfolding typed_bytes typed_left without_return
-typed_empty typed rest b e is =
-    let line = at_newline 65536 typed rest b (omega arith) e is in
-    (rw line.0 refl, line.1)
-
-pub typed_more : (typed rest : List ℕ) (b : ℕ) → b ≢ 10 → typed ≡ b ∷ rest → (typed_bytes typed ≡ without_return (b ∷ line_within 65535 rest)) × (typed_left typed ≡ left_within 65535 rest)
+pub line_kept_is : (line : List ℕ) (kept : ℕ) (bytes typed rest : List ℕ) → IsLine bytes typed rest → KeepsText line kept bytes →
+    (take kept line ≡ take (length line) (typed_bytes typed)) × (typed_left typed ≡ rest)
 unfolding typed_bytes typed_left
-typed_more typed rest b e is =
-    let line = at_byte 65536 typed rest b (omega arith) e is in
-    (ap without_return line.0, line.1)
+line_kept_is line kept bytes typed rest is keeps =
+    let front = passed bytes (is.end ++ rest) longest is.plain.no_newline is.plain.within in
+    let end = line_ends (longest - length bytes) is.end rest is.ends in
+    let text : typed_bytes typed ≡ keeps.text = ap typed_bytes is.is ∙ ap without_return (front.0 ∙ ap (λ (l : List ℕ). bytes ++ l) end.0 ∙ append-nil bytes) ∙ text_is keeps.text bytes keeps.is in
+    (keeps.keeps.front ∙ ap (take (length line)) (sym text), ap typed_left is.is ∙ front.1 ∙ end.1)
 
-pub stops_at_first : (typed : List ℕ) (left : Option (List ℕ)) → left ≡ Some typed → StopsWithin (typed_left typed) typed left
+pub stops_behind : (bytes typed : List ℕ) (old new : Option (List ℕ)) → IsPlain bytes → Consumes old new bytes → old ≡ Some typed → StopsWithin (typed_left typed) typed new
 unfolding typed_left
-stops_at_first typed left is = record { rest = typed; is = is; most = omega arith; least = left_shorter 65536 typed }
-
-pub stops_later : (typed rest : List ℕ) (b : ℕ) (left : Option (List ℕ)) → b ≢ 10 → typed ≡ b ∷ rest → StopsWithin (left_within 65535 rest) rest left → StopsWithin (typed_left typed) typed left
-stops_later typed rest b left e is stops =
-    let line = typed_more typed rest b e is in
-    let longer : length typed ≡ suc (length rest) = ap length is in
-    record { rest = stops.rest; is = stops.is; most = omega (arith, stops.most); least = subst (λ (l : List ℕ). length l ≤ length stops.rest) (sym line.1) stops.least }
-
-pub not_empty : (typed rest : List ℕ) (b : ℕ) → typed ≡ b ∷ rest → typed ≢ []
-not_empty typed rest b is none = cc
-
-pub nothing_taken : (n : ℕ) (bytes : List ℕ) → bytes ≡ [] → [] ≡ take n bytes
-nothing_taken zero bytes e = refl
-nothing_taken (suc n) bytes e = rw e refl
+stops_behind bytes typed old new plain took told =
+    let given = consumed old new typed bytes told took in
+    let behind = ap typed_left given.2 ∙ (passed bytes given.0 longest plain.no_newline plain.within).1 in
+    record {
+      rest = given.0;
+      is = given.1;
+      most = omega (arith, ap length given.2, length-append bytes given.0);
+      least = subst (λ (l : List ℕ). length l ≤ length given.0) (sym behind) (left_shorter (longest - length bytes) given.0);
+    }

@@ -6,7 +6,6 @@ pub mod Top
 pub mod Faults
 pub mod Effects
 pub mod Output
-pub mod Lines
 pub mod Scene
 pub mod Acting
 pub mod Played

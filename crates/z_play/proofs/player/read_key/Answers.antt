@@ -27,7 +27,7 @@ returns-in-Ok-None-clause-told g c = λ dice typed drawn told.
 pub returns-in-Ok-Some-clause-told : goal.returns-in-Ok-Some-clause-told
 returns-in-Ok-Some-clause-told g c = λ dice typed drawn told.
     let took : Consumes (g.S.Source.view c.args.source.now).left (g.S.Source.view c.next.new.self).left (c.in-Ok-Some.byte ∷ []) = rw c.in-Ok-Some.field-0-is at c.in-Ok-Some.ensures.byte in
-    let given = consumed (g.S.Source.view c.args.source.now).left (g.S.Source.view c.next.new.self).left typed c.in-Ok-Some.byte told took in
+    let given = consumed (g.S.Source.view c.args.source.now).left (g.S.Source.view c.next.new.self).left typed (c.in-Ok-Some.byte ∷ []) told took in
     let code : c.code_of_key.result ≡ key_code c.in-Ok-Some.byte = c.code_of_key.ensures in
     let stored = sets_given c.store_if.result (machine c.store_if.new.self) _ c.store_if.ensures.stored (c.requires.can c.code_of_key.result) in
     let here : stored_if (layout_in c.args.engine.now) (machine c.args.engine.now) c.args.store (key_code c.in-Ok-Some.byte) ≡ Ok (machine c.store_if.new.self) =

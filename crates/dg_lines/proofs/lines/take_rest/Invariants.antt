@@ -1,6 +1,6 @@
 use Rattle.std.proofs.Common.{◌≤◌, length}
-use Rattle.dg_words.proofs.LineLemmas.{Reading}
-use Rattle.dg_words.proofs.lines.take_rest.Given as goal
+use Rattle.dg_lines.proofs.LineLemmas.{Reading}
+use Rattle.dg_lines.proofs.lines.take_rest.Given as goal
 
 abbrev pub invariant-loop-failed : goal.invariant-loop-failed
 invariant-loop-failed g l = record {

@@ -1,7 +1,7 @@
-// Typed lines, as they are taken.
-ghost use Rattle.std.specs.Prelude.{◌≡◌, ◌<◌, ◌≤◌, ◌++◌, ◌∷◌, [], ℕ, List, Some, IfOk, IfSome, length, take};
-ghost use Rattle.dg_meaning.specs.Words.{without_return};
-ghost use Rattle.dg_words.specs.Lines.{Took, IsKept, TakesNext, TakesRest, TakesLine};
+// A typed line, byte by byte.
+ghost use Rattle.std.specs.Prelude.{◌≡◌, ◌≢◌, ◌≤◌, ◌++◌, ◌∷◌, [], ℕ, List, Option, Some, IfOk, IfSome, length};
+ghost use Rattle.std.specs.Io.KnownBytes.{Consumes};
+ghost use Rattle.dg_lines.specs.Lines.{IsKept, KeepsText, TakesNext, TakesLine, TakesRest};
 ghost use Rattle.dg_base.specs.Causes.{HasCause};
 
 use dg_base::{Failed, Source};
@@ -22,8 +22,7 @@ fn keep(line: &mut [u8], kept: usize, byte: u8) -> usize
 
 // The next byte of a line, which may have so many more; none at its end.
 fn next_byte<S: Source>(source: &mut S, room: u32) -> Result<Option<u8>, Failed>
-    ensures took { Took (S.view source.old).left (S.view source.new).left (TakesNext result room) }
-    ensures room { IfOk result (λ byte. IfSome byte (λ b. 0 < room)) }
+    ensures took { TakesNext result room (S.view source.old).left (S.view source.new).left }
     ensures cause { HasCause (S.view source.old).faults (S.view source.new).faults result }
 {
     if room == 0 {
@@ -42,8 +41,10 @@ fn next_byte<S: Source>(source: &mut S, room: u32) -> Result<Option<u8>, Failed>
 
 // The rest of a line behind its first byte, of which as many bytes are kept as there is room for.
 fn take_rest<S: Source>(source: &mut S, line: &mut [u8], first: u8) -> Result<usize, Failed>
+    requires plain { first ≢ 10 }
     ensures within { IfOk result (λ kept. kept ≤ length line.new) }
-    ensures took { Took (S.view source.old).left (S.view source.new).left (TakesRest result first line.new) }
+    ensures took { (before : Option (List ℕ)) → Consumes before (S.view source.old).left (first ∷ []) →
+        TakesRest result line.new before (S.view source.new).left }
     ensures cause { HasCause (S.view source.old).faults (S.view source.new).faults result }
 {
     let mut kept = 0;
@@ -66,7 +67,7 @@ fn take_rest<S: Source>(source: &mut S, line: &mut [u8], first: u8) -> Result<us
 fn keep_last(line: &mut [u8], kept: usize, held: u8) -> usize
     requires { kept ≤ length line.old }
     ensures within { result ≤ length line.new }
-    ensures keeps { (front : List ℕ) → IsKept line.old kept front → IsKept line.new result (without_return (front ++ held ∷ [])) }
+    ensures keeps { (front : List ℕ) → IsKept line.old kept front → KeepsText line.new result (front ++ held ∷ []) }
 {
     if held == b'\r' {
         kept
