@@ -34,12 +34,13 @@ use Rattle.dg_interp.specs.declared.frames.Choice.{Choice}
 use Rattle.dg_interp.specs.declared.frames.Left.TheVariants.{Rules}
 use Rattle.dg_interp.specs.declared.engine.Engine.{Engine}
 use Rattle.dg_interp.specs.Rules.{ArgsWritten}
-use Rattle.dg_interp.specs.Terms.{Overflows, Written}
+use Rattle.dg_terms.specs.Terms.{Overflows, Written}
 use Rattle.dg_interp.specs.Frames.{stretch, values_in, steps_behind, AreChoices, AreFrames, IsLeft, StandOn, GoBackTo}
 use Rattle.dg_interp.specs.Engine.{store_in, open_in, KeepsPlaces, HasPlace, IsPlace, Point, IsSound, IsReady, TakesAt, FailsAt, BeginsAt, FullAt, Adds, Leads, SameLimits, steps_of}
 use Rattle.dg_unify.specs.Engines.{Agrees}
 use Rattle.dg_interp.proofs.Links.{SameBy, same_here, same_append, behind_new, at_same, frame_raise, frames_append, choices_same, stand_raise, stand_same}
-use Rattle.dg_interp.proofs.Stores.{kept_here, all_hold, values_kept, hold_front, appended_stretch}
+use Rattle.dg_terms.proofs.Stores.{kept_here, all_hold}
+use Rattle.dg_interp.proofs.Stores.{values_kept, hold_front, appended_stretch}
 use Rattle.dg_interp.proofs.Kept.{back_limits}
 use Rattle.dg_interp.proofs.Grown.{grown_front, grown_longer, grown_values, grown_hold, grown_back, grown_base, grown_choices}
 use Rattle.dg_interp.proofs.Places.{open_still, adds_on, adds_noted}

@@ -37,16 +37,17 @@ use Rattle.dg_interp.specs.declared.frames.Left.TheVariants.{Rules, Way as OneWa
 use Rattle.dg_interp.specs.declared.frames.Choice.{Choice}
 use Rattle.dg_interp.specs.declared.frames.Left.{Left}
 use Rattle.dg_interp.specs.declared.engine.Engine.{Engine}
-use Rattle.dg_interp.specs.Terms.{Overflows}
-use Rattle.dg_interp.specs.Passing.{rules_from, IsFirst, IsCandidate}
-use Rattle.dg_interp.proofs.PassedRules.{rules_from_candidate}
+use Rattle.dg_terms.specs.Terms.{Overflows}
+use Rattle.dg_terms.specs.Passing.{rules_from, IsFirst, IsCandidate}
+use Rattle.dg_terms.proofs.PassedRules.{rules_from_candidate}
 use Rattle.dg_meaning.specs.Selection.{first_excludes, from_candidate}
 use Rattle.dg_interp.specs.Rules.{rule_cells, matched_in, EntersRule, RuleFull}
 use Rattle.dg_interp.specs.Frames.{values_in, frame_steps, steps_behind, steps_at, kind_of, branches_of, IsFrame, IsLeft}
 use Rattle.dg_interp.specs.Engine.{store_in, KeepsPlaces, HasPlace, Point, IsSound, BeginsAt, FullAt, Adds, SameLimits, WentOn, WentWrong, kept_if, open_in}
 use Rattle.dg_unify.specs.Engines.{Agrees}
 use Rattle.dg_interp.proofs.Links.{SameBy, same_here, behind_same}
-use Rattle.dg_interp.proofs.Stores.{kept_on, values_kept, hold_front, appended_stretch, values_count, trail_append, trail_older, made_is}
+use Rattle.dg_terms.proofs.Stores.{kept_on}
+use Rattle.dg_interp.proofs.Stores.{values_kept, hold_front, appended_stretch, values_count, trail_append, trail_older, made_is}
 use Rattle.dg_interp.proofs.Begun.{begun_values, begun_sound, begun_stands, begun_fails}
 use Rattle.dg_interp.proofs.Turns.{all_first, all_rest, reverse_pop}
 

@@ -14,10 +14,10 @@ use Rattle.dg_unify.specs.declared.bindings.Ref.{Ref}
 use Rattle.dg_unify.specs.declared.bindings.Full.{Full}
 use Rattle.dg_unify.specs.declared.bindings.Full.TheVariants as full
 use Rattle.dg_interp.specs.Bodies.{body_vars, parameters, matched_body, EntersBody, BodyFull}
-use Rattle.dg_interp.specs.Terms.{Overflows, Appended, MadeVars}
-use Rattle.dg_interp.proofs.TermLemmas.{appended_on}
+use Rattle.dg_terms.specs.Terms.{Overflows, Appended, MadeVars}
+use Rattle.dg_terms.proofs.TermLemmas.{appended_on}
 use Rattle.dg_interp.proofs.Entering.{vars_are_made, vars_hold}
-use Rattle.dg_interp.proofs.Stores.{kept_on, all_hold, all_told}
+use Rattle.dg_terms.proofs.Stores.{kept_on, all_hold, all_told}
 
 -- ## The parameter
 

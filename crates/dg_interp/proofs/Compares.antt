@@ -2,14 +2,13 @@
 use Rattle.std.proofs.Common.{◌≡◌, ℕ, ◌+◌, List, [], ◌∷◌, Bool, true, false, sym, ap, ◌∙◌, subst, arith}
 use Rattle.std.specs.declared.vec.Vec.{Vec}
 use Rattle.std.specs.declared.alloc.Global.{Global}
-use Rattle.dg_base.specs.declared.cells.Simple.TheVariants as simple
 use Rattle.dg_base.specs.declared.program.CompareOp.{CompareOp}
 use Rattle.dg_base.specs.declared.program.Goal.{Goal, out-Goal}
 use Rattle.dg_base.specs.declared.program.Goal.TheVariants.{Compare, outs-Compare}
 use Rattle.dg_base.specs.declared.program.Term.{Term}
 use Rattle.dg_base.specs.declared.program.CoreProgram.{CoreProgram}
 use Rattle.dg_base.specs.Goals.{terms_held}
-use Rattle.dg_meaning.specs.Values.{Value, Num, leaf, value_of}
+use Rattle.dg_meaning.specs.Values.{Value, value_of}
 use Rattle.dg_meaning.specs.Substitutions.{walk}
 use Rattle.dg_meaning.specs.Numbers.{are_in_order}
 use Rattle.dg_meaning.specs.World.{Game, World, worked}
@@ -18,42 +17,17 @@ use Rattle.dg_meaning.specs.Path.{Moves}
 use Rattle.dg_meaning.specs.Moves.{goes_on_if, looked_up, outcome}
 use Rattle.dg_meaning.specs.Transcript.{Run}
 use Rattle.dg_meaning.specs.Keeps.{After}
-use Rattle.dg_unify.specs.Store.{Store, State, Saved, Kept, Shows, told}
+use Rattle.dg_unify.specs.Store.{Store, State, Saved, Kept, told}
 use Rattle.dg_unify.specs.Engines.{Agrees}
 use Rattle.dg_unify.specs.declared.bindings.Ref.{Ref}
-use Rattle.dg_unify.specs.declared.bindings.View.{View}
-use Rattle.dg_unify.specs.declared.bindings.View.TheVariants as view
 use Rattle.dg_unify.specs.declared.bindings.Full.{Full}
 use Rattle.dg_unify.specs.declared.list.ListBindings.{ListBindings}
 use Rattle.dg_interp.specs.declared.engine.Engine.{Engine}
-use Rattle.dg_interp.specs.Terms.{Overflows, BothMade}
-use Rattle.dg_interp.specs.Comparing.{order_of}
+use Rattle.dg_terms.specs.Terms.{Overflows, BothMade}
 use Rattle.dg_interp.specs.Frames.{values_in}
 use Rattle.dg_interp.specs.Engine.{store_in, KeepsPlaces, steps_of, IsReady, TakesAt, FailsAt, FullAt, Leads, WentOn}
 use Rattle.dg_interp.proofs.Takes.{behind, taken_in, comes_of, terms_full}
 use Rattle.dg_interp.proofs.Values.{grown, passed_on, not_passed}
-
--- ## What is shown
-
-order_with : (op : CompareOp) (s : Store) (m : ℕ) (u : Value) (second : View) → Shows s u second → order_of op (view.Simple (simple.Num m)) second ≡ are_in_order op (leaf (Num m)) u
-order_with op s m u (view.Unbound r) h = ap (are_in_order op (leaf (Num m))) (sym h.is)
-order_with op s m u (view.Simple (simple.Num n)) h = ap (are_in_order op (leaf (Num m))) (sym h)
-order_with op s m u (view.Simple (simple.Word n)) h = ap (are_in_order op (leaf (Num m))) (sym h)
-order_with op s m u (view.Simple (simple.Object n)) h = ap (are_in_order op (leaf (Num m))) (sym h)
-order_with op s m u (view.Simple simple.Nil) h = ap (are_in_order op (leaf (Num m))) (sym h)
-order_with op s m u (view.Pair a b) h = ap (are_in_order op (leaf (Num m))) (sym h.is)
-order_with op s m u (view.Closure place r) h = ap (are_in_order op (leaf (Num m))) (sym h.is)
-order_with op s m u (view.Unknown r) h = ap (are_in_order op (leaf (Num m))) (sym h.is)
-
-pub order_shown : (op : CompareOp) (s : Store) (v u : Value) (first second : View) → Shows s v first → Shows s u second → order_of op first second ≡ are_in_order op v u
-order_shown op s v u (view.Unbound r) second h k = ap (λ x. are_in_order op x u) (sym h.is)
-order_shown op s v u (view.Simple (simple.Num m)) second h k = order_with op s m u second k ∙ ap (λ x. are_in_order op x u) (sym h)
-order_shown op s v u (view.Simple (simple.Word n)) second h k = ap (λ x. are_in_order op x u) (sym h)
-order_shown op s v u (view.Simple (simple.Object n)) second h k = ap (λ x. are_in_order op x u) (sym h)
-order_shown op s v u (view.Simple simple.Nil) second h k = ap (λ x. are_in_order op x u) (sym h)
-order_shown op s v u (view.Pair a b) second h k = ap (λ x. are_in_order op x u) (sym h.is)
-order_shown op s v u (view.Closure place r) second h k = ap (λ x. are_in_order op x u) (sym h.is)
-order_shown op s v u (view.Unknown r) second h k = ap (λ x. are_in_order op x u) (sym h.is)
 
 -- ## The goal
 

@@ -51,7 +51,7 @@ use Rattle.dg_interp.specs.Trying.{may_find}
 use Rattle.dg_interp.specs.Giving.{ActsAt, UnifiesAt}
 use Rattle.dg_interp.specs.Finding.{EffectAt, made_values, AsksPlaceAt, AsksObjectsAt, TriesObjectsAt, ReadsAt}
 use Rattle.dg_interp.specs.Engine.{Point, store_in, KeepsPlaces, steps_of, IsReady, TakesAt, FailsAt, FullAt, Leads, SameLimits, WentOn}
-use Rattle.dg_interp.proofs.Stores.{told_kept}
+use Rattle.dg_terms.proofs.Stores.{told_kept}
 use Rattle.dg_interp.proofs.Places.{adds_nothing, inside_in, inside_kept, limits_here}
 use Rattle.dg_interp.proofs.Takes.{behind, taken_in, comes_of, adds_taken}
 use Rattle.dg_interp.proofs.Giving.{with_store, steps_kept, kept_limits, acts_on, written_agrees}

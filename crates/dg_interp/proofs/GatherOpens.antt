@@ -41,18 +41,19 @@ use Rattle.dg_interp.specs.declared.frames.Whole.{Whole}
 use Rattle.dg_interp.specs.declared.frames.Whole.TheVariants.{List as InList, Sum as InSum}
 use Rattle.dg_interp.specs.declared.frames.Choice.{Choice}
 use Rattle.dg_interp.specs.declared.engine.Engine.{Engine}
-use Rattle.dg_outside.specs.Outside.{row_of, HaveGathered, InWorld}
-use Rattle.dg_interp.specs.Terms.{BothMade}
+use Rattle.dg_outside.specs.declared.outside.Outside.{Outside}
+use Rattle.dg_outside.specs.Outside.{picks_in, InWorld, MayPick, OpensOne, OpensTooMuch}
+use Rattle.dg_terms.specs.Terms.{BothMade}
 use Rattle.dg_interp.specs.Frames.{values_in, steps_at, steps_behind, whole_of, lives_of, ways_of, IsChoice, AreChoices, IsFrame, AreFrames, StandOn, GoBackTo}
 use Rattle.dg_interp.specs.Gathering.{gathering_goal, gathering_live, GathersAt}
 use Rattle.dg_interp.specs.Engine.{Point, store_in, KeepsPlaces, IsReady, TakesAt, Leads, WentOn, FullAt, PassesLimit, steps_of, open_in}
 use Rattle.dg_interp.proofs.Links.{SameBy, SameTo, same_append, at_same, behind_new, frame_raise, frames_raise, frames_append, stand_raise, stand_same, choices_same, back_same}
 use Rattle.dg_interp.proofs.Places.{adds_nothing, open_still, inside_kept}
-use Rattle.dg_interp.proofs.Stores.{kept_on, all_hold, values_kept, hold_front, front_same, told_kept}
+use Rattle.dg_terms.proofs.Stores.{kept_on, all_hold, told_kept}
+use Rattle.dg_interp.proofs.Stores.{values_kept, hold_front, front_same}
 use Rattle.dg_interp.proofs.Kept.{back_limits}
 use Rattle.dg_interp.proofs.Takes.{behind, taken_in, comes_of, adds_taken}
 use Rattle.dg_interp.proofs.Giving.{with_store, steps_kept, written_agrees}
-use Rattle.dg_interp.proofs.Gathered.{sizes_same}
 
 -- ## The terms are written
 
@@ -169,12 +170,11 @@ module _ (whole : Whole) (value into : Ref) (goals : Bor (List Goal)) (old : Eng
   happened g n w run st = stands_happened g _ _ _ n (opened_in g n w run st) run st.began
 
   -- too much is gathered
-  pub open_full : old.outside.gathered.aux < size_of_rows ([] ∷ old.outside.gathered.rows) → PassesLimit Aux from old.outside.gathered.aux
+  pub open_full : OpensTooMuch old.outside → PassesLimit Aux from old.outside.gathered.aux
   open_full h = λ g n w run st.
-      let new : Gathering = record { tag = st.at.registers.next_tag; values = [] } in
-      let rows : [] ∷ old.outside.gathered.rows ≡ map row_of (new ∷ w.gathered) = ap (λ l. [] ∷ l) st.at.inside.world.1.0 in
       let later = (happened g n w run st).meters in
-      omega (arith, h, ap size_of_rows rows, sizes_same (new ∷ w.gathered), later.aux)
+      let full = h.stands g w st.at.registers.next_tag st.at.inside.world in
+      omega (arith, full, later.aux)
 
   module _ (place : Place) (store0 : ListBindings) (k0 : Kept (store_in old.store) (store_in store0)) (state0 : (store_in store0).state ≡ marked (store_in old.store).state)
       (saved0 : (ms : List Saved) → KeepsPlaces old.store ms → KeepsPlaces store0 (record { mark = place; store = store_in store0 } ∷ ms)) where
@@ -188,10 +188,10 @@ module _ (whole : Whole) (value into : Ref) (goals : Bor (List Goal)) (old : Eng
     cells_full full.Trail u h = absurd h
     cells_full full.OutOfMemory u h = tt
 
-    module _ (none : Bor (List Goal)) (empty : none.now ≡ []) (store1 : ListBindings) (refs : Vec Ref Global) (frames : Vec Frame Global) (choices : Vec Choice Global) (gathered : Gathered) (k1 : Kept s0 (store_in store1)) (saved1 : (ms : List Saved) → KeepsPlaces store0 ms → KeepsPlaces store1 ms) (charged : Charged 10 s0 (store_in store1))
+    module _ (none : Bor (List Goal)) (empty : none.now ≡ []) (store1 : ListBindings) (refs : Vec Ref Global) (frames : Vec Frame Global) (choices : Vec Choice Global) (out : Outside) (k1 : Kept s0 (store_in store1)) (saved1 : (ms : List Saved) → KeepsPlaces store0 ms → KeepsPlaces store1 ms) (charged : Charged 10 s0 (store_in store1))
         (room : old.newest + 1 + old.left < 2 ^ 64) (refs_are : refs.items ≡ xs ++ value ∷ into ∷ []) (frames_are : frames.items ≡ fs ++ record { goals = none; env = record { from = length xs; len = 1 }; tag = old.here.tag; mark = KeepIn t; behind = 0 } ∷ [])
-        (gathered_is : gathered ≡ record old.outside.gathered { rows = [] ∷ old.outside.gathered.rows })
-        (kept : reverse choices.items ≡ record { tag = t; left = TakeOut whole (record { from = length xs + 1; len = 1 }) old.here; height = length frames.items; refs = length refs.items; gathered = length gathered.rows; place = place; stoppable = old.stoppable } ∷ os) where
+        (opens : OpensOne old.outside out)
+        (kept : reverse choices.items ≡ record { tag = t; left = TakeOut whole (record { from = length xs + 1; len = 1 }) old.here; height = length frames.items; refs = length refs.items; gathered = length out.gathered.rows; place = place; stoppable = old.stoppable } ∷ os) where
       abbrev s1 : Store
       s1 = store_in store1
 
@@ -209,7 +209,7 @@ module _ (whole : Whole) (value into : Ref) (goals : Bor (List Goal)) (old : Eng
       taken_env = record { from = length xs + 1; len = 1 }
 
       abbrev o : Choice
-      o = record { tag = t; left = TakeOut whole taken_env old.here; height = length gs; refs = length ys; gathered = length gathered.rows; place = place; stoppable = old.stoppable }
+      o = record { tag = t; left = TakeOut whole taken_env old.here; height = length gs; refs = length ys; gathered = length out.gathered.rows; place = place; stoppable = old.stoppable }
 
       abbrev m : Saved
       m = record { mark = place; store = s0 }
@@ -218,7 +218,7 @@ module _ (whole : Whole) (value into : Ref) (goals : Bor (List Goal)) (old : Eng
       first = record old.here { goals = goals; mark = Nothing; behind = length gs }
 
       abbrev pub opened_engine : Engine
-      opened_engine = record old { store = store1; refs = refs; frames = frames; outside = record old.outside { gathered = gathered }; choices = choices; newest = t; here = first }
+      opened_engine = record old { store = store1; refs = refs; frames = frames; outside = out; choices = choices; newest = t; here = first }
 
       k : Kept s s1
       k = kept_on s s0 s1 k0 k1
@@ -315,8 +315,8 @@ module _ (whole : Whole) (value into : Ref) (goals : Bor (List Goal)) (old : Eng
           ap (λ v. TakeOutBranch r.next_tag (whole_of whole) v (path_of (steps_of old) (inside 0 r)) ∷ []) (sym (ap (λ vs. value_of_var vs 0) (into_there s0) ∙ told_kept s s0 into k0 holds.1))
           ∙ ap (λ l. TakeOutBranch r.next_tag (whole_of whole) (value_of_var (values_in s0 ys taken_env) 0) (path_of l (inside 0 r)) ∷ []) (sym same_out)
 
-      count_open : length gathered.rows ≡ open_in old + 1
-      count_open = ap (λ (x : Gathered). length x.rows) gathered_is ∙ omega arith
+      count_open : length out.gathered.rows ≡ open_in old + 1
+      count_open = ap (λ (x : Outside). length x.gathered.rows) opens.is ∙ omega arith
 
       choice_is : (g : Game) (r : Registers) (on : List WayOn) → Agrees s r → r.next_tag ≡ t → r.stoppable ≡ old.stoppable → IsChoice g ys gs o m on (gathering_live whole (told s into) (steps_of old) (open_in old) r on)
       choice_is g r on a tag part = record {
@@ -333,14 +333,8 @@ module _ (whole : Whole) (value into : Ref) (goals : Bor (List Goal)) (old : Eng
         ways_on = refl;
       }
 
-      new_world : (g : Game) (w : World) (r : Registers) → InWorld old.outside g w → InWorld (record old.outside { gathered = gathered }) g (begun (inside 10 r) 0 (opened r.next_tag w))
-      new_world g w r is = (
-        is.0,
-        subst (λ (x : Gathered). HaveGathered x.rows (record { tag = r.next_tag; values = [] } ∷ w.gathered)) (sym gathered_is)
-            (ap (λ l. [] ∷ l) is.1.0, All-cons (λ (x : Gathering). All IsFormed x.values) (record { tag = r.next_tag; values = [] }) w.gathered (λ i d lt. absurd (omega arith)) is.1.1),
-        is.2,
-        is.3,
-      )
+      new_world : (g : Game) (w : World) (r : Registers) → InWorld old.outside g w → InWorld out g (begun (inside 10 r) 0 (opened r.next_tag w))
+      new_world g w r is = opens.stands g w r.next_tag is
 
       pub gathering_opened : WentOn from old opened_engine
       gathering_opened = record {
@@ -366,12 +360,12 @@ module _ (whole : Whole) (value into : Ref) (goals : Bor (List Goal)) (old : Eng
               };
             };
             room = room;
-            picks = ready.sound.picks;
+            picks = subst (λ (x : Outside). MayPick old.left (picks_in x)) (sym opens.is) ready.sound.picks;
           };
           here = first_is;
         };
         left = refl;
-        limits = record { heap = k.heap_limit; trail = k.trail_limit; aux = ap (λ (x : Gathered). x.aux) gathered_is; keep = refl };
+        limits = record { heap = k.heap_limit; trail = k.trail_limit; aux = ap (λ (x : Outside). x.gathered.aux) opens.is; keep = ap (λ (x : Outside). x.world.area.keep) opens.is };
         leads = λ g n w run st.
             let r = st.at.registers in
             let c = gathering_live whole (told s into) (steps_of old) (open_in old) r st.at.ways in

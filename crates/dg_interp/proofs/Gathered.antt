@@ -31,47 +31,18 @@ use Rattle.dg_lists.specs.Formed.{IsFormed}
 use Rattle.dg_lists.specs.Gathered.{Gathered, added, gathered_size as size_of_rows}
 use Rattle.dg_lists.specs.Writing.{value_at}
 use Rattle.dg_interp.specs.declared.engine.Engine.{Engine}
-use Rattle.dg_interp.specs.Terms.{Overflows}
+use Rattle.dg_terms.specs.Terms.{Overflows}
 use Rattle.dg_outside.specs.Lacks.{area_of}
 use Rattle.dg_outside.specs.declared.lack.Lack.{Lack}
 use Rattle.dg_interp.specs.declared.frames.Env.{Env}
-use Rattle.dg_outside.specs.Outside.{row_of, HaveGathered, InWorld}
+use Rattle.dg_outside.specs.declared.outside.Outside.{Outside}
+use Rattle.dg_outside.specs.Outside.{picks_in, InWorld, MayPick, Gathers, GathersTooMuch}
 use Rattle.dg_interp.specs.Frames.{stretch, values_in}
 use Rattle.dg_interp.specs.Gathering.{KeepsAt}
 use Rattle.dg_interp.specs.Engine.{Point, store_in, KeepsPlaces, IsReady, FullAt, LacksIn, LackAt, Leads, SameLimits, PassesLimit, WentWrong, limit_in}
 use Rattle.dg_meaning.specs.Peaks.{Area, Aux}
 use Rattle.dg_interp.proofs.Places.{adds_nothing, limits_at}
 use Rattle.dg_interp.proofs.Takes.{store_sound}
-
--- ## Rows
-
-row_more : (values : List Value) (v : Value) → flat_map cells_of (values ++ v ∷ []) ≡ flat_map cells_of values ++ cells_of v
-row_more [] v = flat_map-cons cells_of v [] ∙ append-nil (cells_of v)
-row_more (u ∷ values) v =
-    flat_map-cons cells_of u (values ++ v ∷ []) ∙ ap (λ l. cells_of u ++ l) (row_more values v)
-    ∙ sym (append_assoc (cells_of u) (flat_map cells_of values) (cells_of v)) ∙ ap (λ l. l ++ cells_of v) (sym (flat_map-cons cells_of u values))
-
--- a value is kept in the newest
-newest_more : (t : ℕ) (v : Value) (x : Gathering) (others : List Gathering) → t ≡ x.tag → gathered_with t v (x ∷ others) ≡ record x { values = x.values ++ v ∷ [] } ∷ others
-newest_more t v x others e = cond-true (eqb x.tag t) (record x { values = x.values ++ v ∷ [] } ∷ others) (x ∷ gathered_with t v others) (eq-eqb x.tag t (sym e))
-
-pub rows_more : (t : ℕ) (v : Value) (rows : List (List Cell)) (gs : List Gathering) → IsNewest t (tags_of gs) → IsFormed v → HaveGathered rows gs → HaveGathered (added (cells_of v) rows) (gathered_with t v gs)
-rows_more t v rows [] new formed is = absurd new
-rows_more t v rows (x ∷ gs) new formed is = (
-  ap (added (cells_of v)) is.0 ∙ ap (λ l. l ∷ map row_of gs) (sym (row_more x.values v)) ∙ sym (ap (map row_of) (newest_more t v x gs new)),
-  subst (All (λ (g : Gathering). All IsFormed g.values)) (sym (newest_more t v x gs new))
-      (All-cons (λ (g : Gathering). All IsFormed g.values) (record x { values = x.values ++ v ∷ [] }) gs (All-push IsFormed x.values v (is.1 0 x (omega arith)) formed) (λ k d lt. is.1 (suc k) d (omega arith))),
-)
-
--- what they count
-pub sizes_same : (gs : List Gathering) → size_of_rows (map row_of gs) ≡ gathered_size gs
-sizes_same [] = refl
-sizes_same (x ∷ gs) =
-    omega (arith, sum_by-cons (λ (row : List Cell). 2 + length row) (row_of x) (map row_of gs), sum_by-cons (λ (g : Gathering). 2 + sum_by (λ v. length (cells_of v)) g.values) x gs, length-flat_map cells_of x.values, sizes_same gs)
-
-pub some_open : (t : ℕ) (rows : List (List Cell)) (gs : List Gathering) → IsNewest t (tags_of gs) → rows ≡ map row_of gs → 0 < length rows
-some_open t rows [] new is = absurd new
-some_open t rows (x ∷ gs) new is = omega (arith, ap length is)
 
 -- ## A value is kept
 
@@ -123,33 +94,18 @@ module _ (old : Engine) (ready : IsReady old) (store1 : ListBindings) (r : Ref) 
     gathered_is = ap (λ v. gathered_with st.tag v w.gathered) same_what
 
     -- the limit is passed
-    passed : (limit : ℕ) → limit < size_of_rows (added (cells_of what) old.outside.gathered.rows) → limit < run.world.meters.aux
-    passed limit h =
-        let same = some_open st.tag old.outside.gathered.rows w.gathered newest st.at.inside.world.1.0 in
-        let rows : added (cells_of what) old.outside.gathered.rows ≡ map row_of (gathered_with st.tag what w.gathered) = more_rows st.tag what old.outside.gathered.rows w.gathered newest st.at.inside.world.1.0 in
-        omega (arith, h, ap size_of_rows rows, sizes_same (gathered_with st.tag what w.gathered), ap gathered_size gathered_is, happened.meters.aux)
-      where
-        more_rows : (t : ℕ) (v : Value) (rows : List (List Cell)) (gs : List Gathering) → IsNewest t (tags_of gs) → rows ≡ map row_of gs → added (cells_of v) rows ≡ map row_of (gathered_with t v gs)
-        more_rows t v rows [] new is = absurd new
-        more_rows t v rows (x ∷ gs) new is = ap (added (cells_of v)) is ∙ ap (λ l. l ∷ map row_of gs) (sym (row_more x.values v)) ∙ sym (ap (map row_of) (newest_more t v x gs new))
+    passed : GathersTooMuch what old.outside → old.outside.gathered.aux < run.world.meters.aux
+    passed h = omega (arith, h.stands g w st.tag st.at.inside.world newest, ap gathered_size gathered_is, happened.meters.aux)
 
-    kept_world : (gathered : Gathered) → gathered ≡ record old.outside.gathered { rows = added (cells_of what) old.outside.gathered.rows } → (0 < length old.outside.gathered.rows → IsFormed what) → InWorld (record old.outside { gathered = gathered }) g kept_in
-    kept_world gathered is formed =
-        let open_now = some_open st.tag old.outside.gathered.rows w.gathered newest st.at.inside.world.1.0 in
-        let rows = rows_more st.tag what old.outside.gathered.rows w.gathered newest (formed open_now) st.at.inside.world.1 in (
-          st.at.inside.world.0,
-          subst (λ (x : Gathered). HaveGathered x.rows kept_in.gathered) (sym is) (subst (HaveGathered (added (cells_of what) old.outside.gathered.rows)) (sym gathered_is) rows),
-          st.at.inside.world.2,
-          st.at.inside.world.3,
-        )
+    kept_world : (out : Outside) → Gathers what old.outside out → InWorld out g kept_in
+    kept_world out is = subst (λ v. InWorld out g (kept st.tag v (worked (keeping st.at.registers x) w))) (sym same_what) (is.stands g (worked (keeping st.at.registers x) w) st.tag st.at.inside.world newest)
 
-  pub keep_full : old.outside.gathered.aux < size_of_rows (added (cells_of what) old.outside.gathered.rows) → PassesLimit Aux (KeepsAt old) old.outside.gathered.aux
-  keep_full h = λ g n w run st. passed g n w run st old.outside.gathered.aux h
+  pub keep_full : GathersTooMuch what old.outside → PassesLimit Aux (KeepsAt old) old.outside.gathered.aux
+  keep_full h = λ g n w run st. passed g n w run st h
 
-  module _ (store2 : ListBindings) (gathered : Gathered) (same : store_in store2 ≡ store_in store1) (saved2 : (ms : List Saved) → KeepsPlaces store1 ms → KeepsPlaces store2 ms)
-      (is : gathered ≡ record old.outside.gathered { rows = added (cells_of what) old.outside.gathered.rows }) (formed : 0 < length old.outside.gathered.rows → IsFormed what) where
+  module _ (store2 : ListBindings) (out : Outside) (same : store_in store2 ≡ store_in store1) (saved2 : (ms : List Saved) → KeepsPlaces store1 ms → KeepsPlaces store2 ms) (is : Gathers what old.outside out) where
     abbrev new : Engine
-    new = record old { store = store2; outside = record old.outside { gathered = gathered } }
+    new = record old { store = store2; outside = out }
 
     k : Kept s (store_in store2)
     k = subst (Kept s) (sym same) k1
@@ -159,9 +115,9 @@ module _ (old : Engine) (ready : IsReady old) (store1 : ListBindings) (r : Ref) 
 
     pub value_kept : WentWrong (KeepsAt old) old new
     value_kept = record {
-      sound = let now = store_sound old store2 old.made k saved ready.sound in record { base = now.base; room = now.room; picks = now.picks };
+      sound = let now = store_sound old store2 old.made k saved ready.sound in record { base = now.base; room = now.room; picks = subst (λ (o : Outside). MayPick old.left (picks_in o)) (sym is.is) now.picks };
       left = refl;
-      limits = record { heap = k.heap_limit; trail = k.trail_limit; aux = ap (λ (x : Gathered). x.aux) is; keep = refl };
+      limits = record { heap = k.heap_limit; trail = k.trail_limit; aux = ap (λ (o : Outside). o.gathered.aux) is.is; keep = ap (λ (o : Outside). o.world.area.keep) is.is };
       leads = λ g n w run st. record {
         world = kept_in g n w run st;
         adds = record { prints_are = (adds_nothing w).prints_are; typed = refl };
@@ -174,7 +130,7 @@ module _ (old : Engine) (ready : IsReady old) (store1 : ListBindings) (r : Ref) 
             saved = st.at.inside.saved;
             keeps = saved st.at.inside.saved st.at.inside.keeps;
             choices = st.at.inside.choices;
-            world = kept_world g n w run st gathered is formed;
+            world = kept_world g n w run st out is;
           };
           failed = failed g n w run st;
         };

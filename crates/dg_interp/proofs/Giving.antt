@@ -28,29 +28,20 @@ use Rattle.dg_unify.specs.declared.bindings.Full.{Full}
 use Rattle.dg_unify.specs.declared.bindings.Full.TheVariants as full
 use Rattle.dg_unify.specs.declared.list.ListBindings.{ListBindings}
 use Rattle.dg_interp.specs.declared.engine.Engine.{Engine}
-use Rattle.dg_interp.specs.Terms.{Overflows}
+use Rattle.dg_terms.specs.Terms.{Overflows}
 use Rattle.dg_interp.specs.Frames.{values_in}
 use Rattle.dg_interp.specs.Engine.{Point, store_in, KeepsPlaces, steps_of, There, IsReady, TakesAt, StandsAt, FailsAt, FullAt, Leads, SameLimits, WentOn, Branches}
 use Rattle.dg_outside.specs.Outside.{InWorld}
-use Rattle.dg_interp.specs.Giving.{number_in, ActsAt, SolvesAt, UnifiesAt, GivesAt}
-use Rattle.dg_interp.proofs.Stores.{trail_append, trail_within, made_is, values_kept, hold_front, told_kept}
+use Rattle.dg_terms.specs.Throwing.{number_in}
+use Rattle.dg_interp.specs.Giving.{ActsAt, SolvesAt, UnifiesAt, GivesAt}
+use Rattle.dg_terms.proofs.Stores.{told_kept}
+use Rattle.dg_interp.proofs.Stores.{trail_append, trail_within, made_is, values_kept, hold_front}
 use Rattle.dg_interp.proofs.Places.{inside_kept, adds_nothing}
 use Rattle.dg_interp.proofs.Links.{same_here, at_same}
 use Rattle.dg_interp.proofs.Takes.{behind, taken_in, comes_of, adds_taken, terms_full, store_ready}
 use Rattle.dg_interp.proofs.Branches.{went_on_from, ended_from}
 
 -- ## Numbers
-
--- what comes of two numbers, where both are there
-abbrev pub both : (ℕ → ℕ → Option ℕ) → Option ℕ → Option ℕ → Option ℕ
-both f None o = None
-both f (Some m) None = None
-both f (Some m) (Some n) = f m n
-
-pub of_both : (f : ℕ → ℕ → Option ℕ) (v u : Value) → of_numbers f v u ≡ both f (number_in v) (number_in u)
-of_both f (Node (Num m) ms) (Node (Num n) ns) = refl
-of_both f (Node (Num m) ms) u = refl
-of_both f v u = refl
 
 -- ## An engine whose store has changed
 

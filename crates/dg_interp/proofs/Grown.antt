@@ -16,7 +16,8 @@ use Rattle.dg_interp.specs.declared.engine.Engine.{Engine}
 use Rattle.dg_interp.specs.Frames.{values_in, AreChoices, GoBackTo}
 use Rattle.dg_interp.specs.Engine.{store_in, KeepsPlaces, Sound, IsReady}
 use Rattle.dg_interp.proofs.Links.{SameBy, same_here, frames_raise, choices_same, back_same, stand_raise}
-use Rattle.dg_interp.proofs.Stores.{all_hold, values_kept, hold_front, front_same}
+use Rattle.dg_terms.proofs.Stores.{all_hold}
+use Rattle.dg_interp.proofs.Stores.{values_kept, hold_front, front_same}
 use Rattle.dg_interp.proofs.Kept.{back_limits}
 
 module _ (old : Engine) (store1 : ListBindings) (refs1 : Vec Ref Global) (made : List Ref) (ready : IsReady old) (k : Kept (store_in old.store) (store_in store1)) (saved1 : (ms : List Saved) → KeepsPlaces old.store ms → KeepsPlaces store1 ms)

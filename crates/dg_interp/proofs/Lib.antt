@@ -1,13 +1,8 @@
-pub mod TermLemmas
-pub mod NestLemmas
-pub mod MatchLemmas
-pub mod TestLemmas
 pub mod PrintLemmas
 pub mod Links
 pub mod Places
 pub mod Turns
 pub mod Stores
-pub mod BothLemmas
 pub mod Entering
 pub mod BodyLemmas
 pub mod Trials
@@ -16,7 +11,6 @@ pub mod Begun
 pub mod Grown
 pub mod Begins
 pub mod Branches
-pub mod PassedRules
 pub mod Passes
 pub mod Takes
 pub mod Asks
@@ -37,7 +31,6 @@ pub mod Parts
 pub mod PartOpens
 pub mod Giving
 pub mod Ariths
-pub mod ThreeLemmas
 pub mod Selects
 pub mod Spaces
 pub mod TypedLetters

@@ -30,7 +30,8 @@ use Rattle.dg_interp.specs.Frames.{values_in, steps_behind, steps_at, kind_of, b
 use Rattle.dg_unify.specs.Engines.{Agrees}
 use Rattle.dg_interp.specs.Engine.{store_in, KeepsPlaces, HasPlace, IsPlace, BeginsAt, steps_of, IsSound, IsReady, There, TakesAt, OpensAt, open_in, IsPushed, Leads, SameLimits}
 use Rattle.dg_interp.proofs.Links.{same_here, same_append, same_values, behind_new, at_same, frame_raise, frames_append, choices_same, stand_raise, stand_same, branches_same}
-use Rattle.dg_interp.proofs.Stores.{kept_here, all_hold, values_kept, hold_front}
+use Rattle.dg_terms.proofs.Stores.{kept_here, all_hold}
+use Rattle.dg_interp.proofs.Stores.{values_kept, hold_front}
 use Rattle.dg_interp.proofs.Kept.{back_limits}
 use Rattle.dg_interp.proofs.Places.{inside_in, open_still, adds_nothing}
 use Rattle.dg_interp.proofs.Goals.{no_cells}

@@ -36,7 +36,7 @@ use Rattle.dg_interp.specs.declared.frames.Choice.{Choice}
 use Rattle.dg_interp.specs.declared.engine.Engine.{Engine}
 use Rattle.dg_interp.specs.Bodies.{IsBody, HasNoBody, parameters, matched_body, EntersBody, BodyFull}
 use Rattle.dg_interp.specs.Frames.{stretch, values_in, frame_steps, mark_steps, steps_behind, AreChoices, AreFrames, StandOn, GoBackTo}
-use Rattle.dg_interp.specs.Terms.{Overflows, BothMade}
+use Rattle.dg_terms.specs.Terms.{Overflows, BothMade}
 use Rattle.dg_interp.specs.Engine.{store_in, KeepsPlaces, Point, IsSound, IsReady, TakesAt, FailsAt, FullAt, Adds, Leads, SameLimits, WentOn, steps_of}
 use Rattle.dg_interp.specs.Querying.{QueriesAt, mark_of}
 use Rattle.dg_interp.proofs.Begins.{began_peaks}
@@ -46,7 +46,7 @@ use Rattle.dg_interp.proofs.Grown.{grown_front, grown_longer, grown_values, grow
 use Rattle.dg_interp.proofs.Places.{inside_kept, adds_nothing}
 use Rattle.dg_interp.proofs.Takes.{behind as after_terms, taken_in, comes_of, adds_taken, terms_full}
 use Rattle.dg_interp.proofs.Values.{made_among, term_full, agrees_behind}
-use Rattle.dg_interp.proofs.BothLemmas.{both_among}
+use Rattle.dg_interp.proofs.Stores.{both_among}
 use Rattle.dg_interp.proofs.Turns.{all_first, all_rest}
 
 -- ## The parameter

@@ -31,7 +31,8 @@ use Rattle.dg_spacing.specs.Spacer.{StandsFor}
 use Rattle.dg_interp.specs.declared.engine.Engine.{Engine}
 use Rattle.dg_interp.specs.Frames.{values_in}
 use Rattle.dg_interp.specs.Engine.{store_in, KeepsPlaces, steps_of, IsReady, TakesAt, StandsAt, Taken, Leads, Then, WentWrong}
-use Rattle.dg_interp.specs.Giving.{number_in, ActsAt, PrintsOne, TellsSpaces}
+use Rattle.dg_terms.specs.Throwing.{number_in}
+use Rattle.dg_interp.specs.Giving.{ActsAt, PrintsOne, TellsSpaces}
 use Rattle.dg_interp.specs.Printing.{Added}
 use Rattle.dg_interp.specs.Running.{GoalDone, Reaches, IsBroken}
 use Rattle.dg_interp.proofs.Takes.{store_sound, store_ready}

@@ -34,8 +34,8 @@ use Rattle.dg_words.proofs.CharLemmas.{counted, is_within}
 use Rattle.dg_words.proofs.WordLemmas.{words_again}
 use Rattle.dg_interp.specs.Printing.{value_at, shows_nil}
 use Rattle.dg_interp.specs.Spelling.{IsShort, JoinsWord, IsJoined, made_cells, MakesValue, WritesWords}
-use Rattle.dg_interp.specs.Terms.{Overflows, Written, listed}
-use Rattle.dg_interp.proofs.TermLemmas.{charged_none, charged_on, overflows_later, all_kept, map_kept, appended_none, appended_drop, appended_length}
+use Rattle.dg_terms.specs.Terms.{Overflows, Written, listed}
+use Rattle.dg_terms.proofs.TermLemmas.{charged_none, charged_on, overflows_later, all_kept, map_kept, appended_none, appended_drop, appended_length}
 
 -- ## Letters
 

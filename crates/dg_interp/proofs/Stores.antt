@@ -9,38 +9,15 @@ use Rattle.std.proofs.lemmas.List.Elements.{All-take, All-drop}
 use Rattle.dg_meaning.specs.Values.{Value}
 use Rattle.dg_meaning.specs.Substitutions.{Substitution}
 use Rattle.dg_meaning.specs.Moves.{made_since, older_bound}
-use Rattle.dg_unify.specs.Store.{Store, told, or_nil, Holds, IsTold, Kept, trail_for, trail_of}
+use Rattle.dg_base.specs.declared.program.Term.{Term}
+use Rattle.dg_base.specs.declared.program.CoreProgram.{CoreProgram}
+use Rattle.dg_unify.specs.Store.{Store, told, Holds, Kept, trail_for, trail_of}
 use Rattle.dg_unify.specs.declared.bindings.Ref.{Ref}
 use Rattle.dg_interp.specs.declared.frames.Env.{Env}
 use Rattle.dg_interp.specs.Frames.{stretch, values_in, EndsBy}
 use Rattle.dg_interp.proofs.Links.{SameBy, stretch_same}
-use Rattle.dg_interp.proofs.Turns.{all_first, all_rest}
-
-pub kept_here : (s : Store) → Kept s s
-kept_here s = record { values = λ r v e. e; places = omega arith; words = λ at w e. e; heap_limit = refl; trail_limit = refl; grows = refl }
-
-pub kept_on : (s t u : Store) → Kept s t → Kept t u → Kept s u
-kept_on s t u h k = record { values = λ r v e. k.values r v (h.values r v e); places = omega (arith, h.places, k.places); words = λ at w e. k.words at w (h.words at w e); heap_limit = k.heap_limit ∙ h.heap_limit; trail_limit = k.trail_limit ∙ h.trail_limit; grows = k.grows ∙ h.grows }
-
-told_from : (o p : Option Value) → IsTold o → ((v : Value) → o ≡ Some v → p ≡ Some v) → p ≡ o
-told_from None p h f = absurd h
-told_from (Some v) p h f = f v refl
-
-value_kept : (s t : Store) (r : Ref) → Kept s t → Holds s r → t.value r ≡ s.value r
-value_kept s t r k h = told_from (s.value r) (t.value r) h (λ v e. k.values r v e)
-
-pub told_kept : (s t : Store) (r : Ref) → Kept s t → Holds s r → told t r ≡ told s r
-told_kept s t r k h = ap or_nil (value_kept s t r k h)
-
-pub holds_kept : (s t : Store) (r : Ref) → Kept s t → Holds s r → Holds t r
-holds_kept s t r k h = subst IsTold (sym (value_kept s t r k h)) h
-
-pub all_hold : (s t : Store) (rs : List Ref) → Kept s t → All (Holds s) rs → All (Holds t) rs
-all_hold s t rs k h i d lt = holds_kept s t _ k (h i d lt)
-
-pub all_told : (s t : Store) (rs : List Ref) → Kept s t → All (Holds s) rs → map (told t) rs ≡ map (told s) rs
-all_told s t [] k h = refl
-all_told s t (r ∷ rs) k h = ap (λ v. v ∷ map (told t) rs) (told_kept s t r k (all_first (Holds s) r rs h)) ∙ ap (λ vs. told s r ∷ vs) (all_told s t rs k (all_rest (Holds s) r rs h))
+use Rattle.dg_terms.specs.Terms.{BothMade}
+use Rattle.dg_terms.proofs.Stores.{all_told}
 
 pub stretch_holds : (s : Store) (rs : List Ref) (env : Env) → All (Holds s) rs → All (Holds s) (stretch rs env)
 stretch_holds s rs env h = All-take (Holds s) env.len (drop env.from rs) (All-drop (Holds s) env.from rs h)
@@ -103,3 +80,8 @@ take_front made S = take-append_seam made S
 
 pub made_is : (made S S' : Substitution) → S' ≡ made ++ S → made_since S S' ≡ made
 made_is made S S' e = let n : length S' - length S ≡ length made = omega (arith, ap length e ∙ length-append made S) in ap (λ k. take k S') n ∙ ap (take (length made)) e ∙ take_front made S
+
+-- ## Two terms
+
+pub both_among : (program : CoreProgram) (a b : Term) (s t : Store) (ra rb : Ref) (refs part : List Ref) (env : Env) → part ≡ stretch refs env → BothMade program a b (map (told s) part) s t ra rb → BothMade program a b (values_in s refs env) s t ra rb
+both_among program a b s t ra rb refs part env e h = subst (λ l. BothMade program a b (map (told s) l) s t ra rb) e h

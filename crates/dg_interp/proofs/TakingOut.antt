@@ -44,7 +44,8 @@ use Rattle.dg_interp.specs.Frames.{values_in, steps_at, whole_of, IsLeft}
 use Rattle.dg_interp.specs.Giving.{SolvesAt, UnifiesAt, GivesAt}
 use Rattle.dg_interp.specs.Gathering.{TakesOutAt}
 use Rattle.dg_interp.specs.Engine.{Point, store_in, steps_of, KeepsPlaces, open_in, IsSound, IsReady, FailsAt, FullAt, BeginsAt, Leads, SameLimits, WentWrong, Tries}
-use Rattle.dg_interp.proofs.Stores.{values_kept, hold_front, told_kept}
+use Rattle.dg_terms.proofs.Stores.{told_kept}
+use Rattle.dg_interp.proofs.Stores.{values_kept, hold_front}
 use Rattle.dg_interp.proofs.Links.{same_here, at_same}
 use Rattle.dg_interp.proofs.Places.{adds_nothing, open_still}
 use Rattle.dg_interp.proofs.Takes.{store_sound, store_ready}

@@ -38,7 +38,7 @@ use Rattle.dg_interp.specs.declared.frames.Trial.{Trial}
 use Rattle.dg_interp.specs.declared.frames.Left.TheVariants.{Things}
 use Rattle.dg_interp.specs.declared.frames.Choice.{Choice}
 use Rattle.dg_interp.specs.declared.engine.Engine.{Engine}
-use Rattle.dg_interp.specs.Terms.{Overflows}
+use Rattle.dg_terms.specs.Terms.{Overflows}
 use Rattle.dg_interp.specs.Querying.{mark_of}
 use Rattle.dg_interp.specs.Frames.{stretch, values_in, mark_steps, steps_behind, branches_of, EndsBy, IsLeft, has_some}
 use Rattle.dg_interp.specs.Trying.{may_find, counted, trial_branches}
@@ -46,10 +46,11 @@ use Rattle.dg_interp.specs.Giving.{SolvesAt}
 use Rattle.dg_interp.specs.Finding.{made_values, TriesObjectsAt, FindsAt}
 use Rattle.dg_interp.specs.Engine.{Point, store_in, KeepsPlaces, steps_of, HasPlace, IsSound, IsReady, IsPushed, FailsAt, FullAt, BeginsAt, OpensAt, Leads, SameLimits, WentWrong, kept_if, open_in}
 use Rattle.dg_interp.proofs.Trials.{numbers_counted, counted_first, counted_some, trials_all}
-use Rattle.dg_interp.proofs.Stores.{kept_here, values_kept, values_count, hold_front, appended_stretch}
+use Rattle.dg_terms.proofs.Stores.{kept_here}
+use Rattle.dg_interp.proofs.Stores.{values_kept, values_count, hold_front, appended_stretch}
 use Rattle.dg_interp.proofs.Links.{SameBy, same_here, behind_same, at_same, frame_raise}
 use Rattle.dg_interp.proofs.Grown.{grown_longer, grown_values, grown_base, grown_choices}
-use Rattle.dg_interp.proofs.MatchLemmas.{zip_none}
+use Rattle.dg_terms.proofs.MatchLemmas.{zip_none}
 use Rattle.dg_interp.proofs.Places.{adds_nothing, inside_in, open_still, limits_here}
 use Rattle.dg_interp.proofs.Queries.{marked}
 use Rattle.dg_interp.proofs.Begun.{begun_values, begun_sound, begun_there}

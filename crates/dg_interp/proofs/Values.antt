@@ -25,7 +25,7 @@ use Rattle.dg_unify.specs.declared.bindings.Full.{Full}
 use Rattle.dg_unify.specs.declared.list.ListBindings.{ListBindings}
 use Rattle.dg_interp.specs.declared.frames.Env.{Env}
 use Rattle.dg_interp.specs.declared.engine.Engine.{Engine}
-use Rattle.dg_interp.specs.Terms.{Overflows}
+use Rattle.dg_terms.specs.Terms.{Overflows}
 use Rattle.dg_interp.specs.Frames.{stretch, values_in}
 use Rattle.dg_interp.specs.Engine.{store_in, KeepsPlaces, steps_of, IsReady, TakesAt, StandsAt, FailsAt, FullAt, Adds, Then, Leads, SameLimits, WentOn, pieces_at, WrotePrinted}
 use Rattle.dg_outside.specs.declared.outside.Outside.{Outside}
@@ -33,7 +33,7 @@ use Rattle.dg_outside.specs.Outside.{InWorld}
 use Rattle.dg_meaning.proofs.Dropping.{prints_append}
 use Rattle.dg_unify.specs.Engines.{Agrees}
 use Rattle.dg_interp.proofs.Places.{inside_kept, adds_nothing}
-use Rattle.dg_interp.proofs.BothLemmas.{made_holds}
+use Rattle.dg_terms.proofs.BothLemmas.{made_holds}
 use Rattle.dg_interp.proofs.Links.{same_here, at_same}
 use Rattle.dg_interp.proofs.Stores.{values_kept, hold_front}
 use Rattle.dg_interp.proofs.Takes.{behind, taken_in, comes_of, adds_taken, terms_full, store_ready}

@@ -31,16 +31,16 @@ use Rattle.dg_unify.specs.declared.bindings.Full.TheVariants as full
 use Rattle.dg_unify.specs.declared.list.ListBindings.{ListBindings}
 use Rattle.dg_interp.specs.declared.engine.Engine.{Engine}
 use Rattle.dg_interp.specs.Frames.{values_in}
-use Rattle.dg_interp.specs.Terms.{Overflows, BothMade}
+use Rattle.dg_terms.specs.Terms.{Overflows, BothMade}
 use Rattle.dg_interp.specs.Engine.{store_in, KeepsPlaces, steps_of, IsReady, TakesAt, FailsAt, FullAt, Leads, Branches}
 use Rattle.dg_interp.specs.Giving.{UnifiesAt}
 use Rattle.dg_interp.specs.Interpret.{game}
 use Rattle.dg_interp.specs.Wording.{words_in, MakesAt, AwaitsInput}
 use Rattle.dg_meaning.proofs.OneRun.{grows_on, begun_grows}
-use Rattle.dg_interp.proofs.Stores.{told_kept}
+use Rattle.dg_terms.proofs.Stores.{told_kept}
 use Rattle.dg_interp.proofs.Takes.{store_ready}
 use Rattle.dg_interp.proofs.Places.{adds_nothing}
-use Rattle.dg_interp.proofs.BothLemmas.{made_holds}
+use Rattle.dg_terms.proofs.BothLemmas.{made_holds}
 use Rattle.dg_interp.proofs.Giving.{with_store, kept_limits, acts_on, written_acts, branches_made}
 use Rattle.dg_interp.proofs.Branches.{full_made}
 

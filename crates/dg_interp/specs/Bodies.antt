@@ -11,7 +11,7 @@ use Rattle.dg_unify.specs.Store.{Store, IsClosureAt, trail_of}
 use Rattle.dg_unify.specs.declared.bindings.Ref.{Ref}
 use Rattle.dg_unify.specs.declared.bindings.Full.{Full}
 use Rattle.dg_unify.specs.declared.bindings.Full.TheVariants as full
-use Rattle.dg_interp.specs.Terms.{Appended}
+use Rattle.dg_terms.specs.Terms.{Appended}
 
 -- ## Which body
 

@@ -15,11 +15,6 @@ use Rattle.dg_unify.specs.declared.bindings.Ref.{Ref}
 use Rattle.dg_interp.specs.declared.engine.Engine.{Engine}
 use Rattle.dg_interp.specs.Engine.{Point, There, steps_of, store_in, IsReady, SameLimits, TakesAt, StandsAt, Then, WentWrong}
 
--- The number that a value is.
-abbrev pub number_in : Value → Option ℕ
-number_in (Node (Num n) vs) = Some n
-number_in v = None
-
 -- The run comes from an act, of which the terms are written, where the engine is.
 pub record ActsAt (act : Registers → World → Act) (e : Engine) (g : Game) (n : ℕ) (w : World) (run : Run) : Type 0 where
   pub at : There e (e.newest + 1) g w

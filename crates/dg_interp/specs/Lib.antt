@@ -1,4 +1,3 @@
-pub mod Terms
 pub mod Printing
 pub mod Rules
 pub mod Bodies
@@ -7,10 +6,7 @@ pub mod Engine
 pub mod Querying
 pub mod Running
 pub mod Interpret
-pub mod Passing
-pub mod Comparing
 pub mod Giving
-pub mod Throwing
 pub mod Spelling
 pub mod Wording
 pub mod Made

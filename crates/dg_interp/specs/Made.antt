@@ -15,7 +15,7 @@ use Rattle.dg_interp.specs.declared.engine.Engine.{Engine}
 use Rattle.dg_outside.specs.Changing.{all_in_store, Became}
 use Rattle.dg_interp.specs.Frames.{values_in}
 use Rattle.dg_interp.specs.Engine.{store_in, KeepsPlaces}
-use Rattle.dg_interp.specs.Terms.{Written}
+use Rattle.dg_terms.specs.Terms.{Written}
 
 -- The values of terms were made, and nothing else.
 pub record MadeArgs (terms : List Term) (old new : Engine) : Type 0 where

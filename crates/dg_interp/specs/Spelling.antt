@@ -10,7 +10,7 @@ use Rattle.dg_unify.specs.declared.bindings.Ref.{Ref}
 use Rattle.dg_unify.specs.declared.bindings.Full.{Full}
 use Rattle.dg_words.specs.Chars.{begins}
 use Rattle.dg_words.specs.Letters.{AreSmall}
-use Rattle.dg_interp.specs.Terms.{Overflows, Written}
+use Rattle.dg_terms.specs.Terms.{Overflows, Written}
 
 -- Letters that one word may have.
 pub record IsShort (letters : List ℕ) : Type 0 where

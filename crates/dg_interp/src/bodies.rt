@@ -6,12 +6,11 @@ ghost use Rattle.dg_meaning.specs.Copies.{values_of};
 ghost use Rattle.dg_meaning.specs.Substitutions.{walk};
 ghost use Rattle.dg_unify.specs.Store.{Saved, told, Holds, Kept, IsClosureAt};
 ghost use Rattle.dg_unify.specs.declared.bindings.Full.TheVariants.{OutOfMemory as WantOfMemory};
-ghost use Rattle.dg_interp.specs.Terms.{Appended};
+ghost use Rattle.dg_terms.specs.Terms.{Appended};
 ghost use Rattle.dg_interp.specs.Bodies.{FindsBody, EntersBody, BodyFull};
 
-use crate::matching::unify_all;
-use crate::terms::new_variables;
 use dg_base::{ClosureBody, CoreProgram};
+use dg_terms::{new_variables, unify_all};
 use dg_unify::{Bindings, Full, Ref, View};
 
 /// The closure that a value is when it is looked up, by its own Ref, with its body; none where it is no closure.

@@ -14,9 +14,9 @@ ghost use Rattle.dg_base.specs.declared.program.CoreProgram.{CoreProgram as Prog
 ghost use Rattle.dg_base.specs.declared.run.Limits.{Limits as TheLimits};
 ghost use Rattle.dg_meaning.specs.Cells.{cells};
 ghost use Rattle.dg_interp.specs.Rules.{EntersRule, RuleFull, ArgsWritten};
-ghost use Rattle.dg_interp.specs.Terms.{Overflows};
+ghost use Rattle.dg_terms.specs.Terms.{Overflows};
 ghost use Rattle.dg_outside.specs.Outside.{StartsOutside};
-ghost use Rattle.dg_interp.specs.Passing.{IsFirst, IsCandidate};
+ghost use Rattle.dg_terms.specs.Passing.{IsFirst, IsCandidate};
 ghost use Rattle.dg_interp.specs.Printing.{Printed};
 ghost use Rattle.dg_unify.specs.Store.{Saved, Kept, Holds, Charged};
 
@@ -36,13 +36,11 @@ mod trying;
 mod wording;
 
 use crate::frames::{Choice, Env, Frame, Left, Mark, Query};
-use crate::matching::unify_all;
-use crate::passing::{choice_cells, pass};
 use crate::printing::print_value;
-use crate::terms::{new_variables, write_term, write_terms};
 use dg_base::{CoreProgram, Ending, Goal, Items, Rule, Sink, Term, WriteFault};
 use dg_outside::{Lack, Outside, lacking};
 use dg_spacing::Spacer;
+use dg_terms::{choice_cells, new_variables, pass, unify_all, write_term, write_terms};
 use dg_unify::{Bindings, Full, ListBindings, Mark as Place, Ref, View};
 use std::alloc::{AllocError, Global};
 

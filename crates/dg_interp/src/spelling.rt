@@ -10,11 +10,11 @@ ghost use Rattle.dg_unify.specs.Store.{Saved, Kept, Holds, Made, Shows, IsUnknow
 ghost use Rattle.dg_words.specs.Letters.{AreSmall};
 ghost use Rattle.dg_interp.specs.Printing.{value_at};
 ghost use Rattle.dg_interp.specs.Spelling.{IsShort, SpellsSome, JoinsWord, IsJoined, MakesValue, WritesWords};
-ghost use Rattle.dg_interp.specs.Terms.{Overflows};
+ghost use Rattle.dg_terms.specs.Terms.{Overflows};
 
 use crate::printing::{is_nil, name_at};
-use crate::terms::write_pairs;
 use dg_base::{Name, Simple};
+use dg_terms::write_pairs;
 use dg_unify::{Bindings, Full, Ref, View};
 use dg_words::{Class, Joined, classify, next_char, next_word, read_letters, spell};
 use itoa::Buffer;

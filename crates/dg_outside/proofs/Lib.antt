@@ -3,3 +3,4 @@ pub mod ChangeLemmas
 pub mod Picks
 pub mod Starting
 pub mod Closing
+pub mod Gathering

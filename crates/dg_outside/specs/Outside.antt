@@ -1,16 +1,17 @@
 -- What an engine has outside its store, and what of a world that stands for. Hold it against docs/LANGUAGE.md, "The world", "Choosing" and "Limits".
-use Rattle.std.specs.Prelude.{ℕ, ◌≡◌, ◌+◌, ◌-◌, ◌^◌, ◌<◌, List, length, map, drop, slice_set, replicate}
+use Rattle.std.specs.Prelude.{ℕ, ◌≡◌, ◌+◌, ◌-◌, ◌^◌, ◌<◌, List, [], ◌∷◌, length, map, drop, slice_set, replicate}
 use Rattle.std.specs.List.{All, flat_map}
 use Rattle.dg_base.specs.declared.cells.Cell.{Cell}
 use Rattle.dg_base.specs.declared.program.CoreProgram.{CoreProgram}
 use Rattle.dg_base.specs.declared.program.Mode.{Mode}
 use Rattle.dg_base.specs.declared.run.Limits.{Limits}
+use Rattle.dg_meaning.specs.Values.{Value}
 use Rattle.dg_meaning.specs.ValueCells.{cells_of}
 use Rattle.dg_meaning.specs.Choosing.{die, Picks, no_picks, picked, picks_at, choice}
 use Rattle.dg_meaning.specs.Facts.{Fact, kinds_of, kept_size, start_facts}
 use Rattle.dg_meaning.specs.Transcript.{start_world}
-use Rattle.dg_meaning.specs.World.{Game, World, Gathering}
-use Rattle.dg_meaning.specs.Context.{Drops}
+use Rattle.dg_meaning.specs.World.{Game, World, Gathering, gathered_size, gathered_with, opened, kept}
+use Rattle.dg_meaning.specs.Context.{Drops, IsNewest, tags_of}
 use Rattle.dg_meaning.specs.Moves.{selects, selected}
 use Rattle.dg_world.specs.Tables.{Outline, outline_of}
 use Rattle.dg_world.specs.Worlds.{StandsFor}
@@ -18,6 +19,7 @@ use Rattle.dg_choose.specs.Dice.{HasDrawn}
 use Rattle.dg_choose.specs.Site.{picks_of}
 use Rattle.dg_world.specs.declared.world.World.{World as FactsWorld}
 use Rattle.dg_lists.specs.Formed.{IsFormed}
+use Rattle.dg_lists.specs.Gathered.{added, gathered_size as size_of_rows}
 use Rattle.dg_outside.specs.declared.lack.Lack.{Lack}
 use Rattle.dg_outside.specs.declared.lack.Lack.TheVariants as lack
 use Rattle.dg_outside.specs.declared.outside.Outside.{Outside}
@@ -89,6 +91,28 @@ abbrev pub LacksAtStart : CoreProgram → ℕ → Lack → Type 0
 LacksAtStart program keep lack.OutOfMemory = Unit {0}
 LacksAtStart program keep lack.Keep = keep < kept_size (kinds_of program) (start_facts program.places)
 LacksAtStart program keep other = ⊥
+
+-- ## Gatherings
+
+-- A gathering was opened, in which nothing is gathered, and it stands for a world in which it is open.
+pub record OpensOne (old new : Outside) : Type 0 where
+  pub is : new ≡ record old { gathered = record old.gathered { rows = [] ∷ old.gathered.rows } }
+  pub stands : (g : Game) → (w : World) → (tag : ℕ) → InWorld old g w → InWorld new g (opened tag w)
+
+-- With one more gathering open more would be gathered than may be, here and in the world.
+pub record OpensTooMuch (out : Outside) : Type 0 where
+  pub is : out.gathered.aux < size_of_rows ([] ∷ out.gathered.rows)
+  pub stands : (g : Game) → (w : World) → (tag : ℕ) → InWorld out g w → out.gathered.aux < gathered_size (record { tag = tag; values = [] } ∷ w.gathered)
+
+-- A value was gathered in the newest gathering, and it stands for a world in which it was.
+pub record Gathers (v : Value) (old new : Outside) : Type 0 where
+  pub is : new ≡ record old { gathered = record old.gathered { rows = added (cells_of v) old.gathered.rows } }
+  pub stands : (g : Game) → (w : World) → (tag : ℕ) → InWorld old g w → IsNewest tag (tags_of w.gathered) → InWorld new g (kept tag v w)
+
+-- With this value more would be gathered than may be, here and in the world.
+pub record GathersTooMuch (v : Value) (out : Outside) : Type 0 where
+  pub is : out.gathered.aux < size_of_rows (added (cells_of v) out.gathered.rows)
+  pub stands : (g : Game) → (w : World) → (tag : ℕ) → InWorld out g w → IsNewest tag (tags_of w.gathered) → out.gathered.aux < gathered_size (gathered_with tag v w.gathered)
 
 -- ## Gatherings that are dropped
 

@@ -1,5 +1,5 @@
 // What a run has outside its store.
-ghost use Rattle.std.specs.Prelude.{◌≡◌, ◌<◌, ◌≤◌, IfOk, IfErr, List, All, length, map, replicate};
+ghost use Rattle.std.specs.Prelude.{◌≡◌, ◌<◌, ◌≤◌, IfOk, IfErr, OnOk, OnErr, List, All, length, map, replicate};
 ghost use Rattle.dg_meaning.specs.Facts.{Fact};
 ghost use Rattle.dg_meaning.specs.Changes.{change_of};
 ghost use Rattle.dg_unify.specs.Store.{Saved, Holds};
@@ -7,15 +7,16 @@ ghost use Rattle.dg_world.specs.Tables.{Outline, IsKind};
 ghost use Rattle.dg_world.specs.Worlds.{StandsFor};
 ghost use Rattle.dg_outside.specs.Changing.{all_in_store, Became};
 ghost use Rattle.dg_base.specs.Sound.{IsSound};
+ghost use Rattle.dg_lists.specs.Writing.{value_at};
 ghost use Rattle.dg_choose.specs.Site.{picks_of};
 ghost use Rattle.dg_meaning.specs.Choosing.{no_picks, picks_at};
-ghost use Rattle.dg_outside.specs.Outside.{Closes, picks_in, MayPick, PicksOne, StartsWorld, StartsOutside, LacksAtStart};
+ghost use Rattle.dg_outside.specs.Outside.{OpensOne, OpensTooMuch, Gathers, GathersTooMuch, Closes, picks_in, MayPick, PicksOne, StartsWorld, StartsOutside, LacksAtStart};
 
 use crate::changing::change_place;
 use crate::lack::Lack;
 use dg_base::{Cell, CoreProgram, Limits, Mode, PlaceKind};
 use dg_choose::{Dice, Site, pick};
-use dg_lists::{Gather, GatherMark};
+use dg_lists::{AuxFull, Gather, GatherMark};
 use dg_unify::{Bindings, Ref};
 use dg_world::{KeepFull, World};
 use std::alloc::{AllocError, Global};
@@ -150,6 +151,35 @@ impl<'p> Outside<'p> {
             args,
             sets,
         )
+    }
+
+    /// Opens a gathering, in which nothing is gathered.
+    #[tactic(auto, using(crate::proofs::Gathering::opens_one, crate::proofs::Gathering::opens_too_much))]
+    pub fn open(&mut self) -> Result<(), AuxFull>
+        ensures opened { OnOk result (OpensOne self.old self.new) }
+        ensures err { OnErr result (self.new ≡ self.old) }
+        ensures full { OnErr result (OpensTooMuch self.old) }
+    {
+        match self.gathered.open() {
+            Ok(_) => Ok(()),
+            Err(full) => Err(full),
+        }
+    }
+
+    /// Gathers a value in the newest gathering, if one is open. What waits in the store meanwhile is dropped.
+    #[tactic(auto, using(crate::proofs::Gathering::gathers, crate::proofs::Gathering::gathers_too_much))]
+    pub fn gather<B: Bindings>(&mut self, store: &mut B, value: Ref) -> Result<(), AuxFull>
+        requires { Holds (B.meaning store.old) value }
+        ensures same { B.meaning store.new ≡ B.meaning store.old }
+        ensures saved { (ms : List Saved) → B.saves store.old ms → B.saves store.new ms }
+        ensures gathered { OnOk result (Gathers (value_at (B.meaning store.old) value) self.old self.new) }
+        ensures err { OnErr result (self.new ≡ self.old) }
+        ensures full { OnErr result (GathersTooMuch (value_at (B.meaning store.old) value) self.old) }
+    {
+        match self.gathered.keep(store, value) {
+            Ok(()) => Ok(()),
+            Err(full) => Err(full),
+        }
     }
 
     /// Drops the gatherings but for the first so many.

@@ -4,14 +4,14 @@ ghost use Rattle.dg_base.specs.declared.program.Goal.TheVariants.{Now as NowGoal
 ghost use Rattle.dg_base.specs.declared.program.CoreProgram.{CoreProgram as Program};
 ghost use Rattle.dg_meaning.specs.Cells.{cells};
 ghost use Rattle.dg_unify.specs.Store.{Holds};
-ghost use Rattle.dg_interp.specs.Terms.{Overflows};
+ghost use Rattle.dg_terms.specs.Terms.{Overflows};
 ghost use Rattle.dg_interp.specs.Engine.{IsReady, TakesAt, Branches, LackAt, store_in};
 ghost use Rattle.dg_interp.specs.Made.{MadeArgs, ChangedMade};
 
 use super::{Engine, stretch};
-use crate::terms::write_terms;
 use dg_base::Term;
 use dg_outside::{Lack, kind_of, lacking, stored};
+use dg_terms::write_terms;
 use dg_unify::Full;
 use dg_world::KeepFull;
 

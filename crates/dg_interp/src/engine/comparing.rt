@@ -4,9 +4,8 @@ ghost use Rattle.dg_base.specs.declared.program.Goal.TheVariants.{Equal as Equal
 ghost use Rattle.dg_interp.specs.Engine.{IsReady, TakesAt, Branches, FullAt, store_in};
 
 use super::{Engine, stretch};
-use crate::terms::{write_both, write_term};
-use crate::testing::{in_order, test};
 use dg_base::{CompareOp, Term, TestKind};
+use dg_terms::{in_order, test, write_both, write_term};
 use dg_unify::{Full, unify};
 
 impl<'p> Engine<'p> {

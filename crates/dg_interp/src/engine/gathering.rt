@@ -16,12 +16,11 @@ ghost use Rattle.dg_unify.specs.Store.{Saved, Kept, Holds};
 ghost use Rattle.dg_unify.specs.declared.bindings.Mark.{Mark as ThePlace};
 
 use super::{Engine, stretch};
-use crate::calculating::number;
 use crate::frames::{Choice, Env, Frame, Left, Mark, Whole};
-use crate::terms::{write_both, write_var};
 use dg_base::{Cell, Goal, Term};
 use dg_lists::{list_from_cells, sum};
 use dg_outside::{Lack, lacking};
+use dg_terms::{number, write_both, write_var};
 use dg_unify::{Bindings, Full, ListBindings, Ref, unify};
 
 /// The list of copies of the values that stand in cells one after another. It keeps values in a row meanwhile.
@@ -57,7 +56,7 @@ impl<'p> Engine<'p> {
         let env = stretch(&self.refs, self.here.env);
         match write_var(&mut self.store, env, 0) {
             Err(full) => Err(lacking(full)),
-            Ok(value) => match self.outside.gathered.keep(&mut self.store, value) {
+            Ok(value) => match self.outside.gather(&mut self.store, value) {
                 Ok(()) => Ok(()),
                 Err(_) => Err(Lack::Aux),
             },
@@ -94,7 +93,7 @@ impl<'p> Engine<'p> {
         if let Err(_) = self.frames.push(behind) {
             return Err(Lack::OutOfMemory);
         }
-        if let Err(_) = self.outside.gathered.open() {
+        if let Err(_) = self.outside.open() {
             return Err(Lack::Aux);
         }
         let place = self.store.mark();

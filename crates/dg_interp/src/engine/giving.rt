@@ -6,9 +6,8 @@ ghost use Rattle.dg_interp.specs.Engine.{IsReady, TakesAt, Branches, FullAt, sto
 ghost use Rattle.dg_interp.specs.Giving.{UnifiesAt, GivesAt, TellsSpaces};
 
 use super::{Engine, stretch};
-use crate::calculating::{calculate, number, number_of};
-use crate::terms::{write_term, write_three};
 use dg_base::{ArithOp, Term};
+use dg_terms::{calculate, number, number_of, write_term, write_three};
 use dg_unify::{Bindings, Full, Ref, unify};
 
 impl<'p> Engine<'p> {

@@ -1,7 +1,7 @@
 // The first argument of a query.
 ghost use Rattle.dg_interp.specs.Frames.{EndsBy, values_in};
 ghost use Rattle.dg_interp.specs.Engine.{IsSound, store_in};
-ghost use Rattle.dg_interp.specs.Passing.{IsFirst};
+ghost use Rattle.dg_terms.specs.Passing.{IsFirst};
 ghost use Rattle.std.specs.Prelude.{length};
 
 use super::{Engine, stretch};

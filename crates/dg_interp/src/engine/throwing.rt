@@ -4,9 +4,8 @@ ghost use Rattle.dg_base.specs.declared.program.Goal.TheVariants.{Random as Rand
 ghost use Rattle.dg_interp.specs.Engine.{IsReady, TakesAt, Branches, FullAt, store_in};
 
 use super::{Engine, stretch};
-use crate::calculating::throw;
-use crate::terms::write_three;
 use dg_base::Term;
+use dg_terms::{throw, write_three};
 use dg_unify::Full;
 
 impl<'p> Engine<'p> {

@@ -12,9 +12,9 @@ use super::querying::body_mark;
 use super::{Engine, keep, stretch};
 use crate::finding::{found, may_find, simple};
 use crate::frames::{Choice, Env, Frame, Left, Trial};
-use crate::matching::unify_all;
 use dg_base::Simple;
 use dg_outside::objects_of;
+use dg_terms::unify_all;
 use dg_unify::{Bindings, Full, Mark as Place};
 
 /// The cells of a choice between objects, which are tried with so many arguments.

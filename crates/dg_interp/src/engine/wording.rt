@@ -10,8 +10,8 @@ ghost use Rattle.dg_interp.specs.Wording.{words_in, MakesAt, AwaitsInput};
 
 use super::{Engine, stretch};
 use crate::spelling::{join, spelling_of, write_letters, write_line, write_spelled};
-use crate::terms::{write_both, write_term};
 use dg_base::Term;
+use dg_terms::{write_both, write_term};
 use dg_unify::{Bindings, Full, Ref};
 use dg_words::Joined;
 

@@ -1,6 +1,6 @@
 use Rattle.std.proofs.Common.{rules, ◌≡◌, ◌+◌, ◌≤◌, ◌∷◌, [], ◌++◌, arith}
 use Rattle.dg_interp.proofs.BodyLemmas.{next_part, parts_counted, captured_on, captured_all}
-use Rattle.dg_interp.proofs.TermLemmas.{appended_none}
+use Rattle.dg_terms.proofs.TermLemmas.{appended_none}
 use Rattle.dg_interp.proofs.bodies.put_captured.Goals as goal
 
 pub values-preserved : goal.values-preserved

@@ -2,7 +2,7 @@ use Rattle.std.proofs.Common.{ℕ, ◌-◌, take}
 use Rattle.dg_meaning.specs.Values.{Values}
 use Rattle.dg_meaning.specs.Copies.{values_of}
 use Rattle.dg_unify.specs.Store.{IsClosureAt}
-use Rattle.dg_interp.specs.Terms.{Appended}
+use Rattle.dg_terms.specs.Terms.{Appended}
 use Rattle.dg_interp.proofs.bodies.put_captured.Given as goal
 
 abbrev pub invariant-values : goal.invariant-values

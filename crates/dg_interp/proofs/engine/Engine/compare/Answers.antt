@@ -4,7 +4,7 @@ use Rattle.dg_interp.specs.Frames.{stretch}
 use Rattle.dg_interp.specs.Engine.{store_in, FailsAt, TakesAt}
 use Rattle.dg_interp.proofs.Takes.{store_sound}
 use Rattle.dg_interp.proofs.Values.{grown_limits}
-use Rattle.dg_interp.proofs.BothLemmas.{both_among}
+use Rattle.dg_interp.proofs.Stores.{both_among}
 use Rattle.dg_interp.proofs.Compares.{compare_full, compare_passed, compare_failed}
 use Rattle.dg_interp.proofs.Branches.{full_made, back_made}
 use Rattle.dg_interp.proofs.engine.Engine.compare.Goals as goal

@@ -3,9 +3,9 @@ use Rattle.dg_base.specs.declared.program.Goal.TheVariants.{Equal}
 use Rattle.dg_interp.specs.Frames.{stretch}
 use Rattle.dg_interp.specs.Engine.{store_in, FailsAt, TakesAt}
 use Rattle.dg_interp.proofs.Takes.{store_sound}
-use Rattle.dg_interp.proofs.Stores.{kept_on}
+use Rattle.dg_terms.proofs.Stores.{kept_on}
 use Rattle.dg_interp.proofs.Values.{grown_limits}
-use Rattle.dg_interp.proofs.BothLemmas.{both_among}
+use Rattle.dg_interp.proofs.Stores.{both_among}
 use Rattle.dg_interp.proofs.Equals.{equal_full, equal_trail_full, equal_passed, equal_failed}
 use Rattle.dg_interp.proofs.Branches.{full_made, back_made}
 use Rattle.dg_interp.proofs.engine.Engine.equal.Goals as goal

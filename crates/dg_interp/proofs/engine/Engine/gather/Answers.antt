@@ -4,7 +4,7 @@ use Rattle.dg_interp.specs.Gathering.{gathering_goal, GathersAt}
 use Rattle.dg_interp.specs.Engine.{TakesAt}
 use Rattle.dg_interp.proofs.Runs.{lack_from}
 use Rattle.dg_interp.proofs.Takes.{store_ready}
-use Rattle.dg_interp.proofs.BothLemmas.{both_among}
+use Rattle.dg_interp.proofs.Stores.{both_among}
 use Rattle.dg_interp.proofs.Giving.{written_full, kept_limits}
 use Rattle.dg_interp.proofs.Branches.{went_on_from}
 use Rattle.dg_interp.proofs.Gathered.{lacks_from}

@@ -3,7 +3,7 @@ use Rattle.dg_interp.specs.Engine.{store_in}
 use Rattle.dg_meaning.specs.Words.{spelled_list, each_alone}
 use Rattle.dg_meaning.specs.Copies.{copy_cells}
 use Rattle.dg_unify.specs.Store.{Made}
-use Rattle.dg_interp.specs.Terms.{Overflows}
+use Rattle.dg_terms.specs.Terms.{Overflows}
 use Rattle.dg_interp.specs.Wording.{words_in}
 use Rattle.dg_interp.proofs.Takes.{store_ready}
 use Rattle.dg_interp.proofs.Wordings.{made_full, made_done, made_stops}

@@ -2,7 +2,7 @@ use Rattle.std.proofs.Common.{refl, subst, sym}
 use Rattle.dg_interp.specs.Engine.{store_in, FailsAt, Leads}
 use Rattle.dg_interp.specs.Giving.{GivesAt, UnifiesAt}
 use Rattle.dg_interp.proofs.Takes.{store_ready}
-use Rattle.dg_interp.proofs.Stores.{holds_kept}
+use Rattle.dg_terms.proofs.Stores.{holds_kept}
 use Rattle.dg_unify.proofs.StoreLemmas.{holds_some}
 use Rattle.dg_interp.proofs.Giving.{kept_limits, same_limits, none_given, number_given, branches_made}
 use Rattle.dg_interp.proofs.Branches.{full_made, back_made}

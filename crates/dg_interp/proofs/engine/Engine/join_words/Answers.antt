@@ -7,7 +7,7 @@ use Rattle.dg_interp.specs.Spelling.{IsJoined}
 use Rattle.dg_interp.specs.Engine.{store_in, FailsAt, TakesAt}
 use Rattle.dg_interp.specs.Wording.{words_in, MakesAt}
 use Rattle.dg_interp.proofs.Takes.{store_sound, store_ready}
-use Rattle.dg_interp.proofs.BothLemmas.{both_among}
+use Rattle.dg_interp.proofs.Stores.{both_among}
 use Rattle.dg_interp.proofs.Giving.{kept_limits, written_full, branches_made}
 use Rattle.dg_interp.proofs.SpellLemmas.{WasJoined, was_joined, none_joined}
 use Rattle.dg_interp.proofs.Wordings.{join_held, join_fails, join_leads}

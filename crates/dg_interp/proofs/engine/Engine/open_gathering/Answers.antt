@@ -26,5 +26,5 @@ returns-clause-opened c =
     let behind : c.len-3.result ≡ length c.push.new.self.items = search rules in
     rw behind
     (gathering_opened c.args.whole c.args.value c.args.into c.args.goals old c.requires.ready c.requires.built c.requires.values c.mark-place.result c.mark-place.new.self c.mark-place.ensures.kept c.mark-place.ensures.same c.mark-place.ensures.saved
-    _ refl c.charge.new.self c.extend_from_slice.new.self c.push.new.self c.push-2.new.self c.open.new.self k.kept k.saved k.made c.requires.room c.in_default.ensures.items (rw from at c.in_default-push.ensures.items) c.in_default-open.ensures.ok
+    _ refl c.charge.new.self c.extend_from_slice.new.self c.push.new.self c.push-2.new.self c.open.new.self k.kept k.saved k.made c.requires.room c.in_default.ensures.items (rw from at c.in_default-push.ensures.items) c.in_default-open.ensures.opened
     (reverse_pop c.push-2.new.self.items old.choices.items _ (rw from at (rw height at (rw refs at (rw c.gatherings.ensures at c.in_default-push-2.ensures.items))))))

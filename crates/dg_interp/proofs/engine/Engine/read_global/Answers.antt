@@ -4,7 +4,7 @@ use Rattle.dg_meaning.specs.Values.{Value}
 use Rattle.dg_unify.specs.Store.{Holds, told}
 use Rattle.dg_interp.specs.Giving.{UnifiesAt}
 use Rattle.dg_interp.specs.Finding.{made_values, ReadsAt}
-use Rattle.dg_interp.proofs.Stores.{holds_kept}
+use Rattle.dg_terms.proofs.Stores.{holds_kept}
 use Rattle.dg_interp.specs.Engine.{store_in, FailsAt}
 use Rattle.dg_interp.proofs.Places.{limits_here}
 use Rattle.dg_interp.proofs.Giving.{kept_limits, branches_made}

@@ -8,7 +8,7 @@ use Rattle.dg_world.specs.Tables.{simple_value}
 use Rattle.dg_interp.specs.Giving.{UnifiesAt}
 use Rattle.dg_interp.specs.Finding.{made_values, ReadsAt}
 use Rattle.dg_interp.specs.Engine.{store_in, FailsAt}
-use Rattle.dg_interp.proofs.Stores.{holds_kept}
+use Rattle.dg_terms.proofs.Stores.{holds_kept}
 use Rattle.dg_interp.proofs.Places.{limits_here}
 use Rattle.dg_interp.proofs.Giving.{kept_limits, branches_made}
 use Rattle.dg_interp.proofs.Branches.{full_made, back_made}

@@ -4,7 +4,7 @@ use Rattle.dg_unify.proofs.StoreLemmas.{walked_to}
 use Rattle.dg_interp.specs.Frames.{stretch}
 use Rattle.dg_interp.specs.Engine.{store_in}
 use Rattle.dg_interp.proofs.Values.{made_among}
-use Rattle.dg_interp.proofs.BothLemmas.{made_holds}
+use Rattle.dg_terms.proofs.BothLemmas.{made_holds}
 use Rattle.dg_interp.proofs.Giving.{written_full}
 use Rattle.dg_interp.proofs.Spaces.{spaces_held, spaces_told}
 use Rattle.dg_interp.proofs.engine.Engine.spaces.Goals as goal

@@ -4,7 +4,7 @@ use Rattle.dg_outside.specs.Outside.{Closes}
 use Rattle.dg_interp.specs.Giving.{UnifiesAt}
 use Rattle.dg_interp.specs.Gathering.{TakesOutAt}
 use Rattle.dg_interp.specs.Engine.{store_in}
-use Rattle.dg_interp.proofs.Stores.{holds_kept}
+use Rattle.dg_terms.proofs.Stores.{holds_kept}
 use Rattle.dg_interp.proofs.Branches.{tries_made, full_made}
 use Rattle.dg_interp.proofs.TakingOut.{none_wrong, some_first, list_full, list_ready, list_limits, list_taken}
 use Rattle.dg_interp.proofs.engine.Engine.take_list.Goals as goal

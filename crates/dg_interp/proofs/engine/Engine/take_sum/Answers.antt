@@ -5,7 +5,7 @@ use Rattle.dg_outside.specs.Outside.{Closes}
 use Rattle.dg_interp.specs.Giving.{UnifiesAt, GivesAt}
 use Rattle.dg_interp.specs.Gathering.{TakesOutAt}
 use Rattle.dg_interp.specs.Engine.{store_in, FailsAt, Leads}
-use Rattle.dg_interp.proofs.Stores.{holds_kept}
+use Rattle.dg_terms.proofs.Stores.{holds_kept}
 use Rattle.dg_interp.proofs.Takes.{store_ready}
 use Rattle.dg_interp.proofs.Places.{leads_on, limits_on}
 use Rattle.dg_interp.proofs.Giving.{kept_limits, none_given, number_given}

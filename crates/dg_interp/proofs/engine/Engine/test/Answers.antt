@@ -8,7 +8,7 @@ use Rattle.dg_interp.specs.Frames.{stretch, values_in}
 use Rattle.dg_interp.specs.Engine.{store_in, FailsAt, TakesAt}
 use Rattle.dg_interp.proofs.Takes.{store_sound}
 use Rattle.dg_interp.proofs.Values.{grown_limits, test_full, test_passed, test_failed, made_among}
-use Rattle.dg_interp.proofs.BothLemmas.{made_holds}
+use Rattle.dg_terms.proofs.BothLemmas.{made_holds}
 use Rattle.dg_interp.proofs.Branches.{full_made, back_made}
 use Rattle.dg_interp.proofs.engine.Engine.test.Goals as goal
 

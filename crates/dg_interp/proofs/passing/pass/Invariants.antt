@@ -1,9 +1,0 @@
-use Rattle.std.proofs.Common.{◌≡◌, length}
-use Rattle.dg_interp.specs.Passing.{rules_from}
-use Rattle.dg_interp.proofs.passing.pass.Given as goal
-
-abbrev pub invariant-rules : goal.invariant-rules
-invariant-rules l = record { same : rules_from l.first l.rules ≡ rules_from l.first l.fn.rules }
-
-abbrev pub decreases-rules : goal.decreases-rules
-decreases-rules l = length l.rules

@@ -1,0 +1,10 @@
+pub mod Stores
+pub mod TermLemmas
+pub mod NestLemmas
+pub mod BothLemmas
+pub mod ThreeLemmas
+pub mod MatchLemmas
+pub mod PassedRules
+pub mod TestLemmas
+pub mod OrderLemmas
+pub mod NumberLemmas
