@@ -1,10 +1,10 @@
 -- What lies in memory still lies there where only more was added.
-use Rattle.std.proofs.Common.{◌++◌, ◌≡◌, ℕ, zero, suc, List, [], ◌∷◌, Some, sym, subst}
+use Rattle.std.proofs.Common.{◌++◌, ◌≡◌, ℕ, zero, suc, List, [], ◌∷◌, Option, Some, None, sym, subst}
 use Rattle.std.specs.List.{slice_get}
-use Rattle.dg_meaning.specs.Values.{Value}
+use Rattle.dg_meaning.specs.Values.{Value, Values, Closure, Node}
 use Rattle.dg_meaning.specs.OneRun.{Begins}
 use Rattle.dg_meaning.proofs.OneRun.{begins_on}
-use Rattle.dg_unify.specs.Store.{Store, Saved, Kept}
+use Rattle.dg_unify.specs.Store.{Store, Saved, Kept, IsClosureAt}
 use Rattle.dg_unify.proofs.Lists.{get_append}
 use Rattle.dg_mid.specs.declared.code.Code.{Code}
 use Rattle.dg_mid.specs.State.{Place, Frame as FrameOf, Choice as ChoiceOf, Call as CallOf, Way as WayOf, Goes as GoesOf, Calls as CallsOf}
@@ -17,7 +17,7 @@ use Rattle.dg_machine.specs.declared.now.Frame.{Frame}
 use Rattle.dg_machine.specs.declared.now.Inner.{Inner}
 use Rattle.dg_machine.specs.declared.now.Choice.{Choice}
 use Rattle.dg_machine.specs.Links.{named}
-use Rattle.dg_machine.specs.Refs.{ValuesAt, RowAt, RefsAt, AreRefs}
+use Rattle.dg_machine.specs.Refs.{ValuesAt, Captures, RowAt, RefsAt, AreRefs}
 use Rattle.dg_machine.specs.Layout.{CallAt, WayAt, InnersAt, FramesAt, ChoicesAt}
 
 -- what is named is still named so
@@ -39,8 +39,15 @@ pub values_kept : (s t : Store) (at : ℕ) (vs : List Value) → Kept s t → Va
 values_kept s t at [] k h = tt
 values_kept s t at (v ∷ vs) k h = (k.values (record { 0 = at }) v h.0, values_kept s t (suc at) vs k h.1)
 
+pub closure_kept : (s t : Store) (r : Ref) (place : ℕ) (parts : Values) → Kept s t → IsClosureAt s r place parts → IsClosureAt t r place parts
+closure_kept s t r place parts k h = record { value = k.values r (Node (Closure place) parts) h.value; few = h.few }
+
+captures_kept : (s t : Store) (o : Option Ref) (n : ℕ) (vs : List Value) → Kept s t → Captures s o n vs → Captures t o n vs
+captures_kept s t None n vs k h = h
+captures_kept s t (Some r) n vs k h = (h.0, h.1, record { value = k.values r (Node (Closure h.0) h.1) h.2.value; few = h.2.few }, h.3, h.4)
+
 pub row_kept : (s t : Store) (row : Row) (vs : List Value) → Kept s t → RowAt s row vs → RowAt t row vs
-row_kept s t row vs k h = record { values = values_kept s t row.first vs k h.values; count = h.count }
+row_kept s t row vs k h = record { captured = h.captured; own = h.own; is = h.is; closure = captures_kept s t row.closure row.captured h.captured k h.closure; values = values_kept s t row.first h.own k h.values; count = h.count }
 
 pub refs_kept : (s t : Store) (rs : List Ref) (vs : List Value) → Kept s t → RefsAt s rs vs → RefsAt t rs vs
 refs_kept s t [] [] k h = tt

@@ -14,6 +14,7 @@ pub mod PassedRules
 pub mod Hands
 pub mod Leads
 pub mod Leaving
+pub mod Bodies
 pub mod Unifying
 pub mod Compares
 pub mod Tests

@@ -1,5 +1,5 @@
 -- Variables in a row.
-use Rattle.std.proofs.Common.{◌≡◌, ℕ, zero, suc, ◌+◌, ◌<◌, ◌≤◌, List, [], ◌∷◌, ◌++◌, Some, refl, sym, ap, ◌∙◌, subst, arith, length}
+use Rattle.std.proofs.Common.{◌≡◌, ℕ, zero, suc, ◌+◌, ◌<◌, ◌≤◌, List, [], ◌∷◌, ◌++◌, Some, None, refl, sym, ap, ◌∙◌, subst, arith, length}
 use Rattle.dg_meaning.specs.Values.{Value, Var}
 use Rattle.dg_meaning.specs.Moves.{new_vars}
 use Rattle.dg_base.specs.declared.run.Limits.{Limits}
@@ -16,6 +16,7 @@ use Rattle.dg_machine.specs.Refs.{ValuesAt, RowAt, MadeRow, Keeps}
 use Rattle.dg_unify.proofs.StoreLemmas.{kept_on}
 use Rattle.dg_machine.specs.Layout.{Holds, HasRoom, Lacks, MadeRule, made_state, HasFrameRoom, heap_in}
 use Rattle.dg_machine.proofs.Kept.{values_kept}
+use Rattle.dg_machine.proofs.TermLemmas.{plain_row}
 use Rattle.dg_machine.proofs.Opens.{heap_full, roomy, roomy_on, on_arena, refs_on}
 
 new_vars_more : (n v : ℕ) → new_vars (suc n) v ≡ new_vars n v ++ Var (v + n) ∷ []
@@ -63,14 +64,14 @@ row_on n m s t u first r e x kept f =
       next = omega (arith, f.next, x.next, e);
     }
 
-pub row_none : (s : Store) (row : Row) → row.count ≡ 0 → MadeRow 0 s s row
-row_none s row e =
+pub row_none : (s : Store) (row : Row) → row.closure ≡ None → row.captured ≡ 0 → row.count ≡ 0 → MadeRow 0 s s row
+row_none s row none captured e =
     let heap : s.state.heap ≡ s.state.heap + 0 = omega arith in
     let vars : s.state.vars ≡ s.state.vars + 0 = omega arith in
-    record { state = ap (λ k. record s.state { heap = k }) heap ∙ ap (λ k. record s.state { vars = k; heap = s.state.heap + 0 }) vars; row_is = record { values = tt; count = sym e } }
+    record { state = ap (λ k. record s.state { heap = k }) heap ∙ ap (λ k. record s.state { vars = k; heap = s.state.heap + 0 }) vars; row_is = plain_row s row [] none captured tt (sym e) }
 
-pub row_made : (n : ℕ) (s t : Store) (row : Row) → Begun n s t row.first → row.count ≡ n → MadeRow n s t row
-row_made n s t row x e = record { state = x.state; row_is = record { values = x.values; count = new_vars_length n s.state.vars ∙ sym e } }
+pub row_made : (n : ℕ) (s t : Store) (row : Row) → Begun n s t row.first → row.closure ≡ None → row.captured ≡ 0 → row.count ≡ n → MadeRow n s t row
+row_made n s t row x none captured e = record { state = x.state; row_is = plain_row t row (new_vars n s.state.vars) none captured x.values (new_vars_length n s.state.vars ∙ sym e) }
 
 pub row_low : (n : ℕ) (s : Store) (a : Arena) (first : ℕ) → Begun n s (meaning_of a) first → first + n ≤ 2147483648
 row_low n s a first x =

@@ -48,6 +48,7 @@ abbrev pub OpBuilt : Op → Type 0
 OpBuilt (op.Do a) = ActionBuilt a
 OpBuilt (op.Ask pred terms many next) = AreArguments terms
 OpBuilt (op.LastAsk pred terms many) = AreArguments terms
+OpBuilt (op.Query a b many next) = Unit {0}
 OpBuilt op.Take = Unit {0}
 OpBuilt (op.Branch alt) = Unit {0}
 OpBuilt op.Once = Unit {0}

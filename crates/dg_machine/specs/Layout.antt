@@ -1,10 +1,10 @@
 -- How what a machine is in lies in memory. Hold it against the Dialog manual, chapters "Choice points" and "Control flow".
 use Rattle.std.specs.Prelude.{ℕ, ◌+◌, ◌*◌, ◌-◌, ◌≡◌, ◌<◌, ◌≤◌, ◌++◌, List, [], ◌∷◌, Option, Some, None, length, reverse, drop, vec_capacity, Bool}
 use Rattle.dg_base.specs.declared.run.Limits.{Limits}
-use Rattle.dg_meaning.specs.Values.{Value}
+use Rattle.dg_meaning.specs.Values.{Value, value_of_var}
 use Rattle.dg_meaning.specs.OneRun.{Begins}
 use Rattle.dg_meaning.specs.Moves.{new_vars}
-use Rattle.dg_meaning.specs.Unify.{Unified}
+use Rattle.dg_meaning.specs.Unify.{Equations, Unified}
 use Rattle.dg_unify.specs.Store.{State, Store, Saved, Kept}
 use Rattle.dg_arena.specs.Held.{meaning_of, saves_of}
 use Rattle.dg_mid.specs.declared.code.Code.{Code}
@@ -254,6 +254,11 @@ pub record HasNumber (code : Code) (l : Limits) (n : ℕ) (meant : Option ℕ) (
 pub record HasHeads (code : Code) (l : Limits) (n : ℕ) (values : List Value) (m : Mid) (new : Memory) : Type 0 where
   pub held : Holds code l new (more n m)
   pub heads : RefsAt (meaning_of new.arena) new.heads.items values
+
+-- What the argument of a body has to become equal to, if there is one: the variable of that number, the first of its own.
+abbrev pub parameter_equations : List Value → List Value → ℕ → Equations
+parameter_equations [] vs n = []
+parameter_equations (w ∷ ws) vs n = (w, value_of_var vs n) ∷ []
 
 -- There is room for one more frame.
 abbrev pub HasFrameRoom : Memory → Type 0

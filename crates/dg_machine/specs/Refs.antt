@@ -1,8 +1,9 @@
 -- What stands in rows of the store, and for which values Refs stand. Hold it against dg_unify/specs/Store.antt.
-use Rattle.std.specs.Prelude.{ℕ, suc, ◌+◌, ◌≡◌, nat_lt, List, [], ◌∷◌, Option, Some, None, length, if◌then◌else◌}
-use Rattle.dg_meaning.specs.Values.{Value}
+use Rattle.std.specs.Prelude.{ℕ, suc, ◌+◌, ◌≡◌, ◌++◌, List, [], ◌∷◌, Option, Some, None, length}
+use Rattle.dg_meaning.specs.Values.{Value, Values, Nil, Closure, Node, leaf, value_of_var}
+use Rattle.dg_meaning.specs.Copies.{values_of}
 use Rattle.dg_meaning.specs.Moves.{new_vars}
-use Rattle.dg_unify.specs.Store.{Store, Saved, Kept, Charged}
+use Rattle.dg_unify.specs.Store.{Store, Saved, Kept, Charged, IsClosureAt}
 use Rattle.dg_unify.specs.declared.bindings.Ref.{Ref}
 use Rattle.dg_arena.specs.declared.arena.Arena.{Arena}
 use Rattle.dg_arena.specs.Held.{meaning_of, saves_of}
@@ -15,14 +16,24 @@ abbrev pub ValuesAt : Store → ℕ → List Value → Type 0
 ValuesAt s at [] = Unit {0}
 ValuesAt s at (v ∷ vs) = (s.value (record { 0 = at }) ≡ Some v) × ValuesAt s (suc at) vs
 
--- These are the values of a row.
-pub record RowAt (s : Store) (row : Row) (vs : List Value) : Type 0 where
-  pub values : ValuesAt s row.first vs
-  pub count : length vs ≡ row.count
+-- These values are captured by the closure of a row, where there is one.
+abbrev pub Captures : Store → Option Ref → ℕ → List Value → Type 0
+Captures s None n vs = (n ≡ 0) × (vs ≡ [])
+Captures s (Some r) n vs = (place : ℕ) × (parts : Values) × IsClosureAt s r place parts × (vs ≡ values_of parts) × (n ≡ length vs)
 
--- The Ref of that number in a row, if there is one.
-abbrev pub ref_in : Row → ℕ → Option Ref
-ref_in row i = if nat_lt i row.count then Some (record { 0 = row.first + i }) else None
+-- These are the values of a row: those that its closure captures, and then its own.
+pub record RowAt (s : Store) (row : Row) (vs : List Value) : Type 0 where
+  pub captured : List Value
+  pub own : List Value
+  pub is : vs ≡ captured ++ own
+  pub closure : Captures s row.closure row.captured captured
+  pub values : ValuesAt s row.first own
+  pub count : length own ≡ row.count
+
+-- This is a variable of a row, or there is none of that number.
+abbrev pub IsVarAt : Store → List Value → ℕ → Option Ref → Type 0
+IsVarAt s vs n None = leaf Nil ≡ value_of_var vs n
+IsVarAt s vs n (Some r) = s.value r ≡ Some (value_of_var vs n)
 
 -- ## Refs
 
@@ -35,6 +46,11 @@ RefsAt s rs vs = ⊥
 -- They stand for some values.
 abbrev pub AreRefs : Store → List Ref → Type 0
 AreRefs s rs = (vs : List Value) × RefsAt s rs vs
+
+-- A value is a closure of this place in the program, at this Ref; or it is none.
+abbrev pub IsClosureOf : Store → Value → Option (ℕ × Ref) → Type 0
+IsClosureOf s w None = (place : ℕ) (parts : Values) → w ≡ Node (Closure place) parts → ⊥
+IsClosureOf s w (Some found) = (parts : Values) × (w ≡ Node (Closure found.0) parts) × IsClosureAt s found.1 found.0 parts
 
 -- ## What calls do to the store
 

@@ -1,5 +1,5 @@
 -- What a machine with its memory stands for. Hold it against the Dialog manual, chapter "Choice points".
-use Rattle.std.specs.Prelude.{ℕ, suc, ◌≡◌, ◌+◌, ◌<◌, ◌≤◌, List, [], ◌∷◌, Bool, length}
+use Rattle.std.specs.Prelude.{ℕ, suc, ◌≡◌, ◌+◌, ◌<◌, ◌≤◌, List, [], ◌∷◌, Option, Some, None, Bool, length}
 use Rattle.std.specs.Borrow.{Bor}
 use Rattle.dg_base.specs.declared.program.Term.{Term}
 use Rattle.dg_base.specs.declared.run.Limits.{Limits}
@@ -9,17 +9,21 @@ use Rattle.dg_meaning.specs.Substitutions.{walk}
 use Rattle.dg_meaning.specs.Moves.{gives_number, looked_up}
 use Rattle.dg_base.specs.declared.program.ArithOp.{ArithOp}
 use Rattle.dg_mid.specs.Actions.{registers_of, world_of}
-use Rattle.dg_meaning.specs.Values.{Value}
+use Rattle.dg_meaning.specs.Values.{Value, Values}
 use Rattle.dg_arena.specs.Held.{meaning_of}
 use Rattle.dg_mid.specs.declared.code.Op.{Op}
 use Rattle.dg_mid.specs.declared.code.Code.{Code}
 use Rattle.dg_mid.specs.declared.code.RuleCode.{RuleCode}
+use Rattle.dg_mid.specs.declared.code.BodyCode.{BodyCode}
+use Rattle.dg_meaning.specs.Copies.{values_of}
+use Rattle.dg_unify.specs.Store.{Store, IsClosureAt}
+use Rattle.dg_unify.specs.declared.bindings.Ref.{Ref}
 use Rattle.dg_mid.specs.Code.{block_at, rules_at}
-use Rattle.dg_mid.specs.State.{Mid, Call as CallOf, Way as WayOf, Goes as GoesOf, ToPred}
+use Rattle.dg_mid.specs.State.{Mid, Call as CallOf, Way as WayOf, Goes as GoesOf, ToPred, ToBody}
 use Rattle.dg_mid.specs.State.{Status, Runs as RunsOf, Enters as EntersOf, Resumes as ResumesOf, Fails as FailsOf, Ended as EndedOf}
 use Rattle.dg_mid.specs.Heights.{MidOrdered, StatusOrdered}
 use Rattle.dg_mid.specs.Potential.{Tidy}
-use Rattle.dg_mid.specs.Step.{setting, call_of, begins, enters, asks, last, does, done, enter, entered, goes_on, goes_back, step}
+use Rattle.dg_mid.specs.Step.{setting, call_of, begins, enters, asks, last, does, done, enters_body, closure_at, queries, enter, entered, goes_on, goes_back, step}
 use Rattle.dg_machine.specs.declared.now.Call.{Call}
 use Rattle.dg_machine.specs.declared.now.Way.{Way}
 use Rattle.dg_machine.specs.declared.now.Way.TheVariants.{Goes, Calls}
@@ -124,6 +128,24 @@ Calculates code by old rest new after = (g : Game) (l : Limits) (m : Mid) (u v w
     RefsAt (meaning_of old.arena) old.args.items (u ∷ v ∷ w ∷ []) → Stands code l new after (done (setting g code l)
     (gives_number (of_numbers (calculated by) (walk m.state.subst u) (walk m.state.subst v)) w (registers_of m)
     (worked (looked_up (registers_of m) u + looked_up (registers_of m) v) (world_of [] m))) m)
+
+-- The body of a closure is entered by a call whose arguments stand behind the first at hand.
+abbrev pub EntersBody : Code → Memory → Call → BodyCode → Ref → Memory → Now → Type 0
+EntersBody code old k body closure new after = (g : Game) (l : Limits) (m : Mid) (c : CallOf) (v : Value) (place : ℕ) (parts : Values) → Holds code l old m →
+    RefsAt (meaning_of old.arena) old.args.items (v ∷ c.args) → c.next ≡ k.next → c.many ≡ k.many → c.cut.height ≡ k.cut →
+    IsClosureAt (meaning_of old.arena) closure place parts → Stands code l new after (enters_body (setting g code l) body (values_of parts) c m)
+
+-- What a value asks is the body of this closure, or nothing.
+abbrev pub IsAsked : Code → Store → Value → Option (BodyCode × Ref) → Type 0
+IsAsked code s w None = closure_at code w ≡ None
+IsAsked code s w (Some found) = (place : ℕ) × (parts : Values) × (closure_at code w ≡ Some (ToBody found.0 (values_of parts))) ×
+    IsClosureAt s found.1 place parts
+
+-- The first argument is asked with the others.
+abbrev pub QueriesFirst : Code → Memory → Bool → ℕ → Memory → Now → Type 0
+QueriesFirst code old many next new after = (g : Game) (l : Limits) (m : Mid) (v : Value) (us : List Value) → Holds code l old m →
+    RefsAt (meaning_of old.arena) old.args.items (v ∷ us) →
+    Stands code l new after (queries (setting g code l) (closure_at code (walk m.state.subst v)) us many next m)
 
 -- It fails.
 abbrev pub FailsTo : Code → Memory → Memory → Now → Type 0

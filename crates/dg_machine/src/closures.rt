@@ -1,10 +1,11 @@
 // The values of closures, and of terms without parts.
-ghost use Rattle.std.specs.Prelude.{◌≡◌, ◌+◌, ◌≤◌, ◌∷◌, [], List, MatchResult, OnOk, length, map, drop, take, vec_capacity, vec_len};
+ghost use Rattle.std.specs.Prelude.{◌≡◌, ◌+◌, ◌≤◌, ◌∷◌, ◌++◌, [], ℕ, List, None, MatchResult, OnOk, length, map, drop, take, vec_capacity, vec_len};
 ghost use Rattle.dg_base.specs.declared.program.Term.{out-Term};
 ghost use Rattle.dg_base.specs.declared.program.Term.TheVariants.{Closure as ClosureTerm};
 ghost use Rattle.dg_base.specs.declared.program.CoreProgram.{CoreProgram};
-ghost use Rattle.dg_meaning.specs.Values.{Value, value_of, value_of_var};
-ghost use Rattle.dg_unify.specs.Store.{Made};
+ghost use Rattle.dg_meaning.specs.Values.{Value, Values, value_of, value_of_var};
+ghost use Rattle.dg_meaning.specs.Copies.{values_of};
+ghost use Rattle.dg_unify.specs.Store.{Made, IsClosureAt};
 ghost use Rattle.dg_arena.specs.Held.{meaning_of};
 ghost use Rattle.dg_machine.specs.Built.{IsNoPair};
 ghost use Rattle.dg_machine.specs.Refs.{RowAt, RefsAt, Keeps, Stays};
@@ -18,8 +19,37 @@ use dg_arena::Arena;
 use dg_base::Term;
 use dg_unify::{Bindings, Full, Ref};
 
+/// How many values a closure captures.
+pub fn captured_count(arena: &Arena, closure: Ref) -> u16
+    requires { (place : ℕ) × (parts : Values) × IsClosureAt (meaning_of arena.now) closure place parts }
+    ensures { (place : ℕ) → (parts : Values) → IsClosureAt (meaning_of arena.now) closure place parts → result ≡ length (values_of parts) }
+{
+    let mut count: u16 = 0;
+    'values: while let Some(_) = arena.captured(closure, count) {
+        count += 1;
+    }
+    count
+}
+
+/// The variables of a body: what its closure has captured, and its own, which stand in a row.
+pub fn body_row(arena: &Arena, closure: Ref, own: Row) -> Row
+    requires { (place : ℕ) × (parts : Values) × IsClosureAt (meaning_of arena.now) closure place parts }
+    ensures row { (place : ℕ) → (parts : Values) → (vs : List Value) → IsClosureAt (meaning_of arena.now) closure place parts →
+        own.closure ≡ None → RowAt (meaning_of arena.now) own vs → RowAt (meaning_of arena.now) result (values_of parts ++ vs) }
+    ensures count { (place : ℕ) → (parts : Values) → IsClosureAt (meaning_of arena.now) closure place parts → result.captured ≡ length (values_of parts) }
+{
+    let captured = captured_count(arena, closure);
+    Row {
+        closure: Some(closure),
+        captured,
+        first: own.first,
+        count: own.count,
+    }
+}
+
 /// Puts the values of variables in a row, for which there is room, behind others.
 fn push_vars(arena: &mut Arena, row: Row, vars: &[u16], to: &mut Vec<Ref>)
+    requires row { (vs : List Value) × RowAt (meaning_of arena.old) row vs }
     requires room { vec_len to.old + length vars.now ≤ vec_capacity to.old }
     ensures stays { Stays arena.old arena.new }
     ensures values { (vs : List Value) → RowAt (meaning_of arena.old) row vs →

@@ -1,7 +1,9 @@
 // What an instruction does in memory.
-ghost use Rattle.std.specs.Prelude.{◌≡◌, ◌<◌, ◌≤◌, ℕ, List, [], ◌∷◌, length};
+ghost use Rattle.std.specs.Prelude.{◌≡◌, ◌<◌, ◌≤◌, ℕ, List, [], ◌∷◌, length, slice_get};
 ghost use Rattle.dg_base.specs.declared.run.Limits.{Limits};
-ghost use Rattle.dg_meaning.specs.Values.{Value};
+ghost use Rattle.dg_meaning.specs.Values.{Value, Values};
+ghost use Rattle.dg_meaning.specs.Substitutions.{walk};
+ghost use Rattle.dg_unify.specs.Store.{IsClosureAt};
 ghost use Rattle.dg_mid.specs.declared.code.Code.{Code as TheCode};
 ghost use Rattle.dg_mid.specs.declared.code.Op.{Op as TheOp};
 ghost use Rattle.dg_mid.specs.declared.code.Op.TheVariants as op;
@@ -14,15 +16,17 @@ ghost use Rattle.dg_machine.specs.Built.{AreArguments, OpsBuilt, IsBuilt};
 ghost use Rattle.dg_machine.specs.declared.tables.Tables.{Tables as TheTables};
 ghost use Rattle.dg_machine.specs.Refs.{RefsAt, AreRefs};
 ghost use Rattle.dg_machine.specs.Layout.{HasRoom, Holds};
-ghost use Rattle.dg_machine.specs.Standing.{DoesOp, DoesMark, CallsRules, EntersWith, Asks, AsksLast, Calculates};
+ghost use Rattle.dg_machine.specs.Standing.{DoesOp, DoesMark, CallsRules, EntersWith, Asks, AsksLast, Calculates, EntersBody, IsAsked, QueriesFirst};
 ghost use Rattle.dg_machine.specs.Standing.{EntersRule, EntersIn, IsThere, GoesOnAt, GoesOn, FailsTo};
 
+use crate::closures::body_row;
 use crate::memory::Memory;
 use crate::now::{Call, Now, Way};
 use crate::passing::pass;
 use crate::tables::Tables;
 use dg_base::{ArithOp, CompareOp, Ending, Term, TestKind};
-use dg_mid::{Code, Op, RuleCode};
+use dg_mid::{BodyCode, Code, Op, RuleCode};
+use dg_unify::Ref;
 
 /// The instructions of a block.
 pub fn code_at(code: &Code, block: u32) -> &[Op]
@@ -42,6 +46,13 @@ pub fn rules_of(code: &Code, pred: u16) -> &[RuleCode]
         Some(found) => found.as_slice(),
         None => &[],
     }
+}
+
+/// The body of the closure of a place, if there is one.
+fn body_of(code: &Code, place: u16) -> Option<BodyCode>
+    ensures { result ≡ slice_get code.now.closures place }
+{
+    code.closures.get(place as usize).copied()
 }
 
 impl Memory {
@@ -385,6 +396,87 @@ impl Memory {
                     Now::Runs(rest)
                 }
             },
+        }
+    }
+
+    /// The body of a closure is entered, whose argument, if there is one, is the second at hand.
+    fn enter_body<'p>(
+        &mut self,
+        code: &'p Code,
+        call: Call,
+        body: BodyCode,
+        closure: Ref,
+    ) -> Now<'p>
+        requires room { HasRoom self.old }
+        requires built { IsBuilt code.now }
+        requires args { (v : Value) × (vs : List Value) × RefsAt (meaning_of self.old.arena) self.old.args.items (v ∷ vs) }
+        requires closure { (place : ℕ) × (parts : Values) × IsClosureAt (meaning_of self.old.arena) closure place parts }
+        ensures { EntersBody code.now self.old call body closure self.new result }
+    {
+        match self.make_rule(body.own) {
+            Err(_) => Now::Ended(Ending::HeapLimit),
+            Ok(own) => {
+                let row = body_row(&self.arena, closure, own);
+                match self.match_parameter(row) {
+                    Err(_) => Now::Ended(Ending::TrailLimit),
+                    Ok(false) => Now::Fails,
+                    Ok(true) => {
+                        self.push_frame(call, row);
+                        Now::Runs(code_at(code, body.block))
+                    }
+                }
+            }
+        }
+    }
+
+    /// The body that the first argument asks, with its closure, if it asks one.
+    fn asked_body(&self, code: &Code) -> Option<(BodyCode, Ref)>
+        requires { (v : Value) × (vs : List Value) × RefsAt (meaning_of self.now.arena) self.now.args.items (v ∷ vs) }
+        ensures { (l : Limits) → (m : Mid) → (v : Value) → (vs : List Value) → Holds code.now l self.now m →
+            RefsAt (meaning_of self.now.arena) self.now.args.items (v ∷ vs) → IsAsked code.now (meaning_of self.now.arena) (walk m.state.subst v) result }
+    {
+        match self.closure_arg() {
+            None => None,
+            Some((place, closure)) => match body_of(code, place) {
+                None => None,
+                Some(body) => Some((body, closure)),
+            },
+        }
+    }
+
+    /// The first argument is asked with the second, if there is one.
+    fn query_first<'p>(&mut self, code: &'p Code, many: bool, next: u32) -> Now<'p>
+        requires some { (l : Limits) × (m : Mid) × Holds code.now l self.old m }
+        requires built { IsBuilt code.now }
+        requires args { (v : Value) × (vs : List Value) × RefsAt (meaning_of self.old.arena) self.old.args.items (v ∷ vs) }
+        ensures { QueriesFirst code.now self.old many next self.new result }
+    {
+        match self.asked_body(code) {
+            None => Now::Fails,
+            Some((body, closure)) => {
+                let cut = self.arena.heap();
+                self.enter_body(code, Call { next, many, cut }, body, closure)
+            }
+        }
+    }
+
+    /// A closure is asked.
+    pub fn query<'p>(
+        &mut self,
+        tables: &Tables,
+        code: &'p Code,
+        a: &Term,
+        b: &Option<Term>,
+        many: bool,
+        next: u32,
+    ) -> Now<'p>
+        requires some { (l : Limits) × (m : Mid) × Holds code.now l self.old m }
+        requires built { IsBuilt code.now }
+        ensures { (rest : List TheOp) → DoesOp tables.now code.now self.old (op.Query a.now b.now many next) rest self.new result }
+    {
+        match self.put_query(tables, a, b) {
+            Err(_) => Now::Ended(Ending::HeapLimit),
+            Ok(()) => self.query_first(code, many, next),
         }
     }
 

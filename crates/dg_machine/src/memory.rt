@@ -1,7 +1,8 @@
 // The memory of a run: a store, areas of frames, inner constructs, choices and Refs, and registers.
-ghost use Rattle.std.specs.Prelude.{◌≡◌, ◌<◌, ◌≤◌, ◌+◌, ◌*◌, ℕ, List, [], ◌∷◌, Some, IfOk, OnOk, MatchResult, length, map, take, get_or, reverse, vec_capacity};
+ghost use Rattle.std.specs.Prelude.{◌≡◌, ◌<◌, ◌≤◌, ◌+◌, ◌*◌, ℕ, List, [], ◌∷◌, Some, None, IfOk, OnOk, MatchResult, length, map, take, get_or, reverse, vec_capacity};
 ghost use Rattle.std.specs.List.{zip};
 ghost use Rattle.dg_base.specs.declared.program.CoreProgram.{CoreProgram};
+ghost use Rattle.dg_base.specs.Goals.{option_terms};
 ghost use Rattle.dg_base.specs.declared.run.Limits.{Limits};
 ghost use Rattle.dg_meaning.specs.Cells.{cells};
 ghost use Rattle.dg_meaning.specs.Values.{Value, Num, Nil, leaf, value_of};
@@ -22,14 +23,14 @@ ghost use Rattle.dg_machine.specs.Comparing.{number_in};
 ghost use Rattle.dg_machine.specs.Links.{named, below};
 ghost use Rattle.dg_machine.specs.Measure.{way_left, choices_left};
 ghost use Rattle.dg_machine.specs.Passing.{IsFirst};
-ghost use Rattle.dg_machine.specs.Refs.{RowAt, RefsAt, AreRefs};
+ghost use Rattle.dg_machine.specs.Refs.{RowAt, RefsAt, AreRefs, IsClosureOf};
 
 use crate::now::{Call, Choice, Frame, Inner, Row, Side, Way};
 use crate::refs::{MOST_ARGS, move_refs, push_refs};
 use crate::register::{write_both, write_one, write_terms, write_three};
 use crate::rows::make_row;
 use crate::tables::Tables;
-use crate::terms::{are_ordered, made_of, match_heads, number_shown, simple_value};
+use crate::terms::{are_ordered, made_of, match_heads, number_shown, simple_value, var_value};
 use crate::testing::test;
 use dg_arena::Arena;
 use dg_base::{ArithOp, CompareOp, Simple, Term, TestKind};
@@ -68,7 +69,7 @@ fn drop_to(choices: &mut Vec<Choice>, to: u32)
 
 impl Memory {
     ghost use Rattle.dg_machine.specs.Layout.{at_rest, HoldsWith, WayAt, CallAt, HasRoom, Holds, Took, Opened, WentBack, Roomy, Lacks, heap_in, MadeRule};
-    ghost use Rattle.dg_machine.specs.Layout.{HasFrameRoom, in_frame, Matched, Unmatched, MadeHead, HasPut, HasHeads, HasNumber};
+    ghost use Rattle.dg_machine.specs.Layout.{HasFrameRoom, in_frame, Matched, Unmatched, MadeHead, HasPut, HasHeads, HasNumber, parameter_equations};
     ghost use Rattle.dg_machine.specs.Measure.{left_by};
 
     /// Memory for runs with these limits of heap and trail, which is taken at once.
@@ -204,7 +205,12 @@ impl Memory {
     {
         match self.frame_at_hand() {
             Some(frame) => frame.vars,
-            None => Row { first: 0, count: 0 },
+            None => Row {
+                closure: None,
+                captured: 0,
+                first: 0,
+                count: 0,
+            },
         }
     }
 
@@ -324,6 +330,57 @@ impl Memory {
         }
     }
 
+    /// The values of a term and of another, if there is one.
+    pub fn put_query(&mut self, tables: &Tables, a: &Term, b: &Option<Term>) -> Result<(), Full>
+        requires { (code : Code) × (l : Limits) × (m : Mid) × Holds code l self.old m }
+        ensures { (code : Code) → (l : Limits) → (m : Mid) → (p : CoreProgram) → IsOf p tables.now → Holds code l self.old m → MatchResult result
+            (λ _. HasPut code l (cells p (a.now ∷ option_terms b.now)) (map (value_of p (vars_of m.frames)) (a.now ∷ option_terms b.now)) m self.new)
+            (λ _. Lacks (cells p (a.now ∷ option_terms b.now)) l m.state.heap self.new) }
+    {
+        match b {
+            None => self.put_one(tables, a),
+            Some(b) => self.put_both(tables, a, b),
+        }
+    }
+
+    /// The closure that the first argument is: its place in the program, and its own.
+    pub fn closure_arg(&self) -> Option<(u16, Ref)>
+        requires { (v : Value) × (vs : List Value) × RefsAt (meaning_of self.now.arena) self.now.args.items (v ∷ vs) }
+        ensures { (code : Code) → (l : Limits) → (m : Mid) → (v : Value) → (vs : List Value) → Holds code l self.now m →
+            RefsAt (meaning_of self.now.arena) self.now.args.items (v ∷ vs) → IsClosureOf (meaning_of self.now.arena) (walk m.state.subst v) result }
+    {
+        let a = self.arg(0);
+        match self.arena.walk(a) {
+            View::Closure(place, closure) => Some((place, closure)),
+            _ => None,
+        }
+    }
+
+    /// Unifies the argument of a body, the second at hand, with its parameter, the first of its own variables; without one they agree.
+    pub fn match_parameter(&mut self, row: Row) -> Result<bool, Full>
+        requires room { HasRoom self.old }
+        requires few { HasFrameRoom self.old }
+        requires args { (v : Value) × (vs : List Value) × RefsAt (meaning_of self.old.arena) self.old.args.items (v ∷ vs) }
+        requires row { (vs : List Value) × RowAt (meaning_of self.old.arena) row vs }
+        ensures matched { (code : Code) → (l : Limits) → (m : Mid) → (v : Value) → (us vs : List Value) → Holds code l self.old m →
+            RefsAt (meaning_of self.old.arena) self.old.args.items (v ∷ us) → RowAt (meaning_of self.old.arena) row vs →
+            MatchResult result (Matched code l (solve m.state.subst (parameter_equations us vs row.captured)) m self.new)
+            (λ _. Unmatched l (solve m.state.subst (parameter_equations us vs row.captured)) m self.new) }
+        ensures room { OnOk result (HasRoom self.new) }
+        ensures few { OnOk result (HasFrameRoom self.new) }
+        ensures values { Kept (meaning_of self.old.arena) (meaning_of self.new.arena) }
+    {
+        if self.args.len() < 2 {
+            return Ok(true);
+        }
+        let argument = self.arg(1);
+        let parameter = var_value(&mut self.arena, row, row.captured);
+        match unify(&mut self.arena, argument, parameter) {
+            Err(full) => Err(full),
+            Ok(agreed) => Ok(agreed),
+        }
+    }
+
     /// Whether the argument passes a test.
     pub fn test_arg(&mut self, kind: TestKind) -> bool
         requires { (v : Value) × RefsAt (meaning_of self.old.arena) self.old.args.items (v ∷ []) }
@@ -421,6 +478,7 @@ impl Memory {
         ensures room { OnOk result (HasRoom self.new) }
         ensures few { OnOk result (HasFrameRoom self.new) }
         ensures row { IfOk result (λ row. RowAt (meaning_of self.new.arena) row (new_vars vars (meaning_of self.old.arena).state.vars)) }
+        ensures plain { IfOk result (λ row. row.closure ≡ None) }
         ensures values { Kept (meaning_of self.old.arena) (meaning_of self.new.arena) }
         ensures args { self.new.args ≡ self.old.args }
         ensures choices { self.new.choices ≡ self.old.choices }

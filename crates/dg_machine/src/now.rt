@@ -6,9 +6,12 @@ use dg_base::Ending;
 use dg_mid::Op;
 use dg_unify::{Mark, Ref};
 
-/// Variables in a row of the store: the place of the first, and how many there are.
+/// Variables in a row of the store: the place of the first, and how many there are. In the body of a closure what that has
+/// captured, so many values, stands before them.
 #[derive(Clone, Copy, Drop)]
 pub struct Row {
+    pub closure: Option<Ref>,
+    pub captured: u16,
     pub first: u32,
     pub count: u16,
     ghost low: { first + count ≤ 2147483648 },

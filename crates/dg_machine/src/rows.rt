@@ -1,7 +1,8 @@
 // Variables in a row of the store.
-ghost use Rattle.std.specs.Prelude.{◌≡◌, ◌<◌, ◌+◌, MatchResult};
+ghost use Rattle.std.specs.Prelude.{◌≡◌, ◌<◌, ◌+◌, List, None, IfOk, MatchResult};
+ghost use Rattle.dg_meaning.specs.Values.{Value};
 ghost use Rattle.dg_arena.specs.Held.{meaning_of};
-ghost use Rattle.dg_machine.specs.Refs.{Keeps, MadeRow, ref_in};
+ghost use Rattle.dg_machine.specs.Refs.{RowAt, IsVarAt, Keeps, MadeRow};
 
 use crate::now::Row;
 use dg_arena::Arena;
@@ -9,11 +10,19 @@ use dg_unify::{Bindings, Full, Ref};
 
 impl Row {
     /// The variable of that number, if there is one.
-    pub fn at(&self, number: u16) -> Option<Ref>
-        ensures { result ≡ ref_in self.now number }
+    pub fn at(&self, arena: &Arena, number: u16) -> Option<Ref>
+        requires { (vs : List Value) × RowAt (meaning_of arena.now) self.now vs }
+        ensures { (vs : List Value) → RowAt (meaning_of arena.now) self.now vs → IsVarAt (meaning_of arena.now) vs number result }
     {
-        if number < self.count {
-            Some(Ref(self.first + number as u32))
+        if number < self.captured {
+            return match self.closure {
+                Some(closure) => arena.captured(closure, number),
+                None => None,
+            };
+        }
+        let own = number - self.captured;
+        if own < self.count {
+            Some(Ref(self.first + own as u32))
         } else {
             None
         }
@@ -25,9 +34,15 @@ pub fn make_row(arena: &mut Arena, count: u16) -> Result<Row, Full>
     ensures keeps { Keeps arena.old arena.new }
     ensures made { MatchResult result (λ row. MadeRow count (meaning_of arena.old) (meaning_of arena.new) row)
         (λ _. (meaning_of arena.old).heap_limit < (meaning_of arena.old).state.heap + count) }
+    ensures plain { IfOk result (λ row. row.closure ≡ None) }
 {
     if count == 0 {
-        return Ok(Row { first: 0, count });
+        return Ok(Row {
+            closure: None,
+            captured: 0,
+            first: 0,
+            count,
+        });
     }
     let first = match arena.fresh() {
         Err(full) => return Err(full),
@@ -39,5 +54,10 @@ pub fn make_row(arena: &mut Arena, count: u16) -> Result<Row, Full>
             Ok(_) => {}
         }
     }
-    Ok(Row { first, count })
+    Ok(Row {
+        closure: None,
+        captured: 0,
+        first,
+        count,
+    })
 }

@@ -175,6 +175,7 @@ fn do_quiet<'p>(
             terms.as_slice(),
             *many,
         ),
+        Op::Query(a, b, many, next) => memory.query(tables, code, a, b, *many, *next),
         Op::Take => Now::Runs(rest),
         Op::Branch(alt) => memory.branch(*alt, rest),
         Op::Once => memory.once(rest),

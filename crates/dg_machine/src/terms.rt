@@ -30,10 +30,11 @@ pub fn simple_value(arena: &mut Arena, simple: Simple) -> Ref
 
 /// The value of a variable in a row; one without a value is the empty list.
 pub fn var_value(arena: &mut Arena, row: Row, var: u16) -> Ref
+    requires { (vs : List Value) × RowAt (meaning_of arena.old) row vs }
     ensures stays { Stays arena.old arena.new }
     ensures value { (vs : List Value) → RowAt (meaning_of arena.old) row vs → (meaning_of arena.new).value result ≡ Some (value_of_var vs var) }
 {
-    match row.at(var) {
+    match row.at(arena, var) {
         Some(value) => value,
         None => simple_value(arena, Simple::Nil),
     }
@@ -42,6 +43,7 @@ pub fn var_value(arena: &mut Arena, row: Row, var: u16) -> Ref
 /// The value of a term without parts, among variables in a row.
 pub fn plain_value(arena: &mut Arena, row: Row, term: &Term) -> Ref
     requires plain { IsPlain (out-Term term.now) }
+    requires row { (vs : List Value) × RowAt (meaning_of arena.old) row vs }
     ensures stays { Stays arena.old arena.new }
     ensures value { (p : CoreProgram) → (vs : List Value) → RowAt (meaning_of arena.old) row vs →
         (meaning_of arena.new).value result ≡ Some (value_of p vs term.now) }

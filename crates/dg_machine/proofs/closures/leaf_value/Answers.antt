@@ -15,7 +15,7 @@ returns-in-Closure-clause-made c p vs is at =
     subst (λ x. MatchResult c.closure_value.result (λ r. Made (cells_of p x) old new r (value_of p vs x)) (λ _. Overflows (cells_of p x) old)) (sym c.in-Closure.is) (c.closure_value.ensures.made p vs is at)
 
 pub plain_value-requires : goal.plain_value-requires
-plain_value-requires c = record { plain = leaf_plain c.args.term.now c.requires.leaf c.in_default.not-Closure }
+plain_value-requires c = record { plain = leaf_plain c.args.term.now c.requires.leaf c.in_default.not-Closure; row = c.requires.row }
 
 pub returns-in_default-clause-made : goal.returns-in_default-clause-made
 returns-in_default-clause-made c p vs is at =

@@ -18,4 +18,4 @@ variables-preserved c =
 pub returns-clause-made : goal.returns-clause-made
 returns-clause-made c =
     let e : c.variables.counter ≡ c.args.count = omega arith in
-    row_made c.args.count (meaning_of c.args.arena.now) (meaning_of c.variables.arena) _ (subst (λ n. Begun n (meaning_of c.args.arena.now) (meaning_of c.variables.arena) c.in-Ok.var.0) e c.variables.invariant.begun) refl
+    row_made c.args.count (meaning_of c.args.arena.now) (meaning_of c.variables.arena) _ (subst (λ n. Begun n (meaning_of c.args.arena.now) (meaning_of c.variables.arena) c.in-Ok.var.0) e c.variables.invariant.begun) refl refl refl

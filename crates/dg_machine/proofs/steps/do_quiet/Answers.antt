@@ -21,3 +21,6 @@ returns-in-Once c = subst (λ x. DoesOp c.args.tables.now c.args.code.now c.args
 
 pub returns-in-Try : goal.returns-in-Try
 returns-in-Try c = subst (λ x. DoesOp c.args.tables.now c.args.code.now c.args.memory.now x c.args.rest.now c.attempt.new.self c.attempt.result) (sym c.in-Try.is) (c.attempt.ensures c.args.tables.now c.args.code.now)
+
+pub returns-in-Query : goal.returns-in-Query
+returns-in-Query c = subst (λ y. DoesOp c.args.tables.now c.args.code.now c.args.memory.now y c.args.rest.now c.query.new.self c.query.result) (sym c.in-Query.is) (c.query.ensures c.args.rest.now)
