@@ -5,6 +5,7 @@ use Rattle.std.proofs.lemmas.List.Elements.{All-contains}
 use Rattle.dg_access.specs.Comes.{is_free, ComesFrom, free, same, topic, again, asked, left, chosen, equation}
 use Rattle.dg_base.specs.Mentions.{Thing, topic_line, query, variable, word_choice, other, branches, select}
 use Rattle.dg_base.specs.Names.{builtin_named}
+use Rattle.dg_base.specs.Readable.{IsReadable}
 use Rattle.dg_base.specs.Tree.{Parts}
 use Rattle.dg_base.specs.declared.mentions.Role.{Role}
 use Rattle.dg_base.specs.declared.mentions.Role.TheVariants as role
@@ -13,7 +14,6 @@ use Rattle.dg_expand.specs.Comes as put
 use Rattle.dg_expand.specs.Comes.{is_made, PutFrom}
 use Rattle.dg_names.specs.Among.{HasPred, IsAmong, IsSmall}
 use Rattle.dg_names.specs.Named.{Named}
-use Rattle.dg_reader.specs.Readable as reading
 use Rattle.dg_compile.proofs.Never.{never}
 
 -- a select has a branch, and few of them
@@ -21,7 +21,7 @@ abbrev pub IsSelectFit : Thing → Type 0
 IsSelectFit (select n) = (1 ≤ n) × (n ≤ 500)
 IsSelectFit t = Unit {0}
 
-pub select_fit : (t : Thing) → reading.IsReadable t → IsSmall t → IsSelectFit t
+pub select_fit : (t : Thing) → IsReadable t → IsSmall t → IsSelectFit t
 select_fit (select n) r s = (r, s)
 select_fit t r s = tt
 

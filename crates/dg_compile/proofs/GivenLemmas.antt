@@ -2,8 +2,9 @@
 use Rattle.std.proofs.Common.{◌≡◌, ◌≤◌, ◌⊎◌, inl, inr, ℕ, List, [], ◌∷◌, ◌++◌, length, length-append, map, get_or, false, Option, Some, None, Ok, refl, sym, subst, arith}
 use Rattle.std.specs.List.{All, Contains}
 use Rattle.std.proofs.lemmas.List.Elements.{All-nil, All-cons, All-append, All-contains, Contains-append_left, Contains-append_right, Contains-append_cases}
-use Rattle.dg_base.specs.Mentions.{Thing, query, select, mentioned, names_in, weight_of}
+use Rattle.dg_base.specs.Mentions.{Thing, query, mentioned, names_in, weight_of}
 use Rattle.dg_base.specs.Names.{prelude_names, builtin_named}
+use Rattle.dg_base.specs.Readable.{IsReadable}
 use Rattle.dg_base.specs.Sound.{IsName, IsSound}
 use Rattle.dg_base.specs.declared.names.Builtin.{Builtin}
 use Rattle.dg_base.specs.Heads.{name_of}
@@ -23,12 +24,11 @@ use Rattle.dg_lex.specs.Bad as lexing
 use Rattle.dg_lex.specs.Spelled.{IsSpelledToken}
 use Rattle.dg_lex.specs.Tokens.{IsLexed, Seen, seen}
 use Rattle.dg_lex.specs.declared.token.Token.{Token}
-use Rattle.dg_names.specs.Among.{IsReadable, HasPred, IsAmong, IsSmall, ArePrintable, AreFew}
+use Rattle.dg_names.specs.Among.{HasPred, IsAmong, IsSmall, ArePrintable, AreFew}
 use Rattle.dg_names.specs.Counts.{closures_at, IsNamed}
 use Rattle.dg_names.specs.Named.{Named, firsts, predicate_in, word_in, names_of}
 use Rattle.dg_reader.specs.Declarations.{AreDeclarations}
 use Rattle.dg_reader.specs.Read.{IsRead}
-use Rattle.dg_reader.specs.Readable as reading
 use Rattle.dg_compile.specs.Source.{refused, given, all_names, with_prelude, Compiles}
 use Rattle.dg_compile.proofs.ComeLemmas.{select_fit, IsKnown, all_come, all_put}
 use Rattle.dg_compile.proofs.DeclareLemmas.{IsDeclared, AreDeclared, KeepsNames, all_declared, heads_plain}
@@ -40,7 +40,7 @@ use Rattle.dg_compile.proofs.PreludeLemmas.{four_names, prelude_items, prelude_r
 -- what the layers say of the tokens, the items and the names of a source, and of its program
 pub record Laws : Type 0 where
   pub spelled : (source : List ℕ) (ts : List Token) → lexing.refusal_of source ≡ None → IsLexed source ts → All IsSpelledToken (map seen ts)
-  pub readable : (ts : List Seen) (is : List Item) → All IsSpelledToken ts → IsRead ts (Ok is) → All reading.IsReadable (mentioned is)
+  pub readable : (ts : List Seen) (is : List Item) → All IsSpelledToken ts → IsRead ts (Ok is) → All IsReadable (mentioned is)
   pub printable : (is : List Item) → All IsReadable (mentioned is) → ArePrintable (names_of is)
   pub among : (is : List Item) → All IsReadable (mentioned is) → All (IsAmong (names_of is)) (mentioned is)
   pub few : (is : List Item) (names : Named) → IsNamed is (Ok names) → AreFew names
@@ -57,11 +57,6 @@ pub record Laws : Type 0 where
   pub closures : (is new : List Item) → IsRewritten is (Ok new) → weight_of closures_at (mentioned new) ≤ 16000
   pub sound : (names : Named) (is : List Item) → IsGiven names is → refusal_of is (first_bad (placed_of is) [] is) ≡ None → IsSound (core_of names is)
   pub prelude : All IsName prelude_names
-
--- the two layers mean the same
-same_thing : (t : Thing) → reading.IsReadable t → IsReadable t
-same_thing (select n) h = tt
-same_thing t h = h
 
 -- names that a source has are among those of the program too
 grown_pred : (laws : Laws) (is : List Item) (n : List ℕ) (o : Option Builtin) → HasPred (names_of is) n o → HasPred (all_names is) n o
@@ -80,13 +75,10 @@ put_in is = put_items (access_rules (plain_items None is)) (plain_items None is)
 
 -- what a source was read and counted to be, and that its tree is rewritten
 record IsTaken (is : List Item) : Type 0 where
-  readable : All reading.IsReadable (mentioned is)
+  readable : All IsReadable (mentioned is)
   named : IsNamed is (Ok (names_of is))
   declared : AreDeclarations false is
   rewritten : IsRewritten is (Ok (put_in is))
-
-same_things : (is : List Item) → IsTaken is → All IsReadable (mentioned is)
-same_things is taken = λ k e lt. same_thing _ (taken.readable k e lt)
 
 things_ready : Laws → (is : List Item) → IsTaken is → All (IsReady (all_names is)) (mentioned (with_prelude (put_in is)))
 things_ready laws is taken =
@@ -94,7 +86,7 @@ things_ready laws is taken =
     let heads = plain_items None is in
     let own = names_in predicate_in (mentioned is) in
     let small = laws.small is (names_of is) taken.named in
-    let among = laws.among is (same_things is taken) in
+    let among = laws.among is taken.readable in
     let source : All (IsKnown d) (mentioned is) = λ k e lt. (grown_thing laws is (get_or (mentioned is) k e) (among k e lt), select_fit _ (taken.readable k e lt) (small k e lt)) in
     let known = all_come d (mentioned is) (mentioned heads) source (laws.come is) in
     let plain = heads_plain is taken.declared (laws.plain is) in
@@ -131,7 +123,7 @@ taken_given : Laws → (is : List Item) → IsTaken is → IsGiven (all_names is
 taken_given laws is taken =
     let d = all_names is in
     let all = with_prelude (put_in is) in
-    let names = laws.printable is (same_things is taken) in
+    let names = laws.printable is taken.readable in
     let few = laws.few is (names_of is) taken.named in
     let few_preds = few_given laws is few.preds in
     let ready = things_ready laws is taken in

@@ -15,7 +15,8 @@ use Rattle.dg_base.specs.Passing.{first_passing}
 use Rattle.dg_base.specs.Sound.{IsName}
 use Rattle.dg_base.specs.Tree.{Parts, Said, Item}
 use Rattle.dg_base.specs.declared.names.Builtin.{Builtin}
-use Rattle.dg_names.specs.Among.{IsReadable, HasPred, IsAmong, IsSmall, ArePrintable, AreFew}
+use Rattle.dg_base.specs.Readable.{IsReadable}
+use Rattle.dg_names.specs.Among.{HasPred, IsAmong, IsSmall, ArePrintable, AreFew}
 use Rattle.dg_names.specs.Counts.{places_in, rules_in, closures_at, selects_at, is_full, is_excess, are_many_names, are_many, has_excess}
 use Rattle.dg_names.specs.Named.{Named, firsts, is_fixed, predicate_in, object_in, word_in, names_of}
 use Rattle.dg_names.proofs.MemberLemmas.{first_there, firsts_are}

@@ -17,17 +17,6 @@ pub record AreFirsts (given names : List (List ℕ)) : Type 0 where
   pub none_else : (n : List ℕ) → Contains names n → Contains given n
   pub fewest : (others : List (List ℕ)) → ((n : List ℕ) → Contains given n → Contains others n) → length names ≤ length others
 
--- A number is in its range, and a name or a text can be printed.
-abbrev pub IsReadable : Thing → Type 0
-IsReadable (topic_line n) = IsName n
-IsReadable (query _ ps) = IsName (name_of ps)
-IsReadable (number n) = n ≤ 16383
-IsReadable (word w) = IsName w
-IsReadable (object n) = IsName n
-IsReadable (word_choice ws) = All IsName ws
-IsReadable (text w) = IsName w
-IsReadable t = Unit {0}
-
 -- The name of a query that is no built-in one is among those of predicates.
 abbrev pub HasPred : Named → List ℕ → Option Builtin → Type 0
 HasPred names name (Some b) = Unit {0}

@@ -1,9 +1,10 @@
 // What the definitions alone say.
 ghost use Rattle.std.specs.Prelude.{◌≡◌, ◌++◌, ℕ, List, Result, Ok, All};
+ghost use Rattle.dg_base.specs.Readable.{IsReadable};
 ghost use Rattle.dg_base.specs.Tree.{Item};
 ghost use Rattle.dg_base.specs.Mentions.{mentioned};
 ghost use Rattle.dg_base.specs.declared.refusal.Refusal.{Refusal};
-ghost use Rattle.dg_names.specs.Among.{AreFirsts, IsReadable, IsAmong, IsSmall, ArePrintable, AreFew};
+ghost use Rattle.dg_names.specs.Among.{AreFirsts, IsAmong, IsSmall, ArePrintable, AreFew};
 ghost use Rattle.dg_names.specs.Counts.{IsNamed};
 ghost use Rattle.dg_names.specs.Named.{Named, firsts, names_of};
 ghost use Rattle.dg_names.specs.Scopes.{with_names};

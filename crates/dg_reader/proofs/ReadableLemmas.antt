@@ -17,7 +17,7 @@ use Rattle.dg_lex.specs.declared.token.TokenKind.TheVariants.{Word, Dict, Object
 use Rattle.dg_lex.proofs.TextLemmas.{name_from}
 use Rattle.dg_reader.specs.Grammar.{Bare, now_word, if_word, then_word, elseif_word, else_word, endif_word, or_word, exhaust_word, stoppable_word, select_word, end_word, keyword_words, IsQuery, Follow, OneAt, TokenAt, Where, WordsAt, KeywordAt, Place, of_nested, of_query, of_list, behind_bar, printed, has_choices, TakesQuery, SpellsNumber, SpellsElement, SpellsWord, SpellsChoice, IsPrinted, HasElement, HasArm, IsOneChange, ChangeSignAt, PartsAt, ValueAt, ElementsAt, StmtAt, StmtsAt, BodyAt, BranchesAt, ArmsAt, ChangesAt, Sign, plain_rule, negated, access_rule, Shape, topic_line, clause, is_declaration, head_place, SignAt, ShapeAt, IsEnd}
 use Rattle.dg_reader.specs.Read.{toks, declared, said_of, IsItemAt, ReadTo}
-use Rattle.dg_reader.specs.Readable.{IsReadable}
+use Rattle.dg_base.specs.Readable.{IsReadable}
 use Rattle.dg_reader.specs.TokenView.{kind_view}
 use Rattle.dg_reader.specs.Tokens.{Tok, word, dict, object, var, anon, at, open_round, close_round, open_square, close_square, open_brace, close_brace, bar, star, tilde, are_digits, digits_value, number_of}
 use Rattle.dg_reader.proofs.PartLemmas.{WordsSpelled, head_named, choice_named}

@@ -10,5 +10,4 @@ pub mod Heads
 pub mod Distinct
 pub mod Read
 pub mod Sizes
-pub mod Readable
 pub mod Declarations

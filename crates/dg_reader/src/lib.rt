@@ -10,7 +10,7 @@ ghost use Rattle.dg_lex.specs.Tokens.{Seen};
 ghost use Rattle.dg_reader.specs.Declarations.{AreDeclarations};
 ghost use Rattle.dg_reader.specs.Grammar.{IsDecided};
 ghost use Rattle.dg_reader.specs.Read.{IsRead};
-ghost use Rattle.dg_reader.specs.Readable.{IsReadable};
+ghost use Rattle.dg_base.specs.Readable.{IsReadable};
 ghost use Rattle.dg_reader.specs.Tokens.{Tok};
 
 mod close;
