@@ -27,7 +27,6 @@ use Rattle.dg_unify.specs.declared.bindings.Ref.{Ref}
 use Rattle.dg_unify.specs.declared.bindings.Full.{Full}
 use Rattle.dg_unify.specs.declared.bindings.Full.TheVariants as full
 use Rattle.dg_unify.specs.declared.bindings.Mark.{Mark as Place}
-use Rattle.dg_unify.specs.declared.bindings.View.{View}
 use Rattle.dg_unify.specs.declared.list.ListBindings.{ListBindings}
 use Rattle.dg_interp.specs.declared.frames.Query.{Query}
 use Rattle.dg_interp.specs.declared.frames.Env.{Env}
@@ -38,8 +37,7 @@ use Rattle.dg_interp.specs.declared.frames.Choice.{Choice}
 use Rattle.dg_interp.specs.declared.frames.Left.{Left}
 use Rattle.dg_interp.specs.declared.engine.Engine.{Engine}
 use Rattle.dg_terms.specs.Terms.{Overflows}
-use Rattle.dg_terms.specs.Passing.{rules_from, IsFirst, IsCandidate}
-use Rattle.dg_terms.proofs.PassedRules.{rules_from_candidate}
+use Rattle.dg_terms.specs.Passing.{IsCandidate}
 use Rattle.dg_meaning.specs.Selection.{first_excludes, from_candidate}
 use Rattle.dg_interp.specs.Rules.{rule_cells, matched_in, EntersRule, RuleFull}
 use Rattle.dg_interp.specs.Frames.{values_in, frame_steps, steps_behind, steps_at, kind_of, branches_of, IsFrame, IsLeft}
@@ -141,7 +139,7 @@ pub kept_more : (b : Bool) (o : Choice) (xs ys : List Choice) → b ≡ true →
 kept_more b o xs ys h e = reverse_pop ys xs o e ∙ ap (λ x. kept_if x o (reverse xs)) (sym h)
 
 module _ (old : Engine) (query : Query) (args : Env) (rules others : Bor (List Rule)) (rule : Rule) (place : Place) (store1 : ListBindings) (choices : Vec Choice Global) (sound : IsSound old)
-    (left : IsLeft (length old.frames.items) (length old.refs.items) (Rules query args rules)) (has : HasPlace old place) (split : rules.now ≡ rule ∷ others.now) (first : Option View) (is_first : IsFirst (store_in old.store) (values_in (store_in old.store) old.refs.items args) first) (candidate : IsCandidate (store_in old.store) (values_in (store_in old.store) old.refs.items args) rules.now)
+    (left : IsLeft (length old.frames.items) (length old.refs.items) (Rules query args rules)) (has : HasPlace old place) (split : rules.now ≡ rule ∷ others.now) (later : List Rule) (later_is : later ≡ from_candidate (store_in old.store).state.subst (values_in (store_in old.store) old.refs.items args) others.now) (candidate : IsCandidate (store_in old.store) (values_in (store_in old.store) old.refs.items args) rules.now)
     (k1 : Kept (store_in old.store) (store_in store1)) (saved1 : (ms : List Saved) → KeepsPlaces old.store ms → KeepsPlaces store1 ms) where
   abbrev s : Store
   s = store_in old.store
@@ -159,7 +157,7 @@ module _ (old : Engine) (query : Query) (args : Env) (rules others : Bor (List R
   os = reverse old.choices.items
 
   abbrev heap : ℕ
-  heap = choice_cells args.len (rules_from first others.now)
+  heap = choice_cells args.len later
 
   abbrev o : Choice
   o = record { tag = old.newest; left = Rules query args others; height = length fs; refs = length xs; gathered = open_in old; place = place; stoppable = old.stoppable }
@@ -198,8 +196,8 @@ module _ (old : Engine) (query : Query) (args : Env) (rules others : Bor (List R
   same_heap : (r : Registers) → Agrees s r → call_cells the_args r others.now ≡ heap
   same_heap r agrees =
       ap (λ S. choice_cells (length the_args) (from_candidate S the_args others.now)) agrees.bound
-      ∙ ap (choice_cells (length the_args)) (sym (rules_from_candidate s the_args first is_first others.now))
-      ∙ ap (λ n. choice_cells n (rules_from first others.now)) (values_count s xs args left.1)
+      ∙ ap (choice_cells (length the_args)) (sym later_is)
+      ∙ ap (λ n. choice_cells n later) (values_count s xs args left.1)
 
   not_excluded : (r : Registers) → Agrees s r → is_excluded the_args r rule ≡ false
   not_excluded r agrees = ap (λ S. first_excludes S the_args rule.head) agrees.bound ∙ subst (IsCandidate s the_args) split candidate

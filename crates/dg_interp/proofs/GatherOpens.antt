@@ -13,7 +13,7 @@ use Rattle.dg_base.specs.declared.program.Term.TheVariants.{Var as Var-Term}
 use Rattle.dg_base.specs.declared.program.CoreProgram.{CoreProgram}
 use Rattle.dg_base.specs.Goals.{terms_held}
 use Rattle.dg_meaning.specs.Values.{Value, value_of, value_of_var}
-use Rattle.dg_meaning.specs.World.{Game, World, Gathering, opened}
+use Rattle.dg_meaning.specs.World.{Game, World, opened}
 use Rattle.dg_meaning.specs.Cells.{writing}
 use Rattle.dg_meaning.specs.Path.{Step, Keep, Registers, TakeOut as TakeOutBranch}
 use Rattle.dg_meaning.specs.Moves.{path_of, begun, goals_at, inside, outcome}
@@ -30,8 +30,6 @@ use Rattle.dg_unify.specs.declared.bindings.Full.{Full}
 use Rattle.dg_unify.specs.declared.bindings.Full.TheVariants as full
 use Rattle.dg_unify.specs.declared.bindings.Mark.{Mark as Place}
 use Rattle.dg_unify.specs.declared.list.ListBindings.{ListBindings}
-use Rattle.dg_lists.specs.Formed.{IsFormed}
-use Rattle.dg_lists.specs.Gathered.{Gathered, gathered_size as size_of_rows}
 use Rattle.dg_built.specs.Built.{AreBuilt}
 use Rattle.dg_interp.specs.declared.frames.Env.{Env}
 use Rattle.dg_interp.specs.declared.frames.Frame.{Frame}

@@ -1,20 +1,11 @@
 -- What is kept in a gathering.
-use Rattle.std.proofs.Common.{◌≡◌, ℕ, suc, ◌+◌, ◌<◌, ◌≤◌, List, [], ◌∷◌, ◌++◌, Option, Some, None, refl, sym, ap, ◌∙◌, subst, arith, length, map, append_assoc}
-use Rattle.std.specs.Prelude.{eqb}
-use Rattle.std.specs.List.{All, flat_map, sum_by}
-use Rattle.std.proofs.lemmas.Bool.{cond-true, eq-eqb}
-use Rattle.std.proofs.lemmas.List.Concat.{flat_map-cons, length-flat_map}
-use Rattle.std.proofs.lemmas.List.{append-nil}
-use Rattle.std.proofs.lemmas.List.Sums.{sum_by-cons}
-use Rattle.std.proofs.lemmas.List.Elements.{All-cons, All-push}
-use Rattle.dg_base.specs.declared.cells.Cell.{Cell}
+use Rattle.std.proofs.Common.{◌≡◌, ℕ, ◌<◌, ◌≤◌, List, [], Option, Some, None, refl, sym, ap, ◌∙◌, subst, arith, map}
 use Rattle.dg_base.specs.declared.program.Term.{out-Term}
 use Rattle.dg_base.specs.declared.program.Term.TheVariants.{Var as Var-Term}
 use Rattle.dg_base.specs.declared.program.CoreProgram.{CoreProgram}
 use Rattle.dg_meaning.specs.Values.{Value, value_of, value_of_var}
 use Rattle.dg_meaning.specs.Substitutions.{resolved}
-use Rattle.dg_meaning.specs.ValueCells.{cells_of}
-use Rattle.dg_meaning.specs.World.{Game, World, Gathering, worked, gathered_with, gathered_size, kept}
+use Rattle.dg_meaning.specs.World.{Game, World, worked, gathered_with, gathered_size, kept}
 use Rattle.dg_meaning.specs.Path.{Moves, FailsAt as FailsMove}
 use Rattle.dg_meaning.specs.Moves.{keeping}
 use Rattle.dg_meaning.specs.Transcript.{Run}
@@ -27,8 +18,6 @@ use Rattle.dg_unify.specs.declared.bindings.Ref.{Ref}
 use Rattle.dg_unify.specs.declared.bindings.Full.{Full}
 use Rattle.dg_unify.specs.declared.bindings.Full.TheVariants as full
 use Rattle.dg_unify.specs.declared.list.ListBindings.{ListBindings}
-use Rattle.dg_lists.specs.Formed.{IsFormed}
-use Rattle.dg_lists.specs.Gathered.{Gathered, added, gathered_size as size_of_rows}
 use Rattle.dg_lists.specs.Writing.{value_at}
 use Rattle.dg_interp.specs.declared.engine.Engine.{Engine}
 use Rattle.dg_terms.specs.Terms.{Overflows}

@@ -1,5 +1,5 @@
 -- What becomes of a value that a goal makes and unifies with one of its terms.
-use Rattle.std.proofs.Common.{◌≡◌, ℕ, ◌+◌, ◌<◌, List, [], ◌∷◌, Bool, true, false, Option, Some, None, refl, sym, ap, ◌∙◌, subst, arith, length}
+use Rattle.std.proofs.Common.{◌≡◌, ℕ, ◌+◌, ◌<◌, List, [], ◌∷◌, Bool, true, false, Some, None, refl, sym, ap, ◌∙◌, subst, arith, length}
 use Rattle.std.specs.Prelude.{Ok, Err, IfOk}
 use Rattle.std.specs.Prelude.{Result as Answer}
 use Rattle.std.specs.declared.vec.Vec.{Vec}
@@ -8,10 +8,9 @@ use Rattle.dg_base.specs.declared.program.Goal.{Goal, out-Goal}
 use Rattle.dg_base.specs.declared.program.Term.{Term}
 use Rattle.dg_base.specs.declared.program.CoreProgram.{CoreProgram}
 use Rattle.dg_base.specs.Goals.{terms_held}
-use Rattle.dg_meaning.specs.Values.{Num, Value, Node, leaf}
+use Rattle.dg_meaning.specs.Values.{Num, leaf}
 use Rattle.dg_meaning.specs.Substitutions.{IsSubstitution, Extends}
 use Rattle.dg_meaning.specs.Unify.{Unified, Equations, solve}
-use Rattle.dg_meaning.specs.Numbers.{of_numbers}
 use Rattle.dg_meaning.specs.World.{Game, World, worked}
 use Rattle.dg_meaning.specs.Cells.{cells, writing}
 use Rattle.dg_meaning.specs.Path.{Registers, Act, Unifies, Moves, Failing}
@@ -32,7 +31,6 @@ use Rattle.dg_terms.specs.Terms.{Overflows}
 use Rattle.dg_interp.specs.Frames.{values_in}
 use Rattle.dg_interp.specs.Engine.{Point, store_in, KeepsPlaces, steps_of, There, IsReady, TakesAt, StandsAt, FailsAt, FullAt, Leads, SameLimits, WentOn, Branches}
 use Rattle.dg_outside.specs.Outside.{InWorld}
-use Rattle.dg_terms.specs.Throwing.{number_in}
 use Rattle.dg_interp.specs.Giving.{ActsAt, SolvesAt, UnifiesAt, GivesAt}
 use Rattle.dg_terms.proofs.Stores.{told_kept}
 use Rattle.dg_interp.proofs.Stores.{trail_append, trail_within, made_is, values_kept, hold_front}

@@ -27,8 +27,7 @@ use Rattle.dg_interp.specs.Frames.{values_in, steps_behind, IsLeft}
 use Rattle.dg_outside.specs.Outside.{InWorld}
 use Rattle.dg_interp.proofs.Kept.{rules_open}
 use Rattle.dg_interp.specs.Engine.{store_in, open_in, Point, IsSound, FailsAt, BeginsAt, Adds, Leads, WentWrong}
-use Rattle.dg_terms.specs.Passing.{rules_from, IsFirst, IsCandidate}
-use Rattle.dg_terms.proofs.PassedRules.{rules_from_candidate, from_is_candidate}
+use Rattle.dg_terms.specs.Passing.{IsFirst, IsCandidate, PassesTo}
 use Rattle.dg_interp.proofs.Places.{there_in, world_still, world_tried, adds_nothing, adds_on, adds_drops, adds_tried, adds_failed, leads_on, leads_nowhere, limits_here}
 use Rattle.dg_interp.proofs.Turns.{all_rest}
 
@@ -106,9 +105,9 @@ module _ (old : Engine) (query : Query) (args : Env) (place : Place) (sound : Is
       (λ e. leads_on (at (bor b (rule ∷ rules))) (at (bor b rules)) (at (bor b (from_candidate s.state.subst the_args rules))) (passes_one b rule rules e) (passes_all b rules))
       (λ e. leads_nowhere (at (bor b (rule ∷ rules))))
 
-  module _ (rules left : Bor (List Rule)) (first : Option View) (is_first : IsFirst s the_args first) (passed : left.now ≡ rules_from first rules.now) where
+  module _ (rules left : Bor (List Rule)) (first : Option View) (is_first : IsFirst s the_args first) (passed : PassesTo first rules.now left.now) where
     are : left.now ≡ from_candidate s.state.subst the_args rules.now
-    are = passed ∙ rules_from_candidate s the_args first is_first rules.now
+    are = passed.begin s the_args is_first
 
     pub passes : Leads (at rules) (at left)
     passes =
@@ -119,7 +118,7 @@ module _ (old : Engine) (query : Query) (args : Env) (place : Place) (sound : Is
     passed_left is = (subst (All IsBuiltRule) (sym are) (candidates_built s.state.subst the_args rules.now is.0), is.1)
 
     pub passed_candidate : IsCandidate s the_args left.now
-    passed_candidate = subst (IsCandidate s the_args) (sym are) (from_is_candidate s the_args rules.now)
+    passed_candidate = passed.candidate s the_args is_first
 
     pub passed_fewer : length left.now ≤ length rules.now
     passed_fewer = subst (λ (l : List Rule). length l ≤ length rules.now) (sym are) (fewer_candidates s.state.subst the_args rules.now)

@@ -50,7 +50,6 @@ use Rattle.dg_terms.proofs.Stores.{kept_here}
 use Rattle.dg_interp.proofs.Stores.{values_kept, values_count, hold_front, appended_stretch}
 use Rattle.dg_interp.proofs.Links.{SameBy, same_here, behind_same, at_same, frame_raise}
 use Rattle.dg_interp.proofs.Grown.{grown_longer, grown_values, grown_base, grown_choices}
-use Rattle.dg_terms.proofs.MatchLemmas.{zip_none}
 use Rattle.dg_interp.proofs.Places.{adds_nothing, inside_in, open_still, limits_here}
 use Rattle.dg_interp.proofs.Queries.{marked}
 use Rattle.dg_interp.proofs.Begun.{begun_values, begun_sound, begun_there}
@@ -66,6 +65,10 @@ abbrev work_of : List Value → Simple → ℕ
 work_of [] v = 0
 work_of (a ∷ []) v = 0
 work_of (a ∷ b ∷ args) v = copied (simple_value v)
+
+zip_none : (xs : List Value) → zip {K = Value} {X = Value} xs [] ≡ []
+zip_none [] = refl
+zip_none (x ∷ xs) = refl
 
 finds_so : (vals : List Value) (object : ℕ) (v : Simple) (r : Registers) (w : World) → 0 < length vals → finds vals object r (simple_value v) w ≡ Unifies r (zip vals (leaf (Object object) ∷ simple_value v ∷ [])) (worked (work_of vals v) w)
 finds_so [] object v r w some = absurd (omega arith)

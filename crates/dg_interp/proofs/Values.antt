@@ -33,7 +33,7 @@ use Rattle.dg_outside.specs.Outside.{InWorld}
 use Rattle.dg_meaning.proofs.Dropping.{prints_append}
 use Rattle.dg_unify.specs.Engines.{Agrees}
 use Rattle.dg_interp.proofs.Places.{inside_kept, adds_nothing}
-use Rattle.dg_terms.proofs.BothLemmas.{made_holds}
+use Rattle.dg_unify.proofs.StoreLemmas.{holds_some}
 use Rattle.dg_interp.proofs.Links.{same_here, at_same}
 use Rattle.dg_interp.proofs.Stores.{values_kept, hold_front}
 use Rattle.dg_interp.proofs.Takes.{behind, taken_in, comes_of, adds_taken, terms_full, store_ready}
@@ -231,6 +231,6 @@ module _ (term : Term) (old : Engine) (store : ListBindings) (made : Vec Ref Glo
     ready = store_ready old store made k saved ready;
     left = refl;
     limits = grown_limits y old store made ready k saved;
-    holds = made_holds _ (store_in old.store) (store_in store) value _ (written old.program.now refl);
+    holds = holds_some (store_in store) value _ (written old.program.now refl).value;
     leads = prints_next;
   }

@@ -40,7 +40,7 @@ use Rattle.dg_meaning.proofs.OneRun.{grows_on, begun_grows}
 use Rattle.dg_terms.proofs.Stores.{told_kept}
 use Rattle.dg_interp.proofs.Takes.{store_ready}
 use Rattle.dg_interp.proofs.Places.{adds_nothing}
-use Rattle.dg_terms.proofs.BothLemmas.{made_holds}
+use Rattle.dg_unify.proofs.StoreLemmas.{holds_some}
 use Rattle.dg_interp.proofs.Giving.{with_store, kept_limits, acts_on, written_acts, branches_made}
 use Rattle.dg_interp.proofs.Branches.{full_made}
 
@@ -225,7 +225,7 @@ input_awaits a old store stack ra ready k saved made =
       ready = store_ready old store stack k saved ready;
       left = refl;
       limits = kept_limits old store stack ready k saved;
-      holds = made_holds _ (store_in old.store) t ra _ (made old.program.now refl);
+      holds = holds_some t ra _ (made old.program.now refl).value;
       program = refl;
       leads =
           written_acts (Input a) (a ∷ []) (input_held a) old store stack ready k saved (λ program e. (made program e).charged.state) (λ r w. takes_line (game old.program.now []) w.typed (told t ra) r w) (λ g r. 0)

@@ -1,6 +1,5 @@
 -- What a goal comes to that makes a value and unifies it with one of its terms. Hold it against docs/LANGUAGE.md, "Built-in queries".
 use Rattle.std.specs.Prelude.{◌≡◌, ℕ, ◌+◌, [], ◌∷◌, Option, Some, None}
-use Rattle.dg_meaning.specs.Values.{Num, Value, Node}
 use Rattle.dg_base.specs.declared.program.Goal.{Goal}
 use Rattle.dg_base.specs.declared.program.Goal.TheVariants.{GapN}
 use Rattle.dg_base.specs.declared.program.Term.{Term}

@@ -10,12 +10,12 @@ use Rattle.std.proofs.lemmas.List.Elements.{All-cons, All-push}
 use Rattle.dg_base.specs.declared.cells.Cell.{Cell}
 use Rattle.dg_meaning.specs.Values.{Value}
 use Rattle.dg_meaning.specs.ValueCells.{cells_of}
-use Rattle.dg_meaning.specs.World.{Game, World, Gathering, gathered_with, gathered_size}
+use Rattle.dg_meaning.specs.World.{Gathering, gathered_with, gathered_size}
 use Rattle.dg_meaning.specs.Context.{tags_of, IsNewest}
 use Rattle.dg_lists.specs.Formed.{IsFormed}
 use Rattle.dg_lists.specs.Gathered.{Gathered, added, gathered_size as size_of_rows}
 use Rattle.dg_outside.specs.declared.outside.Outside.{Outside}
-use Rattle.dg_outside.specs.Outside.{row_of, HaveGathered, InWorld, OpensOne, OpensTooMuch, Gathers, GathersTooMuch}
+use Rattle.dg_outside.specs.Outside.{row_of, HaveGathered, OpensOne, OpensTooMuch, Gathers, GathersTooMuch}
 
 row_more : (values : List Value) (v : Value) → flat_map cells_of (values ++ v ∷ []) ≡ flat_map cells_of values ++ cells_of v
 row_more [] v = flat_map-cons cells_of v [] ∙ append-nil (cells_of v)

@@ -102,7 +102,8 @@ pub record OpensOne (old new : Outside) : Type 0 where
 -- With one more gathering open more would be gathered than may be, here and in the world.
 pub record OpensTooMuch (out : Outside) : Type 0 where
   pub is : out.gathered.aux < size_of_rows ([] ∷ out.gathered.rows)
-  pub stands : (g : Game) → (w : World) → (tag : ℕ) → InWorld out g w → out.gathered.aux < gathered_size (record { tag = tag; values = [] } ∷ w.gathered)
+  pub stands : (g : Game) → (w : World) → (tag : ℕ) → InWorld out g w →
+      out.gathered.aux < gathered_size (record { tag = tag; values = [] } ∷ w.gathered)
 
 -- A value was gathered in the newest gathering, and it stands for a world in which it was.
 pub record Gathers (v : Value) (old new : Outside) : Type 0 where
@@ -112,7 +113,8 @@ pub record Gathers (v : Value) (old new : Outside) : Type 0 where
 -- With this value more would be gathered than may be, here and in the world.
 pub record GathersTooMuch (v : Value) (out : Outside) : Type 0 where
   pub is : out.gathered.aux < size_of_rows (added (cells_of v) out.gathered.rows)
-  pub stands : (g : Game) → (w : World) → (tag : ℕ) → InWorld out g w → IsNewest tag (tags_of w.gathered) → out.gathered.aux < gathered_size (gathered_with tag v w.gathered)
+  pub stands : (g : Game) → (w : World) → (tag : ℕ) → InWorld out g w → IsNewest tag (tags_of w.gathered) →
+      out.gathered.aux < gathered_size (gathered_with tag v w.gathered)
 
 -- ## Gatherings that are dropped
 

@@ -43,7 +43,7 @@ matching_ends old now new args head n m (Ok d) u = record {
 matching_ends old now new args head n m (Err e) h =
     broke_later old now new m.kept m.binds m.made m.grown (solve now.state.subst (pairs_from old args head n)) (solve old.state.subst (pairs_from old args head 0)) [] (ap (λ (x : Unified). x.subst) m.same) e h
 
-pub zip_none : {A B : Type 0} (xs : List A) → zip {K = A} {X = B} xs [] ≡ []
+zip_none : {A B : Type 0} (xs : List A) → zip {K = A} {X = B} xs [] ≡ []
 zip_none [] = refl
 zip_none (x ∷ xs) = refl
 

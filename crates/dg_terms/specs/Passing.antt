@@ -5,7 +5,7 @@ use Rattle.dg_base.specs.declared.program.Term.{Term, out-Term}
 use Rattle.dg_base.specs.declared.program.Term.TheOpen as term
 use Rattle.dg_meaning.specs.Values.{Label, Pair, Closure, Value}
 use Rattle.dg_meaning.specs.Substitutions.{walk}
-use Rattle.dg_meaning.specs.Selection.{label_at, differs_from, first_excludes}
+use Rattle.dg_meaning.specs.Selection.{label_at, differs_from, first_excludes, from_candidate}
 use Rattle.dg_unify.specs.Store.{Store, label_of, Shows}
 use Rattle.dg_unify.specs.declared.bindings.View.{View}
 use Rattle.dg_unify.specs.declared.bindings.View.TheVariants as view
@@ -44,3 +44,10 @@ IsFirst s vs first = ⊥
 abbrev pub IsCandidate : Store → List Value → List Rule → Type 0
 IsCandidate s args [] = Unit {0}
 IsCandidate s args (rule ∷ rules) = first_excludes s.state.subst args rule.head ≡ false
+
+-- These rules are left where the ones in front are passed by. Of any arguments of a store that shows the first one so, they begin at
+-- the first rule that isn't excluded.
+pub record PassesTo (first : Option View) (rules left : List Rule) : Type 0 where
+  pub is : left ≡ rules_from first rules
+  pub begin : (s : Store) → (args : List Value) → IsFirst s args first → left ≡ from_candidate s.state.subst args rules
+  pub candidate : (s : Store) → (args : List Value) → IsFirst s args first → IsCandidate s args left

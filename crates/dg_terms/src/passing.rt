@@ -6,7 +6,7 @@ ghost use Rattle.dg_meaning.specs.Values.{Closure};
 ghost use Rattle.dg_meaning.specs.Selection.{label_at, differs_from};
 ghost use Rattle.dg_meaning.specs.Moves.{choice_cells as the_cells};
 ghost use Rattle.dg_unify.specs.Store.{label_of};
-ghost use Rattle.dg_terms.specs.Passing.{top_differs, view_excludes, rules_from};
+ghost use Rattle.dg_terms.specs.Passing.{top_differs, view_excludes, PassesTo};
 
 use dg_base::{Rule, Simple, Term};
 use dg_unify::View;
@@ -72,8 +72,9 @@ fn excludes(first: Option<View>, rule: &Rule) -> bool
 }
 
 /// Rules from the first on that isn't excluded.
+#[tactic(auto, using(crate::proofs::PassedRules::passes_to))]
 pub fn pass<'r>(first: Option<View>, rules: &'r [Rule]) -> &'r [Rule]
-    ensures { result.now ≡ rules_from first rules.now }
+    ensures { PassesTo first rules.now result.now }
 {
     let mut rules = rules;
     'rules: while let [rule, others @ ..] = rules {

@@ -1,10 +1,9 @@
 use Rattle.std.proofs.Common.{[], ◌∷◌, refl, ap, ◌∙◌}
 use Rattle.dg_base.specs.declared.program.Goal.TheVariants.{GapN}
-use Rattle.dg_unify.proofs.StoreLemmas.{walked_to}
+use Rattle.dg_unify.proofs.StoreLemmas.{holds_some, walked_to}
 use Rattle.dg_interp.specs.Frames.{stretch}
 use Rattle.dg_interp.specs.Engine.{store_in}
 use Rattle.dg_interp.proofs.Values.{made_among}
-use Rattle.dg_terms.proofs.BothLemmas.{made_holds}
 use Rattle.dg_interp.proofs.Giving.{written_full}
 use Rattle.dg_interp.proofs.Spaces.{spaces_held, spaces_told}
 use Rattle.dg_interp.proofs.engine.Engine.spaces.Goals as goal
@@ -13,7 +12,7 @@ pub returns-in-Err-clause-full : goal.returns-in-Err-clause-full
 returns-in-Err-clause-full c = written_full (GapN c.args.term.now) (c.args.term.now ∷ []) (spaces_held c.args.term.now) c.args.self.now c.in-Err.e c.in-Err.ensures.written
 
 pub walk-requires : goal.walk-requires
-walk-requires c = made_holds _ (store_in c.args.self.now.store) (store_in c.write_term.new.store) c.in-Ok.value _ (c.in-Ok.ensures.written c.args.self.now.program.now refl)
+walk-requires c = holds_some (store_in c.write_term.new.store) c.in-Ok.value _ (c.in-Ok.ensures.written c.args.self.now.program.now refl).value
 
 pub returns-in-Ok-clause-told : goal.returns-in-Ok-clause-told
 returns-in-Ok-clause-told c =

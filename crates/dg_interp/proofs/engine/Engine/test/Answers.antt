@@ -8,7 +8,7 @@ use Rattle.dg_interp.specs.Frames.{stretch, values_in}
 use Rattle.dg_interp.specs.Engine.{store_in, FailsAt, TakesAt}
 use Rattle.dg_interp.proofs.Takes.{store_sound}
 use Rattle.dg_interp.proofs.Values.{grown_limits, test_full, test_passed, test_failed, made_among}
-use Rattle.dg_terms.proofs.BothLemmas.{made_holds}
+use Rattle.dg_unify.proofs.StoreLemmas.{holds_some}
 use Rattle.dg_interp.proofs.Branches.{full_made, back_made}
 use Rattle.dg_interp.proofs.engine.Engine.test.Goals as goal
 
@@ -16,7 +16,7 @@ pub returns-in-Err-clause-full : goal.returns-in-Err-clause-full
 returns-in-Err-clause-full c = test_full c.args.kind c.args.term.now c.args.self.now c.in-Err.e c.in-Err.ensures.written
 
 pub test-requires : goal.test-requires
-test-requires c = made_holds _ (store_in c.args.self.now.store) (store_in c.write_term.new.store) c.in-Ok.value _ (c.in-Ok.ensures.written c.args.self.now.program.now refl)
+test-requires c = holds_some (store_in c.write_term.new.store) c.in-Ok.value _ (c.in-Ok.ensures.written c.args.self.now.program.now refl).value
 
 pub back-requires : goal.back-requires
 back-requires c = record { sound = store_sound c.args.self.now c.test.new.store c.write_term.new.stack (subst (Kept (store_in c.args.self.now.store)) (sym c.test.ensures.same) c.write_term.ensures.kept) (λ ms h. c.test.ensures.saved ms (c.write_term.ensures.saved ms h)) c.requires.ready.sound }
