@@ -1,69 +1,21 @@
 -- A line that is taken is the first line of the meaning.
-use Rattle.std.proofs.Common.{◌≡◌, ◌≢◌, ℕ, zero, suc, ◌-◌, ◌≤◌, Bool, true, false, cond, eqb, List, [], ◌∷◌, ◌++◌, length, Option, Some, None, inl, inr, refl, sym, ap, subst, ◌∙◌, arith, append_assoc}
-use Rattle.std.specs.Prelude.{All}
+use Rattle.std.proofs.Common.{◌≡◌, ℕ, ◌≤◌, List, ◌++◌, length, Option, Some, None, refl, sym, ap, subst, ◌∙◌, append_assoc}
 use Rattle.std.specs.Io.KnownBytes.{Consumes}
-use Rattle.std.proofs.lemmas.Bool.{ne_eqb}
-use Rattle.std.proofs.lemmas.List.{append-nil}
-use Rattle.std.proofs.lemmas.List.Elements.{All-head, All-tail}
-use Rattle.dg_meaning.specs.Words.{first_line, behind_first, line_within, behind_line, without_return, longest}
+use Rattle.dg_meaning.specs.Words.{first_line, behind_first, line_within, behind_line, without_return}
 use Rattle.dg_meaning.specs.Shows.{IsLeft}
-use Rattle.dg_lines.specs.Lines.{IsPlain, Ends, TookLine, IsText}
+use Rattle.dg_lines.specs.Lines.{IsPlain, TookLine, IsText}
 use Rattle.dg_lines.proofs.LineLemmas.{IsLine, line_told, line_untold}
+use Rattle.dg_lines.proofs.Meant.{Means, behind_shorter, line_is as meant_line, part_is}
 use Rattle.dg_words.specs.Lines.{Took}
 
--- ---- the bytes of a line, and its end
-
-passed : (bytes more : List ℕ) (n : ℕ) → All (λ b. b ≢ 10) bytes → length bytes ≤ n →
-    (line_within n (bytes ++ more) ≡ bytes ++ line_within (n - length bytes) more) × (behind_line n (bytes ++ more) ≡ behind_line (n - length bytes) more)
-passed [] more n plain few = let all : n - 0 ≡ n = omega arith in (rw all refl, rw all refl)
-passed (b ∷ bytes) more zero plain few = absurd (omega arith)
-passed (b ∷ bytes) more (suc n) plain few =
-    let other = ne_eqb b 10 (All-head (λ b. b ≢ 10) b bytes plain) in
-    let less : suc n - suc (length bytes) ≡ n - length bytes = omega arith in
-    let rest = passed bytes more n (All-tail (λ b. b ≢ 10) b bytes plain) (omega arith) in
-    (rw (other, less) (ap (λ (l : List ℕ). b ∷ l) rest.0), rw (other, less) rest.1)
-
-ended : (room : ℕ) (end rest : List ℕ) → Ends room (Some rest) [] end → (line_within room (end ++ rest) ≡ []) × (behind_line room (end ++ rest) ≡ rest)
-ended zero end rest (inl (some, is)) = absurd (omega arith)
-ended (suc room) end rest (inl (some, is)) = (rw is refl, rw is refl)
-ended room end rest (inr (inl full, is)) = (rw (is, full) refl, rw (is, full) refl)
-ended zero end rest (inr (inr over, is)) = (refl, rw is refl)
-ended (suc room) end rest (inr (inr over, is)) = (rw (is, over) refl, rw (is, over) refl)
+meant : Means line_within behind_line without_return
+meant = record { full = λ bytes. (refl, refl); over = λ n. (refl, refl); on = λ n b bytes. (refl, refl); none = refl; last = λ b. refl; more = λ b c bytes. refl }
 
 pub left_shorter : (room : ℕ) (typed : List ℕ) → length (behind_line room typed) ≤ length typed
-left_shorter zero typed = omega arith
-left_shorter (suc room) [] = omega arith
-left_shorter (suc room) (b ∷ typed) = by_test (eqb b 10) (left_shorter room typed)
-  where
-    by_test : (t : Bool) → length (behind_line room typed) ≤ length typed → length (cond t typed (behind_line room typed)) ≤ length (b ∷ typed)
-    by_test true less = omega arith
-    by_test false less = omega arith
-
--- ---- a carriage return at the end
-
-without_last : (front : List ℕ) → without_return (front ++ 13 ∷ []) ≡ front
-without_last [] = refl
-without_last (x ∷ []) = refl
-without_last (x ∷ y ∷ front) = ap (λ (l : List ℕ). x ∷ l) (without_last (y ∷ front))
-
-with_last : (bytes : List ℕ) → ((front : List ℕ) → bytes ≢ front ++ 13 ∷ []) → without_return bytes ≡ bytes
-with_last [] other = refl
-with_last (b ∷ []) other = rw (ne_eqb b 13 (λ e. other [] (ap (λ (x : ℕ). x ∷ []) e))) refl
-with_last (b ∷ c ∷ bytes) other = ap (λ (l : List ℕ). b ∷ l) (with_last (c ∷ bytes) (λ front e. other (b ∷ front) (ap (λ (l : List ℕ). b ∷ l) e)))
-
-text_is : (text bytes : List ℕ) → IsText text bytes → without_return bytes ≡ text
-text_is text bytes (inl is) = ap without_return is ∙ without_last text
-text_is text bytes (inr (is, other)) = with_last bytes other ∙ is
-
--- ---- a line
+left_shorter = behind_shorter line_within behind_line without_return meant
 
 pub line_is : (text bytes typed rest : List ℕ) → IsLine bytes typed rest → IsText text bytes → (first_line typed ≡ text) × (behind_first typed ≡ rest)
-line_is text bytes typed rest line is =
-    let front = passed bytes (line.end ++ rest) longest line.plain.no_newline line.plain.within in
-    let end = ended (longest - length bytes) line.end rest line.ends in (
-      ap first_line line.is ∙ ap without_return (front.0 ∙ ap (λ (l : List ℕ). bytes ++ l) end.0 ∙ append-nil bytes) ∙ text_is text bytes is,
-      ap behind_first line.is ∙ front.1 ∙ end.1,
-    )
+line_is = meant_line line_within behind_line without_return meant
 
 -- ---- what a source gave
 
@@ -87,5 +39,5 @@ pub took_part : (old new : Option (List ℕ)) (bytes : List ℕ) → IsPlain byt
 took_part old new bytes plain took = record {
   taken = bytes;
   gave = given old new bytes took;
-  holds = λ rest is. subst (λ (l : List ℕ). length l ≤ length rest) (sym (passed bytes rest longest plain.no_newline plain.within).1) (left_shorter (longest - length bytes) rest);
+  holds = λ rest is. part_is line_within behind_line without_return meant bytes rest plain;
 }
