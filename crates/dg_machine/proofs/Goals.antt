@@ -222,21 +222,21 @@ fails_act tb code r (action.Equal x y) rest q j u s k d v t g is_of l m o b at h
 fails_act tb code r a rest q j u s k d v t g is_of l m o b at h = absurd b
 
 pub other_goal : (x : Op) → is_goal x ≡ true → OpBuilt x → ((a : Action) → x ≡ op.Do a → ⊥) → ((pred : ℕ) (ts : List Term) (many : Bool) (next : ℕ) → x ≡ op.Ask pred ts many next → ⊥) → ((pred : ℕ) (ts : List Term) (many : Bool) → x ≡ op.LastAsk pred ts many → ⊥) →
-    (x ≡ op.Take → ⊥) → ((alt : ℕ) → x ≡ op.Branch alt → ⊥) → (x ≡ op.Once → ⊥) → ((alt : ℕ) → x ≡ op.Try alt → ⊥) → ((a : Term) (o : Option Term) (many : Bool) (next : ℕ) → x ≡ op.Query a o many next → ⊥) → ⊥
-other_goal (op.Do a) e b d k la t br on tr qu = d a refl
-other_goal (op.Ask pred ts many next) e b d k la t br on tr qu = k pred ts many next refl
-other_goal (op.LastAsk pred ts many) e b d k la t br on tr qu = la pred ts many refl
-other_goal op.Take e b d k la t br on tr qu = t refl
-other_goal (op.Branch alt) e b d k la t br on tr qu = br alt refl
-other_goal op.Once e b d k la t br on tr qu = on refl
-other_goal (op.Try alt) e b d k la t br on tr qu = tr alt refl
-other_goal (op.Query x y many next) e b d k la t br on tr qu = qu x y many next refl
-other_goal (op.LastQuery x y many) e b d k la t br on tr qu = b
-other_goal (op.Find place ts many next) e b d k la t br on tr qu = b
-other_goal (op.Select site mode bs behind) e b d k la t br on tr qu = b
-other_goal (op.Shield alt) e b d k la t br on tr qu = b
-other_goal (op.Collect x y alt) e b d k la t br on tr qu = b
-other_goal x e b d k la t br on tr qu = absurd (cc)
+    (x ≡ op.Take → ⊥) → ((alt : ℕ) → x ≡ op.Branch alt → ⊥) → (x ≡ op.Once → ⊥) → ((alt : ℕ) → x ≡ op.Try alt → ⊥) → ((a : Term) (o : Option Term) (many : Bool) (next : ℕ) → x ≡ op.Query a o many next → ⊥) → ((a : Term) (o : Option Term) (many : Bool) → x ≡ op.LastQuery a o many → ⊥) → ⊥
+other_goal (op.Do a) e b d k la t br on tr qu lq = d a refl
+other_goal (op.Ask pred ts many next) e b d k la t br on tr qu lq = k pred ts many next refl
+other_goal (op.LastAsk pred ts many) e b d k la t br on tr qu lq = la pred ts many refl
+other_goal op.Take e b d k la t br on tr qu lq = t refl
+other_goal (op.Branch alt) e b d k la t br on tr qu lq = br alt refl
+other_goal op.Once e b d k la t br on tr qu lq = on refl
+other_goal (op.Try alt) e b d k la t br on tr qu lq = tr alt refl
+other_goal (op.Query x y many next) e b d k la t br on tr qu lq = qu x y many next refl
+other_goal (op.LastQuery x y many) e b d k la t br on tr qu lq = lq x y many refl
+other_goal (op.Find place ts many next) e b d k la t br on tr qu lq = b
+other_goal (op.Select site mode bs behind) e b d k la t br on tr qu lq = b
+other_goal (op.Shield alt) e b d k la t br on tr qu lq = b
+other_goal (op.Collect x y alt) e b d k la t br on tr qu lq = b
+other_goal x e b d k la t br on tr qu lq = absurd (cc)
 
 pub quiet_else : (a : Action) → ((name : _) → a ≡ action.Text name → ⊥) → ((kind : _) → a ≡ action.Gap kind → ⊥) → ((x : Term) → a ≡ action.GapN x → ⊥) → IsQuiet a
 quiet_else (action.Text name) t g n = t name refl

@@ -21,8 +21,8 @@ use Rattle.dg_mid.specs.declared.code.Op.TheVariants as op
 use Rattle.dg_mid.specs.declared.code.Code.{Code}
 use Rattle.dg_mid.specs.declared.code.RuleCode.{RuleCode}
 use Rattle.dg_mid.specs.Code.{block_at, rules_at, selected}
-use Rattle.dg_mid.specs.State.{Mid, Frame as FrameOf, Call as CallOf, Choice as ChoiceOf, Way as WayOf, ToPred, Goes as GoesOf, Calls as CallsOf, Status, Runs as RunsOf, Enters as EntersOf, Fails as FailsOf, Ended as EndedOf}
-use Rattle.dg_mid.specs.Step.{Setting, setting, cut_to, bound, unified, trail_more, inside, passed, at_rule, begins, enters as enters_of, first_of, if_agreed, enter, entered, returns, returned, resumed, goes_on, goes_back, call_of, asks, asks_last, last}
+use Rattle.dg_mid.specs.State.{Mid, Frame as FrameOf, Call as CallOf, Choice as ChoiceOf, Way as WayOf, Target, Goes as GoesOf, Calls as CallsOf, Status, Runs as RunsOf, Enters as EntersOf, Fails as FailsOf, Ended as EndedOf}
+use Rattle.dg_mid.specs.Step.{Setting, setting, cut_to, bound, unified, trail_more, inside, passed, at_rule, begins, enters as enters_of, first_of, if_agreed, enter, entered, returns, returned, resumed, goes_on, goes_back, call_of, asks, asks_last, last, calls as calls_of}
 use Rattle.dg_mid.specs.Heights.{AgreeAll, FramesNamed, MidOrdered}
 use Rattle.dg_mid.specs.Potential.{Tidy, begins_goto}
 use Rattle.dg_machine.specs.declared.now.Frame.{Frame}
@@ -293,7 +293,7 @@ failed_to code l m way r new (c ∷ cs) w left = record { stands = w; falls = om
 
 -- ## Last queries
 
-module _ (code : Code) (g : Game) (l : Limits) (pred : ℕ) (many : Bool) (vs : List Value) (m : Mid) (r new : Memory) (now : Now) (h : Holds code l r m) where
+module _ (code : Code) (g : Game) (l : Limits) (t : Target) (many : Bool) (vs : List Value) (m : Mid) (r new : Memory) (now : Now) (h : Holds code l r m) where
   abbrev set_e : Setting
   set_e = setting g code l
 
@@ -301,27 +301,27 @@ module _ (code : Code) (g : Game) (l : Limits) (pred : ℕ) (many : Bool) (vs : 
   pub no_inner_held : Holds code l (record r { inner = 0 }) (record m { inner = [] })
   no_inner_held = (record { saves = h.0.saves; stand = h.0.stand; state_is = h.0.state_is; limits = h.0.limits; frames_are = h.0.frames_are; inner_are = refl; choices_are = h.0.choices_are; room = record { frames_fit = h.0.room.frames_fit; inners_fit = h.0.room.inners_fit; choices_fit = h.0.room.choices_fit; frames_few = h.0.room.frames_few; inners_few = h.0.room.inners_few; choices_few = h.0.room.choices_few; refs = h.0.room.refs } }, h.1)
 
-  pub asks_behind : (frame : Frame) → named r.frames.items r.frame ≡ Some frame → frame.many ≡ true → ((m' : Mid) → Holds code l (record r { frame = frame.behind; inner = frame.inner }) m' → Stands code l new now (asks set_e pred (call_of vs many frame.next m') m')) → Stands code l new now (last set_e (ToPred pred) vs many m.frames m)
+  pub asks_behind : (frame : Frame) → named r.frames.items r.frame ≡ Some frame → frame.many ≡ true → ((m' : Mid) → Holds code l (record r { frame = frame.behind; inner = frame.inner }) m' → Stands code l new now (calls_of set_e t (call_of vs many frame.next m') m')) → Stands code l new now (last set_e t vs many m.frames m)
   asks_behind frame is all asked =
       let x = some_frame (meaning_of r.arena) r.inners.items r.frames.items r.frame frame m.frames is h.0.frames_are in
       let held : Holds code l (record r { frame = frame.behind; inner = frame.inner }) (record m { frames = x.behind; inner = x.newest.inner }) =
       (record { saves = h.0.saves; stand = h.0.stand; state_is = h.0.state_is; limits = h.0.limits; frames_are = x.behind_is; inner_are = x.inner_is; choices_are = h.0.choices_are; room = record { frames_fit = h.0.room.frames_fit; inners_fit = h.0.room.inners_fit; choices_fit = h.0.room.choices_fit; frames_few = h.0.room.frames_few; inners_few = h.0.room.inners_few; choices_few = h.0.room.choices_few; refs = h.0.room.refs } }, h.1) in
       let m' = record m { frames = x.behind; inner = x.newest.inner } in
-      subst (λ fs. Stands code l new now (last set_e (ToPred pred) vs many fs m)) (sym x.is)
-      (subst (λ b. Stands code l new now (asks_last set_e (ToPred pred) vs many b x.newest x.behind m)) (sym (x.many ∙ all))
-      (subst (λ n. Stands code l new now (asks set_e pred (call_of vs many n m) m')) (sym x.next) (asked m' held)))
+      subst (λ fs. Stands code l new now (last set_e t vs many fs m)) (sym x.is)
+      (subst (λ b. Stands code l new now (asks_last set_e t vs many b x.newest x.behind m)) (sym (x.many ∙ all))
+      (subst (λ n. Stands code l new now (calls_of set_e t (call_of vs many n m) m')) (sym x.next) (asked m' held)))
 
-  asks_here : ((m' : Mid) → Holds code l (record r { inner = 0 }) m' → Stands code l new now (asks set_e pred (call_of vs many 0 m') m')) → Stands code l new now (asks set_e pred (call_of vs many 0 m) (record m { inner = [] }))
+  asks_here : ((m' : Mid) → Holds code l (record r { inner = 0 }) m' → Stands code l new now (calls_of set_e t (call_of vs many 0 m') m')) → Stands code l new now (calls_of set_e t (call_of vs many 0 m) (record m { inner = [] }))
   asks_here asked = asked (record m { inner = [] }) no_inner_held
 
-  pub asks_first : named r.frames.items r.frame ≡ None → ((m' : Mid) → Holds code l (record r { inner = 0 }) m' → Stands code l new now (asks set_e pred (call_of vs many 0 m') m')) → Stands code l new now (last set_e (ToPred pred) vs many m.frames m)
-  asks_first is asked = subst (λ fs. Stands code l new now (last set_e (ToPred pred) vs many fs m)) (sym (no_frame (meaning_of r.arena) r.inners.items r.frames.items r.frame m.frames is h.0.frames_are)) (asks_here asked)
+  pub asks_first : named r.frames.items r.frame ≡ None → ((m' : Mid) → Holds code l (record r { inner = 0 }) m' → Stands code l new now (calls_of set_e t (call_of vs many 0 m') m')) → Stands code l new now (last set_e t vs many m.frames m)
+  asks_first is asked = subst (λ fs. Stands code l new now (last set_e t vs many fs m)) (sym (no_frame (meaning_of r.arena) r.inners.items r.frames.items r.frame m.frames is h.0.frames_are)) (asks_here asked)
 
-  pub asks_inside : (frame : Frame) → named r.frames.items r.frame ≡ Some frame → frame.many ≡ false → ((m' : Mid) → Holds code l (record r { inner = 0 }) m' → Stands code l new now (asks set_e pred (call_of vs many 0 m') m')) → Stands code l new now (last set_e (ToPred pred) vs many m.frames m)
+  pub asks_inside : (frame : Frame) → named r.frames.items r.frame ≡ Some frame → frame.many ≡ false → ((m' : Mid) → Holds code l (record r { inner = 0 }) m' → Stands code l new now (calls_of set_e t (call_of vs many 0 m') m')) → Stands code l new now (last set_e t vs many m.frames m)
   asks_inside frame is one asked =
       let x = some_frame (meaning_of r.arena) r.inners.items r.frames.items r.frame frame m.frames is h.0.frames_are in
-      subst (λ fs. Stands code l new now (last set_e (ToPred pred) vs many fs m)) (sym x.is)
-      (subst (λ b. Stands code l new now (asks_last set_e (ToPred pred) vs many b x.newest x.behind m)) (sym (x.many ∙ one)) (asks_here asked))
+      subst (λ fs. Stands code l new now (last set_e t vs many fs m)) (sym x.is)
+      (subst (λ b. Stands code l new now (asks_last set_e t vs many b x.newest x.behind m)) (sym (x.many ∙ one)) (asks_here asked))
 
 pub asked_all : (code : Code) (g : Game) (l : Limits) (pred next left cut : ℕ) (many : Bool) (vs : List Value) (first : Option View) (m : Mid) (r new : Memory) (now : Now) → Holds code l r m → RefsAt (meaning_of r.arena) r.args.items vs → IsFirst (meaning_of r.arena) r.args.items first →
     left ≡ length (codes_from first (rules_at code pred)) → cut ≡ heap_in r → CallsRules code r (record { next = next; many = many; cut = cut }) pred left new now → Stands code l new now (asks (setting g code l) pred (call_of vs many next m) m)

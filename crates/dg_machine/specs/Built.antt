@@ -49,6 +49,7 @@ OpBuilt (op.Do a) = ActionBuilt a
 OpBuilt (op.Ask pred terms many next) = AreArguments terms
 OpBuilt (op.LastAsk pred terms many) = AreArguments terms
 OpBuilt (op.Query a b many next) = Unit {0}
+OpBuilt (op.LastQuery a b many) = Unit {0}
 OpBuilt op.Take = Unit {0}
 OpBuilt (op.Branch alt) = Unit {0}
 OpBuilt op.Once = Unit {0}

@@ -23,7 +23,7 @@ use Rattle.dg_mid.specs.State.{Mid, Call as CallOf, Way as WayOf, Goes as GoesOf
 use Rattle.dg_mid.specs.State.{Status, Runs as RunsOf, Enters as EntersOf, Resumes as ResumesOf, Fails as FailsOf, Ended as EndedOf}
 use Rattle.dg_mid.specs.Heights.{MidOrdered, StatusOrdered}
 use Rattle.dg_mid.specs.Potential.{Tidy}
-use Rattle.dg_mid.specs.Step.{setting, call_of, begins, enters, asks, last, does, done, enters_body, closure_at, queries, enter, entered, goes_on, goes_back, step}
+use Rattle.dg_mid.specs.Step.{setting, call_of, begins, enters, asks, last, does, done, enters_body, closure_at, queries, queries_last, enter, entered, goes_on, goes_back, step}
 use Rattle.dg_machine.specs.declared.now.Call.{Call}
 use Rattle.dg_machine.specs.declared.now.Way.{Way}
 use Rattle.dg_machine.specs.declared.now.Way.TheVariants.{Goes, Calls}
@@ -146,6 +146,18 @@ abbrev pub QueriesFirst : Code → Memory → Bool → ℕ → Memory → Now �
 QueriesFirst code old many next new after = (g : Game) (l : Limits) (m : Mid) (v : Value) (us : List Value) → Holds code l old m →
     RefsAt (meaning_of old.arena) old.args.items (v ∷ us) →
     Stands code l new after (queries (setting g code l) (closure_at code (walk m.state.subst v)) us many next m)
+
+-- The body of a closure is entered by the last query of a rule.
+abbrev pub EntersLastBody : Code → Memory → Bool → BodyCode → Ref → Memory → Now → Type 0
+EntersLastBody code old many body closure new after = (g : Game) (l : Limits) (m : Mid) (v : Value) (us : List Value) (place : ℕ) (parts : Values) →
+    Holds code l old m → RefsAt (meaning_of old.arena) old.args.items (v ∷ us) → IsClosureAt (meaning_of old.arena) closure place parts →
+    Stands code l new after (last (setting g code l) (ToBody body (values_of parts)) us many m.frames m)
+
+-- The first argument is asked with the others in the last query of a rule.
+abbrev pub QueriesLast : Code → Memory → Bool → Memory → Now → Type 0
+QueriesLast code old many new after = (g : Game) (l : Limits) (m : Mid) (v : Value) (us : List Value) → Holds code l old m →
+    RefsAt (meaning_of old.arena) old.args.items (v ∷ us) →
+    Stands code l new after (queries_last (setting g code l) (closure_at code (walk m.state.subst v)) us many m)
 
 -- It fails.
 abbrev pub FailsTo : Code → Memory → Memory → Now → Type 0

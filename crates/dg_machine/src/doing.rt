@@ -17,7 +17,7 @@ ghost use Rattle.dg_machine.specs.declared.tables.Tables.{Tables as TheTables};
 ghost use Rattle.dg_machine.specs.Refs.{RefsAt, AreRefs};
 ghost use Rattle.dg_machine.specs.Layout.{HasRoom, Holds};
 ghost use Rattle.dg_machine.specs.Standing.{DoesOp, DoesMark, CallsRules, EntersWith, Asks, AsksLast, Calculates, EntersBody, IsAsked, QueriesFirst};
-ghost use Rattle.dg_machine.specs.Standing.{EntersRule, EntersIn, IsThere, GoesOnAt, GoesOn, FailsTo};
+ghost use Rattle.dg_machine.specs.Standing.{EntersLastBody, QueriesLast, EntersRule, EntersIn, IsThere, GoesOnAt, GoesOn, FailsTo};
 
 use crate::closures::body_row;
 use crate::memory::Memory;
@@ -429,6 +429,44 @@ impl Memory {
         }
     }
 
+    /// The body of a closure is entered by the last query of a rule, which goes on where the rule does, unless the rule still has to
+    /// cut.
+    fn enter_last_body<'p>(
+        &mut self,
+        code: &'p Code,
+        many: bool,
+        body: BodyCode,
+        closure: Ref,
+    ) -> Now<'p>
+        requires room { HasRoom self.old }
+        requires built { IsBuilt code.now }
+        requires args { (v : Value) × (vs : List Value) × RefsAt (meaning_of self.old.arena) self.old.args.items (v ∷ vs) }
+        requires closure { (place : ℕ) × (parts : Values) × IsClosureAt (meaning_of self.old.arena) closure place parts }
+        ensures { EntersLastBody code.now self.old many body closure self.new result }
+    {
+        let cut = self.arena.heap();
+        match self.frame_at_hand() {
+            Some(frame) if frame.many => {
+                self.frame = frame.behind;
+                self.inner = frame.inner;
+                self.enter_body(
+                    code,
+                    Call {
+                        next: frame.next,
+                        many,
+                        cut,
+                    },
+                    body,
+                    closure,
+                )
+            }
+            _ => {
+                self.inner = 0;
+                self.enter_body(code, Call { next: 0, many, cut }, body, closure)
+            }
+        }
+    }
+
     /// The body that the first argument asks, with its closure, if it asks one.
     fn asked_body(&self, code: &Code) -> Option<(BodyCode, Ref)>
         requires { (v : Value) × (vs : List Value) × RefsAt (meaning_of self.now.arena) self.now.args.items (v ∷ vs) }
@@ -460,6 +498,19 @@ impl Memory {
         }
     }
 
+    /// The first argument is asked with the second, if there is one, in the last query of a rule.
+    fn query_last_first<'p>(&mut self, code: &'p Code, many: bool) -> Now<'p>
+        requires some { (l : Limits) × (m : Mid) × Holds code.now l self.old m }
+        requires built { IsBuilt code.now }
+        requires args { (v : Value) × (vs : List Value) × RefsAt (meaning_of self.old.arena) self.old.args.items (v ∷ vs) }
+        ensures { QueriesLast code.now self.old many self.new result }
+    {
+        match self.asked_body(code) {
+            None => Now::Fails,
+            Some((body, closure)) => self.enter_last_body(code, many, body, closure),
+        }
+    }
+
     /// A closure is asked.
     pub fn query<'p>(
         &mut self,
@@ -477,6 +528,25 @@ impl Memory {
         match self.put_query(tables, a, b) {
             Err(_) => Now::Ended(Ending::HeapLimit),
             Ok(()) => self.query_first(code, many, next),
+        }
+    }
+
+    /// A closure is asked in the last query of a rule.
+    pub fn query_last<'p>(
+        &mut self,
+        tables: &Tables,
+        code: &'p Code,
+        a: &Term,
+        b: &Option<Term>,
+        many: bool,
+    ) -> Now<'p>
+        requires some { (l : Limits) × (m : Mid) × Holds code.now l self.old m }
+        requires built { IsBuilt code.now }
+        ensures { (rest : List TheOp) → DoesOp tables.now code.now self.old (op.LastQuery a.now b.now many) rest self.new result }
+    {
+        match self.put_query(tables, a, b) {
+            Err(_) => Now::Ended(Ending::HeapLimit),
+            Ok(()) => self.query_last_first(code, many),
         }
     }
 

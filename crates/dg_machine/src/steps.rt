@@ -176,6 +176,7 @@ fn do_quiet<'p>(
             *many,
         ),
         Op::Query(a, b, many, next) => memory.query(tables, code, a, b, *many, *next),
+        Op::LastQuery(a, b, many) => memory.query_last(tables, code, a, b, *many),
         Op::Take => Now::Runs(rest),
         Op::Branch(alt) => memory.branch(*alt, rest),
         Op::Once => memory.once(rest),

@@ -24,3 +24,6 @@ returns-in-Try c = subst (λ x. DoesOp c.args.tables.now c.args.code.now c.args.
 
 pub returns-in-Query : goal.returns-in-Query
 returns-in-Query c = subst (λ y. DoesOp c.args.tables.now c.args.code.now c.args.memory.now y c.args.rest.now c.query.new.self c.query.result) (sym c.in-Query.is) (c.query.ensures c.args.rest.now)
+
+pub returns-in-LastQuery : goal.returns-in-LastQuery
+returns-in-LastQuery c = subst (λ y. DoesOp c.args.tables.now c.args.code.now c.args.memory.now y c.args.rest.now c.query_last.new.self c.query_last.result) (sym c.in-LastQuery.is) (c.query_last.ensures c.args.rest.now)
