@@ -390,7 +390,7 @@ fn close_accumulate(
     Ok(())
 }
 
-#[tactic(auto, using(std::proofs::lemmas::Grind::common_steps, crate::proofs::Views::each_branch, dg_base::proofs::Views::body_seen, dg_base::proofs::Views::select_seen))]
+#[tactic(auto, using(std::proofs::lemmas::Grind::common_steps, crate::proofs::Views::branches_seen))]
 fn close_select(
     setting: Setting<'_>,
     built: &mut Built,
@@ -412,7 +412,7 @@ fn close_branch(setting: Setting<'_>, built: &mut Built, count: usize) -> Result
     Ok(())
 }
 
-#[tactic(auto, using(std::proofs::lemmas::Grind::common_steps, crate::proofs::Views::each_branch, dg_base::proofs::Views::body_seen, dg_base::proofs::Views::select_seen))]
+#[tactic(auto, using(std::proofs::lemmas::Grind::common_steps, crate::proofs::Views::branches_seen))]
 fn close_body(setting: Setting<'_>, built: &mut Built, count: usize) -> Result<(), AllocError>
     ensures { OnOk result (built_view built.new ≡ closing (setting_view setting.entry) (Close.Body count) (built_view built.old)) }
 {
