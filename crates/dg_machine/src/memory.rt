@@ -1,5 +1,6 @@
 // The memory of a run: a store, areas of frames, inner constructs, choices and Refs, and registers.
-ghost use Rattle.std.specs.Prelude.{◌≡◌, ◌<◌, ◌≤◌, ◌+◌, ◌*◌, ℕ, List, [], ◌∷◌, Some, None, IfOk, OnOk, MatchResult, length, map, take, get_or, reverse, vec_capacity};
+ghost use Rattle.std.specs.Prelude.{◌≡◌, ◌<◌, ◌≤◌, ◌+◌, ◌*◌, ℕ, List, [], ◌∷◌, Some, None, IfOk, OnOk};
+ghost use Rattle.std.specs.Prelude.{MatchResult, length, map, take, get_or, reverse, vec_capacity};
 ghost use Rattle.std.specs.List.{zip};
 ghost use Rattle.dg_base.specs.declared.program.CoreProgram.{CoreProgram};
 ghost use Rattle.dg_base.specs.Goals.{option_terms};
