@@ -3,7 +3,7 @@ ghost use Rattle.std.specs.Prelude.{◌≡◌, ◌-◌, ◌++◌, ◌∷◌, [],
 ghost use Rattle.std.specs.Option.{option_map};
 ghost use Rattle.dg_base.specs.Tree as tree;
 ghost use Rattle.dg_base.specs.Tree.{parts_of, values_of, stmts_of, arms_of, changes_of};
-ghost use Rattle.dg_base.specs.TreeView.{part_view, value_view, stmt_view, arm_view, body_view, change_view, branches_view, list_view, choice_view};
+ghost use Rattle.dg_base.specs.TreeView.{part_view, value_view, stmt_view, arm_view, body_view, change_view, branches_view, list_view, choice_view, head_view};
 ghost use Rattle.dg_access.specs.Building.{built_view, asked, closing};
 ghost use Rattle.dg_expand.specs.Put.{one_change, change_by, changes_in};
 ghost use Rattle.dg_expand.specs.Putting.{around, bare, change_seen, wrap_of, after_body, after_value, after_values, after_parts, after_stmt, after_stmts, after_branches, after_arms, after_changes, does, IsStep, IsPutOff};
@@ -341,12 +341,13 @@ fn look_query<'a>(
     weighed: &mut Weighed,
     at: &'a Place<'a>,
     asking: Asking,
-    parts: &'a [Part],
+    head: &'a Head,
 ) -> Result<(), AllocError>
     ensures { OnOk result (IsStep (around uses.entry)
-        (after_stmt (around uses.entry at.now) (asked asking (parts_of (map part_view parts.now))))
+        (after_stmt (around uses.entry at.now) (asked asking (head_view head.now)))
         left.old.items left.new.items weighed.old.built weighed.new.built) }
 {
+    let parts = head.parts.as_slice();
     match rule_at(uses, at, parts) {
         Some(rule) => {
             let number = take_number(weighed)?;
@@ -475,23 +476,9 @@ fn look_stmt<'a>(
     match stmt {
         Stmt::Text(word) => put_text(alloc, weighed, word.as_slice()),
         Stmt::Print(value) => put_off(left, Close::Print, Work::Value(at, value)),
-        Stmt::Ask(head) => look_query(uses, left, weighed, at, Asking::One, head.parts.as_slice()),
-        Stmt::AskAll(head) => look_query(
-            uses,
-            left,
-            weighed,
-            at,
-            Asking::All,
-            head.parts.as_slice(),
-        ),
-        Stmt::AskNot(head) => look_query(
-            uses,
-            left,
-            weighed,
-            at,
-            Asking::Not,
-            head.parts.as_slice(),
-        ),
+        Stmt::Ask(head) => look_query(uses, left, weighed, at, Asking::One, head),
+        Stmt::AskAll(head) => look_query(uses, left, weighed, at, Asking::All, head),
+        Stmt::AskNot(head) => look_query(uses, left, weighed, at, Asking::Not, head),
         Stmt::Group(body) => put_off(left, Close::Wrapped(Wrap::Group), Work::Body(at, body)),
         Stmt::NotGroup(body) => put_off(left, Close::Wrapped(Wrap::NotGroup), Work::Body(at, body)),
         Stmt::First(body) => put_off(left, Close::Wrapped(Wrap::First), Work::Body(at, body)),
