@@ -283,6 +283,29 @@ impl<'p> Engine<'p> {
         self.outside.gathered.height().0
     }
 
+    /// The choice that opens on these branches where the engine is, and goes back to this place.
+    fn choice_here(&self, left: Left<'p>, place: Place) -> Choice<'p>
+        ensures { result ≡ record {
+          tag = self.now.newest;
+          left = left.entry;
+          height = length self.now.frames.items;
+          refs = length self.now.refs.items;
+          gathered = open_in self.now;
+          place = place;
+          stoppable = self.now.stoppable;
+        } }
+    {
+        Choice {
+            tag: self.newest,
+            left,
+            height: self.frames.len(),
+            refs: self.refs.len(),
+            gathered: self.gatherings(),
+            place,
+            stoppable: self.stoppable,
+        }
+    }
+
     /// Does the mark behind the goals at hand, of which none is left; false where that fails.
     fn pass_mark(&mut self) -> Result<bool, Lack>
         requires ready { IsReady self.old }
@@ -402,15 +425,7 @@ impl<'p> Engine<'p> {
         };
         let height = self.frames.len();
         let refs = self.refs.len();
-        let choice = Choice {
-            tag: self.newest,
-            left: Left::Rules(query, args, others),
-            height,
-            refs,
-            gathered: self.gatherings(),
-            place,
-            stoppable: self.stoppable,
-        };
+        let choice = self.choice_here(Left::Rules(query, args, others), place);
         let cells = choice_cells(pass(first, others), args.len);
         if let Err(e) = keep(&mut self.store, &mut self.choices, choice, true, cells) {
             return Err(e);
@@ -487,17 +502,7 @@ impl<'p> Engine<'p> {
             FullAt (BeginsAt all place self.old) (store_in self.old.store) e) }
         ensures left { self.new.left ≡ self.old.left }
     {
-        let height = self.frames.len();
-        let refs = self.refs.len();
-        let choice = Choice {
-            tag: self.newest,
-            left: others,
-            height,
-            refs,
-            gathered: self.gatherings(),
-            place,
-            stoppable: self.stoppable,
-        };
+        let choice = self.choice_here(others, place);
         let cells = frame_cells(stays);
         if let Err(e) = keep(&mut self.store, &mut self.choices, choice, stays, cells) {
             return Err(e);

@@ -1,11 +1,12 @@
 // Gatherings.
-ghost use Rattle.std.specs.Prelude.{◌≡◌, ◌+◌, ◌*◌, ◌<◌, ◌≤◌, ◌^◌, List, IfOk, IfErr, OnOk, MatchResult, length};
+ghost use Rattle.std.specs.Prelude.{◌≡◌, ◌+◌, ◌*◌, ◌<◌, ◌≤◌, ◌^◌, ◌++◌, List, [], ◌∷◌, IfOk, IfErr, OnOk, MatchResult, length};
 ghost use Rattle.dg_meaning.specs.Values.{Values};
 ghost use Rattle.dg_meaning.specs.ValueCells.{cells_of_all};
 ghost use Rattle.dg_meaning.specs.Copies.{values_of, all_copy_cells};
 ghost use Rattle.dg_lists.specs.Formed.{AreFormed};
 ghost use Rattle.dg_lists.specs.Reading.{ListCopied, Stopped};
 ghost use Rattle.dg_built.specs.Built.{AreBuilt};
+ghost use Rattle.dg_outside.specs.declared.lack.Lack.TheVariants.{OutOfMemory as WantOfMemory};
 ghost use Rattle.dg_interp.specs.declared.frames.Left.TheVariants.{TakeOut};
 ghost use Rattle.dg_interp.specs.declared.frames.Whole.TheVariants.{List as InList, Sum as InSum};
 ghost use Rattle.dg_interp.specs.Frames.{IsLeft};
@@ -16,7 +17,7 @@ ghost use Rattle.dg_unify.specs.Store.{Saved, Kept, Holds};
 ghost use Rattle.dg_unify.specs.declared.bindings.Mark.{Mark as ThePlace};
 
 use super::{Engine, stretch};
-use crate::frames::{Choice, Env, Frame, Left, Mark, Whole};
+use crate::frames::{Env, Frame, Left, Mark, Whole};
 use dg_base::{Cell, Goal, Term};
 use dg_lists::{list_from_cells, sum};
 use dg_outside::{Lack, lacking};
@@ -42,6 +43,26 @@ fn list_of(
         return Err(Full::OutOfMemory);
     }
     list_from_cells(store, cells, row.as_mut_slice())
+}
+
+/// Puts two values behind the Refs, and answers where each of them stands.
+fn put_both(refs: &mut Vec<Ref>, first: Ref, second: Ref) -> Result<(Env, Env), Lack>
+    ensures put { OnOk result (refs.new.items ≡ refs.old.items ++ first ∷ second ∷ []) }
+    ensures first { IfOk result (λ at. at.0 ≡ record { from = length refs.old.items; len = 1 }) }
+    ensures second { IfOk result (λ at. at.1 ≡ record { from = length refs.old.items + 1; len = 1 }) }
+    ensures lacks { IfErr result (λ lack. lack ≡ WantOfMemory) }
+{
+    let from = refs.len();
+    match refs.extend_from_slice(&[first, second]) {
+        Err(_) => Err(Lack::OutOfMemory),
+        Ok(()) => Ok((
+            Env { from, len: 1 },
+            Env {
+                from: from + 1,
+                len: 1,
+            },
+        )),
+    }
 }
 
 impl<'p> Engine<'p> {
@@ -79,13 +100,10 @@ impl<'p> Engine<'p> {
         ensures lacks { IfErr result (λ lack. LackAt (GathersAt whole value into goals.entry.now self.old) self.old lack) }
         ensures left { self.new.left ≡ self.old.left }
     {
-        let from = self.refs.len();
-        if let Err(_) = self.refs.extend_from_slice(&[value, into]) {
-            return Err(Lack::OutOfMemory);
-        }
+        let (kept, out) = put_both(&mut self.refs, value, into)?;
         let behind = Frame {
             goals: &[],
-            env: Env { from, len: 1 },
+            env: kept,
             mark: Mark::Keep(self.newest + 1),
             behind: 0,
             ..self.here
@@ -100,23 +118,11 @@ impl<'p> Engine<'p> {
         if let Err(full) = self.store.charge(10) {
             return Err(lacking(full));
         }
-        let into = Env {
-            from: from + 1,
-            len: 1,
-        };
-        let choice = Choice {
-            tag: self.newest + 1,
-            left: Left::TakeOut(whole, into, self.here),
-            height: self.frames.len(),
-            refs: self.refs.len(),
-            gathered: self.gatherings(),
-            place,
-            stoppable: self.stoppable,
-        };
+        self.newest += 1;
+        let choice = self.choice_here(Left::TakeOut(whole, out, self.here), place);
         if let Err(_) = self.choices.push(choice) {
             return Err(Lack::OutOfMemory);
         }
-        self.newest += 1;
         self.here = Frame {
             goals,
             mark: Mark::Nothing,

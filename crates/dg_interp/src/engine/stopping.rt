@@ -40,20 +40,12 @@ impl<'p> Engine<'p> {
         if let Err(e) = self.store.charge(10) {
             return Err(e);
         }
-        let outer = self.stoppable;
-        let part = Choice {
-            tag: self.newest + 1,
-            left: Left::Behind(self.here, None),
-            height: self.frames.len(),
-            refs: self.refs.len(),
-            gathered: self.gatherings(),
-            place,
-            stoppable: outer,
-        };
+        self.newest += 1;
+        let part = self.choice_here(Left::Behind(self.here, None), place);
         if let Err(_) = self.choices.push(part) {
             return Err(Full::OutOfMemory);
         }
-        self.newest += 1;
+        let outer = self.stoppable;
         self.stoppable = Some(self.newest);
         self.here = Frame {
             goals,

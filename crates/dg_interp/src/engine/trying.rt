@@ -11,7 +11,7 @@ ghost use Rattle.dg_interp.specs.Finding.{FindsAt, TriesObjectsAt};
 use super::querying::body_mark;
 use super::{Engine, keep, stretch};
 use crate::finding::{found, may_find, simple};
-use crate::frames::{Choice, Env, Frame, Left, Trial};
+use crate::frames::{Env, Frame, Left, Trial};
 use dg_base::Simple;
 use dg_outside::objects_of;
 use dg_terms::unify_all;
@@ -60,20 +60,11 @@ impl<'p> Engine<'p> {
             return Ok(false);
         }
         let height = self.frames.len();
-        let refs = self.refs.len();
         let others = Trial {
             from: trial.from + 1,
             ..trial
         };
-        let choice = Choice {
-            tag: self.newest,
-            left: Left::Things(others, args),
-            height,
-            refs,
-            gathered: self.gatherings(),
-            place,
-            stoppable: self.stoppable,
-        };
+        let choice = self.choice_here(Left::Things(others, args), place);
         let stays = others.from < others.end;
         let cells = trial_cells(stays, args.len);
         if let Err(e) = keep(&mut self.store, &mut self.choices, choice, stays, cells) {

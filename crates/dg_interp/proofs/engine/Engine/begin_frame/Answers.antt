@@ -1,4 +1,3 @@
-use Rattle.std.proofs.Common.{rules, ◌≡◌, length}
 use Rattle.dg_interp.proofs.BeginFrames.{frame_full, frame_begun}
 use Rattle.dg_interp.proofs.engine.Engine.begin_frame.Goals as goal
 
@@ -8,6 +7,4 @@ returns-in-Err-clause-full c = λ all with.
 
 pub returns-clause-begun : goal.returns-clause-begun
 returns-clause-begun c = λ all with.
-    let h : c.len-height.result ≡ length c.args.self.now.frames.items = search rules in
-    let r : c.len-refs.result ≡ length c.args.self.now.refs.items = search rules in
-    frame_begun c.args.self.now c.args.frame c.args.others c.args.stays c.args.place c.keep.new.store c.keep.new.choices c.requires.sound c.requires.frame c.requires.others c.requires.plain c.requires.stays c.requires.place c.keep.ensures.kept c.keep.ensures.saved all with (rw c.frame_cells-cells.ensures at c.in_default.ensures.taken) (rw h at (rw r at (rw c.gatherings.ensures at c.in_default.ensures.choices)))
+    frame_begun c.args.self.now c.args.frame c.args.others c.args.stays c.args.place c.keep.new.store c.keep.new.choices c.requires.sound c.requires.frame c.requires.others c.requires.plain c.requires.stays c.requires.place c.keep.ensures.kept c.keep.ensures.saved all with (rw c.frame_cells-cells.ensures at c.in_default.ensures.taken) (rw c.choice_here-choice.ensures at c.in_default.ensures.choices)

@@ -20,11 +20,9 @@ returns-in-Err-enter-clause-full c =
 pub returns-in-Ok-false-clause-tried : goal.returns-in-Ok-false-clause-tried
 returns-in-Ok-false-clause-tried c =
     let all = c.args.rules.now in
-    let h : c.len-height.result ≡ length c.args.self.now.frames.items = search rules in
-    let r : c.len-refs.result ≡ length c.args.self.now.refs.items = search rules in
     rule_wrong c.args.self.now c.args.query c.args.args c.args.rules _ c.rule-item.result c.args.place c.keep.new.store c.keep.new.choices c.requires.sound c.requires.left c.requires.place
     (first_and_rest all c.rule-item.result (length all - 1) c.requires.some c.rule-item.is (omega arith)) c.pass.result.now (c.pass.ensures.begin (store_in c.args.self.now.store) (values_in (store_in c.args.self.now.store) c.args.self.now.refs.items c.args.args) c.requires.first) c.requires.candidate c.keep.ensures.kept c.keep.ensures.saved (rw c.choice_cells-cells.ensures at c.in_default-keep.ensures.taken) c.enter.new.store c.enter.new.refs c.enter.new.head c.in-Ok-false.field-0
-    (rw h at (rw r at (rw c.gatherings.ensures at c.in_default-keep.ensures.choices))) c.enter.ensures.kept c.enter.ensures.saved c.in-Ok-false.ensures.entered c.in-Ok-false.field-0-test
+    (rw c.choice_here-choice.ensures at c.in_default-keep.ensures.choices) c.enter.ensures.kept c.enter.ensures.saved c.in-Ok-false.ensures.entered c.in-Ok-false.field-0-test
 
 pub returns-in-Ok-true-clause-tried : goal.returns-in-Ok-true-clause-tried
 returns-in-Ok-true-clause-tried c =
@@ -35,4 +33,4 @@ returns-in-Ok-true-clause-tried c =
     (rw r
     (rule_begun c.args.self.now c.args.query c.args.args c.args.rules _ c.rule-item.result c.args.place c.keep.new.store c.keep.new.choices c.requires.sound c.requires.left c.requires.place
     (first_and_rest all c.rule-item.result (length all - 1) c.requires.some c.rule-item.is (omega arith)) c.pass.result.now (c.pass.ensures.begin (store_in c.args.self.now.store) (values_in (store_in c.args.self.now.store) c.args.self.now.refs.items c.args.args) c.requires.first) c.requires.candidate c.keep.ensures.kept c.keep.ensures.saved (rw c.choice_cells-cells.ensures at c.in_default-keep.ensures.taken) c.enter.new.store c.enter.new.refs c.enter.new.head c.in-Ok-true.field-0
-    (rw h at (rw r at (rw c.gatherings.ensures at c.in_default-keep.ensures.choices))) c.enter.ensures.kept c.enter.ensures.saved c.in-Ok-true.ensures.entered c.as_slice.result c.as_slice.ensures c.in-Ok-true.field-0-test))
+    (rw c.choice_here-choice.ensures at c.in_default-keep.ensures.choices) c.enter.ensures.kept c.enter.ensures.saved c.in-Ok-true.ensures.entered c.as_slice.result c.as_slice.ensures c.in-Ok-true.field-0-test))

@@ -20,11 +20,8 @@ pub returns-clause-opened : goal.returns-clause-opened
 returns-clause-opened c =
     let old = c.args.self.now in
     let k = c.in_default-charge.ensures in
-    let from : c.len-from.result ≡ length old.refs.items = search rules in
-    let height : c.len.result ≡ length c.push.new.self.items = search rules in
-    let refs : c.len-2.result ≡ length c.extend_from_slice.new.self.items = search rules in
-    let behind : c.len-3.result ≡ length c.push.new.self.items = search rules in
+    let behind : c.len.result ≡ length c.push.new.self.items = search rules in
     rw behind
     (gathering_opened c.args.whole c.args.value c.args.into c.args.goals old c.requires.ready c.requires.built c.requires.values c.mark-place.result c.mark-place.new.self c.mark-place.ensures.kept c.mark-place.ensures.same c.mark-place.ensures.saved
-    _ refl c.charge.new.self c.extend_from_slice.new.self c.push.new.self c.push-2.new.self c.open.new.self k.kept k.saved k.made c.requires.room c.in_default.ensures.items (rw from at c.in_default-push.ensures.items) c.in_default-open.ensures.opened
-    (reverse_pop c.push-2.new.self.items old.choices.items _ (rw from at (rw height at (rw refs at (rw c.gatherings.ensures at c.in_default-push-2.ensures.items))))))
+    _ refl c.charge.new.self c.put_both.new.refs c.push.new.self c.push-2.new.self c.open.new.self k.kept k.saved k.made c.requires.room c.in_ok-kept.ensures.put (rw c.in_ok-kept.ensures.first at c.in_default.ensures.items) c.in_default-open.ensures.opened
+    (reverse_pop c.push-2.new.self.items old.choices.items _ (rw c.in_ok-kept.ensures.second at (rw c.choice_here-choice.ensures at c.in_default-push.ensures.items))))

@@ -31,10 +31,8 @@ returns-clause-done c =
     let first = record e.here { goals = c.args.goals; mark = LeavePart (e.newest + 1) e.stoppable; behind = length e.frames.items } in
     let is : IsFrame (length e.frames.items) (length e.refs.items) first = record { built = c.requires.built; older = omega arith; env = p.ready.here.env } in
     let new = record e { store = c.charge.new.self; choices = c.push-2.new.self; newest = e.newest + 1; stoppable = Some (e.newest + 1); here = first } in
-    let at : c.len.result ≡ length e.frames.items = search rules in
-    let refs : c.len-2.result ≡ length e.refs.items = search rules in
-    let behind : c.len-3.result ≡ length e.frames.items = search rules in
+    let behind : c.len.result ≡ length e.frames.items = search rules in
     rw behind
     (went_on_from (TakesAt x old) (TakesAt x e) old e new c.push.ensures.left b.limits (pushed_leads x old.here old e b (TakesAt x e) (stays (TakesAt x e)))
     (part_opened c.args.goals e p.ready (pushed_here old e c.requires.ready p) c.mark-place.result c.mark-place.new.self c.mark-place.ensures.kept c.mark-place.ensures.same c.mark-place.ensures.saved c.charge.new.self c.push-2.new.self k.kept k.saved k.made is (pushed_room old.here old e p c.requires.room)
-    (reverse_pop c.push-2.new.self.items e.choices.items _ (rw at at (rw refs at (rw c.gatherings.ensures at c.in_default-push.ensures.items))))))
+    (reverse_pop c.push-2.new.self.items e.choices.items _ (rw c.choice_here-part.ensures at c.in_default-push.ensures.items))))
