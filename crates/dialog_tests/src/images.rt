@@ -85,10 +85,12 @@ const BUFFER: Atom = Atom::Table(0);
 
 const NOTHING: [Act; 1] = [Act::Return(ZERO)];
 
-#[test]
-fn built_stories_are_played(rt: HostRuntime) -> Result<(), Fail> {
+fn prints_a_text(alloc: Global, rt: &impl Abort) -> Result<(), Fail> {
     let hello = [Act::Print(Print::Text, Atom::Text(0)), Act::Return(ZERO)];
-    played(rt.alloc(), &rt, &hello, &NOTHING, "Hello")?;
+    played(alloc, rt, &hello, &NOTHING, "Hello")
+}
+
+fn counts_down(alloc: Global, rt: &impl Abort) -> Result<(), Fail> {
     let is_zero = Test {
         comparison: Comparison::Equal,
         first: X,
@@ -105,7 +107,10 @@ fn built_stories_are_played(rt: HostRuntime) -> Result<(), Fail> {
         Act::Label(1),
         Act::Return(ZERO),
     ];
-    played(rt.alloc(), &rt, &counts_down, &NOTHING, "321")?;
+    played(alloc, rt, &counts_down, &NOTHING, "321")
+}
+
+fn calls_a_routine(alloc: Global, rt: &impl Abort) -> Result<(), Fail> {
     let calls = [
         Act::Copy(17, Atom::Routine(1)),
         Act::Call(
@@ -120,7 +125,10 @@ fn built_stories_are_played(rt: HostRuntime) -> Result<(), Fail> {
         Act::Compute(1, Function::Mul, Atom::Var(1), Atom::Var(2)),
         Act::Return(Atom::Var(1)),
     ];
-    played(rt.alloc(), &rt, &calls, &multiplies, "42")?;
+    played(alloc, rt, &calls, &multiplies, "42")
+}
+
+fn writes_a_table(alloc: Global, rt: &impl Abort) -> Result<(), Fail> {
     let writes = [
         Act::Write(Width::Word, BUFFER, Atom::Num(3), Atom::Num(513)),
         Act::Compute(16, Function::Byte, BUFFER, Atom::Num(6)),
@@ -129,7 +137,10 @@ fn built_stories_are_played(rt: HostRuntime) -> Result<(), Fail> {
         Act::Print(Print::Number, X),
         Act::Return(ZERO),
     ];
-    played(rt.alloc(), &rt, &writes, &NOTHING, "2513")?;
+    played(alloc, rt, &writes, &NOTHING, "2513")
+}
+
+fn reads_a_line(alloc: Global, rt: &impl Abort) -> Result<(), Fail> {
     let reads = [
         Act::Read(16, BUFFER),
         Act::Print(Print::Number, X),
@@ -139,6 +150,14 @@ fn built_stories_are_played(rt: HostRuntime) -> Result<(), Fail> {
         Act::Print(Print::Code, X),
         Act::Return(ZERO),
     ];
-    played(rt.alloc(), &rt, &reads, &NOTHING, "135x")?;
-    Ok(())
+    played(alloc, rt, &reads, &NOTHING, "135x")
+}
+
+#[test]
+fn built_stories_are_played(rt: HostRuntime) -> Result<(), Fail> {
+    prints_a_text(rt.alloc(), &rt)?;
+    counts_down(rt.alloc(), &rt)?;
+    calls_a_routine(rt.alloc(), &rt)?;
+    writes_a_table(rt.alloc(), &rt)?;
+    reads_a_line(rt.alloc(), &rt)
 }
