@@ -1,20 +1,14 @@
 -- What a comparison and a calculation come to.
 use Rattle.std.proofs.Common.{◌≡◌, ℕ, List, [], ◌∷◌, Bool, true, false, Option, Some, None, refl, sym, ap, ◌∙◌, subst}
 use Rattle.std.specs.Borrow.{Bor}
-use Rattle.dg_base.specs.declared.cells.Simple.TheVariants as simple
-use Rattle.dg_base.specs.declared.program.ArithOp.{ArithOp}
-use Rattle.dg_base.specs.declared.program.CompareOp.{CompareOp}
 use Rattle.dg_base.specs.declared.run.Ending.TheVariants.{HeapLimit}
 use Rattle.dg_base.specs.declared.run.Limits.{Limits}
 use Rattle.dg_meaning.specs.Values.{Value, Num, leaf}
 use Rattle.dg_meaning.specs.Cells.{cells}
-use Rattle.dg_meaning.specs.Numbers.{are_in_order, of_numbers, calculated}
+use Rattle.dg_meaning.specs.Numbers.{calculated}
 use Rattle.dg_meaning.specs.Unify.{unify}
 use Rattle.dg_meaning.specs.Moves.{gives_number}
 use Rattle.dg_meaning.specs.World.{Game, World}
-use Rattle.dg_unify.specs.Store.{Store, Shows}
-use Rattle.dg_unify.specs.declared.bindings.View.{View}
-use Rattle.dg_unify.specs.declared.bindings.View.TheVariants as view
 use Rattle.dg_mid.specs.declared.code.Op.{Op}
 use Rattle.dg_mid.specs.declared.code.Op.TheVariants as op
 use Rattle.dg_mid.specs.declared.code.Action.{Action}
@@ -25,61 +19,10 @@ use Rattle.dg_mid.specs.Step.{Setting, setting, more, bound, done, does, if_pass
 use Rattle.dg_machine.specs.declared.now.Now.{Now}
 use Rattle.dg_machine.specs.declared.now.Now.TheVariants.{Runs, Fails, Ended}
 use Rattle.dg_machine.specs.declared.memory.Memory.{Memory}
-use Rattle.dg_machine.specs.Comparing.{number_in, number_shown, order_of, made_of}
 use Rattle.dg_machine.specs.Layout.{Holds, Lacks}
 use Rattle.dg_machine.specs.Standing.{CodeIs, Stands}
 use Rattle.dg_machine.proofs.Leads.{charged_led, full_stands}
 use Rattle.dg_machine.proofs.Unifying.{done_unifies}
-
-pub number_is : (s : Store) (v : Value) (first : View) → Shows s v first → number_shown first ≡ number_in v
-number_is s v (view.Unbound r) h = ap number_in (sym h.is)
-number_is s v (view.Simple (simple.Num n)) h = ap number_in (sym h)
-number_is s v (view.Simple (simple.Word n)) h = ap number_in (sym h)
-number_is s v (view.Simple (simple.Object n)) h = ap number_in (sym h)
-number_is s v (view.Simple simple.Nil) h = ap number_in (sym h)
-number_is s v (view.Pair a b) h = ap number_in (sym h.is)
-number_is s v (view.Closure place r) h = ap number_in (sym h.is)
-number_is s v (view.Unknown r) h = ap number_in (sym h.is)
-
-order_with : (f : CompareOp) (s : Store) (m : ℕ) (u : Value) (second : View) → Shows s u second → order_of f (view.Simple (simple.Num m)) second ≡ are_in_order f (leaf (Num m)) u
-order_with f s m u (view.Unbound r) h = ap (are_in_order f (leaf (Num m))) (sym h.is)
-order_with f s m u (view.Simple (simple.Num n)) h = ap (are_in_order f (leaf (Num m))) (sym h)
-order_with f s m u (view.Simple (simple.Word n)) h = ap (are_in_order f (leaf (Num m))) (sym h)
-order_with f s m u (view.Simple (simple.Object n)) h = ap (are_in_order f (leaf (Num m))) (sym h)
-order_with f s m u (view.Simple simple.Nil) h = ap (are_in_order f (leaf (Num m))) (sym h)
-order_with f s m u (view.Pair a b) h = ap (are_in_order f (leaf (Num m))) (sym h.is)
-order_with f s m u (view.Closure place r) h = ap (are_in_order f (leaf (Num m))) (sym h.is)
-order_with f s m u (view.Unknown r) h = ap (are_in_order f (leaf (Num m))) (sym h.is)
-
-pub order_shown : (f : CompareOp) (s : Store) (v u : Value) (first second : View) → Shows s v first → Shows s u second → order_of f first second ≡ are_in_order f v u
-order_shown f s v u (view.Unbound r) second h k = ap (λ x. are_in_order f x u) (sym h.is)
-order_shown f s v u (view.Simple (simple.Num m)) second h k = order_with f s m u second k ∙ ap (λ x. are_in_order f x u) (sym h)
-order_shown f s v u (view.Simple (simple.Word n)) second h k = ap (λ x. are_in_order f x u) (sym h)
-order_shown f s v u (view.Simple (simple.Object n)) second h k = ap (λ x. are_in_order f x u) (sym h)
-order_shown f s v u (view.Simple simple.Nil) second h k = ap (λ x. are_in_order f x u) (sym h)
-order_shown f s v u (view.Pair a b) second h k = ap (λ x. are_in_order f x u) (sym h.is)
-order_shown f s v u (view.Closure place r) second h k = ap (λ x. are_in_order f x u) (sym h.is)
-order_shown f s v u (view.Unknown r) second h k = ap (λ x. are_in_order f x u) (sym h.is)
-
-made_with : (f : ArithOp) (s : Store) (m : ℕ) (u : Value) (second : View) → Shows s u second → made_of f (view.Simple (simple.Num m)) second ≡ of_numbers (calculated f) (leaf (Num m)) u
-made_with f s m u (view.Unbound r) h = ap (of_numbers (calculated f) (leaf (Num m))) (sym h.is)
-made_with f s m u (view.Simple (simple.Num n)) h = ap (of_numbers (calculated f) (leaf (Num m))) (sym h)
-made_with f s m u (view.Simple (simple.Word n)) h = ap (of_numbers (calculated f) (leaf (Num m))) (sym h)
-made_with f s m u (view.Simple (simple.Object n)) h = ap (of_numbers (calculated f) (leaf (Num m))) (sym h)
-made_with f s m u (view.Simple simple.Nil) h = ap (of_numbers (calculated f) (leaf (Num m))) (sym h)
-made_with f s m u (view.Pair a b) h = ap (of_numbers (calculated f) (leaf (Num m))) (sym h.is)
-made_with f s m u (view.Closure place r) h = ap (of_numbers (calculated f) (leaf (Num m))) (sym h.is)
-made_with f s m u (view.Unknown r) h = ap (of_numbers (calculated f) (leaf (Num m))) (sym h.is)
-
-pub made_shown : (f : ArithOp) (s : Store) (v u : Value) (first second : View) → Shows s v first → Shows s u second → made_of f first second ≡ of_numbers (calculated f) v u
-made_shown f s v u (view.Unbound r) second h k = ap (λ x. of_numbers (calculated f) x u) (sym h.is)
-made_shown f s v u (view.Simple (simple.Num m)) second h k = made_with f s m u second k ∙ ap (λ x. of_numbers (calculated f) x u) (sym h)
-made_shown f s v u (view.Simple (simple.Word n)) second h k = ap (λ x. of_numbers (calculated f) x u) (sym h)
-made_shown f s v u (view.Simple (simple.Object n)) second h k = ap (λ x. of_numbers (calculated f) x u) (sym h)
-made_shown f s v u (view.Simple simple.Nil) second h k = ap (λ x. of_numbers (calculated f) x u) (sym h)
-made_shown f s v u (view.Pair a b) second h k = ap (λ x. of_numbers (calculated f) x u) (sym h.is)
-made_shown f s v u (view.Closure place r) second h k = ap (λ x. of_numbers (calculated f) x u) (sym h.is)
-made_shown f s v u (view.Unknown r) second h k = ap (λ x. of_numbers (calculated f) x u) (sym h.is)
 
 -- what is calculated is unified
 module _ (g : Setting) (w : Value) (m : Mid) (world : World) (is : outside_in world m ≡ m) where

@@ -17,7 +17,6 @@ pub mod Leaving
 pub mod Bodies
 pub mod Unifying
 pub mod Compares
-pub mod Tests
 pub mod Texts
 pub mod Goals
 pub mod Spaces

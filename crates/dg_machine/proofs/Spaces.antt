@@ -18,7 +18,7 @@ use Rattle.dg_mid.specs.State.{Mid, vars_of, Runs as RunsOf, Ended as EndedOf}
 use Rattle.dg_mid.specs.Step.{Setting, setting, more, done, does, said_in}
 use Rattle.dg_machine.specs.declared.now.Now.TheVariants.{Fails}
 use Rattle.dg_machine.specs.declared.memory.Memory.{Memory}
-use Rattle.dg_machine.specs.Comparing.{number_in}
+use Rattle.dg_terms.specs.Throwing.{number_in}
 use Rattle.dg_machine.specs.Layout.{Holds, Lacks}
 use Rattle.dg_machine.specs.Standing.{Stands}
 use Rattle.dg_machine.proofs.Opens.{fits}

@@ -3,7 +3,6 @@ pub mod Refs
 pub mod Tables
 pub mod Writing
 pub mod Passing
-pub mod Comparing
 pub mod Layout
 pub mod Built
 pub mod Measure

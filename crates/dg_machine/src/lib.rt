@@ -13,7 +13,6 @@ mod rows;
 mod steps;
 mod tables;
 mod terms;
-mod testing;
 mod writing;
 
 pub use machine::Machine;

@@ -18,9 +18,9 @@ ghost use Rattle.dg_arena.specs.Held.{meaning_of};
 ghost use Rattle.dg_mid.specs.declared.code.Code.{Code};
 ghost use Rattle.dg_mid.specs.State.{Mid, Place, Call as CallOf, Way as WayOf, vars_of};
 ghost use Rattle.dg_mid.specs.Step.{more, inside, within};
+ghost use Rattle.dg_terms.specs.Throwing.{number_in};
 ghost use Rattle.dg_machine.specs.Built.{AreArguments};
 ghost use Rattle.dg_machine.specs.Tables.{IsOf};
-ghost use Rattle.dg_machine.specs.Comparing.{number_in};
 ghost use Rattle.dg_machine.specs.Links.{named, below};
 ghost use Rattle.dg_machine.specs.Measure.{way_left, choices_left};
 ghost use Rattle.dg_machine.specs.Passing.{IsFirst};
@@ -31,10 +31,10 @@ use crate::refs::{MOST_ARGS, move_refs, push_refs};
 use crate::register::{write_both, write_one, write_terms, write_three};
 use crate::rows::make_row;
 use crate::tables::Tables;
-use crate::terms::{are_ordered, made_of, match_heads, number_shown, simple_value, var_value};
-use crate::testing::test;
+use crate::terms::{match_heads, simple_value, var_value};
 use dg_arena::Arena;
 use dg_base::{ArithOp, CompareOp, Simple, Term, TestKind};
+use dg_terms::{calculate, in_order, number_of as number_shown, test};
 use dg_unify::{Bindings, Full, Ref, View, unify};
 use std::alloc::{AllocError, Global};
 
@@ -426,9 +426,7 @@ impl Memory {
     {
         let a = self.arg(0);
         let b = self.arg(1);
-        let first = self.arena.walk(a);
-        let second = self.arena.walk(b);
-        are_ordered(op, first, second)
+        in_order(&self.arena, op, a, b)
     }
 
     /// What an operation makes of the first two of three arguments, if it makes a number.
@@ -440,9 +438,7 @@ impl Memory {
     {
         let a = self.arg(0);
         let b = self.arg(1);
-        let first = self.arena.walk(a);
-        let second = self.arena.walk(b);
-        made_of(op, first, second)
+        calculate(&self.arena, op, a, b)
     }
 
     /// Unifies the third argument with a number.

@@ -1,11 +1,10 @@
-// Values without parts, arguments against a head, and what is made of what is shown.
+// Values without parts, and arguments against a head.
 ghost use Rattle.std.specs.Prelude.{◌≡◌, List, Some};
 ghost use Rattle.std.specs.List.{zip};
 ghost use Rattle.dg_base.specs.declared.program.Term.{out-Term};
 ghost use Rattle.dg_base.specs.declared.program.CoreProgram.{CoreProgram};
 ghost use Rattle.dg_meaning.specs.Values.{Value, leaf, value_of, value_of_var};
 ghost use Rattle.dg_meaning.specs.Unify.{solve};
-ghost use Rattle.dg_machine.specs.Comparing.{number_shown, order_of, made_of};
 ghost use Rattle.dg_unify.specs.Store.{Follows, label_of};
 ghost use Rattle.dg_arena.specs.Held.{meaning_of};
 ghost use Rattle.dg_machine.specs.Built.{IsPlain};
@@ -13,9 +12,8 @@ ghost use Rattle.dg_machine.specs.Refs.{RowAt, RefsAt, AreRefs, Keeps, Stays};
 
 use crate::now::Row;
 use dg_arena::Arena;
-use dg_base::{ArithOp, CompareOp, Simple, Term};
-use dg_lists::{arith, compare};
-use dg_unify::{Bindings, Full, Ref, View, unify};
+use dg_base::{Simple, Term};
+use dg_unify::{Bindings, Full, Ref, unify};
 
 /// A value without parts.
 pub fn simple_value(arena: &mut Arena, simple: Simple) -> Ref
@@ -79,40 +77,4 @@ pub fn match_heads(arena: &mut Arena, args: &[Ref], heads: &[Ref]) -> Result<boo
         }
     }
     Ok(true)
-}
-
-/// The number that is shown.
-pub fn number_shown(view: View) -> Option<u16>
-    ensures { result ≡ number_shown view }
-{
-    match view {
-        View::Simple(Simple::Num(n)) => Some(n),
-        _ => None,
-    }
-}
-
-/// Whether what is shown are numbers in an order.
-pub fn are_ordered(op: CompareOp, a: View, b: View) -> bool
-    ensures { result ≡ order_of op a b }
-{
-    match a {
-        View::Simple(Simple::Num(m)) => match b {
-            View::Simple(Simple::Num(n)) => compare(op, m, n),
-            _ => false,
-        },
-        _ => false,
-    }
-}
-
-/// What an operation makes of what is shown, if both are numbers and it makes one.
-pub fn made_of(op: ArithOp, a: View, b: View) -> Option<u16>
-    ensures { result ≡ made_of op a b }
-{
-    match a {
-        View::Simple(Simple::Num(m)) => match b {
-            View::Simple(Simple::Num(n)) => arith(op, m, n),
-            _ => None,
-        },
-        _ => None,
-    }
 }

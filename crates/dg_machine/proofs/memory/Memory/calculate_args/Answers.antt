@@ -4,7 +4,6 @@ use Rattle.dg_meaning.specs.Substitutions.{walk}
 use Rattle.dg_unify.specs.Store.{State, told}
 use Rattle.dg_unify.proofs.StoreLemmas.{holds_some, told_is}
 use Rattle.dg_arena.specs.Held.{meaning_of}
-use Rattle.dg_machine.proofs.Compares.{made_shown}
 use Rattle.dg_machine.proofs.memory.Memory.calculate_args.Goals as goal
 
 pub arg-a-requires : goal.arg-a-requires
@@ -13,18 +12,14 @@ arg-a-requires c = let some = c.requires in (some.0 ∷ some.1 ∷ some.2 ∷ []
 pub arg-b-requires : goal.arg-b-requires
 arg-b-requires c = let some = c.requires in (some.0 ∷ some.1 ∷ some.2 ∷ [], some.3, omega arith)
 
-pub walk-first-requires : goal.walk-first-requires
-walk-first-requires c = let some = c.requires in holds_some (meaning_of c.args.self.now.arena) c.arg-a.result some.0 (c.arg-a.ensures (some.0 ∷ some.1 ∷ some.2 ∷ []) some.3)
-
-pub walk-second-requires : goal.walk-second-requires
-walk-second-requires c = let some = c.requires in holds_some (meaning_of c.args.self.now.arena) c.arg-b.result some.1 (c.arg-b.ensures (some.0 ∷ some.1 ∷ some.2 ∷ []) some.3)
+pub calculate-requires : goal.calculate-requires
+calculate-requires c = let some = c.requires in (holds_some (meaning_of c.args.self.now.arena) c.arg-a.result some.0 (c.arg-a.ensures (some.0 ∷ some.1 ∷ some.2 ∷ []) some.3), holds_some (meaning_of c.args.self.now.arena) c.arg-b.result some.1 (c.arg-b.ensures (some.0 ∷ some.1 ∷ some.2 ∷ []) some.3))
 
 pub returns : goal.returns
 returns c code l m u v w h refs =
     let s = meaning_of c.args.self.now.arena in
-    let a = walk s.state.subst (told s c.arg-a.result) in
     let b = walk s.state.subst (told s c.arg-b.result) in
-    c.made_of.ensures ∙ made_shown c.args.op s a b c.walk-first.result c.walk-second.result c.walk-first.ensures c.walk-second.ensures
+    c.calculate.ensures
     ∙ ap (λ x. of_numbers (calculated c.args.op) (walk s.state.subst x) b) (told_is s c.arg-a.result u (c.arg-a.ensures (u ∷ v ∷ w ∷ []) refs))
     ∙ ap (λ x. of_numbers (calculated c.args.op) (walk s.state.subst u) (walk s.state.subst x)) (told_is s c.arg-b.result v (c.arg-b.ensures (u ∷ v ∷ w ∷ []) refs))
     ∙ ap (λ (t : State). of_numbers (calculated c.args.op) (walk t.subst u) (walk t.subst v)) h.0.state_is

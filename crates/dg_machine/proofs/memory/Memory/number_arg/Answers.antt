@@ -3,8 +3,7 @@ use Rattle.dg_meaning.specs.Substitutions.{walk}
 use Rattle.dg_unify.specs.Store.{State, told}
 use Rattle.dg_unify.proofs.StoreLemmas.{holds_some, told_is}
 use Rattle.dg_arena.specs.Held.{meaning_of}
-use Rattle.dg_machine.specs.Comparing.{number_in}
-use Rattle.dg_machine.proofs.Compares.{number_is}
+use Rattle.dg_terms.specs.Throwing.{number_in}
 use Rattle.dg_machine.proofs.memory.Memory.number_arg.Goals as goal
 
 pub arg-a-requires : goal.arg-a-requires
@@ -16,5 +15,5 @@ walk-first-requires c = let some = c.requires in holds_some (meaning_of c.args.s
 pub returns : goal.returns
 returns c code l m v h refs =
     let s = meaning_of c.args.self.now.arena in
-    c.number_shown.ensures ∙ number_is s (walk s.state.subst (told s c.arg-a.result)) c.walk-first.result c.walk-first.ensures
+    c.number_of.ensures s (walk s.state.subst (told s c.arg-a.result)) c.walk-first.ensures
     ∙ ap (λ x. number_in (walk s.state.subst x)) (told_is s c.arg-a.result v (c.arg-a.ensures (v ∷ []) refs)) ∙ ap (λ (t : State). number_in (walk t.subst v)) h.0.state_is
