@@ -9,10 +9,13 @@ use Rattle.dg_base.specs.declared.program.TestKind.{TestKind}
 use Rattle.dg_meaning.specs.Values.{Value}
 use Rattle.dg_meaning.specs.Cells.{cells}
 use Rattle.dg_meaning.specs.Substitutions.{walk}
-use Rattle.dg_meaning.specs.Numbers.{of_numbers, calculated}
+use Rattle.dg_meaning.specs.Numbers.{of_numbers, calculated, thrown}
+use Rattle.dg_meaning.specs.Choosing.{die}
 use Rattle.dg_meaning.specs.Path.{Registers}
 use Rattle.dg_meaning.specs.World.{World, prints, worked}
-use Rattle.dg_meaning.specs.Moves.{gives_number, looked_up}
+use Rattle.dg_meaning.specs.Moves.{gives_number, throws, looked_up}
+use Rattle.dg_outside.specs.Outside.{InWorld}
+use Rattle.dg_outside.specs.declared.outside.Outside.{Outside}
 use Rattle.dg_mid.specs.Actions.{terms_of, registers_of, world_of, said_by}
 use Rattle.dg_base.specs.declared.run.Limits.{Limits}
 use Rattle.dg_base.specs.declared.run.Ending.{Ending}
@@ -45,7 +48,7 @@ use Rattle.dg_machine.specs.declared.tables.Tables.{Tables}
 use Rattle.dg_machine.specs.Tables.{IsOf}
 use Rattle.dg_machine.specs.Built.{OpBuilt, OpsBuilt, IsBuilt, IsQuiet, IsQuietOp}
 use Rattle.dg_machine.specs.Layout.{HasRoom, HasPut, Holds, Roomy}
-use Rattle.dg_machine.specs.Standing.{CodeIs, Stands, Falls, DoesOp, DoesMark, Asks, AsksLast, EntersRule, IsThere, GoesOn, FailsTo, HasStatus}
+use Rattle.dg_machine.specs.Standing.{CodeIs, Stands, Falls, DoesOp, DoesMark, Asks, AsksLast, EntersRule, IsThere, GoesOn, FailsTo, HasStatus, HasOutside, StandsWith}
 use Rattle.dg_machine.specs.Running.{rests, DoesMarks, HasText, GoalDone, GoalLost}
 use Rattle.std.proofs.Common.{map}
 use Rattle.dg_base.specs.declared.program.CoreProgram.{CoreProgram}
@@ -57,6 +60,7 @@ use Rattle.dg_machine.specs.Refs.{AreRefs}
 use Rattle.dg_machine.proofs.Opens.{roomy}
 use Rattle.dg_machine.proofs.Hands.{nothing_more, no_jump}
 use Rattle.dg_machine.proofs.Leads.{charged_led}
+use Rattle.dg_machine.proofs.Outsides.{DrawsNone, quiet_draws, has_does, has_outside}
 use Rattle.dg_machine.proofs.Leaving.{block_is}
 use Rattle.dg_machine.proofs.Texts.{render_grows}
 
@@ -215,6 +219,7 @@ fails_act tb code r action.Stop rest q j u s k d v t g is_of l m o b at h = absu
 fails_act tb code r (action.Text name) rest q j u s k d v t g is_of l m o b at h = absurd q
 fails_act tb code r (action.Gap kind) rest q j u s k d v t g is_of l m o b at h = absurd q
 fails_act tb code r (action.GapN x) rest q j u s k d v t g is_of l m o b at h = absurd q
+fails_act tb code r (action.Random x y z) rest q j u s k d v t g is_of l m o b at h = absurd q
 fails_act tb code r (action.Arith f x y z) rest q j u s k d v t g is_of l m o b at h = absurd (v f x y z refl)
 fails_act tb code r (action.Test f x) rest q j u s k d v t g is_of l m o b at h = absurd (t f x refl)
 fails_act tb code r (action.Compare f x y) rest q j u s k d v t g is_of l m o b at h = absurd (d f x y refl)
@@ -238,11 +243,12 @@ other_goal (op.Shield alt) e b d k la t br on tr qu lq = b
 other_goal (op.Collect x y alt) e b d k la t br on tr qu lq = b
 other_goal x e b d k la t br on tr qu lq = absurd (cc)
 
-pub quiet_else : (a : Action) → ((name : _) → a ≡ action.Text name → ⊥) → ((kind : _) → a ≡ action.Gap kind → ⊥) → ((x : Term) → a ≡ action.GapN x → ⊥) → IsQuiet a
-quiet_else (action.Text name) t g n = t name refl
-quiet_else (action.Gap kind) t g n = g kind refl
-quiet_else (action.GapN x) t g n = n x refl
-quiet_else a t g n = tt
+pub quiet_else : (a : Action) → ((name : _) → a ≡ action.Text name → ⊥) → ((kind : _) → a ≡ action.Gap kind → ⊥) → ((x : Term) → a ≡ action.GapN x → ⊥) → ((x y z : Term) → a ≡ action.Random x y z → ⊥) → IsQuiet a
+quiet_else (action.Text name) t g n d = t name refl
+quiet_else (action.Gap kind) t g n d = g kind refl
+quiet_else (action.GapN x) t g n d = n x refl
+quiet_else (action.Random x y z) t g n d = d x y z refl
+quiet_else a t g n d = tt
 
 pub quiet_op : (x : Op) → ((a : Action) → x ≡ op.Do a → ⊥) → IsQuietOp x
 quiet_op (op.Do a) d = absurd (d a refl)
@@ -251,6 +257,18 @@ quiet_op x d = tt
 quiet_gives : (o : Option ℕ) (v : Value) (r : Registers) (w : World) → said_by (gives_number o v r w) ≡ prints w.events
 quiet_gives None v r w = refl
 quiet_gives (Some n) v r w = refl
+
+quiet_throws : (o : Option ℕ) (v : Value) (r : Registers) (w : World) → said_by (throws o v r w) ≡ prints w.events
+quiet_throws None v r w = refl
+quiet_throws (Some n) v r w = refl
+
+-- a random number prints nothing
+pub quiet_random : (g : Setting) (m : Mid) (a b into : Term) (rest : List Op) → said_in g m (op.Do (action.Random a b into) ∷ rest) ≡ []
+quiet_random g m a b into rest =
+    let m' = more (cells g.game.program (terms_of (action.Random a b into))) m in
+    let v = value_of g.game.program (vars_of m.frames) a in
+    let u = value_of g.game.program (vars_of m.frames) b in
+    quiet_throws (of_numbers (thrown (die g.game.dice m.outside.dice)) (walk m.state.subst v) (walk m.state.subst u)) (value_of g.game.program (vars_of m.frames) into) (registers_of m') (worked (looked_up (registers_of m') v + looked_up (registers_of m') u) (world_of [] m'))
 
 quiet_goal : (g : Setting) (m : Mid) (x : Op) (rest : List Op) → IsQuietOp x → OpBuilt x → said_in g m (x ∷ rest) ≡ []
 quiet_goal g m (op.Do action.Just) rest q b = refl
@@ -268,6 +286,7 @@ quiet_goal g m (op.Do action.Stop) rest q b = refl
 quiet_goal g m (op.Do (action.Text name)) rest q b = absurd q
 quiet_goal g m (op.Do (action.Gap kind)) rest q b = absurd q
 quiet_goal g m (op.Do (action.GapN x)) rest q b = absurd q
+quiet_goal g m (op.Do (action.Random x y z)) rest q b = absurd q
 quiet_goal g m (op.Do a) rest q b = absurd b
 quiet_goal g m x rest q b = refl
 
@@ -278,31 +297,41 @@ module _ (tb : Tables) (code : Code) (g : Game) (is_of : IsOf g.program tb) (l :
   is_first : m.ops ≡ x ∷ rest
   is_first = at.0 ∙ split
 
-  -- an instruction that prints nothing here
-  pub silent_done : (s : Spacer) (k : SinkView) → MidOrdered m → said_in set m (x ∷ rest) ≡ [] → DoesOp tb code old x rest new now → GoalDone code g l new now s s k k m
-  silent_done s k o silent does =
-      let built : OpsBuilt (x ∷ rest) = subst OpsBuilt split at.1 in
+  built_here : OpsBuilt (x ∷ rest)
+  built_here = subst OpsBuilt split at.1
+
+  -- an instruction that prints nothing here, with what is outside behind it
+  pub silent_with : (s : Spacer) (k : SinkView) (out : Outside) → said_in set m (x ∷ rest) ≡ [] → StandsWith code g l new now out (does set x (record m { ops = rest })) → GoalDone code g l new out now s s k k m
+  silent_with s k out silent with_it =
       let none : said set (RunsOf m) ≡ [] = ap (λ ps. said_to ps (step set (RunsOf m))) (ap (said_in set m) is_first ∙ silent) in
       record {
-        stands = subst (λ xs. Stands code l new now (runs set xs m)) (sym is_first) (does g is_of l (record m { ops = rest }) o built.0 (refl, built.1) h);
+        stands = subst (λ xs. Stands code l new now (runs set xs m)) (sym is_first) with_it.stands;
+        outside = subst (λ xs. HasOutside out g (runs set xs m)) (sym is_first) with_it.outside;
         writes = λ start ps text. subst (λ qs. HasText s start k (followed ps qs)) (sym none) text;
       }
 
-  pub quiet_done : (s : Spacer) (k : SinkView) → MidOrdered m → IsQuietOp x → DoesOp tb code old x rest new now → GoalDone code g l new now s s k k m
-  quiet_done s k o quiet does = let built : OpsBuilt (x ∷ rest) = subst OpsBuilt split at.1 in silent_done s k o (quiet_goal set m x rest quiet built.0) does
+  -- the same of one that leaves what is outside
+  pub silent_done : (s : Spacer) (k : SinkView) (out : Outside) → MidOrdered m → InWorld out g (world_of [] m) → said_in set m (x ∷ rest) ≡ [] → DrawsNone x → DoesOp tb code old x rest new now → GoalDone code g l new out now s s k k m
+  silent_done s k out o w silent draws led =
+      let stands = led g is_of l (record m { ops = rest }) o built_here.0 (refl, built_here.1) h in
+      silent_with s k out silent (record { stands = stands; outside = has_outside out g code l new now (record m { ops = rest }) (does set x (record m { ops = rest })) h.1.height_is stands (has_does set x (record m { ops = rest }) built_here.0 draws) w })
+
+  pub quiet_done : (s : Spacer) (k : SinkView) (out : Outside) → MidOrdered m → InWorld out g (world_of [] m) → IsQuietOp x → DoesOp tb code old x rest new now → GoalDone code g l new out now s s k k m
+  quiet_done s k out o w quiet led = silent_done s k out o w (quiet_goal set m x rest quiet built_here.0) (quiet_draws x quiet) led
 
 said_ended : (ps : List Print) (e : Ending) → said_to ps (EndedOf e) ≡ []
 said_ended [] e = refl
 said_ended (p ∷ ps) e = refl
 
 -- an instruction at which the run ends prints nothing
-pub ended_done : (code : Code) (g : Game) (l : Limits) (m : Mid) (new : Memory) (e : Ending) (ops : List Op) (x : Op) (rest : List Op) (s : Spacer) (k : SinkView) → ops ≡ x ∷ rest → CodeIs ops m → does (setting g code l) x (record m { ops = rest }) ≡ EndedOf e → Roomy l new → GoalDone code g l new (Ended e) s s k k m
-ended_done code g l m new e ops x rest s k split at is room =
+pub ended_done : (code : Code) (g : Game) (l : Limits) (m : Mid) (new : Memory) (out : Outside) (e : Ending) (ops : List Op) (x : Op) (rest : List Op) (s : Spacer) (k : SinkView) → ops ≡ x ∷ rest → CodeIs ops m → does (setting g code l) x (record m { ops = rest }) ≡ EndedOf e → Roomy l new → GoalDone code g l new out (Ended e) s s k k m
+ended_done code g l m new out e ops x rest s k split at is room =
     let set = setting g code l in
     let ends : step set (RunsOf m) ≡ EndedOf e = ap (λ xs. runs set xs m) (at.0 ∙ split) ∙ is in
     let none : said set (RunsOf m) ≡ [] = ap (said_to (said_in set m m.ops)) ends ∙ said_ended (said_in set m m.ops) e in
     record {
       stands = subst (Stands code l new (Ended e)) (sym ends) (refl, room);
+      outside = subst (HasOutside out g) (sym ends) tt;
       writes = λ start ps text. subst (λ qs. HasText s start k (followed ps qs)) (sym none) text;
     }
 
@@ -327,11 +356,12 @@ module _ (code : Code) (g : Game) (l : Limits) (m : Mid) (r : Memory) (n : ℕ) 
   says : said set_p (RunsOf m) ≡ p ∷ []
   says = ap (λ s. said_to (said_in set_p m m.ops) s) step_is ∙ ap (λ ps. said_to ps (RunsOf (more n (record m { ops = rest.now })))) (ap (said_in set_p m) first_is ∙ said_is)
 
-  pub printed_done : (s s' : Spacer) (k k' : SinkView) → ((ps : List Print) → StandsFor s ps → StandsFor s' (ps ++ p ∷ [])) → ((ps : List Print) → StandsFor s ps → Wrote k k' (growth ps p)) → GoalDone code g l r (Runs rest) s s' k k' m
-  printed_done s s' k k' stands wrote =
+  pub printed_done : (s s' : Spacer) (k k' : SinkView) (out : Outside) → InWorld out g (world_of [] m) → ((ps : List Print) → StandsFor s ps → StandsFor s' (ps ++ p ∷ [])) → ((ps : List Print) → StandsFor s ps → Wrote k k' (growth ps p)) → GoalDone code g l r out (Runs rest) s s' k k' m
+  printed_done s s' k k' out w stands wrote =
       let built : OpsBuilt (op.Do a ∷ rest.now) = subst OpsBuilt split at.1 in
       record {
         stands = subst (Stands code l r (Runs rest)) (sym step_is) ((refl, built.1), h);
+        outside = subst (HasOutside out g) (sym step_is) w;
         writes = λ start ps text. subst (λ qs. HasText s' start k' (followed ps qs)) (sym says)
             (record { stands = stands ps text.stands; wrote = subst (Wrote start k') (sym (render_grows ps p)) (wrote_on start k k' (render ps) (growth ps p) text.wrote (wrote ps text.stands)) });
       }

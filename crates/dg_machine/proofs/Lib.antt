@@ -17,7 +17,9 @@ pub mod Leaving
 pub mod Bodies
 pub mod Unifying
 pub mod Compares
+pub mod Throws
 pub mod Texts
+pub mod Outsides
 pub mod Goals
 pub mod Spaces
 pub mod Runs

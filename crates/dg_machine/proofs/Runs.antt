@@ -36,7 +36,10 @@ use Rattle.dg_machine.specs.declared.now.Now.TheVariants.{Runs, Enters, Resumes,
 use Rattle.dg_machine.specs.declared.memory.Memory.{Memory}
 use Rattle.dg_machine.specs.Layout.{Holds}
 use Rattle.dg_machine.specs.Measure.{left_of}
-use Rattle.dg_machine.specs.Standing.{CodeIs, Stands}
+use Rattle.dg_machine.specs.Standing.{CodeIs, Stands, HasOutside}
+use Rattle.dg_machine.specs.Built.{IsBuilt}
+use Rattle.dg_outside.specs.declared.outside.Outside.{Outside}
+use Rattle.dg_machine.proofs.Outsides.{mark_outside}
 use Rattle.dg_machine.specs.declared.tables.Tables.{Tables}
 use Rattle.dg_machine.specs.Tables.{IsOf}
 use Rattle.dg_machine.specs.Running.{rests, MarkDone, DoesMarks, DoesGoal, LosesGoal, HasText, HasSettled, Settles, IsAt, IsLost, EndsSo, HasEnded, IsLostWithin, HasShown, HasLostOutput}
@@ -74,19 +77,20 @@ module _ (code : Code) (g : Game) (l : Limits) (typed : List ℕ) where
   set = setting g code l
 
   pub settled_nowhere : (r : Memory) (now : Now) (steps : ℕ) → Stands code l r now (after set typed steps).now → HasSettled code g l typed steps r now
-  settled_nowhere r now steps h = record { further = steps; stands = h; goals = refl; prints = refl }
+  settled_nowhere r now steps h = record { further = steps; stands = h; outside = λ out w. w; goals = refl; prints = refl }
 
   -- one more step
   pub one_mark : (tb : Tables) → IsOf g.program tb → (r new : Memory) (now next : Now) (steps : ℕ) → rests now ≡ false → DoesMarks tb code r now new next → Stands code l r now (after set typed steps).now → MarkDone code g l r now new next (after set typed steps).now
   one_mark tb is_of r new now next steps e does h = does g is_of l (after set typed steps).now (all_ordered set typed steps) (at_mark code l r now (after set typed steps).now e h).no_goal h
 
-  pub settled_on : (tb : Tables) → IsOf g.program tb → (mid new : Memory) (now next : Now) (steps : ℕ) → rests now ≡ false → DoesMarks tb code mid now new next → HasSettled code g l typed steps mid now → HasSettled code g l typed steps new next
-  settled_on tb is_of mid new now next steps e does h =
+  pub settled_on : IsBuilt code → (tb : Tables) → IsOf g.program tb → (mid new : Memory) (now next : Now) (steps : ℕ) → rests now ≡ false → DoesMarks tb code mid now new next → HasSettled code g l typed steps mid now → HasSettled code g l typed steps new next
+  settled_on built tb is_of mid new now next steps e does h =
       let done = one_mark tb is_of mid new now next h.further e does h.stands in
       let mark = at_mark code l mid now (after set typed h.further).now e h.stands in
       record {
         further = suc h.further;
         stands = done.stands;
+        outside = λ out w. mark_outside out g code l mid new now next (after set typed h.further).now built mark.no_goal h.stands done.stands (h.outside out w);
         goals = ap (λ b. one_if b + (after set typed h.further).goals) mark.no_goal ∙ (let same : 0 + (after set typed h.further).goals ≡ (after set typed h.further).goals = omega arith in same) ∙ h.goals;
         prints = ap (followed (after set typed h.further).prints) done.quiet ∙ h.prints;
       }
@@ -108,12 +112,12 @@ module _ (code : Code) (g : Game) (l : Limits) (typed : List ℕ) where
   goal_at r ops s h = absurd h
 
   -- the next goal was taken, and steps behind it
-  pub took_goal : (tb : Tables) → IsOf g.program tb → (old mid new : Memory) (ops : Bor (List Op)) (next now : Now) (s s' : Spacer) (k k' : SinkView) (goals : ℕ) (start : SinkView) → at_goal ops.now ≡ true → DoesGoal tb code old ops.now mid next s s' k k' → Settles tb code mid next new now →
-      IsAt code g l typed old (Runs ops) goals s start k → IsAt code g l typed new now (1 + goals) s' start k'
-  took_goal tb is_of old mid new ops next now s s' k k' goals start e does settles h =
+  pub took_goal : (tb : Tables) → IsOf g.program tb → (old mid new : Memory) (out out' : Outside) (ops : Bor (List Op)) (next now : Now) (s s' : Spacer) (k k' : SinkView) (goals : ℕ) (start : SinkView) → at_goal ops.now ≡ true → DoesGoal tb code old out ops.now mid out' next s s' k k' → Settles tb code mid next new now →
+      IsAt code g l typed old out (Runs ops) goals s start k → IsAt code g l typed new out' now (1 + goals) s' start k'
+  took_goal tb is_of old mid new out out' ops next now s s' k k' goals start e does settles h =
       let at = goal_at old ops (after set typed h.steps).now h.stands in
       let ordered : StatusOrdered (RunsOf at.mid) = subst StatusOrdered at.is (all_ordered set typed h.steps) in
-      let done = does g is_of l at.mid ordered e at.code_is at.held in
+      let done = does g is_of l at.mid ordered e at.code_is at.held (subst (HasOutside out g) at.is h.outside) in
       let stands : Stands code l mid next (after set typed (suc h.steps)).now = subst (λ x. Stands code l mid next (step set x)) (sym at.is) done.stands in
       let settled = settles g is_of l typed (suc h.steps) stands in
       let taken : takes_goal (after set typed h.steps).now ≡ true = ap takes_goal at.is ∙ ap at_goal at.code_is.0 ∙ e in
@@ -122,13 +126,14 @@ module _ (code : Code) (g : Game) (l : Limits) (typed : List ℕ) where
       record {
         steps = settled.further;
         stands = settled.stands;
+        outside = settled.outside out' (subst (λ x. HasOutside out' g (step set x)) (sym at.is) done.outside);
         goals_is = settled.goals ∙ one;
         text = subst (HasText s' start k') (sym settled.prints) text;
       }
 
   -- the output was lost at the next goal
-  pub lost_goal : (tb : Tables) → IsOf g.program tb → (old : Memory) (ops : Bor (List Op)) (s : Spacer) (k k' : SinkView) (goals : ℕ) (start : SinkView) → at_goal ops.now ≡ true → LosesGoal tb code old ops.now s k k' → IsAt code g l typed old (Runs ops) goals s start k → IsLost code g l typed (suc goals) start k'
-  lost_goal tb is_of old ops s k k' goals start e loses h =
+  pub lost_goal : (tb : Tables) → IsOf g.program tb → (old : Memory) (out : Outside) (ops : Bor (List Op)) (s : Spacer) (k k' : SinkView) (goals : ℕ) (start : SinkView) → at_goal ops.now ≡ true → LosesGoal tb code old ops.now s k k' → IsAt code g l typed old out (Runs ops) goals s start k → IsLost code g l typed (suc goals) start k'
+  lost_goal tb is_of old out ops s k k' goals start e loses h =
       let at = goal_at old ops (after set typed h.steps).now h.stands in
       let lost = loses g is_of l at.mid at.code_is at.held start (after set typed h.steps).prints h.text in
       let taken : takes_goal (after set typed h.steps).now ≡ true = ap takes_goal at.is ∙ ap at_goal at.code_is.0 ∙ e in

@@ -17,10 +17,13 @@ use Rattle.dg_machine.specs.declared.now.Now.{Now}
 use Rattle.dg_machine.specs.declared.now.Now.TheVariants.{Runs}
 use Rattle.dg_machine.specs.declared.memory.Memory.{Memory}
 use Rattle.dg_machine.specs.declared.tables.Tables.{Tables}
-use Rattle.dg_machine.proofs.TableLemmas.{a_program, a_program_is}
+use Rattle.dg_machine.specs.Tables.{IsOf}
+use Rattle.dg_base.specs.declared.program.CoreProgram.{CoreProgram}
+use Rattle.dg_outside.specs.Outside.{StartsOutside}
+use Rattle.dg_outside.specs.declared.outside.Outside.{Outside}
 use Rattle.dg_machine.specs.Built.{OpsBuilt, IsBuilt}
 use Rattle.dg_machine.specs.Layout.{ChoicesAt, Roomy, HoldsWith, limit_in, at_rest}
-use Rattle.dg_machine.specs.Running.{game, HasText, IsAt, IsSomewhere, Finishes, LosesRun}
+use Rattle.dg_machine.specs.Running.{game, HasText, IsAt, IsSomewhereWith, Finishes, LosesRun}
 
 -- what was emptied has its room
 pub record Emptied (r new : Memory) : Type 0 where
@@ -72,28 +75,29 @@ no_text : (s : Spacer) (k : SinkView) → StandsFor s [] → HasText s k k []
 unfolding render
 no_text s k new = record { stands = new; wrote = wrote_nothing k }
 
-pub at_start : (code : Code) (g : Game) (l : Limits) (typed : List ℕ) (r : Memory) (block : Bor (List Op)) (s : Spacer) (k : SinkView) → IsBuilt code → block.now ≡ block_at code 1 → HoldsWith code l r at_rest [] [] [] → StandsFor s [] → IsAt code g l typed r (Runs block) 0 s k k
-at_start code g l typed r block s k built is held new = record {
+pub at_start : (code : Code) (p : CoreProgram) (dice : List ℕ) (l : Limits) (typed : List ℕ) (r : Memory) (out : Outside) (block : Bor (List Op)) (s : Spacer) (k : SinkView) → IsBuilt code → block.now ≡ block_at code 1 → HoldsWith code l r at_rest [] [] [] → StandsFor s [] → StartsOutside p l dice out → IsAt code (game p dice) l typed r out (Runs block) 0 s k k
+at_start code p dice l typed r out block s k built is held new starts = record {
   steps = 0;
+  outside = starts.stands (game p dice) typed refl refl;
   stands = ((sym is, subst OpsBuilt (sym is) (built 1)), (held, record { stops_are = refl; stop_is = refl; height_is = refl }));
   goals_is = refl;
   text = no_text s k new;
 }
 
-abbrev pub a_game : Tables → Game
-a_game tb = game (a_program tb) []
-
-pub somewhere_first : (tb : Tables) (code : Code) (l : Limits) (r : Memory) (block : Bor (List Op)) → IsBuilt code → block.now ≡ block_at code 1 → HoldsWith code l r at_rest [] [] [] → IsSomewhere tb code r (Runs block)
-somewhere_first tb code l r block built is held = record {
-  game = a_game tb;
-  tabled = a_program_is tb;
-  limits = l;
-  typed = [];
-  steps = 0;
-  stands = ((sym is, subst OpsBuilt (sym is) (built 1)), (held, record { stops_are = refl; stop_is = refl; height_is = refl }));
+pub somewhere_first : (tb : Tables) (code : Code) (p : CoreProgram) (dice : List ℕ) (l : Limits) (r : Memory) (out : Outside) (block : Bor (List Op)) → IsOf p tb → IsBuilt code → block.now ≡ block_at code 1 → HoldsWith code l r at_rest [] [] [] → StartsOutside p l dice out → IsSomewhereWith tb code r out (Runs block)
+somewhere_first tb code p dice l r out block is_of built is held starts = record {
+  somewhere = record {
+    game = game p dice;
+    tabled = is_of;
+    limits = l;
+    typed = [];
+    steps = 0;
+    stands = ((sym is, subst OpsBuilt (sym is) (built 1)), (held, record { stops_are = refl; stop_is = refl; height_is = refl }));
+  };
+  outside = starts.stands (game p dice) [] refl refl;
 }
 
 -- room is left whether a run has ended or has lost its output
-pub roomy_after : {E : Type 0} (tb : Tables) (code : Code) (l : Limits) (old new : Memory) (start : Now) (steps : ℕ) (s s' : Spacer) (k k' : SinkView) (result : Result (Ending × ℕ) E) → IfOk result (λ end. Finishes tb code old start steps s k end.0 end.1 new s' k') → OnErr result (LosesRun tb code old start steps s k new k') → IsAt code (a_game tb) l [] old start 0 s k k → Roomy l new
-roomy_after tb code l old new start steps s s' k k' (Ok end) ok err at = (ok (a_game tb) (a_program_is tb) l [] k at).0.roomy
-roomy_after tb code l old new start steps s s' k k' (Err e) ok err at = (err (a_game tb) (a_program_is tb) l [] k at).roomy
+pub roomy_after : {E : Type 0} (tb : Tables) (code : Code) (g : Game) (l : Limits) (old new : Memory) (out : Outside) (start : Now) (steps : ℕ) (s s' : Spacer) (k k' : SinkView) (result : Result (Ending × ℕ) E) → IsOf g.program tb → IfOk result (λ end. Finishes tb code old out start steps s k end.0 end.1 new s' k') → OnErr result (LosesRun tb code old out start steps s k new k') → IsAt code g l [] old out start 0 s k k → Roomy l new
+roomy_after tb code g l old new out start steps s s' k k' (Ok end) is_of ok err at = (ok g is_of l [] k at).0.roomy
+roomy_after tb code g l old new out start steps s s' k k' (Err e) is_of ok err at = (err g is_of l [] k at).roomy

@@ -29,6 +29,7 @@ ActionBuilt (action.Equal a b) = Unit {0}
 ActionBuilt (action.Test kind a) = Unit {0}
 ActionBuilt (action.Arith f a b c) = Unit {0}
 ActionBuilt (action.Compare f a b) = Unit {0}
+ActionBuilt (action.Random a b c) = Unit {0}
 ActionBuilt action.Just = Unit {0}
 ActionBuilt action.Fail = Unit {0}
 ActionBuilt action.Quit = Unit {0}
@@ -73,14 +74,15 @@ OpsBuilt (x ∷ ops) = OpBuilt x × OpsBuilt ops
 abbrev pub IsBuilt : Code → Type 0
 IsBuilt code = (b : ℕ) → OpsBuilt (block_at code b)
 
--- An action prints nothing.
+-- An action prints nothing, and leaves what is outside.
 abbrev pub IsQuiet : Action → Type 0
 IsQuiet (action.Text name) = ⊥
 IsQuiet (action.Gap kind) = ⊥
 IsQuiet (action.GapN a) = ⊥
+IsQuiet (action.Random a b c) = ⊥
 IsQuiet a = Unit {0}
 
--- Nor does an instruction.
+-- So does an instruction.
 abbrev pub IsQuietOp : Op → Type 0
 IsQuietOp (op.Do a) = IsQuiet a
 IsQuietOp x = Unit {0}

@@ -11,6 +11,9 @@ use Rattle.dg_meaning.specs.Render.{render}
 use Rattle.dg_meaning.specs.Shows.{Shows, MayWrite}
 use Rattle.dg_spacing.specs.declared.spacer.Spacer.{Spacer}
 use Rattle.dg_spacing.specs.Spacer.{StandsFor}
+use Rattle.dg_outside.specs.Outside.{InWorld}
+use Rattle.dg_outside.specs.declared.outside.Outside.{Outside}
+use Rattle.dg_mid.specs.Actions.{world_of}
 use Rattle.dg_mid.specs.declared.code.Op.{Op}
 use Rattle.dg_mid.specs.declared.code.Code.{Code}
 use Rattle.dg_mid.specs.State.{Mid, Status, Runs as RunsOf, Ended as EndedOf}
@@ -24,7 +27,7 @@ use Rattle.dg_machine.specs.declared.memory.Memory.{Memory}
 use Rattle.dg_machine.specs.declared.tables.Tables.{Tables}
 use Rattle.dg_machine.specs.Tables.{IsOf}
 use Rattle.dg_machine.specs.Layout.{Roomy, Holds}
-use Rattle.dg_machine.specs.Standing.{CodeIs, Stands}
+use Rattle.dg_machine.specs.Standing.{CodeIs, Stands, HasOutside}
 use Rattle.dg_machine.specs.Measure.{left_of}
 
 -- ## Steps
@@ -53,15 +56,16 @@ pub record HasText (s : Spacer) (start now : SinkView) (ps : List Print) : Type 
   pub stands : StandsFor s ps
   pub wrote : Wrote start now (render ps)
 
--- An instruction that takes a goal was done: the machine stands for what it leads to, and what it prints was written.
-pub record GoalDone (code : Code) (g : Game) (l : Limits) (new : Memory) (after : Now) (s s' : Spacer) (k k' : SinkView) (m : Mid) : Type 0 where
+-- An instruction that takes a goal was done: the machine and what is outside stand for what it leads to, and what it prints was written.
+pub record GoalDone (code : Code) (g : Game) (l : Limits) (new : Memory) (out : Outside) (after : Now) (s s' : Spacer) (k k' : SinkView) (m : Mid) : Type 0 where
   pub stands : Stands code l new after (step (setting g code l) (RunsOf m))
+  pub outside : HasOutside out g (step (setting g code l) (RunsOf m))
   pub writes : (start : SinkView) (ps : List Print) → HasText s start k ps → HasText s' start k' (followed ps (said (setting g code l) (RunsOf m)))
 
-abbrev pub DoesGoal : Tables → Code → Memory → List Op → Memory → Now → Spacer → Spacer → SinkView → SinkView → Type 0
-DoesGoal t code old ops new after s s' k k' =
+abbrev pub DoesGoal : Tables → Code → Memory → Outside → List Op → Memory → Outside → Now → Spacer → Spacer → SinkView → SinkView → Type 0
+DoesGoal t code old out ops new out' after s s' k k' =
     (g : Game) → IsOf g.program t → (l : Limits) (m : Mid) → MidOrdered m → at_goal ops ≡ true → CodeIs ops m → Holds code l old m →
-    GoalDone code g l new after s s' k k' m
+    InWorld out g (world_of [] m) → GoalDone code g l new out' after s s' k k' m
 
 -- The sink failed within what an instruction prints, and the code goes on behind it.
 pub record GoalLost (g : Game) (code : Code) (l : Limits) (k k' : SinkView) (m : Mid) (start : SinkView) (ps : List Print) : Type 0 where
@@ -77,16 +81,18 @@ LosesGoal t code old ops s k k' =
 -- ## Whole runs
 
 -- The machine is where a run of code is after some steps, of which so many goals are, and what was printed was written.
-pub record IsAt (code : Code) (g : Game) (l : Limits) (typed : List ℕ) (r : Memory) (now : Now) (goals : ℕ) (s : Spacer) (start k : SinkView) : Type 0 where
+pub record IsAt (code : Code) (g : Game) (l : Limits) (typed : List ℕ) (r : Memory) (out : Outside) (now : Now) (goals : ℕ) (s : Spacer)
+    (start k : SinkView) : Type 0 where
   pub steps : ℕ
   pub stands : Stands code l r now (after (setting g code l) typed steps).now
+  pub outside : HasOutside out g (after (setting g code l) typed steps).now
   pub goals_is : (after (setting g code l) typed steps).goals ≡ goals
   pub text : HasText s start k (after (setting g code l) typed steps).prints
 
 -- Wherever the machine was, it has taken so many goals from there.
-abbrev pub Takes : Tables → Code → ℕ → Memory → Now → Spacer → SinkView → Memory → Now → Spacer → SinkView → Type 0
-Takes t code n old before s k new now s' k' = (g : Game) → IsOf g.program t → (l : Limits) (typed : List ℕ) (goals : ℕ) (start : SinkView) →
-    IsAt code g l typed old before goals s start k → IsAt code g l typed new now (n + goals) s' start k'
+abbrev pub Takes : Tables → Code → ℕ → Memory → Outside → Now → Spacer → SinkView → Memory → Outside → Now → Spacer → SinkView → Type 0
+Takes t code n old out before s k new out' now s' k' = (g : Game) → IsOf g.program t → (l : Limits) (typed : List ℕ) (goals : ℕ) (start : SinkView) →
+    IsAt code g l typed old out before goals s start k → IsAt code g l typed new out' now (n + goals) s' start k'
 
 -- The output was lost: what broke off is within the text of what was printed up to some step, behind which the code goes on.
 pub record IsLost (code : Code) (g : Game) (l : Limits) (typed : List ℕ) (goals : ℕ) (start k : SinkView) : Type 0 where
@@ -97,9 +103,9 @@ pub record IsLost (code : Code) (g : Game) (l : Limits) (typed : List ℕ) (goal
   pub broke : BrokeOff start k (render (after (setting g code l) typed steps).prints)
 
 -- Wherever the machine was, the next goal has lost the output.
-abbrev pub Loses : Tables → Code → Memory → Now → Spacer → SinkView → SinkView → Type 0
-Loses t code old before s k k' = (g : Game) → IsOf g.program t → (l : Limits) (typed : List ℕ) (goals : ℕ) (start : SinkView) →
-    IsAt code g l typed old before goals s start k → IsLost code g l typed (suc goals) start k'
+abbrev pub Loses : Tables → Code → Memory → Outside → Now → Spacer → SinkView → SinkView → Type 0
+Loses t code old out before s k k' = (g : Game) → IsOf g.program t → (l : Limits) (typed : List ℕ) (goals : ℕ) (start : SinkView) →
+    IsAt code g l typed old out before goals s start k → IsLost code g l typed (suc goals) start k'
 
 -- How a run has ended: as its code does, or at a goal for which no budget is left.
 abbrev pub EndsSo : Ending → ℕ → Status → Type 0
@@ -115,9 +121,9 @@ pub record HasEnded (code : Code) (g : Game) (l : Limits) (typed : List ℕ) (go
   pub roomy : Roomy l r
 
 -- Wherever the machine was with such a budget, it has ended so.
-abbrev pub Finishes : Tables → Code → Memory → Now → ℕ → Spacer → SinkView → Ending → ℕ → Memory → Spacer → SinkView → Type 0
-Finishes t code old before budget s k e left new s' k' = (g : Game) → IsOf g.program t → (l : Limits) (typed : List ℕ) (start : SinkView) →
-    IsAt code g l typed old before 0 s start k → HasEnded code g l typed (budget - left) e left new s' start k' × (left ≤ budget)
+abbrev pub Finishes : Tables → Code → Memory → Outside → Now → ℕ → Spacer → SinkView → Ending → ℕ → Memory → Spacer → SinkView → Type 0
+Finishes t code old out before budget s k e left new s' k' = (g : Game) → IsOf g.program t → (l : Limits) (typed : List ℕ) (start : SinkView) →
+    IsAt code g l typed old out before 0 s start k → HasEnded code g l typed (budget - left) e left new s' start k' × (left ≤ budget)
 
 -- Or within its budget it has lost the output.
 pub record IsLostWithin (code : Code) (g : Game) (l : Limits) (typed : List ℕ) (budget : ℕ) (r : Memory) (start k : SinkView) : Type 0 where
@@ -126,9 +132,9 @@ pub record IsLostWithin (code : Code) (g : Game) (l : Limits) (typed : List ℕ)
   pub lost : IsLost code g l typed goals start k
   pub roomy : Roomy l r
 
-abbrev pub LosesRun : Tables → Code → Memory → Now → ℕ → Spacer → SinkView → Memory → SinkView → Type 0
-LosesRun t code old before budget s k new k' = (g : Game) → IsOf g.program t → (l : Limits) (typed : List ℕ) (start : SinkView) →
-    IsAt code g l typed old before 0 s start k → IsLostWithin code g l typed budget new start k'
+abbrev pub LosesRun : Tables → Code → Memory → Outside → Now → ℕ → Spacer → SinkView → Memory → SinkView → Type 0
+LosesRun t code old out before budget s k new k' = (g : Game) → IsOf g.program t → (l : Limits) (typed : List ℕ) (start : SinkView) →
+    IsAt code g l typed old out before 0 s start k → IsLostWithin code g l typed budget new start k'
 
 -- A machine is where a run of some game is whose program has these tables.
 pub record IsSomewhere (t : Tables) (code : Code) (r : Memory) (now : Now) : Type 0 where
@@ -139,10 +145,16 @@ pub record IsSomewhere (t : Tables) (code : Code) (r : Memory) (now : Now) : Typ
   pub steps : ℕ
   pub stands : Stands code limits r now (after (setting game code limits) typed steps).now
 
--- The machine has done steps that take no goal.
+-- So is what is outside.
+pub record IsSomewhereWith (t : Tables) (code : Code) (r : Memory) (out : Outside) (now : Now) : Type 0 where
+  pub somewhere : IsSomewhere t code r now
+  pub outside : HasOutside out somewhere.game (after (setting somewhere.game code somewhere.limits) somewhere.typed somewhere.steps).now
+
+-- The machine has done steps that take no goal, which leave what is outside.
 pub record HasSettled (code : Code) (g : Game) (l : Limits) (typed : List ℕ) (steps : ℕ) (new : Memory) (now : Now) : Type 0 where
   pub further : ℕ
   pub stands : Stands code l new now (after (setting g code l) typed further).now
+  pub outside : (out : Outside) → HasOutside out g (after (setting g code l) typed steps).now → HasOutside out g (after (setting g code l) typed further).now
   pub goals : (after (setting g code l) typed further).goals ≡ (after (setting g code l) typed steps).goals
   pub prints : (after (setting g code l) typed further).prints ≡ (after (setting g code l) typed steps).prints
 

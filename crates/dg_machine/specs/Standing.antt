@@ -4,9 +4,12 @@ use Rattle.std.specs.Borrow.{Bor}
 use Rattle.dg_base.specs.declared.program.Term.{Term}
 use Rattle.dg_base.specs.declared.run.Limits.{Limits}
 use Rattle.dg_meaning.specs.World.{Game, worked}
-use Rattle.dg_meaning.specs.Numbers.{of_numbers, calculated}
+use Rattle.dg_meaning.specs.Numbers.{of_numbers, calculated, thrown}
+use Rattle.dg_meaning.specs.Choosing.{die}
 use Rattle.dg_meaning.specs.Substitutions.{walk}
-use Rattle.dg_meaning.specs.Moves.{gives_number, looked_up}
+use Rattle.dg_meaning.specs.Moves.{gives_number, throws, looked_up}
+use Rattle.dg_outside.specs.Outside.{InWorld}
+use Rattle.dg_outside.specs.declared.outside.Outside.{Outside}
 use Rattle.dg_base.specs.declared.program.ArithOp.{ArithOp}
 use Rattle.dg_mid.specs.Actions.{registers_of, world_of}
 use Rattle.dg_meaning.specs.Values.{Value, Values}
@@ -51,6 +54,19 @@ Stands code l r Fails (FailsOf m) = Holds code l r m
 Stands code l r (Ended e) (EndedOf e') = (e' ≡ e) × Roomy l r
 Stands code l r now s = ⊥
 
+-- What is outside stands for what a status has of the world.
+abbrev pub HasOutside : Outside → Game → Status → Type 0
+HasOutside out g (RunsOf m) = InWorld out g (world_of [] m)
+HasOutside out g (EntersOf c m) = InWorld out g (world_of [] m)
+HasOutside out g (ResumesOf way m) = InWorld out g (world_of [] m)
+HasOutside out g (FailsOf m) = InWorld out g (world_of [] m)
+HasOutside out g (EndedOf e) = Unit {0}
+
+-- The machine stands for a status, and what is outside for what that has of the world.
+pub record StandsWith (code : Code) (g : Game) (l : Limits) (r : Memory) (now : Now) (out : Outside) (s : Status) : Type 0 where
+  pub stands : Stands code l r now s
+  pub outside : HasOutside out g s
+
 -- Whatever the machine stands for before, it stands behind it for the step of that, in every game.
 abbrev pub Steps : Code → Memory → Now → Memory → Now → Type 0
 Steps code old before new after =
@@ -62,7 +78,12 @@ abbrev pub DoesOp : Tables → Code → Memory → Op → List Op → Memory →
 DoesOp t code old x rest new after = (g : Game) → IsOf g.program t → (l : Limits) (m : Mid) → MidOrdered m → OpBuilt x → CodeIs rest m → Holds code l old m →
     Stands code l new after (does (setting g code l) x m)
 
--- The same, and the number that falls between goals has fallen.
+-- The same of an instruction that changes what is outside.
+abbrev pub DoesWith : Tables → Code → Memory → Outside → Op → List Op → Memory → Now → Outside → Type 0
+DoesWith t code old out x rest new after out' = (g : Game) → IsOf g.program t → (l : Limits) (m : Mid) → OpBuilt x → CodeIs rest m → Holds code l old m →
+    InWorld out g (world_of [] m) → StandsWith code g l new after out' (does (setting g code l) x m)
+
+-- A step was done, and the number that falls between goals has fallen.
 pub record Falls (code : Code) (l : Limits) (old : Memory) (before : Now) (new : Memory) (after : Now) (s : Status) : Type 0 where
   pub stands : Stands code l new after s
   pub falls : left_of new after < left_of old before
@@ -128,6 +149,13 @@ abbrev pub Calculates : Code → ArithOp → Memory → List Op → Memory → N
 Calculates code by old rest new after = (g : Game) (l : Limits) (m : Mid) (u v w : Value) → CodeIs rest m → Holds code l old m →
     RefsAt (meaning_of old.arena) old.args.items (u ∷ v ∷ w ∷ []) → Stands code l new after (done (setting g code l)
     (gives_number (of_numbers (calculated by) (walk m.state.subst u) (walk m.state.subst v)) w (registers_of m)
+    (worked (looked_up (registers_of m) u + looked_up (registers_of m) v) (world_of [] m))) m)
+
+-- A random number between two values at hand is unified with a third, and a dice word was drawn for it.
+abbrev pub ThrowsDie : Code → Memory → Outside → List Op → Memory → Now → Outside → Type 0
+ThrowsDie code old out rest new after out' = (g : Game) (l : Limits) (m : Mid) (u v w : Value) → CodeIs rest m → Holds code l old m →
+    RefsAt (meaning_of old.arena) old.args.items (u ∷ v ∷ w ∷ []) → InWorld out g (world_of [] m) → StandsWith code g l new after out' (done (setting g code l)
+    (throws (of_numbers (thrown (die g.dice m.outside.dice)) (walk m.state.subst u) (walk m.state.subst v)) w (registers_of m)
     (worked (looked_up (registers_of m) u + looked_up (registers_of m) v) (world_of [] m))) m)
 
 -- The body of a closure is entered by a call whose arguments stand behind the first at hand.

@@ -17,6 +17,7 @@ ghost use Rattle.dg_machine.specs.declared.tables.Tables.{Tables as TheTables};
 ghost use Rattle.dg_machine.specs.Refs.{RefsAt, AreRefs};
 ghost use Rattle.dg_machine.specs.Layout.{HasRoom, Holds};
 ghost use Rattle.dg_machine.specs.Standing.{DoesOp, DoesMark, CallsRules, EntersWith, Asks, AsksLast, Calculates, EntersBody, IsAsked, QueriesFirst};
+ghost use Rattle.dg_machine.specs.Standing.{DoesWith, ThrowsDie};
 ghost use Rattle.dg_machine.specs.Standing.{EntersLastBody, QueriesLast, EntersRule, EntersIn, IsThere, GoesOnAt, GoesOn, FailsTo};
 
 use crate::closures::body_row;
@@ -26,6 +27,7 @@ use crate::passing::pass;
 use crate::tables::Tables;
 use dg_base::{ArithOp, CompareOp, Ending, Term, TestKind};
 use dg_mid::{BodyCode, Code, Op, RuleCode};
+use dg_outside::Outside;
 use dg_unify::Ref;
 
 /// The instructions of a block.
@@ -200,6 +202,41 @@ impl Memory {
         match self.put_three(tables, a, b, into) {
             Err(_) => Now::Ended(Ending::HeapLimit),
             Ok(()) => self.calculate(by, rest),
+        }
+    }
+
+    /// A random number between two arguments, if there is one, is unified with a third.
+    fn throw<'p>(&mut self, outside: &mut Outside<'_>, rest: &'p [Op]) -> Now<'p>
+        requires { (u v w : Value) × RefsAt (meaning_of self.old.arena) self.old.args.items (u ∷ v ∷ w ∷ []) }
+        ensures { (code : TheCode) → ThrowsDie code self.old outside.old rest.now self.new result outside.new }
+    {
+        match self.throw_args(outside) {
+            None => Now::Fails,
+            Some(n) => match self.unify_number(n) {
+                Err(_) => Now::Ended(Ending::TrailLimit),
+                Ok(false) => Now::Fails,
+                Ok(true) => Now::Runs(rest),
+            },
+        }
+    }
+
+    /// A random number between two values, if there is one, is unified with a third; a dice word is then drawn.
+    pub fn random<'p>(
+        &mut self,
+        tables: &Tables,
+        outside: &mut Outside<'_>,
+        a: &Term,
+        b: &Term,
+        into: &Term,
+        rest: &'p [Op],
+    ) -> Now<'p>
+        requires { (code : TheCode) × (l : Limits) × (m : Mid) × Holds code l self.old m }
+        ensures { (code : TheCode) → DoesWith tables.now code self.old outside.old (op.Do (action.Random a.now b.now into.now)) rest.now self.new result
+            outside.new }
+    {
+        match self.put_three(tables, a, b, into) {
+            Err(_) => Now::Ended(Ending::HeapLimit),
+            Ok(()) => self.throw(outside, rest),
         }
     }
 

@@ -2,6 +2,7 @@
 ghost use Rattle.std.specs.Prelude.{◌≡◌, IfOk, OnErr, IsErrOf, List, ℕ};
 ghost use Rattle.dg_base.specs.declared.program.CoreProgram.{CoreProgram};
 ghost use Rattle.dg_meaning.specs.Transcript.{line_of};
+ghost use Rattle.dg_outside.specs.Outside.{StartsOutside};
 ghost use Rattle.dg_mid.specs.Codes.{Codes};
 ghost use Rattle.dg_mid.specs.Potential.{Tidy};
 ghost use Rattle.dg_machine.specs.Built.{IsBuilt};
@@ -16,6 +17,7 @@ use crate::steps::go;
 use crate::tables::Tables;
 use dg_base::{Ending, Fault, Limits, Outcome, Sink, Source};
 use dg_mid::Code;
+use dg_outside::Outside;
 use dg_spacing::Spacer;
 use std::alloc::{AllocError, Global};
 
@@ -66,19 +68,20 @@ impl Machine {
         })
     }
 
-    /// Runs the code from its start, and writes the transcript. It takes no memory, and reads nothing yet.
+    /// Runs the code from its start, with what is outside at the start, and writes the transcript. It takes no memory, and reads nothing yet.
     pub fn run<S: Source, K: Sink>(
         &mut self,
+        outside: &mut Outside<'_>,
         source: &mut S,
-        dice: &[u16],
         sink: &mut K,
     ) -> Result<Outcome, Fault>
         requires built { IsBuilt self.old.code }
         requires tidy { Tidy self.old.code }
-        ensures shows { IfOk result (λ outcome. (p : CoreProgram) → Codes p self.old.code → IsOf p self.old.tables → (typed : List ℕ) →
-            HasShown (game p dice.now) typed self.old.limits outcome (K.view sink.old) (K.view sink.new)) }
-        ensures err { OnErr result ((p : CoreProgram) → Codes p self.old.code → IsOf p self.old.tables → (typed : List ℕ) →
-            HasLostOutput (game p dice.now) typed self.old.limits (K.view sink.old) (K.view sink.new)) }
+        requires outside { (p : CoreProgram) × (dice : List ℕ) × IsOf p self.old.tables × StartsOutside p self.old.limits dice outside.old }
+        ensures shows { IfOk result (λ outcome. (p : CoreProgram) → (dice : List ℕ) → Codes p self.old.code → IsOf p self.old.tables →
+            StartsOutside p self.old.limits dice outside.old → (typed : List ℕ) → HasShown (game p dice) typed self.old.limits outcome (K.view sink.old) (K.view sink.new)) }
+        ensures err { OnErr result ((p : CoreProgram) → (dice : List ℕ) → Codes p self.old.code → IsOf p self.old.tables →
+            StartsOutside p self.old.limits dice outside.old → (typed : List ℕ) → HasLostOutput (game p dice) typed self.old.limits (K.view sink.old) (K.view sink.new)) }
         ensures read { IsErrOf result Fault.Read → ⊥ }
         ensures source { S.view source.new ≡ S.view source.old }
         ensures code { self.new.code ≡ self.old.code }
@@ -93,6 +96,7 @@ impl Machine {
             &mut self.memory,
             &self.code,
             &self.tables,
+            outside,
             start,
             steps,
             &mut spacer,

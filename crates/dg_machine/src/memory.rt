@@ -8,7 +8,9 @@ ghost use Rattle.dg_base.specs.declared.run.Limits.{Limits};
 ghost use Rattle.dg_meaning.specs.Cells.{cells};
 ghost use Rattle.dg_meaning.specs.Values.{Value, Num, Nil, leaf, value_of};
 ghost use Rattle.dg_meaning.specs.Moves.{new_vars};
-ghost use Rattle.dg_meaning.specs.Numbers.{are_in_order, calculated, of_numbers};
+ghost use Rattle.dg_choose.specs.Dice.{HasDrawn};
+ghost use Rattle.dg_meaning.specs.Choosing.{die};
+ghost use Rattle.dg_meaning.specs.Numbers.{are_in_order, calculated, of_numbers, thrown};
 ghost use Rattle.dg_meaning.specs.Substitutions.{walk};
 ghost use Rattle.dg_meaning.specs.TypeTests.{passes};
 ghost use Rattle.dg_meaning.specs.Unify.{solve, unify as unified};
@@ -18,7 +20,7 @@ ghost use Rattle.dg_arena.specs.Held.{meaning_of};
 ghost use Rattle.dg_mid.specs.declared.code.Code.{Code};
 ghost use Rattle.dg_mid.specs.State.{Mid, Place, Call as CallOf, Way as WayOf, vars_of};
 ghost use Rattle.dg_mid.specs.Step.{more, inside, within};
-ghost use Rattle.dg_terms.specs.Throwing.{number_in};
+ghost use Rattle.dg_terms.specs.Throwing.{number_in, Throws};
 ghost use Rattle.dg_machine.specs.Built.{AreArguments};
 ghost use Rattle.dg_machine.specs.Tables.{IsOf};
 ghost use Rattle.dg_machine.specs.Links.{named, below};
@@ -34,7 +36,8 @@ use crate::tables::Tables;
 use crate::terms::{match_heads, simple_value, var_value};
 use dg_arena::Arena;
 use dg_base::{ArithOp, CompareOp, Simple, Term, TestKind};
-use dg_terms::{calculate, in_order, number_of as number_shown, test};
+use dg_outside::Outside;
+use dg_terms::{calculate, in_order, number_of as number_shown, test, throw};
 use dg_unify::{Bindings, Full, Ref, View, unify};
 use std::alloc::{AllocError, Global};
 
@@ -439,6 +442,19 @@ impl Memory {
         let a = self.arg(0);
         let b = self.arg(1);
         calculate(&self.arena, op, a, b)
+    }
+
+    /// A random number from the first of three arguments to the second, if there is one; a dice word is then drawn.
+    pub fn throw_args(&self, outside: &mut Outside<'_>) -> Option<u16>
+        requires { (u v w : Value) × RefsAt (meaning_of self.now.arena) self.now.args.items (u ∷ v ∷ w ∷ []) }
+        ensures thrown { (code : Code) → (l : Limits) → (m : Mid) → (u v w : Value) → Holds code l self.now m →
+            RefsAt (meaning_of self.now.arena) self.now.args.items (u ∷ v ∷ w ∷ []) → (words : List ℕ) → (n : ℕ) → HasDrawn outside.old.dice words n →
+            Throws (of_numbers (thrown (die words n)) (walk m.state.subst u) (walk m.state.subst v)) words n result outside.new.dice }
+        ensures others { outside.new ≡ record outside.old { dice = outside.new.dice } }
+    {
+        let a = self.arg(0);
+        let b = self.arg(1);
+        throw(&self.arena, &mut outside.dice, a, b)
     }
 
     /// Unifies the third argument with a number.

@@ -11,9 +11,10 @@ ghost use Rattle.dg_machine.specs.declared.now.Now.TheVariants.{Runs};
 ghost use Rattle.dg_machine.specs.Built.{ActionBuilt, OpBuilt, OpsBuilt, IsBuilt, IsQuiet, IsQuietOp};
 ghost use Rattle.dg_base.specs.declared.run.Limits.{Limits};
 ghost use Rattle.dg_mid.specs.State.{Mid};
+ghost use Rattle.dg_outside.specs.declared.outside.Outside.{Outside as TheOutside};
 ghost use Rattle.dg_machine.specs.Layout.{HasRoom, Holds, Roomy};
 ghost use Rattle.dg_machine.specs.Standing.{DoesOp, DoesMark, HasStatus};
-ghost use Rattle.dg_machine.specs.Running.{rests, DoesMarks, DoesGoal, LosesGoal, IsSomewhere, Settles, Takes, Loses, Finishes, LosesRun};
+ghost use Rattle.dg_machine.specs.Running.{rests, DoesMarks, DoesGoal, LosesGoal, IsSomewhere, IsSomewhereWith, Settles, Takes, Loses, Finishes, LosesRun};
 
 use crate::doing::code_at;
 use crate::memory::Memory;
@@ -21,6 +22,7 @@ use crate::now::Now;
 use crate::tables::Tables;
 use dg_base::{Ending, GapKind, Sink, Term, WriteFault};
 use dg_mid::{Action, Code, Op};
+use dg_outside::Outside;
 use dg_spacing::{Event, Spacer};
 
 /// Whether an instruction takes a goal.
@@ -123,7 +125,7 @@ fn event_of(kind: GapKind) -> Event<'static>
     }
 }
 
-/// Does an action that prints nothing.
+/// Does an action that prints nothing, and leaves what is outside.
 fn act<'p>(memory: &mut Memory, tables: &Tables, action: &'p Action, rest: &'p [Op]) -> Now<'p>
     requires some { (code : TheCode) × (l : Limits) × (m : Mid) × Holds code l memory.old m }
     requires built { ActionBuilt action.now }
@@ -142,7 +144,7 @@ fn act<'p>(memory: &mut Memory, tables: &Tables, action: &'p Action, rest: &'p [
     }
 }
 
-/// Does an instruction that takes a goal and prints nothing.
+/// Does an instruction that takes a goal, prints nothing, and leaves what is outside.
 fn do_quiet<'p>(
     memory: &mut Memory,
     code: &'p Code,
@@ -197,8 +199,8 @@ fn print_spaces<'p, K: Sink>(
 ) -> Result<Now<'p>, WriteFault>
     requires some { (code : TheCode) × (l : Limits) × (m : Mid) × Holds code l memory.old m }
     requires whole { ops.now ≡ op.Do (action.GapN term.now) ∷ rest.now }
-    ensures ok { IfOk result (λ now. (code : TheCode) → DoesGoal tables.now code memory.old ops.now memory.new now spacer.old spacer.new
-        (K.view sink.old) (K.view sink.new)) }
+    ensures ok { (out : TheOutside) → IfOk result (λ now. (code : TheCode) → DoesGoal tables.now code memory.old out ops.now memory.new out now spacer.old
+        spacer.new (K.view sink.old) (K.view sink.new)) }
     ensures err { OnErr result ((code : TheCode) → LosesGoal tables.now code memory.old ops.now spacer.old (K.view sink.old) (K.view sink.new)) }
     ensures roomy { OnErr result ((code : TheCode) → (l : Limits) → (m : Mid) → Holds code l memory.old m → Roomy l memory.new) }
 {
@@ -216,6 +218,7 @@ fn print_spaces<'p, K: Sink>(
 fn do_action<'p, K: Sink>(
     memory: &mut Memory,
     tables: &Tables,
+    outside: &mut Outside<'_>,
     ops: &'p [Op],
     action: &'p Action,
     rest: &'p [Op],
@@ -225,8 +228,8 @@ fn do_action<'p, K: Sink>(
     requires some { (code : TheCode) × (l : Limits) × (m : Mid) × Holds code l memory.old m }
     requires built { ActionBuilt action.now }
     requires whole { ops.now ≡ op.Do action.now ∷ rest.now }
-    ensures ok { IfOk result (λ now. (code : TheCode) → DoesGoal tables.now code memory.old ops.now memory.new now spacer.old spacer.new
-        (K.view sink.old) (K.view sink.new)) }
+    ensures ok { IfOk result (λ now. (code : TheCode) → DoesGoal tables.now code memory.old outside.old ops.now memory.new outside.new now spacer.old
+        spacer.new (K.view sink.old) (K.view sink.new)) }
     ensures err { OnErr result ((code : TheCode) → LosesGoal tables.now code memory.old ops.now spacer.old (K.view sink.old) (K.view sink.new)) }
     ensures roomy { OnErr result ((code : TheCode) → (l : Limits) → (m : Mid) → Holds code l memory.old m → Roomy l memory.new) }
 {
@@ -240,6 +243,7 @@ fn do_action<'p, K: Sink>(
             Err(fault) => Err(fault),
         },
         Action::GapN(term) => print_spaces(memory, tables, ops, term, rest, spacer, sink),
+        Action::Random(a, b, into) => Ok(memory.random(tables, outside, a, b, into, rest)),
         action => Ok(act(memory, tables, action, rest)),
     }
 }
@@ -249,6 +253,7 @@ fn goal_step<'p, K: Sink>(
     memory: &mut Memory,
     code: &'p Code,
     tables: &Tables,
+    outside: &mut Outside<'_>,
     ops: &'p [Op],
     spacer: &mut Spacer,
     sink: &mut K,
@@ -258,14 +263,17 @@ fn goal_step<'p, K: Sink>(
     requires built { IsBuilt code.now }
     requires ops_built { OpsBuilt ops.now }
     requires goal { at_goal ops.now ≡ true }
-    ensures ok { IfOk result (λ now. DoesGoal tables.now code.now memory.old ops.now memory.new now spacer.old spacer.new (K.view sink.old) (K.view sink.new)) }
+    ensures ok { IfOk result (λ now. DoesGoal tables.now code.now memory.old outside.old ops.now memory.new outside.new now spacer.old spacer.new
+        (K.view sink.old) (K.view sink.new)) }
     ensures err { OnErr result (LosesGoal tables.now code.now memory.old ops.now spacer.old (K.view sink.old) (K.view sink.new)) }
     ensures roomy { OnErr result ((l : Limits) → (m : Mid) → Holds code.now l memory.old m → Roomy l memory.new) }
 {
     match ops {
         [] => Ok(Now::Fails),
         [op, rest @ ..] => match op {
-            Op::Do(action) => match do_action(memory, tables, ops, action, rest, spacer, sink) {
+            Op::Do(action) => match do_action(
+                memory, tables, outside, ops, action, rest, spacer, sink,
+            ) {
                 Ok(now) => Ok(now),
                 Err(fault) => Err(fault),
             },
@@ -294,6 +302,7 @@ fn turn<'p, K: Sink>(
     memory: &mut Memory,
     code: &'p Code,
     tables: &Tables,
+    outside: &mut Outside<'_>,
     ops: &'p [Op],
     spacer: &mut Spacer,
     sink: &mut K,
@@ -301,15 +310,15 @@ fn turn<'p, K: Sink>(
     requires built { IsBuilt code.now }
     requires tidy { Tidy code.now }
     requires goal { at_goal ops.now ≡ true }
-    requires some { IsSomewhere tables.now code.now memory.old (Runs ops) }
-    ensures ok { IfOk result (λ now. Takes tables.now code.now 1 memory.old (Runs ops.entry) spacer.old (K.view sink.old) memory.new now spacer.new
-        (K.view sink.new)) }
-    ensures err { OnErr result (Loses tables.now code.now memory.old (Runs ops.entry) spacer.old (K.view sink.old) (K.view sink.new)) }
+    requires some { IsSomewhereWith tables.now code.now memory.old outside.old (Runs ops) }
+    ensures ok { IfOk result (λ now. Takes tables.now code.now 1 memory.old outside.old (Runs ops.entry) spacer.old (K.view sink.old) memory.new outside.new
+        now spacer.new (K.view sink.new)) }
+    ensures err { OnErr result (Loses tables.now code.now memory.old outside.old (Runs ops.entry) spacer.old (K.view sink.old) (K.view sink.new)) }
     ensures roomy { OnErr result ((l : Limits) → (m : Mid) → Holds code.now l memory.old m → Roomy l memory.new) }
-    ensures some { IfOk result (λ now. IsSomewhere tables.now code.now memory.new now) }
+    ensures some { IfOk result (λ now. IsSomewhereWith tables.now code.now memory.new outside.new now) }
     ensures rests { IfOk result (λ now. rests now ≡ true) }
 {
-    match goal_step(memory, code, tables, ops, spacer, sink) {
+    match goal_step(memory, code, tables, outside, ops, spacer, sink) {
         Err(fault) => Err(fault),
         Ok(now) => Ok(settle(memory, code, tables, now)),
     }
@@ -320,6 +329,7 @@ pub fn go<'p, K: Sink>(
     memory: &mut Memory,
     code: &'p Code,
     tables: &Tables,
+    outside: &mut Outside<'_>,
     start: Now<'p>,
     steps: u64,
     spacer: &mut Spacer,
@@ -327,17 +337,17 @@ pub fn go<'p, K: Sink>(
 ) -> Result<(Ending, u64), WriteFault>
     requires built { IsBuilt code.now }
     requires tidy { Tidy code.now }
-    requires some { IsSomewhere tables.now code.now memory.old start }
-    ensures ok { IfOk result (λ end. Finishes tables.now code.now memory.old start.entry steps spacer.old (K.view sink.old) end.0 end.1
+    requires some { IsSomewhereWith tables.now code.now memory.old outside.old start }
+    ensures ok { IfOk result (λ end. Finishes tables.now code.now memory.old outside.old start.entry steps spacer.old (K.view sink.old) end.0 end.1
         memory.new spacer.new (K.view sink.new)) }
-    ensures err { OnErr result (LosesRun tables.now code.now memory.old start.entry steps spacer.old (K.view sink.old) memory.new (K.view sink.new)) }
+    ensures err { OnErr result (LosesRun tables.now code.now memory.old outside.old start.entry steps spacer.old (K.view sink.old) memory.new (K.view sink.new)) }
 {
     let mut now = settle(memory, code, tables, start);
     let mut left = steps;
     'goals: while left > 0 {
         match now {
             Now::Ended(ending) => return Ok((ending, left)),
-            Now::Runs(ops) => match turn(memory, code, tables, ops, spacer, sink) {
+            Now::Runs(ops) => match turn(memory, code, tables, outside, ops, spacer, sink) {
                 Err(fault) => return Err(fault),
                 Ok(next) => {
                     now = next;

@@ -1,11 +1,11 @@
 use Rattle.std.proofs.Common.{◌≡◌, true, ◌≤◌, ◌-◌}
-use Rattle.dg_machine.specs.Running.{Takes, IsSomewhere, rests}
+use Rattle.dg_machine.specs.Running.{Takes, IsSomewhereWith, rests}
 use Rattle.dg_machine.proofs.steps.go.Given as goal
 
 abbrev pub invariant-goals : goal.invariant-goals
 invariant-goals g l = record {
-  takes : Takes l.tables l.code (l.steps - l.left) l.fn.memory l.start l.fn.spacer (g.K.Sink.view l.fn.sink) l.memory l.now l.spacer (g.K.Sink.view l.sink);
-  somewhere : IsSomewhere l.tables l.code l.memory l.now;
+  takes : Takes l.tables l.code (l.steps - l.left) l.fn.memory l.fn.outside l.start l.fn.spacer (g.K.Sink.view l.fn.sink) l.memory l.outside l.now l.spacer (g.K.Sink.view l.sink);
+  somewhere : IsSomewhereWith l.tables l.code l.memory l.outside l.now;
   rests : rests l.now ≡ true;
   within : l.left ≤ l.steps;
 }

@@ -8,7 +8,7 @@ pub marks-preserved : goal.marks-preserved
 marks-preserved c =
     let e : rests c.marks.now ≡ false = search rules in
     record {
-      settles = λ g is_of l typed steps h. settled_on c.args.code.now g l typed c.args.tables.now is_of c.marks.memory c.mark_step-now.new.memory c.marks.now c.mark_step-now.result steps e c.mark_step-now.ensures (c.marks.invariant.settles g is_of l typed steps h);
+      settles = λ g is_of l typed steps h. settled_on c.args.code.now g l typed c.requires.built c.args.tables.now is_of c.marks.memory c.mark_step-now.new.memory c.marks.now c.mark_step-now.result steps e c.mark_step-now.ensures (c.marks.invariant.settles g is_of l typed steps h);
       somewhere = somewhere_marked c.args.tables.now c.args.code.now c.marks.memory c.mark_step-now.new.memory c.marks.now c.mark_step-now.result e c.mark_step-now.ensures c.marks.invariant.somewhere;
     }
 

@@ -1,0 +1,87 @@
+-- What the throw of a die leads to.
+use Rattle.std.proofs.Common.{◌≡◌, ℕ, ◌+◌, List, [], ◌∷◌, Option, Some, None, refl, sym, subst, length, arith}
+use Rattle.dg_base.specs.declared.run.Limits.{Limits}
+use Rattle.dg_base.specs.declared.run.Ending.{Ending}
+use Rattle.dg_choose.specs.Dice.{HasDrawn}
+use Rattle.dg_choose.specs.declared.dice.Dice.{Dice}
+use Rattle.dg_meaning.specs.Cells.{cells}
+use Rattle.dg_meaning.specs.Moves.{throws}
+use Rattle.dg_meaning.specs.Unify.{unify}
+use Rattle.dg_meaning.specs.Values.{Value, Num, leaf}
+use Rattle.dg_meaning.specs.World.{Game, World, drew}
+use Rattle.dg_outside.specs.Outside.{InWorld}
+use Rattle.dg_outside.specs.declared.outside.Outside.{Outside}
+use Rattle.dg_terms.specs.Throwing.{Throws}
+use Rattle.dg_mid.specs.declared.code.Code.{Code}
+use Rattle.dg_mid.specs.declared.code.Op.TheVariants as op
+use Rattle.dg_mid.specs.declared.code.Action.{Action}
+use Rattle.dg_mid.specs.Actions.{terms_of, act_at, registers_of, world_of}
+use Rattle.dg_mid.specs.Reads.{outside_of}
+use Rattle.dg_mid.specs.State.{Mid, Status, Runs as RunsOf, Ended as EndedOf}
+use Rattle.dg_mid.specs.Step.{setting, more, bound, does, done, unified}
+use Rattle.dg_machine.specs.declared.now.Now.{Now}
+use Rattle.dg_machine.specs.declared.now.Now.TheVariants.{Ended}
+use Rattle.dg_machine.specs.declared.memory.Memory.{Memory}
+use Rattle.dg_machine.specs.Layout.{Holds}
+use Rattle.dg_machine.specs.Standing.{Stands, HasOutside, StandsWith}
+use Rattle.dg_machine.proofs.Opens.{fits}
+use Rattle.dg_machine.proofs.Leads.{charged_on}
+use Rattle.dg_machine.proofs.Outsides.{has_outside, has_unifies}
+use Rattle.dg_machine.proofs.Unifying.{done_unifies_in}
+
+abbrev IsNone : Option ℕ → Type 0
+IsNone None = Unit {0}
+IsNone (Some n) = ⊥
+
+-- what was meant is what came, and what was drawn for it
+pub record ThrewNone (meant : Option ℕ) (words : List ℕ) (n : ℕ) (dice : Dice) : Type 0 where
+  pub is : meant ≡ None
+  pub drawn : HasDrawn dice words n
+
+pub threw_none : (o : Option ℕ) (words : List ℕ) (n : ℕ) (dice : Dice) → Throws o words n None dice → ThrewNone o words n dice
+threw_none None words n dice h = record { is = refl; drawn = h.0 }
+threw_none (Some k) words n dice h = absurd (subst IsNone h.1 tt)
+
+pub record ThrewSome (meant : Option ℕ) (words : List ℕ) (n k : ℕ) (dice : Dice) : Type 0 where
+  pub is : meant ≡ Some k
+  pub drawn : HasDrawn dice words (n + 1)
+
+pub threw_some : (o : Option ℕ) (words : List ℕ) (n k : ℕ) (dice : Dice) → Throws o words n (Some k) dice → ThrewSome o words n k dice
+threw_some None words n k dice h = absurd (subst IsNone (sym h.1) tt)
+threw_some (Some j) words n k dice h = record { is = sym h.1; drawn = h.0 }
+
+-- a machine with so many dice words drawn
+abbrev pub with_drawn : ℕ → Mid → Mid
+with_drawn n m = record m { outside = record m.outside { dice = n } }
+
+-- what is outside stands for the world in which so many were drawn
+pub drawn_world : (out new : Outside) (g : Game) (m : Mid) (n : ℕ) → new ≡ record out { dice = new.dice } → InWorld out g (world_of [] m) → HasDrawn new.dice g.dice n → InWorld new g (world_of [] (with_drawn n m))
+drawn_world out new g m n others w drawn = subst (λ x. InWorld x g (world_of [] (with_drawn n m))) (sym others) (w.0, w.1, drawn, w.3)
+
+-- the number is unified with the value
+module _ (code : Code) (g : Game) (l : Limits) (m : Mid) (v : Value) (k n : ℕ) (world : World) (is : outside_of (drew 1 world) ≡ (with_drawn n m).outside) where
+  pub threw_stands : (new : Memory) (now : Now) (out : Outside) → length m.gathered ≡ 0 → InWorld out g (world_of [] (with_drawn n m)) →
+      Stands code l new now (unified (setting g code l) (unify m.state.subst v (leaf (Num k))) (with_drawn n m) (RunsOf (bound (unify m.state.subst v (leaf (Num k))) (with_drawn n m)))) →
+      StandsWith code g l new now out (done (setting g code l) (throws (Some k) v (registers_of m) world) m)
+  threw_stands new now out none w h =
+      let set = setting g code l in
+      let es = (v, leaf (Num k)) ∷ [] in
+      let s = done set (throws (Some k) v (registers_of m) world) m in
+      let stands : Stands code l new now s = subst (Stands code l new now) (sym (done_unifies_in set es m (with_drawn n m).outside (drew 1 world) is)) h in
+      record { stands = stands; outside = has_outside out g code l new now (with_drawn n m) s none stands (has_unifies (with_drawn n m).outside set (registers_of m) es (drew 1 world) m is) w }
+
+-- ## Behind cells that were taken
+
+-- where the run has ended, what is outside stands for nothing
+pub ended_outside : (code : Code) (g : Game) (l : Limits) (r : Memory) (e : Ending) (s : Status) (out : Outside) → Stands code l r (Ended e) s → HasOutside out g s
+ended_outside code g l r e (EndedOf x) out h = tt
+ended_outside code g l r e s out h = absurd h
+
+-- an action is done behind its cells
+pub act_led_with : (code : Code) (g : Game) (l : Limits) (a : Action) (m : Mid) (mid new : Memory) (now : Now) (out : Outside) → let n = cells g.program (terms_of a) in
+    Holds code l mid (more n m) → StandsWith code g l new now out (done (setting g code l) (act_at g [] a (more n m)) (more n m)) → StandsWith code g l new now out (does (setting g code l) (op.Do a) m)
+act_led_with code g l a m mid new now out held y =
+    let set = setting g code l in
+    let n = cells g.program (terms_of a) in
+    let within = fits code l (more n m) mid held in
+    subst (StandsWith code g l new now out) (sym (charged_on set n m (done set (act_at g [] a (more n m)) (more n m)) (omega (arith, within)))) y
