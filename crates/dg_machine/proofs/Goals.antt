@@ -8,13 +8,16 @@ use Rattle.dg_base.specs.declared.program.ArithOp.{ArithOp}
 use Rattle.dg_base.specs.declared.program.TestKind.{TestKind}
 use Rattle.dg_meaning.specs.Values.{Value}
 use Rattle.dg_meaning.specs.Cells.{cells}
-use Rattle.dg_meaning.specs.Substitutions.{walk}
+use Rattle.dg_meaning.specs.Substitutions.{walk, resolved}
 use Rattle.dg_meaning.specs.Numbers.{of_numbers, calculated, thrown}
 use Rattle.dg_meaning.specs.Choosing.{die}
 use Rattle.dg_meaning.specs.Path.{Registers}
 use Rattle.dg_meaning.specs.World.{World, prints, worked}
-use Rattle.dg_meaning.specs.Moves.{gives_number, throws, looked_up}
-use Rattle.dg_outside.specs.Outside.{InWorld}
+use Rattle.dg_meaning.specs.Moves.{gives_number, throws, looked_up, changes, change_place, change_looks}
+use Rattle.dg_meaning.specs.Changes.{change_of}
+use Rattle.dg_meaning.specs.Facts.{Alteration, kinds_of}
+use Rattle.dg_base.specs.declared.program.PlaceKind.{PlaceKind}
+use Rattle.std.specs.Prelude.{slice_get}
 use Rattle.dg_outside.specs.declared.outside.Outside.{Outside}
 use Rattle.dg_mid.specs.Actions.{terms_of, registers_of, world_of, said_by}
 use Rattle.dg_base.specs.declared.run.Limits.{Limits}
@@ -48,7 +51,7 @@ use Rattle.dg_machine.specs.declared.tables.Tables.{Tables}
 use Rattle.dg_machine.specs.Tables.{IsOf}
 use Rattle.dg_machine.specs.Built.{OpBuilt, OpsBuilt, IsBuilt, IsQuiet, IsQuietOp}
 use Rattle.dg_machine.specs.Layout.{HasRoom, HasPut, Holds, Roomy}
-use Rattle.dg_machine.specs.Standing.{CodeIs, Stands, Falls, DoesOp, DoesMark, Asks, AsksLast, EntersRule, IsThere, GoesOn, FailsTo, HasStatus, HasOutside, StandsWith}
+use Rattle.dg_machine.specs.Standing.{CodeIs, Stands, Falls, DoesOp, DoesMark, Asks, AsksLast, EntersRule, IsThere, GoesOn, FailsTo, HasStatus, Around, HasOutside, StandsWith}
 use Rattle.dg_machine.specs.Running.{rests, DoesMarks, HasText, GoalDone, GoalLost}
 use Rattle.std.proofs.Common.{map}
 use Rattle.dg_base.specs.declared.program.CoreProgram.{CoreProgram}
@@ -220,6 +223,7 @@ fails_act tb code r (action.Text name) rest q j u s k d v t g is_of l m o b at h
 fails_act tb code r (action.Gap kind) rest q j u s k d v t g is_of l m o b at h = absurd q
 fails_act tb code r (action.GapN x) rest q j u s k d v t g is_of l m o b at h = absurd q
 fails_act tb code r (action.Random x y z) rest q j u s k d v t g is_of l m o b at h = absurd q
+fails_act tb code r (action.Now place xs sets) rest q j u s k d v t g is_of l m o b at h = absurd q
 fails_act tb code r (action.Arith f x y z) rest q j u s k d v t g is_of l m o b at h = absurd (v f x y z refl)
 fails_act tb code r (action.Test f x) rest q j u s k d v t g is_of l m o b at h = absurd (t f x refl)
 fails_act tb code r (action.Compare f x y) rest q j u s k d v t g is_of l m o b at h = absurd (d f x y refl)
@@ -243,12 +247,13 @@ other_goal (op.Shield alt) e b d k la t br on tr qu lq = b
 other_goal (op.Collect x y alt) e b d k la t br on tr qu lq = b
 other_goal x e b d k la t br on tr qu lq = absurd (cc)
 
-pub quiet_else : (a : Action) → ((name : _) → a ≡ action.Text name → ⊥) → ((kind : _) → a ≡ action.Gap kind → ⊥) → ((x : Term) → a ≡ action.GapN x → ⊥) → ((x y z : Term) → a ≡ action.Random x y z → ⊥) → IsQuiet a
-quiet_else (action.Text name) t g n d = t name refl
-quiet_else (action.Gap kind) t g n d = g kind refl
-quiet_else (action.GapN x) t g n d = n x refl
-quiet_else (action.Random x y z) t g n d = d x y z refl
-quiet_else a t g n d = tt
+pub quiet_else : (a : Action) → ((name : _) → a ≡ action.Text name → ⊥) → ((kind : _) → a ≡ action.Gap kind → ⊥) → ((x : Term) → a ≡ action.GapN x → ⊥) → ((x y z : Term) → a ≡ action.Random x y z → ⊥) → ((place : ℕ) (xs : List Term) (sets : Bool) → a ≡ action.Now place xs sets → ⊥) → IsQuiet a
+quiet_else (action.Text name) t g n d w = t name refl
+quiet_else (action.Gap kind) t g n d w = g kind refl
+quiet_else (action.GapN x) t g n d w = n x refl
+quiet_else (action.Random x y z) t g n d w = d x y z refl
+quiet_else (action.Now place xs sets) t g n d w = w place xs sets refl
+quiet_else a t g n d w = tt
 
 pub quiet_op : (x : Op) → ((a : Action) → x ≡ op.Do a → ⊥) → IsQuietOp x
 quiet_op (op.Do a) d = absurd (d a refl)
@@ -270,6 +275,20 @@ quiet_random g m a b into rest =
     let u = value_of g.game.program (vars_of m.frames) b in
     quiet_throws (of_numbers (thrown (die g.game.dice m.outside.dice)) (walk m.state.subst v) (walk m.state.subst u)) (value_of g.game.program (vars_of m.frames) into) (registers_of m') (worked (looked_up (registers_of m') v + looked_up (registers_of m') u) (world_of [] m'))
 
+quiet_alters : (g : Game) (k : PlaceKind) (a : Option Alteration) (w : World) → said_by (changes g k a [] w) ≡ prints w.events
+quiet_alters g k None w = refl
+quiet_alters g k (Some a) w = refl
+
+quiet_places : (g : Game) (place : ℕ) (k : Option PlaceKind) (vs : List Value) (sets : Bool) (r : Registers) (w : World) → said_by (change_place g place k vs sets [] r w) ≡ prints w.events
+quiet_places g place None vs sets r w = refl
+quiet_places g place (Some k) vs sets r w = quiet_alters g k (change_of (length g.program.objects) k place sets (map (resolved r.bound) vs)) (worked (change_looks k r vs) w)
+
+-- nor does a change
+pub quiet_change : (g : Setting) (m : Mid) (place : ℕ) (terms : List Term) (sets : Bool) (rest : List Op) → said_in g m (op.Do (action.Now place terms sets) ∷ rest) ≡ []
+quiet_change g m place terms sets rest =
+    let m' = more (cells g.game.program terms) m in
+    quiet_places g.game place (slice_get (kinds_of g.game.program) place) (map (value_of g.game.program (vars_of m.frames)) terms) sets (registers_of m') (world_of [] m')
+
 quiet_goal : (g : Setting) (m : Mid) (x : Op) (rest : List Op) → IsQuietOp x → OpBuilt x → said_in g m (x ∷ rest) ≡ []
 quiet_goal g m (op.Do action.Just) rest q b = refl
 quiet_goal g m (op.Do (action.Equal x y)) rest q b = refl
@@ -287,6 +306,7 @@ quiet_goal g m (op.Do (action.Text name)) rest q b = absurd q
 quiet_goal g m (op.Do (action.Gap kind)) rest q b = absurd q
 quiet_goal g m (op.Do (action.GapN x)) rest q b = absurd q
 quiet_goal g m (op.Do (action.Random x y z)) rest q b = absurd q
+quiet_goal g m (op.Do (action.Now place xs sets)) rest q b = absurd q
 quiet_goal g m (op.Do a) rest q b = absurd b
 quiet_goal g m x rest q b = refl
 
@@ -306,17 +326,17 @@ module _ (tb : Tables) (code : Code) (g : Game) (is_of : IsOf g.program tb) (l :
       let none : said set (RunsOf m) ≡ [] = ap (λ ps. said_to ps (step set (RunsOf m))) (ap (said_in set m) is_first ∙ silent) in
       record {
         stands = subst (λ xs. Stands code l new now (runs set xs m)) (sym is_first) with_it.stands;
-        outside = subst (λ xs. HasOutside out g (runs set xs m)) (sym is_first) with_it.outside;
+        outside = subst (λ xs. HasOutside out g l (runs set xs m)) (sym is_first) with_it.outside;
         writes = λ start ps text. subst (λ qs. HasText s start k (followed ps qs)) (sym none) text;
       }
 
   -- the same of one that leaves what is outside
-  pub silent_done : (s : Spacer) (k : SinkView) (out : Outside) → MidOrdered m → InWorld out g (world_of [] m) → said_in set m (x ∷ rest) ≡ [] → DrawsNone x → DoesOp tb code old x rest new now → GoalDone code g l new out now s s k k m
+  pub silent_done : (s : Spacer) (k : SinkView) (out : Outside) → MidOrdered m → Around out g l m → said_in set m (x ∷ rest) ≡ [] → DrawsNone x → DoesOp tb code old x rest new now → GoalDone code g l new out now s s k k m
   silent_done s k out o w silent draws led =
       let stands = led g is_of l (record m { ops = rest }) o built_here.0 (refl, built_here.1) h in
       silent_with s k out silent (record { stands = stands; outside = has_outside out g code l new now (record m { ops = rest }) (does set x (record m { ops = rest })) h.1.height_is stands (has_does set x (record m { ops = rest }) built_here.0 draws) w })
 
-  pub quiet_done : (s : Spacer) (k : SinkView) (out : Outside) → MidOrdered m → InWorld out g (world_of [] m) → IsQuietOp x → DoesOp tb code old x rest new now → GoalDone code g l new out now s s k k m
+  pub quiet_done : (s : Spacer) (k : SinkView) (out : Outside) → MidOrdered m → Around out g l m → IsQuietOp x → DoesOp tb code old x rest new now → GoalDone code g l new out now s s k k m
   quiet_done s k out o w quiet led = silent_done s k out o w (quiet_goal set m x rest quiet built_here.0) (quiet_draws x quiet) led
 
 said_ended : (ps : List Print) (e : Ending) → said_to ps (EndedOf e) ≡ []
@@ -331,7 +351,7 @@ ended_done code g l m new out e ops x rest s k split at is room =
     let none : said set (RunsOf m) ≡ [] = ap (said_to (said_in set m m.ops)) ends ∙ said_ended (said_in set m m.ops) e in
     record {
       stands = subst (Stands code l new (Ended e)) (sym ends) (refl, room);
-      outside = subst (HasOutside out g) (sym ends) tt;
+      outside = subst (HasOutside out g l) (sym ends) tt;
       writes = λ start ps text. subst (λ qs. HasText s start k (followed ps qs)) (sym none) text;
     }
 
@@ -356,12 +376,12 @@ module _ (code : Code) (g : Game) (l : Limits) (m : Mid) (r : Memory) (n : ℕ) 
   says : said set_p (RunsOf m) ≡ p ∷ []
   says = ap (λ s. said_to (said_in set_p m m.ops) s) step_is ∙ ap (λ ps. said_to ps (RunsOf (more n (record m { ops = rest.now })))) (ap (said_in set_p m) first_is ∙ said_is)
 
-  pub printed_done : (s s' : Spacer) (k k' : SinkView) (out : Outside) → InWorld out g (world_of [] m) → ((ps : List Print) → StandsFor s ps → StandsFor s' (ps ++ p ∷ [])) → ((ps : List Print) → StandsFor s ps → Wrote k k' (growth ps p)) → GoalDone code g l r out (Runs rest) s s' k k' m
+  pub printed_done : (s s' : Spacer) (k k' : SinkView) (out : Outside) → Around out g l m → ((ps : List Print) → StandsFor s ps → StandsFor s' (ps ++ p ∷ [])) → ((ps : List Print) → StandsFor s ps → Wrote k k' (growth ps p)) → GoalDone code g l r out (Runs rest) s s' k k' m
   printed_done s s' k k' out w stands wrote =
       let built : OpsBuilt (op.Do a ∷ rest.now) = subst OpsBuilt split at.1 in
       record {
         stands = subst (Stands code l r (Runs rest)) (sym step_is) ((refl, built.1), h);
-        outside = subst (HasOutside out g) (sym step_is) w;
+        outside = subst (HasOutside out g l) (sym step_is) w;
         writes = λ start ps text. subst (λ qs. HasText s' start k' (followed ps qs)) (sym says)
             (record { stands = stands ps text.stands; wrote = subst (Wrote start k') (sym (render_grows ps p)) (wrote_on start k k' (render ps) (growth ps p) text.wrote (wrote ps text.stands)) });
       }

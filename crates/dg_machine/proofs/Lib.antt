@@ -18,6 +18,7 @@ pub mod Bodies
 pub mod Unifying
 pub mod Compares
 pub mod Throws
+pub mod Changes
 pub mod Texts
 pub mod Outsides
 pub mod Goals

@@ -39,7 +39,7 @@ use Rattle.dg_machine.specs.declared.now.Now.TheVariants.{Runs, Enters, Resumes,
 use Rattle.dg_machine.specs.declared.memory.Memory.{Memory}
 use Rattle.dg_machine.specs.Built.{ActionBuilt, OpBuilt, OpsBuilt, IsBuilt, IsQuietOp}
 use Rattle.dg_machine.specs.Layout.{WayAt}
-use Rattle.dg_machine.specs.Standing.{Stands, HasOutside}
+use Rattle.dg_machine.specs.Standing.{Stands, Around, HasOutside}
 
 -- a status has this outside
 abbrev pub Has : OutsideOf → Status → Type 0
@@ -49,13 +49,15 @@ Has o (ResumesOf on m) = m.outside ≡ o
 Has o (FailsOf m) = m.outside ≡ o
 Has o (EndedOf e) = Unit {0}
 
--- an instruction draws no dice word
+-- an instruction leaves what is outside
 abbrev pub DrawsNone : Op → Type 0
 DrawsNone (op.Do (action.Random a b c)) = ⊥
+DrawsNone (op.Do (action.Now place xs sets)) = ⊥
 DrawsNone x = Unit {0}
 
 pub quiet_draws : (x : Op) → IsQuietOp x → DrawsNone x
 quiet_draws (op.Do (action.Random a b c)) q = absurd q
+quiet_draws (op.Do (action.Now place xs sets)) q = absurd q
 quiet_draws (op.Do a) q = tt
 quiet_draws x q = tt
 
@@ -213,6 +215,7 @@ same_act g action.Fail m b d = refl
 same_act g action.Quit m b d = refl
 same_act g action.Stop m b d = refl
 same_act g (action.Random x y z) m b d = absurd d
+same_act g (action.Now place xs sets) m b d = absurd d
 same_act g a m b d = absurd b
 
 pub has_does : (g : Setting) (x : Op) (m : Mid) → OpBuilt x → DrawsNone x → Has m.outside (does g x m)
@@ -263,17 +266,20 @@ module _ (out : Outside) (g : Game) where
   in_world m n em en same w =
       subst (StandsIn n.gathered) (sym same) (subst (λ gs. StandsIn gs m.outside) (none_gathered m.gathered em ∙ sym (none_gathered n.gathered en)) w)
 
+  around : (l : Limits) (m n : Mid) → length m.gathered ≡ 0 → length n.gathered ≡ 0 → n.outside ≡ m.outside → Around out g l m → Around out g l n
+  around l m n em en same w = (in_world m n em en same w.0, w.1)
+
   -- what is outside stands for what a status has that has the outside of a machine
-  pub has_outside : (code : Code) (l : Limits) (r : Memory) (now : Now) (m : Mid) (s : Status) → length m.gathered ≡ 0 → Stands code l r now s → Has m.outside s → InWorld out g (world_of [] m) → HasOutside out g s
-  has_outside code l r (Runs ops) m (RunsOf n) none h e w = in_world m n none h.1.1.height_is e w
-  has_outside code l r (Enters k ops) m (EntersOf c n) none h e w = in_world m n none h.2.1.height_is e w
-  has_outside code l r (Resumes way) m (ResumesOf on n) none h e w = in_world m n none h.1.1.height_is e w
-  has_outside code l r Fails m (FailsOf n) none h e w = in_world m n none h.1.height_is e w
+  pub has_outside : (code : Code) (l : Limits) (r : Memory) (now : Now) (m : Mid) (s : Status) → length m.gathered ≡ 0 → Stands code l r now s → Has m.outside s → Around out g l m → HasOutside out g l s
+  has_outside code l r (Runs ops) m (RunsOf n) none h e w = around l m n none h.1.1.height_is e w
+  has_outside code l r (Enters k ops) m (EntersOf c n) none h e w = around l m n none h.2.1.height_is e w
+  has_outside code l r (Resumes way) m (ResumesOf on n) none h e w = around l m n none h.1.1.height_is e w
+  has_outside code l r Fails m (FailsOf n) none h e w = around l m n none h.1.height_is e w
   has_outside code l r (Ended x) m (EndedOf y) none h e w = tt
   has_outside code l r now m s none h e w = absurd h
 
   -- a step that takes no goal leaves it
-  pub mark_outside : (code : Code) (l : Limits) (r new : Memory) (now next : Now) (s : Status) → IsBuilt code → takes_goal s ≡ false → Stands code l r now s → Stands code l new next (step (setting g code l) s) → HasOutside out g s → HasOutside out g (step (setting g code l) s)
+  pub mark_outside : (code : Code) (l : Limits) (r new : Memory) (now next : Now) (s : Status) → IsBuilt code → takes_goal s ≡ false → Stands code l r now s → Stands code l new next (step (setting g code l) s) → HasOutside out g l s → HasOutside out g l (step (setting g code l) s)
   mark_outside code l r new (Runs ops) next (RunsOf m) built mark h h' w =
       has_outside code l new next m (step (setting g code l) (RunsOf m)) h.1.1.height_is h' (has_runs (setting g code l) m.ops m (subst OpsBuilt (sym h.0.0) h.0.1) mark) w
   mark_outside code l r new (Enters k ops) next (EntersOf c m) built mark h h' w =

@@ -117,7 +117,7 @@ module _ (code : Code) (g : Game) (l : Limits) (typed : List ℕ) where
   took_goal tb is_of old mid new out out' ops next now s s' k k' goals start e does settles h =
       let at = goal_at old ops (after set typed h.steps).now h.stands in
       let ordered : StatusOrdered (RunsOf at.mid) = subst StatusOrdered at.is (all_ordered set typed h.steps) in
-      let done = does g is_of l at.mid ordered e at.code_is at.held (subst (HasOutside out g) at.is h.outside) in
+      let done = does g is_of l at.mid ordered e at.code_is at.held (subst (HasOutside out g l) at.is h.outside) in
       let stands : Stands code l mid next (after set typed (suc h.steps)).now = subst (λ x. Stands code l mid next (step set x)) (sym at.is) done.stands in
       let settled = settles g is_of l typed (suc h.steps) stands in
       let taken : takes_goal (after set typed h.steps).now ≡ true = ap takes_goal at.is ∙ ap at_goal at.code_is.0 ∙ e in
@@ -126,7 +126,7 @@ module _ (code : Code) (g : Game) (l : Limits) (typed : List ℕ) where
       record {
         steps = settled.further;
         stands = settled.stands;
-        outside = settled.outside out' (subst (λ x. HasOutside out' g (step set x)) (sym at.is) done.outside);
+        outside = settled.outside out' (subst (λ x. HasOutside out' g l (step set x)) (sym at.is) done.outside);
         goals_is = settled.goals ∙ one;
         text = subst (HasText s' start k') (sym settled.prints) text;
       }

@@ -9,13 +9,12 @@ use Rattle.dg_meaning.specs.Moves.{throws}
 use Rattle.dg_meaning.specs.Unify.{unify}
 use Rattle.dg_meaning.specs.Values.{Value, Num, leaf}
 use Rattle.dg_meaning.specs.World.{Game, World, drew}
-use Rattle.dg_outside.specs.Outside.{InWorld}
 use Rattle.dg_outside.specs.declared.outside.Outside.{Outside}
 use Rattle.dg_terms.specs.Throwing.{Throws}
 use Rattle.dg_mid.specs.declared.code.Code.{Code}
 use Rattle.dg_mid.specs.declared.code.Op.TheVariants as op
 use Rattle.dg_mid.specs.declared.code.Action.{Action}
-use Rattle.dg_mid.specs.Actions.{terms_of, act_at, registers_of, world_of}
+use Rattle.dg_mid.specs.Actions.{terms_of, act_at, registers_of}
 use Rattle.dg_mid.specs.Reads.{outside_of}
 use Rattle.dg_mid.specs.State.{Mid, Status, Runs as RunsOf, Ended as EndedOf}
 use Rattle.dg_mid.specs.Step.{setting, more, bound, does, done, unified}
@@ -23,7 +22,7 @@ use Rattle.dg_machine.specs.declared.now.Now.{Now}
 use Rattle.dg_machine.specs.declared.now.Now.TheVariants.{Ended}
 use Rattle.dg_machine.specs.declared.memory.Memory.{Memory}
 use Rattle.dg_machine.specs.Layout.{Holds}
-use Rattle.dg_machine.specs.Standing.{Stands, HasOutside, StandsWith}
+use Rattle.dg_machine.specs.Standing.{Stands, Around, HasOutside, StandsWith}
 use Rattle.dg_machine.proofs.Opens.{fits}
 use Rattle.dg_machine.proofs.Leads.{charged_on}
 use Rattle.dg_machine.proofs.Outsides.{has_outside, has_unifies}
@@ -55,12 +54,12 @@ abbrev pub with_drawn : ℕ → Mid → Mid
 with_drawn n m = record m { outside = record m.outside { dice = n } }
 
 -- what is outside stands for the world in which so many were drawn
-pub drawn_world : (out new : Outside) (g : Game) (m : Mid) (n : ℕ) → new ≡ record out { dice = new.dice } → InWorld out g (world_of [] m) → HasDrawn new.dice g.dice n → InWorld new g (world_of [] (with_drawn n m))
-drawn_world out new g m n others w drawn = subst (λ x. InWorld x g (world_of [] (with_drawn n m))) (sym others) (w.0, w.1, drawn, w.3)
+pub drawn_world : (out new : Outside) (g : Game) (l : Limits) (m : Mid) (n : ℕ) → new ≡ record out { dice = new.dice } → Around out g l m → HasDrawn new.dice g.dice n → Around new g l (with_drawn n m)
+drawn_world out new g l m n others w drawn = let v = w.0 in subst (λ x. Around x g l (with_drawn n m)) (sym others) ((v.0, v.1, drawn, v.3), w.1)
 
 -- the number is unified with the value
 module _ (code : Code) (g : Game) (l : Limits) (m : Mid) (v : Value) (k n : ℕ) (world : World) (is : outside_of (drew 1 world) ≡ (with_drawn n m).outside) where
-  pub threw_stands : (new : Memory) (now : Now) (out : Outside) → length m.gathered ≡ 0 → InWorld out g (world_of [] (with_drawn n m)) →
+  pub threw_stands : (new : Memory) (now : Now) (out : Outside) → length m.gathered ≡ 0 → Around out g l (with_drawn n m) →
       Stands code l new now (unified (setting g code l) (unify m.state.subst v (leaf (Num k))) (with_drawn n m) (RunsOf (bound (unify m.state.subst v (leaf (Num k))) (with_drawn n m)))) →
       StandsWith code g l new now out (done (setting g code l) (throws (Some k) v (registers_of m) world) m)
   threw_stands new now out none w h =
@@ -73,7 +72,7 @@ module _ (code : Code) (g : Game) (l : Limits) (m : Mid) (v : Value) (k n : ℕ)
 -- ## Behind cells that were taken
 
 -- where the run has ended, what is outside stands for nothing
-pub ended_outside : (code : Code) (g : Game) (l : Limits) (r : Memory) (e : Ending) (s : Status) (out : Outside) → Stands code l r (Ended e) s → HasOutside out g s
+pub ended_outside : (code : Code) (g : Game) (l : Limits) (r : Memory) (e : Ending) (s : Status) (out : Outside) → Stands code l r (Ended e) s → HasOutside out g l s
 ended_outside code g l r e (EndedOf x) out h = tt
 ended_outside code g l r e s out h = absurd h
 

@@ -42,10 +42,10 @@ somewhere_behind tb code old new out out' ops next s s' k k' e does found =
     let set = setting h.game code h.limits in
     let at = goal_at code h.game h.limits h.typed old ops (after set h.typed h.steps).now h.stands in
     let ordered : StatusOrdered (RunsOf at.mid) = subst StatusOrdered at.is (all_ordered set h.typed h.steps) in
-    let done = does h.game h.tabled h.limits at.mid ordered e at.code_is at.held (subst (HasOutside out h.game) at.is found.outside) in
+    let done = does h.game h.tabled h.limits at.mid ordered e at.code_is at.held (subst (HasOutside out h.game h.limits) at.is found.outside) in
     record {
       somewhere = record { game = h.game; tabled = h.tabled; limits = h.limits; typed = h.typed; steps = suc h.steps; stands = subst (λ x. Stands code h.limits new next (step set x)) (sym at.is) done.stands };
-      outside = subst (λ x. HasOutside out' h.game (step set x)) (sym at.is) done.outside;
+      outside = subst (λ x. HasOutside out' h.game h.limits (step set x)) (sym at.is) done.outside;
     }
 
 -- and behind a step that takes none

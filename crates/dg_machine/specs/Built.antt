@@ -20,6 +20,14 @@ abbrev pub IsNoPair : term.Term-F Term → Type 0
 IsNoPair (term.Pair head tail) = ⊥
 IsNoPair other = Unit {0}
 
+-- How many arguments a query or a change has at most, and how many terms a head.
+abbrev pub most_args : ℕ
+most_args = 12
+
+-- The arguments of a query or a change, or a head.
+abbrev pub AreArguments : List Term → Type 0
+AreArguments terms = length terms ≤ most_args
+
 -- What is done at once.
 abbrev pub ActionBuilt : Action → Type 0
 ActionBuilt (action.Text name) = Unit {0}
@@ -30,19 +38,12 @@ ActionBuilt (action.Test kind a) = Unit {0}
 ActionBuilt (action.Arith f a b c) = Unit {0}
 ActionBuilt (action.Compare f a b) = Unit {0}
 ActionBuilt (action.Random a b c) = Unit {0}
+ActionBuilt (action.Now place terms sets) = AreArguments terms
 ActionBuilt action.Just = Unit {0}
 ActionBuilt action.Fail = Unit {0}
 ActionBuilt action.Quit = Unit {0}
 ActionBuilt action.Stop = Unit {0}
 ActionBuilt a = ⊥
-
--- How many arguments a query has at most, and how many terms a head.
-abbrev pub most_args : ℕ
-most_args = 12
-
--- The arguments of a query, or a head.
-abbrev pub AreArguments : List Term → Type 0
-AreArguments terms = length terms ≤ most_args
 
 -- An instruction.
 abbrev pub OpBuilt : Op → Type 0
@@ -80,6 +81,7 @@ IsQuiet (action.Text name) = ⊥
 IsQuiet (action.Gap kind) = ⊥
 IsQuiet (action.GapN a) = ⊥
 IsQuiet (action.Random a b c) = ⊥
+IsQuiet (action.Now place terms sets) = ⊥
 IsQuiet a = Unit {0}
 
 -- So does an instruction.

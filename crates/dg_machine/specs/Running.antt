@@ -11,9 +11,7 @@ use Rattle.dg_meaning.specs.Render.{render}
 use Rattle.dg_meaning.specs.Shows.{Shows, MayWrite}
 use Rattle.dg_spacing.specs.declared.spacer.Spacer.{Spacer}
 use Rattle.dg_spacing.specs.Spacer.{StandsFor}
-use Rattle.dg_outside.specs.Outside.{InWorld}
 use Rattle.dg_outside.specs.declared.outside.Outside.{Outside}
-use Rattle.dg_mid.specs.Actions.{world_of}
 use Rattle.dg_mid.specs.declared.code.Op.{Op}
 use Rattle.dg_mid.specs.declared.code.Code.{Code}
 use Rattle.dg_mid.specs.State.{Mid, Status, Runs as RunsOf, Ended as EndedOf}
@@ -27,7 +25,7 @@ use Rattle.dg_machine.specs.declared.memory.Memory.{Memory}
 use Rattle.dg_machine.specs.declared.tables.Tables.{Tables}
 use Rattle.dg_machine.specs.Tables.{IsOf}
 use Rattle.dg_machine.specs.Layout.{Roomy, Holds}
-use Rattle.dg_machine.specs.Standing.{CodeIs, Stands, HasOutside}
+use Rattle.dg_machine.specs.Standing.{CodeIs, Stands, Around, HasOutside}
 use Rattle.dg_machine.specs.Measure.{left_of}
 
 -- ## Steps
@@ -59,13 +57,13 @@ pub record HasText (s : Spacer) (start now : SinkView) (ps : List Print) : Type 
 -- An instruction that takes a goal was done: the machine and what is outside stand for what it leads to, and what it prints was written.
 pub record GoalDone (code : Code) (g : Game) (l : Limits) (new : Memory) (out : Outside) (after : Now) (s s' : Spacer) (k k' : SinkView) (m : Mid) : Type 0 where
   pub stands : Stands code l new after (step (setting g code l) (RunsOf m))
-  pub outside : HasOutside out g (step (setting g code l) (RunsOf m))
+  pub outside : HasOutside out g l (step (setting g code l) (RunsOf m))
   pub writes : (start : SinkView) (ps : List Print) → HasText s start k ps → HasText s' start k' (followed ps (said (setting g code l) (RunsOf m)))
 
 abbrev pub DoesGoal : Tables → Code → Memory → Outside → List Op → Memory → Outside → Now → Spacer → Spacer → SinkView → SinkView → Type 0
 DoesGoal t code old out ops new out' after s s' k k' =
     (g : Game) → IsOf g.program t → (l : Limits) (m : Mid) → MidOrdered m → at_goal ops ≡ true → CodeIs ops m → Holds code l old m →
-    InWorld out g (world_of [] m) → GoalDone code g l new out' after s s' k k' m
+    Around out g l m → GoalDone code g l new out' after s s' k k' m
 
 -- The sink failed within what an instruction prints, and the code goes on behind it.
 pub record GoalLost (g : Game) (code : Code) (l : Limits) (k k' : SinkView) (m : Mid) (start : SinkView) (ps : List Print) : Type 0 where
@@ -85,7 +83,7 @@ pub record IsAt (code : Code) (g : Game) (l : Limits) (typed : List ℕ) (r : Me
     (start k : SinkView) : Type 0 where
   pub steps : ℕ
   pub stands : Stands code l r now (after (setting g code l) typed steps).now
-  pub outside : HasOutside out g (after (setting g code l) typed steps).now
+  pub outside : HasOutside out g l (after (setting g code l) typed steps).now
   pub goals_is : (after (setting g code l) typed steps).goals ≡ goals
   pub text : HasText s start k (after (setting g code l) typed steps).prints
 
@@ -148,13 +146,13 @@ pub record IsSomewhere (t : Tables) (code : Code) (r : Memory) (now : Now) : Typ
 -- So is what is outside.
 pub record IsSomewhereWith (t : Tables) (code : Code) (r : Memory) (out : Outside) (now : Now) : Type 0 where
   pub somewhere : IsSomewhere t code r now
-  pub outside : HasOutside out somewhere.game (after (setting somewhere.game code somewhere.limits) somewhere.typed somewhere.steps).now
+  pub outside : HasOutside out somewhere.game somewhere.limits (after (setting somewhere.game code somewhere.limits) somewhere.typed somewhere.steps).now
 
 -- The machine has done steps that take no goal, which leave what is outside.
 pub record HasSettled (code : Code) (g : Game) (l : Limits) (typed : List ℕ) (steps : ℕ) (new : Memory) (now : Now) : Type 0 where
   pub further : ℕ
   pub stands : Stands code l new now (after (setting g code l) typed further).now
-  pub outside : (out : Outside) → HasOutside out g (after (setting g code l) typed steps).now → HasOutside out g (after (setting g code l) typed further).now
+  pub outside : (out : Outside) → HasOutside out g l (after (setting g code l) typed steps).now → HasOutside out g l (after (setting g code l) typed further).now
   pub goals : (after (setting g code l) typed further).goals ≡ (after (setting g code l) typed steps).goals
   pub prints : (after (setting g code l) typed further).prints ≡ (after (setting g code l) typed steps).prints
 

@@ -1,5 +1,5 @@
 -- What a machine with its memory stands for. Hold it against the Dialog manual, chapter "Choice points".
-use Rattle.std.specs.Prelude.{ℕ, suc, ◌≡◌, ◌+◌, ◌<◌, ◌≤◌, List, [], ◌∷◌, Option, Some, None, Bool, length}
+use Rattle.std.specs.Prelude.{ℕ, suc, ◌≡◌, ◌+◌, ◌<◌, ◌≤◌, List, [], ◌∷◌, Option, Some, None, Bool, length, slice_get}
 use Rattle.std.specs.Borrow.{Bor}
 use Rattle.dg_base.specs.declared.program.Term.{Term}
 use Rattle.dg_base.specs.declared.run.Limits.{Limits}
@@ -7,7 +7,8 @@ use Rattle.dg_meaning.specs.World.{Game, worked}
 use Rattle.dg_meaning.specs.Numbers.{of_numbers, calculated, thrown}
 use Rattle.dg_meaning.specs.Choosing.{die}
 use Rattle.dg_meaning.specs.Substitutions.{walk}
-use Rattle.dg_meaning.specs.Moves.{gives_number, throws, looked_up}
+use Rattle.dg_meaning.specs.Moves.{gives_number, throws, looked_up, change_place}
+use Rattle.dg_meaning.specs.Facts.{kinds_of}
 use Rattle.dg_outside.specs.Outside.{InWorld}
 use Rattle.dg_outside.specs.declared.outside.Outside.{Outside}
 use Rattle.dg_base.specs.declared.program.ArithOp.{ArithOp}
@@ -54,18 +55,22 @@ Stands code l r Fails (FailsOf m) = Holds code l r m
 Stands code l r (Ended e) (EndedOf e') = (e' ≡ e) × Roomy l r
 Stands code l r now s = ⊥
 
+-- What is outside stands for what a machine has of the world, and as much may be kept there as the limits say.
+abbrev pub Around : Outside → Game → Limits → Mid → Type 0
+Around out g l m = InWorld out g (world_of [] m) × (out.world.area.keep ≡ l.keep)
+
 -- What is outside stands for what a status has of the world.
-abbrev pub HasOutside : Outside → Game → Status → Type 0
-HasOutside out g (RunsOf m) = InWorld out g (world_of [] m)
-HasOutside out g (EntersOf c m) = InWorld out g (world_of [] m)
-HasOutside out g (ResumesOf way m) = InWorld out g (world_of [] m)
-HasOutside out g (FailsOf m) = InWorld out g (world_of [] m)
-HasOutside out g (EndedOf e) = Unit {0}
+abbrev pub HasOutside : Outside → Game → Limits → Status → Type 0
+HasOutside out g l (RunsOf m) = Around out g l m
+HasOutside out g l (EntersOf c m) = Around out g l m
+HasOutside out g l (ResumesOf way m) = Around out g l m
+HasOutside out g l (FailsOf m) = Around out g l m
+HasOutside out g l (EndedOf e) = Unit {0}
 
 -- The machine stands for a status, and what is outside for what that has of the world.
 pub record StandsWith (code : Code) (g : Game) (l : Limits) (r : Memory) (now : Now) (out : Outside) (s : Status) : Type 0 where
   pub stands : Stands code l r now s
-  pub outside : HasOutside out g s
+  pub outside : HasOutside out g l s
 
 -- Whatever the machine stands for before, it stands behind it for the step of that, in every game.
 abbrev pub Steps : Code → Memory → Now → Memory → Now → Type 0
@@ -81,7 +86,7 @@ DoesOp t code old x rest new after = (g : Game) → IsOf g.program t → (l : Li
 -- The same of an instruction that changes what is outside.
 abbrev pub DoesWith : Tables → Code → Memory → Outside → Op → List Op → Memory → Now → Outside → Type 0
 DoesWith t code old out x rest new after out' = (g : Game) → IsOf g.program t → (l : Limits) (m : Mid) → OpBuilt x → CodeIs rest m → Holds code l old m →
-    InWorld out g (world_of [] m) → StandsWith code g l new after out' (does (setting g code l) x m)
+    Around out g l m → StandsWith code g l new after out' (does (setting g code l) x m)
 
 -- A step was done, and the number that falls between goals has fallen.
 pub record Falls (code : Code) (l : Limits) (old : Memory) (before : Now) (new : Memory) (after : Now) (s : Status) : Type 0 where
@@ -154,9 +159,15 @@ Calculates code by old rest new after = (g : Game) (l : Limits) (m : Mid) (u v w
 -- A random number between two values at hand is unified with a third, and a dice word was drawn for it.
 abbrev pub ThrowsDie : Code → Memory → Outside → List Op → Memory → Now → Outside → Type 0
 ThrowsDie code old out rest new after out' = (g : Game) (l : Limits) (m : Mid) (u v w : Value) → CodeIs rest m → Holds code l old m →
-    RefsAt (meaning_of old.arena) old.args.items (u ∷ v ∷ w ∷ []) → InWorld out g (world_of [] m) → StandsWith code g l new after out' (done (setting g code l)
+    RefsAt (meaning_of old.arena) old.args.items (u ∷ v ∷ w ∷ []) → Around out g l m → StandsWith code g l new after out' (done (setting g code l)
     (throws (of_numbers (thrown (die g.dice m.outside.dice)) (walk m.state.subst u) (walk m.state.subst v)) w (registers_of m)
     (worked (looked_up (registers_of m) u + looked_up (registers_of m) v) (world_of [] m))) m)
+
+-- A place is changed with the values at hand.
+abbrev pub ChangesPlace : Tables → Code → Memory → Outside → ℕ → Bool → List Op → Memory → Now → Outside → Type 0
+ChangesPlace t code old out place sets rest new after out' = (g : Game) → IsOf g.program t → (l : Limits) (m : Mid) (vs : List Value) → CodeIs rest m →
+    Holds code l old m → RefsAt (meaning_of old.arena) old.args.items vs → Around out g l m → StandsWith code g l new after out' (done (setting g code l)
+    (change_place g place (slice_get (kinds_of g.program) place) vs sets [] (registers_of m) (world_of [] m)) m)
 
 -- The body of a closure is entered by a call whose arguments stand behind the first at hand.
 abbrev pub EntersBody : Code → Memory → Call → BodyCode → Ref → Memory → Now → Type 0

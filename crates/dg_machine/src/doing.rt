@@ -17,7 +17,7 @@ ghost use Rattle.dg_machine.specs.declared.tables.Tables.{Tables as TheTables};
 ghost use Rattle.dg_machine.specs.Refs.{RefsAt, AreRefs};
 ghost use Rattle.dg_machine.specs.Layout.{HasRoom, Holds};
 ghost use Rattle.dg_machine.specs.Standing.{DoesOp, DoesMark, CallsRules, EntersWith, Asks, AsksLast, Calculates, EntersBody, IsAsked, QueriesFirst};
-ghost use Rattle.dg_machine.specs.Standing.{DoesWith, ThrowsDie};
+ghost use Rattle.dg_machine.specs.Standing.{DoesWith, ThrowsDie, ChangesPlace};
 ghost use Rattle.dg_machine.specs.Standing.{EntersLastBody, QueriesLast, EntersRule, EntersIn, IsThere, GoesOnAt, GoesOn, FailsTo};
 
 use crate::closures::body_row;
@@ -237,6 +237,50 @@ impl Memory {
         match self.put_three(tables, a, b, into) {
             Err(_) => Now::Ended(Ending::HeapLimit),
             Ok(()) => self.throw(outside, rest),
+        }
+    }
+
+    /// A place is changed with the arguments at hand, if it can be.
+    fn change_place<'p>(
+        &mut self,
+        tables: &Tables,
+        outside: &mut Outside<'_>,
+        place: u16,
+        sets: bool,
+        rest: &'p [Op],
+    ) -> Now<'p>
+        requires { AreRefs (meaning_of self.old.arena) self.old.args.items }
+        ensures { (code : TheCode) → ChangesPlace tables.now code self.old outside.old place sets rest.now self.new result outside.new }
+    {
+        let Some(kind) = tables.kind_of(place) else {
+            return Now::Fails;
+        };
+        let args = self.args.as_slice();
+        match outside.change(&mut self.arena, tables.objects, kind, place, args, sets) {
+            Err(_) => Now::Ended(Ending::KeepLimit),
+            Ok(false) => Now::Fails,
+            Ok(true) => Now::Runs(rest),
+        }
+    }
+
+    /// A place is changed with the values of terms, if it can be.
+    pub fn change<'p>(
+        &mut self,
+        tables: &Tables,
+        outside: &mut Outside<'_>,
+        place: u16,
+        terms: &[Term],
+        sets: bool,
+        rest: &'p [Op],
+    ) -> Now<'p>
+        requires some { (code : TheCode) × (l : Limits) × (m : Mid) × Holds code l self.old m }
+        requires terms { AreArguments terms.now }
+        ensures { (code : TheCode) → DoesWith tables.now code self.old outside.old (op.Do (action.Now place terms.now sets)) rest.now self.new result
+            outside.new }
+    {
+        match self.put_args(tables, terms) {
+            Err(_) => Now::Ended(Ending::HeapLimit),
+            Ok(()) => self.change_place(tables, outside, place, sets, rest),
         }
     }
 

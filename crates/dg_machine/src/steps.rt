@@ -244,6 +244,9 @@ fn do_action<'p, K: Sink>(
         },
         Action::GapN(term) => print_spaces(memory, tables, ops, term, rest, spacer, sink),
         Action::Random(a, b, into) => Ok(memory.random(tables, outside, a, b, into, rest)),
+        Action::Now(place, terms, sets) => {
+            Ok(memory.change(tables, outside, *place, terms.as_slice(), *sets, rest))
+        }
         action => Ok(act(memory, tables, action, rest)),
     }
 }

@@ -1,14 +1,17 @@
 // What a machine keeps of a program beside its code.
-ghost use Rattle.std.specs.Prelude.{◌≡◌, ◌≤◌, IfOk, length};
+ghost use Rattle.std.specs.Prelude.{◌≡◌, ◌≤◌, IfOk, length, map, slice_get};
+ghost use Rattle.dg_base.specs.declared.program.Place.{Place as ThePlace};
 ghost use Rattle.dg_machine.specs.Tables.{IsOf, captured_at};
 
 use crate::now::Captured;
-use dg_base::CoreProgram;
+use dg_base::{CoreProgram, Place, PlaceKind};
 use std::alloc::{AllocError, Global};
 
-/// For each closure of a program the variables that it captures.
+/// The kinds of a program's places, how many objects it has, and for each closure the variables that it captures.
 #[derive(Drop)]
 pub struct Tables {
+    pub kinds: Vec<PlaceKind>,
+    pub objects: usize,
     pub captured: Vec<Captured>,
 }
 
@@ -23,11 +26,24 @@ fn copied(alloc: Global, vars: &[u16]) -> Result<Vec<u16>, AllocError>
     Ok(copy)
 }
 
+/// The kinds of places.
+fn kinds_of(alloc: Global, places: &[Place]) -> Result<Vec<PlaceKind>, AllocError>
+    ensures { IfOk result (λ kinds. kinds.items ≡ map (λ (place : ThePlace). place.kind) places.now) }
+{
+    let mut kinds = Vec::with_capacity(alloc, places.len())?;
+    'places: for place in places {
+        kinds.push(place.kind)?;
+    }
+    Ok(kinds)
+}
+
 impl Tables {
     /// What is kept of a program. There is no room for a closure that captures more than 65,535 variables.
     pub fn of(alloc: Global, program: &CoreProgram) -> Result<Tables, AllocError>
         ensures { IfOk result (λ t. IsOf program.now t) }
     {
+        let kinds = kinds_of(alloc, program.places.as_slice())?;
+        let objects = program.objects.as_slice().len();
         let mut captured = Vec::new(alloc);
         'closures: for closure in program.closures.as_slice() {
             let vars = closure.captured.as_slice();
@@ -37,7 +53,18 @@ impl Tables {
             let vars = copied(alloc, vars)?;
             captured.push(Captured { vars })?;
         }
-        Ok(Tables { captured })
+        Ok(Tables {
+            kinds,
+            objects,
+            captured,
+        })
+    }
+
+    /// The kind of a place, if there is one.
+    pub fn kind_of(&self, place: u16) -> Option<PlaceKind>
+        ensures { result ≡ slice_get self.now.kinds.items place }
+    {
+        self.kinds.get(place as usize).copied()
     }
 
     /// The variables that the closure of a place captures.

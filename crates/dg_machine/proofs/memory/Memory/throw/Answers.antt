@@ -20,9 +20,9 @@ returns-in-None c code g l m u v w at h refs in_world =
     let world = worked (looked_up (registers_of m) u + looked_up (registers_of m) v) (world_of [] m) in
     let o = of_numbers (thrown (die g.dice m.outside.dice)) (walk m.state.subst u) (walk m.state.subst v) in
     let out = c.throw_args.new.outside in
-    let none = threw_none o g.dice m.outside.dice out.dice (c.in-None.ensures.thrown code l m u v w h refs g.dice m.outside.dice in_world.2) in
+    let none = threw_none o g.dice m.outside.dice out.dice (c.in-None.ensures.thrown code l m u v w h refs g.dice m.outside.dice in_world.0.2) in
     subst (λ x. StandsWith code g l c.args.self.now Fails out (done (setting g code l) (throws x w (registers_of m) world) m)) (sym none.is)
-    (record { stands = h; outside = drawn_world c.args.outside.now out g m m.outside.dice c.in-None.ensures.others in_world none.drawn })
+    (record { stands = h; outside = drawn_world c.args.outside.now out g l m m.outside.dice c.in-None.ensures.others in_world none.drawn })
 
 pub returns-in-Err : goal.returns-in-Err
 returns-in-Err c code g l m u v w at h refs in_world =
@@ -33,9 +33,9 @@ returns-in-Err c code g l m u v w at h refs in_world =
     let k = c.in-Some.n in
     let out = c.throw_args.new.outside in
     let new = c.unify_number.new.self in
-    let some = threw_some o g.dice m.outside.dice k out.dice (c.in-Some.ensures.thrown code l m u v w h refs g.dice m.outside.dice in_world.2) in
+    let some = threw_some o g.dice m.outside.dice k out.dice (c.in-Some.ensures.thrown code l m u v w h refs g.dice m.outside.dice in_world.0.2) in
     subst (λ x. StandsWith code g l new (Ended TrailLimit) out (done (setting g code l) (throws x w (registers_of m) world) m)) (sym some.is)
-    (threw_stands code g l m w k n world refl new (Ended TrailLimit) out h.1.height_is (drawn_world c.args.outside.now out g m n c.in-Some.ensures.others in_world some.drawn)
+    (threw_stands code g l m w k n world refl new (Ended TrailLimit) out h.1.height_is (drawn_world c.args.outside.now out g l m n c.in-Some.ensures.others in_world some.drawn)
     (unmatched_stands code g l (unify m.state.subst w (leaf (Num k))) m1 new (c.in-Err.ensures code l m1 u v w h refs)))
 
 pub returns-in-Ok-false : goal.returns-in-Ok-false
@@ -47,9 +47,9 @@ returns-in-Ok-false c code g l m u v w at h refs in_world =
     let k = c.in-Some.n in
     let out = c.throw_args.new.outside in
     let new = c.unify_number.new.self in
-    let some = threw_some o g.dice m.outside.dice k out.dice (c.in-Some.ensures.thrown code l m u v w h refs g.dice m.outside.dice in_world.2) in
+    let some = threw_some o g.dice m.outside.dice k out.dice (c.in-Some.ensures.thrown code l m u v w h refs g.dice m.outside.dice in_world.0.2) in
     subst (λ x. StandsWith code g l new Fails out (done (setting g code l) (throws x w (registers_of m) world) m)) (sym some.is)
-    (threw_stands code g l m w k n world refl new Fails out h.1.height_is (drawn_world c.args.outside.now out g m n c.in-Some.ensures.others in_world some.drawn)
+    (threw_stands code g l m w k n world refl new Fails out h.1.height_is (drawn_world c.args.outside.now out g l m n c.in-Some.ensures.others in_world some.drawn)
     (clash_stands code g l (unify m.state.subst w (leaf (Num k))) m1 new c.in-Ok-false.field-0 c.in-Ok-false.field-0-test (c.in-Ok-false.ensures code l m1 u v w h refs)))
 
 pub returns-in-Ok-true : goal.returns-in-Ok-true
@@ -61,7 +61,7 @@ returns-in-Ok-true c code g l m u v w at h refs in_world =
     let k = c.in-Some.n in
     let out = c.throw_args.new.outside in
     let new = c.unify_number.new.self in
-    let some = threw_some o g.dice m.outside.dice k out.dice (c.in-Some.ensures.thrown code l m u v w h refs g.dice m.outside.dice in_world.2) in
+    let some = threw_some o g.dice m.outside.dice k out.dice (c.in-Some.ensures.thrown code l m u v w h refs g.dice m.outside.dice in_world.0.2) in
     subst (λ x. StandsWith code g l new (Runs c.args.rest) out (done (setting g code l) (throws x w (registers_of m) world) m)) (sym some.is)
-    (threw_stands code g l m w k n world refl new (Runs c.args.rest) out h.1.height_is (drawn_world c.args.outside.now out g m n c.in-Some.ensures.others in_world some.drawn)
+    (threw_stands code g l m w k n world refl new (Runs c.args.rest) out h.1.height_is (drawn_world c.args.outside.now out g l m n c.in-Some.ensures.others in_world some.drawn)
     (agreed_stands code g l (unify m.state.subst w (leaf (Num k))) m1 new c.args.rest c.in-Ok-true.field-0 c.in-Ok-true.field-0-test at (c.in-Ok-true.ensures code l m1 u v w h refs)))
