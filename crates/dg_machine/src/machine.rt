@@ -79,9 +79,11 @@ impl Machine {
         requires tidy { Tidy self.old.code }
         requires outside { (p : CoreProgram) × (dice : List ℕ) × IsOf p self.old.tables × StartsOutside p self.old.limits dice outside.old }
         ensures shows { IfOk result (λ outcome. (p : CoreProgram) → (dice : List ℕ) → Codes p self.old.code → IsOf p self.old.tables →
-            StartsOutside p self.old.limits dice outside.old → (typed : List ℕ) → HasShown (game p dice) typed self.old.limits outcome (K.view sink.old) (K.view sink.new)) }
+            StartsOutside p self.old.limits dice outside.old → (typed : List ℕ) →
+            HasShown (game p dice) typed self.old.limits outcome (K.view sink.old) (K.view sink.new)) }
         ensures err { OnErr result ((p : CoreProgram) → (dice : List ℕ) → Codes p self.old.code → IsOf p self.old.tables →
-            StartsOutside p self.old.limits dice outside.old → (typed : List ℕ) → HasLostOutput (game p dice) typed self.old.limits (K.view sink.old) (K.view sink.new)) }
+            StartsOutside p self.old.limits dice outside.old → (typed : List ℕ) →
+            HasLostOutput (game p dice) typed self.old.limits (K.view sink.old) (K.view sink.new)) }
         ensures read { IsErrOf result Fault.Read → ⊥ }
         ensures source { S.view source.new ≡ S.view source.old }
         ensures code { self.new.code ≡ self.old.code }
