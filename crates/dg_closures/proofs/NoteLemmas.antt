@@ -7,9 +7,9 @@ use Rattle.dg_access.specs.Scopes.{with_places}
 use Rattle.dg_access.specs.State.{scope_view}
 use Rattle.dg_access.specs.declared.variables.Entry.{Entry}
 use Rattle.dg_closures.specs.Closures.{Layout}
-use Rattle.dg_closures.specs.Scanning as spec
-use Rattle.dg_closures.specs.Scanning.{Scan, with_name}
-use Rattle.dg_closures.specs.View.{open_view, stack_of}
+use Rattle.dg_closures.specs.inside.Scanning as spec
+use Rattle.dg_closures.specs.inside.Scanning.{Scan, with_name}
+use Rattle.dg_closures.specs.inside.View.{open_view, stack_of}
 use Rattle.dg_closures.specs.declared.layouts.Open.{Open}
 
 pub stack_push : (os : List Open) (o : Open) → stack_of (os ++ o ∷ []) ≡ open_view o ∷ stack_of os

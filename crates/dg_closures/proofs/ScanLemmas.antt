@@ -13,7 +13,7 @@ use Rattle.dg_access.specs.Scopes.{Entry, stays}
 use Rattle.dg_access.proofs.EntryLemmas.{add_all, names, names_added, add_append, places_added, distinct_added, filter_names, kept_added, merged_leaving}
 use Rattle.dg_access.proofs.FullLemmas.{named_if}
 use Rattle.dg_closures.specs.Closures.{parameter, Layout, layout_by, behind, places_from, layouts_from, names_around, layouts_of}
-use Rattle.dg_closures.specs.Scanning.{Open, Scan, blank, start, with_name, captured_of, own_of, layout_by_entries, step, scanned}
+use Rattle.dg_closures.specs.inside.Scanning.{Open, Scan, blank, start, with_name, captured_of, own_of, layout_by_entries, step, scanned}
 
 abbrev times_in : List (List ℕ) → List ℕ → ℕ
 times_in all n = times n all

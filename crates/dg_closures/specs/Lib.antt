@@ -1,4 +1,3 @@
 pub mod Closures
 pub mod Held
-pub mod Scanning
-pub mod View
+pub mod inside

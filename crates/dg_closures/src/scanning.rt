@@ -5,8 +5,8 @@ ghost use Rattle.dg_base.specs.Mentions.{variable, names_in, variable_in, of_sai
 ghost use Rattle.dg_base.specs.TreeView.{said_view};
 ghost use Rattle.dg_base.specs.Walk.{met, opens, closes, mention_view, seen};
 ghost use Rattle.dg_closures.specs.Closures as spec;
-ghost use Rattle.dg_closures.specs.Scanning.{layout_by_entries, step, scanned, one_captured, one_own, start};
-ghost use Rattle.dg_closures.specs.View.{layout_view, layouts_view, open_view, scan_view, names_view, stack_of};
+ghost use Rattle.dg_closures.specs.inside.Scanning.{layout_by_entries, step, scanned, one_captured, one_own, start};
+ghost use Rattle.dg_closures.specs.inside.View.{layout_view, layouts_view, open_view, scan_view, names_view, stack_of};
 
 use crate::layouts::{Layout, Layouts, Open, Scan};
 use dg_access::{Entry, add_places, merge, stays, totals_among};

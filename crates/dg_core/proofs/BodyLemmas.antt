@@ -5,7 +5,7 @@ use Rattle.dg_base.specs.Tree.{Parts, no_parts, part, part_word, part_value, Val
 use Rattle.dg_core.specs.Bodies.{Closed, no_closure, a_closure, join, direct, in_value, in_parts}
 use Rattle.dg_core.specs.Goals.{Scope, at, past}
 use Rattle.dg_core.specs.Places.{values_in}
-use Rattle.dg_core.specs.View.{directs}
+use Rattle.dg_core.specs.inside.View.{directs}
 
 pub direct_join : (a b : Closed) → direct (join a b) ≡ direct a ++ direct b
 direct_join no_closure b = refl

@@ -10,8 +10,8 @@ use Rattle.dg_core.specs.Core.{Before, rows_in, rows_from, rule_of, numbered}
 use Rattle.dg_core.specs.Goals.{Scope}
 use Rattle.dg_core.specs.Rows.{Home, rows, selects_within, in_rule}
 use Rattle.dg_core.specs.Variables.{layouts_in}
-use Rattle.dg_core.specs.View.{rule_in}
-use Rattle.dg_core.specs.Waiting.{waiting_from, pending, selects_left, stack_of, home_of, rows_kept, selects_kept, Waits, Keeps}
+use Rattle.dg_core.specs.inside.View.{rule_in}
+use Rattle.dg_core.specs.inside.Waiting.{waiting_from, pending, selects_left, stack_of, home_of, rows_kept, selects_kept, Waits, Keeps}
 use Rattle.dg_core.specs.declared.rows.Kept.{Kept}
 use Rattle.dg_core.proofs.PredLemmas.{HasNoRule}
 use Rattle.dg_core.proofs.WaitLemmas.{rule_has, pending_found, selects_found}

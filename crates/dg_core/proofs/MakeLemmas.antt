@@ -23,7 +23,7 @@ use Rattle.dg_base.specs.declared.program.Term.{Term}
 use Rattle.dg_core.specs.Bodies.{Closed, no_closure, join, direct, in_value, in_stmt, in_stmts, in_branches, in_arms}
 use Rattle.dg_core.specs.Goals.{Scope, at, past, selects, unit, term_of, stmt_goals, goals_of, lists, arm_goals}
 use Rattle.dg_core.proofs.BodyLemmas.{past_none, past_past, found_past, found_join, found_none, join_none, join_join}
-use Rattle.dg_core.specs.Making.{Made, here, added, held, in_other, with_more, with_goals, otherwise, selects_otherwise, other_weight, goal_behind, goals_behind, goal_weight, goals_weight, Takes, ComesTo}
+use Rattle.dg_core.specs.inside.Making.{Made, here, added, held, in_other, with_more, with_goals, otherwise, selects_otherwise, other_weight, goal_behind, goals_behind, goal_weight, goals_weight, Takes, ComesTo}
 use Rattle.dg_core.specs.declared.goals.Close.{Close}
 use Rattle.dg_core.specs.declared.goals.GoalWork.{GoalWork}
 use Rattle.dg_core.proofs.MakingLemmas.{takes, comes, push_two, push_four, reverse_push}

@@ -15,9 +15,9 @@ use Rattle.dg_base.specs.declared.program.Term.TheVariants as term
 use Rattle.dg_base.specs.declared.tree.Body.{Body}
 use Rattle.dg_core.specs.Bodies.{Closed, join, direct, in_value, in_values}
 use Rattle.dg_core.specs.Goals.{Scope, at, past, closure_of, term_of, listed}
-use Rattle.dg_core.specs.View.{terms_made}
+use Rattle.dg_core.specs.inside.View.{terms_made}
 use Rattle.dg_core.proofs.BodyLemmas.{past_none, past_past, found_past, found_join, found_none, join_none, join_join}
-use Rattle.dg_core.specs.Making.{Terms, bodies_view, with_term, in_tail, listed_tail, last_term, tail_of, tail_weight, term_behind, terms_behind, term_weight, terms_weight, Made, goal_behind, goals_behind, goal_weight, goals_weight, Takes, ComesTo}
+use Rattle.dg_core.specs.inside.Making.{Terms, bodies_view, with_term, in_tail, listed_tail, last_term, tail_of, tail_weight, term_behind, terms_behind, term_weight, terms_weight, Made, goal_behind, goals_behind, goal_weight, goals_weight, Takes, ComesTo}
 use Rattle.dg_core.specs.declared.terms.TermWork.{TermWork}
 use Rattle.dg_core.specs.declared.goals.GoalWork.{GoalWork}
 

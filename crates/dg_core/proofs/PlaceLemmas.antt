@@ -18,7 +18,7 @@ use Rattle.dg_base.proofs.MentionLemmas.{names_append}
 use Rattle.dg_names.specs.Scopes.{with_name, with_names}
 use Rattle.dg_names.proofs.FirstLemmas.{firsts_of, with_append}
 use Rattle.dg_core.proofs.MemberLemmas.{alone_there, firsts_have}
-use Rattle.dg_core.specs.View.{named_behind, value_at, escape_at}
+use Rattle.dg_core.specs.inside.View.{named_behind, value_at, escape_at}
 use Rattle.dg_base.specs.declared.program.PlaceKind.TheVariants.{Parent, Global}
 use Rattle.dg_core.specs.Places.{is_among, kind_by, kind_of, values_named, values_behind, parent_name, declaration_in, declarations, declared_names, changed_in, place_names, Placed, placed_of}
 

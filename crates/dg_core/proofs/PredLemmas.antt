@@ -23,7 +23,7 @@ use Rattle.dg_base.specs.declared.program.Rule.{Rule}
 use Rattle.dg_core.specs.Bodies.{no_closure}
 use Rattle.dg_core.specs.Core.{Before, none_before, behind_item, rule_of, failing, rules_in, rules_from, rows_in, selects_of, closures_of, numbered, pred_of}
 use Rattle.dg_core.specs.Goals.{Scope}
-use Rattle.dg_core.specs.View.{with_rule, with_rules_in, with_all, pred_names}
+use Rattle.dg_core.specs.inside.View.{with_rule, with_rules_in, with_all, pred_names}
 
 -- ---- one rule
 

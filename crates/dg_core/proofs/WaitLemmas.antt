@@ -11,9 +11,9 @@ use Rattle.dg_base.specs.declared.tree.Body.{Body as CodeBody}
 use Rattle.dg_closures.specs.Closures.{Layout, variables_in}
 use Rattle.dg_core.specs.Bodies.{Closed, no_closure, a_closure, join, direct, in_value, in_values, in_parts, in_stmt, in_stmts, in_branches, in_arms, in_changes}
 use Rattle.dg_core.specs.Goals.{Scope, selects, body_goals}
-use Rattle.dg_core.specs.Making.{bodies_view}
+use Rattle.dg_core.specs.inside.Making.{bodies_view}
 use Rattle.dg_core.specs.Rows.{size, selects_within, layout_at, Home, scope_in, row_with, captured_in, rows, in_rule}
-use Rattle.dg_core.specs.Waiting.{Waiting, pending, left_of, selects_left, waiting_view, stack_of, waiting_at, waiting_from, IsNext}
+use Rattle.dg_core.specs.inside.Waiting.{Waiting, pending, left_of, selects_left, waiting_view, stack_of, waiting_at, waiting_from, IsNext}
 use Rattle.dg_core.specs.declared.rows.Waiting.{Waiting as CodeWaiting}
 
 -- ---- what is found in a body

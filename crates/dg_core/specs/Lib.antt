@@ -4,8 +4,6 @@ pub mod Matches
 pub mod Places
 pub mod Goals
 pub mod Rows
-pub mod Waiting
 pub mod Core
-pub mod Making
-pub mod View
 pub mod Given
+pub mod inside

@@ -5,7 +5,7 @@ ghost use Rattle.dg_base.specs.Heads.{name_of as head_name};
 ghost use Rattle.dg_base.specs.Tree.{parts_of, values_of, plain_list};
 ghost use Rattle.dg_base.specs.TreeView.{part_view, head_view, value_view, list_view, body_view, said_view, item_view};
 ghost use Rattle.dg_core.specs.Places as spec;
-ghost use Rattle.dg_core.specs.View.{places_view, values_view};
+ghost use Rattle.dg_core.specs.inside.View.{places_view, values_view};
 
 use crate::places::{has, kind_of};
 use crate::scope::Places;

@@ -5,8 +5,8 @@ ghost use Rattle.dg_base.specs.Tree.{changes_of};
 ghost use Rattle.dg_base.specs.TreeView.{stmt_view, value_view, body_view, head_view, change_view};
 ghost use Rattle.dg_core.specs.Goals as spec;
 ghost use Rattle.dg_core.specs.Bodies.{direct, in_value, in_parts, in_changes, in_branches};
-ghost use Rattle.dg_core.specs.Making.{made, bodies_view, here, added, held, first_of, others_of, other_terms, last_term, with_more, closed_by, body_behind, Takes, ComesTo};
-ghost use Rattle.dg_core.specs.View.{scope_view, scope_behind};
+ghost use Rattle.dg_core.specs.inside.Making.{made, bodies_view, here, added, held, first_of, others_of, other_terms, last_term, with_more, closed_by, body_behind, Takes, ComesTo};
+ghost use Rattle.dg_core.specs.inside.View.{scope_view, scope_behind};
 
 use crate::queries::{add_changes, asked};
 use crate::scope::Scope;

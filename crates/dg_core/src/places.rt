@@ -8,7 +8,7 @@ ghost use Rattle.dg_base.specs.Walk.{mention_view, thing_at, things_at, seen};
 ghost use Rattle.dg_names.specs.Scopes.{with_name, with_names};
 ghost use Rattle.dg_names.specs.State.{listed};
 ghost use Rattle.dg_core.specs.Places as spec;
-ghost use Rattle.dg_core.specs.View.{places_view, value_at, escape_at};
+ghost use Rattle.dg_core.specs.inside.View.{places_view, value_at, escape_at};
 
 use crate::scope::Places;
 use dg_base::{Item, ItemBody, Mention, PlaceKind, Role, mentions_of, name_of};

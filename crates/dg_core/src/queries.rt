@@ -4,8 +4,8 @@ ghost use Rattle.dg_base.specs.Tree.{changes_of};
 ghost use Rattle.dg_base.specs.TreeView.{head_view, change_view};
 ghost use Rattle.dg_core.specs.Bodies.{direct, in_parts, in_changes};
 ghost use Rattle.dg_core.specs.Goals as spec;
-ghost use Rattle.dg_core.specs.Making.{bodies_view};
-ghost use Rattle.dg_core.specs.View.{scope_view, scope_behind};
+ghost use Rattle.dg_core.specs.inside.Making.{bodies_view};
+ghost use Rattle.dg_core.specs.inside.View.{scope_view, scope_behind};
 
 use crate::places::place_in;
 use crate::scope::Scope;

@@ -2,13 +2,13 @@
 ghost use Rattle.std.specs.Prelude.{◌≡◌, ◌+◌, ◌++◌, ◌∷◌, [], map, min, length, get_or, IfOk, OnOk};
 ghost use Rattle.dg_base.specs.TreeView.{body_view};
 ghost use Rattle.dg_closures.specs.Closures as closures;
-ghost use Rattle.dg_closures.specs.View.{layout_view};
+ghost use Rattle.dg_closures.specs.inside.View.{layout_view};
 ghost use Rattle.dg_names.specs.State.{seen};
 ghost use Rattle.dg_core.specs.Goals.{number_in};
-ghost use Rattle.dg_core.specs.Making.{bodies_view};
+ghost use Rattle.dg_core.specs.inside.Making.{bodies_view};
 ghost use Rattle.dg_core.specs.Rows as spec;
-ghost use Rattle.dg_core.specs.View.{scope_view};
-ghost use Rattle.dg_core.specs.Waiting.{stack_of, waiting_view, waiting_at, waiting_from, home_view, home_of, pending, selects_left, rows_kept, selects_kept, IsNext};
+ghost use Rattle.dg_core.specs.inside.View.{scope_view};
+ghost use Rattle.dg_core.specs.inside.Waiting.{stack_of, waiting_view, waiting_at, waiting_from, home_view, home_of, pending, selects_left, rows_kept, selects_kept, IsNext};
 
 use crate::goals::goals_of;
 use crate::scope::Scope;

@@ -5,7 +5,7 @@ ghost use Rattle.dg_base.specs.TreeView.{head_view, value_view, said_view, item_
 ghost use Rattle.dg_base.specs.declared.program.Term.{out-Term};
 ghost use Rattle.dg_core.specs.Core as spec;
 ghost use Rattle.dg_core.specs.Places.{declarations, declaration_in};
-ghost use Rattle.dg_core.specs.View.{scope_view, places_view, values_view, heads_view, pred_names};
+ghost use Rattle.dg_core.specs.inside.View.{scope_view, places_view, values_view, heads_view, pred_names};
 
 use crate::facts::values_in;
 use crate::places::{has, kind_of, place_in};

@@ -8,8 +8,8 @@ ghost use Rattle.dg_base.specs.TreeView.{part_view, value_view, head_view};
 ghost use Rattle.dg_names.specs.State.{seen, listed as names_listed};
 ghost use Rattle.dg_core.specs.Goals as spec;
 ghost use Rattle.dg_core.specs.Bodies.{direct, in_value, in_parts};
-ghost use Rattle.dg_core.specs.Making.{bodies_view, paired, last_term, term_behind, terms_behind, term_weight, terms_weight};
-ghost use Rattle.dg_core.specs.View.{scope_view, scope_behind, terms_made, directs, values_view};
+ghost use Rattle.dg_core.specs.inside.Making.{bodies_view, paired, last_term, term_behind, terms_behind, term_weight, terms_weight};
+ghost use Rattle.dg_core.specs.inside.View.{scope_view, scope_behind, terms_made, directs, values_view};
 
 use crate::facts::values_in;
 use crate::places::place_in;

@@ -13,7 +13,7 @@ use Rattle.dg_access.specs.declared.work.Wrap.{Wrap}
 use Rattle.dg_access.specs.declared.work.Wrap.TheVariants as wrap
 use Rattle.dg_access.proofs.BuildLemmas.{front_at, behind_at, init_push, last_push}
 use Rattle.dg_expand.specs.Put.{Access, Argument, Place, Level, level, put_query, rule_for, given_by, moved_from, within, changing, made, put_change, changes_behind, one_change, changes_in, queries_of, put_value, put_values, put_parts, put_stmt, put_stmts, put_body, put_arms, put_changes}
-use Rattle.dg_expand.specs.Putting.{Around, closed_around, copied_around, after_value, after_values, after_parts, after_stmt, after_stmts, after_branches, after_body, after_arms, after_changes, bare, wrap_of, does, run}
+use Rattle.dg_expand.specs.inside.Putting.{Around, closed_around, copied_around, after_value, after_values, after_parts, after_stmt, after_stmts, after_branches, after_body, after_arms, after_changes, bare, wrap_of, does, run}
 use Rattle.dg_expand.specs.declared.place.Place.{Place as CodePlace}
 use Rattle.dg_expand.specs.declared.work.Work.{Work}
 

@@ -10,7 +10,7 @@ use Rattle.dg_names.specs.Counts.{closures_at, selects_at}
 use Rattle.dg_access.specs.Building.{list_of_changes}
 use Rattle.dg_access.specs.Counts.{nodes_at, queries_at, rules_at, counted_of, counted_among, any_has_many, are_large, are_many}
 use Rattle.dg_expand.specs.Expanded.{signed, rules_of, on_line}
-use Rattle.dg_expand.specs.Weights.{load, parts_load, body_load, changes_load, HasManyHeads, IsOver}
+use Rattle.dg_expand.specs.inside.Weights.{load, parts_load, body_load, changes_load, HasManyHeads, IsOver}
 use Rattle.dg_expand.proofs.BuiltLemmas.{changes_again}
 use Rattle.dg_expand.proofs.WeightLemmas.{join_load}
 

@@ -10,7 +10,7 @@ use Rattle.dg_base.specs.Tree as tree
 use Rattle.dg_base.specs.declared.tree.Part.{Part as CodePart}
 use Rattle.dg_base.specs.Tree.{Part, Value, parts_of}
 use Rattle.dg_expand.specs.Put.{Access, Argument, Place, Level, changing, parameter_of, with_argument, argument_of, given_by, argument_for, put_value}
-use Rattle.dg_expand.specs.Putting.{Around, around_in, outer_view, outer_step, place_step, value_in, argument_or, argument_in}
+use Rattle.dg_expand.specs.inside.Putting.{Around, around_in, outer_view, outer_step, place_step, value_in, argument_or, argument_in}
 use Rattle.dg_expand.specs.declared.place.Outer.{Outer, fold-roll-Outer}
 use Rattle.dg_expand.specs.declared.place.Outer.TheOpen.{Outer-F}
 use Rattle.dg_expand.specs.declared.place.Outer.TheVariants as outers

@@ -10,11 +10,11 @@ use Rattle.dg_base.specs.Mentions.{things_in}
 use Rattle.dg_base.specs.Tree as tree
 use Rattle.dg_base.specs.Tree.{Said, Item}
 use Rattle.dg_expand.specs.Put.{Access}
-use Rattle.dg_expand.specs.Putting.{access_view}
+use Rattle.dg_expand.specs.inside.Putting.{access_view}
 use Rattle.dg_expand.specs.declared.place.Access.{Access as CodeAccess}
 use Rattle.dg_expand.specs.Expanded.{access_in, access_rules}
 use Rattle.dg_expand.specs.Loops.{reaches, loops, first_looping}
-use Rattle.dg_expand.specs.Rows.{first_row, first_rows, joined, is_set, is_among, is_here_looping, is_looping, first_numbered, row_at, with_one, rows_of, rows_at}
+use Rattle.dg_expand.specs.inside.Rows.{first_row, first_rows, joined, is_set, is_among, is_here_looping, is_looping, first_numbered, row_at, with_one, rows_of, rows_at}
 
 map_append : {X Y : Type 0} (f : X → Y) (xs ys : List X) → map f (xs ++ ys) ≡ map f xs ++ map f ys
 map_append f [] ys = refl

@@ -16,12 +16,12 @@ use Rattle.dg_access.specs.declared.work.Close.TheVariants as close
 use Rattle.dg_access.specs.declared.work.Wrap.TheVariants as wrap
 use Rattle.dg_base.specs.TreeView.{part_view, value_view, stmt_view, arm_view, body_view, change_view, branches_view}
 use Rattle.dg_expand.specs.Put.{one_change, changes_in, put_value, put_values, put_parts, put_stmt, put_stmts, put_body, put_arms, put_changes}
-use Rattle.dg_expand.specs.Putting.{Around, after_body, after_changes, after_parts, bare, does, is_now, numbered, run}
+use Rattle.dg_expand.specs.inside.Putting.{Around, after_body, after_changes, after_parts, bare, does, is_now, numbered, run}
 use Rattle.dg_expand.specs.declared.place.Place.{Place as CodePlace}
 use Rattle.dg_expand.specs.declared.work.Work.{Work}
 use Rattle.dg_expand.specs.declared.work.Work.TheVariants as work
 use Rattle.dg_expand.proofs.BuiltLemmas.{parts_again, changes_again}
-use Rattle.dg_expand.specs.Weights.{IsPast, HasManyHeads, changes_load, load, load_of, value_load, parts_load, part_load, stmt_load, stmts_load, body_load, arm_load, change_load, heavy, gain}
+use Rattle.dg_expand.specs.inside.Weights.{IsPast, HasManyHeads, changes_load, load, load_of, value_load, parts_load, part_load, stmt_load, stmts_load, body_load, arm_load, change_load, heavy, gain}
 
 -- ---- mentions
 

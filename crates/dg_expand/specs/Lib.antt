@@ -4,6 +4,4 @@ pub mod Loops
 pub mod Answer
 pub mod Comes
 pub mod Left
-pub mod Putting
-pub mod Weights
-pub mod Rows
+pub mod inside

@@ -8,8 +8,8 @@ ghost use Rattle.dg_base.specs.TreeView.{item_view, tree_view};
 ghost use Rattle.dg_expand.specs.Answer as spec;
 ghost use Rattle.dg_expand.specs.Answer.{IsPut, IsExpanded, IsRewritten};
 ghost use Rattle.dg_expand.specs.Expanded.{put_item};
-ghost use Rattle.dg_expand.specs.Putting.{access_view};
-ghost use Rattle.dg_expand.specs.Weights.{IsOver};
+ghost use Rattle.dg_expand.specs.inside.Putting.{access_view};
+ghost use Rattle.dg_expand.specs.inside.Weights.{IsOver};
 
 use crate::closed::are_bad;
 use crate::loops::first_looping;

@@ -6,7 +6,7 @@ ghost use Rattle.dg_base.specs.Tree.{parts_of};
 ghost use Rattle.dg_base.specs.TreeView.{part_view, head_view, said_view, item_view};
 ghost use Rattle.dg_base.specs.Walk.{mention_view, thing_at, things_at, seen};
 ghost use Rattle.dg_expand.specs.Expanded as spec;
-ghost use Rattle.dg_expand.specs.Putting.{access_view};
+ghost use Rattle.dg_expand.specs.inside.Putting.{access_view};
 
 use crate::place::{Access, rule_among};
 use dg_base::{

@@ -6,8 +6,8 @@ ghost use Rattle.dg_base.specs.Tree as tree;
 ghost use Rattle.dg_base.specs.Tree.{changes_of};
 ghost use Rattle.dg_access.specs.Building.{built_view, last_or};
 ghost use Rattle.dg_expand.specs.Put.{one_change, put_body, put_changes, put_parts};
-ghost use Rattle.dg_expand.specs.Putting.{Around, around, is_now, run, numbered};
-ghost use Rattle.dg_expand.specs.Weights.{IsPast, HasManyHeads, body_load, parts_load};
+ghost use Rattle.dg_expand.specs.inside.Putting.{Around, around, is_now, run, numbered};
+ghost use Rattle.dg_expand.specs.inside.Weights.{IsPast, HasManyHeads, body_load, parts_load};
 ghost use Rattle.dg_expand.specs.declared.place.Place.{Place as CodePlace};
 
 use crate::place::{Place, Uses};

@@ -6,9 +6,9 @@ ghost use Rattle.dg_base.specs.Mentions.{query, things_in};
 ghost use Rattle.dg_base.specs.TreeView.{head_view, said_view, item_view};
 ghost use Rattle.dg_base.specs.Walk.{mention_view, thing_at, things_at, seen};
 ghost use Rattle.dg_expand.specs.Loops as spec;
-ghost use Rattle.dg_expand.specs.Putting.{access_view};
+ghost use Rattle.dg_expand.specs.inside.Putting.{access_view};
 ghost use Rattle.dg_expand.specs.Expanded.{access_rules};
-ghost use Rattle.dg_expand.specs.Rows.{joined, is_set, is_among, is_looping, first_numbered, row_at, rows_at, with_one, rows_of, first_row, first_rows};
+ghost use Rattle.dg_expand.specs.inside.Rows.{joined, is_set, is_among, is_looping, first_numbered, row_at, rows_at, with_one, rows_of, first_row, first_rows};
 
 use crate::place::Access;
 use dg_base::{Head, Item, ItemBody, Mention, Role, is_named, mentions_of};

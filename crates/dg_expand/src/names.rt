@@ -1,7 +1,7 @@
 // The names of variables where access rules are put in.
 ghost use Rattle.std.specs.Prelude.{◌≡◌, ◌++◌, IfOk};
 ghost use Rattle.dg_expand.specs.Put as spec;
-ghost use Rattle.dg_expand.specs.Putting.{around};
+ghost use Rattle.dg_expand.specs.inside.Putting.{around};
 
 use crate::place::{Place, Uses};
 use dg_access::copied;

@@ -4,7 +4,7 @@ ghost use Rattle.std.specs.Option.{option_map};
 ghost use Rattle.dg_base.specs.Tree.{parts_of, stmts_of};
 ghost use Rattle.dg_base.specs.TreeView.{part_view, value_view, stmt_view, body_view};
 ghost use Rattle.dg_expand.specs.Put as spec;
-ghost use Rattle.dg_expand.specs.Putting.{access_view, around, around_in, closed_around, copied_around, within_around, argument_given, value_in, argument_or, argument_in};
+ghost use Rattle.dg_expand.specs.inside.Putting.{access_view, around, around_in, closed_around, copied_around, within_around, argument_given, value_in, argument_or, argument_in};
 
 use bumpalo::Bump;
 use dg_base::{Body, Part, Stmt, Value, is_named};

@@ -7,8 +7,8 @@ ghost use Rattle.dg_base.specs.Tree.{changes_of};
 ghost use Rattle.dg_base.specs.TreeView.{body_view, head_view, change_view, said_view, item_view};
 ghost use Rattle.dg_expand.specs.Expanded as spec;
 ghost use Rattle.dg_expand.specs.Put.{level, in_item, put_body};
-ghost use Rattle.dg_expand.specs.Putting.{access_view, around, standing_in};
-ghost use Rattle.dg_expand.specs.Weights.{body_load, IsOver};
+ghost use Rattle.dg_expand.specs.inside.Putting.{access_view, around, standing_in};
+ghost use Rattle.dg_expand.specs.inside.Weights.{body_load, IsOver};
 
 use crate::expanding::{BuiltBody, Heads, MOST, RULES, body_of, head_of, heads_of};
 use crate::place::{Access, Outer, Place, Uses, placed};

@@ -6,7 +6,7 @@ ghost use Rattle.dg_base.specs.Tree.{parts_of, values_of, stmts_of, arms_of, cha
 ghost use Rattle.dg_base.specs.TreeView.{part_view, value_view, stmt_view, arm_view, body_view, change_view, branches_view, list_view, choice_view, head_view};
 ghost use Rattle.dg_access.specs.Building.{built_view, asked, closing};
 ghost use Rattle.dg_expand.specs.Put.{one_change, change_by, changes_in};
-ghost use Rattle.dg_expand.specs.Putting.{around, bare, change_seen, wrap_of, after_body, after_value, after_values, after_parts, after_stmt, after_stmts, after_branches, after_arms, after_changes, does, IsStep, IsPutOff};
+ghost use Rattle.dg_expand.specs.inside.Putting.{around, bare, change_seen, wrap_of, after_body, after_value, after_values, after_parts, after_stmt, after_stmts, after_branches, after_arms, after_changes, does, IsStep, IsPutOff};
 
 use crate::names::own_name;
 use crate::place::{

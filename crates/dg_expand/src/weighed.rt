@@ -4,9 +4,9 @@ ghost use Rattle.dg_access.specs.Building.{built_view, closing};
 ghost use Rattle.dg_access.specs.State.{setting_view};
 ghost use Rattle.dg_base.specs.Tree as tree;
 ghost use Rattle.dg_base.specs.TreeView.{part_view, stmt_view, value_view};
-ghost use Rattle.dg_expand.specs.Putting.{bare, numbered};
-ghost use Rattle.dg_expand.specs.Weights as spec;
-ghost use Rattle.dg_expand.specs.Weights.{heavy};
+ghost use Rattle.dg_expand.specs.inside.Putting.{bare, numbered};
+ghost use Rattle.dg_expand.specs.inside.Weights as spec;
+ghost use Rattle.dg_expand.specs.inside.Weights.{heavy};
 
 use dg_access::{Built, Close, Setting, copied, unbuilt};
 use dg_base::{Part, Stmt, Value};

@@ -3,7 +3,7 @@ ghost use Rattle.std.specs.Prelude.{◌≡◌, ◌++◌, ◌∷◌, [], map, IfO
 ghost use Rattle.dg_base.specs.Tree as tree;
 ghost use Rattle.dg_base.specs.Tree.{parts_of, values_of, stmts_of, arms_of};
 ghost use Rattle.dg_base.specs.TreeView.{part_view, value_view, stmt_view, arm_view, body_view, head_view, item_view};
-ghost use Rattle.dg_prelude.specs.Short.{short_value, short_part, asking};
+ghost use Rattle.dg_prelude.specs.inside.Short.{short_value, short_part, asking};
 
 use dg_base::{Arm, Body, Boxed, Head, Item, ItemBody, Items, Name, Part, Stmt, Value};
 use std::alloc::{AllocError, Global};

@@ -5,7 +5,7 @@ use Rattle.dg_base.specs.Tree.{Parts, Stmt, Value, nested, parts_of}
 use Rattle.dg_base.specs.TreeView.{part_view}
 use Rattle.dg_base.specs.declared.tree.Part as code
 use Rattle.dg_reader.specs.Grammar.{Keyword, Sign, keyword_of}
-use Rattle.dg_reader.specs.Machine.{Asking, Stack, Frame, asked, of_item, new_body, put_stmt, put_value, put_change, query_closes, nested_closes, change_closes, head_closes}
+use Rattle.dg_reader.specs.inside.Machine.{Asking, Stack, Frame, asked, of_item, new_body, put_stmt, put_value, put_change, query_closes, nested_closes, change_closes, head_closes}
 
 untrue : IsTrue false → ⊥
 untrue e = cc

@@ -6,7 +6,7 @@ use Rattle.std.specs.Str.{bytes_eq}
 use Rattle.std.proofs.lemmas.List.{map-append}
 use Rattle.dg_base.specs.Tree.{part_word, part_value, Parts, no_parts, part, num, dict_word, object_name, current_topic, anonymous, variable, plain_list, tailed_list, closure, nested, word_choice}
 use Rattle.dg_reader.specs.Heads.{has_variable, are_distinct_variables}
-use Rattle.dg_reader.specs.Distinct.{are_new, stand_not_in}
+use Rattle.dg_reader.specs.inside.Distinct.{are_new, stand_not_in}
 
 and_false : (b : Bool) → (b && false) ≡ false
 and_false true = refl

@@ -12,7 +12,7 @@ use Rattle.dg_base.specs.declared.tree.Head.{Head}
 use Rattle.dg_base.specs.declared.tree.Part.{Part}
 use Rattle.dg_base.specs.declared.tree.Value.{Value}
 use Rattle.dg_reader.specs.Heads.{is_constant, are_constants, query_in, declared_query}
-use Rattle.dg_reader.specs.Sizes.{is_atom, elements_of, all_constant, work, value_size, values_size}
+use Rattle.dg_reader.specs.inside.Sizes.{is_atom, elements_of, all_constant, work, value_size, values_size}
 
 -- ---- values left to be looked at
 

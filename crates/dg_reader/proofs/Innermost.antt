@@ -5,8 +5,8 @@ use Rattle.std.specs.Option.{option_map, option_copied}
 use Rattle.std.proofs.lemmas.List.{reverse-reverse, length-append}
 use Rattle.std.proofs.lemmas.Grind.{reverse_onto}
 use Rattle.dg_reader.specs.declared.frames.Frame as code
-use Rattle.dg_reader.specs.Machine.{Frame, Stack}
-use Rattle.dg_reader.specs.Frames.{frame_view, stack_view}
+use Rattle.dg_reader.specs.inside.Machine.{Frame, Stack}
+use Rattle.dg_reader.specs.inside.Frames.{frame_view, stack_view}
 
 abbrev pub innermost : Stack → Option Frame
 innermost [] = None

@@ -10,8 +10,8 @@ use Rattle.dg_lex.specs.declared.token.Token.{Token}
 use Rattle.dg_reader.specs.Tokens.{Tok}
 use Rattle.dg_reader.specs.TokenView.{token_view}
 use Rattle.dg_reader.specs.Grammar.{Shape, InItem, IsUnclosed, IsUnexpectedAt}
-use Rattle.dg_reader.specs.Machine.{Outcome, done, unclosed, at_end, outcome_from, outcome}
-use Rattle.dg_reader.specs.Items.{IsOpen, EndsAs}
+use Rattle.dg_reader.specs.inside.Machine.{Outcome, done, unclosed, at_end, outcome_from, outcome}
+use Rattle.dg_reader.specs.inside.Items.{IsOpen, EndsAs}
 use Rattle.dg_reader.proofs.Laws.{Says, outcome_says}
 use Rattle.dg_reader.specs.Read.{toks, all_behind, begins_item, IsFront, is_topic, behind_topic, said_of, IsItemAt, ReadTo, IsFaultOf, line_at, IsRefusedAt, not_closed, not_expected, not_allowed, IsRefusedIn, IsRead, fault_in}
 use Rattle.dg_base.specs.Faults.{IsFault}

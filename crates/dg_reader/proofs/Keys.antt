@@ -7,7 +7,7 @@ use Rattle.dg_base.specs.TreeView.{part_view}
 use Rattle.dg_base.specs.declared.tree.Part as code
 use Rattle.dg_base.specs.Tree.{Part, part_word, part_value, Value, parts_of}
 use Rattle.dg_reader.specs.Grammar.{are_words, collect_word, accumulate_word, into_word, keyword_of, keyword_with, keyword_among, bare_keywords, is_query, is_declaration}
-use Rattle.dg_reader.specs.Keywords.{is_word, valued_word, valued_in, valued_view, last_value, IsValued}
+use Rattle.dg_reader.specs.inside.Keywords.{is_word, valued_word, valued_in, valued_view, last_value, IsValued}
 use Rattle.dg_reader.specs.declared.keyword.Valued.{Valued}
 use Rattle.dg_reader.specs.declared.keyword.Valued.TheVariants.{Collect, Accumulate, Into}
 

@@ -4,14 +4,14 @@ use Rattle.std.specs.Prelude.{option_and_then}
 use Rattle.dg_base.specs.Tree.{Part, part_word, part_value, Parts, no_parts, part, Body}
 use Rattle.dg_reader.specs.Tokens.{Tok, word, object, at, open_round, close_round, tilde, are_digits}
 use Rattle.dg_reader.specs.Grammar.{IsQuery, Follow, TokenAt, Where, Parenthesis, Place, PartsAt, ValueAt, BodyAt, Sign, plain_rule, negated, access_rule, Shape, topic_line, clause, head_place, SignAt, ShapeAt, IsEnd, InItem, HasShape, IsUnclosed, IsUnexpected, IsDecided}
-use Rattle.dg_reader.specs.Machine.{of_item, Frame, start, start_of, whole_topic, in_head, in_body, Stack, body_of, step, run, finished, Outcome, done, unclosed, unexpected, at_end, outcome_from, outcome}
-use Rattle.dg_reader.specs.Machine.{outcome_in}
+use Rattle.dg_reader.specs.inside.Machine.{of_item, Frame, start, start_of, whole_topic, in_head, in_body, Stack, body_of, step, run, finished, Outcome, done, unclosed, unexpected, at_end, outcome_from, outcome}
+use Rattle.dg_reader.specs.inside.Machine.{outcome_in}
 use Rattle.std.specs.Prelude.{IsTrue, map, reverse, get_or}
 use Rattle.std.proofs.lemmas.List.{map_more}
 use Rattle.dg_reader.specs.TokenView.{token_view}
 use Rattle.dg_lex.specs.declared.token.Token.{Token}
 use Rattle.std.proofs.lemmas.List.{reverse-reverse}
-use Rattle.dg_reader.specs.Frames.{stack_view, frame_view}
+use Rattle.dg_reader.specs.inside.Frames.{stack_view, frame_view}
 use Rattle.dg_reader.specs.declared.frames.Frame as code
 use Rattle.dg_reader.proofs.More.{Leads}
 use Rattle.dg_reader.proofs.Spelled.{StackAt, body-spelled}

@@ -7,10 +7,10 @@ use Rattle.dg_lex.specs.declared.token.Token.{Token}
 use Rattle.dg_reader.specs.Tokens.{Tok}
 use Rattle.dg_reader.specs.TokenView.{token_view}
 use Rattle.dg_reader.specs.Grammar.{IsUnexpected, IsUnexpectedAt}
-use Rattle.dg_reader.specs.Items.{StopsAt, OnUnexpected}
+use Rattle.dg_reader.specs.inside.Items.{StopsAt, OnUnexpected}
 use Rattle.dg_reader.specs.declared.item.ShapeFault.{ShapeFault}
 use Rattle.dg_reader.specs.declared.item.ShapeFault.TheVariants as fault
-use Rattle.dg_reader.specs.Machine.{Stack, run, start}
+use Rattle.dg_reader.specs.inside.Machine.{Stack, run, start}
 use Rattle.dg_reader.proofs.Closing.{run-append}
 use Rattle.dg_reader.proofs.Laws.{unexpected_there, goes_on}
 

@@ -1,8 +1,8 @@
 -- Branches are seen one by one, and keywords wait in order.
 use Rattle.std.proofs.Common.{◌≡◌, ℕ, Bool, List, [], ◌∷◌, ◌++◌, map, refl, sym, ◌∙◌, ap}
 use Rattle.std.proofs.lemmas.List.{map-append}
-use Rattle.dg_reader.specs.Machine as machine
-use Rattle.dg_reader.specs.Frames.{wrapper_view}
+use Rattle.dg_reader.specs.inside.Machine as machine
+use Rattle.dg_reader.specs.inside.Frames.{wrapper_view}
 use Rattle.dg_reader.specs.declared.frames.Wrapper.{Wrapper}
 use Rattle.std.proofs.lemmas.Simd.{map-map}
 use Rattle.dg_base.specs.Tree as tree

@@ -1,13 +1,8 @@
 pub mod Tokens
 pub mod Grammar
 pub mod TokenView
-pub mod Machine
-pub mod Frames
-pub mod Keywords
-pub mod Items
 pub mod Profile
 pub mod Heads
-pub mod Distinct
 pub mod Read
-pub mod Sizes
 pub mod Declarations
+pub mod inside

@@ -3,8 +3,8 @@ ghost use Rattle.std.specs.Prelude.{map, Err};
 ghost use Rattle.dg_base.specs.Tree as tree;
 ghost use Rattle.dg_base.specs.TreeView.{part_view, stmt_view, branch_view};
 ghost use Rattle.dg_reader.specs.Grammar.{keyword_of};
-ghost use Rattle.dg_reader.specs.Machine as machine;
-ghost use Rattle.dg_reader.specs.Frames.{stack_view, owner_view, sign_view, asking_view, keyword_view, Moves};
+ghost use Rattle.dg_reader.specs.inside.Machine as machine;
+ghost use Rattle.dg_reader.specs.inside.Frames.{stack_view, owner_view, sign_view, asking_view, keyword_view, Moves};
 
 use crate::ends::put_keyword;
 use crate::forms::{

@@ -4,7 +4,7 @@ ghost use Rattle.std.specs.List.{list_any};
 ghost use Rattle.std.specs.Str.{bytes_eq};
 ghost use Rattle.dg_base.specs.Tree.{parts_of};
 ghost use Rattle.dg_base.specs.TreeView.{part_view};
-ghost use Rattle.dg_reader.specs.Distinct.{listed, is_new, are_new, names_behind};
+ghost use Rattle.dg_reader.specs.inside.Distinct.{listed, is_new, are_new, names_behind};
 ghost use Rattle.dg_reader.specs.Heads as spec;
 
 use dg_base::{Part, Value};

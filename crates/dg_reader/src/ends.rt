@@ -4,8 +4,8 @@ ghost use Rattle.dg_reader.specs.declared.frames.Stop.TheVariants.{Unexpected};
 ghost use Rattle.dg_base.specs.Tree as tree;
 ghost use Rattle.dg_base.specs.TreeView.{value_view, stmt_view, branch_view};
 ghost use Rattle.dg_reader.specs.Grammar as grammar;
-ghost use Rattle.dg_reader.specs.Machine as machine;
-ghost use Rattle.dg_reader.specs.Frames.{stack_view, frame_view, owner_view, wrapper_view, bare_view, keyword_view, opening_view, Moves};
+ghost use Rattle.dg_reader.specs.inside.Machine as machine;
+ghost use Rattle.dg_reader.specs.inside.Frames.{stack_view, frame_view, owner_view, wrapper_view, bare_view, keyword_view, opening_view, Moves};
 
 use crate::forms::{
     accumulated, all_branches, body, choice, choice_else, collected, one_more_arm, select,

@@ -2,8 +2,8 @@
 ghost use Rattle.std.specs.Prelude.{◌≡◌, ◌∷◌, ◌++◌, [], map, IfOk};
 ghost use Rattle.dg_base.specs.Tree as tree;
 ghost use Rattle.dg_base.specs.TreeView.{part_view, value_view, stmt_view, arm_view, body_view, head_view, change_view, branch_view};
-ghost use Rattle.dg_reader.specs.Machine as machine;
-ghost use Rattle.dg_reader.specs.Frames.{wrapper_view, asking_view};
+ghost use Rattle.dg_reader.specs.inside.Machine as machine;
+ghost use Rattle.dg_reader.specs.inside.Frames.{wrapper_view, asking_view};
 
 use crate::frames::{Asking, Wrapper};
 use dg_base::{Arm, Body, Boxed, Head, Items, Mode, Name, NowChange, Part, Stmt, Value};

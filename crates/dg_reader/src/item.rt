@@ -3,10 +3,10 @@ ghost use Rattle.std.specs.Prelude.{◌≡◌, ◌∷◌, [], map, true, None, S
 ghost use Rattle.std.specs.Option.{option_map};
 ghost use Rattle.dg_base.specs.TreeView.{stmt_view, branch_view};
 ghost use Rattle.dg_reader.specs.Grammar.{IsUnexpectedAt};
-ghost use Rattle.dg_reader.specs.Machine as machine;
+ghost use Rattle.dg_reader.specs.inside.Machine as machine;
 ghost use Rattle.dg_reader.specs.TokenView.{token_view};
-ghost use Rattle.dg_reader.specs.Frames.{stack_view, frame_view, owner_view, Moves};
-ghost use Rattle.dg_reader.specs.Items.{shape_view, StopsAt, IsOpen, EndsAs, OnUnclosed, OnUnexpected};
+ghost use Rattle.dg_reader.specs.inside.Frames.{stack_view, frame_view, owner_view, Moves};
+ghost use Rattle.dg_reader.specs.inside.Items.{shape_view, StopsAt, IsOpen, EndsAs, OnUnclosed, OnUnexpected};
 ghost use Rattle.dg_reader.specs.declared.item.ShapeFault.TheVariants.{OutOfMemory};
 
 use crate::forms::body;

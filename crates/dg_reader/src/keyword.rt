@@ -5,8 +5,8 @@ ghost use Rattle.dg_base.specs.Tree as tree;
 ghost use Rattle.dg_base.specs.TreeView.{part_view, value_view};
 ghost use Rattle.dg_reader.specs.Grammar as grammar;
 ghost use Rattle.dg_reader.specs.Grammar.{keyword_of, keyword_among, bare_keywords, are_words, is_query};
-ghost use Rattle.dg_reader.specs.Frames.{bare_view, keyword_view};
-ghost use Rattle.dg_reader.specs.Keywords.{is_word, valued_word, valued_in, valued_view, last_value, IsClosed};
+ghost use Rattle.dg_reader.specs.inside.Frames.{bare_view, keyword_view};
+ghost use Rattle.dg_reader.specs.inside.Keywords.{is_word, valued_word, valued_in, valued_view, last_value, IsClosed};
 
 use crate::words::is_text;
 use dg_base::{Items, Mode, Part, Value};

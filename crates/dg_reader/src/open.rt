@@ -3,8 +3,8 @@ ghost use Rattle.std.specs.Prelude.{◌≡◌, map};
 ghost use Rattle.dg_base.specs.Tree as tree;
 ghost use Rattle.dg_base.specs.TreeView.{part_view};
 ghost use Rattle.dg_reader.specs.Grammar.{is_declaration};
-ghost use Rattle.dg_reader.specs.Machine as machine;
-ghost use Rattle.dg_reader.specs.Frames.{stack_view, frame_view, owner_view, Moves};
+ghost use Rattle.dg_reader.specs.inside.Machine as machine;
+ghost use Rattle.dg_reader.specs.inside.Frames.{stack_view, frame_view, owner_view, Moves};
 
 use crate::forms::object_name;
 use crate::frames::{Asking, Frame, Owner, Sign, Stop};

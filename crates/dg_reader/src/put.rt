@@ -2,9 +2,9 @@
 ghost use Rattle.std.specs.Prelude.{◌≡◌, ◌∷◌, map, Some, Err};
 ghost use Rattle.dg_base.specs.TreeView.{part_view, value_view, stmt_view, head_view, branch_view};
 ghost use Rattle.dg_reader.specs.Tokens.{number_of};
-ghost use Rattle.dg_reader.specs.Machine as machine;
+ghost use Rattle.dg_reader.specs.inside.Machine as machine;
 ghost use Rattle.dg_reader.specs.declared.frames.Stop.TheVariants.{Unexpected};
-ghost use Rattle.dg_reader.specs.Frames.{stack_view, frame_view, owner_view, wrapper_view, Moves};
+ghost use Rattle.dg_reader.specs.inside.Frames.{stack_view, frame_view, owner_view, wrapper_view, Moves};
 
 use crate::forms::{
     dict_word, now, num, one_more_change, one_more_part, one_more_stmt, print, text, value_part,

@@ -2,7 +2,7 @@
 ghost use Rattle.std.specs.Prelude.{◌≡◌, ◌<◌, ◌≤◌, [], true, None, length, take, drop, map, Ok, Err, IfOk, IfErr};
 ghost use Rattle.dg_base.specs.TreeView.{said_view, item_view, tree_view};
 ghost use Rattle.dg_lex.specs.Tokens.{seen};
-ghost use Rattle.dg_reader.specs.Items.{shape_view};
+ghost use Rattle.dg_reader.specs.inside.Items.{shape_view};
 ghost use Rattle.dg_base.specs.Faults.{IsFault};
 ghost use Rattle.dg_reader.specs.Read as spec;
 

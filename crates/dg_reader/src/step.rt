@@ -2,8 +2,8 @@
 ghost use Rattle.std.specs.Prelude.{◌≡◌, drop, IfOk};
 ghost use Rattle.dg_lex.specs.Spelled.{without_escapes};
 ghost use Rattle.dg_reader.specs.TokenView.{token_view};
-ghost use Rattle.dg_reader.specs.Machine as machine;
-ghost use Rattle.dg_reader.specs.Frames.{stack_view, Moves};
+ghost use Rattle.dg_reader.specs.inside.Machine as machine;
+ghost use Rattle.dg_reader.specs.inside.Frames.{stack_view, Moves};
 
 use crate::close::{close_body, close_list, close_paren};
 use crate::forms::{dict_word, variable};

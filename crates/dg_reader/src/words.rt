@@ -4,7 +4,7 @@ ghost use Rattle.std.specs.Str.{bytes_eq};
 ghost use Rattle.dg_base.specs.TreeView.{value_view};
 ghost use Rattle.dg_lex.specs.Spelled.{without_escapes};
 ghost use Rattle.dg_reader.specs.Tokens.{are_digits, number_of, is_cut, word_parts};
-ghost use Rattle.dg_reader.specs.Machine.{element_of};
+ghost use Rattle.dg_reader.specs.inside.Machine.{element_of};
 
 use dg_base::{Items, Name, Value};
 use std::alloc::{AllocError, Global};

@@ -17,7 +17,7 @@ use Rattle.dg_meaning.specs.Choosing.{die}
 use Rattle.dg_meaning.specs.Moves.{goals_at, enter_if, is_excluded, call_cells, unless_excluded, first_alone, vars_of, rule_branch, rule_branches, rules_of, path_at, selects, gives_number, spaces, change_place, throws, splits, joins, takes_line, looked_up, whole_looks, effect}
 use Rattle.dg_meaning.specs.OneAnswer.{IsFree}
 use Rattle.dg_single.specs.Plain.{is_in, is_just, is_cut, is_plain_form, is_plain, has_just, has_cut, are_plain, rules_fit}
-use Rattle.dg_single.specs.Left.{all_plain, inside_plain}
+use Rattle.dg_single.specs.inside.Left.{all_plain, inside_plain}
 use Rattle.dg_single.proofs.SetLemmas.{and_left, and_right, or_cases}
 use Rattle.dg_single.specs.Singles.{IsClosed}
 use Rattle.dg_single.proofs.Shapes.{Grown, PathFits, AllFit, ActFits, EffectFits, free_goals, quiet_fits, spaces_quiet, place_quiet, number_quiet, throws_quiet, splits_quiet, joins_quiet, line_quiet, preds_fit, place_fits, asked_fits, query_fits, effect_fits}

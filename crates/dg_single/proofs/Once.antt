@@ -19,7 +19,7 @@ use Rattle.dg_meaning.proofs.Context.{holds_older, shield_older}
 use Rattle.dg_meaning.proofs.Stays.{passes_append}
 use Rattle.dg_meaning.proofs.Tags.{MoveIn, OutcomeIn, move_in, begin_in}
 use Rattle.dg_single.specs.Plain.{is_plain_form}
-use Rattle.dg_single.specs.Left.{inside_plain}
+use Rattle.dg_single.specs.inside.Left.{inside_plain}
 use Rattle.dg_single.specs.Singles.{IsClosed}
 use Rattle.dg_single.proofs.PlainLemmas.{plain_out}
 use Rattle.dg_single.proofs.SetLemmas.{and_left, and_right}

@@ -7,7 +7,7 @@ use Rattle.dg_base.specs.declared.program.Goal.{Goal, out-Goal, Row_of-Goal, end
 use Rattle.dg_base.specs.declared.program.Goal.{Either', Once', Not', If', Exhaust', Collect', Accumulate', Stoppable', Select'}
 use Rattle.dg_base.specs.declared.program.Goal.TheOpen as part
 use Rattle.dg_single.specs.Plain.{is_just, is_plain_form, row_has_just, is_plain, is_plain_row, are_plain_rows, has_just, are_plain}
-use Rattle.dg_single.specs.Left.{all_plain, inside_plain, left_plain, weight, row_weight, rows_weight, body_weight, lists_weight, inside_weight, left_weight}
+use Rattle.dg_single.specs.inside.Left.{all_plain, inside_plain, left_plain, weight, row_weight, rows_weight, body_weight, lists_weight, inside_weight, left_weight}
 use denote.Hole.Carrier.{out}
 
 -- ## Rows

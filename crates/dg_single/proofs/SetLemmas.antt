@@ -8,7 +8,7 @@ use Rattle.dg_base.specs.declared.program.Pred.{Pred}
 use Rattle.dg_base.specs.declared.program.Rule.{Rule}
 use Rattle.dg_single.specs.Plain.{is_in, is_plain_form, row_has_just, is_plain, is_plain_row, are_plain_rows, has_just, has_cut, are_plain, are_none, rules_fit}
 use Rattle.dg_single.specs.Singles.{IsWithin, HasAll}
-use Rattle.dg_single.specs.Left.{one_if, count_in, Sifted}
+use Rattle.dg_single.specs.inside.Left.{one_if, count_in, Sifted}
 
 -- ## Tests that hold
 

@@ -1,3 +1,3 @@
 pub mod Plain
 pub mod Singles
-pub mod Left
+pub mod inside

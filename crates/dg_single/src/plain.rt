@@ -1,7 +1,7 @@
 // Goals that leave no choice open behind their answer.
 ghost use Rattle.std.specs.Prelude.{IfOk, OnOk, ◌≡◌, ◌+◌, ◌&&◌, ◌<◌, List, Bool};
 ghost use Rattle.dg_single.specs.Plain as spec;
-ghost use Rattle.dg_single.specs.Left.{all_plain, inside_plain, left_plain, body_weight, lists_weight, inside_weight, left_weight};
+ghost use Rattle.dg_single.specs.inside.Left.{all_plain, inside_plain, left_plain, body_weight, lists_weight, inside_weight, left_weight};
 ghost use Rattle.dg_base.specs.declared.program.Goal.{out-Goal};
 
 use dg_base::{Goal, Items};

@@ -2,7 +2,7 @@
 ghost use Rattle.std.specs.Prelude.{IfOk, OnOk, ◌≡◌, ◌<◌, ◌&&◌, ◌||◌, true, false, length, replicate};
 ghost use Rattle.dg_single.specs.Plain as spec;
 ghost use Rattle.dg_single.specs.Singles.{IsClosed, HasAll, AreSingles};
-ghost use Rattle.dg_single.specs.Left.{count_in, Sifted};
+ghost use Rattle.dg_single.specs.inside.Left.{count_in, Sifted};
 
 use crate::plain::{are_plain, has_cut};
 use dg_base::{CoreProgram, Pred, Rule};

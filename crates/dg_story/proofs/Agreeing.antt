@@ -40,13 +40,13 @@ use Rattle.dg_story.specs.declared.support.TheConstants.{NEWLINE_ACTS, KEEP_LINE
 use Rattle.dg_mid.specs.Step.{setting}
 use Rattle.dg_story.specs.Agrees.{story_limits, Fits, Agrees, IsWhole, IsLimitText, by_limit, of_limit}
 use Rattle.dg_story.specs.Built.{parts_of, keeps_within, IsStoryOf}
-use Rattle.dg_story.specs.Cells.{replaced, with_cell, state}
+use Rattle.dg_story.specs.inside.Cells.{replaced, with_cell, state}
 use Rattle.dg_story.specs.Numbers.{numbers_of, block_number}
 use Rattle.dg_story.specs.Plain.{is_plain}
-use Rattle.dg_story.specs.PlainCode.{PlainGoal, PlainOps, PlainRules}
-use Rattle.dg_story.specs.Represents.{Telling, StatusIn}
+use Rattle.dg_story.specs.inside.PlainCode.{PlainGoal, PlainOps, PlainRules}
+use Rattle.dg_story.specs.inside.Represents.{Telling, StatusIn}
 use Rattle.dg_story.specs.Routines.{routine, closing_acts}
-use Rattle.dg_story.specs.Tells.{Tells, over}
+use Rattle.dg_story.specs.inside.Tells.{Tells, over}
 use Rattle.dg_story.proofs.Cells.{holds_with}
 use Rattle.dg_story.proofs.Mapped.{p, mapped, routine_is}
 use Rattle.dg_story.proofs.Opening as opening

@@ -14,15 +14,15 @@ use Rattle.z_lang.specs.Standing.{Context}
 use Rattle.dg_story.specs.Numbers.{numbers_of, block_number, pred_number, first_rule, pred_starts, number_or_fail}
 use Rattle.dg_story.specs.Instructions.{ask_acts}
 use Rattle.dg_story.specs.Routines.{going, rules_routines, all_routines}
-use Rattle.dg_story.specs.Cells.{with_cell, replaced, state}
-use Rattle.dg_story.specs.From.{From}
-use Rattle.dg_story.specs.Represents.{Telling, choice_word, MidIn, CallsIn, at_number, at_block}
+use Rattle.dg_story.specs.inside.Cells.{with_cell, replaced, state}
+use Rattle.dg_story.specs.inside.From.{From}
+use Rattle.dg_story.specs.inside.Represents.{Telling, choice_word, MidIn, CallsIn, at_number, at_block}
 use Rattle.dg_story.proofs.Rules.{copies, puts}
 use Rattle.dg_story.proofs.RunTime.{other_cell, reg}
 use Rattle.dg_story.proofs.Places.{pred_from}
 use Rattle.dg_story.proofs.JumpTurns.{OpsFrom}
 use Rattle.dg_story.proofs.Playing.{Playing, Lands, Represented, Moved, Comes, comes_with, moves, mid_as}
-use Rattle.dg_story.specs.Stepping.{SameMid}
+use Rattle.dg_story.specs.inside.Stepping.{SameMid}
 
 -- ## Predicates
 

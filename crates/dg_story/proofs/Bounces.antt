@@ -9,7 +9,7 @@ use Rattle.z_lang.specs.Code.{code}
 use Rattle.z_lang.specs.Leads.{Leads}
 use Rattle.z_lang.specs.Standing.{Stands, IsKept, Context, HasRoom, state_at, ComesTo}
 use Rattle.z_lang.proofs.Trampoline.{trampoline, bounces, stops}
-use Rattle.dg_story.specs.Cells.{with_cell, replaced, Holds, state}
+use Rattle.dg_story.specs.inside.Cells.{with_cell, replaced, Holds, state}
 use Rattle.dg_story.proofs.Rules.{register, puts}
 
 -- A turn of the player, where the routine that comes next returns another.

@@ -9,7 +9,7 @@ use Rattle.z_lang.specs.declared.act.Function.TheVariants as functions
 use Rattle.z_lang.specs.declared.act.Width.TheVariants as widths
 use Rattle.z_lang.specs.State.{global, with_global}
 use Rattle.z_lang.specs.Acts.{computed, written}
-use Rattle.dg_story.specs.Cells.{at_cell, cell, with_cell, replaced, Holds}
+use Rattle.dg_story.specs.inside.Cells.{at_cell, cell, with_cell, replaced, Holds}
 
 -- ---- one word
 

@@ -17,8 +17,8 @@ use Rattle.z_lang.specs.Acts.{with_output}
 use Rattle.z_lang.specs.Runs.{Outcome, Runs, Stops, done, calls, quits}
 use Rattle.dg_story.specs.declared.support.TheConstants.{NEWLINE_ACTS, DONE_ACTS}
 use Rattle.dg_story.specs.Texts.{letters_of, say, says, closing_acts}
-use Rattle.dg_story.specs.Ends.{kept_end}
-use Rattle.dg_story.specs.Cells.{Holds}
+use Rattle.dg_story.specs.inside.Ends.{kept_end}
+use Rattle.dg_story.specs.inside.Cells.{Holds}
 use Rattle.dg_story.proofs.Rules.{says as prints_so}
 use Rattle.dg_story.proofs.RunTime.{newline_none, newline_some, newline_printed}
 use Rattle.dg_story.proofs.AsciiLines.{AreAscii, ascii_printable, ascii_encoded}

@@ -12,7 +12,7 @@ use Rattle.dg_base.specs.Goals.{goals_within, goals_of}
 use Rattle.dg_base.proofs.NodeLemmas.{inside, within_out}
 use Rattle.dg_story.specs.declared.counting.Left.{Left}
 use Rattle.dg_story.specs.Sizes.{lists_held, goals_size, body_size}
-use Rattle.dg_story.specs.Counting.{left_size, lists_size, whole_size}
+use Rattle.dg_story.specs.inside.Counting.{left_size, lists_size, whole_size}
 
 pub left_append : (xs ys : List Left) → left_size (xs ++ ys) ≡ left_size xs + left_size ys
 left_append [] ys = omega arith

@@ -23,9 +23,9 @@ use Rattle.z_lang.specs.Standing.{Context}
 use Rattle.dg_story.specs.declared.support.TheConstants.{FAIL_ACTS, NEWLINE_ACTS, ENTER_ACTS, CHOOSE_ACTS, DONE_ACTS, FAILED_LINE, HEAP_LINE}
 use Rattle.dg_story.specs.Numbers.{numbers_of, block_number}
 use Rattle.dg_story.specs.Routines.{routine, going, closing_acts}
-use Rattle.dg_story.specs.Cells.{with_cell, replaced, Holds, state}
-use Rattle.dg_story.specs.Ends.{kept_end}
-use Rattle.dg_story.specs.Represents.{Telling, choice_word, at_number}
+use Rattle.dg_story.specs.inside.Cells.{with_cell, replaced, Holds, state}
+use Rattle.dg_story.specs.inside.Ends.{kept_end}
+use Rattle.dg_story.specs.inside.Represents.{Telling, choice_word, at_number}
 use Rattle.dg_story.proofs.Cells.{holds_with}
 use Rattle.dg_story.proofs.RunTime.{enters_not, chooses_not}
 use Rattle.dg_story.proofs.GoingBack.{fails_last}

@@ -15,8 +15,8 @@ use Rattle.z_lang.specs.Runs.{Runs as Leading, Returns, calls, returns}
 use Rattle.z_lang.specs.Standing.{Context}
 use Rattle.dg_story.specs.declared.support.TheConstants.{ENTER_ACTS}
 use Rattle.dg_story.specs.Routines.{routine, going}
-use Rattle.dg_story.specs.Cells.{heap_at, replaced, state}
-use Rattle.dg_story.specs.Represents.{Telling, choice_word, FrameIn, FramesIn, MidIn, OpsIn, ChoicesIn, at_number, at_block}
+use Rattle.dg_story.specs.inside.Cells.{heap_at, replaced, state}
+use Rattle.dg_story.specs.inside.Represents.{Telling, choice_word, FrameIn, FramesIn, MidIn, OpsIn, ChoicesIn, at_number, at_block}
 use Rattle.dg_story.proofs.RunTime.{other_cell, enters, entered_memory, entered_holds}
 use Rattle.dg_story.proofs.Places.{op_here, ops_behind}
 use Rattle.dg_story.proofs.Staying.{SameBelow, alike, frames_stay, choices_stay}

@@ -8,8 +8,8 @@ use Rattle.z_model.specs.Run.{ZState}
 use Rattle.z_lang.specs.Standing.{Context}
 use Rattle.dg_story.specs.declared.support.TheConstants.{FAIL_ACTS}
 use Rattle.dg_story.specs.Routines.{routine}
-use Rattle.dg_story.specs.Cells.{heap_at, replaced}
-use Rattle.dg_story.specs.Represents.{Telling, choice_word, FramesIn, MidIn, ChoicesIn, WayIn, StatusIn}
+use Rattle.dg_story.specs.inside.Cells.{heap_at, replaced}
+use Rattle.dg_story.specs.inside.Represents.{Telling, choice_word, FramesIn, MidIn, ChoicesIn, WayIn, StatusIn}
 use Rattle.dg_story.proofs.RunTime.{other_cell}
 use Rattle.dg_story.proofs.GoingBack.{goes_back, failed_memory, failed_holds}
 use Rattle.dg_story.proofs.Staying.{SameBelow, alike, frames_stay, choices_stay, way_stays}

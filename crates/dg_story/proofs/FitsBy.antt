@@ -14,7 +14,7 @@ use Rattle.z_lang.specs.Turns.{Turning, printed_by}
 use Rattle.z_lang.specs.WholeRuns.{Within, IsOver, Shown, IsTurn}
 use Rattle.z_lang.proofs.Turns.{shows, suffices, ends_by}
 use Rattle.dg_story.specs.Agrees.{IsDone, IsCut, IsWhole, IsThere, IsAtLimit, Fits, body, enough_for}
-use Rattle.dg_story.specs.Tells.{InTime, reached, over, Tells}
+use Rattle.dg_story.specs.inside.Tells.{InTime, reached, over, Tells}
 
 as_begins : (xs ys : List ℕ) → base.Begins xs ys → Begins xs ys
 as_begins xs ys b = record { behind = b.behind; is = b.is }

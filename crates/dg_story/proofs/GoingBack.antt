@@ -6,7 +6,7 @@ use Rattle.z_lang.specs.declared.act.Comparison.TheVariants as comparisons
 use Rattle.z_lang.specs.State.{State, Program}
 use Rattle.z_lang.specs.Runs.{Runs, Returns, taken, passed, done, returns, behind}
 use Rattle.dg_story.specs.declared.support.TheConstants.{FAIL_ACTS, LEAVE_ACTS}
-use Rattle.dg_story.specs.Cells.{heap_at, with_cell, replaced, Holds, IsMapped, state}
+use Rattle.dg_story.specs.inside.Cells.{heap_at, with_cell, replaced, Holds, IsMapped, state}
 use Rattle.dg_story.proofs.Rules.{word, tested, computes, copies, IsPut, puts, local_1, put_1, reads_place}
 use Rattle.dg_story.proofs.RunTime.{same, other, other_cell, reg, cell_is}
 

@@ -12,10 +12,10 @@ use Rattle.z_model.specs.Run.{ZState}
 use Rattle.z_lang.specs.Standing.{Context}
 use Rattle.dg_story.specs.Numbers.{numbers_of, block_number}
 use Rattle.dg_story.specs.Routines.{ops_routines, all_routines}
-use Rattle.dg_story.specs.Cells.{replaced}
-use Rattle.dg_story.specs.From.{From}
-use Rattle.dg_story.specs.Represents.{Telling, OpsIn, at_block}
-use Rattle.dg_story.specs.Stepping.{SameMid, BeginsSo}
+use Rattle.dg_story.specs.inside.Cells.{replaced}
+use Rattle.dg_story.specs.inside.From.{From}
+use Rattle.dg_story.specs.inside.Represents.{Telling, OpsIn, at_block}
+use Rattle.dg_story.specs.inside.Stepping.{SameMid, BeginsSo}
 use Rattle.dg_story.proofs.RunTime.{other_cell}
 use Rattle.dg_story.proofs.Places.{block_from, op_here}
 use Rattle.dg_story.proofs.Playing.{Playing, Represented, Comes, comes_with, passes, mid_as}

@@ -11,9 +11,9 @@ use Rattle.z_model.specs.Run.{ZState}
 use Rattle.z_lang.specs.Standing.{Context}
 use Rattle.dg_story.specs.declared.support.TheConstants.{LEAVE_ACTS}
 use Rattle.dg_story.specs.Routines.{routine}
-use Rattle.dg_story.specs.Cells.{heap_at, replaced}
-use Rattle.dg_story.specs.Represents.{Telling, choice_word, FrameIn, FramesIn, MidIn, ChoicesIn, at_number}
-use Rattle.dg_story.specs.Stepping.{SameMid, BeginsSo}
+use Rattle.dg_story.specs.inside.Cells.{heap_at, replaced}
+use Rattle.dg_story.specs.inside.Represents.{Telling, choice_word, FrameIn, FramesIn, MidIn, ChoicesIn, at_number}
+use Rattle.dg_story.specs.inside.Stepping.{SameMid, BeginsSo}
 use Rattle.dg_story.proofs.RunTime.{other_cell}
 use Rattle.dg_story.proofs.GoingBack.{leaves, leaves_none, left_memory, left_holds}
 use Rattle.dg_story.proofs.Places.{op_here}

@@ -7,7 +7,7 @@ use Rattle.z_lang.specs.declared.act.Routine.{Routine}
 use Rattle.z_story.specs.Does.{program}
 use Rattle.dg_story.specs.Routines.{all_routines}
 use Rattle.dg_story.specs.Built.{parts_of, IsStoryOf}
-use Rattle.dg_story.specs.Cells.{at_cell, heap_at, IsMapped}
+use Rattle.dg_story.specs.inside.Cells.{at_cell, heap_at, IsMapped}
 
 module _ (code : Code) (keeps : Bool) (story : List ℕ) (is : IsStoryOf code keeps story) (dice : List ℕ) where
   abbrev pub p : Program

@@ -23,7 +23,7 @@ use Rattle.dg_story.specs.declared.support.TheConstants.{TRAMPOLINE}
 use Rattle.dg_story.specs.Numbers.{numbers_of, block_number}
 use Rattle.dg_story.specs.Routines.{routine, start_acts}
 use Rattle.dg_story.specs.Built.{parts_of, IsStoryOf}
-use Rattle.dg_story.specs.Cells.{with_cell, state}
+use Rattle.dg_story.specs.inside.Cells.{with_cell, state}
 use Rattle.dg_story.proofs.Rules.{put_register, copies}
 use Rattle.dg_story.proofs.Mapped.{p, routine_is, globals_are}
 

@@ -11,7 +11,7 @@ use Rattle.dg_story.specs.declared.numbering.Numbers.{Numbers}
 use Rattle.dg_story.specs.Numbers.{op_size, ops_size, rules_count, block_starts, first_rule, pred_starts, numbers_of, number_or_fail, block_number, pred_number}
 use Rattle.dg_story.specs.Instructions.{op_acts, op_way}
 use Rattle.dg_story.specs.Routines.{going, runtime, rule_routine, rules_routines, preds_routines, pieces, op_routines, ops_routines, blocks_routines, all_routines}
-use Rattle.dg_story.specs.From.{From}
+use Rattle.dg_story.specs.inside.From.{From}
 use Rattle.dg_story.proofs.StoryFits.{op_many, ops_many, rules_many, preds_many}
 
 drop_long : (xs ys : List Routine) → drop (length xs) (xs ++ ys) ≡ ys

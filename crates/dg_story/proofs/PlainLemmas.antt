@@ -17,7 +17,7 @@ use Rattle.dg_mid.specs.declared.code.RuleCode.{RuleCode}
 use Rattle.dg_mid.specs.declared.code.Code.{Code}
 use Rattle.dg_mid.specs.Codes.{Returns, RuleStands, RulesStand}
 use Rattle.dg_story.specs.Plain.{are_none, is_plain_goal, are_plain_goals, is_plain_rule, rule_fits, rules_fit}
-use Rattle.dg_story.specs.PlainCode.{PlainGoal, PlainGoals, PlainRule, PlainRules}
+use Rattle.dg_story.specs.inside.PlainCode.{PlainGoal, PlainGoals, PlainRule, PlainRules}
 
 -- ## Tests
 

@@ -15,7 +15,7 @@ use Rattle.dg_mid.specs.declared.code.Code.{Code}
 use Rattle.dg_mid.specs.Actions.{goal_of, form_of}
 use Rattle.dg_mid.specs.Code.{block_at, rules_at}
 use Rattle.dg_mid.specs.Codes.{End, Returns, Finishes, Stands, jumps, returns, commits, refuses, backs, leaves, keeps, finishes, acts, ask, last_ask, query, last_query, holds, objects, only, either, selects, once, negates, branch, exhausts, shields, collects, accumulates, forever}
-use Rattle.dg_story.specs.PlainCode.{PlainGoal, PlainGoals, PlainOps, PlainRules, PlainNext, a_text, an_ask, a_last_ask, a_return, a_goto, a_done}
+use Rattle.dg_story.specs.inside.PlainCode.{PlainGoal, PlainGoals, PlainOps, PlainRules, PlainNext, a_text, an_ask, a_last_ask, a_return, a_goto, a_done}
 
 module _ (program : CoreProgram) (code : Code) (rules : (pred : ℕ) → FitsHeads 0 (slice_get program.preds pred) → PlainRules program code (rules_at code pred)) where
   -- a goal of this form is plain

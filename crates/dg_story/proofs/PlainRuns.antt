@@ -21,7 +21,7 @@ use Rattle.std.specs.List.{zip}
 use Rattle.std.specs.Prelude.{map}
 use Rattle.dg_mid.specs.Actions.{world_of, outside_in}
 use Rattle.dg_mid.specs.Step.{more, inside, at_rule, new_choice, new_frame, trail_more, Setting, charged, if_agreed, unified, bound, first_of, walked, enters, begins, asks, asks_last, last, returned, returns as returns_to, runs, enter, entered, goes_on, goes_back, step}
-use Rattle.dg_story.specs.PlainCode.{PlainOps, PlainRule, PlainRules, PlainNext, a_text, an_ask, a_last_ask, a_return, a_goto, a_done, GoesPlainly, PlainFrame, PlainFrames, PlainCall, PlainWay, PlainChoices, PlainMid, PlainStatus}
+use Rattle.dg_story.specs.inside.PlainCode.{PlainOps, PlainRule, PlainRules, PlainNext, a_text, an_ask, a_last_ask, a_return, a_goto, a_done, GoesPlainly, PlainFrame, PlainFrames, PlainCall, PlainWay, PlainChoices, PlainMid, PlainStatus}
 use Rattle.dg_story.proofs.PlainNexts.{plain_next}
 
 -- nothing is excluded where there is no first argument

@@ -11,7 +11,7 @@ use Rattle.dg_mid.specs.declared.code.Code.{Code}
 use Rattle.dg_mid.specs.Code.{rules_at}
 use Rattle.dg_mid.specs.Codes.{RulesStand, Codes}
 use Rattle.dg_story.specs.Plain.{rules_fit, preds_fit, is_plain}
-use Rattle.dg_story.specs.PlainCode.{PlainRules}
+use Rattle.dg_story.specs.inside.PlainCode.{PlainRules}
 use Rattle.dg_story.proofs.PlainLemmas.{plain_rules, both_true}
 
 -- ## The rules of a predicate

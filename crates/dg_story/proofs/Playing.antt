@@ -17,10 +17,10 @@ use Rattle.z_lang.specs.Standing.{Stands, IsKept, Context, HasRoom, state_at}
 use Rattle.z_lang.proofs.Trampoline.{trampoline}
 use Rattle.z_lang.proofs.Stretches.{leads_then, ends_then}
 use Rattle.dg_story.specs.Routines.{going, all_routines}
-use Rattle.dg_story.specs.Cells.{with_cell, replaced, Holds, IsMapped, state}
-use Rattle.dg_story.specs.Ends.{kept_end}
-use Rattle.dg_story.specs.Represents.{Telling, choice_word, FramesIn, MidIn, ChoicesIn, StatusIn, at_number}
-use Rattle.dg_story.specs.Stepping.{SameMid}
+use Rattle.dg_story.specs.inside.Cells.{with_cell, replaced, Holds, IsMapped, state}
+use Rattle.dg_story.specs.inside.Ends.{kept_end}
+use Rattle.dg_story.specs.inside.Represents.{Telling, choice_word, FramesIn, MidIn, ChoicesIn, StatusIn, at_number}
+use Rattle.dg_story.specs.inside.Stepping.{SameMid}
 use Rattle.dg_story.proofs.RunTime.{other_cell}
 use Rattle.dg_story.proofs.Bounces.{bounce, stop}
 use Rattle.dg_story.proofs.Staying.{SameBelow, alike, frames_stay, choices_stay}

@@ -22,10 +22,10 @@ use Rattle.z_lang.specs.Turns.{Turn, To, Over as IsOverWith, Turning, Reaches, h
 use Rattle.z_lang.specs.WholeRuns.{IsTurn, Does}
 use Rattle.z_lang.proofs.Stretches.{leads_none, leads_then, ends_then}
 use Rattle.dg_story.specs.Agrees.{story_limits}
-use Rattle.dg_story.specs.PlainCode.{PlainOps, PlainRules, PlainStatus}
-use Rattle.dg_story.specs.Represents.{Telling}
+use Rattle.dg_story.specs.inside.PlainCode.{PlainOps, PlainRules, PlainStatus}
+use Rattle.dg_story.specs.inside.Represents.{Telling}
 use Rattle.dg_story.proofs.PlainRuns.{step_plain}
-use Rattle.dg_story.specs.Stepping.{StepsTo, prints, asks, returns, fails_bare, jumps, finishes, enters, enters_not, resumes, goes_back, has_failed, StatusUnder}
+use Rattle.dg_story.specs.inside.Stepping.{StepsTo, prints, asks, returns, fails_bare, jumps, finishes, enters, enters_not, resumes, goes_back, has_failed, StatusUnder}
 use Rattle.dg_story.proofs.Playing.{Playing, Represented, Comes}
 use Rattle.dg_story.proofs.Stepping.{steps_to, step_under}
 use Rattle.dg_story.proofs.StepTurns.{Next, step_turn, gap_stays}

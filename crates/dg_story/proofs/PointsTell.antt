@@ -24,9 +24,9 @@ use Rattle.z_model.specs.declared.end.ZEnd.{ZEnd}
 use Rattle.z_model.specs.declared.end.ZEnd.TheVariants as ends
 use Rattle.z_lang.specs.Turns.{Turn, To, Over as IsOverWith, printed_by}
 use Rattle.dg_story.specs.Agrees.{story_limits, IsDone, IsCut, of_body, of_transcript, of_limit, IsWhole, by_done, by_limit, IsLimitText, IsThere, IsAtLimit, body}
-use Rattle.dg_story.specs.Tells.{InTime, reached, over, Tells}
-use Rattle.dg_story.specs.Represents.{Telling}
-use Rattle.dg_story.specs.Stepping.{PlainEnd, StatusUnder}
+use Rattle.dg_story.specs.inside.Tells.{InTime, reached, over, Tells}
+use Rattle.dg_story.specs.inside.Represents.{Telling}
+use Rattle.dg_story.specs.inside.Stepping.{PlainEnd, StatusUnder}
 use Rattle.dg_story.proofs.Happened.{text_grows, at_happened, printed_begins, part_of}
 use Rattle.dg_story.proofs.PointTurns.{points, turning, reaches, over_or, turn_to}
 

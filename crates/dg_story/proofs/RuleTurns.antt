@@ -15,9 +15,9 @@ use Rattle.z_lang.specs.Standing.{Context}
 use Rattle.dg_story.specs.declared.support.TheConstants.{CHOOSE_ACTS}
 use Rattle.dg_story.specs.Numbers.{numbers_of, block_number}
 use Rattle.dg_story.specs.Routines.{routine, going}
-use Rattle.dg_story.specs.Cells.{heap_at, replaced, state}
-use Rattle.dg_story.specs.Represents.{Telling, choice_word, FramesIn, MidIn, ChoiceIn, ChoicesIn, WayIn, at_number, at_block}
-use Rattle.dg_story.specs.Stepping.{SameMid, BeginsSo, IsChoiceOf}
+use Rattle.dg_story.specs.inside.Cells.{heap_at, replaced, state}
+use Rattle.dg_story.specs.inside.Represents.{Telling, choice_word, FramesIn, MidIn, ChoiceIn, ChoicesIn, WayIn, at_number, at_block}
+use Rattle.dg_story.specs.inside.Stepping.{SameMid, BeginsSo, IsChoiceOf}
 use Rattle.dg_story.proofs.RunTime.{other_cell, chooses, chosen_memory, chosen_holds}
 use Rattle.dg_story.proofs.Places.{rule_here, rules_behind}
 use Rattle.dg_story.proofs.Staying.{SameBelow, CutAlike, alike, frames_stay, choices_stay, way_stays}

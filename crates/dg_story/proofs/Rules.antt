@@ -14,7 +14,7 @@ use Rattle.z_lang.specs.declared.act.Print.{Print}
 use Rattle.z_lang.specs.declared.act.Act.TheVariants as acts
 use Rattle.z_lang.specs.State.{State, Program, variable, value, put, with_local}
 use Rattle.z_lang.specs.Acts.{computed, written, printed, compared, does, answer_of, with_output}
-use Rattle.dg_story.specs.Cells.{heap_at, with_cell, replaced, Holds, IsMapped, state}
+use Rattle.dg_story.specs.inside.Cells.{heap_at, with_cell, replaced, Holds, IsMapped, state}
 use Rattle.dg_story.proofs.Cells.{holds_with, global_is, with_global_is, reads_cell, writes_cell, some_list}
 
 abbrev pub word : ℕ → Option ℕ

@@ -15,7 +15,7 @@ use Rattle.z_lang.specs.State.{State, Program, value}
 use Rattle.z_lang.specs.Acts.{computed, printed, compared, answer_of, with_output}
 use Rattle.z_lang.specs.Runs.{Outcome, Runs, Returns, Stops, at_label, taken, passed, done, calls_last, returns, behind}
 use Rattle.dg_story.specs.declared.support.TheConstants.{NEWLINE_ACTS, SEPARATE_ACTS, ENTER_ACTS, CHOOSE_ACTS}
-use Rattle.dg_story.specs.Cells.{heap_at, with_cell, replaced, Holds, IsMapped, state}
+use Rattle.dg_story.specs.inside.Cells.{heap_at, with_cell, replaced, Holds, IsMapped, state}
 use Rattle.dg_story.proofs.Cells.{holds_with}
 use Rattle.dg_story.proofs.Rules.{word, bool, tested, computes, copies, writes, says, register, IsPut, puts, local_1, local_2, put_1, put_2, writes_place, greater, sum}
 

@@ -1,8 +1,8 @@
 -- Frames and choices stay where they are while memory changes elsewhere.
 use Rattle.std.proofs.Common.{◌≡◌, ℕ, ◌+◌, ◌<◌, ◌≤◌, List, [], ◌∷◌, refl, sym, ap, ◌∙◌, subst, arith}
 use Rattle.dg_mid.specs.State.{Frame, Way, Goes, Calls, Tries, Choice, cut_choices}
-use Rattle.dg_story.specs.Cells.{heap_at}
-use Rattle.dg_story.specs.Represents.{Telling, choice_word, FrameIn, FramesIn, WayIn, ChoiceIn, ChoicesIn}
+use Rattle.dg_story.specs.inside.Cells.{heap_at}
+use Rattle.dg_story.specs.inside.Represents.{Telling, choice_word, FrameIn, FramesIn, WayIn, ChoiceIn, ChoicesIn}
 
 -- Words of the heap below a top are the same.
 abbrev pub SameBelow : (ℕ → ℕ) → (ℕ → ℕ) → ℕ → Type 0

@@ -21,11 +21,11 @@ use Rattle.dg_story.specs.Agrees.{story_limits}
 use Rattle.dg_story.specs.Numbers.{numbers_of, block_number, pred_number}
 use Rattle.dg_story.specs.Instructions.{ask_acts}
 use Rattle.dg_story.specs.Routines.{going, ops_routines, all_routines}
-use Rattle.dg_story.specs.From.{From}
-use Rattle.dg_story.specs.Represents.{Telling}
+use Rattle.dg_story.specs.inside.From.{From}
+use Rattle.dg_story.specs.inside.Represents.{Telling}
 use Rattle.dg_story.proofs.Places.{op_here}
 use Rattle.dg_story.proofs.Staying.{CutAlike}
-use Rattle.dg_story.specs.Stepping.{SameMid, IsTagged, Begun, no_rule, last_rule, further, no_room, AsksFor, first, last, StepsTo, prints, asks, returns, fails_bare, jumps, finishes, enters, enters_not, resumes, goes_back, has_failed, FramesUnder, ChoicesUnder, StatusUnder}
+use Rattle.dg_story.specs.inside.Stepping.{SameMid, IsTagged, Begun, no_rule, last_rule, further, no_room, AsksFor, first, last, StepsTo, prints, asks, returns, fails_bare, jumps, finishes, enters, enters_not, resumes, goes_back, has_failed, FramesUnder, ChoicesUnder, StatusUnder}
 use Rattle.dg_story.proofs.Playing.{Playing, Represented, Comes, Over, comes_then, over_then, comes_within, over_within}
 use Rattle.dg_story.proofs.FailTurns.{turn_fails}
 use Rattle.dg_story.proofs.JumpTurns.{turn_goto}

@@ -21,10 +21,10 @@ use Rattle.dg_mid.specs.State.{Place, Frame, Call, ToPred, Way, Goes, Calls, Tri
 use Rattle.dg_mid.specs.Actions.{world_of, outside_in}
 use Rattle.dg_mid.specs.Potential.{IsOver}
 use Rattle.dg_mid.specs.Step.{Setting, more, passed, inside, at_rule, new_choice, new_frame, trail_more, charged, unified, bound, first_of, walked, enters as enters_by, begins, asks as asks_by, asks_last, last as last_by, returned, returns as returns_to, runs, enter, entered, goes_on, goes_back as back_to, step, call_of, said, said_in, said_to}
-use Rattle.dg_story.specs.PlainCode.{PlainOps, PlainRule, PlainRules, PlainNext, a_text, an_ask, a_last_ask, a_return, a_goto, a_done, PlainFrames, PlainWay, PlainStatus}
+use Rattle.dg_story.specs.inside.PlainCode.{PlainOps, PlainRule, PlainRules, PlainNext, a_text, an_ask, a_last_ask, a_return, a_goto, a_done, PlainFrames, PlainWay, PlainStatus}
 use Rattle.dg_story.proofs.PlainNexts.{plain_next}
 use Rattle.dg_story.proofs.PlainRuns.{selected_none}
-use Rattle.dg_story.specs.Stepping.{BeginsSo, Begun, no_rule, last_rule, further, no_room, first, last, StepsTo, prints, asks, returns, fails_bare, jumps, finishes, enters, enters_not, resumes, goes_back, has_failed, FramesUnder, WayUnder, ChoicesUnder, MidUnder, StatusUnder}
+use Rattle.dg_story.specs.inside.Stepping.{BeginsSo, Begun, no_rule, last_rule, further, no_room, first, last, StepsTo, prints, asks, returns, fails_bare, jumps, finishes, enters, enters_not, resumes, goes_back, has_failed, FramesUnder, WayUnder, ChoicesUnder, MidUnder, StatusUnder}
 
 -- nothing more is bound
 none_made : (S : Substitution) → made_since S S ≡ []

@@ -14,8 +14,8 @@ use Rattle.z_lang.specs.Acts.{with_output}
 use Rattle.z_lang.specs.Runs.{Outcome, Runs, done, calls}
 use Rattle.dg_story.specs.Texts.{letters_of, say, says, end_with, end_of, separated, text_acts}
 use Rattle.dg_story.specs.declared.support.TheConstants.{SEPARATE_ACTS}
-use Rattle.dg_story.specs.Ends.{kept_end}
-use Rattle.dg_story.specs.Cells.{with_cell, Holds}
+use Rattle.dg_story.specs.inside.Ends.{kept_end}
+use Rattle.dg_story.specs.inside.Cells.{with_cell, Holds}
 use Rattle.dg_story.proofs.Rules.{copies, puts}
 use Rattle.dg_story.proofs.RunTime.{separate_none, separate_some}
 use Rattle.dg_story.proofs.TextRuns.{letters_are, prints_all}

@@ -25,10 +25,10 @@ use Rattle.dg_story.specs.Numbers.{numbers_of, op_size}
 use Rattle.dg_story.specs.declared.texts.Part.TheVariants as part
 use Rattle.dg_story.specs.Texts.{letters_of, say, says, end_with, end_of, text_acts}
 use Rattle.dg_story.specs.Routines.{routine, going, pieces, op_routines, ops_routines, all_routines}
-use Rattle.dg_story.specs.Cells.{with_cell, replaced, Holds, state}
-use Rattle.dg_story.specs.Ends.{kept_end}
-use Rattle.dg_story.specs.From.{From}
-use Rattle.dg_story.specs.Represents.{Telling, MidIn, OpsIn, at_number}
+use Rattle.dg_story.specs.inside.Cells.{with_cell, replaced, Holds, state}
+use Rattle.dg_story.specs.inside.Ends.{kept_end}
+use Rattle.dg_story.specs.inside.From.{From}
+use Rattle.dg_story.specs.inside.Represents.{Telling, MidIn, OpsIn, at_number}
 use Rattle.dg_story.proofs.Cells.{holds_with}
 use Rattle.dg_story.proofs.Rules.{copies, puts}
 use Rattle.dg_story.proofs.RunTime.{other_cell}
@@ -38,7 +38,7 @@ use Rattle.dg_story.proofs.Rooms.{letters_few, text_many}
 use Rattle.dg_story.proofs.Places.{from_front, from_behind, from_here, ops_behind}
 use Rattle.dg_story.proofs.JumpTurns.{OpsFrom, ops_at}
 use Rattle.dg_story.proofs.Playing.{Playing, Lands, Represented, Moved, Comes, comes_with, moves, moves_on, moved_within, mid_with}
-use Rattle.dg_story.specs.Stepping.{SameMid}
+use Rattle.dg_story.specs.inside.Stepping.{SameMid}
 
 -- ## Acts that print
 

@@ -11,7 +11,7 @@ use Rattle.z_asm.specs.Layout.{aligned, table_bytes}
 use Rattle.z_story.specs.Parts.{image_of}
 use Rattle.dg_mid.specs.declared.code.Code.{Code}
 use Rattle.dg_story.specs.Built.{heap_tables, parts_of, IsStoryOf}
-use Rattle.dg_story.specs.Cells.{Holds}
+use Rattle.dg_story.specs.inside.Cells.{Holds}
 use Rattle.dg_story.proofs.Mapped.{p, mapped, globals_are}
 
 -- all bytes are zeros

@@ -1,6 +1,5 @@
 pub mod Plain
 pub mod Sizes
-pub mod Counting
 pub mod Refusals
 pub mod Texts
 pub mod Numbers
@@ -8,10 +7,4 @@ pub mod Instructions
 pub mod Routines
 pub mod Built
 pub mod Agrees
-pub mod Cells
-pub mod Tells
-pub mod PlainCode
-pub mod Ends
-pub mod From
-pub mod Represents
-pub mod Stepping
+pub mod inside

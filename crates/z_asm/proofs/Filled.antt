@@ -22,7 +22,7 @@ use Rattle.z_code.specs.declared.target.Target.TheVariants as targets
 use Rattle.z_code.specs.declared.target.LOp.{LOp}
 use Rattle.z_code.specs.Targets.{Names, offset_to, address, fill, nth, fill_branch, filled, IsNear, NearLabel}
 use Rattle.z_code.specs.Open.{Counts, OpenIf, OpenBranch, IsOpen}
-use Rattle.z_asm.specs.Filled.{AreWords}
+use Rattle.z_asm.specs.inside.Filled.{AreWords}
 
 -- what is left of being open when labels and numbers are put aside
 abbrev IsGiven : Option Target → Operand → Type 0

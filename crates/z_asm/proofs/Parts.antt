@@ -20,7 +20,7 @@ use Rattle.z_asm.specs.Layout.{code_bytes, code_size, aligned, end_from, laid, t
 use Rattle.z_asm.specs.Header.{header_bytes}
 use Rattle.z_asm.specs.Story.{base_of, dictionary_of, dictionary, first_of, front_of, call_first, then_quit, first_ops, string_bytes, strings_of, string_sizes, routines_from, end_of, names_of, string_part, code_part, readable_bytes, all_strings, all_routines, bytes_behind, story_of}
 use Rattle.z_asm.specs.Conditions.{counts_of, AreCodes, ArePrintable, IsImage}
-use Rattle.z_asm.specs.Filled.{AreWords, AreFilled, IsWritable, AreWritable}
+use Rattle.z_asm.specs.inside.Filled.{AreWords, AreFilled, IsWritable, AreWritable}
 use Rattle.z_asm.specs.Plan.{IsPlan}
 use Rattle.z_asm.proofs.Layouts.{end_most, padded_long, HaveSizes, laid_long, packed_below, table_below}
 use Rattle.z_asm.proofs.Placing.{filled_all, filled_long}

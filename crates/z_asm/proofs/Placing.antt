@@ -13,7 +13,7 @@ use Rattle.z_code.specs.declared.target.Target.TheVariants as targets
 use Rattle.z_model.specs.declared.op.Branch.{Branch}
 use Rattle.z_code.specs.Targets.{Names, ops_size, label_from, ops_bytes, nth, filled, IsNear, NearTarget, NearLabel, Fits, Placed}
 use Rattle.z_code.specs.Open.{Counts, HasLabel, OpenIf, OpenBranch, IsOpen, AreOpen}
-use Rattle.z_asm.specs.Filled.{AreWords, FillsIn, AreFilled}
+use Rattle.z_asm.specs.inside.Filled.{AreWords, FillsIn, AreFilled}
 use Rattle.z_asm.proofs.Filled.{still_op, still_long, branch_long, target_long}
 
 -- ---- where labels are

@@ -18,7 +18,7 @@ use Rattle.z_asm.specs.Layout.{code_bytes, code_size, aligned, places_from, laid
 use Rattle.z_asm.specs.Header.{header_bytes}
 use Rattle.z_asm.specs.Story.{base_of, dictionary, first_of, front_of, first_ops, string_bytes, strings_of, string_sizes, routines_from, end_of, names_of, string_part, code_part, readable_bytes, all_strings, all_routines, bytes_behind, header_of, story_of}
 use Rattle.z_asm.specs.Conditions.{counts_of, AreCodes, IsImage}
-use Rattle.z_asm.specs.Filled.{AreWords, IsWritable, AreWritable}
+use Rattle.z_asm.specs.inside.Filled.{AreWords, IsWritable, AreWritable}
 use Rattle.z_asm.specs.Assembled.{HasTable, HasText, HasCode, IsAssembled}
 use Rattle.z_asm.proofs.Layouts.{aligned_most, aligned_is, end_most, HaveSizes, laid_long}
 use Rattle.z_asm.proofs.Parts.{image_words, codes_writable, codes_sized, strings_sized, first_filled, front_long}

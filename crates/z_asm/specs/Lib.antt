@@ -4,4 +4,4 @@ pub mod Story
 pub mod Conditions
 pub mod Assembled
 pub mod Plan
-pub mod Filled
+pub mod inside

@@ -3,7 +3,7 @@ ghost use Rattle.std.specs.Prelude.{◌≡◌, ◌+◌, ◌-◌, ◌<◌, ◌≤
 ghost use Rattle.z_asm.specs.Header.{header_bytes};
 ghost use Rattle.z_asm.specs.Layout.{code_size, aligned, spans_from, end_from, laid, table_bytes, names_in};
 ghost use Rattle.z_asm.specs.Conditions.{ArePrintable, IsImage};
-ghost use Rattle.z_asm.specs.Filled.{AreWritable};
+ghost use Rattle.z_asm.specs.inside.Filled.{AreWritable};
 ghost use Rattle.z_asm.specs.Plan.{IsPlan};
 ghost use Rattle.z_asm.specs.Assembled.{IsAssembled, ArePlaces};
 ghost use Rattle.z_asm.specs.Story.{string_bytes, strings_of, string_part, code_part, first_ops, readable_bytes, bytes_behind, story_of, IsTooLarge};

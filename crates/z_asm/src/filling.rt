@@ -3,7 +3,7 @@ ghost use Rattle.std.specs.Prelude.{◌≡◌, ◌+◌, ◌<◌, ◌≤◌, ◌^
 ghost use Rattle.z_model.specs.Numbers.{word_from};
 ghost use Rattle.z_code.specs.Targets.{ops_size, spot_of, ops_bytes, offset_to, address, fill, fill_branch, filled, IsNear, NearLabel};
 ghost use Rattle.z_asm.specs.Layout.{names_in, code_bytes};
-ghost use Rattle.z_asm.specs.Filled.{FillsIn, AreFilled, IsWritable};
+ghost use Rattle.z_asm.specs.inside.Filled.{FillsIn, AreFilled, IsWritable};
 
 use crate::image::Code;
 use crate::layout::Addresses;

@@ -2,7 +2,7 @@
 ghost use Rattle.std.specs.Prelude.{◌≡◌, ◌<◌, ◌+◌, ◌++◌, false, length, IfSome, OnOk, OnErr};
 ghost use Rattle.z_model.specs.Table.{rows_of};
 ghost use Rattle.z_model.specs.Spelling.{type_if, types_in, type_byte, code, long_bit, head_bytes, operand_bytes, store_bytes, all_operand_bytes, branch_bytes, offset_bytes, unsigned_14, bit, spelling, FitsForm, FitsOffset, IsOfTable};
-ghost use Rattle.z_code.specs.Appended.{HasRoom, Appended};
+ghost use Rattle.z_code.specs.inside.Appended.{HasRoom, Appended};
 
 use std::alloc::AllocError;
 use z_model::{Branch, Form, Op, Operand, OperandType, OperandTypes, Operands, bytes_of};

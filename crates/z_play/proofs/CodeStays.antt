@@ -9,9 +9,9 @@ use Rattle.z_model.specs.Table.{rows_of}
 use Rattle.z_model.specs.Machine.{Machine}
 use Rattle.z_model.specs.Laws.{KeepsCode, CodeStays, StandsOn, state_behind}
 use Rattle.z_model.specs.Run.{ZGiven, Next}
-use Rattle.z_play.specs.Scene.{Scene, state, Came}
-use Rattle.z_play.specs.Advancing.{next_from}
-use Rattle.z_play.specs.Recent.{IsRight, IsRecent}
+use Rattle.z_play.specs.inside.Scene.{Scene, state, Came}
+use Rattle.z_play.specs.inside.Advancing.{next_from}
+use Rattle.z_play.specs.inside.Recent.{IsRight, IsRecent}
 use Rattle.z_play.specs.declared.recent.Slot.{Slot}
 use Rattle.z_play.specs.declared.recent.Recent.{Recent}
 

@@ -14,8 +14,8 @@ use Rattle.z_model.specs.Memory.{Memory, guarded, is_writable, with_byte, with_b
 use Rattle.z_model.specs.Text.{Text, print_fault}
 use Rattle.z_model.specs.Machine.{Machine}
 use Rattle.z_model.specs.Streams.{shown_codes, into_table}
-use Rattle.z_play.specs.Collected.{Collects}
-use Rattle.z_play.specs.Effects.{into_first, into_newest}
+use Rattle.z_play.specs.inside.Collected.{Collects}
+use Rattle.z_play.specs.inside.Effects.{into_first, into_newest}
 
 abbrev no_fault : Option ZFault
 no_fault = None

@@ -15,9 +15,9 @@ use Rattle.z_model.specs.Memory.{Memory, guarded, is_writable, have_right, with_
 use Rattle.z_model.specs.Flow.{returned}
 use Rattle.z_model.specs.Typed.{typed_bytes, typed_codes, typed_line, typed_left, left_within}
 use Rattle.z_model.specs.Run.{ZGiven, line_read, with_line, next_drawn, key_code}
-use Rattle.z_play.specs.Effects.{CanFinish}
+use Rattle.z_play.specs.inside.Effects.{CanFinish}
 use Rattle.z_play.specs.View.{Sets}
-use Rattle.z_play.specs.Acting.{Finished, Unfinished}
+use Rattle.z_play.specs.inside.Acting.{Finished, Unfinished}
 use Rattle.z_play.proofs.Reading.{StopsWithin, left_shorter}
 
 -- ---- a line that fits its buffer is read

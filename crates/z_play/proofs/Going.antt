@@ -10,12 +10,12 @@ use Rattle.z_model.specs.Machine.{Machine}
 use Rattle.z_model.specs.Step.{machine_step}
 use Rattle.z_model.specs.Run.{ZState, ZGiven, ZRun, Next, word_at, zstep, zrun, go_on, end_of}
 use Rattle.z_model.specs.Closing.{is_open}
-use Rattle.z_play.specs.Effects.{CanFinish}
+use Rattle.z_play.specs.inside.Effects.{CanFinish}
 use Rattle.dg_base.specs.Written.{SinkView, Wrote, BrokeOff}
 use Rattle.z_play.specs.Output.{BrokeBehind}
-use Rattle.z_play.specs.Scene.{Scene, scene, state, next_of, IsBeyond, Came, CutOff, Unread}
-use Rattle.z_play.specs.Acting.{text_of, Finished, Unfinished, MayBeLeft}
-use Rattle.z_play.specs.Advancing.{next_from, Advances, RanTo, RanUnread, RunsOn}
+use Rattle.z_play.specs.inside.Scene.{Scene, scene, state, next_of, IsBeyond, Came, CutOff, Unread}
+use Rattle.z_play.specs.inside.Acting.{text_of, Finished, Unfinished, MayBeLeft}
+use Rattle.z_play.specs.inside.Advancing.{next_from, Advances, RanTo, RanUnread, RunsOn}
 use Rattle.z_play.specs.Played.{HasCauses, PrintUnwritten}
 use Rattle.dg_base.specs.declared.run.Fault.{Fault}
 use Rattle.dg_base.specs.declared.run.Fault.TheVariants.{Read, Write}

@@ -10,8 +10,8 @@ use Rattle.z_model.specs.Closing.{end_line, unread_line, is_open, newline_if, wi
 use Rattle.z_model.specs.Story.{layout_of, start_of, memory_of, first_machine, given_of, start_state}
 use Rattle.dg_base.specs.Written.{SinkView, Wrote, BrokeOff}
 use Rattle.z_play.specs.Output.{BrokeBehind}
-use Rattle.z_play.specs.Scene.{Scene, given_by, state}
-use Rattle.z_play.specs.Advancing.{RanTo, RanUnread, RunsOn}
+use Rattle.z_play.specs.inside.Scene.{Scene, given_by, state}
+use Rattle.z_play.specs.inside.Advancing.{RanTo, RanUnread, RunsOn}
 use Rattle.dg_base.specs.declared.run.Fault.{Fault}
 use Rattle.z_play.specs.Played.{Played, InputFailed, PrintUnwritten, OutputFailed}
 use Rattle.dg_base.proofs.WrittenLemmas.{wrote_on, broke_first}

@@ -8,7 +8,7 @@ use Rattle.z_model.specs.declared.story.Layout.{Layout}
 use Rattle.z_model.specs.declared.story.Header.{Header}
 use Rattle.z_model.specs.Run.{ZState}
 use Rattle.z_model.specs.Story.{header_word, start_of, globals_of, base_of, length_of, memory_of, layout_of, first_machine, refusal_of, has_bad_length, has_bad_map, IsHeader}
-use Rattle.z_play.specs.Scene.{given_by}
+use Rattle.z_play.specs.inside.Scene.{given_by}
 use Rattle.z_play.specs.Ready.{IsStory, IsLoaded}
 
 -- ---- what isn't refused

@@ -15,8 +15,8 @@ use Rattle.z_model.specs.Streams.{codes_in, into_table}
 use Rattle.z_model.specs.Effects.{goes, let_out, printed, then_returned, prints_line}
 use Rattle.z_model.specs.Decode.{◌>>=◌}
 use Rattle.z_model.specs.Text.{string_at, print_fault}
-use Rattle.z_play.specs.Faults.{fault_of}
-use Rattle.z_play.specs.Effects.{into_first, line_into}
+use Rattle.z_play.specs.inside.Faults.{fault_of}
+use Rattle.z_play.specs.inside.Effects.{into_first, line_into}
 use Rattle.z_play.specs.declared.engine.Engine.{Engine}
 use Rattle.z_play.specs.View.{machine, left_to, Left, callers_of}
 

@@ -1,15 +1,8 @@
-pub mod Collected
 pub mod Rights
 pub mod Story
 pub mod View
-pub mod Top
-pub mod Faults
-pub mod Effects
 pub mod Output
-pub mod Scene
-pub mod Acting
 pub mod Played
-pub mod Advancing
 pub mod Ready
-pub mod Recent
 pub mod Laws
+pub mod inside

@@ -9,7 +9,7 @@ ghost use Rattle.z_model.specs.Effects.{goes, answers, answers_or, written};
 ghost use Rattle.z_model.specs.Effects.{adds, adds_and_tests, pulls, returns_popped, most_typed, reads, reads_key, random_of};
 ghost use Rattle.z_model.specs.Run.{line_read};
 ghost use Rattle.z_play.specs.View.{machine, layout_in, Sound, Sets, Kept};
-ghost use Rattle.z_play.specs.Effects.{CanFinish, GivesEffect};
+ghost use Rattle.z_play.specs.inside.Effects.{CanFinish, GivesEffect};
 
 use crate::arith::is_less;
 use crate::engine::Engine;

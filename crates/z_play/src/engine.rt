@@ -3,8 +3,8 @@ ghost use Rattle.std.specs.Prelude.{◌≡◌, ◌<◌, ◌≤◌, ◌-◌, ℕ,
 ghost use Rattle.z_model.specs.Machine.{pushed, popped, variable_of, stored, stored_if, held_in, placed};
 ghost use Rattle.z_model.specs.Machine.{value_of, value_if, values_of, local_set, local_of, global_of};
 ghost use Rattle.z_play.specs.View.{machine, layout_in, Sound, Gives, Sets, Kept};
-ghost use Rattle.z_play.specs.Top.{top_of};
-ghost use Rattle.z_play.specs.Faults.{fault_of};
+ghost use Rattle.z_play.specs.inside.Top.{top_of};
+ghost use Rattle.z_play.specs.inside.Faults.{fault_of};
 
 use crate::memory::Story;
 use z_model::{Args, OpenTable, Operand, Operands, ZFault, bytes_of, word_of};

@@ -2,7 +2,7 @@
 ghost use Rattle.std.specs.Prelude.{◌≡◌, ◌<◌, ◌≤◌, ◌+◌, ◌*◌, ◌++◌, take, IfOk, length, ℕ};
 ghost use Rattle.z_model.specs.Flow.{jumped, returned, in_frames, thrown, branched, branch_taken, agrees, local_count, locals_from, entered, called};
 ghost use Rattle.z_play.specs.View.{machine, layout_in, Sound, Sets, Kept, Left, SameArrays};
-ghost use Rattle.z_play.specs.Faults.{fault_of};
+ghost use Rattle.z_play.specs.inside.Faults.{fault_of};
 
 use crate::engine::{Called, Engine};
 use z_model::{Args, Branch, ZFault};

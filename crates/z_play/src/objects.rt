@@ -6,7 +6,7 @@ ghost use Rattle.z_model.specs.Properties.{property_value, property_place, next_
 ghost use Rattle.z_model.specs.Tables.{copied};
 ghost use Rattle.z_model.specs.Effects.{answers_or, tests_or, answers_and_tests, answers_object, answers_place, objects_in, sought, written};
 ghost use Rattle.z_play.specs.View.{machine, layout_in, Sound, Kept};
-ghost use Rattle.z_play.specs.Effects.{GivesEffect};
+ghost use Rattle.z_play.specs.inside.Effects.{GivesEffect};
 
 use crate::engine::Engine;
 use z_full::{

@@ -6,10 +6,10 @@ ghost use Rattle.z_model.specs.Flow.{at_pc};
 ghost use Rattle.std.specs.Fmt.{signed_decimal};
 ghost use Rattle.z_model.specs.Numbers.{signed_16};
 ghost use Rattle.z_model.specs.Streams.{codes_in, opened, closed, streamed};
-ghost use Rattle.z_play.specs.Collected.{Collects, IsText};
+ghost use Rattle.z_play.specs.inside.Collected.{Collects, IsText};
 ghost use Rattle.z_model.specs.Effects.{goes, fault_in, let_out, printed, prints_line, prints_name};
 ghost use Rattle.z_play.specs.View.{machine, layout_in, Sound, Sets, Kept};
-ghost use Rattle.z_play.specs.Effects.{CanFinish, GivesEffect, into_newest, line_into};
+ghost use Rattle.z_play.specs.inside.Effects.{CanFinish, GivesEffect, into_newest, line_into};
 
 use crate::arith::signed;
 use crate::engine::Engine;

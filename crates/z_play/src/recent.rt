@@ -2,7 +2,7 @@
 ghost use Rattle.std.specs.Prelude.{◌≡◌, ◌<◌, ℕ, List, length, slice_get, Some, IfOk, IfErr, Err};
 ghost use Rattle.z_model.specs.Table.{rows_of};
 ghost use Rattle.z_model.specs.Decode.{op_at};
-ghost use Rattle.z_play.specs.Recent.{Recalls, IsRecent, IsFound};
+ghost use Rattle.z_play.specs.inside.Recent.{Recalls, IsRecent, IsFound};
 
 use std::alloc::{AllocError, Global};
 use z_code::decode;

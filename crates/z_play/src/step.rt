@@ -3,8 +3,8 @@ ghost use Rattle.std.specs.Prelude.{◌≡◌, ◌≤◌, ◌+◌, ◌*◌, ◌%
 ghost use Rattle.z_model.specs.Table.{rows_of};
 ghost use Rattle.z_model.specs.Step.{do_two, do_one, do_zero, do_several, do_extended, do_instr, machine_step};
 ghost use Rattle.z_play.specs.View.{machine, layout_in, Sound, Kept};
-ghost use Rattle.z_play.specs.Effects.{GivesEffect, acted};
-ghost use Rattle.z_play.specs.Recent.{IsRecent};
+ghost use Rattle.z_play.specs.inside.Effects.{GivesEffect, acted};
+ghost use Rattle.z_play.specs.inside.Recent.{IsRecent};
 
 use crate::arith::{art_shift, divide, equals_one, is_less, log_shift, modulo, signed};
 use crate::engine::Engine;

@@ -1,7 +1,7 @@
 // Whether a text may be printed.
 ghost use Rattle.std.specs.Prelude.{◌≡◌, ◌≤◌, ◌++◌, ◌∷◌, [], length, take, true, unwrap_or};
 ghost use Rattle.z_model.specs.Streams.{shown_codes};
-ghost use Rattle.z_play.specs.Collected.{Collects};
+ghost use Rattle.z_play.specs.inside.Collected.{Collects};
 ghost use Rattle.z_model.specs.Zscii.{is_printed, is_character, all_printed, code_of};
 ghost use Rattle.z_model.specs.Text.{string_at, print_fault};
 

@@ -1,8 +1,8 @@
 use Rattle.std.proofs.Common.{◌≡◌, ◌++◌, ◌∷◌, drop}
 use Rattle.dg_access.specs.State.{scope_view, total_in}
 use Rattle.dg_closures.specs.Closures.{parameter}
-use Rattle.dg_closures.specs.Scanning.{captured_of, own_of}
-use Rattle.dg_closures.specs.View.{names_view}
+use Rattle.dg_closures.specs.inside.Scanning.{captured_of, own_of}
+use Rattle.dg_closures.specs.inside.View.{names_view}
 use Rattle.dg_closures.proofs.scanning.layout_of.Given as goal
 
 abbrev pub invariant-loop-entry : goal.invariant-loop-entry

@@ -6,8 +6,8 @@ use Rattle.dg_base.specs.Mentions.{Thing, names_in, variable_in, of_said, things
 use Rattle.dg_base.specs.TreeView.{said_view}
 use Rattle.dg_base.specs.Walk.{Met, seen, things_at}
 use Rattle.dg_base.specs.declared.mentions.Mention.{Mention}
-use Rattle.dg_closures.specs.Scanning.{scanned, start}
-use Rattle.dg_closures.specs.View.{layout_view, scan_view}
+use Rattle.dg_closures.specs.inside.Scanning.{scanned, start}
+use Rattle.dg_closures.specs.inside.View.{layout_view, scan_view}
 use Rattle.dg_closures.proofs.NoteLemmas.{names_seen}
 use Rattle.dg_closures.proofs.ScanLemmas.{item_scanned}
 use Rattle.dg_closures.proofs.scanning.layouts_of.Goals as goal

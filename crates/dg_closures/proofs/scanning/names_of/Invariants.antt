@@ -1,6 +1,6 @@
 use Rattle.std.proofs.Common.{◌≡◌, ◌++◌, drop, map}
 use Rattle.dg_access.specs.declared.variables.Entry.{Entry}
-use Rattle.dg_closures.specs.View.{names_view}
+use Rattle.dg_closures.specs.inside.View.{names_view}
 use Rattle.dg_closures.proofs.scanning.names_of.Given as goal
 
 abbrev pub invariant-loop-entry : goal.invariant-loop-entry

@@ -4,8 +4,8 @@ use Rattle.dg_access.specs.Scopes as access
 use Rattle.dg_access.specs.Scopes.{merged}
 use Rattle.dg_access.specs.State.{scope_view, total_in}
 use Rattle.dg_access.specs.declared.variables.Entry.{Entry}
-use Rattle.dg_closures.specs.Scanning.{ended, layout_by_entries}
-use Rattle.dg_closures.specs.View.{layout_view, open_view, stack_of, scan_view}
+use Rattle.dg_closures.specs.inside.Scanning.{ended, layout_by_entries}
+use Rattle.dg_closures.specs.inside.View.{layout_view, open_view, stack_of, scan_view}
 use Rattle.dg_closures.specs.declared.layouts.Open.{Open}
 use Rattle.dg_closures.proofs.NoteLemmas.{stack_push, scan_same}
 use Rattle.dg_closures.proofs.scanning.note_closed.Goals as goal

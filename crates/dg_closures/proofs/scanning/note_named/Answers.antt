@@ -1,7 +1,7 @@
 use Rattle.std.proofs.Common.{◌<◌, List, length, map, ap, arith}
 use Rattle.std.proofs.lemmas.Grind.{common_steps}
 use Rattle.dg_access.specs.Scopes.{Entry}
-use Rattle.dg_closures.specs.View.{layout_view, open_view, stack_of}
+use Rattle.dg_closures.specs.inside.View.{layout_view, open_view, stack_of}
 use Rattle.dg_closures.proofs.NoteLemmas.{parameter_noted, same_if}
 use Rattle.dg_closures.proofs.scanning.note_named.Goals as goal
 

@@ -1,8 +1,8 @@
 use Rattle.std.proofs.Common.{◌≡◌, ◌∷◌, ◌++◌, [], ℕ, List, length, map, ◌∙◌, ap, arith}
 use Rattle.std.proofs.lemmas.List.{map-append, length-map}
 use Rattle.dg_closures.specs.Closures.{Layout}
-use Rattle.dg_closures.specs.Scanning as spec
-use Rattle.dg_closures.specs.View.{layout_view, open_view, stack_of}
+use Rattle.dg_closures.specs.inside.Scanning as spec
+use Rattle.dg_closures.specs.inside.View.{layout_view, open_view, stack_of}
 use Rattle.dg_closures.specs.declared.layouts.Open.{Open}
 use Rattle.dg_closures.proofs.NoteLemmas.{stack_push, scan_same}
 use Rattle.dg_closures.proofs.scanning.note_opened.Goals as goal

@@ -1,9 +1,9 @@
 use Rattle.std.proofs.Common.{◌≡◌, drop}
 use Rattle.dg_access.specs.State.{total_in}
 use Rattle.dg_base.specs.Walk.{seen}
-use Rattle.dg_closures.specs.Scanning as spec
-use Rattle.dg_closures.specs.Scanning.{start}
-use Rattle.dg_closures.specs.View.{scan_view}
+use Rattle.dg_closures.specs.inside.Scanning as spec
+use Rattle.dg_closures.specs.inside.Scanning.{start}
+use Rattle.dg_closures.specs.inside.View.{scan_view}
 use Rattle.dg_closures.proofs.scanning.scanned.Given as goal
 
 abbrev pub invariant-loop-mention : goal.invariant-loop-mention

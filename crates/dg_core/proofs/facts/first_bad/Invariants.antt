@@ -1,7 +1,7 @@
 use Rattle.std.proofs.Common.{◌≡◌, [], drop, map}
 use Rattle.dg_base.specs.TreeView.{item_view}
 use Rattle.dg_core.specs.Places as spec
-use Rattle.dg_core.specs.View.{places_view}
+use Rattle.dg_core.specs.inside.View.{places_view}
 use Rattle.dg_core.proofs.facts.first_bad.Given as goal
 
 abbrev pub invariant-loop-item : goal.invariant-loop-item

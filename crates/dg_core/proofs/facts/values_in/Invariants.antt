@@ -2,7 +2,7 @@ use Rattle.std.proofs.Common.{◌≡◌, ◌++◌, drop, map}
 use Rattle.dg_base.specs.Tree.{parts_of}
 use Rattle.dg_base.specs.TreeView.{part_view}
 use Rattle.dg_core.specs.Places as spec
-use Rattle.dg_core.specs.View.{values_view}
+use Rattle.dg_core.specs.inside.View.{values_view}
 use Rattle.dg_core.proofs.facts.values_in.Given as goal
 
 abbrev pub invariant-loop-part : goal.invariant-loop-part

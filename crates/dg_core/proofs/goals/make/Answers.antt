@@ -1,6 +1,6 @@
 use Rattle.std.proofs.Common.{rules, ◌≡◌, [], List, sym, ◌∙◌, ap}
-use Rattle.dg_core.specs.Making.{made, goals_behind}
-use Rattle.dg_core.specs.View.{scope_view}
+use Rattle.dg_core.specs.inside.Making.{made, goals_behind}
+use Rattle.dg_core.specs.inside.View.{scope_view}
 use Rattle.dg_core.specs.declared.goals.GoalWork.{GoalWork}
 use Rattle.dg_core.proofs.MakingLemmas.{goals_next, goals_smaller}
 use Rattle.dg_core.proofs.goals.make.Goals as goal

@@ -1,7 +1,7 @@
 use Rattle.std.proofs.Common.{◌≡◌}
 use Rattle.dg_base.specs.TreeView.{body_view}
-use Rattle.dg_core.specs.Making.{made, body_behind, goals_behind, goals_weight}
-use Rattle.dg_core.specs.View.{scope_view}
+use Rattle.dg_core.specs.inside.Making.{made, body_behind, goals_behind, goals_weight}
+use Rattle.dg_core.specs.inside.View.{scope_view}
 use Rattle.dg_core.proofs.goals.make.Given as goal
 
 abbrev pub invariant-loop-work : goal.invariant-loop-work

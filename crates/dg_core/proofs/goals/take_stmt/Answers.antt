@@ -9,8 +9,8 @@ use Rattle.dg_base.specs.declared.tree.Stmt.{Stmt}
 use Rattle.dg_base.proofs.Views.{text_seen, print_seen, ask_seen, ask_all_seen, ask_not_seen, group_seen, not_group_seen, first_seen, now_seen, exhaust_seen, stoppable_seen, collect_seen, accumulate_seen, select_seen}
 use Rattle.dg_core.specs.Bodies.{in_changes}
 use Rattle.dg_core.specs.Goals.{change_goals}
-use Rattle.dg_core.specs.Making.{made, here, added}
-use Rattle.dg_core.specs.View.{scope_view}
+use Rattle.dg_core.specs.inside.Making.{made, here, added}
+use Rattle.dg_core.specs.inside.View.{scope_view}
 use Rattle.dg_core.proofs.MakeLemmas.{on_ok, kept_added, stmt_is, stmt_adds, collect_taken, accumulate_taken, select_makes, choice_taken}
 use Rattle.dg_core.proofs.SelectLemmas.{value_counted, parts_counted, changes_counted}
 use Rattle.dg_core.proofs.goals.take_stmt.Goals as goal

@@ -1,6 +1,6 @@
 use Rattle.std.proofs.Common.{◌≡◌, ◌+◌, ◌≤◌, drop}
 use Rattle.dg_core.specs.Places as spec
-use Rattle.dg_core.specs.View.{named_behind}
+use Rattle.dg_core.specs.inside.View.{named_behind}
 use Rattle.dg_core.proofs.places.values_named.Given as goal
 
 abbrev pub invariant-loop-character : goal.invariant-loop-character

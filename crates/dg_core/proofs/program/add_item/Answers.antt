@@ -1,5 +1,5 @@
 use Rattle.dg_base.specs.TreeView.{said_view}
-use Rattle.dg_core.specs.View.{scope_view, before_view}
+use Rattle.dg_core.specs.inside.View.{scope_view, before_view}
 use Rattle.dg_core.proofs.MakeLemmas.{on_ok}
 use Rattle.dg_core.proofs.PredLemmas.{denied_adds, topic_has_none, access_has_none, variable_has_none, no_rule_added}
 use Rattle.dg_core.proofs.program.add_item.Goals as goal

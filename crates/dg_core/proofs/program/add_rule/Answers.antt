@@ -3,7 +3,7 @@ use Rattle.std.specs.List.{IsDistinct}
 use Rattle.std.specs.Str.{bytes_eq}
 use Rattle.dg_base.specs.Heads.{name_of}
 use Rattle.dg_base.specs.TreeView.{head_view}
-use Rattle.dg_core.specs.View.{pred_names}
+use Rattle.dg_core.specs.inside.View.{pred_names}
 use Rattle.dg_core.proofs.PredLemmas.{untouched, apart_from_none, added_at}
 use Rattle.dg_core.proofs.program.add_rule.Goals as goal
 

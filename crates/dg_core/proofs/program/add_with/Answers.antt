@@ -1,5 +1,5 @@
 use Rattle.dg_base.specs.TreeView.{head_view, body_view}
-use Rattle.dg_core.specs.View.{scope_view}
+use Rattle.dg_core.specs.inside.View.{scope_view}
 use Rattle.dg_core.proofs.KeptLemmas.{one_kept}
 use Rattle.dg_core.proofs.MakeLemmas.{on_ok}
 use Rattle.dg_core.proofs.program.add_with.Goals as goal

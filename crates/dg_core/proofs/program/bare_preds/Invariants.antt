@@ -1,6 +1,6 @@
 use Rattle.std.proofs.Common.{◌≡◌, ◌++◌, [], ℕ, Vec, Global, drop, map}
 use Rattle.dg_core.specs.Core.{pred_of}
-use Rattle.dg_core.specs.View.{scope_view}
+use Rattle.dg_core.specs.inside.View.{scope_view}
 use Rattle.dg_core.proofs.program.bare_preds.Given as goal
 
 abbrev pub invariant-loop-name : goal.invariant-loop-name

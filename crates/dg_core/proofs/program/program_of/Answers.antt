@@ -1,5 +1,5 @@
 use Rattle.std.proofs.Common.{◌∙◌, ap}
-use Rattle.dg_core.specs.View.{pred_names}
+use Rattle.dg_core.specs.inside.View.{pred_names}
 use Rattle.dg_core.proofs.program.program_of.Goals as goal
 
 pub places_with_starts-requires : goal.places_with_starts-requires

@@ -3,7 +3,7 @@ use Rattle.dg_base.specs.Tree as tree
 use Rattle.dg_base.specs.TreeView.{head_view, body_view}
 use Rattle.dg_base.specs.declared.tree.Body.{Body}
 use Rattle.dg_core.specs.Bodies.{direct, in_parts, in_branches}
-use Rattle.dg_core.specs.Making.{bodies_view}
+use Rattle.dg_core.specs.inside.Making.{bodies_view}
 use Rattle.dg_core.proofs.BodyLemmas.{direct_join}
 use Rattle.dg_core.proofs.program.rule_of.Goals as goal
 

@@ -1,11 +1,11 @@
 use Rattle.std.proofs.Common.{◌≡◌, ◌+◌, ◌∙◌, ℕ, List, map, ap}
 use Rattle.dg_base.specs.TreeView.{head_view, body_view}
-use Rattle.dg_closures.specs.View.{layout_view, layouts_view}
+use Rattle.dg_closures.specs.inside.View.{layout_view, layouts_view}
 use Rattle.dg_closures.specs.declared.layouts.Layout.{Layout}
 use Rattle.dg_core.specs.Goals.{Scope}
-use Rattle.dg_core.specs.Making.{bodies_view}
-use Rattle.dg_core.specs.View.{scope_view, before_view}
-use Rattle.dg_core.specs.Waiting.{home_of, waiting_from}
+use Rattle.dg_core.specs.inside.Making.{bodies_view}
+use Rattle.dg_core.specs.inside.View.{scope_view, before_view}
+use Rattle.dg_core.specs.inside.Waiting.{home_of, waiting_from}
 use Rattle.dg_core.proofs.KeptLemmas.{rule_is, rule_waits}
 use Rattle.dg_core.proofs.program.rule_with.Goals as goal
 

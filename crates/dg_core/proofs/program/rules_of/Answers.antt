@@ -3,8 +3,8 @@ use Rattle.std.proofs.lemmas.List.{drop_all}
 use Rattle.dg_base.specs.TreeView.{item_view}
 use Rattle.dg_base.specs.declared.tree.Item.{Item}
 use Rattle.dg_core.specs.Core.{Before, none_before, rows_from, all_selects, inner_selects}
-use Rattle.dg_core.specs.View.{scope_view, before_view, with_all, with_rules_in, pred_names}
-use Rattle.dg_core.specs.Waiting.{rows_kept, selects_kept}
+use Rattle.dg_core.specs.inside.View.{scope_view, before_view, with_all, with_rules_in, pred_names}
+use Rattle.dg_core.specs.inside.Waiting.{rows_kept, selects_kept}
 use Rattle.dg_core.specs.declared.rows.Kept.{Kept}
 use Rattle.dg_core.proofs.KeptLemmas.{next_kept}
 use Rattle.dg_core.proofs.PredLemmas.{bare_all, bare_names, names_kept, all_more, all_done, next_item}

@@ -1,8 +1,8 @@
 use Rattle.std.proofs.Common.{◌≡◌, ◌+◌, ◌++◌, ℕ, drop, map}
 use Rattle.dg_base.specs.TreeView.{item_view}
 use Rattle.dg_core.specs.Core.{pred_of, rows_from, all_selects, inner_selects}
-use Rattle.dg_core.specs.View.{scope_view, before_view, with_all, pred_names}
-use Rattle.dg_core.specs.Waiting.{rows_kept, selects_kept}
+use Rattle.dg_core.specs.inside.View.{scope_view, before_view, with_all, pred_names}
+use Rattle.dg_core.specs.inside.Waiting.{rows_kept, selects_kept}
 use Rattle.dg_core.proofs.program.rules_of.Given as goal
 
 abbrev pub invariant-loop-item : goal.invariant-loop-item

@@ -3,8 +3,8 @@ use Rattle.dg_base.specs.Tree.{Parts, changes_of}
 use Rattle.dg_base.specs.TreeView.{change_view}
 use Rattle.dg_core.specs.Bodies.{direct, in_changes}
 use Rattle.dg_core.specs.Goals.{change_goals}
-use Rattle.dg_core.specs.Making.{bodies_view}
-use Rattle.dg_core.specs.View.{scope_view, scope_behind}
+use Rattle.dg_core.specs.inside.Making.{bodies_view}
+use Rattle.dg_core.specs.inside.View.{scope_view, scope_behind}
 use Rattle.dg_core.proofs.ChangeLemmas.{next_change, changes_next, bodies_next}
 use Rattle.dg_core.proofs.queries.add_changes.Goals as goal
 

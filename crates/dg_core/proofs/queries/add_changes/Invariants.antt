@@ -3,8 +3,8 @@ use Rattle.dg_base.specs.Tree.{changes_of}
 use Rattle.dg_base.specs.TreeView.{change_view}
 use Rattle.dg_core.specs.Bodies.{direct, in_changes}
 use Rattle.dg_core.specs.Goals as spec
-use Rattle.dg_core.specs.Making.{bodies_view}
-use Rattle.dg_core.specs.View.{scope_behind}
+use Rattle.dg_core.specs.inside.Making.{bodies_view}
+use Rattle.dg_core.specs.inside.View.{scope_behind}
 use Rattle.dg_core.proofs.queries.add_changes.Given as goal
 
 abbrev pub invariant-loop-change : goal.invariant-loop-change

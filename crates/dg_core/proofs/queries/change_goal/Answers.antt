@@ -4,7 +4,7 @@ use Rattle.dg_base.specs.Tree.{Parts, changes_of}
 use Rattle.dg_base.specs.TreeView.{head_view}
 use Rattle.dg_base.proofs.Views.{change_seen}
 use Rattle.dg_core.specs.Bodies.{Closed, direct, in_parts, in_changes}
-use Rattle.dg_core.specs.Making.{bodies_view}
+use Rattle.dg_core.specs.inside.Making.{bodies_view}
 use Rattle.dg_core.proofs.BodyLemmas.{join_none}
 use Rattle.dg_core.proofs.queries.change_goal.Goals as goal
 

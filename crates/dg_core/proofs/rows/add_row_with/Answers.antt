@@ -1,14 +1,14 @@
 use Rattle.std.proofs.Common.{◌∙◌, ◌++◌, ℕ, List, Bor, ap}
 use Rattle.dg_base.specs.declared.tree.Body.{Body}
 use Rattle.dg_closures.specs.Closures.{Layout, variables_in}
-use Rattle.dg_closures.specs.View.{layout_view}
+use Rattle.dg_closures.specs.inside.View.{layout_view}
 use Rattle.dg_names.specs.State.{seen}
 use Rattle.dg_core.specs.Bodies.{direct, in_branches}
 use Rattle.dg_core.specs.Goals.{Scope, body_goals}
-use Rattle.dg_core.specs.Making.{bodies_view}
+use Rattle.dg_core.specs.inside.Making.{bodies_view}
 use Rattle.dg_core.specs.Rows.{row_with, scope_in}
-use Rattle.dg_core.specs.View.{scope_view, scope_behind}
-use Rattle.dg_core.specs.Waiting.{waiting_view, stack_of, waiting_from, home_view}
+use Rattle.dg_core.specs.inside.View.{scope_view, scope_behind}
+use Rattle.dg_core.specs.inside.Waiting.{waiting_view, stack_of, waiting_from, home_view}
 use Rattle.dg_core.proofs.MakeLemmas.{on_ok}
 use Rattle.dg_core.proofs.WaitLemmas.{row_made, next_made}
 use Rattle.dg_core.proofs.rows.add_row_with.Goals as goal

@@ -1,5 +1,5 @@
-use Rattle.dg_core.specs.View.{scope_view}
-use Rattle.dg_core.specs.Waiting.{home_of}
+use Rattle.dg_core.specs.inside.View.{scope_view}
+use Rattle.dg_core.specs.inside.Waiting.{home_of}
 use Rattle.dg_core.proofs.WaitLemmas.{next_rows, next_selects, next_fewer}
 use Rattle.dg_core.proofs.rows.add_rows.Goals as goal
 

@@ -1,6 +1,6 @@
 use Rattle.std.proofs.Common.{◌≡◌, ◌+◌, ◌++◌}
-use Rattle.dg_core.specs.View.{scope_view}
-use Rattle.dg_core.specs.Waiting.{home_view, home_of, left_of, pending, selects_left, stack_of}
+use Rattle.dg_core.specs.inside.View.{scope_view}
+use Rattle.dg_core.specs.inside.Waiting.{home_view, home_of, left_of, pending, selects_left, stack_of}
 use Rattle.dg_core.proofs.rows.add_rows.Given as goal
 
 abbrev pub invariant-loop-waiting : goal.invariant-loop-waiting

@@ -1,6 +1,6 @@
 use Rattle.std.proofs.Common.{◌≡◌, ◌+◌, ◌++◌}
-use Rattle.dg_core.specs.View.{scope_view}
-use Rattle.dg_core.specs.Waiting.{rows_kept, selects_kept}
+use Rattle.dg_core.specs.inside.View.{scope_view}
+use Rattle.dg_core.specs.inside.Waiting.{rows_kept, selects_kept}
 use Rattle.dg_core.proofs.rows.all_rows.Given as goal
 
 abbrev pub invariant-loop-rule : goal.invariant-loop-rule

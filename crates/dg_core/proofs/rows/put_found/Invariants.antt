@@ -1,8 +1,8 @@
 use Rattle.std.proofs.Common.{◌≡◌, ◌++◌, map, length}
-use Rattle.dg_closures.specs.View.{layout_view}
+use Rattle.dg_closures.specs.inside.View.{layout_view}
 use Rattle.dg_names.specs.State.{seen}
-use Rattle.dg_core.specs.Making.{bodies_view}
-use Rattle.dg_core.specs.Waiting.{stack_of, waiting_from}
+use Rattle.dg_core.specs.inside.Making.{bodies_view}
+use Rattle.dg_core.specs.inside.Waiting.{stack_of, waiting_from}
 use Rattle.dg_core.proofs.rows.put_found.Given as goal
 
 abbrev pub invariant-loop-body : goal.invariant-loop-body

@@ -1,6 +1,6 @@
 use Rattle.std.proofs.Common.{◌≡◌, ◌++◌, ℕ, Vec, Global, drop, map}
 use Rattle.dg_core.specs.Core.{place_of}
-use Rattle.dg_core.specs.View.{scope_view, places_view, heads_view}
+use Rattle.dg_core.specs.inside.View.{scope_view, places_view, heads_view}
 use Rattle.dg_core.proofs.starts.all_places.Given as goal
 
 abbrev pub invariant-loop-name : goal.invariant-loop-name

@@ -1,6 +1,6 @@
 use Rattle.std.proofs.Common.{◌≡◌, drop}
 use Rattle.dg_core.specs.Core as spec
-use Rattle.dg_core.specs.View.{scope_view, heads_view}
+use Rattle.dg_core.specs.inside.View.{scope_view, heads_view}
 use Rattle.dg_core.proofs.starts.declared_start.Given as goal
 
 abbrev pub invariant-loop-head : goal.invariant-loop-head

@@ -1,6 +1,6 @@
 use Rattle.std.proofs.Common.{◌≡◌, ◌≤◌, length}
 use Rattle.dg_core.specs.Core as spec
-use Rattle.dg_core.specs.View.{scope_view}
+use Rattle.dg_core.specs.inside.View.{scope_view}
 use Rattle.dg_core.proofs.DropLemmas.{changed}
 use Rattle.dg_core.proofs.starts.drop_facts.Given as goal
 

@@ -1,7 +1,7 @@
 use Rattle.std.proofs.Common.{arith, refl}
 use Rattle.std.proofs.lemmas.List.{append-nil, map-append}
 use Rattle.dg_base.proofs.Views.{value_seen, values_seen}
-use Rattle.dg_core.specs.View.{scope_view}
+use Rattle.dg_core.specs.inside.View.{scope_view}
 use Rattle.dg_core.proofs.MakingLemmas.{list_makes, list_weighs, closure_makes, closure_weighs, reverse_push}
 use Rattle.dg_core.proofs.terms.take_value.Goals as goal
 

@@ -1,5 +1,5 @@
 use Rattle.std.proofs.Common.{rules, ◌≡◌, [], sym, ◌∙◌}
-use Rattle.dg_core.specs.View.{scope_view}
+use Rattle.dg_core.specs.inside.View.{scope_view}
 use Rattle.dg_core.proofs.MakingLemmas.{terms_next, terms_smaller, one_term, one_found}
 use Rattle.dg_core.proofs.terms.term_of.Goals as goal
 

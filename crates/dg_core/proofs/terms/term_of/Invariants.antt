@@ -2,8 +2,8 @@ use Rattle.std.proofs.Common.{◌≡◌, ◌∷◌, [], ◌++◌}
 use Rattle.dg_base.specs.TreeView.{value_view}
 use Rattle.dg_core.specs.Bodies.{direct, in_value}
 use Rattle.dg_core.specs.Goals as spec
-use Rattle.dg_core.specs.Making.{bodies_view, terms_behind, terms_weight}
-use Rattle.dg_core.specs.View.{scope_view, scope_behind, terms_made}
+use Rattle.dg_core.specs.inside.Making.{bodies_view, terms_behind, terms_weight}
+use Rattle.dg_core.specs.inside.View.{scope_view, scope_behind, terms_made}
 use Rattle.dg_core.proofs.terms.term_of.Given as goal
 
 abbrev pub invariant-loop-work : goal.invariant-loop-work

@@ -5,8 +5,8 @@ use Rattle.dg_base.specs.declared.tree.Part.{Part}
 use Rattle.dg_base.specs.declared.tree.Value.{Value}
 use Rattle.dg_base.proofs.Views.{head_seen}
 use Rattle.dg_core.specs.Bodies.{direct, in_parts}
-use Rattle.dg_core.specs.Making.{bodies_view}
-use Rattle.dg_core.specs.View.{directs, values_view}
+use Rattle.dg_core.specs.inside.Making.{bodies_view}
+use Rattle.dg_core.specs.inside.View.{directs, values_view}
 use Rattle.dg_core.proofs.BodyLemmas.{parts_direct}
 use Rattle.dg_core.proofs.MakeLemmas.{on_ok}
 use Rattle.dg_core.proofs.terms.terms_of.Goals as goal

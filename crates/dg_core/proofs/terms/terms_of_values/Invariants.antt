@@ -1,7 +1,7 @@
 use Rattle.std.proofs.Common.{◌≡◌, ◌++◌, drop}
 use Rattle.dg_core.specs.Goals as spec
-use Rattle.dg_core.specs.Making.{bodies_view}
-use Rattle.dg_core.specs.View.{scope_behind, directs, values_view}
+use Rattle.dg_core.specs.inside.Making.{bodies_view}
+use Rattle.dg_core.specs.inside.View.{scope_behind, directs, values_view}
 use Rattle.dg_core.proofs.terms.terms_of_values.Given as goal
 
 abbrev pub invariant-loop-value : goal.invariant-loop-value

@@ -4,7 +4,7 @@ use Rattle.dg_access.specs.Scopes.{counts_of}
 use Rattle.dg_access.specs.State.{counts_view}
 use Rattle.dg_expand.specs.Answer.{first_refused}
 use Rattle.dg_expand.specs.Expanded.{put_items}
-use Rattle.dg_expand.specs.Putting.{access_view}
+use Rattle.dg_expand.specs.inside.Putting.{access_view}
 use Rattle.dg_expand.proofs.answer.put_all.Given as goal
 
 abbrev pub invariant-loop-item : goal.invariant-loop-item

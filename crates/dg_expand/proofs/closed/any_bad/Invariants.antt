@@ -2,7 +2,7 @@ use Rattle.std.proofs.Common.{◌≡◌, drop, map}
 use Rattle.std.specs.List.{list_any}
 use Rattle.dg_base.specs.Walk.{seen, things_at}
 use Rattle.dg_expand.specs.Expanded.{is_bad}
-use Rattle.dg_expand.specs.Putting.{access_view}
+use Rattle.dg_expand.specs.inside.Putting.{access_view}
 use Rattle.dg_expand.proofs.closed.any_bad.Given as goal
 
 abbrev pub invariant-loop-mention : goal.invariant-loop-mention

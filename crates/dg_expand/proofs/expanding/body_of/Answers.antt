@@ -5,8 +5,8 @@ use Rattle.dg_base.specs.Tree as tree
 use Rattle.dg_base.specs.TreeView.{body_view}
 use Rattle.dg_base.specs.declared.tree.Body.{Body}
 use Rattle.dg_access.specs.Building.{Built, built_view, last_or}
-use Rattle.dg_expand.specs.Putting.{around, numbered, run}
-use Rattle.dg_expand.specs.Weights.{heavy, IsPast}
+use Rattle.dg_expand.specs.inside.Putting.{around, numbered, run}
+use Rattle.dg_expand.specs.inside.Weights.{heavy, IsPast}
 use Rattle.dg_expand.specs.declared.weighed.Weighed.{Weighed}
 use Rattle.dg_expand.specs.declared.work.Work.TheVariants as work
 use Rattle.dg_expand.proofs.WeightLemmas.{some_holds, none_holds, body_heavy, body_past}

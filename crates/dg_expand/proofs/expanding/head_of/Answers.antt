@@ -6,8 +6,8 @@ use Rattle.dg_base.specs.declared.tree.Part.{Part}
 use Rattle.dg_base.proofs.Views.{head_seen}
 use Rattle.dg_access.specs.Building.{Built, built_view}
 use Rattle.dg_expand.specs.Put.{put_parts}
-use Rattle.dg_expand.specs.Putting.{around, numbered, run}
-use Rattle.dg_expand.specs.Weights.{parts_load, IsPast}
+use Rattle.dg_expand.specs.inside.Putting.{around, numbered, run}
+use Rattle.dg_expand.specs.inside.Weights.{parts_load, IsPast}
 use Rattle.dg_expand.specs.declared.weighed.Weighed.{Weighed}
 use Rattle.dg_expand.specs.declared.work.Work.TheVariants as work
 use Rattle.dg_expand.proofs.BuiltLemmas.{parts_again}

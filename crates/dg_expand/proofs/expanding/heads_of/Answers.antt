@@ -6,8 +6,8 @@ use Rattle.dg_base.specs.TreeView.{change_view, part_view}
 use Rattle.dg_base.specs.declared.tree.NowChange.{NowChange}
 use Rattle.dg_access.specs.Building.{Built, built_view}
 use Rattle.dg_expand.specs.Put.{put_changes, one_change}
-use Rattle.dg_expand.specs.Putting.{around, numbered, run}
-use Rattle.dg_expand.specs.Weights.{HasManyHeads, IsPast}
+use Rattle.dg_expand.specs.inside.Putting.{around, numbered, run}
+use Rattle.dg_expand.specs.inside.Weights.{HasManyHeads, IsPast}
 use Rattle.dg_expand.specs.declared.weighed.Weighed.{Weighed}
 use Rattle.dg_expand.specs.declared.work.Work.TheVariants as work
 use Rattle.dg_expand.proofs.BuiltLemmas.{changes_again}

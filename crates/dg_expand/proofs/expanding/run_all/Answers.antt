@@ -1,7 +1,7 @@
 use Rattle.std.proofs.Common.{◌∷◌, [], List, sym, ◌∙◌, ap, subst}
 use Rattle.dg_access.specs.Building.{built_view}
-use Rattle.dg_expand.specs.Putting.{around, run}
-use Rattle.dg_expand.specs.Weights.{IsPast}
+use Rattle.dg_expand.specs.inside.Putting.{around, run}
+use Rattle.dg_expand.specs.inside.Weights.{IsPast}
 use Rattle.dg_expand.specs.declared.work.Work.{Work}
 use Rattle.dg_expand.proofs.BuiltLemmas.{run_append}
 use Rattle.dg_expand.proofs.expanding.run_all.Goals as goal

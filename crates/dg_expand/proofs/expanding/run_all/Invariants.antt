@@ -1,6 +1,6 @@
 use Rattle.std.proofs.Common.{◌≡◌}
 use Rattle.dg_access.specs.Building.{built_view}
-use Rattle.dg_expand.specs.Putting.{around, run}
+use Rattle.dg_expand.specs.inside.Putting.{around, run}
 use Rattle.dg_expand.proofs.expanding.run_all.Given as goal
 
 abbrev pub invariant-loop-turn : goal.invariant-loop-turn

@@ -2,8 +2,8 @@ use Rattle.std.proofs.Common.{◌≡◌, ◌+◌, ◌-◌, ◌<◌, ◌≤◌, �
 use Rattle.std.proofs.Math.ListN.{drop_of_length-le}
 use Rattle.std.proofs.lemmas.List.{length-map}
 use Rattle.dg_expand.specs.Put.{Access}
-use Rattle.dg_expand.specs.Putting.{access_view}
-use Rattle.dg_expand.specs.Rows.{row_at, rows_at, rows_of, with_one}
+use Rattle.dg_expand.specs.inside.Putting.{access_view}
+use Rattle.dg_expand.specs.inside.Rows.{row_at, rows_at, rows_of, with_one}
 use Rattle.dg_expand.proofs.RowLemmas.{dropped, one_more}
 use Rattle.dg_expand.proofs.loops.all_rows.Goals as goal
 

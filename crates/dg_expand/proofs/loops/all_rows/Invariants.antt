@@ -1,6 +1,6 @@
 use Rattle.std.proofs.Common.{◌≡◌, ◌-◌, drop, length, map}
-use Rattle.dg_expand.specs.Putting.{access_view}
-use Rattle.dg_expand.specs.Rows.{rows_at, rows_of}
+use Rattle.dg_expand.specs.inside.Putting.{access_view}
+use Rattle.dg_expand.specs.inside.Rows.{rows_at, rows_of}
 use Rattle.dg_expand.proofs.loops.all_rows.Given as goal
 
 abbrev pub invariant-loop-done : goal.invariant-loop-done

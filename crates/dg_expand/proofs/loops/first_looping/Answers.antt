@@ -2,8 +2,8 @@ use Rattle.std.proofs.Common.{List, [], map, sym, ◌∙◌, ap, Bool}
 use Rattle.dg_base.specs.TreeView.{item_view}
 use Rattle.dg_expand.specs.Loops.{reaches}
 use Rattle.dg_expand.specs.Put.{Access}
-use Rattle.dg_expand.specs.Putting.{access_view}
-use Rattle.dg_expand.specs.Rows.{first_numbered, rows_of}
+use Rattle.dg_expand.specs.inside.Putting.{access_view}
+use Rattle.dg_expand.specs.inside.Rows.{first_numbered, rows_of}
 use Rattle.dg_expand.proofs.RowLemmas.{first_are, numbered}
 use Rattle.dg_expand.proofs.loops.first_looping.Goals as goal
 

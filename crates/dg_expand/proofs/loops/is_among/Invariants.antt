@@ -1,6 +1,6 @@
 use Rattle.std.proofs.Common.{◌≡◌, drop, map}
-use Rattle.dg_expand.specs.Putting.{access_view}
-use Rattle.dg_expand.specs.Rows.{is_among}
+use Rattle.dg_expand.specs.inside.Putting.{access_view}
+use Rattle.dg_expand.specs.inside.Rows.{is_among}
 use Rattle.dg_expand.proofs.loops.is_among.Given as goal
 
 abbrev pub invariant-loop-rule : goal.invariant-loop-rule

@@ -1,5 +1,5 @@
 use Rattle.std.proofs.Common.{◌||◌, Bool, List, sym, ◌∙◌, ap}
-use Rattle.dg_expand.specs.Rows.{is_set, row_at, rows_of}
+use Rattle.dg_expand.specs.inside.Rows.{is_set, row_at, rows_of}
 use Rattle.dg_expand.proofs.RowLemmas.{looping_here}
 use Rattle.dg_expand.proofs.loops.is_looping.Goals as goal
 

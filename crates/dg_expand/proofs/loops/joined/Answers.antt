@@ -1,5 +1,5 @@
 use Rattle.std.proofs.Common.{rules, ◌≡◌, Bool, sym, ◌∙◌, ap}
-use Rattle.dg_expand.specs.Rows.{joined}
+use Rattle.dg_expand.specs.inside.Rows.{joined}
 use Rattle.dg_expand.proofs.RowLemmas.{joined_off}
 use Rattle.dg_expand.proofs.loops.joined.Goals as goal
 

@@ -1,7 +1,7 @@
 use Rattle.std.proofs.Common.{◌+◌, List, [], ◌∷◌, ◌++◌, Bool, map, drop, refl, sym, ◌∙◌, ap, append_assoc}
 use Rattle.dg_base.specs.Walk.{seen, things_at}
-use Rattle.dg_expand.specs.Putting.{access_view}
-use Rattle.dg_expand.specs.Rows.{first_row}
+use Rattle.dg_expand.specs.inside.Putting.{access_view}
+use Rattle.dg_expand.specs.inside.Rows.{first_row}
 use Rattle.dg_expand.specs.declared.place.Access.{Access as CodeAccess}
 use Rattle.dg_expand.proofs.RowLemmas.{dropped_item}
 use Rattle.dg_expand.proofs.loops.row_among.Goals as goal

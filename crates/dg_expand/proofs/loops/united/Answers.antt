@@ -1,5 +1,5 @@
 use Rattle.std.proofs.Common.{◌+◌, List, [], ◌∷◌, ◌++◌, ◌||◌, Bool, true, drop, refl, sym, ◌∙◌, ap, append_assoc}
-use Rattle.dg_expand.specs.Rows.{joined, is_set}
+use Rattle.dg_expand.specs.inside.Rows.{joined, is_set}
 use Rattle.dg_expand.proofs.RowLemmas.{joined_set}
 use Rattle.dg_expand.proofs.loops.united.Goals as goal
 

@@ -1,5 +1,5 @@
 use Rattle.std.proofs.Common.{◌≡◌, ◌++◌, true, drop}
-use Rattle.dg_expand.specs.Rows.{joined}
+use Rattle.dg_expand.specs.inside.Rows.{joined}
 use Rattle.dg_expand.proofs.loops.united.Given as goal
 
 abbrev pub invariant-loop-index : goal.invariant-loop-index

@@ -1,5 +1,5 @@
 use Rattle.std.proofs.Common.{◌≡◌, ◌++◌, drop}
-use Rattle.dg_expand.specs.Rows.{rows_of, with_one}
+use Rattle.dg_expand.specs.inside.Rows.{rows_of, with_one}
 use Rattle.dg_expand.proofs.loops.with_one.Given as goal
 
 abbrev pub invariant-loop-row : goal.invariant-loop-row

@@ -1,6 +1,6 @@
 use Rattle.std.proofs.Common.{◌≡◌, ◌+◌, ℕ, suc, map, drop, sym, ◌∙◌, ap, arith}
 use Rattle.dg_base.specs.TreeView.{part_view}
-use Rattle.dg_expand.specs.Putting.{argument_in}
+use Rattle.dg_expand.specs.inside.Putting.{argument_in}
 use Rattle.dg_expand.proofs.PlaceLemmas.{stepped_over, ended}
 use Rattle.dg_expand.proofs.place.argument_among.Goals as goal
 use Rattle.dg_expand.proofs.place.argument_among.Goals.{then-index-args+in-None, else-index-args}

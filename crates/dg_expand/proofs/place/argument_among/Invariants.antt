@@ -1,6 +1,6 @@
 use Rattle.std.proofs.Common.{◌≡◌, drop, map}
 use Rattle.dg_base.specs.TreeView.{part_view}
-use Rattle.dg_expand.specs.Putting.{argument_in}
+use Rattle.dg_expand.specs.inside.Putting.{argument_in}
 use Rattle.dg_expand.proofs.place.argument_among.Given as goal
 
 abbrev pub invariant-loop-index : goal.invariant-loop-index

@@ -5,7 +5,7 @@ use Rattle.dg_base.specs.Tree.{Value}
 use Rattle.dg_base.specs.declared.tree.Value.{Value as CodeValue}
 use Rattle.dg_base.specs.TreeView.{part_view, value_view}
 use Rattle.dg_expand.specs.Put.{Argument, argument_for, put_value}
-use Rattle.dg_expand.specs.Putting.{Around, around_in, outer_view, given_from, argument_given}
+use Rattle.dg_expand.specs.inside.Putting.{Around, around_in, outer_view, given_from, argument_given}
 use Rattle.dg_expand.proofs.PlaceLemmas.{outer_within, given_in}
 use Rattle.dg_expand.proofs.place.argument_at.Goals as goal
 

@@ -2,7 +2,7 @@ use Rattle.std.proofs.Common.{◌≡◌, drop, map}
 use Rattle.dg_base.specs.Tree.{parts_of}
 use Rattle.dg_base.specs.TreeView.{part_view}
 use Rattle.dg_expand.specs.Put.{rule_for}
-use Rattle.dg_expand.specs.Putting.{access_view}
+use Rattle.dg_expand.specs.inside.Putting.{access_view}
 use Rattle.dg_expand.proofs.place.rule_among.Given as goal
 
 abbrev pub invariant-loop-rule : goal.invariant-loop-rule

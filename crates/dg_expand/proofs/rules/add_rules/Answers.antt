@@ -8,8 +8,8 @@ use Rattle.dg_base.specs.declared.tree.Item.{Item}
 use Rattle.dg_base.specs.declared.tree.NowChange.{NowChange}
 use Rattle.dg_expand.specs.Expanded.{signed, rules_of, on_line}
 use Rattle.dg_expand.specs.Put.{put_body}
-use Rattle.dg_expand.specs.Putting.{around}
-use Rattle.dg_expand.specs.Weights.{body_load}
+use Rattle.dg_expand.specs.inside.Putting.{around}
+use Rattle.dg_expand.specs.inside.Weights.{body_load}
 use Rattle.dg_expand.proofs.OverLemmas.{over_heads, over_bodies}
 use Rattle.dg_expand.proofs.RuleLemmas.{one_rule}
 use Rattle.dg_expand.proofs.WeightLemmas.{some_holds, none_holds}

@@ -3,7 +3,7 @@ use Rattle.dg_base.specs.Tree.{changes_of}
 use Rattle.dg_base.specs.TreeView.{body_view, change_view, item_view}
 use Rattle.dg_expand.specs.Expanded as spec
 use Rattle.dg_expand.specs.Put.{put_body}
-use Rattle.dg_expand.specs.Putting.{around}
+use Rattle.dg_expand.specs.inside.Putting.{around}
 use Rattle.dg_expand.proofs.rules.add_rules.Given as goal
 
 abbrev pub invariant-loop-turn : goal.invariant-loop-turn

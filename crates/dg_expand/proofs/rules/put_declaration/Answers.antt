@@ -2,8 +2,8 @@ use Rattle.std.proofs.Common.{◌<◌, subst}
 use Rattle.dg_base.specs.TreeView.{head_view}
 use Rattle.dg_expand.specs.Expanded.{stay}
 use Rattle.dg_expand.specs.Put.{put_parts}
-use Rattle.dg_expand.specs.Putting.{Around}
-use Rattle.dg_expand.specs.Weights.{parts_load}
+use Rattle.dg_expand.specs.inside.Putting.{Around}
+use Rattle.dg_expand.specs.inside.Weights.{parts_load}
 use Rattle.dg_expand.proofs.OverLemmas.{over_declared}
 use Rattle.dg_expand.proofs.WeightLemmas.{none_holds}
 use Rattle.dg_expand.proofs.rules.put_declaration.Goals as goal

@@ -1,8 +1,8 @@
 use Rattle.std.proofs.Common.{length, map, subst}
 use Rattle.dg_base.specs.TreeView.{body_view, head_view}
 use Rattle.dg_expand.specs.Put.{level, in_item, one_change, put_body, put_changes}
-use Rattle.dg_expand.specs.Putting.{Around, access_view}
-use Rattle.dg_expand.specs.Weights.{HasManyHeads}
+use Rattle.dg_expand.specs.inside.Putting.{Around, access_view}
+use Rattle.dg_expand.specs.inside.Weights.{HasManyHeads}
 use Rattle.dg_expand.proofs.OverLemmas.{over_many_heads}
 use Rattle.dg_expand.proofs.WeightLemmas.{none_holds}
 use Rattle.dg_expand.proofs.rules.put_rule.Goals as goal

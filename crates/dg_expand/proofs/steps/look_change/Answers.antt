@@ -4,7 +4,7 @@ use Rattle.dg_base.specs.TreeView.{part_view}
 use Rattle.dg_access.specs.Building.{built_view}
 use Rattle.dg_access.proofs.StepLemmas.{on_ok}
 use Rattle.dg_expand.specs.Put.{level, rule_for}
-use Rattle.dg_expand.specs.Putting.{access_view, around}
+use Rattle.dg_expand.specs.inside.Putting.{access_view, around}
 use Rattle.dg_expand.proofs.BuiltLemmas.{inner_changes_is}
 use Rattle.dg_expand.proofs.PlaceLemmas.{changing_some}
 use Rattle.dg_expand.proofs.StepLemmas.{change_off, changed_off}

@@ -1,6 +1,6 @@
 use Rattle.dg_access.specs.Building.{built_view}
 use Rattle.dg_access.proofs.StepLemmas.{on_ok}
-use Rattle.dg_expand.specs.Putting.{around}
+use Rattle.dg_expand.specs.inside.Putting.{around}
 use Rattle.dg_expand.proofs.StepLemmas.{closed_off, copied_off}
 use Rattle.dg_expand.proofs.steps.look_closure.Goals as goal
 

@@ -2,7 +2,7 @@ use Rattle.std.proofs.Common.{ℕ, List, ◌++◌, ◌∷◌, [], ◌∙◌, ap}
 use Rattle.dg_base.specs.Tree as tree
 use Rattle.dg_access.specs.Building.{built_view}
 use Rattle.dg_access.proofs.StepLemmas.{on_ok, parted}
-use Rattle.dg_expand.specs.Putting.{around}
+use Rattle.dg_expand.specs.inside.Putting.{around}
 use Rattle.dg_expand.proofs.StepLemmas.{part_off, word_off}
 use Rattle.dg_expand.proofs.steps.look_parts.Goals as goal
 

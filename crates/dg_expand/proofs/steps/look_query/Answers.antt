@@ -4,7 +4,7 @@ use Rattle.dg_base.specs.TreeView.{part_view}
 use Rattle.dg_access.specs.Building.{built_view, asked}
 use Rattle.dg_access.proofs.StepLemmas.{on_ok}
 use Rattle.dg_expand.specs.Put.{level}
-use Rattle.dg_expand.specs.Putting.{access_view, after_stmt, around, run}
+use Rattle.dg_expand.specs.inside.Putting.{access_view, after_stmt, around, run}
 use Rattle.dg_expand.proofs.BuiltLemmas.{inner_is}
 use Rattle.dg_expand.proofs.StepLemmas.{asked_off, used_off, head_parts}
 use Rattle.dg_expand.proofs.steps.look_query.Goals as goal

@@ -10,7 +10,7 @@ use Rattle.dg_access.specs.Building.{built_view}
 use Rattle.dg_access.specs.declared.work.Wrap.TheVariants as wrap
 use Rattle.dg_expand.proofs.BuiltLemmas.{print_built, wrapped_built, now_built, exhaust_built, stoppable_built, collect_built, accumulate_built, select_built}
 use Rattle.dg_access.proofs.StepLemmas.{on_ok}
-use Rattle.dg_expand.specs.Putting.{around}
+use Rattle.dg_expand.specs.inside.Putting.{around}
 use Rattle.dg_expand.proofs.StepLemmas.{stmt_off, gathering_off, branches_many}
 use Rattle.dg_expand.proofs.steps.look_stmt.Goals as goal
 

@@ -4,7 +4,7 @@ use Rattle.dg_base.proofs.Views.{var_seen}
 use Rattle.dg_access.specs.Building.{built_view}
 use Rattle.dg_access.proofs.StepLemmas.{on_ok}
 use Rattle.dg_expand.specs.Put.{own_name}
-use Rattle.dg_expand.specs.Putting.{access_view, around, argument_given, run}
+use Rattle.dg_expand.specs.inside.Putting.{access_view, around, argument_given, run}
 use Rattle.dg_expand.proofs.BuiltLemmas.{off}
 use Rattle.dg_expand.proofs.StepLemmas.{own_put, named_put, given_put, mark_is}
 use Rattle.dg_expand.proofs.steps.look_variable.Goals as goal

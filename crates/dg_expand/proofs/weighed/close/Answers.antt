@@ -1,7 +1,7 @@
 use Rattle.std.proofs.Common.{◌∙◌, ap, arith}
 use Rattle.dg_access.specs.Building.{built_view, closing}
 use Rattle.dg_access.specs.Plain.{Setting}
-use Rattle.dg_expand.specs.Weights.{heavy}
+use Rattle.dg_expand.specs.inside.Weights.{heavy}
 use Rattle.dg_expand.proofs.WeightLemmas.{closed_gains}
 use Rattle.dg_expand.proofs.weighed.close.Goals as goal
 

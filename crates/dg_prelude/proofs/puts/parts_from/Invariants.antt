@@ -1,6 +1,6 @@
 use Rattle.std.proofs.Common.{◌≡◌, map, take}
 use Rattle.dg_base.specs.TreeView.{part_view}
-use Rattle.dg_prelude.specs.Short.{short_part}
+use Rattle.dg_prelude.specs.inside.Short.{short_part}
 use Rattle.dg_prelude.proofs.puts.parts_from.Given as goal
 
 abbrev pub invariant-loop-bit : goal.invariant-loop-bit

@@ -1,6 +1,6 @@
 use Rattle.std.proofs.Common.{Option, subst, ◌∙◌, ap}
-use Rattle.dg_reader.specs.Machine.{Stack, asked}
-use Rattle.dg_reader.specs.Frames.{stack_view, asking_view, Moves}
+use Rattle.dg_reader.specs.inside.Machine.{Stack, asked}
+use Rattle.dg_reader.specs.inside.Frames.{stack_view, asking_view, Moves}
 use Rattle.dg_reader.proofs.Closed.{asks}
 use Rattle.dg_reader.proofs.close.close_query.Goals as goal
 

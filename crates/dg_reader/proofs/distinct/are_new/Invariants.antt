@@ -1,7 +1,7 @@
 use Rattle.std.proofs.Common.{◌≡◌, [], drop, map}
 use Rattle.dg_base.specs.Tree.{parts_of}
 use Rattle.dg_base.specs.TreeView.{part_view}
-use Rattle.dg_reader.specs.Distinct.{listed, are_new}
+use Rattle.dg_reader.specs.inside.Distinct.{listed, are_new}
 use Rattle.dg_reader.proofs.distinct.are_new.Given as goal
 
 abbrev pub invariant-loop-part : goal.invariant-loop-part

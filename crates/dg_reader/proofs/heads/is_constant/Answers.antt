@@ -1,5 +1,5 @@
 use Rattle.std.proofs.Common.{sym, ◌∙◌, ap, arith}
-use Rattle.dg_reader.specs.Sizes.{all_constant, work}
+use Rattle.dg_reader.specs.inside.Sizes.{all_constant, work}
 use Rattle.dg_reader.proofs.HeadLemmas.{all_constant_push, work_push, no_fit, fit}
 use Rattle.dg_reader.proofs.heads.is_constant.Goals as goal
 

@@ -2,7 +2,7 @@ use Rattle.std.proofs.Common.{◌≡◌, ◌&&◌, ◌+◌, ◌<◌, Bool, lengt
 use Rattle.std.specs.Prelude.{IfOk}
 use Rattle.dg_base.specs.TreeView.{value_view}
 use Rattle.dg_reader.specs.Heads.{is_constant}
-use Rattle.dg_reader.specs.Sizes.{all_constant, work, value_size}
+use Rattle.dg_reader.specs.inside.Sizes.{all_constant, work, value_size}
 use Rattle.dg_reader.proofs.HeadLemmas.{first_put, first_less, some_left, less_on}
 use Rattle.dg_reader.proofs.heads.take_first.Goals as goal
 

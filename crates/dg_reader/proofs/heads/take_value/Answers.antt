@@ -1,6 +1,6 @@
 use Rattle.std.proofs.Common.{◌&&◌, Bool, sym, ◌∙◌, ap, arith}
 use Rattle.dg_base.specs.TreeView.{value_view}
-use Rattle.dg_reader.specs.Sizes.{all_constant, work}
+use Rattle.dg_reader.specs.inside.Sizes.{all_constant, work}
 use Rattle.dg_reader.proofs.HeadLemmas.{all_constant_push, work_push, list_constant, list_size}
 use Rattle.dg_reader.proofs.heads.take_value.Goals as goal
 

@@ -1,6 +1,6 @@
 use Rattle.std.proofs.Common.{◌≡◌, ◌+◌, List, Bool, drop}
 use Rattle.std.specs.Prelude.{◌&&◌}
-use Rattle.dg_single.specs.Left.{all_plain, left_plain, lists_weight, left_weight}
+use Rattle.dg_single.specs.inside.Left.{all_plain, left_plain, lists_weight, left_weight}
 use Rattle.dg_single.proofs.plain.add_lists.Given as goal
 
 abbrev pub invariant-loop-goals : goal.invariant-loop-goals

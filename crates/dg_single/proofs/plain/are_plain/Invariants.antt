@@ -1,6 +1,6 @@
 use Rattle.std.proofs.Common.{◌≡◌}
 use Rattle.dg_single.specs.Plain.{are_plain}
-use Rattle.dg_single.specs.Left.{left_plain, left_weight}
+use Rattle.dg_single.specs.inside.Left.{left_plain, left_weight}
 use Rattle.dg_single.proofs.plain.are_plain.Given as goal
 
 abbrev pub invariant-loop-goals : goal.invariant-loop-goals

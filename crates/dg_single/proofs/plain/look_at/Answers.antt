@@ -1,5 +1,5 @@
 use Rattle.std.proofs.Common.{arith, refl}
-use Rattle.dg_single.specs.Left.{inside_plain}
+use Rattle.dg_single.specs.inside.Left.{inside_plain}
 use Rattle.dg_single.specs.Plain.{is_plain_form}
 use Rattle.dg_base.specs.declared.program.Goal.{out-Goal}
 use Rattle.dg_single.proofs.PlainLemmas.{looked_plain, looked_just, looked_weight, behind_weight, looked_left}

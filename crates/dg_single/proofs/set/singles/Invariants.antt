@@ -1,6 +1,6 @@
 use Rattle.std.proofs.Common.{◌≡◌, ◌+◌, length, false}
 use Rattle.dg_single.specs.Singles.{IsClosed, HasAll}
-use Rattle.dg_single.specs.Left.{count_in, one_if}
+use Rattle.dg_single.specs.inside.Left.{count_in, one_if}
 use Rattle.dg_single.proofs.set.singles.Given as goal
 
 abbrev pub invariant-loop-changed : goal.invariant-loop-changed

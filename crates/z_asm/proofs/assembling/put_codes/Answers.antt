@@ -1,7 +1,7 @@
 use Rattle.std.proofs.Common.{length, map, drop, sym, ap, ◌∙◌, subst, arith}
 use Rattle.z_asm.specs.declared.image.Code.{Code}
 use Rattle.z_asm.specs.Layout.{code_size, names_in}
-use Rattle.z_asm.specs.Filled.{IsWritable}
+use Rattle.z_asm.specs.inside.Filled.{IsWritable}
 use Rattle.z_asm.proofs.Layouts.{end_most, next_end, near, padded_long}
 use Rattle.z_asm.proofs.Parts.{writable_next, codes_step}
 use Rattle.z_asm.proofs.assembling.put_codes.Goals as goal

@@ -1,6 +1,6 @@
 use Rattle.std.proofs.Common.{◌≡◌, ◌<◌, ◌^◌, ◌++◌, length, map, drop}
 use Rattle.z_asm.specs.Layout.{code_size, end_from, laid, names_in}
-use Rattle.z_asm.specs.Filled.{AreWritable}
+use Rattle.z_asm.specs.inside.Filled.{AreWritable}
 use Rattle.z_asm.specs.Story.{code_part}
 use Rattle.z_asm.proofs.assembling.put_codes.Given as goal
 

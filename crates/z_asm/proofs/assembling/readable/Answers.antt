@@ -4,7 +4,7 @@ use Rattle.z_code.specs.Targets.{spot_of, ops_bytes}
 use Rattle.z_asm.specs.declared.image.Table.{Table}
 use Rattle.z_asm.specs.Layout.{names_in, table_bytes}
 use Rattle.z_asm.specs.Conditions.{counts_of}
-use Rattle.z_asm.specs.Filled.{AreFilled}
+use Rattle.z_asm.specs.inside.Filled.{AreFilled}
 use Rattle.z_asm.proofs.Parts.{plan_words, first_filled, readable_is}
 use Rattle.z_asm.proofs.assembling.readable.Goals as goal
 

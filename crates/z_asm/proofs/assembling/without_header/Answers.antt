@@ -3,7 +3,7 @@ use Rattle.z_asm.specs.declared.image.Code.{Code}
 use Rattle.z_asm.specs.Layout.{code_size, end_from, laid, names_in}
 use Rattle.z_asm.specs.Story.{strings_of, string_sizes, string_part, code_part, routines_from, end_of}
 use Rattle.z_asm.specs.Conditions.{counts_of}
-use Rattle.z_asm.specs.Filled.{AreWritable}
+use Rattle.z_asm.specs.inside.Filled.{AreWritable}
 use Rattle.z_asm.proofs.Layouts.{end_most}
 use Rattle.z_asm.proofs.Parts.{plan_words, codes_writable, front_long, strings_long, routines_long, whole_is}
 use Rattle.z_asm.proofs.assembling.without_header.Goals as goal

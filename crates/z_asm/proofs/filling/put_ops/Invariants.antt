@@ -1,7 +1,7 @@
 use Rattle.std.proofs.Common.{◌≡◌, ◌+◌, ◌<◌, ◌^◌, ◌++◌, length, drop}
 use Rattle.z_code.specs.Targets.{ops_size, spot_of, ops_bytes}
 use Rattle.z_asm.specs.Layout.{names_in}
-use Rattle.z_asm.specs.Filled.{AreFilled}
+use Rattle.z_asm.specs.inside.Filled.{AreFilled}
 use Rattle.z_asm.proofs.filling.put_ops.Given as goal
 
 abbrev pub invariant-loop-op : goal.invariant-loop-op

@@ -1,9 +1,9 @@
 use Rattle.std.proofs.Common.{None, Some, refl, subst}
 use Rattle.z_model.specs.declared.story.Layout.{Layout}
 use Rattle.z_play.specs.View.{layout_in, machine}
-use Rattle.z_play.specs.Scene.{scene, given_by}
+use Rattle.z_play.specs.inside.Scene.{scene, given_by}
 use Rattle.z_model.specs.declared.end.Effect.TheVariants.{Goes}
-use Rattle.z_play.specs.Acting.{Finished, Unfinished}
+use Rattle.z_play.specs.inside.Acting.{Finished, Unfinished}
 use Rattle.z_play.proofs.Finishing.{plain_goes}
 use Rattle.dg_base.proofs.WrittenLemmas.{wrote_nothing}
 use Rattle.z_play.proofs.Going.{halted_by, came_by, unread_by, cut_by}

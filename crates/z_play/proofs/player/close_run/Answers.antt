@@ -3,7 +3,7 @@ use Rattle.z_model.specs.declared.end.ZEnd.{ZEnd}
 use Rattle.z_model.specs.Run.{zrun}
 use Rattle.dg_base.specs.declared.run.Fault.{Fault}
 use Rattle.dg_base.specs.declared.run.Fault.TheVariants.{Read}
-use Rattle.z_play.specs.Advancing.{RanTo, RunsOn}
+use Rattle.z_play.specs.inside.Advancing.{RanTo, RunsOn}
 use Rattle.z_play.proofs.Lines.{quit_shows, end_shows, end_cut, fault_shows, fault_cut}
 use Rattle.z_play.proofs.player.close_run.Goals as goal
 

@@ -2,8 +2,8 @@ use Rattle.std.proofs.Common.{◌+◌, ◌%◌, None, Some, length, refl, sym, s
 use Rattle.z_model.specs.declared.end.Effect.{Effect}
 use Rattle.z_model.specs.declared.end.Halt.TheVariants.{AtQuit}
 use Rattle.z_play.specs.View.{layout_in, machine}
-use Rattle.z_play.specs.Scene.{given_by}
-use Rattle.z_play.specs.Acting.{Finished, Finishes}
+use Rattle.z_play.specs.inside.Scene.{given_by}
+use Rattle.z_play.specs.inside.Acting.{Finished, Finishes}
 use Rattle.z_play.proofs.Finishing.{finish_draws, finish_quits, finish_plain, is_plain, line_finished}
 use Rattle.z_play.proofs.player.finish.Goals as goal
 

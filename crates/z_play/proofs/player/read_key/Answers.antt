@@ -4,8 +4,8 @@ use Rattle.z_model.specs.Machine.{stored_if}
 use Rattle.z_model.specs.Run.{key_code}
 use Rattle.z_model.specs.declared.end.Effect.TheVariants.{ReadsKey}
 use Rattle.z_play.specs.View.{machine, layout_in}
-use Rattle.z_play.specs.Scene.{given_by}
-use Rattle.z_play.specs.Acting.{Finished}
+use Rattle.z_play.specs.inside.Scene.{given_by}
+use Rattle.z_play.specs.inside.Acting.{Finished}
 use Rattle.z_play.proofs.Reading.{consumed, ended, stays}
 use Rattle.z_play.proofs.Finishing.{no_key, finish_key, unfinished_key, sets_ok, sets_given}
 use Rattle.z_play.proofs.player.read_key.Goals as goal

@@ -4,7 +4,7 @@ use Rattle.z_model.specs.Typed.{typed_line}
 use Rattle.z_play.specs.View.{layout_in, machine}
 use Rattle.dg_lines.specs.Lines.{TookLine, TakesLine}
 use Rattle.dg_lines.proofs.LineLemmas.{line_told, line_untold}
-use Rattle.z_play.specs.Scene.{given_by}
+use Rattle.z_play.specs.inside.Scene.{given_by}
 use Rattle.z_play.proofs.Codes.{line_kept}
 use Rattle.z_play.proofs.Reading.{ended, line_kept_is, stops_behind}
 use Rattle.z_play.proofs.Finishing.{read_ok, sets_ok, sets_given, finish_input, finish_reading, unfinished_reading}

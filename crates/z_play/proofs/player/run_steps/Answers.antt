@@ -4,13 +4,13 @@ use Rattle.z_model.specs.declared.end.Halt.{Halt}
 use Rattle.z_model.specs.declared.end.ZEnd.{ZEnd}
 use Rattle.z_model.specs.Run.{zrun}
 use Rattle.z_play.specs.View.{layout_in, machine}
-use Rattle.z_play.specs.Scene.{scene, given_by, state}
-use Rattle.z_play.specs.Acting.{MayBeLeft}
-use Rattle.z_play.specs.Advancing.{Advances, RanTo}
+use Rattle.z_play.specs.inside.Scene.{scene, given_by, state}
+use Rattle.z_play.specs.inside.Acting.{MayBeLeft}
+use Rattle.z_play.specs.inside.Advancing.{Advances, RanTo}
 use Rattle.dg_base.specs.declared.run.Fault.{Fault}
 use Rattle.z_play.proofs.Going.{Going, going_first, less_left, going_on, run_ended, run_limit, run_failed, typed_is, nothing_left, causes_ok, causes_err}
 use Rattle.z_model.specs.Laws.{IsLaid}
-use Rattle.z_play.specs.Recent.{IsRecent}
+use Rattle.z_play.specs.inside.Recent.{IsRecent}
 use Rattle.z_play.proofs.CodeStays.{came_keeps, recent_on}
 use Rattle.z_play.proofs.player.run_steps.Goals as goal
 

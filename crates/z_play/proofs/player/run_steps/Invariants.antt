@@ -1,7 +1,7 @@
 use Rattle.std.proofs.Common.{◌≡◌, ◌<◌, ◌≤◌, ℕ, List, [], length, Some}
 use Rattle.z_play.specs.View.{machine, layout_in, Kept}
-use Rattle.z_play.specs.Scene.{scene, given_by, state}
-use Rattle.z_play.specs.Recent.{IsRecent}
+use Rattle.z_play.specs.inside.Scene.{scene, given_by, state}
+use Rattle.z_play.specs.inside.Recent.{IsRecent}
 use Rattle.z_play.proofs.Going.{Going}
 use Rattle.z_play.proofs.player.run_steps.Given as goal
 

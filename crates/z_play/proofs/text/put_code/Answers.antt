@@ -1,6 +1,6 @@
 use Rattle.std.proofs.Common.{ℕ, ◌++◌, List, take, sym, subst, ap, ◌∙◌}
 use Rattle.std.proofs.lemmas.List.{append-nil}
-use Rattle.z_play.specs.Collected.{Collects}
+use Rattle.z_play.specs.inside.Collected.{Collects}
 use Rattle.z_play.proofs.Collecting.{shown_zero, shown_one}
 use Rattle.z_play.proofs.text.put_code.Goals as goal
 

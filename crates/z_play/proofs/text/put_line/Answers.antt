@@ -1,7 +1,7 @@
 use Rattle.std.proofs.Common.{◌++◌, [], ◌∷◌, ℕ, List, subst, arith, length-append}
 use Rattle.z_model.specs.Text.{string_at}
 use Rattle.z_model.specs.Streams.{shown_codes}
-use Rattle.z_play.specs.Collected.{Collects}
+use Rattle.z_play.specs.inside.Collected.{Collects}
 use Rattle.z_play.proofs.text.put_line.Goals as goal
 
 pub returns-in-Some : goal.returns-in-Some

@@ -1,6 +1,6 @@
 use Rattle.std.proofs.Common.{drop}
 use Rattle.dg_story.specs.Sizes.{terms_size}
-use Rattle.dg_story.specs.Counting.{GoesOn}
+use Rattle.dg_story.specs.inside.Counting.{GoesOn}
 use Rattle.dg_story.proofs.counting.Count.add_terms.Given as goal
 
 abbrev pub invariant-loop-term : goal.invariant-loop-term

@@ -1,4 +1,4 @@
-use Rattle.dg_story.specs.Counting.{GoesOn}
+use Rattle.dg_story.specs.inside.Counting.{GoesOn}
 use Rattle.dg_story.proofs.counting.Count.clear.Given as goal
 
 abbrev pub invariant-loop-turn : goal.invariant-loop-turn

@@ -1,6 +1,6 @@
 use Rattle.std.proofs.Common.{drop}
 use Rattle.dg_story.specs.Sizes.{set_size}
-use Rattle.dg_story.specs.Counting.{GoesOn}
+use Rattle.dg_story.specs.inside.Counting.{GoesOn}
 use Rattle.dg_story.proofs.counting.Count.places.Given as goal
 
 abbrev pub invariant-loop-place : goal.invariant-loop-place

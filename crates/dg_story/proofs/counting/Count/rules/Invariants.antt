@@ -1,6 +1,6 @@
 use Rattle.std.proofs.Common.{drop}
 use Rattle.dg_story.specs.Sizes.{rules_size}
-use Rattle.dg_story.specs.Counting.{GoesOn}
+use Rattle.dg_story.specs.inside.Counting.{GoesOn}
 use Rattle.dg_story.proofs.counting.Count.rules.Given as goal
 
 abbrev pub invariant-loop-rule : goal.invariant-loop-rule

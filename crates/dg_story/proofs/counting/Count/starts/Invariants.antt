@@ -1,6 +1,6 @@
 use Rattle.std.proofs.Common.{drop}
 use Rattle.dg_story.specs.Sizes.{starts_size}
-use Rattle.dg_story.specs.Counting.{GoesOn}
+use Rattle.dg_story.specs.inside.Counting.{GoesOn}
 use Rattle.dg_story.proofs.counting.Count.starts.Given as goal
 
 abbrev pub invariant-loop-start : goal.invariant-loop-start

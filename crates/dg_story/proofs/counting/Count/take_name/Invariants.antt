@@ -1,6 +1,6 @@
 use Rattle.std.proofs.Common.{drop, ◌*◌}
 use Rattle.dg_meaning.specs.Render.{characters}
-use Rattle.dg_story.specs.Counting.{GoesOn}
+use Rattle.dg_story.specs.inside.Counting.{GoesOn}
 use Rattle.dg_story.proofs.counting.Count.take_name.Given as goal
 
 abbrev pub invariant-loop-byte : goal.invariant-loop-byte

@@ -1,6 +1,6 @@
 use Rattle.std.proofs.Common.{drop}
 use Rattle.dg_story.specs.Sizes.{names_size}
-use Rattle.dg_story.specs.Counting.{GoesOn}
+use Rattle.dg_story.specs.inside.Counting.{GoesOn}
 use Rattle.dg_story.proofs.counting.Count.take_names.Given as goal
 
 abbrev pub invariant-loop-name : goal.invariant-loop-name

@@ -1,7 +1,7 @@
 use Rattle.std.proofs.Common.{ℕ, subst, sym}
 use Rattle.z_model.specs.Effects.{answers}
 use Rattle.z_play.specs.View.{machine, layout_in}
-use Rattle.z_play.specs.Effects.{GivesEffect}
+use Rattle.z_play.specs.inside.Effects.{GivesEffect}
 use Rattle.z_play.proofs.Entered.{callers_long}
 use Rattle.z_play.proofs.engine.Engine.catch_frame.Goals as goal
 

@@ -6,7 +6,7 @@ use Rattle.z_model.specs.Effects.{prints_line}
 use Rattle.z_play.specs.View.{layout_in, tables_of, machine}
 use Rattle.z_play.proofs.Returns.{line_refused, line_kept, line_prints, line_tabled}
 use Rattle.z_play.proofs.Rights.{none_open, tables_long}
-use Rattle.z_play.specs.Effects.{GivesEffect}
+use Rattle.z_play.specs.inside.Effects.{GivesEffect}
 use Rattle.z_model.specs.declared.fault.ZFault.{ZFault}
 use Rattle.z_model.specs.declared.end.Effect.{Effect}
 use Rattle.z_play.proofs.engine.Engine.print_line.Goals as goal

@@ -2,7 +2,7 @@ use Rattle.std.proofs.Common.{◌≡◌, refl, subst}
 use Rattle.z_model.specs.declared.story.Layout.{Layout}
 use Rattle.z_model.specs.Machine.{stored_if}
 use Rattle.z_play.specs.View.{layout_in, machine}
-use Rattle.z_play.specs.Faults.{fault_of}
+use Rattle.z_play.specs.inside.Faults.{fault_of}
 use Rattle.z_play.proofs.Returns.{no_caller, left_returns}
 use Rattle.z_play.proofs.engine.Engine.return_fault.Goals as goal
 

@@ -1,7 +1,7 @@
 use Rattle.std.proofs.Common.{rules, ◌≡◌, Some, false, refl}
 use Rattle.z_model.specs.Story.{layout_of, start_of, memory_of, first_machine, given_of, start_state}
 use Rattle.z_play.specs.View.{layout_in, machine}
-use Rattle.z_play.specs.Scene.{scene}
+use Rattle.z_play.specs.inside.Scene.{scene}
 use Rattle.z_play.proofs.Lines.{runs_as}
 use Rattle.z_play.proofs.player.Player.run.Goals as goal
 

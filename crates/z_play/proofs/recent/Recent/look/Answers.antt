@@ -1,7 +1,7 @@
 use Rattle.std.proofs.Common.{◌≤◌, ℕ, List, sym, arith}
 use Rattle.z_model.specs.Table.{rows_of}
 use Rattle.z_model.specs.declared.op.Found.{Found}
-use Rattle.z_play.specs.Recent.{Recalls}
+use Rattle.z_play.specs.inside.Recent.{Recalls}
 use Rattle.z_play.proofs.CodeStays.{right_of}
 use Rattle.z_play.proofs.recent.Recent.look.Goals as goal
 

@@ -3,7 +3,7 @@ use Rattle.std.proofs.Math.Logic.{⊎_elim}
 use Rattle.std.proofs.lemmas.Bool.{cases_eq}
 use Rattle.std.proofs.lemmas.List.{length-set, get_or-set_same, get_or-set_other}
 use Rattle.std.proofs.lemmas.Option.{slice_get-get_or}
-use Rattle.z_play.specs.Recent.{Recalls}
+use Rattle.z_play.specs.inside.Recent.{Recalls}
 use Rattle.z_play.specs.declared.recent.Slot.{Slot}
 use Rattle.z_play.proofs.recent.Recent.put.Goals as goal
 

@@ -2,7 +2,7 @@
 use Rattle.std.specs.Prelude.{◌≡◌, List, Option, Some, None, Result, Ok, Err, map, reverse}
 use Rattle.dg_base.specs.TreeView.{part_view, value_view, stmt_view, arm_view, body_view, head_view, change_view, branch_view}
 use Rattle.dg_reader.specs.Grammar as grammar
-use Rattle.dg_reader.specs.Machine as machine
+use Rattle.dg_reader.specs.inside.Machine as machine
 use Rattle.dg_reader.specs.declared.frames.Sign.{Sign}
 use Rattle.dg_reader.specs.declared.frames.Sign.TheVariants as sign
 use Rattle.dg_reader.specs.declared.frames.Asking.{Asking}

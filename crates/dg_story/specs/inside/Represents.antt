@@ -8,9 +8,9 @@ use Rattle.dg_mid.specs.State.{Frame, Call, Way, Calls, Choice, Mid, Status, Run
 use Rattle.z_lang.specs.State.{Program}
 use Rattle.dg_story.specs.Numbers.{numbers_of, block_number}
 use Rattle.dg_story.specs.Routines.{rules_routines, ops_routines, all_routines}
-use Rattle.dg_story.specs.Cells.{heap_at}
-use Rattle.dg_story.specs.Ends.{kept_end}
-use Rattle.dg_story.specs.From.{From}
+use Rattle.dg_story.specs.inside.Cells.{heap_at}
+use Rattle.dg_story.specs.inside.Ends.{kept_end}
+use Rattle.dg_story.specs.inside.From.{From}
 
 -- What stays the same: the story's program and its code.
 pub record Telling : Type 0 where

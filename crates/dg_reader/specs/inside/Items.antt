@@ -3,8 +3,8 @@ use Rattle.std.specs.Prelude.{◌≡◌, ◌+◌, ◌<◌, ℕ, List, [], ◌∷
 use Rattle.dg_base.specs.TreeView.{head_view, body_view}
 use Rattle.dg_reader.specs.Grammar.{Shape, topic_line, clause}
 use Rattle.dg_reader.specs.Tokens.{Tok}
-use Rattle.dg_reader.specs.Machine.{run, start, finished, Stack}
-use Rattle.dg_reader.specs.Frames.{sign_view}
+use Rattle.dg_reader.specs.inside.Machine.{run, start, finished, Stack}
+use Rattle.dg_reader.specs.inside.Frames.{sign_view}
 use Rattle.dg_reader.specs.TokenView.{token_view}
 use Rattle.dg_lex.specs.declared.token.Token.{Token}
 use Rattle.dg_reader.specs.declared.item.Shape as code

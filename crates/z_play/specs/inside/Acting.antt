@@ -11,7 +11,7 @@ use Rattle.z_model.specs.Text.{string_at, text_bytes}
 use Rattle.z_model.specs.Numbers.{signed_16}
 use Rattle.z_model.specs.Machine.{Machine}
 use Rattle.z_model.specs.Run.{ZGiven, effect_on}
-use Rattle.z_play.specs.Scene.{state, next_of, SameIfOn, IsBeyond}
+use Rattle.z_play.specs.inside.Scene.{state, next_of, SameIfOn, IsBeyond}
 use Rattle.std.specs.Prelude.{◌≤◌, length}
 
 -- what an effect prints

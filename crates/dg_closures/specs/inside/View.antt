@@ -3,7 +3,7 @@ use Rattle.std.specs.Prelude.{ℕ, List, [], ◌∷◌, ◌++◌, map}
 use Rattle.std.specs.Borrow.{Bor}
 use Rattle.dg_access.specs.State as access
 use Rattle.dg_closures.specs.Closures as spec
-use Rattle.dg_closures.specs.Scanning as scanning
+use Rattle.dg_closures.specs.inside.Scanning as scanning
 use Rattle.dg_closures.specs.declared.layouts.Layout.{Layout}
 use Rattle.dg_closures.specs.declared.layouts.Layouts.{Layouts}
 use Rattle.dg_closures.specs.declared.layouts.Open.{Open}

@@ -6,7 +6,7 @@ use Rattle.z_model.specs.Closing.{is_open}
 use Rattle.z_model.specs.Run.{ZGiven, ZState, Next, ZRun, zstep, zrun}
 use Rattle.dg_base.specs.Written.{Wrote}
 use Rattle.z_play.specs.Played.{StoppedAt, PrintUnwritten}
-use Rattle.z_play.specs.Scene.{Scene, state, Came, CutOff, Unread}
+use Rattle.z_play.specs.inside.Scene.{Scene, state, Came, CutOff, Unread}
 use Rattle.dg_base.specs.declared.run.Fault.{Fault}
 use Rattle.dg_base.specs.declared.run.Fault.TheVariants.{Read, Write}
 

@@ -17,7 +17,7 @@ use Rattle.dg_base.specs.declared.program.Term.{Term}
 use Rattle.dg_core.specs.Bodies.{direct, in_value, in_parts}
 use Rattle.dg_core.specs.Goals as spec
 use Rattle.dg_core.specs.Goals.{at, past}
-use Rattle.dg_core.specs.Making.{bodies_view, Terms}
+use Rattle.dg_core.specs.inside.Making.{bodies_view, Terms}
 use Rattle.dg_core.specs.Places.{Placed, values_named, values_behind}
 use Rattle.dg_core.specs.declared.program.Before.{Before as CodeBefore}
 use Rattle.dg_core.specs.declared.scope.Places.{Places}

@@ -5,12 +5,12 @@ use Rattle.dg_base.specs.Tree.{Parts, Body, Said}
 use Rattle.dg_base.specs.TreeView.{body_view}
 use Rattle.dg_base.specs.declared.program.ClosureBody.{ClosureBody}
 use Rattle.dg_closures.specs.Closures.{Layout, variables_in}
-use Rattle.dg_closures.specs.View.{layout_view}
+use Rattle.dg_closures.specs.inside.View.{layout_view}
 use Rattle.dg_core.specs.Bodies.{in_branches}
 use Rattle.dg_core.specs.Core.{rows_in, closures_of}
 use Rattle.dg_core.specs.Goals.{Scope, selects}
 use Rattle.dg_core.specs.Rows.{size, selects_within, layout_at, Home, row_with, captured_in, rows, in_rule, rows_of}
-use Rattle.dg_core.specs.View.{scope_view}
+use Rattle.dg_core.specs.inside.View.{scope_view}
 use Rattle.dg_core.specs.declared.rows.Home.{Home as CodeHome}
 use Rattle.dg_core.specs.declared.rows.Waiting.{Waiting as CodeWaiting}
 use Rattle.dg_core.specs.declared.rows.Kept.{Kept}

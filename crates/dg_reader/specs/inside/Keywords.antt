@@ -6,7 +6,7 @@ use Rattle.dg_base.specs.TreeView.{part_view}
 use Rattle.dg_base.specs.declared.tree.Part.{Part}
 use Rattle.dg_reader.specs.Grammar as grammar
 use Rattle.dg_reader.specs.Grammar.{keyword_of, is_query}
-use Rattle.dg_reader.specs.Frames.{keyword_view}
+use Rattle.dg_reader.specs.inside.Frames.{keyword_view}
 use Rattle.dg_reader.specs.declared.keyword.Valued.{Valued}
 use Rattle.dg_reader.specs.declared.keyword.Valued.TheVariants.{Collect, Accumulate, Into}
 use Rattle.dg_reader.specs.declared.keyword.Closed.{Closed}
