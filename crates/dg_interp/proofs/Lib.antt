@@ -1,4 +1,3 @@
-pub mod PrintLemmas
 pub mod Links
 pub mod Places
 pub mod Turns
@@ -33,8 +32,6 @@ pub mod Giving
 pub mod Ariths
 pub mod Selects
 pub mod Spaces
-pub mod TypedLetters
-pub mod SpellLemmas
 pub mod Wordings
 pub mod Inputs
 pub mod Acted

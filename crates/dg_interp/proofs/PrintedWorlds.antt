@@ -9,9 +9,9 @@ use Rattle.dg_meaning.specs.OneRun.{Begins}
 use Rattle.dg_meaning.proofs.Dropping.{prints_append}
 use Rattle.dg_spacing.specs.declared.spacer.Spacer.{Spacer}
 use Rattle.dg_spacing.specs.Spacer.{StandsFor}
-use Rattle.dg_interp.specs.Printing.{as_prints, growth_of, AddsAll}
+use Rattle.dg_texts.specs.Printing.{as_prints, growth_of, AddsAll}
 use Rattle.dg_interp.specs.Running.{HasText}
-use Rattle.dg_interp.proofs.PrintLemmas.{render_append}
+use Rattle.dg_texts.proofs.PrintLemmas.{render_append}
 
 -- ## The world
 

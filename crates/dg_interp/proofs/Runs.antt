@@ -30,7 +30,7 @@ use Rattle.dg_interp.specs.declared.engine.Engine.{Engine}
 use Rattle.dg_base.specs.Written.{SinkView, Wrote, BrokeOff}
 use Rattle.dg_spacing.specs.Spacer.{StandsFor}
 use Rattle.dg_meaning.specs.Growth.{growth}
-use Rattle.dg_interp.specs.Printing.{Added, as_prints, growth_of, AddsAll}
+use Rattle.dg_texts.specs.Printing.{Added, as_prints, growth_of, AddsAll}
 use Rattle.dg_interp.specs.Frames.{mark_steps, steps_behind, values_in}
 use Rattle.dg_outside.specs.declared.lack.Lack.{Lack}
 use Rattle.dg_outside.specs.Lacks.{lack_of, area_of, as_stored}

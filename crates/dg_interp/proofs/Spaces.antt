@@ -33,7 +33,7 @@ use Rattle.dg_interp.specs.Frames.{values_in}
 use Rattle.dg_interp.specs.Engine.{store_in, KeepsPlaces, steps_of, IsReady, TakesAt, StandsAt, Taken, Leads, Then, WentWrong}
 use Rattle.dg_terms.specs.Throwing.{number_in}
 use Rattle.dg_interp.specs.Giving.{ActsAt, PrintsOne, TellsSpaces}
-use Rattle.dg_interp.specs.Printing.{Added}
+use Rattle.dg_texts.specs.Printing.{Added}
 use Rattle.dg_interp.specs.Running.{GoalDone, Reaches, IsBroken}
 use Rattle.dg_interp.proofs.Takes.{store_sound, store_ready}
 use Rattle.dg_interp.proofs.Places.{inside_in, limits_on}

@@ -1,4 +1,3 @@
-pub mod Printing
 pub mod Rules
 pub mod Bodies
 pub mod Frames
@@ -7,7 +6,6 @@ pub mod Querying
 pub mod Running
 pub mod Interpret
 pub mod Giving
-pub mod Spelling
 pub mod Wording
 pub mod Made
 pub mod Gathering

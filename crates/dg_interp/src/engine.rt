@@ -17,7 +17,7 @@ ghost use Rattle.dg_interp.specs.Rules.{EntersRule, RuleFull, ArgsWritten};
 ghost use Rattle.dg_terms.specs.Terms.{Overflows};
 ghost use Rattle.dg_outside.specs.Outside.{StartsOutside};
 ghost use Rattle.dg_terms.specs.Passing.{IsFirst, IsCandidate};
-ghost use Rattle.dg_interp.specs.Printing.{Printed};
+ghost use Rattle.dg_texts.specs.Printing.{Printed};
 ghost use Rattle.dg_unify.specs.Store.{Saved, Kept, Holds, Charged};
 
 mod acting;
@@ -36,11 +36,11 @@ mod trying;
 mod wording;
 
 use crate::frames::{Choice, Env, Frame, Left, Mark, Query};
-use crate::printing::print_value;
 use dg_base::{CoreProgram, Ending, Goal, Items, Rule, Sink, Term, WriteFault};
 use dg_outside::{Lack, Outside, lacking};
 use dg_spacing::Spacer;
 use dg_terms::{choice_cells, new_variables, pass, unify_all, write_term, write_terms};
+use dg_texts::print_value;
 use dg_unify::{Bindings, Full, ListBindings, Mark as Place, Ref, View};
 use std::alloc::{AllocError, Global};
 
@@ -764,6 +764,8 @@ impl<'p> Engine<'p> {
         ensures stays { StaysBut self.old self.new }
         ensures printed { Printed (pieces_at self.old value) spacer.old spacer.new (K.view sink.old) (K.view sink.new) result }
     {
-        print_value(&mut self.store, self.program, spacer, sink, value)
+        let words = self.program.words.as_slice();
+        let objects = self.program.objects.as_slice();
+        print_value(&mut self.store, words, objects, spacer, sink, value)
     }
 }

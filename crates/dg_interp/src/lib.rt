@@ -6,8 +6,6 @@ mod engine;
 mod finding;
 mod frames;
 mod interpreter;
-mod printing;
 mod run;
-mod spelling;
 
 pub use interpreter::interpret;

@@ -5,13 +5,13 @@ ghost use Rattle.dg_meaning.specs.Words.{each_alone, spellings_of, spelled_value
 ghost use Rattle.dg_unify.specs.Store.{Holds};
 ghost use Rattle.dg_words.specs.Letters.{AreSmall};
 ghost use Rattle.dg_interp.specs.Engine.{IsReady, TakesAt, Branches, FullAt, store_in};
-ghost use Rattle.dg_interp.specs.Spelling.{IsShort, SpellsSome};
+ghost use Rattle.dg_texts.specs.Spelling.{IsShort, SpellsSome};
 ghost use Rattle.dg_interp.specs.Wording.{words_in, MakesAt, AwaitsInput};
 
 use super::{Engine, stretch};
-use crate::spelling::{join, spelling_of, write_letters, write_line, write_spelled};
 use dg_base::Term;
 use dg_terms::{write_both, write_term};
+use dg_texts::{join, spelling_of, write_letters, write_line, write_spelled};
 use dg_unify::{Bindings, Full, Ref};
 use dg_words::Joined;
 

@@ -5,7 +5,7 @@ use Rattle.dg_interp.specs.Engine.{TakesAt}
 use Rattle.dg_interp.proofs.Runs.{lack_from, one_done, one_lost, word_prints, gap_prints, value_done, value_lost, is_act, goal_does, goal_breaks, goal_quits, goal_stops, goal_stopped}
 use Rattle.dg_meaning.specs.World.{Piece}
 use Rattle.dg_spacing.specs.Gaps.{print_of}
-use Rattle.dg_interp.specs.Printing.{AddsAll}
+use Rattle.dg_texts.specs.Printing.{AddsAll}
 use Rattle.dg_interp.proofs.Waiting.{wrote_still, pieces_still}
 use Rattle.dg_interp.proofs.run.do_goal.Goals as goal
 

@@ -2,14 +2,14 @@ use Rattle.std.proofs.Common.{◌≡◌, [], ◌∷◌, None, true, false, rules
 use Rattle.dg_base.specs.declared.program.Goal.TheVariants.{JoinWords}
 use Rattle.dg_meaning.specs.Words.{joined_letters, spelled_value}
 use Rattle.dg_interp.specs.Frames.{stretch}
-use Rattle.dg_interp.specs.Printing.{value_at}
-use Rattle.dg_interp.specs.Spelling.{IsJoined}
+use Rattle.dg_texts.specs.Printing.{value_at}
+use Rattle.dg_texts.specs.Spelling.{IsJoined}
 use Rattle.dg_interp.specs.Engine.{store_in, FailsAt, TakesAt}
 use Rattle.dg_interp.specs.Wording.{words_in, MakesAt}
 use Rattle.dg_interp.proofs.Takes.{store_sound, store_ready}
 use Rattle.dg_interp.proofs.Stores.{both_among}
 use Rattle.dg_interp.proofs.Giving.{kept_limits, written_full, branches_made}
-use Rattle.dg_interp.proofs.SpellLemmas.{WasJoined, was_joined, none_joined}
+use Rattle.dg_texts.proofs.SpellLemmas.{WasJoined, was_joined, none_joined}
 use Rattle.dg_interp.proofs.Wordings.{join_held, join_fails, join_leads}
 use Rattle.dg_interp.proofs.Branches.{full_made, back_made}
 use Rattle.dg_interp.proofs.engine.Engine.join_words.Goals as goal

@@ -8,7 +8,7 @@ use Rattle.dg_interp.specs.Wording.{words_in, MakesAt}
 use Rattle.dg_interp.proofs.Takes.{store_sound, store_ready}
 use Rattle.dg_interp.proofs.Stores.{both_among}
 use Rattle.dg_interp.proofs.Giving.{kept_limits, written_full, branches_made}
-use Rattle.dg_interp.proofs.SpellLemmas.{none_seen, some_seen, seen_small}
+use Rattle.dg_texts.proofs.SpellLemmas.{none_seen, some_seen, seen_small}
 use Rattle.dg_interp.proofs.Wordings.{split_held, split_fails, split_leads}
 use Rattle.dg_interp.proofs.Branches.{full_made, back_made}
 use Rattle.dg_interp.proofs.engine.Engine.split_word.Goals as goal

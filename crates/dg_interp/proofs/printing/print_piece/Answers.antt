@@ -1,8 +1,0 @@
-use Rattle.dg_interp.proofs.PrintLemmas.{one_added, one_broke}
-use Rattle.dg_interp.proofs.printing.print_piece.Goals as goal
-
-pub returns-in-Ok : goal.returns-in-Ok
-returns-in-Ok g c = λ es h. one_added c.args.piece.now _ _ _ es (record { stands = c.in-Ok.ensures.stands es h; wrote = c.in-Ok.ensures.ok es h })
-
-pub returns-in-Err : goal.returns-in-Err
-returns-in-Err g c = λ es h. one_broke c.args.piece.now _ _ es (c.in-Err.ensures.err es h)

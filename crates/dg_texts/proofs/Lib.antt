@@ -1,0 +1,4 @@
+pub mod PrintLemmas
+pub mod NameLemmas
+pub mod SpellLemmas
+pub mod TypedLetters

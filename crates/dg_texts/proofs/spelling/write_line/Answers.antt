@@ -1,0 +1,11 @@
+use Rattle.std.proofs.Common.{rules}
+use Rattle.dg_meaning.specs.Words.{spellings_of}
+use Rattle.dg_texts.proofs.SpellLemmas.{list_made, list_full}
+use Rattle.dg_texts.proofs.spelling.write_line.Goals as goal
+
+pub returns-in-Err-clause-made : goal.returns-in-Err-clause-made
+returns-in-Err-clause-made g c = λ letters short is. list_full c.args.words.now (spellings_of letters) (g.B.Bindings.meaning c.args.store.now) (g.B.Bindings.meaning c.push_words.new.store) c.in-Err.e (c.in-Err.ensures.written letters short is)
+
+pub returns-in-Ok-clause-made : goal.returns-in-Ok-clause-made
+returns-in-Ok-clause-made g c = λ letters short is.
+    list_made c.args.words.now (spellings_of letters) (g.B.Bindings.meaning c.args.store.now) (g.B.Bindings.meaning c.push_words.new.store) (g.B.Bindings.meaning c.write_list.new.store) c.args.stack.now.items c.push_words.new.to.items c.len-height.result c.write_list.result c.in-Ok.ensures.kept (c.in-Ok.ensures.written letters short is) (search rules) c.write_list.ensures.written
