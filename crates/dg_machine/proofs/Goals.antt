@@ -17,6 +17,7 @@ use Rattle.dg_meaning.specs.Moves.{gives_number, throws, looked_up, changes, cha
 use Rattle.dg_meaning.specs.Changes.{change_of}
 use Rattle.dg_meaning.specs.Facts.{Alteration, kinds_of}
 use Rattle.dg_base.specs.declared.program.PlaceKind.{PlaceKind}
+use Rattle.dg_base.specs.declared.program.Mode.{Mode}
 use Rattle.std.specs.Prelude.{slice_get}
 use Rattle.dg_outside.specs.declared.outside.Outside.{Outside}
 use Rattle.dg_mid.specs.Actions.{terms_of, registers_of, world_of, said_by}
@@ -230,22 +231,22 @@ fails_act tb code r (action.Compare f x y) rest q j u s k d v t g is_of l m o b 
 fails_act tb code r (action.Equal x y) rest q j u s k d v t g is_of l m o b at h = absurd (k x y refl)
 fails_act tb code r a rest q j u s k d v t g is_of l m o b at h = absurd b
 
-pub other_goal : (x : Op) → is_goal x ≡ true → OpBuilt x → ((a : Action) → x ≡ op.Do a → ⊥) → ((pred : ℕ) (ts : List Term) (many : Bool) (next : ℕ) → x ≡ op.Ask pred ts many next → ⊥) → ((pred : ℕ) (ts : List Term) (many : Bool) → x ≡ op.LastAsk pred ts many → ⊥) →
+pub other_goal : (x : Op) → is_goal x ≡ true → OpBuilt x → IsQuietOp x → ((a : Action) → x ≡ op.Do a → ⊥) → ((pred : ℕ) (ts : List Term) (many : Bool) (next : ℕ) → x ≡ op.Ask pred ts many next → ⊥) → ((pred : ℕ) (ts : List Term) (many : Bool) → x ≡ op.LastAsk pred ts many → ⊥) →
     (x ≡ op.Take → ⊥) → ((alt : ℕ) → x ≡ op.Branch alt → ⊥) → (x ≡ op.Once → ⊥) → ((alt : ℕ) → x ≡ op.Try alt → ⊥) → ((a : Term) (o : Option Term) (many : Bool) (next : ℕ) → x ≡ op.Query a o many next → ⊥) → ((a : Term) (o : Option Term) (many : Bool) → x ≡ op.LastQuery a o many → ⊥) → ⊥
-other_goal (op.Do a) e b d k la t br on tr qu lq = d a refl
-other_goal (op.Ask pred ts many next) e b d k la t br on tr qu lq = k pred ts many next refl
-other_goal (op.LastAsk pred ts many) e b d k la t br on tr qu lq = la pred ts many refl
-other_goal op.Take e b d k la t br on tr qu lq = t refl
-other_goal (op.Branch alt) e b d k la t br on tr qu lq = br alt refl
-other_goal op.Once e b d k la t br on tr qu lq = on refl
-other_goal (op.Try alt) e b d k la t br on tr qu lq = tr alt refl
-other_goal (op.Query x y many next) e b d k la t br on tr qu lq = qu x y many next refl
-other_goal (op.LastQuery x y many) e b d k la t br on tr qu lq = lq x y many refl
-other_goal (op.Find place ts many next) e b d k la t br on tr qu lq = b
-other_goal (op.Select site mode bs behind) e b d k la t br on tr qu lq = b
-other_goal (op.Shield alt) e b d k la t br on tr qu lq = b
-other_goal (op.Collect x y alt) e b d k la t br on tr qu lq = b
-other_goal x e b d k la t br on tr qu lq = absurd (cc)
+other_goal (op.Do a) e b q d k la t br on tr qu lq = d a refl
+other_goal (op.Ask pred ts many next) e b q d k la t br on tr qu lq = k pred ts many next refl
+other_goal (op.LastAsk pred ts many) e b q d k la t br on tr qu lq = la pred ts many refl
+other_goal op.Take e b q d k la t br on tr qu lq = t refl
+other_goal (op.Branch alt) e b q d k la t br on tr qu lq = br alt refl
+other_goal op.Once e b q d k la t br on tr qu lq = on refl
+other_goal (op.Try alt) e b q d k la t br on tr qu lq = tr alt refl
+other_goal (op.Query x y many next) e b q d k la t br on tr qu lq = qu x y many next refl
+other_goal (op.LastQuery x y many) e b q d k la t br on tr qu lq = lq x y many refl
+other_goal (op.Find place ts many next) e b q d k la t br on tr qu lq = b
+other_goal (op.Select site mode bs behind) e b q d k la t br on tr qu lq = q
+other_goal (op.Shield alt) e b q d k la t br on tr qu lq = b
+other_goal (op.Collect x y alt) e b q d k la t br on tr qu lq = b
+other_goal x e b q d k la t br on tr qu lq = absurd (cc)
 
 pub quiet_else : (a : Action) → ((name : _) → a ≡ action.Text name → ⊥) → ((kind : _) → a ≡ action.Gap kind → ⊥) → ((x : Term) → a ≡ action.GapN x → ⊥) → ((x y z : Term) → a ≡ action.Random x y z → ⊥) → ((place : ℕ) (xs : List Term) (sets : Bool) → a ≡ action.Now place xs sets → ⊥) → IsQuiet a
 quiet_else (action.Text name) t g n d w = t name refl
@@ -255,9 +256,10 @@ quiet_else (action.Random x y z) t g n d w = d x y z refl
 quiet_else (action.Now place xs sets) t g n d w = w place xs sets refl
 quiet_else a t g n d w = tt
 
-pub quiet_op : (x : Op) → ((a : Action) → x ≡ op.Do a → ⊥) → IsQuietOp x
-quiet_op (op.Do a) d = absurd (d a refl)
-quiet_op x d = tt
+pub quiet_op : (x : Op) → ((a : Action) → x ≡ op.Do a → ⊥) → ((site : ℕ) (mode : Mode) (blocks : List ℕ) (behind : ℕ) → x ≡ op.Select site mode blocks behind → ⊥) → IsQuietOp x
+quiet_op (op.Do a) d s = absurd (d a refl)
+quiet_op (op.Select site mode blocks behind) d s = absurd (s site mode blocks behind refl)
+quiet_op x d s = tt
 
 quiet_gives : (o : Option ℕ) (v : Value) (r : Registers) (w : World) → said_by (gives_number o v r w) ≡ prints w.events
 quiet_gives None v r w = refl

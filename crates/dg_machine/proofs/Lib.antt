@@ -19,6 +19,7 @@ pub mod Unifying
 pub mod Compares
 pub mod Throws
 pub mod Changes
+pub mod Selects
 pub mod Texts
 pub mod Outsides
 pub mod Goals

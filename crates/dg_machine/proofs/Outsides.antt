@@ -53,16 +53,19 @@ Has o (EndedOf e) = Unit {0}
 abbrev pub DrawsNone : Op → Type 0
 DrawsNone (op.Do (action.Random a b c)) = ⊥
 DrawsNone (op.Do (action.Now place xs sets)) = ⊥
+DrawsNone (op.Select site mode blocks behind) = ⊥
 DrawsNone x = Unit {0}
 
 pub quiet_draws : (x : Op) → IsQuietOp x → DrawsNone x
 quiet_draws (op.Do (action.Random a b c)) q = absurd q
 quiet_draws (op.Do (action.Now place xs sets)) q = absurd q
 quiet_draws (op.Do a) q = tt
+quiet_draws (op.Select site mode blocks behind) q = absurd q
 quiet_draws x q = tt
 
 mark_draws : (x : Op) → is_goal x ≡ false → DrawsNone x
 mark_draws (op.Do a) e = absurd (cc)
+mark_draws (op.Select site mode blocks behind) e = absurd (cc)
 mark_draws x e = tt
 
 -- ## What leads where
@@ -236,6 +239,7 @@ has_does g (op.LastQuery a t many) m b d =
     has_charged m.outside g n m (queries_last g (asked_by g a m) (values g m (option_terms t)) many (more n m)) (has_queries_last m.outside g (asked_by g a m) (values g m (option_terms t)) many (more n m) refl)
 has_does g op.Take m b d = refl
 has_does g (op.Branch alt) m b d = has_charged m.outside g 10 m _ refl
+has_does g (op.Select site mode blocks behind) m b d = absurd d
 has_does g op.Once m b d = has_charged m.outside g 10 m _ refl
 has_does g (op.Try alt) m b d = has_charged m.outside g 10 m _ refl
 has_does g (op.Retry alt) m b d = refl

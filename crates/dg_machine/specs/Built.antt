@@ -28,6 +28,10 @@ most_args = 12
 abbrev pub AreArguments : List Term → Type 0
 AreArguments terms = length terms ≤ most_args
 
+-- The blocks of a select's branches, which are numbered by 16 bits.
+abbrev pub AreBranches : List ℕ → Type 0
+AreBranches blocks = length blocks ≤ 65535
+
 -- What is done at once.
 abbrev pub ActionBuilt : Action → Type 0
 ActionBuilt (action.Text name) = Unit {0}
@@ -54,6 +58,7 @@ OpBuilt (op.Query a b many next) = Unit {0}
 OpBuilt (op.LastQuery a b many) = Unit {0}
 OpBuilt op.Take = Unit {0}
 OpBuilt (op.Branch alt) = Unit {0}
+OpBuilt (op.Select site mode blocks behind) = AreBranches blocks
 OpBuilt op.Once = Unit {0}
 OpBuilt (op.Try alt) = Unit {0}
 OpBuilt (op.Retry alt) = Unit {0}
@@ -87,4 +92,5 @@ IsQuiet a = Unit {0}
 -- So does an instruction.
 abbrev pub IsQuietOp : Op → Type 0
 IsQuietOp (op.Do a) = IsQuiet a
+IsQuietOp (op.Select site mode blocks behind) = ⊥
 IsQuietOp x = Unit {0}

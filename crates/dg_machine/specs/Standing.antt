@@ -9,7 +9,7 @@ use Rattle.dg_meaning.specs.Choosing.{die}
 use Rattle.dg_meaning.specs.Substitutions.{walk}
 use Rattle.dg_meaning.specs.Moves.{gives_number, throws, looked_up, change_place}
 use Rattle.dg_meaning.specs.Facts.{kinds_of}
-use Rattle.dg_outside.specs.Outside.{InWorld}
+use Rattle.dg_outside.specs.Outside.{InWorld, MayPick, picks_in}
 use Rattle.dg_outside.specs.declared.outside.Outside.{Outside}
 use Rattle.dg_base.specs.declared.program.ArithOp.{ArithOp}
 use Rattle.dg_mid.specs.Actions.{registers_of, world_of}
@@ -87,6 +87,10 @@ DoesOp t code old x rest new after = (g : Game) → IsOf g.program t → (l : Li
 abbrev pub DoesWith : Tables → Code → Memory → Outside → Op → List Op → Memory → Now → Outside → Type 0
 DoesWith t code old out x rest new after out' = (g : Game) → IsOf g.program t → (l : Limits) (m : Mid) → OpBuilt x → CodeIs rest m → Holds code l old m →
     Around out g l m → StandsWith code g l new after out' (does (setting g code l) x m)
+
+-- Behind it each site may pick once less at most.
+abbrev pub PicksOnce : Outside → Outside → Type 0
+PicksOnce old new = (times : ℕ) → MayPick (times + 1) (picks_in old) → MayPick times (picks_in new)
 
 -- A step was done, and the number that falls between goals has fallen.
 pub record Falls (code : Code) (l : Limits) (old : Memory) (before : Now) (new : Memory) (after : Now) (s : Status) : Type 0 where

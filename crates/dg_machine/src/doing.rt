@@ -208,7 +208,8 @@ impl Memory {
     /// A random number between two arguments, if there is one, is unified with a third.
     fn throw<'p>(&mut self, outside: &mut Outside<'_>, rest: &'p [Op]) -> Now<'p>
         requires { (u v w : Value) × RefsAt (meaning_of self.old.arena) self.old.args.items (u ∷ v ∷ w ∷ []) }
-        ensures { (code : TheCode) → ThrowsDie code self.old outside.old rest.now self.new result outside.new }
+        ensures thrown { (code : TheCode) → ThrowsDie code self.old outside.old rest.now self.new result outside.new }
+        ensures sites { outside.new.sites ≡ outside.old.sites }
     {
         match self.throw_args(outside) {
             None => Now::Fails,
@@ -231,8 +232,9 @@ impl Memory {
         rest: &'p [Op],
     ) -> Now<'p>
         requires { (code : TheCode) × (l : Limits) × (m : Mid) × Holds code l self.old m }
-        ensures { (code : TheCode) → DoesWith tables.now code self.old outside.old (op.Do (action.Random a.now b.now into.now)) rest.now self.new result
+        ensures does { (code : TheCode) → DoesWith tables.now code self.old outside.old (op.Do (action.Random a.now b.now into.now)) rest.now self.new result
             outside.new }
+        ensures sites { outside.new.sites ≡ outside.old.sites }
     {
         match self.put_three(tables, a, b, into) {
             Err(_) => Now::Ended(Ending::HeapLimit),
@@ -250,7 +252,8 @@ impl Memory {
         rest: &'p [Op],
     ) -> Now<'p>
         requires { AreRefs (meaning_of self.old.arena) self.old.args.items }
-        ensures { (code : TheCode) → ChangesPlace tables.now code self.old outside.old place sets rest.now self.new result outside.new }
+        ensures changes { (code : TheCode) → ChangesPlace tables.now code self.old outside.old place sets rest.now self.new result outside.new }
+        ensures sites { outside.new.sites ≡ outside.old.sites }
     {
         let Some(kind) = tables.kind_of(place) else {
             return Now::Fails;
@@ -275,8 +278,9 @@ impl Memory {
     ) -> Now<'p>
         requires some { (code : TheCode) × (l : Limits) × (m : Mid) × Holds code l self.old m }
         requires terms { AreArguments terms.now }
-        ensures { (code : TheCode) → DoesWith tables.now code self.old outside.old (op.Do (action.Now place terms.now sets)) rest.now self.new result
+        ensures does { (code : TheCode) → DoesWith tables.now code self.old outside.old (op.Do (action.Now place terms.now sets)) rest.now self.new result
             outside.new }
+        ensures sites { outside.new.sites ≡ outside.old.sites }
     {
         match self.put_args(tables, terms) {
             Err(_) => Now::Ended(Ending::HeapLimit),

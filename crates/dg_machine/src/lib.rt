@@ -10,6 +10,7 @@ mod passing;
 mod refs;
 mod register;
 mod rows;
+mod selecting;
 mod steps;
 mod tables;
 mod terms;

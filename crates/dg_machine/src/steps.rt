@@ -12,13 +12,15 @@ ghost use Rattle.dg_machine.specs.Built.{ActionBuilt, OpBuilt, OpsBuilt, IsBuilt
 ghost use Rattle.dg_base.specs.declared.run.Limits.{Limits};
 ghost use Rattle.dg_mid.specs.State.{Mid};
 ghost use Rattle.dg_outside.specs.declared.outside.Outside.{Outside as TheOutside};
+ghost use Rattle.dg_outside.specs.Outside.{MayPick, picks_in};
 ghost use Rattle.dg_machine.specs.Layout.{HasRoom, Holds, Roomy};
-ghost use Rattle.dg_machine.specs.Standing.{DoesOp, DoesMark, HasStatus};
+ghost use Rattle.dg_machine.specs.Standing.{DoesOp, DoesMark, HasStatus, PicksOnce};
 ghost use Rattle.dg_machine.specs.Running.{rests, DoesMarks, DoesGoal, LosesGoal, IsSomewhere, IsSomewhereWith, Settles, Takes, Loses, Finishes, LosesRun};
 
 use crate::doing::code_at;
 use crate::memory::Memory;
 use crate::now::Now;
+use crate::selecting::select;
 use crate::tables::Tables;
 use dg_base::{Ending, GapKind, Sink, Term, WriteFault};
 use dg_mid::{Action, Code, Op};
@@ -232,6 +234,7 @@ fn do_action<'p, K: Sink>(
         spacer.new (K.view sink.old) (K.view sink.new)) }
     ensures err { OnErr result ((code : TheCode) → LosesGoal tables.now code memory.old ops.now spacer.old (K.view sink.old) (K.view sink.new)) }
     ensures roomy { OnErr result ((code : TheCode) → (l : Limits) → (m : Mid) → Holds code l memory.old m → Roomy l memory.new) }
+    ensures sites { outside.new.sites ≡ outside.old.sites }
 {
     match action {
         Action::Text(name) => match spacer.event(sink, Event::Piece(name.as_slice())) {
@@ -266,10 +269,12 @@ fn goal_step<'p, K: Sink>(
     requires built { IsBuilt code.now }
     requires ops_built { OpsBuilt ops.now }
     requires goal { at_goal ops.now ≡ true }
+    requires may { MayPick 1 (picks_in outside.old) }
     ensures ok { IfOk result (λ now. DoesGoal tables.now code.now memory.old outside.old ops.now memory.new outside.new now spacer.old spacer.new
         (K.view sink.old) (K.view sink.new)) }
     ensures err { OnErr result (LosesGoal tables.now code.now memory.old ops.now spacer.old (K.view sink.old) (K.view sink.new)) }
     ensures roomy { OnErr result ((l : Limits) → (m : Mid) → Holds code.now l memory.old m → Roomy l memory.new) }
+    ensures once { PicksOnce outside.old outside.new }
 {
     match ops {
         [] => Ok(Now::Fails),
@@ -280,6 +285,10 @@ fn goal_step<'p, K: Sink>(
                 Ok(now) => Ok(now),
                 Err(fault) => Err(fault),
             },
+            Op::Select(site, mode, blocks, behind) => {
+                let blocks = blocks.as_slice();
+                Ok(select(code, outside, *site, *mode, blocks, *behind))
+            }
             op => Ok(do_quiet(memory, code, tables, op, rest)),
         },
     }
@@ -313,11 +322,13 @@ fn turn<'p, K: Sink>(
     requires built { IsBuilt code.now }
     requires tidy { Tidy code.now }
     requires goal { at_goal ops.now ≡ true }
+    requires may { MayPick 1 (picks_in outside.old) }
     requires some { IsSomewhereWith tables.now code.now memory.old outside.old (Runs ops) }
     ensures ok { IfOk result (λ now. Takes tables.now code.now 1 memory.old outside.old (Runs ops.entry) spacer.old (K.view sink.old) memory.new outside.new
         now spacer.new (K.view sink.new)) }
     ensures err { OnErr result (Loses tables.now code.now memory.old outside.old (Runs ops.entry) spacer.old (K.view sink.old) (K.view sink.new)) }
     ensures roomy { OnErr result ((l : Limits) → (m : Mid) → Holds code.now l memory.old m → Roomy l memory.new) }
+    ensures once { PicksOnce outside.old outside.new }
     ensures some { IfOk result (λ now. IsSomewhereWith tables.now code.now memory.new outside.new now) }
     ensures rests { IfOk result (λ now. rests now ≡ true) }
 {
@@ -341,6 +352,7 @@ pub fn go<'p, K: Sink>(
     requires built { IsBuilt code.now }
     requires tidy { Tidy code.now }
     requires some { IsSomewhereWith tables.now code.now memory.old outside.old start }
+    requires may { MayPick steps (picks_in outside.old) }
     ensures ok { IfOk result (λ end. Finishes tables.now code.now memory.old outside.old start.entry steps spacer.old (K.view sink.old) end.0 end.1
         memory.new spacer.new (K.view sink.new)) }
     ensures err { OnErr result (LosesRun tables.now code.now memory.old outside.old start.entry steps spacer.old (K.view sink.old) memory.new (K.view sink.new)) }

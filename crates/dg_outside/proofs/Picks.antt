@@ -14,7 +14,7 @@ use Rattle.dg_choose.specs.declared.site.Site.{Site}
 use Rattle.dg_outside.specs.declared.outside.Outside.{Outside}
 use Rattle.dg_outside.specs.Outside.{picks_in, InWorld, MayPick, PicksOne}
 
-may_fewer : (m n : ℕ) (picks : List Picks) → m ≤ n → MayPick n picks → MayPick m picks
+pub may_fewer : (m n : ℕ) (picks : List Picks) → m ≤ n → MayPick n picks → MayPick m picks
 may_fewer m n picks le h k d lt = let few = h k d lt in omega (arith, le, few)
 
 pub may_new : (n sites : ℕ) → n < 2 ^ 64 → MayPick n (replicate sites no_picks)

@@ -50,7 +50,7 @@ returns-in-Random-clause-ok g c code game is_of l m o e at h w =
     let split = c.requires.whole ∙ ap (λ a. op.Do a ∷ rest) x.is in
     let built : OpsBuilt (op.Do (action.Random x.a x.b x.into) ∷ rest) = subst OpsBuilt split at.1 in
     silent_with c.args.tables.now code game is_of l m c.args.memory.now c.random.new.self c.random.result c.args.ops.now (op.Do (action.Random x.a x.b x.into)) rest split at h c.args.spacer.now (g.K.Sink.view c.args.sink.now) c.random.new.outside
-    (quiet_random (setting game code l) m x.a x.b x.into rest) (c.random.ensures code game is_of l (record m { ops = rest }) built.0 (refl, built.1) h w)
+    (quiet_random (setting game code l) m x.a x.b x.into rest) (c.random.ensures.does code game is_of l (record m { ops = rest }) built.0 (refl, built.1) h w)
 
 pub returns-in-GapN-clause-ok : goal.returns-in-GapN-clause-ok
 returns-in-GapN-clause-ok g c = c.print_spaces.ensures.ok c.args.outside.now
@@ -63,4 +63,4 @@ returns-in-Now-clause-ok g c code game is_of l m o e at h w =
     let split = c.requires.whole ∙ ap (λ b. op.Do b ∷ rest) (x.is ∙ ap (λ ts. action.Now x.place ts x.sets) (sym c.as_slice-in-Now.ensures)) in
     let built : OpsBuilt (op.Do a ∷ rest) = subst OpsBuilt split at.1 in
     silent_with c.args.tables.now code game is_of l m c.args.memory.now c.change.new.self c.change.result c.args.ops.now (op.Do a) rest split at h c.args.spacer.now (g.K.Sink.view c.args.sink.now) c.change.new.outside
-    (quiet_change (setting game code l) m x.place c.as_slice-in-Now.result.now x.sets rest) (c.change.ensures code game is_of l (record m { ops = rest }) built.0 (refl, built.1) h w)
+    (quiet_change (setting game code l) m x.place c.as_slice-in-Now.result.now x.sets rest) (c.change.ensures.does code game is_of l (record m { ops = rest }) built.0 (refl, built.1) h w)

@@ -1,4 +1,5 @@
 use Rattle.std.proofs.Common.{◌≡◌, true, ◌≤◌, ◌-◌}
+use Rattle.dg_outside.specs.Outside.{MayPick, picks_in}
 use Rattle.dg_machine.specs.Running.{Takes, IsSomewhereWith, rests}
 use Rattle.dg_machine.proofs.steps.go.Given as goal
 
@@ -6,6 +7,7 @@ abbrev pub invariant-goals : goal.invariant-goals
 invariant-goals g l = record {
   takes : Takes l.tables l.code (l.steps - l.left) l.fn.memory l.fn.outside l.start l.fn.spacer (g.K.Sink.view l.fn.sink) l.memory l.outside l.now l.spacer (g.K.Sink.view l.sink);
   somewhere : IsSomewhereWith l.tables l.code l.memory l.outside l.now;
+  may : MayPick l.left (picks_in l.outside);
   rests : rests l.now ≡ true;
   within : l.left ≤ l.steps;
 }

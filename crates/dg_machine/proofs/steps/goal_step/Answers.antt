@@ -1,12 +1,15 @@
-use Rattle.std.proofs.Common.{take, drop, length, ◌-◌}
+use Rattle.std.proofs.Common.{◌∷◌, take, drop, length, ◌-◌, refl, sym, ap, ◌∙◌, subst}
+use Rattle.dg_mid.specs.declared.code.Op.TheVariants as op
+use Rattle.dg_machine.specs.Built.{OpBuilt, OpsBuilt}
 use Rattle.dg_machine.proofs.Leaving.{split_list}
-use Rattle.dg_machine.proofs.Goals.{quiet_done, quiet_op}
+use Rattle.dg_machine.proofs.Goals.{quiet_done, quiet_op, silent_with, built_first}
+use Rattle.dg_machine.proofs.Selects.{keeps_sites}
 use Rattle.dg_machine.proofs.steps.goal_step.Goals as goal
 
 pub returns-in_default-clause-ok : goal.returns-in_default-clause-ok
 returns-in_default-clause-ok g c game is_of l m o e at h w =
     let all = c.args.ops.now in
-    quiet_done c.args.tables.now c.args.code.now game is_of l m c.args.memory.now c.do_quiet.new.memory c.do_quiet.result all c.op-item.result (take (length all - 1) (drop 1 all)) (split_list all c.op-item.result c.in-len1-up.len_at_least c.op-item.is) at h c.args.spacer.now (g.K.Sink.view c.args.sink.now) c.args.outside.now o w (quiet_op c.op-item.result c.in_default.not-Do) c.do_quiet.ensures
+    quiet_done c.args.tables.now c.args.code.now game is_of l m c.args.memory.now c.do_quiet.new.memory c.do_quiet.result all c.op-item.result (take (length all - 1) (drop 1 all)) (split_list all c.op-item.result c.in-len1-up.len_at_least c.op-item.is) at h c.args.spacer.now (g.K.Sink.view c.args.sink.now) c.args.outside.now o w (quiet_op c.op-item.result c.in_default.not-Do c.in_default.not-Select) c.do_quiet.ensures
 
 pub returns-in-Ok-clause-ok : goal.returns-in-Ok-clause-ok
 returns-in-Ok-clause-ok g c = c.in-Ok.ensures.ok c.args.code.now
@@ -16,3 +19,30 @@ returns-in-Err-clause-err g c = c.in-Err.ensures.err c.args.code.now
 
 pub returns-in-Err-clause-roomy : goal.returns-in-Err-clause-roomy
 returns-in-Err-clause-roomy g c l m h = c.in-Err.ensures.roomy c.args.code.now l m h
+
+pub select-requires-clause-branches : goal.select-requires-clause-branches
+select-requires-clause-branches g c =
+    let all = c.args.ops.now in
+    let x = c.in-Select in
+    let built = built_first all c.op-item.result (take (length all - 1) (drop 1 all)) (split_list all c.op-item.result c.in-len1-up.len_at_least c.op-item.is) c.requires.ops_built in
+    subst OpBuilt (x.is ∙ ap (λ bs. op.Select x.site x.mode bs x.behind) (sym c.as_slice-blocks.ensures)) built
+
+pub returns-in-Select-clause-ok : goal.returns-in-Select-clause-ok
+returns-in-Select-clause-ok g c game is_of l m o e at h w =
+    let all = c.args.ops.now in
+    let x = c.in-Select in
+    let rest = take (length all - 1) (drop 1 all) in
+    let first = op.Select x.site x.mode c.as_slice-blocks.result.now x.behind in
+    let split = split_list all c.op-item.result c.in-len1-up.len_at_least c.op-item.is ∙ ap (λ y. y ∷ rest) (x.is ∙ ap (λ bs. op.Select x.site x.mode bs x.behind) (sym c.as_slice-blocks.ensures)) in
+    let built : OpsBuilt (first ∷ rest) = subst OpsBuilt split at.1 in
+    silent_with c.args.tables.now c.args.code.now game is_of l m c.args.memory.now c.args.memory.now c.select.result all first rest split at h c.args.spacer.now (g.K.Sink.view c.args.sink.now) c.select.new.outside refl
+    (c.select.ensures.selected c.args.memory.now c.args.tables.now rest game is_of l (record m { ops = rest }) built.0 (refl, built.1) h w)
+
+pub returns-in_default-clause-once : goal.returns-in_default-clause-once
+returns-in_default-clause-once g c = keeps_sites c.args.outside.now c.args.outside.now refl
+
+pub returns-in-Ok-clause-once : goal.returns-in-Ok-clause-once
+returns-in-Ok-clause-once g c = keeps_sites c.args.outside.now c.do_action.new.outside c.do_action.ensures.sites
+
+pub returns-in-Err-clause-once : goal.returns-in-Err-clause-once
+returns-in-Err-clause-once g c = keeps_sites c.args.outside.now c.do_action.new.outside c.do_action.ensures.sites

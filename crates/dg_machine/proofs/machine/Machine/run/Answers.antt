@@ -1,4 +1,4 @@
-use Rattle.std.proofs.Common.{[]}
+use Rattle.std.proofs.Common.{[], arith}
 use Rattle.dg_machine.specs.declared.now.Now.TheVariants.{Runs}
 use Rattle.dg_machine.specs.Running.{game}
 use Rattle.dg_machine.proofs.Runs.{shown, closing_lost, text_lost}
@@ -10,6 +10,9 @@ go-requires-clause-some g c =
     let m = c.args.self.now in
     let some = c.requires.outside in
     somewhere_first m.tables m.code some.0 some.1 m.limits c.clear.new.self c.args.outside.now c.code_at.result some.2 c.requires.built c.code_at.ensures (c.clear.ensures m.code m.limits m.roomy) some.3
+
+pub go-requires-clause-may : goal.go-requires-clause-may
+go-requires-clause-may g c = c.requires.outside.3.may c.args.self.now.limits.steps (omega arith)
 
 pub invariant_of-self : goal.invariant_of-self
 invariant_of-self g c =

@@ -23,8 +23,8 @@ use Rattle.dg_machine.proofs.memory.Memory.change_place.Goals as goal
 pub change-requires : goal.change-requires
 change-requires c = let some = c.requires in subst (All (Holds_s (meaning_of c.args.self.now.arena))) (sym c.as_slice-args.ensures.value) (all_hold (meaning_of c.args.self.now.arena) c.args.self.now.args.items some.0 some.1)
 
-pub returns-in-Err : goal.returns-in-Err
-returns-in-Err c code g is_of l m vs at h refs w =
+pub returns-in-Err-clause-changes : goal.returns-in-Err-clause-changes
+returns-in-Err-clause-changes c code g is_of l m vs at h refs w =
     let place = c.args.place in
     let kind = c.in-Some.kind in
     let out = c.args.outside.now in
@@ -41,8 +41,8 @@ returns-in-Err c code g is_of l m vs at h refs w =
     subst (λ k. StandsWith code g l new (Ended KeepLimit) out2 (done (setting g code l) (change_place g place k vs c.args.sets [] (registers_of m) (world_of [] m)) m)) (sym there)
     (change_full code g l m out out2 c.in-Err.ensures.others c.in-Err.ensures.row c.in-Err.ensures.limit w new kind looks a c.in-Err.field-0 (roomy code l m new held) became)
 
-pub returns-in-Ok-true : goal.returns-in-Ok-true
-returns-in-Ok-true c code g is_of l m vs at h refs w =
+pub returns-in-Ok-true-clause-changes : goal.returns-in-Ok-true-clause-changes
+returns-in-Ok-true-clause-changes c code g is_of l m vs at h refs w =
     let place = c.args.place in
     let kind = c.in-Some.kind in
     let out = c.args.outside.now in
@@ -59,8 +59,8 @@ returns-in-Ok-true c code g is_of l m vs at h refs w =
     subst (λ k. StandsWith code g l new (Runs c.args.rest) out2 (done (setting g code l) (change_place g place k vs c.args.sets [] (registers_of m) (world_of [] m)) m)) (sym there)
     (change_on code g l m out out2 c.in-Ok-true.ensures.others c.in-Ok-true.ensures.row c.in-Ok-true.ensures.limit w new c.args.rest kind looks a at held became)
 
-pub returns-in-Ok-false : goal.returns-in-Ok-false
-returns-in-Ok-false c code g is_of l m vs at h refs w =
+pub returns-in-Ok-false-clause-changes : goal.returns-in-Ok-false-clause-changes
+returns-in-Ok-false-clause-changes c code g is_of l m vs at h refs w =
     let place = c.args.place in
     let kind = c.in-Some.kind in
     let out = c.args.outside.now in

@@ -15,8 +15,8 @@ use Rattle.dg_machine.proofs.Unifying.{agreed_stands, clash_stands, unmatched_st
 use Rattle.dg_machine.proofs.Throws.{threw_none, threw_some, with_drawn, drawn_world, threw_stands}
 use Rattle.dg_machine.proofs.memory.Memory.throw.Goals as goal
 
-pub returns-in-None : goal.returns-in-None
-returns-in-None c code g l m u v w at h refs in_world =
+pub returns-in-None-clause-thrown : goal.returns-in-None-clause-thrown
+returns-in-None-clause-thrown c code g l m u v w at h refs in_world =
     let world = worked (looked_up (registers_of m) u + looked_up (registers_of m) v) (world_of [] m) in
     let o = of_numbers (thrown (die g.dice m.outside.dice)) (walk m.state.subst u) (walk m.state.subst v) in
     let out = c.throw_args.new.outside in
@@ -24,8 +24,8 @@ returns-in-None c code g l m u v w at h refs in_world =
     subst (λ x. StandsWith code g l c.args.self.now Fails out (done (setting g code l) (throws x w (registers_of m) world) m)) (sym none.is)
     (record { stands = h; outside = drawn_world c.args.outside.now out g l m m.outside.dice c.in-None.ensures.others in_world none.drawn })
 
-pub returns-in-Err : goal.returns-in-Err
-returns-in-Err c code g l m u v w at h refs in_world =
+pub returns-in-Err-clause-thrown : goal.returns-in-Err-clause-thrown
+returns-in-Err-clause-thrown c code g l m u v w at h refs in_world =
     let world = worked (looked_up (registers_of m) u + looked_up (registers_of m) v) (world_of [] m) in
     let o = of_numbers (thrown (die g.dice m.outside.dice)) (walk m.state.subst u) (walk m.state.subst v) in
     let n = m.outside.dice + 1 in
@@ -38,8 +38,8 @@ returns-in-Err c code g l m u v w at h refs in_world =
     (threw_stands code g l m w k n world refl new (Ended TrailLimit) out h.1.height_is (drawn_world c.args.outside.now out g l m n c.in-Some.ensures.others in_world some.drawn)
     (unmatched_stands code g l (unify m.state.subst w (leaf (Num k))) m1 new (c.in-Err.ensures code l m1 u v w h refs)))
 
-pub returns-in-Ok-false : goal.returns-in-Ok-false
-returns-in-Ok-false c code g l m u v w at h refs in_world =
+pub returns-in-Ok-false-clause-thrown : goal.returns-in-Ok-false-clause-thrown
+returns-in-Ok-false-clause-thrown c code g l m u v w at h refs in_world =
     let world = worked (looked_up (registers_of m) u + looked_up (registers_of m) v) (world_of [] m) in
     let o = of_numbers (thrown (die g.dice m.outside.dice)) (walk m.state.subst u) (walk m.state.subst v) in
     let n = m.outside.dice + 1 in
@@ -52,8 +52,8 @@ returns-in-Ok-false c code g l m u v w at h refs in_world =
     (threw_stands code g l m w k n world refl new Fails out h.1.height_is (drawn_world c.args.outside.now out g l m n c.in-Some.ensures.others in_world some.drawn)
     (clash_stands code g l (unify m.state.subst w (leaf (Num k))) m1 new c.in-Ok-false.field-0 c.in-Ok-false.field-0-test (c.in-Ok-false.ensures code l m1 u v w h refs)))
 
-pub returns-in-Ok-true : goal.returns-in-Ok-true
-returns-in-Ok-true c code g l m u v w at h refs in_world =
+pub returns-in-Ok-true-clause-thrown : goal.returns-in-Ok-true-clause-thrown
+returns-in-Ok-true-clause-thrown c code g l m u v w at h refs in_world =
     let world = worked (looked_up (registers_of m) u + looked_up (registers_of m) v) (world_of [] m) in
     let o = of_numbers (thrown (die g.dice m.outside.dice)) (walk m.state.subst u) (walk m.state.subst v) in
     let n = m.outside.dice + 1 in
