@@ -47,14 +47,15 @@ stops_within t h cs cs' (s ∷ ss) up n =
     let here = up s.place.tag s.place.height a b in (
       up t h (omega arith) (omega arith) s.place n.0,
       n.1,
-      places_up _ _ cs _ _ cs' s.inner here n.2,
-      frames_up _ _ cs _ _ cs' s.frames here n.3,
-      stops_within s.place.tag s.place.height cs cs' ss (λ u k le le'. up u k (omega (arith, le, a)) (omega (arith, le', b))) n.4,
+      n.2,
+      places_up _ _ cs _ _ cs' s.inner here n.3,
+      frames_up _ _ cs _ _ cs' s.frames here n.4,
+      stops_within s.place.tag s.place.height cs cs' ss (λ u k le le'. up u k (omega (arith, le, a)) (omega (arith, le', b))) n.5,
     )
 
 stops_raise : (t h t' h' : ℕ) (cs : List Choice) (ss : List Stop) → t ≤ t' → h ≤ h' → StopsNamed t h cs ss → StopsNamed t' h' cs ss
 stops_raise t h t' h' cs [] a b n = tt
-stops_raise t h t' h' cs (s ∷ ss) a b n = (record { tag = omega (arith, n.0.tag, a); height = omega (arith, n.0.height, b); agrees = n.0.agrees }, n.1, n.2, n.3, n.4)
+stops_raise t h t' h' cs (s ∷ ss) a b n = (record { tag = omega (arith, n.0.tag, a); height = omega (arith, n.0.height, b); agrees = n.0.agrees }, omega (arith, n.1, a), n.2, n.3, n.4, n.5)
 
 choices_raise : (t h t' h' : ℕ) (cs : List Choice) → t ≤ t' → h ≤ h' → ChoicesNamed t h cs → ChoicesNamed t' h' cs
 choices_raise t h t' h' [] a b n = tt
@@ -239,10 +240,10 @@ stop_found : (g : Setting) (u : ℕ) (t h : ℕ) (ss : List Stop) (m : Mid) → 
 stop_found g u t h [] m o n = o
 stop_found g u t h (s ∷ ss) m o n = cond_both (eqb s.place.tag u) (Some (s, ss)) (stop_to u ss) (λ x. StatusOrdered (stops_at g x m))
     (λ e. let cs = cut_choices s.place m.choices in
-    let named = named_cut s.place.tag s.place.height s.place m.choices s.frames s.inner ss (record { frames_are = n.3; inner_are = n.2; stops_are = n.4 }) in
-    subst (λ k. IsOrdered (s.place.tag + 1) k cs s.frames s.inner ss) (sym n.1)
+    let named = named_cut s.place.tag s.place.height s.place m.choices s.frames s.inner ss (record { frames_are = n.4; inner_are = n.3; stops_are = n.5 }) in
+    subst (λ k. IsOrdered (s.place.tag + 1) k cs s.frames s.inner ss) (sym n.2)
     (ordered_raise s.place.tag s.place.height (s.place.tag + 1) s.place.height cs s.frames s.inner ss (omega arith) (omega arith) (record { named = named; choices = choices_under m.next_tag m.state.heap s.place m.choices n.0.agrees o })))
-    (λ e. stop_found g u s.place.tag s.place.height ss m o n.4)
+    (λ e. stop_found g u s.place.tag s.place.height ss m o n.5)
 
 stops_ordered : (g : Setting) (t : Option ℕ) (m : Mid) → MidOrdered m → StatusOrdered (stops g t m)
 stops_ordered g None m o = tt
@@ -257,7 +258,7 @@ shielded_ordered alt m o =
     let c : Choice = record { place = place_of m; way = Goes alt; frames = m.frames; inner = m.inner; stops = m.stops; stop = m.stop; height = length m.gathered; state = record m.state { since = m.state.vars } } in
     let old = named_push m.next_tag m.state.heap c m.choices m.frames m.inner m.stops refl refl o.named in
     record {
-      named = record { frames_are = t.named.frames_are; inner_are = t.named.inner_are; stops_are = (inside_named (Goes alt) 0 m (place_of m) (named_now m o), refl, old.inner_are, old.frames_are, old.stops_are) };
+      named = record { frames_are = t.named.frames_are; inner_are = t.named.inner_are; stops_are = (inside_named (Goes alt) 0 m (place_of m) (named_now m o), omega arith, refl, old.inner_are, old.frames_are, old.stops_are) };
       choices = t.choices;
     }
 

@@ -28,11 +28,11 @@ abbrev pub FramesNamed : ℕ → ℕ → List Choice → List Frame → Type 0
 FramesNamed t h cs [] = Unit {0}
 FramesNamed t h cs (f ∷ fs) = IsNamed t h cs f.cut × PlacesNamed t h cs f.inner × FramesNamed t h cs fs
 
--- Stoppable parts, the innermost first, each within the next.
+-- Stoppable parts, the innermost first, each within the next and of a smaller tag.
 abbrev pub StopsNamed : ℕ → ℕ → List Choice → List Stop → Type 0
 StopsNamed t h cs [] = Unit {0}
 StopsNamed t h cs (s ∷ ss) =
-    IsNamed t h cs s.place × (s.state.heap ≡ s.place.height) × PlacesNamed s.place.tag s.place.height cs s.inner ×
+    IsNamed t h cs s.place × (s.place.tag < t) × (s.state.heap ≡ s.place.height) × PlacesNamed s.place.tag s.place.height cs s.inner ×
     FramesNamed s.place.tag s.place.height cs s.frames × StopsNamed s.place.tag s.place.height cs ss
 
 -- So is the place of the call that a choice goes on with.
