@@ -41,13 +41,14 @@ use Rattle.dg_words.proofs.LineLemmas.{left_shorter}
 use Rattle.dg_interp.specs.declared.engine.Engine.{Engine}
 use Rattle.dg_outside.specs.Lacks.{as_stored}
 use Rattle.dg_interp.specs.Engine.{store_in, steps_of, limit_in, StandsAt, Taken, Then, WentOn, HasEndedSo, Branches, FullAt, PassesLimit, SameLimits}
-use Rattle.dg_interp.specs.Interpret.{game, told_behind, left_told}
+use Rattle.dg_meaning.specs.Engines.{game, told_behind, left_told}
+use Rattle.dg_meaning.proofs.Engines.{as_told}
 use Rattle.dg_texts.specs.Printing.{Added}
 use Rattle.dg_interp.specs.Running.{HasText, Writes, Gave, Awaits, Stretch, Reaches, HasEnded, MeetsLimit, IsBroken, IsLimited, TakesMore, LosesInput, Broken, GoalDone, DoesGoal, over, outcome_of}
 use Rattle.dg_texts.specs.Spelling.{IsShort, SpellsSome}
 use Rattle.dg_interp.specs.Wording.{words_in, MakesAt, TakesLineAt, AwaitsInput}
 use Rattle.dg_interp.proofs.Places.{inside_in, limits_at, limits_on, adds_nothing}
-use Rattle.dg_interp.proofs.Runs.{as_told, stretched, writes_nothing, text_added, text_begins, render_grows, finished_so, ended_at, limited_at, no_more}
+use Rattle.dg_interp.proofs.Runs.{stretched, writes_nothing, text_added, text_begins, render_grows, finished_so, ended_at, limited_at, no_more}
 use Rattle.dg_interp.proofs.Rounds.{stretch_on}
 use Rattle.dg_interp.proofs.Wordings.{made_grows, made_later}
 use Rattle.dg_texts.proofs.TypedLetters.{line_short}

@@ -22,10 +22,11 @@ use Rattle.dg_base.specs.Streams.{SourceView}
 use Rattle.dg_meaning.specs.Shows.{IsLeft}
 use Rattle.std.proofs.lemmas.List.{append-nil, append_cancel_left}
 use Rattle.dg_meaning.specs.World.{Print}
-use Rattle.dg_interp.specs.Interpret.{told_behind, left_told}
+use Rattle.dg_meaning.specs.Engines.{told_behind, left_told}
+use Rattle.dg_meaning.proofs.Engines.{as_told}
 use Rattle.dg_interp.specs.Running.{Gave, Awaits, Stretch, HasText, Reaches, GoesOn, HasEnded, MeetsLimit, Ended, IsBroken, IsLimited, TakesMore, LosesInput, Broken, GoalDone, Does, ending_at, limit_of}
 use Rattle.dg_interp.proofs.Places.{limits_at, adds_nothing, limits_on, limits_here}
-use Rattle.dg_interp.proofs.Runs.{gave_nothing, gave_on, as_told, stretched, ended_at, writes_nothing, writes_on, finished_so, no_more}
+use Rattle.dg_interp.proofs.Runs.{gave_nothing, gave_on, stretched, ended_at, writes_nothing, writes_on, finished_so, no_more}
 
 -- ## From stretch to stretch
 

@@ -37,7 +37,8 @@ use Rattle.dg_outside.specs.Lacks.{lack_of, area_of, as_stored}
 use Rattle.dg_interp.specs.Engine.{store_in, limit_in, Point, LacksIn, LackAt, PassesLimit, IsAct, pieces_at, WrotePrinted, StandsAt, TakesAt, Then, FullAt, Taken, WentOn, HasEndedSo, Branches, Stops}
 use Rattle.dg_base.specs.Streams.{SourceView}
 use Rattle.dg_meaning.specs.Shows.{IsLeft}
-use Rattle.dg_interp.specs.Interpret.{told_behind, left_told}
+use Rattle.dg_meaning.specs.Engines.{left_told}
+use Rattle.dg_meaning.proofs.Engines.{as_told}
 use Rattle.dg_interp.specs.Running.{HasText, Writes, Gave, Awaits, Stretch, Reaches, HasEnded, IsNoFurther, MeetsLimit, Ended, IsBroken, Broken, GoalDone, DoesGoal, ending_at, over, outcome_of}
 use Rattle.dg_base.proofs.WrittenLemmas.{wrote_on, broke_first, broke_later}
 use Rattle.dg_interp.proofs.Places.{limits_at, adds_nothing, adds_on, adds_drops, limits_on}
@@ -105,13 +106,6 @@ reads_nothing e s k i P f = record {
   gave = gave_nothing i;
   reaches = λ g w run start a st text. f g w run start (left_here i w a) st text;
 }
-
--- what is left is what is told of it
-pub as_told : (i j : SourceView) (typed : List ℕ) → IsLeft j.left typed → IsLeft (left_told i j) typed
-as_told i j typed h = here i.left h where
-  here : (told : Option (List ℕ)) → IsLeft j.left typed → IsLeft (told_behind told j.left) typed
-  here None h = tt
-  here (Some bytes) h = h
 
 -- ## Endings
 

@@ -7,7 +7,7 @@ use Rattle.dg_base.specs.declared.run.Ending.TheVariants.{InputEnded, HeapLimit,
 use Rattle.dg_meaning.specs.OneRun.{Begins, EndsWith, Grows}
 use Rattle.dg_meaning.specs.Peaks.{Area, Heap, Trail, Aux, Keep, limit_of, limit_ending, peak}
 use Rattle.dg_meaning.proofs.OneRun.{begins_same}
-use Rattle.dg_interp.proofs.Runs.{as_told}
+use Rattle.dg_meaning.proofs.Engines.{as_told, some_left, for_given, may_write, nothing_taken, start_shows, start_forgets}
 use Rattle.dg_meaning.proofs.Limits.{later_run, limit_covers}
 use Rattle.dg_meaning.proofs.Dropping.{prints_append}
 use Rattle.dg_base.specs.declared.program.CoreProgram.{CoreProgram}
@@ -18,10 +18,8 @@ use Rattle.dg_base.specs.declared.run.RunFault.TheVariants.{Read, Write, OutOfMe
 use Rattle.dg_base.specs.declared.run.Limits.{Limits}
 use Rattle.dg_meaning.specs.World.{Game, World, Event, Print, prints}
 use Rattle.dg_meaning.specs.Render.{render}
-use Rattle.dg_meaning.specs.Facts.{kinds_of, kept_size, start_facts}
-use Rattle.dg_meaning.specs.Search.{search}
 use Rattle.dg_meaning.specs.Transcript.{Run, run, start_world, text_of, line_of, no_memory_line, input_fault_line, closing, closed, transcript}
-use Rattle.dg_meaning.specs.Shows.{IsLeft, HasGiven, taken_by, LeftBetween, ShowsLimit, ShowsNoMemory, ShowsInputFault, MayWrite, whole, without_memory, without_input}
+use Rattle.dg_meaning.specs.Shows.{IsLeft, HasGiven, taken_by, LeftBetween, ShowsLimit, ShowsNoMemory, ShowsInputFault, whole, without_memory, without_input}
 use Rattle.dg_meaning.proofs.Search.{run_within}
 use Rattle.dg_spacing.specs.declared.spacer.Spacer.{Spacer}
 use Rattle.dg_interp.specs.declared.engine.Engine.{Engine}
@@ -34,20 +32,8 @@ use Rattle.dg_outside.specs.Outside.{LacksAtStart}
 use Rattle.dg_interp.specs.Engine.{limit_in, Starts}
 use Rattle.dg_base.specs.Streams.{SourceView}
 use Rattle.dg_interp.specs.Running.{limit_of as ending_of_lack, Gave, LeftBehind, Awaits, Stretch, HasText, Reaches, HasEnded, MeetsLimit, IsNoFurther, Ended, HasPart, IsLimited, TakesMore, LosesInput, IsBroken, Broken}
-use Rattle.dg_interp.specs.Interpret.{game, left_told, ForTyped, HasShown, HasLostInput, HasLostOutput, HasLostMemory}
+use Rattle.dg_meaning.specs.Engines.{game, left_told, ForTyped, HasShown, HasLostInput, HasLostOutput, HasLostMemory}
 use Rattle.dg_base.proofs.WrittenLemmas.{wrote_nothing, wrote_on, broke_first, broke_later}
-
--- the whole text of a run may be written
-may_write : (g : Game) (typed : List ℕ) (limits : Limits) → MayWrite g typed limits (transcript g typed limits.steps)
-may_write g typed limits =
-    let r = run g typed limits.steps in
-    whole (record { ending = r.ending; goals = limits.steps - r.left }) None
-    (inl (record { text = refl; ending = refl; goals = omega (arith, run_within g typed limits.steps); left_is = tt }))
-
--- nothing is taken before the first goal
-nothing_taken : (g : Game) (typed : List ℕ) → (run g typed 0).world ≡ start_world g typed
-unfolding run search
-nothing_taken g typed = refl
 
 -- ## Of two parts of a list the longer
 
@@ -86,18 +72,9 @@ the_part p q w h k b =
 
 -- ## Typed bytes
 
--- what a source has left, as far as it tells, or nothing
-some_left : (told : Option (List ℕ)) → (rest : List ℕ) × IsLeft told rest
-some_left None = ([], tt)
-some_left (Some rest) = (rest, refl)
-
 rest_of : (ended : Bool) (to : SourceView) → (rest : List ℕ) × LeftBehind ended to rest
 rest_of true to = ([], refl)
 rest_of false to = some_left to.left
-
-for_given : (told : Option (List ℕ)) (typed : List ℕ) (P : List ℕ → Type 0) → IsLeft told typed → P typed → ForTyped told P
-for_given None typed P is p = (typed, p)
-for_given (Some t) typed P is p = subst P (sym is) p
 
 module _ (program : CoreProgram) (limits : Limits) (e : Engine) (dice : List ℕ) (starts : Starts program limits dice e) (s s' : Spacer) (k k' : SinkView) (i i' : SourceView) (new : StandsFor s []) where
   abbrev g : Game
@@ -401,46 +378,15 @@ module _ (program : CoreProgram) (limits : Limits) (dice typed : List ℕ) (s : 
   abbrev the_game : Game
   the_game = game program dice
 
-  -- before the first goal all is left
-  all_left : (told : Option (List ℕ)) (n : ℕ) → IsLeft told typed → LeftBetween the_game typed 0 n told
-  all_left told n is =
-      let none : (run the_game typed 0).world.typed ≡ typed = ap (λ (w : World). w.typed) (nothing_taken the_game typed) in
-      record {
-        rest = typed;
-        left_is = is;
-        since = record { taken = []; is = none };
-        until = subst (λ l. EndsWith l (run the_game typed n).world.typed) none (later_run the_game typed 0 n (omega arith)).typed;
-      }
-
   nothing_written : Wrote k k (text_of [])
   unfolding render
   nothing_written = wrote_nothing k
-
-  start_shows : (told : Option (List ℕ)) → IsLeft told typed → limits.keep < kept_size (kinds_of program) (start_facts program.places)
-      → ShowsLimit the_game typed limits (closed [] (line_of KeepLimit)) (record { ending = KeepLimit; goals = 0 }) told
-  start_shows told is over =
-      let events : (run the_game typed 0).world.events ≡ [] = ap (λ (w : World). w.events) (nothing_taken the_game typed) in
-      let passed : limits.keep < (run the_game typed 0).world.meters.keep = subst (λ (w : World). limits.keep < w.meters.keep) (sym (nothing_taken the_game typed)) over in
-      let since : Begins (run the_game typed 0).world.events [] = subst (λ l. Begins l []) (sym events) (record { behind = []; is = refl }) in
-      record {
-        area = Keep;
-        ending = refl;
-        goals = omega arith;
-        passed = passed;
-        part = [];
-        text = refl;
-        until = record { behind = (run the_game typed 0).world.events; is = refl };
-        since = since;
-        none_before_the_first = λ none. refl;
-        input = all_left told 0 is;
-        covers = λ n le within. limit_covers the_game typed limits Keep 0 [] passed since n within;
-      }
 
   pub start_shown : (l : Lack) (ending : Ending) (told : Option (List ℕ)) → IsLeft told typed → LacksAtStart program limits.keep l → Ok ending ≡ ending_of_lack l → ((es : List Print) → StandsFor s es → Wrote k k' (ending_line es (line_of ending))) → HasShown the_game typed limits (record { ending = ending; goals = 0 }) told k k'
   start_shown lack.Keep ending told left over e close =
       let same : KeepLimit ≡ ending = cc in
       subst (λ x. HasShown the_game typed limits (record { ending = x; goals = 0 }) told k k') same
-      (record { bytes = closed [] (line_of KeepLimit); shows = inr (start_shows told left over); wrote = wrote_on k k k' (text_of []) (ending_line [] (line_of KeepLimit)) nothing_written (subst (λ x. Wrote k k' (ending_line [] (line_of x))) (sym same) (close [] new)) })
+      (record { bytes = closed [] (line_of KeepLimit); shows = inr (start_shows program limits dice typed told left over); wrote = wrote_on k k k' (text_of []) (ending_line [] (line_of KeepLimit)) nothing_written (subst (λ x. Wrote k k' (ending_line [] (line_of x))) (sym same) (close [] new)) })
   start_shown lack.OutOfMemory ending told left over e close = absurd (cc)
   start_shown lack.Heap ending told left over e close = absurd over
   start_shown lack.Trail ending told left over e close = absurd over
@@ -451,7 +397,7 @@ module _ (program : CoreProgram) (limits : Limits) (dice typed : List ℕ) (s : 
       let same : KeepLimit ≡ ending = cc in
       record {
         bytes = closed [] (line_of KeepLimit);
-        may_write = whole (record { ending = KeepLimit; goals = 0 }) None (inr (start_shows None tt over));
+        may_write = whole (record { ending = KeepLimit; goals = 0 }) None (inr (start_shows program limits dice typed None tt over));
         broke = broke_later k k k' (text_of []) (ending_line [] (line_of KeepLimit)) nothing_written (subst (λ x. BrokeOff k k' (ending_line [] (line_of x))) (sym same) (close [] new));
       }
   start_lost lack.OutOfMemory ending over e close = absurd (cc)
@@ -459,32 +405,19 @@ module _ (program : CoreProgram) (limits : Limits) (dice typed : List ℕ) (s : 
   start_lost lack.Trail ending over e close = absurd over
   start_lost lack.Aux ending over e close = absurd over
 
-  start_forgets : (told : Option (List ℕ)) → IsLeft told typed → ShowsNoMemory the_game typed limits (closed [] no_memory_line) told
-  start_forgets told is = record {
-    part = [];
-    text = refl;
-    until = record { behind = (run the_game typed limits.steps).world.events; is = refl };
-    input = all_left told limits.steps is;
-  }
-
   pub start_memory : (told : Option (List ℕ)) → IsLeft told typed → ((es : List Print) → StandsFor s es → Wrote k k' (ending_line es no_memory_line)) → HasLostMemory the_game typed limits told k k'
   start_memory told is close = record {
     bytes = closed [] no_memory_line;
-    shows = start_forgets told is;
+    shows = start_forgets program limits dice typed told is;
     wrote = wrote_on k k k' (text_of []) (ending_line [] no_memory_line) nothing_written (close [] new);
   }
 
   pub start_memory_lost : ((es : List Print) → StandsFor s es → BrokeOff k k' (ending_line es no_memory_line)) → HasLostOutput the_game typed limits k k'
   start_memory_lost close = record {
     bytes = closed [] no_memory_line;
-    may_write = without_memory None (start_forgets None tt);
+    may_write = without_memory None (start_forgets program limits dice typed None tt);
     broke = broke_later k k k' (text_of []) (ending_line [] no_memory_line) nothing_written (close [] new);
   }
-
--- for the typed bytes that are told, or for none
-pub for_typed : (told : Option (List ℕ)) (P : List ℕ → Type 0) → ((typed : List ℕ) → IsLeft told typed → P typed) → ForTyped told P
-for_typed None P f = ([], f [] tt)
-for_typed (Some typed) P f = f typed refl
 
 pub if_ok_map : {A E : Type 0} (r : Result A E) (P Q : A → Type 0) → ((x : A) → P x → Q x) → IfOk r P → IfOk r Q
 if_ok_map (Ok x) P Q f h = f x h

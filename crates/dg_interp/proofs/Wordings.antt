@@ -34,7 +34,7 @@ use Rattle.dg_interp.specs.Frames.{values_in}
 use Rattle.dg_terms.specs.Terms.{Overflows, BothMade}
 use Rattle.dg_interp.specs.Engine.{store_in, KeepsPlaces, steps_of, IsReady, TakesAt, FailsAt, FullAt, Leads, Branches}
 use Rattle.dg_interp.specs.Giving.{UnifiesAt}
-use Rattle.dg_interp.specs.Interpret.{game}
+use Rattle.dg_meaning.specs.Engines.{game}
 use Rattle.dg_interp.specs.Wording.{words_in, MakesAt, AwaitsInput}
 use Rattle.dg_meaning.proofs.OneRun.{grows_on, begun_grows}
 use Rattle.dg_terms.proofs.Stores.{told_kept}

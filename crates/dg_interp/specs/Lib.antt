@@ -4,7 +4,6 @@ pub mod Frames
 pub mod Engine
 pub mod Querying
 pub mod Running
-pub mod Interpret
 pub mod Giving
 pub mod Wording
 pub mod Made

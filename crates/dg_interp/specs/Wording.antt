@@ -9,7 +9,7 @@ use Rattle.dg_unify.specs.declared.bindings.Ref.{Ref}
 use Rattle.dg_interp.specs.declared.engine.Engine.{Engine}
 use Rattle.dg_interp.specs.Engine.{Point, Leads, store_in, IsReady, SameLimits, TakesAt}
 use Rattle.dg_interp.specs.Giving.{ActsAt}
-use Rattle.dg_interp.specs.Interpret.{game}
+use Rattle.dg_meaning.specs.Engines.{game}
 
 -- The words of an engine's program.
 abbrev pub words_in : Engine → List (List ℕ)

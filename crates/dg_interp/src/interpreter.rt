@@ -6,7 +6,7 @@ ghost use Rattle.dg_meaning.specs.Shows.{IsLeft};
 ghost use Rattle.dg_base.specs.Sound.{IsSound};
 ghost use Rattle.dg_interp.specs.Engine.{Starts};
 ghost use Rattle.dg_outside.specs.Outside.{LacksAtStart};
-ghost use Rattle.dg_interp.specs.Interpret.{game, left_told, ForTyped, HasShown, HasBrokenOff};
+ghost use Rattle.dg_meaning.specs.Engines.{game, left_told, ForTyped, HasShown, HasBrokenOff};
 
 use crate::engine::Engine;
 use crate::run::{limit, run};

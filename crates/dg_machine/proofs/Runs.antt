@@ -10,10 +10,9 @@ use Rattle.dg_meaning.specs.Render.{render, render_from, nothing_met, met_from}
 use Rattle.dg_machine.proofs.Texts.{render_append}
 use Rattle.dg_meaning.specs.Growth.{ending_line}
 use Rattle.dg_meaning.specs.Transcript.{Run, run, transcript, text_of, closing, line_of}
-use Rattle.dg_meaning.specs.Shows.{Shows, MayWrite, whole}
+use Rattle.dg_meaning.specs.Shows.{Shows, whole}
 use Rattle.dg_meaning.specs.OneRun.{Grows}
 use Rattle.dg_meaning.proofs.Keeps.{stands_happened}
-use Rattle.dg_meaning.proofs.Search.{run_within}
 use Rattle.dg_meaning.proofs.Dropping.{prints_append}
 use Rattle.std.specs.Borrow.{Bor}
 use Rattle.dg_mid.specs.declared.code.Op.{Op}
@@ -42,14 +41,9 @@ use Rattle.dg_outside.specs.declared.outside.Outside.{Outside}
 use Rattle.dg_machine.proofs.Outsides.{mark_outside}
 use Rattle.dg_machine.specs.declared.tables.Tables.{Tables}
 use Rattle.dg_machine.specs.Tables.{IsOf}
-use Rattle.dg_machine.specs.Running.{rests, MarkDone, DoesMarks, DoesGoal, LosesGoal, HasText, HasSettled, Settles, IsAt, IsLost, EndsSo, HasEnded, IsLostWithin, HasShown, HasLostOutput}
-
--- the whole text of a run may be written
-may_write : (g : Game) (typed : List ℕ) (limits : Limits) → MayWrite g typed limits (transcript g typed limits.steps)
-may_write g typed limits =
-    let r = run g typed limits.steps in
-    whole (record { ending = r.ending; goals = limits.steps - r.left }) None
-    (inl (record { text = refl; ending = refl; goals = omega (arith, run_within g typed limits.steps); left_is = tt }))
+use Rattle.dg_machine.specs.Running.{rests, MarkDone, DoesMarks, DoesGoal, LosesGoal, HasText, HasSettled, Settles, IsAt, IsLost, EndsSo, HasEnded, IsLostWithin}
+use Rattle.dg_meaning.specs.Engines.{HasShown, HasLostOutput}
+use Rattle.dg_meaning.proofs.Engines.{may_write}
 
 -- what was printed up to here is the beginning of the whole text
 prints_begin : (w : World) (x : Run) (ps : List Print) → Grows w x.world → prints w.events ≡ ps → (text : List ℕ) × (text_of x.world.events ≡ render ps ++ text)
@@ -160,7 +154,7 @@ module _ (code : Code) (g : Game) (l : Limits) (codes : Codes g.program code) (t
       subst (λ x. Shows g typed l (closed_text (after the_set typed steps).prints (line_of x)) (record { ending = x; goals = l.steps - left }) None) (sym limited.0)
       (subst (λ n. Shows g typed l (closed_text (after the_set typed steps).prints (line_of StepLimit)) (record { ending = StepLimit; goals = n }) None) (sym all) ((shows_all g code l codes typed).limited steps (goals ∙ all) limited.2))
 
-  pub shown : (e : Ending) (left : ℕ) (r : Memory) (s : Spacer) (start k k' : SinkView) → HasEnded code g l typed (l.steps - left) e left r s start k → left ≤ l.steps → ((ps : List Print) → StandsFor s ps → Wrote k k' (ending_line ps (line_of e))) → HasShown g typed l (record { ending = e; goals = l.steps - left }) start k'
+  pub shown : (e : Ending) (left : ℕ) (r : Memory) (s : Spacer) (start k k' : SinkView) → HasEnded code g l typed (l.steps - left) e left r s start k → left ≤ l.steps → ((ps : List Print) → StandsFor s ps → Wrote k k' (ending_line ps (line_of e))) → HasShown g typed l (record { ending = e; goals = l.steps - left }) None start k'
   shown e left r s start k k' h le close =
       let ps = (after the_set typed h.steps).prints in
       record {

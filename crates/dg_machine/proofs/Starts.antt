@@ -23,7 +23,8 @@ use Rattle.dg_outside.specs.Outside.{StartsOutside}
 use Rattle.dg_outside.specs.declared.outside.Outside.{Outside}
 use Rattle.dg_machine.specs.Built.{OpsBuilt, IsBuilt}
 use Rattle.dg_machine.specs.Layout.{ChoicesAt, Roomy, HoldsWith, limit_in, at_rest}
-use Rattle.dg_machine.specs.Running.{game, HasText, IsAt, IsSomewhereWith, Finishes, LosesRun}
+use Rattle.dg_meaning.specs.Engines.{game}
+use Rattle.dg_machine.specs.Running.{HasText, IsAt, IsSomewhereWith, Finishes, LosesRun}
 
 -- what was emptied has its room
 pub record Emptied (r new : Memory) : Type 0 where

@@ -1,14 +1,11 @@
 -- What a machine, a spacer and a sink come to together. Hold it against the Dialog manual, chapter "Output".
-use Rattle.std.specs.Prelude.{ℕ, ◌+◌, ◌≡◌, ◌<◌, ◌≤◌, ◌-◌, ◌⊎◌, suc, List, [], None, Bool, true, false}
-use Rattle.dg_base.specs.declared.program.CoreProgram.{CoreProgram}
+use Rattle.std.specs.Prelude.{ℕ, ◌+◌, ◌≡◌, ◌<◌, ◌≤◌, ◌-◌, ◌⊎◌, suc, List, [], Bool, true, false}
 use Rattle.dg_base.specs.declared.run.Limits.{Limits}
 use Rattle.dg_base.specs.declared.run.Ending.{Ending}
 use Rattle.dg_base.specs.declared.run.Ending.TheVariants.{StepLimit}
-use Rattle.dg_base.specs.declared.run.Outcome.{Outcome}
 use Rattle.dg_base.specs.Written.{SinkView, Wrote, BrokeOff}
 use Rattle.dg_meaning.specs.World.{Game, Print}
 use Rattle.dg_meaning.specs.Render.{render}
-use Rattle.dg_meaning.specs.Shows.{Shows, MayWrite}
 use Rattle.dg_spacing.specs.declared.spacer.Spacer.{Spacer}
 use Rattle.dg_spacing.specs.Spacer.{StandsFor}
 use Rattle.dg_outside.specs.declared.outside.Outside.{Outside}
@@ -160,21 +157,3 @@ pub record HasSettled (code : Code) (g : Game) (l : Limits) (typed : List ℕ) (
 abbrev pub Settles : Tables → Code → Memory → Now → Memory → Now → Type 0
 Settles t code old before new now = (g : Game) → IsOf g.program t → (l : Limits) (typed : List ℕ) (steps : ℕ) →
     Stands code l old before (after (setting g code l) typed steps).now → HasSettled code g l typed steps new now
-
--- ## What a run promises
-
--- The program with the dice words.
-abbrev pub game : CoreProgram → List ℕ → Game
-game program dice = record { program = program; dice = dice }
-
--- The sink took a text that shows the game with this outcome.
-pub record HasShown (g : Game) (typed : List ℕ) (l : Limits) (outcome : Outcome) (old new : SinkView) : Type 0 where
-  pub bytes : List ℕ
-  pub shows : Shows g typed l bytes outcome None
-  pub wrote : Wrote old new bytes
-
--- The sink failed within a text that may be written: its count rose, it took a front of that text, and the text is longer than a room that it told.
-pub record HasLostOutput (g : Game) (typed : List ℕ) (l : Limits) (old new : SinkView) : Type 0 where
-  pub bytes : List ℕ
-  pub may_write : MayWrite g typed l bytes
-  pub broke : BrokeOff old new bytes

@@ -1,5 +1,5 @@
 // The machine: it runs its code from the start.
-ghost use Rattle.std.specs.Prelude.{◌≡◌, IfOk, OnErr, IsErrOf, List, ℕ};
+ghost use Rattle.std.specs.Prelude.{◌≡◌, IfOk, OnErr, IsErrOf, List, ℕ, None};
 ghost use Rattle.dg_base.specs.declared.program.CoreProgram.{CoreProgram};
 ghost use Rattle.dg_meaning.specs.Transcript.{line_of};
 ghost use Rattle.dg_outside.specs.Outside.{StartsOutside};
@@ -8,7 +8,7 @@ ghost use Rattle.dg_mid.specs.Potential.{Tidy};
 ghost use Rattle.dg_machine.specs.Built.{IsBuilt};
 ghost use Rattle.dg_machine.specs.Tables.{IsOf};
 ghost use Rattle.dg_machine.specs.Layout.{Roomy};
-ghost use Rattle.dg_machine.specs.Running.{game, HasShown, HasLostOutput};
+ghost use Rattle.dg_meaning.specs.Engines.{game, HasShown, HasLostOutput};
 
 use crate::doing::code_at;
 use crate::memory::Memory;
@@ -80,7 +80,7 @@ impl Machine {
         requires outside { (p : CoreProgram) × (dice : List ℕ) × IsOf p self.old.tables × StartsOutside p self.old.limits dice outside.old }
         ensures shows { IfOk result (λ outcome. (p : CoreProgram) → (dice : List ℕ) → Codes p self.old.code → IsOf p self.old.tables →
             StartsOutside p self.old.limits dice outside.old → (typed : List ℕ) →
-            HasShown (game p dice) typed self.old.limits outcome (K.view sink.old) (K.view sink.new)) }
+            HasShown (game p dice) typed self.old.limits outcome None (K.view sink.old) (K.view sink.new)) }
         ensures err { OnErr result ((p : CoreProgram) → (dice : List ℕ) → Codes p self.old.code → IsOf p self.old.tables →
             StartsOutside p self.old.limits dice outside.old → (typed : List ℕ) →
             HasLostOutput (game p dice) typed self.old.limits (K.view sink.old) (K.view sink.new)) }

@@ -20,4 +20,5 @@ pub mod Worked
 pub mod WorkedSearch
 pub mod WorkedWorld
 pub mod Limits
+pub mod Engines
 pub mod Excluding

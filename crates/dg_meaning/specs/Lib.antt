@@ -26,6 +26,7 @@ pub mod Bindings
 pub mod OneRun
 pub mod Peaks
 pub mod Shows
+pub mod Engines
 pub mod Context
 pub mod Keeps
 pub mod Excluding

@@ -10,7 +10,7 @@ use Rattle.dg_base.specs.declared.refusal.Kind.TheVariants.{SourceTooLong}
 use Rattle.dg_base.specs.declared.run.Outcome.{Outcome}
 use Rattle.dg_meaning.specs.Transcript.{no_memory_line}
 use Rattle.dg_single.specs.Singles.{AreSingles}
-use Rattle.dg_interp.specs.Interpret.{left_told, ForTyped, HasShown, HasLostInput, HasLostOutput, HasLostMemory}
+use Rattle.dg_meaning.specs.Engines.{left_told, ForTyped, HasShown, HasLostInput, HasLostOutput, HasLostMemory}
 use Rattle.z_model.specs.Story.{refusal_of}
 use Rattle.z_model.specs.declared.story.StoryRefusal.{StoryRefusal}
 use Rattle.z_model.specs.declared.story.StoryRefusal.TheVariants.{BadLength}

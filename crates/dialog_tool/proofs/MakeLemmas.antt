@@ -7,7 +7,7 @@ use Rattle.dg_base.specs.Written.{SinkView}
 use Rattle.dg_base.specs.declared.program.CoreProgram.{CoreProgram as Core}
 use Rattle.dg_base.specs.declared.refusal.Refusal.{Refusal}
 use Rattle.dg_base.specs.declared.run.Outcome.{Outcome}
-use Rattle.dg_interp.specs.Interpret.{game, HasShown, HasLostOutput}
+use Rattle.dg_meaning.specs.Engines.{game, HasShown, HasLostOutput}
 use Rattle.dg_make.specs.Made.{made_source}
 use Rattle.dg_meaning.specs.Shows.{MayWrite, Shows}
 use Rattle.dg_meaning.specs.Transcript.{no_memory_line}

@@ -11,7 +11,7 @@ use Rattle.dg_make.specs.Made.{made_source}
 use Rattle.dg_meaning.specs.Shows.{MayWrite, Shows}
 use Rattle.dg_meaning.specs.Transcript.{no_memory_line}
 use Rattle.dg_meaning.specs.World.{Game}
-use Rattle.dg_interp.specs.Interpret.{game, left_told, HasShown, HasLostInput, HasLostOutput, HasLostMemory}
+use Rattle.dg_meaning.specs.Engines.{game, left_told, HasShown, HasLostInput, HasLostOutput, HasLostMemory}
 use Rattle.dg_single.specs.Singles.{AreSingles}
 use Rattle.dg_story.specs.Agrees.{Agrees}
 use Rattle.dg_story.specs.Built.{IsBuilt}

@@ -1,6 +1,6 @@
 use Rattle.std.proofs.Common.{[], arith}
 use Rattle.dg_machine.specs.declared.now.Now.TheVariants.{Runs}
-use Rattle.dg_machine.specs.Running.{game}
+use Rattle.dg_meaning.specs.Engines.{game}
 use Rattle.dg_machine.proofs.Runs.{shown, closing_lost, text_lost}
 use Rattle.dg_machine.proofs.Starts.{at_start, somewhere_first, roomy_after}
 use Rattle.dg_machine.proofs.machine.Machine.run.Goals as goal

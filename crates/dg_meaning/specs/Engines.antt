@@ -1,4 +1,4 @@
--- What the interpreter promises. Hold it against the Dialog manual, chapters "Output" and "Beyond the program".
+-- What an engine promises that runs a program. Hold it against the Dialog manual, chapters "Output" and "Beyond the program".
 use Rattle.std.specs.Prelude.{ℕ, List, Option, Some, None}
 use Rattle.dg_base.specs.declared.program.CoreProgram.{CoreProgram}
 use Rattle.dg_base.specs.declared.run.Limits.{Limits}
