@@ -52,7 +52,7 @@ nothing_first (p ∷ ps) = ap (λ l. p ∷ l) (nothing_first ps)
 
 -- ## Acts
 
-outs : (a : Action) → out-Goal (goal_of a) ≡ form_of a
+pub outs : (a : Action) → out-Goal (goal_of a) ≡ form_of a
 outs (action.Text name) = outs-Text name
 outs (action.Print t) = outs-Print t
 outs (action.Gap kind) = outs-Gap kind

@@ -44,6 +44,9 @@ prints_dropped w v d = ap (λ (u : World). prints u.events) d.is
 pub work_dropped : (w v : World) → Drops w v → v.meters.work ≡ w.meters.work
 work_dropped w v d = ap (λ (u : World). u.meters.work) d.is
 
+pub typed_dropped : (w v : World) → Drops w v → v.typed ≡ w.typed
+typed_dropped w v d = ap (λ (u : World). u.typed) d.is
+
 -- what follows is behind
 pub followed_is : (ps qs : List Print) → followed ps qs ≡ ps ++ qs
 followed_is ps [] = sym (append-nil ps)

@@ -27,6 +27,8 @@ pub mod Shaped
 pub mod Charge
 pub mod Selects
 pub mod Worked
+pub mod Outsides
+pub mod Typed
 pub mod WritingLemmas
 pub mod Opening
 pub mod Selecting

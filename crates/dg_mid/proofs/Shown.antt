@@ -1,28 +1,31 @@
 -- What runs of register code show.
-use Rattle.std.proofs.Common.{◌≡◌, ℕ, ◌+◌, ◌<◌, ◌≤◌, List, [], ◌∷◌, ◌++◌, true, None, inl, inr, refl, sym, ap, ◌∙◌, subst, arith, length, length-append}
-use Rattle.std.specs.Prelude.{◌-◌}
+use Rattle.std.proofs.Common.{◌≡◌, ℕ, ◌+◌, ◌<◌, ◌≤◌, List, [], ◌∷◌, ◌++◌, Some, ◌⊎◌, inl, inr, refl, sym, ap, ◌∙◌, subst, arith, length, length-append}
+use Rattle.std.specs.Prelude.{◌-◌, if◌then◌else◌}
 use Rattle.std.proofs.lemmas.Bool.{cases_lt}
 use Rattle.std.proofs.lemmas.List.{append-nil}
 use Rattle.dg_base.specs.declared.run.Limits.{Limits}
 use Rattle.dg_base.specs.declared.run.Ending.{Ending}
 use Rattle.dg_base.specs.declared.run.Ending.TheVariants as ending
 use Rattle.dg_meaning.specs.World.{Game, World, Event, Print, prints}
-use Rattle.dg_meaning.specs.Transcript.{Run, run_of, run, start_world, start_path, closed, line_of}
-use Rattle.dg_meaning.specs.OneRun.{Begins, Grows}
+use Rattle.dg_meaning.specs.Transcript.{Run, run_of, run, start_world, start_path, closed, line_of, input_fault_line}
+use Rattle.dg_meaning.specs.OneRun.{Begins, EndsWith, Grows}
 use Rattle.dg_meaning.specs.Search.{answer}
 use Rattle.dg_meaning.specs.Peaks.{Area, Heap, Trail, Aux, Keep, greatest, peak, limit_of, limit_ending}
-use Rattle.dg_meaning.specs.Shows.{Shows}
+use Rattle.dg_meaning.specs.Shows.{Shows, taken_by}
+use Rattle.dg_meaning.specs.Words.{behind_first}
 use Rattle.dg_meaning.proofs.Keeps.{starts as stands_at_start, limited}
 use Rattle.dg_meaning.proofs.Dropping.{prints_append}
 use Rattle.dg_meaning.proofs.OneRun.{begins_same}
 use Rattle.dg_meaning.proofs.Limits.{later_run, limit_covers}
 use Rattle.dg_mid.specs.declared.code.Code.{Code}
 use Rattle.dg_mid.specs.State.{Ended}
-use Rattle.dg_mid.specs.Step.{Setting, setting, takes_goal}
+use Rattle.dg_mid.specs.Step.{Setting, setting}
 use Rattle.dg_mid.specs.Codes.{Codes}
 use Rattle.dg_mid.specs.Reads.{At, HasEnded, MeetsLimit}
-use Rattle.dg_mid.specs.Runs.{Point, after, IsAt, closed_text, ShowsAll}
-use Rattle.dg_mid.proofs.Whole.{is_at, at_limit}
+use Rattle.dg_mid.specs.Runs.{Point, after, left_after, IsAt, closed_text, ShowsAll, ShowsFaults}
+use Rattle.dg_mid.proofs.Whole.{AtLimit, is_at}
+use Rattle.dg_mid.proofs.Outsides.{Leads}
+use Rattle.dg_mid.proofs.Typed.{EndLeft, left_at, stops_there, Reading, reading_at, reads_goal, left_within, line_shorter}
 
 -- ## Of two parts of a list the longer
 
@@ -74,21 +77,23 @@ module _ (g : Game) (code : Code) (limits : Limits) (codes : Codes g.program cod
       ap (λ (x : Run). x.world.events) f.is ∙ ap (λ (w : World). w.events) f.drops.is
 
   -- a run that has ended
-  ended_shows : (goals : ℕ) (e : Ending) (ps : List Print) (w : World) → goals ≤ limits.steps → HasEnded e ps (limits.steps - goals) w (run g typed (goals + (limits.steps - goals))) → Shows g typed limits (closed_text ps (line_of e)) (record { ending = e; goals = goals }) None
-  ended_shows goals e ps w le h =
+  ended_shows : (goals : ℕ) (e : Ending) (ps : List Print) (w : World) (left : List ℕ) → goals ≤ limits.steps → ((n : ℕ) → (run g typed (goals + n)).world.typed ≡ left) → HasEnded e ps (limits.steps - goals) w (run g typed (goals + (limits.steps - goals))) →
+      Shows g typed limits (closed_text ps (line_of e)) (record { ending = e; goals = goals }) (Some left)
+  ended_shows goals e ps w left le rest h =
       let all : goals + (limits.steps - goals) ≡ limits.steps = omega arith in
       let is : run g typed limits.steps ≡ run_of (answer (limits.steps - goals) w h.result) = ap (run g typed) (sym all) ∙ h.is in
       inl (record {
         text = ap (λ l. closed_text l (line_of e)) (sym h.printed) ∙ ap (λ x. closed w.events (line_of x)) (sym h.ending_is) ∙ sym (ap (λ (x : Run). closed x.world.events (line_of x.ending)) is);
         ending = sym h.ending_is ∙ sym (ap (λ (x : Run). x.ending) is);
         goals = ap (λ (x : Run). goals + x.left) is ∙ all;
-        left_is = tt;
+        left_is = sym (subst (λ k. (run g typed k).world.typed ≡ left) all (rest (limits.steps - goals)));
       })
 
   -- a limit
-  limit_shows : (area : Area) (goals : ℕ) (ps : List Print) (w : World) → goals ≤ limits.steps → limit_of area limits < peak area g typed goals → prints w.events ≡ ps → Grows w (run g typed goals).world → Begins (prints (run g typed (goals - 1)).world.events) ps →
-      Shows g typed limits (closed_text ps (line_of (limit_ending area))) (record { ending = limit_ending area; goals = goals }) None
-  limit_shows area goals ps w le passed printed grows since =
+  limit_shows : (area : Area) (goals : ℕ) (ps : List Print) (w : World) (left : List ℕ) → goals ≤ limits.steps → EndsWith (run g typed (goals - 1)).world.typed left → EndsWith left (run g typed goals).world.typed →
+      limit_of area limits < peak area g typed goals → prints w.events ≡ ps → Grows w (run g typed goals).world → Begins (prints (run g typed (goals - 1)).world.events) ps →
+      Shows g typed limits (closed_text ps (line_of (limit_ending area))) (record { ending = limit_ending area; goals = goals }) (Some left)
+  limit_shows area goals ps w left le from to passed printed grows since =
       let part = the_part w.events (run g typed (goals - 1)).world.events (run g typed goals).world.events grows.events (later_run g typed (goals - 1) goals (omega arith)).events (subst (Begins (prints (run g typed (goals - 1)).world.events)) (sym printed) since) in
       inr (record {
         area = area;
@@ -99,48 +104,86 @@ module _ (g : Game) (code : Code) (limits : Limits) (codes : Codes g.program cod
         text = ap (λ l. closed_text l (line_of (limit_ending area))) (sym (part.prints_are ∙ printed));
         until = part.until;
         since = part.since;
-        input =
-            record {
-              rest = (run g typed goals).world.typed;
-              left_is = tt;
-              since = (later_run g typed (goals - 1) goals (omega arith)).typed;
-              until = record { taken = []; is = refl };
-            };
+        input = record { rest = left; left_is = refl; since = from; until = to };
         none_before_the_first = λ e. begins_nothing part.part (subst (Begins part.part) (ap (λ k. (run g typed k).world.events) e ∙ nothing_first) part.until);
         covers = λ k le' within. limit_covers g typed limits area goals part.part passed part.since k within;
       })
 
   -- a limit that is met where the run is
-  meets_so : (area : Area) (p : Point) (w : World) → p.goals ≤ limits.steps → IsAt set g typed p → MeetsLimit (limit_of area limits) (greatest area (run g typed (p.goals + 0)).world.meters) p.prints w (run g typed (p.goals + 0)) →
-      Shows g typed limits (closed_text p.prints (line_of (limit_ending area))) (record { ending = limit_ending area; goals = p.goals }) None
-  meets_so area p w le h at =
+  meets_so : (area : Area) (p : Point) (w : World) (left : List ℕ) → p.goals ≤ limits.steps → EndsWith (run g typed (p.goals - 1)).world.typed left → EndsWith left (run g typed p.goals).world.typed → IsAt set g typed p →
+      MeetsLimit (limit_of area limits) (greatest area (run g typed (p.goals + 0)).world.meters) p.prints w (run g typed (p.goals + 0)) →
+      Shows g typed limits (closed_text p.prints (line_of (limit_ending area))) (record { ending = limit_ending area; goals = p.goals }) (Some left)
+  meets_so area p w left le from to h at =
       let all : p.goals + 0 ≡ p.goals = omega arith in
-      limit_shows area p.goals p.prints w le (subst (λ k. limit_of area limits < greatest area (run g typed k).world.meters) all at.passes) at.printed (subst (λ k. Grows w (run g typed k).world) all at.happened) h.since
+      limit_shows area p.goals p.prints w left le from to (subst (λ k. limit_of area limits < greatest area (run g typed k).world.meters) all at.passes) at.printed (subst (λ k. Grows w (run g typed k).world) all at.happened) h.since
 
-  ends_so : (p : Point) (e : Ending) → IsAt set g typed p → p.now ≡ Ended e → p.goals ≤ limits.steps → Shows g typed limits (closed_text p.prints (line_of e)) (record { ending = e; goals = p.goals }) None
-  ends_so p ending.HeapLimit h is le = let c = h.comes 0 in meets_so Heap p c.world le h (subst (λ now. At set now p.prints g 0 c.world (run g typed (p.goals + 0))) is c.at)
-  ends_so p ending.TrailLimit h is le = let c = h.comes 0 in meets_so Trail p c.world le h (subst (λ now. At set now p.prints g 0 c.world (run g typed (p.goals + 0))) is c.at)
-  ends_so p ending.AuxLimit h is le = let c = h.comes 0 in meets_so Aux p c.world le h (subst (λ now. At set now p.prints g 0 c.world (run g typed (p.goals + 0))) is c.at)
-  ends_so p ending.KeepLimit h is le = let c = h.comes 0 in meets_so Keep p c.world le h (subst (λ now. At set now p.prints g 0 c.world (run g typed (p.goals + 0))) is c.at)
-  ends_so p e h is le =
+  ends_so : (p : Point) (e : Ending) (left : List ℕ) → IsAt set g typed p → EndsWith (run g typed (p.goals - 1)).world.typed left → EndLeft g code limits codes typed p.goals left e → p.now ≡ Ended e → p.goals ≤ limits.steps →
+      Shows g typed limits (closed_text p.prints (line_of e)) (record { ending = e; goals = p.goals }) (Some left)
+  ends_so p ending.HeapLimit left h from to is le = let c = h.comes 0 in meets_so Heap p c.world left le from to h (subst (λ now. At set now p.prints g 0 c.world (run g typed (p.goals + 0))) is c.at)
+  ends_so p ending.TrailLimit left h from to is le = let c = h.comes 0 in meets_so Trail p c.world left le from to h (subst (λ now. At set now p.prints g 0 c.world (run g typed (p.goals + 0))) is c.at)
+  ends_so p ending.AuxLimit left h from to is le = let c = h.comes 0 in meets_so Aux p c.world left le from to h (subst (λ now. At set now p.prints g 0 c.world (run g typed (p.goals + 0))) is c.at)
+  ends_so p ending.KeepLimit left h from to is le = let c = h.comes 0 in meets_so Keep p c.world left le from to h (subst (λ now. At set now p.prints g 0 c.world (run g typed (p.goals + 0))) is c.at)
+  ends_so p e left h from to is le =
       let c = h.comes (limits.steps - p.goals) in
-      ended_shows p.goals e p.prints c.world le (subst (λ now. At set now p.prints g (limits.steps - p.goals) c.world (run g typed (p.goals + (limits.steps - p.goals)))) is c.at)
+      ended_shows p.goals e p.prints c.world left le to (subst (λ now. At set now p.prints g (limits.steps - p.goals) c.world (run g typed (p.goals + (limits.steps - p.goals)))) is c.at)
 
-  limited_so : (p : Point) → IsAt set g typed p → p.goals ≡ limits.steps → takes_goal p.now ≡ true → Shows g typed limits (closed_text p.prints (line_of ending.StepLimit)) (record { ending = ending.StepLimit; goals = limits.steps }) None
-  limited_so p h full e =
-      let c = h.comes 0 in
-      let l = at_limit g code limits codes typed p.now p.prints c.world (run g typed (p.goals + 0)) e c.at in
-      let all : p.goals + 0 ≡ limits.steps = omega (arith, full) in
-      let is : run g typed limits.steps ≡ record { left = 0; world = l.world; ending = ending.StepLimit } = ap (run g typed) (sym all) ∙ l.is in
+  limited_so : (p : Point) (left : List ℕ) → IsAt set g typed p → p.goals ≡ limits.steps → AtLimit g code limits codes typed p.prints left (run g typed p.goals) → Shows g typed limits (closed_text p.prints (line_of ending.StepLimit)) (record { ending = ending.StepLimit; goals = limits.steps }) (Some left)
+  limited_so p left h full l =
+      let is : run g typed limits.steps ≡ record { left = 0; world = l.world; ending = ending.StepLimit } = ap (run g typed) (sym full) ∙ l.is in
       inl (record {
         text = ap (λ ps. closed_text ps (line_of ending.StepLimit)) (sym l.printed_is) ∙ sym (ap (λ (x : Run). closed x.world.events (line_of x.ending)) is);
         ending = sym (ap (λ (x : Run). x.ending) is);
         goals = let left = ap (λ (x : Run). x.left) is in omega (arith, left);
-        left_is = tt;
+        left_is = sym (ap (λ (x : Run). x.world.typed) is ∙ l.typed_is);
       })
 
   pub shows_all : ShowsAll set g typed
   shows_all = record {
-    ends = λ k e is le. ends_so (after set typed k) e (is_at g code limits codes typed k) is le;
-    limited = λ k full e. limited_so (after set typed k) (is_at g code limits codes typed k) full e;
+    ends = λ k e is le.
+        let p = after set typed k in
+        let l = left_at g code limits codes typed k in
+        ends_so p e (left_after set typed k) (is_at g code limits codes typed k) l.since (subst (Leads (λ o. o.typed ≡ left_after set typed k) (EndLeft g code limits codes typed p.goals (left_after set typed k))) is l.left) is le;
+    limited = λ k full e.
+        let p = after set typed k in
+        let h = is_at g code limits codes typed k in
+        limited_so p (left_after set typed k) h full (stops_there g code limits codes typed p (left_after set typed k) e h (left_at g code limits codes typed k).left);
   }
+
+  -- ## The input fails
+
+  lengths : (xs ys : List ℕ) → EndsWith xs ys → length ys ≤ length xs
+  lengths xs ys h = omega (arith, ap length h.is, length-append h.taken ys)
+
+  -- the goal that reads takes what was given, or finds no byte
+  reads_so : (goals : ℕ) (left rest : List ℕ) (given : ℕ) → given + length rest ≡ length typed → (run g typed goals).world.typed ≡ left → length left ≤ length typed → Reading g code limits codes typed (1 + goals) left → length (behind_first left) ≤ length rest →
+      ((run g typed (goals + 1)).ending ≡ ending.InputEnded) ⊎ ((given ≤ taken_by g typed (goals + 1)) × (taken_by g typed goals < taken_by g typed (goals + 1)))
+  reads_so goals [] rest given total here within h le = let same : 1 + goals ≡ goals + 1 = omega arith in inl (subst (λ k. (run g typed k).ending ≡ ending.InputEnded) same (h.none refl))
+  reads_so goals (b ∷ bytes) rest given total here within h le =
+      let same : 1 + goals ≡ goals + 1 = omega arith in
+      let further = lengths _ _ (subst (λ k. EndsWith (behind_first (b ∷ bytes)) (run g typed k).world.typed) same h.on) in
+      let less = line_shorter 65535 b bytes in
+      let count = ap length here in
+      inr (omega (arith, total, further, le), omega (arith, count, further, less, within))
+
+  pub shows_faults : ShowsFaults set g typed
+  shows_faults k rest e below from le =
+      let p = after set typed k in
+      let left = left_after set typed k in
+      let h = is_at g code limits codes typed k in
+      let l = left_at g code limits codes typed k in
+      let at = stops_there g code limits codes typed p left (reads_goal set p.now e) h l.left in
+      let first = lengths typed left (left_within g code limits codes typed k) in
+      let more = lengths left rest from in
+      let here : (run g typed p.goals).world.typed ≡ left = ap (λ (x : Run). x.world.typed) at.is ∙ at.typed_is in
+      let count = ap length here in
+      let taken : length (behind_first left) ≤ length rest = subst (λ b. length (if b then behind_first left else left) ≤ length rest) e le in
+      record {
+        goals = p.goals;
+        below = below;
+        text = ap (λ ps. closed_text ps input_fault_line) (sym at.printed_is) ∙ sym (ap (λ (x : Run). closed x.world.events input_fault_line) at.is);
+        given = length typed - length rest;
+        is_given = omega (arith, first, more);
+        goes_on = ap (λ (x : Run). x.ending) at.is;
+        no_more = omega (arith, count, more);
+        reads = reads_so p.goals left rest (length typed - length rest) (omega (arith, first, more)) here first (reading_at g code limits codes typed p left e h l.left) taken;
+      }

@@ -13,14 +13,22 @@ use Rattle.dg_meaning.proofs.Keeps.{starts as stands_at_start, limited}
 use Rattle.dg_meaning.proofs.OneRun.{begins_on}
 use Rattle.dg_mid.specs.declared.code.Op.{Op}
 use Rattle.dg_mid.specs.declared.code.Code.{Code}
-use Rattle.dg_mid.specs.State.{Mid, Status, Runs, Enters, Resumes, Fails, Ended}
+use Rattle.dg_mid.specs.State.{Outside, Mid, Status, Runs, Enters, Resumes, Fails, Ended}
 use Rattle.dg_mid.specs.Step.{Setting, setting, step, said, followed, takes_goal, at_goal}
 use Rattle.dg_mid.specs.Units.{one_if, earned}
 use Rattle.dg_mid.specs.Codes.{Codes, End, Stands, jumps, returns, commits, refuses, backs, leaves, keeps, finishes, acts, ask, last_ask, query, last_query, holds, objects, only, either, selects, once, negates, branch, exhausts, shields, collects, accumulates, forever}
 use Rattle.dg_mid.specs.Reads.{none, At, before, Comes, RunsAt}
 use Rattle.dg_mid.specs.Runs.{start, Point, next, after, IsAt}
-use Rattle.dg_mid.proofs.Here.{Here, steps_of, answers, prints_dropped, followed_is}
+use Rattle.dg_mid.proofs.Here.{Here, steps_of, answers, prints_dropped, typed_dropped, followed_is}
 use Rattle.dg_mid.proofs.Simulation.{simulates}
+
+-- the typed bytes that a machine has; one that has ended tells none
+abbrev pub typed_in : Status → List ℕ
+typed_in (Runs m) = m.outside.typed
+typed_in (Enters call m) = m.outside.typed
+typed_in (Resumes way m) = m.outside.typed
+typed_in (Fails m) = m.outside.typed
+typed_in (Ended e) = []
 
 module _ (g : Game) (code : Code) (limits : Limits) (codes : Codes g.program code) (typed : List ℕ) where
   abbrev set : Setting
@@ -91,20 +99,26 @@ module _ (g : Game) (code : Code) (limits : Limits) (codes : Codes g.program cod
   limited_one m ps ops goals end rest w r (accumulates term into alt inner others behind goals' end' s q o) e h = limited g h.lives h.ways _ _ _ _ h.registers w r h.stands
   limited_one m ps ops goals end rest w r (forever b others goals' end' q s) e h = limited g h.lives h.ways _ _ _ _ h.registers w r h.stands
 
-  -- the run so far has printed what the machine has printed
-  pub record AtLimit (printed : List Print) (r : Run) : Type 0 where
+  -- the run so far has printed what the machine has printed, and has left the typed bytes that it has
+  pub record AtLimit (printed : List Print) (left : List ℕ) (r : Run) : Type 0 where
     pub world : World
     pub is : r ≡ record { left = 0; world = world; ending = ending.StepLimit }
     pub printed_is : prints world.events ≡ printed
+    pub typed_is : world.typed ≡ left
 
-  limited_at : (m : Mid) (ps : List Print) (w : World) (r : Run) → at_goal m.ops ≡ true → RunsAt code m ps g 0 w r → AtLimit ps r
+  limited_at : (m : Mid) (ps : List Print) (w : World) (r : Run) → at_goal m.ops ≡ true → RunsAt code m ps g 0 w r → AtLimit ps m.outside.typed r
   limited_at m ps w r e h =
       let layer = h.reads in
       let a = answers code m ps h.answered h.steps g 0 w r (record { lives = h.lives; ways = h.ways; registers = h.registers; mirrors = h.mirrors; stands = h.stands }) in
       let f = limited_one m ps m.ops layer.goals layer.end layer.rest a.world r layer.stands e (subst (λ l. Here code m ps l g 0 a.world r) layer.is a.here) in
-      record { world = f.world; is = f.is; printed_is = prints_dropped a.world f.world f.drops ∙ a.here.mirrors.printed_is }
+      record {
+        world = f.world;
+        is = f.is;
+        printed_is = prints_dropped a.world f.world f.drops ∙ a.here.mirrors.printed_is;
+        typed_is = typed_dropped a.world f.world f.drops ∙ ap (λ (o : Outside). o.typed) a.here.mirrors.outside_is;
+      }
 
-  pub at_limit : (now : Status) (ps : List Print) (w : World) (r : Run) → takes_goal now ≡ true → At set now ps g 0 w r → AtLimit ps r
+  pub at_limit : (now : Status) (ps : List Print) (w : World) (r : Run) → takes_goal now ≡ true → At set now ps g 0 w r → AtLimit ps (typed_in now) r
   at_limit (Runs m) ps w r e h = limited_at m ps w r e h
   at_limit (Enters call m) ps w r e h = absurd (cc (e))
   at_limit (Resumes way m) ps w r e h = absurd (cc (e))

@@ -7,7 +7,7 @@ use Rattle.dg_mid.specs.declared.code.Code.{Code}
 use Rattle.dg_mid.specs.State.{Status}
 use Rattle.dg_mid.specs.Step.{Setting, setting, step, takes_goal}
 use Rattle.dg_mid.specs.Codes.{Codes}
-use Rattle.dg_mid.specs.Runs.{after, IsAt, ShowsAll}
+use Rattle.dg_mid.specs.Runs.{after, IsAt, ShowsAll, ShowsFaults}
 use Rattle.dg_mid.specs.Heights.{StatusOrdered}
 use Rattle.dg_mid.specs.Falling.{left_at}
 use Rattle.dg_mid.specs.Potential.{Tidy, IsOver}
@@ -20,6 +20,10 @@ RunsAsSearched = (g : Game) (code : Code) (limits : Limits) → Codes g.program 
 -- Where code stands for the program of a game, what it prints shows the game.
 abbrev pub CodeShows : Type 0
 CodeShows = (g : Game) (code : Code) (limits : Limits) → Codes g.program code → (typed : List ℕ) → ShowsAll (setting g code limits) g typed
+
+-- The same where its input fails.
+abbrev pub CodeShowsFaults : Type 0
+CodeShowsFaults = (g : Game) (code : Code) (limits : Limits) → Codes g.program code → (typed : List ℕ) → ShowsFaults (setting g code limits) g typed
 
 -- In every run of any code, heights order places as tags do.
 abbrev pub HeightsOrder : Type 0

@@ -5,6 +5,7 @@ pub mod Step
 pub mod Units
 pub mod Codes
 pub mod Reads
+pub mod Left
 pub mod Runs
 pub mod Heights
 pub mod Falling

@@ -1,5 +1,5 @@
 // What holds of all register code.
-ghost use Rattle.dg_mid.specs.Laws.{CodeShows, CostsItsWork, Falls, HeightsOrder, LooksItsWork, MovesOn, RunsAsSearched};
+ghost use Rattle.dg_mid.specs.Laws.{CodeShows, CodeShowsFaults, CostsItsWork, Falls, HeightsOrder, LooksItsWork, MovesOn, RunsAsSearched};
 
 /// Every run of code that stands for a program is a run of its search.
 pub fn code_runs_as_searched()
@@ -9,6 +9,11 @@ pub fn code_runs_as_searched()
 /// What runs of the code print shows the game.
 pub fn code_shows_the_game()
     ensures { CodeShows }
+{}
+
+/// What runs of the code have printed where their input fails shows that.
+pub fn code_shows_faults()
+    ensures { CodeShowsFaults }
 {}
 
 /// Heights order places as tags do, in every run of any code, so an engine may cut by heights.

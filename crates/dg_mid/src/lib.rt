@@ -14,8 +14,8 @@ mod writing;
 pub use branches::Branching;
 pub use code::{Action, Block, BodyCode, Code, Gathered, Key, Op, RuleCode};
 pub use laws::{
-    code_costs_its_work, code_moves_on, code_runs_as_searched, code_shows_the_game,
-    heights_order_places, steps_come_to_a_goal,
+    code_costs_its_work, code_moves_on, code_runs_as_searched, code_shows_faults,
+    code_shows_the_game, heights_order_places, steps_come_to_a_goal,
 };
 pub use letting::let_go;
 pub use programs::to_mid;
