@@ -47,7 +47,8 @@ use Rattle.dg_outside.specs.Subjects.{may_name, IsSubject}
 use Rattle.dg_interp.specs.Frames.{values_in}
 use Rattle.dg_interp.specs.Made.{MadeArgs}
 use Rattle.dg_outside.specs.Outside.{outline, InWorld}
-use Rattle.dg_interp.specs.Trying.{may_find}
+use Rattle.dg_outside.specs.Finding.{may_find}
+use Rattle.dg_outside.proofs.Finds.{no_copy, same_copy, KeptAs, value_formed, kept_as, kept_none}
 use Rattle.dg_interp.specs.Giving.{ActsAt, UnifiesAt}
 use Rattle.dg_interp.specs.Finding.{EffectAt, made_values, AsksPlaceAt, AsksObjectsAt, TriesObjectsAt, ReadsAt}
 use Rattle.dg_interp.specs.Engine.{Point, store_in, KeepsPlaces, steps_of, IsReady, TakesAt, FailsAt, FullAt, Leads, SameLimits, WentOn}
@@ -172,24 +173,6 @@ module _ (fact : List Fact → Option Value) (args : List Value) (old : Engine) 
 
 -- ## Values without parts
 
-no_copy : (v : Simple) → (vars_in (simple_value v) ≡ 0) × (copy_cells (simple_value v) ≡ 0)
-no_copy (simple.Num n) = (refl, omega arith)
-no_copy (simple.Word n) = (refl, omega arith)
-no_copy (simple.Object n) = (refl, omega arith)
-no_copy simple.Nil = (refl, omega arith)
-
-pub same_copy : (n : ℕ) (v : Simple) → copy_from n (simple_value v) ≡ simple_value v
-same_copy n (simple.Num k) = refl
-same_copy n (simple.Word k) = refl
-same_copy n (simple.Object k) = refl
-same_copy n simple.Nil = refl
-
-pub behind_simple : (v : Simple) (r : Registers) → behind_copy (simple_value v) r ≡ r
-behind_simple v r =
-    let vars : r.next_var + vars_in (simple_value v) ≡ r.next_var = omega (arith, (no_copy v).0) in
-    let heap : r.heap + copy_cells (simple_value v) ≡ r.heap = omega (arith, (no_copy v).1) in
-    ap (λ n. record r { next_var = n; heap = r.heap + copy_cells (simple_value v) }) vars ∙ ap (λ n. record r { heap = n }) heap
-
 -- a copy of one leaves the state as it was, and is the value itself
 pub simple_same : (s t : Store) (v : Simple) (made : Ref) → Copied s t (simple_value v) made → t.state ≡ s.state
 simple_same s t v made c =
@@ -205,31 +188,6 @@ simple_told s t v made c = c.value ∙ ap Some (same_copy s.state.vars v)
 -- what is found of an object, in each world in which an engine may be
 pub found_each : (place : Option ℕ) (object : ℕ) (old : Engine) (is : Option Value) → ((o : Outline) (facts : List Fact) → StandsFor old.outside.world o facts → may_find o.kinds place ≡ true → is ≡ found facts place object) → may_find (kinds_of old.program.now) place ≡ true → InEach old (λ w. found w.facts place object ≡ is)
 found_each place object old is h may g w same world = sym (h (outline g.program old.outside.world.area.keep) w.facts world.0.stands (ap (λ (p : CoreProgram). may_find (kinds_of p) place) (sym same) ∙ may))
-
--- the value of a global variable, of which these are the cells
-pub record KeptAs (fact : Option Value) (cells : List Cell) : Type 0 where
-  pub v : Value
-  pub is : fact ≡ Some v
-  pub cells_are : cells ≡ cells_of v
-  pub formed : IsFormed v
-
-if_formed : (b : Bool) (v u : Value) (rest : Option Value) → (if b then Some u else rest) ≡ Some v → IsFormed u → (rest ≡ Some v → IsFormed v) → IsFormed v
-if_formed true v u rest e h k = subst IsFormed (let same : u ≡ v = cc in same) h
-if_formed false v u rest e h k = k e
-
-value_formed : (facts : List Fact) (place object : ℕ) (v : Value) → All (λ (fact : Fact). IsFormed fact.value) facts → value_at facts place object ≡ Some v → IsFormed v
-value_formed [] place object v h e = absurd (let no : None ≡ Some v = e in cc)
-value_formed (fact ∷ facts) place object v h e =
-    if_formed (is_at place object fact) v fact.value (value_at facts place object) e (All-head (λ (f : Fact). IsFormed f.value) fact facts h)
-    (value_formed facts place object v (All-tail (λ (f : Fact). IsFormed f.value) fact facts h))
-
-kept_as : (fact : Option Value) (cells : List Cell) → Some cells ≡ option_map cells_of fact → ((v : Value) → fact ≡ Some v → IsFormed v) → KeptAs fact cells
-kept_as None cells e h = absurd (let no : Some cells ≡ None = e in cc)
-kept_as (Some v) cells e h = record { v = v; is = refl; cells_are = (let same : cells ≡ cells_of v = cc in same); formed = h v refl }
-
-kept_none : (fact : Option Value) → None ≡ option_map cells_of fact → fact ≡ None
-kept_none None e = refl
-kept_none (Some v) e = absurd (let no : None ≡ Some (cells_of v) = e in cc)
 
 module _ (place : ℕ) (old : Engine) (kept : Option (List Cell)) (h : (o : Outline) (facts : List Fact) → StandsFor old.outside.world o facts → IsKind o place GlobalKind → kept ≡ option_map cells_of (value_at facts place 0)) (kind : slice_get (kinds_of old.program.now) place ≡ Some GlobalKind) where
   value_kept : InEach old (λ w. kept ≡ option_map cells_of (value_at w.facts place 0))

@@ -8,22 +8,9 @@ use Rattle.dg_meaning.specs.Moves.{numbers, object_branches}
 use Rattle.dg_meaning.specs.Context.{stays}
 use Rattle.dg_meaning.specs.Keeps.{open_at}
 use Rattle.dg_interp.specs.Frames.{has_some}
-use Rattle.dg_interp.specs.Trying.{counted, trial_branches}
-
--- all of them
-pub numbers_counted : {A : Type 0} (n : ℕ) (xs : List A) → numbers n xs ≡ counted n (length xs)
-numbers_counted n [] = refl
-numbers_counted n (x ∷ xs) = ap (λ l. n ∷ l) (numbers_counted (suc n) xs)
-
--- the first of some, and those behind it
-pub counted_first : (from end : ℕ) → from < end → counted from (end - from) ≡ from ∷ counted (from + 1) (end - (from + 1))
-counted_first from end lt =
-    let more : end - from ≡ suc (end - (from + 1)) = omega (arith, lt) in
-    let next : suc from ≡ from + 1 = omega arith in
-    ap (counted from) more ∙ ap (λ n. from ∷ counted n (end - (from + 1))) next
-
-counted_none : (from end : ℕ) → end ≤ from → counted from (end - from) ≡ []
-counted_none from end le = let none : end - from ≡ 0 = omega (arith, le) in ap (counted from) none
+use Rattle.dg_outside.specs.Finding.{counted}
+use Rattle.dg_outside.proofs.Finds.{counted_first, counted_none}
+use Rattle.dg_interp.specs.Trying.{trial_branches}
 
 pub counted_some : (from end : ℕ) → has_some (counted from (end - from)) ≡ nat_lt from end
 counted_some from end =

@@ -41,11 +41,13 @@ use Rattle.dg_interp.specs.declared.engine.Engine.{Engine}
 use Rattle.dg_terms.specs.Terms.{Overflows}
 use Rattle.dg_interp.specs.Querying.{mark_of}
 use Rattle.dg_interp.specs.Frames.{stretch, values_in, mark_steps, steps_behind, branches_of, EndsBy, IsLeft, has_some}
-use Rattle.dg_interp.specs.Trying.{may_find, counted, trial_branches}
+use Rattle.dg_outside.specs.Finding.{may_find, counted}
+use Rattle.dg_interp.specs.Trying.{trial_branches}
 use Rattle.dg_interp.specs.Giving.{SolvesAt}
 use Rattle.dg_interp.specs.Finding.{made_values, TriesObjectsAt, FindsAt}
 use Rattle.dg_interp.specs.Engine.{Point, store_in, KeepsPlaces, steps_of, HasPlace, IsSound, IsReady, IsPushed, FailsAt, FullAt, BeginsAt, OpensAt, Leads, SameLimits, WentWrong, kept_if, open_in}
-use Rattle.dg_interp.proofs.Trials.{numbers_counted, counted_first, counted_some, trials_all}
+use Rattle.dg_outside.proofs.Finds.{numbers_counted, counted_first, same_copy, behind_simple}
+use Rattle.dg_interp.proofs.Trials.{counted_some, trials_all}
 use Rattle.dg_terms.proofs.Stores.{kept_here}
 use Rattle.dg_interp.proofs.Stores.{values_kept, values_count, hold_front, appended_stretch}
 use Rattle.dg_interp.proofs.Links.{SameBy, same_here, behind_same, at_same, frame_raise}
@@ -56,7 +58,7 @@ use Rattle.dg_interp.proofs.Begun.{begun_values, begun_sound, begun_there}
 use Rattle.dg_interp.proofs.Opens.{chosen, pushed_behind, pushed_there}
 use Rattle.dg_interp.proofs.Giving.{with_store, acts_on, same_agrees}
 use Rattle.dg_interp.proofs.TakingOut.{made_heap}
-use Rattle.dg_interp.proofs.Findings.{InEach, same_copy, behind_simple, worked_none}
+use Rattle.dg_interp.proofs.Findings.{InEach, worked_none}
 
 -- ## An object that is found
 

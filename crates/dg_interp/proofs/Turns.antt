@@ -35,6 +35,7 @@ use Rattle.dg_unify.specs.Engines.{Agrees}
 use Rattle.dg_outside.specs.declared.outside.Outside.{Outside}
 use Rattle.dg_meaning.specs.Choosing.{Picks}
 use Rattle.dg_outside.specs.Outside.{picks_in, MayPick, StartsOutside}
+use Rattle.dg_outside.proofs.Picks.{may_fewer}
 use Rattle.dg_interp.specs.Engine.{store_in, limit_in, IsReady, StandsAt, Starts, Taken}
 use Rattle.dg_interp.proofs.Links.{behind_end}
 
@@ -61,9 +62,6 @@ pub reverse_pop : {A : Type 0} (old new : List A) (x : A) → old ≡ new ++ x �
 reverse_pop old new x e = ap reverse e ∙ reverse-append new (x ∷ [])
 
 -- ## A goal is taken
-
-may_fewer : (m n : ℕ) (picks : List Picks) → m ≤ n → MayPick n picks → MayPick m picks
-may_fewer m n picks le h k d lt = let few = h k d lt in omega (arith, le, few)
 
 module _ (old : Engine) (x : Goal) (goals : Bor (List Goal)) (left : ℕ) (ready : IsReady old) (split : old.here.goals.now ≡ x ∷ goals.now) (less : old.left ≡ suc left) where
   abbrev fs : List Frame

@@ -4,3 +4,4 @@ pub mod Picks
 pub mod Starting
 pub mod Closing
 pub mod Gathering
+pub mod Finds

@@ -6,13 +6,13 @@ ghost use Rattle.dg_meaning.specs.Facts.{kinds_of, value_at};
 ghost use Rattle.dg_meaning.specs.Changes.{found as the_found};
 ghost use Rattle.dg_unify.specs.Store.{Holds};
 ghost use Rattle.dg_interp.specs.Engine.{IsReady, TakesAt, Branches, FullAt, store_in};
-ghost use Rattle.dg_interp.specs.Trying.{may_find};
+ghost use Rattle.dg_outside.specs.Finding.{may_find};
 ghost use Rattle.dg_interp.specs.Finding.{made_values, ReadsAt, AsksPlaceAt, AsksObjectsAt};
 
 use super::Engine;
-use crate::finding::{copy, first_of, found, second_of, simple};
+use crate::finding::{copy, first_of, second_of, simple};
 use dg_base::{PlaceKind, Term};
-use dg_outside::{Subject, kind_of, subject_of};
+use dg_outside::{Subject, found, kind_of, subject_of};
 use dg_unify::{Bindings, Full};
 
 impl<'p> Engine<'p> {

@@ -5,15 +5,15 @@ ghost use Rattle.dg_unify.specs.Store.{Holds};
 ghost use Rattle.dg_interp.specs.declared.frames.Left.TheVariants.{Things};
 ghost use Rattle.dg_interp.specs.Frames.{IsLeft, EndsBy, stays_with};
 ghost use Rattle.dg_interp.specs.Engine.{IsReady, IsSound, BeginsAt, HasPlace, Branches, Tries, FullAt, branches_left, store_in};
-ghost use Rattle.dg_interp.specs.Trying.{may_find as the_may_find};
+ghost use Rattle.dg_outside.specs.Finding.{may_find as the_may_find};
 ghost use Rattle.dg_interp.specs.Finding.{FindsAt, TriesObjectsAt};
 
 use super::querying::body_mark;
 use super::{Engine, keep, stretch};
-use crate::finding::{found, may_find, simple};
+use crate::finding::simple;
 use crate::frames::{Env, Frame, Left, Trial};
 use dg_base::Simple;
-use dg_outside::objects_of;
+use dg_outside::{found, may_find, objects_of};
 use dg_terms::unify_all;
 use dg_unify::{Bindings, Full, Mark as Place};
 
