@@ -48,7 +48,8 @@ use Rattle.dg_interp.specs.Running.{HasText, Writes, Gave, Awaits, Stretch, Reac
 use Rattle.dg_texts.specs.Spelling.{IsShort, SpellsSome}
 use Rattle.dg_interp.specs.Wording.{words_in, MakesAt, TakesLineAt, AwaitsInput}
 use Rattle.dg_interp.proofs.Places.{inside_in, limits_at, limits_on, adds_nothing}
-use Rattle.dg_interp.proofs.Runs.{stretched, writes_nothing, text_added, text_begins, render_grows, finished_so, ended_at, limited_at, no_more}
+use Rattle.dg_texts.proofs.Texts.{render_grows}
+use Rattle.dg_interp.proofs.Runs.{stretched, writes_nothing, text_added, text_begins, finished_so, ended_at, limited_at, no_more}
 use Rattle.dg_interp.proofs.Rounds.{stretch_on}
 use Rattle.dg_interp.proofs.Wordings.{made_grows, made_later}
 use Rattle.dg_texts.proofs.TypedLetters.{line_short}

@@ -18,7 +18,6 @@ pub mod Runs
 pub mod Waiting
 pub mod Rounds
 pub mod Whole
-pub mod PrintedWorlds
 pub mod Values
 pub mod Queries
 pub mod Equals

@@ -15,7 +15,7 @@ use Rattle.dg_base.specs.declared.run.RunFault.TheVariants.{Write, OutOfMemory}
 use Rattle.dg_meaning.specs.World.{Game, World, Event, Print, Piece, GapOf, prints}
 use Rattle.dg_meaning.specs.Path.{Result as SearchResult, Failing, End}
 use Rattle.dg_meaning.specs.Moves.{path_of, goals_at}
-use Rattle.dg_meaning.specs.Render.{Met, nothing_met, met_from, met_behind, written, render, render_from}
+use Rattle.dg_meaning.specs.Render.{nothing_met, met_from, render, render_from}
 use Rattle.dg_meaning.specs.Transcript.{Run, ending_of, text_of}
 use Rattle.dg_meaning.specs.OneRun.{Begins, Grows}
 use Rattle.dg_meaning.specs.Peaks.{Area, Heap, Trail, Aux, Keep, greatest, limit_ending}
@@ -30,6 +30,7 @@ use Rattle.dg_interp.specs.declared.engine.Engine.{Engine}
 use Rattle.dg_base.specs.Written.{SinkView, Wrote, BrokeOff}
 use Rattle.dg_spacing.specs.Spacer.{StandsFor}
 use Rattle.dg_meaning.specs.Growth.{growth}
+use Rattle.dg_texts.proofs.Texts.{render_append, render_grows}
 use Rattle.dg_texts.specs.Printing.{Added, as_prints, growth_of, AddsAll}
 use Rattle.dg_interp.specs.Frames.{mark_steps, steps_behind, values_in}
 use Rattle.dg_outside.specs.declared.lack.Lack.{Lack}
@@ -45,17 +46,6 @@ use Rattle.dg_interp.proofs.Places.{limits_at, adds_nothing, adds_on, adds_drops
 use Rattle.dg_interp.proofs.Goals.{prints_word, prints_gap, quits}
 
 -- ## Text
-
-render_more : (m : Met) (xs ys : List Print) → render_from m (xs ++ ys) ≡ render_from m xs ++ render_from (met_from m xs) ys
-render_more m [] ys = refl
-render_more m (x ∷ xs) ys = ap (λ l. written m x ++ l) (render_more (met_behind m x) xs ys) ∙ sym (append_assoc (written m x) (render_from (met_behind m x) xs) (render_from (met_from (met_behind m x) xs) ys))
-
-pub render_append : (xs ys : List Print) → render (xs ++ ys) ≡ render xs ++ render_from (met_from nothing_met xs) ys
-unfolding render
-render_append xs ys = render_more nothing_met xs ys
-
-pub render_grows : (es : List Print) (e : Print) → render (es ++ e ∷ []) ≡ render es ++ growth es e
-render_grows es e = render_append es (e ∷ []) ∙ ap (λ l. render es ++ l) (append-nil (growth es e))
 
 -- what was written of a run's text so far
 pub text_begins : (part whole : List Event) → Begins part whole → (a b : SinkView) → BrokeOff a b (text_of part) → BrokeOff a b (text_of whole)

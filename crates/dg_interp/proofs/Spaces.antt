@@ -38,7 +38,8 @@ use Rattle.dg_interp.specs.Running.{GoalDone, Reaches, IsBroken}
 use Rattle.dg_interp.proofs.Takes.{store_sound, store_ready}
 use Rattle.dg_interp.proofs.Places.{inside_in, limits_on}
 use Rattle.dg_base.specs.Streams.{SourceView}
-use Rattle.dg_interp.proofs.Runs.{gave_nothing, stretched, reads_nothing, text_added, text_begins, render_grows}
+use Rattle.dg_texts.proofs.Texts.{render_grows}
+use Rattle.dg_interp.proofs.Runs.{gave_nothing, stretched, reads_nothing, text_added, text_begins}
 use Rattle.dg_interp.proofs.Giving.{with_store, steps_kept, kept_limits, written_acts}
 
 pub spaces_held : (term : Term) → terms_held (out-Goal (GapN term)) ≡ term ∷ []

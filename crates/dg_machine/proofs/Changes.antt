@@ -111,10 +111,10 @@ module _ (code : Code) (g : Game) (l : Limits) (m : Mid) (out out' : Outside) (o
       (record { stands = (refl, room); outside = tt })
 
 -- what became of a change with the values of Refs
-pub became_in : (g : Game) (t : Tables) (k : PlaceKind) (place : ℕ) (sets : Bool) (s : Store) (args refs : List Ref) (vs : List Value) (m : Mid) (o : Outline) (facts : List Fact) (before after : FactsWorld) (b b' : Answer Bool KeepFull) → IsOf g.program t → args ≡ refs → RefsAt s refs vs → s.state ≡ m.state → b ≡ b' →
-    Became o facts (change_of t.objects k place sets (all_in_store s args)) before after b → Became o facts (change_of (length g.program.objects) k place sets (map (resolved m.state.subst) vs)) before after b'
-became_in g t k place sets s args refs vs m o facts before after b b' is_of same at state e h =
+pub became_in : (g : Game) (n : ℕ) (k : PlaceKind) (place : ℕ) (sets : Bool) (s : Store) (args refs : List Ref) (vs : List Value) (m : Mid) (o : Outline) (facts : List Fact) (before after : FactsWorld) (b b' : Answer Bool KeepFull) → n ≡ length g.program.objects → args ≡ refs → RefsAt s refs vs → s.state ≡ m.state → b ≡ b' →
+    Became o facts (change_of n k place sets (all_in_store s args)) before after b → Became o facts (change_of (length g.program.objects) k place sets (map (resolved m.state.subst) vs)) before after b'
+became_in g n k place sets s args refs vs m o facts before after b b' count same at state e h =
     let values : all_in_store s args ≡ map (resolved m.state.subst) vs = ap (all_in_store s) same ∙ all_told s.state.subst s refs vs at ∙ ap (λ (x : State). map (resolved x.subst) vs) state in
     subst (Became o facts (change_of (length g.program.objects) k place sets (map (resolved m.state.subst) vs)) before after) e
     (subst (λ l. Became o facts (change_of (length g.program.objects) k place sets l) before after b) values
-    (subst (λ n. Became o facts (change_of n k place sets (all_in_store s args)) before after b) is_of.objects h))
+    (subst (λ i. Became o facts (change_of i k place sets (all_in_store s args)) before after b) count h))

@@ -66,7 +66,8 @@ use Rattle.dg_machine.proofs.Hands.{nothing_more, no_jump}
 use Rattle.dg_machine.proofs.Leads.{charged_led}
 use Rattle.dg_machine.proofs.Outsides.{DrawsNone, quiet_draws, has_does, has_outside}
 use Rattle.dg_machine.proofs.Leaving.{block_is}
-use Rattle.dg_machine.proofs.Texts.{render_grows}
+use Rattle.dg_texts.proofs.Texts.{render_grows}
+use Rattle.dg_machine.proofs.Prints.{said_done, said_lost}
 
 empty_list : {A : Type 0} (xs : List A) → length xs < 1 → xs ≡ []
 empty_list [] lt = refl
@@ -223,6 +224,7 @@ fails_act tb code r action.Stop rest q j u s k d v t g is_of l m o b at h = absu
 fails_act tb code r (action.Text name) rest q j u s k d v t g is_of l m o b at h = absurd q
 fails_act tb code r (action.Gap kind) rest q j u s k d v t g is_of l m o b at h = absurd q
 fails_act tb code r (action.GapN x) rest q j u s k d v t g is_of l m o b at h = absurd q
+fails_act tb code r (action.Print x) rest q j u s k d v t g is_of l m o b at h = absurd q
 fails_act tb code r (action.Random x y z) rest q j u s k d v t g is_of l m o b at h = absurd q
 fails_act tb code r (action.Now place xs sets) rest q j u s k d v t g is_of l m o b at h = absurd q
 fails_act tb code r (action.Arith f x y z) rest q j u s k d v t g is_of l m o b at h = absurd (v f x y z refl)
@@ -248,13 +250,14 @@ other_goal (op.Shield alt) e b q d k la t br on tr qu lq = b
 other_goal (op.Collect x y alt) e b q d k la t br on tr qu lq = b
 other_goal x e b q d k la t br on tr qu lq = absurd (cc)
 
-pub quiet_else : (a : Action) → ((name : _) → a ≡ action.Text name → ⊥) → ((kind : _) → a ≡ action.Gap kind → ⊥) → ((x : Term) → a ≡ action.GapN x → ⊥) → ((x y z : Term) → a ≡ action.Random x y z → ⊥) → ((place : ℕ) (xs : List Term) (sets : Bool) → a ≡ action.Now place xs sets → ⊥) → IsQuiet a
-quiet_else (action.Text name) t g n d w = t name refl
-quiet_else (action.Gap kind) t g n d w = g kind refl
-quiet_else (action.GapN x) t g n d w = n x refl
-quiet_else (action.Random x y z) t g n d w = d x y z refl
-quiet_else (action.Now place xs sets) t g n d w = w place xs sets refl
-quiet_else a t g n d w = tt
+pub quiet_else : (a : Action) → ((name : _) → a ≡ action.Text name → ⊥) → ((kind : _) → a ≡ action.Gap kind → ⊥) → ((x : Term) → a ≡ action.GapN x → ⊥) → ((x : Term) → a ≡ action.Print x → ⊥) → ((x y z : Term) → a ≡ action.Random x y z → ⊥) → ((place : ℕ) (xs : List Term) (sets : Bool) → a ≡ action.Now place xs sets → ⊥) → IsQuiet a
+quiet_else (action.Text name) t g n p d w = t name refl
+quiet_else (action.Gap kind) t g n p d w = g kind refl
+quiet_else (action.GapN x) t g n p d w = n x refl
+quiet_else (action.Print x) t g n p d w = p x refl
+quiet_else (action.Random x y z) t g n p d w = d x y z refl
+quiet_else (action.Now place xs sets) t g n p d w = w place xs sets refl
+quiet_else a t g n p d w = tt
 
 pub quiet_op : (x : Op) → ((a : Action) → x ≡ op.Do a → ⊥) → ((site : ℕ) (mode : Mode) (blocks : List ℕ) (behind : ℕ) → x ≡ op.Select site mode blocks behind → ⊥) → IsQuietOp x
 quiet_op (op.Do a) d s = absurd (d a refl)
@@ -307,6 +310,7 @@ quiet_goal g m (op.Do action.Stop) rest q b = refl
 quiet_goal g m (op.Do (action.Text name)) rest q b = absurd q
 quiet_goal g m (op.Do (action.Gap kind)) rest q b = absurd q
 quiet_goal g m (op.Do (action.GapN x)) rest q b = absurd q
+quiet_goal g m (op.Do (action.Print x)) rest q b = absurd q
 quiet_goal g m (op.Do (action.Random x y z)) rest q b = absurd q
 quiet_goal g m (op.Do (action.Now place xs sets)) rest q b = absurd q
 quiet_goal g m (op.Do a) rest q b = absurd b
@@ -366,31 +370,12 @@ keeps_none g code l next = cond-false (nat_lt l.keep 0) (EndedOf ending.KeepLimi
 -- an action has taken so many cells, and goes on with what it prints
 module _ (code : Code) (g : Game) (l : Limits) (m : Mid) (r : Memory) (n : ℕ) (ops : List Op) (a : Action) (p : Print) (rest : Bor (List Op)) (split : ops ≡ op.Do a ∷ rest.now) (at : CodeIs ops m) (h : Holds code l r (more n m))
     (done_is : does (setting g code l) (op.Do a) (record m { ops = rest.now }) ≡ RunsOf (more n (record m { ops = rest.now }))) (said_is : said_in (setting g code l) m (op.Do a ∷ rest.now) ≡ p ∷ []) where
-  abbrev set_p : Setting
-  set_p = setting g code l
-
-  first_is : m.ops ≡ op.Do a ∷ rest.now
-  first_is = at.0 ∙ split
-
-  step_is : step set_p (RunsOf m) ≡ RunsOf (more n (record m { ops = rest.now }))
-  step_is = ap (λ xs. runs set_p xs m) first_is ∙ done_is
-
-  says : said set_p (RunsOf m) ≡ p ∷ []
-  says = ap (λ s. said_to (said_in set_p m m.ops) s) step_is ∙ ap (λ ps. said_to ps (RunsOf (more n (record m { ops = rest.now })))) (ap (said_in set_p m) first_is ∙ said_is)
-
   pub printed_done : (s s' : Spacer) (k k' : SinkView) (out : Outside) → Around out g l m → ((ps : List Print) → StandsFor s ps → StandsFor s' (ps ++ p ∷ [])) → ((ps : List Print) → StandsFor s ps → Wrote k k' (growth ps p)) → GoalDone code g l r out (Runs rest) s s' k k' m
   printed_done s s' k k' out w stands wrote =
-      let built : OpsBuilt (op.Do a ∷ rest.now) = subst OpsBuilt split at.1 in
-      record {
-        stands = subst (Stands code l r (Runs rest)) (sym step_is) ((refl, built.1), h);
-        outside = subst (HasOutside out g l) (sym step_is) w;
-        writes = λ start ps text. subst (λ qs. HasText s' start k' (followed ps qs)) (sym says)
-            (record { stands = stands ps text.stands; wrote = subst (Wrote start k') (sym (render_grows ps p)) (wrote_on start k k' (render ps) (growth ps p) text.wrote (wrote ps text.stands)) });
-      }
+      said_done code g l m r n ops a (p ∷ []) rest split at h done_is said_is s s' k k' out w
+      (λ start ps text. record { stands = stands ps text.stands; wrote = subst (Wrote start k') (sym (render_grows ps p)) (wrote_on start k k' (render ps) (growth ps p) text.wrote (wrote ps text.stands)) })
 
   pub printed_lost : (s : Spacer) (k k' : SinkView) (start : SinkView) (ps : List Print) → ((ps : List Print) → StandsFor s ps → BrokeOff k k' (growth ps p)) → HasText s start k ps → GoalLost g code l k k' m start ps
-  printed_lost s k k' start ps broke text = record {
-    behind = more n (record m { ops = rest.now });
-    goes = step_is;
-    broke = subst (λ qs. BrokeOff start k' (render (followed ps qs))) (sym says) (subst (BrokeOff start k') (sym (render_grows ps p)) (broke_later start k k' (render ps) (growth ps p) text.wrote (broke ps text.stands)));
-  }
+  printed_lost s k k' start ps broke text =
+      said_lost code g l m r n ops a (p ∷ []) rest split at h done_is said_is k k' start ps
+      (subst (BrokeOff start k') (sym (render_grows ps p)) (broke_later start k k' (render ps) (growth ps p) text.wrote (broke ps text.stands)))

@@ -20,10 +20,11 @@ pub mod Compares
 pub mod Throws
 pub mod Changes
 pub mod Selects
-pub mod Texts
+pub mod Prints
 pub mod Outsides
 pub mod Goals
 pub mod Spaces
+pub mod Pieces
 pub mod Runs
 pub mod Turns
 pub mod Starts

@@ -10,11 +10,11 @@ use Rattle.dg_choose.specs.Dice.{HasDrawn}
 use Rattle.dg_meaning.specs.Values.{Value, Num, Node, value_of}
 use Rattle.dg_meaning.specs.Cells.{cells}
 use Rattle.dg_meaning.specs.Numbers.{of_numbers, calculated}
-use Rattle.dg_meaning.specs.Substitutions.{walk}
-use Rattle.dg_meaning.specs.Moves.{gives_number, looked_up, spaces}
+use Rattle.dg_meaning.specs.Substitutions.{walk, resolved}
+use Rattle.dg_meaning.specs.Moves.{gives_number, looked_up, whole_looks, spaces, printed, all_printed}
 use Rattle.dg_meaning.specs.Path.{Registers, Act, Goes, Tests, Unifies, Ends, Fails as FailsNow, Stops}
 use Rattle.dg_meaning.specs.Unify.{Equations, Unified, solve}
-use Rattle.dg_meaning.specs.World.{Game, World, Gathering, worked}
+use Rattle.dg_meaning.specs.World.{Game, World, Gathering, Piece, worked}
 use Rattle.dg_outside.specs.Outside.{HasSet, HaveGathered, InWorld, picks_in}
 use Rattle.dg_outside.specs.declared.outside.Outside.{Outside}
 use Rattle.dg_unify.specs.Store.{Store}
@@ -27,6 +27,7 @@ use Rattle.dg_mid.specs.declared.code.Code.{Code}
 use Rattle.dg_mid.specs.declared.code.RuleCode.{RuleCode}
 use Rattle.dg_mid.specs.Code.{block_at, rules_at, selected}
 use Rattle.dg_mid.specs.Reads.{outside_of}
+use Rattle.dg_meaning.specs.Pieces.{pieces}
 use Rattle.dg_mid.specs.Actions.{terms_of, act_at, registers_of, world_of, world_by, outside_in}
 use Rattle.dg_mid.specs.State.{Outside as OutsideOf, Mid, Frame as FrameOf, Place, Stop, Call as CallOf, Target, ToPred, ToBody, Way as WayOf, Goes as GoesOf, Calls as CallsOf, Choice as ChoiceOf, vars_of, stop_to}
 use Rattle.dg_mid.specs.State.{Status, Runs as RunsOf, Enters as EntersOf, Resumes as ResumesOf, Fails as FailsOf, Ended as EndedOf}
@@ -201,11 +202,16 @@ same_number : (n : Option ℕ) (v : Value) (r : Registers) (w : World) → outsi
 same_number None v r w = refl
 same_number (Some n) v r w = refl
 
+pub all_outside : (ps : List (List ℕ)) (w : World) → outside_of (all_printed ps w) ≡ outside_of w
+all_outside [] w = refl
+all_outside (p ∷ ps) w = all_outside ps (printed (Piece p) w)
+
 -- an action that draws no dice word leaves what is outside
 same_act : (g : Game) (a : Action) (m : Mid) → ActionBuilt a → DrawsNone (op.Do a) → outside_of (world_by (act_at g [] a m)) ≡ m.outside
 same_act g (action.Text name) m b d = refl
 same_act g (action.Gap kind) m b d = refl
 same_act g (action.GapN a) m b d = let v = value_of g.program (vars_of m.frames) a in same_spaces (walk m.state.subst v) (worked (looked_up (registers_of m) v) (world_of [] m))
+same_act g (action.Print a) m b d = let v = value_of g.program (vars_of m.frames) a in all_outside (pieces g.program (resolved m.state.subst v)) (worked (whole_looks (registers_of m) v) (world_of [] m))
 same_act g (action.Equal x y) m b d = refl
 same_act g (action.Test kind x) m b d = refl
 same_act g (action.Arith f x y z) m b d =

@@ -7,7 +7,7 @@ use Rattle.dg_base.specs.Written.{SinkView, Wrote, BrokeOff}
 use Rattle.dg_base.proofs.WrittenLemmas.{wrote_on, broke_first, broke_later}
 use Rattle.dg_meaning.specs.World.{Game, World, Print, prints}
 use Rattle.dg_meaning.specs.Render.{render, render_from, nothing_met, met_from}
-use Rattle.dg_machine.proofs.Texts.{render_append}
+use Rattle.dg_texts.proofs.Texts.{render_append}
 use Rattle.dg_meaning.specs.Growth.{ending_line}
 use Rattle.dg_meaning.specs.Transcript.{Run, run, transcript, text_of, closing, line_of}
 use Rattle.dg_meaning.specs.Shows.{Shows, whole}

@@ -1,7 +1,6 @@
 -- Closures, by what they capture.
 use Rattle.std.proofs.Common.{◌≡◌, ℕ, ◌+◌, ◌-◌, ◌<◌, ◌≤◌, List, [], ◌∷◌, ◌++◌, Option, Some, None, refl, sym, ap, ◌∙◌, subst, arith, length, length-drop, map, take, drop, get_or}
-use Rattle.std.specs.Prelude.{slice_get, option_map, replicate}
-use Rattle.std.proofs.lemmas.List.{length-replicate}
+use Rattle.std.specs.Prelude.{slice_get, option_map}
 use Rattle.dg_base.specs.declared.program.Place.{Place}
 use Rattle.dg_base.specs.declared.program.PlaceKind.{PlaceKind}
 use Rattle.std.proofs.lemmas.Option.{slice_get-map}
@@ -125,7 +124,7 @@ slice_length ys ds h n k is e count = ap length (slice_is ys ds h n is e) ∙ le
 -- ## A program with these tables
 
 pub a_program : Tables → CoreProgram
-a_program t = record { preds = []; closures = map (λ (v : Captured). record { captured = v.vars.items; own = 0; body = [] }) t.captured.items; places = map (λ (k : PlaceKind). record { kind = k; start = [] }) t.kinds.items; objects = replicate t.objects []; words = []; sites = 0; entry = 0 }
+a_program t = record { preds = []; closures = map (λ (v : Captured). record { captured = v.vars.items; own = 0; body = [] }) t.captured.items; places = map (λ (k : PlaceKind). record { kind = k; start = [] }) t.kinds.items; objects = t.objects.items; words = t.words.items; sites = 0; entry = 0 }
 
 map_both : (vs : List Captured) → map (λ (v : Captured). v.vars.items) vs ≡ map (λ (c : ClosureBody). c.captured) (map (λ (v : Captured). record { captured = v.vars.items; own = 0; body = [] }) vs)
 map_both [] = refl
@@ -137,7 +136,7 @@ kinds_both (k ∷ ks) = ap (λ l. k ∷ l) (kinds_both ks)
 
 pub a_program_is : (t : Tables) → IsOf (a_program t) t
 unfolding a_program
-a_program_is t = record { kinds = kinds_both t.kinds.items; objects = sym (length-replicate t.objects []); captured = map_both t.captured.items }
+a_program_is t = record { kinds = kinds_both t.kinds.items; words = refl; objects = refl; captured = map_both t.captured.items }
 
 -- ## Terms that are no pair
 

@@ -37,6 +37,7 @@ abbrev pub ActionBuilt : Action → Type 0
 ActionBuilt (action.Text name) = Unit {0}
 ActionBuilt (action.Gap kind) = Unit {0}
 ActionBuilt (action.GapN a) = Unit {0}
+ActionBuilt (action.Print a) = Unit {0}
 ActionBuilt (action.Equal a b) = Unit {0}
 ActionBuilt (action.Test kind a) = Unit {0}
 ActionBuilt (action.Arith f a b c) = Unit {0}
@@ -85,6 +86,7 @@ abbrev pub IsQuiet : Action → Type 0
 IsQuiet (action.Text name) = ⊥
 IsQuiet (action.Gap kind) = ⊥
 IsQuiet (action.GapN a) = ⊥
+IsQuiet (action.Print a) = ⊥
 IsQuiet (action.Random a b c) = ⊥
 IsQuiet (action.Now place terms sets) = ⊥
 IsQuiet a = Unit {0}

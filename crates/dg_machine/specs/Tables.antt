@@ -1,5 +1,5 @@
 -- What a machine keeps of a program beside its code. Hold it against dg_base/src/program.rt.
-use Rattle.std.specs.Prelude.{ℕ, ◌≡◌, List, [], Option, Some, None, length, map, slice_get}
+use Rattle.std.specs.Prelude.{ℕ, ◌≡◌, List, [], Option, Some, None, map, slice_get}
 use Rattle.dg_meaning.specs.Facts.{kinds_of}
 use Rattle.dg_base.specs.declared.program.ClosureBody.{ClosureBody}
 use Rattle.dg_base.specs.declared.program.CoreProgram.{CoreProgram}
@@ -9,7 +9,8 @@ use Rattle.dg_machine.specs.declared.tables.Tables.{Tables}
 -- The tables are those of a program.
 pub record IsOf (p : CoreProgram) (t : Tables) : Type 0 where
   pub kinds : t.kinds.items ≡ kinds_of p
-  pub objects : t.objects ≡ length p.objects
+  pub words : t.words.items ≡ p.words
+  pub objects : t.objects.items ≡ p.objects
   pub captured : map (λ (v : Captured). v.vars.items) t.captured.items ≡ map (λ (c : ClosureBody). c.captured) p.closures
 
 -- The variables of a list, where there is one.

@@ -14,6 +14,7 @@ mod selecting;
 mod steps;
 mod tables;
 mod terms;
+mod texts;
 mod writing;
 
 pub use machine::Machine;

@@ -311,7 +311,7 @@ impl Memory {
     }
 
     /// The argument of that number.
-    fn arg(&self, at: usize) -> Ref
+    pub fn arg(&self, at: usize) -> Ref
         requires { (vs : List Value) × RefsAt (meaning_of self.now.arena) self.now.args.items vs × (at < length vs) }
         ensures { (vs : List Value) → RefsAt (meaning_of self.now.arena) self.now.args.items vs →
             (meaning_of self.now.arena).value result ≡ Some (get_or vs at (leaf Nil)) }

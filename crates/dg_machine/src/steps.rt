@@ -216,6 +216,32 @@ fn print_spaces<'p, K: Sink>(
     }
 }
 
+/// The value of a term is printed.
+fn print_term<'p, K: Sink>(
+    memory: &mut Memory,
+    tables: &Tables,
+    ops: &'p [Op],
+    term: &'p Term,
+    rest: &'p [Op],
+    spacer: &mut Spacer,
+    sink: &mut K,
+) -> Result<Now<'p>, WriteFault>
+    requires some { (code : TheCode) × (l : Limits) × (m : Mid) × Holds code l memory.old m }
+    requires whole { ops.now ≡ op.Do (action.Print term.now) ∷ rest.now }
+    ensures ok { (out : TheOutside) → IfOk result (λ now. (code : TheCode) → DoesGoal tables.now code memory.old out ops.now memory.new out now spacer.old
+        spacer.new (K.view sink.old) (K.view sink.new)) }
+    ensures err { OnErr result ((code : TheCode) → LosesGoal tables.now code memory.old ops.now spacer.old (K.view sink.old) (K.view sink.new)) }
+    ensures roomy { OnErr result ((code : TheCode) → (l : Limits) → (m : Mid) → Holds code l memory.old m → Roomy l memory.new) }
+{
+    match memory.put_one(tables, term) {
+        Err(_) => Ok(Now::Ended(Ending::HeapLimit)),
+        Ok(()) => match memory.print_arg(tables, spacer, sink) {
+            Ok(()) => Ok(Now::Runs(rest)),
+            Err(fault) => Err(fault),
+        },
+    }
+}
+
 /// Does an action.
 fn do_action<'p, K: Sink>(
     memory: &mut Memory,
@@ -246,6 +272,7 @@ fn do_action<'p, K: Sink>(
             Err(fault) => Err(fault),
         },
         Action::GapN(term) => print_spaces(memory, tables, ops, term, rest, spacer, sink),
+        Action::Print(term) => print_term(memory, tables, ops, term, rest, spacer, sink),
         Action::Random(a, b, into) => Ok(memory.random(tables, outside, a, b, into, rest)),
         Action::Now(place, terms, sets) => {
             Ok(memory.change(tables, outside, *place, terms.as_slice(), *sets, rest))

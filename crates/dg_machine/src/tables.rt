@@ -4,14 +4,15 @@ ghost use Rattle.dg_base.specs.declared.program.Place.{Place as ThePlace};
 ghost use Rattle.dg_machine.specs.Tables.{IsOf, captured_at};
 
 use crate::now::Captured;
-use dg_base::{CoreProgram, Place, PlaceKind};
+use dg_base::{CoreProgram, Name, Place, PlaceKind};
 use std::alloc::{AllocError, Global};
 
-/// The kinds of a program's places, how many objects it has, and for each closure the variables that it captures.
+/// The kinds of a program's places, the names of its words and objects, and for each closure the variables that it captures.
 #[derive(Drop)]
 pub struct Tables {
     pub kinds: Vec<PlaceKind>,
-    pub objects: usize,
+    pub words: Vec<Name>,
+    pub objects: Vec<Name>,
     pub captured: Vec<Captured>,
 }
 
@@ -24,6 +25,17 @@ fn copied(alloc: Global, vars: &[u16]) -> Result<Vec<u16>, AllocError>
         copy.push(*var)?;
     }
     Ok(copy)
+}
+
+/// Copies of names.
+fn names_of(alloc: Global, names: &[Name]) -> Result<Vec<Name>, AllocError>
+    ensures { IfOk result (λ copies. copies.items ≡ names.now) }
+{
+    let mut copies = Vec::with_capacity(alloc, names.len())?;
+    'names: for name in names {
+        copies.push(Name::from_slice(alloc, name.as_slice())?)?;
+    }
+    Ok(copies)
 }
 
 /// The kinds of places.
@@ -43,7 +55,8 @@ impl Tables {
         ensures { IfOk result (λ t. IsOf program.now t) }
     {
         let kinds = kinds_of(alloc, program.places.as_slice())?;
-        let objects = program.objects.as_slice().len();
+        let words = names_of(alloc, program.words.as_slice())?;
+        let objects = names_of(alloc, program.objects.as_slice())?;
         let mut captured = Vec::new(alloc);
         'closures: for closure in program.closures.as_slice() {
             let vars = closure.captured.as_slice();
@@ -55,6 +68,7 @@ impl Tables {
         }
         Ok(Tables {
             kinds,
+            words,
             objects,
             captured,
         })

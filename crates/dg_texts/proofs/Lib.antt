@@ -1,4 +1,5 @@
 pub mod PrintLemmas
 pub mod NameLemmas
+pub mod Texts
 pub mod SpellLemmas
 pub mod TypedLetters

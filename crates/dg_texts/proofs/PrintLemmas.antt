@@ -39,17 +39,17 @@ met_on : (m : Met) (es fs : List Print) → met_from m (es ++ fs) ≡ met_from (
 met_on m [] fs = refl
 met_on m (e ∷ es) fs = met_on (met_behind m e) es fs
 
-pub render_append : (m : Met) (es fs : List Print) → render_from m (es ++ fs) ≡ render_from m es ++ render_from (met_from m es) fs
-render_append m [] fs = refl
-render_append m (e ∷ es) fs =
-    ap (λ l. written m e ++ l) (render_append (met_behind m e) es fs)
+pub render_from_append : (m : Met) (es fs : List Print) → render_from m (es ++ fs) ≡ render_from m es ++ render_from (met_from m es) fs
+render_from_append m [] fs = refl
+render_from_append m (e ∷ es) fs =
+    ap (λ l. written m e ++ l) (render_from_append (met_behind m e) es fs)
     ∙ sym (append_assoc (written m e) (render_from (met_behind m e) es) (render_from (met_from (met_behind m e) es) fs))
 
 growth_append : (es : List Print) (ps qs : List (List ℕ)) → growth_of es (ps ++ qs) ≡ growth_of es ps ++ growth_of (es ++ as_prints ps) qs
 growth_append es ps qs =
     let m = met_from nothing_met es in
     ap (render_from m) (map-append Piece ps qs)
-    ∙ render_append m (as_prints ps) (as_prints qs)
+    ∙ render_from_append m (as_prints ps) (as_prints qs)
     ∙ ap (λ x. render_from m (as_prints ps) ++ render_from x (as_prints qs)) (sym (met_on nothing_met es (as_prints ps)))
 
 pub adds_none : (s : Spacer) (a : SinkView) → AddsAll [] s s a a

@@ -41,7 +41,7 @@ returns-in-Err-event-clause-err g c code game is_of l m at h start ps text =
 
 pub returns-in_default-clause-ok : goal.returns-in_default-clause-ok
 returns-in_default-clause-ok g c code game is_of l m o e at h w =
-    quiet_done c.args.tables.now code game is_of l m c.args.memory.now c.act.new.memory c.act.result c.args.ops.now (op.Do c.args.action.now) c.args.rest.now c.requires.whole at h c.args.spacer.now (g.K.Sink.view c.args.sink.now) c.args.outside.now o w (quiet_else c.args.action.now c.in_default.not-Text c.in_default.not-Gap c.in_default.not-GapN c.in_default.not-Random c.in_default.not-Now) (c.act.ensures code)
+    quiet_done c.args.tables.now code game is_of l m c.args.memory.now c.act.new.memory c.act.result c.args.ops.now (op.Do c.args.action.now) c.args.rest.now c.requires.whole at h c.args.spacer.now (g.K.Sink.view c.args.sink.now) c.args.outside.now o w (quiet_else c.args.action.now c.in_default.not-Text c.in_default.not-Gap c.in_default.not-GapN c.in_default.not-Print c.in_default.not-Random c.in_default.not-Now) (c.act.ensures code)
 
 pub returns-in-Random-clause-ok : goal.returns-in-Random-clause-ok
 returns-in-Random-clause-ok g c code game is_of l m o e at h w =
@@ -64,3 +64,6 @@ returns-in-Now-clause-ok g c code game is_of l m o e at h w =
     let built : OpsBuilt (op.Do a ∷ rest) = subst OpsBuilt split at.1 in
     silent_with c.args.tables.now code game is_of l m c.args.memory.now c.change.new.self c.change.result c.args.ops.now (op.Do a) rest split at h c.args.spacer.now (g.K.Sink.view c.args.sink.now) c.change.new.outside
     (quiet_change (setting game code l) m x.place c.as_slice-in-Now.result.now x.sets rest) (c.change.ensures.does code game is_of l (record m { ops = rest }) built.0 (refl, built.1) h w)
+
+pub returns-in-Print-clause-ok : goal.returns-in-Print-clause-ok
+returns-in-Print-clause-ok g c = c.print_term.ensures.ok c.args.outside.now
