@@ -1,8 +1,9 @@
 -- Whole runs of a machine.
-use Rattle.std.proofs.Common.{◌≡◌, ℕ, suc, ◌+◌, ◌<◌, ◌≤◌, ◌-◌, List, ◌++◌, None, true, false, refl, sym, ap, ◌∙◌, subst, arith, inl, inr}
+use Rattle.std.proofs.Common.{◌≡◌, ℕ, suc, ◌+◌, ◌<◌, ◌≤◌, ◌-◌, List, ◌++◌, Option, Some, None, true, false, refl, sym, ap, ◌∙◌, subst, arith, inl, inr}
 use Rattle.dg_base.specs.declared.run.Limits.{Limits}
 use Rattle.dg_base.specs.declared.run.Ending.{Ending}
 use Rattle.dg_base.specs.declared.run.Ending.TheVariants.{StepLimit}
+use Rattle.dg_base.specs.declared.run.Outcome.{Outcome}
 use Rattle.dg_base.specs.Written.{SinkView, Wrote, BrokeOff}
 use Rattle.dg_base.proofs.WrittenLemmas.{wrote_on, broke_first, broke_later}
 use Rattle.dg_meaning.specs.World.{Game, World, Print, prints}
@@ -10,7 +11,7 @@ use Rattle.dg_meaning.specs.Render.{render, render_from, nothing_met, met_from}
 use Rattle.dg_texts.proofs.Texts.{render_append}
 use Rattle.dg_meaning.specs.Growth.{ending_line}
 use Rattle.dg_meaning.specs.Transcript.{Run, run, transcript, text_of, closing, line_of}
-use Rattle.dg_meaning.specs.Shows.{Shows, whole}
+use Rattle.dg_meaning.specs.Shows.{IsLeft, Shows, whole}
 use Rattle.dg_meaning.specs.OneRun.{Grows}
 use Rattle.dg_meaning.proofs.Keeps.{stands_happened}
 use Rattle.dg_meaning.proofs.Dropping.{prints_append}
@@ -24,7 +25,7 @@ use Rattle.dg_mid.specs.Codes.{Codes}
 use Rattle.dg_mid.specs.Units.{one_if}
 use Rattle.dg_mid.specs.Potential.{IsOver}
 use Rattle.dg_mid.specs.Reads.{At, RunsAt}
-use Rattle.dg_mid.specs.Runs.{after, closed_text}
+use Rattle.dg_mid.specs.Runs.{after, left_after, closed_text}
 use Rattle.dg_mid.proofs.Whole.{is_at}
 use Rattle.dg_mid.proofs.Shown.{shows_all}
 use Rattle.dg_mid.proofs.Heights.{all_ordered}
@@ -141,25 +142,45 @@ module _ (code : Code) (g : Game) (l : Limits) (typed : List ℕ) where
 
 -- ## From the start to the closing
 
+-- what a source tells of what is left
+pub shows_told : (g : Game) (typed : List ℕ) (l : Limits) (bytes : List ℕ) (outcome : Outcome) (left : List ℕ) (told : Option (List ℕ)) → IsLeft told left → Shows g typed l bytes outcome (Some left) → Shows g typed l bytes outcome told
+shows_told g typed l bytes outcome left told is (inl h) = inl (record { text = h.text; ending = h.ending; goals = h.goals; left_is = subst (IsLeft told) h.left_is is })
+shows_told g typed l bytes outcome left told is (inr h) = inr (record {
+  area = h.area;
+  ending = h.ending;
+  goals = h.goals;
+  passed = h.passed;
+  part = h.part;
+  text = h.text;
+  until = h.until;
+  since = h.since;
+  none_before_the_first = h.none_before_the_first;
+  input = record { rest = h.input.rest; left_is = subst (IsLeft told) h.input.left_is is; since = h.input.since; until = h.input.until };
+  covers = h.covers;
+})
+
 module _ (code : Code) (g : Game) (l : Limits) (codes : Codes g.program code) (typed : List ℕ) where
   abbrev the_set : Setting
   the_set = setting g code l
 
   -- how a run has ended, by its closing line
-  ended_shows : (e : Ending) (left steps : ℕ) → EndsSo e left (after the_set typed steps).now → (after the_set typed steps).goals ≡ l.steps - left → left ≤ l.steps → Shows g typed l (closed_text (after the_set typed steps).prints (line_of e)) (record { ending = e; goals = l.steps - left }) None
-  ended_shows e left steps (inl is) goals le = subst (λ n. Shows g typed l (closed_text (after the_set typed steps).prints (line_of e)) (record { ending = e; goals = n }) None) goals ((shows_all g code l codes typed).ends steps e is (omega (arith, goals)))
+  ended_shows : (e : Ending) (left steps : ℕ) → EndsSo e left (after the_set typed steps).now → (after the_set typed steps).goals ≡ l.steps - left → left ≤ l.steps →
+      Shows g typed l (closed_text (after the_set typed steps).prints (line_of e)) (record { ending = e; goals = l.steps - left }) (Some (left_after the_set typed steps))
+  ended_shows e left steps (inl is) goals le =
+      subst (λ n. Shows g typed l (closed_text (after the_set typed steps).prints (line_of e)) (record { ending = e; goals = n }) (Some (left_after the_set typed steps))) goals ((shows_all g code l codes typed).ends steps e is (omega (arith, goals)))
   ended_shows e left steps (inr limited) goals le =
       let none = limited.1 in
       let all : l.steps - left ≡ l.steps = omega (arith, none) in
-      subst (λ x. Shows g typed l (closed_text (after the_set typed steps).prints (line_of x)) (record { ending = x; goals = l.steps - left }) None) (sym limited.0)
-      (subst (λ n. Shows g typed l (closed_text (after the_set typed steps).prints (line_of StepLimit)) (record { ending = StepLimit; goals = n }) None) (sym all) ((shows_all g code l codes typed).limited steps (goals ∙ all) limited.2))
+      let rest = Some (left_after the_set typed steps) in
+      subst (λ x. Shows g typed l (closed_text (after the_set typed steps).prints (line_of x)) (record { ending = x; goals = l.steps - left }) rest) (sym limited.0)
+      (subst (λ n. Shows g typed l (closed_text (after the_set typed steps).prints (line_of StepLimit)) (record { ending = StepLimit; goals = n }) rest) (sym all) ((shows_all g code l codes typed).limited steps (goals ∙ all) limited.2))
 
   pub shown : (e : Ending) (left : ℕ) (r : Memory) (s : Spacer) (start k k' : SinkView) → HasEnded code g l typed (l.steps - left) e left r s start k → left ≤ l.steps → ((ps : List Print) → StandsFor s ps → Wrote k k' (ending_line ps (line_of e))) → HasShown g typed l (record { ending = e; goals = l.steps - left }) None start k'
   shown e left r s start k k' h le close =
       let ps = (after the_set typed h.steps).prints in
       record {
         bytes = closed_text ps (line_of e);
-        shows = ended_shows e left h.steps h.ends h.goals_is le;
+        shows = shows_told g typed l _ _ (left_after the_set typed h.steps) None tt (ended_shows e left h.steps h.ends h.goals_is le);
         wrote = wrote_on start k k' (render ps) (ending_line ps (line_of e)) h.text.wrote (close ps h.text.stands);
       }
 
@@ -168,7 +189,7 @@ module _ (code : Code) (g : Game) (l : Limits) (codes : Codes g.program code) (t
       let ps = (after the_set typed h.steps).prints in
       record {
         bytes = closed_text ps (line_of e);
-        may_write = whole (record { ending = e; goals = l.steps - left }) None (ended_shows e left h.steps h.ends h.goals_is le);
+        may_write = whole (record { ending = e; goals = l.steps - left }) _ (ended_shows e left h.steps h.ends h.goals_is le);
         broke = broke_later start k k' (render ps) (ending_line ps (line_of e)) h.text.wrote (close ps h.text.stands);
       }
 
