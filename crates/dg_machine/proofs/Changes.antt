@@ -17,8 +17,6 @@ use Rattle.dg_meaning.specs.Moves.{changes}
 use Rattle.dg_meaning.specs.Changes.{change_of}
 use Rattle.dg_world.specs.Tables.{Outline}
 use Rattle.dg_world.specs.Worlds.{StandsFor}
-use Rattle.dg_machine.specs.Tables.{IsOf}
-use Rattle.dg_machine.specs.declared.tables.Tables.{Tables}
 use Rattle.dg_world.specs.declared.change.KeepFull.{KeepFull}
 use Rattle.dg_world.specs.declared.world.World.{World as FactsWorld}
 use Rattle.dg_lists.specs.Formed.{IsFormed}

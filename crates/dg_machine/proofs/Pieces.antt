@@ -3,7 +3,6 @@ use Rattle.std.proofs.Common.{◌≡◌, ℕ, List, [], ◌∷◌, ◌++◌, ref
 use Rattle.dg_base.specs.declared.program.Term.{Term}
 use Rattle.dg_base.specs.declared.run.Ending.TheVariants.{HeapLimit}
 use Rattle.dg_base.specs.declared.run.Limits.{Limits}
-use Rattle.dg_base.specs.declared.writing.WriteFault.{WriteFault}
 use Rattle.dg_base.specs.Written.{SinkView, BrokeOff}
 use Rattle.dg_meaning.specs.Values.{Value, value_of}
 use Rattle.dg_meaning.specs.Cells.{cells}

@@ -258,9 +258,9 @@ impl Memory {
         let Some(kind) = tables.kind_of(place) else {
             return Now::Fails;
         };
-        let objects = tables.objects.len();
+        let objects = tables.objects.as_slice();
         let args = self.args.as_slice();
-        match outside.change(&mut self.arena, objects, kind, place, args, sets) {
+        match outside.change(&mut self.arena, objects.len(), kind, place, args, sets) {
             Err(_) => Now::Ended(Ending::KeepLimit),
             Ok(false) => Now::Fails,
             Ok(true) => Now::Runs(rest),

@@ -35,10 +35,10 @@ returns-in-Err-clause-changes c code g is_of l m vs at h refs w =
     let held : Holds code l new m = on_arena code l m m.state c.args.self.now c.change.new.store h (subst (Kept s) (sym same) (kept_same s)) c.in-Err.ensures.saved (ap (λ (t : Store). t.state) same ∙ h.0.state_is) (omega arith) in
     let there : slice_get (kinds_of g.program) place ≡ Some kind = sym (c.in-Some.ensures ∙ ap (λ ks. slice_get ks place) is_of.kinds) in
     let o = outline g.program out.world.area.keep in
-    let count : c.len-objects.result ≡ length g.program.objects = c.len-objects.ensures ∙ ap length is_of.objects in
+    let count : length c.as_slice-objects.result.now ≡ length g.program.objects = ap length (c.as_slice-objects.ensures.value ∙ is_of.objects) in
     let looks = change_looks kind (registers_of m) vs in
     let a = change_of (length g.program.objects) kind place c.args.sets (map (resolved m.state.subst) vs) in
-    let became = became_in g c.len-objects.result kind place c.args.sets s c.as_slice-args.result.now c.args.self.now.args.items vs m o m.outside.facts out.world out2.world (Err c.in-Err.field-0) (Err c.in-Err.field-0) count c.as_slice-args.ensures.value refs h.0.state_is refl (c.in-Err.ensures.became o m.outside.facts w.0.0.stands there (sym count) w.0.0.room) in
+    let became = became_in g (length c.as_slice-objects.result.now) kind place c.args.sets s c.as_slice-args.result.now c.args.self.now.args.items vs m o m.outside.facts out.world out2.world (Err c.in-Err.field-0) (Err c.in-Err.field-0) count c.as_slice-args.ensures.value refs h.0.state_is refl (c.in-Err.ensures.became o m.outside.facts w.0.0.stands there (sym count) w.0.0.room) in
     subst (λ k. StandsWith code g l new (Ended KeepLimit) out2 (done (setting g code l) (change_place g place k vs c.args.sets [] (registers_of m) (world_of [] m)) m)) (sym there)
     (change_full code g l m out out2 c.in-Err.ensures.others c.in-Err.ensures.row c.in-Err.ensures.limit w new kind looks a c.in-Err.field-0 (roomy code l m new held) became)
 
@@ -54,10 +54,10 @@ returns-in-Ok-true-clause-changes c code g is_of l m vs at h refs w =
     let held : Holds code l new m = on_arena code l m m.state c.args.self.now c.change.new.store h (subst (Kept s) (sym same) (kept_same s)) c.in-Ok-true.ensures.saved (ap (λ (t : Store). t.state) same ∙ h.0.state_is) (omega arith) in
     let there : slice_get (kinds_of g.program) place ≡ Some kind = sym (c.in-Some.ensures ∙ ap (λ ks. slice_get ks place) is_of.kinds) in
     let o = outline g.program out.world.area.keep in
-    let count : c.len-objects.result ≡ length g.program.objects = c.len-objects.ensures ∙ ap length is_of.objects in
+    let count : length c.as_slice-objects.result.now ≡ length g.program.objects = ap length (c.as_slice-objects.ensures.value ∙ is_of.objects) in
     let looks = change_looks kind (registers_of m) vs in
     let a = change_of (length g.program.objects) kind place c.args.sets (map (resolved m.state.subst) vs) in
-    let became = became_in g c.len-objects.result kind place c.args.sets s c.as_slice-args.result.now c.args.self.now.args.items vs m o m.outside.facts out.world out2.world (Ok c.in-Ok-true.field-0) (Ok true) count c.as_slice-args.ensures.value refs h.0.state_is (ap Ok c.in-Ok-true.field-0-test) (c.in-Ok-true.ensures.became o m.outside.facts w.0.0.stands there (sym count) w.0.0.room) in
+    let became = became_in g (length c.as_slice-objects.result.now) kind place c.args.sets s c.as_slice-args.result.now c.args.self.now.args.items vs m o m.outside.facts out.world out2.world (Ok c.in-Ok-true.field-0) (Ok true) count c.as_slice-args.ensures.value refs h.0.state_is (ap Ok c.in-Ok-true.field-0-test) (c.in-Ok-true.ensures.became o m.outside.facts w.0.0.stands there (sym count) w.0.0.room) in
     subst (λ k. StandsWith code g l new (Runs c.args.rest) out2 (done (setting g code l) (change_place g place k vs c.args.sets [] (registers_of m) (world_of [] m)) m)) (sym there)
     (change_on code g l m out out2 c.in-Ok-true.ensures.others c.in-Ok-true.ensures.row c.in-Ok-true.ensures.limit w new c.args.rest kind looks a at held became)
 
@@ -73,9 +73,9 @@ returns-in-Ok-false-clause-changes c code g is_of l m vs at h refs w =
     let held : Holds code l new m = on_arena code l m m.state c.args.self.now c.change.new.store h (subst (Kept s) (sym same) (kept_same s)) c.in-Ok-false.ensures.saved (ap (λ (t : Store). t.state) same ∙ h.0.state_is) (omega arith) in
     let there : slice_get (kinds_of g.program) place ≡ Some kind = sym (c.in-Some.ensures ∙ ap (λ ks. slice_get ks place) is_of.kinds) in
     let o = outline g.program out.world.area.keep in
-    let count : c.len-objects.result ≡ length g.program.objects = c.len-objects.ensures ∙ ap length is_of.objects in
+    let count : length c.as_slice-objects.result.now ≡ length g.program.objects = ap length (c.as_slice-objects.ensures.value ∙ is_of.objects) in
     let looks = change_looks kind (registers_of m) vs in
     let a = change_of (length g.program.objects) kind place c.args.sets (map (resolved m.state.subst) vs) in
-    let became = became_in g c.len-objects.result kind place c.args.sets s c.as_slice-args.result.now c.args.self.now.args.items vs m o m.outside.facts out.world out2.world (Ok c.in-Ok-false.field-0) (Ok false) count c.as_slice-args.ensures.value refs h.0.state_is (ap Ok c.in-Ok-false.field-0-test) (c.in-Ok-false.ensures.became o m.outside.facts w.0.0.stands there (sym count) w.0.0.room) in
+    let became = became_in g (length c.as_slice-objects.result.now) kind place c.args.sets s c.as_slice-args.result.now c.args.self.now.args.items vs m o m.outside.facts out.world out2.world (Ok c.in-Ok-false.field-0) (Ok false) count c.as_slice-args.ensures.value refs h.0.state_is (ap Ok c.in-Ok-false.field-0-test) (c.in-Ok-false.ensures.became o m.outside.facts w.0.0.stands there (sym count) w.0.0.room) in
     subst (λ k. StandsWith code g l new Fails out2 (done (setting g code l) (change_place g place k vs c.args.sets [] (registers_of m) (world_of [] m)) m)) (sym there)
     (change_not code g l m out out2 c.in-Ok-false.ensures.others c.in-Ok-false.ensures.row c.in-Ok-false.ensures.limit w new kind looks a held became)
