@@ -64,7 +64,7 @@ use Rattle.dg_machine.specs.Refs.{AreRefs}
 use Rattle.dg_machine.proofs.Opens.{roomy}
 use Rattle.dg_machine.proofs.Hands.{nothing_more, no_jump}
 use Rattle.dg_machine.proofs.Leads.{charged_led}
-use Rattle.dg_machine.proofs.Outsides.{DrawsNone, quiet_draws, has_does, has_outside}
+use Rattle.dg_machine.proofs.Outsides.{DrawsNone, quiet_draws, has_does, has_outside, run_outside, enter_outside, resume_outside}
 use Rattle.dg_machine.proofs.Leaving.{block_is}
 use Rattle.dg_texts.proofs.Texts.{render_grows}
 use Rattle.dg_machine.proofs.Prints.{said_done, said_lost}
@@ -107,39 +107,41 @@ quiet_mark : (g : Setting) (m : Mid) (x : Op) (rest : List Op) → is_goal x ≡
 quiet_mark g m (op.Do a) rest e = absurd (cc)
 quiet_mark g m x rest e = refl
 
-pub marks_run : (tb : Tables) (code : Code) (old new : Memory) (now : Now) (ops : Bor (List Op)) (x : Op) (rest : List Op) → ops.now ≡ x ∷ rest → is_goal x ≡ false → DoesMark code old ops x rest new now → DoesMarks tb code old (Runs ops) new now
-marks_run tb code old new now ops x rest split e does g is_of l (RunsOf m) o t h =
+pub marks_run : (tb : Tables) (code : Code) (old new : Memory) (out : Outside) (now : Now) (ops : Bor (List Op)) (x : Op) (rest : List Op) → ops.now ≡ x ∷ rest → is_goal x ≡ false → DoesMark code old ops x rest new now → DoesMarks tb code old out (Runs ops) new out now
+marks_run tb code old new out now ops x rest split e does g is_of l (RunsOf m) o t h w =
     let is : m.ops ≡ x ∷ rest = h.0.0 ∙ split in
     let built : OpsBuilt (x ∷ rest) = subst OpsBuilt split h.0.1 in
     let done = does g l (record m { ops = rest }) o built.0 (refl, built.1) h.1 in
     record {
       stands = subst (λ xs. Stands code l new now (runs (setting g code l) xs m)) (sym is) done.stands;
+      outside = run_outside out g l code m.ops m (subst OpsBuilt (sym h.0.0) h.0.1) t h.1.1.stop_is w;
       falls = λ over. done.falls;
       quiet = ap (λ ps. said_to ps (step (setting g code l) (RunsOf m))) (ap (said_in (setting g code l) m) is ∙ quiet_mark (setting g code l) m x rest e);
     }
-marks_run tb code old new now ops x rest split e does g is_of l s o t h = absurd h
+marks_run tb code old new out now ops x rest split e does g is_of l s o t h w = absurd h
 
-pub marks_none : (tb : Tables) (code : Code) (r : Memory) (ops : Bor (List Op)) → length ops.now < 1 → DoesMarks tb code r (Runs ops) r Fails
-marks_none tb code r ops lt g is_of l (RunsOf m) o t h =
+pub marks_none : (tb : Tables) (code : Code) (r : Memory) (out : Outside) (ops : Bor (List Op)) → length ops.now < 1 → DoesMarks tb code r out (Runs ops) r out Fails
+marks_none tb code r out ops lt g is_of l (RunsOf m) o t h w =
     let none : m.ops ≡ [] = h.0.0 ∙ empty_list ops.now lt in
     record {
       stands = subst (λ xs. Stands code l r Fails (runs (setting g code l) xs m)) (sym none) h.1;
+      outside = subst (λ xs. HasOutside out g l (runs (setting g code l) xs m)) (sym none) w;
       falls = λ over. omega arith;
       quiet = ap (λ ps. said_to ps (step (setting g code l) (RunsOf m))) (ap (said_in (setting g code l) m) none);
     }
-marks_none tb code r ops lt g is_of l s o t h = absurd h
+marks_none tb code r out ops lt g is_of l s o t h w = absurd h
 
-pub marks_enter : (tb : Tables) (code : Code) (old new : Memory) (now : Now) (k : Call) (ops : Bor (List Op)) → EntersRule tb code old k ops new now → DoesMarks tb code old (Enters k ops) new now
-marks_enter tb code old new now k ops enters g is_of l (EntersOf c m) o t h = let done = enters g is_of l m c h.0 h.1 h.2 in record { stands = done.stands; falls = λ over. done.falls; quiet = refl }
-marks_enter tb code old new now k ops enters g is_of l s o t h = absurd h
+pub marks_enter : (tb : Tables) (code : Code) (old new : Memory) (out : Outside) (now : Now) (k : Call) (ops : Bor (List Op)) → EntersRule tb code old k ops new now → DoesMarks tb code old out (Enters k ops) new out now
+marks_enter tb code old new out now k ops enters g is_of l (EntersOf c m) o t h w = let done = enters g is_of l m c h.0 h.1 h.2 in record { stands = done.stands; outside = enter_outside out g l code c m w; falls = λ over. done.falls; quiet = refl }
+marks_enter tb code old new out now k ops enters g is_of l s o t h w = absurd h
 
-pub marks_resume : (tb : Tables) (code : Code) (old new : Memory) (now : Now) (way : Way) → GoesOn code old way new now → DoesMarks tb code old (Resumes way) new now
-marks_resume tb code old new now way goes g is_of l (ResumesOf on m) o t h = let done = goes g l m on h.0 h.1 in record { stands = done.stands; falls = λ over. done.falls; quiet = refl }
-marks_resume tb code old new now way goes g is_of l s o t h = absurd h
+pub marks_resume : (tb : Tables) (code : Code) (old new : Memory) (out : Outside) (now : Now) (way : Way) → IsBuilt code → GoesOn code old way new now → DoesMarks tb code old out (Resumes way) new out now
+marks_resume tb code old new out now way built goes g is_of l (ResumesOf on m) o t h w = let done = goes g l m on h.0 h.1 in record { stands = done.stands; outside = resume_outside out g l code _ _ way on m built h.0 w; falls = λ over. done.falls; quiet = refl }
+marks_resume tb code old new out now way built goes g is_of l s o t h w = absurd h
 
-pub marks_fail : (tb : Tables) (code : Code) (old new : Memory) (now : Now) → FailsTo code old new now → DoesMarks tb code old Fails new now
-marks_fail tb code old new now fails g is_of l (FailsOf m) o t h = let done = fails l m h in record { stands = done.stands; falls = λ over. done.falls; quiet = refl }
-marks_fail tb code old new now fails g is_of l s o t h = absurd h
+pub marks_fail : (tb : Tables) (code : Code) (old new : Memory) (out out' : Outside) (now : Now) → FailsTo code old out new now out' → DoesMarks tb code old out Fails new out' now
+marks_fail tb code old new out out' now fails g is_of l (FailsOf m) o t h w = let failed = fails g l m h w in record { stands = failed.done.stands; outside = failed.outside; falls = λ over. failed.done.falls; quiet = refl }
+marks_fail tb code old new out out' now fails g is_of l s o t h w = absurd h
 
 -- ## What memory holds before a step
 
@@ -340,7 +342,7 @@ module _ (tb : Tables) (code : Code) (g : Game) (is_of : IsOf g.program tb) (l :
   pub silent_done : (s : Spacer) (k : SinkView) (out : Outside) → MidOrdered m → Around out g l m → said_in set m (x ∷ rest) ≡ [] → DrawsNone x → DoesOp tb code old x rest new now → GoalDone code g l new out now s s k k m
   silent_done s k out o w silent draws led =
       let stands = led g is_of l (record m { ops = rest }) o built_here.0 (refl, built_here.1) h in
-      silent_with s k out silent (record { stands = stands; outside = has_outside out g code l new now (record m { ops = rest }) (does set x (record m { ops = rest })) h.1.height_is stands (has_does set x (record m { ops = rest }) built_here.0 draws) w })
+      silent_with s k out silent (record { stands = stands; outside = has_outside out g l (record m { ops = rest }) (does set x (record m { ops = rest })) (has_does set x (record m { ops = rest }) built_here.0 draws h.1.stop_is) w })
 
   pub quiet_done : (s : Spacer) (k : SinkView) (out : Outside) → MidOrdered m → Around out g l m → IsQuietOp x → DoesOp tb code old x rest new now → GoalDone code g l new out now s s k k m
   quiet_done s k out o w quiet led = silent_done s k out o w (quiet_goal set m x rest quiet built_here.0) (quiet_draws x quiet) led

@@ -113,7 +113,7 @@ choices_kept code xs ys is js rs qs (m ∷ ms) (k ∷ ks) (c ∷ cs) a b d h = (
     inner_are = h.0.inner_are;
     frames_few = h.0.frames_few;
     inners_few = h.0.inners_few;
-    none_open = h.0.none_open;
+    open_then = h.0.open_then;
     older_are = h.0.older_are;
   },
   h.1,

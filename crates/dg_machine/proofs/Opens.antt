@@ -1,12 +1,15 @@
 -- What the calls of memory leave in it.
-use Rattle.std.proofs.Common.{append_assoc, drop, append-nil, ◌≡◌, ℕ, zero, suc, ◌+◌, ◌*◌, ◌<◌, ◌≤◌, List, [], ◌∷◌, ◌++◌, Some, None, IsTrue, false, refl, sym, ap, ◌∙◌, subst, arith, length, reverse, take, drop, ◌-◌, vec_capacity, length-append}
+use Rattle.std.proofs.Common.{append_assoc, drop, append-nil, ◌≡◌, ℕ, zero, suc, ◌+◌, ◌*◌, ◌<◌, ◌≤◌, List, [], ◌∷◌, ◌++◌, Some, None, IsTrue, false, refl, sym, ap, ◌∙◌, subst, arith, length, reverse, take, drop, ◌-◌, vec_capacity, length-append, min, inl, inr}
 use Rattle.std.specs.List.{slice_get}
-use Rattle.std.proofs.lemmas.List.{length-reverse, reverse-append, length-take-le}
+use Rattle.std.proofs.lemmas.List.{length-reverse, reverse-append, length-take-le, length-drop}
+use Rattle.std.proofs.lemmas.Bool.{cases_lt}
+use Rattle.std.proofs.Math.Nat.{min-eq_left, min_comm}
 use Rattle.std.proofs.lemmas.Option.{slice_get_within}
 use Rattle.std.proofs.Math.Seq.{take-append_seam, drop-append_seam}
 use Rattle.dg_base.specs.declared.run.Limits.{Limits}
 use Rattle.dg_meaning.specs.Values.{Value}
 use Rattle.dg_meaning.specs.OneRun.{Begins}
+use Rattle.dg_meaning.specs.World.{Gathering}
 use Rattle.dg_meaning.proofs.OneRun.{begins_same}
 use Rattle.dg_unify.specs.Store.{State, Store, Saved, Kept, Charged, HeapFull, marked, Back}
 use Rattle.dg_unify.specs.declared.bindings.Mark.{Mark}
@@ -25,7 +28,7 @@ use Rattle.dg_unify.specs.declared.bindings.Ref.{Ref}
 use Rattle.dg_machine.specs.Refs.{RowAt}
 use Rattle.dg_machine.specs.Built.{most_args}
 use Rattle.dg_machine.specs.Links.{named}
-use Rattle.dg_machine.specs.Layout.{RefsFit, InnersAt, FramesAt, WayAt, NoneOpen, ChoicesAt, HasRoom, Limited, Roomy, Lacks, Holds, WentBack, HasFrameRoom, in_frame, heap_in, limit_in}
+use Rattle.dg_machine.specs.Layout.{RefsFit, InnersAt, FramesAt, WayAt, ChoicesAt, HasRoom, Limited, Roomy, Lacks, Holds, WentBack, HasFrameRoom, in_frame, heap_in, limit_in}
 use Rattle.dg_machine.specs.Measure.{way_left, choices_left}
 use Rattle.dg_machine.proofs.Kept.{way_kept, inners_kept, frames_kept, choices_kept}
 use Rattle.dg_machine.proofs.Cuts.{drops}
@@ -211,12 +214,12 @@ taken_length : {A : Type 0} (n : ℕ) (xs : List A) → n ≤ length xs → leng
 taken_length n xs le = length-take-le n xs le
 
 pub opened : (code : Code) (l : Limits) (m : Mid) (on : WayOf) (n : ℕ) (r new : Memory) (a : Arena) (k : Choice) → Holds code l r m → WayAt code (meaning_of r.arena) (take n r.args.items) k.way on → n ≤ length r.args.items →
-    k.frame ≡ r.frame → k.inner ≡ r.inner → k.frames ≡ length r.frames.items → k.inners ≡ length r.inners.items → k.refs ≡ length r.kept.items → k.args ≡ n →
+    k.frame ≡ r.frame → k.inner ≡ r.inner → k.frames ≡ length r.frames.items → k.inners ≡ length r.inners.items → k.refs ≡ length r.kept.items → k.args ≡ n → k.gathered ≡ r.gathered →
     Kept (meaning_of r.arena) (meaning_of a) → ((ms : List Saved) → saves_of r.arena ms → saves_of a (record { mark = k.mark; store = meaning_of a } ∷ ms)) → (meaning_of a).state ≡ marked (meaning_of r.arena).state →
     Kept (meaning_of a) (meaning_of new.arena) → ((ms : List Saved) → saves_of a ms → saves_of new.arena ms) → Charged (10 + n) (meaning_of a) (meaning_of new.arena) →
     new.kept.items ≡ r.kept.items ++ take n r.args.items → new.choices.items ≡ r.choices.items ++ k ∷ [] → HasRoom (record r { arena = new.arena; choices = new.choices; kept = new.kept }) →
     Holds code l (record r { arena = new.arena; choices = new.choices; kept = new.kept }) (inside on n m)
-opened code l m on n r new a k h way few_args frame inner frames inners refs args kept saved same kept' saved' charged kept_items items room =
+opened code l m on n r new a k h way few_args frame inner frames inners refs args gathered kept saved same kept' saved' charged kept_items items room =
     let stand : saves_of a (record { mark = k.mark; store = meaning_of a } ∷ h.0.saves) = saved h.0.saves h.0.stand in
     let state : (meaning_of a).state ≡ marked m.state = same ∙ ap marked h.0.state_is in
     let few = h.0.room in
@@ -255,7 +258,7 @@ opened code l m on n r new a k h way few_args frame inner frames inners refs arg
             inner_are = subst (λ i. InnersAt r.inners.items i m.inner) (sym inner) h.0.inner_are;
             frames_few = omega (arith, few.frames_few, heap);
             inners_few = omega (arith, few.inners_few, heap);
-            none_open = h.1;
+            open_then = record { stops_are = h.1.stops_are; stop_is = h.1.stop_is; gathered = h.1.gathered ∙ sym gathered };
             older_are = h.0.choices_are;
           },
           omega (arith, few.choices_few, heap, length-reverse r.choices.items),
@@ -382,18 +385,19 @@ pub record SameLimits (s t : Store) : Type 0 where
 limits_then : (a : Arena) (sv : Saved) (ms : List Saved) → saves_of a (sv ∷ ms) → SameLimits sv.store (meaning_of a)
 limits_then a sv ms h = record { heap = ap (λ (s : Store). s.heap_limit) h.0.3.store; trail = ap (λ (s : Store). s.trail_limit) h.0.3.store }
 
-none_left : {A : Type 0} (gs : List A) (h n : ℕ) → length gs ≡ 0 → length (drop n gs) ≡ 0
-none_left [] h zero e = refl
-none_left [] h (suc n) e = refl
-none_left (g ∷ gs) h n e = absurd (omega (arith, e))
-
 undo_in : (code : Code) (xs : List Frame) (is : List Inner) (rs : List Ref) (a : Arena) (ms : List Saved) (k : Choice) (ks : List Choice) (cs : List ChoiceOf) → saves_of a ms → ChoicesAt code xs is rs ms (k ∷ ks) cs → (s : Store) × (ms : List Saved) × saves_of a (record { mark = k.mark; store = s } ∷ ms)
 undo_in code xs is rs a [] k ks cs stand h = absurd h
 undo_in code xs is rs a (m ∷ ms) k ks [] stand h = absurd h
 undo_in code xs is rs a (m ∷ ms) k ks (c ∷ cs) stand h = (m.store, ms, subst (λ x. saves_of a (record { mark = x; store = m.store } ∷ ms)) h.0.mark stand)
 
-no_open : (c : ChoiceOf) (m : Mid) → NoneOpen m.stops m.stop (length m.gathered) → NoneOpen c.stops c.stop c.height → NoneOpen c.stops c.stop (length (gathered_to c.height m.gathered))
-no_open c m h k = record { stops_are = k.stops_are; stop_is = k.stop_is; height_is = none_left m.gathered c.height (length m.gathered - c.height) h.height_is }
+-- so many gatherings are open where a choice is gone back to
+left_open : (gs : List Gathering) (height now then next : ℕ) → length gs ≡ now → height ≡ then → next ≡ min now then → length (gathered_to height gs) ≡ next
+left_open gs height now then next e f is =
+    let some = length-drop (length gs - height) gs in
+    elim (cases_lt now then) [
+      | inl lt ↦ let least : next ≡ now = is ∙ min-eq_left (omega (arith, lt)) in omega (arith, some, e, f, lt, least)
+      | inr ge ↦ let least : next ≡ then = is ∙ min_comm now then ∙ min-eq_left ge in omega (arith, some, e, f, ge, least)
+    ]
 
 -- what a choice keeps of Refs
 pub record KeptRefs (all then args : List Ref) (at count : ℕ) : Type 0 where
@@ -425,6 +429,7 @@ pub record WentBackTo (k : Choice) (r new : Memory) : Type 0 where
   pub path_room : vec_capacity new.path ≡ vec_capacity r.path
   pub frame : new.frame ≡ k.frame
   pub inner : new.inner ≡ k.inner
+  pub gathered : new.gathered ≡ min r.gathered k.gathered
 
 back_in : (code : Code) (l : Limits) (m : Mid) (r new : Memory) (k : Choice) (ks : List Choice) (ms : List Saved) (cs : List ChoiceOf) → Holds code l r m → reverse r.choices.items ≡ k ∷ ks → reverse new.choices.items ≡ ks →
     ((s : Store) → (ms : List Saved) → saves_of r.arena (record { mark = k.mark; store = s } ∷ ms) → Back s (meaning_of new.arena)) →
@@ -486,7 +491,7 @@ back_in code l m r new k ks (sv ∷ ms) (c ∷ cs) h is older back saved to stan
             };
           };
         },
-        no_open c m h.1 x.none_open,
+        record { stops_are = x.open_then.stops_are; stop_is = x.open_then.stop_is; gathered = left_open m.gathered c.height r.gathered k.gathered new.gathered h.1.gathered x.open_then.gathered to.gathered },
       ),
     )
 

@@ -37,9 +37,7 @@ use Rattle.dg_machine.specs.declared.memory.Memory.{Memory}
 use Rattle.dg_machine.specs.Layout.{Holds}
 use Rattle.dg_machine.specs.Measure.{left_of}
 use Rattle.dg_machine.specs.Standing.{CodeIs, Stands, HasOutside}
-use Rattle.dg_machine.specs.Built.{IsBuilt}
 use Rattle.dg_outside.specs.declared.outside.Outside.{Outside}
-use Rattle.dg_machine.proofs.Outsides.{mark_outside}
 use Rattle.dg_machine.specs.declared.tables.Tables.{Tables}
 use Rattle.dg_machine.specs.Tables.{IsOf}
 use Rattle.dg_machine.specs.Running.{rests, MarkDone, DoesMarks, DoesGoal, LosesGoal, HasText, HasSettled, Settles, IsAt, IsLost, EndsSo, HasEnded, IsLostWithin}
@@ -71,27 +69,27 @@ module _ (code : Code) (g : Game) (l : Limits) (typed : List ℕ) where
   abbrev set : Setting
   set = setting g code l
 
-  pub settled_nowhere : (r : Memory) (now : Now) (steps : ℕ) → Stands code l r now (after set typed steps).now → HasSettled code g l typed steps r now
-  settled_nowhere r now steps h = record { further = steps; stands = h; outside = λ out w. w; goals = refl; prints = refl }
+  pub settled_nowhere : (r : Memory) (out : Outside) (now : Now) (steps : ℕ) → Stands code l r now (after set typed steps).now → HasOutside out g l (after set typed steps).now → HasSettled code g l typed steps r out now
+  settled_nowhere r out now steps h w = record { further = steps; stands = h; outside = w; goals = refl; prints = refl }
 
   -- one more step
-  pub one_mark : (tb : Tables) → IsOf g.program tb → (r new : Memory) (now next : Now) (steps : ℕ) → rests now ≡ false → DoesMarks tb code r now new next → Stands code l r now (after set typed steps).now → MarkDone code g l r now new next (after set typed steps).now
-  one_mark tb is_of r new now next steps e does h = does g is_of l (after set typed steps).now (all_ordered set typed steps) (at_mark code l r now (after set typed steps).now e h).no_goal h
+  pub one_mark : (tb : Tables) → IsOf g.program tb → (r new : Memory) (out out' : Outside) (now next : Now) (steps : ℕ) → rests now ≡ false → DoesMarks tb code r out now new out' next → Stands code l r now (after set typed steps).now → HasOutside out g l (after set typed steps).now → MarkDone code g l r now new out' next (after set typed steps).now
+  one_mark tb is_of r new out out' now next steps e does h w = does g is_of l (after set typed steps).now (all_ordered set typed steps) (at_mark code l r now (after set typed steps).now e h).no_goal h w
 
-  pub settled_on : IsBuilt code → (tb : Tables) → IsOf g.program tb → (mid new : Memory) (now next : Now) (steps : ℕ) → rests now ≡ false → DoesMarks tb code mid now new next → HasSettled code g l typed steps mid now → HasSettled code g l typed steps new next
-  settled_on built tb is_of mid new now next steps e does h =
-      let done = one_mark tb is_of mid new now next h.further e does h.stands in
+  pub settled_on : (tb : Tables) → IsOf g.program tb → (mid new : Memory) (out out' : Outside) (now next : Now) (steps : ℕ) → rests now ≡ false → DoesMarks tb code mid out now new out' next → HasSettled code g l typed steps mid out now → HasSettled code g l typed steps new out' next
+  settled_on tb is_of mid new out out' now next steps e does h =
+      let done = one_mark tb is_of mid new out out' now next h.further e does h.stands h.outside in
       let mark = at_mark code l mid now (after set typed h.further).now e h.stands in
       record {
         further = suc h.further;
         stands = done.stands;
-        outside = λ out w. mark_outside out g code l mid new now next (after set typed h.further).now built mark.no_goal h.stands done.stands (h.outside out w);
+        outside = done.outside;
         goals = ap (λ b. one_if b + (after set typed h.further).goals) mark.no_goal ∙ (let same : 0 + (after set typed h.further).goals ≡ (after set typed h.further).goals = omega arith in same) ∙ h.goals;
         prints = ap (followed (after set typed h.further).prints) done.quiet ∙ h.prints;
       }
 
-  pub mark_falls : (tb : Tables) → IsOf g.program tb → (r new : Memory) (now next : Now) (steps : ℕ) → rests now ≡ false → DoesMarks tb code r now new next → Stands code l r now (after set typed steps).now → left_of new next < left_of r now
-  mark_falls tb is_of r new now next steps e does h = (one_mark tb is_of r new now next steps e does h).falls (at_mark code l r now (after set typed steps).now e h).goes_on
+  pub mark_falls : (tb : Tables) → IsOf g.program tb → (r new : Memory) (out out' : Outside) (now next : Now) (steps : ℕ) → rests now ≡ false → DoesMarks tb code r out now new out' next → Stands code l r now (after set typed steps).now → HasOutside out g l (after set typed steps).now → left_of new next < left_of r now
+  mark_falls tb is_of r new out out' now next steps e does h w = (one_mark tb is_of r new out out' now next steps e does h w).falls (at_mark code l r now (after set typed steps).now e h).goes_on
 
   -- ## Goals
 
@@ -107,21 +105,21 @@ module _ (code : Code) (g : Game) (l : Limits) (typed : List ℕ) where
   goal_at r ops s h = absurd h
 
   -- the next goal was taken, and steps behind it
-  pub took_goal : (tb : Tables) → IsOf g.program tb → (old mid new : Memory) (out out' : Outside) (ops : Bor (List Op)) (next now : Now) (s s' : Spacer) (k k' : SinkView) (goals : ℕ) (start : SinkView) → at_goal ops.now ≡ true → DoesGoal tb code old out ops.now mid out' next s s' k k' → Settles tb code mid next new now →
-      IsAt code g l typed old out (Runs ops) goals s start k → IsAt code g l typed new out' now (1 + goals) s' start k'
-  took_goal tb is_of old mid new out out' ops next now s s' k k' goals start e does settles h =
+  pub took_goal : (tb : Tables) → IsOf g.program tb → (old mid new : Memory) (out out' behind : Outside) (ops : Bor (List Op)) (next now : Now) (s s' : Spacer) (k k' : SinkView) (goals : ℕ) (start : SinkView) → at_goal ops.now ≡ true → DoesGoal tb code old out ops.now mid out' next s s' k k' → Settles tb code mid out' next new behind now →
+      IsAt code g l typed old out (Runs ops) goals s start k → IsAt code g l typed new behind now (1 + goals) s' start k'
+  took_goal tb is_of old mid new out out' behind ops next now s s' k k' goals start e does settles h =
       let at = goal_at old ops (after set typed h.steps).now h.stands in
       let ordered : StatusOrdered (RunsOf at.mid) = subst StatusOrdered at.is (all_ordered set typed h.steps) in
       let done = does g is_of l at.mid ordered e at.code_is at.held (subst (HasOutside out g l) at.is h.outside) in
       let stands : Stands code l mid next (after set typed (suc h.steps)).now = subst (λ x. Stands code l mid next (step set x)) (sym at.is) done.stands in
-      let settled = settles g is_of l typed (suc h.steps) stands in
+      let settled = settles g is_of l typed (suc h.steps) stands (subst (λ x. HasOutside out' g l (step set x)) (sym at.is) done.outside) in
       let taken : takes_goal (after set typed h.steps).now ≡ true = ap takes_goal at.is ∙ ap at_goal at.code_is.0 ∙ e in
       let one : (after set typed (suc h.steps)).goals ≡ 1 + goals = ap (λ b. one_if b + (after set typed h.steps).goals) taken ∙ ap (λ n. 1 + n) h.goals_is in
       let text : HasText s' start k' (after set typed (suc h.steps)).prints = subst (λ x. HasText s' start k' (followed (after set typed h.steps).prints (said set x))) (sym at.is) (done.writes start (after set typed h.steps).prints h.text) in
       record {
         steps = settled.further;
         stands = settled.stands;
-        outside = settled.outside out' (subst (λ x. HasOutside out' g l (step set x)) (sym at.is) done.outside);
+        outside = settled.outside;
         goals_is = settled.goals ∙ one;
         text = subst (HasText s' start k') (sym settled.prints) text;
       }

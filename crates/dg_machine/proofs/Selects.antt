@@ -25,9 +25,13 @@ use Rattle.dg_machine.specs.declared.now.Now.TheVariants.{Runs}
 use Rattle.dg_machine.specs.Layout.{Holds}
 use Rattle.dg_machine.specs.Standing.{Around, StandsWith, PicksOnce}
 
--- where no site has picked, each may pick once less
+-- where no site has picked, each may pick as often
+pub may_on : (times : ℕ) (old new : Outside) → new.sites ≡ old.sites → MayPick times (picks_in old) → MayPick times (picks_in new)
+may_on times old new same may = subst (MayPick times) (ap (λ (s : Vec Site Global). map picks_of s.items) (sym same)) may
+
+-- and once less
 pub keeps_sites : (old new : Outside) → new.sites ≡ old.sites → PicksOnce old new
-keeps_sites old new same times may = subst (MayPick times) (ap (λ (s : Vec Site Global). map picks_of s.items) (sym same)) (may_fewer times (times + 1) (picks_in old) (omega arith) may)
+keeps_sites old new same times may = may_on times old new same (may_fewer times (times + 1) (picks_in old) (omega arith) may)
 
 -- it goes on at the block of the branch that was picked
 pub picked_stands : (code : Code) (g : Game) (l : Limits) (m : Mid) (r : Memory) (out out' : Outside) (site : ℕ) (mode : Mode) (blocks : List ℕ) (behind branch : ℕ) (ops : Bor (List Op)) → IsBuilt code → PicksOne site mode (length blocks) branch out out' → ops.now ≡ block_at code (get_or blocks branch behind) → Holds code l r m → Around out g l m →

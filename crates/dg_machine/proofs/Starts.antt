@@ -76,24 +76,24 @@ no_text : (s : Spacer) (k : SinkView) → StandsFor s [] → HasText s k k []
 unfolding render
 no_text s k new = record { stands = new; wrote = wrote_nothing k }
 
-pub at_start : (code : Code) (p : CoreProgram) (dice : List ℕ) (l : Limits) (typed : List ℕ) (r : Memory) (out : Outside) (block : Bor (List Op)) (s : Spacer) (k : SinkView) → IsBuilt code → block.now ≡ block_at code 1 → HoldsWith code l r at_rest [] [] [] → StandsFor s [] → StartsOutside p l dice out → IsAt code (game p dice) l typed r out (Runs block) 0 s k k
-at_start code p dice l typed r out block s k built is held new starts = record {
+pub at_start : (code : Code) (p : CoreProgram) (dice : List ℕ) (l : Limits) (typed : List ℕ) (r : Memory) (out : Outside) (block : Bor (List Op)) (s : Spacer) (k : SinkView) → IsBuilt code → block.now ≡ block_at code 1 → HoldsWith code l r at_rest [] [] [] → r.gathered ≡ 0 → StandsFor s [] → StartsOutside p l dice out → IsAt code (game p dice) l typed r out (Runs block) 0 s k k
+at_start code p dice l typed r out block s k built is held none new starts = record {
   steps = 0;
   outside = (starts.stands (game p dice) typed refl refl, starts.keep);
-  stands = ((sym is, subst OpsBuilt (sym is) (built 1)), (held, record { stops_are = refl; stop_is = refl; height_is = refl }));
+  stands = ((sym is, subst OpsBuilt (sym is) (built 1)), (held, record { stops_are = refl; stop_is = refl; gathered = sym none }));
   goals_is = refl;
   text = no_text s k new;
 }
 
-pub somewhere_first : (tb : Tables) (code : Code) (p : CoreProgram) (dice : List ℕ) (l : Limits) (r : Memory) (out : Outside) (block : Bor (List Op)) → IsOf p tb → IsBuilt code → block.now ≡ block_at code 1 → HoldsWith code l r at_rest [] [] [] → StartsOutside p l dice out → IsSomewhereWith tb code r out (Runs block)
-somewhere_first tb code p dice l r out block is_of built is held starts = record {
+pub somewhere_first : (tb : Tables) (code : Code) (p : CoreProgram) (dice : List ℕ) (l : Limits) (r : Memory) (out : Outside) (block : Bor (List Op)) → IsOf p tb → IsBuilt code → block.now ≡ block_at code 1 → HoldsWith code l r at_rest [] [] [] → r.gathered ≡ 0 → StartsOutside p l dice out → IsSomewhereWith tb code r out (Runs block)
+somewhere_first tb code p dice l r out block is_of built is held none starts = record {
   somewhere = record {
     game = game p dice;
     tabled = is_of;
     limits = l;
     typed = [];
     steps = 0;
-    stands = ((sym is, subst OpsBuilt (sym is) (built 1)), (held, record { stops_are = refl; stop_is = refl; height_is = refl }));
+    stands = ((sym is, subst OpsBuilt (sym is) (built 1)), (held, record { stops_are = refl; stop_is = refl; gathered = sym none }));
   };
   outside = (starts.stands (game p dice) [] refl refl, starts.keep);
 }

@@ -1,5 +1,5 @@
 -- What the throw of a die leads to.
-use Rattle.std.proofs.Common.{◌≡◌, ℕ, ◌+◌, List, [], ◌∷◌, Option, Some, None, refl, sym, subst, length, arith}
+use Rattle.std.proofs.Common.{◌≡◌, ℕ, ◌+◌, List, [], ◌∷◌, Option, Some, None, refl, sym, subst, arith}
 use Rattle.dg_base.specs.declared.run.Limits.{Limits}
 use Rattle.dg_base.specs.declared.run.Ending.{Ending}
 use Rattle.dg_choose.specs.Dice.{HasDrawn}
@@ -59,15 +59,15 @@ drawn_world out new g l m n others w drawn = let v = w.0 in subst (λ x. Around 
 
 -- the number is unified with the value
 module _ (code : Code) (g : Game) (l : Limits) (m : Mid) (v : Value) (k n : ℕ) (world : World) (is : outside_of (drew 1 world) ≡ (with_drawn n m).outside) where
-  pub threw_stands : (new : Memory) (now : Now) (out : Outside) → length m.gathered ≡ 0 → Around out g l (with_drawn n m) →
+  pub threw_stands : (new : Memory) (now : Now) (out : Outside) → Around out g l (with_drawn n m) →
       Stands code l new now (unified (setting g code l) (unify m.state.subst v (leaf (Num k))) (with_drawn n m) (RunsOf (bound (unify m.state.subst v (leaf (Num k))) (with_drawn n m)))) →
       StandsWith code g l new now out (done (setting g code l) (throws (Some k) v (registers_of m) world) m)
-  threw_stands new now out none w h =
+  threw_stands new now out w h =
       let set = setting g code l in
       let es = (v, leaf (Num k)) ∷ [] in
       let s = done set (throws (Some k) v (registers_of m) world) m in
       let stands : Stands code l new now s = subst (Stands code l new now) (sym (done_unifies_in set es m (with_drawn n m).outside (drew 1 world) is)) h in
-      record { stands = stands; outside = has_outside out g code l new now (with_drawn n m) s none stands (has_unifies (with_drawn n m).outside set (registers_of m) es (drew 1 world) m is) w }
+      record { stands = stands; outside = has_outside out g l (with_drawn n m) s (has_unifies (with_drawn n m).outside m.gathered set (registers_of m) es (drew 1 world) m is refl) w }
 
 -- ## Behind cells that were taken
 

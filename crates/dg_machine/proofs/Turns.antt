@@ -49,24 +49,27 @@ somewhere_behind tb code old new out out' ops next s s' k k' e does found =
     }
 
 -- and behind a step that takes none
-pub somewhere_marked : (tb : Tables) (code : Code) (r new : Memory) (now next : Now) → rests now ≡ false → DoesMarks tb code r now new next → IsSomewhere tb code r now → IsSomewhere tb code new next
-somewhere_marked tb code r new now next e does h = record { game = h.game; tabled = h.tabled; limits = h.limits; typed = h.typed; steps = suc h.steps; stands = (one_mark code h.game h.limits h.typed tb h.tabled r new now next h.steps e does h.stands).stands }
+pub somewhere_marked : (tb : Tables) (code : Code) (r new : Memory) (out out' : Outside) (now next : Now) → rests now ≡ false → DoesMarks tb code r out now new out' next → IsSomewhereWith tb code r out now → IsSomewhereWith tb code new out' next
+somewhere_marked tb code r new out out' now next e does found =
+    let h = found.somewhere in
+    let done = one_mark code h.game h.limits h.typed tb h.tabled r new out out' now next h.steps e does h.stands found.outside in
+    record { somewhere = record { game = h.game; tabled = h.tabled; limits = h.limits; typed = h.typed; steps = suc h.steps; stands = done.stands }; outside = done.outside }
 
 -- and behind steps that take no goal
-pub somewhere_settled : (tb : Tables) (code : Code) (old new : Memory) (out : Outside) (before now : Now) → Settles tb code old before new now → IsSomewhereWith tb code old out before → IsSomewhereWith tb code new out now
-somewhere_settled tb code old new out before now settles found =
+pub somewhere_settled : (tb : Tables) (code : Code) (old new : Memory) (out out' : Outside) (before now : Now) → Settles tb code old out before new out' now → IsSomewhereWith tb code old out before → IsSomewhereWith tb code new out' now
+somewhere_settled tb code old new out out' before now settles found =
     let h = found.somewhere in
-    let x = settles h.game h.tabled h.limits h.typed h.steps h.stands in
-    record { somewhere = record { game = h.game; tabled = h.tabled; limits = h.limits; typed = h.typed; steps = x.further; stands = x.stands }; outside = x.outside out found.outside }
+    let x = settles h.game h.tabled h.limits h.typed h.steps h.stands found.outside in
+    record { somewhere = record { game = h.game; tabled = h.tabled; limits = h.limits; typed = h.typed; steps = x.further; stands = x.stands }; outside = x.outside }
 
 module _ (code : Code) (g : Game) (l : Limits) (typed : List ℕ) where
   abbrev set : Setting
   set = setting g code l
 
-  pub settled_at : (tb : Tables) → IsOf g.program tb → (old new : Memory) (out : Outside) (before now : Now) (goals : ℕ) (s : Spacer) (start k : SinkView) → Settles tb code old before new now → IsAt code g l typed old out before goals s start k → IsAt code g l typed new out now goals s start k
-  settled_at tb is_of old new out before now goals s start k settles h =
-      let x = settles g is_of l typed h.steps h.stands in
-      record { steps = x.further; stands = x.stands; outside = x.outside out h.outside; goals_is = x.goals ∙ h.goals_is; text = subst (HasText s start k) (sym x.prints) h.text }
+  pub settled_at : (tb : Tables) → IsOf g.program tb → (old new : Memory) (out out' : Outside) (before now : Now) (goals : ℕ) (s : Spacer) (start k : SinkView) → Settles tb code old out before new out' now → IsAt code g l typed old out before goals s start k → IsAt code g l typed new out' now goals s start k
+  settled_at tb is_of old new out out' before now goals s start k settles h =
+      let x = settles g is_of l typed h.steps h.stands h.outside in
+      record { steps = x.further; stands = x.stands; outside = x.outside; goals_is = x.goals ∙ h.goals_is; text = subst (HasText s start k) (sym x.prints) h.text }
 
   -- the run has ended
   ended_in : (r : Memory) (e : Ending) (goals left : ℕ) (s : Spacer) (start k : SinkView) (steps : ℕ) (x : Status) → (after set typed steps).now ≡ x → (after set typed steps).goals ≡ goals → HasText s start k (after set typed steps).prints → Stands code l r (Ended e) x → HasEnded code g l typed goals e left r s start k

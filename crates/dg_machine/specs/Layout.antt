@@ -82,14 +82,14 @@ WayAt code s refs (Goes b) (GoesOf b') = b' ≡ b
 WayAt code s refs (Calls k pred left) (CallsOf c rules) = RulesAt code s refs k pred left c rules
 WayAt code s refs way other = ⊥
 
--- No stoppable part and no gathering is open.
-pub record NoneOpen (stops : List Stop) (stop : Option ℕ) (height : ℕ) : Type 0 where
+-- No stoppable part is open, and as many gatherings as memory knows.
+pub record OpenAt (stops : List Stop) (stop : Option ℕ) (height count : ℕ) : Type 0 where
   pub stops_are : stops ≡ []
   pub stop_is : stop ≡ None
-  pub height_is : height ≡ 0
+  pub gathered : height ≡ count
 
--- A choice keeps where it goes back to: of the store a mark that stands, and of frames, inner constructs and Refs how many there were; Refs of its
--- arguments stand behind those. The older choices were made among them.
+-- A choice keeps where it goes back to: of the store a mark that stands, and of frames, inner constructs, Refs and open gatherings how many there
+-- were; Refs of its arguments stand behind those. The older choices were made among them.
 pub record ChoiceAt (older : List Frame → List Inner → List Ref → Type 0) (code : Code) (frames : List Frame) (inners : List Inner) (refs : List Ref)
     (m : Saved) (k : Choice) (c : ChoiceOf) : Type 0 where
   pub args : List Ref
@@ -113,7 +113,7 @@ pub record ChoiceAt (older : List Frame → List Inner → List Ref → Type 0) 
   pub inner_are : InnersAt inners_then k.inner c.inner
   pub frames_few : 6 * length frames_then ≤ c.state.heap
   pub inners_few : 10 * length inners_then ≤ c.state.heap
-  pub none_open : NoneOpen c.stops c.stop c.height
+  pub open_then : OpenAt c.stops c.stop c.height k.gathered
   pub older_are : older frames_then inners_then refs_then
 
 -- So does each of some choices, the newest first; each has room for those that are older.
@@ -190,9 +190,9 @@ pub record HoldsWith (code : Code) (l : Limits) (r : Memory) (state : State) (fr
   pub choices_are : ChoicesAt code r.frames.items r.inners.items r.kept.items saves (reverse r.choices.items) choices
   pub room : HasRoom r
 
--- Memory holds what a machine is in; nothing stoppable and no gathering is open in it.
+-- Memory holds what a machine is in, and knows how many gatherings are open; nothing stoppable is open in it.
 abbrev pub Holds : Code → Limits → Memory → Mid → Type 0
-Holds code l r m = HoldsWith code l r m.state m.frames m.inner m.choices × NoneOpen m.stops m.stop (length m.gathered)
+Holds code l r m = HoldsWith code l r m.state m.frames m.inner m.choices × OpenAt m.stops m.stop (length m.gathered) r.gathered
 
 -- ## What calls do to memory
 

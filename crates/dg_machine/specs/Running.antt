@@ -27,16 +27,18 @@ use Rattle.dg_machine.specs.Measure.{left_of}
 
 -- ## Steps
 
--- The machine has done a step that takes no goal: it stands for the step of what it stood for, nothing is printed, and a number has fallen.
-pub record MarkDone (code : Code) (g : Game) (l : Limits) (old : Memory) (before : Now) (new : Memory) (after : Now) (s : Status) : Type 0 where
+-- The machine has done a step that takes no goal: it stands for the step of what it stood for, and so does what is outside, nothing is printed, and a
+-- number has fallen.
+pub record MarkDone (code : Code) (g : Game) (l : Limits) (old : Memory) (before : Now) (new : Memory) (out' : Outside) (after : Now) (s : Status) : Type 0 where
   pub stands : Stands code l new after (step (setting g code l) s)
+  pub outside : HasOutside out' g l (step (setting g code l) s)
   pub falls : (IsOver s → ⊥) → left_of new after < left_of old before
   pub quiet : said (setting g code l) s ≡ []
 
-abbrev pub DoesMarks : Tables → Code → Memory → Now → Memory → Now → Type 0
-DoesMarks t code old before new after =
+abbrev pub DoesMarks : Tables → Code → Memory → Outside → Now → Memory → Outside → Now → Type 0
+DoesMarks t code old out before new out' after =
     (g : Game) → IsOf g.program t → (l : Limits) (s : Status) → StatusOrdered s → takes_goal s ≡ false → Stands code l old before s →
-    MarkDone code g l old before new after s
+    HasOutside out g l s → MarkDone code g l old before new out' after s
 
 -- A machine that needs no step before its next goal, or has ended.
 abbrev pub rests : Now → Bool
@@ -145,15 +147,16 @@ pub record IsSomewhereWith (t : Tables) (code : Code) (r : Memory) (out : Outsid
   pub somewhere : IsSomewhere t code r now
   pub outside : HasOutside out somewhere.game somewhere.limits (after (setting somewhere.game code somewhere.limits) somewhere.typed somewhere.steps).now
 
--- The machine has done steps that take no goal, which leave what is outside.
-pub record HasSettled (code : Code) (g : Game) (l : Limits) (typed : List ℕ) (steps : ℕ) (new : Memory) (now : Now) : Type 0 where
+-- The machine has done steps that take no goal.
+pub record HasSettled (code : Code) (g : Game) (l : Limits) (typed : List ℕ) (steps : ℕ) (new : Memory) (out' : Outside) (now : Now) : Type 0 where
   pub further : ℕ
   pub stands : Stands code l new now (after (setting g code l) typed further).now
-  pub outside : (out : Outside) → HasOutside out g l (after (setting g code l) typed steps).now → HasOutside out g l (after (setting g code l) typed further).now
+  pub outside : HasOutside out' g l (after (setting g code l) typed further).now
   pub goals : (after (setting g code l) typed further).goals ≡ (after (setting g code l) typed steps).goals
   pub prints : (after (setting g code l) typed further).prints ≡ (after (setting g code l) typed steps).prints
 
 -- Wherever it was.
-abbrev pub Settles : Tables → Code → Memory → Now → Memory → Now → Type 0
-Settles t code old before new now = (g : Game) → IsOf g.program t → (l : Limits) (typed : List ℕ) (steps : ℕ) →
-    Stands code l old before (after (setting g code l) typed steps).now → HasSettled code g l typed steps new now
+abbrev pub Settles : Tables → Code → Memory → Outside → Now → Memory → Outside → Now → Type 0
+Settles t code old out before new out' now = (g : Game) → IsOf g.program t → (l : Limits) (typed : List ℕ) (steps : ℕ) →
+    Stands code l old before (after (setting g code l) typed steps).now → HasOutside out g l (after (setting g code l) typed steps).now →
+    HasSettled code g l typed steps new out' now

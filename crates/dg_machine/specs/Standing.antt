@@ -203,9 +203,14 @@ QueriesLast code old many new after = (g : Game) (l : Limits) (m : Mid) (v : Val
     RefsAt (meaning_of old.arena) old.args.items (v ∷ us) →
     Stands code l new after (queries_last (setting g code l) (closure_at code (walk m.state.subst v)) us many m)
 
+-- It has failed: what is outside stands for what that leads to, where the gatherings inside the newest choice are gone.
+pub record HasFailed (code : Code) (g : Game) (l : Limits) (old new : Memory) (after : Now) (out' : Outside) (m : Mid) : Type 0 where
+  pub done : Falls code l old Fails new after (goes_back m.choices m)
+  pub outside : HasOutside out' g l (goes_back m.choices m)
+
 -- It fails.
-abbrev pub FailsTo : Code → Memory → Memory → Now → Type 0
-FailsTo code old new after = (l : Limits) (m : Mid) → Holds code l old m → Falls code l old Fails new after (goes_back m.choices m)
+abbrev pub FailsTo : Code → Memory → Outside → Memory → Now → Outside → Type 0
+FailsTo code old out new after out' = (g : Game) (l : Limits) (m : Mid) → Holds code l old m → Around out g l m → HasFailed code g l old new after out' m
 
 -- A machine stands for some status.
 pub record HasStatus (code : Code) (r : Memory) (now : Now) : Type 0 where

@@ -683,14 +683,18 @@ impl Memory {
         }
     }
 
-    /// It fails, and goes back to the newest choice.
-    pub fn fail<'p>(&mut self) -> Now<'p>
+    /// It fails, and goes back to the newest choice; what was gathered inside that is dropped.
+    pub fn fail<'p>(&mut self, outside: &mut Outside<'_>) -> Now<'p>
         requires some { (code : TheCode) × (l : Limits) × (m : Mid) × Holds code l self.old m }
-        ensures { (code : TheCode) → FailsTo code self.old self.new result }
+        ensures fails { (code : TheCode) → FailsTo code self.old outside.old self.new result outside.new }
+        ensures sites { outside.new.sites ≡ outside.old.sites }
     {
         match self.back() {
             None => Now::Ended(Ending::Failed),
-            Some(way) => Now::Resumes(way),
+            Some(way) => {
+                outside.close_to(self.gathered);
+                Now::Resumes(way)
+            }
         }
     }
 }

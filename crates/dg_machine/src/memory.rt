@@ -42,7 +42,8 @@ use dg_unify::{Bindings, Full, Ref, View, unify};
 use std::alloc::{AllocError, Global};
 
 /// A store, with areas of frames, of inner constructs, of choices and of the Refs that these keep, the arguments of a call, the
-/// values of a head, a path into a term that is written, and which frame and which inner construct are at hand.
+/// values of a head, a path into a term that is written, which frame and which inner construct are at hand, and how many
+/// gatherings are open.
 #[derive(Drop)]
 pub struct Memory {
     pub arena: Arena,
@@ -55,6 +56,7 @@ pub struct Memory {
     pub path: Vec<Side>,
     pub frame: usize,
     pub inner: usize,
+    pub gathered: usize,
 }
 
 /// Drops the choices that aren't older than a height of the heap.
@@ -99,12 +101,14 @@ impl Memory {
             path,
             frame: 0,
             inner: 0,
+            gathered: 0,
         })
     }
 
     /// Empties it.
     pub fn clear(&mut self)
-        ensures { (code : Code) → (l : Limits) → Roomy l self.old → HoldsWith code l self.new at_rest [] [] [] }
+        ensures held { (code : Code) → (l : Limits) → Roomy l self.old → HoldsWith code l self.new at_rest [] [] [] }
+        ensures none { self.new.gathered ≡ 0 }
     {
         self.arena.clear();
         self.frames.clear();
@@ -114,6 +118,7 @@ impl Memory {
         self.args.clear();
         self.frame = 0;
         self.inner = 0;
+        self.gathered = 0;
     }
 
     /// The frame at hand.
@@ -182,6 +187,7 @@ impl Memory {
                     inners: self.inners.len(),
                     refs,
                     args: count,
+                    gathered: self.gathered,
                     mark,
                 });
                 Ok(())
@@ -614,6 +620,7 @@ impl Memory {
                 move_refs(&mut self.kept, choice.refs, choice.args, &mut self.args);
                 self.frame = choice.frame;
                 self.inner = choice.inner;
+                self.gathered = self.gathered.min(choice.gathered);
                 Some(choice.way)
             }
         }

@@ -61,7 +61,7 @@ pub enum Way {
 }
 
 /// A choice: what it goes on with, the frame and the inner construct there, how many of them there were, how many Refs were
-/// kept, how many arguments it keeps behind them, and the place of the store to which it goes back.
+/// kept, how many arguments it keeps behind them, how many gatherings were open, and the place of the store to which it goes back.
 #[derive(Clone, Copy, Drop)]
 pub struct Choice {
     pub way: Way,
@@ -71,6 +71,7 @@ pub struct Choice {
     pub inners: usize,
     pub refs: usize,
     pub args: usize,
+    pub gathered: usize,
     pub mark: Mark,
 }
 

@@ -15,7 +15,7 @@ ghost use Rattle.dg_outside.specs.declared.outside.Outside.{Outside as TheOutsid
 ghost use Rattle.dg_outside.specs.Outside.{MayPick, picks_in};
 ghost use Rattle.dg_machine.specs.Layout.{HasRoom, Holds, Roomy};
 ghost use Rattle.dg_machine.specs.Standing.{DoesOp, DoesMark, HasStatus, PicksOnce};
-ghost use Rattle.dg_machine.specs.Running.{rests, DoesMarks, DoesGoal, LosesGoal, IsSomewhere, IsSomewhereWith, Settles, Takes, Loses, Finishes, LosesRun};
+ghost use Rattle.dg_machine.specs.Running.{rests, DoesMarks, DoesGoal, LosesGoal, IsSomewhereWith, Settles, Takes, Loses, Finishes, LosesRun};
 
 use crate::doing::code_at;
 use crate::memory::Memory;
@@ -95,12 +95,19 @@ fn do_mark<'p>(
 }
 
 /// Does a step that takes no goal.
-fn mark_step<'p>(memory: &mut Memory, code: &'p Code, tables: &Tables, now: Now<'p>) -> Now<'p>
+fn mark_step<'p>(
+    memory: &mut Memory,
+    code: &'p Code,
+    tables: &Tables,
+    outside: &mut Outside<'_>,
+    now: Now<'p>,
+) -> Now<'p>
     requires built { IsBuilt code.now }
     requires tidy { Tidy code.now }
     requires some { HasStatus code.now memory.old now }
     requires mark { rests now ≡ false }
-    ensures { DoesMarks tables.now code.now memory.old now.entry memory.new result }
+    ensures done { DoesMarks tables.now code.now memory.old outside.old now.entry memory.new outside.new result }
+    ensures sites { outside.new.sites ≡ outside.old.sites }
 {
     match now {
         Now::Runs(ops) => match ops {
@@ -109,7 +116,7 @@ fn mark_step<'p>(memory: &mut Memory, code: &'p Code, tables: &Tables, now: Now<
         },
         Now::Enters(call, ops) => memory.enter_rule(tables, call, ops),
         Now::Resumes(way) => memory.go_on(code, way),
-        Now::Fails => memory.fail(),
+        Now::Fails => memory.fail(outside),
         Now::Ended(ending) => Now::Ended(ending),
     }
 }
@@ -322,16 +329,23 @@ fn goal_step<'p, K: Sink>(
 }
 
 /// Does steps up to the next goal, or the end.
-fn settle<'p>(memory: &mut Memory, code: &'p Code, tables: &Tables, now: Now<'p>) -> Now<'p>
+fn settle<'p>(
+    memory: &mut Memory,
+    code: &'p Code,
+    tables: &Tables,
+    outside: &mut Outside<'_>,
+    now: Now<'p>,
+) -> Now<'p>
     requires built { IsBuilt code.now }
     requires tidy { Tidy code.now }
-    requires some { IsSomewhere tables.now code.now memory.old now }
-    ensures comes { Settles tables.now code.now memory.old now.entry memory.new result }
+    requires some { IsSomewhereWith tables.now code.now memory.old outside.old now }
+    ensures comes { Settles tables.now code.now memory.old outside.old now.entry memory.new outside.new result }
+    ensures sites { outside.new.sites ≡ outside.old.sites }
     ensures rests { rests result ≡ true }
 {
     let mut now = now;
     'marks: while !rests(now) {
-        now = mark_step(memory, code, tables, now);
+        now = mark_step(memory, code, tables, outside, now);
     }
     now
 }
@@ -361,7 +375,7 @@ fn turn<'p, K: Sink>(
 {
     match goal_step(memory, code, tables, outside, ops, spacer, sink) {
         Err(fault) => Err(fault),
-        Ok(now) => Ok(settle(memory, code, tables, now)),
+        Ok(now) => Ok(settle(memory, code, tables, outside, now)),
     }
 }
 
@@ -384,7 +398,7 @@ pub fn go<'p, K: Sink>(
         memory.new spacer.new (K.view sink.new)) }
     ensures err { OnErr result (LosesRun tables.now code.now memory.old outside.old start.entry steps spacer.old (K.view sink.old) memory.new (K.view sink.new)) }
 {
-    let mut now = settle(memory, code, tables, start);
+    let mut now = settle(memory, code, tables, outside, start);
     let mut left = steps;
     'goals: while left > 0 {
         match now {

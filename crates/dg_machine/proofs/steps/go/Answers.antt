@@ -2,6 +2,7 @@ use Rattle.std.proofs.Common.{ℕ, ◌≡◌, ◌+◌, ◌-◌, ◌≤◌, suc, 
 use Rattle.dg_outside.specs.Outside.{MayPick, picks_in}
 use Rattle.dg_outside.proofs.Picks.{may_fewer}
 use Rattle.dg_machine.specs.Running.{IsAt}
+use Rattle.dg_machine.proofs.Selects.{may_on}
 use Rattle.dg_machine.proofs.Turns.{somewhere_settled, settled_at, finished, limited, lost}
 use Rattle.dg_machine.proofs.steps.go.Goals as goal
 
@@ -9,10 +10,10 @@ pub goals-init : goal.goals-init
 goals-init g c =
     let none : (n : ℕ) → c.args.steps - c.args.steps + n ≡ n = λ n. omega arith in
     record {
-      takes = λ game is_of l typed goals start at. subst (λ n. IsAt c.args.code.now game l typed c.settle-now.new.memory c.args.outside.now c.settle-now.result n c.args.spacer.now start (g.K.Sink.view c.args.sink.now)) (sym (none goals))
-          (settled_at c.args.code.now game l typed c.args.tables.now is_of c.args.memory.now c.settle-now.new.memory c.args.outside.now c.args.start c.settle-now.result goals c.args.spacer.now start (g.K.Sink.view c.args.sink.now) c.settle-now.ensures.comes at);
-      somewhere = somewhere_settled c.args.tables.now c.args.code.now c.args.memory.now c.settle-now.new.memory c.args.outside.now c.args.start c.settle-now.result c.settle-now.ensures.comes c.requires.some;
-      may = c.requires.may;
+      takes = λ game is_of l typed goals start at. subst (λ n. IsAt c.args.code.now game l typed c.settle-now.new.memory c.settle-now.new.outside c.settle-now.result n c.args.spacer.now start (g.K.Sink.view c.args.sink.now)) (sym (none goals))
+          (settled_at c.args.code.now game l typed c.args.tables.now is_of c.args.memory.now c.settle-now.new.memory c.args.outside.now c.settle-now.new.outside c.args.start c.settle-now.result goals c.args.spacer.now start (g.K.Sink.view c.args.sink.now) c.settle-now.ensures.comes at);
+      somewhere = somewhere_settled c.args.tables.now c.args.code.now c.args.memory.now c.settle-now.new.memory c.args.outside.now c.settle-now.new.outside c.args.start c.settle-now.result c.settle-now.ensures.comes c.requires.some;
+      may = may_on c.args.steps c.args.outside.now c.settle-now.new.outside c.settle-now.ensures.sites c.requires.may;
       rests = c.settle-now.ensures.rests;
       within = omega arith;
     }

@@ -5,26 +5,26 @@ use Rattle.dg_machine.proofs.Leaving.{split_list}
 use Rattle.dg_machine.proofs.Goals.{marks_run, marks_enter, marks_resume, marks_fail}
 use Rattle.dg_machine.proofs.steps.mark_step.Goals as goal
 
-pub returns-in-len1-up : goal.returns-in-len1-up
-returns-in-len1-up c =
+pub returns-in-len1-up-clause-done : goal.returns-in-len1-up-clause-done
+returns-in-len1-up-clause-done c =
     let all = c.in-Runs.ops.now in
     let rest = take (length all - 1) (drop 1 all) in
     let split = split_list all c.op-item.result c.in-len1-up.len_at_least c.op-item.is in
     let mark : is_goal c.op-item.result ≡ false = sym (ap at_goal split) ∙ ap rests (sym c.in-Runs.is) ∙ c.requires.mark in
-    subst (λ n. DoesMarks c.args.tables.now c.args.code.now c.args.memory.now n c.do_mark.new.memory c.do_mark.result) (sym c.in-Runs.is)
-    (marks_run c.args.tables.now c.args.code.now c.args.memory.now c.do_mark.new.memory c.do_mark.result c.in-Runs.ops c.op-item.result rest split mark c.do_mark.ensures)
+    subst (λ n. DoesMarks c.args.tables.now c.args.code.now c.args.memory.now c.args.outside.now n c.do_mark.new.memory c.args.outside.now c.do_mark.result) (sym c.in-Runs.is)
+    (marks_run c.args.tables.now c.args.code.now c.args.memory.now c.do_mark.new.memory c.args.outside.now c.do_mark.result c.in-Runs.ops c.op-item.result rest split mark c.do_mark.ensures)
 
-pub returns-in-Enters : goal.returns-in-Enters
-returns-in-Enters c =
-    subst (λ n. DoesMarks c.args.tables.now c.args.code.now c.args.memory.now n c.enter_rule.new.self c.enter_rule.result) (sym c.in-Enters.is)
-    (marks_enter c.args.tables.now c.args.code.now c.args.memory.now c.enter_rule.new.self c.enter_rule.result c.in-Enters.call c.in-Enters.ops (c.enter_rule.ensures c.args.code.now))
+pub returns-in-Enters-clause-done : goal.returns-in-Enters-clause-done
+returns-in-Enters-clause-done c =
+    subst (λ n. DoesMarks c.args.tables.now c.args.code.now c.args.memory.now c.args.outside.now n c.enter_rule.new.self c.args.outside.now c.enter_rule.result) (sym c.in-Enters.is)
+    (marks_enter c.args.tables.now c.args.code.now c.args.memory.now c.enter_rule.new.self c.args.outside.now c.enter_rule.result c.in-Enters.call c.in-Enters.ops (c.enter_rule.ensures c.args.code.now))
 
-pub returns-in-Resumes : goal.returns-in-Resumes
-returns-in-Resumes c =
-    subst (λ n. DoesMarks c.args.tables.now c.args.code.now c.args.memory.now n c.go_on.new.self c.go_on.result) (sym c.in-Resumes.is)
-    (marks_resume c.args.tables.now c.args.code.now c.args.memory.now c.go_on.new.self c.go_on.result c.in-Resumes.way c.go_on.ensures)
+pub returns-in-Resumes-clause-done : goal.returns-in-Resumes-clause-done
+returns-in-Resumes-clause-done c =
+    subst (λ n. DoesMarks c.args.tables.now c.args.code.now c.args.memory.now c.args.outside.now n c.go_on.new.self c.args.outside.now c.go_on.result) (sym c.in-Resumes.is)
+    (marks_resume c.args.tables.now c.args.code.now c.args.memory.now c.go_on.new.self c.args.outside.now c.go_on.result c.in-Resumes.way c.requires.built c.go_on.ensures)
 
-pub returns-in-Fails : goal.returns-in-Fails
-returns-in-Fails c =
-    subst (λ n. DoesMarks c.args.tables.now c.args.code.now c.args.memory.now n c.fail.new.self c.fail.result) (sym c.in-Fails.is)
-    (marks_fail c.args.tables.now c.args.code.now c.args.memory.now c.fail.new.self c.fail.result (c.fail.ensures c.args.code.now))
+pub returns-in-Fails-clause-done : goal.returns-in-Fails-clause-done
+returns-in-Fails-clause-done c =
+    subst (λ n. DoesMarks c.args.tables.now c.args.code.now c.args.memory.now c.args.outside.now n c.fail.new.self c.fail.new.outside c.fail.result) (sym c.in-Fails.is)
+    (marks_fail c.args.tables.now c.args.code.now c.args.memory.now c.fail.new.self c.args.outside.now c.fail.new.outside c.fail.result (c.fail.ensures.fails c.args.code.now))

@@ -1,4 +1,4 @@
-use Rattle.std.proofs.Common.{rules, ◌≡◌, false}
+use Rattle.std.proofs.Common.{rules, ◌≡◌, ◌∙◌, false}
 use Rattle.dg_machine.specs.Running.{rests}
 use Rattle.dg_machine.proofs.Runs.{settled_on, mark_falls}
 use Rattle.dg_machine.proofs.Turns.{somewhere_marked}
@@ -8,12 +8,14 @@ pub marks-preserved : goal.marks-preserved
 marks-preserved c =
     let e : rests c.marks.now ≡ false = search rules in
     record {
-      settles = λ g is_of l typed steps h. settled_on c.args.code.now g l typed c.requires.built c.args.tables.now is_of c.marks.memory c.mark_step-now.new.memory c.marks.now c.mark_step-now.result steps e c.mark_step-now.ensures (c.marks.invariant.settles g is_of l typed steps h);
-      somewhere = somewhere_marked c.args.tables.now c.args.code.now c.marks.memory c.mark_step-now.new.memory c.marks.now c.mark_step-now.result e c.mark_step-now.ensures c.marks.invariant.somewhere;
+      settles = λ g is_of l typed steps h w. settled_on c.args.code.now g l typed c.args.tables.now is_of c.marks.memory c.mark_step-now.new.memory c.marks.outside c.mark_step-now.new.outside c.marks.now c.mark_step-now.result steps e c.mark_step-now.ensures.done (c.marks.invariant.settles g is_of l typed steps h w);
+      somewhere = somewhere_marked c.args.tables.now c.args.code.now c.marks.memory c.mark_step-now.new.memory c.marks.outside c.mark_step-now.new.outside c.marks.now c.mark_step-now.result e c.mark_step-now.ensures.done c.marks.invariant.somewhere;
+      sites = c.mark_step-now.ensures.sites ∙ c.marks.invariant.sites;
     }
 
 pub marks-smaller : goal.marks-smaller
 marks-smaller c =
     let e : rests c.marks.now ≡ false = search rules in
-    let s = c.marks.invariant.somewhere in
-    mark_falls c.args.code.now s.game s.limits s.typed c.args.tables.now s.tabled c.marks.memory c.mark_step-now.new.memory c.marks.now c.mark_step-now.result s.steps e c.mark_step-now.ensures s.stands
+    let with_it = c.marks.invariant.somewhere in
+    let s = with_it.somewhere in
+    mark_falls c.args.code.now s.game s.limits s.typed c.args.tables.now s.tabled c.marks.memory c.mark_step-now.new.memory c.marks.outside c.mark_step-now.new.outside c.marks.now c.mark_step-now.result s.steps e c.mark_step-now.ensures.done s.stands with_it.outside

@@ -1,11 +1,13 @@
-use Rattle.dg_machine.specs.Running.{Settles, IsSomewhere}
+use Rattle.std.proofs.Common.{◌≡◌}
+use Rattle.dg_machine.specs.Running.{Settles, IsSomewhereWith}
 use Rattle.dg_machine.specs.Measure.{left_of}
 use Rattle.dg_machine.proofs.steps.settle.Given as goal
 
 abbrev pub invariant-marks : goal.invariant-marks
 invariant-marks l = record {
-  settles : Settles l.tables l.code l.fn.memory l.initial.now l.memory l.now;
-  somewhere : IsSomewhere l.tables l.code l.memory l.now;
+  settles : Settles l.tables l.code l.fn.memory l.fn.outside l.initial.now l.memory l.outside l.now;
+  somewhere : IsSomewhereWith l.tables l.code l.memory l.outside l.now;
+  sites : l.outside.sites ≡ l.fn.outside.sites;
 }
 
 abbrev pub decreases-marks : goal.decreases-marks

@@ -27,7 +27,7 @@ returns-in-None-clause-back c code l m h = went_nowhere code l m c.args.self.now
 pub returns-in-Some-clause-back : goal.returns-in-Some-clause-back
 returns-in-Some-clause-back c code l m h =
     let k = c.in-Some.choice in
-    let new : Memory = record { arena = c.undo.new.self; frames = c.truncate.new.self; inners = c.truncate-in-Some.new.self; choices = c.pop.new.self; kept = c.move_refs.new.from; args = c.move_refs.new.to; heads = c.args.self.now.heads; path = c.args.self.now.path; frame = k.frame; inner = k.inner } in
+    let new : Memory = record { arena = c.undo.new.self; frames = c.truncate.new.self; inners = c.truncate-in-Some.new.self; choices = c.pop.new.self; kept = c.move_refs.new.from; args = c.move_refs.new.to; heads = c.args.self.now.heads; path = c.args.self.now.path; frame = k.frame; inner = k.inner; gathered = c.min-self.result } in
     went_back code l m c.args.self.now new k h c.in-Some.ensures.items c.undo.ensures.back c.undo.ensures.saved (record {
       frames = c.truncate.ensures.items;
       inners = c.truncate-in-Some.ensures.items;
@@ -42,6 +42,7 @@ returns-in-Some-clause-back c code l m h =
       path_room = refl;
       frame = refl;
       inner = refl;
+      gathered = c.min-self.ensures;
     })
 
 pub returns-in-Some-clause-left : goal.returns-in-Some-clause-left

@@ -1,8 +1,25 @@
+use Rattle.std.proofs.Common.{ap}
+use Rattle.dg_outside.specs.declared.outside.Outside.{Outside}
 use Rattle.dg_machine.proofs.Leaving.{failed_all, failed_to}
+use Rattle.dg_machine.proofs.Outsides.{closed_back, ended_back}
 use Rattle.dg_machine.proofs.memory.Memory.fail.Goals as goal
 
-pub returns-in-None : goal.returns-in-None
-returns-in-None c code l m h = failed_all code l m c.args.self.now c.back.new.self h m.choices (c.in-None.ensures.back code l m h) (c.in-None.ensures.roomy code l m h)
+pub returns-in-None-clause-fails : goal.returns-in-None-clause-fails
+returns-in-None-clause-fails c code g l m h w =
+    let back = c.in-None.ensures.back code l m h in
+    record {
+      done = failed_all code l m c.args.self.now c.back.new.self h m.choices back (c.in-None.ensures.roomy code l m h);
+      outside = ended_back code g l c.back.new.self c.args.outside.now m m.choices back;
+    }
 
-pub returns-in-Some : goal.returns-in-Some
-returns-in-Some c code l m h = failed_to code l m c.in-Some.way c.args.self.now c.back.new.self m.choices (c.in-Some.ensures.back code l m h) c.in-Some.ensures.left
+pub returns-in-Some-clause-fails : goal.returns-in-Some-clause-fails
+returns-in-Some-clause-fails c code g l m h w =
+    let way = c.in-Some.way in
+    let back = c.in-Some.ensures.back code l m h in
+    record {
+      done = failed_to code l m way c.args.self.now c.back.new.self m.choices back c.in-Some.ensures.left;
+      outside = closed_back code g l way c.back.new.self c.args.outside.now c.close_to.new.self m m.choices back c.close_to.ensures w;
+    }
+
+pub returns-in-Some-clause-sites : goal.returns-in-Some-clause-sites
+returns-in-Some-clause-sites c = ap (λ (o : Outside). o.sites) c.close_to.ensures.is

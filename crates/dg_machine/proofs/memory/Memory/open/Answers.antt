@@ -10,19 +10,19 @@ use Rattle.dg_machine.proofs.memory.Memory.open.Goals as goal
 pub returns-in-Ok-clause-held : goal.returns-in-Ok-clause-held
 returns-in-Ok-clause-held c code l m on h way =
     let r = c.args.self.now in
-    let k : Choice = record { way = c.args.way; frame = r.frame; inner = r.inner; frames = c.len.result; inners = c.len-in-Ok.result; refs = c.len-refs.result; args = c.args.count; mark = c.mark-mark.result } in
+    let k : Choice = record { way = c.args.way; frame = r.frame; inner = r.inner; frames = c.len.result; inners = c.len-in-Ok.result; refs = c.len-refs.result; args = c.args.count; gathered = r.gathered; mark = c.mark-mark.result } in
     let new : Memory = record r { arena = c.charge.new.self; choices = c.push_reserved.new.self; kept = c.push_refs.new.to } in
     let marks = c.mark-mark.ensures in
     let taken = c.in-Ok.ensures in
     let items : c.push_refs.new.to.items ≡ r.kept.items ++ take c.args.count r.args.items = c.push_refs.ensures.items ∙ ap (λ xs. r.kept.items ++ take c.args.count xs) c.deref.ensures.value in
-    opened code l m on c.args.count r new c.mark-mark.new.self k h way c.requires.count refl refl (omega (arith, c.len.ensures, r.frames.ok.0)) (omega (arith, c.len-in-Ok.ensures, r.inners.ok.0)) (omega (arith, c.len-refs.ensures, r.kept.ok.0)) refl
+    opened code l m on c.args.count r new c.mark-mark.new.self k h way c.requires.count refl refl (omega (arith, c.len.ensures, r.frames.ok.0)) (omega (arith, c.len-in-Ok.ensures, r.inners.ok.0)) (omega (arith, c.len-refs.ensures, r.kept.ok.0)) refl refl
     marks.kept marks.saved marks.same taken.kept taken.saved taken.made items c.push_reserved.ensures.items
     (opened_room c.args.count r new c.mark-mark.new.self k c.requires.room c.requires.count marks.kept marks.same taken.kept taken.made items c.push_refs.ensures.capacity c.push_reserved.ensures.items c.push_reserved.ensures.capacity)
 
 pub returns-in-Ok-clause-opened : goal.returns-in-Ok-clause-opened
 returns-in-Ok-clause-opened c =
     let r = c.args.self.now in
-    let k : Choice = record { way = c.args.way; frame = r.frame; inner = r.inner; frames = c.len.result; inners = c.len-in-Ok.result; refs = c.len-refs.result; args = c.args.count; mark = c.mark-mark.result } in
+    let k : Choice = record { way = c.args.way; frame = r.frame; inner = r.inner; frames = c.len.result; inners = c.len-in-Ok.result; refs = c.len-refs.result; args = c.args.count; gathered = r.gathered; mark = c.mark-mark.result } in
     let new : Memory = record r { arena = c.charge.new.self; choices = c.push_reserved.new.self; kept = c.push_refs.new.to } in
     let marks = c.mark-mark.ensures in
     let taken = c.in-Ok.ensures in

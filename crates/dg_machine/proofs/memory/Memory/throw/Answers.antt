@@ -35,7 +35,7 @@ returns-in-Err-clause-thrown c code g l m u v w at h refs in_world =
     let new = c.unify_number.new.self in
     let some = threw_some o g.dice m.outside.dice k out.dice (c.in-Some.ensures.thrown code l m u v w h refs g.dice m.outside.dice in_world.0.2) in
     subst (λ x. StandsWith code g l new (Ended TrailLimit) out (done (setting g code l) (throws x w (registers_of m) world) m)) (sym some.is)
-    (threw_stands code g l m w k n world refl new (Ended TrailLimit) out h.1.height_is (drawn_world c.args.outside.now out g l m n c.in-Some.ensures.others in_world some.drawn)
+    (threw_stands code g l m w k n world refl new (Ended TrailLimit) out (drawn_world c.args.outside.now out g l m n c.in-Some.ensures.others in_world some.drawn)
     (unmatched_stands code g l (unify m.state.subst w (leaf (Num k))) m1 new (c.in-Err.ensures code l m1 u v w h refs)))
 
 pub returns-in-Ok-false-clause-thrown : goal.returns-in-Ok-false-clause-thrown
@@ -49,7 +49,7 @@ returns-in-Ok-false-clause-thrown c code g l m u v w at h refs in_world =
     let new = c.unify_number.new.self in
     let some = threw_some o g.dice m.outside.dice k out.dice (c.in-Some.ensures.thrown code l m u v w h refs g.dice m.outside.dice in_world.0.2) in
     subst (λ x. StandsWith code g l new Fails out (done (setting g code l) (throws x w (registers_of m) world) m)) (sym some.is)
-    (threw_stands code g l m w k n world refl new Fails out h.1.height_is (drawn_world c.args.outside.now out g l m n c.in-Some.ensures.others in_world some.drawn)
+    (threw_stands code g l m w k n world refl new Fails out (drawn_world c.args.outside.now out g l m n c.in-Some.ensures.others in_world some.drawn)
     (clash_stands code g l (unify m.state.subst w (leaf (Num k))) m1 new c.in-Ok-false.field-0 c.in-Ok-false.field-0-test (c.in-Ok-false.ensures code l m1 u v w h refs)))
 
 pub returns-in-Ok-true-clause-thrown : goal.returns-in-Ok-true-clause-thrown
@@ -63,5 +63,5 @@ returns-in-Ok-true-clause-thrown c code g l m u v w at h refs in_world =
     let new = c.unify_number.new.self in
     let some = threw_some o g.dice m.outside.dice k out.dice (c.in-Some.ensures.thrown code l m u v w h refs g.dice m.outside.dice in_world.0.2) in
     subst (λ x. StandsWith code g l new (Runs c.args.rest) out (done (setting g code l) (throws x w (registers_of m) world) m)) (sym some.is)
-    (threw_stands code g l m w k n world refl new (Runs c.args.rest) out h.1.height_is (drawn_world c.args.outside.now out g l m n c.in-Some.ensures.others in_world some.drawn)
+    (threw_stands code g l m w k n world refl new (Runs c.args.rest) out (drawn_world c.args.outside.now out g l m n c.in-Some.ensures.others in_world some.drawn)
     (agreed_stands code g l (unify m.state.subst w (leaf (Num k))) m1 new c.args.rest c.in-Ok-true.field-0 c.in-Ok-true.field-0-test at (c.in-Ok-true.ensures code l m1 u v w h refs)))
