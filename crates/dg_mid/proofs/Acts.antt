@@ -27,7 +27,7 @@ use Rattle.dg_mid.specs.Actions.{form_of, goal_of, terms_of, registers_of, world
 use Rattle.dg_mid.specs.Step.{Setting, setting, does, done, made_in, more, bound, unified as unified_here, if_agreed, if_passed, cut_to, said_to, followed}
 use Rattle.dg_mid.specs.Units.{effort, act_work}
 use Rattle.dg_mid.specs.Codes.{End, Stands}
-use Rattle.dg_mid.specs.Reads.{Behind, outside_of, Mirrors, Comes}
+use Rattle.dg_mid.specs.Reads.{Behind, outside_of, Mirrors, Comes, GathersAt}
 use Rattle.dg_mid.proofs.Here.{Here, steps_of, followed_is}
 use Rattle.dg_mid.proofs.Marks.{goes_on, cuts, ends_here}
 use Rattle.dg_mid.proofs.Taking.{behind, taken_in, comes, taken_grows, charge, heap_full, keep_on, trail_within, went_grows, unify_on}
@@ -86,11 +86,11 @@ said_fails [] m = refl
 said_fails (q ∷ qs) m = refl
 
 -- a machine is where an act has led
-module _ (set : Setting) (m : Mid) (goals : List Goal) (end : End) (rest : List Step) (g : Game) (n : ℕ) (run : Run) (stands : Stands set.code m.ops goals end) (below : Behind set.code m.frames rest) where
+module _ (set : Setting) (m : Mid) (goals : List Goal) (end : End) (rest : List Step) (g : Game) (n : ℕ) (run : Run) (stands : Stands set.code m.ops goals end) (below : Behind g set.code m.frames rest) (valued : GathersAt g end (vars_of m.frames) m.inner) where
   goes_so : {least : ℕ} → (ps qs : List Print) (q : Registers) (lives : List Live) (ways : List WayOn) (u : World) → Mirrors g set.code m (ps ++ qs) q lives ways u → Went g lives ways n (move_of (steps_of m goals end rest) q (Goes (steps_of m goals end rest) u)) run → least ≤ u.meters.work → Comes least (followed ps (said_to qs (Runs m))) set (Runs m) g n run
   goes_so {least = least} ps qs q lives ways u i st le =
       subst (λ l. Comes least l set (Runs m) g n run) (sym (ap (followed ps) (said_runs qs m) ∙ followed_is ps qs))
-      (goes_on set m (steps_of m goals end rest) [] g n u run (record { goals = goals; end = end; rest = rest; stands = stands; below = below; is = refl })
+      (goes_on set m (steps_of m goals end rest) [] g n u run (record { goals = goals; end = end; rest = rest; stands = stands; below = below; gathers = valued; is = refl })
       (record { lives = lives; ways = ways; registers = q; mirrors = i; stands = st }) le)
 
   fails_so : {least : ℕ} → (ps qs : List Print) (q : Registers) (lives : List Live) (ways : List WayOn) (u : World) → Mirrors g set.code m (ps ++ qs) q lives ways u → Went g lives ways n (MoveFails u) run → least ≤ u.meters.work → Comes least (followed ps (said_to qs (Fails m))) set (Fails m) g n run
@@ -102,11 +102,11 @@ module _ (set : Setting) (m : Mid) (goals : List Goal) (end : End) (rest : List 
   tests_so {least = least} true ps qs q lives ways u i st le = goes_so ps qs q lives ways u i st le
   tests_so {least = least} false ps qs q lives ways u i f le = fails_so ps qs q lives ways u i f le
 
-module _ (set : Setting) (m : Mid) (goals : List Goal) (end : End) (rest : List Step) (g : Game) (n : ℕ) (run : Run) (stands : Stands set.code m.ops goals end) (below : Behind set.code m.frames rest) where
+module _ (set : Setting) (m : Mid) (goals : List Goal) (end : End) (rest : List Step) (g : Game) (n : ℕ) (run : Run) (stands : Stands set.code m.ops goals end) (below : Behind g set.code m.frames rest) (valued : GathersAt g end (vars_of m.frames) m.inner) where
   agreed_so : {least : ℕ} → (b : Bool) (u : Unified) (ps qs : List Print) (q : Registers) (lives : List Live) (ways : List WayOn) (v : World) → Mirrors g set.code (bound u m) (ps ++ qs) q lives ways v → Went g lives ways n (goes_on_if b (steps_of m goals end rest) q v) run → least ≤ v.meters.work →
       Comes least (followed ps (said_to qs (if_agreed b (bound u m) (Runs (bound u m))))) set (if_agreed b (bound u m) (Runs (bound u m))) g n run
-  agreed_so {least = least} true u ps qs q lives ways v i st le = goes_so set (bound u m) goals end rest g n run stands below ps qs q lives ways v i st le
-  agreed_so {least = least} false u ps qs q lives ways v i f le = fails_so set (bound u m) goals end rest g n run stands below ps qs q lives ways v i f le
+  agreed_so {least = least} true u ps qs q lives ways v i st le = goes_so set (bound u m) goals end rest g n run stands below valued ps qs q lives ways v i st le
+  agreed_so {least = least} false u ps qs q lives ways v i f le = fails_so set (bound u m) goals end rest g n run stands below valued ps qs q lives ways v i f le
 
   -- equations behind values that were made
   equations_so : {least : ℕ} → (es : Equations) (ps qs : List Print) (q : Registers) (lives : List Live) (ways : List WayOn) (v0 v : World) → prints v0.events ≡ ps → Grows v0 v → Mirrors g set.code m (ps ++ qs) q lives ways v → Went g lives ways n (unified es (steps_of m goals end rest) q v) run → least ≤ v.meters.work + unifying m.state.subst es →
@@ -173,7 +173,7 @@ act_works q r t steps v w a b e h lacks_input = omega arith
 act_works q r t steps v w a b e h (fails v1 w1 d) = d.work h
 act_works q r t steps v w a b e h stops = omega arith
 
-module _ (code : Code) (limits : Limits) (m : Mid) (goals : List Goal) (end : End) (rest : List Step) (g : Game) (n : ℕ) (run : Run) (stands : Stands code m.ops goals end) (below : Behind code m.frames rest) where
+module _ (code : Code) (limits : Limits) (m : Mid) (goals : List Goal) (end : End) (rest : List Step) (g : Game) (n : ℕ) (run : Run) (stands : Stands code m.ops goals end) (below : Behind g code m.frames rest) (valued : GathersAt g end (vars_of m.frames) m.inner) where
   abbrev set : Setting
   set = setting g code limits
 
@@ -200,24 +200,24 @@ module _ (code : Code) (limits : Limits) (m : Mid) (goals : List Goal) (end : En
       charge set qs (here.heap - m.state.heap) m (unified_here set (solve here.bound es) m' (Runs (bound (solve here.bound es) m'))) g n run
       (λ full. record { world = v; at = record { passes = let x = ma.heap in let y = i.agrees.heap in let z = ma.higher in omega (arith, full, x, y, z, reached.0); printed = i.printed_is; happened = before }; grows = before })
       (subst (λ S. Comes least (followed ps (said_to qs (unified_here set (solve S es) m' (Runs (bound (solve S es) m'))))) set (unified_here set (solve S es) m' (Runs (bound (solve S es) m'))) g n run) (sym ma.here_bound)
-      (equations_so set m' goals end rest g n run stands below es ps qs made lives ways v v1 i.printed_is grown mirrors h (let x = ap (λ S. unifying S es) bound_is in omega (arith, le, x))))
+      (equations_so set m' goals end rest g n run stands below valued es ps qs made lives ways v v1 i.printed_is grown mirrors h (let x = ap (λ S. unifying S es) bound_is in omega (arith, le, x))))
 
   pub act_on : {least : ℕ} → (ps : List Print) (q : Registers) (lives : List Live) (ways : List WayOn) (v : World) (a b : Act) → Alike q (registers_of m) (cut_of m.frames).tag (steps_of m goals end rest) v (world_of [] m) a b → Mirrors g code m ps q lives ways v → Grows v (world_by a) → Grows v run.world →
       Went g lives ways n (move_of (steps_of m goals end rest) q a) run → least ≤ act_work a → Comes least (followed ps (said_to (said_by b) (done set b m))) set (done set b m) g n run
   act_on {least = least} ps q lives ways v a b (goes v1 w1 d) i grown happened h le =
       keep_on set (prints w1.events) w1.meters.keep (Runs (outside_in w1 m)) g n run
       (λ full. record { world = v; at = record { passes = let x = d.keep (omega arith) in let y = (went_grows g lives ways n (move_of (steps_of m goals end rest) q a) run h).meters.keep in omega (arith, full, x, y); printed = i.printed_is; happened = happened }; grows = happened })
-      (goes_so set (outside_in w1 m) goals end rest g n run stands below ps (prints w1.events) q lives ways v1 (did_mirrors g code m ps q lives ways v v1 w1 d i) h le)
+      (goes_so set (outside_in w1 m) goals end rest g n run stands below valued ps (prints w1.events) q lives ways v1 (did_mirrors g code m ps q lives ways v v1 w1 d i) h le)
   act_on {least = least} ps q lives ways v a b cuts_rule i grown happened h le =
-      goes_on set (cut_to (cut_of m.frames) m) (steps_of m goals end rest) [] g n v run (record { goals = goals; end = end; rest = rest; stands = stands; below = below; is = refl })
+      goes_on set (cut_to (cut_of m.frames) m) (steps_of m goals end rest) [] g n v run (record { goals = goals; end = end; rest = rest; stands = stands; below = below; gathers = valued; is = refl })
       (cuts code m ps (cut_of m.frames) (steps_of m goals end rest) g n v run (record { lives = lives; ways = ways; registers = q; mirrors = i; stands = h })) (omega (arith, le))
   act_on {least = least} ps q lives ways v a b (tests x v1 w1 d) i grown happened h le =
-      tests_so set (outside_in w1 m) goals end rest g n run stands below x ps (prints w1.events) q lives ways v1 (did_mirrors g code m ps q lives ways v v1 w1 d i) h le
+      tests_so set (outside_in w1 m) goals end rest g n run stands below valued x ps (prints w1.events) q lives ways v1 (did_mirrors g code m ps q lives ways v v1 w1 d i) h le
   act_on {least = least} ps q lives ways v a b (unifies made here es v1 w1 ma d) i grown happened h le = made_so es ps q made here lives ways v v1 w1 ma d i grown h le
   act_on {least = least} ps q lives ways v a b quits i grown happened h le = ends_here set ending.Quit (EndsSo ending.Quit) g n v run refl (λ w x. x) i.printed_is h le
   act_on {least = least} ps q lives ways v a b lacks_input i grown happened h le = ends_here set ending.InputEnded (EndsSo ending.InputEnded) g n v run refl (λ w x. x) i.printed_is h le
   act_on {least = least} ps q lives ways v a b (fails v1 w1 d) i grown happened h le =
-      fails_so set (outside_in w1 m) goals end rest g n run stands below ps (prints w1.events) q lives ways v1 (did_mirrors g code m ps q lives ways v v1 w1 d i) h le
+      fails_so set (outside_in w1 m) goals end rest g n run stands below valued ps (prints w1.events) q lives ways v1 (did_mirrors g code m ps q lives ways v v1 w1 d i) h le
   act_on {least = least} ps q lives ways v a b stops i grown happened h le =
       stops_with set m ps g n v run q lives ways i m.stop (subst (λ t. Went g lives ways n (stop t v) run) i.stop_is h) le
 
@@ -234,10 +234,10 @@ grows_in v (Stops w) h = h
 pub effects_act : (q r : Registers) (t : ℕ) (steps : List Step) (v w : World) (a b : Effect) → AlikeEffects q r t steps v w a b → (a ≡ Acts (act_in a)) × Alike q r t steps v w (act_in a) (act_in b)
 effects_act q r t steps v w a b (alike x y h) = (refl, h)
 
-pub acts : {least : ℕ} → {ps : List Print} → (code : Code) (limits : Limits) (m : Mid) (a : Action) (ops : List Op) (goals : List Goal) (end : End) (rest : List Step) (g : Game) (n : ℕ) (w : World) (run : Run) → Stands code ops goals end → Behind code m.frames rest →
+pub acts : {least : ℕ} → {ps : List Print} → (code : Code) (limits : Limits) (m : Mid) (a : Action) (ops : List Op) (goals : List Goal) (end : End) (rest : List Step) (g : Game) (n : ℕ) (w : World) (run : Run) → Stands code ops goals end → Behind g code m.frames rest → GathersAt g end (vars_of m.frames) m.inner →
     Here code m ps (Do (goal_of a) (vars_of m.frames) (cut_of m.frames).tag ∷ steps_of m goals end rest) g (suc n) w run → least ≤ w.meters.work + (1 + effort (setting g code limits) ps (op.Do a) m) →
     Comes least (followed ps (said_to (said_by (act_at g [] a (more (cells g.program (terms_of a)) m))) (does (setting g code limits) (op.Do a) (record m { ops = ops })))) (setting g code limits) (does (setting g code limits) (op.Do a) (record m { ops = ops })) g n run
-acts {least = least} {ps = ps} code limits m a ops goals end rest g n w run stands below h le =
+acts {least = least} {ps = ps} code limits m a ops goals end rest g n w run stands below valued h le =
     let set = setting g code limits in
     let i = h.mirrors in
     let env = vars_of m.frames in
@@ -262,7 +262,7 @@ acts {least = least} {ps = ps} code limits m a ops goals end rest g n w run stan
     let work = act_works q0 (registers_of m0) t steps v0 (world_of ps m0) _ _ refl (i.printed_is ∙ sym (nothing_first ps)) counted.1 in
     charge set (said_by (act_at g [] a m0)) k m' (done set (act_at g [] a m0) m0) g n run
     (heap_full set m' ps k v0 g n run i.printed_is (omega (arith, i.agrees.heap)) happened)
-    (act_on code limits m0 goals end rest g n run stands below ps q0 h.lives h.ways v0 (act_in (effect g f env t steps q0 v0)) (act_at g [] a m0) here.1
+    (act_on code limits m0 goals end rest g n run stands below valued ps q0 h.lives h.ways v0 (act_in (effect g f env t steps q0 v0)) (act_at g [] a m0) here.1
     (record {
       agrees = record { bound = refl; vars = refl; heap = omega (arith, i.agrees.heap); trail = i.agrees.trail; since = i.agrees.since };
       tag = refl;

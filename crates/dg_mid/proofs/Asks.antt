@@ -26,7 +26,7 @@ use Rattle.dg_mid.specs.Code.{block_at, rules_at, selected}
 use Rattle.dg_mid.specs.State.{Place, Frame, Call, Target, ToPred, Mid, vars_of, cut_of}
 use Rattle.dg_mid.specs.Step.{Setting, setting, does, more, first_of, begins, asks, calls, asks_last, last, values, call_of}
 use Rattle.dg_mid.specs.Codes.{End, Stands, Returns, returns, RulesStand, Codes}
-use Rattle.dg_mid.specs.Reads.{silents, Behind, Layer, Reads, Mirrors, Comes}
+use Rattle.dg_mid.specs.Reads.{silents, Behind, Layer, Reads, Mirrors, Comes, GathersAt}
 use Rattle.dg_mid.proofs.Here.{Here, steps_of, nothing_more}
 use Rattle.dg_mid.proofs.Taking.{behind, taken_in, comes, taken_grows, charge, heap_full, Met}
 use Rattle.dg_mid.proofs.Backs.{exhausted_tells}
@@ -35,7 +35,7 @@ use Rattle.dg_mid.proofs.Calls.{rules_begin}
 -- ## A query
 
 module _ (g : Game) (code : Code) (limits : Limits) (call : Call) (pred : ℕ) (answered : List ℕ) (after : List Step) (q : Registers) (sub : IsSubstitution q.bound) (m : Mid) (ps : List Print) (lives : List Live) (ways : List WayOn) (n : ℕ) (run : Run)
-    (reads : Reads code (block_at code call.next) m.frames m.inner after) (cut : call.cut.tag ≡ q.next_tag) where
+    (reads : Reads g code (block_at code call.next) m.frames m.inner after) (cut : call.cut.tag ≡ q.next_tag) where
   abbrev set : Setting
   set = setting g code limits
 
@@ -64,15 +64,15 @@ silents_twice (p ∷ ps) qs steps = ap (λ l. Answers p ∷ l) (silents_twice ps
 module _ (code : Code) (the : Setting) (t : Target) (args : List Value) (many : Bool) (m : Mid) (ps : List Print) (steps : List Step) (g : Game) (n : ℕ) (run : Run) where
   -- it comes from where the call goes on at a block with some frames
   abbrev GoesOn : ℕ → Type 0
-  GoesOn least = (next : ℕ) (frames : List Frame) (inner : List Place) (answered : List ℕ) (after : List Step) → steps ≡ silents answered after → Reads code (block_at code next) frames inner after →
+  GoesOn least = (next : ℕ) (frames : List Frame) (inner : List Place) (answered : List ℕ) (after : List Step) → steps ≡ silents answered after → Reads g code (block_at code next) frames inner after →
       Comes least ps the (calls the t (call_of args many next m) (record m { frames = frames; inner = inner })) g n run
 
-  last_on : {least : ℕ} → GoesOn least → Reads code (block_at code 0) m.frames [] steps → (b : Bool) (fr : Frame) (fs : List Frame) (noted answered : List ℕ) (after : List Step) → Layer (Behind code fs) code (block_at code fr.next) (vars_of fs) (cut_of fs).tag fr.inner after →
+  last_on : {least : ℕ} → GoesOn least → Reads g code (block_at code 0) m.frames [] steps → (b : Bool) (fr : Frame) (fs : List Frame) (noted answered : List ℕ) (after : List Step) → Layer (Behind g code fs) g code (block_at code fr.next) (vars_of fs) (cut_of fs).tag fr.inner after →
       steps ≡ silents noted (first_alone b fr.cut.tag (silents answered after)) → Comes least ps the (asks_last the t args many b fr fs m) g n run
   last_on goes again true fr fs noted answered after layer e = goes fr.next fs fr.inner (noted ++ answered) after (e ∙ silents_twice noted answered after) layer
   last_on goes again false fr fs noted answered after layer e = goes 0 m.frames [] [] steps refl again
 
-  pub last_from : {least : ℕ} → GoesOn least → Reads code (block_at code 0) m.frames [] steps → (frames : List Frame) → Behind code frames steps → Comes least ps the (last the t args many frames m) g n run
+  pub last_from : {least : ℕ} → GoesOn least → Reads g code (block_at code 0) m.frames [] steps → (frames : List Frame) → Behind g code frames steps → Comes least ps the (last the t args many frames m) g n run
   last_from goes again [] below = goes 0 m.frames [] [] steps refl again
   last_from goes again (fr ∷ fs) below = last_on goes again fr.many fr fs below.noted below.answered below.after below.layer below.is
 
@@ -105,7 +105,7 @@ module _ (code : Code) (limits : Limits) (m : Mid) (ps : List Print) (ops : List
   args = values the m terms
 
   -- the query goes on at a block with these frames
-  goes_asked : {least : ℕ} → (next : ℕ) (frames : List Frame) (inner : List Place) (answered : List ℕ) (after : List Step) → steps ≡ silents answered after → Reads code (block_at code next) frames inner after →
+  goes_asked : {least : ℕ} → (next : ℕ) (frames : List Frame) (inner : List Place) (answered : List ℕ) (after : List Step) → steps ≡ silents answered after → Reads g code (block_at code next) frames inner after →
       least ≤ w.meters.work + (1 + writing terms) → Comes least ps the (asks the pred (call_of args many next (more k m')) (record (more k m') { frames = frames; inner = inner })) g n run
   goes_asked {least = least} next frames inner answered after e reads le =
       let i = h.mirrors in
@@ -129,14 +129,14 @@ module _ (code : Code) (limits : Limits) (m : Mid) (ps : List Print) (ops : List
   full : the.limits.heap < m.state.heap + k → Met the ending.HeapLimit ps g n run
   full = heap_full the m' ps k v g n run h.mirrors.printed_is (omega (arith, h.mirrors.agrees.heap)) (taken_grows code m ps steps g n w run x f (outs-Ask pred terms many) h)
 
-  pub ask : {least : ℕ} → (next : ℕ) (goals : List Goal) (end : End) (rest : List Step) → Stands code (block_at code next) goals end → Behind code m.frames rest → steps ≡ steps_of m goals end rest → least ≤ w.meters.work + (1 + writing terms) → Comes least ps the (does the (op.Ask pred terms many next) m') g n run
-  ask {least = least} next goals end rest s below e le =
+  pub ask : {least : ℕ} → (next : ℕ) (goals : List Goal) (end : End) (rest : List Step) → Stands code (block_at code next) goals end → Behind g code m.frames rest → GathersAt g end (vars_of m.frames) m.inner → steps ≡ steps_of m goals end rest → least ≤ w.meters.work + (1 + writing terms) → Comes least ps the (does the (op.Ask pred terms many next) m') g n run
+  ask {least = least} next goals end rest s below valued e le =
       charge the [] k m' _ g n run full
-      (goes_asked next m.frames m.inner [] steps refl (record { goals = goals; end = end; rest = rest; stands = s; below = below; is = e }) le)
+      (goes_asked next m.frames m.inner [] steps refl (record { goals = goals; end = end; rest = rest; stands = s; below = below; gathers = valued; is = e }) le)
 
   -- where a rule's last query goes on that still has to cut
-  answers_then : Behind code m.frames steps → Reads code (block_at code 0) m.frames [] steps
-  answers_then below = subst (λ l. Reads code l m.frames [] steps) (sym codes.answers) (record { goals = []; end = Returns; rest = steps; stands = returns []; below = below; is = refl })
+  answers_then : Behind g code m.frames steps → Reads g code (block_at code 0) m.frames [] steps
+  answers_then below = subst (λ l. Reads g code l m.frames [] steps) (sym codes.answers) (record { goals = []; end = Returns; rest = steps; stands = returns []; below = below; gathers = tt; is = refl })
 
-  pub last_ask : {least : ℕ} → Behind code m.frames steps → least ≤ w.meters.work + (1 + writing terms) → Comes least ps the (does the (op.LastAsk pred terms many) m') g n run
+  pub last_ask : {least : ℕ} → Behind g code m.frames steps → least ≤ w.meters.work + (1 + writing terms) → Comes least ps the (does the (op.LastAsk pred terms many) m') g n run
   last_ask {least = least} below le = charge the [] k m' _ g n run full (last_from code the (ToPred pred) args many (more k m') ps steps g n run (λ next frames inner answered after e reads. goes_asked next frames inner answered after e reads le) (answers_then below) m.frames below)

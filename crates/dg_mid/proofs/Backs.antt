@@ -1,6 +1,6 @@
 -- Failures, and blocks with which a choice goes on.
 use Rattle.std.specs.Prelude.{◌-◌}
-use Rattle.std.proofs.Common.{◌≡◌, ℕ, ◌+◌, ◌≤◌, List, [], ◌∷◌, inl, refl, sym, ap, ◌∙◌, subst, arith, length, drop}
+use Rattle.std.proofs.Common.{◌≡◌, ℕ, ◌+◌, ◌≤◌, List, [], ◌∷◌, refl, sym, ap, ◌∙◌, subst, arith, length, drop}
 use Rattle.std.proofs.lemmas.Bool.{cond_both}
 use Rattle.dg_base.specs.declared.program.Goal.{Goal}
 use Rattle.dg_base.specs.declared.run.Limits.{Limits}
@@ -11,8 +11,8 @@ use Rattle.dg_meaning.specs.Moves.{begun, exhausted}
 use Rattle.dg_meaning.specs.Search.{retried}
 use Rattle.dg_meaning.specs.Transcript.{Run}
 use Rattle.dg_meaning.specs.Context.{Live, Way as WayOn, stays}
-use Rattle.dg_meaning.specs.Keeps.{Failed, Tried, open_at, tried_in}
-use Rattle.dg_meaning.proofs.Keeps.{failed, tries, stands_happened}
+use Rattle.dg_meaning.specs.Keeps.{Failed, Resumed, Tried, open_at, tried_in}
+use Rattle.dg_meaning.proofs.Keeps.{failed, tries, takes_newest, stands_happened}
 use Rattle.dg_mid.specs.declared.code.Op.{Op}
 use Rattle.dg_mid.specs.declared.code.Code.{Code}
 use Rattle.dg_mid.specs.Code.{block_at}
@@ -20,7 +20,7 @@ use Rattle.dg_mid.specs.State.{Choice, Goes, Mid, Runs}
 use Rattle.dg_mid.specs.Step.{Setting, setting, passed, inside as inside_choice, resumed, goes_back}
 use Rattle.dg_mid.specs.Units.{resuming}
 use Rattle.dg_mid.specs.Codes.{End, Stands, jumps, returns, commits, refuses, backs, leaves, keeps, finishes, acts, ask, last_ask, query, last_query, holds, objects, only, either, selects, once, negates, branch, exhausts, shields, collects, accumulates, forever}
-use Rattle.dg_mid.specs.Reads.{AreChoices, none, dead, kept, AreClashes, WayIs, RetryIs, GoesAt, outside_of, Mirrors, Comes}
+use Rattle.dg_mid.specs.Reads.{AreChoices, none, dead, kept, AreClashes, WayIs, RetryIs, GoesAt, outside_of, Mirrors, Comes, TakesNewest}
 use Rattle.dg_mid.proofs.Here.{nothing_more, prints_dropped, work_dropped}
 use Rattle.dg_mid.proofs.Marks.{goes_on, ends_here}
 use Rattle.dg_mid.proofs.Taking.{charge, heap_full}
@@ -61,7 +61,15 @@ pub record Turns (g : Game) (c : Live) (cs : List Live) (n : ℕ) (w : World) (r
   pub outside : outside_of world ≡ outside_of w
   pub work : world.meters.work ≡ w.meters.work
   pub height : length world.gathered ≡ open_at c.others c.height
+  pub newest : TakesNewest c.others world.gathered
   pub tried : Tried g c.kind c.tag c.height c.ways_on cs c.others n world run
+
+resumes_newest : (g : Game) (c : Live) (cs : List Live) (n : ℕ) (w : World) (run : Run) → Resumed g c cs n w run → (bs : List Branch) → c.others ≡ bs → TakesNewest bs w.gathered
+resumes_newest g c cs n w run s [] e = tt
+resumes_newest g c cs n w run s (Enter path work ∷ bs) e = tt
+resumes_newest g c cs n w run s (Clash r work ∷ bs) e = tt
+resumes_newest g c cs n w run s (TakeOut t whole into path ∷ bs) e = takes_newest g c cs t whole into path bs n w run s e
+resumes_newest g c cs n w run s (Finds place o args path ∷ bs) e = tt
 
 pub turns_back : (g : Game) (c : Live) (cs : List Live) (n : ℕ) (w : World) (run : Run) → Failed g (c ∷ cs) n w run → Turns g c cs n w run
 turns_back g c cs n w run f =
@@ -75,6 +83,7 @@ turns_back g c cs n w run f =
       outside = t.outside ∙ ap outside_of back.drops.is;
       work = t.work ∙ work_dropped w back.world back.drops;
       height = ap length t.gathered ∙ back.gatherings;
+      newest = subst (TakesNewest c.others) (sym t.gathered) (resumes_newest g c cs n back.world run back.resumed c.others refl);
       tried = tries g c cs n back.world run back.resumed;
     }
 
@@ -127,6 +136,7 @@ back {least = least} {ps = ps} set m g ms lives n w run k (kept o ms' c cs is be
         way_is = is.way;
         tag = is.tag;
         height = sym t.height ∙ ap length there;
+        newest = subst (TakesNewest c.others) there t.newest;
         tried = t.tried;
       };
       worked = let b = t.work in omega (arith, le, b);
@@ -135,33 +145,33 @@ back {least = least} {ps = ps} set m g ms lives n w run k (kept o ms' c cs is be
 -- ## A block with which a choice goes on
 
 -- code that stands for goals neither keeps a choice nor takes a gathering out
-pub goes_plainly : (set : Setting) (ops : List Op) (goals : List Goal) (end : End) (m : Mid) → Stands set.code ops goals end → (resumed set ops m ≡ Runs (passed (record m { ops = ops }))) × ((ps : List Print) → resuming set ps ops m ≡ 0)
-goes_plainly set ops goals end m (jumps b rest goals' end' s) = (refl, λ ps. refl)
-goes_plainly set ops goals end m (returns rest) = (refl, λ ps. refl)
-goes_plainly set ops goals end m (commits rest goals' end' s) = (refl, λ ps. refl)
-goes_plainly set ops goals end m (refuses rest) = (refl, λ ps. refl)
-goes_plainly set ops goals end m (backs rest) = (refl, λ ps. refl)
-goes_plainly set ops goals end m (leaves rest goals' end' s) = (refl, λ ps. refl)
-goes_plainly set ops goals end m (keeps term rest) = (refl, λ ps. refl)
-goes_plainly set ops goals end m (finishes rest) = (refl, λ ps. refl)
-goes_plainly set ops goals end m (acts a rest goals' end' s) = (refl, λ ps. refl)
-goes_plainly set ops goals end m (ask pred terms many next rest goals' end' s) = (refl, λ ps. refl)
-goes_plainly set ops goals end m (last_ask pred terms many rest) = (refl, λ ps. refl)
-goes_plainly set ops goals end m (query a b many next rest goals' end' s) = (refl, λ ps. refl)
-goes_plainly set ops goals end m (last_query a b many rest) = (refl, λ ps. refl)
-goes_plainly set ops goals end m (holds place terms many next rest goals' end' s o) = (refl, λ ps. refl)
-goes_plainly set ops goals end m (objects term many next rest goals' end' s o) = (refl, λ ps. refl)
-goes_plainly set ops goals end m (only list rest goals' end' s) = (refl, λ ps. refl)
-goes_plainly set ops goals end m (either alt list second lists rest goals' end' s o) = (refl, λ ps. refl)
-goes_plainly set ops goals end m (selects site mode blocks lists behind rest goals' end' bs s) = (refl, λ ps. refl)
-goes_plainly set ops goals end m (once inner rest goals' end' s) = (refl, λ ps. refl)
-goes_plainly set ops goals end m (negates alt inner rest goals' end' s o) = (refl, λ ps. refl)
-goes_plainly set ops goals end m (branch alt tested first other rest goals' end' s o) = (refl, λ ps. refl)
-goes_plainly set ops goals end m (exhausts alt inner rest goals' end' s o) = (refl, λ ps. refl)
-goes_plainly set ops goals end m (shields alt inner rest goals' end' s o) = (refl, λ ps. refl)
-goes_plainly set ops goals end m (collects term into alt inner rest others goals' end' s e o) = (refl, λ ps. refl)
-goes_plainly set ops goals end m (accumulates term into alt inner rest others goals' end' s e o) = (refl, λ ps. refl)
-goes_plainly set ops goals end m (forever b rest goals' end' e s) = (refl, λ ps. refl)
+pub goes_plainly : (set : Setting) (ops : List Op) (goals : List Goal) (end : End) (m : Mid) → Stands set.code ops goals end → (resumed set ops m ≡ Runs (passed (record m { ops = ops }))) × (resuming ops ≡ 0)
+goes_plainly set ops goals end m (jumps b rest goals' end' s) = (refl, refl)
+goes_plainly set ops goals end m (returns rest) = (refl, refl)
+goes_plainly set ops goals end m (commits rest goals' end' s) = (refl, refl)
+goes_plainly set ops goals end m (refuses rest) = (refl, refl)
+goes_plainly set ops goals end m (backs rest) = (refl, refl)
+goes_plainly set ops goals end m (leaves rest goals' end' s) = (refl, refl)
+goes_plainly set ops goals end m (keeps term rest) = (refl, refl)
+goes_plainly set ops goals end m (finishes rest) = (refl, refl)
+goes_plainly set ops goals end m (acts a rest goals' end' s) = (refl, refl)
+goes_plainly set ops goals end m (ask pred terms many next rest goals' end' s) = (refl, refl)
+goes_plainly set ops goals end m (last_ask pred terms many rest) = (refl, refl)
+goes_plainly set ops goals end m (query a b many next rest goals' end' s) = (refl, refl)
+goes_plainly set ops goals end m (last_query a b many rest) = (refl, refl)
+goes_plainly set ops goals end m (holds place terms many next rest goals' end' s o) = (refl, refl)
+goes_plainly set ops goals end m (objects term many next rest goals' end' s o) = (refl, refl)
+goes_plainly set ops goals end m (only list rest goals' end' s) = (refl, refl)
+goes_plainly set ops goals end m (either alt list second lists rest goals' end' s o) = (refl, refl)
+goes_plainly set ops goals end m (selects site mode blocks lists behind rest goals' end' bs s) = (refl, refl)
+goes_plainly set ops goals end m (once inner rest goals' end' s) = (refl, refl)
+goes_plainly set ops goals end m (negates alt inner rest goals' end' s o) = (refl, refl)
+goes_plainly set ops goals end m (branch alt tested first other rest goals' end' s o) = (refl, refl)
+goes_plainly set ops goals end m (exhausts alt inner rest goals' end' s o) = (refl, refl)
+goes_plainly set ops goals end m (shields alt inner rest goals' end' s o) = (refl, refl)
+goes_plainly set ops goals end m (collects term into alt inner rest others goals' end' s e o) = (refl, refl)
+goes_plainly set ops goals end m (accumulates term into alt inner rest others goals' end' s e o) = (refl, refl)
+goes_plainly set ops goals end m (forever b rest goals' end' e s) = (refl, refl)
 
 -- the branches of a choice between goals
 pub tried_plainly : (g : Game) (c : Live) (cs : List Live) (bs : List Branch) (n : ℕ) (w : World) (run : Run) → c.kind ≡ Plain → c.others ≡ bs → Tried g c.kind c.tag c.height c.ways_on cs c.others n w run → Tried g Plain c.tag c.height c.ways_on cs bs n w run
@@ -176,7 +186,7 @@ module _ (code : Code) (limits : Limits) (b : ℕ) (m : Mid) (ps : List Print) (
   here = record m { ops = block_at code b }
 
   -- its last branch begins
-  last_begins : {least : ℕ} → (path : Path) (work : ℕ) → c.others ≡ Enter path work ∷ [] → WayIs code (block_at code b) m.frames m.inner q 0 path → least ≤ w.meters.work + resuming (setting g code limits) ps (block_at code b) m → Comes least ps set (resumed set (block_at code b) m) g n run
+  last_begins : {least : ℕ} → (path : Path) (work : ℕ) → c.others ≡ Enter path work ∷ [] → WayIs g code (block_at code b) m.frames m.inner q 0 path → least ≤ w.meters.work + resuming (block_at code b) → Comes least ps set (resumed set (block_at code b) m) g n run
   last_begins {least = least} path work e way le =
       let plain = goes_plainly set (block_at code b) way.reads.goals way.reads.end m way.reads.stands in
       let v = begun path.registers work w in
@@ -189,10 +199,10 @@ module _ (code : Code) (limits : Limits) (b : ℕ) (m : Mid) (ps : List Print) (
         registers = path.registers;
         mirrors = record { agrees = record { bound = on.agrees.bound; vars = on.agrees.vars; heap = omega (arith, on.agrees.heap); trail = on.agrees.trail; since = on.agrees.since }; tag = on.tag; choices_are = on.choices_are; below = on.below; stops_are = on.stops_are; stop_is = on.stop_is; gathered_is = on.gathered_is; outside_is = on.outside_is; printed_is = on.printed_is };
         stands = tried_plainly g c lives (Enter path work ∷ []) n w run kind e tried;
-      }) (let z = plain.1 ps in omega (arith, le, z)))
+      }) (let z = plain.1 in omega (arith, le, z)))
 
   -- another branch begins, and more are left
-  retry_begins : {least : ℕ} → (path : Path) (work : ℕ) (o : Branch) (os : List Branch) → c.others ≡ Enter path work ∷ o ∷ os → RetryIs (λ alt. GoesAt code alt m.frames m.inner q (o ∷ os)) code b m.frames m.inner q path work → least ≤ w.meters.work + resuming (setting g code limits) ps (block_at code b) m → Comes least ps set (resumed set (block_at code b) m) g n run
+  retry_begins : {least : ℕ} → (path : Path) (work : ℕ) (o : Branch) (os : List Branch) → c.others ≡ Enter path work ∷ o ∷ os → RetryIs (λ alt. GoesAt g code alt m.frames m.inner q (o ∷ os)) g code b m.frames m.inner q path work → least ≤ w.meters.work + resuming (block_at code b) → Comes least ps set (resumed set (block_at code b) m) g n run
   retry_begins {least = least} path work o os e r le =
       let m' : Mid = record m { ops = r.ops } in
       let c' : Live = record c { kind = Plain; others = o ∷ os } in
@@ -208,11 +218,11 @@ module _ (code : Code) (limits : Limits) (b : ℕ) (m : Mid) (ps : List Print) (
         ways = c.ways_on;
         registers = path.registers;
         mirrors = choice_mirrors g code m' ps q path.registers lives c.ways_on c.ways_on w v (Goes r.alt) 0 c' m.stops m.stop i refl refl i.printed_is (inside_is q path.registers 10 r.way.registers) i.stops_are (ap (λ (x : Registers). x.stoppable) r.way.registers ∙ i.stop_is) i.stops_are
-            (goes_open code r.alt m.frames m.inner q (o ∷ os) c.height r.others ∙ ap (λ l. open_at l c.height) (sym e) ∙ height) (tag ∙ sym i.tag) (refl, inl r.others);
+            (goes_open g code r.alt m.frames m.inner q (o ∷ os) c.height r.others ∙ ap (λ l. open_at l c.height) (sym e) ∙ height) (tag ∙ sym i.tag) (refl, r.others);
         stands = st;
-      }) (let z = r.some in let y = ap (λ l. resuming set ps l m) r.block in omega (arith, le, z, y))))
+      }) (let z = r.some in let y = ap resuming r.block in omega (arith, le, z, y))))
 
-  pub resumes : {least : ℕ} → (others : List Branch) → c.others ≡ others → GoesAt code b m.frames m.inner q others → least ≤ w.meters.work + resuming (setting g code limits) ps (block_at code b) m → Comes least ps set (resumed set (block_at code b) m) g n run
+  pub resumes : {least : ℕ} → (others : List Branch) → c.others ≡ others → GoesAt g code b m.frames m.inner q others → least ≤ w.meters.work + resuming (block_at code b) → Comes least ps set (resumed set (block_at code b) m) g n run
   resumes {least = least} [] e goes le = absurd goes
   resumes {least = least} (Enter path work ∷ []) e goes le = last_begins path work e goes le
   resumes {least = least} (Enter path work ∷ o ∷ os) e goes le = retry_begins path work o os e goes le

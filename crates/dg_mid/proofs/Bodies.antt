@@ -30,7 +30,7 @@ use Rattle.dg_mid.specs.State.{Place, Frame, Call, Target, ToBody, Mid, Status, 
 use Rattle.dg_mid.specs.Step.{Setting, setting, does, more, passed, unified, bound, values, call_of, parameter, body_frame, body_equations, enters_body, calls, body_of, closure_at, queries, queries_last}
 use Rattle.dg_mid.specs.Units.{body_work, query_work, asking_work}
 use Rattle.dg_mid.specs.Codes.{End, Returns, Stands, returns, BodyStands, Codes}
-use Rattle.dg_mid.specs.Reads.{silents, Behind, Reads, Mirrors, Comes}
+use Rattle.dg_mid.specs.Reads.{silents, Behind, Reads, Mirrors, Comes, GathersAt}
 use Rattle.dg_mid.proofs.Here.{Here, steps_of}
 use Rattle.dg_mid.proofs.Marks.{below_next}
 use Rattle.dg_mid.proofs.Taking.{behind, taken_in, comes, taken_grows, began_grows, charge, heap_full, unify_on, trail_older}
@@ -43,7 +43,7 @@ head_is parts [] = refl
 head_is parts (v ∷ vs) = refl
 
 module _ (g : Game) (code : Code) (limits : Limits) (c : BodyCode) (closure : ClosureBody) (parts : Values) (own_is : c.own ≡ closure.own) (stands : Stands code (block_at code c.block) closure.body Returns) (call : Call) (answered : List ℕ) (after : List Step) (q : Registers)
-    (m : Mid) (ps : List Print) (lives : List Live) (ways : List WayOn) (n : ℕ) (w : World) (run : Run) (reads : Reads code (block_at code call.next) m.frames m.inner after) (cut : call.cut.tag ≡ q.next_tag) where
+    (m : Mid) (ps : List Print) (lives : List Live) (ways : List WayOn) (n : ℕ) (w : World) (run : Run) (reads : Reads g code (block_at code call.next) m.frames m.inner after) (cut : call.cut.tag ≡ q.next_tag) where
   abbrev set : Setting
   set = setting g code limits
 
@@ -116,6 +116,7 @@ module _ (g : Game) (code : Code) (limits : Limits) (c : BodyCode) (closure : Cl
         rest = first_alone call.many call.cut.tag steps;
         stands = stands;
         below = record { noted = []; answered = answered; after = after; layer = reads; is = refl };
+        gathers = tt;
         is = ap (λ v. goals_at (env v) q.next_tag closure.body ++ first_alone call.many q.next_tag steps) i.agrees.vars
             ∙ ap (λ t. goals_at (env m.state.vars) t closure.body ++ first_alone call.many t steps) (sym cut);
       })
@@ -213,7 +214,7 @@ module _ (code : Code) (limits : Limits) (m : Mid) (ps : List Print) (ops : List
 
   -- a body is called with these frames
   goes_on_at : {least : ℕ} → (c : BodyCode) (closure : ClosureBody) (parts : Values) → c.own ≡ closure.own → Stands code (block_at code c.block) closure.body Returns → Began g h.lives h.ways (closure_branch g parts closure args many on r) n seen run →
-      least ≤ seen.meters.work + body_work now (ToBody c (values_of parts)) args m.state.subst m.state.vars → (next : ℕ) (frames : List Frame) (inner : List Place) (answered : List ℕ) (after : List Step) → on ≡ silents answered after → Reads code (block_at code next) frames inner after →
+      least ≤ seen.meters.work + body_work now (ToBody c (values_of parts)) args m.state.subst m.state.vars → (next : ℕ) (frames : List Frame) (inner : List Place) (answered : List ℕ) (after : List Step) → on ≡ silents answered after → Reads g code (block_at code next) frames inner after →
       Comes least ps now (calls now (ToBody c (values_of parts)) (call_of args many next m0) (record m0 { frames = frames; inner = inner })) g n run
   goes_on_at {least = least} c closure parts own_is stands began le next frames inner answered after e reads =
       body_begins g code limits c closure parts own_is stands (call_of args many next m0) answered after r (record m0 { frames = frames; inner = inner }) ps h.lives h.ways n seen run reads (sym h.mirrors.tag) mirrors_here
@@ -229,20 +230,20 @@ module _ (code : Code) (limits : Limits) (m : Mid) (ps : List Print) (ops : List
   counted : {least : ℕ} → least ≤ w.meters.work + (1 + asking_work now a b m) → least ≤ seen.meters.work + query_work now Target-of args m.state.subst m.state.vars
   counted {least = least} le = let same = ap (λ S. links S value) h.mirrors.agrees.bound in omega (arith, le, same)
 
-  pub query_on : {least : ℕ} → (next : ℕ) (goals : List Goal) (end : End) (rest : List Step) → Stands code (block_at code next) goals end → Behind code m.frames rest → on ≡ steps_of m goals end rest → least ≤ w.meters.work + (1 + asking_work now a b m) →
+  pub query_on : {least : ℕ} → (next : ℕ) (goals : List Goal) (end : End) (rest : List Step) → Stands code (block_at code next) goals end → Behind g code m.frames rest → GathersAt g end (vars_of m.frames) m.inner → on ≡ steps_of m goals end rest → least ≤ w.meters.work + (1 + asking_work now a b m) →
       Comes least ps now (does now (op.Query a b many next) m') g n run
-  query_on {least = least} next goals end rest s below e le =
+  query_on {least = least} next goals end rest s below valued e le =
       charge now [] k m' _ g n run
       (heap_full now m' ps k v g n run h.mirrors.printed_is (omega (arith, h.mirrors.agrees.heap)) (taken_grows code m ps on g n w run x f (outs-Query a b many) h))
       (value_asked g code limits args many on r m0 ps h.lives h.ways n seen run (λ t. queries now t args many next m0) fails_here
-      (λ c closure parts own_is stands began few. goes_on_at c closure parts own_is stands began few next m.frames m.inner [] on refl (record { goals = goals; end = end; rest = rest; stands = s; below = below; is = e }))
+      (λ c closure parts own_is stands began few. goes_on_at c closure parts own_is stands began few next m.frames m.inner [] on refl (record { goals = goals; end = end; rest = rest; stands = s; below = below; gathers = valued; is = e }))
       codes.bodies (walk m.state.subst value) comes_here (counted le))
 
-  pub last_query_on : {least : ℕ} → Behind code m.frames on → least ≤ w.meters.work + (1 + asking_work now a b m) → Comes least ps now (does now (op.LastQuery a b many) m') g n run
+  pub last_query_on : {least : ℕ} → Behind g code m.frames on → least ≤ w.meters.work + (1 + asking_work now a b m) → Comes least ps now (does now (op.LastQuery a b many) m') g n run
   last_query_on {least = least} below le =
       charge now [] k m' _ g n run
       (heap_full now m' ps k v g n run h.mirrors.printed_is (omega (arith, h.mirrors.agrees.heap)) (taken_grows code m ps on g n w run x f (outs-Query a b many) h))
       (value_asked g code limits args many on r m0 ps h.lives h.ways n seen run (λ t. queries_last now t args many m0) fails_here
       (λ c closure parts own_is stands began few. last_from code now (ToBody c (values_of parts)) args many m0 ps on g n run (goes_on_at c closure parts own_is stands began few)
-      (subst (λ l. Reads code l m.frames [] on) (sym codes.answers) (record { goals = []; end = Returns; rest = on; stands = returns []; below = below; is = refl })) m.frames below)
+      (subst (λ l. Reads g code l m.frames [] on) (sym codes.answers) (record { goals = []; end = Returns; rest = on; stands = returns []; below = below; gathers = tt; is = refl })) m.frames below)
       codes.bodies (walk m.state.subst value) comes_here (counted le))

@@ -66,7 +66,7 @@ began_peaks g lives ways false path work n w run h =
     let later = (has_happened g lives ways n (Moves (MoveFails (begun path.registers work w))) run h).meters in (omega (arith, later.heap), omega (arith, later.trail))
 
 module _ (g : Game) (code : Code) (limits : Limits) (call : Call) (pred : ℕ) (answered : List ℕ) (after : List Step) (q : Registers) (sub : IsSubstitution q.bound) (m : Mid) (ps : List Print) (lives : List Live) (ways : List WayOn) (n : ℕ) (run : Run) (height : ℕ)
-    (reads : Reads code (block_at code call.next) m.frames m.inner after) (cut : call.cut.tag ≡ q.next_tag) (height_is : height ≡ length m.gathered) where
+    (reads : Reads g code (block_at code call.next) m.frames m.inner after) (cut : call.cut.tag ≡ q.next_tag) (height_is : height ≡ length m.gathered) where
   abbrev set : Setting
   set = setting g code limits
 
@@ -234,7 +234,7 @@ module _ (g : Game) (code : Code) (limits : Limits) (call : Call) (pred : ℕ) (
 
 -- what its match comes to
 pub match_on : {least : ℕ} → {ps : List Print} → (g : Game) (code : Code) (limits : Limits) (b : Bool) (m : Mid) (f : Frame) (path : Path) (work : ℕ) (lives : List Live) (ways : List WayOn) (n : ℕ) (w : World) (run : Run) →
-    Mirrors g code m ps path.registers lives ways w → Layer (Behind code (f ∷ m.frames)) code m.ops f.vars f.cut.tag [] path.steps → Began g lives ways (enter_if b path work) n w run →
+    Mirrors g code m ps path.registers lives ways w → Layer (Behind g code (f ∷ m.frames)) g code m.ops f.vars f.cut.tag [] path.steps → Began g lives ways (enter_if b path work) n w run →
     least ≤ w.meters.work + work → Comes least ps (setting g code limits) (if_agreed b m (Runs (record m { frames = f ∷ m.frames; inner = [] }))) g n run
 match_on {least = least} {ps = ps} g code limits true m f path work lives ways n w run i layer began le =
     let v = begun path.registers work w in
@@ -298,6 +298,7 @@ enters_at {least = least} {ps = ps} g code limits call m n w run h le =
       rest = Answers h.pred ∷ first_alone call.many call.cut.tag steps;
       stands = h.body;
       below = record { noted = h.pred ∷ []; answered = h.answered; after = h.after; layer = h.reads; is = refl };
+      gathers = tt;
       is = ap (λ v. goals_at (new_vars rule.vars v) q.next_tag rule.body ++ Answers h.pred ∷ first_alone call.many q.next_tag steps) i.agrees.vars
           ∙ ap (λ t. goals_at (new_vars rule.vars m.state.vars) t rule.body ++ Answers h.pred ∷ first_alone call.many t steps) (sym h.cut);
     })

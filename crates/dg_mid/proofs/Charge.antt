@@ -5,7 +5,7 @@ use Rattle.dg_meaning.specs.World.{Game}
 use Rattle.dg_meaning.specs.Transcript.{run}
 use Rattle.dg_mid.specs.declared.code.Code.{Code}
 use Rattle.std.proofs.Common.{Option, Some, None}
-use Rattle.dg_mid.specs.State.{Mid, Status, Runs, Enters, Resumes, Fails, Ended, Goes, Calls, Tries}
+use Rattle.dg_mid.specs.State.{Mid, Status, Runs, Enters, Resumes, Fails, Ended, Goes, Calls, Tries, Takes}
 use Rattle.dg_mid.specs.Step.{Setting, step, setting}
 use Rattle.std.specs.Prelude.{slice_get, nat_lt}
 use Rattle.std.proofs.lemmas.Bool.{ltb-true, ltb-false}
@@ -98,6 +98,7 @@ costs_one s ps (Runs m) = inr (one m.ops) where
   one (x ∷ ops) = omega arith
 costs_one s ps (Enters call m) = inr (omega arith)
 costs_one s ps (Resumes (Goes b) m) = inr (omega arith)
+costs_one s ps (Resumes (Takes b into) m) = inr (omega arith)
 costs_one s ps (Resumes (Calls call rules) m) = inr (omega arith)
 costs_one s ps (Resumes (Tries f os) m) = inr (omega arith)
 costs_one s ps (Fails m) = inr (omega arith)

@@ -1,5 +1,5 @@
 -- Goals that open a choice or an inner construct.
-use Rattle.std.proofs.Common.{◌≡◌, ℕ, suc, ◌+◌, ◌≤◌, List, [], ◌∷◌, ◌++◌, Option, inl, refl, sym, ap, ◌∙◌, subst, arith, length}
+use Rattle.std.proofs.Common.{◌≡◌, ℕ, suc, ◌+◌, ◌≤◌, List, [], ◌∷◌, ◌++◌, Option, refl, sym, ap, ◌∙◌, subst, arith, length}
 use Rattle.dg_base.specs.declared.program.Goal.{Goal}
 use Rattle.dg_base.specs.declared.program.Goal.TheVariants as goal
 use Rattle.dg_base.specs.declared.program.Goal.TheVariants.{outs-Either, outs-Once, outs-Not, outs-If, outs-Exhaust, outs-Forever}
@@ -20,7 +20,7 @@ use Rattle.dg_mid.specs.Code.{block_at}
 use Rattle.dg_mid.specs.State.{Place, Frame, Way, Goes, Stop, Mid, Runs, vars_of, cut_of, place_of}
 use Rattle.dg_mid.specs.Step.{Setting, setting, does, more, charged, passed, within, new_choice, inside as inside_choice}
 use Rattle.dg_mid.specs.Codes.{End, Stands, Others, last_list, more_lists, Commits, Refuses, Backs, forever}
-use Rattle.dg_mid.specs.Reads.{Behind, Layer, kept, WayOf, GoesAt, AreStops, end_steps, outside_of, Mirrors, Comes}
+use Rattle.dg_mid.specs.Reads.{Behind, Layer, kept, WayOf, GoesAt, AreStops, end_steps, outside_of, Mirrors, Comes, GathersAt}
 use Rattle.dg_mid.proofs.Here.{Here, steps_of}
 use Rattle.dg_mid.proofs.Marks.{goes_on, below_next}
 use Rattle.dg_mid.proofs.Taking.{behind, taken_in, comes, charge, heap_full}
@@ -40,8 +40,8 @@ inside_is q r cells e = subst (λ (x : Registers). IsInside q x cells) (sym e) (
 
 -- the machine inside a choice that has this way on
 pub choice_mirrors : (g : Game) (code : Code) (m : Mid) (ps : List Print) (q r : Registers) (lives : List Live) (ways now_ways : List WayOn) (w v : World) (way : Way) (arguments : ℕ) (c : Live) (now_stops : List Stop) (now_stop : Option ℕ) →
-    Mirrors g code m ps q lives ways w → v.gathered ≡ w.gathered → outside_of v ≡ outside_of w → prints v.events ≡ ps → IsInside q r (10 + arguments) → AreStops code now_stops now_ways → r.stoppable ≡ now_stop →
-    AreStops code m.stops c.ways_on → open_at c.others c.height ≡ length m.gathered → c.tag ≡ q.next_tag → WayOf g code way m.frames m.inner m.state.subst q c.kind c.others →
+    Mirrors g code m ps q lives ways w → v.gathered ≡ w.gathered → outside_of v ≡ outside_of w → prints v.events ≡ ps → IsInside q r (10 + arguments) → AreStops g code now_stops now_ways → r.stoppable ≡ now_stop →
+    AreStops g code m.stops c.ways_on → open_at c.others c.height ≡ length m.gathered → c.tag ≡ q.next_tag → WayOf g code way m.frames m.inner m.state.subst q c.kind c.others →
     Mirrors g code (record (inside_choice way arguments m) { stops = now_stops; stop = now_stop }) ps r (c ∷ lives) now_ways v
 choice_mirrors g code m ps q r lives ways now_ways w v way arguments c now_stops now_stop i same out printed on stops_are stop_is old height tag way_is = record {
   agrees = record { bound = on.bound ∙ i.agrees.bound; vars = on.vars ∙ i.agrees.vars; heap = omega (arith, i.agrees.heap, on.heap); trail = omega (arith, i.agrees.trail, on.trail); since = omega arith };
@@ -78,7 +78,7 @@ pub goals_append : (env : List Value) (t : ℕ) (xs ys : List Goal) (steps : Lis
 goals_append env t [] ys steps = refl
 goals_append env t (x ∷ xs) ys steps = ap (λ l. Do x env t ∷ l) (goals_append env t xs ys steps)
 
-module _ (code : Code) (frames : List Frame) (inner : List Place) (rest : List Step) (below : Behind code frames rest) where
+module _ (g : Game) (code : Code) (frames : List Frame) (inner : List Place) (rest : List Step) (end : End) (below : Behind g code frames rest) (valued : GathersAt g end (vars_of frames) inner) where
   abbrev env : List Value
   env = vars_of frames
 
@@ -86,26 +86,26 @@ module _ (code : Code) (frames : List Frame) (inner : List Place) (rest : List S
   t = (cut_of frames).tag
 
   -- goals in front of others
-  pub layered : (ops : List Op) (xs goals : List Goal) (end : End) → Stands code ops (xs ++ goals) end → Layer (Behind code frames) code ops env t inner (goals_at env t xs ++ (goals_at env t goals ++ end_steps end env t inner rest))
-  layered ops xs goals end s = record { goals = xs ++ goals; end = end; rest = rest; stands = s; below = below; is = goals_append env t xs goals (end_steps end env t inner rest) }
+  pub layered : (ops : List Op) (xs goals : List Goal) → Stands code ops (xs ++ goals) end → Layer (Behind g code frames) g code ops env t inner (goals_at env t xs ++ (goals_at env t goals ++ end_steps end env t inner rest))
+  layered ops xs goals s = record { goals = xs ++ goals; end = end; rest = rest; stands = s; below = below; gathers = valued; is = goals_append env t xs goals (end_steps end env t inner rest) }
 
   -- the lists between (or) that are left
-  pub lists_go : (q : Registers) (b : ℕ) (lists : List (List Goal)) (goals : List Goal) (end : End) → Others code b lists goals end → GoesAt code b frames inner q (list_branches env t (goals_at env t goals ++ end_steps end env t inner rest) q lists)
-  lists_go q b lists goals end (last_list b' list goals' end' s) = record { reads = layered (block_at code b) list goals end s; registers = refl }
-  lists_go q b lists goals end (more_lists b' alt ops list second others goals' end' block s more) =
-      record { alt = alt; ops = ops; block = block; way = record { reads = layered ops list goals end s; registers = refl }; others = lists_go q alt (second ∷ others) goals end more; some = omega arith }
+  pub lists_go : (q : Registers) (b : ℕ) (lists : List (List Goal)) (goals : List Goal) → Others code b lists goals end → GoesAt g code b frames inner q (list_branches env t (goals_at env t goals ++ end_steps end env t inner rest) q lists)
+  lists_go q b lists goals (last_list b' list goals' end' s) = record { reads = layered (block_at code b) list goals s; registers = refl }
+  lists_go q b lists goals (more_lists b' alt ops list second others goals' end' block s more) =
+      record { alt = alt; ops = ops; block = block; way = record { reads = layered ops list goals s; registers = refl }; others = lists_go q alt (second ∷ others) goals more; some = omega arith }
 
 -- branches that go on at a block take no gathering out
-pub goes_open : (code : Code) (b : ℕ) (frames : List Frame) (inner : List Place) (q : Registers) (others : List Branch) (height : ℕ) → GoesAt code b frames inner q others → open_at others height ≡ height
-goes_open code b frames inner q [] height goes = refl
-goes_open code b frames inner q (Enter path work ∷ os) height goes = refl
-goes_open code b frames inner q (Clash r work ∷ os) height goes = refl
-goes_open code b frames inner q (TakeOut t whole into path ∷ os) height goes = absurd goes
-goes_open code b frames inner q (Finds place o args path ∷ os) height goes = absurd goes
+pub goes_open : (g : Game) (code : Code) (b : ℕ) (frames : List Frame) (inner : List Place) (q : Registers) (others : List Branch) (height : ℕ) → GoesAt g code b frames inner q others → open_at others height ≡ height
+goes_open g code b frames inner q [] height goes = refl
+goes_open g code b frames inner q (Enter path work ∷ os) height goes = refl
+goes_open g code b frames inner q (Clash r work ∷ os) height goes = refl
+goes_open g code b frames inner q (TakeOut t whole into path ∷ os) height goes = absurd goes
+goes_open g code b frames inner q (Finds place o args path ∷ os) height goes = absurd goes
 
 -- ## Goals
 
-module _ (code : Code) (limits : Limits) (m : Mid) (ops : List Op) (goals : List Goal) (end : End) (rest : List Step) (g : Game) (n : ℕ) (w : World) (run : Run) (below : Behind code m.frames rest) where
+module _ (code : Code) (limits : Limits) (m : Mid) (ops : List Op) (goals : List Goal) (end : End) (rest : List Step) (g : Game) (n : ℕ) (w : World) (run : Run) (below : Behind g code m.frames rest) (valued : GathersAt g end (vars_of m.frames) m.inner) where
   abbrev set : Setting
   set = setting g code limits
 
@@ -137,7 +137,7 @@ module _ (code : Code) (limits : Limits) (m : Mid) (ops : List Op) (goals : List
 
   -- a choice opens, and the machine goes on in it; the inner constructs are these
   pub opens : {least : ℕ} → {ps : List Print} → (alt : ℕ) (o : Branch) (os : List Branch) (work : ℕ) (now : List Place) (on : List Step) (lives : List Live) (ways : List WayOn) (q : Registers) (v : World) →
-      Mirrors g code m ps q lives ways v → GoesAt code alt m.frames m.inner q (o ∷ os) → Layer (Behind code m.frames) code ops vars tag now on →
+      Mirrors g code m ps q lives ways v → GoesAt g code alt m.frames m.inner q (o ∷ os) → Layer (Behind g code m.frames) g code ops vars tag now on →
       StandsIn g (record { kind = Plain; tag = q.next_tag; others = o ∷ os; height = length v.gathered; ways_on = ways } ∷ lives) ways (path_of on (inside 10 q)) n (begun (inside 10 q) work v) run →
       least ≤ v.meters.work + work → Comes least ps set (charged set 10 m' (Runs (record (inside_choice (Goes alt) 0 m') { inner = now }))) g n run
   opens {least = least} {ps = ps} alt o os work now on lives ways q v i goes layer st le =
@@ -151,7 +151,7 @@ module _ (code : Code) (limits : Limits) (m : Mid) (ops : List Op) (goals : List
         ways = ways;
         registers = inside 10 q;
         mirrors = choice_mirrors g code m' ps q (inside 10 q) lives ways ways v u (Goes alt) 0 c m.stops m.stop i refl refl i.printed_is (inside_is q (inside 10 q) 10 refl) i.stops_are i.stop_is i.stops_are
-            (goes_open code alt m.frames m.inner q (o ∷ os) (length v.gathered) goes ∙ ap length i.gathered_is) refl (refl, inl goes);
+            (goes_open g code alt m.frames m.inner q (o ∷ os) (length v.gathered) goes ∙ ap length i.gathered_is) refl (refl, goes);
         stands = st;
       }) le)
 
@@ -163,7 +163,7 @@ module _ (code : Code) (limits : Limits) (m : Mid) (ops : List Op) (goals : List
       let q = behind code m ps steps g n w run x f (outs-Either (list ∷ second ∷ lists)) h in
       let v = taken_in code m ps steps g n w run x f (outs-Either (list ∷ second ∷ lists)) h in
       opens alt _ _ 1 m.inner (goals_at vars tag list ++ steps) h.lives h.ways q v (mirrors_behind ps h.registers h.lives h.ways v h.mirrors refl refl h.mirrors.printed_is)
-      (lists_go code m.frames m.inner rest below q alt (second ∷ lists) goals end others) (layered code m.frames m.inner rest below ops list goals end s)
+      (lists_go g code m.frames m.inner rest end below valued q alt (second ∷ lists) goals others) (layered g code m.frames m.inner rest end below valued ops list goals s)
       (comes code m ps steps g n w run x f (outs-Either (list ∷ second ∷ lists)) h) (omega (arith, le))
 
   -- a goal with one list of goals
@@ -176,7 +176,7 @@ module _ (code : Code) (limits : Limits) (m : Mid) (ops : List Op) (goals : List
       let u = begun (inside 0 q) 1 v in
       let i = passed_mirrors g code m' ps h.registers (inside 0 q) h.lives h.ways w u 0 h.mirrors refl refl h.mirrors.printed_is (record { bound = refl; vars = refl; heap = omega arith; trail = omega arith; tag = refl }) h.mirrors.stop_is in
       goes_on set (passed m') (goals_at vars tag list ++ steps) [] g n u run
-      (layered code m.frames m.inner rest below ops list goals end s)
+      (layered g code m.frames m.inner rest end below valued ops list goals s)
       (record {
         lives = h.lives;
         ways = h.ways;
@@ -197,7 +197,7 @@ module _ (code : Code) (limits : Limits) (m : Mid) (ops : List Op) (goals : List
       charge set [] 10 m' (Runs (within (place_of m') (more 10 (passed m')))) g n run
       (heap_full set m' ps 10 u g n run h.mirrors.printed_is (omega (arith, h.mirrors.agrees.heap)) (stands_happened g h.lives h.ways _ n u run st))
       (goes_on set (within (place_of m') (more 10 (passed m'))) on [] g n u run
-      (record { goals = inner; end = Commits goals end; rest = rest; stands = s; below = below; is = ap (λ k. goals_at vars tag inner ++ Cut k ∷ steps) h.mirrors.tag })
+      (record { goals = inner; end = Commits goals end; rest = rest; stands = s; below = below; gathers = valued; is = ap (λ k. goals_at vars tag inner ++ Cut k ∷ steps) h.mirrors.tag })
       (record {
         lives = h.lives;
         ways = h.ways;
@@ -207,8 +207,8 @@ module _ (code : Code) (limits : Limits) (m : Mid) (ops : List Op) (goals : List
       }) (omega (arith, le)))
 
   -- the way on behind an inner construct
-  pub other_way : (alt : ℕ) (q : Registers) (xs : List Goal) → Stands code (block_at code alt) (xs ++ goals) end → GoesAt code alt m.frames m.inner q (enter 0 0 q (goals_at vars tag xs ++ steps) ∷ [])
-  other_way alt q xs s = record { reads = layered code m.frames m.inner rest below (block_at code alt) xs goals end s; registers = refl }
+  pub other_way : (alt : ℕ) (q : Registers) (xs : List Goal) → Stands code (block_at code alt) (xs ++ goals) end → GoesAt g code alt m.frames m.inner q (enter 0 0 q (goals_at vars tag xs ++ steps) ∷ [])
+  other_way alt q xs s = record { reads = layered g code m.frames m.inner rest end below valued (block_at code alt) xs goals s; registers = refl }
 
   pub negates : {least : ℕ} → {ps : List Print} → (alt : ℕ) (inner : List Goal) → Stands code ops inner Refuses → Stands code (block_at code alt) goals end → Here code m ps (Do (goal.Not inner) vars tag ∷ steps) g (suc n) w run → least ≤ w.meters.work + 1 → Comes least ps set (does set (op.Try alt) m') g n run
   negates {least = least} {ps = ps} alt inner s other h le =
@@ -218,7 +218,7 @@ module _ (code : Code) (limits : Limits) (m : Mid) (ops : List Op) (goals : List
       let v = taken_in code m ps steps g n w run x f (outs-Not inner) h in
       opens alt _ _ 0 (place_of m ∷ m.inner) (goals_at vars tag inner ++ Refuse q.next_tag ∷ []) h.lives h.ways q v (mirrors_behind ps h.registers h.lives h.ways v h.mirrors refl refl h.mirrors.printed_is)
       (other_way alt q [] other)
-      (record { goals = inner; end = Refuses; rest = rest; stands = s; below = below; is = ap (λ k. goals_at vars tag inner ++ Refuse k ∷ []) h.mirrors.tag })
+      (record { goals = inner; end = Refuses; rest = rest; stands = s; below = below; gathers = tt; is = ap (λ k. goals_at vars tag inner ++ Refuse k ∷ []) h.mirrors.tag })
       (comes code m ps steps g n w run x f (outs-Not inner) h) (omega (arith, le))
 
   pub branch : {least : ℕ} → {ps : List Print} → (alt : ℕ) (test first other : List Goal) → Stands code ops test (Commits (first ++ goals) end) → Stands code (block_at code alt) (other ++ goals) end →
@@ -236,6 +236,7 @@ module _ (code : Code) (limits : Limits) (m : Mid) (ops : List Op) (goals : List
         rest = rest;
         stands = s;
         below = below;
+        gathers = valued;
         is = ap (λ k. goals_at vars tag test ++ Cut k ∷ (goals_at vars tag first ++ steps)) h.mirrors.tag
             ∙ ap (λ l. goals_at vars tag test ++ Cut m.next_tag ∷ l) (goals_append vars tag first goals (end_steps end vars tag m.inner rest));
       })
@@ -249,7 +250,7 @@ module _ (code : Code) (limits : Limits) (m : Mid) (ops : List Op) (goals : List
       let v = taken_in code m ps steps g n w run x f (outs-Exhaust inner) h in
       opens alt _ _ 0 (place_of m ∷ m.inner) (goals_at vars tag inner ++ Back ∷ []) h.lives h.ways q v (mirrors_behind ps h.registers h.lives h.ways v h.mirrors refl refl h.mirrors.printed_is)
       (other_way alt q [] other)
-      (record { goals = inner; end = Backs; rest = rest; stands = s; below = below; is = refl })
+      (record { goals = inner; end = Backs; rest = rest; stands = s; below = below; gathers = tt; is = refl })
       (comes code m ps steps g n w run x f (outs-Exhaust inner) h) (omega (arith, le))
 
   pub endless : {least : ℕ} → {ps : List Print} → (b : ℕ) → block_at code b ≡ op.Branch b ∷ ops → Stands code ops goals end → Here code m ps (Do goal.Forever vars tag ∷ steps) g (suc n) w run → least ≤ w.meters.work + 1 → Comes least ps set (does set (op.Branch b) m') g n run
@@ -261,5 +262,5 @@ module _ (code : Code) (limits : Limits) (m : Mid) (ops : List Op) (goals : List
       let again : Stands code (block_at code b) (goal.Forever ∷ goals) end = subst (λ l. Stands code l (goal.Forever ∷ goals) end) (sym block) (forever b ops goals end block s) in
       opens b _ _ 0 m.inner steps h.lives h.ways q v (mirrors_behind ps h.registers h.lives h.ways v h.mirrors refl refl h.mirrors.printed_is)
       (other_way b q (goal.Forever ∷ []) again)
-      (record { goals = goals; end = end; rest = rest; stands = s; below = below; is = refl })
+      (record { goals = goals; end = end; rest = rest; stands = s; below = below; gathers = valued; is = refl })
       (comes code m ps steps g n w run x f outs-Forever h) (omega (arith, le))

@@ -22,7 +22,7 @@ use Rattle.dg_mid.specs.State.{Mid, vars_of, cut_of}
 use Rattle.dg_mid.specs.Actions.{world_of}
 use Rattle.dg_mid.specs.Step.{Setting, setting, does, at_choice}
 use Rattle.dg_mid.specs.Codes.{End, Stands, Branches, no_branch, a_branch}
-use Rattle.dg_mid.specs.Reads.{Behind, Comes}
+use Rattle.dg_mid.specs.Reads.{Behind, Comes, GathersAt}
 use Rattle.dg_mid.proofs.Here.{Here, steps_of}
 use Rattle.dg_mid.proofs.Marks.{goes_on}
 use Rattle.dg_mid.proofs.Taking.{behind, taken_in, comes}
@@ -41,7 +41,7 @@ as_many : (code : Code) (blocks : List ℕ) (lists : List (List Goal)) (goals : 
 as_many code blocks lists goals end (no_branch goals' end') = refl
 as_many code blocks lists goals end (a_branch b others list lists' goals' end' here more) = ap suc (as_many code others lists' goals end more)
 
-module _ (code : Code) (limits : Limits) (m : Mid) (ops : List Op) (goals : List Goal) (end : End) (rest : List Step) (g : Game) (n : ℕ) (w : World) (run : Run) (below : Behind code m.frames rest) where
+module _ (code : Code) (limits : Limits) (m : Mid) (ops : List Op) (goals : List Goal) (end : End) (rest : List Step) (g : Game) (n : ℕ) (w : World) (run : Run) (below : Behind g code m.frames rest) (valued : GathersAt g end (vars_of m.frames) m.inner) where
   abbrev set : Setting
   set = setting g code limits
 
@@ -67,7 +67,7 @@ module _ (code : Code) (limits : Limits) (m : Mid) (ops : List Op) (goals : List
       (subst (λ y. StandsIn g h.lives h.ways (path_of (goals_at vars tag (get_or lists (selecting g site mode (length lists) y).branch []) ++ steps) q) n (picked site (selecting g site mode (length lists) y) y) run) (world_is v m.gathered m.outside i.gathered_is i.outside_is)
       (comes code m ps steps g n w run x f (outs-Select site mode lists) h)) in
       goes_on set (at_choice set c site blocks other m') (goals_at vars tag (get_or lists c.branch []) ++ steps) [] g n (picked site c v0) run
-      (layered code m.frames m.inner rest below (block_at code (get_or blocks c.branch other)) (get_or lists c.branch []) goals end (branch_stands code blocks lists other c.branch goals end bs s))
+      (layered g code m.frames m.inner rest end below valued (block_at code (get_or blocks c.branch other)) (get_or lists c.branch []) goals (branch_stands code blocks lists other c.branch goals end bs s))
       (record {
         lives = h.lives;
         ways = h.ways;

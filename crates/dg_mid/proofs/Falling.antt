@@ -9,7 +9,7 @@ use Rattle.dg_meaning.specs.Values.{Value, value_of}
 use Rattle.dg_meaning.specs.Cells.{cells}
 use Rattle.dg_meaning.specs.Substitutions.{resolved}
 use Rattle.dg_meaning.specs.Unify.{Unified, Equations, solve}
-use Rattle.dg_meaning.specs.World.{World, worked, Gathering, gathered_size, gathered_at, gathered_with}
+use Rattle.dg_meaning.specs.World.{World, worked, Gathering, gathered_size}
 use Rattle.dg_meaning.specs.Numbers.{total}
 use Rattle.dg_meaning.specs.Moves.{begun, behind_copy, copy_of, finds_if_set, gives_number}
 use Rattle.dg_meaning.specs.Letters.{copied}
@@ -22,8 +22,8 @@ use Rattle.dg_mid.specs.declared.code.Gathered.{Gathered}
 use Rattle.dg_mid.specs.declared.code.Gathered.TheVariants as gathered
 use Rattle.dg_mid.specs.declared.code.RuleCode.{RuleCode}
 use Rattle.dg_mid.specs.Code.{block_at, selected, excluded}
-use Rattle.dg_mid.specs.State.{Place, Frame, Call, Find, Goes, Calls, Tries, Choice, Mid, Status, Runs, Enters, Resumes, Fails, Ended, place_of, inner_for, cut_choices, vars_of}
-use Rattle.dg_mid.specs.Step.{Setting, trying, tries, done, made_in, gathers, without_gathering, taken_out, charged, unified, bound, trail_more, if_agreed, enters, begins, returned, returns, commits, refuses, leaves, keeps, new_frame, runs, entered, enter, resumed, goes_back, step, first_of, inside, passed, at_rule, at_goal, takes_goal}
+use Rattle.dg_mid.specs.State.{Place, Frame, Call, Find, Goes, Calls, Tries, Choice, Mid, Status, Runs, Enters, Resumes, Fails, Ended, place_of, inner_for, cut_choices, Takes}
+use Rattle.dg_mid.specs.Step.{Setting, trying, tries, done, made_in, gathers, taken_out, charged, unified, bound, trail_more, if_agreed, enters, begins, returned, returns, commits, refuses, leaves, keeps, new_frame, runs, entered, enter, resumed, goes_back, step, first_of, inside, passed, at_rule, at_goal, takes_goal, keeps_value, takes, newest_with, takes_newest}
 use Rattle.dg_mid.specs.Potential.{begins_goto, Tidy, IsOver}
 use Rattle.dg_mid.specs.Actions.{registers_of, world_of, world_by, outside_in}
 use Rattle.dg_mid.specs.Falling.{jumping, frames_deep, deep, times, choices_left, left_at}
@@ -96,15 +96,11 @@ number_less : (g : Setting) (o : Option ℕ) (into : Value) (r : Registers) (w :
 number_less g None into r w m k a h = a
 number_less g (Some n) into r w m k a h = made_less g r _ w m k a h
 
-taken_less : (g : Setting) (whole : Gathered) (into : Term) (m m' : Mid) (k : ℕ) → 1 + choices_left m'.choices < k → 2 * deep m'.frames m'.inner + 2 + jumping m'.ops + choices_left m'.choices < k → left_at (done g (taken_out g [] whole into m) m') < k
-taken_less g gathered.List into m m' k a h =
-    let r = registers_of (passed (without_gathering m)) in
-    let vs = gathered_at m.next_tag m.gathered in
-    made_less g (behind_copy (list_of vs) r) ((value_of g.game.program (vars_of m.frames) into, copy_of (list_of vs) r) ∷ []) (world_by (taken_out g [] gathered.List into m)) m' k a h
-taken_less g gathered.Sum into m m' k a h =
-    let r = registers_of (passed (without_gathering m)) in
-    let vs = gathered_at m.next_tag m.gathered in
-    number_less g (total vs) (value_of g.game.program (vars_of m.frames) into) r (begun r (length vs) (world_of [] (passed (without_gathering m)))) m' k a h
+taken_less : (g : Setting) (whole : Gathered) (into : Value) (vs : List Value) (m : Mid) (k : ℕ) → 1 + choices_left m.choices < k → 2 * deep m.frames m.inner + 2 + jumping m.ops + choices_left m.choices < k → left_at (done g (taken_out [] whole into vs m) m) < k
+taken_less g gathered.List into vs m k a h =
+    let r = registers_of m in
+    made_less g (behind_copy (list_of vs) r) ((into, copy_of (list_of vs) r) ∷ []) (world_by (taken_out [] gathered.List into vs m)) m k a h
+taken_less g gathered.Sum into vs m k a h = let r = registers_of m in number_less g (total vs) into r (begun r (length vs) (world_of [] m)) m k a h
 
 resumed_less : (g : Setting) (b : ℕ) (ops : List Op) (m : Mid) → ((alt : ℕ) (rest : List Op) → ops ≡ op.Retry alt ∷ rest → alt < b) → left_at (resumed g ops m) < left_at (Resumes (Goes b) m)
 resumed_less g b [] m earlier = omega arith
@@ -113,11 +109,16 @@ resumed_less g b (op.Retry alt ∷ ops) m earlier =
     let more = times_more (suc (suc alt)) (suc b) (2 * deep m.frames m.inner + 8) (omega (arith, less)) in
     let one = jumping_one ops in
     charged_less g 10 m _ _ (omega (arith, more, one))
-resumed_less g b (op.TakeOut whole into ∷ ops) m earlier =
-    let one = jumping_one ops in
-    let m' = passed (without_gathering (record m { ops = ops })) in
-    taken_less g whole into (record m { ops = ops }) m' _ (omega arith) (omega (arith, one))
 resumed_less g b (x ∷ ops) m earlier = let one = jumping_one (x ∷ ops) in omega (arith, one)
+
+newest_less : (g : Setting) (whole : Gathered) (into : Value) (gs : List Gathering) (m : Mid) → left_at (takes_newest g whole into gs m) < 2 * deep m.frames m.inner + 8 + choices_left m.choices
+newest_less g whole into [] m = omega arith
+newest_less g whole into (x ∷ xs) m = let one = jumping_one m.ops in taken_less g whole into x.values (passed (record m { gathered = xs })) _ (omega arith) (omega (arith, one))
+
+takes_less : (g : Setting) (b : ℕ) (into : Value) (ops : List Op) (m : Mid) → left_at (takes g into ops m) < left_at (Resumes (Takes b into) m)
+takes_less g b into [] m = omega arith
+takes_less g b into (op.TakeOut whole t ∷ ops) m = let h = newest_less g whole into m.gathered (record m { ops = ops }) in omega (arith, h)
+takes_less g b into (x ∷ ops) m = omega arith
 
 returned_less : (g : Setting) (b : Bool) (f : Frame) (fs : List Frame) (m : Mid) (k : ℕ) → jumping (block_at g.code f.next) ≡ 0 → 2 * (length f.inner + frames_deep fs) + 2 + choices_left m.choices < k → left_at (Runs (returned g b f fs m)) < k
 returned_less g true f fs m k none h = omega (arith, none, h)
@@ -142,16 +143,22 @@ refuses_less (p ∷ ps) m = let cut = cut_left p m.choices in omega (arith, cut)
 gathers_less : (g : Setting) (gs : List Gathering) (next : Status) (k : ℕ) → 0 < k → left_at next < k → left_at (gathers g gs next) < k
 gathers_less g gs next k a h = cond_both (nat_lt g.limits.aux (gathered_size gs)) (Ended ending.AuxLimit) next (λ s. left_at s < k) (λ e. a) (λ e. h)
 
-keeps_less : (g : Setting) (v : Value) (ps : List Place) (m : Mid) → left_at (keeps g v ps m) < 2 * (length ps + frames_deep m.frames) + 2 + choices_left m.choices
-keeps_less g v [] m = omega arith
-keeps_less g v (p ∷ ps) m = gathers_less g (gathered_with p.tag v m.gathered) (Fails (record m { inner = ps; gathered = gathered_with p.tag v m.gathered })) _ (omega arith) (omega arith)
+value_less : (g : Setting) (o : Option Value) (m : Mid) → left_at (keeps_value g o m) < 2 + choices_left m.choices
+value_less g None m = omega arith
+value_less g (Some v) m =
+    let gs = newest_with (resolved m.state.subst v) m.gathered in
+    gathers_less g gs (Fails (record m { gathered = gs })) _ (omega arith) (omega arith)
+
+keeps_less : (g : Setting) (ps : List Place) (m : Mid) → left_at (keeps g ps m) < 2 * (length ps + frames_deep m.frames) + 2 + choices_left m.choices
+keeps_less g [] m = omega arith
+keeps_less g (p ∷ ps) m = let h = value_less g p.gathers (record m { inner = ps }) in omega (arith, h)
 
 runs_less : (g : Setting) (ops : List Op) (m : Mid) → Tidy g.code → at_goal ops ≡ false → left_at (runs g ops m) < 2 * deep m.frames m.inner + 2 + jumping ops + choices_left m.choices
 runs_less g [] m code e = omega arith
 runs_less g (op.Commit ∷ ops) m code e = let h = commits_less m.inner (record m { ops = ops }) in omega (arith, h)
 runs_less g (op.Leave ∷ ops) m code e = let h = leaves_less m.inner (record m { ops = ops }) in omega (arith, h)
 runs_less g (op.Refuse ∷ ops) m code e = let h = refuses_less m.inner (record m { ops = ops }) in omega (arith, h)
-runs_less g (op.Keep t ∷ ops) m code e = let h = keeps_less g (resolved m.state.subst (value_of g.game.program (vars_of m.frames) t)) m.inner (record m { ops = ops }) in omega (arith, h)
+runs_less g (op.Keep t ∷ ops) m code e = let h = keeps_less g m.inner (record m { ops = ops }) in omega (arith, h)
 runs_less g (op.Back ∷ ops) m code e = omega arith
 runs_less g (op.Return ∷ ops) m code e = let h = returns_less g m.frames (record m { ops = ops }) code in omega (arith, h)
 runs_less g (op.Done ∷ ops) m code e = omega arith
@@ -192,6 +199,7 @@ pub step_falls : (g : Setting) (now : Status) → Tidy g.code → takes_goal now
 step_falls g (Runs m) code e on = runs_less g m.ops m code e
 step_falls g (Enters call m) code e on = entered_less g call m.ops m
 step_falls g (Resumes (Goes b) m) code e on = resumed_less g b (block_at g.code b) m (code.earlier b)
+step_falls g (Resumes (Takes b into) m) code e on = takes_less g b into (block_at g.code b) m
 step_falls g (Resumes (Calls call rules) m) code e on = begins_less g call rules m
 step_falls g (Resumes (Tries f os) m) code e on = tries_less g f os m
 step_falls g (Fails m) code e on = goes_back_less m.choices m

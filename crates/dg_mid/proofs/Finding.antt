@@ -9,7 +9,7 @@ use Rattle.dg_base.specs.declared.program.Term.{Term}
 use Rattle.dg_base.specs.declared.run.Limits.{Limits}
 use Rattle.dg_base.specs.Goals.{terms_held}
 use Rattle.dg_meaning.specs.Values.{Object, Value, leaf, value_of}
-use Rattle.dg_meaning.specs.World.{Game, World, Event, Print, Prints, prints, worked}
+use Rattle.dg_meaning.specs.World.{Game, World, Event, Print, Prints, prints, worked, Gathering}
 use Rattle.dg_meaning.specs.Cells.{cells, writing}
 use Rattle.dg_meaning.specs.Path.{Step, Do, Registers, Act, Finds, Plain, Effect, FailsAt as MoveFails}
 use Rattle.dg_meaning.specs.Letters.{copied}
@@ -29,7 +29,7 @@ use Rattle.dg_mid.specs.Step.{Setting, setting, does, more, seeks, tries, trying
 use Rattle.dg_mid.specs.Actions.{registers_of, world_of, asked, found_at}
 use Rattle.dg_mid.specs.Units.{effort, act_work, effect_work, found_work}
 use Rattle.dg_mid.specs.Codes.{End, Stands, found_goals, found_end}
-use Rattle.dg_mid.specs.Reads.{Behind, TriesAt, Mirrors, Comes}
+use Rattle.dg_mid.specs.Reads.{Behind, TriesAt, Mirrors, Comes, GathersAt, TakesNewest}
 use Rattle.dg_mid.proofs.Here.{Here, steps_of}
 use Rattle.dg_mid.proofs.Marks.{below_next}
 use Rattle.dg_mid.proofs.Taking.{behind, taken_in, comes, taken_grows, began_grows, went_grows, charge, heap_full}
@@ -43,6 +43,10 @@ objects_open : (place : Option ℕ) (args : List Value) (many : Bool) (steps : L
 objects_open place args many steps r [] height = refl
 objects_open place args many steps r (o ∷ os) height = refl
 
+objects_newest : (place : Option ℕ) (args : List Value) (many : Bool) (steps : List Step) (r : Registers) (os : List ℕ) (gs : List Gathering) → TakesNewest (object_branches place args many steps r os) gs
+objects_newest place args many steps r [] gs = tt
+objects_newest place args many steps r (o ∷ os) gs = tt
+
 -- where objects are offered they are tried
 offered_tried : (g : Game) (place : Option ℕ) (args : List Value) (many : Bool) (steps : List Step) (r : Registers) (os : List ℕ) (t : ℕ) (lives : List Live) (ways : List WayOn) (n : ℕ) (w : World) (run : Run) →
     After g lives ways n (choice Plain t (object_branches place args many steps r os) w) run → Tried g Plain t (length w.gathered) ways lives (object_branches place args many steps r os) n w run
@@ -54,13 +58,18 @@ found_steps : (many : Bool) (m : Mid) (p : Place) (goals : List Goal) (end : End
 found_steps true m p goals end rest = refl
 found_steps false m p goals end rest = refl
 
+-- what is gathered behind an object that is found
+found_keeps : (g : Game) (many : Bool) (goals : List Goal) (end : End) (env : List Value) (p : Place) (inner : List Place) → GathersAt g end env inner → GathersAt g (found_end many goals end) env (inner_for many p inner)
+found_keeps g true goals end env p inner h = h
+found_keeps g false goals end env p inner h = h
+
 -- what the search counts of a query, the machine counts
 effect_works : (q r : Registers) (t : ℕ) (steps : List Step) (v w : World) (place : Option ℕ) (args : List Value) (many : Bool) (os : List ℕ) (e e' : Effect) → q.bound ≡ r.bound → prints v.events ≡ prints w.events → AlikeAsked q r t steps v w place args many os e e' →
     effect_work e + w.meters.work ≡ effect_work e' + v.meters.work
 effect_works q r t steps v w place args many os e e' same printed (at_once a b h) = act_works q r t steps v w a b same printed h.alike
 effect_works q r t steps v w place args many os e e' same printed (in_turn i) = omega arith
 
-module _ (code : Code) (limits : Limits) (m : Mid) (ops : List Op) (goals : List Goal) (end : End) (rest : List Step) (g : Game) (n : ℕ) (w : World) (run : Run) (stands : Stands code ops goals end) (below : Behind code m.frames rest) where
+module _ (code : Code) (limits : Limits) (m : Mid) (ops : List Op) (goals : List Goal) (end : End) (rest : List Step) (g : Game) (n : ℕ) (w : World) (run : Run) (stands : Stands code ops goals end) (below : Behind g code m.frames rest) (valued : GathersAt g end (vars_of m.frames) m.inner) where
   abbrev set : Setting
   set = setting g code limits
 
@@ -88,7 +97,7 @@ module _ (code : Code) (limits : Limits) (m : Mid) (ops : List Op) (goals : List
       let q0 = regs m.next_tag m.stop m.state.subst m.state.vars heap trail in
       let v0 = world_with es m.gathered meters m.outside.typed m.outside.dice m.outside.facts m.outside.sites in
       subst (λ l. Comes least (followed ps (said_to l (done set b m0))) set (done set b m0) g n run) h.silent
-      (act_on code limits m0 goals end rest g n run stands below ps q0 lives ways v0 a b h.alike i h.grows happened st le)
+      (act_on code limits m0 goals end rest g n run stands below valued ps q0 lives ways v0 a b h.alike i h.grows happened st le)
   does_so {least = least} {ps = ps} k f heap trail es meters lives ways e e' there i happened (in_turn j) st le =
       let q0 = regs m.next_tag m.stop m.state.subst m.state.vars heap trail in
       let v0 = world_with es m.gathered meters m.outside.typed m.outside.dice m.outside.facts m.outside.sites in
@@ -101,9 +110,10 @@ module _ (code : Code) (limits : Limits) (m : Mid) (ops : List Op) (goals : List
           lives = lives;
           registers = q0;
           mirrors = record { agrees = i.agrees; tag = i.tag; choices_are = i.choices_are; below = i.below; stops_are = i.stops_are; stop_is = i.stop_is; gathered_is = i.gathered_is; outside_is = i.outside_is; printed_is = i.printed_is };
-          way_is = (refl, record { goals = goals; end = end; rest = rest; stands = there; below = below; others_are = refl });
+          way_is = (refl, record { goals = goals; end = end; rest = rest; stands = there; below = below; gathers = valued; others_are = refl });
           tag = refl;
           height = objects_open f.place f.args f.many steps q0 os (length m.gathered);
+          newest = objects_newest f.place f.args f.many steps q0 os m.gathered;
           tried = offered_tried g f.place f.args f.many steps q0 os m.next_tag lives ways n (worked j v0) run st;
         };
         worked = le;
@@ -163,9 +173,9 @@ module _ (code : Code) (limits : Limits) (g : Game) (n : ℕ) (w : World) (run :
   here = setting g code limits
 
   -- an object is tried where the machine is inside its choice
-  found_on : {least : ℕ} → {ps : List Print} → (f : Find) (o : ℕ) (m : Mid) (goals : List Goal) (end : End) (rest : List Step) (r : Registers) (on : List Step) (lives : List Live) (ways : List WayOn) → Stands code m.ops goals end → Behind code m.frames rest → on ≡ steps_of m goals end rest →
+  found_on : {least : ℕ} → {ps : List Print} → (f : Find) (o : ℕ) (m : Mid) (goals : List Goal) (end : End) (rest : List Step) (r : Registers) (on : List Step) (lives : List Live) (ways : List WayOn) → Stands code m.ops goals end → Behind g code m.frames rest → GathersAt g end (vars_of m.frames) m.inner → on ≡ steps_of m goals end rest →
       Mirrors g code m ps r lives ways w → Began g lives ways (Finds f.place o f.args (path_of on r)) n w run → least ≤ w.meters.work + act_work (found_at ps f o m) → Comes least ps here (done here (found_at [] f o m) m) g n run
-  found_on {least = least} {ps = ps} f o m goals end rest r on lives ways stands below e i began le =
+  found_on {least = least} {ps = ps} f o m goals end rest r on lives ways stands below valued e i began le =
       let q0 = regs m.next_tag m.stop m.state.subst m.state.vars r.heap r.trail in
       let v0 = world_with w.events m.gathered w.meters m.outside.typed m.outside.dice m.outside.facts m.outside.sites in
       let is = world_is w m.gathered m.outside i.gathered_is i.outside_is in
@@ -179,7 +189,7 @@ module _ (code : Code) (limits : Limits) (g : Game) (n : ℕ) (w : World) (run :
       let alike = same [] in
       let work = act_works q0 (registers_of m) (cut_of m.frames).tag (steps_of m goals end rest) v0 (world_of ps m) at (found_at ps f o m) refl (i.printed_is ∙ sym (nothing_first ps)) (same (map Prints ps)).alike in
       subst (λ l. Comes least (followed ps (said_to l (done here (found_at [] f o m) m))) here (done here (found_at [] f o m) m) g n run) alike.silent
-      (act_on code limits m goals end rest g n run stands below ps q0 lives ways v0 at (found_at [] f o m) alike.alike
+      (act_on code limits m goals end rest g n run stands below valued ps q0 lives ways v0 at (found_at [] f o m) alike.alike
       (record {
         agrees = record { bound = refl; vars = refl; heap = i.agrees.heap; trail = i.agrees.trail; since = i.agrees.since };
         tag = refl;
@@ -204,7 +214,7 @@ module _ (code : Code) (limits : Limits) (g : Game) (n : ℕ) (w : World) (run :
 
   -- the objects that are left are tried
   pub tries_on : {least : ℕ} → {ps : List Print} → (f : Find) (os : List ℕ) (m : Mid) (c : Live) (lives : List Live) (q : Registers) → Mirrors g code m ps q lives c.ways_on w → c.tag ≡ m.next_tag → c.kind ≡ Plain → open_at c.others c.height ≡ length m.gathered →
-      Tried g c.kind c.tag c.height c.ways_on lives c.others n w run → TriesAt code f os m.frames m.inner q c.others → least ≤ w.meters.work + found_work here ps f os m → Comes least ps here (tries here f os m) g n run
+      Tried g c.kind c.tag c.height c.ways_on lives c.others n w run → TriesAt g code f os m.frames m.inner q c.others → least ≤ w.meters.work + found_work here ps f os m → Comes least ps here (tries here f os m) g n run
   tries_on {least = least} {ps = ps} f [] m c lives q i tag kind height tried t le =
       let failed = tried_plainly g c lives [] n w run kind t.others_are tried in
       record { world = w; at = record { lives = lives; choices = i.choices_are; gathered = i.gathered_is; outside = i.outside_is; printed = i.printed_is; failed = failed }; worked = omega (arith, le) }
@@ -213,7 +223,7 @@ module _ (code : Code) (limits : Limits) (g : Game) (n : ℕ) (w : World) (run :
       let r = inside 0 q in
       let on = first_alone f.many q.next_tag after in
       let began = tried_plainly g c lives (Finds f.place o f.args (path_of on r) ∷ []) n w run kind t.others_are tried in
-      found_on f o (trying here f [] m) (found_goals f.many t.goals) (found_end f.many t.goals t.end) t.rest r on lives c.ways_on t.stands t.below
+      found_on f o (trying here f [] m) (found_goals f.many t.goals) (found_end f.many t.goals t.end) t.rest r on lives c.ways_on t.stands t.below (found_keeps g f.many t.goals t.end (vars_of m.frames) (place_of m) m.inner t.gathers)
       (ap (λ k. first_alone f.many k after) i.tag ∙ found_steps f.many m (place_of m) t.goals t.end t.rest)
       (record {
         agrees = record { bound = i.agrees.bound; vars = i.agrees.vars; heap = omega (arith, i.agrees.heap); trail = i.agrees.trail; since = i.agrees.since };
@@ -238,8 +248,8 @@ module _ (code : Code) (limits : Limits) (g : Game) (n : ℕ) (w : World) (run :
       let height_is : c.height ≡ length m.gathered = ap (λ l. open_at l c.height) (sym t.others_are) ∙ height in
       charge here [] cells_are m _ g n run
       (heap_full here m ps cells_are (begun r 1 w) g n run i.printed_is (omega (arith, i.agrees.heap)) (found_reaches f.args o (found w.facts f.place o) on r (c' ∷ lives) c.ways_on began))
-      (found_on f o (trying here f (p ∷ os) m) (found_goals f.many t.goals) (found_end f.many t.goals t.end) t.rest r on (c' ∷ lives) c.ways_on t.stands t.below
+      (found_on f o (trying here f (p ∷ os) m) (found_goals f.many t.goals) (found_end f.many t.goals t.end) t.rest r on (c' ∷ lives) c.ways_on t.stands t.below (found_keeps g f.many t.goals t.end (vars_of m.frames) (place_of m) m.inner t.gathers)
       (ap (λ k. first_alone f.many k after) i.tag ∙ found_steps f.many m (place_of m) t.goals t.end t.rest)
       (choice_mirrors g code m ps q r lives c.ways_on c.ways_on w w (Tries f (p ∷ os)) (length f.args) c' m.stops m.stop i refl refl i.printed_is (inside_is q r cells_are refl) i.stops_are i.stop_is i.stops_are height_is (tag ∙ sym i.tag)
-      (refl, record { goals = t.goals; end = t.end; rest = t.rest; stands = t.stands; below = t.below; others_are = refl }))
+      (refl, record { goals = t.goals; end = t.end; rest = t.rest; stands = t.stands; below = t.below; gathers = t.gathers; others_are = refl }))
       began le)

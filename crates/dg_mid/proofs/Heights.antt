@@ -9,15 +9,17 @@ use Rattle.dg_base.specs.declared.run.Ending.TheVariants as ending
 use Rattle.dg_meaning.specs.Values.{Value, value_of}
 use Rattle.dg_meaning.specs.Cells.{cells}
 use Rattle.dg_meaning.specs.Unify.{Unified, solve}
-use Rattle.dg_meaning.specs.World.{Gathering, gathered_size, gathered_with}
+use Rattle.dg_meaning.specs.Substitutions.{resolved}
+use Rattle.dg_meaning.specs.World.{Gathering, gathered_size}
 use Rattle.dg_meaning.specs.Path.{Act, Goes as GoesNow, Tests, Unifies, Ends, Fails as FailsNow, Stops, Effect, Acts, Offers}
 use Rattle.dg_mid.specs.declared.code.Op.{Op}
 use Rattle.dg_mid.specs.declared.code.Op.TheVariants as op
+use Rattle.dg_mid.specs.declared.code.Gathered.{Gathered}
 use Rattle.dg_mid.specs.declared.code.RuleCode.{RuleCode}
 use Rattle.dg_mid.specs.declared.code.BodyCode.{BodyCode}
 use Rattle.dg_mid.specs.Code.{block_at, rules_at, selected}
-use Rattle.dg_mid.specs.State.{Place, Frame, Call, Target, ToPred, ToBody, Find, Way, Goes, Calls, Tries, Stop, Choice, Mid, Status, Runs, Enters, Resumes, Fails, Ended, cut_of, place_of, inner_for, cut_choices, stop_to}
-use Rattle.dg_mid.specs.Step.{Setting, parameter, body_frame, body_equations, enters_body, calls, queries, queries_last, asked_by, seeks, trying, trying_cells, tries, gathering, done, made_in, keeps_within, gathers, without_gathering, taken_out, charged, unified, bound, trail_more, if_agreed, if_passed, enters, begins, asks, asks_last, last, returned, returns, commits, refuses, leaves, keeps, stops, stops_at, new_frame, does, runs, entered, enter, resumed, goes_on, goes_back, step, first_of, call_of, values, more, inside, passed, within, shielded, cut_to, at_rule}
+use Rattle.dg_mid.specs.State.{Place, Frame, Call, Target, ToPred, ToBody, Find, Way, Goes, Calls, Tries, Stop, Choice, Mid, Status, Runs, Enters, Resumes, Fails, Ended, cut_of, place_of, inner_for, cut_choices, stop_to, Takes, vars_of}
+use Rattle.dg_mid.specs.Step.{Setting, parameter, body_frame, body_equations, enters_body, calls, queries, queries_last, asked_by, seeks, trying, trying_cells, tries, gathering, done, made_in, keeps_within, gathers, taken_out, charged, unified, bound, trail_more, if_agreed, if_passed, enters, begins, asks, asks_last, last, returned, returns, commits, refuses, leaves, keeps, stops, stops_at, new_frame, does, runs, entered, enter, resumed, goes_on, goes_back, step, first_of, call_of, values, more, inside, passed, within, shielded, cut_to, at_rule, keeps_value, takes, with_gathering, newest_with, takes_newest}
 use Rattle.dg_mid.specs.Runs.{after}
 use Rattle.dg_mid.specs.Actions.{terms_of, act_at, asked_at, found_at, outside_in}
 use Rattle.dg_mid.specs.Heights.{AgreeAll, IsNamed, PlacesNamed, FramesNamed, StopsNamed, WayNamed, AreNamed, ChoicesNamed, IsOrdered, MidOrdered, StatusOrdered}
@@ -221,9 +223,15 @@ gathers_ordered g gs next o = cond_both (nat_lt g.limits.aux (gathered_size gs))
 keeps_within_ordered : (g : Setting) (size : ℕ) (next : Status) → StatusOrdered next → StatusOrdered (keeps_within g size next)
 keeps_within_ordered g size next o = cond_both (nat_lt g.limits.keep size) (Ended ending.KeepLimit) next StatusOrdered (λ e. tt) (λ e. o)
 
-keeps_ordered : (g : Setting) (v : Value) (ps : List Place) (m : Mid) → MidOrdered m → StatusOrdered (keeps g v ps m)
-keeps_ordered g v [] m o = o.choices
-keeps_ordered g v (p ∷ ps) m o = gathers_ordered g (gathered_with p.tag v m.gathered) (Fails (record m { inner = ps; gathered = gathered_with p.tag v m.gathered })) o.choices
+value_ordered : (g : Setting) (v : Option Value) (m : Mid) → StatusOrdered (Fails m) → StatusOrdered (keeps_value g v m)
+value_ordered g None m o = o
+value_ordered g (Some v) m o =
+    let gs = newest_with (resolved m.state.subst v) m.gathered in
+    gathers_ordered g gs (Fails (record m { gathered = gs })) o
+
+keeps_ordered : (g : Setting) (ps : List Place) (m : Mid) → MidOrdered m → StatusOrdered (keeps g ps m)
+keeps_ordered g [] m o = o.choices
+keeps_ordered g (p ∷ ps) m o = value_ordered g p.gathers (record m { inner = ps }) o.choices
 
 if_passed_ordered : (b : Bool) (m : Mid) → MidOrdered m → StatusOrdered (if_passed b m)
 if_passed_ordered true m o = o
@@ -249,8 +257,20 @@ stops_ordered : (g : Setting) (t : Option ℕ) (m : Mid) → MidOrdered m → St
 stops_ordered g None m o = tt
 stops_ordered g (Some u) m o = stop_found g u m.next_tag m.state.heap m.stops m o.choices o.named.stops_are
 
+-- what a place gathers makes no difference
+agree_so : (cs : List Choice) (p : Place) (v : Option Value) → AgreeAll cs p → AgreeAll cs (record p { gathers = v })
+agree_so [] p v a = tt
+agree_so (c ∷ cs) p v a = (record { older = a.0.older; newer = a.0.newer }, agree_so cs p v a.1)
+
+named_so : (t h : ℕ) (cs : List Choice) (p : Place) (v : Option Value) → IsNamed t h cs p → IsNamed t h cs (record p { gathers = v })
+named_so t h cs p v n = record { tag = n.tag; height = n.height; agrees = agree_so cs p v n.agrees }
+
+inner_ordered : (way : Way) (v : Option Value) (m : Mid) → MidOrdered m → WayNamed m.next_tag m.state.heap m.choices way → MidOrdered (within (record (place_of m) { gathers = v }) (inside way 0 m))
+inner_ordered way v m o n =
+    within_ordered (record (place_of m) { gathers = v }) (inside way 0 m) (inside_ordered way 0 m o n) (inside_named way 0 m (record (place_of m) { gathers = v }) (named_so m.next_tag m.state.heap m.choices (place_of m) v (named_now m o)))
+
 try_ordered : (alt : ℕ) (m : Mid) → MidOrdered m → MidOrdered (within (place_of m) (inside (Goes alt) 0 m))
-try_ordered alt m o = within_ordered (place_of m) (inside (Goes alt) 0 m) (inside_ordered (Goes alt) 0 m o tt) (inside_named (Goes alt) 0 m (place_of m) (named_now m o))
+try_ordered alt m o = inner_ordered (Goes alt) None m o tt
 
 shielded_ordered : (alt : ℕ) (m : Mid) → MidOrdered m → MidOrdered (shielded alt m)
 shielded_ordered alt m o =
@@ -316,10 +336,11 @@ does_ordered g (op.Try alt) m o = charged_ordered g 10 m _ (try_ordered alt m o)
 does_ordered g (op.Shield alt) m o = charged_ordered g 10 m _ (shielded_ordered alt m o)
 does_ordered g (op.Collect term into alt) m o =
     let k = cells g.game.program (term ∷ into ∷ []) in
-    let m' : Mid = record (more k m) { gathered = record { tag = m.next_tag; values = [] } ∷ m.gathered } in
-    charged_ordered g k m _ (charged_ordered g 10 (more k m) _ (gathers_ordered g m'.gathered (Runs (gathering alt (more k m))) (try_ordered alt m' (more_ordered k m o))))
+    let v = value_of g.game.program (vars_of m.frames) in
+    let m' = with_gathering (more k m) in
+    charged_ordered g k m _ (charged_ordered g 10 (more k m) _ (gathers_ordered g m'.gathered (Runs (gathering (v term) (v into) alt (more k m))) (inner_ordered (Takes alt (v into)) (Some (v term)) m' (more_ordered k m o) tt)))
 does_ordered g op.Leave m o = leaves_ordered m.inner m o o.named.inner_are
-does_ordered g (op.Keep term) m o = keeps_ordered g _ m.inner m o
+does_ordered g (op.Keep term) m o = keeps_ordered g m.inner m o
 does_ordered g (op.TakeOut whole into) m o = o.choices
 does_ordered g op.Commit m o = commits_ordered m.inner m o o.named.inner_are
 does_ordered g op.Refuse m o = refuses_ordered m.inner m o
@@ -350,8 +371,15 @@ entered_ordered g call ops m o n = o.choices
 
 resumed_ordered : (g : Setting) (ops : List Op) (m : Mid) → MidOrdered m → StatusOrdered (resumed g ops m)
 resumed_ordered g (op.Retry alt ∷ ops) m o = charged_ordered g 10 m _ (inside_ordered (Goes alt) 0 (record m { ops = ops }) o tt)
-resumed_ordered g (op.TakeOut whole into ∷ ops) m o = let m' = passed (without_gathering (record m { ops = ops })) in done_ordered g (taken_out g [] whole into (record m { ops = ops })) m' (passed_ordered m o)
 resumed_ordered g ops m o = passed_ordered m o
+
+newest_ordered : (g : Setting) (whole : Gathered) (into : Value) (gs : List Gathering) (m : Mid) → MidOrdered m → StatusOrdered (takes_newest g whole into gs m)
+newest_ordered g whole into [] m o = o.choices
+newest_ordered g whole into (x ∷ xs) m o = let m' = passed (record m { gathered = xs }) in done_ordered g (taken_out [] whole into x.values m') m' (passed_ordered m o)
+
+takes_ordered : (g : Setting) (into : Value) (ops : List Op) (m : Mid) → MidOrdered m → StatusOrdered (takes g into ops m)
+takes_ordered g into (op.TakeOut whole t ∷ ops) m o = newest_ordered g whole into m.gathered (record m { ops = ops }) o
+takes_ordered g into ops m o = o.choices
 
 -- where an object is tried there may be one more inner construct
 wanted_ordered : (many : Bool) (p : Place) (m : Mid) (inner : List Place) → m.inner ≡ inner → MidOrdered m → IsNamed m.next_tag m.state.heap m.choices p → MidOrdered (record m { inner = inner_for many p inner })
@@ -369,6 +397,7 @@ tries_ordered g f (i ∷ os) m o = charged_ordered g (trying_cells f os) m _ (do
 
 goes_on_ordered : (g : Setting) (way : Way) (m : Mid) → MidOrdered m → WayNamed m.next_tag m.state.heap m.choices way → StatusOrdered (goes_on g way m)
 goes_on_ordered g (Goes b) m o n = resumed_ordered g (block_at g.code b) m o
+goes_on_ordered g (Takes b into) m o n = takes_ordered g into (block_at g.code b) m o
 goes_on_ordered g (Calls call rules) m o n = begins_ordered g call rules m o n
 goes_on_ordered g (Tries f os) m o n = tries_ordered g f os m o
 

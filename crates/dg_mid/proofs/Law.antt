@@ -9,7 +9,8 @@ use Rattle.dg_meaning.specs.Substitutions.{links}
 use Rattle.dg_mid.specs.declared.code.BodyCode.{BodyCode}
 use Rattle.dg_meaning.specs.Values.{Num, Object, Value, leaf, value_of}
 use Rattle.dg_meaning.specs.Unify.{Unified, Equations, solve}
-use Rattle.dg_meaning.specs.World.{World, worked, Gathering, Print, Prints, gathered_size, gathered_at, gathered_with}
+use Rattle.dg_meaning.specs.Substitutions.{resolved}
+use Rattle.dg_meaning.specs.World.{World, worked, Gathering, Print, Prints, gathered_size}
 use Rattle.dg_meaning.specs.Path.{Registers, Act, Goes as GoesNow, Tests, Unifies, Ends, Fails as FailsNow, Stops, Effect}
 use Rattle.dg_meaning.specs.Moves.{begun, numbers, selects, behind_copy, copy_of, finds_if_set, gives_number}
 use Rattle.dg_meaning.specs.Letters.{copied}
@@ -25,9 +26,9 @@ use Rattle.dg_mid.specs.declared.code.Gathered.TheVariants as gathered
 use Rattle.dg_mid.specs.declared.code.RuleCode.{RuleCode}
 use Rattle.dg_mid.specs.declared.code.Code.{Code}
 use Rattle.dg_mid.specs.Code.{block_at, rules_at, selected, excluded}
-use Rattle.dg_mid.specs.State.{Place, Frame, Call, Target, ToPred, ToBody, Find, Way, Goes, Calls, Tries, Stop, Choice, Mid, Status, Runs, Enters, Resumes, Fails, Ended, vars_of, cut_of, place_of, inner_for, cut_choices, stop_to}
-use Rattle.dg_mid.specs.Step.{Setting, parameter, body_frame, body_equations, enters_body, calls, queries, queries_last, asked_by, values, seeks, trying, tries, done, made_in, gathers, gathering, without_gathering, taken_out, step, runs, does, charged, more, unified, bound, trail_more, if_agreed, if_passed, inside, passed, within, cut_to, enters, begins, asks, asks_last, last, first_of, returned, returns, commits, refuses, leaves, keeps, new_frame, enter, entered, resumed, goes_on, goes_back, at_rule, is_goal, call_of, shielded, gathering, stopped, stops, stops_at}
-use Rattle.dg_mid.specs.Units.{units, units_of, earned, earned_of, earned_by, effort, entering, drops, dropped, dropped_in, dropped_once, undone, unwound, unwound_to, one_if, act_work, effect_work, found_work, body_work, query_work, dropped_by, resuming, units_by}
+use Rattle.dg_mid.specs.State.{Place, Frame, Call, Target, ToPred, ToBody, Find, Way, Goes, Calls, Tries, Stop, Choice, Mid, Status, Runs, Enters, Resumes, Fails, Ended, vars_of, cut_of, place_of, inner_for, cut_choices, stop_to, Takes}
+use Rattle.dg_mid.specs.Step.{Setting, parameter, body_frame, body_equations, enters_body, calls, queries, queries_last, asked_by, values, seeks, trying, tries, done, made_in, gathers, gathering, taken_out, step, runs, does, charged, more, unified, bound, trail_more, if_agreed, if_passed, inside, passed, within, cut_to, enters, begins, asks, asks_last, last, first_of, returned, returns, commits, refuses, leaves, keeps, new_frame, enter, entered, resumed, goes_on, goes_back, at_rule, is_goal, call_of, shielded, gathering, stopped, stops, stops_at, keeps_value, takes, with_gathering, newest_with, takes_newest}
+use Rattle.dg_mid.specs.Units.{units, units_of, earned, earned_of, earned_by, effort, entering, drops, dropped, dropped_in, dropped_once, undone, unwound, unwound_to, one_if, act_work, effect_work, found_work, body_work, query_work, dropped_by, resuming, units_by, taking, taking_newest}
 use Rattle.dg_mid.specs.Potential.{cut_from, pending, all_pending, nothing, is_goto, is_return, returning, due_at, due, stored, potential, begins_goto, begins_return, OpTidy, OpsTidy, EntersRule, AllEnter, Tidy, CutsFirst, MayAnswer, FramesTidy, Lower, CallFine, WayFine, ChoicesFine, FineWith, MidFine, Reaching, StatusFine, Affords}
 use Rattle.dg_mid.proofs.Pending.{one_gone, cut_falls, pending_falls, Fewer, all_fewer, choices_fewer, nothing_fewer, choices_trail, cut_fine, cut_pending, cut_lower, cut_length, WithPlace, with_fewer, executed, opened, opened_fine}
 use Rattle.dg_mid.specs.Actions.{terms_of, act_at, registers_of, world_of, world_by, outside_in}
@@ -373,9 +374,15 @@ module _ (g : Setting) (tidy : Tidy g.code) (rules : (pred : ℕ) → AllEnter g
   gathers_pays u b gs next h =
       cond_both (nat_lt g.limits.aux (gathered_size gs)) (Ended ending.AuxLimit) next (Affords g.code u b) (λ e. record { fine = tt; few = let x = h.few in omega (arith, x) }) (λ e. h)
 
-  keep_pays : (u b : ℕ) (v : Value) (inner : List Place) (m : Mid) → FineWith g.code m.frames inner m.choices m.next_tag m.state.trail → u + (4 + stored (pending m.frames inner) m.choices m.state.trail) ≤ b → Affords g.code u b (keeps g v inner m)
-  keep_pays u b v [] m h le = fails u b m m.frames [] h.choices_are (omega (arith, le))
-  keep_pays u b v (p ∷ ps) m h le = gathers_pays u b (gathered_with p.tag v m.gathered) (Fails (record m { inner = ps; gathered = gathered_with p.tag v m.gathered })) (fails u b (record m { inner = ps; gathered = gathered_with p.tag v m.gathered }) m.frames (p ∷ ps) h.choices_are (omega (arith, le)))
+  value_pays : (u b : ℕ) (v : Option Value) (inner : List Place) (m : Mid) → FineWith g.code m.frames inner m.choices m.next_tag m.state.trail → u + (4 + stored (pending m.frames inner) m.choices m.state.trail) ≤ b → Affords g.code u b (keeps_value g v m)
+  value_pays u b None inner m h le = fails u b m m.frames inner h.choices_are (omega (arith, le))
+  value_pays u b (Some v) inner m h le =
+      let gs = newest_with (resolved m.state.subst v) m.gathered in
+      gathers_pays u b gs (Fails (record m { gathered = gs })) (fails u b (record m { gathered = gs }) m.frames inner h.choices_are (omega (arith, le)))
+
+  keep_pays : (u b : ℕ) (inner : List Place) (m : Mid) → FineWith g.code m.frames inner m.choices m.next_tag m.state.trail → u + (4 + stored (pending m.frames inner) m.choices m.state.trail) ≤ b → Affords g.code u b (keeps g inner m)
+  keep_pays u b [] m h le = fails u b m m.frames [] h.choices_are (omega (arith, le))
+  keep_pays u b (p ∷ ps) m h le = value_pays u b p.gathers (p ∷ ps) (record m { inner = ps }) h le
 
   test_pays : (u b : ℕ) (yes : Bool) (m : Mid) → MidFine g.code m → OpsTidy g.code m.ops → u + (7 + stored (pending m.frames m.inner) m.choices m.state.trail) ≤ b → Affords g.code u b (if_passed yes m)
   test_pays u b true m h t le = follows u b m h t le
@@ -425,11 +432,14 @@ module _ (g : Setting) (tidy : Tidy g.code) (rules : (pred : ℕ) → AllEnter g
   stops_pay b None ops m h w le = record { fine = tt; few = omega (arith, le) }
   stops_pay b (Some t) ops m h w le = stops_to_pay b (stop_to t m.stops) ops m h (w t refl) le
 
-  opens_inner : (m : Mid) (way : Way) (n : ℕ) → MidFine g.code m → WayFine g.code way m.frames m.next_tag → MidFine g.code (within (place_of m) (inside way n m)) × (stored (pending m.frames (place_of m ∷ m.inner)) (inside way n m).choices m.state.trail ≤ 8 + stored (pending m.frames m.inner) m.choices m.state.trail)
-  opens_inner m way n h w = (
-    opens_place (inside way n m) (place_of m) (omega arith) (omega arith) (opens m way n h w),
-    let x = open_costs m way n h in let y = place_costs (inside way n m) (place_of m) in omega (arith, x, y),
-  )
+  opens_inner : (m : Mid) (way : Way) (v : Option Value) (n : ℕ) → MidFine g.code m → WayFine g.code way m.frames m.next_tag →
+      let p : Place = record (place_of m) { gathers = v } in
+      MidFine g.code (within p (inside way n m)) × (stored (pending m.frames (p ∷ m.inner)) (inside way n m).choices m.state.trail ≤ 8 + stored (pending m.frames m.inner) m.choices m.state.trail)
+  opens_inner m way v n h w =
+      let p : Place = record (place_of m) { gathers = v } in (
+        opens_place (inside way n m) p (omega arith) (omega arith) (opens m way n h w),
+        let x = open_costs m way n h in let y = place_costs (inside way n m) p in omega (arith, x, y),
+      )
 
   -- ## Acts
 
@@ -466,16 +476,11 @@ module _ (g : Setting) (tidy : Tidy g.code) (rules : (pred : ℕ) → AllEnter g
   number_pays c b None into w m h t le v = fails _ b (outside_in v m) m.frames m.inner h.choices_are (omega (arith, le))
   number_pays c b (Some n) into w m h t le v = made_pays _ b ((into, leaf (Num n)) ∷ []) (registers_of m) v m refl h t (omega (arith, le))
 
-  taken_pays : (b : ℕ) (ps : List Print) (whole : Gathered) (into : Term) (m : Mid) → MidFine g.code (passed (without_gathering m)) → OpsTidy g.code m.ops → 8 + stored (pending m.frames m.inner) m.choices m.state.trail + 13 * act_work (taken_out g ps whole into m) ≤ b → Affords g.code (1 + act_work (taken_out g ps whole into m)) b (done g (taken_out g [] whole into m) (passed (without_gathering m)))
-  taken_pays b ps gathered.List into m h t le =
-      let r = registers_of (passed (without_gathering m)) in
-      let vs = gathered_at m.next_tag m.gathered in
-      let es : Equations = (value_of g.game.program (vars_of m.frames) into, copy_of (list_of vs) r) ∷ [] in
-      made_pays _ b es (behind_copy (list_of vs) r) (world_by (taken_out g [] gathered.List into m)) (passed (without_gathering m)) refl h t (omega (arith, le))
-  taken_pays b ps gathered.Sum into m h t le =
-      let m' = passed (without_gathering m) in
-      let vs = gathered_at m.next_tag m.gathered in
-      number_pays 1 b (total vs) (value_of g.game.program (vars_of m.frames) into) (begun (registers_of m') (length vs) (world_of ps m')) m' h t (omega (arith, le)) (begun (registers_of m') (length vs) (world_of [] m'))
+  taken_pays : (b : ℕ) (ps : List Print) (whole : Gathered) (into : Value) (vs : List Value) (m : Mid) → MidFine g.code m → OpsTidy g.code m.ops → 8 + stored (pending m.frames m.inner) m.choices m.state.trail + 13 * act_work (taken_out ps whole into vs m) ≤ b → Affords g.code (1 + act_work (taken_out ps whole into vs m)) b (done g (taken_out [] whole into vs m) m)
+  taken_pays b ps gathered.List into vs m h t le =
+      let r = registers_of m in
+      made_pays _ b ((into, copy_of (list_of vs) r) ∷ []) (behind_copy (list_of vs) r) (world_by (taken_out [] gathered.List into vs m)) m refl h t (omega (arith, le))
+  taken_pays b ps gathered.Sum into vs m h t le = number_pays 1 b (total vs) into (begun (registers_of m) (length vs) (world_of ps m)) m h t (omega (arith, le)) (begun (registers_of m) (length vs) (world_of [] m))
 
   -- a query of a closure pays with its work
   queries_pays : (u b : ℕ) (t : Option Target) (args : List Value) (many : Bool) (next : ℕ) (m : Mid) → MidFine g.code m → begins_return (block_at g.code next) ≡ false → u + (7 + stored (pending m.frames m.inner) m.choices m.state.trail) + 12 * query_work g t args m.state.subst m.state.vars ≤ b →
@@ -533,19 +538,20 @@ module _ (g : Setting) (tidy : Tidy g.code) (rules : (pred : ℕ) → AllEnter g
   pays_op ps op.Once ops m b h w t ts le =
       let q = passed (record m { ops = ops }) in
       charge _ b 10 (record m { ops = ops }) _ (follows _ b (within (place_of (record m { ops = ops })) (more 10 q)) (opens_place (more 10 q) (place_of m) (omega arith) (reaching m.next_tag m.choices h.lower) (passes_fine (record m { ops = ops }) h)) ts (let y = place_costs m (place_of m) in omega (arith, le, y)))
-  pays_op ps (op.Try alt) ops m b h w t ts le = let o = opens_inner (record m { ops = ops }) (Goes alt) 0 h tt in charge _ b 10 (record m { ops = ops }) _ (follows _ b (within (place_of (record m { ops = ops })) (inside (Goes alt) 0 (record m { ops = ops }))) o.0 ts (let x = o.1 in omega (arith, le, x)))
-  pays_op ps (op.Shield alt) ops m b h w t ts le = let o = opens_inner (record m { ops = ops }) (Goes alt) 0 h tt in charge _ b 10 (record m { ops = ops }) _ (follows _ b (shielded alt (record m { ops = ops })) o.0 ts (let x = o.1 in omega (arith, le, x)))
+  pays_op ps (op.Try alt) ops m b h w t ts le = let o = opens_inner (record m { ops = ops }) (Goes alt) None 0 h tt in charge _ b 10 (record m { ops = ops }) _ (follows _ b (within (place_of (record m { ops = ops })) (inside (Goes alt) 0 (record m { ops = ops }))) o.0 ts (let x = o.1 in omega (arith, le, x)))
+  pays_op ps (op.Shield alt) ops m b h w t ts le = let o = opens_inner (record m { ops = ops }) (Goes alt) None 0 h tt in charge _ b 10 (record m { ops = ops }) _ (follows _ b (shielded alt (record m { ops = ops })) o.0 ts (let x = o.1 in omega (arith, le, x)))
   pays_op ps (op.Collect term into alt) ops m b h w t ts le =
       let n = cells g.game.program (term ∷ into ∷ []) in
-      let m1 = more n (record m { ops = ops; gathered = record { tag = m.next_tag; values = [] } ∷ m.gathered }) in
-      let o = opens_inner m1 (Goes alt) 0 h tt in
-      charge _ b n (record m { ops = ops }) _ (charge _ b 10 (more n (record m { ops = ops })) _ (gathers_pays _ b (gathering alt (more n (record m { ops = ops }))).gathered _ (follows _ b (gathering alt (more n (record m { ops = ops }))) o.0 ts (let x = o.1 in omega (arith, le, x)))))
+      let v = value_of g.game.program (vars_of m.frames) in
+      let m1 = with_gathering (more n (record m { ops = ops })) in
+      let o = opens_inner m1 (Takes alt (v into)) (Some (v term)) 0 h tt in
+      charge _ b n (record m { ops = ops }) _ (charge _ b 10 (more n (record m { ops = ops })) _ (gathers_pays _ b (gathering (v term) (v into) alt (more n (record m { ops = ops }))).gathered _ (follows _ b (gathering (v term) (v into) alt (more n (record m { ops = ops }))) o.0 ts (let x = o.1 in omega (arith, le, x)))))
   pays_op ps (op.Retry alt) ops m b h w t ts le = fails _ b (record m { ops = ops }) m.frames m.inner h.choices_are (omega (arith, le))
   pays_op ps op.Commit ops m b h w t ts le = commit_pays b m.inner (record m { ops = ops }) h ts (omega (arith, le))
   pays_op ps op.Refuse ops m b h w t ts le = refuse_pays b m.inner (record m { ops = ops }) h (omega (arith, le))
   pays_op ps op.Back ops m b h w t ts le = fails _ b (record m { ops = ops }) m.frames m.inner h.choices_are (omega (arith, le))
   pays_op ps op.Leave ops m b h w t ts le = leave_pays b m.inner (record m { ops = ops }) h ts (omega (arith, le))
-  pays_op ps (op.Keep term) ops m b h w t ts le = keep_pays _ b _ m.inner (record m { ops = ops }) h (omega (arith, le))
+  pays_op ps (op.Keep term) ops m b h w t ts le = keep_pays _ b m.inner (record m { ops = ops }) h (omega (arith, le))
   pays_op ps (op.TakeOut whole into) ops m b h w t ts le = fails _ b (record m { ops = ops }) m.frames m.inner h.choices_are (omega (arith, le))
   pays_op ps op.Return ops m b h w t ts le = returns_pays b m.frames (record m { ops = ops }) h (omega (arith, le))
   pays_op ps op.Done ops m b h w t ts le = record { fine = tt; few = omega (arith, le) }
@@ -557,11 +563,19 @@ module _ (g : Setting) (tidy : Tidy g.code) (rules : (pred : ℕ) → AllEnter g
   goes_pays : (b : ℕ) (m : Mid) → MidFine g.code m → OpsTidy g.code m.ops → 8 + stored (pending m.frames m.inner) m.choices m.state.trail ≤ b → Affords g.code 1 b (Runs (passed m))
   goes_pays b m h t le = follows 1 b (passed m) (passes_fine m h) t (omega (arith, le))
 
-  resumed_pays : (b : ℕ) (ps : List Print) (ops : List Op) (m : Mid) → MidFine g.code m → OpsTidy g.code ops → 8 + stored (pending m.frames m.inner) m.choices m.state.trail + 13 * resuming g ps ops m ≤ b → Affords g.code (1 + resuming g ps ops m) b (resumed g ops m)
-  resumed_pays b ps [] m h t le = goes_pays b (record m { ops = [] }) h t (omega (arith, le))
-  resumed_pays b ps (op.Retry alt ∷ ops) m h t le = charge _ b 10 m _ (follows _ b (inside (Goes alt) 0 (record m { ops = ops })) (opens (record m { ops = ops }) (Goes alt) 0 h tt) t.1 (let x = open_costs (record m { ops = ops }) (Goes alt) 0 h in omega (arith, le, x)))
-  resumed_pays b ps (op.TakeOut whole into ∷ ops) m h t le = taken_pays b ps whole into (record m { ops = ops }) (passes_fine m h) t.1 (omega (arith, le))
-  resumed_pays b ps (x ∷ ops) m h t le = goes_pays b (record m { ops = x ∷ ops }) h t (omega (arith, le))
+  resumed_pays : (b : ℕ) (ops : List Op) (m : Mid) → MidFine g.code m → OpsTidy g.code ops → 8 + stored (pending m.frames m.inner) m.choices m.state.trail + 13 * resuming ops ≤ b → Affords g.code (1 + resuming ops) b (resumed g ops m)
+  resumed_pays b [] m h t le = goes_pays b (record m { ops = [] }) h t (omega (arith, le))
+  resumed_pays b (op.Retry alt ∷ ops) m h t le = charge _ b 10 m _ (follows _ b (inside (Goes alt) 0 (record m { ops = ops })) (opens (record m { ops = ops }) (Goes alt) 0 h tt) t.1 (let x = open_costs (record m { ops = ops }) (Goes alt) 0 h in omega (arith, le, x)))
+  resumed_pays b (x ∷ ops) m h t le = goes_pays b (record m { ops = x ∷ ops }) h t (omega (arith, le))
+
+  newest_pays : (b : ℕ) (ps : List Print) (whole : Gathered) (into : Value) (gs : List Gathering) (m : Mid) → MidFine g.code m → OpsTidy g.code m.ops → 8 + stored (pending m.frames m.inner) m.choices m.state.trail + 13 * taking_newest ps whole into gs m ≤ b → Affords g.code (1 + taking_newest ps whole into gs m) b (takes_newest g whole into gs m)
+  newest_pays b ps whole into [] m h t le = fails 1 b m m.frames m.inner h.choices_are (omega (arith, le))
+  newest_pays b ps whole into (x ∷ xs) m h t le = taken_pays b ps whole into x.values (passed (record m { gathered = xs })) (passes_fine m h) t (omega (arith, le))
+
+  takes_pays : (b : ℕ) (ps : List Print) (into : Value) (ops : List Op) (m : Mid) → MidFine g.code m → OpsTidy g.code ops → 8 + stored (pending m.frames m.inner) m.choices m.state.trail + 13 * taking ps into ops m ≤ b → Affords g.code (1 + taking ps into ops m) b (takes g into ops m)
+  takes_pays b ps into [] m h t le = fails 1 b m m.frames m.inner h.choices_are (omega (arith, le))
+  takes_pays b ps into (op.TakeOut whole term ∷ ops) m h t le = newest_pays b ps whole into m.gathered (record m { ops = ops }) h t.1 le
+  takes_pays b ps into (x ∷ ops) m h t le = fails 1 b m m.frames m.inner h.choices_are (omega (arith, le))
 
   found_pays : (b : ℕ) (args : List Value) (o : ℕ) (y : Option Value) (w v : World) (m : Mid) → MidFine g.code m → OpsTidy g.code m.ops → 1 ≤ w.meters.work → stored (pending m.frames m.inner) m.choices m.state.trail + 13 * act_work (finds_if_set args o (registers_of m) y w) ≤ b →
       Affords g.code (1 + act_work (finds_if_set args o (registers_of m) y w)) b (done g (finds_if_set args o (registers_of m) y v) m)
@@ -593,7 +607,8 @@ module _ (g : Setting) (tidy : Tidy g.code) (rules : (pred : ℕ) → AllEnter g
       (let x = p.1 in let y = open_costs m (Tries f (i ∷ os)) (length f.args) h in omega (arith, le, x, y)))
 
   way_pays : (b : ℕ) (ps : List Print) (way : Way) (m : Mid) → MidFine g.code m → WayFine g.code way m.frames m.next_tag → 8 + stored (pending m.frames m.inner) m.choices m.state.trail + 13 * earned_by g ps way m ≤ b → Affords g.code (units_by g ps way m) b (goes_on g way m)
-  way_pays b ps (Goes k) m h w le = resumed_pays b ps (block_at g.code k) m h (tidy.blocks k) le
+  way_pays b ps (Goes k) m h w le = resumed_pays b (block_at g.code k) m h (tidy.blocks k) le
+  way_pays b ps (Takes k into) m h w le = takes_pays b ps into (block_at g.code k) m h (tidy.blocks k) le
   way_pays b ps (Calls call rules) m h w le = begins_pays 1 b call rules m h w.0 w.2 w.1 (omega (arith, le))
   way_pays b ps (Tries f os) m h w le = tries_pays b ps f os m h le
 

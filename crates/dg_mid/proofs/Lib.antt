@@ -1,4 +1,5 @@
 pub mod Here
+pub mod Newest
 pub mod Marks
 pub mod Taking
 pub mod Alike

@@ -1,31 +1,32 @@
 -- Cuts, ends of inner constructs, and answers.
 use Rattle.std.specs.Prelude.{nat_lt, if◌then◌else◌}
-use Rattle.std.proofs.Common.{◌≡◌, ℕ, ◌+◌, ◌<◌, ◌≤◌, List, [], ◌∷◌, ◌++◌, Bool, true, false, refl, sym, ap, ◌∙◌, subst, arith}
+use Rattle.std.proofs.Common.{◌≡◌, ℕ, ◌+◌, ◌<◌, ◌≤◌, List, [], ◌∷◌, ◌++◌, Bool, true, false, refl, sym, ap, ◌∙◌, subst, arith, Option, Some, None}
 use Rattle.std.proofs.lemmas.Bool.{cond_both, cond-true, ltb-true, lt-ltb}
 use Rattle.dg_base.specs.declared.program.Goal.{Goal}
 use Rattle.dg_base.specs.declared.program.Term.{Term}
 use Rattle.dg_base.specs.declared.run.Limits.{Limits}
 use Rattle.dg_base.specs.declared.run.Ending.{Ending}
 use Rattle.dg_base.specs.declared.run.Ending.TheVariants as ending
-use Rattle.dg_meaning.specs.Values.{value_of}
+use Rattle.dg_meaning.specs.Values.{value_of, Value}
 use Rattle.dg_meaning.specs.Substitutions.{resolved}
 use Rattle.dg_meaning.specs.Unify.{looks}
 use Rattle.dg_meaning.specs.Letters.{copied}
-use Rattle.dg_meaning.specs.World.{Game, World, Print, prints, kept as gathered_more, gathered_size, gathered_with, worked}
-use Rattle.dg_meaning.specs.Path.{Step, Cut, Back, Result, FailsAt as MoveFails, End as EndsSo}
+use Rattle.dg_meaning.specs.World.{Game, World, Print, prints, kept as gathered_more, gathered_size, worked}
+use Rattle.dg_meaning.specs.Path.{Step, Cut, Back, Result, FailsAt as MoveFails, End as EndsSo, Keep}
 use Rattle.dg_meaning.specs.Moves.{goals_at, first_alone, keeping}
 use Rattle.dg_meaning.specs.Transcript.{Run, ending_of}
 use Rattle.dg_meaning.specs.Keeps.{Finished}
 use Rattle.dg_meaning.specs.Context.{Live, cut_to as cut_lives}
-use Rattle.dg_meaning.proofs.Keeps.{passes_cut, passes_refuse, passes_back, passes_keep, passes_leave, done}
+use Rattle.dg_meaning.proofs.Keeps.{passes_cut, passes_refuse, passes_back, passes_keep, passes_leave, done, keeps_in_newest}
 use Rattle.dg_mid.specs.declared.code.Op.{Op}
 use Rattle.dg_mid.specs.declared.code.Code.{Code}
 use Rattle.dg_mid.specs.Code.{block_at}
 use Rattle.dg_mid.specs.State.{Place, Frame, Choice, Mid, Runs, Fails, Ended, vars_of, cut_of, cut_choices}
-use Rattle.dg_mid.specs.Step.{Setting, setting, cut_to, returned, returns, commits, refuses, leaves, keeps}
-use Rattle.dg_mid.specs.Units.{gathering_work}
+use Rattle.dg_mid.specs.Step.{Setting, setting, cut_to, returned, returns, commits, refuses, leaves, keeps, keeps_value, newest_with}
+use Rattle.dg_mid.specs.Units.{gathering_work, keeping_work}
 use Rattle.dg_mid.specs.Codes.{End, Commits, Refuses, Leaves, Keeps, Stands}
-use Rattle.dg_mid.specs.Reads.{silents, end_steps, Behind, Layer, AreChoices, none, dead, kept, AreBelow, HasEnded, EndedAt, Comes}
+use Rattle.dg_mid.specs.Reads.{silents, end_steps, Behind, Layer, AreChoices, none, dead, kept, AreBelow, HasEnded, EndedAt, Comes, GathersAt}
+use Rattle.dg_mid.proofs.Newest.{with_newest}
 use Rattle.dg_mid.proofs.Here.{Here, answers, prints_dropped, work_dropped}
 use Rattle.dg_mid.proofs.Taking.{went_grows, gather_on}
 
@@ -94,7 +95,7 @@ cuts code m ps p steps g n w run h =
 
 -- the machine goes on in front of code that stands for the steps
 pub goes_on : {least : ℕ} → {ps : List Print} → (set : Setting) (m : Mid) (steps : List Step) (answered : List ℕ) (g : Game) (n : ℕ) (w : World) (run : Run) →
-    Layer (Behind set.code m.frames) set.code m.ops (vars_of m.frames) (cut_of m.frames).tag m.inner steps → Here set.code m ps (silents answered steps) g n w run → least ≤ w.meters.work → Comes least ps set (Runs m) g n run
+    Layer (Behind g set.code m.frames) g set.code m.ops (vars_of m.frames) (cut_of m.frames).tag m.inner steps → Here set.code m ps (silents answered steps) g n w run → least ≤ w.meters.work → Comes least ps set (Runs m) g n run
 goes_on {least = least} {ps = ps} set m steps answered g n w run layer h le = record {
   world = w;
   at = record { lives = h.lives; ways = h.ways; registers = h.registers; mirrors = h.mirrors; answered = answered; steps = steps; reads = layer; stands = h.stands };
@@ -119,13 +120,13 @@ ends_here {least = least} {ps = ps} set e result g n w run is at printed f le = 
 }
 
 pub commit : {least : ℕ} → {ps : List Print} → (set : Setting) (m : Mid) (ops : List Op) (goals : List Goal) (end : End) (rest : List Step) (inner : List Place) (g : Game) (n : ℕ) (w : World) (run : Run) →
-    Stands set.code ops goals end → Behind set.code m.frames rest →
+    Stands set.code ops goals end → Behind g set.code m.frames rest → GathersAt g (Commits goals end) (vars_of m.frames) inner →
     Here set.code m ps (end_steps (Commits goals end) (vars_of m.frames) (cut_of m.frames).tag inner rest) g n w run → least ≤ w.meters.work → Comes least ps set (commits inner (record m { ops = ops })) g n run
-commit {least = least} {ps = ps} set m ops goals end rest [] g n w run s below h le = fails_back set (record m { ops = ops }) [] g n w run h le
-commit {least = least} {ps = ps} set m ops goals end rest (p ∷ inner) g n w run s below h le =
+commit {least = least} {ps = ps} set m ops goals end rest [] g n w run s below valued h le = fails_back set (record m { ops = ops }) [] g n w run h le
+commit {least = least} {ps = ps} set m ops goals end rest (p ∷ inner) g n w run s below valued h le =
     let m' = cut_to p (record m { ops = ops; inner = inner }) in
     goes_on set m' (goals_at (vars_of m.frames) (cut_of m.frames).tag goals ++ end_steps end (vars_of m.frames) (cut_of m.frames).tag inner rest) [] g n w run
-    (record { goals = goals; end = end; rest = rest; stands = s; below = below; is = refl })
+    (record { goals = goals; end = end; rest = rest; stands = s; below = below; gathers = valued; is = refl })
     (cuts set.code m ps p _ g n w run h) le
 
 pub refuse : {least : ℕ} → {ps : List Print} → (set : Setting) (m : Mid) (ops : List Op) (rest : List Step) (inner : List Place) (g : Game) (n : ℕ) (w : World) (run : Run) →
@@ -145,13 +146,13 @@ refuse {least = least} {ps = ps} set m ops rest (p ∷ inner) g n w run h le = r
 }
 
 pub leave : {least : ℕ} → {ps : List Print} → (set : Setting) (m : Mid) (ops : List Op) (goals : List Goal) (end : End) (rest : List Step) (inner : List Place) (g : Game) (n : ℕ) (w : World) (run : Run) →
-    Stands set.code ops goals end → Behind set.code m.frames rest →
+    Stands set.code ops goals end → Behind g set.code m.frames rest → GathersAt g (Leaves goals end) (vars_of m.frames) inner →
     Here set.code m ps (end_steps (Leaves goals end) (vars_of m.frames) (cut_of m.frames).tag inner rest) g n w run → least ≤ w.meters.work → Comes least ps set (leaves inner (record m { ops = ops })) g n run
-leave {least = least} {ps = ps} set m ops goals end rest [] g n w run s below h le = fails_back set (record m { ops = ops }) [] g n w run h le
-leave {least = least} {ps = ps} set m ops goals end rest (p ∷ inner) g n w run s below h le =
+leave {least = least} {ps = ps} set m ops goals end rest [] g n w run s below valued h le = fails_back set (record m { ops = ops }) [] g n w run h le
+leave {least = least} {ps = ps} set m ops goals end rest (p ∷ inner) g n w run s below valued h le =
     let i = h.mirrors in
     goes_on set (cut_to p (record m { ops = ops; inner = inner; stop = p.outer })) (goals_at (vars_of m.frames) (cut_of m.frames).tag goals ++ end_steps end (vars_of m.frames) (cut_of m.frames).tag inner rest) [] g n w run
-    (record { goals = goals; end = end; rest = rest; stands = s; below = below; is = refl })
+    (record { goals = goals; end = end; rest = rest; stands = s; below = below; gathers = valued; is = refl })
     (record {
       lives = cut_lives p.tag h.lives;
       ways = h.ways;
@@ -170,33 +171,40 @@ leave {least = least} {ps = ps} set m ops goals end rest (p ∷ inner) g n w run
       stands = passes_leave g h.lives h.ways p.tag p.outer _ h.registers n w run h.stands;
     }) le
 
-pub keep : {least : ℕ} → {ps : List Print} → (code : Code) (limits : Limits) (m : Mid) (ops : List Op) (term : Term) (rest : List Step) (inner : List Place) (g : Game) (n : ℕ) (w : World) (run : Run) →
-    Here code m ps (end_steps (Keeps term) (vars_of m.frames) (cut_of m.frames).tag inner rest) g n w run → least ≤ w.meters.work + gathering_work inner m.state (value_of g.program (vars_of m.frames) term) →
-    Comes least ps (setting g code limits) (keeps (setting g code limits) (resolved m.state.subst (value_of g.program (vars_of m.frames) term)) inner (record m { ops = ops })) g n run
-keep {least = least} {ps = ps} code limits m ops term rest [] g n w run h le = fails_back (setting g code limits) (record m { ops = ops }) [] g n w run h (omega (arith, le))
-keep {least = least} {ps = ps} code limits m ops term rest (p ∷ inner) g n w run h le =
+-- the value of a gathering is gathered
+keep_value : {least : ℕ} → {ps : List Print} → (code : Code) (limits : Limits) (m : Mid) (term : Term) (t : ℕ) (o : Option Value) (g : Game) (n : ℕ) (w : World) (run : Run) → o ≡ Some (value_of g.program (vars_of m.frames) term) →
+    Here code m ps (Keep t term (vars_of m.frames) ∷ []) g n w run → least ≤ w.meters.work + keeping_work o m.state → (ops : List Op) (inner : List Place) → Comes least ps (setting g code limits) (keeps_value (setting g code limits) o (record m { ops = ops; inner = inner })) g n run
+keep_value {least = least} {ps = ps} code limits m term t None g n w run same h le ops inner = absurd (cc (same))
+keep_value {least = least} {ps = ps} code limits m term t (Some x) g n w run same h le ops inner =
     let i = h.mirrors in
     let v = value_of g.program (vars_of m.frames) term in
-    let work : keeping h.registers v ≡ looks m.state.subst m.state.vars v + copied (resolved m.state.subst v) = ap (λ S. looks S h.registers.next_var v + copied (resolved S v)) i.agrees.bound ∙ ap (λ x. looks m.state.subst x v + copied (resolved m.state.subst v)) i.agrees.vars in
-    let u = gathered_more p.tag (resolved h.registers.bound v) (worked (keeping h.registers v) w) in
-    let new : u.gathered ≡ gathered_with p.tag (resolved m.state.subst v) m.gathered = ap (gathered_with p.tag (resolved h.registers.bound v)) i.gathered_is ∙ ap (λ S. gathered_with p.tag (resolved S v) m.gathered) i.agrees.bound in
-    let failed = passes_keep g h.lives h.ways p.tag term (vars_of m.frames) [] h.registers n w run h.stands in
-    gather_on (setting g code limits) ps (gathered_with p.tag (resolved m.state.subst v) m.gathered) _ u g n run i.printed_is (let a = ap gathered_size new in omega (arith, a)) (went_grows g h.lives [] n (MoveFails u) run failed)
+    let is : x ≡ v = cc in
+    let work : keeping h.registers v ≡ looks m.state.subst m.state.vars x + copied (resolved m.state.subst x) = ap (λ S. looks S h.registers.next_var v + copied (resolved S v)) i.agrees.bound ∙ ap (λ k. looks m.state.subst k v + copied (resolved m.state.subst v)) i.agrees.vars ∙ ap (λ y. looks m.state.subst m.state.vars y + copied (resolved m.state.subst y)) (sym is) in
+    let u = gathered_more t (resolved h.registers.bound v) (worked (keeping h.registers v) w) in
+    let newest = keeps_in_newest g h.lives h.ways t term (vars_of m.frames) [] h.registers n w run h.stands in
+    let new : u.gathered ≡ newest_with (resolved m.state.subst x) m.gathered = with_newest t (resolved h.registers.bound v) w.gathered newest ∙ ap (newest_with (resolved h.registers.bound v)) i.gathered_is ∙ ap (λ S. newest_with (resolved S v) m.gathered) i.agrees.bound ∙ ap (λ y. newest_with (resolved m.state.subst y) m.gathered) (sym is) in
+    let failed = passes_keep g h.lives h.ways t term (vars_of m.frames) [] h.registers n w run h.stands in
+    gather_on (setting g code limits) ps (newest_with (resolved m.state.subst x) m.gathered) _ u g n run i.printed_is (let a = ap gathered_size new in omega (arith, a)) (went_grows g h.lives [] n (MoveFails u) run failed)
     (record {
       world = u;
       at = record { lives = h.lives; choices = i.choices_are; gathered = new; outside = i.outside_is; printed = i.printed_is; failed = failed };
       worked = omega (arith, le, work);
     })
 
+pub keep : {least : ℕ} → {ps : List Print} → (code : Code) (limits : Limits) (m : Mid) (ops : List Op) (term : Term) (rest : List Step) (inner : List Place) (g : Game) (n : ℕ) (w : World) (run : Run) → GathersAt g (Keeps term) (vars_of m.frames) inner →
+    Here code m ps (end_steps (Keeps term) (vars_of m.frames) (cut_of m.frames).tag inner rest) g n w run → least ≤ w.meters.work + gathering_work inner m.state → Comes least ps (setting g code limits) (keeps (setting g code limits) inner (record m { ops = ops })) g n run
+keep {least = least} {ps = ps} code limits m ops term rest [] g n w run is h le = fails_back (setting g code limits) (record m { ops = ops }) [] g n w run h (omega (arith, le))
+keep {least = least} {ps = ps} code limits m ops term rest (p ∷ inner) g n w run is h le = keep_value code limits m term p.tag p.gathers g n w run is h le ops inner
+
 return_on : {least : ℕ} → {ps : List Print} → (set : Setting) (m : Mid) (ops : List Op) (many : Bool) (f : Frame) (fs : List Frame) (answered : List ℕ) (after : List Step) (g : Game) (n : ℕ) (w : World) (run : Run) →
-    Layer (Behind set.code fs) set.code (block_at set.code f.next) (vars_of fs) (cut_of fs).tag f.inner after →
+    Layer (Behind g set.code fs) g set.code (block_at set.code f.next) (vars_of fs) (cut_of fs).tag f.inner after →
     Here set.code m ps (first_alone many f.cut.tag (silents answered after)) g n w run → least ≤ w.meters.work → Comes least ps set (Runs (returned set many f fs (record m { ops = ops }))) g n run
 return_on {least = least} {ps = ps} set m ops true f fs answered after g n w run layer h le = goes_on set (record m { ops = block_at set.code f.next; frames = fs; inner = f.inner }) after answered g n w run layer h le
 return_on {least = least} {ps = ps} set m ops false f fs answered after g n w run layer h le =
     goes_on set (cut_to f.cut (record m { ops = block_at set.code f.next; frames = fs; inner = f.inner })) after answered g n w run layer (cuts set.code m ps f.cut (silents answered after) g n w run h) le
 
 pub return : {least : ℕ} → {ps : List Print} → (set : Setting) (m : Mid) (ops : List Op) (frames : List Frame) (rest : List Step) (g : Game) (n : ℕ) (w : World) (run : Run) →
-    Behind set.code frames rest → Here set.code m ps rest g n w run → least ≤ w.meters.work → Comes least ps set (returns set frames (record m { ops = ops })) g n run
+    Behind g set.code frames rest → Here set.code m ps rest g n w run → least ≤ w.meters.work → Comes least ps set (returns set frames (record m { ops = ops })) g n run
 return {least = least} {ps = ps} set m ops [] rest g n w run below h le = fails_back set (record m { ops = ops }) [] g n w run (subst (λ l. Here set.code m ps l g n w run) below h) le
 return {least = least} {ps = ps} set m ops (f ∷ fs) rest g n w run below h le =
     let a = answers set.code m ps below.noted (first_alone f.many f.cut.tag (silents below.answered below.after)) g n w run (subst (λ l. Here set.code m ps l g n w run) below.is h) in

@@ -17,17 +17,18 @@ use Rattle.dg_meaning.specs.Numbers.{total}
 use Rattle.dg_meaning.specs.Moves.{begun, looked_up, reads_if_set, finds_if_set, gives_number, takes_out, ask_object, ask_objects, ask_place, selects, selected as picked}
 use Rattle.dg_meaning.specs.Path.{Registers, Act, Goes as GoesNow, Tests, Unifies, Ends, Fails as FailsNow, Stops, Effect, Acts, Offers, Whole, AsList, AsSum}
 use Rattle.dg_meaning.specs.Unify.{Equations, Unified, solve}
-use Rattle.dg_meaning.specs.World.{Game, World, Gathering, worked, gathered_with, gathered_at}
+use Rattle.dg_meaning.specs.World.{Game, World, Gathering, worked}
 use Rattle.dg_mid.specs.declared.code.Op.{Op}
 use Rattle.dg_mid.specs.declared.code.Op.TheVariants as op
+use Rattle.dg_mid.specs.declared.code.Gathered.{Gathered}
 use Rattle.dg_mid.specs.declared.code.RuleCode.{RuleCode}
 use Rattle.dg_mid.specs.Code.{block_at, rules_at, selected}
 use Rattle.dg_mid.specs.Reads.{outside_of}
 use Rattle.dg_mid.specs.Left.{overfills}
 use Rattle.dg_mid.specs.Actions.{terms_of, whole_of, act_at, asked_at, found_at, registers_of, world_of, outside_in}
-use Rattle.dg_mid.specs.State.{Outside, Mid, Frame, Place, Stop, Call, Target, ToPred, ToBody, Find, Way, Goes, Calls, Tries, Choice, Status, Runs, Enters, Resumes, Fails, Ended, vars_of, stop_to}
+use Rattle.dg_mid.specs.State.{Outside, Mid, Frame, Place, Stop, Call, Target, ToPred, ToBody, Find, Way, Goes, Takes, Calls, Tries, Choice, Status, Runs, Enters, Resumes, Fails, Ended, vars_of, stop_to}
 use Rattle.dg_mid.specs.Step.{Setting, more, charged, bound, unified, if_agreed, if_passed, made_in, gathers, done, stops, stops_at, begins, enters, asks, calls, call_of, asks_last, last, queries, queries_last, asked_by, values, seeks, trying, trying_cells, tries}
-use Rattle.dg_mid.specs.Step.{does, runs, commits, refuses, leaves, keeps, returns, returned, entered, resumed, without_gathering, taken_out, goes_on, goes_back, passed, inside, gathering, parameter, body_equations, body_frame, new_frame, first_of}
+use Rattle.dg_mid.specs.Step.{does, runs, commits, refuses, leaves, keeps_value, keeps, newest_with, returns, returned, entered, resumed, taken_out, takes_newest, takes, goes_on, goes_back, passed, inside, gathering, parameter, body_equations, body_frame, new_frame, first_of}
 
 module _ (P : Outside → Type 0) (E : Ending → Type 0) where
   -- this holds of what is outside in a status, and that of an ending
@@ -221,9 +222,13 @@ module _ (P : Outside → Type 0) (E : Ending → Type 0) where
     leads_leaves [] m p = p
     leads_leaves (q ∷ ps) m p = p
 
-    leads_keeps : (v : Value) (ps : List Place) (m : Mid) → P m.outside → Leads (keeps g v ps m)
-    leads_keeps v [] m p = p
-    leads_keeps v (q ∷ ps) m p = leads_gathers (gathered_with q.tag v m.gathered) _ p
+    leads_value : (v : Option Value) (m : Mid) → P m.outside → Leads (keeps_value g v m)
+    leads_value None m p = p
+    leads_value (Some v) m p = leads_gathers (newest_with (resolved m.state.subst v) m.gathered) _ p
+
+    leads_keeps : (ps : List Place) (m : Mid) → P m.outside → Leads (keeps g ps m)
+    leads_keeps [] m p = p
+    leads_keeps (q ∷ ps) m p = leads_value q.gathers (record m { inner = ps }) p
 
     leads_returned : (all : Bool) (f : Frame) (fs : List Frame) (m : Mid) → P m.outside → P (returned g all f fs m).outside
     leads_returned true f fs m p = p
@@ -261,14 +266,15 @@ module _ (P : Outside → Type 0) (E : Ending → Type 0) where
     leads_does (op.Shield alt) m p = leads_charged 10 m _ p
     leads_does (op.Collect term into alt) m p =
         let n = cells g.game.program (term ∷ into ∷ []) in
-        let m' = gathering alt (more n m) in
+        let v = value_of g.game.program (vars_of m.frames) in
+        let m' = gathering (v term) (v into) alt (more n m) in
         leads_charged n m (charged g 10 (more n m) (gathers g m'.gathered (Runs m'))) (leads_charged 10 (more n m) (gathers g m'.gathered (Runs m')) (leads_gathers m'.gathered (Runs m') p))
     leads_does (op.Retry alt) m p = p
     leads_does (op.TakeOut whole into) m p = p
     leads_does op.Commit m p = leads_commits m.inner m p
     leads_does op.Refuse m p = leads_refuses m.inner m p
     leads_does op.Leave m p = leads_leaves m.inner m p
-    leads_does (op.Keep term) m p = leads_keeps (resolved m.state.subst (value_of g.game.program (vars_of m.frames) term)) m.inner m p
+    leads_does (op.Keep term) m p = leads_keeps m.inner m p
     leads_does op.Back m p = p
     leads_does op.Return m p = leads_returns m.frames m p
     leads_does (op.Goto b) m p = p
@@ -302,13 +308,21 @@ module _ (P : Outside → Type 0) (E : Ending → Type 0) where
 
     pub leads_resumed : (ops : List Op) (m : Mid) → P m.outside → Leads (resumed g ops m)
     leads_resumed (op.Retry alt ∷ ops) m p = leads_charged 10 m (Runs (inside (Goes alt) 0 (record m { ops = ops }))) p
-    leads_resumed (op.TakeOut whole into ∷ ops) m p =
-        let m' = passed (without_gathering (record m { ops = ops })) in
-        leads_done (taken_out g [] whole into m) m' (whole_leads (whole_of whole) (value_of g.game.program (vars_of m.frames) into) (gathered_at m.next_tag m.gathered) (registers_of (passed (without_gathering m))) (world_of [] (passed (without_gathering m))) m' p)
     leads_resumed ops m p = p
+
+    leads_newest : (whole : Gathered) (into : Value) (gs : List Gathering) (m : Mid) → P m.outside → Leads (takes_newest g whole into gs m)
+    leads_newest whole into [] m p = p
+    leads_newest whole into (x ∷ xs) m p =
+        let m' = passed (record m { gathered = xs }) in
+        leads_done (taken_out [] whole into x.values m') m' (whole_leads (whole_of whole) into x.values (registers_of m') (world_of [] m') m' p)
+
+    leads_takes : (into : Value) (ops : List Op) (m : Mid) → P m.outside → Leads (takes g into ops m)
+    leads_takes into (op.TakeOut whole t ∷ ops) m p = leads_newest whole into m.gathered (record m { ops = ops }) p
+    leads_takes into ops m p = p
 
     pub leads_goes_on : (way : Way) (m : Mid) → P m.outside → Leads (goes_on g way m)
     leads_goes_on (Goes b) m p = leads_resumed (block_at g.code b) m p
+    leads_goes_on (Takes b into) m p = leads_takes into (block_at g.code b) m p
     leads_goes_on (Calls c rules) m p = leads_begins c rules m p
     leads_goes_on (Tries f os) m p = leads_tries f os m p
 

@@ -10,7 +10,7 @@ use Rattle.dg_mid.specs.declared.code.Op.TheVariants as op
 use Rattle.dg_mid.specs.declared.code.RuleCode.{RuleCode}
 use Rattle.dg_mid.specs.declared.code.Code.{Code}
 use Rattle.dg_mid.specs.Code.{selected}
-use Rattle.dg_mid.specs.State.{Call, Way, Goes, Calls, Tries, Mid, Status, Runs, Enters, Resumes, Fails, Ended}
+use Rattle.dg_mid.specs.State.{Call, Way, Goes, Calls, Tries, Mid, Status, Runs, Enters, Resumes, Fails, Ended, Takes}
 use Rattle.dg_mid.specs.Step.{Setting, setting, step, runs, charged, enters, goes_on, first_of, inside, at_rule}
 use Rattle.dg_mid.specs.Codes.{Codes}
 use Rattle.dg_mid.specs.Units.{earned, earned_of, entering, selects, selects_at}
@@ -47,6 +47,7 @@ enters_left g call r (q ∷ qs) m = charged_left g (10 + length call.args) m cal
 
 way_left : (g : Setting) (way : Way) (m : Mid) → selects (Resumes way m) + left_for (goes_on g way m) ≤ 1
 way_left g (Goes b) m = let x = left_few (goes_on g (Goes b) m) in omega (arith, x)
+way_left g (Takes b into) m = let x = left_few (goes_on g (Takes b into) m) in omega (arith, x)
 way_left g (Calls call []) m = omega arith
 way_left g (Tries f os) m = let x = left_few (goes_on g (Tries f os) m) in omega (arith, x)
 way_left g (Calls call (r ∷ rs)) m = let x = enters_left g call r (selected (first_of m.state.subst call) rs) m in omega (arith, x)

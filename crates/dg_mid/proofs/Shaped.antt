@@ -11,22 +11,24 @@ use Rattle.dg_meaning.specs.Substitutions.{walk}
 use Rattle.dg_base.specs.Goals.{option_terms}
 use Rattle.dg_meaning.specs.Unify.{Unified, solve}
 use Rattle.dg_base.specs.declared.run.Ending.TheVariants as ending
-use Rattle.dg_meaning.specs.World.{Gathering, gathered_size, gathered_with}
+use Rattle.dg_meaning.specs.Substitutions.{resolved}
+use Rattle.dg_meaning.specs.World.{Gathering, gathered_size}
 use Rattle.dg_meaning.specs.Path.{Act, Goes as GoesNow, Tests, Unifies, Ends, Fails as FailsNow, Stops, Effect, Acts, Offers}
 use Rattle.dg_meaning.specs.Cells.{cells}
 use Rattle.dg_mid.specs.declared.code.Op.{Op}
 use Rattle.dg_mid.specs.declared.code.Op.TheVariants as op
 use Rattle.dg_mid.specs.declared.code.Gathered.TheVariants as gathered
+use Rattle.dg_mid.specs.declared.code.Gathered.{Gathered}
 use Rattle.dg_mid.specs.declared.code.RuleCode.{RuleCode}
 use Rattle.dg_mid.specs.declared.code.BodyCode.{BodyCode}
 use Rattle.dg_mid.specs.Actions.{terms_of, act_at, asked_at, found_at, world_of, outside_in}
 use Rattle.dg_mid.specs.declared.code.Code.{Code}
 use Rattle.dg_mid.specs.Code.{block_at, rules_at, selected, excluded}
-use Rattle.dg_mid.specs.State.{Place, Frame, Call, Target, ToPred, ToBody, Find, Way, Goes, Calls, Tries, Stop, Choice, Mid, Status, Runs, Enters, Resumes, Fails, Ended, vars_of, cut_of, place_of, inner_for, cut_choices, stop_to}
-use Rattle.dg_mid.specs.Step.{Setting, parameter, body_frame, body_equations, enters_body, calls, body_of, closure_at, queries, queries_last, asked_by, values, does, seeks, trying, tries, done, made_in, gathers, without_gathering, taken_out, step, runs, charged, more, unified, bound, trail_more, if_agreed, if_passed, inside, passed, within, new_choice, enters, begins, asks, asks_last, last, first_of, returned, returns, commits, refuses, leaves, keeps, new_frame, new_stop, enter, entered, resumed, goes_on, goes_back, at_rule, call_of, shielded, gathering, stops, stops_at}
+use Rattle.dg_mid.specs.State.{Place, Frame, Call, Target, ToPred, ToBody, Find, Way, Goes, Calls, Tries, Stop, Choice, Mid, Status, Runs, Enters, Resumes, Fails, Ended, vars_of, cut_of, place_of, inner_for, cut_choices, stop_to, Takes}
+use Rattle.dg_mid.specs.Step.{Setting, parameter, body_frame, body_equations, enters_body, calls, body_of, closure_at, queries, queries_last, asked_by, values, does, seeks, trying, tries, done, made_in, gathers, taken_out, step, runs, charged, more, unified, bound, trail_more, if_agreed, if_passed, inside, passed, within, new_choice, enters, begins, asks, asks_last, last, first_of, returned, returns, commits, refuses, leaves, keeps, new_frame, new_stop, enter, entered, resumed, goes_on, goes_back, at_rule, call_of, shielded, gathering, stops, stops_at, keeps_value, takes, with_gathering, newest_with, takes_newest}
 use Rattle.dg_mid.specs.Codes.{End, Returns, Commits, Refuses, Backs, Leaves, Keeps, Stands, Others, last_list, more_lists, jumps, returns as stands_returns, commits as stands_commits, refuses as stands_refuses, backs, leaves as stands_leaves, keeps as stands_keeps, shields, collects, accumulates, finishes, acts, ask, last_ask, query, last_query, holds, objects, found_goals, found_end, only, either, selects, once, negates, branch, exhausts, forever}
 use Rattle.dg_mid.specs.Potential.{one_from, cut_from, pending, ChoicesFine, MidFine, StatusFine}
-use Rattle.dg_mid.specs.Shapes.{StopOlder, head_of, Fits, FitsCode, BlockFits, plain, retry, takes, FramesFit, StopCovers, ActiveAt, Active, AllTrails, RuleFits, RulesFit, BodyFits, MayBody, TargetFits, CallFits, GoesFit, TriesFit, WayFits, ChoicesShaped, MidShaped, ShapedAt, RunShaped, StatusShaped}
+use Rattle.dg_mid.specs.Shapes.{StopOlder, head_of, Fits, FitsCode, BlockFits, plain, retry, FramesFit, StopCovers, ActiveAt, Active, AllTrails, RuleFits, RulesFit, BodyFits, MayBody, TargetFits, CallFits, GoesFit, TriesFit, WayFits, ChoicesShaped, MidShaped, ShapedAt, RunShaped, StatusShaped, TakesFit}
 use Rattle.dg_mid.proofs.Pending.{one_falls, cut_falls}
 use Rattle.dg_mid.proofs.Backs.{goes_plainly}
 use Rattle.dg_mid.proofs.Chosen.{branch_stands}
@@ -232,9 +234,15 @@ module _ (g : Setting) (answers : block_at g.code 0 ≡ op.Return ∷ []) (rules
   gather_s : (gs : List Gathering) (next : Status) → StatusShaped g.code next → StatusShaped g.code (gathers g gs next)
   gather_s gs next h = cond_both (nat_lt g.limits.aux (gathered_size gs)) (Ended ending.AuxLimit) next (StatusShaped g.code) (λ e. tt) (λ e. h)
 
-  keep_s : (v : Value) (inner : List Place) (m : Mid) → ChoicesShaped g.code m.choices → StatusShaped g.code (keeps g v inner m)
-  keep_s v [] m h = h
-  keep_s v (p ∷ ps) m h = gather_s (gathered_with p.tag v m.gathered) (Fails (record m { inner = ps; gathered = gathered_with p.tag v m.gathered })) h
+  value_s : (v : Option Value) (m : Mid) → ChoicesShaped g.code m.choices → StatusShaped g.code (keeps_value g v m)
+  value_s None m h = h
+  value_s (Some v) m h =
+      let gs = newest_with (resolved m.state.subst v) m.gathered in
+      gather_s gs (Fails (record m { gathered = gs })) h
+
+  keep_s : (inner : List Place) (m : Mid) → ChoicesShaped g.code m.choices → StatusShaped g.code (keeps g inner m)
+  keep_s [] m h = h
+  keep_s (p ∷ ps) m h = value_s p.gathers (record m { inner = ps }) h
 
   -- stops
   stop_found : (t u : ℕ) (chain : List ℕ) (m : Mid) → ShapedAt g.code m (t ∷ chain) → (o : Option (Stop × List Stop)) → stop_to t m.stops ≡ o → StatusShaped g.code (stops_at g o m)
@@ -290,11 +298,12 @@ module _ (g : Setting) (answers : block_at g.code 0 ≡ op.Return ∷ []) (rules
     goes_s : (b : ℕ) (goals : List Goal) (end : End) → Stands g.code (block_at g.code b) goals end → Fits chain r end m.inner → GoesFit g.code b m.frames m.inner chain
     goes_s b goals end s f = record { r = r; block = plain b (record { goals = goals; end = end; stands = s; fits = f }); frames_are = fit }
 
-    -- an inner construct with a way on
-    tries_s : (b : ℕ) (goals : List Goal) (end : End) → GoesFit g.code b m.frames m.inner chain → Stands g.code ops goals end → Fits chain r end (place_of m ∷ m.inner) → StatusShaped g.code (Runs (within (place_of m') (inside (Goes b) 0 m')))
-    tries_s b goals end w s f = (
+    -- an inner construct with a way on, which gathers this
+    tries_s : (way : Way) (v : Option Value) (goals : List Goal) (end : End) → WayFits g.code way m.frames m.inner chain → Stands g.code ops goals end → Fits chain r end (record (place_of m) { gathers = v } ∷ m.inner) →
+        StatusShaped g.code (Runs (within (record (place_of m') { gathers = v }) (inside way 0 m')))
+    tries_s way v goals end w s f = (
       chain,
-      place_s g.code m.frames m.inner (new_choice (Goes b) m' ∷ m.choices) m.stops m.stop (m.next_tag + 1) m.state.trail chain (place_of m) (push_s g.code m' (Goes b) 0 chain h w),
+      place_s g.code m.frames m.inner (new_choice way m' ∷ m.choices) m.stops m.stop (m.next_tag + 1) m.state.trail chain (record (place_of m) { gathers = v }) (push_s g.code m' way 0 chain h w),
       record { r = r; code_is = record { goals = goals; end = end; stands = s; fits = f }; frames_are = fit },
     )
 
@@ -356,17 +365,19 @@ module _ (g : Setting) (answers : block_at g.code 0 ≡ op.Return ∷ []) (rules
   runs_s m ops goals end chain r (stands_refuses others) fine h fit f = refuse_s m.inner (record m { ops = others }) h.choices_are
   runs_s m ops goals end chain r (backs others) fine h fit f = h.choices_are
   runs_s m ops goals end chain r (stands_leaves others goals' end' s) fine h fit f = leave_s m.inner (record m { ops = others }) goals' end' chain r s h fit f
-  runs_s m ops goals end chain r (stands_keeps term others) fine h fit f = keep_s _ m.inner (record m { ops = others }) h.choices_are
+  runs_s m ops goals end chain r (stands_keeps term others) fine h fit f = keep_s m.inner (record m { ops = others }) h.choices_are
   runs_s m ops goals end chain r (finishes others) fine h fit f = tt
   runs_s m ops goals end chain r (shields alt inner others goals' end' s o) fine h fit f = charge_s 10 (record m { ops = others }) _ (shield_s m others chain r fine h fit alt inner goals' end' s o f)
   runs_s m ops goals end chain r (collects term into alt inner others behind goals' end' s e o) fine h fit f =
       let n = cells g.game.program (term ∷ into ∷ []) in
-      charge_s n (record m { ops = others }) _ (charge_s 10 (more n (record m { ops = others })) _ (gather_s (gathering alt (more n (record m { ops = others }))).gathered _
-      (tries_s (record (more n m) { gathered = record { tag = m.next_tag; values = [] } ∷ m.gathered }) others chain r fine h fit alt inner (Keeps term) (record { r = r; block = takes alt gathered.List into behind e (record { goals = goals'; end = end'; stands = o; fits = f }); frames_are = fit }) s tt)))
+      let v = value_of g.game.program (vars_of m.frames) in
+      charge_s n (record m { ops = others }) _ (charge_s 10 (more n (record m { ops = others })) _ (gather_s (gathering (v term) (v into) alt (more n (record m { ops = others }))).gathered _
+      (tries_s (with_gathering (more n m)) others chain r fine h fit (Takes alt (v into)) (Some (v term)) inner (Keeps term) (record { r = r; whole = gathered.List; into = into; ops = behind; block = e; code_is = record { goals = goals'; end = end'; stands = o; fits = f }; frames_are = fit }) s tt)))
   runs_s m ops goals end chain r (accumulates term into alt inner others behind goals' end' s e o) fine h fit f =
       let n = cells g.game.program (term ∷ into ∷ []) in
-      charge_s n (record m { ops = others }) _ (charge_s 10 (more n (record m { ops = others })) _ (gather_s (gathering alt (more n (record m { ops = others }))).gathered _
-      (tries_s (record (more n m) { gathered = record { tag = m.next_tag; values = [] } ∷ m.gathered }) others chain r fine h fit alt inner (Keeps term) (record { r = r; block = takes alt gathered.Sum into behind e (record { goals = goals'; end = end'; stands = o; fits = f }); frames_are = fit }) s tt)))
+      let v = value_of g.game.program (vars_of m.frames) in
+      charge_s n (record m { ops = others }) _ (charge_s 10 (more n (record m { ops = others })) _ (gather_s (gathering (v term) (v into) alt (more n (record m { ops = others }))).gathered _
+      (tries_s (with_gathering (more n m)) others chain r fine h fit (Takes alt (v into)) (Some (v term)) inner (Keeps term) (record { r = r; whole = gathered.Sum; into = into; ops = behind; block = e; code_is = record { goals = goals'; end = end'; stands = o; fits = f }; frames_are = fit }) s tt)))
   runs_s m ops goals end chain r (acts a others goals' end' s) fine h fit f =
       let k = cells g.game.program (terms_of a) in
       charge_s k (record m { ops = others }) _ (done_s (act_at g.game [] a (more k (record m { ops = others }))) (more k (record m { ops = others })) goals' end' chain r s h fit f)
@@ -399,9 +410,9 @@ module _ (g : Setting) (answers : block_at g.code 0 ≡ op.Return ∷ []) (rules
         place_s g.code m.frames m.inner m.choices m.stops m.stop (m.next_tag + 1) m.state.trail chain (place_of m) (tag_s g.code m.frames m.inner m.choices m.stops m.stop m.next_tag (m.next_tag + 1) m.state.trail chain (omega arith) h),
         record { r = r; code_is = record { goals = inner; end = Commits goals' end'; stands = s; fits = (h.here.older, f) }; frames_are = fit },
       )
-  runs_s m ops goals end chain r (negates alt inner others goals' end' s o) fine h fit f = charge_s 10 (record m { ops = others }) _ (tries_s m others chain r fine h fit alt inner Refuses (goes_s m others chain r fine h fit alt goals' end' o f) s tt)
-  runs_s m ops goals end chain r (branch alt tested first other others goals' end' s o) fine h fit f = charge_s 10 (record m { ops = others }) _ (tries_s m others chain r fine h fit alt tested (Commits (first ++ goals') end') (goes_s m others chain r fine h fit alt (other ++ goals') end' o f) s (h.here.older, f))
-  runs_s m ops goals end chain r (exhausts alt inner others goals' end' s o) fine h fit f = charge_s 10 (record m { ops = others }) _ (tries_s m others chain r fine h fit alt inner Backs (goes_s m others chain r fine h fit alt goals' end' o f) s tt)
+  runs_s m ops goals end chain r (negates alt inner others goals' end' s o) fine h fit f = charge_s 10 (record m { ops = others }) _ (tries_s m others chain r fine h fit (Goes alt) None inner Refuses (goes_s m others chain r fine h fit alt goals' end' o f) s tt)
+  runs_s m ops goals end chain r (branch alt tested first other others goals' end' s o) fine h fit f = charge_s 10 (record m { ops = others }) _ (tries_s m others chain r fine h fit (Goes alt) None tested (Commits (first ++ goals') end') (goes_s m others chain r fine h fit alt (other ++ goals') end' o f) s (h.here.older, f))
+  runs_s m ops goals end chain r (exhausts alt inner others goals' end' s o) fine h fit f = charge_s 10 (record m { ops = others }) _ (tries_s m others chain r fine h fit (Goes alt) None inner Backs (goes_s m others chain r fine h fit alt goals' end' o f) s tt)
   runs_s m ops goals end chain r (forever b others goals' end' e s) fine h fit f =
       let again : Stands g.code (block_at g.code b) (goal.Forever ∷ goals') end' = subst (λ l. Stands g.code l (goal.Forever ∷ goals') end') (sym e) (forever b others goals' end' e s) in
       charge_s 10 (record m { ops = others }) _ (chain, push_s g.code (record m { ops = others }) (Goes b) 0 chain h (goes_s m others chain r fine h fit b (goal.Forever ∷ goals') end' again f), record { r = r; code_is = record { goals = goals'; end = end'; stands = s; fits = f }; frames_are = fit })
@@ -431,10 +442,15 @@ module _ (g : Setting) (answers : block_at g.code 0 ≡ op.Return ∷ []) (rules
   resumed_s b m chain r h fit (retry b' alt ops e f others) =
       subst (λ l. StatusShaped g.code (resumed g l m)) (sym e)
       (charge_s 10 m _ (chain, push_s g.code (record m { ops = ops }) (Goes alt) 0 chain h (record { r = r; block = others; frames_are = fit }), record { r = r; code_is = f; frames_are = fit }))
-  resumed_s b m chain r h fit (takes b' whole into ops e f) =
-      let m1 = passed (without_gathering (record m { ops = ops })) in
-      subst (λ l. StatusShaped g.code (resumed g l m)) (sym e)
-      (done_s (taken_out g [] whole into (record m { ops = ops })) m1 f.goals f.end chain r f.stands (tag_s g.code m.frames m.inner m.choices m.stops m.stop m.next_tag (m.next_tag + 1) m.state.trail chain (omega arith) h) fit f.fits)
+
+  newest_s : (whole : Gathered) (into : Value) (gs : List Gathering) (m : Mid) (chain r : List ℕ) → ShapedAt g.code m chain → FitsCode g.code m.ops chain r m.inner → FramesFit g.code m.frames r → StatusShaped g.code (takes_newest g whole into gs m)
+  newest_s whole into [] m chain r h f fit = h.choices_are
+  newest_s whole into (x ∷ xs) m chain r h f fit =
+      let m1 = passed (record m { gathered = xs }) in
+      done_s (taken_out [] whole into x.values m1) m1 f.goals f.end chain r f.stands (tag_s g.code m.frames m.inner m.choices m.stops m.stop m.next_tag (m.next_tag + 1) m.state.trail chain (omega arith) h) fit f.fits
+
+  taken_s : (into : Value) (b : ℕ) (m : Mid) (chain : List ℕ) → ShapedAt g.code m chain → TakesFit g.code b m.frames m.inner chain → StatusShaped g.code (takes g into (block_at g.code b) m)
+  taken_s into b m chain h w = subst (λ l. StatusShaped g.code (takes g into l m)) (sym w.block) (newest_s w.whole into m.gathered (record m { ops = w.ops }) chain w.r h w.code_is w.frames_are)
 
   wanted_fits : (many : Bool) (p : Place) (goals : List Goal) (end : End) (chain r : List ℕ) (inner : List Place) → StopOlder p.tag (head_of chain) → Fits chain r end inner → Fits chain r (found_end many goals end) (inner_for many p inner)
   wanted_fits true p goals end chain r inner older f = f
@@ -457,6 +473,7 @@ module _ (g : Setting) (answers : block_at g.code 0 ≡ op.Return ∷ []) (rules
 
   way_s : (way : Way) (m : Mid) (chain : List ℕ) → ShapedAt g.code m chain → WayFits g.code way m.frames m.inner chain → StatusShaped g.code (goes_on g way m)
   way_s (Goes b) m chain h w = resumed_s b m chain w.r h w.frames_are w.block
+  way_s (Takes b into) m chain h w = taken_s into b m chain h w
   way_s (Calls call rs) m chain h w = begins_s call rs m chain h w.0 w.1
   way_s (Tries f os) m chain h w = tried_s f os m chain h w
 

@@ -27,34 +27,34 @@ cut_under p [] = tt
 cut_under p (m ∷ ms) = cond_both (nat_lt m.place.tag p.tag) (m ∷ ms) (cut_choices p ms) (AreBelow p.tag) (λ e. ltb-true m.place.tag p.tag e) (λ e. cut_under p ms)
 
 -- the stoppable part of a tag here is the one of the search
-pub record Finds (code : Code) (t : ℕ) (ss : List Stop) (way : WayOn) (outer : List WayOn) : Type 0 where
+pub record Finds (g : Game) (code : Code) (t : ℕ) (ss : List Stop) (way : WayOn) (outer : List WayOn) : Type 0 where
   pub found : Stop
   pub others : List Stop
   pub is : stop_to t ss ≡ Some (found, others)
-  pub stop_is : IsStop code found way
-  pub others_are : AreStops code others outer
+  pub stop_is : IsStop g code found way
+  pub others_are : AreStops g code others outer
   pub tag : found.place.tag ≡ t
 
 some_same : {A : Type 0} (x y : A) → Some x ≡ Some y → x ≡ y
 some_same x y e = cc
 
-found_here : (code : Code) (t : ℕ) (s : Stop) (ss : List Stop) (x way : WayOn) (ws outer : List WayOn) (b : Bool) → eqb x.tag t ≡ b → IsStop code s x → AreStops code ss ws → (if b then Some (x, ws) else way_to t ws) ≡ Some (way, outer) → (way_to t ws ≡ Some (way, outer) → Finds code t ss way outer) → Finds code t (s ∷ ss) way outer
-found_here code t s ss x way ws outer true e is are found deeper =
+found_here : (g : Game) (code : Code) (t : ℕ) (s : Stop) (ss : List Stop) (x way : WayOn) (ws outer : List WayOn) (b : Bool) → eqb x.tag t ≡ b → IsStop g code s x → AreStops g code ss ws → (if b then Some (x, ws) else way_to t ws) ≡ Some (way, outer) → (way_to t ws ≡ Some (way, outer) → Finds g code t ss way outer) → Finds g code t (s ∷ ss) way outer
+found_here g code t s ss x way ws outer true e is are found deeper =
     let both = some_same {A = WayOn × List WayOn} (x, ws) (way, outer) found in
     let same : x ≡ way = ap (λ (p : WayOn × List WayOn). p.0) both in
     let rest : ws ≡ outer = ap (λ (p : WayOn × List WayOn). p.1) both in
     let tags : eqb s.place.tag t ≡ true = ap (λ k. eqb k t) (sym is.tag) ∙ e in
-    record { found = s; others = ss; is = ap (λ b. if b then Some (s, ss) else stop_to t ss) tags; stop_is = subst (IsStop code s) same is; others_are = subst (AreStops code ss) rest are; tag = eqb-true s.place.tag t tags }
-found_here code t s ss x way ws outer false e is are found deeper =
+    record { found = s; others = ss; is = ap (λ b. if b then Some (s, ss) else stop_to t ss) tags; stop_is = subst (IsStop g code s) same is; others_are = subst (AreStops g code ss) rest are; tag = eqb-true s.place.tag t tags }
+found_here g code t s ss x way ws outer false e is are found deeper =
     let d = deeper found in
     let tags : eqb s.place.tag t ≡ false = ap (λ k. eqb k t) (sym is.tag) ∙ e in
     record { found = d.found; others = d.others; is = ap (λ b. if b then Some (s, ss) else stop_to t ss) tags ∙ d.is; stop_is = d.stop_is; others_are = d.others_are; tag = d.tag }
 
-finds : (code : Code) (t : ℕ) (ss : List Stop) (ws : List WayOn) (way : WayOn) (outer : List WayOn) → AreStops code ss ws → way_to t ws ≡ Some (way, outer) → Finds code t ss way outer
-finds code t [] [] way outer are e = absurd (cc (e))
-finds code t [] (x ∷ ws) way outer are e = absurd are
-finds code t (s ∷ ss) [] way outer are e = absurd are
-finds code t (s ∷ ss) (x ∷ ws) way outer are e = found_here code t s ss x way ws outer (eqb x.tag t) refl are.0 are.1 e (finds code t ss ws way outer are.1)
+finds : (g : Game) (code : Code) (t : ℕ) (ss : List Stop) (ws : List WayOn) (way : WayOn) (outer : List WayOn) → AreStops g code ss ws → way_to t ws ≡ Some (way, outer) → Finds g code t ss way outer
+finds g code t [] [] way outer are e = absurd (cc (e))
+finds g code t [] (x ∷ ws) way outer are e = absurd are
+finds g code t (s ∷ ss) [] way outer are e = absurd are
+finds g code t (s ∷ ss) (x ∷ ws) way outer are e = found_here g code t s ss x way ws outer (eqb x.tag t) refl are.0 are.1 e (finds g code t ss ws way outer are.1)
 
 -- a way's registers agree with a state that the choice's agree with
 pub way_agrees : (s : State) (q r : Registers) (cells : ℕ) → r ≡ inside cells q → Agrees s q → Agrees s r
@@ -63,7 +63,7 @@ way_agrees s q r cells is a = subst (Agrees s) (sym is) (record { bound = a.boun
 module _ (set : Setting) (m : Mid) (ps : List Print) (g : Game) (n : ℕ) (v : World) (run : Run) (q : Registers) (lives : List Live) (ways : List WayOn) (i : Mirrors g set.code m ps q lives ways v) where
   stops_found : {least : ℕ} → (t : ℕ) → WentOn g lives ways t n v run → least ≤ v.meters.work → Comes least ps set (stops_at set (stop_to t m.stops) m) g n run
   stops_found {least = least} t on le =
-      let f = finds set.code t m.stops ways on.way on.outer i.stops_are on.is in
+      let f = finds g set.code t m.stops ways on.way on.outer i.stops_are on.is in
       let s = f.stop_is in
       let r = s.way_is.registers in
       let tag : s.path.registers.next_tag ≡ f.found.place.tag + 1 = ap (λ (x : Registers). x.next_tag) r ∙ ap (λ k. k + 1) s.tag_at in

@@ -46,7 +46,7 @@ module _ (g : Game) (code : Code) (limits : Limits) (codes : Codes g.program cod
       mirrors = record { agrees = record { bound = refl; vars = refl; heap = omega arith; trail = omega arith; since = omega arith }; tag = refl; choices_are = none; below = tt; stops_are = tt; stop_is = refl; gathered_is = refl; outside_is = refl; printed_is = refl };
       answered = [];
       steps = (start_path g).steps;
-      reads = record { goals = _; end = _; rest = _; stands = codes.starts; below = refl; is = refl };
+      reads = record { goals = _; end = _; rest = _; stands = codes.starts; below = refl; gathers = tt; is = refl };
       stands = stands_at_start g typed n;
     };
     worked = omega arith;

@@ -2,7 +2,7 @@
 use Rattle.std.specs.Prelude.{ℕ, zero, suc, ◌+◌, ◌*◌, List, [], ◌∷◌, length}
 use Rattle.dg_mid.specs.declared.code.Op.{Op}
 use Rattle.dg_mid.specs.declared.code.Op.TheVariants as op
-use Rattle.dg_mid.specs.State.{Place, Frame, Way, Goes, Calls, Tries, Choice, Status, Runs, Enters, Resumes, Fails, Ended}
+use Rattle.dg_mid.specs.State.{Place, Frame, Way, Goes, Takes, Calls, Tries, Choice, Status, Runs, Enters, Resumes, Fails, Ended}
 
 -- One where the code at hand jumps.
 abbrev pub jumping : List Op → ℕ
@@ -26,6 +26,7 @@ times (suc n) k = k + times n k
 -- How often a way may still be gone.
 abbrev pub ways_left : Way → ℕ
 ways_left (Goes b) = suc b
+ways_left (Takes b into) = 1
 ways_left (Calls call rules) = suc (length rules)
 ways_left (Tries f objects) = suc (length objects)
 

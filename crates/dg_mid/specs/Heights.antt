@@ -1,6 +1,6 @@
 -- That heights order places as tags do, so that an engine may cut by heights. Hold it against the Dialog manual, chapter "Choice points".
 use Rattle.std.specs.Prelude.{ℕ, ◌<◌, ◌≤◌, ◌≡◌, List, [], ◌∷◌}
-use Rattle.dg_mid.specs.State.{Place, Frame, Way, Goes, Calls, Tries, Stop, Choice, Mid, Status, Runs, Enters, Resumes, Fails, Ended}
+use Rattle.dg_mid.specs.State.{Place, Frame, Way, Goes, Takes, Calls, Tries, Stop, Choice, Mid, Status, Runs, Enters, Resumes, Fails, Ended}
 
 -- The heights of a choice's place and of another place are ordered as their tags.
 pub record Agree (c p : Place) : Type 0 where
@@ -38,6 +38,7 @@ StopsNamed t h cs (s ∷ ss) =
 -- So is the place of the call that a choice goes on with.
 abbrev pub WayNamed : ℕ → ℕ → List Choice → Way → Type 0
 WayNamed t h cs (Goes b) = Unit {0}
+WayNamed t h cs (Takes b into) = Unit {0}
 WayNamed t h cs (Calls call rules) = IsNamed t h cs call.cut
 WayNamed t h cs (Tries f objects) = Unit {0}
 

@@ -6,7 +6,7 @@ use Rattle.dg_mid.specs.declared.code.Op.TheVariants as op
 use Rattle.dg_mid.specs.declared.code.RuleCode.{RuleCode}
 use Rattle.dg_mid.specs.declared.code.Code.{Code}
 use Rattle.dg_mid.specs.Code.{block_at}
-use Rattle.dg_mid.specs.State.{Place, Frame, Call, Way, Goes, Calls, Tries, Choice, Mid, Status, Runs, Enters, Resumes, Fails, Ended}
+use Rattle.dg_mid.specs.State.{Place, Frame, Call, Way, Goes, Takes, Calls, Tries, Choice, Mid, Status, Runs, Enters, Resumes, Fails, Ended}
 use Rattle.dg_mid.specs.Step.{is_goal}
 
 -- ## Places that are still to be executed
@@ -155,6 +155,7 @@ pub record CallFine (code : Code) (call : Call) (frames : List Frame) (t : ℕ) 
 -- What a choice goes on with is fine.
 abbrev pub WayFine : Code → Way → List Frame → ℕ → Type 0
 WayFine code (Goes b) frames t = Unit {0}
+WayFine code (Takes b into) frames t = Unit {0}
 WayFine code (Calls call rules) frames t = (call.cut.tag ≡ t) × AllEnter code rules × MayAnswer code call.next frames
 WayFine code (Tries f objects) frames t = Unit {0}
 

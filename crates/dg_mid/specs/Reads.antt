@@ -1,5 +1,5 @@
 -- What a machine in register code stands for in the search. Hold it against the Dialog manual, chapters "Choice points" and "Control flow".
-use Rattle.std.specs.Prelude.{ℕ, suc, ◌+◌, ◌≡◌, ◌<◌, ◌≤◌, ◌⊎◌, ◌++◌, List, [], ◌∷◌, Option, Bool, true, false, length}
+use Rattle.std.specs.Prelude.{ℕ, suc, ◌+◌, ◌≡◌, ◌<◌, ◌≤◌, ◌++◌, List, [], ◌∷◌, Option, Some, Bool, true, false, length}
 use Rattle.dg_base.specs.declared.program.Goal.{Goal}
 use Rattle.dg_base.specs.declared.program.Rule.{Rule}
 use Rattle.dg_base.specs.declared.program.Term.{Term}
@@ -12,7 +12,7 @@ use Rattle.dg_meaning.specs.Path.{Step, Answers, Cut, Refuse, Back, Keep, Leave,
 use Rattle.dg_meaning.specs.Moves.{path_of, goals_at, first_alone, inside, object_branches, is_excluded, rule_branch, rule_branches}
 use Rattle.dg_meaning.specs.Transcript.{Run, run_of, ending_of}
 use Rattle.dg_meaning.specs.Search.{answer}
-use Rattle.dg_meaning.specs.Context.{Way as WayOn, Live}
+use Rattle.dg_meaning.specs.Context.{Way as WayOn, Live, IsNewest, tags_of}
 use Rattle.dg_meaning.specs.Keeps.{Stands as StandsIn, Failed, Began, Tried, open_at}
 use Rattle.dg_meaning.specs.OneRun.{Grows}
 use Rattle.dg_unify.specs.Store.{State}
@@ -22,7 +22,7 @@ use Rattle.dg_mid.specs.declared.code.Gathered.{Gathered}
 use Rattle.dg_mid.specs.declared.code.RuleCode.{RuleCode}
 use Rattle.dg_mid.specs.declared.code.Code.{Code}
 use Rattle.dg_mid.specs.Code.{block_at, selected}
-use Rattle.dg_mid.specs.State.{Place, Frame, Call, Find, Way, Goes, Calls, Tries, Stop, Choice, Outside, Mid, Status, Runs, Enters, Resumes, Fails, Ended, vars_of, cut_of}
+use Rattle.dg_mid.specs.State.{Place, Frame, Call, Find, Way, Goes, Takes, Calls, Tries, Stop, Choice, Outside, Mid, Status, Runs, Enters, Resumes, Fails, Ended, vars_of, cut_of}
 use Rattle.dg_mid.specs.Actions.{whole_of}
 use Rattle.dg_mid.specs.Step.{Setting, first_of, step, said, followed, takes_goal}
 use Rattle.dg_mid.specs.Units.{earned}
@@ -50,31 +50,46 @@ end_steps (Keeps term) env t [] rest = Back ∷ []
 end_steps (Keeps term) env t (p ∷ inner) rest = Keep p.tag term env ∷ []
 end_steps Finishes env t inner rest = []
 
+-- Where a term is gathered behind goals, the place of the gathering has its value.
+abbrev pub GathersAt : Game → End → List Value → List Place → Type 0
+GathersAt g Returns env inner = Unit {0}
+GathersAt g (Commits goals end) env [] = Unit {0}
+GathersAt g (Commits goals end) env (p ∷ inner) = GathersAt g end env inner
+GathersAt g Refuses env inner = Unit {0}
+GathersAt g Backs env inner = Unit {0}
+GathersAt g (Leaves goals end) env [] = Unit {0}
+GathersAt g (Leaves goals end) env (p ∷ inner) = GathersAt g end env inner
+GathersAt g (Keeps term) env [] = Unit {0}
+GathersAt g (Keeps term) env (p ∷ inner) = p.gathers ≡ Some (value_of g.program env term)
+GathersAt g Finishes env inner = Unit {0}
+
 -- Code that stands for these steps, where what stands behind its rule's answer is known.
-pub record Layer (behind : List Step → Type 0) (code : Code) (ops : List Op) (env : List Value) (t : ℕ) (inner : List Place) (steps : List Step) : Type 0 where
+pub record Layer (behind : List Step → Type 0) (g : Game) (code : Code) (ops : List Op) (env : List Value) (t : ℕ) (inner : List Place)
+    (steps : List Step) : Type 0 where
   pub goals : List Goal
   pub end : End
   pub rest : List Step
   pub stands : Stands code ops goals end
   pub below : behind rest
+  pub gathers : GathersAt g end env inner
   pub is : steps ≡ goals_at env t goals ++ end_steps end env t inner rest
 
 -- What stands behind the rule of the newest frame; of the body of a closure no answer is noted.
-pub record Link (behind : List Step → Type 0) (code : Code) (f : Frame) (fs : List Frame) (rest : List Step) : Type 0 where
+pub record Link (behind : List Step → Type 0) (g : Game) (code : Code) (f : Frame) (fs : List Frame) (rest : List Step) : Type 0 where
   pub noted : List ℕ
   pub answered : List ℕ
   pub after : List Step
-  pub layer : Layer behind code (block_at code f.next) (vars_of fs) (cut_of fs).tag f.inner after
+  pub layer : Layer behind g code (block_at code f.next) (vars_of fs) (cut_of fs).tag f.inner after
   pub is : rest ≡ silents noted (first_alone f.many f.cut.tag (silents answered after))
 
 -- What stands behind the rules of some frames; behind the last of them it fails.
-abbrev pub Behind : Code → List Frame → List Step → Type 0
-Behind code [] rest = rest ≡ Back ∷ []
-Behind code (f ∷ fs) rest = Link (Behind code fs) code f fs rest
+abbrev pub Behind : Game → Code → List Frame → List Step → Type 0
+Behind g code [] rest = rest ≡ Back ∷ []
+Behind g code (f ∷ fs) rest = Link (Behind g code fs) g code f fs rest
 
 -- The code at hand stands for these steps.
-abbrev pub Reads : Code → List Op → List Frame → List Place → List Step → Type 0
-Reads code ops frames inner steps = Layer (Behind code frames) code ops (vars_of frames) (cut_of frames).tag inner steps
+abbrev pub Reads : Game → Code → List Op → List Frame → List Place → List Step → Type 0
+Reads g code ops frames inner steps = Layer (Behind g code frames) g code ops (vars_of frames) (cut_of frames).tag inner steps
 
 -- ## Choices
 
@@ -87,28 +102,28 @@ pub record Agrees (s : State) (r : Registers) : Type 0 where
   pub since : s.since ≤ s.vars
 
 -- A path goes on with the code at hand, inside a choice of these registers that takes so many cells.
-pub record WayIs (code : Code) (ops : List Op) (frames : List Frame) (inner : List Place) (r : Registers) (cells : ℕ) (path : Path) : Type 0 where
-  pub reads : Reads code ops frames inner path.steps
+pub record WayIs (g : Game) (code : Code) (ops : List Op) (frames : List Frame) (inner : List Place) (r : Registers) (cells : ℕ) (path : Path) : Type 0 where
+  pub reads : Reads g code ops frames inner path.steps
   pub registers : path.registers ≡ inside cells r
 
 -- The same at a block that keeps the choice first, with a further way; a list between (or) is work.
-pub record RetryIs (further : ℕ → Type 0) (code : Code) (b : ℕ) (frames : List Frame) (inner : List Place) (r : Registers) (path : Path)
+pub record RetryIs (further : ℕ → Type 0) (g : Game) (code : Code) (b : ℕ) (frames : List Frame) (inner : List Place) (r : Registers) (path : Path)
     (work : ℕ) : Type 0 where
   pub some : 1 ≤ work
   pub alt : ℕ
   pub ops : List Op
   pub block : block_at code b ≡ op.Retry alt ∷ ops
-  pub way : WayIs code ops frames inner r 10 path
+  pub way : WayIs g code ops frames inner r 10 path
   pub others : further alt
 
 -- Branches that are not begun go on at a block.
-abbrev pub GoesAt : Code → ℕ → List Frame → List Place → Registers → List Branch → Type 0
-GoesAt code b frames inner r [] = ⊥
-GoesAt code b frames inner r (Enter path work ∷ []) = WayIs code (block_at code b) frames inner r 0 path
-GoesAt code b frames inner r (Enter path work ∷ o ∷ os) = RetryIs (λ alt. GoesAt code alt frames inner r (o ∷ os)) code b frames inner r path work
-GoesAt code b frames inner r (Clash s work ∷ others) = ⊥
-GoesAt code b frames inner r (TakeOut t whole into path ∷ others) = ⊥
-GoesAt code b frames inner r (Finds place o args path ∷ others) = ⊥
+abbrev pub GoesAt : Game → Code → ℕ → List Frame → List Place → Registers → List Branch → Type 0
+GoesAt g code b frames inner r [] = ⊥
+GoesAt g code b frames inner r (Enter path work ∷ []) = WayIs g code (block_at code b) frames inner r 0 path
+GoesAt g code b frames inner r (Enter path work ∷ o ∷ os) = RetryIs (λ alt. GoesAt g code alt frames inner r (o ∷ os)) g code b frames inner r path work
+GoesAt g code b frames inner r (Clash s work ∷ others) = ⊥
+GoesAt g code b frames inner r (TakeOut t whole into path ∷ others) = ⊥
+GoesAt g code b frames inner r (Finds place o args path ∷ others) = ⊥
 
 -- Branches that are not begun are rules of a query, of which these are left from the first on that isn't excluded.
 pub record CallsAt (g : Game) (code : Code) (call : Call) (rules : List RuleCode) (frames : List Frame) (inner : List Place)
@@ -122,39 +137,51 @@ pub record CallsAt (g : Game) (code : Code) (call : Call) (rules : List RuleCode
   pub kind_is : kind ≡ Rules pred
   pub answered : List ℕ
   pub after : List Step
-  pub reads : Reads code (block_at code call.next) frames inner after
+  pub reads : Reads g code (block_at code call.next) frames inner after
   pub others_are : others ≡ rule_branches g pred call.args call.many (silents answered after) r (rule ∷ left)
   pub cut : call.cut.tag ≡ r.next_tag
   pub sound : IsSubstitution r.bound
 
--- The one branch that is not begun takes a gathering out, and goes on at a block.
-pub record TakesAt (g : Game) (code : Code) (b : ℕ) (frames : List Frame) (inner : List Place) (r : Registers) (others : List Branch) : Type 0 where
+-- The one branch that is not begun takes a gathering out for a value, and goes on at a block.
+pub record TakesAt (g : Game) (code : Code) (b : ℕ) (into : Value) (frames : List Frame) (inner : List Place) (r : Registers)
+    (others : List Branch) : Type 0 where
   pub path : Path
   pub ops : List Op
   pub whole : Gathered
-  pub into : Term
-  pub others_are : others ≡ TakeOut r.next_tag (whole_of whole) (value_of g.program (vars_of frames) into) path ∷ []
-  pub block : block_at code b ≡ op.TakeOut whole into ∷ ops
-  pub way : WayIs code ops frames inner r 0 path
+  pub term : Term
+  pub others_are : others ≡ TakeOut r.next_tag (whole_of whole) into path ∷ []
+  pub block : block_at code b ≡ op.TakeOut whole term ∷ ops
+  pub way : WayIs g code ops frames inner r 0 path
+
+-- Where the next branch takes a gathering out it is the newest.
+abbrev pub TakesNewest : List Branch → List Gathering → Type 0
+TakesNewest [] gs = Unit {0}
+TakesNewest (Enter path work ∷ bs) gs = Unit {0}
+TakesNewest (Clash r work ∷ bs) gs = Unit {0}
+TakesNewest (TakeOut t whole into path ∷ bs) gs = IsNewest t (tags_of gs)
+TakesNewest (Finds place o args path ∷ bs) gs = Unit {0}
 
 -- The branches that are not begun try these objects, and go on at a block.
-pub record TriesAt (code : Code) (f : Find) (objects : List ℕ) (frames : List Frame) (inner : List Place) (r : Registers) (others : List Branch) : Type 0 where
+pub record TriesAt (g : Game) (code : Code) (f : Find) (objects : List ℕ) (frames : List Frame) (inner : List Place) (r : Registers)
+    (others : List Branch) : Type 0 where
   pub goals : List Goal
   pub end : End
   pub rest : List Step
   pub stands : Stands code (block_at code f.next) (found_goals f.many goals) (found_end f.many goals end)
-  pub below : Behind code frames rest
+  pub below : Behind g code frames rest
+  pub gathers : GathersAt g end (vars_of frames) inner
   pub others_are : others ≡ object_branches f.place f.args f.many
       (goals_at (vars_of frames) (cut_of frames).tag goals ++ end_steps end (vars_of frames) (cut_of frames).tag inner rest) r objects
 
 -- What a choice goes on with is the branches that are not begun.
 abbrev pub WayOf : Game → Code → Way → List Frame → List Place → Substitution → Registers → Kind → List Branch → Type 0
-WayOf g code (Goes b) frames inner S r kind others = (kind ≡ Plain) × (GoesAt code b frames inner r others ⊎ TakesAt g code b frames inner r others)
+WayOf g code (Goes b) frames inner S r kind others = (kind ≡ Plain) × GoesAt g code b frames inner r others
+WayOf g code (Takes b into) frames inner S r kind others = (kind ≡ Plain) × TakesAt g code b into frames inner r others
 WayOf g code (Calls call rules) frames inner S r kind others = CallsAt g code call rules frames inner S r kind others
-WayOf g code (Tries f objects) frames inner S r kind others = (kind ≡ Plain) × TriesAt code f objects frames inner r others
+WayOf g code (Tries f objects) frames inner S r kind others = (kind ≡ Plain) × TriesAt g code f objects frames inner r others
 
 -- A machine's stoppable part is one around the search.
-pub record IsStop (code : Code) (s : Stop) (way : WayOn) : Type 0 where
+pub record IsStop (g : Game) (code : Code) (s : Stop) (way : WayOn) : Type 0 where
   pub registers : Registers
   pub path : Path
   pub work : ℕ
@@ -163,14 +190,14 @@ pub record IsStop (code : Code) (s : Stop) (way : WayOn) : Type 0 where
   pub stop_at : registers.stoppable ≡ s.place.outer
   pub tag : way.tag ≡ s.place.tag
   pub others : way.others ≡ Enter path work ∷ []
-  pub way_is : WayIs code (block_at code s.block) s.frames s.inner registers 0 path
+  pub way_is : WayIs g code (block_at code s.block) s.frames s.inner registers 0 path
   pub height : way.height ≡ s.height
 
 -- A machine's stoppable parts are those around the search.
-abbrev pub AreStops : Code → List Stop → List WayOn → Type 0
-AreStops code [] [] = Unit {0}
-AreStops code (s ∷ ss) (w ∷ ws) = IsStop code s w × AreStops code ss ws
-AreStops code ss ws = ⊥
+abbrev pub AreStops : Game → Code → List Stop → List WayOn → Type 0
+AreStops g code [] [] = Unit {0}
+AreStops g code (s ∷ ss) (w ∷ ws) = IsStop g code s w × AreStops g code ss ws
+AreStops g code ss ws = ⊥
 
 -- A machine's choice is one of the search.
 pub record IsChoice (g : Game) (code : Code) (m : Choice) (c : Live) : Type 0 where
@@ -179,7 +206,7 @@ pub record IsChoice (g : Game) (code : Code) (m : Choice) (c : Live) : Type 0 wh
   pub tag_at : registers.next_tag ≡ m.place.tag
   pub tag : c.tag ≡ m.place.tag
   pub way : WayOf g code m.way m.frames m.inner m.state.subst registers c.kind c.others
-  pub stops : AreStops code m.stops c.ways_on
+  pub stops : AreStops g code m.stops c.ways_on
   pub stop_at : registers.stoppable ≡ m.stop
   pub height : open_at c.others c.height ≡ m.height
 
@@ -217,7 +244,7 @@ pub record MirrorsWith (g : Game) (code : Code) (state : State) (next_tag : ℕ)
   pub tag : r.next_tag ≡ next_tag
   pub choices_are : AreChoices g code choices lives
   pub below : AreBelow next_tag choices
-  pub stops_are : AreStops code stops ways
+  pub stops_are : AreStops g code stops ways
   pub stop_is : r.stoppable ≡ stop
   pub gathered_is : w.gathered ≡ gathered
   pub outside_is : outside_of w ≡ outside
@@ -235,7 +262,7 @@ pub record RunsAt (code : Code) (m : Mid) (ps : List Print) (g : Game) (n : ℕ)
   pub mirrors : Mirrors g code m ps registers lives ways w
   pub answered : List ℕ
   pub steps : List Step
-  pub reads : Reads code m.ops m.frames m.inner steps
+  pub reads : Reads g code m.ops m.frames m.inner steps
   pub stands : StandsIn g lives ways (path_of (silents answered steps) registers) n w run
 
 -- A rule that isn't excluded begins, whose choice took so many cells.
@@ -252,7 +279,7 @@ pub record EntersAt (code : Code) (call : Call) (m : Mid) (ps : List Print) (g :
   pub body : Stands code ops rule.body Returns
   pub answered : List ℕ
   pub after : List Step
-  pub reads : Reads code (block_at code call.next) m.frames m.inner after
+  pub reads : Reads g code (block_at code call.next) m.frames m.inner after
   pub cut : call.cut.tag ≡ registers.next_tag
   pub admitted : is_excluded call.args registers rule ≡ false
   pub began : Began g lives ways (rule_branch g pred call.args call.many (silents answered after) registers cells rule) n w run
@@ -266,6 +293,7 @@ pub record ResumesAt (code : Code) (way : Way) (m : Mid) (ps : List Print) (g : 
   pub way_is : WayOf g code way m.frames m.inner m.state.subst registers live.kind live.others
   pub tag : live.tag ≡ m.next_tag
   pub height : open_at live.others live.height ≡ length m.gathered
+  pub newest : TakesNewest live.others m.gathered
   pub tried : Tried g live.kind live.tag live.height live.ways_on lives live.others n w run
 
 -- A failure inside its choices.

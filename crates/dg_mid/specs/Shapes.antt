@@ -11,7 +11,7 @@ use Rattle.dg_mid.specs.declared.code.BodyCode.{BodyCode}
 use Rattle.dg_mid.specs.declared.code.Code.{Code}
 use Rattle.dg_mid.specs.Code.{block_at}
 use Rattle.dg_mid.specs.Codes.{End, Returns, Commits, Refuses, Backs, Leaves, Keeps, Finishes, found_goals, found_end, Stands}
-use Rattle.dg_mid.specs.State.{Place, Frame, Call, Target, ToPred, ToBody, Find, Way, Goes, Calls, Tries, Stop, Choice, Mid, Status, Runs, Enters, Resumes, Fails, Ended}
+use Rattle.dg_mid.specs.State.{Place, Frame, Call, Target, ToPred, ToBody, Find, Way, Goes, Takes, Calls, Tries, Stop, Choice, Mid, Status, Runs, Enters, Resumes, Fails, Ended}
 use Rattle.dg_mid.specs.Potential.{pending, FramesTidy}
 
 -- The innermost stoppable part, where there is one, is older than a tag.
@@ -50,8 +50,6 @@ pub data BlockFits (code : Code) (chain r : List ℕ) (inner : List Place) : ℕ
   plain : (b : ℕ) → FitsCode code (block_at code b) chain r inner → BlockFits code chain r inner b
   retry : (b alt : ℕ) (ops : List Op) → block_at code b ≡ op.Retry alt ∷ ops → FitsCode code ops chain r inner →
       BlockFits code chain r inner alt → BlockFits code chain r inner b
-  takes : (b : ℕ) (whole : Gathered) (into : Term) (ops : List Op) → block_at code b ≡ op.TakeOut whole into ∷ ops →
-      FitsCode code ops chain r inner → BlockFits code chain r inner b
 
 -- The frames fit where the newest was asked with this chain.
 abbrev pub FramesFit : Code → List Frame → List ℕ → Type 0
@@ -149,6 +147,16 @@ pub record GoesFit (code : Code) (b : ℕ) (frames : List Frame) (inner : List P
   pub block : BlockFits code chain r inner b
   pub frames_are : FramesFit code frames r
 
+-- A choice that takes a gathering out goes on at a block that does, and fits.
+pub record TakesFit (code : Code) (b : ℕ) (frames : List Frame) (inner : List Place) (chain : List ℕ) : Type 0 where
+  pub r : List ℕ
+  pub whole : Gathered
+  pub into : Term
+  pub ops : List Op
+  pub block : block_at code b ≡ op.TakeOut whole into ∷ ops
+  pub code_is : FitsCode code ops chain r inner
+  pub frames_are : FramesFit code frames r
+
 -- A choice of objects goes on at code that fits.
 pub record TriesFit (code : Code) (f : Find) (frames : List Frame) (inner : List Place) (chain : List ℕ) : Type 0 where
   pub r : List ℕ
@@ -161,6 +169,7 @@ pub record TriesFit (code : Code) (f : Find) (frames : List Frame) (inner : List
 -- What a choice goes on with fits.
 abbrev pub WayFits : Code → Way → List Frame → List Place → List ℕ → Type 0
 WayFits code (Goes b) frames inner chain = GoesFit code b frames inner chain
+WayFits code (Takes b into) frames inner chain = TakesFit code b frames inner chain
 WayFits code (Calls call rules) frames inner chain = CallFits code call frames inner chain × RulesFit code rules
 WayFits code (Tries f objects) frames inner chain = TriesFit code f frames inner chain
 

@@ -11,11 +11,12 @@ use Rattle.dg_mid.specs.declared.code.RuleCode.{RuleCode}
 use Rattle.dg_mid.specs.declared.code.BodyCode.{BodyCode}
 
 -- A place to which a cut goes: how many choices were opened before it along the path, the height of the heap there, and the innermost stoppable part
--- there. Heights order places as numbers do, and are what an engine keeps.
+-- there; where a gathering begins there, the value that it gathers. Heights order places as numbers do, and are what an engine keeps.
 pub record Place : Type 0 where
   pub tag : ℕ
   pub height : ℕ
   pub outer : Option ℕ
+  pub gathers : Option Value
 
 -- A rule that is being run: the values of its variables, the place to which its (just) cuts, whether all its answers are wanted, the block behind its
 -- answer, and the inner constructs that are open there. The frames behind it are those of that block.
@@ -46,9 +47,11 @@ pub record Find : Type 0 where
   pub many : Bool
   pub next : ℕ
 
--- What a choice goes on with: a block, further rules of a query, of which the first isn't excluded, or further objects to be tried.
+-- What a choice goes on with: a block, the block that takes a gathering out, for a value, further rules of a query, of which the first isn't excluded,
+-- or further objects to be tried.
 pub data Way : Type 0 where
   Goes : (block : ℕ) → Way
+  Takes : (block : ℕ) → (into : Value) → Way
   Calls : (call : Call) → (rules : List RuleCode) → Way
   Tries : (find : Find) → (objects : List ℕ) → Way
 
@@ -113,12 +116,12 @@ vars_of (f ∷ fs) = f.vars
 
 -- The place to which (just) cuts there.
 abbrev pub cut_of : List Frame → Place
-cut_of [] = record { tag = 0; height = 0; outer = None }
+cut_of [] = record { tag = 0; height = 0; outer = None; gathers = None }
 cut_of (f ∷ fs) = f.cut
 
 -- The place of a choice that opens now.
 abbrev pub place_of : Mid → Place
-place_of m = record { tag = m.next_tag; height = m.state.heap; outer = m.stop }
+place_of m = record { tag = m.next_tag; height = m.state.heap; outer = m.stop; gathers = None }
 
 -- The inner constructs where an object is found: one more, where one answer is wanted.
 abbrev pub inner_for : Bool → Place → List Place → List Place

@@ -10,7 +10,7 @@ use Rattle.dg_meaning.specs.Values.{Closure, Value, Node, Values, value_of}
 use Rattle.dg_meaning.specs.Substitutions.{Substitution, walk, resolved}
 use Rattle.dg_meaning.specs.Unify.{Unified, Equations, solve}
 use Rattle.dg_meaning.specs.Copies.{values_of}
-use Rattle.dg_meaning.specs.World.{Game, Print, Gathering, gathered_size, gathered_at, gathered_with, gathered_without}
+use Rattle.dg_meaning.specs.World.{Game, Print, Gathering, gathered_size}
 use Rattle.dg_meaning.specs.Path.{Registers, Act, Goes, Tests, Unifies, Ends, Fails as FailsNow, Stops, Effect, Acts, Offers}
 use Rattle.dg_meaning.specs.Cells.{cells}
 use Rattle.dg_meaning.specs.Moves.{new_vars, made_since, numbers, takes_out, selects, selected as picked}
@@ -23,7 +23,7 @@ use Rattle.dg_mid.specs.declared.code.RuleCode.{RuleCode}
 use Rattle.dg_mid.specs.declared.code.BodyCode.{BodyCode}
 use Rattle.dg_mid.specs.declared.code.Code.{Code}
 use Rattle.dg_mid.specs.Code.{block_at, rules_at, selected}
-use Rattle.dg_mid.specs.State.{Place, Frame, Call, Target, ToPred, ToBody, Find, Way, Goes, Calls, Tries, Stop, Choice, Mid, Status, Runs, Enters, Resumes, Fails, Ended, vars_of, cut_of, place_of, inner_for, cut_choices, stop_to}
+use Rattle.dg_mid.specs.State.{Place, Frame, Call, Target, ToPred, ToBody, Find, Way, Goes, Takes, Calls, Tries, Stop, Choice, Mid, Status, Runs, Enters, Resumes, Fails, Ended, vars_of, cut_of, place_of, inner_for, cut_choices, stop_to}
 use Rattle.dg_mid.specs.Actions.{terms_of, whole_of, registers_of, world_of, act_at, asked_at, found_at, said_by, outside_in}
 
 -- What stays the same: the game, for what its program prints, captures and keeps, and for its dice, its code, and the limits.
@@ -256,18 +256,34 @@ abbrev pub stops : Setting → Option ℕ → Mid → Status
 stops g None m = Ended ending.Stopped
 stops g (Some t) m = stops_at g (stop_to t m.stops) m
 
--- The machine inside a gathering.
-abbrev pub gathering : ℕ → Mid → Mid
-gathering alt m = within (place_of m) (inside (Goes alt) 0 (record m { gathered = record { tag = m.next_tag; values = [] } ∷ m.gathered }))
+-- The machine with one more gathering, of nothing yet.
+abbrev pub with_gathering : Mid → Mid
+with_gathering m = record m { gathered = record { tag = m.next_tag; values = [] } ∷ m.gathered }
+
+-- The machine inside a gathering of a value, which is taken out for another.
+abbrev pub gathering : Value → Value → ℕ → Mid → Mid
+gathering v into alt m = within (record (place_of m) { gathers = Some v }) (inside (Takes alt into) 0 (with_gathering m))
 
 -- These gatherings are open, and it goes on, or the limit is met.
 abbrev pub gathers : Setting → List Gathering → Status → Status
 gathers g gs next = if nat_lt g.limits.aux (gathered_size gs) then Ended ending.AuxLimit else next
 
--- A value is gathered, and it fails.
-abbrev pub keeps : Setting → Value → List Place → Mid → Status
-keeps g v [] m = Fails m
-keeps g v (p ∷ ps) m = gathers g (gathered_with p.tag v m.gathered) (Fails (record m { inner = ps; gathered = gathered_with p.tag v m.gathered }))
+-- The gatherings with a value added to the newest.
+abbrev pub newest_with : Value → List Gathering → List Gathering
+newest_with v [] = []
+newest_with v (x ∷ xs) = record x { values = x.values ++ v ∷ [] } ∷ xs
+
+-- A value, if there is one, is gathered as it is now, and it fails.
+abbrev pub keeps_value : Setting → Option Value → Mid → Status
+keeps_value g None m = Fails m
+keeps_value g (Some v) m =
+    let gs = newest_with (resolved m.state.subst v) m.gathered in
+    gathers g gs (Fails (record m { gathered = gs }))
+
+-- So it is with the value of the newest inner construct.
+abbrev pub keeps : Setting → List Place → Mid → Status
+keeps g [] m = Fails m
+keeps g (p ∷ ps) m = keeps_value g p.gathers (record m { inner = ps })
 
 -- ## Instructions
 
@@ -347,14 +363,15 @@ does g (op.Try alt) m = charged g 10 m (Runs (within (place_of m) (inside (Goes 
 does g (op.Shield alt) m = charged g 10 m (Runs (shielded alt m))
 does g (op.Collect term into alt) m =
     let n = cells g.game.program (term ∷ into ∷ []) in
-    let m' = gathering alt (more n m) in
+    let v = value_of g.game.program (vars_of m.frames) in
+    let m' = gathering (v term) (v into) alt (more n m) in
     charged g n m (charged g 10 (more n m) (gathers g m'.gathered (Runs m')))
 does g (op.Retry alt) m = Fails m
 does g (op.TakeOut whole into) m = Fails m
 does g op.Commit m = commits m.inner m
 does g op.Refuse m = refuses m.inner m
 does g op.Leave m = leaves m.inner m
-does g (op.Keep term) m = keeps g (resolved m.state.subst (value_of g.game.program (vars_of m.frames) term)) m.inner m
+does g (op.Keep term) m = keeps g m.inner m
 does g op.Back m = Fails m
 does g op.Return m = returns g m.frames m
 does g (op.Goto b) m = Runs (record m { ops = block_at g.code b })
@@ -386,20 +403,23 @@ abbrev pub entered : Setting → Call → List Op → Mid → Status
 entered g call (op.Enter vars head ∷ ops) m = enter g call vars head (record m { ops = ops })
 entered g call ops m = Fails m
 
--- The machine without the gathering of the choice that goes on.
-abbrev pub without_gathering : Mid → Mid
-without_gathering m = record m { gathered = gathered_without m.next_tag m.gathered }
+-- Values that were gathered are taken out, for another.
+abbrev pub taken_out : List Print → Gathered → Value → List Value → Mid → Act
+taken_out ps whole into values m = takes_out (whole_of whole) into values (registers_of m) (world_of ps m)
 
--- What was gathered is taken out.
-abbrev pub taken_out : Setting → List Print → Gathered → Term → Mid → Act
-taken_out g ps whole into m =
-    let m' = passed (without_gathering m) in
-    takes_out (whole_of whole) (value_of g.game.program (vars_of m.frames) into) (gathered_at m.next_tag m.gathered) (registers_of m') (world_of ps m')
+-- The newest of these gatherings is taken out, for a value.
+abbrev pub takes_newest : Setting → Gathered → Value → List Gathering → Mid → Status
+takes_newest g whole into [] m = Fails m
+takes_newest g whole into (x ∷ xs) m = let m' = passed (record m { gathered = xs }) in done g (taken_out [] whole into x.values m') m'
+
+-- A choice that takes a gathering out goes on at this code.
+abbrev pub takes : Setting → Value → List Op → Mid → Status
+takes g into (op.TakeOut whole t ∷ ops) m = takes_newest g whole into m.gathered (record m { ops = ops })
+takes g into ops m = Fails m
 
 -- A choice goes on at this code; it is kept where the code begins with a further way.
 abbrev pub resumed : Setting → List Op → Mid → Status
 resumed g (op.Retry alt ∷ ops) m = charged g 10 m (Runs (inside (Goes alt) 0 (record m { ops = ops })))
-resumed g (op.TakeOut whole into ∷ ops) m = let m' = passed (without_gathering (record m { ops = ops })) in done g (taken_out g [] whole into m) m'
 resumed g ops m = Runs (passed (record m { ops = ops }))
 
 -- The machine at a block, inside the choice of further objects, where there are any.
@@ -420,6 +440,7 @@ tries g f (o ∷ os) m = charged g (trying_cells f os) m (done g (found_at [] f 
 -- A choice goes on.
 abbrev pub goes_on : Setting → Way → Mid → Status
 goes_on g (Goes b) m = resumed g (block_at g.code b) m
+goes_on g (Takes b into) m = takes g into (block_at g.code b) m
 goes_on g (Calls call rules) m = begins g call rules m
 goes_on g (Tries f objects) m = tries g f objects m
 

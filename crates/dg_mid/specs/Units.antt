@@ -7,17 +7,18 @@ use Rattle.dg_meaning.specs.Values.{Value, value_of}
 use Rattle.dg_meaning.specs.Substitutions.{Substitution, links, resolved}
 use Rattle.dg_meaning.specs.Unify.{Equations, looks}
 use Rattle.dg_meaning.specs.Letters.{copied}
-use Rattle.dg_meaning.specs.World.{Print}
+use Rattle.dg_meaning.specs.World.{Print, Gathering}
 use Rattle.dg_meaning.specs.Cells.{cells, writing}
 use Rattle.dg_meaning.specs.Moves.{unifying}
 use Rattle.dg_meaning.specs.Path.{Act, Goes as GoesNow, Unifies, Stops, Effect, Acts, Offers}
 use Rattle.dg_unify.specs.Store.{State}
 use Rattle.dg_mid.specs.declared.code.Op.{Op}
 use Rattle.dg_mid.specs.declared.code.Op.TheVariants as op
+use Rattle.dg_mid.specs.declared.code.Gathered.{Gathered}
 use Rattle.dg_mid.specs.Code.{block_at}
-use Rattle.dg_mid.specs.State.{Place, Frame, Call, Target, ToPred, ToBody, Find, Way, Goes, Calls, Tries, Stop, Choice, Mid, Status, Runs, Enters, Resumes, Fails, Ended, vars_of, cut_of, stop_to}
+use Rattle.dg_mid.specs.State.{Place, Frame, Call, Target, ToPred, ToBody, Find, Way, Goes, Takes, Calls, Tries, Stop, Choice, Mid, Status, Runs, Enters, Resumes, Fails, Ended, vars_of, cut_of, stop_to}
 use Rattle.dg_mid.specs.Actions.{terms_of, act_at, asked_at, found_at, world_by}
-use Rattle.dg_mid.specs.Step.{Setting, more, is_goal, new_frame, values, parameter, body_equations, asked_by, trying, taken_out}
+use Rattle.dg_mid.specs.Step.{Setting, more, passed, is_goal, new_frame, values, parameter, body_equations, asked_by, trying, taken_out}
 
 -- ## What the search counts
 
@@ -52,10 +53,15 @@ asking_work g a b m =
     writing (a ∷ option_terms b) + (1 + links m.state.subst (value_of g.game.program (vars_of m.frames) a))
     + query_work g (asked_by g a m) (values g m (option_terms b)) m.state.subst m.state.vars
 
--- The work of gathering a value inside these constructs: it is looked through and copied; without one nothing gathers.
-abbrev pub gathering_work : List Place → State → Value → ℕ
-gathering_work [] s v = 0
-gathering_work (p ∷ ps) s v = looks s.subst s.vars v + copied (resolved s.subst v)
+-- The work of gathering a value, if there is one: it is looked through and copied.
+abbrev pub keeping_work : Option Value → State → ℕ
+keeping_work None s = 0
+keeping_work (Some v) s = looks s.subst s.vars v + copied (resolved s.subst v)
+
+-- The same of the value of the newest of these constructs; without one nothing gathers.
+abbrev pub gathering_work : List Place → State → ℕ
+gathering_work [] s = 0
+gathering_work (p ∷ ps) s = keeping_work p.gathers s
 
 -- The work of an instruction, behind what was printed.
 abbrev pub effort : Setting → List Print → Op → Mid → ℕ
@@ -67,7 +73,7 @@ effort g ps (op.LastQuery a b many) m = asking_work g a b m
 effort g ps (op.Find place terms many next) m =
     writing terms + effect_work (asked_at g.game ps place (values g m terms) (more (cells g.game.program terms) m))
 effort g ps (op.Collect term into alt) m = writing (term ∷ into ∷ [])
-effort g ps (op.Keep term) m = gathering_work m.inner m.state (value_of g.game.program (vars_of m.frames) term)
+effort g ps (op.Keep term) m = gathering_work m.inner m.state
 effort g ps x m = 0
 
 -- The arguments of a call beside the terms of a rule's head.
@@ -79,11 +85,20 @@ abbrev pub entering : Setting → Call → List Op → Mid → ℕ
 entering g call (op.Enter vars head ∷ ops) m = 1 + writing head + unifying m.state.subst (head_equations g call vars head m)
 entering g call ops m = 0
 
--- The work of going on at a block: a list between (or) is one, and what was gathered is taken out.
-abbrev pub resuming : Setting → List Print → List Op → Mid → ℕ
-resuming g ps (op.Retry alt ∷ ops) m = 1
-resuming g ps (op.TakeOut whole into ∷ ops) m = act_work (taken_out g ps whole into m)
-resuming g ps ops m = 0
+-- The work of going on at a block: a list between (or) is one.
+abbrev pub resuming : List Op → ℕ
+resuming (op.Retry alt ∷ ops) = 1
+resuming ops = 0
+
+-- The work of taking the newest of these gatherings out, for a value.
+abbrev pub taking_newest : List Print → Gathered → Value → List Gathering → Mid → ℕ
+taking_newest ps whole into [] m = 0
+taking_newest ps whole into (x ∷ xs) m = act_work (taken_out ps whole into x.values (passed (record m { gathered = xs })))
+
+-- The same at a block.
+abbrev pub taking : List Print → Value → List Op → Mid → ℕ
+taking ps into (op.TakeOut whole t ∷ ops) m = taking_newest ps whole into m.gathered (record m { ops = ops })
+taking ps into ops m = 0
 
 -- ## What is paid by what was done before
 
@@ -141,7 +156,8 @@ units_of g ps (x ∷ ops) m = 1 + effort g ps x m + drops g x m
 
 -- What going on costs.
 abbrev pub units_by : Setting → List Print → Way → Mid → ℕ
-units_by g ps (Goes b) m = 1 + resuming g ps (block_at g.code b) m
+units_by g ps (Goes b) m = 1 + resuming (block_at g.code b)
+units_by g ps (Takes b into) m = 1 + taking ps into (block_at g.code b) m
 units_by g ps (Calls call rules) m = 1
 units_by g ps (Tries f objects) m = 1 + found_work g ps f objects m
 
@@ -165,7 +181,8 @@ earned_of g ps (x ∷ ops) m = one_if (is_goal x) + effort g ps x m
 
 -- What it counts of going on.
 abbrev pub earned_by : Setting → List Print → Way → Mid → ℕ
-earned_by g ps (Goes b) m = resuming g ps (block_at g.code b) m
+earned_by g ps (Goes b) m = resuming (block_at g.code b)
+earned_by g ps (Takes b into) m = taking ps into (block_at g.code b) m
 earned_by g ps (Calls call rules) m = 0
 earned_by g ps (Tries f objects) m = found_work g ps f objects m
 
@@ -188,6 +205,7 @@ selects_at ops = 0
 -- Where going on looks at rules.
 abbrev pub selects_on : Way → ℕ
 selects_on (Goes b) = 0
+selects_on (Takes b into) = 0
 selects_on (Calls call []) = 0
 selects_on (Calls call (r ∷ rs)) = 1
 selects_on (Tries f objects) = 0

@@ -8,7 +8,7 @@ use Rattle.dg_meaning.specs.Transcript.{line_of}
 use Rattle.dg_mid.specs.declared.code.Op.{Op}
 use Rattle.dg_mid.specs.declared.code.Op.TheVariants as op
 use Rattle.dg_mid.specs.Code.{block_at, rules_at}
-use Rattle.dg_mid.specs.State.{Goes, Calls, Tries, Status, Runs, Enters, Resumes, Fails, Ended}
+use Rattle.dg_mid.specs.State.{Goes, Takes, Calls, Tries, Status, Runs, Enters, Resumes, Fails, Ended}
 use Rattle.dg_mid.specs.Step.{Setting, setting, step, said, followed}
 use Rattle.dg_mid.specs.Units.{units, units_of}
 use Rattle.dg_mid.specs.Runs.{Point, after, closed_text}
@@ -61,6 +61,7 @@ units_never_none s ps (Runs m) on = some m.ops
     some (x ∷ ops) = omega arith
 units_never_none s ps (Enters call m) on = omega arith
 units_never_none s ps (Resumes (Goes b) m) on = omega arith
+units_never_none s ps (Resumes (Takes b into) m) on = omega arith
 units_never_none s ps (Resumes (Calls call rules) m) on = omega arith
 units_never_none s ps (Resumes (Tries f objects) m) on = omega arith
 units_never_none s ps (Fails m) on = omega arith

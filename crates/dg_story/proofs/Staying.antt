@@ -1,6 +1,6 @@
 -- Frames and choices stay where they are while memory changes elsewhere.
 use Rattle.std.proofs.Common.{◌≡◌, ℕ, ◌+◌, ◌<◌, ◌≤◌, List, [], ◌∷◌, refl, sym, ap, ◌∙◌, subst, arith}
-use Rattle.dg_mid.specs.State.{Frame, Way, Goes, Calls, Tries, Choice, cut_choices}
+use Rattle.dg_mid.specs.State.{Frame, Way, Goes, Takes, Calls, Tries, Choice, cut_choices}
 use Rattle.dg_story.specs.inside.Cells.{heap_at}
 use Rattle.dg_story.specs.inside.Represents.{Telling, choice_word, FrameIn, FramesIn, WayIn, ChoiceIn, ChoicesIn}
 
@@ -39,6 +39,7 @@ frames_stay t old new cs ds top higher word (f ∷ fs) same le cuts h =
 pub way_stays : (t : Telling) (old new : ℕ → ℕ) (cs : List Choice) (a b a' b' : ℕ) (way : Way) → a' ≡ a → b' ≡ b → WayIn t old cs a b way → WayIn t new cs a' b' way
 way_stays t old new cs a b a' b' (Calls call rules) e f h = record { number = h.number; rules_are = h.rules_are; way_is = e ∙ h.way_is; back_is = f ∙ h.back_is; cut_is = h.cut_is }
 way_stays t old new cs a b a' b' (Goes block) e f h = absurd h
+way_stays t old new cs a b a' b' (Takes block into) e f h = absurd h
 way_stays t old new cs a b a' b' (Tries find objects) e f h = absurd h
 
 pub choices_stay : (t : Telling) (old new : ℕ → ℕ) (top higher : ℕ) (cs : List Choice) → SameBelow old new top → top ≤ higher → ChoicesIn t old top cs → ChoicesIn t new higher cs

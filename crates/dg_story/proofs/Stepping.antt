@@ -17,7 +17,7 @@ use Rattle.dg_mid.specs.declared.code.Op.{Op}
 use Rattle.dg_mid.specs.declared.code.Op.TheVariants as op
 use Rattle.dg_mid.specs.declared.code.RuleCode.{RuleCode}
 use Rattle.dg_mid.specs.Code.{block_at, rules_at, selected}
-use Rattle.dg_mid.specs.State.{Place, Frame, Call, ToPred, Way, Goes, Calls, Tries, Choice, Mid, Status, Runs, Enters, Resumes, Fails, Ended, cut_choices}
+use Rattle.dg_mid.specs.State.{Place, Frame, Call, ToPred, Way, Goes, Takes, Calls, Tries, Choice, Mid, Status, Runs, Enters, Resumes, Fails, Ended, cut_choices}
 use Rattle.dg_mid.specs.Actions.{world_of, outside_in}
 use Rattle.dg_mid.specs.Potential.{IsOver}
 use Rattle.dg_mid.specs.Step.{Setting, more, passed, inside, at_rule, new_choice, new_frame, trail_more, charged, unified, bound, first_of, walked, enters as enters_by, begins, asks as asks_by, asks_last, last as last_by, returned, returns as returns_to, runs, enter, entered, goes_on, goes_back as back_to, step, call_of, said, said_in, said_to}
@@ -172,6 +172,7 @@ module _ (program : CoreProgram) (s : Setting) (rules : (pred : ℕ) → FitsHea
   goes_so : (way : Way) (m : Mid) → PlainWay program s.code way → StepsTo s (Resumes way m) [] (goes_on s way m)
   goes_so (Calls call rs) m w = resumes_so call rs m w.0.args w.1 w.2
   goes_so (Goes b) m w = absurd w
+  goes_so (Takes b into) m w = absurd w
   goes_so (Tries f objects) m w = absurd w
 
   -- Each step of plain code is one of these.
