@@ -145,6 +145,7 @@ impl Gather {
         ensures saved { (ms : List Saved) → B.saves store.old ms → B.saves store.new ms }
         ensures ok { OnOk result (self.new ≡ record self.old { rows = added (cells_of (value_at (B.meaning store.old) value)) self.old.rows }) }
         ensures formed { OnOk result (0 < length self.old.rows → IsFormed (value_at (B.meaning store.old) value)) }
+        ensures fits { OnOk result (gathered_size (added (cells_of (value_at (B.meaning store.old) value)) self.old.rows) ≤ self.old.aux) }
         ensures err { OnErr result (self.new ≡ self.old) }
         ensures full { OnErr result (self.old.aux < gathered_size (added (cells_of (value_at (B.meaning store.old) value)) self.old.rows)) }
     {

@@ -1,5 +1,5 @@
 -- What is gathered, in rows and in a world.
-use Rattle.std.proofs.Common.{◌≡◌, ℕ, suc, ◌+◌, ◌<◌, List, [], ◌∷◌, ◌++◌, refl, sym, ap, ◌∙◌, subst, arith, length, map, append_assoc}
+use Rattle.std.proofs.Common.{◌≡◌, ℕ, suc, ◌+◌, ◌<◌, ◌≤◌, List, [], ◌∷◌, ◌++◌, refl, sym, ap, ◌∙◌, subst, arith, length, map, append_assoc}
 use Rattle.std.specs.Prelude.{eqb}
 use Rattle.std.specs.List.{All, flat_map, sum_by}
 use Rattle.std.proofs.lemmas.Bool.{cond-true, eq-eqb}
@@ -51,8 +51,8 @@ more_rows t v rows (x ∷ gs) new is = ap (added (cells_of v)) is ∙ ap (λ l. 
 
 -- ## A gathering is opened
 
-pub opens_one : (old : Outside) (gathered : Gathered) → gathered ≡ record old.gathered { rows = [] ∷ old.gathered.rows } → OpensOne old (record old { gathered = gathered })
-opens_one old gathered is = record {
+pub opens_one : (old : Outside) (gathered : Gathered) → gathered ≡ record old.gathered { rows = [] ∷ old.gathered.rows } → size_of_rows ([] ∷ old.gathered.rows) ≤ old.gathered.aux → OpensOne old (record old { gathered = gathered })
+opens_one old gathered is fits = record {
   is = ap (λ (x : Gathered). record old { gathered = x }) is;
   stands = λ g w tag now. (
     now.0,
@@ -61,6 +61,10 @@ opens_one old gathered is = record {
     now.2,
     now.3,
   );
+  fits = λ g w tag now.
+      let new : Gathering = record { tag = tag; values = [] } in
+      let rows : [] ∷ old.gathered.rows ≡ map row_of (new ∷ w.gathered) = ap (λ l. [] ∷ l) now.1.0 in
+      omega (arith, fits, ap size_of_rows rows, sizes_same (new ∷ w.gathered));
 }
 
 pub opens_too_much : (out : Outside) → out.gathered.aux < size_of_rows ([] ∷ out.gathered.rows) → OpensTooMuch out
@@ -74,8 +78,8 @@ opens_too_much out h = record {
 
 -- ## A value is gathered
 
-pub gathers : (v : Value) (old : Outside) (gathered : Gathered) → gathered ≡ record old.gathered { rows = added (cells_of v) old.gathered.rows } → (0 < length old.gathered.rows → IsFormed v) → Gathers v old (record old { gathered = gathered })
-gathers v old gathered is formed = record {
+pub gathers : (v : Value) (old : Outside) (gathered : Gathered) → gathered ≡ record old.gathered { rows = added (cells_of v) old.gathered.rows } → (0 < length old.gathered.rows → IsFormed v) → size_of_rows (added (cells_of v) old.gathered.rows) ≤ old.gathered.aux → Gathers v old (record old { gathered = gathered })
+gathers v old gathered is formed fits = record {
   is = ap (λ (x : Gathered). record old { gathered = x }) is;
   stands = λ g w tag now newest. (
     now.0,
@@ -83,6 +87,7 @@ gathers v old gathered is formed = record {
     now.2,
     now.3,
   );
+  fits = λ g w tag now newest. omega (arith, fits, ap size_of_rows (more_rows tag v old.gathered.rows w.gathered newest now.1.0), sizes_same (gathered_with tag v w.gathered));
 }
 
 pub gathers_too_much : (v : Value) (out : Outside) → out.gathered.aux < size_of_rows (added (cells_of v) out.gathered.rows) → GathersTooMuch v out

@@ -1,5 +1,5 @@
 -- What an engine has outside its store, and what of a world that stands for. Hold it against docs/LANGUAGE.md, "The world", "Choosing" and "Limits".
-use Rattle.std.specs.Prelude.{ℕ, ◌≡◌, ◌+◌, ◌-◌, ◌^◌, ◌<◌, List, [], ◌∷◌, length, map, drop, slice_set, replicate}
+use Rattle.std.specs.Prelude.{ℕ, ◌≡◌, ◌+◌, ◌-◌, ◌^◌, ◌<◌, ◌≤◌, List, [], ◌∷◌, length, map, drop, slice_set, replicate}
 use Rattle.std.specs.List.{All, flat_map}
 use Rattle.dg_base.specs.declared.cells.Cell.{Cell}
 use Rattle.dg_base.specs.declared.program.CoreProgram.{CoreProgram}
@@ -94,10 +94,12 @@ LacksAtStart program keep other = ⊥
 
 -- ## Gatherings
 
--- A gathering was opened, in which nothing is gathered, and it stands for a world in which it is open.
+-- A gathering was opened, in which nothing is gathered, and it stands for a world in which it is open; no more is gathered there than may be.
 pub record OpensOne (old new : Outside) : Type 0 where
   pub is : new ≡ record old { gathered = record old.gathered { rows = [] ∷ old.gathered.rows } }
   pub stands : (g : Game) → (w : World) → (tag : ℕ) → InWorld old g w → InWorld new g (opened tag w)
+  pub fits : (g : Game) → (w : World) → (tag : ℕ) → InWorld old g w →
+      gathered_size (record { tag = tag; values = [] } ∷ w.gathered) ≤ old.gathered.aux
 
 -- With one more gathering open more would be gathered than may be, here and in the world.
 pub record OpensTooMuch (out : Outside) : Type 0 where
@@ -105,10 +107,12 @@ pub record OpensTooMuch (out : Outside) : Type 0 where
   pub stands : (g : Game) → (w : World) → (tag : ℕ) → InWorld out g w →
       out.gathered.aux < gathered_size (record { tag = tag; values = [] } ∷ w.gathered)
 
--- A value was gathered in the newest gathering, and it stands for a world in which it was.
+-- A value was gathered in the newest gathering, and it stands for a world in which it was; no more is gathered there than may be.
 pub record Gathers (v : Value) (old new : Outside) : Type 0 where
   pub is : new ≡ record old { gathered = record old.gathered { rows = added (cells_of v) old.gathered.rows } }
   pub stands : (g : Game) → (w : World) → (tag : ℕ) → InWorld old g w → IsNewest tag (tags_of w.gathered) → InWorld new g (kept tag v w)
+  pub fits : (g : Game) → (w : World) → (tag : ℕ) → InWorld old g w → IsNewest tag (tags_of w.gathered) →
+      gathered_size (gathered_with tag v w.gathered) ≤ old.gathered.aux
 
 -- With this value more would be gathered than may be, here and in the world.
 pub record GathersTooMuch (v : Value) (out : Outside) : Type 0 where

@@ -66,3 +66,16 @@ returns-clause-ok g c =
     let some : 0 < length (cut (reverse starts) cells) = omega (arith, nonempty, length-rows starts cells) in
     let grown = adds (reverse starts) cells v c.self.invariant.0 some in
     ap (λ l. record { rows = l; aux = c.self.inside.aux }) (ap (λ l. cut (reverse starts) l) whole ∙ grown.rows) ∙ ap (λ (x : Gathered). record x { rows = added v x.rows }) c.self.view_is
+
+pub returns-clause-fits : goal.returns-clause-fits
+returns-clause-fits g c =
+    let starts = c.self.inside.starts.items in
+    let cells = c.self.inside.cells.items in
+    let v = cells_of (value_at (g.B.Bindings.meaning c.args.store.now) c.args.value) in
+    let nonempty : 0 < length starts = search rules in
+    let rows = ap (λ (x : Gathered). length x.rows) c.self.view_is in
+    let some : 0 < length c.args.self.now.rows = omega (arith, nonempty, rows, length-rows starts cells) in
+    let size = ap (λ (x : Gathered). gathered_size x.rows) c.self.view_is in
+    let aux = ap (λ (x : Gathered). x.aux) c.self.view_is in
+    let count = length-take-le c.in-Some.count c.write_into.new.row.items c.in-Some.ensures.written.0 in
+    omega (arith, size, aux, count, ap length c.in-Some.ensures.written.1, c.room.ensures, c.if-count-room.false, size_added v c.args.self.now.rows some)
