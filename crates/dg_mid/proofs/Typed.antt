@@ -247,6 +247,57 @@ ends_nothing : (xs : List ℕ) → EndsWith [] xs → xs ≡ []
 ends_nothing [] h = refl
 ends_nothing (x ∷ xs) h = absurd (omega (arith, ap length h.is, length-append h.taken (x ∷ xs)))
 
+-- ## Where the code at hand leads
+
+module _ (s : Setting) (E : Ending → Type 0) (m : Mid) (rest : List ℕ) where
+  abbrev behind_ops : List Op → List ℕ
+  behind_ops ops = if reads_in s m ops then behind_first rest else rest
+
+  -- what the first of some instructions may end with
+  abbrev OpEnds : List Op → Type 0
+  OpEnds (op.Do a ∷ ops) =
+      let k = cells s.game.program (terms_of a) in overfills s m.state.heap k ≡ false → MayEnd E (behind_ops (op.Do a ∷ ops)) a (more k (record m { ops = ops }))
+  OpEnds (op.Done ∷ ops) = E ending.Done
+  OpEnds ops = Unit {0}
+
+  act_left : (a : Action) (ops : List Op) (k : ℕ) → m.outside.typed ≡ rest → overfills s m.state.heap (cells s.game.program (terms_of a)) ≡ false → LeftBy E (behind_ops (op.Do a ∷ ops)) a (more k (record m { ops = ops }))
+  act_left (action.Input t) ops k is room = ap behind_first is ∙ sym (ap (λ b. if not b then behind_first rest else rest) room)
+  act_left a ops k is room = is
+
+  ops_lead : (ops : List Op) → m.outside.typed ≡ rest → OpEnds ops → Running (Typed (behind_ops ops)) E s ops m
+  ops_lead [] is x = is
+  ops_lead (op.Do a ∷ ops) is x = λ room.
+      let k = cells s.game.program (terms_of a) in
+      action_leaves E (behind_ops (op.Do a ∷ ops)) s.game a (more k (record m { ops = ops })) (x room) (act_left a ops k is room)
+  ops_lead (op.Done ∷ ops) is x = x
+  ops_lead (o ∷ ops) is x = is
+
+-- ## What a machine has left, whatever its code
+
+abbrev Anything : Ending → Type 0
+Anything e = Unit {0}
+
+any_ends : (s : Setting) (m : Mid) (rest : List ℕ) (ops : List Op) → OpEnds s Anything m rest ops
+any_ends s m rest (op.Do (action.Input t) ∷ ops) = λ room none. tt
+any_ends s m rest (op.Do action.Stop ∷ ops) = λ room none. tt
+any_ends s m rest (op.Do a ∷ ops) = λ room. tt
+any_ends s m rest ops = tt
+
+all_limits : (rest : List ℕ) → AtLimits (Typed rest) Anything
+all_limits rest = record { heap = tt; trail = tt; aux = tt; keep = tt }
+
+step_stays : (s : Setting) (now : Status) (rest : List ℕ) → Leads (Typed rest) Anything now → Leads (Typed (left_behind s now rest)) Anything (step s now)
+step_stays s (Runs m) rest is = let left = left_behind s (Runs m) rest in leads_runs (Typed left) Anything s (all_limits left) m.ops m (ops_lead s Anything m rest m.ops is (any_ends s m rest m.ops))
+step_stays s (Enters call m) rest is = leads_entered (Typed rest) Anything s (all_limits rest) call m.ops m is
+step_stays s (Resumes way m) rest is = leads_goes_on (Typed rest) Anything s (all_limits rest) way m is
+step_stays s (Fails m) rest is = leads_back (Typed rest) Anything s (all_limits rest) m.choices m is (λ none. tt)
+step_stays s (Ended e) rest is = tt
+
+-- after so many steps a machine that goes on has what is left
+pub typed_stays : (s : Setting) (typed : List ℕ) (k : ℕ) → Leads (Typed (left_after s typed k)) Anything (after s typed k).now
+typed_stays s typed zero = refl
+typed_stays s typed (suc k) = step_stays s (after s typed k).now (left_after s typed k) (typed_stays s typed k)
+
 module _ (g : Game) (code : Code) (limits : Limits) (codes : Codes g.program code) (typed : List ℕ) where
   abbrev set : Setting
   set = setting g code limits
@@ -268,36 +319,26 @@ module _ (g : Game) (code : Code) (limits : Limits) (codes : Codes g.program cod
 
   -- where the code at hand leads
   module _ (m : Mid) (rest : List ℕ) (goals : ℕ) (is : m.outside.typed ≡ rest) where
-    abbrev behind_ops : List Op → List ℕ
-    behind_ops ops = if reads_in set m ops then behind_first rest else rest
+    abbrev left_by : List Op → List ℕ
+    left_by ops = if reads_in set m ops then behind_first rest else rest
 
     -- no less is left than the run leaves
-    ops_until : (ops : List Op) (w : World) (r : Run) → OpComes g m w 0 r ops → EndsWith rest r.world.typed → EndsWith (behind_ops ops) r.world.typed
+    ops_until : (ops : List Op) (w : World) (r : Run) → OpComes g m w 0 r ops → EndsWith rest r.world.typed → EndsWith (left_by ops) r.world.typed
     ops_until (op.Do (action.Input t) ∷ ops) w r c h =
         cond_both (not (overfills set m.state.heap (cells g.program (t ∷ [])))) (behind_first rest) rest (λ l. EndsWith l r.world.typed)
         (λ e. subst (λ l. EndsWith (behind_first l) r.world.typed) is (takes_on g m t 0 r c)) (λ e. h)
     ops_until ops w r c h = h
 
-    act_leads : (a : Action) (ops : List Op) (k : ℕ) → ((n : ℕ) → TakesAct g m a n (run g typed (goals + n))) → overfills set m.state.heap (cells g.program (terms_of a)) ≡ false →
-        let left = behind_ops (op.Do a ∷ ops) in let m' = more k (record m { ops = ops }) in MayEnd (EndLeft goals left) left a m' × LeftBy (EndLeft goals left) left a m'
-    act_leads (action.Input t) ops k c room =
-        let left : behind_ops (op.Do (action.Input t) ∷ ops) ≡ behind_first rest = ap (λ b. if not b then behind_first rest else rest) room in (
-          λ none n. ends_nothing _ (subst (λ l. EndsWith (behind_first l) (run g typed (goals + n)).world.typed) none (takes_on g m t n (run g typed (goals + n)) (c n))) ∙ sym (left ∙ ap behind_first (sym is ∙ none)),
-          ap behind_first is ∙ sym left,
-        )
-    act_leads action.Stop ops k c room = (λ none n. stop_leaves g (c n).lives (c n).ways n (c n).world (run g typed (goals + n)) rest (c n).registers.stoppable ((c n).stop_is ∙ none) ((c n).typed ∙ is) (c n).comes, is)
-    act_leads action.Quit ops k c room = (λ n. finished_leaves n (c n).world _ (run g typed (goals + n)) rest ((c n).typed ∙ is) (c n).comes, is)
-    act_leads a ops k c room = (tt, is)
-
-    ops_lead : (ops : List Op) → ((n : ℕ) → Arrives g m ops n (run g typed (goals + n))) → Running (Typed (behind_ops ops)) (EndLeft goals (behind_ops ops)) set ops m
-    ops_lead [] c = is
-    ops_lead (op.Do a ∷ ops) c = λ room.
-        let k = cells g.program (terms_of a) in
-        let left = behind_ops (op.Do a ∷ ops) in
-        let both = act_leads a ops k (λ n. (c n).comes) room in
-        action_leaves (EndLeft goals left) left g a (more k (record m { ops = ops })) both.0 both.1
-    ops_lead (op.Done ∷ ops) c = λ n. finished_leaves n (c n).world _ (run g typed (goals + n)) rest ((c n).typed ∙ is) (c n).comes
-    ops_lead (x ∷ ops) c = is
+    ops_end : (ops : List Op) → ((n : ℕ) → Arrives g m ops n (run g typed (goals + n))) → OpEnds set (EndLeft goals (left_by ops)) m rest ops
+    ops_end (op.Do (action.Input t) ∷ ops) c = λ room none n.
+        let left : left_by (op.Do (action.Input t) ∷ ops) ≡ behind_first rest = ap (λ b. if not b then behind_first rest else rest) room in
+        ends_nothing _ (subst (λ l. EndsWith (behind_first l) (run g typed (goals + n)).world.typed) none (takes_on g m t n (run g typed (goals + n)) (c n).comes)) ∙ sym (left ∙ ap behind_first (sym is ∙ none))
+    ops_end (op.Do action.Stop ∷ ops) c = λ room none n.
+        let t = (c n).comes in stop_leaves g t.lives t.ways n t.world (run g typed (goals + n)) rest t.registers.stoppable (t.stop_is ∙ none) (t.typed ∙ is) t.comes
+    ops_end (op.Do action.Quit ∷ ops) c = λ room n. let t = (c n).comes in finished_leaves n t.world _ (run g typed (goals + n)) rest (t.typed ∙ is) t.comes
+    ops_end (op.Do a ∷ ops) c = λ room. tt
+    ops_end (op.Done ∷ ops) c = λ n. finished_leaves n (c n).world _ (run g typed (goals + n)) rest ((c n).typed ∙ is) (c n).comes
+    ops_end ops c = tt
 
   -- each run comes from in front of a step
   there : (paid goals : ℕ) (ps : List Print) (now : Status) (b : Bool) → ((n : ℕ) → Comes paid ps set now g n (run g typed (goals + n))) → (n : ℕ) → Comes paid ps set now g (before b n) (run g typed (one_if b + goals + n))
@@ -320,7 +361,7 @@ module _ (g : Game) (code : Code) (limits : Limits) (codes : Codes g.program cod
       let left = left_behind set (Runs m) rest in
       let come = λ (n : ℕ). arrives code m p.prints g n (c n).world (run g typed (goals + n)) (c n).at in
       let grown : EndsWith rest (run g typed (goals + 0)).world.typed = subst (λ l. EndsWith l (run g typed (goals + 0)).world.typed) (typed_at (c 0).world m.outside (c 0).at.mirrors.outside_is ∙ is) (at_grows set (Runs m) p.prints g (before (at_goal m.ops) 0) (c 0).world (run g typed (goals + 0)) (c 0).at).typed in
-      leads_runs (Typed left) (EndLeft goals left) set (no_more goals left (ops_until m rest goals is m.ops (come 0).world (run g typed (goals + 0)) (come 0).comes grown)) m.ops m (ops_lead m rest goals is m.ops come)
+      leads_runs (Typed left) (EndLeft goals left) set (no_more goals left (ops_until m rest goals is m.ops (come 0).world (run g typed (goals + 0)) (come 0).comes grown)) m.ops m (ops_lead set (EndLeft goals left) m rest m.ops is (ops_end m rest goals is m.ops come))
   left_on p rest (Enters call m) c is =
       let goals = 0 + p.goals in
       let grown : EndsWith rest (run g typed (goals + 0)).world.typed = subst (λ l. EndsWith l (run g typed (goals + 0)).world.typed) (typed_at (c 0).world m.outside (c 0).at.mirrors.outside_is ∙ is) (at_grows set (Enters call m) p.prints g 0 (c 0).world (run g typed (goals + 0)) (c 0).at).typed in
