@@ -31,7 +31,8 @@ use Rattle.dg_unify.specs.declared.bindings.Full.TheVariants as full
 use Rattle.dg_unify.specs.declared.list.ListBindings.{ListBindings}
 use Rattle.dg_interp.specs.declared.engine.Engine.{Engine}
 use Rattle.dg_interp.specs.Frames.{values_in}
-use Rattle.dg_terms.specs.Terms.{Overflows, BothMade}
+use Rattle.dg_terms.specs.Terms.{BothMade}
+use Rattle.dg_texts.specs.Spelling.{TooMany}
 use Rattle.dg_interp.specs.Engine.{store_in, KeepsPlaces, steps_of, IsReady, TakesAt, FailsAt, FullAt, Leads, Branches}
 use Rattle.dg_interp.specs.Giving.{UnifiesAt}
 use Rattle.dg_meaning.specs.Engines.{game}
@@ -75,7 +76,7 @@ module _ (v : Value) (into : Ref) (old : Engine) where
     made_later = grows_on w bound_in run.world (begun_grows bound (unifying behind.bound ((told s into, v) ∷ [])) w) made_grows
 
   -- the heap is full where it is made
-  pub made_full : (e : Full) → Overflows (copy_cells v) s e → FullAt (MakesAt v into old) s e
+  pub made_full : (e : Full) → TooMany (copy_cells v) s e → FullAt (MakesAt v into old) s e
   made_full full.Heap h = λ g n w run st. let grows = (made_grows g n w run st).meters in omega (arith, h, grows.heap, st.at.agrees.heap)
   made_full full.Trail h = absurd h
   made_full full.OutOfMemory h = tt

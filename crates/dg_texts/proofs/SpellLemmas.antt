@@ -1,41 +1,31 @@
 -- Words and numbers by their letters.
 use Rattle.std.proofs.Common.{◌≡◌, ℕ, zero, suc, ◌+◌, ◌<◌, ◌≤◌, Bool, true, false, cond, List, [], ◌∷◌, ◌++◌, Option, Some, None, inl, inr, refl, sym, ap, ◌∙◌, subst, arith, length, append_assoc, append-nil}
-use Rattle.std.specs.Prelude.{◌*◌, ◌-◌, ◌↔◌, map, take, drop, get_or, slice_get, Result, Ok, Err, MatchResult, eqb, count_by, encode_utf8_all, option_map, IfSome}
+use Rattle.std.specs.Prelude.{take, get_or, slice_get, eqb, count_by, encode_utf8_all, option_map, IfSome}
 use Rattle.std.specs.List.{All}
 use Rattle.std.specs.Str.{chars, IsAscii, all_scalars}
 use Rattle.std.specs.Fmt.{decimal}
-use Rattle.std.proofs.Math.Seq.{drop-append_seam, take-append_seam}
-use Rattle.std.proofs.lemmas.List.{map-append, length-append, take_more, take_all}
+use Rattle.std.proofs.lemmas.List.{length-append, take_more, take_all}
 use Rattle.std.proofs.lemmas.List.Elements.{All-append, All-nil, All-cons, All-head, All-tail}
-use Rattle.std.proofs.lemmas.List.Sums.{sum_by-append}
 use Rattle.std.proofs.lemmas.Str.{chars-encodes, chars-nil, encodes-IsAscii, encodes-append}
 use Rattle.std.proofs.lemmas.Fmt.{IsAscii-decimal}
-use Rattle.std.proofs.lemmas.Bool.{le-leb, lt-leb, cases_lt}
+use Rattle.std.proofs.lemmas.Bool.{le-leb, lt-leb}
 use Rattle.std.proofs.lemmas.Option.{slice_get_within, get_or_from_slice_get, slice_get_cases}
-use Rattle.std.proofs.Math.Utf8.{encode}
 use Rattle.dg_base.specs.Sound.{IsName, IsPrintable}
-use Rattle.dg_meaning.specs.Values.{Label, Num, Word, Unknown, Object, Nil, Pair, Closure, Value, Var, Node, Values, NoMore, leaf, pair}
+use Rattle.dg_meaning.specs.Values.{Label, Num, Word, Unknown, Object, Nil, Pair, Closure, Value, Var, Node, Values, NoMore, pair}
 use Rattle.dg_meaning.specs.Substitutions.{resolved, all_resolved, IsSubstitution}
 use Rattle.dg_meaning.proofs.Walks.{resolved_node, resolved_unbound, walked}
-use Rattle.dg_meaning.specs.Copies.{copy_cells, list_of}
-use Rattle.dg_meaning.specs.Words.{is_alone, if_spelled, spellings_behind, spellings_of, spelled_value, each_alone, letters_in_word, letters_in_list, followed_by, few_enough, joined_letters}
-use Rattle.dg_unify.specs.Store.{Store, Kept, Made, Holds, Shows, told}
+use Rattle.dg_meaning.specs.Words.{is_alone, if_spelled, spellings_behind, spellings_of, letters_in_word, letters_in_list, followed_by, few_enough, joined_letters}
+use Rattle.dg_unify.specs.Store.{Store, Shows, told}
 use Rattle.dg_unify.specs.declared.bindings.Ref.{Ref}
-use Rattle.dg_unify.specs.declared.bindings.Full.{Full}
-use Rattle.dg_unify.specs.declared.bindings.Full.TheVariants as full
 use Rattle.dg_unify.specs.declared.bindings.View.{View}
 use Rattle.dg_unify.specs.declared.bindings.View.TheVariants as view
 use Rattle.dg_base.specs.declared.cells.Simple.TheVariants as simple
-use Rattle.dg_unify.proofs.StoreLemmas.{told_is, walked_to}
+use Rattle.dg_unify.proofs.StoreLemmas.{walked_to}
 use Rattle.dg_words.specs.Letters.{AreSmall}
-use Rattle.dg_words.specs.Cutting.{between, IsWord}
 use Rattle.dg_words.specs.Chars.{begins}
-use Rattle.dg_words.proofs.CharLemmas.{counted, is_within}
-use Rattle.dg_words.proofs.WordLemmas.{words_again}
+use Rattle.dg_words.proofs.CharLemmas.{counted}
 use Rattle.dg_texts.specs.Printing.{value_at, shows_nil}
-use Rattle.dg_texts.specs.Spelling.{IsShort, JoinsWord, IsJoined, made_cells, MakesValue, WritesWords}
-use Rattle.dg_terms.specs.Terms.{Overflows, Written, listed}
-use Rattle.dg_terms.proofs.TermLemmas.{charged_none, charged_on, overflows_later, all_kept, map_kept, appended_none, appended_drop, appended_length}
+use Rattle.dg_texts.specs.Spelling.{IsShort, JoinsWord, IsJoined}
 
 -- ## Letters
 
@@ -155,97 +145,6 @@ short_each (w ∷ ws) h = let a = All-head (ShortIn 200) w ws h in All-cons IsSh
 pub words_short : (letters : List ℕ) → IsShort letters → All IsShort (spellings_of letters)
 words_short letters h = short_each (spellings_of letters) (short_behind 200 [] letters (omega (arith, h.few)) (All-nil (λ c. c < 65536)) h.small)
 
--- ## Values that are written
-
-pub written_none : (s : Store) (xs : List Ref) → s.state.heap ≤ s.heap_limit → Written 0 [] s s xs xs
-written_none s xs le = record { charged = record { fits = omega (arith, le); state = ap (λ h. record s.state { heap = h }) (omega arith) }; appended = appended_none s xs }
-
-pub written_on : (m n k : ℕ) (vs us ws : List Value) (s t u : Store) (xs ys zs : List Ref) → k ≡ m + n → ws ≡ vs ++ us → Kept s t → Kept t u → Written m vs s t xs ys → Written n us t u ys zs → Written k ws s u xs zs
-written_on m n k vs us ws s t u xs ys zs e same k1 k2 a b = record {
-  charged = charged_on m n k s t u e k1 a.charged b.charged;
-  appended = record {
-    made = a.appended.made ++ b.appended.made;
-    is = b.appended.is ∙ ap (λ l. l ++ b.appended.made) a.appended.is ∙ append_assoc xs a.appended.made b.appended.made;
-    hold = All-append (Holds u) a.appended.made b.appended.made (all_kept t u a.appended.made k2 a.appended.hold) b.appended.hold;
-    values =
-        map-append (told u) a.appended.made b.appended.made
-        ∙ ap (λ l. l ++ map (told u) b.appended.made) (map_kept t u a.appended.made k2 a.appended.hold ∙ a.appended.values)
-        ∙ ap (λ l. vs ++ l) b.appended.values
-        ∙ sym same;
-  };
-}
-
-pub cells_both : (vs us : List Value) → made_cells (vs ++ us) ≡ made_cells vs + made_cells us
-cells_both vs us = sum_by-append copy_cells vs us
-
--- so many words were written, and these are left
-pub record Writing (words all : List (List ℕ)) (left : List (List ℕ)) (s u : Store) (xs ys : List Ref) : Type 0 where
-  pub done : List (List ℕ)
-  pub is : all ≡ done ++ left
-  pub written : Written (made_cells (map (spelled_value words) done)) (map (spelled_value words) done) s u xs ys
-
-pub writing_starts : (words all : List (List ℕ)) (s : Store) (xs : List Ref) → s.state.heap ≤ s.heap_limit → Writing words all all s s xs xs
-writing_starts words all s xs le = record { done = []; is = refl; written = written_none s xs le }
-
-module _ (words all left : List (List ℕ)) (word : List ℕ) (rest : List (List ℕ)) (s t u : Store) (xs ys zs : List Ref) (k1 : Kept s t) (w : Writing words all left s t xs ys) (is : left ≡ word ∷ rest) where
-  abbrev f : List ℕ → Value
-  f = spelled_value words
-
-  one_more : map f (w.done ++ word ∷ []) ≡ map f w.done ++ f word ∷ []
-  one_more = map-append f w.done (word ∷ [])
-
-  whole : all ≡ (w.done ++ word ∷ []) ++ rest
-  whole = w.is ∙ ap (λ l. w.done ++ l) is ∙ sym (append_assoc w.done (word ∷ []) rest)
-
-  pub writing_goes : Kept t u → WritesWords words (word ∷ []) t u ys zs (Ok tt) → Writing words all rest s u xs zs
-  writing_goes k2 h = record {
-    done = w.done ++ word ∷ [];
-    is = whole;
-    written = written_on (made_cells (map f w.done)) (made_cells (f word ∷ [])) (made_cells (map f (w.done ++ word ∷ []))) (map f w.done) (f word ∷ []) (map f (w.done ++ word ∷ [])) s t u xs ys zs
-        (ap made_cells one_more ∙ cells_both (map f w.done) (f word ∷ [])) one_more k1 k2 w.written h;
-  }
-
-  pub writing_full : (e : Full) → WritesWords words (word ∷ []) t u ys zs (Err e) → WritesWords words all s u xs zs (Err e)
-  writing_full e h =
-      let split : map f all ≡ (map f w.done ++ f word ∷ []) ++ map f rest = ap (map f) whole ∙ map-append f (w.done ++ word ∷ []) rest ∙ ap (λ l. l ++ map f rest) one_more in
-      let cells = ap made_cells split ∙ cells_both (map f w.done ++ f word ∷ []) (map f rest) in
-      let front = cells_both (map f w.done) (f word ∷ []) in
-      overflows_later (made_cells (map f w.done)) (made_cells (f word ∷ [])) (made_cells (map f all)) s t (omega (arith, cells, front)) k1 w.written.charged e h
-
-pub writing_ends : (words all left : List (List ℕ)) (s u : Store) (xs ys : List Ref) → Writing words all left s u xs ys → left ≡ [] → WritesWords words all s u xs ys (Ok tt)
-writing_ends words all left s u xs ys w none =
-    let same : w.done ≡ all = sym (w.is ∙ ap (λ l. w.done ++ l) none ∙ append-nil w.done) in
-    subst (λ l. Written (made_cells (map (spelled_value words) l)) (map (spelled_value words) l) s u xs ys) same w.written
-
--- ## Words of a line, one after another
-
-pub none_spelled : (words : List (List ℕ)) (line : List ℕ) (at : ℕ) → spellings_of (drop at line) ≡ map encode_utf8_all words → spellings_of (drop at line) ≡ [] → words ≡ []
-none_spelled [] line at is none = refl
-none_spelled (word ∷ rest) line at is none = absurd (let e : encode_utf8_all word ∷ map encode_utf8_all rest ≡ [] = sym is ∙ none in cc)
-
--- ## Letters of a spelling, one after another
-
--- a letter stands at a place, behind others
-pub letter_at : (spelling before behind : List ℕ) (c : ℕ) → spelling ≡ encode_utf8_all (before ++ c ∷ behind) → spelling ≡ encode_utf8_all before ++ (encode c ++ encode_utf8_all behind)
-letter_at spelling before behind c is = is ∙ encodes-append before (c ∷ behind)
-
-pub letter_behind : (before : List ℕ) (c at : ℕ) → at ≡ length (encode_utf8_all before) → at + length (encode c) ≡ length (encode_utf8_all (before ++ c ∷ []))
-letter_behind before c at e =
-    let one : encode_utf8_all (before ++ c ∷ []) ≡ encode_utf8_all before ++ (encode c ++ []) = encodes-append before (c ∷ []) in
-    omega (arith, e, ap length one, length-append (encode_utf8_all before) (encode c ++ []), ap length (append-nil (encode c)))
-
-pub letter_bytes : (spelling before behind : List ℕ) (c at : ℕ) → spelling ≡ encode_utf8_all before ++ (encode c ++ encode_utf8_all behind) → at ≡ length (encode_utf8_all before) → take (at + length (encode c) - at) (drop at spelling) ≡ encode_utf8_all (c ∷ [])
-letter_bytes spelling before behind c at is e =
-    let n : at + length (encode c) - at ≡ length (encode c) = omega arith in
-    let rest : drop at spelling ≡ encode c ++ encode_utf8_all behind = ap (λ l. drop at l) is ∙ ap (λ k. drop k (encode_utf8_all before ++ (encode c ++ encode_utf8_all behind))) e ∙ drop-append_seam (encode_utf8_all before) (encode c ++ encode_utf8_all behind) in
-    ap (λ k. take k (drop at spelling)) n ∙ ap (take (length (encode c))) rest ∙ take-append_seam (encode c) (encode_utf8_all behind) ∙ sym (append-nil (encode c))
-
--- ## Lists
-
-pub list_cells : (vs : List Value) → copy_cells (list_of vs) ≡ 3 * length vs + made_cells vs
-list_cells [] = refl
-list_cells (v ∷ vs) = omega (arith, list_cells vs, cells_both (v ∷ []) vs)
-
 -- ## What is seen of a spelling
 
 pub none_seen : (o : Option (List ℕ)) → None ≡ option_map encode_utf8_all o → o ≡ None
@@ -291,149 +190,6 @@ letters_end spelling letters n t h =
 
 pub letter_inside : (spelling letters : List ℕ) (n x : ℕ) → LettersTo spelling letters n → slice_get spelling n ≡ Some x → length spelling ≤ 200 → n < 200
 letter_inside spelling letters n x t h short = let inside = slice_get_within spelling n x h in omega (arith, inside, short)
-
--- ## Words of a line that are written
-
-pub record PushesWords (words : List (List ℕ)) (letters line : List ℕ) (at : ℕ) (s u : Store) (xs ys : List Ref) : Type 0 where
-  pub left : List (List ℕ)
-  pub writing : Writing words (spellings_of letters) left s u xs ys
-  pub at_is : spellings_of (drop at line) ≡ map encode_utf8_all left
-  pub short : All IsShort left
-
-pub words_start : (words : List (List ℕ)) (letters line : List ℕ) (s : Store) (xs : List Ref) → s.state.heap ≤ s.heap_limit → IsShort letters → line ≡ encode_utf8_all letters → PushesWords words letters line 0 s s xs xs
-words_start words letters line s xs le short is = record { left = spellings_of letters; writing = writing_starts words (spellings_of letters) s xs le; at_is = ap spellings_of is ∙ words_again letters; short = words_short letters short }
-
--- the word at hand, with those behind it
-pub record AtWord (words : List (List ℕ)) (letters line : List ℕ) (from to : ℕ) (left : List (List ℕ)) : Type 0 where
-  pub word : List ℕ
-  pub rest : List (List ℕ)
-  pub is : left ≡ word ∷ rest
-  pub bytes : between line from to ≡ encode_utf8_all word
-  pub behind : spellings_of (drop to line) ≡ map encode_utf8_all rest
-  pub short : IsShort word
-  pub others : All IsShort rest
-
-at_word : (words : List (List ℕ)) (letters line : List ℕ) (at from to : ℕ) (left : List (List ℕ)) → spellings_of (drop at line) ≡ map encode_utf8_all left → All IsShort left → IsWord line at from to → AtWord words letters line from to left
-at_word words letters line at from to [] is short w = absurd (let e : [] ≡ between line from to ∷ spellings_of (drop to line) = sym is ∙ w.words in cc)
-at_word words letters line at from to (word ∷ rest) is short w =
-    let e : encode_utf8_all word ∷ map encode_utf8_all rest ≡ between line from to ∷ spellings_of (drop to line) = sym is ∙ w.words in
-    record { word = word; rest = rest; is = refl; bytes = cc; behind = cc; short = All-head IsShort word rest short; others = All-tail IsShort word rest short }
-
-pub word_here : (words : List (List ℕ)) (letters line : List ℕ) (at from to : ℕ) (s u : Store) (xs ys : List Ref) (p : PushesWords words letters line at s u xs ys) → IsWord line at from to → AtWord words letters line from to p.left
-word_here words letters line at from to s u xs ys p w = at_word words letters line at from to p.left p.at_is p.short w
-
-pub words_go : (words : List (List ℕ)) (letters line : List ℕ) (at from to : ℕ) (s t u : Store) (xs ys zs : List Ref) (p : PushesWords words letters line at s t xs ys) (h : AtWord words letters line from to p.left) → Kept s t → Kept t u → WritesWords words (h.word ∷ []) t u ys zs (Ok tt) → PushesWords words letters line to s u xs zs
-words_go words letters line at from to s t u xs ys zs p h k1 k2 w = record { left = h.rest; writing = writing_goes words (spellings_of letters) p.left h.word h.rest s t u xs ys zs k1 p.writing h.is k2 w; at_is = h.behind; short = h.others }
-
-pub words_full : (words : List (List ℕ)) (letters line : List ℕ) (at from to : ℕ) (s t u : Store) (xs ys zs : List Ref) (p : PushesWords words letters line at s t xs ys) (h : AtWord words letters line from to p.left) → Kept s t → (e : Full) → WritesWords words (h.word ∷ []) t u ys zs (Err e) → WritesWords words (spellings_of letters) s u xs zs (Err e)
-words_full words letters line at from to s t u xs ys zs p h k1 e w = writing_full words (spellings_of letters) p.left h.word h.rest s t u xs ys zs k1 p.writing h.is e w
-
-pub words_end : (words : List (List ℕ)) (letters line : List ℕ) (at : ℕ) (s u : Store) (xs ys : List Ref) → PushesWords words letters line at s u xs ys → spellings_of (drop at line) ≡ [] → WritesWords words (spellings_of letters) s u xs ys (Ok tt)
-words_end words letters line at s u xs ys p none = writing_ends words (spellings_of letters) p.left s u xs ys p.writing (none_spelled p.left line at p.at_is none)
-
--- ## Letters of a spelling that are written
-
-pub record PushesLetters (words : List (List ℕ)) (letters : List ℕ) (at : ℕ) (s u : Store) (xs ys : List Ref) : Type 0 where
-  pub before : List ℕ
-  pub behind : List ℕ
-  pub is : letters ≡ before ++ behind
-  pub at_is : at ≡ length (encode_utf8_all before)
-  pub writing : Writing words (each_alone letters) (each_alone behind) s u xs ys
-  pub small : AreSmall behind
-
-pub letters_start : (words : List (List ℕ)) (letters : List ℕ) (s : Store) (xs : List Ref) → s.state.heap ≤ s.heap_limit → AreSmall letters → PushesLetters words letters 0 s s xs xs
-letters_start words letters s xs le small = record { before = []; behind = letters; is = refl; at_is = refl; writing = writing_starts words (each_alone letters) s xs le; small = small }
-
--- the letter at hand, with those behind it
-pub record AtLetter (letters spelling before behind : List ℕ) (at : ℕ) : Type 0 where
-  pub letter : ℕ
-  pub rest : List ℕ
-  pub is : behind ≡ letter ∷ rest
-  pub there : spelling ≡ encode_utf8_all before ++ (encode letter ++ encode_utf8_all rest)
-
-at_letter : (letters spelling before behind : List ℕ) (at : ℕ) → letters ≡ before ++ behind → at ≡ length (encode_utf8_all before) → spelling ≡ encode_utf8_all letters → at < length spelling → AtLetter letters spelling before behind at
-at_letter letters spelling before [] at is at_is spelled lt =
-    let same : spelling ≡ encode_utf8_all before = spelled ∙ ap encode_utf8_all (is ∙ append-nil before) in
-    absurd (omega (arith, ap length same, at_is, lt))
-at_letter letters spelling before (c ∷ cs) at is at_is spelled lt = record { letter = c; rest = cs; is = refl; there = letter_at spelling before cs c (spelled ∙ ap encode_utf8_all is) }
-
-pub letter_here : (words : List (List ℕ)) (letters spelling : List ℕ) (at : ℕ) (s u : Store) (xs ys : List Ref) (p : PushesLetters words letters at s u xs ys) → spelling ≡ encode_utf8_all letters → at < length spelling → AtLetter letters spelling p.before p.behind at
-letter_here words letters spelling at s u xs ys p spelled lt = at_letter letters spelling p.before p.behind at p.is p.at_is spelled lt
-
--- where the letter ends
-pub letter_end : (spelling before rest : List ℕ) (c at : ℕ) → spelling ≡ encode_utf8_all before ++ (encode c ++ encode_utf8_all rest) → at ≡ length (encode_utf8_all before) → at + length (encode c) ≤ length spelling
-letter_end spelling before rest c at is e = omega (arith, e, ap length is, length-append (encode_utf8_all before) (encode c ++ encode_utf8_all rest), length-append (encode c) (encode_utf8_all rest))
-
-pub letters_go : (words : List (List ℕ)) (letters spelling : List ℕ) (at end : ℕ) (s t u : Store) (xs ys zs : List Ref) (p : PushesLetters words letters at s t xs ys) (h : AtLetter letters spelling p.before p.behind at) → end ≡ at + length (encode h.letter) → Kept s t → Kept t u → WritesWords words ((h.letter ∷ []) ∷ []) t u ys zs (Ok tt) → PushesLetters words letters end s u xs zs
-letters_go words letters spelling at end s t u xs ys zs p h ends k1 k2 w = record {
-  before = p.before ++ h.letter ∷ [];
-  behind = h.rest;
-  is = p.is ∙ ap (λ l. p.before ++ l) h.is ∙ sym (append_assoc p.before (h.letter ∷ []) h.rest);
-  at_is = ends ∙ letter_behind p.before h.letter at p.at_is;
-  writing = writing_goes words (each_alone letters) (each_alone p.behind) (h.letter ∷ []) (each_alone h.rest) s t u xs ys zs k1 p.writing (ap each_alone h.is) k2 w;
-  small = All-tail (λ c. c < 65536) h.letter h.rest (subst AreSmall h.is p.small);
-}
-
-pub letters_full : (words : List (List ℕ)) (letters spelling : List ℕ) (at : ℕ) (s t u : Store) (xs ys zs : List Ref) (p : PushesLetters words letters at s t xs ys) (h : AtLetter letters spelling p.before p.behind at) → Kept s t → (e : Full) → WritesWords words ((h.letter ∷ []) ∷ []) t u ys zs (Err e) → WritesWords words (each_alone letters) s u xs zs (Err e)
-letters_full words letters spelling at s t u xs ys zs p h k1 e w = writing_full words (each_alone letters) (each_alone p.behind) (h.letter ∷ []) (each_alone h.rest) s t u xs ys zs k1 p.writing (ap each_alone h.is) e w
-
-no_letter : (before behind spelling letters : List ℕ) (at : ℕ) → letters ≡ before ++ behind → at ≡ length (encode_utf8_all before) → spelling ≡ encode_utf8_all letters → length spelling ≤ at → behind ≡ []
-no_letter before [] spelling letters at is at_is spelled le = refl
-no_letter before (x ∷ behind) spelling letters at is at_is spelled le =
-    let there = letter_at spelling before behind x (spelled ∙ ap encode_utf8_all is) in
-    let more = is_within spelling before behind x at there at_is in
-    absurd (omega (arith, more, le))
-
-pub letters_done : (words : List (List ℕ)) (letters spelling : List ℕ) (at : ℕ) (s u : Store) (xs ys : List Ref) → PushesLetters words letters at s u xs ys → spelling ≡ encode_utf8_all letters → length spelling ≤ at → WritesWords words (each_alone letters) s u xs ys (Ok tt)
-letters_done words letters spelling at s u xs ys p spelled le = writing_ends words (each_alone letters) (each_alone p.behind) s u xs ys p.writing (ap each_alone (no_letter p.before p.behind spelling letters at p.is p.at_is spelled le))
-
-pub short_letter : (letters spelling before behind : List ℕ) (at : ℕ) → AreSmall behind → (h : AtLetter letters spelling before behind at) → IsShort (h.letter ∷ [])
-short_letter letters spelling before behind at small h =
-    let P = λ (c : ℕ). c < 65536 in
-    record { few = omega arith; small = All-cons P h.letter [] (All-head P h.letter h.rest (subst AreSmall h.is small)) (All-nil P) }
-
--- ## A list that is written
-
-listed_nil : (vs : List Value) → listed vs (leaf Nil) ≡ list_of vs
-listed_nil [] = refl
-listed_nil (v ∷ vs) = ap (pair v) (listed_nil vs)
-
-pub list_written : (n : ℕ) (s t u : Store) (rs : List Ref) (nil : Ref) (result : Result Ref Full) → s.state.heap ≤ s.heap_limit → Kept s t → t.state ≡ s.state → All (Holds s) rs → t.value nil ≡ Some (leaf Nil) → MatchResult result (λ r. Made n t u r (listed (map (told t) rs) (told t nil))) (λ e. Overflows n t e) → MatchResult result (λ r. Made n s u r (list_of (map (told s) rs))) (λ e. Overflows n s e)
-list_written n s t u rs nil (Ok r) le k same hold is m = record {
-  charged = charged_on 0 n n s t u (omega arith) k (charged_none s t le same) m.charged;
-  value =
-      m.value ∙ ap (λ vs. Some (listed vs (told t nil))) (map_kept s t rs k hold) ∙ ap (λ v. Some (listed (map (told s) rs) v)) (told_is t nil (leaf Nil) is)
-      ∙ ap Some (listed_nil (map (told s) rs));
-}
-list_written n s t u rs nil (Err e) le k same hold is m = overflows_later 0 n n s t (omega arith) k (charged_none s t le same) e m
-
--- the list of words that were pushed
-pub list_made : (words spellings : List (List ℕ)) (s t u : Store) (xs ys : List Ref) (n : ℕ) (result : Result Ref Full) → Kept s t → Written (made_cells (map (spelled_value words) spellings)) (map (spelled_value words) spellings) s t xs ys → n ≡ length xs → MatchResult result (λ r. Made (3 * (length ys - n)) t u r (list_of (map (told t) (drop n ys)))) (λ e. Overflows (3 * (length ys - n)) t e) → MakesValue (list_of (map (spelled_value words) spellings)) s u result
-list_made words spellings s t u xs ys n (Ok r) k w e m =
-    let vs = map (spelled_value words) spellings in
-    let same : map (told t) (drop n ys) ≡ vs = ap (map (told t)) (appended_drop t vs xs ys n w.appended e) ∙ w.appended.values in
-    let count = appended_length t vs xs ys w.appended in
-    record {
-      charged = charged_on (made_cells vs) (3 * (length ys - n)) (copy_cells (list_of vs)) s t u (omega (arith, list_cells vs, count, e)) k w.charged m.charged;
-      value = m.value ∙ ap (λ l. Some (list_of l)) same;
-    }
-list_made words spellings s t u xs ys n (Err x) k w e m =
-    let vs = map (spelled_value words) spellings in
-    let count = appended_length t vs xs ys w.appended in
-    overflows_later (made_cells vs) (3 * (length ys - n)) (copy_cells (list_of vs)) s t (omega (arith, list_cells vs, count, e)) k w.charged x m
-
-pub list_full : (words spellings : List (List ℕ)) (s u : Store) (e : Full) → Overflows (made_cells (map (spelled_value words) spellings)) s e → MakesValue (list_of (map (spelled_value words) spellings)) s u (Err e)
-list_full words spellings s u e h = more_full (made_cells (map (spelled_value words) spellings)) (copy_cells (list_of (map (spelled_value words) spellings))) s (omega (arith, list_cells (map (spelled_value words) spellings))) e h where
-  more_full : (m n : ℕ) (s : Store) → m ≤ n → (e : Full) → Overflows m s e → Overflows n s e
-  more_full m n s le full.Heap h = omega (arith, h, le)
-  more_full m n s le full.Trail h = h
-  more_full m n s le full.OutOfMemory h = tt
-
-pub some_left : {P : Type 0} (n at : ℕ) → P ↔ (n ≤ at) → (P → ⊥) → at < n
-some_left n at h never = elim (cases_lt at n) [
-  | inl lt ↦ lt
-  | inr ge ↦ absurd (never (h.1 (omega arith)))
-]
 
 -- ## Values that are looked up
 
@@ -528,7 +284,3 @@ pub record WasJoined (o : Option (List ℕ)) (bytes : List ℕ) : Type 0 where
 pub was_joined : (o : Option (List ℕ)) (bytes : List ℕ) → IsJoined o bytes true → WasJoined o bytes
 was_joined None bytes h = absurd (cc h)
 was_joined (Some letters) bytes h = record { letters = letters; are = refl; short = h.1; is = h.2 }
-
--- a letter has bytes
-pub encoded_some : (c : ℕ) → 0 < length (encode c)
-encoded_some c = omega (arith, is_within (encode c ++ []) [] [] c 0 refl refl, length-append (encode c) [])

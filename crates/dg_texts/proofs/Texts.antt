@@ -1,5 +1,5 @@
 -- The text of more that is printed, and the world behind the pieces of a value.
-use Rattle.std.proofs.Common.{◌≡◌, ℕ, List, [], ◌∷◌, ◌++◌, refl, sym, ap, ◌∙◌, subst, append_assoc, append-nil}
+use Rattle.std.proofs.Common.{◌≡◌, ℕ, List, [], ◌∷◌, ◌++◌, sym, ap, ◌∙◌, subst, append_assoc, append-nil}
 use Rattle.dg_base.specs.Written.{SinkView, Wrote, BrokeOff}
 use Rattle.dg_base.proofs.WrittenLemmas.{wrote_on, broke_later}
 use Rattle.dg_meaning.specs.World.{World, Print, Piece, Prints, prints}

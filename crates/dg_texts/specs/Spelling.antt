@@ -1,16 +1,14 @@
 -- What words and numbers become that are read letter by letter. Hold it against docs/LANGUAGE.md, "Typed lines and words", and "Built-in queries" on
 -- splitting and joining words.
-use Rattle.std.specs.Prelude.{◌≡◌, ◌<◌, ◌≤◌, ◌++◌, ℕ, List, Option, Some, None, Bool, true, false, Result, MatchResult, map, length, count_by, encode_utf8_all}
-use Rattle.std.specs.List.{sum_by}
+use Rattle.std.specs.Prelude.{◌≡◌, ◌+◌, ◌<◌, ◌≤◌, ◌++◌, ℕ, List, Option, Some, None, Bool, true, false, IsTrue, Result, MatchResult, length, count_by, encode_utf8_all}
 use Rattle.dg_meaning.specs.Copies.{copy_cells}
-use Rattle.dg_meaning.specs.Values.{Value}
-use Rattle.dg_meaning.specs.Words.{spelled_value}
-use Rattle.dg_unify.specs.Store.{Store, Made}
+use Rattle.dg_meaning.specs.Values.{Value, pair}
+use Rattle.dg_unify.specs.Store.{Store, Made, told}
 use Rattle.dg_unify.specs.declared.bindings.Ref.{Ref}
 use Rattle.dg_unify.specs.declared.bindings.Full.{Full}
+use Rattle.dg_unify.specs.declared.bindings.Full.TheVariants as full
 use Rattle.dg_words.specs.Chars.{begins}
 use Rattle.dg_words.specs.Letters.{AreSmall}
-use Rattle.dg_terms.specs.Terms.{Overflows, Written}
 
 -- Letters that one word may have.
 pub record IsShort (letters : List ℕ) : Type 0 where
@@ -38,16 +36,18 @@ IsJoined (Some letters) bytes joined = (joined ≡ true) × IsShort letters × (
 
 -- ## What is made
 
--- The heap cells of values that are made.
-abbrev pub made_cells : List Value → ℕ
-made_cells vs = sum_by copy_cells vs
+-- So many cells are more than are left, or memory ran out, as it may in a store that grows.
+abbrev pub TooMany : ℕ → Store → Full → Type 0
+TooMany n s full.Heap = s.heap_limit < s.state.heap + n
+TooMany n s full.Trail = ⊥
+TooMany n s full.OutOfMemory = IsTrue s.grows
 
 -- A value was made, or the heap has too little room for it.
 abbrev pub MakesValue : Value → Store → Store → Result Ref Full → Type 0
-MakesValue v old new result = MatchResult result (λ r. Made (copy_cells v) old new r v) (λ e. Overflows (copy_cells v) old e)
+MakesValue v old new result = MatchResult result (λ r. Made (copy_cells v) old new r v) (λ e. TooMany (copy_cells v) old e)
 
--- The values of spellings were put behind some Refs, or the heap has too little room for them.
-abbrev pub WritesWords : List (List ℕ) → List (List ℕ) → Store → Store → List Ref → List Ref → Result (Unit {0}) Full → Type 0
-WritesWords words spellings old new before behind result =
-    let vs = map (spelled_value words) spellings in
-    MatchResult result (λ _. Written (made_cells vs) vs old new before behind) (λ e. Overflows (made_cells vs) old e)
+-- A value was made, and put in front of a list, or the heap has too little room for both.
+abbrev pub MakesBefore : Value → Ref → Store → Store → Result Ref Full → Type 0
+MakesBefore v list old new result =
+    let n = copy_cells v + 3 in
+    MatchResult result (λ r. Made n old new r (pair v (told old list))) (λ e. TooMany n old e)

@@ -1,22 +1,19 @@
 // Words and numbers by their letters.
 
-ghost use Rattle.std.specs.Prelude.{◌≡◌, ◌≤◌, ◌<◌, ◌+◌, ◌-◌, ◌*◌, ◌++◌, ◌∷◌, [], ℕ, List, All, MatchResult, IfSome, option_map, map, length, take, drop, encode_utf8_all};
+ghost use Rattle.std.specs.Prelude.{◌≡◌, ◌≤◌, ◌<◌, ◌+◌, ◌-◌, ◌++◌, ◌∷◌, [], ℕ, List, All, IfSome, option_map, length, take, drop, encode_utf8_all};
 ghost use Rattle.std.specs.Fmt.{decimal};
 ghost use Rattle.dg_base.specs.Sound.{IsName};
-ghost use Rattle.dg_meaning.specs.Values.{Value, leaf};
+ghost use Rattle.dg_meaning.specs.Values.{Value, Nil, leaf};
 ghost use Rattle.dg_meaning.specs.Words.{each_alone, few_enough, letters_in_list, letters_in_word, spellings_of, spelled_value, spelled_list, joined_letters};
-ghost use Rattle.dg_meaning.specs.Copies.{list_of};
-ghost use Rattle.dg_unify.specs.Store.{Saved, Kept, Holds, Made, Shows, IsUnknownAt, label_of, told};
+ghost use Rattle.dg_unify.specs.Store.{Saved, Kept, Holds, Made, Shows, IsUnknownAt, label_of};
 ghost use Rattle.dg_words.specs.Letters.{AreSmall};
 ghost use Rattle.dg_texts.specs.Printing.{value_at};
-ghost use Rattle.dg_texts.specs.Spelling.{IsShort, SpellsSome, JoinsWord, IsJoined, MakesValue, WritesWords};
-ghost use Rattle.dg_terms.specs.Terms.{Overflows};
+ghost use Rattle.dg_texts.specs.Spelling.{IsShort, SpellsSome, JoinsWord, IsJoined, MakesValue, MakesBefore};
 
 use crate::printing::{is_nil, name_at};
 use dg_base::{Name, Simple};
-use dg_terms::write_pairs;
 use dg_unify::{Bindings, Full, Ref, View};
-use dg_words::{Class, Joined, classify, next_char, next_word, read_letters, spell};
+use dg_words::{Class, Joined, classify, last_char, last_word, read_letters, spell};
 use itoa::Buffer;
 
 // Keeps a letter, where there is room.
@@ -181,52 +178,16 @@ pub fn write_spelled<B: Bindings>(
     }
 }
 
-// Puts the value of a spelling behind a list.
-fn push_spelled<B: Bindings>(
-    store: &mut B,
-    words: &[Name],
-    spelling: &[u8],
-    to: &mut Vec<Ref>,
-) -> Result<(), Full>
-    requires few { length words.now ≤ 65535 }
+// The empty list.
+fn empty_list<B: Bindings>(store: &mut B) -> Ref
     ensures kept { Kept (B.meaning store.old) (B.meaning store.new) }
     ensures saved { (ms : List Saved) → B.saves store.old ms → B.saves store.new ms }
-    ensures written { (letters : List ℕ) → IsShort letters → spelling.now ≡ encode_utf8_all letters →
-        WritesWords words.now (letters ∷ []) (B.meaning store.old) (B.meaning store.new) to.old.items to.new.items result }
+    ensures made { Made 0 (B.meaning store.old) (B.meaning store.new) result (leaf Nil) }
 {
-    match write_spelled(store, words, spelling) {
-        Err(e) => Err(e),
-        Ok(value) => {
-            if to.push(value).is_err() {
-                return Err(Full::OutOfMemory);
-            }
-            Ok(())
-        }
+    match store.value(Simple::Nil) {
+        Ok(nil) => nil,
+        Err(_) => unreachable!(),
     }
-}
-
-// Puts the values of the words of a line behind a list.
-fn push_words<B: Bindings>(
-    store: &mut B,
-    words: &[Name],
-    line: &[u8],
-    to: &mut Vec<Ref>,
-) -> Result<(), Full>
-    requires few { length words.now ≤ 65535 }
-    requires line { SpellsSome IsShort line.now }
-    ensures kept { Kept (B.meaning store.old) (B.meaning store.new) }
-    ensures saved { (ms : List Saved) → B.saves store.old ms → B.saves store.new ms }
-    ensures written { (letters : List ℕ) → IsShort letters → line.now ≡ encode_utf8_all letters →
-        WritesWords words.now (spellings_of letters) (B.meaning store.old) (B.meaning store.new) to.old.items to.new.items result }
-{
-    let mut at = 0;
-    'words: while let Some((from, end)) = next_word(line, at) {
-        if let Err(e) = push_spelled(store, words, &line[from..end], to) {
-            return Err(e);
-        }
-        at = end;
-    }
-    Ok(())
 }
 
 // The part of bytes from one place to another.
@@ -237,54 +198,32 @@ fn part(bytes: &[u8], from: usize, to: usize) -> &[u8]
     &bytes[from..to]
 }
 
-// Puts the values of the letters of a spelling behind a list.
-fn push_letters<B: Bindings>(
+// The value of a spelling, and a list behind it.
+fn write_before<B: Bindings>(
     store: &mut B,
     words: &[Name],
     spelling: &[u8],
-    to: &mut Vec<Ref>,
-) -> Result<(), Full>
-    requires few { length words.now ≤ 65535 }
-    requires spelling { SpellsSome AreSmall spelling.now }
-    ensures kept { Kept (B.meaning store.old) (B.meaning store.new) }
-    ensures saved { (ms : List Saved) → B.saves store.old ms → B.saves store.new ms }
-    ensures written { (letters : List ℕ) → AreSmall letters → spelling.now ≡ encode_utf8_all letters →
-        WritesWords words.now (each_alone letters) (B.meaning store.old) (B.meaning store.new) to.old.items to.new.items result }
-{
-    let mut at = 0;
-    'letters: while let Some(end) = next_char(spelling, at) {
-        let letter = part(spelling, at, end);
-        if let Err(e) = push_spelled(store, words, letter, to) {
-            return Err(e);
-        }
-        at = end;
-    }
-    Ok(())
-}
-
-// The list of the elements from a height on, which are taken away.
-fn write_list<B: Bindings>(store: &mut B, stack: &mut Vec<Ref>, height: usize) -> Result<Ref, Full>
-    requires height { height ≤ length stack.old.items }
-    requires heads { All (Holds (B.meaning store.old)) (drop height stack.old.items) }
-    ensures kept { Kept (B.meaning store.old) (B.meaning store.new) }
-    ensures saved { (ms : List Saved) → B.saves store.old ms → B.saves store.new ms }
-    ensures written { MatchResult result (λ r. Made (3 * (length stack.old.items - height)) (B.meaning store.old) (B.meaning store.new) r
-        (list_of (map (told (B.meaning store.old)) (drop height stack.old.items))))
-        (λ e. Overflows (3 * (length stack.old.items - height)) (B.meaning store.old) e) }
-{
-    match store.value(Simple::Nil) {
-        Err(e) => Err(e),
-        Ok(nil) => write_pairs(store, stack, height, nil),
-    }
-}
-
-/// The list of the words of a line. On a stack it keeps them meanwhile.
-pub fn write_line<B: Bindings>(
-    store: &mut B,
-    words: &[Name],
-    line: &[u8],
-    stack: &mut Vec<Ref>,
+    list: Ref,
 ) -> Result<Ref, Full>
+    requires few { length words.now ≤ 65535 }
+    requires list { Holds (B.meaning store.old) list }
+    requires spelling { SpellsSome IsShort spelling.now }
+    ensures kept { Kept (B.meaning store.old) (B.meaning store.new) }
+    ensures saved { (ms : List Saved) → B.saves store.old ms → B.saves store.new ms }
+    ensures made { (letters : List ℕ) → IsShort letters → spelling.now ≡ encode_utf8_all letters →
+        MakesBefore (spelled_value words.now letters) list (B.meaning store.old) (B.meaning store.new) result }
+{
+    match write_spelled(store, words, spelling) {
+        Err(e) => Err(e),
+        Ok(value) => match store.pair(value, list) {
+            Err(e) => Err(e),
+            Ok(longer) => Ok(longer),
+        },
+    }
+}
+
+/// The list of the words of a line, made from its end on.
+pub fn write_line<B: Bindings>(store: &mut B, words: &[Name], line: &[u8]) -> Result<Ref, Full>
     requires few { length words.now ≤ 65535 }
     requires line { SpellsSome IsShort line.now }
     ensures kept { Kept (B.meaning store.old) (B.meaning store.new) }
@@ -292,19 +231,23 @@ pub fn write_line<B: Bindings>(
     ensures made { (letters : List ℕ) → IsShort letters → line.now ≡ encode_utf8_all letters →
         MakesValue (spelled_list words.now (spellings_of letters)) (B.meaning store.old) (B.meaning store.new) result }
 {
-    let height = stack.len();
-    match push_words(store, words, line, stack) {
-        Err(e) => Err(e),
-        Ok(()) => write_list(store, stack, height),
+    let mut list = empty_list(store);
+    let mut end = line.len();
+    'words: while let Some((from, to)) = last_word(line, end) {
+        match write_before(store, words, &line[from..to], list) {
+            Err(e) => return Err(e),
+            Ok(longer) => list = longer,
+        }
+        end = from;
     }
+    Ok(list)
 }
 
-/// The list of the letters of a spelling, each as a word of its own. On a stack it keeps them meanwhile.
+/// The list of the letters of a spelling, each as a word of its own, made from its end on.
 pub fn write_letters<B: Bindings>(
     store: &mut B,
     words: &[Name],
     spelling: &[u8],
-    stack: &mut Vec<Ref>,
 ) -> Result<Ref, Full>
     requires few { length words.now ≤ 65535 }
     requires spelling { SpellsSome AreSmall spelling.now }
@@ -313,9 +256,14 @@ pub fn write_letters<B: Bindings>(
     ensures made { (letters : List ℕ) → AreSmall letters → spelling.now ≡ encode_utf8_all letters →
         MakesValue (spelled_list words.now (each_alone letters)) (B.meaning store.old) (B.meaning store.new) result }
 {
-    let height = stack.len();
-    match push_letters(store, words, spelling, stack) {
-        Err(e) => Err(e),
-        Ok(()) => write_list(store, stack, height),
+    let mut list = empty_list(store);
+    let mut end = spelling.len();
+    'letters: while let Some(from) = last_char(spelling, end) {
+        match write_before(store, words, part(spelling, from, end), list) {
+            Err(e) => return Err(e),
+            Ok(longer) => list = longer,
+        }
+        end = from;
     }
+    Ok(list)
 }

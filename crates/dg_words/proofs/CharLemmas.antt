@@ -1,13 +1,12 @@
 -- The characters of spellings: each has one byte that begins it, and at most three that go on.
-use Rattle.std.proofs.Common.{◌≡◌, ℕ, zero, suc, ◌+◌, ◌*◌, ◌/◌, ◌%◌, ◌<◌, ◌≤◌, List, [], ◌∷◌, ◌++◌, Bool, true, false, cond, refl, sym, ap, ◌∙◌, arith, length, drop, length-append}
-use Rattle.std.specs.Prelude.{nat_lt, ◌&&◌, not, count_by, encode_utf8_all}
-use Rattle.std.specs.List.{prefix_len}
+use Rattle.std.proofs.Common.{◌≡◌, ℕ, zero, suc, ◌+◌, ◌*◌, ◌/◌, ◌%◌, ◌-◌, ◌<◌, ◌≤◌, List, [], ◌∷◌, ◌++◌, Bool, true, false, cond, inl, inr, refl, sym, ap, ◌∙◌, arith, length, take, get_or, length-append}
+use Rattle.std.specs.Prelude.{nat_lt, ◌&&◌, not, count_by, slice_index, encode_utf8_all}
 use Rattle.std.proofs.Math.Utf8.{encode, next}
-use Rattle.std.proofs.lemmas.Bool.{ltb-true, lt-ltb, le-ltb}
-use Rattle.std.proofs.lemmas.List.{drop_at}
+use Rattle.std.proofs.lemmas.Bool.{ltb-true, lt-ltb, le-ltb, cases_lt}
+use Rattle.std.proofs.Math.Seq.{length-take-le, get_or-take, get_or-append-add}
 use Rattle.std.proofs.lemmas.List.Sums.{sum_by-append, sum_by-cons}
 use Rattle.dg_base.specs.Units.{is_tail}
-use Rattle.dg_words.specs.Chars.{begins, tails_behind}
+use Rattle.dg_words.specs.Chars.{begins, GoesBackTo}
 
 -- ## Bytes of one character
 
@@ -57,39 +56,56 @@ by_bytes c false h =
 pub character : (c : ℕ) → IsCharacter (encode c)
 character c = by_bytes c (nat_lt c 128) refl
 
--- ## Where it ends
+-- ## Where it begins
 
-tails_are : (bs rest : List ℕ) → AreTails bs → prefix_len is_tail (bs ++ rest) ≡ length bs + prefix_len is_tail rest
-tails_are [] rest h = let e : prefix_len is_tail rest ≡ 0 + prefix_len is_tail rest = omega arith in e
-tails_are (b ∷ bs) rest h = ap (λ x. cond x (1 + prefix_len is_tail (bs ++ rest)) 0) h.0 ∙ omega (arith, tails_are bs rest h.1)
+tail_at : (bs : List ℕ) → AreTails bs → (j : ℕ) → j < length bs → is_tail (get_or bs j 0) ≡ true
+tail_at [] h j lt = absurd (omega arith)
+tail_at (b ∷ bs) h zero lt = h.0
+tail_at (b ∷ bs) h (suc j) lt = tail_at bs h.1 j (omega arith)
 
-begun : (bs rest : List ℕ) → IsCharacter bs → prefix_len is_tail (bs ++ rest) ≡ 0
-begun [] rest h = absurd h
-begun (b ∷ bs) rest h = ap (λ x. cond x (1 + prefix_len is_tail (bs ++ rest)) 0) h.0
+goes_on_at : (bs : List ℕ) → IsCharacter bs → (j : ℕ) → 0 < j → j < length bs → is_tail (get_or bs j 0) ≡ true
+goes_on_at [] h j some lt = absurd h
+goes_on_at (b ∷ bs) h zero some lt = absurd (omega (arith, some))
+goes_on_at (b ∷ bs) h (suc j) some lt = tail_at bs h.1 j (omega arith)
 
-no_tail : (letters : List ℕ) → prefix_len is_tail (encode_utf8_all letters) ≡ 0
-no_tail [] = refl
-no_tail (c ∷ cs) = begun (encode c) (encode_utf8_all cs) (character c)
-
-drop_one : (k : ℕ) (xs : List ℕ) → drop (k + 1) xs ≡ drop 1 (drop k xs)
-drop_one zero xs = refl
-drop_one (suc k) [] = let next : suc k + 1 ≡ suc (k + 1) = omega arith in ap (λ n. drop n []) next
-drop_one (suc k) (x ∷ xs) = let next : suc k + 1 ≡ suc (k + 1) = omega arith in ap (λ n. drop n (x ∷ xs)) next ∙ drop_one k xs
-
-behind_first : (bs rest : List ℕ) → IsCharacter bs → prefix_len is_tail rest ≡ 0 → 1 + prefix_len is_tail (drop 1 (bs ++ rest)) ≡ length bs
-behind_first [] rest h none = absurd h
-behind_first (b ∷ bs) rest h none = omega (arith, tails_are bs rest h.1, none)
-
-pub ends_at : (spelling before behind : List ℕ) (c at : ℕ) → spelling ≡ encode_utf8_all before ++ (encode c ++ encode_utf8_all behind) → at ≡ length (encode_utf8_all before) → at + 1 + tails_behind (at + 1) spelling ≡ at + length (encode c)
-ends_at spelling before behind c at is place =
-    let rest = encode c ++ encode_utf8_all behind in
-    let here : drop at spelling ≡ rest = ap (drop at) is ∙ drop_at (encode_utf8_all before) rest at (sym place) in
-    let next : tails_behind (at + 1) spelling ≡ prefix_len is_tail (drop 1 rest) = ap (prefix_len is_tail) (drop_one at spelling ∙ ap (drop 1) here) in
-    omega (arith, next, behind_first (encode c) (encode_utf8_all behind) (character c) (no_tail behind))
+begins_at : (bs : List ℕ) → IsCharacter bs → is_tail (get_or bs 0 0) ≡ false
+begins_at [] h = absurd h
+begins_at (b ∷ bs) h = h.0
 
 some_byte : (bs : List ℕ) → IsCharacter bs → 0 < length bs
 some_byte [] h = absurd h
 some_byte (b ∷ bs) h = omega arith
+
+pub starts_at : (spelling before : List ℕ) (c end start : ℕ) → end ≤ length spelling → 0 < end → take end spelling ≡ encode_utf8_all before ++ encode c → GoesBackTo spelling (end - 1) start → start ≡ length (encode_utf8_all before)
+starts_at spelling before c end start within some is h =
+    let front = encode_utf8_all before in
+    let b = length front in
+    let long : end ≡ b + length (encode c) = omega (arith, ap length is, length-append front (encode c), length-take-le end spelling within) in
+    let byte : (j : ℕ) → j < length (encode c) → slice_index spelling (b + j) ≡ get_or (encode c) j 0 =
+    λ j lt. sym (get_or-take end spelling (b + j) 0 (omega (arith, long, lt))) ∙ ap (λ l. get_or l (b + j) 0) is ∙ get_or-append-add front (encode c) j 0 in
+    elim (cases_lt start b) [
+      | inl lt ↦
+          let first = some_byte (encode c) (character c) in
+          let here : is_tail (slice_index spelling (b + 0)) ≡ false = ap is_tail (byte 0 first) ∙ begins_at (encode c) (character c) in
+          let goes : is_tail (slice_index spelling (b + 0)) ≡ true = h.tails (b + 0) (omega (arith, lt)) (omega (arith, long, first)) in
+          absurd (let e : true ≡ false = sym goes ∙ here in cc)
+      | inr ge ↦
+          elim (cases_lt b start) [
+            | inl gt ↦
+                let order = h.order in
+                let inside : start - b < length (encode c) = omega (arith, order, long, gt, some) in
+                let place : b + (start - b) ≡ start = omega (arith, gt) in
+                let goes : is_tail (slice_index spelling start) ≡ true = ap (λ i. is_tail (slice_index spelling i)) (sym place) ∙ ap is_tail (byte (start - b) inside) ∙ goes_on_at (encode c) (character c) (start - b) (omega (arith, gt)) inside in
+                let begins : is_tail (slice_index spelling start) ≡ false = h.begins (omega (arith, gt)) in
+                absurd (let e : true ≡ false = sym goes ∙ begins in cc)
+            | inr le ↦ omega (arith, ge, le)
+          ]
+    ]
+
+pub no_character : (spelling before : List ℕ) (c end : ℕ) → end ≡ 0 → take end spelling ≡ encode_utf8_all before ++ encode c → ⊥
+no_character spelling before c end none is =
+    let empty : length (take end spelling) ≡ 0 = ap (λ n. length (take n spelling)) none in
+    absurd (omega (arith, empty, ap length is, length-append (encode_utf8_all before) (encode c), some_byte (encode c) (character c)))
 
 pub is_within : (spelling before behind : List ℕ) (c at : ℕ) → spelling ≡ encode_utf8_all before ++ (encode c ++ encode_utf8_all behind) → at ≡ length (encode_utf8_all before) → at < length spelling
 is_within spelling before behind c at is place =

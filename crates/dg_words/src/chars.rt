@@ -1,7 +1,7 @@
 // The characters of spellings.
-ghost use Rattle.std.specs.Prelude.{◌≡◌, ◌≤◌, ◌+◌, ◌++◌, ◌↔◌, ℕ, List, Some, IsNone, encode_utf8, encode_utf8_all, count_by, length};
+ghost use Rattle.std.specs.Prelude.{◌≡◌, ◌<◌, ◌≤◌, ◌++◌, ◌↔◌, ℕ, List, Some, IsNone, encode_utf8, encode_utf8_all, count_by, length, take};
 ghost use Rattle.dg_base.specs.Units.{is_tail};
-ghost use Rattle.dg_words.specs.Chars.{begins, tails_behind};
+ghost use Rattle.dg_words.specs.Chars.{begins, GoesBackTo};
 
 // Whether a byte goes on with a character.
 fn is_tail(byte: u8) -> bool
@@ -10,28 +10,29 @@ fn is_tail(byte: u8) -> bool
     127 < byte && byte < 192
 }
 
-// Where the bytes end that go on with a character.
-fn tail_end(spelling: &[u8], at: usize) -> usize
-    requires { at ≤ length spelling.now }
-    ensures { result ≡ at + tails_behind at spelling.now }
+// Where the character begins to which a byte belongs.
+fn char_start(spelling: &[u8], at: usize) -> usize
+    requires { at < length spelling.now }
+    ensures { GoesBackTo spelling.now at result }
 {
-    let mut end = at;
-    'tail: while end < spelling.len() && is_tail(spelling[end]) {
-        end += 1;
+    let mut start = at;
+    'tails: while start > 0 && is_tail(spelling[start]) {
+        start -= 1;
     }
-    end
+    start
 }
 
-/// Where the character ends that begins at a place of a spelling in UTF-8; none exactly at its end.
-pub fn next_char(spelling: &[u8], at: usize) -> Option<usize>
-    ensures none { IsNone result ↔ (length spelling.now ≤ at) }
-    ensures end { (before behind : List ℕ) (c : ℕ) → spelling.now ≡ encode_utf8_all before ++ (encode_utf8 c ++ encode_utf8_all behind) →
-        at ≡ length (encode_utf8_all before) → result ≡ Some (at + length (encode_utf8 c)) }
+/// Where the character begins that ends at a place of a spelling in UTF-8; none exactly at its beginning.
+pub fn last_char(spelling: &[u8], end: usize) -> Option<usize>
+    requires { end ≤ length spelling.now }
+    ensures none { IsNone result ↔ (end ≡ 0) }
+    ensures start { (before : List ℕ) (c : ℕ) → take end spelling.now ≡ encode_utf8_all before ++ encode_utf8 c →
+        result ≡ Some (length (encode_utf8_all before)) }
 {
-    if at >= spelling.len() {
+    if end == 0 {
         return None;
     }
-    Some(tail_end(spelling, at + 1))
+    Some(char_start(spelling, end - 1))
 }
 
 /// How many characters a spelling has.

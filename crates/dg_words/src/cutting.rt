@@ -1,7 +1,7 @@
 // The words of a line.
-ghost use Rattle.std.specs.Prelude.{◌≡◌, ◌≤◌, eqb, ◌||◌, length, drop};
+ghost use Rattle.std.specs.Prelude.{◌≡◌, ◌≤◌, eqb, ◌||◌, length};
 ghost use Rattle.dg_meaning.specs.Words.{is_alone};
-ghost use Rattle.dg_words.specs.Cutting.{SkipsTo, BeginsAt, EndsAt, IsNextWord, WordsAreBytes};
+ghost use Rattle.dg_words.specs.Cutting.{SkipsBackTo, BeginsAt, EndsAt, IsLastWord, WordsAreBytes};
 
 // Whether a letter is a word of its own.
 fn is_alone(letter: u8) -> bool
@@ -10,52 +10,50 @@ fn is_alone(letter: u8) -> bool
     matches!(letter, b'.' | b',' | b'"' | b';' | b'*' | b'(' | b')')
 }
 
-// Whether a letter ends the word before it.
-fn ends_word(letter: u8) -> bool
+// Whether a letter separates words.
+fn separates(letter: u8) -> bool
     ensures { result ≡ (eqb letter 32 || is_alone letter) }
 {
     letter == b' ' || is_alone(letter)
 }
 
-// The first place from one on at which no space is.
-fn behind_spaces(line: &[u8], at: usize) -> usize
-    requires { at ≤ length line.now }
-    ensures { SkipsTo line.now at result }
+// The last place up to one that has no space in front of it.
+fn before_spaces(line: &[u8], end: usize) -> usize
+    requires { end ≤ length line.now }
+    ensures { SkipsBackTo line.now end result }
 {
-    let mut from = at;
-    'spaces: while from < line.len() && line[from] == b' ' {
-        from += 1;
-    }
-    from
-}
-
-// Where the word ends that begins at a place.
-fn word_end(line: &[u8], from: usize) -> usize
-    requires { BeginsAt line.now from }
-    ensures { EndsAt line.now from result }
-{
-    let mut to = from + 1;
-    if is_alone(line[from]) {
-        return to;
-    }
-    'letters: while to < line.len() && !ends_word(line[to]) {
-        to += 1;
+    let mut to = end;
+    'spaces: while to > 0 && line[to - 1] == b' ' {
+        to -= 1;
     }
     to
 }
 
-/// Where the next word from a place on begins, and where it ends; none where only spaces are left.
-pub fn next_word(line: &[u8], at: usize) -> Option<(usize, usize)>
-    ensures { IsNextWord line.now at result }
+// Where the word begins that ends at a place.
+fn word_start(line: &[u8], to: usize) -> usize
+    requires { EndsAt line.now to }
+    ensures { BeginsAt line.now result to }
 {
-    if at > line.len() {
+    let mut from = to - 1;
+    if is_alone(line[from]) {
+        return from;
+    }
+    'letters: while from > 0 && !separates(line[from - 1]) {
+        from -= 1;
+    }
+    from
+}
+
+/// Where the last word in front of a place begins, and where it ends; none where only spaces are in front.
+pub fn last_word(line: &[u8], end: usize) -> Option<(usize, usize)>
+    requires { end ≤ length line.now }
+    ensures { IsLastWord line.now end result }
+{
+    let to = before_spaces(line, end);
+    if to == 0 {
         return None;
     }
-    let from = behind_spaces(line, at);
-    if from == line.len() {
-        return None;
-    }
-    Some((from, word_end(line, from)))
+    Some((word_start(line, to), to))
 }
 
 /// A line's words are the same by its bytes and by its letters.

@@ -9,9 +9,9 @@ mod joined;
 mod letters;
 mod line;
 
-pub use chars::next_char;
+pub use chars::last_char;
 pub use classes::{Class, classify};
-pub use cutting::{next_word, words_are_bytes};
+pub use cutting::{last_word, words_are_bytes};
 pub use decoding::read_letters;
 pub use joined::{Joined, TooLong};
 pub use letters::spell;

@@ -45,7 +45,7 @@ impl<'p> Engine<'p> {
         ensures left { self.new.left ≡ self.old.left }
     {
         let words = self.program.words.as_slice();
-        match write_letters(&mut self.store, words, spelling, &mut self.made) {
+        match write_letters(&mut self.store, words, spelling) {
             Err(e) => Err(e),
             Ok(made) => self.unify_both(into, made),
         }
@@ -63,7 +63,7 @@ impl<'p> Engine<'p> {
         ensures left { self.new.left ≡ self.old.left }
     {
         let words = self.program.words.as_slice();
-        match write_line(&mut self.store, words, line, &mut self.made) {
+        match write_line(&mut self.store, words, line) {
             Err(e) => Err(e),
             Ok(made) => self.unify_both(into, made),
         }

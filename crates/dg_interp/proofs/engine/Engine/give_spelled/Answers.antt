@@ -3,7 +3,7 @@ use Rattle.dg_interp.specs.Engine.{store_in}
 use Rattle.dg_meaning.specs.Words.{spelled_value}
 use Rattle.dg_meaning.specs.Copies.{copy_cells}
 use Rattle.dg_unify.specs.Store.{Made}
-use Rattle.dg_terms.specs.Terms.{Overflows}
+use Rattle.dg_texts.specs.Spelling.{TooMany}
 use Rattle.dg_interp.specs.Wording.{words_in}
 use Rattle.dg_interp.proofs.Takes.{store_ready}
 use Rattle.dg_terms.proofs.Stores.{holds_kept}
@@ -12,7 +12,7 @@ use Rattle.dg_interp.proofs.Wordings.{made_full, made_done, made_stops}
 use Rattle.dg_interp.proofs.engine.Engine.give_spelled.Goals as goal
 
 pub returns-in-Err-clause-full : goal.returns-in-Err-clause-full
-returns-in-Err-clause-full c = λ letters short is. made_full (spelled_value (words_in c.args.self.now) letters) c.args.into c.args.self.now c.in-Err.e (subst (λ ws. Overflows (copy_cells (spelled_value ws letters)) (store_in c.args.self.now.store) c.in-Err.e) c.as_slice.ensures (c.in-Err.ensures.made letters short is))
+returns-in-Err-clause-full c = λ letters short is. made_full (spelled_value (words_in c.args.self.now) letters) c.args.into c.args.self.now c.in-Err.e (subst (λ ws. TooMany (copy_cells (spelled_value ws letters)) (store_in c.args.self.now.store) c.in-Err.e) c.as_slice.ensures (c.in-Err.ensures.made letters short is))
 
 pub unify_both-requires-clause-ready : goal.unify_both-requires-clause-ready
 unify_both-requires-clause-ready c = store_ready c.args.self.now c.write_spelled.new.store c.args.self.now.made c.write_spelled.ensures.kept c.write_spelled.ensures.saved c.requires.ready
