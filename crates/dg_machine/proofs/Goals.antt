@@ -36,7 +36,7 @@ use Rattle.dg_mid.specs.declared.code.Action.TheVariants as action
 use Rattle.dg_mid.specs.declared.code.Code.{Code}
 use Rattle.dg_mid.specs.Code.{block_at}
 use Rattle.dg_mid.specs.State.{Mid, Calls as CallsOf, Status, Runs as RunsOf, Enters as EntersOf, Resumes as ResumesOf, Fails as FailsOf, Ended as EndedOf}
-use Rattle.dg_mid.specs.Step.{Setting, setting, more, does, runs, step, stops, said, said_in, said_to, followed, is_goal, keeps_within}
+use Rattle.dg_mid.specs.Step.{Setting, setting, more, does, runs, step, said, said_in, said_to, followed, is_goal, keeps_within}
 use Rattle.dg_mid.specs.Heights.{MidOrdered}
 use Rattle.dg_mid.specs.Falling.{jumping}
 use Rattle.dg_mid.specs.Potential.{Tidy, begins_goto}
@@ -84,22 +84,22 @@ goes_to code b r ops block rest built tidy whole is g l m o x at h =
 pub is_done : (code : Code) (r : Memory) (ops : Bor (List Op)) (rest : List Op) → DoesMark code r ops op.Done rest r (Ended ending.Done)
 is_done code r ops rest g l m o x at h = record { stands = (refl, roomy code l m r h); falls = omega arith }
 
-other_fails : (g : Setting) (x : Op) (m : Mid) → is_goal x ≡ false → OpBuilt x → (x ≡ op.Commit → ⊥) → (x ≡ op.Refuse → ⊥) → (x ≡ op.Return → ⊥) → ((b : ℕ) → x ≡ op.Goto b → ⊥) → (x ≡ op.Done → ⊥) → does g x m ≡ FailsOf m
-other_fails g op.Commit m e b c f r t d = absurd (c refl)
-other_fails g op.Refuse m e b c f r t d = absurd (f refl)
-other_fails g op.Return m e b c f r t d = absurd (r refl)
-other_fails g (op.Goto k) m e b c f r t d = absurd (t k refl)
-other_fails g op.Done m e b c f r t d = absurd (d refl)
-other_fails g (op.Retry alt) m e b c f r t d = refl
-other_fails g (op.Enter vars head) m e b c f r t d = refl
-other_fails g op.Back m e b c f r t d = refl
-other_fails g op.Leave m e b c f r t d = absurd b
-other_fails g (op.Keep term) m e b c f r t d = absurd b
-other_fails g (op.TakeOut whole into) m e b c f r t d = absurd b
-other_fails g x m e b c f r t d = absurd (cc)
+other_fails : (g : Setting) (x : Op) (m : Mid) → is_goal x ≡ false → OpBuilt x → (x ≡ op.Commit → ⊥) → (x ≡ op.Refuse → ⊥) → (x ≡ op.Leave → ⊥) → (x ≡ op.Return → ⊥) → ((b : ℕ) → x ≡ op.Goto b → ⊥) → (x ≡ op.Done → ⊥) → does g x m ≡ FailsOf m
+other_fails g op.Commit m e b c f v r t d = absurd (c refl)
+other_fails g op.Refuse m e b c f v r t d = absurd (f refl)
+other_fails g op.Return m e b c f v r t d = absurd (r refl)
+other_fails g (op.Goto k) m e b c f v r t d = absurd (t k refl)
+other_fails g op.Done m e b c f v r t d = absurd (d refl)
+other_fails g (op.Retry alt) m e b c f v r t d = refl
+other_fails g (op.Enter vars head) m e b c f v r t d = refl
+other_fails g op.Back m e b c f v r t d = refl
+other_fails g op.Leave m e b c f v r t d = absurd (v refl)
+other_fails g (op.Keep term) m e b c f v r t d = absurd b
+other_fails g (op.TakeOut whole into) m e b c f v r t d = absurd b
+other_fails g x m e b c f v r t d = absurd (cc)
 
-pub fails_else : (code : Code) (r : Memory) (ops : Bor (List Op)) (x : Op) (rest : List Op) → is_goal x ≡ false → (x ≡ op.Commit → ⊥) → (x ≡ op.Refuse → ⊥) → (x ≡ op.Return → ⊥) → ((b : ℕ) → x ≡ op.Goto b → ⊥) → (x ≡ op.Done → ⊥) → DoesMark code r ops x rest r Fails
-fails_else code r ops x rest e c f t j d g l m o b at h = subst (Falls code l r (Runs ops) r Fails) (sym (other_fails (setting g code l) x m e b c f t j d)) (record { stands = h; falls = omega arith })
+pub fails_else : (code : Code) (r : Memory) (ops : Bor (List Op)) (x : Op) (rest : List Op) → is_goal x ≡ false → (x ≡ op.Commit → ⊥) → (x ≡ op.Refuse → ⊥) → (x ≡ op.Leave → ⊥) → (x ≡ op.Return → ⊥) → ((b : ℕ) → x ≡ op.Goto b → ⊥) → (x ≡ op.Done → ⊥) → DoesMark code r ops x rest r Fails
+fails_else code r ops x rest e c f v t j d g l m o b at h = subst (Falls code l r (Runs ops) r Fails) (sym (other_fails (setting g code l) x m e b c f v t j d)) (record { stands = h; falls = omega arith })
 
 -- ## Steps that take no goal
 
@@ -114,7 +114,7 @@ marks_run tb code old new out now ops x rest split e does g is_of l (RunsOf m) o
     let done = does g l (record m { ops = rest }) o built.0 (refl, built.1) h.1 in
     record {
       stands = subst (λ xs. Stands code l new now (runs (setting g code l) xs m)) (sym is) done.stands;
-      outside = run_outside out g l code m.ops m (subst OpsBuilt (sym h.0.0) h.0.1) t h.1.1.stop_is w;
+      outside = run_outside out g l code m.ops m (subst OpsBuilt (sym h.0.0) h.0.1) t w;
       falls = λ over. done.falls;
       quiet = ap (λ ps. said_to ps (step (setting g code l) (RunsOf m))) (ap (said_in (setting g code l) m) is ∙ quiet_mark (setting g code l) m x rest e);
     }
@@ -215,51 +215,49 @@ takes_op tb code r rest g is_of l m o b at h = (at, h)
 pub quits_op : (tb : Tables) (code : Code) (r : Memory) (rest : List Op) → DoesOp tb code r (op.Do action.Quit) rest r (Ended ending.Quit)
 quits_op tb code r rest g is_of l m o b at h = (refl, roomy code l m r h)
 
-pub stops_op : (tb : Tables) (code : Code) (r : Memory) (rest : List Op) → DoesOp tb code r (op.Do action.Stop) rest r (Ended ending.Stopped)
-stops_op tb code r rest g is_of l m o b at h = subst (λ t. Stands code l r (Ended ending.Stopped) (stops (setting g code l) t (more 0 m))) (sym h.1.stop_is) (refl, roomy code l m r h)
-
-pub fails_act : (tb : Tables) (code : Code) (r : Memory) (a : Action) (rest : List Op) → IsQuiet a → (a ≡ action.Just → ⊥) → (a ≡ action.Quit → ⊥) → (a ≡ action.Stop → ⊥) → ((x y : Term) → a ≡ action.Equal x y → ⊥) → ((f : CompareOp) (x y : Term) → a ≡ action.Compare f x y → ⊥) → ((f : ArithOp) (x y z : Term) → a ≡ action.Arith f x y z → ⊥) → ((f : TestKind) (x : Term) → a ≡ action.Test f x → ⊥) → DoesOp tb code r (op.Do a) rest r Fails
-fails_act tb code r action.Fail rest q j u s k d v t g is_of l m o b at h = nothing_more code l r m h
-fails_act tb code r action.Just rest q j u s k d v t g is_of l m o b at h = absurd (j refl)
-fails_act tb code r action.Quit rest q j u s k d v t g is_of l m o b at h = absurd (u refl)
-fails_act tb code r action.Stop rest q j u s k d v t g is_of l m o b at h = absurd (s refl)
-fails_act tb code r (action.Text name) rest q j u s k d v t g is_of l m o b at h = absurd q
-fails_act tb code r (action.Gap kind) rest q j u s k d v t g is_of l m o b at h = absurd q
-fails_act tb code r (action.GapN x) rest q j u s k d v t g is_of l m o b at h = absurd q
-fails_act tb code r (action.Print x) rest q j u s k d v t g is_of l m o b at h = absurd q
-fails_act tb code r (action.Random x y z) rest q j u s k d v t g is_of l m o b at h = absurd q
-fails_act tb code r (action.Now place xs sets) rest q j u s k d v t g is_of l m o b at h = absurd q
-fails_act tb code r (action.Arith f x y z) rest q j u s k d v t g is_of l m o b at h = absurd (v f x y z refl)
-fails_act tb code r (action.Test f x) rest q j u s k d v t g is_of l m o b at h = absurd (t f x refl)
-fails_act tb code r (action.Compare f x y) rest q j u s k d v t g is_of l m o b at h = absurd (d f x y refl)
-fails_act tb code r (action.Equal x y) rest q j u s k d v t g is_of l m o b at h = absurd (k x y refl)
-fails_act tb code r a rest q j u s k d v t g is_of l m o b at h = absurd b
+pub fails_act : (tb : Tables) (code : Code) (r : Memory) (a : Action) (rest : List Op) → IsQuiet a → (a ≡ action.Just → ⊥) → (a ≡ action.Quit → ⊥) → ((x y : Term) → a ≡ action.Equal x y → ⊥) → ((f : CompareOp) (x y : Term) → a ≡ action.Compare f x y → ⊥) → ((f : ArithOp) (x y z : Term) → a ≡ action.Arith f x y z → ⊥) → ((f : TestKind) (x : Term) → a ≡ action.Test f x → ⊥) → DoesOp tb code r (op.Do a) rest r Fails
+fails_act tb code r action.Fail rest q j u k d v t g is_of l m o b at h = nothing_more code l r m h
+fails_act tb code r action.Just rest q j u k d v t g is_of l m o b at h = absurd (j refl)
+fails_act tb code r action.Quit rest q j u k d v t g is_of l m o b at h = absurd (u refl)
+fails_act tb code r action.Stop rest q j u k d v t g is_of l m o b at h = absurd q
+fails_act tb code r (action.Text name) rest q j u k d v t g is_of l m o b at h = absurd q
+fails_act tb code r (action.Gap kind) rest q j u k d v t g is_of l m o b at h = absurd q
+fails_act tb code r (action.GapN x) rest q j u k d v t g is_of l m o b at h = absurd q
+fails_act tb code r (action.Print x) rest q j u k d v t g is_of l m o b at h = absurd q
+fails_act tb code r (action.Random x y z) rest q j u k d v t g is_of l m o b at h = absurd q
+fails_act tb code r (action.Now place xs sets) rest q j u k d v t g is_of l m o b at h = absurd q
+fails_act tb code r (action.Arith f x y z) rest q j u k d v t g is_of l m o b at h = absurd (v f x y z refl)
+fails_act tb code r (action.Test f x) rest q j u k d v t g is_of l m o b at h = absurd (t f x refl)
+fails_act tb code r (action.Compare f x y) rest q j u k d v t g is_of l m o b at h = absurd (d f x y refl)
+fails_act tb code r (action.Equal x y) rest q j u k d v t g is_of l m o b at h = absurd (k x y refl)
+fails_act tb code r a rest q j u k d v t g is_of l m o b at h = absurd b
 
 pub other_goal : (x : Op) → is_goal x ≡ true → OpBuilt x → IsQuietOp x → ((a : Action) → x ≡ op.Do a → ⊥) → ((pred : ℕ) (ts : List Term) (many : Bool) (next : ℕ) → x ≡ op.Ask pred ts many next → ⊥) → ((pred : ℕ) (ts : List Term) (many : Bool) → x ≡ op.LastAsk pred ts many → ⊥) →
-    (x ≡ op.Take → ⊥) → ((alt : ℕ) → x ≡ op.Branch alt → ⊥) → (x ≡ op.Once → ⊥) → ((alt : ℕ) → x ≡ op.Try alt → ⊥) → ((a : Term) (o : Option Term) (many : Bool) (next : ℕ) → x ≡ op.Query a o many next → ⊥) → ((a : Term) (o : Option Term) (many : Bool) → x ≡ op.LastQuery a o many → ⊥) → ⊥
-other_goal (op.Do a) e b q d k la t br on tr qu lq = d a refl
-other_goal (op.Ask pred ts many next) e b q d k la t br on tr qu lq = k pred ts many next refl
-other_goal (op.LastAsk pred ts many) e b q d k la t br on tr qu lq = la pred ts many refl
-other_goal op.Take e b q d k la t br on tr qu lq = t refl
-other_goal (op.Branch alt) e b q d k la t br on tr qu lq = br alt refl
-other_goal op.Once e b q d k la t br on tr qu lq = on refl
-other_goal (op.Try alt) e b q d k la t br on tr qu lq = tr alt refl
-other_goal (op.Query x y many next) e b q d k la t br on tr qu lq = qu x y many next refl
-other_goal (op.LastQuery x y many) e b q d k la t br on tr qu lq = lq x y many refl
-other_goal (op.Find place ts many next) e b q d k la t br on tr qu lq = b
-other_goal (op.Select site mode bs behind) e b q d k la t br on tr qu lq = q
-other_goal (op.Shield alt) e b q d k la t br on tr qu lq = b
-other_goal (op.Collect x y alt) e b q d k la t br on tr qu lq = b
-other_goal x e b q d k la t br on tr qu lq = absurd (cc)
+    (x ≡ op.Take → ⊥) → ((alt : ℕ) → x ≡ op.Branch alt → ⊥) → (x ≡ op.Once → ⊥) → ((alt : ℕ) → x ≡ op.Try alt → ⊥) → ((alt : ℕ) → x ≡ op.Shield alt → ⊥) → ((a : Term) (o : Option Term) (many : Bool) (next : ℕ) → x ≡ op.Query a o many next → ⊥) → ((a : Term) (o : Option Term) (many : Bool) → x ≡ op.LastQuery a o many → ⊥) → ⊥
+other_goal (op.Do a) e b q d k la t br on tr sh qu lq = d a refl
+other_goal (op.Ask pred ts many next) e b q d k la t br on tr sh qu lq = k pred ts many next refl
+other_goal (op.LastAsk pred ts many) e b q d k la t br on tr sh qu lq = la pred ts many refl
+other_goal op.Take e b q d k la t br on tr sh qu lq = t refl
+other_goal (op.Branch alt) e b q d k la t br on tr sh qu lq = br alt refl
+other_goal op.Once e b q d k la t br on tr sh qu lq = on refl
+other_goal (op.Try alt) e b q d k la t br on tr sh qu lq = tr alt refl
+other_goal (op.Query x y many next) e b q d k la t br on tr sh qu lq = qu x y many next refl
+other_goal (op.LastQuery x y many) e b q d k la t br on tr sh qu lq = lq x y many refl
+other_goal (op.Find place ts many next) e b q d k la t br on tr sh qu lq = b
+other_goal (op.Select site mode bs behind) e b q d k la t br on tr sh qu lq = q
+other_goal (op.Shield alt) e b q d k la t br on tr sh qu lq = sh alt refl
+other_goal (op.Collect x y alt) e b q d k la t br on tr sh qu lq = b
+other_goal x e b q d k la t br on tr sh qu lq = absurd (cc)
 
-pub quiet_else : (a : Action) → ((name : _) → a ≡ action.Text name → ⊥) → ((kind : _) → a ≡ action.Gap kind → ⊥) → ((x : Term) → a ≡ action.GapN x → ⊥) → ((x : Term) → a ≡ action.Print x → ⊥) → ((x y z : Term) → a ≡ action.Random x y z → ⊥) → ((place : ℕ) (xs : List Term) (sets : Bool) → a ≡ action.Now place xs sets → ⊥) → IsQuiet a
-quiet_else (action.Text name) t g n p d w = t name refl
-quiet_else (action.Gap kind) t g n p d w = g kind refl
-quiet_else (action.GapN x) t g n p d w = n x refl
-quiet_else (action.Print x) t g n p d w = p x refl
-quiet_else (action.Random x y z) t g n p d w = d x y z refl
-quiet_else (action.Now place xs sets) t g n p d w = w place xs sets refl
-quiet_else a t g n p d w = tt
+pub quiet_else : (a : Action) → ((name : _) → a ≡ action.Text name → ⊥) → ((kind : _) → a ≡ action.Gap kind → ⊥) → ((x : Term) → a ≡ action.GapN x → ⊥) → ((x : Term) → a ≡ action.Print x → ⊥) → ((x y z : Term) → a ≡ action.Random x y z → ⊥) → ((place : ℕ) (xs : List Term) (sets : Bool) → a ≡ action.Now place xs sets → ⊥) → (a ≡ action.Stop → ⊥) → IsQuiet a
+quiet_else (action.Text name) t g n p d w v = t name refl
+quiet_else (action.Gap kind) t g n p d w v = g kind refl
+quiet_else (action.GapN x) t g n p d w v = n x refl
+quiet_else (action.Print x) t g n p d w v = p x refl
+quiet_else (action.Random x y z) t g n p d w v = d x y z refl
+quiet_else (action.Now place xs sets) t g n p d w v = w place xs sets refl
+quiet_else action.Stop t g n p d w v = absurd (v refl)
+quiet_else a t g n p d w v = tt
 
 pub quiet_op : (x : Op) → ((a : Action) → x ≡ op.Do a → ⊥) → ((site : ℕ) (mode : Mode) (blocks : List ℕ) (behind : ℕ) → x ≡ op.Select site mode blocks behind → ⊥) → IsQuietOp x
 quiet_op (op.Do a) d s = absurd (d a refl)
@@ -308,7 +306,7 @@ quiet_goal g m (op.Do (action.Test f x)) rest q b = refl
 quiet_goal g m (op.Do (action.Compare f x y)) rest q b = refl
 quiet_goal g m (op.Do action.Fail) rest q b = refl
 quiet_goal g m (op.Do action.Quit) rest q b = refl
-quiet_goal g m (op.Do action.Stop) rest q b = refl
+quiet_goal g m (op.Do action.Stop) rest q b = absurd q
 quiet_goal g m (op.Do (action.Text name)) rest q b = absurd q
 quiet_goal g m (op.Do (action.Gap kind)) rest q b = absurd q
 quiet_goal g m (op.Do (action.GapN x)) rest q b = absurd q
@@ -342,7 +340,7 @@ module _ (tb : Tables) (code : Code) (g : Game) (is_of : IsOf g.program tb) (l :
   pub silent_done : (s : Spacer) (k : SinkView) (out : Outside) → MidOrdered m → Around out g l m → said_in set m (x ∷ rest) ≡ [] → DrawsNone x → DoesOp tb code old x rest new now → GoalDone code g l new out now s s k k m
   silent_done s k out o w silent draws led =
       let stands = led g is_of l (record m { ops = rest }) o built_here.0 (refl, built_here.1) h in
-      silent_with s k out silent (record { stands = stands; outside = has_outside out g l (record m { ops = rest }) (does set x (record m { ops = rest })) (has_does set x (record m { ops = rest }) built_here.0 draws h.1.stop_is) w })
+      silent_with s k out silent (record { stands = stands; outside = has_outside out g l (record m { ops = rest }) (does set x (record m { ops = rest })) (has_does set x (record m { ops = rest }) built_here.0 draws) w })
 
   pub quiet_done : (s : Spacer) (k : SinkView) (out : Outside) → MidOrdered m → Around out g l m → IsQuietOp x → DoesOp tb code old x rest new now → GoalDone code g l new out now s s k k m
   quiet_done s k out o w quiet led = silent_done s k out o w (quiet_goal set m x rest quiet built_here.0) (quiet_draws x quiet) led

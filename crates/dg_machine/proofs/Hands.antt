@@ -20,15 +20,16 @@ use Rattle.dg_machine.specs.declared.now.Choice.{Choice}
 use Rattle.dg_machine.specs.declared.memory.Memory.{Memory}
 use Rattle.dg_machine.specs.Refs.{RowAt}
 use Rattle.dg_machine.specs.Links.{named, below}
-use Rattle.dg_machine.specs.Layout.{InnersAt, FramesAt, ChoicesAt, HasRoom, Holds, heap_in, limit_in}
+use Rattle.dg_machine.specs.Layout.{InnersAt, FramesAt, HasRoom, Holds, heap_in, limit_in}
 use Rattle.dg_machine.specs.Measure.{choices_left}
-use Rattle.dg_machine.proofs.Cuts.{cut_is}
+use Rattle.dg_machine.specs.Stops.{tags_of, StopIs, Among}
+use Rattle.dg_machine.proofs.Cuts.{among_cut}
 use Rattle.dg_machine.proofs.Opens.{inner_within, frame_within, left_more}
 
 -- ## At hand
 
 -- the newest of these frames is this one
-pub record NewestFrame (s : Store) (inners : List Inner) (xs : List Frame) (e : ℕ) (frame : Frame) (fs : List FrameOf) : Type 0 where
+pub record NewestFrame (s : Store) (us : List ℕ) (inners : List Inner) (xs : List Frame) (e : ℕ) (frame : Frame) (fs : List FrameOf) : Type 0 where
   pub newest : FrameOf
   pub behind : List FrameOf
   pub is : fs ≡ newest ∷ behind
@@ -36,13 +37,13 @@ pub record NewestFrame (s : Store) (inners : List Inner) (xs : List Frame) (e : 
   pub many : newest.many ≡ frame.many
   pub cut : newest.cut.height ≡ frame.cut
   pub vars : RowAt s frame.vars newest.vars
-  pub inner_is : InnersAt inners frame.inner newest.inner
+  pub inner_is : InnersAt us inners frame.inner newest.inner
   pub older : frame.behind < e
-  pub behind_is : FramesAt s inners xs frame.behind behind
+  pub behind_is : FramesAt s us inners xs frame.behind behind
 
-pub some_frame : (s : Store) (is : List Inner) (xs : List Frame) (e : ℕ) (frame : Frame) (fs : List FrameOf) → named xs e ≡ Some frame → FramesAt s is xs e fs → NewestFrame s is xs e frame fs
-some_frame s is xs e frame [] n h = let none : named xs 0 ≡ Some frame = subst (λ k. named xs k ≡ Some frame) h n in absurd (cc)
-some_frame s is xs e frame (f ∷ fs) n h =
+pub some_frame : (s : Store) (us : List ℕ) (is : List Inner) (xs : List Frame) (e : ℕ) (frame : Frame) (fs : List FrameOf) → named xs e ≡ Some frame → FramesAt s us is xs e fs → NewestFrame s us is xs e frame fs
+some_frame s us is xs e frame [] n h = let none : named xs 0 ≡ Some frame = subst (λ k. named xs k ≡ Some frame) h n in absurd (cc)
+some_frame s us is xs e frame (f ∷ fs) n h =
     let same : h.frame ≡ frame = let there = h.there in cc in
     record {
       newest = f;
@@ -52,59 +53,70 @@ some_frame s is xs e frame (f ∷ fs) n h =
       many = h.many ∙ ap (λ (x : Frame). x.many) same;
       cut = h.cut ∙ ap (λ (x : Frame). x.cut) same;
       vars = subst (λ (x : Frame). RowAt s x.vars f.vars) same h.vars;
-      inner_is = subst (λ (x : Frame). InnersAt is x.inner f.inner) same h.inner_is;
+      inner_is = subst (λ (x : Frame). InnersAt us is x.inner f.inner) same h.inner_is;
       older = subst (λ (x : Frame). x.behind < e) same h.older;
-      behind_is = subst (λ (x : Frame). FramesAt s is xs x.behind fs) same h.behind_is;
+      behind_is = subst (λ (x : Frame). FramesAt s us is xs x.behind fs) same h.behind_is;
     }
 
-pub no_frame : (s : Store) (is : List Inner) (xs : List Frame) (e : ℕ) (fs : List FrameOf) → named xs e ≡ None → FramesAt s is xs e fs → fs ≡ []
-no_frame s is xs e [] n h = refl
-no_frame s is xs e (f ∷ fs) n h = let there = h.there in absurd (cc)
+pub no_frame : (s : Store) (us : List ℕ) (is : List Inner) (xs : List Frame) (e : ℕ) (fs : List FrameOf) → named xs e ≡ None → FramesAt s us is xs e fs → fs ≡ []
+no_frame s us is xs e [] n h = refl
+no_frame s us is xs e (f ∷ fs) n h = let there = h.there in absurd (cc)
 
 -- the innermost of these inner constructs is this one
-pub record Innermost (inners : List Inner) (l : ℕ) (inner : Inner) (ps : List Place) : Type 0 where
+pub record Innermost (us : List ℕ) (inners : List Inner) (l : ℕ) (inner : Inner) (ps : List Place) : Type 0 where
   pub innermost : Place
   pub around : List Place
   pub is : ps ≡ innermost ∷ around
   pub height : innermost.height ≡ inner.height
+  pub outer : StopIs us inner.stop innermost.outer
   pub older : inner.around < l
-  pub around_is : InnersAt inners inner.around around
+  pub around_is : InnersAt us inners inner.around around
 
-pub some_inner : (is : List Inner) (l : ℕ) (inner : Inner) (ps : List Place) → named is l ≡ Some inner → InnersAt is l ps → Innermost is l inner ps
-some_inner is l inner [] n h = let none : named is 0 ≡ Some inner = subst (λ k. named is k ≡ Some inner) h n in absurd (cc)
-some_inner is l inner (p ∷ ps) n h =
+pub some_inner : (us : List ℕ) (is : List Inner) (l : ℕ) (inner : Inner) (ps : List Place) → named is l ≡ Some inner → InnersAt us is l ps → Innermost us is l inner ps
+some_inner us is l inner [] n h = let none : named is 0 ≡ Some inner = subst (λ k. named is k ≡ Some inner) h n in absurd (cc)
+some_inner us is l inner (p ∷ ps) n h =
     let same : h.inner ≡ inner = let there = h.there in cc in
     record {
       innermost = p;
       around = ps;
       is = refl;
       height = h.height ∙ ap (λ (x : Inner). x.height) same;
+      outer = subst (λ (x : Inner). StopIs us x.stop p.outer) same h.outer;
       older = subst (λ (x : Inner). x.around < l) same h.older;
-      around_is = subst (λ (x : Inner). InnersAt is x.around ps) same h.around_is;
+      around_is = subst (λ (x : Inner). InnersAt us is x.around ps) same h.around_is;
     }
 
-pub no_inner : (is : List Inner) (l : ℕ) (ps : List Place) → named is l ≡ None → InnersAt is l ps → ps ≡ []
-no_inner is l [] n h = refl
-no_inner is l (p ∷ ps) n h = let there = h.there in absurd (cc)
+pub no_inner : (us : List ℕ) (is : List Inner) (l : ℕ) (ps : List Place) → named is l ≡ None → InnersAt us is l ps → ps ≡ []
+no_inner us is l [] n h = refl
+no_inner us is l (p ∷ ps) n h = let there = h.there in absurd (cc)
 
 -- ## Cuts
 
 pub nothing_more : (code : Code) (l : Limits) (r : Memory) (m : Mid) → Holds code l r m → Holds code l r (more 0 m)
 nothing_more code l r m h =
     let same : m.state.heap ≡ m.state.heap + 0 = omega arith in
-    (record { saves = h.0.saves; stand = h.0.stand; state_is = h.0.state_is ∙ ap (λ n. record m.state { heap = n }) same; limits = h.0.limits; frames_are = h.0.frames_are; inner_are = h.0.inner_are; choices_are = h.0.choices_are; room = h.0.room }, h.1)
+    (record { saves = h.0.saves; stand = h.0.stand; state_is = h.0.state_is ∙ ap (λ n. record m.state { heap = n }) same; limits = h.0.limits; frames_are = h.0.frames_are; inner_are = h.0.inner_are; stop_is = h.0.stop_is; choices_are = h.0.choices_are; room = h.0.room }, h.1)
 
 pub cut_held : (code : Code) (l : Limits) (m : Mid) (p : Place) (to : ℕ) (r new : Memory) → Holds code l r m → p.height ≡ to → AgreeAll m.choices p → reverse new.choices.items ≡ below to (reverse r.choices.items) → HasRoom (record r { choices = new.choices }) → Holds code l (record r { choices = new.choices }) (cut_to p m)
 cut_held code l m p to r new h height agree left room =
-    let c = cut_is code r.frames.items r.inners.items r.kept.items r.arena p to h.0.saves (reverse r.choices.items) m.choices height agree h.0.choices_are in (
+    let x = h.0.choices_are in
+    let left_in = among_cut code r.frames.items r.inners.items r.kept.items r.stops.items p to h.0.saves x.points x.means (reverse r.choices.items) m.choices height agree x.are x.choices_in in (
       record {
-        saves = c.saves;
-        stand = c.stand h.0.stand;
+        saves = h.0.saves;
+        stand = h.0.stand;
         state_is = h.0.state_is;
         limits = h.0.limits;
         frames_are = h.0.frames_are;
         inner_are = h.0.inner_are;
-        choices_are = subst (λ ks. ChoicesAt code r.frames.items r.inners.items r.kept.items c.saves ks (cut_choices p m.choices)) (sym left) c.choices;
+        stop_is = h.0.stop_is;
+        choices_are = record {
+          points = x.points;
+          means = x.means;
+          are = x.are;
+          under = x.under;
+          choices_in = subst (λ ks. Among x.points x.means ks (cut_choices p m.choices)) (sym left) left_in;
+          stops_in = x.stops_in;
+        };
         room = room;
       },
       h.1,
@@ -115,9 +127,11 @@ cut_room r new h capacity fewer = record {
   frames_fit = h.frames_fit;
   inners_fit = h.inners_fit;
   choices_fit = omega (arith, h.choices_fit, capacity);
+  stops_fit = h.stops_fit;
   frames_few = h.frames_few;
   inners_few = h.inners_few;
   choices_few = omega (arith, h.choices_few, fewer);
+  stops_few = h.stops_few;
   refs = h.refs;
 }
 
@@ -184,8 +198,8 @@ few code l r m h =
     let small : limit_in r ≤ 2147483648 = r.arena.roomy.small in
     let within : heap_in r ≤ limit_in r = r.arena.sound.heap_fits in
     let room = h.0.room in
-    let in_frames = frame_within (meaning_of r.arena) r.inners.items r.frames.items r.frame m.frames h.0.frames_are in
-    let in_inners = inner_within r.inners.items r.inner m.inner h.0.inner_are in
+    let in_frames = frame_within (meaning_of r.arena) (tags_of m.stops) r.inners.items r.frames.items r.frame m.frames h.0.frames_are in
+    let in_inners = inner_within (tags_of m.stops) r.inners.items r.inner m.inner h.0.inner_are in
     record {
       frame = omega (arith, small, within, room.frames_few, in_frames);
       inner = omega (arith, small, within, room.inners_few, in_inners);

@@ -1,13 +1,13 @@
 -- What lies in memory still lies there where only more was added.
-use Rattle.std.proofs.Common.{◌++◌, ◌≡◌, ℕ, zero, suc, List, [], ◌∷◌, Option, Some, None, sym, subst}
+use Rattle.std.proofs.Common.{◌++◌, ◌≡◌, ◌≤◌, ℕ, zero, suc, List, [], ◌∷◌, Option, Some, None, sym, subst}
 use Rattle.std.specs.List.{slice_get}
 use Rattle.dg_meaning.specs.Values.{Value, Values, Closure, Node}
 use Rattle.dg_meaning.specs.OneRun.{Begins}
-use Rattle.dg_meaning.proofs.OneRun.{begins_on}
+use Rattle.dg_meaning.proofs.OneRun.{begins_on, begins_same}
 use Rattle.dg_unify.specs.Store.{Store, Saved, Kept, IsClosureAt}
 use Rattle.dg_unify.proofs.Lists.{get_append}
 use Rattle.dg_mid.specs.declared.code.Code.{Code}
-use Rattle.dg_mid.specs.State.{Place, Frame as FrameOf, Choice as ChoiceOf, Call as CallOf, Way as WayOf, Goes as GoesOf, Calls as CallsOf}
+use Rattle.dg_mid.specs.State.{Place, Stop, Frame as FrameOf, Choice as ChoiceOf, Call as CallOf, Way as WayOf, Goes as GoesOf, Calls as CallsOf}
 use Rattle.dg_unify.specs.declared.bindings.Ref.{Ref}
 use Rattle.dg_machine.specs.declared.now.Row.{Row}
 use Rattle.dg_machine.specs.declared.now.Call.{Call}
@@ -18,21 +18,23 @@ use Rattle.dg_machine.specs.declared.now.Inner.{Inner}
 use Rattle.dg_machine.specs.declared.now.Choice.{Choice}
 use Rattle.dg_machine.specs.Links.{named}
 use Rattle.dg_machine.specs.Refs.{ValuesAt, Captures, RowAt, RefsAt, AreRefs}
-use Rattle.dg_machine.specs.Layout.{CallAt, WayAt, InnersAt, FramesAt, ChoicesAt}
+use Rattle.dg_machine.specs.Layout.{CallAt, WayAt, InnersAt, FramesAt, ChoiceAt, ChoicesAt, AreAmong}
+use Rattle.dg_machine.proofs.StopLemmas.{stop_kept, under_up}
 
 -- what is named is still named so
 pub named_kept : {A : Type 0} (xs ys : List A) (n : ℕ) (x : A) → Begins xs ys → named xs n ≡ Some x → named ys n ≡ Some x
 named_kept xs ys zero x b e = absurd (cc)
 named_kept xs ys (suc n) x b e = subst (λ l. slice_get l n ≡ Some x) (sym b.is) (get_append xs b.behind n x e)
 
-pub inners_kept : (old new : List Inner) (l : ℕ) (ps : List Place) → Begins old new → InnersAt old l ps → InnersAt new l ps
-inners_kept old new l [] b h = h
-inners_kept old new l (p ∷ ps) b h = record {
+pub inners_kept : (us vs : List ℕ) (old new : List Inner) (l : ℕ) (ps : List Place) → Begins us vs → Begins old new → InnersAt us old l ps → InnersAt vs new l ps
+inners_kept us vs old new l [] d b h = h
+inners_kept us vs old new l (p ∷ ps) d b h = record {
   inner = h.inner;
   there = named_kept old new l h.inner b h.there;
   height = h.height;
+  outer = stop_kept us vs h.inner.stop p.outer d h.outer;
   older = h.older;
-  around_is = inners_kept old new h.inner.around ps b h.around_is;
+  around_is = inners_kept us vs old new h.inner.around ps d b h.around_is;
 }
 
 pub values_kept : (s t : Store) (at : ℕ) (vs : List Value) → Kept s t → ValuesAt s at vs → ValuesAt t at vs
@@ -74,51 +76,68 @@ way_kept code s t rs (Calls k pred left) (CallsOf c rules) kept h = record { cal
 way_kept code s t rs (Goes b) on kept h = absurd h
 way_kept code s t rs (Calls k pred left) on kept h = absurd h
 
-pub frames_kept : (s t : Store) (is js : List Inner) (xs ys : List Frame) (e : ℕ) (fs : List FrameOf) → Kept s t → Begins is js → Begins xs ys → FramesAt s is xs e fs → FramesAt t js ys e fs
-frames_kept s t is js xs ys e [] k a b h = h
-frames_kept s t is js xs ys e (f ∷ fs) k a b h = record {
+pub frames_kept : (s t : Store) (us vs : List ℕ) (is js : List Inner) (xs ys : List Frame) (e : ℕ) (fs : List FrameOf) → Kept s t → Begins us vs → Begins is js → Begins xs ys → FramesAt s us is xs e fs → FramesAt t vs js ys e fs
+frames_kept s t us vs is js xs ys e [] k d a b h = h
+frames_kept s t us vs is js xs ys e (f ∷ fs) k d a b h = record {
   frame = h.frame;
   there = named_kept xs ys e h.frame b h.there;
   next = h.next;
   many = h.many;
   cut = h.cut;
   vars = row_kept s t h.frame.vars f.vars k h.vars;
-  inner_is = inners_kept is js h.frame.inner f.inner a h.inner_is;
+  inner_is = inners_kept us vs is js h.frame.inner f.inner d a h.inner_is;
   older = h.older;
-  behind_is = frames_kept s t is js xs ys h.frame.behind fs k a b h.behind_is;
+  behind_is = frames_kept s t us vs is js xs ys h.frame.behind fs k d a b h.behind_is;
 }
 
-pub choices_kept : (code : Code) (xs ys : List Frame) (is js : List Inner) (rs qs : List Ref) (ms : List Saved) (ks : List Choice) (cs : List ChoiceOf) → Begins xs ys → Begins is js → Begins rs qs → ChoicesAt code xs is rs ms ks cs → ChoicesAt code ys js qs ms ks cs
-choices_kept code xs ys is js rs qs [] [] [] a b d h = h
-choices_kept code xs ys is js rs qs (m ∷ ms) (k ∷ ks) (c ∷ cs) a b d h = (
-  record {
-    args = h.0.args;
-    way = h.0.way;
-    mark = h.0.mark;
-    state = h.0.state;
-    height = h.0.height;
-    frames_then = h.0.frames_then;
-    inners_then = h.0.inners_then;
-    frames_begin = begins_on h.0.frames_then xs ys h.0.frames_begin a;
-    inners_begin = begins_on h.0.inners_then is js h.0.inners_begin b;
-    frames_len = h.0.frames_len;
-    inners_len = h.0.inners_len;
-    refs_then = h.0.refs_then;
-    refs_begin = begins_on (h.0.refs_then ++ h.0.args) rs qs h.0.refs_begin d;
-    refs_len = h.0.refs_len;
-    args_len = h.0.args_len;
-    args_few = h.0.args_few;
-    refs_few = h.0.refs_few;
-    frames_are = h.0.frames_are;
-    inner_are = h.0.inner_are;
-    frames_few = h.0.frames_few;
-    inners_few = h.0.inners_few;
-    open_then = h.0.open_then;
-    older_are = h.0.older_are;
-  },
-  h.1,
-)
-choices_kept code xs ys is js rs qs [] [] (c ∷ cs) a b d h = h
-choices_kept code xs ys is js rs qs [] (k ∷ ks) cs a b d h = h
-choices_kept code xs ys is js rs qs (m ∷ ms) [] cs a b d h = h
-choices_kept code xs ys is js rs qs (m ∷ ms) (k ∷ ks) [] a b d h = h
+-- a choice lies among more
+pub choice_kept : (older : List Frame → List Inner → List Ref → List Choice → Type 0) (code : Code) (xs ys : List Frame) (is js : List Inner) (rs qs : List Ref) (ts us : List Choice) (m : Saved) (k : Choice) (c : ChoiceOf) → Begins xs ys → Begins is js → Begins rs qs → Begins ts us → ChoiceAt older code xs is rs ts m k c → ChoiceAt older code ys js qs us m k c
+choice_kept older code xs ys is js rs qs ts us m k c a b d e h = record {
+  args = h.args;
+  way = h.way;
+  mark = h.mark;
+  state = h.state;
+  height = h.height;
+  heap = h.heap;
+  frames_then = h.frames_then;
+  inners_then = h.inners_then;
+  frames_begin = begins_on h.frames_then xs ys h.frames_begin a;
+  inners_begin = begins_on h.inners_then is js h.inners_begin b;
+  frames_len = h.frames_len;
+  inners_len = h.inners_len;
+  stops_then = h.stops_then;
+  stops_begin = begins_on h.stops_then ts us h.stops_begin e;
+  stops_len = h.stops_len;
+  refs_then = h.refs_then;
+  refs_begin = begins_on (h.refs_then ++ h.args) rs qs h.refs_begin d;
+  refs_len = h.refs_len;
+  args_len = h.args_len;
+  args_few = h.args_few;
+  refs_few = h.refs_few;
+  frames_are = h.frames_are;
+  inner_are = h.inner_are;
+  stop_is = h.stop_is;
+  frames_few = h.frames_few;
+  inners_few = h.inners_few;
+  gathered = h.gathered;
+  older_are = h.older_are;
+}
+
+pub choices_kept : (code : Code) (xs ys : List Frame) (is js : List Inner) (rs qs : List Ref) (ts us : List Choice) (ms : List Saved) (ks : List Choice) (cs : List ChoiceOf) → Begins xs ys → Begins is js → Begins rs qs → Begins ts us → ChoicesAt code xs is rs ts ms ks cs → ChoicesAt code ys js qs us ms ks cs
+choices_kept code xs ys is js rs qs ts us [] [] [] a b d e h = h
+choices_kept code xs ys is js rs qs ts us (m ∷ ms) (k ∷ ks) (c ∷ cs) a b d e h = (choice_kept _ code xs ys is js rs qs ts us m k c a b d e h.0, h.1)
+choices_kept code xs ys is js rs qs ts us [] [] (c ∷ cs) a b d e h = h
+choices_kept code xs ys is js rs qs ts us [] (k ∷ ks) cs a b d e h = h
+choices_kept code xs ys is js rs qs ts us (m ∷ ms) [] cs a b d e h = h
+choices_kept code xs ys is js rs qs ts us (m ∷ ms) (k ∷ ks) [] a b d e h = h
+
+-- choices are among those that lie among more, and as high
+pub among_kept : (code : Code) (xs ys : List Frame) (is js : List Inner) (rs qs : List Ref) (h h' : ℕ) (ms : List Saved) (ks : List Choice) (cs : List ChoiceOf) (ts : List Choice) (ss : List Stop) → Begins xs ys → Begins is js → Begins rs qs → h ≤ h' → AreAmong code xs is rs h ms ks cs ts ss → AreAmong code ys js qs h' ms ks cs ts ss
+among_kept code xs ys is js rs qs h h' ms ks cs ts ss a b d le x = record {
+  points = x.points;
+  means = x.means;
+  are = choices_kept code xs ys is js rs qs ts ts ms x.points x.means a b d (begins_same ts) x.are;
+  under = under_up h h' x.points le x.under;
+  choices_in = x.choices_in;
+  stops_in = x.stops_in;
+}

@@ -20,6 +20,7 @@ use Rattle.dg_machine.specs.declared.now.Now.TheVariants.{Runs, Fails, Ended as 
 use Rattle.dg_machine.specs.declared.memory.Memory.{Memory}
 use Rattle.dg_machine.specs.Layout.{Holds, HasRoom, Lacks, Took, Opened, heap_in}
 use Rattle.dg_machine.specs.Links.{named, below}
+use Rattle.dg_machine.specs.Stops.{tags_of}
 use Rattle.dg_machine.specs.Measure.{choices_left}
 use Rattle.dg_machine.specs.Standing.{CodeIs, Stands, Falls}
 use Rattle.dg_machine.proofs.Opens.{fits}
@@ -72,13 +73,13 @@ was_cut code l m p to r new h height agree left capacity fewer same = subst (λ 
 pub just_some : (code : Code) (l : Limits) (m : Mid) (frame : Frame) (r new : Memory) → MidOrdered m → Holds code l r m → named r.frames.items r.frame ≡ Some frame → reverse new.choices.items ≡ below frame.cut (reverse r.choices.items) →
     vec_capacity new.choices ≡ vec_capacity r.choices → length new.choices.items ≤ length r.choices.items → new ≡ record r { choices = new.choices } → Holds code l new (cut_to (cut_of m.frames) m)
 just_some code l m frame r new o h is left capacity fewer same =
-    let x = some_frame (meaning_of r.arena) r.inners.items r.frames.items r.frame frame m.frames is h.0.frames_are in
+    let x = some_frame (meaning_of r.arena) (tags_of m.stops) r.inners.items r.frames.items r.frame frame m.frames is h.0.frames_are in
     was_cut code l m (cut_of m.frames) frame.cut r new h (ap (λ fs. (cut_of fs).height) x.is ∙ x.cut) (agree_cut m.next_tag m.state.heap m.choices m.frames o.named.frames_are) left capacity fewer same
 
 pub just_none : (code : Code) (l : Limits) (m : Mid) (r new : Memory) → MidOrdered m → Holds code l r m → named r.frames.items r.frame ≡ None → reverse new.choices.items ≡ below 0 (reverse r.choices.items) →
     vec_capacity new.choices ≡ vec_capacity r.choices → length new.choices.items ≤ length r.choices.items → new ≡ record r { choices = new.choices } → Holds code l new (cut_to (cut_of m.frames) m)
 just_none code l m r new o h is left capacity fewer same =
-    let none = no_frame (meaning_of r.arena) r.inners.items r.frames.items r.frame m.frames is h.0.frames_are in
+    let none = no_frame (meaning_of r.arena) (tags_of m.stops) r.inners.items r.frames.items r.frame m.frames is h.0.frames_are in
     was_cut code l m (cut_of m.frames) 0 r new h (ap (λ fs. (cut_of fs).height) none) (agree_cut m.next_tag m.state.heap m.choices m.frames o.named.frames_are) left capacity fewer same
 
 -- ## Inner constructs
@@ -96,9 +97,9 @@ pub record LeftInner (code : Code) (l : Limits) (r new : Memory) (m : Mid) : Typ
 pub left_inner : (code : Code) (l : Limits) (m : Mid) (inner : Inner) (r mid : Memory) → MidOrdered m → Holds code l r m → named r.inners.items r.inner ≡ Some inner → reverse mid.choices.items ≡ below inner.height (reverse r.choices.items) →
     vec_capacity mid.choices ≡ vec_capacity r.choices → length mid.choices.items ≤ length r.choices.items → mid ≡ record r { choices = mid.choices } → LeftInner code l r (record mid { inner = inner.around }) m
 left_inner code l m inner r mid o h is left capacity fewer same =
-    let x = some_inner r.inners.items r.inner inner m.inner is h.0.inner_are in
+    let x = some_inner (tags_of m.stops) r.inners.items r.inner inner m.inner is h.0.inner_are in
     let named_all : PlacesNamed m.next_tag m.state.heap m.choices (x.innermost ∷ x.around) = subst (PlacesNamed m.next_tag m.state.heap m.choices) x.is o.named.inner_are in
-    let out : Holds code l (record r { inner = inner.around }) (record m { inner = x.around }) = (record { saves = h.0.saves; stand = h.0.stand; state_is = h.0.state_is; limits = h.0.limits; frames_are = h.0.frames_are; inner_are = x.around_is; choices_are = h.0.choices_are; room = record { frames_fit = h.0.room.frames_fit; inners_fit = h.0.room.inners_fit; choices_fit = h.0.room.choices_fit; frames_few = h.0.room.frames_few; inners_few = h.0.room.inners_few; choices_few = h.0.room.choices_few; refs = h.0.room.refs } }, h.1) in
+    let out : Holds code l (record r { inner = inner.around }) (record m { inner = x.around }) = (record { saves = h.0.saves; stand = h.0.stand; state_is = h.0.state_is; limits = h.0.limits; frames_are = h.0.frames_are; inner_are = x.around_is; stop_is = h.0.stop_is; choices_are = h.0.choices_are; room = record { frames_fit = h.0.room.frames_fit; inners_fit = h.0.room.inners_fit; choices_fit = h.0.room.choices_fit; stops_fit = h.0.room.stops_fit; frames_few = h.0.room.frames_few; inners_few = h.0.room.inners_few; choices_few = h.0.room.choices_few; stops_few = h.0.room.stops_few; refs = h.0.room.refs } }, h.1) in
     record {
       innermost = x.innermost;
       around = x.around;
@@ -127,10 +128,10 @@ module _ (code : Code) (l : Limits) (m : Mid) (r new : Memory) (ops : Bor (List 
   fails_now h = record { stands = h; falls = omega arith }
 
   pub not_committed : Holds code l r m → named r.inners.items r.inner ≡ None → Falls code l r (Runs ops) r Fails (commits m.inner m)
-  not_committed h is = subst (λ ps. Falls code l r (Runs ops) r Fails (commits ps m)) (sym (no_inner r.inners.items r.inner m.inner is h.0.inner_are)) (fails_now h)
+  not_committed h is = subst (λ ps. Falls code l r (Runs ops) r Fails (commits ps m)) (sym (no_inner (tags_of m.stops) r.inners.items r.inner m.inner is h.0.inner_are)) (fails_now h)
 
   pub not_refused : Holds code l r m → named r.inners.items r.inner ≡ None → Falls code l r (Runs ops) r Fails (refuses m.inner m)
-  not_refused h is = subst (λ ps. Falls code l r (Runs ops) r Fails (refuses ps m)) (sym (no_inner r.inners.items r.inner m.inner is h.0.inner_are)) (fails_now h)
+  not_refused h is = subst (λ ps. Falls code l r (Runs ops) r Fails (refuses ps m)) (sym (no_inner (tags_of m.stops) r.inners.items r.inner m.inner is h.0.inner_are)) (fails_now h)
 
 pub few_took : (old new : Memory) → HasRoom old → Took 10 old new → 10 * length new.inners.items + 10 ≤ heap_in new
 few_took old new room t = let heap = t.heap in let inners = ap (λ (r : Memory). length r.inners.items) t.others in let few = room.inners_few in omega (arith, heap, inners, few)

@@ -35,6 +35,7 @@ use Rattle.dg_machine.specs.declared.memory.Memory.{Memory}
 use Rattle.dg_machine.specs.declared.tables.Tables.{Tables}
 use Rattle.dg_machine.specs.Tables.{IsOf}
 use Rattle.dg_machine.specs.Links.{named, below}
+use Rattle.dg_machine.specs.Stops.{tags_of}
 use Rattle.dg_machine.specs.Built.{AreArguments, OpBuilt, OpsBuilt, IsBuilt}
 use Rattle.dg_machine.specs.Refs.{RefsAt}
 use Rattle.dg_machine.specs.Passing.{codes_from, IsFirst}
@@ -64,7 +65,7 @@ pub record LeftFrame (code : Code) (l : Limits) (r new : Memory) (frame : Frame)
 
 pub left_frame : (code : Code) (l : Limits) (m : Mid) (frame : Frame) (r : Memory) → MidOrdered m → Holds code l r m → named r.frames.items r.frame ≡ Some frame → LeftFrame code l r (record r { frame = frame.behind; inner = frame.inner }) frame m
 left_frame code l m frame r o h is =
-    let x = some_frame (meaning_of r.arena) r.inners.items r.frames.items r.frame frame m.frames is h.0.frames_are in
+    let x = some_frame (meaning_of r.arena) (tags_of m.stops) r.inners.items r.frames.items r.frame frame m.frames is h.0.frames_are in
     let named_all : FramesNamed m.next_tag m.state.heap m.choices (x.newest ∷ x.behind) = subst (FramesNamed m.next_tag m.state.heap m.choices) x.is o.named.frames_are in
     record {
       newest = x.newest;
@@ -74,7 +75,7 @@ left_frame code l m frame r o h is =
       many = x.many;
       cut = x.cut;
       named_cut = named_all.0.agrees;
-      held = (record { saves = h.0.saves; stand = h.0.stand; state_is = h.0.state_is; limits = h.0.limits; frames_are = x.behind_is; inner_are = x.inner_is; choices_are = h.0.choices_are; room = record { frames_fit = h.0.room.frames_fit; inners_fit = h.0.room.inners_fit; choices_fit = h.0.room.choices_fit; frames_few = h.0.room.frames_few; inners_few = h.0.room.inners_few; choices_few = h.0.room.choices_few; refs = h.0.room.refs } }, h.1);
+      held = (record { saves = h.0.saves; stand = h.0.stand; state_is = h.0.state_is; limits = h.0.limits; frames_are = x.behind_is; inner_are = x.inner_is; stop_is = h.0.stop_is; choices_are = h.0.choices_are; room = record { frames_fit = h.0.room.frames_fit; inners_fit = h.0.room.inners_fit; choices_fit = h.0.room.choices_fit; stops_fit = h.0.room.stops_fit; frames_few = h.0.room.frames_few; inners_few = h.0.room.inners_few; choices_few = h.0.room.choices_few; stops_few = h.0.room.stops_few; refs = h.0.room.refs } }, h.1);
       older = x.older;
     }
 
@@ -115,7 +116,7 @@ module _ (code : Code) (g : Game) (l : Limits) (m : Mid) (frame : Frame) (r new 
       (falls_behind (cut_to x.newest.cut (record m { frames = x.behind; inner = x.newest.inner })) held (omega (arith, older, at)) fewer)))
 
 pub not_answered : (code : Code) (g : Game) (l : Limits) (m : Mid) (r : Memory) (ops : Bor (List Op)) → Holds code l r m → named r.frames.items r.frame ≡ None → Falls code l r (Runs ops) r Fails (returns (setting g code l) m.frames m)
-not_answered code g l m r ops h is = subst (λ fs. Falls code l r (Runs ops) r Fails (returns (setting g code l) fs m)) (sym (no_frame (meaning_of r.arena) r.inners.items r.frames.items r.frame m.frames is h.0.frames_are)) (record { stands = h; falls = omega arith })
+not_answered code g l m r ops h is = subst (λ fs. Falls code l r (Runs ops) r Fails (returns (setting g code l) fs m)) (sym (no_frame (meaning_of r.arena) (tags_of m.stops) r.inners.items r.frames.items r.frame m.frames is h.0.frames_are)) (record { stands = h; falls = omega arith })
 
 -- ## Calls
 
@@ -299,13 +300,13 @@ module _ (code : Code) (g : Game) (l : Limits) (t : Target) (many : Bool) (vs : 
 
   -- memory without inner constructs at hand
   pub no_inner_held : Holds code l (record r { inner = 0 }) (record m { inner = [] })
-  no_inner_held = (record { saves = h.0.saves; stand = h.0.stand; state_is = h.0.state_is; limits = h.0.limits; frames_are = h.0.frames_are; inner_are = refl; choices_are = h.0.choices_are; room = record { frames_fit = h.0.room.frames_fit; inners_fit = h.0.room.inners_fit; choices_fit = h.0.room.choices_fit; frames_few = h.0.room.frames_few; inners_few = h.0.room.inners_few; choices_few = h.0.room.choices_few; refs = h.0.room.refs } }, h.1)
+  no_inner_held = (record { saves = h.0.saves; stand = h.0.stand; state_is = h.0.state_is; limits = h.0.limits; frames_are = h.0.frames_are; inner_are = refl; stop_is = h.0.stop_is; choices_are = h.0.choices_are; room = record { frames_fit = h.0.room.frames_fit; inners_fit = h.0.room.inners_fit; choices_fit = h.0.room.choices_fit; stops_fit = h.0.room.stops_fit; frames_few = h.0.room.frames_few; inners_few = h.0.room.inners_few; choices_few = h.0.room.choices_few; stops_few = h.0.room.stops_few; refs = h.0.room.refs } }, h.1)
 
   pub asks_behind : (frame : Frame) → named r.frames.items r.frame ≡ Some frame → frame.many ≡ true → ((m' : Mid) → Holds code l (record r { frame = frame.behind; inner = frame.inner }) m' → Stands code l new now (calls_of set_e t (call_of vs many frame.next m') m')) → Stands code l new now (last set_e t vs many m.frames m)
   asks_behind frame is all asked =
-      let x = some_frame (meaning_of r.arena) r.inners.items r.frames.items r.frame frame m.frames is h.0.frames_are in
+      let x = some_frame (meaning_of r.arena) (tags_of m.stops) r.inners.items r.frames.items r.frame frame m.frames is h.0.frames_are in
       let held : Holds code l (record r { frame = frame.behind; inner = frame.inner }) (record m { frames = x.behind; inner = x.newest.inner }) =
-      (record { saves = h.0.saves; stand = h.0.stand; state_is = h.0.state_is; limits = h.0.limits; frames_are = x.behind_is; inner_are = x.inner_is; choices_are = h.0.choices_are; room = record { frames_fit = h.0.room.frames_fit; inners_fit = h.0.room.inners_fit; choices_fit = h.0.room.choices_fit; frames_few = h.0.room.frames_few; inners_few = h.0.room.inners_few; choices_few = h.0.room.choices_few; refs = h.0.room.refs } }, h.1) in
+      (record { saves = h.0.saves; stand = h.0.stand; state_is = h.0.state_is; limits = h.0.limits; frames_are = x.behind_is; inner_are = x.inner_is; stop_is = h.0.stop_is; choices_are = h.0.choices_are; room = record { frames_fit = h.0.room.frames_fit; inners_fit = h.0.room.inners_fit; choices_fit = h.0.room.choices_fit; stops_fit = h.0.room.stops_fit; frames_few = h.0.room.frames_few; inners_few = h.0.room.inners_few; choices_few = h.0.room.choices_few; stops_few = h.0.room.stops_few; refs = h.0.room.refs } }, h.1) in
       let m' = record m { frames = x.behind; inner = x.newest.inner } in
       subst (λ fs. Stands code l new now (last set_e t vs many fs m)) (sym x.is)
       (subst (λ b. Stands code l new now (asks_last set_e t vs many b x.newest x.behind m)) (sym (x.many ∙ all))
@@ -315,11 +316,11 @@ module _ (code : Code) (g : Game) (l : Limits) (t : Target) (many : Bool) (vs : 
   asks_here asked = asked (record m { inner = [] }) no_inner_held
 
   pub asks_first : named r.frames.items r.frame ≡ None → ((m' : Mid) → Holds code l (record r { inner = 0 }) m' → Stands code l new now (calls_of set_e t (call_of vs many 0 m') m')) → Stands code l new now (last set_e t vs many m.frames m)
-  asks_first is asked = subst (λ fs. Stands code l new now (last set_e t vs many fs m)) (sym (no_frame (meaning_of r.arena) r.inners.items r.frames.items r.frame m.frames is h.0.frames_are)) (asks_here asked)
+  asks_first is asked = subst (λ fs. Stands code l new now (last set_e t vs many fs m)) (sym (no_frame (meaning_of r.arena) (tags_of m.stops) r.inners.items r.frames.items r.frame m.frames is h.0.frames_are)) (asks_here asked)
 
   pub asks_inside : (frame : Frame) → named r.frames.items r.frame ≡ Some frame → frame.many ≡ false → ((m' : Mid) → Holds code l (record r { inner = 0 }) m' → Stands code l new now (calls_of set_e t (call_of vs many 0 m') m')) → Stands code l new now (last set_e t vs many m.frames m)
   asks_inside frame is one asked =
-      let x = some_frame (meaning_of r.arena) r.inners.items r.frames.items r.frame frame m.frames is h.0.frames_are in
+      let x = some_frame (meaning_of r.arena) (tags_of m.stops) r.inners.items r.frames.items r.frame frame m.frames is h.0.frames_are in
       subst (λ fs. Stands code l new now (last set_e t vs many fs m)) (sym x.is)
       (subst (λ b. Stands code l new now (asks_last set_e t vs many b x.newest x.behind m)) (sym (x.many ∙ one)) (asks_here asked))
 

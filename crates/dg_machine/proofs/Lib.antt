@@ -1,6 +1,8 @@
+pub mod StopLemmas
 pub mod Kept
 pub mod Cuts
 pub mod Opens
+pub mod Backs
 pub mod Putting
 pub mod RowLemmas
 pub mod TermLemmas
@@ -14,6 +16,7 @@ pub mod PassedRules
 pub mod Hands
 pub mod Leads
 pub mod Leaving
+pub mod Parts
 pub mod Bodies
 pub mod Unifying
 pub mod Compares

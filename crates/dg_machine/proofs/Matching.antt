@@ -188,8 +188,10 @@ room_after r a h keeps heap =
       frames_fit = omega (arith, limit, h.frames_fit);
       inners_fit = omega (arith, limit, h.inners_fit);
       choices_fit = omega (arith, limit, h.choices_fit);
+      stops_fit = omega (arith, limit, h.stops_fit);
       frames_few = omega (arith, heap, h.frames_few);
       inners_few = omega (arith, heap, h.inners_few);
       choices_few = omega (arith, heap, h.choices_few);
+      stops_few = omega (arith, heap, h.stops_few);
       refs = refs_on r a h keeps.kept (omega (arith, heap));
     }

@@ -30,8 +30,8 @@ use Rattle.dg_meaning.specs.Pieces.{pieces}
 use Rattle.dg_mid.specs.Actions.{terms_of, act_at, registers_of, world_of, world_by, outside_in}
 use Rattle.dg_mid.specs.State.{Outside as OutsideOf, Mid, Frame as FrameOf, Place, Call as CallOf, Target, ToPred, ToBody, Way as WayOf, Goes as GoesOf, Calls as CallsOf, Choice as ChoiceOf, vars_of}
 use Rattle.dg_mid.specs.State.{Status, Runs as RunsOf, Enters as EntersOf, Resumes as ResumesOf, Fails as FailsOf, Ended as EndedOf}
-use Rattle.dg_mid.specs.Step.{Setting, setting, more, charged, bound, unified, if_agreed, if_passed, made_in, done, stops, begins, enters, asks, calls, call_of, asks_last, last, queries, queries_last, asked_by, values}
-use Rattle.dg_mid.specs.Step.{does, runs, commits, refuses, returns, returned, entered, resumed, goes_on, goes_back, back_at, passed, inside, parameter, body_equations, body_frame, new_frame, is_goal, at_goal, first_of}
+use Rattle.dg_mid.specs.Step.{Setting, setting, more, charged, bound, unified, if_agreed, if_passed, made_in, done, begins, enters, asks, calls, call_of, asks_last, last, queries, queries_last, asked_by, values}
+use Rattle.dg_mid.specs.Step.{does, runs, commits, refuses, leaves, returns, returned, entered, resumed, goes_on, goes_back, back_at, passed, inside, parameter, body_equations, body_frame, new_frame, is_goal, at_goal, first_of}
 use Rattle.dg_machine.specs.declared.now.Way.{Way}
 use Rattle.dg_machine.specs.declared.now.Way.TheVariants.{Goes, Calls}
 use Rattle.dg_machine.specs.declared.memory.Memory.{Memory}
@@ -54,12 +54,14 @@ Has o gs (EndedOf e) = Unit {0}
 abbrev pub DrawsNone : Op → Type 0
 DrawsNone (op.Do (action.Random a b c)) = ⊥
 DrawsNone (op.Do (action.Now place xs sets)) = ⊥
+DrawsNone (op.Do action.Stop) = ⊥
 DrawsNone (op.Select site mode blocks behind) = ⊥
 DrawsNone x = Unit {0}
 
 pub quiet_draws : (x : Op) → IsQuietOp x → DrawsNone x
 quiet_draws (op.Do (action.Random a b c)) q = absurd q
 quiet_draws (op.Do (action.Now place xs sets)) q = absurd q
+quiet_draws (op.Do action.Stop) q = absurd q
 quiet_draws (op.Do a) q = tt
 quiet_draws (op.Select site mode blocks behind) q = absurd q
 quiet_draws x q = tt
@@ -68,6 +70,11 @@ mark_draws : (x : Op) → is_goal x ≡ false → DrawsNone x
 mark_draws (op.Do a) e = absurd (cc)
 mark_draws (op.Select site mode blocks behind) e = absurd (cc)
 mark_draws x e = tt
+
+-- an act stops no part
+abbrev StopsNone : Act → Type 0
+StopsNone (Stops w) = ⊥
+StopsNone act = Unit {0}
 
 -- ## What leads where
 
@@ -97,14 +104,14 @@ module _ (o : OutsideOf) (gs : List Gathering) (g : Setting) where
   has_passed true m e = e
   has_passed false m e = e
 
-  has_done : (act : Act) (m : Mid) → outside_of (world_by act) ≡ o → Same o gs m → m.stop ≡ None → Has o gs (done g act m)
+  has_done : (act : Act) (m : Mid) → outside_of (world_by act) ≡ o → Same o gs m → StopsNone act → Has o gs (done g act m)
   has_done (Goes [] w) m e h none = has_if _ ending.KeepLimit (RunsOf (outside_in w m)) (e, h.1)
   has_done (Goes (s ∷ steps) w) m e h none = h
   has_done (Tests passed w) m e h none = has_passed passed (outside_in w m) (e, h.1)
   has_done (Unifies made es w) m e h none = has_unifies made es w m e h.1
   has_done (Ends x w) m e h none = tt
   has_done (FailsNow w) m e h none = (e, h.1)
-  has_done (Stops w) m e h none = subst (λ t. Has o gs (stops g t (outside_in w m))) (sym none) tt
+  has_done (Stops w) m e h none = absurd none
 
   -- ## Queries
 
@@ -150,6 +157,10 @@ module _ (o : OutsideOf) (gs : List Gathering) (g : Setting) where
   has_refuses : (ps : List Place) (m : Mid) → Same o gs m → Has o gs (refuses ps m)
   has_refuses [] m e = e
   has_refuses (p ∷ ps) m e = e
+
+  has_leaves : (ps : List Place) (m : Mid) → Same o gs m → Has o gs (leaves ps m)
+  has_leaves [] m e = e
+  has_leaves (p ∷ ps) m e = e
 
   has_returned : (all : Bool) (f : FrameOf) (fs : List FrameOf) (m : Mid) → Same o gs m → Same o gs (returned g all f fs m)
   has_returned true f fs m e = e
@@ -210,45 +221,76 @@ same_act g (action.Compare f x y) m b d = refl
 same_act g action.Just m b d = refl
 same_act g action.Fail m b d = refl
 same_act g action.Quit m b d = refl
-same_act g action.Stop m b d = refl
+same_act g action.Stop m b d = absurd d
 same_act g (action.Random x y z) m b d = absurd d
 same_act g (action.Now place xs sets) m b d = absurd d
 same_act g a m b d = absurd b
 
-pub has_does : (g : Setting) (x : Op) (m : Mid) → OpBuilt x → DrawsNone x → m.stop ≡ None → Has m.outside m.gathered (does g x m)
-has_does g (op.Do a) m b d none =
+spaces_stop : (v : Value) (w : World) → StopsNone (spaces v [] w)
+spaces_stop (Node (Num n) vs) w = tt
+spaces_stop v w = tt
+
+number_stops : (n : Option ℕ) (v : Value) (r : Registers) (w : World) → StopsNone (gives_number n v r w)
+number_stops None v r w = tt
+number_stops (Some n) v r w = tt
+
+-- nor does it stop a part
+stops_none : (g : Game) (a : Action) (m : Mid) → ActionBuilt a → DrawsNone (op.Do a) → StopsNone (act_at g [] a m)
+stops_none g (action.Text name) m b d = tt
+stops_none g (action.Gap kind) m b d = tt
+stops_none g (action.GapN a) m b d = let v = value_of g.program (vars_of m.frames) a in spaces_stop (walk m.state.subst v) (worked (looked_up (registers_of m) v) (world_of [] m))
+stops_none g (action.Print a) m b d = tt
+stops_none g (action.Equal x y) m b d = tt
+stops_none g (action.Test kind x) m b d = tt
+stops_none g (action.Arith f x y z) m b d =
+    let v = value_of g.program (vars_of m.frames) x in
+    let u = value_of g.program (vars_of m.frames) y in
+    number_stops (of_numbers (calculated f) (walk m.state.subst v) (walk m.state.subst u)) (value_of g.program (vars_of m.frames) z) (registers_of m) (worked (looked_up (registers_of m) v + looked_up (registers_of m) u) (world_of [] m))
+stops_none g (action.Compare f x y) m b d = tt
+stops_none g action.Just m b d = tt
+stops_none g action.Fail m b d = tt
+stops_none g action.Quit m b d = tt
+stops_none g action.Stop m b d = absurd d
+stops_none g (action.Random x y z) m b d = absurd d
+stops_none g (action.Now place xs sets) m b d = absurd d
+stops_none g a m b d = absurd b
+
+pub has_does : (g : Setting) (x : Op) (m : Mid) → OpBuilt x → DrawsNone x → Has m.outside m.gathered (does g x m)
+has_does g (op.Do a) m b d =
     let n = cells g.game.program (terms_of a) in
-    has_charged m.outside m.gathered g n m (done g (act_at g.game [] a (more n m)) (more n m)) (has_done m.outside m.gathered g (act_at g.game [] a (more n m)) (more n m) (same_act g.game a (more n m) b d) (refl, refl) none)
-has_does g (op.Ask pred terms many next) m b d none =
+    has_charged m.outside m.gathered g n m (done g (act_at g.game [] a (more n m)) (more n m)) (has_done m.outside m.gathered g (act_at g.game [] a (more n m)) (more n m) (same_act g.game a (more n m) b d) (refl, refl) (stops_none g.game a (more n m) b d))
+has_does g (op.Ask pred terms many next) m b d =
     let n = cells g.game.program terms in
     has_charged m.outside m.gathered g n m (asks g pred (call_of (values g m terms) many next (more n m)) (more n m)) (has_calls m.outside m.gathered g (ToPred pred) (call_of (values g m terms) many next (more n m)) (more n m) (refl, refl))
-has_does g (op.LastAsk pred terms many) m b d none =
+has_does g (op.LastAsk pred terms many) m b d =
     let n = cells g.game.program terms in
     has_charged m.outside m.gathered g n m (last g (ToPred pred) (values g m terms) many m.frames (more n m)) (has_last m.outside m.gathered g (ToPred pred) (values g m terms) many m.frames (more n m) (refl, refl))
-has_does g (op.Query a t many next) m b d none =
+has_does g (op.Query a t many next) m b d =
     let n = cells g.game.program (a ∷ option_terms t) in
     has_charged m.outside m.gathered g n m (queries g (asked_by g a m) (values g m (option_terms t)) many next (more n m)) (has_queries m.outside m.gathered g (asked_by g a m) (values g m (option_terms t)) many next (more n m) (refl, refl))
-has_does g (op.LastQuery a t many) m b d none =
+has_does g (op.LastQuery a t many) m b d =
     let n = cells g.game.program (a ∷ option_terms t) in
     has_charged m.outside m.gathered g n m (queries_last g (asked_by g a m) (values g m (option_terms t)) many (more n m)) (has_queries_last m.outside m.gathered g (asked_by g a m) (values g m (option_terms t)) many (more n m) (refl, refl))
-has_does g op.Take m b d none = (refl, refl)
-has_does g (op.Branch alt) m b d none = has_charged m.outside m.gathered g 10 m _ (refl, refl)
-has_does g (op.Select site mode blocks behind) m b d none = absurd d
-has_does g op.Once m b d none = has_charged m.outside m.gathered g 10 m _ (refl, refl)
-has_does g (op.Try alt) m b d none = has_charged m.outside m.gathered g 10 m _ (refl, refl)
-has_does g (op.Retry alt) m b d none = (refl, refl)
-has_does g op.Commit m b d none = has_commits m.outside m.gathered g m.inner m (refl, refl)
-has_does g op.Refuse m b d none = has_refuses m.outside m.gathered g m.inner m (refl, refl)
-has_does g op.Back m b d none = (refl, refl)
-has_does g op.Return m b d none = has_returns m.outside m.gathered g m.frames m (refl, refl)
-has_does g (op.Goto block) m b d none = (refl, refl)
-has_does g (op.Enter vars head) m b d none = (refl, refl)
-has_does g op.Done m b d none = tt
-has_does g x m b d none = absurd b
+has_does g op.Take m b d = (refl, refl)
+has_does g (op.Branch alt) m b d = has_charged m.outside m.gathered g 10 m _ (refl, refl)
+has_does g (op.Select site mode blocks behind) m b d = absurd d
+has_does g op.Once m b d = has_charged m.outside m.gathered g 10 m _ (refl, refl)
+has_does g (op.Try alt) m b d = has_charged m.outside m.gathered g 10 m _ (refl, refl)
+has_does g (op.Shield alt) m b d = has_charged m.outside m.gathered g 10 m _ (refl, refl)
+has_does g (op.Retry alt) m b d = (refl, refl)
+has_does g op.Commit m b d = has_commits m.outside m.gathered g m.inner m (refl, refl)
+has_does g op.Refuse m b d = has_refuses m.outside m.gathered g m.inner m (refl, refl)
+has_does g op.Leave m b d = has_leaves m.outside m.gathered g m.inner m (refl, refl)
+has_does g op.Back m b d = (refl, refl)
+has_does g op.Return m b d = has_returns m.outside m.gathered g m.frames m (refl, refl)
+has_does g (op.Goto block) m b d = (refl, refl)
+has_does g (op.Enter vars head) m b d = (refl, refl)
+has_does g op.Done m b d = tt
+has_does g x m b d = absurd b
 
-has_runs : (g : Setting) (xs : List Op) (m : Mid) → OpsBuilt xs → at_goal xs ≡ false → m.stop ≡ None → Has m.outside m.gathered (runs g xs m)
-has_runs g [] m b e none = (refl, refl)
-has_runs g (x ∷ rest) m b e none = has_does g x (record m { ops = rest }) b.0 (mark_draws x e) none
+has_runs : (g : Setting) (xs : List Op) (m : Mid) → OpsBuilt xs → at_goal xs ≡ false → Has m.outside m.gathered (runs g xs m)
+has_runs g [] m b e = (refl, refl)
+has_runs g (x ∷ rest) m b e = has_does g x (record m { ops = rest }) b.0 (mark_draws x e)
 
 -- ## What stands for what
 
@@ -265,8 +307,8 @@ module _ (out : Outside) (g : Game) (l : Limits) where
   has_outside m (EndedOf y) e w = tt
 
   -- a step that takes no goal leaves it
-  pub run_outside : (code : Code) (xs : List Op) (m : Mid) → OpsBuilt xs → at_goal xs ≡ false → m.stop ≡ None → Around out g l m → HasOutside out g l (runs (setting g code l) xs m)
-  run_outside code xs m built mark none w = has_outside m (runs (setting g code l) xs m) (has_runs (setting g code l) xs m built mark none) w
+  pub run_outside : (code : Code) (xs : List Op) (m : Mid) → OpsBuilt xs → at_goal xs ≡ false → Around out g l m → HasOutside out g l (runs (setting g code l) xs m)
+  run_outside code xs m built mark w = has_outside m (runs (setting g code l) xs m) (has_runs (setting g code l) xs m built mark) w
 
   pub enter_outside : (code : Code) (c : CallOf) (m : Mid) → Around out g l m → HasOutside out g l (entered (setting g code l) c m.ops m)
   enter_outside code c m w = has_outside m (entered (setting g code l) c m.ops m) (has_entered m.outside m.gathered (setting g code l) c m.ops m (refl, refl)) w
@@ -280,7 +322,7 @@ module _ (out : Outside) (g : Game) (l : Limits) where
 pub closed_back : (code : Code) (g : Game) (l : Limits) (way : Way) (new : Memory) (out out' : Outside) (m : Mid) (cs : List ChoiceOf) → WentBack code l (Some way) new m cs → Closes new.gathered out out' → Around out g l m → HasOutside out' g l (goes_back cs m)
 closed_back code g l way new out out' m [] h closes w = absurd h
 closed_back code g l way new out out' m (c ∷ cs) h closes w = (
-  closes.stands g (world_of [] m) (world_of [] (back_at c cs m)) w.0 (record { count = length m.gathered - c.height; is = refl }) h.1.1.gathered,
+  closes.stands g (world_of [] m) (world_of [] (back_at c cs m)) w.0 (record { count = length m.gathered - c.height; is = refl }) h.1.1,
   ap (λ (o : Outside). o.world.area.keep) closes.is ∙ w.1,
 )
 

@@ -58,9 +58,11 @@ headed_room r new h keeps path same kept_room heads n vs x =
       frames_fit = room.frames_fit;
       inners_fit = room.inners_fit;
       choices_fit = room.choices_fit;
+      stops_fit = room.stops_fit;
       frames_few = room.frames_few;
       inners_few = room.inners_few;
       choices_few = room.choices_few;
+      stops_few = room.stops_few;
       refs = record { kept_fit = omega (arith, kept_room, room.refs.kept_fit); kept_few = omega (arith, ap length same, room.refs.kept_few); args_fit = room.refs.args_fit; args_few = room.refs.args_few; heads_fit = omega (arith, heads, room.refs.heads_fit); path_fit = omega (arith, path, room.refs.path_fit) };
     }
 

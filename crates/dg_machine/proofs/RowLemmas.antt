@@ -109,9 +109,11 @@ rule_room n row r a b h kept charged kept' made =
         frames_fit = omega (arith, limit, limit', h.frames_fit);
         inners_fit = omega (arith, limit, limit', h.inners_fit);
         choices_fit = omega (arith, limit, limit', h.choices_fit);
+        stops_fit = omega (arith, limit, limit', h.stops_fit);
         frames_few = omega (arith, heap, heap', h.frames_few);
         inners_few = omega (arith, heap, heap', h.inners_few);
         choices_few = omega (arith, heap, heap', h.choices_few);
+        stops_few = omega (arith, heap, heap', h.stops_few);
         refs = refs_on r b h (kept_on (meaning_of r.arena) (meaning_of a) (meaning_of b) kept kept') (omega (arith, heap, heap'));
       },
       omega (arith, heap, heap', h.frames_few),

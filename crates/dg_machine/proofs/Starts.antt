@@ -1,5 +1,5 @@
 -- The start of a run.
-use Rattle.std.proofs.Common.{◌≡◌, ℕ, List, [], refl, sym, ap, ◌∙◌, subst, arith, length, reverse, vec_capacity, Result, Ok, Err, IfOk, OnErr}
+use Rattle.std.proofs.Common.{◌≡◌, ℕ, List, [], None, refl, sym, ap, ◌∙◌, subst, arith, length, reverse, vec_capacity, Result, Ok, Err, IfOk, OnErr}
 use Rattle.std.specs.Borrow.{Bor}
 use Rattle.dg_base.specs.declared.run.Ending.{Ending}
 use Rattle.dg_base.specs.declared.run.Limits.{Limits}
@@ -22,7 +22,9 @@ use Rattle.dg_base.specs.declared.program.CoreProgram.{CoreProgram}
 use Rattle.dg_outside.specs.Outside.{StartsOutside}
 use Rattle.dg_outside.specs.declared.outside.Outside.{Outside}
 use Rattle.dg_machine.specs.Built.{OpsBuilt, IsBuilt}
-use Rattle.dg_machine.specs.Layout.{ChoicesAt, Roomy, HoldsWith, limit_in, at_rest}
+use Rattle.dg_machine.specs.Stops.{StopIs, Among}
+use Rattle.dg_machine.proofs.StopLemmas.{none_open}
+use Rattle.dg_machine.specs.Layout.{Roomy, HoldsWith, limit_in, at_rest}
 use Rattle.dg_meaning.specs.Engines.{game}
 use Rattle.dg_machine.specs.Running.{HasText, IsAt, IsSomewhereWith, Finishes, LosesRun}
 
@@ -31,26 +33,30 @@ pub record Emptied (r new : Memory) : Type 0 where
   pub frames : new.frames.items ≡ []
   pub inners : new.inners.items ≡ []
   pub choices : new.choices.items ≡ []
+  pub stops : new.stops.items ≡ []
   pub kept : new.kept.items ≡ []
   pub args : new.args.items ≡ []
   pub frames_room : vec_capacity new.frames ≡ vec_capacity r.frames
   pub inners_room : vec_capacity new.inners ≡ vec_capacity r.inners
   pub choices_room : vec_capacity new.choices ≡ vec_capacity r.choices
+  pub stops_room : vec_capacity new.stops ≡ vec_capacity r.stops
   pub kept_room : vec_capacity new.kept ≡ vec_capacity r.kept
   pub args_room : vec_capacity new.args ≡ vec_capacity r.args
   pub heads_room : vec_capacity new.heads ≡ vec_capacity r.heads
   pub path_room : vec_capacity new.path ≡ vec_capacity r.path
   pub frame : new.frame ≡ 0
   pub inner : new.inner ≡ 0
+  pub stop : new.stop ≡ 0
 
 -- memory that was emptied holds nothing
 pub cleared : (code : Code) (l : Limits) (r new : Memory) → Roomy l r → (meaning_of new.arena).state ≡ at_rest → (meaning_of new.arena).heap_limit ≡ (meaning_of r.arena).heap_limit → (meaning_of new.arena).trail_limit ≡ (meaning_of r.arena).trail_limit →
-    Emptied r new → HoldsWith code l new at_rest [] [] []
+    Emptied r new → HoldsWith code l new at_rest [] [] [] [] None
 cleared code l r new x state heap trail e =
     let limit : limit_in new ≡ l.heap = heap ∙ x.limits.heap in
     let fs = ap length e.frames in
     let is = ap length e.inners in
     let cs = ap length e.choices in
+    let ts = ap length e.stops in
     let ks = ap length e.kept in
     let us = ap length e.args in
     record {
@@ -60,14 +66,24 @@ cleared code l r new x state heap trail e =
       limits = record { heap = limit; trail = trail ∙ x.limits.trail };
       frames_are = e.frame;
       inner_are = e.inner;
-      choices_are = subst (λ ks. ChoicesAt code new.frames.items new.inners.items new.kept.items [] (reverse ks) []) (sym e.choices) tt;
+      stop_is = subst (λ n. StopIs [] n None) (sym e.stop) (none_open []);
+      choices_are = record {
+        points = [];
+        means = [];
+        are = tt;
+        under = tt;
+        choices_in = subst (λ ks. Among [] [] (reverse ks) []) (sym e.choices) tt;
+        stops_in = subst (λ ks. Among [] [] (reverse ks) []) (sym e.stops) tt;
+      };
       room = record {
         frames_fit = omega (arith, limit, x.frames, e.frames_room);
         inners_fit = omega (arith, limit, x.inners, e.inners_room);
         choices_fit = omega (arith, limit, x.choices, e.choices_room);
+        stops_fit = omega (arith, limit, x.stops, e.stops_room);
         frames_few = omega (arith, fs);
         inners_few = omega (arith, is);
         choices_few = omega (arith, cs);
+        stops_few = omega (arith, ts);
         refs = record { kept_fit = omega (arith, limit, x.kept, e.kept_room); kept_few = omega (arith, ks); args_fit = omega (arith, x.args, e.args_room); args_few = omega (arith, us); heads_fit = omega (arith, x.heads, e.heads_room); path_fit = omega (arith, limit, x.path, e.path_room) };
       };
     }
@@ -76,16 +92,16 @@ no_text : (s : Spacer) (k : SinkView) → StandsFor s [] → HasText s k k []
 unfolding render
 no_text s k new = record { stands = new; wrote = wrote_nothing k }
 
-pub at_start : (code : Code) (p : CoreProgram) (dice : List ℕ) (l : Limits) (typed : List ℕ) (r : Memory) (out : Outside) (block : Bor (List Op)) (s : Spacer) (k : SinkView) → IsBuilt code → block.now ≡ block_at code 1 → HoldsWith code l r at_rest [] [] [] → r.gathered ≡ 0 → StandsFor s [] → StartsOutside p l dice out → IsAt code (game p dice) l typed r out (Runs block) 0 s k k
+pub at_start : (code : Code) (p : CoreProgram) (dice : List ℕ) (l : Limits) (typed : List ℕ) (r : Memory) (out : Outside) (block : Bor (List Op)) (s : Spacer) (k : SinkView) → IsBuilt code → block.now ≡ block_at code 1 → HoldsWith code l r at_rest [] [] [] [] None → r.gathered ≡ 0 → StandsFor s [] → StartsOutside p l dice out → IsAt code (game p dice) l typed r out (Runs block) 0 s k k
 at_start code p dice l typed r out block s k built is held none new starts = record {
   steps = 0;
   outside = (starts.stands (game p dice) typed refl refl, starts.keep);
-  stands = ((sym is, subst OpsBuilt (sym is) (built 1)), (held, record { stops_are = refl; stop_is = refl; gathered = sym none }));
+  stands = ((sym is, subst OpsBuilt (sym is) (built 1)), (held, sym none));
   goals_is = refl;
   text = no_text s k new;
 }
 
-pub somewhere_first : (tb : Tables) (code : Code) (p : CoreProgram) (dice : List ℕ) (l : Limits) (r : Memory) (out : Outside) (block : Bor (List Op)) → IsOf p tb → IsBuilt code → block.now ≡ block_at code 1 → HoldsWith code l r at_rest [] [] [] → r.gathered ≡ 0 → StartsOutside p l dice out → IsSomewhereWith tb code r out (Runs block)
+pub somewhere_first : (tb : Tables) (code : Code) (p : CoreProgram) (dice : List ℕ) (l : Limits) (r : Memory) (out : Outside) (block : Bor (List Op)) → IsOf p tb → IsBuilt code → block.now ≡ block_at code 1 → HoldsWith code l r at_rest [] [] [] [] None → r.gathered ≡ 0 → StartsOutside p l dice out → IsSomewhereWith tb code r out (Runs block)
 somewhere_first tb code p dice l r out block is_of built is held none starts = record {
   somewhere = record {
     game = game p dice;
@@ -93,7 +109,7 @@ somewhere_first tb code p dice l r out block is_of built is held none starts = r
     limits = l;
     typed = [];
     steps = 0;
-    stands = ((sym is, subst OpsBuilt (sym is) (built 1)), (held, record { stops_are = refl; stop_is = refl; gathered = sym none }));
+    stands = ((sym is, subst OpsBuilt (sym is) (built 1)), (held, sym none));
   };
   outside = (starts.stands (game p dice) [] refl refl, starts.keep);
 }

@@ -62,9 +62,11 @@ OpBuilt (op.Branch alt) = Unit {0}
 OpBuilt (op.Select site mode blocks behind) = AreBranches blocks
 OpBuilt op.Once = Unit {0}
 OpBuilt (op.Try alt) = Unit {0}
+OpBuilt (op.Shield alt) = Unit {0}
 OpBuilt (op.Retry alt) = Unit {0}
 OpBuilt op.Commit = Unit {0}
 OpBuilt op.Refuse = Unit {0}
+OpBuilt op.Leave = Unit {0}
 OpBuilt op.Back = Unit {0}
 OpBuilt op.Return = Unit {0}
 OpBuilt (op.Goto b) = Unit {0}
@@ -81,7 +83,7 @@ OpsBuilt (x ∷ ops) = OpBuilt x × OpsBuilt ops
 abbrev pub IsBuilt : Code → Type 0
 IsBuilt code = (b : ℕ) → OpsBuilt (block_at code b)
 
--- An action prints nothing, and leaves what is outside.
+-- An action prints nothing, leaves what is outside, and stops no part.
 abbrev pub IsQuiet : Action → Type 0
 IsQuiet (action.Text name) = ⊥
 IsQuiet (action.Gap kind) = ⊥
@@ -89,6 +91,7 @@ IsQuiet (action.GapN a) = ⊥
 IsQuiet (action.Print a) = ⊥
 IsQuiet (action.Random a b c) = ⊥
 IsQuiet (action.Now place terms sets) = ⊥
+IsQuiet action.Stop = ⊥
 IsQuiet a = Unit {0}
 
 -- So does an instruction.

@@ -6,13 +6,15 @@ use Rattle.dg_meaning.specs.OneRun.{Begins}
 use Rattle.dg_meaning.specs.Moves.{new_vars}
 use Rattle.dg_meaning.specs.Unify.{Equations, Unified}
 use Rattle.dg_unify.specs.Store.{State, Store, Saved, Kept}
+use Rattle.dg_arena.specs.declared.arena.Arena.{Arena}
 use Rattle.dg_arena.specs.Held.{meaning_of, saves_of}
 use Rattle.dg_mid.specs.declared.code.Code.{Code}
 use Rattle.dg_mid.specs.declared.code.RuleCode.{RuleCode}
 use Rattle.dg_mid.specs.Code.{rules_at}
 use Rattle.dg_mid.specs.State.{Place, Mid, Stop, Frame as FrameOf, Call as CallOf, Way as WayOf, Goes as GoesOf, Calls as CallsOf, Choice as ChoiceOf}
-use Rattle.dg_mid.specs.Step.{more, back_at, bound, trail_more}
+use Rattle.dg_mid.specs.Step.{more, inside, new_stop, back_at, bound, trail_more}
 use Rattle.dg_unify.specs.declared.bindings.Ref.{Ref}
+use Rattle.dg_unify.specs.declared.bindings.Mark.{Mark}
 use Rattle.dg_machine.specs.declared.now.Row.{Row}
 use Rattle.dg_machine.specs.declared.now.Frame.{Frame}
 use Rattle.dg_machine.specs.declared.now.Inner.{Inner}
@@ -24,38 +26,40 @@ use Rattle.dg_machine.specs.declared.memory.Memory.{Memory}
 use Rattle.dg_machine.specs.Links.{named}
 use Rattle.dg_machine.specs.Refs.{RowAt, RefsAt}
 use Rattle.dg_machine.specs.Built.{most_args}
+use Rattle.dg_machine.specs.Stops.{tags_of, StopIs, choices_of, Among, IsUnder}
 
 -- ## Frames and inner constructs
 
--- An inner construct begins at the height of its place, and stands behind the one around it.
-pub record InnerAt (around : ℕ → Type 0) (inners : List Inner) (l : ℕ) (p : Place) : Type 0 where
+-- An inner construct begins at the height of its place, with the stoppable part of that around it, and stands behind the one around it.
+pub record InnerAt (around : ℕ → Type 0) (tags : List ℕ) (inners : List Inner) (l : ℕ) (p : Place) : Type 0 where
   pub inner : Inner
   pub there : named inners l ≡ Some inner
   pub height : p.height ≡ inner.height
+  pub outer : StopIs tags inner.stop p.outer
   pub older : inner.around < l
   pub around_is : around inner.around
 
 -- So does each of some inner constructs, the innermost first.
-abbrev pub InnersAt : List Inner → ℕ → List Place → Type 0
-InnersAt inners l [] = l ≡ 0
-InnersAt inners l (p ∷ ps) = InnerAt (λ k. InnersAt inners k ps) inners l p
+abbrev pub InnersAt : List ℕ → List Inner → ℕ → List Place → Type 0
+InnersAt tags inners l [] = l ≡ 0
+InnersAt tags inners l (p ∷ ps) = InnerAt (λ k. InnersAt tags inners k ps) tags inners l p
 
 -- A frame keeps what a rule that is being run needs; its variables stand in the store, and it stands behind the one behind it.
-pub record FrameAt (behind : ℕ → Type 0) (s : Store) (inners : List Inner) (frames : List Frame) (e : ℕ) (f : FrameOf) : Type 0 where
+pub record FrameAt (behind : ℕ → Type 0) (s : Store) (tags : List ℕ) (inners : List Inner) (frames : List Frame) (e : ℕ) (f : FrameOf) : Type 0 where
   pub frame : Frame
   pub there : named frames e ≡ Some frame
   pub next : f.next ≡ frame.next
   pub many : f.many ≡ frame.many
   pub cut : f.cut.height ≡ frame.cut
   pub vars : RowAt s frame.vars f.vars
-  pub inner_is : InnersAt inners frame.inner f.inner
+  pub inner_is : InnersAt tags inners frame.inner f.inner
   pub older : frame.behind < e
   pub behind_is : behind frame.behind
 
 -- So does each of some frames, the newest first.
-abbrev pub FramesAt : Store → List Inner → List Frame → ℕ → List FrameOf → Type 0
-FramesAt s inners frames e [] = e ≡ 0
-FramesAt s inners frames e (f ∷ fs) = FrameAt (λ k. FramesAt s inners frames k fs) s inners frames e f
+abbrev pub FramesAt : Store → List ℕ → List Inner → List Frame → ℕ → List FrameOf → Type 0
+FramesAt s tags inners frames e [] = e ≡ 0
+FramesAt s tags inners frames e (f ∷ fs) = FrameAt (λ k. FramesAt s tags inners frames k fs) s tags inners frames e f
 
 -- ## Choices
 
@@ -82,46 +86,56 @@ WayAt code s refs (Goes b) (GoesOf b') = b' ≡ b
 WayAt code s refs (Calls k pred left) (CallsOf c rules) = RulesAt code s refs k pred left c rules
 WayAt code s refs way other = ⊥
 
--- No stoppable part is open, and as many gatherings as memory knows.
-pub record OpenAt (stops : List Stop) (stop : Option ℕ) (height count : ℕ) : Type 0 where
-  pub stops_are : stops ≡ []
-  pub stop_is : stop ≡ None
-  pub gathered : height ≡ count
-
--- A choice keeps where it goes back to: of the store a mark that stands, and of frames, inner constructs, Refs and open gatherings how many there
--- were; Refs of its arguments stand behind those. The older choices were made among them.
-pub record ChoiceAt (older : List Frame → List Inner → List Ref → Type 0) (code : Code) (frames : List Frame) (inners : List Inner) (refs : List Ref)
-    (m : Saved) (k : Choice) (c : ChoiceOf) : Type 0 where
+-- A choice keeps where it goes back to: of the store a mark that stands, and of frames, inner constructs, stoppable parts, Refs and open gatherings how
+-- many there were; Refs of its arguments stand behind those. The older choices were made among them.
+pub record ChoiceAt (older : List Frame → List Inner → List Ref → List Choice → Type 0) (code : Code) (frames : List Frame) (inners : List Inner)
+    (refs : List Ref) (stops : List Choice) (m : Saved) (k : Choice) (c : ChoiceOf) : Type 0 where
   pub args : List Ref
   pub way : WayAt code m.store args k.way c.way
   pub mark : m.mark ≡ k.mark
   pub state : m.store.state ≡ c.state
   pub height : c.place.height ≡ k.mark.heap
+  pub heap : c.state.heap ≡ k.mark.heap
   pub frames_then : List Frame
   pub inners_then : List Inner
   pub frames_begin : Begins frames_then frames
   pub inners_begin : Begins inners_then inners
   pub frames_len : length frames_then ≡ k.frames
   pub inners_len : length inners_then ≡ k.inners
+  pub stops_then : List Choice
+  pub stops_begin : Begins stops_then stops
+  pub stops_len : length stops_then ≡ k.stops
   pub refs_then : List Ref
   pub refs_begin : Begins (refs_then ++ args) refs
   pub refs_len : length refs_then ≡ k.refs
   pub args_len : length args ≡ k.args
   pub args_few : length args ≤ most_args
   pub refs_few : length refs_then ≤ c.state.heap
-  pub frames_are : FramesAt m.store inners_then frames_then k.frame c.frames
-  pub inner_are : InnersAt inners_then k.inner c.inner
+  pub frames_are : FramesAt m.store (tags_of c.stops) inners_then frames_then k.frame c.frames
+  pub inner_are : InnersAt (tags_of c.stops) inners_then k.inner c.inner
+  pub stop_is : StopIs (tags_of c.stops) k.stop c.stop
   pub frames_few : 6 * length frames_then ≤ c.state.heap
   pub inners_few : 10 * length inners_then ≤ c.state.heap
-  pub open_then : OpenAt c.stops c.stop c.height k.gathered
-  pub older_are : older frames_then inners_then refs_then
+  pub gathered : c.height ≡ k.gathered
+  pub older_are : older frames_then inners_then refs_then stops_then
 
--- So does each of some choices, the newest first; each has room for those that are older.
-abbrev pub ChoicesAt : Code → List Frame → List Inner → List Ref → List Saved → List Choice → List ChoiceOf → Type 0
-ChoicesAt code frames inners refs [] [] [] = Unit {0}
-ChoicesAt code frames inners refs (m ∷ ms) (k ∷ ks) (c ∷ cs) =
-    ChoiceAt (λ fs is rs. ChoicesAt code fs is rs ms ks cs) code frames inners refs m k c × (10 * length ks ≤ c.state.heap)
-ChoicesAt code frames inners refs ms ks cs = ⊥
+-- So does each of some choices, the newest first; the older ones are under it, and the choices of the stoppable parts there are among them.
+abbrev pub ChoicesAt : Code → List Frame → List Inner → List Ref → List Choice → List Saved → List Choice → List ChoiceOf → Type 0
+ChoicesAt code frames inners refs stops [] [] [] = Unit {0}
+ChoicesAt code frames inners refs stops (m ∷ ms) (k ∷ ks) (c ∷ cs) =
+    ChoiceAt (λ fs is rs ts. ChoicesAt code fs is rs ts ms ks cs × Among ks cs (reverse ts) (choices_of c.stops)) code frames inners refs stops m k c ×
+    IsUnder c.state.heap ks
+ChoicesAt code frames inners refs stops ms ks cs = ⊥
+
+-- The choices that stand and those that stoppable parts keep are among choices that lie in memory, under a height of the heap.
+pub record AreAmong (code : Code) (frames : List Frame) (inners : List Inner) (refs : List Ref) (heap : ℕ) (saves : List Saved) (stand : List Choice)
+    (choices : List ChoiceOf) (kept : List Choice) (stops : List Stop) : Type 0 where
+  pub points : List Choice
+  pub means : List ChoiceOf
+  pub are : ChoicesAt code frames inners refs kept saves points means
+  pub under : IsUnder heap points
+  pub choices_in : Among points means (reverse stand) choices
+  pub stops_in : Among points means (reverse kept) (choices_of stops)
 
 -- ## Memory
 
@@ -142,14 +156,16 @@ pub record RefsFit (limit heap kept_room : ℕ) (kept : List Ref) (args_room : �
   pub heads_fit : most_args ≤ heads_room
   pub path_fit : limit < 3 * path_room + 3
 
--- There is room for all that the heap may count: a frame is six cells or more, an inner construct and a choice ten.
+-- There is room for all that the heap may count: a frame is six cells or more, an inner construct, a choice and a stoppable part ten.
 pub record HasRoom (r : Memory) : Type 0 where
   pub frames_fit : limit_in r < 6 * vec_capacity r.frames + 6
   pub inners_fit : limit_in r < 10 * vec_capacity r.inners + 10
   pub choices_fit : limit_in r < 10 * vec_capacity r.choices + 10
+  pub stops_fit : limit_in r < 10 * vec_capacity r.stops + 10
   pub frames_few : 6 * length r.frames.items ≤ heap_in r
   pub inners_few : 10 * length r.inners.items ≤ heap_in r
   pub choices_few : 10 * length r.choices.items ≤ heap_in r
+  pub stops_few : 10 * length r.stops.items ≤ heap_in r
   pub refs : RefsFit (limit_in r) (heap_in r) (vec_capacity r.kept) r.kept.items (vec_capacity r.args) r.args.items (vec_capacity r.heads)
       (vec_capacity r.path)
 
@@ -168,6 +184,7 @@ pub record Roomy (l : Limits) (r : Memory) : Type 0 where
   pub frames : l.heap < 6 * vec_capacity r.frames + 6
   pub inners : l.heap < 10 * vec_capacity r.inners + 10
   pub choices : l.heap < 10 * vec_capacity r.choices + 10
+  pub stops : l.heap < 10 * vec_capacity r.stops + 10
   pub kept : l.heap ≤ vec_capacity r.kept
   pub args : most_args ≤ vec_capacity r.args
   pub heads : most_args ≤ vec_capacity r.heads
@@ -178,21 +195,22 @@ pub record Lacks (n : ℕ) (l : Limits) (heap : ℕ) (r : Memory) : Type 0 where
   pub over : l.heap < heap + n
   pub roomy : Roomy l r
 
--- Memory holds this state of the store, frames, inner constructs and choices.
-pub record HoldsWith (code : Code) (l : Limits) (r : Memory) (state : State) (frames : List FrameOf)
-    (inner : List Place) (choices : List ChoiceOf) : Type 0 where
+-- Memory holds this state of the store, frames, inner constructs, choices and stoppable parts, of which this is the innermost that is open.
+pub record HoldsWith (code : Code) (l : Limits) (r : Memory) (state : State) (frames : List FrameOf) (inner : List Place) (choices : List ChoiceOf)
+    (stops : List Stop) (stop : Option ℕ) : Type 0 where
   pub saves : List Saved
   pub stand : saves_of r.arena saves
   pub state_is : (meaning_of r.arena).state ≡ state
   pub limits : Limited l (meaning_of r.arena)
-  pub frames_are : FramesAt (meaning_of r.arena) r.inners.items r.frames.items r.frame frames
-  pub inner_are : InnersAt r.inners.items r.inner inner
-  pub choices_are : ChoicesAt code r.frames.items r.inners.items r.kept.items saves (reverse r.choices.items) choices
+  pub frames_are : FramesAt (meaning_of r.arena) (tags_of stops) r.inners.items r.frames.items r.frame frames
+  pub inner_are : InnersAt (tags_of stops) r.inners.items r.inner inner
+  pub stop_is : StopIs (tags_of stops) r.stop stop
+  pub choices_are : AreAmong code r.frames.items r.inners.items r.kept.items (heap_in r) saves r.choices.items choices r.stops.items stops
   pub room : HasRoom r
 
--- Memory holds what a machine is in, and knows how many gatherings are open; nothing stoppable is open in it.
+-- Memory holds what a machine is in, and knows how many gatherings are open.
 abbrev pub Holds : Code → Limits → Memory → Mid → Type 0
-Holds code l r m = HoldsWith code l r m.state m.frames m.inner m.choices × OpenAt m.stops m.stop (length m.gathered) r.gathered
+Holds code l r m = HoldsWith code l r m.state m.frames m.inner m.choices m.stops m.stop × (length m.gathered ≡ r.gathered)
 
 -- ## What calls do to memory
 
@@ -201,6 +219,26 @@ pub record Took (n : ℕ) (old new : Memory) : Type 0 where
   pub heap : heap_in new ≡ heap_in old + n
   pub others : new ≡ record old { arena = new.arena }
   pub room : HasRoom new
+
+-- A choice of what is at hand, which keeps so many arguments.
+abbrev pub choice_here : Memory → Way → ℕ → Mark → Choice
+choice_here r way count mark = record {
+  way = way;
+  frame = r.frame;
+  inner = r.inner;
+  stop = r.stop;
+  frames = length r.frames.items;
+  inners = length r.inners.items;
+  stops = length r.stops.items;
+  refs = length r.kept.items;
+  args = count;
+  gathered = r.gathered;
+  mark = mark;
+}
+
+-- The machine inside a choice and a stoppable part that opened with it.
+abbrev pub parted : ℕ → Mid → Mid
+parted alt m = record (inside (GoesOf alt) 0 m) { stops = new_stop alt m ∷ m.stops; stop = Some m.next_tag }
 
 -- A choice with so many arguments was opened, and took ten of the heap and one for each.
 pub record Opened (way : Way) (count : ℕ) (old new : Memory) : Type 0 where
@@ -214,6 +252,24 @@ pub record Opened (way : Way) (count : ℕ) (old new : Memory) : Type 0 where
   pub choice : Choice
   pub goes : choice.way ≡ way
   pub choices : new.choices.items ≡ old.choices.items ++ choice ∷ []
+
+-- Memory may go back to a choice with these left: its mark stands, and they are among those older than it.
+pub record MayGoBack (code : Code) (a : Arena) (frames : List Frame) (inners : List Inner) (refs : List Ref) (kept : List Choice) (k : Choice)
+    (c : ChoiceOf) (left : List Choice) (cs : List ChoiceOf) : Type 0 where
+  pub saved : Saved
+  pub saves : List Saved
+  pub points : List Choice
+  pub means : List ChoiceOf
+  pub stand : saves_of a (saved ∷ saves)
+  pub at : ChoiceAt (λ fs is rs ts. ChoicesAt code fs is rs ts saves points means × Among points means (reverse ts) (choices_of c.stops)) code frames
+      inners refs kept saved k c
+  pub under : IsUnder c.state.heap points
+  pub left_in : Among points means left cs
+
+-- The same of all that memory has.
+abbrev pub CanRestore : Code → Memory → Choice → ChoiceOf → List ChoiceOf → Type 0
+CanRestore code r k c cs =
+    MayGoBack code r.arena r.frames.items r.inners.items r.kept.items r.stops.items k c (reverse r.choices.items) cs
 
 -- The newest choice is gone, and memory holds what it goes back to, with its arguments; or there was none.
 abbrev pub WentBack : Code → Limits → Option Way → Memory → Mid → List ChoiceOf → Type 0

@@ -3,6 +3,7 @@ pub mod Refs
 pub mod Tables
 pub mod Writing
 pub mod Passing
+pub mod Stops
 pub mod Layout
 pub mod Built
 pub mod Measure

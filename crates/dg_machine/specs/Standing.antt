@@ -16,6 +16,8 @@ use Rattle.dg_mid.specs.Actions.{registers_of, world_of}
 use Rattle.dg_meaning.specs.Values.{Value, Values}
 use Rattle.dg_arena.specs.Held.{meaning_of}
 use Rattle.dg_mid.specs.declared.code.Op.{Op}
+use Rattle.dg_mid.specs.declared.code.Op.TheVariants as op
+use Rattle.dg_mid.specs.declared.code.Action.TheVariants as action
 use Rattle.dg_mid.specs.declared.code.Code.{Code}
 use Rattle.dg_mid.specs.declared.code.RuleCode.{RuleCode}
 use Rattle.dg_mid.specs.declared.code.BodyCode.{BodyCode}
@@ -87,6 +89,11 @@ DoesOp t code old x rest new after = (g : Game) → IsOf g.program t → (l : Li
 abbrev pub DoesWith : Tables → Code → Memory → Outside → Op → List Op → Memory → Now → Outside → Type 0
 DoesWith t code old out x rest new after out' = (g : Game) → IsOf g.program t → (l : Limits) (m : Mid) → OpBuilt x → CodeIs rest m → Holds code l old m →
     Around out g l m → StandsWith code g l new after out' (does (setting g code l) x m)
+
+-- A (stop) is done: it goes on behind the stoppable part that is open, without what was gathered inside it, or the run ends.
+abbrev pub DoesStop : Code → Memory → Outside → Memory → Now → Outside → Type 0
+DoesStop code old out new after out' = (g : Game) (l : Limits) (m : Mid) → MidOrdered m → Holds code l old m → Around out g l m →
+    StandsWith code g l new after out' (does (setting g code l) (op.Do action.Stop) m)
 
 -- Behind it each site may pick once less at most.
 abbrev pub PicksOnce : Outside → Outside → Type 0

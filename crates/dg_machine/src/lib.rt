@@ -12,6 +12,7 @@ mod register;
 mod rows;
 mod selecting;
 mod steps;
+mod stopping;
 mod tables;
 mod terms;
 mod texts;

@@ -18,7 +18,7 @@ ghost use Rattle.dg_unify.specs.Store.{Store, Kept};
 ghost use Rattle.dg_unify.specs.declared.bindings.Ref.{Ref};
 ghost use Rattle.dg_arena.specs.Held.{meaning_of};
 ghost use Rattle.dg_mid.specs.declared.code.Code.{Code};
-ghost use Rattle.dg_mid.specs.State.{Mid, Place, Call as CallOf, Way as WayOf, vars_of};
+ghost use Rattle.dg_mid.specs.State.{Mid, Place, Call as CallOf, Way as WayOf, Choice as ChoiceOf, vars_of};
 ghost use Rattle.dg_mid.specs.Step.{more, inside, within};
 ghost use Rattle.dg_terms.specs.Throwing.{number_in, Throws};
 ghost use Rattle.dg_machine.specs.Built.{AreArguments};
@@ -38,24 +38,26 @@ use dg_arena::Arena;
 use dg_base::{ArithOp, CompareOp, Simple, Term, TestKind};
 use dg_outside::Outside;
 use dg_terms::{calculate, in_order, number_of as number_shown, test, throw};
-use dg_unify::{Bindings, Full, Ref, View, unify};
+use dg_unify::{Bindings, Full, Mark, Ref, View, unify};
 use std::alloc::{AllocError, Global};
 
-/// A store, with areas of frames, of inner constructs, of choices and of the Refs that these keep, the arguments of a call, the
-/// values of a head, a path into a term that is written, which frame and which inner construct are at hand, and how many
-/// gatherings are open.
+/// A store, with areas of frames, of inner constructs, of choices, of stoppable parts and of the Refs that choices keep, the
+/// arguments of a call, the values of a head, a path into a term that is written, which frame and which inner construct are at
+/// hand, which stoppable part is open, and how many gatherings are. A stoppable part is kept as the choice that opened with it.
 #[derive(Drop)]
 pub struct Memory {
     pub arena: Arena,
     pub frames: Vec<Frame>,
     pub inners: Vec<Inner>,
     pub choices: Vec<Choice>,
+    pub stops: Vec<Choice>,
     pub kept: Vec<Ref>,
     pub args: Vec<Ref>,
     pub heads: Vec<Ref>,
     pub path: Vec<Side>,
     pub frame: usize,
     pub inner: usize,
+    pub stop: usize,
     pub gathered: usize,
 }
 
@@ -75,6 +77,8 @@ fn drop_to(choices: &mut Vec<Choice>, to: u32)
 
 impl Memory {
     ghost use Rattle.dg_machine.specs.Layout.{at_rest, HoldsWith, WayAt, CallAt, HasRoom, Holds, Took, Opened, WentBack, Roomy, Lacks, heap_in, MadeRule};
+    ghost use Rattle.dg_machine.specs.Layout.{CanRestore, choice_here};
+    ghost use Rattle.dg_machine.specs.Stops.{tags_of, StopIs};
     ghost use Rattle.dg_machine.specs.Layout.{HasFrameRoom, in_frame, Matched, Unmatched, MadeHead, HasPut, HasHeads, HasNumber, parameter_equations};
     ghost use Rattle.dg_machine.specs.Measure.{left_by};
 
@@ -86,6 +90,7 @@ impl Memory {
         let frames = Vec::with_capacity(alloc, (heap / 6) as usize)?;
         let inners = Vec::with_capacity(alloc, (heap / 10) as usize)?;
         let choices = Vec::with_capacity(alloc, (heap / 10) as usize)?;
+        let stops = Vec::with_capacity(alloc, (heap / 10) as usize)?;
         let kept = Vec::with_capacity(alloc, heap as usize)?;
         let args = Vec::with_capacity(alloc, MOST_ARGS)?;
         let heads = Vec::with_capacity(alloc, MOST_ARGS)?;
@@ -95,29 +100,33 @@ impl Memory {
             frames,
             inners,
             choices,
+            stops,
             kept,
             args,
             heads,
             path,
             frame: 0,
             inner: 0,
+            stop: 0,
             gathered: 0,
         })
     }
 
     /// Empties it.
     pub fn clear(&mut self)
-        ensures held { (code : Code) → (l : Limits) → Roomy l self.old → HoldsWith code l self.new at_rest [] [] [] }
+        ensures held { (code : Code) → (l : Limits) → Roomy l self.old → HoldsWith code l self.new at_rest [] [] [] [] None }
         ensures none { self.new.gathered ≡ 0 }
     {
         self.arena.clear();
         self.frames.clear();
         self.inners.clear();
         self.choices.clear();
+        self.stops.clear();
         self.kept.clear();
         self.args.clear();
         self.frame = 0;
         self.inner = 0;
+        self.stop = 0;
         self.gathered = 0;
     }
 
@@ -164,6 +173,25 @@ impl Memory {
         }
     }
 
+    /// A choice of what is at hand, which keeps so many arguments.
+    pub fn choice_here(&self, way: Way, args: usize, mark: Mark) -> Choice
+        ensures { result ≡ choice_here self.now way args mark }
+    {
+        Choice {
+            way,
+            frame: self.frame,
+            inner: self.inner,
+            stop: self.stop,
+            frames: self.frames.len(),
+            inners: self.inners.len(),
+            stops: self.stops.len(),
+            refs: self.kept.len(),
+            args,
+            gathered: self.gathered,
+            mark,
+        }
+    }
+
     /// Opens a choice that keeps so many arguments, which takes ten cells, and one for each.
     pub fn open(&mut self, way: Way, count: usize) -> Result<(), Full>
         requires room { HasRoom self.old }
@@ -177,36 +205,37 @@ impl Memory {
         match self.arena.charge(10 + count as u32) {
             Err(full) => Err(full),
             Ok(()) => {
-                let refs = self.kept.len();
+                let choice = self.choice_here(way, count, mark);
                 push_refs(&mut self.kept, &self.args[..count]);
-                self.choices.push_reserved(Choice {
-                    way,
-                    frame: self.frame,
-                    inner: self.inner,
-                    frames: self.frames.len(),
-                    inners: self.inners.len(),
-                    refs,
-                    args: count,
-                    gathered: self.gathered,
-                    mark,
-                });
+                self.choices.push_reserved(choice);
                 Ok(())
             }
         }
     }
 
-    /// Begins an inner construct at a height of the heap; its cells were taken.
-    pub fn begin(&mut self, height: u32)
+    /// Begins an inner construct at a height of the heap, with this stoppable part around it; its cells were taken.
+    pub fn begin_in(&mut self, height: u32, stop: usize)
         requires room { HasRoom self.old }
         requires few { 10 * length self.old.inners.items + 10 ≤ heap_in self.old }
         ensures held { (code : Code) → (l : Limits) → (m : Mid) → (p : Place) → Holds code l self.old m → p.height ≡ height →
-            Holds code l self.new (within p m) }
+            StopIs (tags_of m.stops) stop p.outer → Holds code l self.new (within p m) }
     {
         self.inners.push_reserved(Inner {
             height,
+            stop,
             around: self.inner,
         });
         self.inner = self.inners.len();
+    }
+
+    /// The same, with the one that is open.
+    pub fn begin(&mut self, height: u32)
+        requires room { HasRoom self.old }
+        requires few { 10 * length self.old.inners.items + 10 ≤ heap_in self.old }
+        ensures held { (code : Code) → (l : Limits) → (m : Mid) → (p : Place) → Holds code l self.old m → p.height ≡ height → p.outer ≡ m.stop →
+            Holds code l self.new (within p m) }
+    {
+        self.begin_in(height, self.stop);
     }
 
     /// The variables at hand.
@@ -604,6 +633,25 @@ impl Memory {
         self.inner = 0;
     }
 
+    /// Goes back to a choice that doesn't stand, with its arguments.
+    pub fn restore(&mut self, choice: Choice)
+        requires some { (code : Code) × (l : Limits) × (c : ChoiceOf) × (cs : List ChoiceOf) × Roomy l self.old × CanRestore code self.old choice c cs }
+        ensures back { (code : Code) → (l : Limits) → (m : Mid) → (c : ChoiceOf) → (cs : List ChoiceOf) → Roomy l self.old →
+            length m.gathered ≡ self.old.gathered → CanRestore code self.old choice c cs → WentBack code l (Some choice.way) self.new m (c ∷ cs) }
+        ensures roomy { (l : Limits) → Roomy l self.old → Roomy l self.new }
+        ensures choices { self.new.choices ≡ self.old.choices }
+    {
+        self.arena.undo(choice.mark);
+        self.frames.truncate(choice.frames);
+        self.inners.truncate(choice.inners);
+        self.stops.truncate(choice.stops);
+        move_refs(&mut self.kept, choice.refs, choice.args, &mut self.args);
+        self.frame = choice.frame;
+        self.inner = choice.inner;
+        self.stop = choice.stop;
+        self.gathered = self.gathered.min(choice.gathered);
+    }
+
     /// Goes back to the newest choice, which is gone, with its arguments.
     pub fn back(&mut self) -> Option<Way>
         requires some { (code : Code) × (l : Limits) × (m : Mid) × Holds code l self.old m }
@@ -614,13 +662,7 @@ impl Memory {
         match self.choices.pop() {
             None => None,
             Some(choice) => {
-                self.arena.undo(choice.mark);
-                self.frames.truncate(choice.frames);
-                self.inners.truncate(choice.inners);
-                move_refs(&mut self.kept, choice.refs, choice.args, &mut self.args);
-                self.frame = choice.frame;
-                self.inner = choice.inner;
-                self.gathered = self.gathered.min(choice.gathered);
+                self.restore(choice);
                 Some(choice.way)
             }
         }

@@ -37,10 +37,12 @@ pub struct Frame {
     pub behind: usize,
 }
 
-/// An inner construct: the height of the heap where it begins, and the one around it.
+/// An inner construct: the height of the heap where it begins, the stoppable part around it, and the inner construct around it.
+/// A stoppable part is named by its place as well.
 #[derive(Clone, Copy, Drop)]
 pub struct Inner {
     pub height: u32,
+    pub stop: usize,
     pub around: usize,
 }
 
@@ -60,15 +62,18 @@ pub enum Way {
     Calls(Call, u16, usize),
 }
 
-/// A choice: what it goes on with, the frame and the inner construct there, how many of them there were, how many Refs were
-/// kept, how many arguments it keeps behind them, how many gatherings were open, and the place of the store to which it goes back.
+/// A choice: what it goes on with, the frame, the inner construct and the stoppable part there, how many of them there were, how
+/// many Refs were kept, how many arguments it keeps behind them, how many gatherings were open, and the place of the store to
+/// which it goes back.
 #[derive(Clone, Copy, Drop)]
 pub struct Choice {
     pub way: Way,
     pub frame: usize,
     pub inner: usize,
+    pub stop: usize,
     pub frames: usize,
     pub inners: usize,
+    pub stops: usize,
     pub refs: usize,
     pub args: usize,
     pub gathered: usize,

@@ -5,6 +5,7 @@ ghost use Rattle.dg_spacing.specs.Gaps.{print_of};
 ghost use Rattle.dg_mid.specs.declared.code.Code.{Code as TheCode};
 ghost use Rattle.dg_mid.specs.declared.code.Op.TheVariants as op;
 ghost use Rattle.dg_mid.specs.declared.code.Action.TheVariants as action;
+ghost use Rattle.dg_mid.specs.declared.code.Action.TheVariants.{Stop};
 ghost use Rattle.dg_mid.specs.Step.{at_goal, is_goal as takes_goal};
 ghost use Rattle.dg_mid.specs.Potential.{Tidy};
 ghost use Rattle.dg_machine.specs.declared.now.Now.TheVariants.{Runs};
@@ -87,6 +88,7 @@ fn do_mark<'p>(
     match op {
         Op::Commit => memory.commit(ops, rest),
         Op::Refuse => memory.refuse(ops, rest),
+        Op::Leave => memory.leave(ops, rest),
         Op::Return => memory.answer(code, ops, rest),
         Op::Goto(block) => Now::Runs(code_at(code, *block)),
         Op::Done => Now::Ended(Ending::Done),
@@ -148,7 +150,6 @@ fn act<'p>(memory: &mut Memory, tables: &Tables, action: &'p Action, rest: &'p [
         Action::Compare(by, a, b) => memory.compare(tables, *by, a, b, rest),
         Action::Just => memory.just(rest),
         Action::Quit => Now::Ended(Ending::Quit),
-        Action::Stop => Now::Ended(Ending::Stopped),
         _ => Now::Fails,
     }
 }
@@ -192,6 +193,7 @@ fn do_quiet<'p>(
         Op::Branch(alt) => memory.branch(*alt, rest),
         Op::Once => memory.once(rest),
         Op::Try(alt) => memory.attempt(*alt, rest),
+        Op::Shield(alt) => memory.shield(*alt, rest),
         _ => Now::Fails,
     }
 }
@@ -249,7 +251,7 @@ fn print_term<'p, K: Sink>(
     }
 }
 
-/// Does an action.
+/// Does an action that stops no part.
 fn do_action<'p, K: Sink>(
     memory: &mut Memory,
     tables: &Tables,
@@ -262,6 +264,7 @@ fn do_action<'p, K: Sink>(
 ) -> Result<Now<'p>, WriteFault>
     requires some { (code : TheCode) × (l : Limits) × (m : Mid) × Holds code l memory.old m }
     requires built { ActionBuilt action.now }
+    requires no_stop { action.now ≡ Stop → ⊥ }
     requires whole { ops.now ≡ op.Do action.now ∷ rest.now }
     ensures ok { IfOk result (λ now. (code : TheCode) → DoesGoal tables.now code memory.old outside.old ops.now memory.new outside.new now spacer.old
         spacer.new (K.view sink.old) (K.view sink.new)) }
@@ -313,11 +316,14 @@ fn goal_step<'p, K: Sink>(
     match ops {
         [] => Ok(Now::Fails),
         [op, rest @ ..] => match op {
-            Op::Do(action) => match do_action(
-                memory, tables, outside, ops, action, rest, spacer, sink,
-            ) {
-                Ok(now) => Ok(now),
-                Err(fault) => Err(fault),
+            Op::Do(action) => match action {
+                Action::Stop => Ok(memory.stop(code, outside)),
+                action => match do_action(
+                    memory, tables, outside, ops, action, rest, spacer, sink,
+                ) {
+                    Ok(now) => Ok(now),
+                    Err(fault) => Err(fault),
+                },
             },
             Op::Select(site, mode, blocks, behind) => {
                 let blocks = blocks.as_slice();

@@ -10,3 +10,6 @@ returns-in-Refuse c = subst (λ x. DoesMark c.args.code.now c.args.memory.now c.
 
 pub returns-in-Return : goal.returns-in-Return
 returns-in-Return c = subst (λ x. DoesMark c.args.code.now c.args.memory.now c.args.ops x c.args.rest.now c.answer.new.self c.answer.result) (sym c.in-Return.is) c.answer.ensures
+
+pub returns-in-Leave : goal.returns-in-Leave
+returns-in-Leave c = subst (λ x. DoesMark c.args.code.now c.args.memory.now c.args.ops x c.args.rest.now c.leave.new.self c.leave.result) (sym c.in-Leave.is) (c.leave.ensures c.args.code.now)

@@ -27,3 +27,6 @@ returns-in-Query c = subst (λ y. DoesOp c.args.tables.now c.args.code.now c.arg
 
 pub returns-in-LastQuery : goal.returns-in-LastQuery
 returns-in-LastQuery c = subst (λ y. DoesOp c.args.tables.now c.args.code.now c.args.memory.now y c.args.rest.now c.query_last.new.self c.query_last.result) (sym c.in-LastQuery.is) (c.query_last.ensures c.args.rest.now)
+
+pub returns-in-Shield : goal.returns-in-Shield
+returns-in-Shield c = subst (λ x. DoesOp c.args.tables.now c.args.code.now c.args.memory.now x c.args.rest.now c.shield.new.self c.shield.result) (sym c.in-Shield.is) (c.shield.ensures c.args.tables.now c.args.code.now)

@@ -1,5 +1,6 @@
 use Rattle.std.proofs.Common.{◌∷◌, take, drop, length, ◌-◌, refl, sym, ap, ◌∙◌, subst}
 use Rattle.dg_mid.specs.declared.code.Op.TheVariants as op
+use Rattle.dg_mid.specs.declared.code.Action.TheVariants as action
 use Rattle.dg_machine.specs.Built.{OpBuilt, OpsBuilt}
 use Rattle.dg_machine.proofs.Leaving.{split_list}
 use Rattle.dg_machine.proofs.Goals.{quiet_done, quiet_op, silent_with, built_first}
@@ -46,3 +47,11 @@ returns-in-Ok-clause-once g c = keeps_sites c.args.outside.now c.do_action.new.o
 
 pub returns-in-Err-clause-once : goal.returns-in-Err-clause-once
 returns-in-Err-clause-once g c = keeps_sites c.args.outside.now c.do_action.new.outside c.do_action.ensures.sites
+
+pub returns-in-Stop-clause-ok : goal.returns-in-Stop-clause-ok
+returns-in-Stop-clause-ok g c game is_of l m o e at h w =
+    let all = c.args.ops.now in
+    let rest = take (length all - 1) (drop 1 all) in
+    let split = split_list all c.op-item.result c.in-len1-up.len_at_least c.op-item.is ∙ ap (λ y. y ∷ rest) (c.in-Do.is ∙ ap op.Do c.in-Stop.is) in
+    silent_with c.args.tables.now c.args.code.now game is_of l m c.args.memory.now c.stop.new.self c.stop.result all (op.Do action.Stop) rest split at h c.args.spacer.now (g.K.Sink.view c.args.sink.now) c.stop.new.outside refl
+    (c.stop.ensures.does game l (record m { ops = rest }) o h w)

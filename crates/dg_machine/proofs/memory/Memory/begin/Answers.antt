@@ -1,12 +1,6 @@
-use Rattle.std.proofs.Common.{refl, arith}
-use Rattle.dg_machine.specs.declared.now.Inner.{Inner}
-use Rattle.dg_machine.specs.declared.memory.Memory.{Memory}
-use Rattle.dg_machine.proofs.Opens.{begun}
+use Rattle.std.proofs.Common.{sym, subst}
+use Rattle.dg_machine.specs.Stops.{tags_of, StopIs}
 use Rattle.dg_machine.proofs.memory.Memory.begin.Goals as goal
 
 pub returns : goal.returns
-returns c =
-    let r = c.args.self.now in
-    let inner : Inner = record { height = c.args.height; around = r.inner } in
-    let new : Memory = record r { inners = c.push_reserved.new.self; inner = c.len-self.result } in
-    record { held = λ code l m p h e. begun code l m p r new inner h e refl c.requires.few c.push_reserved.ensures.items c.push_reserved.ensures.capacity (omega (arith, c.len-self.ensures, c.push_reserved.new.self.ok.0)) }
+returns c = record { held = λ code l m p h e outer. c.begin_in.ensures.held code l m p h e (subst (StopIs (tags_of m.stops) c.args.self.now.stop) (sym outer) h.0.stop_is) }

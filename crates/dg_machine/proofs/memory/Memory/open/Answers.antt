@@ -1,8 +1,8 @@
-use Rattle.std.proofs.Common.{◌≡◌, ◌∙◌, ◌++◌, refl, ap, arith, ◌+◌, take}
+use Rattle.std.proofs.Common.{◌≡◌, ◌∙◌, ◌++◌, [], ◌∷◌, refl, ap, ◌+◌, take}
 use Rattle.dg_unify.specs.Store.{State}
 use Rattle.dg_unify.proofs.StoreLemmas.{kept_on}
 use Rattle.dg_arena.specs.Held.{meaning_of}
-use Rattle.dg_machine.specs.declared.now.Choice.{Choice}
+use Rattle.dg_machine.specs.Layout.{choice_here}
 use Rattle.dg_machine.specs.declared.memory.Memory.{Memory}
 use Rattle.dg_machine.proofs.Opens.{opened, opened_room, lacks}
 use Rattle.dg_machine.proofs.memory.Memory.open.Goals as goal
@@ -10,34 +10,37 @@ use Rattle.dg_machine.proofs.memory.Memory.open.Goals as goal
 pub returns-in-Ok-clause-held : goal.returns-in-Ok-clause-held
 returns-in-Ok-clause-held c code l m on h way =
     let r = c.args.self.now in
-    let k : Choice = record { way = c.args.way; frame = r.frame; inner = r.inner; frames = c.len.result; inners = c.len-in-Ok.result; refs = c.len-refs.result; args = c.args.count; gathered = r.gathered; mark = c.mark-mark.result } in
+    let n = c.args.count in
+    let mark = c.mark-mark.result in
     let new : Memory = record r { arena = c.charge.new.self; choices = c.push_reserved.new.self; kept = c.push_refs.new.to } in
     let marks = c.mark-mark.ensures in
     let taken = c.in-Ok.ensures in
-    let items : c.push_refs.new.to.items ≡ r.kept.items ++ take c.args.count r.args.items = c.push_refs.ensures.items ∙ ap (λ xs. r.kept.items ++ take c.args.count xs) c.deref.ensures.value in
-    opened code l m on c.args.count r new c.mark-mark.new.self k h way c.requires.count refl refl (omega (arith, c.len.ensures, r.frames.ok.0)) (omega (arith, c.len-in-Ok.ensures, r.inners.ok.0)) (omega (arith, c.len-refs.ensures, r.kept.ok.0)) refl refl
-    marks.kept marks.saved marks.same taken.kept taken.saved taken.made items c.push_reserved.ensures.items
-    (opened_room c.args.count r new c.mark-mark.new.self k c.requires.room c.requires.count marks.kept marks.same taken.kept taken.made items c.push_refs.ensures.capacity c.push_reserved.ensures.items c.push_reserved.ensures.capacity)
+    let kept : c.push_refs.new.to.items ≡ r.kept.items ++ take n r.args.items = c.push_refs.ensures.items ∙ ap (λ xs. r.kept.items ++ take n xs) c.deref.ensures.value in
+    let items : c.push_reserved.new.self.items ≡ r.choices.items ++ choice_here r c.args.way n mark ∷ [] = c.push_reserved.ensures.items ∙ ap (λ k. r.choices.items ++ k ∷ []) c.choice_here-choice.ensures in
+    opened code l m on n r new c.mark-mark.new.self c.args.way mark h way c.requires.count marks.kept marks.saved marks.same taken.kept taken.saved taken.made kept items
+    (opened_room n r new c.mark-mark.new.self (choice_here r c.args.way n mark) c.requires.room c.requires.count marks.kept marks.same taken.kept taken.made kept c.push_refs.ensures.capacity items c.push_reserved.ensures.capacity)
 
 pub returns-in-Ok-clause-opened : goal.returns-in-Ok-clause-opened
 returns-in-Ok-clause-opened c =
     let r = c.args.self.now in
-    let k : Choice = record { way = c.args.way; frame = r.frame; inner = r.inner; frames = c.len.result; inners = c.len-in-Ok.result; refs = c.len-refs.result; args = c.args.count; gathered = r.gathered; mark = c.mark-mark.result } in
+    let n = c.args.count in
+    let k = choice_here r c.args.way n c.mark-mark.result in
     let new : Memory = record r { arena = c.charge.new.self; choices = c.push_reserved.new.self; kept = c.push_refs.new.to } in
     let marks = c.mark-mark.ensures in
     let taken = c.in-Ok.ensures in
-    let items : c.push_refs.new.to.items ≡ r.kept.items ++ take c.args.count r.args.items = c.push_refs.ensures.items ∙ ap (λ xs. r.kept.items ++ take c.args.count xs) c.deref.ensures.value in
+    let kept : c.push_refs.new.to.items ≡ r.kept.items ++ take n r.args.items = c.push_refs.ensures.items ∙ ap (λ xs. r.kept.items ++ take n xs) c.deref.ensures.value in
+    let items : c.push_reserved.new.self.items ≡ r.choices.items ++ k ∷ [] = c.push_reserved.ensures.items ∙ ap (λ x. r.choices.items ++ x ∷ []) c.choice_here-choice.ensures in
     record {
-      heap = ap (λ (s : State). s.heap) taken.made.state ∙ ap (λ (s : State). s.heap + (10 + c.args.count)) marks.same;
+      heap = ap (λ (s : State). s.heap) taken.made.state ∙ ap (λ (s : State). s.heap + (10 + n)) marks.same;
       values = kept_on (meaning_of r.arena) (meaning_of c.mark-mark.new.self) (meaning_of c.charge.new.self) marks.kept taken.kept;
       args = refl;
       inners = refl;
       frame = refl;
       inner = refl;
-      room = opened_room c.args.count r new c.mark-mark.new.self k c.requires.room c.requires.count marks.kept marks.same taken.kept taken.made items c.push_refs.ensures.capacity c.push_reserved.ensures.items c.push_reserved.ensures.capacity;
+      room = opened_room n r new c.mark-mark.new.self k c.requires.room c.requires.count marks.kept marks.same taken.kept taken.made kept c.push_refs.ensures.capacity items c.push_reserved.ensures.capacity;
       choice = k;
       goes = refl;
-      choices = c.push_reserved.ensures.items;
+      choices = items;
     }
 
 pub returns-in-Err-clause-held : goal.returns-in-Err-clause-held
