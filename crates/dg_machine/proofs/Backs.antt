@@ -20,7 +20,7 @@ use Rattle.dg_machine.specs.declared.memory.Memory.{Memory}
 use Rattle.dg_machine.specs.Layout.{InnersAt, FramesAt, WayAt, ChoicesAt, HasRoom, Roomy, Holds, CanRestore, WentBack, heap_in, limit_in}
 use Rattle.dg_machine.specs.Stops.{tags_of, StopIs, choices_of, Among}
 use Rattle.dg_machine.proofs.StopLemmas.{among_tail, among_fewer, among_same, under_up, under_few}
-use Rattle.dg_machine.proofs.Kept.{way_kept, frames_kept}
+use Rattle.dg_machine.proofs.Kept.{way_kept, frames_kept, inners_kept}
 use Rattle.dg_machine.proofs.Cuts.{drops, first_older, back_to}
 use Rattle.dg_machine.proofs.Opens.{newest_is}
 
@@ -196,7 +196,8 @@ module _ (code : Code) (l : Limits) (r new : Memory) (k : Choice) (c : ChoiceOf)
           state_is = state;
           limits = roomy_back.limits;
           frames_are = frames_then;
-          inner_are = subst (λ i. InnersAt (tags_of c.stops) new.inners.items i c.inner) (sym to.inner) (subst (λ is. InnersAt (tags_of c.stops) is k.inner c.inner) (sym left_inners) x.at.inner_are);
+          inner_are = subst (λ i. InnersAt (meaning_of new.arena) (tags_of c.stops) new.inners.items i c.inner) (sym to.inner)
+              (subst (λ is. InnersAt (meaning_of new.arena) (tags_of c.stops) is k.inner c.inner) (sym left_inners) (inners_kept x.saved.store (meaning_of new.arena) (tags_of c.stops) (tags_of c.stops) x.at.inners_then x.at.inners_then k.inner c.inner back.kept (begins_same (tags_of c.stops)) (begins_same x.at.inners_then) x.at.inner_are));
           stop_is = subst (λ i. StopIs (tags_of c.stops) i c.stop) (sym to.stop) x.at.stop_is;
           choices_are = record {
             points = x.points;

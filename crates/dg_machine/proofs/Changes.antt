@@ -72,13 +72,13 @@ module _ (code : Code) (g : Game) (l : Limits) (m : Mid) (out out' : Outside) (o
   same_around e =
       let v = w.0 in
       subst (λ x. Around x g l m) (sym others)
-      ((record { stands = subst (λ (f : FactsWorld). StandsFor f (outline g.program f.area.keep) m.outside.facts) (sym e) v.0.stands; formed = v.0.formed; room = row_is ∙ v.0.room ∙ sym limit }, v.1, v.2, v.3), limit ∙ w.1)
+      ((record { stands = subst (λ (f : FactsWorld). StandsFor f (outline g.program f.area.keep) m.outside.facts) (sym e) v.0.stands; formed = v.0.formed; room = row_is ∙ v.0.room ∙ sym limit }, v.1, v.2, v.3), limit ∙ w.1, w.2)
 
   changed_around : (a : Alteration) → StandsFor out'.world (outline g.program kept_o) (altered a m.outside.facts) → SetsFormed a → Around out' g l (with_facts (altered a m.outside.facts) m)
   changed_around a stands formed =
       let v = w.0 in
       subst (λ x. Around x g l (with_facts (altered a m.outside.facts) m)) (sym others)
-      ((record { stands = subst (λ k. StandsFor out'.world (outline g.program k) (altered a m.outside.facts)) (sym limit) stands; formed = altered_formed a m.outside.facts formed v.0.formed; room = row_is ∙ v.0.room ∙ sym limit }, v.1, v.2, v.3), limit ∙ w.1)
+      ((record { stands = subst (λ k. StandsFor out'.world (outline g.program k) (altered a m.outside.facts)) (sym limit) stands; formed = altered_formed a m.outside.facts formed v.0.formed; room = row_is ∙ v.0.room ∙ sym limit }, v.1, v.2, v.3), limit ∙ w.1, w.2)
 
   abbrev size_of : Alteration → ℕ
   size_of a = max 0 (kept_size (kinds_of g.program) (altered a m.outside.facts))

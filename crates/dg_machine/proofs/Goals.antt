@@ -35,8 +35,8 @@ use Rattle.dg_mid.specs.declared.code.Action.{Action}
 use Rattle.dg_mid.specs.declared.code.Action.TheVariants as action
 use Rattle.dg_mid.specs.declared.code.Code.{Code}
 use Rattle.dg_mid.specs.Code.{block_at}
-use Rattle.dg_mid.specs.State.{Mid, Calls as CallsOf, Status, Runs as RunsOf, Enters as EntersOf, Resumes as ResumesOf, Fails as FailsOf, Ended as EndedOf}
-use Rattle.dg_mid.specs.Step.{Setting, setting, more, does, runs, step, said, said_in, said_to, followed, is_goal, keeps_within}
+use Rattle.dg_mid.specs.State.{Mid, Takes as TakesOf, Calls as CallsOf, Status, Runs as RunsOf, Enters as EntersOf, Resumes as ResumesOf, Fails as FailsOf, Ended as EndedOf}
+use Rattle.dg_mid.specs.Step.{Setting, setting, more, does, runs, step, said, said_in, said_to, followed, is_goal, at_goal, keeps_within}
 use Rattle.dg_mid.specs.Heights.{MidOrdered}
 use Rattle.dg_mid.specs.Falling.{jumping}
 use Rattle.dg_mid.specs.Potential.{Tidy, begins_goto}
@@ -44,7 +44,7 @@ use Rattle.dg_spacing.specs.declared.spacer.Spacer.{Spacer}
 use Rattle.dg_spacing.specs.Spacer.{StandsFor}
 use Rattle.dg_machine.specs.declared.now.Call.{Call}
 use Rattle.dg_machine.specs.declared.now.Way.{Way}
-use Rattle.dg_machine.specs.declared.now.Way.TheVariants.{Goes, Calls}
+use Rattle.dg_machine.specs.declared.now.Way.TheVariants.{Goes, Takes, Calls}
 use Rattle.dg_machine.specs.declared.now.Now.{Now}
 use Rattle.dg_machine.specs.declared.now.Now.TheVariants.{Runs, Enters, Resumes, Fails, Ended}
 use Rattle.dg_machine.specs.declared.memory.Memory.{Memory}
@@ -52,7 +52,7 @@ use Rattle.dg_machine.specs.declared.tables.Tables.{Tables}
 use Rattle.dg_machine.specs.Tables.{IsOf}
 use Rattle.dg_machine.specs.Built.{OpBuilt, OpsBuilt, IsBuilt, IsQuiet, IsQuietOp}
 use Rattle.dg_machine.specs.Layout.{HasRoom, HasPut, Holds, Roomy}
-use Rattle.dg_machine.specs.Standing.{CodeIs, Stands, Falls, DoesOp, DoesMark, Asks, AsksLast, EntersRule, IsThere, GoesOn, FailsTo, HasStatus, Around, HasOutside, StandsWith}
+use Rattle.dg_machine.specs.Standing.{CodeIs, Stands, Falls, DoesOp, DoesMark, Asks, AsksLast, EntersRule, IsThere, GoesOn, KeepsOne, FailsTo, HasStatus, Around, HasOutside, StandsWith}
 use Rattle.dg_machine.specs.Running.{rests, DoesMarks, HasText, GoalDone, GoalLost}
 use Rattle.std.proofs.Common.{map}
 use Rattle.dg_base.specs.declared.program.CoreProgram.{CoreProgram}
@@ -64,7 +64,7 @@ use Rattle.dg_machine.specs.Refs.{AreRefs}
 use Rattle.dg_machine.proofs.Opens.{roomy}
 use Rattle.dg_machine.proofs.Hands.{nothing_more, no_jump}
 use Rattle.dg_machine.proofs.Leads.{charged_led}
-use Rattle.dg_machine.proofs.Outsides.{DrawsNone, quiet_draws, has_does, has_outside, run_outside, enter_outside, resume_outside}
+use Rattle.dg_machine.proofs.Outsides.{DrawsNone, quiet_draws, run_outside, enter_outside}
 use Rattle.dg_machine.proofs.Leaving.{block_is}
 use Rattle.dg_texts.proofs.Texts.{render_grows}
 use Rattle.dg_machine.proofs.Prints.{said_done, said_lost}
@@ -84,41 +84,62 @@ goes_to code b r ops block rest built tidy whole is g l m o x at h =
 pub is_done : (code : Code) (r : Memory) (ops : Bor (List Op)) (rest : List Op) → DoesMark code r ops op.Done rest r (Ended ending.Done)
 is_done code r ops rest g l m o x at h = record { stands = (refl, roomy code l m r h); falls = omega arith }
 
-other_fails : (g : Setting) (x : Op) (m : Mid) → is_goal x ≡ false → OpBuilt x → (x ≡ op.Commit → ⊥) → (x ≡ op.Refuse → ⊥) → (x ≡ op.Leave → ⊥) → (x ≡ op.Return → ⊥) → ((b : ℕ) → x ≡ op.Goto b → ⊥) → (x ≡ op.Done → ⊥) → does g x m ≡ FailsOf m
-other_fails g op.Commit m e b c f v r t d = absurd (c refl)
-other_fails g op.Refuse m e b c f v r t d = absurd (f refl)
-other_fails g op.Return m e b c f v r t d = absurd (r refl)
-other_fails g (op.Goto k) m e b c f v r t d = absurd (t k refl)
-other_fails g op.Done m e b c f v r t d = absurd (d refl)
-other_fails g (op.Retry alt) m e b c f v r t d = refl
-other_fails g (op.Enter vars head) m e b c f v r t d = refl
-other_fails g op.Back m e b c f v r t d = refl
-other_fails g op.Leave m e b c f v r t d = absurd (v refl)
-other_fails g (op.Keep term) m e b c f v r t d = absurd b
-other_fails g (op.TakeOut whole into) m e b c f v r t d = absurd b
-other_fails g x m e b c f v r t d = absurd (cc)
+other_fails : (g : Setting) (x : Op) (m : Mid) → is_goal x ≡ false → OpBuilt x → IsQuietOp x → (x ≡ op.Commit → ⊥) → (x ≡ op.Refuse → ⊥) → (x ≡ op.Leave → ⊥) → (x ≡ op.Return → ⊥) → ((b : ℕ) → x ≡ op.Goto b → ⊥) → (x ≡ op.Done → ⊥) → does g x m ≡ FailsOf m
+other_fails g op.Commit m e b q c f v r t d = absurd (c refl)
+other_fails g op.Refuse m e b q c f v r t d = absurd (f refl)
+other_fails g op.Return m e b q c f v r t d = absurd (r refl)
+other_fails g (op.Goto k) m e b q c f v r t d = absurd (t k refl)
+other_fails g op.Done m e b q c f v r t d = absurd (d refl)
+other_fails g (op.Retry alt) m e b q c f v r t d = refl
+other_fails g (op.Enter vars head) m e b q c f v r t d = refl
+other_fails g op.Back m e b q c f v r t d = refl
+other_fails g op.Leave m e b q c f v r t d = absurd (v refl)
+other_fails g (op.Keep term) m e b q c f v r t d = absurd q
+other_fails g (op.TakeOut whole into) m e b q c f v r t d = absurd b
+other_fails g x m e b q c f v r t d = absurd (cc)
 
-pub fails_else : (code : Code) (r : Memory) (ops : Bor (List Op)) (x : Op) (rest : List Op) → is_goal x ≡ false → (x ≡ op.Commit → ⊥) → (x ≡ op.Refuse → ⊥) → (x ≡ op.Leave → ⊥) → (x ≡ op.Return → ⊥) → ((b : ℕ) → x ≡ op.Goto b → ⊥) → (x ≡ op.Done → ⊥) → DoesMark code r ops x rest r Fails
-fails_else code r ops x rest e c f v t j d g l m o b at h = subst (Falls code l r (Runs ops) r Fails) (sym (other_fails (setting g code l) x m e b c f v t j d)) (record { stands = h; falls = omega arith })
+pub fails_else : (code : Code) (r : Memory) (ops : Bor (List Op)) (x : Op) (rest : List Op) → is_goal x ≡ false → IsQuietOp x → (x ≡ op.Commit → ⊥) → (x ≡ op.Refuse → ⊥) → (x ≡ op.Leave → ⊥) → (x ≡ op.Return → ⊥) → ((b : ℕ) → x ≡ op.Goto b → ⊥) → (x ≡ op.Done → ⊥) → DoesMark code r ops x rest r Fails
+fails_else code r ops x rest e q c f v t j d g l m o b at h = subst (Falls code l r (Runs ops) r Fails) (sym (other_fails (setting g code l) x m e b q c f v t j d)) (record { stands = h; falls = omega arith })
 
 -- ## Steps that take no goal
+
+-- an instruction that takes no goal and keeps nothing
+pub quiet_mark_op : (x : Op) → is_goal x ≡ false → ((t : Term) → x ≡ op.Keep t → ⊥) → IsQuietOp x
+quiet_mark_op (op.Do a) e k = absurd (cc)
+quiet_mark_op (op.Select site mode blocks behind) e k = absurd (cc)
+quiet_mark_op (op.Collect term into alt) e k = absurd (cc)
+quiet_mark_op (op.Keep term) e k = absurd (k term refl)
+quiet_mark_op x e k = tt
 
 quiet_mark : (g : Setting) (m : Mid) (x : Op) (rest : List Op) → is_goal x ≡ false → said_in g m (x ∷ rest) ≡ []
 quiet_mark g m (op.Do a) rest e = absurd (cc)
 quiet_mark g m x rest e = refl
 
-pub marks_run : (tb : Tables) (code : Code) (old new : Memory) (out : Outside) (now : Now) (ops : Bor (List Op)) (x : Op) (rest : List Op) → ops.now ≡ x ∷ rest → is_goal x ≡ false → DoesMark code old ops x rest new now → DoesMarks tb code old out (Runs ops) new out now
-marks_run tb code old new out now ops x rest split e does g is_of l (RunsOf m) o t h w =
+pub marks_run : (tb : Tables) (code : Code) (old new : Memory) (out : Outside) (now : Now) (ops : Bor (List Op)) (x : Op) (rest : List Op) → ops.now ≡ x ∷ rest → is_goal x ≡ false → IsQuietOp x → DoesMark code old ops x rest new now → DoesMarks tb code old out (Runs ops) new out now
+marks_run tb code old new out now ops x rest split e quiet does g is_of l (RunsOf m) o t h w =
     let is : m.ops ≡ x ∷ rest = h.0.0 ∙ split in
     let built : OpsBuilt (x ∷ rest) = subst OpsBuilt split h.0.1 in
     let done = does g l (record m { ops = rest }) o built.0 (refl, built.1) h.1 in
     record {
       stands = subst (λ xs. Stands code l new now (runs (setting g code l) xs m)) (sym is) done.stands;
-      outside = run_outside out g l code m.ops m (subst OpsBuilt (sym h.0.0) h.0.1) t w;
+      outside = subst (λ xs. HasOutside out g l (runs (setting g code l) xs m)) (sym is) (run_outside out g l code x (record m { ops = rest }) built.0 (quiet_draws x quiet) w);
       falls = λ over. done.falls;
       quiet = ap (λ ps. said_to ps (step (setting g code l) (RunsOf m))) (ap (said_in (setting g code l) m) is ∙ quiet_mark (setting g code l) m x rest e);
     }
-marks_run tb code old new out now ops x rest split e does g is_of l s o t h w = absurd h
+marks_run tb code old new out now ops x rest split e quiet does g is_of l s o t h w = absurd h
+
+-- what is gathered is kept
+pub marks_keep : (tb : Tables) (code : Code) (old new : Memory) (out out' : Outside) (now : Now) (ops : Bor (List Op)) (t : Term) (rest : List Op) → ops.now ≡ op.Keep t ∷ rest → KeepsOne code old out ops new now out' → DoesMarks tb code old out (Runs ops) new out' now
+marks_keep tb code old new out out' now ops t rest split keeps g is_of l (RunsOf m) o e h w =
+    let is : m.ops ≡ op.Keep t ∷ rest = h.0.0 ∙ split in
+    let kept = keeps g l (record m { ops = rest }) h.1 w in
+    record {
+      stands = subst (λ xs. Stands code l new now (runs (setting g code l) xs m)) (sym is) kept.done.stands;
+      outside = subst (λ xs. HasOutside out' g l (runs (setting g code l) xs m)) (sym is) kept.outside;
+      falls = λ over. kept.done.falls;
+      quiet = ap (λ ps. said_to ps (step (setting g code l) (RunsOf m))) (ap (said_in (setting g code l) m) is);
+    }
+marks_keep tb code old new out out' now ops t rest split keeps g is_of l s o e h w = absurd h
 
 pub marks_none : (tb : Tables) (code : Code) (r : Memory) (out : Outside) (ops : Bor (List Op)) → length ops.now < 1 → DoesMarks tb code r out (Runs ops) r out Fails
 marks_none tb code r out ops lt g is_of l (RunsOf m) o t h w =
@@ -135,9 +156,9 @@ pub marks_enter : (tb : Tables) (code : Code) (old new : Memory) (out : Outside)
 marks_enter tb code old new out now k ops enters g is_of l (EntersOf c m) o t h w = let done = enters g is_of l m c h.0 h.1 h.2 in record { stands = done.stands; outside = enter_outside out g l code c m w; falls = λ over. done.falls; quiet = refl }
 marks_enter tb code old new out now k ops enters g is_of l s o t h w = absurd h
 
-pub marks_resume : (tb : Tables) (code : Code) (old new : Memory) (out : Outside) (now : Now) (way : Way) → IsBuilt code → GoesOn code old way new now → DoesMarks tb code old out (Resumes way) new out now
-marks_resume tb code old new out now way built goes g is_of l (ResumesOf on m) o t h w = let done = goes g l m on h.0 h.1 in record { stands = done.stands; outside = resume_outside out g l code _ _ way on m built h.0 w; falls = λ over. done.falls; quiet = refl }
-marks_resume tb code old new out now way built goes g is_of l s o t h w = absurd h
+pub marks_resume : (tb : Tables) (code : Code) (old new : Memory) (out out' : Outside) (now : Now) (way : Way) → GoesOn code old out way new now out' → DoesMarks tb code old out (Resumes way) new out' now
+marks_resume tb code old new out out' now way goes g is_of l (ResumesOf on m) o t h w = let gone = goes g l m on h.0 h.1 w in record { stands = gone.done.stands; outside = gone.outside; falls = λ over. gone.done.falls; quiet = refl }
+marks_resume tb code old new out out' now way goes g is_of l s o t h w = absurd h
 
 pub marks_fail : (tb : Tables) (code : Code) (old new : Memory) (out out' : Outside) (now : Now) → FailsTo code old out new now out' → DoesMarks tb code old out Fails new out' now
 marks_fail tb code old new out out' now fails g is_of l (FailsOf m) o t h w = let failed = fails g l m h w in record { stands = failed.done.stands; outside = failed.outside; falls = λ over. failed.done.falls; quiet = refl }
@@ -166,6 +187,9 @@ room_of code r now s e = (held_of code r now s e).held.0.room
 
 there_in : (code : Code) (l : Limits) (r : Memory) (way : Way) (s : Status) → Stands code l r (Resumes way) s → IsThere code r way
 there_in code l r (Goes b) s h = tt
+there_in code l r (Takes b) (ResumesOf (TakesOf b' into) m) h = (h.0.1, into, h.0.2)
+there_in code l r (Takes b) (ResumesOf on m) h = absurd h.0
+there_in code l r (Takes b) s h = absurd h
 there_in code l r (Calls k pred left) (ResumesOf (CallsOf c rules) m) h = (h.0.there, (c.args, h.0.call.args))
 there_in code l r (Calls k pred left) (ResumesOf on m) h = absurd h.0
 there_in code l r (Calls k pred left) s h = absurd h
@@ -246,7 +270,7 @@ other_goal (op.LastQuery x y many) e b q d k la t br on tr sh qu lq = lq x y man
 other_goal (op.Find place ts many next) e b q d k la t br on tr sh qu lq = b
 other_goal (op.Select site mode bs behind) e b q d k la t br on tr sh qu lq = q
 other_goal (op.Shield alt) e b q d k la t br on tr sh qu lq = sh alt refl
-other_goal (op.Collect x y alt) e b q d k la t br on tr sh qu lq = b
+other_goal (op.Collect x y alt) e b q d k la t br on tr sh qu lq = q
 other_goal x e b q d k la t br on tr sh qu lq = absurd (cc)
 
 pub quiet_else : (a : Action) → ((name : _) → a ≡ action.Text name → ⊥) → ((kind : _) → a ≡ action.Gap kind → ⊥) → ((x : Term) → a ≡ action.GapN x → ⊥) → ((x : Term) → a ≡ action.Print x → ⊥) → ((x y z : Term) → a ≡ action.Random x y z → ⊥) → ((place : ℕ) (xs : List Term) (sets : Bool) → a ≡ action.Now place xs sets → ⊥) → (a ≡ action.Stop → ⊥) → IsQuiet a
@@ -259,10 +283,15 @@ quiet_else (action.Now place xs sets) t g n p d w v = w place xs sets refl
 quiet_else action.Stop t g n p d w v = absurd (v refl)
 quiet_else a t g n p d w v = tt
 
-pub quiet_op : (x : Op) → ((a : Action) → x ≡ op.Do a → ⊥) → ((site : ℕ) (mode : Mode) (blocks : List ℕ) (behind : ℕ) → x ≡ op.Select site mode blocks behind → ⊥) → IsQuietOp x
-quiet_op (op.Do a) d s = absurd (d a refl)
-quiet_op (op.Select site mode blocks behind) d s = absurd (s site mode blocks behind refl)
-quiet_op x d s = tt
+pub first_goal : (all : List Op) (x : Op) (rest : List Op) → all ≡ x ∷ rest → at_goal all ≡ true → is_goal x ≡ true
+first_goal all x rest is e = sym (ap at_goal is) ∙ e
+
+pub quiet_op : (x : Op) → is_goal x ≡ true → ((a : Action) → x ≡ op.Do a → ⊥) → ((site : ℕ) (mode : Mode) (blocks : List ℕ) (behind : ℕ) → x ≡ op.Select site mode blocks behind → ⊥) → ((term into : Term) (alt : ℕ) → x ≡ op.Collect term into alt → ⊥) → IsQuietOp x
+quiet_op (op.Do a) e d s c = absurd (d a refl)
+quiet_op (op.Select site mode blocks behind) e d s c = absurd (s site mode blocks behind refl)
+quiet_op (op.Collect term into alt) e d s c = absurd (c term into alt refl)
+quiet_op (op.Keep term) e d s c = absurd (cc)
+quiet_op x e d s c = tt
 
 quiet_gives : (o : Option ℕ) (v : Value) (r : Registers) (w : World) → said_by (gives_number o v r w) ≡ prints w.events
 quiet_gives None v r w = refl
@@ -340,7 +369,7 @@ module _ (tb : Tables) (code : Code) (g : Game) (is_of : IsOf g.program tb) (l :
   pub silent_done : (s : Spacer) (k : SinkView) (out : Outside) → MidOrdered m → Around out g l m → said_in set m (x ∷ rest) ≡ [] → DrawsNone x → DoesOp tb code old x rest new now → GoalDone code g l new out now s s k k m
   silent_done s k out o w silent draws led =
       let stands = led g is_of l (record m { ops = rest }) o built_here.0 (refl, built_here.1) h in
-      silent_with s k out silent (record { stands = stands; outside = has_outside out g l (record m { ops = rest }) (does set x (record m { ops = rest })) (has_does set x (record m { ops = rest }) built_here.0 draws) w })
+      silent_with s k out silent (record { stands = stands; outside = run_outside out g l code x (record m { ops = rest }) built_here.0 draws w })
 
   pub quiet_done : (s : Spacer) (k : SinkView) (out : Outside) → MidOrdered m → Around out g l m → IsQuietOp x → DoesOp tb code old x rest new now → GoalDone code g l new out now s s k k m
   quiet_done s k out o w quiet led = silent_done s k out o w (quiet_goal set m x rest quiet built_here.0) (quiet_draws x quiet) led

@@ -20,7 +20,7 @@ use Rattle.dg_machine.specs.declared.now.Choice.{Choice}
 use Rattle.dg_machine.specs.declared.memory.Memory.{Memory}
 use Rattle.dg_machine.specs.Refs.{RowAt}
 use Rattle.dg_machine.specs.Links.{named, below}
-use Rattle.dg_machine.specs.Layout.{InnersAt, FramesAt, HasRoom, Holds, heap_in, limit_in}
+use Rattle.dg_machine.specs.Layout.{KeptAt, InnersAt, FramesAt, HasRoom, Holds, heap_in, limit_in}
 use Rattle.dg_machine.specs.Measure.{choices_left}
 use Rattle.dg_machine.specs.Stops.{tags_of, StopIs, Among}
 use Rattle.dg_machine.proofs.Cuts.{among_cut}
@@ -37,7 +37,7 @@ pub record NewestFrame (s : Store) (us : List ℕ) (inners : List Inner) (xs : L
   pub many : newest.many ≡ frame.many
   pub cut : newest.cut.height ≡ frame.cut
   pub vars : RowAt s frame.vars newest.vars
-  pub inner_is : InnersAt us inners frame.inner newest.inner
+  pub inner_is : InnersAt s us inners frame.inner newest.inner
   pub older : frame.behind < e
   pub behind_is : FramesAt s us inners xs frame.behind behind
 
@@ -53,7 +53,7 @@ some_frame s us is xs e frame (f ∷ fs) n h =
       many = h.many ∙ ap (λ (x : Frame). x.many) same;
       cut = h.cut ∙ ap (λ (x : Frame). x.cut) same;
       vars = subst (λ (x : Frame). RowAt s x.vars f.vars) same h.vars;
-      inner_is = subst (λ (x : Frame). InnersAt us is x.inner f.inner) same h.inner_is;
+      inner_is = subst (λ (x : Frame). InnersAt s us is x.inner f.inner) same h.inner_is;
       older = subst (λ (x : Frame). x.behind < e) same h.older;
       behind_is = subst (λ (x : Frame). FramesAt s us is xs x.behind fs) same h.behind_is;
     }
@@ -63,18 +63,19 @@ no_frame s us is xs e [] n h = refl
 no_frame s us is xs e (f ∷ fs) n h = let there = h.there in absurd (cc)
 
 -- the innermost of these inner constructs is this one
-pub record Innermost (us : List ℕ) (inners : List Inner) (l : ℕ) (inner : Inner) (ps : List Place) : Type 0 where
+pub record Innermost (s : Store) (us : List ℕ) (inners : List Inner) (l : ℕ) (inner : Inner) (ps : List Place) : Type 0 where
   pub innermost : Place
   pub around : List Place
   pub is : ps ≡ innermost ∷ around
   pub height : innermost.height ≡ inner.height
   pub outer : StopIs us inner.stop innermost.outer
+  pub kept : KeptAt s inner.kept innermost.gathers
   pub older : inner.around < l
-  pub around_is : InnersAt us inners inner.around around
+  pub around_is : InnersAt s us inners inner.around around
 
-pub some_inner : (us : List ℕ) (is : List Inner) (l : ℕ) (inner : Inner) (ps : List Place) → named is l ≡ Some inner → InnersAt us is l ps → Innermost us is l inner ps
-some_inner us is l inner [] n h = let none : named is 0 ≡ Some inner = subst (λ k. named is k ≡ Some inner) h n in absurd (cc)
-some_inner us is l inner (p ∷ ps) n h =
+pub some_inner : (s : Store) (us : List ℕ) (is : List Inner) (l : ℕ) (inner : Inner) (ps : List Place) → named is l ≡ Some inner → InnersAt s us is l ps → Innermost s us is l inner ps
+some_inner s us is l inner [] n h = let none : named is 0 ≡ Some inner = subst (λ k. named is k ≡ Some inner) h n in absurd (cc)
+some_inner s us is l inner (p ∷ ps) n h =
     let same : h.inner ≡ inner = let there = h.there in cc in
     record {
       innermost = p;
@@ -82,13 +83,14 @@ some_inner us is l inner (p ∷ ps) n h =
       is = refl;
       height = h.height ∙ ap (λ (x : Inner). x.height) same;
       outer = subst (λ (x : Inner). StopIs us x.stop p.outer) same h.outer;
+      kept = subst (λ (x : Inner). KeptAt s x.kept p.gathers) same h.kept;
       older = subst (λ (x : Inner). x.around < l) same h.older;
-      around_is = subst (λ (x : Inner). InnersAt us is x.around ps) same h.around_is;
+      around_is = subst (λ (x : Inner). InnersAt s us is x.around ps) same h.around_is;
     }
 
-pub no_inner : (us : List ℕ) (is : List Inner) (l : ℕ) (ps : List Place) → named is l ≡ None → InnersAt us is l ps → ps ≡ []
-no_inner us is l [] n h = refl
-no_inner us is l (p ∷ ps) n h = let there = h.there in absurd (cc)
+pub no_inner : (s : Store) (us : List ℕ) (is : List Inner) (l : ℕ) (ps : List Place) → named is l ≡ None → InnersAt s us is l ps → ps ≡ []
+no_inner s us is l [] n h = refl
+no_inner s us is l (p ∷ ps) n h = let there = h.there in absurd (cc)
 
 -- ## Cuts
 
@@ -199,7 +201,7 @@ few code l r m h =
     let within : heap_in r ≤ limit_in r = r.arena.sound.heap_fits in
     let room = h.0.room in
     let in_frames = frame_within (meaning_of r.arena) (tags_of m.stops) r.inners.items r.frames.items r.frame m.frames h.0.frames_are in
-    let in_inners = inner_within (tags_of m.stops) r.inners.items r.inner m.inner h.0.inner_are in
+    let in_inners = inner_within (meaning_of r.arena) (tags_of m.stops) r.inners.items r.inner m.inner h.0.inner_are in
     record {
       frame = omega (arith, small, within, room.frames_few, in_frames);
       inner = omega (arith, small, within, room.inners_few, in_inners);

@@ -7,18 +7,18 @@ use Rattle.dg_meaning.proofs.OneRun.{begins_on, begins_same}
 use Rattle.dg_unify.specs.Store.{Store, Saved, Kept, IsClosureAt}
 use Rattle.dg_unify.proofs.Lists.{get_append}
 use Rattle.dg_mid.specs.declared.code.Code.{Code}
-use Rattle.dg_mid.specs.State.{Place, Stop, Frame as FrameOf, Choice as ChoiceOf, Call as CallOf, Way as WayOf, Goes as GoesOf, Calls as CallsOf}
+use Rattle.dg_mid.specs.State.{Place, Stop, Frame as FrameOf, Choice as ChoiceOf, Call as CallOf, Way as WayOf, Goes as GoesOf, Takes as TakesOf, Calls as CallsOf}
 use Rattle.dg_unify.specs.declared.bindings.Ref.{Ref}
 use Rattle.dg_machine.specs.declared.now.Row.{Row}
 use Rattle.dg_machine.specs.declared.now.Call.{Call}
 use Rattle.dg_machine.specs.declared.now.Way.{Way}
-use Rattle.dg_machine.specs.declared.now.Way.TheVariants.{Goes, Calls}
+use Rattle.dg_machine.specs.declared.now.Way.TheVariants.{Goes, Takes, Calls}
 use Rattle.dg_machine.specs.declared.now.Frame.{Frame}
 use Rattle.dg_machine.specs.declared.now.Inner.{Inner}
 use Rattle.dg_machine.specs.declared.now.Choice.{Choice}
 use Rattle.dg_machine.specs.Links.{named}
 use Rattle.dg_machine.specs.Refs.{ValuesAt, Captures, RowAt, RefsAt, AreRefs}
-use Rattle.dg_machine.specs.Layout.{CallAt, WayAt, InnersAt, FramesAt, ChoiceAt, ChoicesAt, AreAmong}
+use Rattle.dg_machine.specs.Layout.{CallAt, WayAt, KeptAt, InnersAt, FramesAt, ChoiceAt, ChoicesAt, AreAmong}
 use Rattle.dg_machine.proofs.StopLemmas.{stop_kept, under_up}
 
 -- what is named is still named so
@@ -26,15 +26,22 @@ pub named_kept : {A : Type 0} (xs ys : List A) (n : ℕ) (x : A) → Begins xs y
 named_kept xs ys zero x b e = absurd (cc)
 named_kept xs ys (suc n) x b e = subst (λ l. slice_get l n ≡ Some x) (sym b.is) (get_append xs b.behind n x e)
 
-pub inners_kept : (us vs : List ℕ) (old new : List Inner) (l : ℕ) (ps : List Place) → Begins us vs → Begins old new → InnersAt us old l ps → InnersAt vs new l ps
-inners_kept us vs old new l [] d b h = h
-inners_kept us vs old new l (p ∷ ps) d b h = record {
+value_kept : (s t : Store) (kept : Option Ref) (gathers : Option Value) → Kept s t → KeptAt s kept gathers → KeptAt t kept gathers
+value_kept s t None None k h = h
+value_kept s t (Some r) (Some v) k h = k.values r v h
+value_kept s t None (Some v) k h = h
+value_kept s t (Some r) None k h = h
+
+pub inners_kept : (s t : Store) (us vs : List ℕ) (old new : List Inner) (l : ℕ) (ps : List Place) → Kept s t → Begins us vs → Begins old new → InnersAt s us old l ps → InnersAt t vs new l ps
+inners_kept s t us vs old new l [] k d b h = h
+inners_kept s t us vs old new l (p ∷ ps) k d b h = record {
   inner = h.inner;
   there = named_kept old new l h.inner b h.there;
   height = h.height;
   outer = stop_kept us vs h.inner.stop p.outer d h.outer;
+  kept = value_kept s t h.inner.kept p.gathers k h.kept;
   older = h.older;
-  around_is = inners_kept us vs old new h.inner.around ps d b h.around_is;
+  around_is = inners_kept s t us vs old new h.inner.around ps k d b h.around_is;
 }
 
 pub values_kept : (s t : Store) (at : ℕ) (vs : List Value) → Kept s t → ValuesAt s at vs → ValuesAt t at vs
@@ -72,8 +79,10 @@ call_kept s t rs k c kept h = record { args = refs_kept s t rs c.args kept h.arg
 
 pub way_kept : (code : Code) (s t : Store) (rs : List Ref) (way : Way) (on : WayOf) → Kept s t → WayAt code s rs way on → WayAt code t rs way on
 way_kept code s t rs (Goes b) (GoesOf b') kept h = h
+way_kept code s t rs (Takes b) (TakesOf b' v) kept h = (h.0, h.1, refs_kept s t rs (h.1 ∷ v ∷ []) kept h.2)
 way_kept code s t rs (Calls k pred left) (CallsOf c rules) kept h = record { call = call_kept s t rs k c kept h.call; there = h.there; rules_are = h.rules_are }
 way_kept code s t rs (Goes b) on kept h = absurd h
+way_kept code s t rs (Takes b) on kept h = absurd h
 way_kept code s t rs (Calls k pred left) on kept h = absurd h
 
 pub frames_kept : (s t : Store) (us vs : List ℕ) (is js : List Inner) (xs ys : List Frame) (e : ℕ) (fs : List FrameOf) → Kept s t → Begins us vs → Begins is js → Begins xs ys → FramesAt s us is xs e fs → FramesAt t vs js ys e fs
@@ -85,7 +94,7 @@ frames_kept s t us vs is js xs ys e (f ∷ fs) k d a b h = record {
   many = h.many;
   cut = h.cut;
   vars = row_kept s t h.frame.vars f.vars k h.vars;
-  inner_is = inners_kept us vs is js h.frame.inner f.inner d a h.inner_is;
+  inner_is = inners_kept s t us vs is js h.frame.inner f.inner k d a h.inner_is;
   older = h.older;
   behind_is = frames_kept s t us vs is js xs ys h.frame.behind fs k d a b h.behind_is;
 }

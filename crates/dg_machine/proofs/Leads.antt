@@ -97,7 +97,7 @@ pub record LeftInner (code : Code) (l : Limits) (r new : Memory) (m : Mid) : Typ
 pub left_inner : (code : Code) (l : Limits) (m : Mid) (inner : Inner) (r mid : Memory) → MidOrdered m → Holds code l r m → named r.inners.items r.inner ≡ Some inner → reverse mid.choices.items ≡ below inner.height (reverse r.choices.items) →
     vec_capacity mid.choices ≡ vec_capacity r.choices → length mid.choices.items ≤ length r.choices.items → mid ≡ record r { choices = mid.choices } → LeftInner code l r (record mid { inner = inner.around }) m
 left_inner code l m inner r mid o h is left capacity fewer same =
-    let x = some_inner (tags_of m.stops) r.inners.items r.inner inner m.inner is h.0.inner_are in
+    let x = some_inner (meaning_of r.arena) (tags_of m.stops) r.inners.items r.inner inner m.inner is h.0.inner_are in
     let named_all : PlacesNamed m.next_tag m.state.heap m.choices (x.innermost ∷ x.around) = subst (PlacesNamed m.next_tag m.state.heap m.choices) x.is o.named.inner_are in
     let out : Holds code l (record r { inner = inner.around }) (record m { inner = x.around }) = (record { saves = h.0.saves; stand = h.0.stand; state_is = h.0.state_is; limits = h.0.limits; frames_are = h.0.frames_are; inner_are = x.around_is; stop_is = h.0.stop_is; choices_are = h.0.choices_are; room = record { frames_fit = h.0.room.frames_fit; inners_fit = h.0.room.inners_fit; choices_fit = h.0.room.choices_fit; stops_fit = h.0.room.stops_fit; frames_few = h.0.room.frames_few; inners_few = h.0.room.inners_few; choices_few = h.0.room.choices_few; stops_few = h.0.room.stops_few; refs = h.0.room.refs } }, h.1) in
     record {
@@ -128,10 +128,10 @@ module _ (code : Code) (l : Limits) (m : Mid) (r new : Memory) (ops : Bor (List 
   fails_now h = record { stands = h; falls = omega arith }
 
   pub not_committed : Holds code l r m → named r.inners.items r.inner ≡ None → Falls code l r (Runs ops) r Fails (commits m.inner m)
-  not_committed h is = subst (λ ps. Falls code l r (Runs ops) r Fails (commits ps m)) (sym (no_inner (tags_of m.stops) r.inners.items r.inner m.inner is h.0.inner_are)) (fails_now h)
+  not_committed h is = subst (λ ps. Falls code l r (Runs ops) r Fails (commits ps m)) (sym (no_inner (meaning_of r.arena) (tags_of m.stops) r.inners.items r.inner m.inner is h.0.inner_are)) (fails_now h)
 
   pub not_refused : Holds code l r m → named r.inners.items r.inner ≡ None → Falls code l r (Runs ops) r Fails (refuses m.inner m)
-  not_refused h is = subst (λ ps. Falls code l r (Runs ops) r Fails (refuses ps m)) (sym (no_inner (tags_of m.stops) r.inners.items r.inner m.inner is h.0.inner_are)) (fails_now h)
+  not_refused h is = subst (λ ps. Falls code l r (Runs ops) r Fails (refuses ps m)) (sym (no_inner (meaning_of r.arena) (tags_of m.stops) r.inners.items r.inner m.inner is h.0.inner_are)) (fails_now h)
 
 pub few_took : (old new : Memory) → HasRoom old → Took 10 old new → 10 * length new.inners.items + 10 ≤ heap_in new
 few_took old new room t = let heap = t.heap in let inners = ap (λ (r : Memory). length r.inners.items) t.others in let few = room.inners_few in omega (arith, heap, inners, few)

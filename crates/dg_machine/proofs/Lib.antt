@@ -25,7 +25,8 @@ pub mod Changes
 pub mod Selects
 pub mod Prints
 pub mod Outsides
-pub mod Goals
+pub mod Gatherings
+mod Goals
 pub mod Spaces
 pub mod Pieces
 pub mod Runs

@@ -25,7 +25,7 @@ use Rattle.dg_unify.specs.declared.bindings.Ref.{Ref}
 use Rattle.dg_machine.specs.Refs.{RowAt}
 use Rattle.dg_machine.specs.Built.{most_args}
 use Rattle.dg_machine.specs.Links.{named}
-use Rattle.dg_machine.specs.Layout.{RefsFit, InnersAt, FramesAt, WayAt, ChoicesAt, AreAmong, HasRoom, Roomy, Lacks, HoldsWith, Holds, HasFrameRoom, in_frame, heap_in, limit_in, choice_here}
+use Rattle.dg_machine.specs.Layout.{RefsFit, KeptAt, InnersAt, FramesAt, WayAt, ChoicesAt, AreAmong, HasRoom, Roomy, Lacks, HoldsWith, Holds, HasFrameRoom, in_frame, heap_in, limit_in, choice_here}
 use Rattle.dg_machine.specs.Measure.{way_left, choices_left}
 use Rattle.dg_machine.specs.Stops.{tags_of, StopIs, choices_of, Among}
 use Rattle.dg_machine.proofs.StopLemmas.{among_front, among_same, tags_length, choices_length, under_up, under_few}
@@ -51,9 +51,9 @@ named_within : {A : Type 0} (xs : List A) (n : ℕ) (x : A) → named xs n ≡ S
 named_within xs zero x e = omega arith
 named_within xs (suc n) x e = let lt = slice_get_within xs n x e in omega (arith, lt)
 
-pub inner_within : (us : List ℕ) (is : List Inner) (l : ℕ) (ps : List Place) → InnersAt us is l ps → l ≤ length is
-inner_within us is l [] h = omega (arith, h)
-inner_within us is l (p ∷ ps) h = named_within is l h.inner h.there
+pub inner_within : (s : Store) (us : List ℕ) (is : List Inner) (l : ℕ) (ps : List Place) → InnersAt s us is l ps → l ≤ length is
+inner_within s us is l [] h = omega (arith, h)
+inner_within s us is l (p ∷ ps) h = named_within is l h.inner h.there
 
 pub frame_within : (s : Store) (us : List ℕ) (is : List Inner) (xs : List Frame) (e : ℕ) (fs : List FrameOf) → FramesAt s us is xs e fs → e ≤ length xs
 frame_within s us is xs e [] h = omega (arith, h)
@@ -108,7 +108,7 @@ took code l m n r a h kept saved charged = (
     state_is = charged.state ∙ ap (λ (s : State). record s { heap = s.heap + n }) h.0.state_is;
     limits = record { heap = kept.heap_limit ∙ h.0.limits.heap; trail = kept.trail_limit ∙ h.0.limits.trail };
     frames_are = frames_kept (meaning_of r.arena) (meaning_of a) (tags_of m.stops) (tags_of m.stops) r.inners.items r.inners.items r.frames.items r.frames.items r.frame m.frames kept (begins_same (tags_of m.stops)) (begins_same r.inners.items) (begins_same r.frames.items) h.0.frames_are;
-    inner_are = h.0.inner_are;
+    inner_are = inners_kept (meaning_of r.arena) (meaning_of a) (tags_of m.stops) (tags_of m.stops) r.inners.items r.inners.items r.inner m.inner kept (begins_same (tags_of m.stops)) (begins_same r.inners.items) h.0.inner_are;
     stop_is = h.0.stop_is;
     choices_are = higher code l m r a h (let heap = ap (λ (s : State). s.heap) charged.state in omega (arith, heap));
     room = took_room n r a h.0.room kept charged;
@@ -129,7 +129,7 @@ on_arena code l m s r a h kept saved state more_heap =
         state_is = state;
         limits = record { heap = kept.heap_limit ∙ h.0.limits.heap; trail = kept.trail_limit ∙ h.0.limits.trail };
         frames_are = frames_kept (meaning_of r.arena) (meaning_of a) (tags_of m.stops) (tags_of m.stops) r.inners.items r.inners.items r.frames.items r.frames.items r.frame m.frames kept (begins_same (tags_of m.stops)) (begins_same r.inners.items) (begins_same r.frames.items) h.0.frames_are;
-        inner_are = h.0.inner_are;
+        inner_are = inners_kept (meaning_of r.arena) (meaning_of a) (tags_of m.stops) (tags_of m.stops) r.inners.items r.inners.items r.inner m.inner kept (begins_same (tags_of m.stops)) (begins_same r.inners.items) h.0.inner_are;
         stop_is = h.0.stop_is;
         choices_are = higher code l m r a h (omega (arith, heap, was, more_heap));
         room = record {
@@ -224,9 +224,9 @@ taken_length : {A : Type 0} (n : ℕ) (xs : List A) → n ≤ length xs → leng
 taken_length n xs le = length-take-le n xs le
 
 -- a choice opens, and a stoppable part with it or none
-module _ (code : Code) (l : Limits) (m : Mid) (on : WayOf) (n : ℕ) (r new : Memory) (a : Arena) (w : Way) (mark : Mark) (h : Holds code l r m) (way : WayAt code (meaning_of r.arena) (take n r.args.items) w on) (few_args : n ≤ length r.args.items)
+module _ (code : Code) (l : Limits) (m : Mid) (on : WayOf) (n counted : ℕ) (r new : Memory) (a : Arena) (w : Way) (mark : Mark) (h : Holds code l r m) (way : WayAt code (meaning_of r.arena) (take n r.args.items) w on) (few_args : n ≤ length r.args.items)
     (kept : Kept (meaning_of r.arena) (meaning_of a)) (saved : (ms : List Saved) → saves_of r.arena ms → saves_of a (record { mark = mark; store = meaning_of a } ∷ ms)) (same : (meaning_of a).state ≡ marked (meaning_of r.arena).state)
-    (kept' : Kept (meaning_of a) (meaning_of new.arena)) (saved' : (ms : List Saved) → saves_of a ms → saves_of new.arena ms) (charged : Charged (10 + n) (meaning_of a) (meaning_of new.arena))
+    (kept' : Kept (meaning_of a) (meaning_of new.arena)) (saved' : (ms : List Saved) → saves_of a ms → saves_of new.arena ms) (charged : Charged (10 + counted) (meaning_of a) (meaning_of new.arena))
     (kept_items : new.kept.items ≡ r.kept.items ++ take n r.args.items) (items : new.choices.items ≡ r.choices.items ++ choice_here r w n mark ∷ []) where
   abbrev pub k : Choice
   k = choice_here r w n mark
@@ -246,8 +246,8 @@ module _ (code : Code) (l : Limits) (m : Mid) (on : WayOf) (n : ℕ) (r new : Me
   high : m.state.heap ≡ mark.heap
   high = ap (λ (s : State). s.heap) (sym state) ∙ marks_here a mark h.0.saves stand
 
-  grown : heap_in new ≡ heap_in r + (10 + n)
-  grown = ap (λ (s : State). s.heap) charged.state ∙ ap (λ (s : State). s.heap + (10 + n)) same
+  grown : heap_in new ≡ heap_in r + (10 + counted)
+  grown = ap (λ (s : State). s.heap) charged.state ∙ ap (λ (s : State). s.heap + (10 + counted)) same
 
   now : Kept (meaning_of r.arena) (meaning_of new.arena)
   now = kept_on (meaning_of r.arena) (meaning_of a) (meaning_of new.arena) kept kept'
@@ -288,7 +288,7 @@ module _ (code : Code) (l : Limits) (m : Mid) (on : WayOf) (n : ℕ) (r new : Me
           args_few = omega (arith, count, few_args, few.refs.args_few);
           refs_few = omega (arith, few.refs.kept_few, was);
           frames_are = frames_in (meaning_of a) (tags_of m.stops) kept (begins_same (tags_of m.stops));
-          inner_are = h.0.inner_are;
+          inner_are = inners_kept (meaning_of r.arena) (meaning_of a) (tags_of m.stops) (tags_of m.stops) r.inners.items r.inners.items r.inner m.inner kept (begins_same (tags_of m.stops)) (begins_same r.inners.items) h.0.inner_are;
           stop_is = h.0.stop_is;
           frames_few = omega (arith, few.frames_few, was);
           inners_few = omega (arith, few.inners_few, was);
@@ -299,18 +299,18 @@ module _ (code : Code) (l : Limits) (m : Mid) (on : WayOf) (n : ℕ) (r new : Me
       )
 
   pub opened_with : (new' : Memory) (ss : List Stop) (stop : Option ℕ) → new' ≡ record r { arena = new.arena; choices = new.choices; kept = new.kept; stops = new'.stops; stop = new'.stop } → Begins (tags_of m.stops) (tags_of ss) → StopIs (tags_of ss) new'.stop stop → Begins r.stops.items new'.stops.items →
-      Among (k ∷ points) (new_choice on m ∷ means) (reverse new'.stops.items) (choices_of ss) → HasRoom new' → HoldsWith code l new' (inside on n m).state m.frames m.inner (new_choice on m ∷ m.choices) ss stop
+      Among (k ∷ points) (new_choice on m ∷ means) (reverse new'.stops.items) (choices_of ss) → HasRoom new' → HoldsWith code l new' (inside on counted m).state m.frames m.inner (new_choice on m ∷ m.choices) ss stop
   opened_with new' ss stop is b stop_is b' stops_in room =
       let low : mark.heap < heap_in new = omega (arith, grown, was, high) in
       let few : 10 * length (k ∷ points) ≤ heap_in new = let x = under_few (heap_in r) points h.0.choices_are.under in omega (arith, grown, x) in
-      let whole : HoldsWith code l (record r { arena = new.arena; choices = new.choices; kept = new.kept; stops = new'.stops; stop = new'.stop }) (inside on n m).state m.frames m.inner (new_choice on m ∷ m.choices) ss stop =
+      let whole : HoldsWith code l (record r { arena = new.arena; choices = new.choices; kept = new.kept; stops = new'.stops; stop = new'.stop }) (inside on counted m).state m.frames m.inner (new_choice on m ∷ m.choices) ss stop =
       record {
         saves = here ∷ h.0.saves;
         stand = saved' (here ∷ h.0.saves) stand;
-        state_is = charged.state ∙ ap (λ (s : State). record s { heap = s.heap + (10 + n) }) state;
+        state_is = charged.state ∙ ap (λ (s : State). record s { heap = s.heap + (10 + counted) }) state;
         limits = record { heap = now.heap_limit ∙ h.0.limits.heap; trail = now.trail_limit ∙ h.0.limits.trail };
         frames_are = frames_in (meaning_of new.arena) (tags_of ss) now b;
-        inner_are = inners_kept (tags_of m.stops) (tags_of ss) r.inners.items r.inners.items r.inner m.inner b (begins_same r.inners.items) h.0.inner_are;
+        inner_are = inners_kept (meaning_of r.arena) (meaning_of new.arena) (tags_of m.stops) (tags_of ss) r.inners.items r.inners.items r.inner m.inner now b (begins_same r.inners.items) h.0.inner_are;
         stop_is = stop_is;
         choices_are = record {
           points = k ∷ points;
@@ -322,9 +322,9 @@ module _ (code : Code) (l : Limits) (m : Mid) (on : WayOf) (n : ℕ) (r new : Me
         };
         room = subst HasRoom is room;
       } in
-      subst (λ x. HoldsWith code l x (inside on n m).state m.frames m.inner (new_choice on m ∷ m.choices) ss stop) (sym is) whole
+      subst (λ x. HoldsWith code l x (inside on counted m).state m.frames m.inner (new_choice on m ∷ m.choices) ss stop) (sym is) whole
 
-  pub opened : HasRoom (record r { arena = new.arena; choices = new.choices; kept = new.kept }) → Holds code l (record r { arena = new.arena; choices = new.choices; kept = new.kept }) (inside on n m)
+  pub opened : HasRoom (record r { arena = new.arena; choices = new.choices; kept = new.kept }) → Holds code l (record r { arena = new.arena; choices = new.choices; kept = new.kept }) (inside on counted m)
   opened room = (
     opened_with (record r { arena = new.arena; choices = new.choices; kept = new.kept }) m.stops m.stop refl (begins_same (tags_of m.stops)) h.0.stop_is (begins_same r.stops.items)
         (among_front k (new_choice on m) points means (reverse r.stops.items) (choices_of m.stops) h.0.choices_are.stops_in) room,
@@ -332,7 +332,7 @@ module _ (code : Code) (l : Limits) (m : Mid) (on : WayOf) (n : ℕ) (r new : Me
   )
 
   -- the areas of choices and of stoppable parts have grown by the choice
-  pub parted_held : (alt : ℕ) (new' : Memory) → on ≡ GoesOf alt → n ≡ 0 → new' ≡ record r { arena = new.arena; choices = new.choices; kept = new.kept; stops = new'.stops; stop = new'.stop } → new'.stops.items ≡ r.stops.items ++ k ∷ [] → new'.stop ≡ length new'.stops.items → HasRoom new' → HoldsWith code l new' (inside on n m).state m.frames m.inner (new_choice on m ∷ m.choices) (new_stop alt m ∷ m.stops) (Some m.next_tag)
+  pub parted_held : (alt : ℕ) (new' : Memory) → on ≡ GoesOf alt → counted ≡ 0 → new' ≡ record r { arena = new.arena; choices = new.choices; kept = new.kept; stops = new'.stops; stop = new'.stop } → new'.stops.items ≡ r.stops.items ++ k ∷ [] → new'.stop ≡ length new'.stops.items → HasRoom new' → HoldsWith code l new' (inside on counted m).state m.frames m.inner (new_choice on m ∷ m.choices) (new_stop alt m ∷ m.stops) (Some m.next_tag)
   parted_held alt new' goes none is items' last room =
       let x = h.0.choices_are in
       let tags : List ℕ = tags_of (new_stop alt m ∷ m.stops) in
@@ -342,10 +342,10 @@ module _ (code : Code) (l : Limits) (m : Mid) (on : WayOf) (n : ℕ) (r new : Me
       (record { behind = k ∷ []; is = items' })
       (subst (λ ts. Among (k ∷ points) (new_choice on m ∷ means) ts (choices_of (new_stop alt m ∷ m.stops))) (sym (newest_is r.stops.items new'.stops.items k items')) (inl (refl, ap (λ w'. new_choice w' m) (sym goes), x.stops_in))) room
 
-pub opened_room : (n : ℕ) (r new : Memory) (a : Arena) (k : Choice) → HasRoom r → n ≤ length r.args.items → Kept (meaning_of r.arena) (meaning_of a) → (meaning_of a).state ≡ marked (meaning_of r.arena).state → Kept (meaning_of a) (meaning_of new.arena) → Charged (10 + n) (meaning_of a) (meaning_of new.arena) →
+pub opened_room : (n counted : ℕ) (r new : Memory) (a : Arena) (k : Choice) → HasRoom r → n ≤ length r.args.items → n ≤ 10 + counted → Kept (meaning_of r.arena) (meaning_of a) → (meaning_of a).state ≡ marked (meaning_of r.arena).state → Kept (meaning_of a) (meaning_of new.arena) → Charged (10 + counted) (meaning_of a) (meaning_of new.arena) →
     new.kept.items ≡ r.kept.items ++ take n r.args.items → vec_capacity new.kept ≡ vec_capacity r.kept → new.choices.items ≡ r.choices.items ++ k ∷ [] → vec_capacity new.choices ≡ vec_capacity r.choices → HasRoom (record r { arena = new.arena; choices = new.choices; kept = new.kept })
-opened_room n r new a k h few_args kept same kept' charged kept_items kept_capacity items capacity =
-    let heap : heap_in new ≡ heap_in r + (10 + n) = ap (λ (s : State). s.heap) charged.state ∙ ap (λ (s : State). s.heap + (10 + n)) same in
+opened_room n counted r new a k h few_args fewer kept same kept' charged kept_items kept_capacity items capacity =
+    let heap : heap_in new ≡ heap_in r + (10 + counted) = ap (λ (s : State). s.heap) charged.state ∙ ap (λ (s : State). s.heap + (10 + counted)) same in
     let limit : limit_in new ≡ limit_in r = kept'.heap_limit ∙ kept.heap_limit in
     let more_choices : length new.choices.items ≡ length r.choices.items + 1 = ap length items ∙ length-append r.choices.items (k ∷ []) in
     let count : length (take n r.args.items) ≡ n = taken_length n r.args.items few_args in
@@ -361,7 +361,7 @@ opened_room n r new a k h few_args kept same kept' charged kept_items kept_capac
       stops_few = omega (arith, heap, h.stops_few);
       refs = record {
         kept_fit = omega (arith, limit, kept_capacity, h.refs.kept_fit);
-        kept_few = omega (arith, heap, count, more_refs, h.refs.kept_few);
+        kept_few = omega (arith, heap, count, fewer, more_refs, h.refs.kept_few);
         args_fit = h.refs.args_fit;
         args_few = h.refs.args_few;
         heads_fit = h.refs.heads_fit;
@@ -372,7 +372,7 @@ opened_room n r new a k h few_args kept same kept' charged kept_items kept_capac
 pub parted_room : (r new : Memory) (a : Arena) (k : Choice) → HasRoom r → Kept (meaning_of r.arena) (meaning_of a) → (meaning_of a).state ≡ marked (meaning_of r.arena).state → Kept (meaning_of a) (meaning_of new.arena) → Charged 10 (meaning_of a) (meaning_of new.arena) →
     new.choices.items ≡ r.choices.items ++ k ∷ [] → vec_capacity new.choices ≡ vec_capacity r.choices → new.stops.items ≡ r.stops.items ++ k ∷ [] → vec_capacity new.stops ≡ vec_capacity r.stops → HasRoom (record r { arena = new.arena; choices = new.choices; stops = new.stops; stop = new.stop })
 parted_room r new a k h kept same kept' charged items capacity items' capacity' =
-    let x = opened_room 0 r (record r { arena = new.arena; choices = new.choices }) a k h (omega arith) kept same kept' charged (sym (append-nil r.kept.items)) refl items capacity in
+    let x = opened_room 0 0 r (record r { arena = new.arena; choices = new.choices }) a k h (omega arith) (omega arith) kept same kept' charged (sym (append-nil r.kept.items)) refl items capacity in
     let heap : heap_in new ≡ heap_in r + 10 = ap (λ (s : State). s.heap) charged.state ∙ ap (λ (s : State). s.heap + 10) same in
     let limit : limit_in new ≡ limit_in r = kept'.heap_limit ∙ kept.heap_limit in
     let more_stops : length new.stops.items ≡ length r.stops.items + 1 = ap length items' ∙ length-append r.stops.items (k ∷ []) in
@@ -393,26 +393,28 @@ kept_same s = record { values = λ r v e. e; places = omega arith; words = λ at
 
 -- ## Inner constructs
 
-pub begun : (code : Code) (l : Limits) (m : Mid) (p : Place) (r new : Memory) (inner : Inner) → Holds code l r m → p.height ≡ inner.height → StopIs (tags_of m.stops) inner.stop p.outer → inner.around ≡ r.inner → 10 * length r.inners.items + 10 ≤ heap_in r →
+pub begun : (code : Code) (l : Limits) (m : Mid) (p : Place) (r new : Memory) (inner : Inner) → Holds code l r m → p.height ≡ inner.height → StopIs (tags_of m.stops) inner.stop p.outer → KeptAt (meaning_of r.arena) inner.kept p.gathers → inner.around ≡ r.inner → 10 * length r.inners.items + 10 ≤ heap_in r →
     new.inners.items ≡ r.inners.items ++ inner ∷ [] → vec_capacity new.inners ≡ vec_capacity r.inners → new.inner ≡ length new.inners.items → Holds code l (record r { inners = new.inners; inner = new.inner }) (within p m)
-begun code l m p r new inner h height outer around few items capacity last =
+begun code l m p r new inner h height outer kept around few items capacity last =
+    let s = meaning_of r.arena in
     let more_inners : length new.inners.items ≡ length r.inners.items + 1 = ap length items ∙ length-append r.inners.items (inner ∷ []) in
     let begins : Begins r.inners.items new.inners.items = record { behind = inner ∷ []; is = items } in
-    let in_list = inner_within (tags_of m.stops) r.inners.items r.inner m.inner h.0.inner_are in
+    let in_list = inner_within (meaning_of r.arena) (tags_of m.stops) r.inners.items r.inner m.inner h.0.inner_are in
     let room = h.0.room in (
       record {
         saves = h.0.saves;
         stand = h.0.stand;
         state_is = h.0.state_is;
         limits = h.0.limits;
-        frames_are = let s = meaning_of r.arena in frames_kept s s (tags_of m.stops) (tags_of m.stops) r.inners.items new.inners.items r.frames.items r.frames.items r.frame m.frames (kept_same s) (begins_same (tags_of m.stops)) begins (begins_same r.frames.items) h.0.frames_are;
+        frames_are = frames_kept s s (tags_of m.stops) (tags_of m.stops) r.inners.items new.inners.items r.frames.items r.frames.items r.frame m.frames (kept_same s) (begins_same (tags_of m.stops)) begins (begins_same r.frames.items) h.0.frames_are;
         inner_are = record {
           inner = inner;
           there = named_end r.inners.items new.inners.items new.inner inner items last;
           height = height;
           outer = outer;
+          kept = kept;
           older = omega (arith, around, last, more_inners, in_list);
-          around_is = subst (λ k. InnersAt (tags_of m.stops) new.inners.items k m.inner) (sym around) (inners_kept (tags_of m.stops) (tags_of m.stops) r.inners.items new.inners.items r.inner m.inner (begins_same (tags_of m.stops)) begins h.0.inner_are);
+          around_is = subst (λ k. InnersAt s (tags_of m.stops) new.inners.items k m.inner) (sym around) (inners_kept s s (tags_of m.stops) (tags_of m.stops) r.inners.items new.inners.items r.inner m.inner (kept_same s) (begins_same (tags_of m.stops)) begins h.0.inner_are);
         };
         stop_is = h.0.stop_is;
         choices_are = among_kept code r.frames.items r.frames.items r.inners.items new.inners.items r.kept.items r.kept.items (heap_in r) (heap_in r) h.0.saves r.choices.items m.choices r.stops.items m.stops (begins_same r.frames.items) begins (begins_same r.kept.items) (omega arith) h.0.choices_are;
@@ -454,7 +456,7 @@ framed code l m c vs r new frame h next many cut vars inner behind few items cap
           many = many;
           cut = cut;
           vars = vars;
-          inner_is = subst (λ k. InnersAt (tags_of m.stops) r.inners.items k m.inner) (sym inner) h.0.inner_are;
+          inner_is = subst (λ k. InnersAt s (tags_of m.stops) r.inners.items k m.inner) (sym inner) h.0.inner_are;
           older = omega (arith, behind, last, more_frames, in_list);
           behind_is = subst (λ k. FramesAt s (tags_of m.stops) r.inners.items new.frames.items k m.frames) (sym behind)
               (frames_kept s s (tags_of m.stops) (tags_of m.stops) r.inners.items r.inners.items r.frames.items new.frames.items r.frame m.frames (kept_same s) (begins_same (tags_of m.stops)) (begins_same r.inners.items) begins h.0.frames_are);

@@ -31,11 +31,11 @@ use Rattle.dg_mid.specs.Actions.{terms_of, act_at, registers_of, world_of, world
 use Rattle.dg_mid.specs.State.{Outside as OutsideOf, Mid, Frame as FrameOf, Place, Call as CallOf, Target, ToPred, ToBody, Way as WayOf, Goes as GoesOf, Calls as CallsOf, Choice as ChoiceOf, vars_of}
 use Rattle.dg_mid.specs.State.{Status, Runs as RunsOf, Enters as EntersOf, Resumes as ResumesOf, Fails as FailsOf, Ended as EndedOf}
 use Rattle.dg_mid.specs.Step.{Setting, setting, more, charged, bound, unified, if_agreed, if_passed, made_in, done, begins, enters, asks, calls, call_of, asks_last, last, queries, queries_last, asked_by, values}
-use Rattle.dg_mid.specs.Step.{does, runs, commits, refuses, leaves, returns, returned, entered, resumed, goes_on, goes_back, back_at, passed, inside, parameter, body_equations, body_frame, new_frame, is_goal, at_goal, first_of}
+use Rattle.dg_mid.specs.Step.{does, commits, refuses, leaves, returns, returned, entered, resumed, goes_on, goes_back, back_at, passed, inside, parameter, body_equations, body_frame, new_frame, first_of}
 use Rattle.dg_machine.specs.declared.now.Way.{Way}
-use Rattle.dg_machine.specs.declared.now.Way.TheVariants.{Goes, Calls}
+use Rattle.dg_machine.specs.declared.now.Way.TheVariants.{Goes, Takes, Calls}
 use Rattle.dg_machine.specs.declared.memory.Memory.{Memory}
-use Rattle.dg_machine.specs.Built.{ActionBuilt, OpBuilt, OpsBuilt, IsBuilt, IsQuietOp}
+use Rattle.dg_machine.specs.Built.{ActionBuilt, OpBuilt, IsQuietOp}
 use Rattle.dg_machine.specs.Layout.{WayAt, WentBack}
 use Rattle.dg_machine.specs.Standing.{Around, HasOutside}
 
@@ -56,6 +56,8 @@ DrawsNone (op.Do (action.Random a b c)) = ⊥
 DrawsNone (op.Do (action.Now place xs sets)) = ⊥
 DrawsNone (op.Do action.Stop) = ⊥
 DrawsNone (op.Select site mode blocks behind) = ⊥
+DrawsNone (op.Collect term into alt) = ⊥
+DrawsNone (op.Keep term) = ⊥
 DrawsNone x = Unit {0}
 
 pub quiet_draws : (x : Op) → IsQuietOp x → DrawsNone x
@@ -64,12 +66,9 @@ quiet_draws (op.Do (action.Now place xs sets)) q = absurd q
 quiet_draws (op.Do action.Stop) q = absurd q
 quiet_draws (op.Do a) q = tt
 quiet_draws (op.Select site mode blocks behind) q = absurd q
+quiet_draws (op.Collect term into alt) q = absurd q
+quiet_draws (op.Keep term) q = absurd q
 quiet_draws x q = tt
-
-mark_draws : (x : Op) → is_goal x ≡ false → DrawsNone x
-mark_draws (op.Do a) e = absurd (cc)
-mark_draws (op.Select site mode blocks behind) e = absurd (cc)
-mark_draws x e = tt
 
 -- an act stops no part
 abbrev StopsNone : Act → Type 0
@@ -77,6 +76,11 @@ StopsNone (Stops w) = ⊥
 StopsNone act = Unit {0}
 
 -- ## What leads where
+
+-- a choice takes no gathering out
+abbrev pub LeavesGathered : Way → Type 0
+LeavesGathered (Takes b) = ⊥
+LeavesGathered way = Unit {0}
 
 module _ (o : OutsideOf) (gs : List Gathering) (g : Setting) where
   has_if : (b : Bool) (e : Ending) (s : Status) → Has o gs s → Has o gs (if b then EndedOf e else s)
@@ -181,15 +185,15 @@ module _ (o : OutsideOf) (gs : List Gathering) (g : Setting) where
       has_charged n m (unified g u m' s) (has_unified u m' s e e)
   has_entered c xs m e = e
 
-  has_resumed : (xs : List Op) (m : Mid) → OpsBuilt xs → Same o gs m → Has o gs (resumed g xs m)
-  has_resumed (op.Retry alt ∷ xs) m b e = has_charged 10 m (RunsOf (inside (GoesOf alt) 0 (record m { ops = xs }))) e
-  has_resumed (op.TakeOut whole into ∷ xs) m b e = absurd b.0
-  has_resumed xs m b e = e
+  has_resumed : (xs : List Op) (m : Mid) → Same o gs m → Has o gs (resumed g xs m)
+  has_resumed (op.Retry alt ∷ xs) m e = has_charged 10 m (RunsOf (inside (GoesOf alt) 0 (record m { ops = xs }))) e
+  has_resumed xs m e = e
 
-  has_goes_on : (s : Store) (refs : List Ref) (way : Way) (on : WayOf) (m : Mid) → IsBuilt g.code → WayAt g.code s refs way on → Same o gs m → Has o gs (goes_on g on m)
-  has_goes_on s refs (Goes b) (GoesOf b') m built h e = has_resumed (block_at g.code b') m (built b') e
-  has_goes_on s refs (Calls k pred left) (CallsOf c rules) m built h e = has_begins c rules m e
-  has_goes_on s refs way on m built h e = absurd h
+  has_goes_on : (s : Store) (refs : List Ref) (way : Way) (on : WayOf) (m : Mid) → LeavesGathered way → WayAt g.code s refs way on → Same o gs m → Has o gs (goes_on g on m)
+  has_goes_on s refs (Goes b) (GoesOf b') m plain h e = has_resumed (block_at g.code b') m e
+  has_goes_on s refs (Calls k pred left) (CallsOf c rules) m plain h e = has_begins c rules m e
+  has_goes_on s refs (Takes b) on m plain h e = absurd plain
+  has_goes_on s refs way on m plain h e = absurd h
 
 -- ## Instructions
 
@@ -274,6 +278,8 @@ has_does g (op.LastQuery a t many) m b d =
 has_does g op.Take m b d = (refl, refl)
 has_does g (op.Branch alt) m b d = has_charged m.outside m.gathered g 10 m _ (refl, refl)
 has_does g (op.Select site mode blocks behind) m b d = absurd d
+has_does g (op.Collect term into alt) m b d = absurd d
+has_does g (op.Keep term) m b d = absurd d
 has_does g op.Once m b d = has_charged m.outside m.gathered g 10 m _ (refl, refl)
 has_does g (op.Try alt) m b d = has_charged m.outside m.gathered g 10 m _ (refl, refl)
 has_does g (op.Shield alt) m b d = has_charged m.outside m.gathered g 10 m _ (refl, refl)
@@ -287,10 +293,6 @@ has_does g (op.Goto block) m b d = (refl, refl)
 has_does g (op.Enter vars head) m b d = (refl, refl)
 has_does g op.Done m b d = tt
 has_does g x m b d = absurd b
-
-has_runs : (g : Setting) (xs : List Op) (m : Mid) → OpsBuilt xs → at_goal xs ≡ false → Has m.outside m.gathered (runs g xs m)
-has_runs g [] m b e = (refl, refl)
-has_runs g (x ∷ rest) m b e = has_does g x (record m { ops = rest }) b.0 (mark_draws x e)
 
 -- ## What stands for what
 
@@ -306,15 +308,15 @@ module _ (out : Outside) (g : Game) (l : Limits) where
   has_outside m (FailsOf n) e w = around m n e w
   has_outside m (EndedOf y) e w = tt
 
-  -- a step that takes no goal leaves it
-  pub run_outside : (code : Code) (xs : List Op) (m : Mid) → OpsBuilt xs → at_goal xs ≡ false → Around out g l m → HasOutside out g l (runs (setting g code l) xs m)
-  run_outside code xs m built mark w = has_outside m (runs (setting g code l) xs m) (has_runs (setting g code l) xs m built mark) w
+  -- an instruction, the entering of a rule and a choice that goes on leave it
+  pub run_outside : (code : Code) (x : Op) (m : Mid) → OpBuilt x → DrawsNone x → Around out g l m → HasOutside out g l (does (setting g code l) x m)
+  run_outside code x m built draws w = has_outside m (does (setting g code l) x m) (has_does (setting g code l) x m built draws) w
 
   pub enter_outside : (code : Code) (c : CallOf) (m : Mid) → Around out g l m → HasOutside out g l (entered (setting g code l) c m.ops m)
   enter_outside code c m w = has_outside m (entered (setting g code l) c m.ops m) (has_entered m.outside m.gathered (setting g code l) c m.ops m (refl, refl)) w
 
-  pub resume_outside : (code : Code) (s : Store) (refs : List Ref) (way : Way) (on : WayOf) (m : Mid) → IsBuilt code → WayAt code s refs way on → Around out g l m → HasOutside out g l (goes_on (setting g code l) on m)
-  resume_outside code s refs way on m built h w = has_outside m (goes_on (setting g code l) on m) (has_goes_on m.outside m.gathered (setting g code l) s refs way on m built h (refl, refl)) w
+  pub resume_outside : (code : Code) (s : Store) (refs : List Ref) (way : Way) (on : WayOf) (m : Mid) → LeavesGathered way → WayAt code s refs way on → Around out g l m → HasOutside out g l (goes_on (setting g code l) on m)
+  resume_outside code s refs way on m plain h w = has_outside m (goes_on (setting g code l) on m) (has_goes_on m.outside m.gathered (setting g code l) s refs way on m plain h (refl, refl)) w
 
 -- ## Gatherings that are dropped
 
@@ -324,6 +326,7 @@ closed_back code g l way new out out' m [] h closes w = absurd h
 closed_back code g l way new out out' m (c ∷ cs) h closes w = (
   closes.stands g (world_of [] m) (world_of [] (back_at c cs m)) w.0 (record { count = length m.gathered - c.height; is = refl }) h.1.1,
   ap (λ (o : Outside). o.world.area.keep) closes.is ∙ w.1,
+  ap (λ (o : Outside). o.gathered.aux) closes.is ∙ w.2,
 )
 
 pub ended_back : (code : Code) (g : Game) (l : Limits) (new : Memory) (out : Outside) (m : Mid) (cs : List ChoiceOf) → WentBack code l None new m cs → HasOutside out g l (goes_back cs m)

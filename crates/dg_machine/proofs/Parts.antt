@@ -15,7 +15,7 @@ use Rattle.dg_mid.specs.Heights.{AgreeAll, StopsNamed, PlacesNamed, MidOrdered}
 use Rattle.dg_machine.specs.declared.now.Inner.{Inner}
 use Rattle.dg_machine.specs.declared.now.Choice.{Choice}
 use Rattle.dg_machine.specs.declared.now.Way.{Way}
-use Rattle.dg_machine.specs.declared.now.Way.TheVariants.{Goes, Calls}
+use Rattle.dg_machine.specs.declared.now.Way.TheVariants.{Goes, Takes, Calls}
 use Rattle.dg_machine.specs.declared.now.Now.TheVariants.{Runs, Fails}
 use Rattle.dg_machine.specs.declared.memory.Memory.{Memory}
 use Rattle.dg_machine.specs.Links.{named, below}
@@ -215,6 +215,7 @@ module _ (code : Code) (l : Limits) (m : Mid) (r mid : Memory) (k : Choice) (h :
 
     goes_at : (w : Way) (b : ℕ) → WayAt code (meaning_of new.arena) new.args.items w (GoesOf b) → (n : ℕ) × (w ≡ Goes n)
     goes_at (Goes n) b at = (n, refl)
+    goes_at (Takes n) b at = absurd at
     goes_at (Calls c pred count) b at = absurd at
 
     pub stops_else : ((b : ℕ) → k.way ≡ Goes b → ⊥) → StandsWith code g l new Fails out' (stops (setting g code l) m.stop (more 0 m))
@@ -225,7 +226,7 @@ module _ (code : Code) (l : Limits) (m : Mid) (r mid : Memory) (k : Choice) (h :
 pub left_part : (code : Code) (g : Game) (l : Limits) (m : Mid) (inner : Inner) (r mid : Memory) (ops rest : Bor (List Op)) → MidOrdered m → Holds code l r m → named r.inners.items r.inner ≡ Some inner → reverse mid.choices.items ≡ below inner.height (reverse r.choices.items) →
     vec_capacity mid.choices ≡ vec_capacity r.choices → length mid.choices.items ≤ length r.choices.items → mid ≡ record r { choices = mid.choices } → CodeIs rest.now m → Falls code l r (Runs ops) (record mid { inner = inner.around; stop = inner.stop }) (Runs rest) (leaves m.inner m)
 left_part code g l m inner r mid ops rest o h is left capacity fewer same at =
-    let x = some_inner (tags_of m.stops) r.inners.items r.inner inner m.inner is h.0.inner_are in
+    let x = some_inner (meaning_of r.arena) (tags_of m.stops) r.inners.items r.inner inner m.inner is h.0.inner_are in
     let named_all : PlacesNamed m.next_tag m.state.heap m.choices (x.innermost ∷ x.around) = subst (PlacesNamed m.next_tag m.state.heap m.choices) x.is o.named.inner_are in
     let out : Holds code l (record r { inner = inner.around; stop = inner.stop }) (record m { inner = x.around; stop = x.innermost.outer }) = (
       record {
@@ -249,4 +250,4 @@ left_part code g l m inner r mid ops rest o h is left capacity fewer same at =
     subst (λ ps. Falls code l r (Runs ops) (record mid { inner = inner.around; stop = inner.stop }) (Runs rest) (leaves ps m)) (sym x.is) (record { stands = (at, held); falls = omega (arith, jumps, less, frame, older) })
 
 pub not_left : (code : Code) (g : Game) (l : Limits) (m : Mid) (r : Memory) (ops : Bor (List Op)) → Holds code l r m → named r.inners.items r.inner ≡ None → Falls code l r (Runs ops) r Fails (leaves m.inner m)
-not_left code g l m r ops h is = subst (λ ps. Falls code l r (Runs ops) r Fails (leaves ps m)) (sym (no_inner (tags_of m.stops) r.inners.items r.inner m.inner is h.0.inner_are)) (record { stands = h; falls = omega arith })
+not_left code g l m r ops h is = subst (λ ps. Falls code l r (Runs ops) r Fails (leaves ps m)) (sym (no_inner (meaning_of r.arena) (tags_of m.stops) r.inners.items r.inner m.inner is h.0.inner_are)) (record { stands = h; falls = omega arith })

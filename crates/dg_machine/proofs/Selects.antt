@@ -19,6 +19,7 @@ use Rattle.dg_outside.specs.Outside.{MayPick, PicksOne, picks_in}
 use Rattle.dg_outside.proofs.Picks.{may_fewer}
 use Rattle.dg_outside.specs.declared.outside.Outside.{Outside}
 use Rattle.dg_world.specs.declared.world.World.{World as FactsWorld}
+use Rattle.dg_lists.specs.Gathered.{Gathered}
 use Rattle.dg_machine.specs.Built.{OpsBuilt, IsBuilt}
 use Rattle.dg_machine.specs.declared.memory.Memory.{Memory}
 use Rattle.dg_machine.specs.declared.now.Now.TheVariants.{Runs}
@@ -38,5 +39,5 @@ pub picked_stands : (code : Code) (g : Game) (l : Limits) (m : Mid) (r : Memory)
     StandsWith code g l r (Runs ops) out' (RunsOf (at_choice (setting g code l) (selects g site mode (length blocks) (world_of [] m)) site blocks behind m))
 picked_stands code g l m r out out' site mode blocks behind branch ops built one is h w = record {
   stands = ((sym (is ∙ ap (λ b. block_at code (get_or blocks b behind)) (one.chosen g (world_of [] m) w.0)), subst OpsBuilt (sym is) (built (get_or blocks branch behind))), h);
-  outside = (one.stands g (world_of [] m) w.0, ap (λ (x : FactsWorld). x.area.keep) one.world ∙ w.1);
+  outside = (one.stands g (world_of [] m) w.0, ap (λ (x : FactsWorld). x.area.keep) one.world ∙ w.1, ap (λ (x : Gathered). x.aux) one.gathered ∙ w.2);
 }

@@ -95,7 +95,7 @@ no_text s k new = record { stands = new; wrote = wrote_nothing k }
 pub at_start : (code : Code) (p : CoreProgram) (dice : List ℕ) (l : Limits) (typed : List ℕ) (r : Memory) (out : Outside) (block : Bor (List Op)) (s : Spacer) (k : SinkView) → IsBuilt code → block.now ≡ block_at code 1 → HoldsWith code l r at_rest [] [] [] [] None → r.gathered ≡ 0 → StandsFor s [] → StartsOutside p l dice out → IsAt code (game p dice) l typed r out (Runs block) 0 s k k
 at_start code p dice l typed r out block s k built is held none new starts = record {
   steps = 0;
-  outside = (starts.stands (game p dice) typed refl refl, starts.keep);
+  outside = (starts.stands (game p dice) typed refl refl, starts.keep, starts.aux);
   stands = ((sym is, subst OpsBuilt (sym is) (built 1)), (held, sym none));
   goals_is = refl;
   text = no_text s k new;
@@ -111,7 +111,7 @@ somewhere_first tb code p dice l r out block is_of built is held none starts = r
     steps = 0;
     stands = ((sym is, subst OpsBuilt (sym is) (built 1)), (held, sym none));
   };
-  outside = (starts.stands (game p dice) [] refl refl, starts.keep);
+  outside = (starts.stands (game p dice) [] refl refl, starts.keep, starts.aux);
 }
 
 -- room is left whether a run has ended or has lost its output

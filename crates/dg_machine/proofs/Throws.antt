@@ -17,7 +17,7 @@ use Rattle.dg_mid.specs.declared.code.Action.{Action}
 use Rattle.dg_mid.specs.Actions.{terms_of, act_at, registers_of}
 use Rattle.dg_mid.specs.Reads.{outside_of}
 use Rattle.dg_mid.specs.State.{Mid, Status, Runs as RunsOf, Ended as EndedOf}
-use Rattle.dg_mid.specs.Step.{setting, more, bound, does, done, unified}
+use Rattle.dg_mid.specs.Step.{setting, more, charged, bound, does, done, unified}
 use Rattle.dg_machine.specs.declared.now.Now.{Now}
 use Rattle.dg_machine.specs.declared.now.Now.TheVariants.{Ended}
 use Rattle.dg_machine.specs.declared.memory.Memory.{Memory}
@@ -55,7 +55,7 @@ with_drawn n m = record m { outside = record m.outside { dice = n } }
 
 -- what is outside stands for the world in which so many were drawn
 pub drawn_world : (out new : Outside) (g : Game) (l : Limits) (m : Mid) (n : ℕ) → new ≡ record out { dice = new.dice } → Around out g l m → HasDrawn new.dice g.dice n → Around new g l (with_drawn n m)
-drawn_world out new g l m n others w drawn = let v = w.0 in subst (λ x. Around x g l (with_drawn n m)) (sym others) ((v.0, v.1, drawn, v.3), w.1)
+drawn_world out new g l m n others w drawn = let v = w.0 in subst (λ x. Around x g l (with_drawn n m)) (sym others) ((v.0, v.1, drawn, v.3), w.1, w.2)
 
 -- the number is unified with the value
 module _ (code : Code) (g : Game) (l : Limits) (m : Mid) (v : Value) (k n : ℕ) (world : World) (is : outside_of (drew 1 world) ≡ (with_drawn n m).outside) where
@@ -76,11 +76,15 @@ pub ended_outside : (code : Code) (g : Game) (l : Limits) (r : Memory) (e : Endi
 ended_outside code g l r e (EndedOf x) out h = tt
 ended_outside code g l r e s out h = absurd h
 
--- an action is done behind its cells
+-- an instruction is done behind its cells
+pub led_with : (code : Code) (g : Game) (l : Limits) (n : ℕ) (m : Mid) (next : Status) (mid new : Memory) (now : Now) (out : Outside) → Holds code l mid (more n m) → StandsWith code g l new now out next → StandsWith code g l new now out (charged (setting g code l) n m next)
+led_with code g l n m next mid new now out held y =
+    let within = fits code l (more n m) mid held in
+    subst (StandsWith code g l new now out) (sym (charged_on (setting g code l) n m next (omega (arith, within)))) y
+
+-- so is an action
 pub act_led_with : (code : Code) (g : Game) (l : Limits) (a : Action) (m : Mid) (mid new : Memory) (now : Now) (out : Outside) → let n = cells g.program (terms_of a) in
     Holds code l mid (more n m) → StandsWith code g l new now out (done (setting g code l) (act_at g [] a (more n m)) (more n m)) → StandsWith code g l new now out (does (setting g code l) (op.Do a) m)
 act_led_with code g l a m mid new now out held y =
-    let set = setting g code l in
     let n = cells g.program (terms_of a) in
-    let within = fits code l (more n m) mid held in
-    subst (StandsWith code g l new now out) (sym (charged_on set n m (done set (act_at g [] a (more n m)) (more n m)) (omega (arith, within)))) y
+    led_with code g l n m (done (setting g code l) (act_at g [] a (more n m)) (more n m)) mid new now out held y

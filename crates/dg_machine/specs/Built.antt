@@ -62,6 +62,8 @@ OpBuilt (op.Branch alt) = Unit {0}
 OpBuilt (op.Select site mode blocks behind) = AreBranches blocks
 OpBuilt op.Once = Unit {0}
 OpBuilt (op.Try alt) = Unit {0}
+OpBuilt (op.Collect term into alt) = Unit {0}
+OpBuilt (op.Keep term) = Unit {0}
 OpBuilt (op.Shield alt) = Unit {0}
 OpBuilt (op.Retry alt) = Unit {0}
 OpBuilt op.Commit = Unit {0}
@@ -98,4 +100,6 @@ IsQuiet a = Unit {0}
 abbrev pub IsQuietOp : Op → Type 0
 IsQuietOp (op.Do a) = IsQuiet a
 IsQuietOp (op.Select site mode blocks behind) = ⊥
+IsQuietOp (op.Collect term into alt) = ⊥
+IsQuietOp (op.Keep term) = ⊥
 IsQuietOp x = Unit {0}

@@ -11,7 +11,7 @@ use Rattle.dg_arena.specs.Held.{meaning_of, saves_of}
 use Rattle.dg_mid.specs.declared.code.Code.{Code}
 use Rattle.dg_mid.specs.declared.code.RuleCode.{RuleCode}
 use Rattle.dg_mid.specs.Code.{rules_at}
-use Rattle.dg_mid.specs.State.{Place, Mid, Stop, Frame as FrameOf, Call as CallOf, Way as WayOf, Goes as GoesOf, Calls as CallsOf, Choice as ChoiceOf}
+use Rattle.dg_mid.specs.State.{Place, Mid, Stop, Frame as FrameOf, Call as CallOf, Way as WayOf, Goes as GoesOf, Takes as TakesOf, Calls as CallsOf, Choice as ChoiceOf}
 use Rattle.dg_mid.specs.Step.{more, inside, new_stop, back_at, bound, trail_more}
 use Rattle.dg_unify.specs.declared.bindings.Ref.{Ref}
 use Rattle.dg_unify.specs.declared.bindings.Mark.{Mark}
@@ -21,7 +21,7 @@ use Rattle.dg_machine.specs.declared.now.Inner.{Inner}
 use Rattle.dg_machine.specs.declared.now.Call.{Call}
 use Rattle.dg_machine.specs.declared.now.Choice.{Choice}
 use Rattle.dg_machine.specs.declared.now.Way.{Way}
-use Rattle.dg_machine.specs.declared.now.Way.TheVariants.{Goes, Calls}
+use Rattle.dg_machine.specs.declared.now.Way.TheVariants.{Goes, Takes, Calls}
 use Rattle.dg_machine.specs.declared.memory.Memory.{Memory}
 use Rattle.dg_machine.specs.Links.{named}
 use Rattle.dg_machine.specs.Refs.{RowAt, RefsAt}
@@ -30,19 +30,27 @@ use Rattle.dg_machine.specs.Stops.{tags_of, StopIs, choices_of, Among, IsUnder}
 
 -- ## Frames and inner constructs
 
--- An inner construct begins at the height of its place, with the stoppable part of that around it, and stands behind the one around it.
-pub record InnerAt (around : ℕ → Type 0) (tags : List ℕ) (inners : List Inner) (l : ℕ) (p : Place) : Type 0 where
+-- A value is kept, if a place gathers one.
+abbrev pub KeptAt : Store → Option Ref → Option Value → Type 0
+KeptAt s None None = Unit {0}
+KeptAt s (Some r) (Some v) = s.value r ≡ Some v
+KeptAt s kept gathers = ⊥
+
+-- An inner construct begins at the height of its place, with the stoppable part of that around it, keeps what is gathered there, and stands behind
+-- the one around it.
+pub record InnerAt (around : ℕ → Type 0) (s : Store) (tags : List ℕ) (inners : List Inner) (l : ℕ) (p : Place) : Type 0 where
   pub inner : Inner
   pub there : named inners l ≡ Some inner
   pub height : p.height ≡ inner.height
   pub outer : StopIs tags inner.stop p.outer
+  pub kept : KeptAt s inner.kept p.gathers
   pub older : inner.around < l
   pub around_is : around inner.around
 
 -- So does each of some inner constructs, the innermost first.
-abbrev pub InnersAt : List ℕ → List Inner → ℕ → List Place → Type 0
-InnersAt tags inners l [] = l ≡ 0
-InnersAt tags inners l (p ∷ ps) = InnerAt (λ k. InnersAt tags inners k ps) tags inners l p
+abbrev pub InnersAt : Store → List ℕ → List Inner → ℕ → List Place → Type 0
+InnersAt s tags inners l [] = l ≡ 0
+InnersAt s tags inners l (p ∷ ps) = InnerAt (λ k. InnersAt s tags inners k ps) s tags inners l p
 
 -- A frame keeps what a rule that is being run needs; its variables stand in the store, and it stands behind the one behind it.
 pub record FrameAt (behind : ℕ → Type 0) (s : Store) (tags : List ℕ) (inners : List Inner) (frames : List Frame) (e : ℕ) (f : FrameOf) : Type 0 where
@@ -52,7 +60,7 @@ pub record FrameAt (behind : ℕ → Type 0) (s : Store) (tags : List ℕ) (inne
   pub many : f.many ≡ frame.many
   pub cut : f.cut.height ≡ frame.cut
   pub vars : RowAt s frame.vars f.vars
-  pub inner_is : InnersAt tags inners frame.inner f.inner
+  pub inner_is : InnersAt s tags inners frame.inner f.inner
   pub older : frame.behind < e
   pub behind_is : behind frame.behind
 
@@ -80,9 +88,10 @@ pub record RulesAt (code : Code) (s : Store) (refs : List Ref) (k : Call) (pred 
   pub there : left ≤ length (rules_at code pred)
   pub rules_are : rules ≡ last_rules code pred left
 
--- What a choice goes on with is kept, with Refs of its arguments.
+-- What a choice goes on with is kept, with Refs of its arguments; those of a gathering are its value, and what it is taken out for.
 abbrev pub WayAt : Code → Store → List Ref → Way → WayOf → Type 0
 WayAt code s refs (Goes b) (GoesOf b') = b' ≡ b
+WayAt code s refs (Takes b) (TakesOf b' into) = (b' ≡ b) × (v : Value) × RefsAt s refs (v ∷ into ∷ [])
 WayAt code s refs (Calls k pred left) (CallsOf c rules) = RulesAt code s refs k pred left c rules
 WayAt code s refs way other = ⊥
 
@@ -112,7 +121,7 @@ pub record ChoiceAt (older : List Frame → List Inner → List Ref → List Cho
   pub args_few : length args ≤ most_args
   pub refs_few : length refs_then ≤ c.state.heap
   pub frames_are : FramesAt m.store (tags_of c.stops) inners_then frames_then k.frame c.frames
-  pub inner_are : InnersAt (tags_of c.stops) inners_then k.inner c.inner
+  pub inner_are : InnersAt m.store (tags_of c.stops) inners_then k.inner c.inner
   pub stop_is : StopIs (tags_of c.stops) k.stop c.stop
   pub frames_few : 6 * length frames_then ≤ c.state.heap
   pub inners_few : 10 * length inners_then ≤ c.state.heap
@@ -203,7 +212,7 @@ pub record HoldsWith (code : Code) (l : Limits) (r : Memory) (state : State) (fr
   pub state_is : (meaning_of r.arena).state ≡ state
   pub limits : Limited l (meaning_of r.arena)
   pub frames_are : FramesAt (meaning_of r.arena) (tags_of stops) r.inners.items r.frames.items r.frame frames
-  pub inner_are : InnersAt (tags_of stops) r.inners.items r.inner inner
+  pub inner_are : InnersAt (meaning_of r.arena) (tags_of stops) r.inners.items r.inner inner
   pub stop_is : StopIs (tags_of stops) r.stop stop
   pub choices_are : AreAmong code r.frames.items r.inners.items r.kept.items (heap_in r) saves r.choices.items choices r.stops.items stops
   pub room : HasRoom r
@@ -240,7 +249,7 @@ choice_here r way count mark = record {
 abbrev pub parted : ℕ → Mid → Mid
 parted alt m = record (inside (GoesOf alt) 0 m) { stops = new_stop alt m ∷ m.stops; stop = Some m.next_tag }
 
--- A choice with so many arguments was opened, and took ten of the heap and one for each.
+-- A choice was opened, and took ten of the heap and one for each of so many arguments.
 pub record Opened (way : Way) (count : ℕ) (old new : Memory) : Type 0 where
   pub heap : heap_in new ≡ heap_in old + (10 + count)
   pub values : Kept (meaning_of old.arena) (meaning_of new.arena)

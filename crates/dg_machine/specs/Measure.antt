@@ -3,7 +3,7 @@ use Rattle.std.specs.Prelude.{ℕ, suc, ◌+◌, ◌*◌, List, [], ◌∷◌, O
 use Rattle.dg_mid.specs.Falling.{jumping}
 use Rattle.dg_machine.specs.declared.now.Choice.{Choice}
 use Rattle.dg_machine.specs.declared.now.Way.{Way}
-use Rattle.dg_machine.specs.declared.now.Way.TheVariants.{Goes, Calls}
+use Rattle.dg_machine.specs.declared.now.Way.TheVariants.{Goes, Takes, Calls}
 use Rattle.dg_machine.specs.declared.now.Now.{Now}
 use Rattle.dg_machine.specs.declared.now.Now.TheVariants.{Runs, Enters, Resumes, Fails, Ended}
 use Rattle.dg_machine.specs.declared.memory.Memory.{Memory}
@@ -11,6 +11,7 @@ use Rattle.dg_machine.specs.declared.memory.Memory.{Memory}
 -- How often a way may still be gone.
 abbrev pub way_left : Way → ℕ
 way_left (Goes b) = suc b
+way_left (Takes b) = 1
 way_left (Calls k pred left) = suc left
 
 -- The same, where there is one.

@@ -25,15 +25,15 @@ use Rattle.dg_meaning.specs.Copies.{values_of}
 use Rattle.dg_unify.specs.Store.{Store, IsClosureAt}
 use Rattle.dg_unify.specs.declared.bindings.Ref.{Ref}
 use Rattle.dg_mid.specs.Code.{block_at, rules_at}
-use Rattle.dg_mid.specs.State.{Mid, Call as CallOf, Way as WayOf, Goes as GoesOf, ToPred, ToBody}
+use Rattle.dg_mid.specs.State.{Mid, Call as CallOf, Way as WayOf, Goes as GoesOf, Takes as TakesOf, ToPred, ToBody}
 use Rattle.dg_mid.specs.State.{Status, Runs as RunsOf, Enters as EntersOf, Resumes as ResumesOf, Fails as FailsOf, Ended as EndedOf}
 use Rattle.dg_mid.specs.Heights.{MidOrdered, StatusOrdered}
 use Rattle.dg_mid.specs.Potential.{Tidy}
 use Rattle.dg_mid.specs.Step.{setting, call_of, begins, enters, asks, last, does, done, enters_body, closure_at, queries}
-use Rattle.dg_mid.specs.Step.{queries_last, enter, entered, goes_on, goes_back, step}
+use Rattle.dg_mid.specs.Step.{queries_last, enter, entered, goes_on, goes_back, step, charged, gathering, gathers, keeps, takes}
 use Rattle.dg_machine.specs.declared.now.Call.{Call}
 use Rattle.dg_machine.specs.declared.now.Way.{Way}
-use Rattle.dg_machine.specs.declared.now.Way.TheVariants.{Goes, Calls}
+use Rattle.dg_machine.specs.declared.now.Way.TheVariants.{Goes, Takes, Calls}
 use Rattle.dg_machine.specs.declared.now.Now.{Now}
 use Rattle.dg_machine.specs.declared.now.Now.TheVariants.{Runs, Enters, Resumes, Fails, Ended}
 use Rattle.dg_machine.specs.declared.memory.Memory.{Memory}
@@ -57,9 +57,9 @@ Stands code l r Fails (FailsOf m) = Holds code l r m
 Stands code l r (Ended e) (EndedOf e') = (e' ≡ e) × Roomy l r
 Stands code l r now s = ⊥
 
--- What is outside stands for what a machine has of the world, and as much may be kept there as the limits say.
+-- What is outside stands for what a machine has of the world, and as much may be kept and gathered there as the limits say.
 abbrev pub Around : Outside → Game → Limits → Mid → Type 0
-Around out g l m = InWorld out g (world_of [] m) × (out.world.area.keep ≡ l.keep)
+Around out g l m = InWorld out g (world_of [] m) × (out.world.area.keep ≡ l.keep) × (out.gathered.aux ≡ l.aux)
 
 -- What is outside stands for what a status has of the world.
 abbrev pub HasOutside : Outside → Game → Limits → Status → Type 0
@@ -103,6 +103,11 @@ PicksOnce old new = (times : ℕ) → MayPick (times + 1) (picks_in old) → May
 pub record Falls (code : Code) (l : Limits) (old : Memory) (before : Now) (new : Memory) (after : Now) (s : Status) : Type 0 where
   pub stands : Stands code l new after s
   pub falls : left_of new after < left_of old before
+
+-- A step that takes no goal was done, and what is outside stands for what it leads to.
+pub record FallsWith (code : Code) (g : Game) (l : Limits) (old : Memory) (before : Now) (new : Memory) (after : Now) (out' : Outside) (s : Status) : Type 0 where
+  pub done : Falls code l old before new after s
+  pub outside : HasOutside out' g l s
 
 -- An instruction that takes no goal is done so.
 abbrev pub DoesMark : Code → Memory → Bor (List Op) → Op → List Op → Memory → Now → Type 0
@@ -148,6 +153,7 @@ EntersIn t code old k vars head rest new after = (g : Game) → IsOf g.program t
 -- The rules that a choice goes on with are there, and the arguments at hand.
 abbrev pub IsThere : Code → Memory → Way → Type 0
 IsThere code r (Goes b) = Unit {0}
+IsThere code r (Takes b) = (v into : Value) × RefsAt (meaning_of r.arena) r.args.items (v ∷ into ∷ [])
 IsThere code r (Calls k pred left) = (left ≤ length (rules_at code pred)) × AreRefs (meaning_of r.arena) r.args.items
 
 -- A choice goes on at a block, with a number of an earlier block where that begins with it.
@@ -155,10 +161,28 @@ abbrev pub GoesOnAt : Code → ℕ → Memory → Bor (List Op) → Memory → N
 GoesOnAt code b old ops new after = (g : Game) (l : Limits) (m : Mid) → Tidy code → IsBuilt code → ops.now ≡ block_at code b → Holds code l old m →
     Falls code l old (Resumes (Goes b)) new after (goes_on (setting g code l) (GoesOf b) m)
 
+-- A gathering is taken out at these instructions.
+abbrev pub TakesOut : Code → ℕ → Memory → Outside → List Op → Memory → Now → Outside → Type 0
+TakesOut code b old out ops new after out' = (g : Game) (l : Limits) (m : Mid) (into : Value) → IsBuilt code → ops ≡ block_at code b →
+    WayAt code (meaning_of old.arena) old.args.items (Takes b) (TakesOf b into) → Holds code l old m → Around out g l m →
+    FallsWith code g l old (Resumes (Takes b)) new after out' (takes (setting g code l) into ops m)
+
 -- A choice goes on.
-abbrev pub GoesOn : Code → Memory → Way → Memory → Now → Type 0
-GoesOn code old way new after = (g : Game) (l : Limits) (m : Mid) (on : WayOf) → WayAt code (meaning_of old.arena) old.args.items way on → Holds code l old m →
-    Falls code l old (Resumes way) new after (goes_on (setting g code l) on m)
+abbrev pub GoesOn : Code → Memory → Outside → Way → Memory → Now → Outside → Type 0
+GoesOn code old out way new after out' = (g : Game) (l : Limits) (m : Mid) (on : WayOf) → WayAt code (meaning_of old.arena) old.args.items way on →
+    Holds code l old m → Around out g l m → FallsWith code g l old (Resumes way) new after out' (goes_on (setting g code l) on m)
+
+-- A choice opens inside which the first value at hand is gathered, to be taken out for the second.
+abbrev pub GathersFor : Code → Memory → Outside → ℕ → List Op → Memory → Now → Outside → Type 0
+GathersFor code old out alt rest new after out' = (g : Game) (l : Limits) (m : Mid) (v into : Value) → CodeIs rest m → Holds code l old m →
+    RefsAt (meaning_of old.arena) old.args.items (v ∷ into ∷ []) → Around out g l m →
+    let m' = gathering v into alt m in
+    StandsWith code g l new after out' (charged (setting g code l) 10 m (gathers (setting g code l) m'.gathered (RunsOf m')))
+
+-- What the innermost construct gathers is gathered, and it fails.
+abbrev pub KeepsOne : Code → Memory → Outside → Bor (List Op) → Memory → Now → Outside → Type 0
+KeepsOne code old out ops new after out' = (g : Game) (l : Limits) (m : Mid) → Holds code l old m → Around out g l m →
+    FallsWith code g l old (Runs ops) new after out' (keeps (setting g code l) m.inner m)
 
 -- What is calculated of two values at hand is unified with a third.
 abbrev pub Calculates : Code → ArithOp → Memory → List Op → Memory → Now → Type 0
@@ -210,14 +234,10 @@ QueriesLast code old many new after = (g : Game) (l : Limits) (m : Mid) (v : Val
     RefsAt (meaning_of old.arena) old.args.items (v ∷ us) →
     Stands code l new after (queries_last (setting g code l) (closure_at code (walk m.state.subst v)) us many m)
 
--- It has failed: what is outside stands for what that leads to, where the gatherings inside the newest choice are gone.
-pub record HasFailed (code : Code) (g : Game) (l : Limits) (old new : Memory) (after : Now) (out' : Outside) (m : Mid) : Type 0 where
-  pub done : Falls code l old Fails new after (goes_back m.choices m)
-  pub outside : HasOutside out' g l (goes_back m.choices m)
-
 -- It fails.
 abbrev pub FailsTo : Code → Memory → Outside → Memory → Now → Outside → Type 0
-FailsTo code old out new after out' = (g : Game) (l : Limits) (m : Mid) → Holds code l old m → Around out g l m → HasFailed code g l old new after out' m
+FailsTo code old out new after out' = (g : Game) (l : Limits) (m : Mid) → Holds code l old m → Around out g l m →
+    FallsWith code g l old Fails new after out' (goes_back m.choices m)
 
 -- A machine stands for some status.
 pub record HasStatus (code : Code) (r : Memory) (now : Now) : Type 0 where

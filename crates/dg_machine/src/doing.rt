@@ -77,7 +77,7 @@ impl Memory {
         let height = self.arena.heap();
         match self.open(Way::Goes(alt), 0) {
             Ok(()) => {
-                self.begin(height);
+                self.begin(height, None);
                 Now::Runs(rest)
             }
             Err(_) => Now::Ended(Ending::HeapLimit),
@@ -92,7 +92,7 @@ impl Memory {
         let height = self.arena.heap();
         match self.charge(10) {
             Ok(()) => {
-                self.begin(height);
+                self.begin(height, None);
                 Now::Runs(rest)
             }
             Err(_) => Now::Ended(Ending::HeapLimit),
@@ -670,16 +670,18 @@ impl Memory {
     }
 
     /// A choice goes on.
-    pub fn go_on<'p>(&mut self, code: &'p Code, way: Way) -> Now<'p>
+    pub fn go_on<'p>(&mut self, code: &'p Code, outside: &mut Outside<'_>, way: Way) -> Now<'p>
         requires room { HasRoom self.old }
         requires built { IsBuilt code.now }
         requires tidy { Tidy code.now }
         requires there { IsThere code.now self.old way }
-        ensures { GoesOn code.now self.old way self.new result }
+        ensures goes_on { GoesOn code.now self.old outside.old way self.new result outside.new }
+        ensures sites { outside.new.sites ≡ outside.old.sites }
     {
         match way {
             Way::Calls(call, pred, left) => self.call(code, call, pred, left),
             Way::Goes(block) => self.go_on_at(code_at(code, block)),
+            Way::Takes(_) => Now::Fails,
         }
     }
 

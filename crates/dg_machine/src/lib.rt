@@ -3,6 +3,7 @@
 
 mod closures;
 mod doing;
+mod gathering;
 mod machine;
 mod memory;
 mod now;

@@ -76,7 +76,7 @@ fn drop_to(choices: &mut Vec<Choice>, to: u32)
 }
 
 impl Memory {
-    ghost use Rattle.dg_machine.specs.Layout.{at_rest, HoldsWith, WayAt, CallAt, HasRoom, Holds, Took, Opened, WentBack, Roomy, Lacks, heap_in, MadeRule};
+    ghost use Rattle.dg_machine.specs.Layout.{at_rest, HoldsWith, KeptAt, WayAt, CallAt, HasRoom, Holds, Took, Opened, WentBack, Roomy, Lacks, heap_in, MadeRule};
     ghost use Rattle.dg_machine.specs.Layout.{CanRestore, choice_here};
     ghost use Rattle.dg_machine.specs.Stops.{tags_of, StopIs};
     ghost use Rattle.dg_machine.specs.Layout.{HasFrameRoom, in_frame, Matched, Unmatched, MadeHead, HasPut, HasHeads, HasNumber, parameter_equations};
@@ -192,17 +192,19 @@ impl Memory {
         }
     }
 
-    /// Opens a choice that keeps so many arguments, which takes ten cells, and one for each.
-    pub fn open(&mut self, way: Way, count: usize) -> Result<(), Full>
+    /// Opens a choice that keeps so many arguments, which takes ten cells, and one for each of these that counts.
+    pub fn open_keeping(&mut self, way: Way, count: usize, counted: usize) -> Result<(), Full>
         requires room { HasRoom self.old }
         requires count { count ≤ length self.old.args.items }
+        requires counted { counted ≤ count }
+        requires few { count ≤ 10 + counted }
         ensures held { (code : Code) → (l : Limits) → (m : Mid) → (on : WayOf) → Holds code l self.old m →
             WayAt code (meaning_of self.old.arena) (take count self.old.args.items) way on →
-            MatchResult result (λ _. Holds code l self.new (inside on count m)) (λ _. Lacks (10 + count) l m.state.heap self.new) }
-        ensures opened { OnOk result (Opened way count self.old self.new) }
+            MatchResult result (λ _. Holds code l self.new (inside on counted m)) (λ _. Lacks (10 + counted) l m.state.heap self.new) }
+        ensures opened { OnOk result (Opened way counted self.old self.new) }
     {
         let mark = self.arena.mark();
-        match self.arena.charge(10 + count as u32) {
+        match self.arena.charge(10 + counted as u32) {
             Err(full) => Err(full),
             Ok(()) => {
                 let choice = self.choice_here(way, count, mark);
@@ -213,29 +215,43 @@ impl Memory {
         }
     }
 
-    /// Begins an inner construct at a height of the heap, with this stoppable part around it; its cells were taken.
-    pub fn begin_in(&mut self, height: u32, stop: usize)
+    /// Opens a choice that keeps so many arguments, which takes ten cells, and one for each.
+    pub fn open(&mut self, way: Way, count: usize) -> Result<(), Full>
+        requires room { HasRoom self.old }
+        requires count { count ≤ length self.old.args.items }
+        ensures held { (code : Code) → (l : Limits) → (m : Mid) → (on : WayOf) → Holds code l self.old m →
+            WayAt code (meaning_of self.old.arena) (take count self.old.args.items) way on →
+            MatchResult result (λ _. Holds code l self.new (inside on count m)) (λ _. Lacks (10 + count) l m.state.heap self.new) }
+        ensures opened { OnOk result (Opened way count self.old self.new) }
+    {
+        self.open_keeping(way, count, count)
+    }
+
+    /// Begins an inner construct at a height of the heap, with this stoppable part around it, in which a value is gathered, if there
+    /// is one; its cells were taken.
+    pub fn begin_in(&mut self, height: u32, stop: usize, kept: Option<Ref>)
         requires room { HasRoom self.old }
         requires few { 10 * length self.old.inners.items + 10 ≤ heap_in self.old }
         ensures held { (code : Code) → (l : Limits) → (m : Mid) → (p : Place) → Holds code l self.old m → p.height ≡ height →
-            StopIs (tags_of m.stops) stop p.outer → Holds code l self.new (within p m) }
+            StopIs (tags_of m.stops) stop p.outer → KeptAt (meaning_of self.old.arena) kept p.gathers → Holds code l self.new (within p m) }
     {
         self.inners.push_reserved(Inner {
             height,
             stop,
+            kept,
             around: self.inner,
         });
         self.inner = self.inners.len();
     }
 
     /// The same, with the one that is open.
-    pub fn begin(&mut self, height: u32)
+    pub fn begin(&mut self, height: u32, kept: Option<Ref>)
         requires room { HasRoom self.old }
         requires few { 10 * length self.old.inners.items + 10 ≤ heap_in self.old }
         ensures held { (code : Code) → (l : Limits) → (m : Mid) → (p : Place) → Holds code l self.old m → p.height ≡ height → p.outer ≡ m.stop →
-            Holds code l self.new (within p m) }
+            KeptAt (meaning_of self.old.arena) kept p.gathers → Holds code l self.new (within p m) }
     {
-        self.begin_in(height, self.stop);
+        self.begin_in(height, self.stop, kept);
     }
 
     /// The variables at hand.

@@ -37,12 +37,13 @@ pub struct Frame {
     pub behind: usize,
 }
 
-/// An inner construct: the height of the heap where it begins, the stoppable part around it, and the inner construct around it.
-/// A stoppable part is named by its place as well.
+/// An inner construct: the height of the heap where it begins, the stoppable part around it, the value that is gathered in it,
+/// if one is, and the inner construct around it. A stoppable part is named by its place as well.
 #[derive(Clone, Copy, Drop)]
 pub struct Inner {
     pub height: u32,
     pub stop: usize,
+    pub kept: Option<Ref>,
     pub around: usize,
 }
 
@@ -55,10 +56,11 @@ pub struct Call {
     pub cut: u32,
 }
 
-/// What a choice goes on with: a block, or the last so many rules of a predicate.
+/// What a choice goes on with: a block, a block that takes a gathering out, or the last so many rules of a predicate.
 #[derive(Clone, Copy, Drop)]
 pub enum Way {
     Goes(u32),
+    Takes(u32),
     Calls(Call, u16, usize),
 }
 

@@ -82,6 +82,7 @@ fn do_mark<'p>(
     requires built { IsBuilt code.now }
     requires tidy { Tidy code.now }
     requires mark { takes_goal op.now ≡ false }
+    requires quiet { IsQuietOp op.now }
     requires whole { ops.now ≡ op.now ∷ rest.now }
     ensures { DoesMark code.now memory.old ops.entry op.now rest.now memory.new result }
 {
@@ -114,10 +115,13 @@ fn mark_step<'p>(
     match now {
         Now::Runs(ops) => match ops {
             [] => Now::Fails,
-            [op, rest @ ..] => do_mark(memory, code, ops, op, rest),
+            [op, rest @ ..] => match op {
+                Op::Keep(_) => memory.keep(outside, ops),
+                op => do_mark(memory, code, ops, op, rest),
+            },
         },
         Now::Enters(call, ops) => memory.enter_rule(tables, call, ops),
-        Now::Resumes(way) => memory.go_on(code, way),
+        Now::Resumes(way) => memory.go_on(code, outside, way),
         Now::Fails => memory.fail(outside),
         Now::Ended(ending) => Now::Ended(ending),
     }
@@ -328,6 +332,9 @@ fn goal_step<'p, K: Sink>(
             Op::Select(site, mode, blocks, behind) => {
                 let blocks = blocks.as_slice();
                 Ok(select(code, outside, *site, *mode, blocks, *behind))
+            }
+            Op::Collect(term, into, alt) => {
+                Ok(memory.collect(tables, outside, term, into, *alt, rest))
             }
             op => Ok(do_quiet(memory, code, tables, op, rest)),
         },

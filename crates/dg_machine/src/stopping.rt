@@ -49,7 +49,7 @@ impl Memory {
         let around = self.stop;
         match self.open_part(alt) {
             Ok(()) => {
-                self.begin_in(height, around);
+                self.begin_in(height, around, None);
                 Now::Runs(rest)
             }
             Err(_) => Now::Ended(Ending::HeapLimit),

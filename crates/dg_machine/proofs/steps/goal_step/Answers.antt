@@ -3,14 +3,14 @@ use Rattle.dg_mid.specs.declared.code.Op.TheVariants as op
 use Rattle.dg_mid.specs.declared.code.Action.TheVariants as action
 use Rattle.dg_machine.specs.Built.{OpBuilt, OpsBuilt}
 use Rattle.dg_machine.proofs.Leaving.{split_list}
-use Rattle.dg_machine.proofs.Goals.{quiet_done, quiet_op, silent_with, built_first}
+use Rattle.dg_machine.proofs.Goals.{quiet_done, quiet_op, first_goal, silent_with, built_first}
 use Rattle.dg_machine.proofs.Selects.{keeps_sites}
 use Rattle.dg_machine.proofs.steps.goal_step.Goals as goal
 
 pub returns-in_default-clause-ok : goal.returns-in_default-clause-ok
 returns-in_default-clause-ok g c game is_of l m o e at h w =
     let all = c.args.ops.now in
-    quiet_done c.args.tables.now c.args.code.now game is_of l m c.args.memory.now c.do_quiet.new.memory c.do_quiet.result all c.op-item.result (take (length all - 1) (drop 1 all)) (split_list all c.op-item.result c.in-len1-up.len_at_least c.op-item.is) at h c.args.spacer.now (g.K.Sink.view c.args.sink.now) c.args.outside.now o w (quiet_op c.op-item.result c.in_default.not-Do c.in_default.not-Select) c.do_quiet.ensures
+    quiet_done c.args.tables.now c.args.code.now game is_of l m c.args.memory.now c.do_quiet.new.memory c.do_quiet.result all c.op-item.result (take (length all - 1) (drop 1 all)) (split_list all c.op-item.result c.in-len1-up.len_at_least c.op-item.is) at h c.args.spacer.now (g.K.Sink.view c.args.sink.now) c.args.outside.now o w (quiet_op c.op-item.result (first_goal all c.op-item.result (take (length all - 1) (drop 1 all)) (split_list all c.op-item.result c.in-len1-up.len_at_least c.op-item.is) c.requires.goal) c.in_default.not-Do c.in_default.not-Select c.in_default.not-Collect) c.do_quiet.ensures
 
 pub returns-in-Ok-clause-ok : goal.returns-in-Ok-clause-ok
 returns-in-Ok-clause-ok g c = c.in-Ok.ensures.ok c.args.code.now
@@ -38,6 +38,25 @@ returns-in-Select-clause-ok g c game is_of l m o e at h w =
     let built : OpsBuilt (first ∷ rest) = subst OpsBuilt split at.1 in
     silent_with c.args.tables.now c.args.code.now game is_of l m c.args.memory.now c.args.memory.now c.select.result all first rest split at h c.args.spacer.now (g.K.Sink.view c.args.sink.now) c.select.new.outside refl
     (c.select.ensures.selected c.args.memory.now c.args.tables.now rest game is_of l (record m { ops = rest }) built.0 (refl, built.1) h w)
+
+pub do_quiet-requires-clause-quiet : goal.do_quiet-requires-clause-quiet
+do_quiet-requires-clause-quiet g c =
+    let all = c.args.ops.now in
+    quiet_op c.op-item.result (first_goal all c.op-item.result (take (length all - 1) (drop 1 all)) (split_list all c.op-item.result c.in-len1-up.len_at_least c.op-item.is) c.requires.goal) c.in_default.not-Do c.in_default.not-Select c.in_default.not-Collect
+
+pub returns-in-Collect-clause-ok : goal.returns-in-Collect-clause-ok
+returns-in-Collect-clause-ok g c game is_of l m o e at h w =
+    let all = c.args.ops.now in
+    let x = c.in-Collect in
+    let rest = take (length all - 1) (drop 1 all) in
+    let first = op.Collect x.term x.into x.alt in
+    let split = split_list all c.op-item.result c.in-len1-up.len_at_least c.op-item.is ∙ ap (λ y. y ∷ rest) x.is in
+    let built : OpsBuilt (first ∷ rest) = subst OpsBuilt split at.1 in
+    silent_with c.args.tables.now c.args.code.now game is_of l m c.args.memory.now c.collect.new.self c.collect.result all first rest split at h c.args.spacer.now (g.K.Sink.view c.args.sink.now) c.collect.new.outside refl
+    (c.collect.ensures.does c.args.code.now game is_of l (record m { ops = rest }) built.0 (refl, built.1) h w)
+
+pub returns-in-Collect-clause-once : goal.returns-in-Collect-clause-once
+returns-in-Collect-clause-once g c = keeps_sites c.args.outside.now c.collect.new.outside c.collect.ensures.sites
 
 pub returns-in_default-clause-once : goal.returns-in_default-clause-once
 returns-in_default-clause-once g c = keeps_sites c.args.outside.now c.args.outside.now refl

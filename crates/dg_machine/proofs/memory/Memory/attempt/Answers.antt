@@ -16,7 +16,7 @@ pub returns-in-Ok : goal.returns-in-Ok
 returns-in-Ok c t code g is_of l m o b at h =
     let on = Goes c.args.alt in
     let opened = c.in-Ok.ensures.held code l m on h refl in
-    let held = c.begin.ensures.held code l (inside on 0 m) (place_of m) opened (height_now code l m c.args.self.now c.heap-height.result h c.heap-height.ensures) refl in
+    let held = c.begin.ensures.held code l (inside on 0 m) (place_of m) opened (height_now code l m c.args.self.now c.heap-height.result h c.heap-height.ensures) refl tt in
     charged_stands code g l 10 m (within (place_of m) (inside on 0 m)) (Runs (within (place_of m) (inside on 0 m))) c.begin.new.self (RunsNow c.args.rest) held refl (at, held)
 
 pub returns-in-Err : goal.returns-in-Err

@@ -14,7 +14,7 @@ begin-requires-clause-room c = c.in-Ok.ensures.took.room
 pub returns-in-Ok : goal.returns-in-Ok
 returns-in-Ok c t code g is_of l m o b at h =
     let taken = c.in-Ok.ensures.held code l m h in
-    let held = c.begin.ensures.held code l (more 10 (passed m)) (place_of m) taken (height_now code l m c.args.self.now c.heap-height.result h c.heap-height.ensures) refl in
+    let held = c.begin.ensures.held code l (more 10 (passed m)) (place_of m) taken (height_now code l m c.args.self.now c.heap-height.result h c.heap-height.ensures) refl tt in
     charged_stands code g l 10 m (within (place_of m) (more 10 (passed m))) (Runs (within (place_of m) (more 10 (passed m)))) c.begin.new.self (RunsNow c.args.rest) held refl (at, held)
 
 pub returns-in-Err : goal.returns-in-Err

@@ -20,7 +20,7 @@ returns-in-Ok-clause-held c code l m h =
     let items : c.push_reserved.new.self.items ≡ r.choices.items ++ k ∷ [] = c.push_reserved.ensures.items ∙ ap (λ x. r.choices.items ++ x ∷ []) c.choice_here-part.ensures in
     let stops : c.push_reserved-in-Ok.new.self.items ≡ r.stops.items ++ k ∷ [] = c.push_reserved-in-Ok.ensures.items ∙ ap (λ x. r.stops.items ++ x ∷ []) c.choice_here-part.ensures in
     let room : HasRoom new = parted_room r new c.mark-mark.new.self k c.requires.room marks.kept marks.same taken.kept taken.made items c.push_reserved.ensures.capacity stops c.push_reserved-in-Ok.ensures.capacity in (
-      parted_held code l m (GoesOf c.args.alt) 0 r new c.mark-mark.new.self (Goes c.args.alt) mark h refl (omega arith) marks.kept marks.saved marks.same taken.kept taken.saved taken.made (sym (append-nil r.kept.items)) items
+      parted_held code l m (GoesOf c.args.alt) 0 0 r new c.mark-mark.new.self (Goes c.args.alt) mark h refl (omega arith) marks.kept marks.saved marks.same taken.kept taken.saved taken.made (sym (append-nil r.kept.items)) items
           c.args.alt new refl refl refl stops (omega (arith, c.len-self.ensures, c.push_reserved-in-Ok.new.self.ok.0)) room,
       h.1,
     )

@@ -19,7 +19,7 @@ pub returns-in-Ok : goal.returns-in-Ok
 returns-in-Ok c t code g is_of l m o b at h =
     let m' = parted c.args.alt m in
     let outer = stop_kept (tags_of m.stops) (tags_of m'.stops) c.args.self.now.stop m.stop (record { behind = m.next_tag ∷ []; is = refl }) h.0.stop_is in
-    let held = c.begin_in.ensures.held code l m' (place_of m) (c.in-Ok.ensures.held code l m h) (height_now code l m c.args.self.now c.heap-height.result h c.heap-height.ensures) outer in
+    let held = c.begin_in.ensures.held code l m' (place_of m) (c.in-Ok.ensures.held code l m h) (height_now code l m c.args.self.now c.heap-height.result h c.heap-height.ensures) outer tt in
     charged_stands code g l 10 m (within (place_of m) m') (Runs (within (place_of m) m')) c.begin_in.new.self (RunsNow c.args.rest) held refl (at, held)
 
 pub returns-in-Err : goal.returns-in-Err
