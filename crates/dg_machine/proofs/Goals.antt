@@ -11,9 +11,10 @@ use Rattle.dg_meaning.specs.Cells.{cells}
 use Rattle.dg_meaning.specs.Substitutions.{walk, resolved}
 use Rattle.dg_meaning.specs.Numbers.{of_numbers, calculated, thrown}
 use Rattle.dg_meaning.specs.Choosing.{die}
+use Rattle.dg_meaning.specs.Words.{letters_in_word, joined_letters}
 use Rattle.dg_meaning.specs.Path.{Registers}
 use Rattle.dg_meaning.specs.World.{World, prints, worked}
-use Rattle.dg_meaning.specs.Moves.{gives_number, throws, looked_up, changes, change_place, change_looks}
+use Rattle.dg_meaning.specs.Moves.{gives_number, splits, joins, throws, looked_up, whole_looks, changes, change_place, change_looks}
 use Rattle.dg_meaning.specs.Changes.{change_of}
 use Rattle.dg_meaning.specs.Facts.{Alteration, kinds_of}
 use Rattle.dg_base.specs.declared.program.PlaceKind.{PlaceKind}
@@ -239,22 +240,24 @@ takes_op tb code r rest g is_of l m o b at h = (at, h)
 pub quits_op : (tb : Tables) (code : Code) (r : Memory) (rest : List Op) → DoesOp tb code r (op.Do action.Quit) rest r (Ended ending.Quit)
 quits_op tb code r rest g is_of l m o b at h = (refl, roomy code l m r h)
 
-pub fails_act : (tb : Tables) (code : Code) (r : Memory) (a : Action) (rest : List Op) → IsQuiet a → (a ≡ action.Just → ⊥) → (a ≡ action.Quit → ⊥) → ((x y : Term) → a ≡ action.Equal x y → ⊥) → ((f : CompareOp) (x y : Term) → a ≡ action.Compare f x y → ⊥) → ((f : ArithOp) (x y z : Term) → a ≡ action.Arith f x y z → ⊥) → ((f : TestKind) (x : Term) → a ≡ action.Test f x → ⊥) → DoesOp tb code r (op.Do a) rest r Fails
-fails_act tb code r action.Fail rest q j u k d v t g is_of l m o b at h = nothing_more code l r m h
-fails_act tb code r action.Just rest q j u k d v t g is_of l m o b at h = absurd (j refl)
-fails_act tb code r action.Quit rest q j u k d v t g is_of l m o b at h = absurd (u refl)
-fails_act tb code r action.Stop rest q j u k d v t g is_of l m o b at h = absurd q
-fails_act tb code r (action.Text name) rest q j u k d v t g is_of l m o b at h = absurd q
-fails_act tb code r (action.Gap kind) rest q j u k d v t g is_of l m o b at h = absurd q
-fails_act tb code r (action.GapN x) rest q j u k d v t g is_of l m o b at h = absurd q
-fails_act tb code r (action.Print x) rest q j u k d v t g is_of l m o b at h = absurd q
-fails_act tb code r (action.Random x y z) rest q j u k d v t g is_of l m o b at h = absurd q
-fails_act tb code r (action.Now place xs sets) rest q j u k d v t g is_of l m o b at h = absurd q
-fails_act tb code r (action.Arith f x y z) rest q j u k d v t g is_of l m o b at h = absurd (v f x y z refl)
-fails_act tb code r (action.Test f x) rest q j u k d v t g is_of l m o b at h = absurd (t f x refl)
-fails_act tb code r (action.Compare f x y) rest q j u k d v t g is_of l m o b at h = absurd (d f x y refl)
-fails_act tb code r (action.Equal x y) rest q j u k d v t g is_of l m o b at h = absurd (k x y refl)
-fails_act tb code r a rest q j u k d v t g is_of l m o b at h = absurd b
+pub fails_act : (tb : Tables) (code : Code) (r : Memory) (a : Action) (rest : List Op) → IsQuiet a → (a ≡ action.Just → ⊥) → (a ≡ action.Quit → ⊥) → ((x y : Term) → a ≡ action.Equal x y → ⊥) → ((f : CompareOp) (x y : Term) → a ≡ action.Compare f x y → ⊥) → ((f : ArithOp) (x y z : Term) → a ≡ action.Arith f x y z → ⊥) → ((f : TestKind) (x : Term) → a ≡ action.Test f x → ⊥) → ((x y : Term) → a ≡ action.SplitWord x y → ⊥) → ((x y : Term) → a ≡ action.JoinWords x y → ⊥) → DoesOp tb code r (op.Do a) rest r Fails
+fails_act tb code r action.Fail rest q j u k d v t sw jw g is_of l m o b at h = nothing_more code l r m h
+fails_act tb code r action.Just rest q j u k d v t sw jw g is_of l m o b at h = absurd (j refl)
+fails_act tb code r action.Quit rest q j u k d v t sw jw g is_of l m o b at h = absurd (u refl)
+fails_act tb code r action.Stop rest q j u k d v t sw jw g is_of l m o b at h = absurd q
+fails_act tb code r (action.Text name) rest q j u k d v t sw jw g is_of l m o b at h = absurd q
+fails_act tb code r (action.Gap kind) rest q j u k d v t sw jw g is_of l m o b at h = absurd q
+fails_act tb code r (action.GapN x) rest q j u k d v t sw jw g is_of l m o b at h = absurd q
+fails_act tb code r (action.Print x) rest q j u k d v t sw jw g is_of l m o b at h = absurd q
+fails_act tb code r (action.Random x y z) rest q j u k d v t sw jw g is_of l m o b at h = absurd q
+fails_act tb code r (action.Now place xs sets) rest q j u k d v t sw jw g is_of l m o b at h = absurd q
+fails_act tb code r (action.Arith f x y z) rest q j u k d v t sw jw g is_of l m o b at h = absurd (v f x y z refl)
+fails_act tb code r (action.Test f x) rest q j u k d v t sw jw g is_of l m o b at h = absurd (t f x refl)
+fails_act tb code r (action.Compare f x y) rest q j u k d v t sw jw g is_of l m o b at h = absurd (d f x y refl)
+fails_act tb code r (action.Equal x y) rest q j u k d v t sw jw g is_of l m o b at h = absurd (k x y refl)
+fails_act tb code r (action.SplitWord x y) rest q j u k d v t sw jw g is_of l m o b at h = absurd (sw x y refl)
+fails_act tb code r (action.JoinWords x y) rest q j u k d v t sw jw g is_of l m o b at h = absurd (jw x y refl)
+fails_act tb code r a rest q j u k d v t sw jw g is_of l m o b at h = absurd b
 
 pub other_goal : (x : Op) → is_goal x ≡ true → OpBuilt x → IsQuietOp x → ((a : Action) → x ≡ op.Do a → ⊥) → ((pred : ℕ) (ts : List Term) (many : Bool) (next : ℕ) → x ≡ op.Ask pred ts many next → ⊥) → ((pred : ℕ) (ts : List Term) (many : Bool) → x ≡ op.LastAsk pred ts many → ⊥) →
     (x ≡ op.Take → ⊥) → ((alt : ℕ) → x ≡ op.Branch alt → ⊥) → (x ≡ op.Once → ⊥) → ((alt : ℕ) → x ≡ op.Try alt → ⊥) → ((alt : ℕ) → x ≡ op.Shield alt → ⊥) → ((a : Term) (o : Option Term) (many : Bool) (next : ℕ) → x ≡ op.Query a o many next → ⊥) → ((a : Term) (o : Option Term) (many : Bool) → x ≡ op.LastQuery a o many → ⊥) → ⊥
@@ -323,6 +326,14 @@ quiet_change g m place terms sets rest =
     let m' = more (cells g.game.program terms) m in
     quiet_places g.game place (slice_get (kinds_of g.game.program) place) (map (value_of g.game.program (vars_of m.frames)) terms) sets (registers_of m') (world_of [] m')
 
+quiet_splits : (g : Game) (o : Option (List ℕ)) (v : Value) (r : Registers) (w : World) → said_by (splits g o v r w) ≡ prints w.events
+quiet_splits g None v r w = refl
+quiet_splits g (Some letters) v r w = refl
+
+quiet_joins : (g : Game) (o : Option (List ℕ)) (v : Value) (r : Registers) (w : World) → said_by (joins g o v r w) ≡ prints w.events
+quiet_joins g None v r w = refl
+quiet_joins g (Some letters) v r w = refl
+
 quiet_goal : (g : Setting) (m : Mid) (x : Op) (rest : List Op) → IsQuietOp x → OpBuilt x → said_in g m (x ∷ rest) ≡ []
 quiet_goal g m (op.Do action.Just) rest q b = refl
 quiet_goal g m (op.Do (action.Equal x y)) rest q b = refl
@@ -331,6 +342,14 @@ quiet_goal g m (op.Do (action.Arith f x y z)) rest q b =
     let v = value_of g.game.program (vars_of m.frames) x in
     let u = value_of g.game.program (vars_of m.frames) y in
     quiet_gives (of_numbers (calculated f) (walk m.state.subst v) (walk m.state.subst u)) (value_of g.game.program (vars_of m.frames) z) (registers_of m') (worked (looked_up (registers_of m') v + looked_up (registers_of m') u) (world_of [] m'))
+quiet_goal g m (op.Do (action.SplitWord x y)) rest q b =
+    let m' = more (cells g.game.program (terms_of (action.SplitWord x y))) m in
+    let v = value_of g.game.program (vars_of m.frames) x in
+    quiet_splits g.game (letters_in_word g.game.program.words (walk m.state.subst v)) (value_of g.game.program (vars_of m.frames) y) (registers_of m') (worked (looked_up (registers_of m') v) (world_of [] m'))
+quiet_goal g m (op.Do (action.JoinWords x y)) rest q b =
+    let m' = more (cells g.game.program (terms_of (action.JoinWords x y))) m in
+    let v = value_of g.game.program (vars_of m.frames) x in
+    quiet_joins g.game (joined_letters g.game.program.words (resolved m.state.subst v)) (value_of g.game.program (vars_of m.frames) y) (registers_of m') (worked (whole_looks (registers_of m') v) (world_of [] m'))
 quiet_goal g m (op.Do (action.Test f x)) rest q b = refl
 quiet_goal g m (op.Do (action.Compare f x y)) rest q b = refl
 quiet_goal g m (op.Do action.Fail) rest q b = refl

@@ -29,6 +29,7 @@ pub mod Gatherings
 mod Goals
 pub mod Spaces
 pub mod Pieces
+pub mod Wordings
 pub mod Runs
 pub mod Turns
 pub mod Starts

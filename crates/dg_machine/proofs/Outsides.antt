@@ -10,7 +10,7 @@ use Rattle.dg_meaning.specs.Values.{Value, Num, Node, value_of}
 use Rattle.dg_meaning.specs.Cells.{cells}
 use Rattle.dg_meaning.specs.Numbers.{of_numbers, calculated}
 use Rattle.dg_meaning.specs.Substitutions.{walk, resolved}
-use Rattle.dg_meaning.specs.Moves.{gives_number, looked_up, whole_looks, spaces, printed, all_printed}
+use Rattle.dg_meaning.specs.Moves.{gives_number, splits, joins, looked_up, whole_looks, spaces, printed, all_printed}
 use Rattle.dg_meaning.specs.Path.{Registers, Act, Goes, Tests, Unifies, Ends, Fails as FailsNow, Stops}
 use Rattle.dg_meaning.specs.Unify.{Equations, Unified, solve}
 use Rattle.dg_meaning.specs.World.{Game, World, Gathering, Piece, worked}
@@ -27,6 +27,7 @@ use Rattle.dg_mid.specs.declared.code.RuleCode.{RuleCode}
 use Rattle.dg_mid.specs.Code.{block_at, rules_at, selected}
 use Rattle.dg_mid.specs.Reads.{outside_of}
 use Rattle.dg_meaning.specs.Pieces.{pieces}
+use Rattle.dg_meaning.specs.Words.{letters_in_word, joined_letters}
 use Rattle.dg_mid.specs.Actions.{terms_of, act_at, registers_of, world_of, world_by, outside_in}
 use Rattle.dg_mid.specs.State.{Outside as OutsideOf, Mid, Frame as FrameOf, Place, Call as CallOf, Target, ToPred, ToBody, Way as WayOf, Goes as GoesOf, Calls as CallsOf, Choice as ChoiceOf, vars_of}
 use Rattle.dg_mid.specs.State.{Status, Runs as RunsOf, Enters as EntersOf, Resumes as ResumesOf, Fails as FailsOf, Ended as EndedOf}
@@ -209,6 +210,14 @@ pub all_outside : (ps : List (List ℕ)) (w : World) → outside_of (all_printed
 all_outside [] w = refl
 all_outside (p ∷ ps) w = all_outside ps (printed (Piece p) w)
 
+same_splits : (g : Game) (o : Option (List ℕ)) (v : Value) (r : Registers) (w : World) → outside_of (world_by (splits g o v r w)) ≡ outside_of w
+same_splits g None v r w = refl
+same_splits g (Some letters) v r w = refl
+
+same_joins : (g : Game) (o : Option (List ℕ)) (v : Value) (r : Registers) (w : World) → outside_of (world_by (joins g o v r w)) ≡ outside_of w
+same_joins g None v r w = refl
+same_joins g (Some letters) v r w = refl
+
 -- an action that draws no dice word leaves what is outside
 same_act : (g : Game) (a : Action) (m : Mid) → ActionBuilt a → DrawsNone (op.Do a) → outside_of (world_by (act_at g [] a m)) ≡ m.outside
 same_act g (action.Text name) m b d = refl
@@ -222,6 +231,12 @@ same_act g (action.Arith f x y z) m b d =
     let u = value_of g.program (vars_of m.frames) y in
     same_number (of_numbers (calculated f) (walk m.state.subst v) (walk m.state.subst u)) (value_of g.program (vars_of m.frames) z) (registers_of m) (worked (looked_up (registers_of m) v + looked_up (registers_of m) u) (world_of [] m))
 same_act g (action.Compare f x y) m b d = refl
+same_act g (action.SplitWord x y) m b d =
+    let v = value_of g.program (vars_of m.frames) x in
+    same_splits g (letters_in_word g.program.words (walk m.state.subst v)) (value_of g.program (vars_of m.frames) y) (registers_of m) (worked (looked_up (registers_of m) v) (world_of [] m))
+same_act g (action.JoinWords x y) m b d =
+    let v = value_of g.program (vars_of m.frames) x in
+    same_joins g (joined_letters g.program.words (resolved m.state.subst v)) (value_of g.program (vars_of m.frames) y) (registers_of m) (worked (whole_looks (registers_of m) v) (world_of [] m))
 same_act g action.Just m b d = refl
 same_act g action.Fail m b d = refl
 same_act g action.Quit m b d = refl
@@ -238,6 +253,14 @@ number_stops : (n : Option ℕ) (v : Value) (r : Registers) (w : World) → Stop
 number_stops None v r w = tt
 number_stops (Some n) v r w = tt
 
+splits_stop : (g : Game) (o : Option (List ℕ)) (v : Value) (r : Registers) (w : World) → StopsNone (splits g o v r w)
+splits_stop g None v r w = tt
+splits_stop g (Some letters) v r w = tt
+
+joins_stop : (g : Game) (o : Option (List ℕ)) (v : Value) (r : Registers) (w : World) → StopsNone (joins g o v r w)
+joins_stop g None v r w = tt
+joins_stop g (Some letters) v r w = tt
+
 -- nor does it stop a part
 stops_none : (g : Game) (a : Action) (m : Mid) → ActionBuilt a → DrawsNone (op.Do a) → StopsNone (act_at g [] a m)
 stops_none g (action.Text name) m b d = tt
@@ -251,6 +274,12 @@ stops_none g (action.Arith f x y z) m b d =
     let u = value_of g.program (vars_of m.frames) y in
     number_stops (of_numbers (calculated f) (walk m.state.subst v) (walk m.state.subst u)) (value_of g.program (vars_of m.frames) z) (registers_of m) (worked (looked_up (registers_of m) v + looked_up (registers_of m) u) (world_of [] m))
 stops_none g (action.Compare f x y) m b d = tt
+stops_none g (action.SplitWord x y) m b d =
+    let v = value_of g.program (vars_of m.frames) x in
+    splits_stop g (letters_in_word g.program.words (walk m.state.subst v)) (value_of g.program (vars_of m.frames) y) (registers_of m) (worked (looked_up (registers_of m) v) (world_of [] m))
+stops_none g (action.JoinWords x y) m b d =
+    let v = value_of g.program (vars_of m.frames) x in
+    joins_stop g (joined_letters g.program.words (resolved m.state.subst v)) (value_of g.program (vars_of m.frames) y) (registers_of m) (worked (whole_looks (registers_of m) v) (world_of [] m))
 stops_none g action.Just m b d = tt
 stops_none g action.Fail m b d = tt
 stops_none g action.Quit m b d = tt

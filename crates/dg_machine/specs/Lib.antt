@@ -8,4 +8,5 @@ pub mod Layout
 pub mod Built
 pub mod Measure
 pub mod Standing
+pub mod Wording
 pub mod Running

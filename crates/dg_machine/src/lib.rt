@@ -17,6 +17,7 @@ mod stopping;
 mod tables;
 mod terms;
 mod texts;
+mod wording;
 mod writing;
 
 pub use machine::Machine;

@@ -152,6 +152,8 @@ fn act<'p>(memory: &mut Memory, tables: &Tables, action: &'p Action, rest: &'p [
         Action::Test(kind, a) => memory.test(tables, *kind, a, rest),
         Action::Arith(by, a, b, into) => memory.arith(tables, *by, a, b, into, rest),
         Action::Compare(by, a, b) => memory.compare(tables, *by, a, b, rest),
+        Action::SplitWord(word, into) => memory.split_word(tables, word, into, rest),
+        Action::JoinWords(list, into) => memory.join_words(tables, list, into, rest),
         Action::Just => memory.just(rest),
         Action::Quit => Now::Ended(Ending::Quit),
         _ => Now::Fails,

@@ -1,7 +1,7 @@
 // What a machine keeps of a program beside its code.
-ghost use Rattle.std.specs.Prelude.{◌≡◌, ◌≤◌, IfOk, length, map, slice_get};
+ghost use Rattle.std.specs.Prelude.{◌≡◌, ◌≤◌, IfOk, All, length, map, slice_get};
 ghost use Rattle.dg_base.specs.declared.program.Place.{Place as ThePlace};
-ghost use Rattle.dg_machine.specs.Tables.{IsOf, captured_at};
+ghost use Rattle.dg_texts.specs.Spelling.{IsSpelled};
 
 use crate::now::Captured;
 use dg_base::{CoreProgram, Name, Place, PlaceKind};
@@ -14,6 +14,8 @@ pub struct Tables {
     pub words: Vec<Name>,
     pub objects: Vec<Name>,
     pub captured: Vec<Captured>,
+    ghost spelled: { All IsSpelled words.items },
+    ghost few: { length words.items ≤ 65535 },
 }
 
 /// A copy of a list of variables.
@@ -50,8 +52,12 @@ fn kinds_of(alloc: Global, places: &[Place]) -> Result<Vec<PlaceKind>, AllocErro
 }
 
 impl Tables {
-    /// What is kept of a program. There is no room for a closure that captures more than 65,535 variables.
+    ghost use Rattle.dg_base.specs.Sound.{IsSound};
+    ghost use Rattle.dg_machine.specs.Tables.{IsOf, captured_at};
+
+    /// What is kept of a sound program. There is no room for a closure that captures more than 65,535 variables.
     pub fn of(alloc: Global, program: &CoreProgram) -> Result<Tables, AllocError>
+        requires { IsSound program.now }
         ensures { IfOk result (λ t. IsOf program.now t) }
     {
         let kinds = kinds_of(alloc, program.places.as_slice())?;

@@ -25,7 +25,7 @@ use Rattle.dg_words.specs.Letters.{AreSmall}
 use Rattle.dg_words.specs.Chars.{begins}
 use Rattle.dg_words.proofs.CharLemmas.{counted}
 use Rattle.dg_texts.specs.Printing.{value_at, shows_nil}
-use Rattle.dg_texts.specs.Spelling.{IsShort, JoinsWord, IsJoined}
+use Rattle.dg_texts.specs.Spelling.{IsSpelled, IsShort, JoinsWord, IsJoined}
 
 -- ## Letters
 
@@ -47,10 +47,14 @@ name_letters bytes h =
     let e : chars bytes ≡ h.characters = ap chars h.encoded ∙ chars-encodes h.characters (scalars_in h.characters h.printable) in
     record { is = ap encode_utf8_all e ∙ sym h.encoded; small = subst AreSmall (sym e) (small_in h.characters h.printable) }
 
-pub word_letters : (words : List (List ℕ)) → All IsName words → (n : ℕ) → Lettered (get_or words n []) (chars (get_or words n []))
+pub names_spelled : (words : List (List ℕ)) → All IsName words → All IsSpelled words
+names_spelled [] h = All-nil IsSpelled
+names_spelled (w ∷ words) h = let e = name_letters w (All-head IsName w words h) in All-cons IsSpelled w words (e.is, e.small) (names_spelled words (All-tail IsName w words h))
+
+pub word_letters : (words : List (List ℕ)) → All IsSpelled words → (n : ℕ) → Lettered (get_or words n []) (chars (get_or words n []))
 word_letters [] h n = record { is = ap encode_utf8_all chars-nil; small = subst AreSmall (sym chars-nil) (All-nil (λ c. c < 65536)) }
-word_letters (w ∷ words) h zero = name_letters w (All-head IsName w words h)
-word_letters (w ∷ words) h (suc n) = word_letters words (All-tail IsName w words h) n
+word_letters (w ∷ words) h zero = let e = All-head IsSpelled w words h in record { is = e.0; small = e.1 }
+word_letters (w ∷ words) h (suc n) = word_letters words (All-tail IsSpelled w words h) n
 
 small_ascii : (bs : List ℕ) → IsAscii bs → AreSmall bs
 small_ascii [] h = All-nil (λ c. c < 65536)

@@ -1,6 +1,7 @@
 -- What words and numbers become that are read letter by letter. Hold it against docs/LANGUAGE.md, "Typed lines and words", and "Built-in queries" on
 -- splitting and joining words.
 use Rattle.std.specs.Prelude.{◌≡◌, ◌+◌, ◌<◌, ◌≤◌, ◌++◌, ℕ, List, Option, Some, None, Bool, true, false, IsTrue, Result, MatchResult, length, count_by, encode_utf8_all}
+use Rattle.std.specs.Str.{chars}
 use Rattle.dg_meaning.specs.Copies.{copy_cells}
 use Rattle.dg_meaning.specs.Values.{Value, pair}
 use Rattle.dg_unify.specs.Store.{Store, Made, told}
@@ -9,6 +10,10 @@ use Rattle.dg_unify.specs.declared.bindings.Full.{Full}
 use Rattle.dg_unify.specs.declared.bindings.Full.TheVariants as full
 use Rattle.dg_words.specs.Chars.{begins}
 use Rattle.dg_words.specs.Letters.{AreSmall}
+
+-- Bytes are the characters in UTF-8 that are read of them, and these are small.
+abbrev pub IsSpelled : List ℕ → Type 0
+IsSpelled bytes = (encode_utf8_all (chars bytes) ≡ bytes) × AreSmall (chars bytes)
 
 -- Letters that one word may have.
 pub record IsShort (letters : List ℕ) : Type 0 where

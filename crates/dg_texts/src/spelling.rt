@@ -2,13 +2,12 @@
 
 ghost use Rattle.std.specs.Prelude.{◌≡◌, ◌≤◌, ◌<◌, ◌+◌, ◌-◌, ◌++◌, ◌∷◌, [], ℕ, List, All, IfSome, option_map, length, take, drop, encode_utf8_all};
 ghost use Rattle.std.specs.Fmt.{decimal};
-ghost use Rattle.dg_base.specs.Sound.{IsName};
 ghost use Rattle.dg_meaning.specs.Values.{Value, Nil, leaf};
 ghost use Rattle.dg_meaning.specs.Words.{each_alone, few_enough, letters_in_list, letters_in_word, spellings_of, spelled_value, spelled_list, joined_letters};
 ghost use Rattle.dg_unify.specs.Store.{Saved, Kept, Holds, Made, Shows, IsUnknownAt, label_of};
 ghost use Rattle.dg_words.specs.Letters.{AreSmall};
 ghost use Rattle.dg_texts.specs.Printing.{value_at};
-ghost use Rattle.dg_texts.specs.Spelling.{IsShort, SpellsSome, JoinsWord, IsJoined, MakesValue, MakesBefore};
+ghost use Rattle.dg_texts.specs.Spelling.{IsSpelled, IsShort, SpellsSome, JoinsWord, IsJoined, MakesValue, MakesBefore};
 
 use crate::printing::{is_nil, name_at};
 use dg_base::{Name, Simple};
@@ -70,7 +69,7 @@ fn simple_spelling<'a>(
     simple: Simple,
     row: &'a mut [u8; 600],
 ) -> Option<&'a [u8]>
-    requires named { All IsName words.now }
+    requires words { All IsSpelled words.now }
     ensures spelled { option_map (λ s. s.now) result ≡ option_map encode_utf8_all (letters_in_word words.now (leaf (label_of simple))) }
     ensures small { IfSome (letters_in_word words.now (leaf (label_of simple))) AreSmall }
 {
@@ -93,7 +92,7 @@ pub fn spelling_of<'a, B: Bindings>(
     row: &'a mut [u8; 600],
 ) -> Option<&'a [u8]>
     requires shown { (w : Value) × Shows (B.meaning store.now) w view }
-    requires named { All IsName words.now }
+    requires words { All IsSpelled words.now }
     ensures spelled { (w : Value) → Shows (B.meaning store.now) w view →
         option_map (λ s. s.now) result ≡ option_map encode_utf8_all (letters_in_word words.now w) }
     ensures small { (w : Value) → Shows (B.meaning store.now) w view → IfSome (letters_in_word words.now w) AreSmall }
@@ -111,7 +110,7 @@ pub fn spelling_of<'a, B: Bindings>(
 // Joins the spelling of a word or number that was looked up, if it is one and there is room.
 fn join_word<B: Bindings>(store: &B, words: &[Name], view: View, joined: &mut Joined) -> bool
     requires shown { (w : Value) × Shows (B.meaning store.now) w view }
-    requires named { All IsName words.now }
+    requires words { All IsSpelled words.now }
     ensures { (w : Value) → Shows (B.meaning store.now) w view → JoinsWord (letters_in_word words.now w) joined.old joined.new result }
 {
     let mut row = [0; 600];
@@ -124,7 +123,7 @@ fn join_word<B: Bindings>(store: &B, words: &[Name], view: View, joined: &mut Jo
 // Joins the words of a list; false where it is none, or has other elements, or its words are too long together.
 fn join_list<B: Bindings>(store: &B, words: &[Name], list: Ref, joined: &mut Joined) -> bool
     requires list { Holds (B.meaning store.now) list }
-    requires named { All IsName words.now }
+    requires words { All IsSpelled words.now }
     requires new { joined.old ≡ [] }
     ensures { IsJoined (few_enough (letters_in_list words.now (value_at (B.meaning store.now) list))) joined.new result }
 {
@@ -145,7 +144,7 @@ fn join_list<B: Bindings>(store: &B, words: &[Name], list: Ref, joined: &mut Joi
 /// Joins the words of a list that isn't empty; false where they can't be joined.
 pub fn join<B: Bindings>(store: &B, words: &[Name], list: Ref, joined: &mut Joined) -> bool
     requires list { Holds (B.meaning store.now) list }
-    requires named { All IsName words.now }
+    requires words { All IsSpelled words.now }
     requires new { joined.old ≡ [] }
     ensures { IsJoined (joined_letters words.now (value_at (B.meaning store.now) list)) joined.new result }
 {

@@ -17,3 +17,9 @@ returns-in-Arith c code = subst (λ a. DoesOp c.args.tables.now code c.args.memo
 
 pub returns-in-Test : goal.returns-in-Test
 returns-in-Test c code = subst (λ a. DoesOp c.args.tables.now code c.args.memory.now (op.Do a) c.args.rest.now c.test.new.self c.test.result) (sym c.in-Test.is) (c.test.ensures code)
+
+pub returns-in-SplitWord : goal.returns-in-SplitWord
+returns-in-SplitWord c code = subst (λ a. DoesOp c.args.tables.now code c.args.memory.now (op.Do a) c.args.rest.now c.split_word.new.self c.split_word.result) (sym c.in-SplitWord.is) (c.split_word.ensures code)
+
+pub returns-in-JoinWords : goal.returns-in-JoinWords
+returns-in-JoinWords c code = subst (λ a. DoesOp c.args.tables.now code c.args.memory.now (op.Do a) c.args.rest.now c.join_words.new.self c.join_words.result) (sym c.in-JoinWords.is) (c.join_words.ensures code)

@@ -16,7 +16,7 @@ returns-in-Num-clause-small c = subst (λ x. IfSome (letters_in_word c.args.word
 
 pub returns-in-Word-clause-spelled : goal.returns-in-Word-clause-spelled
 returns-in-Word-clause-spelled c =
-    ap Some (c.name_at.ensures ∙ sym (word_letters c.args.words.now c.requires.named c.in-Word.n).is) ∙ ap (λ x. option_map encode_utf8_all (letters_in_word c.args.words.now (leaf (label_of x)))) (sym c.in-Word.is)
+    ap Some (c.name_at.ensures ∙ sym (word_letters c.args.words.now c.requires.words c.in-Word.n).is) ∙ ap (λ x. option_map encode_utf8_all (letters_in_word c.args.words.now (leaf (label_of x)))) (sym c.in-Word.is)
 
 pub returns-in-Word-clause-small : goal.returns-in-Word-clause-small
-returns-in-Word-clause-small c = subst (λ x. IfSome (letters_in_word c.args.words.now (leaf (label_of x))) AreSmall) (sym c.in-Word.is) (word_letters c.args.words.now c.requires.named c.in-Word.n).small
+returns-in-Word-clause-small c = subst (λ x. IfSome (letters_in_word c.args.words.now (leaf (label_of x))) AreSmall) (sym c.in-Word.is) (word_letters c.args.words.now c.requires.words c.in-Word.n).small

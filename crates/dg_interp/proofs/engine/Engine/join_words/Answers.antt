@@ -9,7 +9,7 @@ use Rattle.dg_interp.specs.Wording.{words_in, MakesAt}
 use Rattle.dg_interp.proofs.Takes.{store_sound, store_ready}
 use Rattle.dg_interp.proofs.Stores.{both_among}
 use Rattle.dg_interp.proofs.Giving.{kept_limits, written_full, branches_made}
-use Rattle.dg_texts.proofs.SpellLemmas.{WasJoined, was_joined, none_joined}
+use Rattle.dg_texts.proofs.SpellLemmas.{names_spelled, WasJoined, was_joined, none_joined}
 use Rattle.dg_interp.proofs.Wordings.{join_held, join_fails, join_leads}
 use Rattle.dg_interp.proofs.Branches.{full_made, back_made}
 use Rattle.dg_interp.proofs.engine.Engine.join_words.Goals as goal
@@ -20,8 +20,8 @@ returns-in-Err-clause-full c = written_full (JoinWords c.args.list.now c.args.in
 pub join-requires-clause-list : goal.join-requires-clause-list
 join-requires-clause-list c = (c.in-Ok.ensures.written c.args.self.now.program.now refl).left_in
 
-pub join-requires-clause-named : goal.join-requires-clause-named
-join-requires-clause-named c = rw c.as_slice.ensures c.requires.ready.sound.base.sound.words
+pub join-requires-clause-words : goal.join-requires-clause-words
+join-requires-clause-words c = names_spelled c.as_slice.result.now (rw c.as_slice.ensures c.requires.ready.sound.base.sound.words)
 
 pub back-requires : goal.back-requires
 back-requires c = record { sound = store_sound c.args.self.now c.write_both.new.store c.write_both.new.stack c.write_both.ensures.kept c.write_both.ensures.saved c.requires.ready.sound }

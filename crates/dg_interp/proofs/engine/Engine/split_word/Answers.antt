@@ -8,7 +8,7 @@ use Rattle.dg_interp.specs.Wording.{words_in, MakesAt}
 use Rattle.dg_interp.proofs.Takes.{store_sound, store_ready}
 use Rattle.dg_interp.proofs.Stores.{both_among}
 use Rattle.dg_interp.proofs.Giving.{kept_limits, written_full, branches_made}
-use Rattle.dg_texts.proofs.SpellLemmas.{none_seen, some_seen, seen_small}
+use Rattle.dg_texts.proofs.SpellLemmas.{names_spelled, none_seen, some_seen, seen_small}
 use Rattle.dg_interp.proofs.Wordings.{split_held, split_fails, split_leads}
 use Rattle.dg_interp.proofs.Branches.{full_made, back_made}
 use Rattle.dg_interp.proofs.engine.Engine.split_word.Goals as goal
@@ -22,8 +22,8 @@ walk-requires c = (c.in-Ok.ensures.written c.args.self.now.program.now refl).lef
 pub spelling_of-requires-clause-shown : goal.spelling_of-requires-clause-shown
 spelling_of-requires-clause-shown c = (walked_to (store_in c.write_both.new.store) c.in-Ok.word, c.walk.ensures)
 
-pub spelling_of-requires-clause-named : goal.spelling_of-requires-clause-named
-spelling_of-requires-clause-named c = rw c.as_slice-words.ensures c.requires.ready.sound.base.sound.words
+pub spelling_of-requires-clause-words : goal.spelling_of-requires-clause-words
+spelling_of-requires-clause-words c = names_spelled c.as_slice-words.result.now (rw c.as_slice-words.ensures c.requires.ready.sound.base.sound.words)
 
 pub back-requires : goal.back-requires
 back-requires c = record { sound = store_sound c.args.self.now c.write_both.new.store c.write_both.new.stack c.write_both.ensures.kept c.write_both.ensures.saved c.requires.ready.sound }
