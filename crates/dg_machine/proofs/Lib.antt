@@ -30,6 +30,7 @@ mod Goals
 pub mod Spaces
 pub mod Pieces
 pub mod Wordings
+pub mod Readings
 pub mod Runs
 pub mod Turns
 pub mod Starts

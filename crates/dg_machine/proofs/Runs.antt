@@ -1,17 +1,20 @@
 -- Whole runs of a machine.
-use Rattle.std.proofs.Common.{◌≡◌, ℕ, suc, ◌+◌, ◌<◌, ◌≤◌, ◌-◌, List, ◌++◌, Option, Some, None, true, false, refl, sym, ap, ◌∙◌, subst, arith, inl, inr}
+use Rattle.std.proofs.Common.{◌≡◌, ℕ, suc, ◌+◌, ◌<◌, ◌≤◌, ◌-◌, List, ◌++◌, length, Option, Some, None, true, false, refl, sym, ap, ◌∙◌, subst, arith, inl, inr}
 use Rattle.dg_base.specs.declared.run.Limits.{Limits}
 use Rattle.dg_base.specs.declared.run.Ending.{Ending}
 use Rattle.dg_base.specs.declared.run.Ending.TheVariants.{StepLimit}
 use Rattle.dg_base.specs.declared.run.Outcome.{Outcome}
+use Rattle.dg_base.specs.Streams.{SourceView}
 use Rattle.dg_base.specs.Written.{SinkView, Wrote, BrokeOff}
 use Rattle.dg_base.proofs.WrittenLemmas.{wrote_on, broke_first, broke_later}
 use Rattle.dg_meaning.specs.World.{Game, World, Print, prints}
 use Rattle.dg_meaning.specs.Render.{render, render_from, nothing_met, met_from}
 use Rattle.dg_texts.proofs.Texts.{render_append}
+use Rattle.dg_meaning.specs.Words.{behind_first}
+use Rattle.std.specs.Prelude.{if◌then◌else◌}
 use Rattle.dg_meaning.specs.Growth.{ending_line}
-use Rattle.dg_meaning.specs.Transcript.{Run, run, transcript, text_of, closing, line_of}
-use Rattle.dg_meaning.specs.Shows.{IsLeft, Shows, whole}
+use Rattle.dg_meaning.specs.Transcript.{Run, run, transcript, text_of, closing, line_of, input_fault_line}
+use Rattle.dg_meaning.specs.Shows.{IsLeft, Shows, ShowsInputFault, HasGiven, whole, without_input}
 use Rattle.dg_meaning.specs.OneRun.{Grows}
 use Rattle.dg_meaning.proofs.Keeps.{stands_happened}
 use Rattle.dg_meaning.proofs.Dropping.{prints_append}
@@ -25,9 +28,12 @@ use Rattle.dg_mid.specs.Codes.{Codes}
 use Rattle.dg_mid.specs.Units.{one_if}
 use Rattle.dg_mid.specs.Potential.{IsOver}
 use Rattle.dg_mid.specs.Reads.{At, RunsAt}
+use Rattle.dg_mid.specs.Left.{reads, left_behind}
 use Rattle.dg_mid.specs.Runs.{after, left_after, closed_text}
 use Rattle.dg_mid.proofs.Whole.{is_at}
-use Rattle.dg_mid.proofs.Shown.{shows_all}
+use Rattle.dg_mid.proofs.Shown.{shows_all, shows_faults}
+use Rattle.dg_mid.proofs.Outsides.{Leads}
+use Rattle.dg_mid.proofs.Typed.{typed_stays}
 use Rattle.dg_mid.proofs.Heights.{all_ordered}
 use Rattle.dg_spacing.specs.declared.spacer.Spacer.{Spacer}
 use Rattle.dg_spacing.specs.Spacer.{StandsFor}
@@ -40,8 +46,10 @@ use Rattle.dg_machine.specs.Standing.{CodeIs, Stands, HasOutside}
 use Rattle.dg_outside.specs.declared.outside.Outside.{Outside}
 use Rattle.dg_machine.specs.declared.tables.Tables.{Tables}
 use Rattle.dg_machine.specs.Tables.{IsOf}
-use Rattle.dg_machine.specs.Running.{rests, MarkDone, DoesMarks, DoesGoal, LosesGoal, HasText, HasSettled, Settles, IsAt, IsLost, EndsSo, HasEnded, IsLostWithin}
-use Rattle.dg_meaning.specs.Engines.{HasShown, HasLostOutput}
+use Rattle.dg_machine.specs.Running.{rests, MarkDone, DoesMarks, ReadsGoal, LosesText, LosesLine, HasText, HasSettled, Settles, IsAt, IsLost, IsUnread, EndsSo, HasEnded, IsLostWithin, IsUnreadWithin}
+use Rattle.dg_machine.specs.Reading.{LeftBehind}
+use Rattle.dg_machine.proofs.Readings.{mark_leaves}
+use Rattle.dg_meaning.specs.Engines.{HasShown, HasLostInput, HasLostOutput}
 use Rattle.dg_meaning.proofs.Engines.{may_write}
 
 -- what was printed up to here is the beginning of the whole text
@@ -70,7 +78,7 @@ module _ (code : Code) (g : Game) (l : Limits) (typed : List ℕ) where
   set = setting g code l
 
   pub settled_nowhere : (r : Memory) (out : Outside) (now : Now) (steps : ℕ) → Stands code l r now (after set typed steps).now → HasOutside out g l (after set typed steps).now → HasSettled code g l typed steps r out now
-  settled_nowhere r out now steps h w = record { further = steps; stands = h; outside = w; goals = refl; prints = refl }
+  settled_nowhere r out now steps h w = record { further = steps; stands = h; outside = w; goals = refl; prints = refl; left = refl }
 
   -- one more step
   pub one_mark : (tb : Tables) → IsOf g.program tb → (r new : Memory) (out out' : Outside) (now next : Now) (steps : ℕ) → rests now ≡ false → DoesMarks tb code r out now new out' next → Stands code l r now (after set typed steps).now → HasOutside out g l (after set typed steps).now → MarkDone code g l r now new out' next (after set typed steps).now
@@ -86,6 +94,7 @@ module _ (code : Code) (g : Game) (l : Limits) (typed : List ℕ) where
         outside = done.outside;
         goals = ap (λ b. one_if b + (after set typed h.further).goals) mark.no_goal ∙ (let same : 0 + (after set typed h.further).goals ≡ (after set typed h.further).goals = omega arith in same) ∙ h.goals;
         prints = ap (followed (after set typed h.further).prints) done.quiet ∙ h.prints;
+        left = mark_leaves set (after set typed h.further).now (left_after set typed h.further) mark.no_goal ∙ h.left;
       }
 
   pub mark_falls : (tb : Tables) → IsOf g.program tb → (r new : Memory) (out out' : Outside) (now next : Now) (steps : ℕ) → rests now ≡ false → DoesMarks tb code r out now new out' next → Stands code l r now (after set typed steps).now → HasOutside out g l (after set typed steps).now → left_of new next < left_of r now
@@ -104,13 +113,20 @@ module _ (code : Code) (g : Game) (l : Limits) (typed : List ℕ) where
   goal_at r ops (RunsOf m) h = record { mid = m; is = refl; code_is = h.0; held = h.1 }
   goal_at r ops s h = absurd h
 
+  -- the typed bytes of a machine that is at a goal
+  pub typed_at : (steps : ℕ) (m : Mid) → (after set typed steps).now ≡ RunsOf m → m.outside.typed ≡ left_after set typed steps
+  typed_at steps m is = subst (Leads (λ o. o.typed ≡ left_after set typed steps) (λ e. Unit {0})) is (typed_stays set typed steps)
+
   -- the next goal was taken, and steps behind it
-  pub took_goal : (tb : Tables) → IsOf g.program tb → (old mid new : Memory) (out out' behind : Outside) (ops : Bor (List Op)) (next now : Now) (s s' : Spacer) (k k' : SinkView) (goals : ℕ) (start : SinkView) → at_goal ops.now ≡ true → DoesGoal tb code old out ops.now mid out' next s s' k k' → Settles tb code mid out' next new behind now →
-      IsAt code g l typed old out (Runs ops) goals s start k → IsAt code g l typed new behind now (1 + goals) s' start k'
-  took_goal tb is_of old mid new out out' behind ops next now s s' k k' goals start e does settles h =
+  pub took_goal : (tb : Tables) → IsOf g.program tb → (old mid new : Memory) (out out' behind : Outside) (ops : Bor (List Op)) (next now : Now) (s s' : Spacer) (k k' : SinkView) (i i' : SourceView) (goals : ℕ) (start : SinkView) (rest : List ℕ) → at_goal ops.now ≡ true →
+      (does : ReadsGoal tb code old out ops.now mid out' next s s' k k' i i') → Settles tb code mid out' next new behind now → LeftBehind does.gave.ended i' rest → IsAt code g l typed old out (Runs ops) goals s start k (does.gave.taken ++ rest) → IsAt code g l typed new behind now (1 + goals) s' start k' rest
+  took_goal tb is_of old mid new out out' behind ops next now s s' k k' i i' goals start rest e does settles left h =
       let at = goal_at old ops (after set typed h.steps).now h.stands in
       let ordered : StatusOrdered (RunsOf at.mid) = subst StatusOrdered at.is (all_ordered set typed h.steps) in
-      let done = does g is_of l at.mid ordered e at.code_is at.held (subst (HasOutside out g l) at.is h.outside) in
+      let bytes = typed_at h.steps at.mid at.is in
+      let both = does.does rest left g is_of l at.mid ordered e at.code_is at.held (subst (HasOutside out g l) at.is h.outside) (bytes ∙ h.left_is) in
+      let done = both.0 in
+      let behind_it : left_after set typed (suc h.steps) ≡ rest = ap (λ x. left_behind set x (left_after set typed h.steps)) at.is ∙ ap (left_behind set (RunsOf at.mid)) (sym bytes) ∙ both.1 in
       let stands : Stands code l mid next (after set typed (suc h.steps)).now = subst (λ x. Stands code l mid next (step set x)) (sym at.is) done.stands in
       let settled = settles g is_of l typed (suc h.steps) stands (subst (λ x. HasOutside out' g l (step set x)) (sym at.is) done.outside) in
       let taken : takes_goal (after set typed h.steps).now ≡ true = ap takes_goal at.is ∙ ap at_goal at.code_is.0 ∙ e in
@@ -122,20 +138,35 @@ module _ (code : Code) (g : Game) (l : Limits) (typed : List ℕ) where
         outside = settled.outside;
         goals_is = settled.goals ∙ one;
         text = subst (HasText s' start k') (sym settled.prints) text;
+        left_is = settled.left ∙ behind_it;
       }
 
   -- the output was lost at the next goal
-  pub lost_goal : (tb : Tables) → IsOf g.program tb → (old : Memory) (out : Outside) (ops : Bor (List Op)) (s : Spacer) (k k' : SinkView) (goals : ℕ) (start : SinkView) → at_goal ops.now ≡ true → LosesGoal tb code old ops.now s k k' → IsAt code g l typed old out (Runs ops) goals s start k → IsLost code g l typed (suc goals) start k'
-  lost_goal tb is_of old out ops s k k' goals start e loses h =
+  pub lost_goal : (tb : Tables) → IsOf g.program tb → (old : Memory) (out : Outside) (ops : Bor (List Op)) (s : Spacer) (k k' : SinkView) (goals : ℕ) (start : SinkView) (left : List ℕ) → at_goal ops.now ≡ true → LosesText tb code old ops.now s k k' → IsAt code g l typed old out (Runs ops) goals s start k left → IsLost code g l typed (suc goals) start k'
+  lost_goal tb is_of old out ops s k k' goals start left e loses h =
       let at = goal_at old ops (after set typed h.steps).now h.stands in
-      let lost = loses g is_of l at.mid at.code_is at.held start (after set typed h.steps).prints h.text in
       let taken : takes_goal (after set typed h.steps).now ≡ true = ap takes_goal at.is ∙ ap at_goal at.code_is.0 ∙ e in
+      elim (loses g is_of l at.mid at.code_is at.held start (after set typed h.steps).prints h.text) [
+        | inl lost ↦ record {
+          steps = suc h.steps;
+          behind = lost.behind;
+          goes = ap (step set) at.is ∙ lost.goes;
+          goals_are = let x = ap (λ b. one_if b + (after set typed h.steps).goals) taken in omega (arith, x, h.goals_is);
+          broke = subst (λ x. BrokeOff start k' (render (followed (after set typed h.steps).prints (said set x)))) (sym at.is) lost.broke;
+        }
+        | inr broke ↦ record { steps = h.steps; behind = at.mid; goes = at.is; goals_are = omega (arith, h.goals_is); broke = broke }
+      ]
+
+  -- the input was lost there
+  pub unread_goal : (tb : Tables) → IsOf g.program tb → (old : Memory) (out : Outside) (ops : Bor (List Op)) (s s' : Spacer) (k k' : SinkView) (i i' : SourceView) (goals : ℕ) (start : SinkView) (left : List ℕ) → LosesLine tb code old ops.now s s' k k' i i' → IsAt code g l typed old out (Runs ops) goals s start k left → IsUnread code g l typed goals s' start k' left
+  unread_goal tb is_of old out ops s s' k k' i i' goals start left loses h =
+      let at = goal_at old ops (after set typed h.steps).now h.stands in
       record {
-        steps = suc h.steps;
-        behind = lost.behind;
-        goes = ap (step set) at.is ∙ lost.goes;
-        goals_is = ap (λ b. one_if b + (after set typed h.steps).goals) taken ∙ ap (λ n. 1 + n) h.goals_is ∙ (let same : 1 + goals ≡ suc goals = omega arith in same);
-        broke = subst (λ x. BrokeOff start k' (render (followed (after set typed h.steps).prints (said set x)))) (sym at.is) lost.broke;
+        steps = h.steps;
+        reading = ap (reads set) at.is ∙ loses.reading g is_of l at.mid at.code_is at.held;
+        goals_is = h.goals_is;
+        text = loses.text start (after set typed h.steps).prints h.text;
+        left_is = h.left_is;
       }
 
 -- ## From the start to the closing
@@ -173,17 +204,17 @@ module _ (code : Code) (g : Game) (l : Limits) (codes : Codes g.program code) (t
       subst (λ x. Shows g typed l (closed_text (after the_set typed steps).prints (line_of x)) (record { ending = x; goals = l.steps - left }) rest) (sym limited.0)
       (subst (λ n. Shows g typed l (closed_text (after the_set typed steps).prints (line_of StepLimit)) (record { ending = StepLimit; goals = n }) rest) (sym all) ((shows_all g code l codes typed).limited steps (goals ∙ all) limited.2))
 
-  pub shown : (e : Ending) (left : ℕ) (r : Memory) (s : Spacer) (start k k' : SinkView) → HasEnded code g l typed (l.steps - left) e left r s start k → left ≤ l.steps → ((ps : List Print) → StandsFor s ps → Wrote k k' (ending_line ps (line_of e))) → HasShown g typed l (record { ending = e; goals = l.steps - left }) None start k'
-  shown e left r s start k k' h le close =
+  pub shown : (e : Ending) (left : ℕ) (r : Memory) (s : Spacer) (start k k' : SinkView) (rest : List ℕ) (told : Option (List ℕ)) → IsLeft told rest → HasEnded code g l typed (l.steps - left) e left r s start k rest → left ≤ l.steps → ((ps : List Print) → StandsFor s ps → Wrote k k' (ending_line ps (line_of e))) → HasShown g typed l (record { ending = e; goals = l.steps - left }) told start k'
+  shown e left r s start k k' rest told is h le close =
       let ps = (after the_set typed h.steps).prints in
       record {
         bytes = closed_text ps (line_of e);
-        shows = shows_told g typed l _ _ (left_after the_set typed h.steps) None tt (ended_shows e left h.steps h.ends h.goals_is le);
+        shows = shows_told g typed l _ _ (left_after the_set typed h.steps) told (subst (IsLeft told) (sym h.left_is) is) (ended_shows e left h.steps h.ends h.goals_is le);
         wrote = wrote_on start k k' (render ps) (ending_line ps (line_of e)) h.text.wrote (close ps h.text.stands);
       }
 
-  pub closing_lost : (e : Ending) (left : ℕ) (r : Memory) (s : Spacer) (start k k' : SinkView) → HasEnded code g l typed (l.steps - left) e left r s start k → left ≤ l.steps → ((ps : List Print) → StandsFor s ps → BrokeOff k k' (ending_line ps (line_of e))) → HasLostOutput g typed l start k'
-  closing_lost e left r s start k k' h le close =
+  pub closing_lost : (e : Ending) (left : ℕ) (r : Memory) (s : Spacer) (start k k' : SinkView) (rest : List ℕ) → HasEnded code g l typed (l.steps - left) e left r s start k rest → left ≤ l.steps → ((ps : List Print) → StandsFor s ps → BrokeOff k k' (ending_line ps (line_of e))) → HasLostOutput g typed l start k'
+  closing_lost e left r s start k k' rest h le close =
       let ps = (after the_set typed h.steps).prints in
       record {
         bytes = closed_text ps (line_of e);
@@ -191,12 +222,44 @@ module _ (code : Code) (g : Game) (l : Limits) (codes : Codes g.program code) (t
         broke = broke_later start k k' (render ps) (ending_line ps (line_of e)) h.text.wrote (close ps h.text.stands);
       }
 
+  -- the input was lost
+  fault_shows : (r : Memory) (s : Spacer) (start k : SinkView) (taken rest : List ℕ) (h : IsUnreadWithin code g l typed l.steps r s start k (taken ++ rest)) → length (behind_first (taken ++ rest)) ≤ length rest → ShowsInputFault g typed l (closed_text (after the_set typed h.unread.steps).prints input_fault_line) (Some rest)
+  fault_shows r s start k taken rest h short =
+      let x = h.unread in
+      let next : left_after the_set typed (suc x.steps) ≡ behind_first (taken ++ rest) = ap (λ b. if b then behind_first (left_after the_set typed x.steps) else left_after the_set typed x.steps) x.reading ∙ ap behind_first x.left_is in
+      shows_faults g code l codes typed x.steps rest x.reading (omega (arith, x.goals_is, h.within)) (record { taken = taken; is = x.left_is }) (subst (λ l. length l ≤ length rest) (sym next) short)
+
+  fault_told : (bytes rest : List ℕ) (told : Option (List ℕ)) → IsLeft told rest → ShowsInputFault g typed l bytes (Some rest) → ShowsInputFault g typed l bytes told
+  fault_told bytes rest told is h = record { goals = h.goals; below = h.below; text = h.text; given = h.given; is_given = given_told told is h.is_given; goes_on = h.goes_on; no_more = h.no_more; reads = h.reads }
+    where
+      given_told : (told : Option (List ℕ)) → IsLeft told rest → HasGiven typed (Some rest) h.given → HasGiven typed told h.given
+      given_told None is given = tt
+      given_told (Some xs) is given = ap (λ l. h.given + length l) is ∙ given
+
+  pub input_lost : (r : Memory) (s : Spacer) (start k k' : SinkView) (taken rest : List ℕ) (told : Option (List ℕ)) → IsLeft told rest → IsUnreadWithin code g l typed l.steps r s start k (taken ++ rest) → length (behind_first (taken ++ rest)) ≤ length rest → ((ps : List Print) → StandsFor s ps → Wrote k k' (ending_line ps input_fault_line)) → HasLostInput g typed l told start k'
+  input_lost r s start k k' taken rest told is h short close =
+      let ps = (after the_set typed h.unread.steps).prints in
+      record {
+        bytes = closed_text ps input_fault_line;
+        shows = fault_told (closed_text ps input_fault_line) rest told is (fault_shows r s start k taken rest h short);
+        wrote = wrote_on start k k' (render ps) (ending_line ps input_fault_line) h.unread.text.wrote (close ps h.unread.text.stands);
+      }
+
+  pub fault_lost : (r : Memory) (s : Spacer) (start k k' : SinkView) (taken rest : List ℕ) → IsUnreadWithin code g l typed l.steps r s start k (taken ++ rest) → length (behind_first (taken ++ rest)) ≤ length rest → ((ps : List Print) → StandsFor s ps → BrokeOff k k' (ending_line ps input_fault_line)) → HasLostOutput g typed l start k'
+  fault_lost r s start k k' taken rest h short close =
+      let ps = (after the_set typed h.unread.steps).prints in
+      record {
+        bytes = closed_text ps input_fault_line;
+        may_write = without_input (Some rest) (fault_shows r s start k taken rest h short);
+        broke = broke_later start k k' (render ps) (ending_line ps input_fault_line) h.unread.text.wrote (close ps h.unread.text.stands);
+      }
+
   pub text_lost : (r : Memory) (start k : SinkView) → IsLostWithin code g l typed l.steps r start k → HasLostOutput g typed l start k
   text_lost r start k h =
       let x = h.lost in
       let ps = (after the_set typed x.steps).prints in
-      let rest = l.steps - h.goals in
-      let all : (after the_set typed x.steps).goals + rest ≡ l.steps = omega (arith, x.goals_is, h.within) in
+      let rest = l.steps - (after the_set typed x.steps).goals in
+      let all : (after the_set typed x.steps).goals + rest ≡ l.steps = omega (arith, x.goals_are, h.within) in
       let c = (is_at g code l codes typed x.steps).comes rest in
       let at : RunsAt code x.behind ps g rest c.world (run g typed l.steps) = subst (λ n. RunsAt code x.behind ps g rest c.world (run g typed n)) all (subst (λ now. At the_set now ps g rest c.world (run g typed ((after the_set typed x.steps).goals + rest))) x.goes c.at) in
       let begins = prints_begin c.world (run g typed l.steps) ps (stands_happened g at.lives at.ways _ rest c.world (run g typed l.steps) at.stands) at.mirrors.printed_is in

@@ -1,8 +1,11 @@
 -- The start of a run.
-use Rattle.std.proofs.Common.{◌≡◌, ℕ, List, [], None, refl, sym, ap, ◌∙◌, subst, arith, length, reverse, vec_capacity, Result, Ok, Err, IfOk, OnErr}
+use Rattle.std.proofs.Common.{◌≡◌, ℕ, ◌≤◌, List, [], None, refl, sym, ap, ◌∙◌, subst, arith, length, reverse, vec_capacity, Result, Ok, Err, IfOk, IfErr}
 use Rattle.std.specs.Borrow.{Bor}
 use Rattle.dg_base.specs.declared.run.Ending.{Ending}
 use Rattle.dg_base.specs.declared.run.Limits.{Limits}
+use Rattle.dg_base.specs.declared.run.Fault.{Fault}
+use Rattle.dg_base.specs.declared.run.Fault.TheVariants.{Read, Write}
+use Rattle.dg_base.specs.Streams.{SourceView}
 use Rattle.dg_base.specs.Written.{SinkView}
 use Rattle.dg_base.proofs.WrittenLemmas.{wrote_nothing}
 use Rattle.dg_meaning.specs.World.{Game}
@@ -26,7 +29,7 @@ use Rattle.dg_machine.specs.Stops.{StopIs, Among}
 use Rattle.dg_machine.proofs.StopLemmas.{none_open}
 use Rattle.dg_machine.specs.Layout.{Roomy, HoldsWith, limit_in, at_rest}
 use Rattle.dg_meaning.specs.Engines.{game}
-use Rattle.dg_machine.specs.Running.{HasText, IsAt, IsSomewhereWith, Finishes, LosesRun}
+use Rattle.dg_machine.specs.Running.{HasText, IsAt, IsSomewhereAt, Finishes, BreaksRun}
 
 -- what was emptied has its room
 pub record Emptied (r new : Memory) : Type 0 where
@@ -92,29 +95,35 @@ no_text : (s : Spacer) (k : SinkView) → StandsFor s [] → HasText s k k []
 unfolding render
 no_text s k new = record { stands = new; wrote = wrote_nothing k }
 
-pub at_start : (code : Code) (p : CoreProgram) (dice : List ℕ) (l : Limits) (typed : List ℕ) (r : Memory) (out : Outside) (block : Bor (List Op)) (s : Spacer) (k : SinkView) → IsBuilt code → block.now ≡ block_at code 1 → HoldsWith code l r at_rest [] [] [] [] None → r.gathered ≡ 0 → StandsFor s [] → StartsOutside p l dice out → IsAt code (game p dice) l typed r out (Runs block) 0 s k k
+pub at_start : (code : Code) (p : CoreProgram) (dice : List ℕ) (l : Limits) (typed : List ℕ) (r : Memory) (out : Outside) (block : Bor (List Op)) (s : Spacer) (k : SinkView) → IsBuilt code → block.now ≡ block_at code 1 → HoldsWith code l r at_rest [] [] [] [] None → r.gathered ≡ 0 → StandsFor s [] → StartsOutside p l dice out → IsAt code (game p dice) l typed r out (Runs block) 0 s k k typed
 at_start code p dice l typed r out block s k built is held none new starts = record {
   steps = 0;
   outside = (starts.stands (game p dice) typed refl refl, starts.keep, starts.aux);
   stands = ((sym is, subst OpsBuilt (sym is) (built 1)), (held, sym none));
   goals_is = refl;
   text = no_text s k new;
+  left_is = refl;
 }
 
-pub somewhere_first : (tb : Tables) (code : Code) (p : CoreProgram) (dice : List ℕ) (l : Limits) (r : Memory) (out : Outside) (block : Bor (List Op)) → IsOf p tb → IsBuilt code → block.now ≡ block_at code 1 → HoldsWith code l r at_rest [] [] [] [] None → r.gathered ≡ 0 → StartsOutside p l dice out → IsSomewhereWith tb code r out (Runs block)
-somewhere_first tb code p dice l r out block is_of built is held none starts = record {
-  somewhere = record {
-    game = game p dice;
-    tabled = is_of;
-    limits = l;
-    typed = [];
-    steps = 0;
-    stands = ((sym is, subst OpsBuilt (sym is) (built 1)), (held, sym none));
+pub somewhere_first : (tb : Tables) (code : Code) (p : CoreProgram) (dice : List ℕ) (l : Limits) (r : Memory) (out : Outside) (block : Bor (List Op)) (i : SourceView) → IsOf p tb → IsBuilt code → block.now ≡ block_at code 1 → HoldsWith code l r at_rest [] [] [] [] None → r.gathered ≡ 0 → StartsOutside p l dice out → IsSomewhereAt tb code r out (Runs block) i
+somewhere_first tb code p dice l r out block i is_of built is held none starts typed told = record {
+  found = record {
+    somewhere = record {
+      game = game p dice;
+      tabled = is_of;
+      limits = l;
+      typed = typed;
+      steps = 0;
+      stands = ((sym is, subst OpsBuilt (sym is) (built 1)), (held, sym none));
+    };
+    outside = (starts.stands (game p dice) typed refl refl, starts.keep, starts.aux);
   };
-  outside = (starts.stands (game p dice) [] refl refl, starts.keep, starts.aux);
+  left_is = refl;
 }
 
--- room is left whether a run has ended or has lost its output
-pub roomy_after : {E : Type 0} (tb : Tables) (code : Code) (g : Game) (l : Limits) (old new : Memory) (out : Outside) (start : Now) (steps : ℕ) (s s' : Spacer) (k k' : SinkView) (result : Result (Ending × ℕ) E) → IsOf g.program tb → IfOk result (λ end. Finishes tb code old out start steps s k end.0 end.1 new s' k') → OnErr result (LosesRun tb code old out start steps s k new k') → IsAt code g l [] old out start 0 s k k → Roomy l new
-roomy_after tb code g l old new out start steps s s' k k' (Ok end) is_of ok err at = (ok g is_of l [] k at).0.roomy
-roomy_after tb code g l old new out start steps s s' k k' (Err e) is_of ok err at = (err g is_of l [] k at).roomy
+-- room is left whether a run has ended or has met a fault
+pub roomy_after : (tb : Tables) (code : Code) (g : Game) (l : Limits) (old new : Memory) (out : Outside) (start : Now) (steps : ℕ) (s s' : Spacer) (k k' : SinkView) (i i' : SourceView) (result : Result (Ending × ℕ) Fault) → IsOf g.program tb → IfOk result (λ end. Finishes tb code old out start steps s k i end.0 end.1 new s' k' i') → IfErr result (λ f. BreaksRun f tb code old out start steps s k i new s' k' i') →
+    ((typed : List ℕ) → IsAt code g l typed old out start 0 s k k typed) → Roomy l new
+roomy_after tb code g l old new out start steps s s' k k' i i' (Ok end) is_of ok err at = (ok.ends g is_of l ok.typed k (at ok.typed)).roomy
+roomy_after tb code g l old new out start steps s s' k k' i i' (Err Read) is_of ok err at = (err.fails g is_of l err.typed k (at err.typed)).roomy
+roomy_after tb code g l old new out start steps s s' k k' i i' (Err Write) is_of ok err at = (err.loses g is_of l err.typed k (at err.typed)).roomy

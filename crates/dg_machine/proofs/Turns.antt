@@ -1,17 +1,23 @@
 -- Goals one after another.
-use Rattle.std.proofs.Common.{◌≡◌, ℕ, suc, ◌+◌, ◌≤◌, List, true, false, inl, inr, refl, sym, ap, ◌∙◌, subst, arith}
+use Rattle.std.proofs.Common.{◌≡◌, ℕ, suc, ◌+◌, ◌-◌, ◌≤◌, List, ◌++◌, append_assoc, true, false, inl, inr, refl, sym, ap, ◌∙◌, subst, arith}
 use Rattle.std.specs.Borrow.{Bor}
 use Rattle.dg_base.specs.declared.run.Limits.{Limits}
 use Rattle.dg_base.specs.declared.run.Ending.{Ending}
 use Rattle.dg_base.specs.declared.run.Ending.TheVariants.{StepLimit}
+use Rattle.dg_base.specs.declared.run.Fault.{Fault}
+use Rattle.dg_base.specs.declared.run.Fault.TheVariants.{Read, Write}
+use Rattle.dg_base.specs.Streams.{SourceView}
 use Rattle.dg_base.specs.Written.{SinkView}
+use Rattle.dg_base.proofs.CausesLemmas.{rose_earlier}
+use Rattle.dg_meaning.proofs.Engines.{some_left}
 use Rattle.dg_meaning.specs.World.{Game}
 use Rattle.dg_mid.specs.declared.code.Op.{Op}
 use Rattle.dg_mid.specs.declared.code.Code.{Code}
 use Rattle.dg_mid.specs.Heights.{StatusOrdered}
 use Rattle.dg_mid.specs.State.{Mid, Status, Runs as RunsOf, Ended as EndedOf}
 use Rattle.dg_mid.specs.Step.{Setting, setting, step, takes_goal, at_goal}
-use Rattle.dg_mid.specs.Runs.{after}
+use Rattle.dg_mid.specs.Left.{left_behind}
+use Rattle.dg_mid.specs.Runs.{after, left_after}
 use Rattle.dg_mid.proofs.Heights.{all_ordered}
 use Rattle.dg_spacing.specs.declared.spacer.Spacer.{Spacer}
 use Rattle.dg_machine.specs.declared.now.Now.{Now}
@@ -23,9 +29,11 @@ use Rattle.dg_machine.specs.Standing.{Stands, HasOutside}
 use Rattle.dg_outside.specs.declared.outside.Outside.{Outside}
 use Rattle.dg_machine.specs.declared.tables.Tables.{Tables}
 use Rattle.dg_machine.specs.Tables.{IsOf}
-use Rattle.dg_machine.specs.Running.{rests, HasText, DoesMarks, DoesGoal, Settles, IsAt, IsLost, IsSomewhere, IsSomewhereWith, HasEnded, IsLostWithin}
+use Rattle.dg_machine.specs.Running.{rests, HasText, DoesMarks, ReadsGoal, Settles, Takes, IsAt, IsLost, IsUnread, IsSomewhere, IsSomewhereWith, IsSomewhereLeft, IsSomewhereAt, IsSomewhereStill, HasEnded, Finishes, IsLostWithin, IsUnreadWithin, BreaksGoal, BreaksTurn, BreaksRun}
+use Rattle.dg_machine.specs.Reading.{IsEnd, LeftBehind}
 use Rattle.dg_machine.proofs.Opens.{roomy}
-use Rattle.dg_machine.proofs.Runs.{goal_at, one_mark}
+use Rattle.dg_machine.proofs.Readings.{gave_nothing, gave_on, some_behind, left_still}
+use Rattle.dg_machine.proofs.Runs.{goal_at, one_mark, typed_at, took_goal, lost_goal, unread_goal}
 
 -- memory has room where the machine is at a goal of some run
 pub room_at : (tb : Tables) (code : Code) (r : Memory) (ops : Bor (List Op)) → IsSomewhere tb code r (Runs ops) → HasRoom r
@@ -35,18 +43,34 @@ room_at tb code r ops s = (goal_at code s.game s.limits s.typed r ops (after (se
 pub built_at : (tb : Tables) (code : Code) (r : Memory) (ops : Bor (List Op)) → IsSomewhere tb code r (Runs ops) → OpsBuilt ops.now
 built_at tb code r ops s = (goal_at code s.game s.limits s.typed r ops (after (setting s.game code s.limits) s.typed s.steps).now s.stands).code_is.1
 
+-- and it stands for some machine
+pub held_at : (tb : Tables) (code : Code) (r : Memory) (ops : Bor (List Op)) → IsSomewhere tb code r (Runs ops) → (l : Limits) × (m : Mid) × Holds code l r m
+held_at tb code r ops s = let at = goal_at code s.game s.limits s.typed r ops (after (setting s.game code s.limits) s.typed s.steps).now s.stands in (s.limits, at.mid, at.held)
+
 -- behind a goal it is somewhere still
-pub somewhere_behind : (tb : Tables) (code : Code) (old new : Memory) (out out' : Outside) (ops : Bor (List Op)) (next : Now) (s s' : Spacer) (k k' : SinkView) → at_goal ops.now ≡ true → DoesGoal tb code old out ops.now new out' next s s' k k' → IsSomewhereWith tb code old out (Runs ops) → IsSomewhereWith tb code new out' next
-somewhere_behind tb code old new out out' ops next s s' k k' e does found =
+pub somewhere_behind : (tb : Tables) (code : Code) (old new : Memory) (out out' : Outside) (ops : Bor (List Op)) (next : Now) (s s' : Spacer) (k k' : SinkView) (i i' : SourceView) (rest : List ℕ) → at_goal ops.now ≡ true → (does : ReadsGoal tb code old out ops.now new out' next s s' k k' i i') → LeftBehind does.gave.ended i' rest →
+    IsSomewhereAt tb code old out (Runs ops) i → IsSomewhereLeft tb code new out' next rest
+somewhere_behind tb code old new out out' ops next s s' k k' i i' rest e does left before =
+    let here = before (does.gave.taken ++ rest) (does.gave.left rest left) in
+    let found = here.found in
     let h = found.somewhere in
     let set = setting h.game code h.limits in
     let at = goal_at code h.game h.limits h.typed old ops (after set h.typed h.steps).now h.stands in
     let ordered : StatusOrdered (RunsOf at.mid) = subst StatusOrdered at.is (all_ordered set h.typed h.steps) in
-    let done = does h.game h.tabled h.limits at.mid ordered e at.code_is at.held (subst (HasOutside out h.game h.limits) at.is found.outside) in
+    let bytes = typed_at code h.game h.limits h.typed h.steps at.mid at.is in
+    let both = does.does rest left h.game h.tabled h.limits at.mid ordered e at.code_is at.held (subst (HasOutside out h.game h.limits) at.is found.outside) (bytes ∙ here.left_is) in
+    let done = both.0 in
     record {
-      somewhere = record { game = h.game; tabled = h.tabled; limits = h.limits; typed = h.typed; steps = suc h.steps; stands = subst (λ x. Stands code h.limits new next (step set x)) (sym at.is) done.stands };
-      outside = subst (λ x. HasOutside out' h.game h.limits (step set x)) (sym at.is) done.outside;
+      found = record {
+        somewhere = record { game = h.game; tabled = h.tabled; limits = h.limits; typed = h.typed; steps = suc h.steps; stands = subst (λ x. Stands code h.limits new next (step set x)) (sym at.is) done.stands };
+        outside = subst (λ x. HasOutside out' h.game h.limits (step set x)) (sym at.is) done.outside;
+      };
+      left_is = ap (λ x. left_behind set x (left_after set h.typed h.steps)) at.is ∙ ap (left_behind set (RunsOf at.mid)) (sym bytes) ∙ both.1;
     }
+
+-- some machine is there
+pub somewhere_first : (tb : Tables) (code : Code) (r : Memory) (out : Outside) (now : Now) (i : SourceView) → IsSomewhereAt tb code r out now i → IsSomewhereWith tb code r out now
+somewhere_first tb code r out now i h = let rest = some_left i.left in (h rest.0 rest.1).found
 
 -- and behind a step that takes none
 pub somewhere_marked : (tb : Tables) (code : Code) (r new : Memory) (out out' : Outside) (now next : Now) → rests now ≡ false → DoesMarks tb code r out now new out' next → IsSomewhereWith tb code r out now → IsSomewhereWith tb code new out' next
@@ -62,54 +86,172 @@ somewhere_settled tb code old new out out' before now settles found =
     let x = settles h.game h.tabled h.limits h.typed h.steps h.stands found.outside in
     record { somewhere = record { game = h.game; tabled = h.tabled; limits = h.limits; typed = h.typed; steps = x.further; stands = x.stands }; outside = x.outside }
 
+-- and where bytes are left
+pub left_settled : (tb : Tables) (code : Code) (old new : Memory) (out out' : Outside) (before now : Now) (rest : List ℕ) → Settles tb code old out before new out' now → IsSomewhereLeft tb code old out before rest → IsSomewhereLeft tb code new out' now rest
+unfolding somewhere_settled
+left_settled tb code old new out out' before now rest settles h =
+    let x = h.found.somewhere in
+    record { found = somewhere_settled tb code old new out out' before now settles h.found; left_is = (settles x.game x.tabled x.limits x.typed x.steps x.stands h.found.outside).left ∙ h.left_is }
+
 module _ (code : Code) (g : Game) (l : Limits) (typed : List ℕ) where
   abbrev set : Setting
   set = setting g code l
 
-  pub settled_at : (tb : Tables) → IsOf g.program tb → (old new : Memory) (out out' : Outside) (before now : Now) (goals : ℕ) (s : Spacer) (start k : SinkView) → Settles tb code old out before new out' now → IsAt code g l typed old out before goals s start k → IsAt code g l typed new out' now goals s start k
-  settled_at tb is_of old new out out' before now goals s start k settles h =
+  pub settled_at : (tb : Tables) → IsOf g.program tb → (old new : Memory) (out out' : Outside) (before now : Now) (goals : ℕ) (s : Spacer) (start k : SinkView) (left : List ℕ) → Settles tb code old out before new out' now → IsAt code g l typed old out before goals s start k left → IsAt code g l typed new out' now goals s start k left
+  settled_at tb is_of old new out out' before now goals s start k left settles h =
       let x = settles g is_of l typed h.steps h.stands h.outside in
-      record { steps = x.further; stands = x.stands; outside = x.outside; goals_is = x.goals ∙ h.goals_is; text = subst (HasText s start k) (sym x.prints) h.text }
+      record { steps = x.further; stands = x.stands; outside = x.outside; goals_is = x.goals ∙ h.goals_is; text = subst (HasText s start k) (sym x.prints) h.text; left_is = x.left ∙ h.left_is }
 
   -- the run has ended
-  ended_in : (r : Memory) (e : Ending) (goals left : ℕ) (s : Spacer) (start k : SinkView) (steps : ℕ) (x : Status) → (after set typed steps).now ≡ x → (after set typed steps).goals ≡ goals → HasText s start k (after set typed steps).prints → Stands code l r (Ended e) x → HasEnded code g l typed goals e left r s start k
-  ended_in r e goals left s start k steps (EndedOf e') is goals_is text h = record { steps = steps; ends = inl (is ∙ ap EndedOf h.0); goals_is = goals_is; text = text; roomy = h.1 }
-  ended_in r e goals left s start k steps x is goals_is text h = absurd h
-
-  pub ended_at : (r : Memory) (out : Outside) (e : Ending) (goals left : ℕ) (s : Spacer) (start k : SinkView) → IsAt code g l typed r out (Ended e) goals s start k → HasEnded code g l typed goals e left r s start k
-  ended_at r out e goals left s start k h = ended_in r e goals left s start k h.steps (after set typed h.steps).now refl h.goals_is h.text h.stands
+  ended_in : (r : Memory) (e : Ending) (goals left : ℕ) (s : Spacer) (start k : SinkView) (rest : List ℕ) (steps : ℕ) (x : Status) → (after set typed steps).now ≡ x → (after set typed steps).goals ≡ goals → HasText s start k (after set typed steps).prints → left_after set typed steps ≡ rest → Stands code l r (Ended e) x →
+      HasEnded code g l typed goals e left r s start k rest
+  ended_in r e goals left s start k rest steps (EndedOf e') is goals_is text left_is h = record { steps = steps; ends = inl (is ∙ ap EndedOf h.0); goals_is = goals_is; text = text; left_is = left_is; roomy = h.1 }
+  ended_in r e goals left s start k rest steps x is goals_is text left_is h = absurd h
 
   -- no budget is left at a goal
-  pub limited_at : (r : Memory) (out : Outside) (now : Now) (goals left : ℕ) (s : Spacer) (start k : SinkView) → rests now ≡ true → ((e : Ending) → now ≡ Ended e → ⊥) → left ≡ 0 → IsAt code g l typed r out now goals s start k → HasEnded code g l typed goals StepLimit left r s start k
-  limited_at r out (Runs ops) goals left s start k e other none h =
+  limited_at : (r : Memory) (out : Outside) (now : Now) (goals left : ℕ) (s : Spacer) (start k : SinkView) (rest : List ℕ) → rests now ≡ true → ((e : Ending) → now ≡ Ended e → ⊥) → left ≡ 0 → IsAt code g l typed r out now goals s start k rest → HasEnded code g l typed goals StepLimit left r s start k rest
+  limited_at r out (Runs ops) goals left s start k rest e other none h =
       let at = goal_at code g l typed r ops (after set typed h.steps).now h.stands in
-      record { steps = h.steps; ends = inr (refl, none, ap takes_goal at.is ∙ ap at_goal at.code_is.0 ∙ e); goals_is = h.goals_is; text = h.text; roomy = roomy code l at.mid r at.held }
-  limited_at r out (Ended x) goals left s start k e other none h = absurd (other x refl)
-  limited_at r out (Enters c ops) goals left s start k e other none h = absurd (cc)
-  limited_at r out (Resumes way) goals left s start k e other none h = absurd (cc)
-  limited_at r out Fails goals left s start k e other none h = absurd (cc)
+      record { steps = h.steps; ends = inr (refl, none, ap takes_goal at.is ∙ ap at_goal at.code_is.0 ∙ e); goals_is = h.goals_is; text = h.text; left_is = h.left_is; roomy = roomy code l at.mid r at.held }
+  limited_at r out (Ended x) goals left s start k rest e other none h = absurd (other x refl)
+  limited_at r out (Enters c ops) goals left s start k rest e other none h = absurd (cc)
+  limited_at r out (Resumes way) goals left s start k rest e other none h = absurd (cc)
+  limited_at r out Fails goals left s start k rest e other none h = absurd (cc)
 
-  -- the output was lost at the next goal, within the budget
-  pub lost_within : (r new : Memory) (out : Outside) (ops : Bor (List Op)) (goals budget : ℕ) (s : Spacer) (start k k' : SinkView) → suc goals ≤ budget → ((l : Limits) (m : Mid) → Holds code l r m → Roomy l new) → IsLost code g l typed (suc goals) start k' → IsAt code g l typed r out (Runs ops) goals s start k → IsLostWithin code g l typed budget new start k'
-  lost_within r new out ops goals budget s start k k' le room lost h =
-      let at = goal_at code g l typed r ops (after set typed h.steps).now h.stands in
-      record { goals = suc goals; within = le; lost = lost; roomy = room l at.mid at.held }
+  no_more : (r : Memory) (out : Outside) (now : Now) (n : ℕ) (s : Spacer) (start k : SinkView) (rest : List ℕ) → IsAt code g l typed r out now (n + 0) s start k rest → IsAt code g l typed r out now n s start k rest
+  no_more r out now n s start k rest h = let none : n + 0 ≡ n = omega arith in subst (λ m. IsAt code g l typed r out now m s start k rest) none h
 
   -- the same of a machine that is told to be so
-  pub finished : (r : Memory) (out : Outside) (now : Now) (e : Ending) (n left : ℕ) (s : Spacer) (start k : SinkView) → now ≡ Ended e → IsAt code g l typed r out now (n + 0) s start k → HasEnded code g l typed n e left r s start k
-  finished r out now e n left s start k is h =
-      let none : n + 0 ≡ n = omega arith in
-      ended_at r out e n left s start k (subst (λ x. IsAt code g l typed r out x n s start k) is (subst (λ m. IsAt code g l typed r out now m s start k) none h))
+  finished : (r : Memory) (out : Outside) (now : Now) (e : Ending) (n left : ℕ) (s : Spacer) (start k : SinkView) (rest : List ℕ) → now ≡ Ended e → IsAt code g l typed r out now (n + 0) s start k rest → HasEnded code g l typed n e left r s start k rest
+  finished r out now e n left s start k rest is h =
+      let at = subst (λ x. IsAt code g l typed r out x n s start k rest) is (no_more r out now n s start k rest h) in
+      ended_in r e n left s start k rest at.steps (after set typed at.steps).now refl at.goals_is at.text at.left_is at.stands
 
-  pub limited : (r : Memory) (out : Outside) (now : Now) (n left : ℕ) (s : Spacer) (start k : SinkView) → rests now ≡ true → ((e : Ending) → now ≡ Ended e → ⊥) → left ≡ 0 → IsAt code g l typed r out now (n + 0) s start k → HasEnded code g l typed n StepLimit left r s start k
-  limited r out now n left s start k e other none h =
-      let same : n + 0 ≡ n = omega arith in
-      limited_at r out now n left s start k e other none (subst (λ m. IsAt code g l typed r out now m s start k) same h)
+  -- the output was lost at the next goal, within the budget
+  lost : (r new : Memory) (out : Outside) (now : Now) (ops : Bor (List Op)) (n budget : ℕ) (s : Spacer) (start k k' : SinkView) (left : List ℕ) → ((l : Limits) (m : Mid) → Holds code l r m → Roomy l new) → now ≡ Runs ops → suc n ≤ budget → (IsAt code g l typed r out (Runs ops) n s start k left → IsLost code g l typed (suc n) start k') → IsAt code g l typed r out now (n + 0) s start k left →
+      IsLostWithin code g l typed budget new start k'
+  lost r new out now ops n budget s start k k' left room is le loses h =
+      let here = subst (λ x. IsAt code g l typed r out x n s start k left) is (no_more r out now n s start k left h) in
+      let at = goal_at code g l typed r ops (after set typed here.steps).now here.stands in
+      record { goals = suc n; within = le; lost = loses here; roomy = room l at.mid at.held }
 
-  pub lost : (r new : Memory) (out : Outside) (now : Now) (ops : Bor (List Op)) (n budget : ℕ) (s : Spacer) (start k k' : SinkView) → ((l : Limits) (m : Mid) → Holds code l r m → Roomy l new) → now ≡ Runs ops → suc (n + 0) ≤ budget → ((goals : ℕ) → IsAt code g l typed r out (Runs ops) goals s start k → IsLost code g l typed (suc goals) start k') → IsAt code g l typed r out now (n + 0) s start k → IsLostWithin code g l typed budget new start k'
-  lost r new out now ops n budget s start k k' room is le loses h =
-      let here = subst (λ x. IsAt code g l typed r out x (n + 0) s start k) is h in
-      lost_within r new out ops (n + 0) budget s start k k' le room (loses (n + 0) here) here
+  -- or the input
+  not_read : (r new : Memory) (out : Outside) (now : Now) (ops : Bor (List Op)) (n budget : ℕ) (s s' : Spacer) (start k k' : SinkView) (left : List ℕ) → ((l : Limits) (m : Mid) → Holds code l r m → Roomy l new) → now ≡ Runs ops → suc n ≤ budget → (IsAt code g l typed r out (Runs ops) n s start k left → IsUnread code g l typed n s' start k' left) → IsAt code g l typed r out now (n + 0) s start k left →
+      IsUnreadWithin code g l typed budget new s' start k' left
+  not_read r new out now ops n budget s s' start k k' left room is le fails h =
+      let here = subst (λ x. IsAt code g l typed r out x n s start k left) is (no_more r out now n s start k left h) in
+      let at = goal_at code g l typed r ops (after set typed here.steps).now here.stands in
+      record { goals = n; within = omega (arith, le); unread = fails here; roomy = room l at.mid at.held }
+
+-- ## One goal
+
+module _ (tb : Tables) (code : Code) (old mid new : Memory) (out out' behind : Outside) (ops : Bor (List Op)) (next now : Now) (s s' : Spacer) (k k' : SinkView) (i i' : SourceView) (e : at_goal ops.now ≡ true) (does : ReadsGoal tb code old out ops.now mid out' next s s' k k' i i') (settles : Settles tb code mid out' next new behind now) (stays : IsEnd next → IsEnd now) where
+  pub turn_takes : Takes tb code 1 old out (Runs ops) s k i new behind now s' k' i'
+  turn_takes = record {
+    gave = record { taken = does.gave.taken; ended = does.gave.ended; over = λ x. stays (does.gave.over x); left = does.gave.left; told = does.gave.told; later = does.gave.later };
+    takes = λ rest h g is_of l typed goals start at. took_goal code g l typed tb is_of old mid new out out' behind ops next now s s' k k' i i' goals start rest e does settles h at;
+  }
+
+  pub turn_still : IsSomewhereAt tb code old out (Runs ops) i → IsSomewhereStill tb code new behind now i'
+  turn_still before goes rest h =
+      let left = left_still does.gave.ended i' rest (λ x. goes (stays (does.gave.over x))) h in
+      left_settled tb code mid new out' behind next now rest settles (somewhere_behind tb code old mid out out' ops next s s' k k' i i' rest e does left before)
+
+-- or a fault
+pub turn_breaks : (fault : Fault) (tb : Tables) (code : Code) (old : Memory) (out : Outside) (ops : Bor (List Op)) (s s' : Spacer) (k k' : SinkView) (i i' : SourceView) → at_goal ops.now ≡ true → BreaksGoal fault tb code old ops.now s s' k k' i i' → BreaksTurn fault tb code old out (Runs ops) s k i s' k' i'
+turn_breaks Read tb code old out ops s s' k k' i i' e loses = record {
+  failed = loses.failed;
+  unread = λ g is_of l typed goals start left at. unread_goal code g l typed tb is_of old out ops s s' k k' i i' goals start left loses at;
+}
+turn_breaks Write tb code old out ops s s' k k' i i' e loses = (λ g is_of l typed goals start left at. lost_goal code g l typed tb is_of old out ops s k k' goals start left e loses.0 at, loses.1)
+
+-- ## From a start
+
+module _ (tb : Tables) (code : Code) (old : Memory) (out : Outside) (before : Now) (s : Spacer) (k : SinkView) (i : SourceView) where
+  -- the first steps take no goal
+  pub takes_none : (n : ℕ) (new : Memory) (out' : Outside) (now : Now) → ((x : ℕ) → n + x ≡ x) → Settles tb code old out before new out' now → Takes tb code n old out before s k i new out' now s k i
+  unfolding gave_nothing
+  takes_none n new out' now none settles = record {
+    gave = gave_nothing i now;
+    takes = λ rest h g is_of l typed goals start at. subst (λ x. IsAt code g l typed new out' now x s start k rest) (sym (none goals)) (settled_at code g l typed tb is_of old new out out' before now goals s start k rest settles at);
+  }
+
+  -- one more goal
+  pub takes_on : (n n' : ℕ) (mid new : Memory) (out1 out2 : Outside) (now next : Now) (ops : Bor (List Op)) (s1 s2 : Spacer) (k1 k2 : SinkView) (i1 i2 : SourceView) → now ≡ Runs ops → ((x : ℕ) → 1 + (n + x) ≡ n' + x) → Takes tb code n old out before s k i mid out1 now s1 k1 i1 → Takes tb code 1 mid out1 (Runs ops) s1 k1 i1 new out2 next s2 k2 i2 →
+      Takes tb code n' old out before s k i new out2 next s2 k2 i2
+  unfolding gave_on
+  takes_on n n' mid new out1 out2 now next ops s1 s2 k1 k2 i1 i2 is one first second =
+      let goes : IsEnd now → ⊥ = λ end. subst IsEnd is end in
+      record {
+        gave = gave_on i i1 i2 now next goes first.gave second.gave;
+        takes = λ rest h g is_of l typed goals start at.
+            let bytes = second.gave.taken ++ rest in
+            let left = left_still first.gave.ended i1 bytes (λ e. goes (first.gave.over e)) (second.gave.left rest h) in
+            let start_at = subst (λ x. IsAt code g l typed old out before goals s start k x) (append_assoc first.gave.taken second.gave.taken rest) at in
+            let mid_at = subst (λ x. IsAt code g l typed mid out1 x (n + goals) s1 start k1 bytes) is (first.takes bytes left g is_of l typed goals start start_at) in
+            subst (λ x. IsAt code g l typed new out2 next x s2 start k2 rest) (one goals) (second.takes rest h g is_of l typed (n + goals) start mid_at);
+      }
+
+  module _ (n : ℕ) (mid : Memory) (out1 : Outside) (now : Now) (s1 : Spacer) (k1 : SinkView) (i1 : SourceView) (took : Takes tb code n old out before s k i mid out1 now s1 k1 i1) where
+    -- the run has ended there
+    pub finishes : (budget left : ℕ) (e : Ending) → now ≡ Ended e → n ≡ budget - left → left ≤ budget → Finishes tb code old out before budget s k i e left mid s1 k1 i1
+    finishes budget left e is same le =
+        let rest = some_behind took.gave.ended i1 in
+        record {
+          typed = took.gave.taken ++ rest.0;
+          is_typed = took.gave.left rest.0 rest.1;
+          rest = rest.0;
+          is_rest = took.gave.told rest.0 rest.1;
+          later = took.gave.later;
+          within = le;
+          ends = λ g is_of l typed start at. subst (λ x. HasEnded code g l typed x e left mid s1 start k1 rest.0) same (finished code g l typed mid out1 now e n left s1 start k1 rest.0 is (took.takes rest.0 rest.1 g is_of l typed 0 start at));
+        }
+
+    -- or its budget
+    pub limits : (budget left : ℕ) → rests now ≡ true → ((e : Ending) → now ≡ Ended e → ⊥) → left ≡ 0 → n ≡ budget - left → left ≤ budget → Finishes tb code old out before budget s k i StepLimit left mid s1 k1 i1
+    limits budget left e other none same le =
+        let rest = some_behind took.gave.ended i1 in
+        record {
+          typed = took.gave.taken ++ rest.0;
+          is_typed = took.gave.left rest.0 rest.1;
+          rest = rest.0;
+          is_rest = took.gave.told rest.0 rest.1;
+          later = took.gave.later;
+          within = le;
+          ends = λ g is_of l typed start at. subst (λ x. HasEnded code g l typed x StepLimit left mid s1 start k1 rest.0) same (limited_at code g l typed mid out1 now n left s1 start k1 rest.0 e other none (no_more code g l typed mid out1 now n s1 start k1 rest.0 (took.takes rest.0 rest.1 g is_of l typed 0 start at)));
+        }
+
+    -- or it met a fault at the next goal
+    pub breaks : (fault : Fault) (budget : ℕ) (new : Memory) (ops : Bor (List Op)) (s2 : Spacer) (k2 : SinkView) (i2 : SourceView) → now ≡ Runs ops → suc n ≤ budget → ((l : Limits) (m : Mid) → Holds code l mid m → Roomy l new) → BreaksTurn fault tb code mid out1 (Runs ops) s1 k1 i1 s2 k2 i2 → BreaksRun fault tb code old out before budget s k i new s2 k2 i2
+    breaks Read budget new ops s2 k2 i2 is le room fails =
+        let rest = some_left i2.left in
+        let f = fails.failed in
+        let bytes = f.taken ++ rest.0 in
+        let left = left_still took.gave.ended i1 bytes (λ e. subst IsEnd is (took.gave.over e)) (f.left rest.0 rest.1) in
+        record {
+          typed = took.gave.taken ++ bytes;
+          is_typed = took.gave.left bytes left;
+          taken = f.taken;
+          rest = rest.0;
+          is_rest = rest.1;
+          short = f.short rest.0 rest.1;
+          later = let x = took.gave.later in let y = f.later in omega (arith, x, y);
+          rose = rose_earlier i.faults i1.faults i2.faults took.gave.later f.rose;
+          fails = λ g is_of l typed start at. not_read code g l typed mid new out1 now ops n budget s1 s2 start k1 k2 bytes room is le (fails.unread g is_of l typed n start bytes) (took.takes bytes left g is_of l typed 0 start at);
+        }
+    breaks Write budget new ops s2 k2 i2 is le room fails =
+        let rest = some_left i1.left in
+        let left = left_still took.gave.ended i1 rest.0 (λ e. subst IsEnd is (took.gave.over e)) rest.1 in
+        record {
+          typed = took.gave.taken ++ rest.0;
+          is_typed = took.gave.left rest.0 left;
+          later = let x = took.gave.later in let y = fails.1 in omega (arith, x, y);
+          loses = λ g is_of l typed start at. lost code g l typed mid new out1 now ops n budget s1 start k1 k2 rest.0 room is le (fails.0 g is_of l typed n start rest.0) (took.takes rest.0 left g is_of l typed 0 start at);
+        }
+
+pub end_rests : (now : Now) → IsEnd now → rests now ≡ true
+end_rests (Ended e) h = refl
+end_rests now h = absurd h
 
 pub rests_else : (now : Now) → rests now ≡ true → ((ops : Bor (List Op)) → now ≡ Runs ops → ⊥) → ((e : Ending) → now ≡ Ended e → ⊥) → ⊥
 rests_else (Runs ops) e r x = r ops refl

@@ -9,4 +9,5 @@ pub mod Built
 pub mod Measure
 pub mod Standing
 pub mod Wording
+pub mod Reading
 pub mod Running

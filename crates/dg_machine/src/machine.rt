@@ -1,5 +1,6 @@
 // The machine: it runs its code from the start.
-ghost use Rattle.std.specs.Prelude.{◌≡◌, IfOk, OnErr, IsErrOf, List, ℕ, None};
+ghost use Rattle.std.specs.Prelude.{◌≡◌, ◌≤◌, IfOk, IsErrOf, List, ℕ};
+ghost use Rattle.dg_base.specs.Causes.{Rose};
 ghost use Rattle.dg_base.specs.declared.program.CoreProgram.{CoreProgram};
 ghost use Rattle.dg_meaning.specs.Transcript.{line_of};
 ghost use Rattle.dg_outside.specs.Outside.{StartsOutside};
@@ -8,7 +9,7 @@ ghost use Rattle.dg_mid.specs.Potential.{Tidy};
 ghost use Rattle.dg_machine.specs.Built.{IsBuilt};
 ghost use Rattle.dg_machine.specs.Tables.{IsOf};
 ghost use Rattle.dg_machine.specs.Layout.{Roomy};
-ghost use Rattle.dg_meaning.specs.Engines.{game, HasShown, HasLostOutput};
+ghost use Rattle.dg_meaning.specs.Engines.{game, left_told, ForTyped, HasShown, HasLostInput, HasLostOutput};
 
 use crate::doing::code_at;
 use crate::memory::Memory;
@@ -68,7 +69,7 @@ impl Machine {
         })
     }
 
-    /// Runs the code from its start, with what is outside at the start, and writes the transcript. It takes no memory, and reads nothing yet.
+    /// Runs the code from its start, with what is outside at the start, on the typed bytes of a source, and writes the transcript. It takes no memory.
     pub fn run<S: Source, K: Sink>(
         &mut self,
         outside: &mut Outside<'_>,
@@ -79,13 +80,16 @@ impl Machine {
         requires tidy { Tidy self.old.code }
         requires outside { (p : CoreProgram) × (dice : List ℕ) × IsOf p self.old.tables × StartsOutside p self.old.limits dice outside.old }
         ensures shows { IfOk result (λ outcome. (p : CoreProgram) → (dice : List ℕ) → Codes p self.old.code → IsOf p self.old.tables →
-            StartsOutside p self.old.limits dice outside.old → (typed : List ℕ) →
-            HasShown (game p dice) typed self.old.limits outcome None (K.view sink.old) (K.view sink.new)) }
-        ensures err { OnErr result ((p : CoreProgram) → (dice : List ℕ) → Codes p self.old.code → IsOf p self.old.tables →
-            StartsOutside p self.old.limits dice outside.old → (typed : List ℕ) →
-            HasLostOutput (game p dice) typed self.old.limits (K.view sink.old) (K.view sink.new)) }
-        ensures read { IsErrOf result Fault.Read → ⊥ }
-        ensures source { S.view source.new ≡ S.view source.old }
+            StartsOutside p self.old.limits dice outside.old → ForTyped (S.view source.old).left (λ typed. HasShown (game p dice) typed
+            self.old.limits outcome (left_told (S.view source.old) (S.view source.new)) (K.view sink.old) (K.view sink.new))) }
+        ensures input { IsErrOf result Fault.Read → (p : CoreProgram) → (dice : List ℕ) → Codes p self.old.code → IsOf p self.old.tables →
+            StartsOutside p self.old.limits dice outside.old → ForTyped (S.view source.old).left (λ typed. HasLostInput (game p dice) typed
+            self.old.limits (S.view source.new).left (K.view sink.old) (K.view sink.new)) }
+        ensures output { IsErrOf result Fault.Write → (p : CoreProgram) → (dice : List ℕ) → Codes p self.old.code → IsOf p self.old.tables →
+            StartsOutside p self.old.limits dice outside.old → ForTyped (S.view source.old).left (λ typed. HasLostOutput (game p dice) typed
+            self.old.limits (K.view sink.old) (K.view sink.new)) }
+        ensures read { IsErrOf result Fault.Read → Rose (S.view source.old).faults (S.view source.new).faults }
+        ensures later { (S.view source.old).faults ≤ (S.view source.new).faults }
         ensures code { self.new.code ≡ self.old.code }
         ensures tables { self.new.tables ≡ self.old.tables }
         ensures limits { self.new.limits ≡ self.old.limits }
@@ -101,10 +105,15 @@ impl Machine {
             outside,
             start,
             steps,
+            source,
             &mut spacer,
             sink,
         ) {
-            Err(_) => Err(Fault::Write),
+            Err(Fault::Write) => Err(Fault::Write),
+            Err(Fault::Read) => match spacer.close(sink, b"[Input fault]\n") {
+                Err(_) => Err(Fault::Write),
+                Ok(()) => Err(Fault::Read),
+            },
             Ok((ending, left)) => match spacer.close(sink, line(ending)) {
                 Err(_) => Err(Fault::Write),
                 Ok(()) => Ok(Outcome {

@@ -1,5 +1,5 @@
 // One step after another.
-ghost use Rattle.std.specs.Prelude.{◌≡◌, ◌∷◌, IfOk, OnErr, true, false};
+ghost use Rattle.std.specs.Prelude.{◌≡◌, ◌∷◌, IfErr, IfOk, OnErr, true, false};
 ghost use Rattle.dg_meaning.specs.World.{GapOf};
 ghost use Rattle.dg_spacing.specs.Gaps.{print_of};
 ghost use Rattle.dg_mid.specs.declared.code.Code.{Code as TheCode};
@@ -16,14 +16,16 @@ ghost use Rattle.dg_outside.specs.declared.outside.Outside.{Outside as TheOutsid
 ghost use Rattle.dg_outside.specs.Outside.{MayPick, picks_in};
 ghost use Rattle.dg_machine.specs.Layout.{HasRoom, Holds, Roomy};
 ghost use Rattle.dg_machine.specs.Standing.{DoesOp, DoesMark, HasStatus, PicksOnce};
-ghost use Rattle.dg_machine.specs.Running.{rests, DoesMarks, DoesGoal, LosesGoal, IsSomewhereWith, Settles, Takes, Loses, Finishes, LosesRun};
+ghost use Rattle.dg_machine.specs.Reading.{IsEnd};
+ghost use Rattle.dg_machine.specs.Running.{rests, DoesMarks, DoesGoal, LosesGoal, ReadsGoal, BreaksGoal, Settles, Takes, BreaksTurn, Finishes, BreaksRun};
+ghost use Rattle.dg_machine.specs.Running.{IsSomewhereWith, IsSomewhereAt, IsSomewhereStill};
 
 use crate::doing::code_at;
 use crate::memory::Memory;
 use crate::now::Now;
 use crate::selecting::select;
 use crate::tables::Tables;
-use dg_base::{Ending, GapKind, Sink, Term, WriteFault};
+use dg_base::{Ending, Fault, GapKind, Sink, Source, Term, WriteFault};
 use dg_mid::{Action, Code, Op};
 use dg_outside::Outside;
 use dg_spacing::{Event, Spacer};
@@ -343,6 +345,36 @@ fn goal_step<'p, K: Sink>(
     }
 }
 
+/// Does the instruction at hand, which takes a goal, with the line that it reads.
+fn next_goal<'p, S: Source, K: Sink>(
+    memory: &mut Memory,
+    code: &'p Code,
+    tables: &Tables,
+    outside: &mut Outside<'_>,
+    ops: &'p [Op],
+    source: &mut S,
+    spacer: &mut Spacer,
+    sink: &mut K,
+) -> Result<Now<'p>, Fault>
+    requires room { HasRoom memory.old }
+    requires some { (l : Limits) × (m : Mid) × Holds code.now l memory.old m }
+    requires built { IsBuilt code.now }
+    requires ops_built { OpsBuilt ops.now }
+    requires goal { at_goal ops.now ≡ true }
+    requires may { MayPick 1 (picks_in outside.old) }
+    ensures ok { IfOk result (λ now. ReadsGoal tables.now code.now memory.old outside.old ops.now memory.new outside.new now spacer.old spacer.new
+        (K.view sink.old) (K.view sink.new) (S.view source.old) (S.view source.new)) }
+    ensures err { IfErr result (λ fault. BreaksGoal fault tables.now code.now memory.old ops.now spacer.old spacer.new
+        (K.view sink.old) (K.view sink.new) (S.view source.old) (S.view source.new)) }
+    ensures roomy { OnErr result ((l : Limits) → (m : Mid) → Holds code.now l memory.old m → Roomy l memory.new) }
+    ensures once { PicksOnce outside.old outside.new }
+{
+    match goal_step(memory, code, tables, outside, ops, spacer, sink) {
+        Ok(now) => Ok(now),
+        Err(_) => Err(Fault::Write),
+    }
+}
+
 /// Does steps up to the next goal, or the end.
 fn settle<'p>(
     memory: &mut Memory,
@@ -357,6 +389,7 @@ fn settle<'p>(
     ensures comes { Settles tables.now code.now memory.old outside.old now.entry memory.new outside.new result }
     ensures sites { outside.new.sites ≡ outside.old.sites }
     ensures rests { rests result ≡ true }
+    ensures stays { IsEnd now.entry → IsEnd result }
 {
     let mut now = now;
     'marks: while !rests(now) {
@@ -366,59 +399,63 @@ fn settle<'p>(
 }
 
 /// Does the instruction at hand, which takes a goal, and steps up to the next goal, or the end.
-fn turn<'p, K: Sink>(
+fn turn<'p, S: Source, K: Sink>(
     memory: &mut Memory,
     code: &'p Code,
     tables: &Tables,
     outside: &mut Outside<'_>,
     ops: &'p [Op],
+    source: &mut S,
     spacer: &mut Spacer,
     sink: &mut K,
-) -> Result<Now<'p>, WriteFault>
+) -> Result<Now<'p>, Fault>
     requires built { IsBuilt code.now }
     requires tidy { Tidy code.now }
     requires goal { at_goal ops.now ≡ true }
     requires may { MayPick 1 (picks_in outside.old) }
-    requires some { IsSomewhereWith tables.now code.now memory.old outside.old (Runs ops) }
-    ensures ok { IfOk result (λ now. Takes tables.now code.now 1 memory.old outside.old (Runs ops.entry) spacer.old (K.view sink.old) memory.new outside.new
-        now spacer.new (K.view sink.new)) }
-    ensures err { OnErr result (Loses tables.now code.now memory.old outside.old (Runs ops.entry) spacer.old (K.view sink.old) (K.view sink.new)) }
+    requires some { IsSomewhereAt tables.now code.now memory.old outside.old (Runs ops) (S.view source.old) }
+    ensures ok { IfOk result (λ now. Takes tables.now code.now 1 memory.old outside.old (Runs ops.entry) spacer.old (K.view sink.old) (S.view source.old)
+        memory.new outside.new now spacer.new (K.view sink.new) (S.view source.new)) }
+    ensures err { IfErr result (λ fault. BreaksTurn fault tables.now code.now memory.old outside.old (Runs ops.entry)
+        spacer.old (K.view sink.old) (S.view source.old) spacer.new (K.view sink.new) (S.view source.new)) }
     ensures roomy { OnErr result ((l : Limits) → (m : Mid) → Holds code.now l memory.old m → Roomy l memory.new) }
     ensures once { PicksOnce outside.old outside.new }
-    ensures some { IfOk result (λ now. IsSomewhereWith tables.now code.now memory.new outside.new now) }
+    ensures some { IfOk result (λ now. IsSomewhereStill tables.now code.now memory.new outside.new now (S.view source.new)) }
     ensures rests { IfOk result (λ now. rests now ≡ true) }
 {
-    match goal_step(memory, code, tables, outside, ops, spacer, sink) {
+    match next_goal(memory, code, tables, outside, ops, source, spacer, sink) {
         Err(fault) => Err(fault),
         Ok(now) => Ok(settle(memory, code, tables, outside, now)),
     }
 }
 
 /// Does so many goals at most, from where a run of code is.
-pub fn go<'p, K: Sink>(
+pub fn go<'p, S: Source, K: Sink>(
     memory: &mut Memory,
     code: &'p Code,
     tables: &Tables,
     outside: &mut Outside<'_>,
     start: Now<'p>,
     steps: u64,
+    source: &mut S,
     spacer: &mut Spacer,
     sink: &mut K,
-) -> Result<(Ending, u64), WriteFault>
+) -> Result<(Ending, u64), Fault>
     requires built { IsBuilt code.now }
     requires tidy { Tidy code.now }
-    requires some { IsSomewhereWith tables.now code.now memory.old outside.old start }
+    requires some { IsSomewhereAt tables.now code.now memory.old outside.old start (S.view source.old) }
     requires may { MayPick steps (picks_in outside.old) }
-    ensures ok { IfOk result (λ end. Finishes tables.now code.now memory.old outside.old start.entry steps spacer.old (K.view sink.old) end.0 end.1
-        memory.new spacer.new (K.view sink.new)) }
-    ensures err { OnErr result (LosesRun tables.now code.now memory.old outside.old start.entry steps spacer.old (K.view sink.old) memory.new (K.view sink.new)) }
+    ensures ok { IfOk result (λ end. Finishes tables.now code.now memory.old outside.old start.entry steps spacer.old (K.view sink.old) (S.view source.old)
+        end.0 end.1 memory.new spacer.new (K.view sink.new) (S.view source.new)) }
+    ensures err { IfErr result (λ fault. BreaksRun fault tables.now code.now memory.old outside.old start.entry steps spacer.old (K.view sink.old)
+        (S.view source.old) memory.new spacer.new (K.view sink.new) (S.view source.new)) }
 {
     let mut now = settle(memory, code, tables, outside, start);
     let mut left = steps;
     'goals: while left > 0 {
         match now {
             Now::Ended(ending) => return Ok((ending, left)),
-            Now::Runs(ops) => match turn(memory, code, tables, outside, ops, spacer, sink) {
+            Now::Runs(ops) => match turn(memory, code, tables, outside, ops, source, spacer, sink) {
                 Err(fault) => return Err(fault),
                 Ok(next) => {
                     now = next;

@@ -1,7 +1,7 @@
 use Rattle.std.proofs.Common.{rules, ◌≡◌, ◌∙◌, false}
 use Rattle.dg_machine.specs.Running.{rests}
 use Rattle.dg_machine.proofs.Runs.{settled_on, mark_falls}
-use Rattle.dg_machine.proofs.Turns.{somewhere_marked}
+use Rattle.dg_machine.proofs.Turns.{somewhere_marked, end_rests}
 use Rattle.dg_machine.proofs.steps.settle.Goals as goal
 
 pub marks-preserved : goal.marks-preserved
@@ -11,6 +11,7 @@ marks-preserved c =
       settles = λ g is_of l typed steps h w. settled_on c.args.code.now g l typed c.args.tables.now is_of c.marks.memory c.mark_step-now.new.memory c.marks.outside c.mark_step-now.new.outside c.marks.now c.mark_step-now.result steps e c.mark_step-now.ensures.done (c.marks.invariant.settles g is_of l typed steps h w);
       somewhere = somewhere_marked c.args.tables.now c.args.code.now c.marks.memory c.mark_step-now.new.memory c.marks.outside c.mark_step-now.new.outside c.marks.now c.mark_step-now.result e c.mark_step-now.ensures.done c.marks.invariant.somewhere;
       sites = c.mark_step-now.ensures.sites ∙ c.marks.invariant.sites;
+      stays = λ end. absurd (let x = end_rests c.marks.now (c.marks.invariant.stays end) in cc (e, x));
     }
 
 pub marks-smaller : goal.marks-smaller

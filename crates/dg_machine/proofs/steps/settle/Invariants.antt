@@ -1,5 +1,6 @@
 use Rattle.std.proofs.Common.{◌≡◌}
 use Rattle.dg_machine.specs.Running.{Settles, IsSomewhereWith}
+use Rattle.dg_machine.specs.Reading.{IsEnd}
 use Rattle.dg_machine.specs.Measure.{left_of}
 use Rattle.dg_machine.proofs.steps.settle.Given as goal
 
@@ -8,6 +9,7 @@ invariant-marks l = record {
   settles : Settles l.tables l.code l.fn.memory l.fn.outside l.initial.now l.memory l.outside l.now;
   somewhere : IsSomewhereWith l.tables l.code l.memory l.outside l.now;
   sites : l.outside.sites ≡ l.fn.outside.sites;
+  stays : IsEnd l.initial.now → IsEnd l.now;
 }
 
 abbrev pub decreases-marks : goal.decreases-marks

@@ -1,27 +1,34 @@
-use Rattle.dg_machine.proofs.Runs.{took_goal, lost_goal}
-use Rattle.dg_machine.proofs.Turns.{room_at, somewhere_behind, somewhere_settled}
+use Rattle.dg_machine.proofs.Readings.{some_behind}
+use Rattle.dg_machine.proofs.Turns.{room_at, built_at, held_at, somewhere_first, somewhere_behind, turn_takes, turn_breaks, turn_still}
 use Rattle.dg_machine.proofs.Selects.{may_on}
 use Rattle.dg_machine.proofs.steps.turn.Goals as goal
 
-pub goal_step-requires-clause-room : goal.goal_step-requires-clause-room
-goal_step-requires-clause-room g c = room_at c.args.tables.now c.args.code.now c.args.memory.now c.args.ops c.requires.some.somewhere
+pub next_goal-requires-clause-room : goal.next_goal-requires-clause-room
+next_goal-requires-clause-room g c = room_at c.args.tables.now c.args.code.now c.args.memory.now c.args.ops (somewhere_first c.args.tables.now c.args.code.now c.args.memory.now c.args.outside.now _ (g.S.Source.view c.args.source.now) c.requires.some).somewhere
+
+pub next_goal-requires-clause-some : goal.next_goal-requires-clause-some
+next_goal-requires-clause-some g c = held_at c.args.tables.now c.args.code.now c.args.memory.now c.args.ops (somewhere_first c.args.tables.now c.args.code.now c.args.memory.now c.args.outside.now _ (g.S.Source.view c.args.source.now) c.requires.some).somewhere
+
+pub next_goal-requires-clause-ops_built : goal.next_goal-requires-clause-ops_built
+next_goal-requires-clause-ops_built g c = built_at c.args.tables.now c.args.code.now c.args.memory.now c.args.ops (somewhere_first c.args.tables.now c.args.code.now c.args.memory.now c.args.outside.now _ (g.S.Source.view c.args.source.now) c.requires.some).somewhere
 
 pub settle-requires-clause-some : goal.settle-requires-clause-some
 settle-requires-clause-some g c =
-    (somewhere_behind c.args.tables.now c.args.code.now c.args.memory.now c.goal_step.new.memory c.args.outside.now c.goal_step.new.outside c.args.ops c.in-Ok.now c.args.spacer.now c.goal_step.new.spacer (g.K.Sink.view c.args.sink.now) (g.K.Sink.view c.goal_step.new.sink) c.requires.goal c.in-Ok.ensures.ok c.requires.some)
+    let does = c.in-Ok.ensures.ok in
+    let rest = some_behind does.gave.ended (g.S.Source.view c.next_goal.new.source) in
+    (somewhere_behind c.args.tables.now c.args.code.now c.args.memory.now c.next_goal.new.memory c.args.outside.now c.next_goal.new.outside c.args.ops c.in-Ok.now c.args.spacer.now c.next_goal.new.spacer (g.K.Sink.view c.args.sink.now) (g.K.Sink.view c.next_goal.new.sink) (g.S.Source.view c.args.source.now) (g.S.Source.view c.next_goal.new.source) rest.0 c.requires.goal does rest.1 c.requires.some).found
 
 pub returns-in-Err-clause-err : goal.returns-in-Err-clause-err
-returns-in-Err-clause-err g c game is_of l typed goals start at =
-    lost_goal c.args.code.now game l typed c.args.tables.now is_of c.args.memory.now c.args.outside.now c.args.ops c.args.spacer.now (g.K.Sink.view c.args.sink.now) (g.K.Sink.view c.goal_step.new.sink) goals start c.requires.goal c.in-Err.ensures.err at
+returns-in-Err-clause-err g c =
+    turn_breaks c.in-Err.fault c.args.tables.now c.args.code.now c.args.memory.now c.args.outside.now c.args.ops c.args.spacer.now c.next_goal.new.spacer (g.K.Sink.view c.args.sink.now) (g.K.Sink.view c.next_goal.new.sink) (g.S.Source.view c.args.source.now) (g.S.Source.view c.next_goal.new.source) c.requires.goal c.in-Err.ensures.err
 
 pub returns-in-Ok-clause-ok : goal.returns-in-Ok-clause-ok
-returns-in-Ok-clause-ok g c game is_of l typed goals start at =
-    took_goal c.args.code.now game l typed c.args.tables.now is_of c.args.memory.now c.goal_step.new.memory c.settle.new.memory c.args.outside.now c.goal_step.new.outside c.settle.new.outside c.args.ops c.in-Ok.now c.settle.result c.args.spacer.now c.goal_step.new.spacer (g.K.Sink.view c.args.sink.now) (g.K.Sink.view c.goal_step.new.sink) goals start c.requires.goal c.in-Ok.ensures.ok c.settle.ensures.comes at
+returns-in-Ok-clause-ok g c =
+    turn_takes c.args.tables.now c.args.code.now c.args.memory.now c.next_goal.new.memory c.settle.new.memory c.args.outside.now c.next_goal.new.outside c.settle.new.outside c.args.ops c.in-Ok.now c.settle.result c.args.spacer.now c.next_goal.new.spacer (g.K.Sink.view c.args.sink.now) (g.K.Sink.view c.next_goal.new.sink) (g.S.Source.view c.args.source.now) (g.S.Source.view c.next_goal.new.source) c.requires.goal c.in-Ok.ensures.ok c.settle.ensures.comes c.settle.ensures.stays
 
 pub returns-in-Ok-clause-some : goal.returns-in-Ok-clause-some
 returns-in-Ok-clause-some g c =
-    somewhere_settled c.args.tables.now c.args.code.now c.goal_step.new.memory c.settle.new.memory c.goal_step.new.outside c.settle.new.outside c.in-Ok.now c.settle.result c.settle.ensures.comes
-    (somewhere_behind c.args.tables.now c.args.code.now c.args.memory.now c.goal_step.new.memory c.args.outside.now c.goal_step.new.outside c.args.ops c.in-Ok.now c.args.spacer.now c.goal_step.new.spacer (g.K.Sink.view c.args.sink.now) (g.K.Sink.view c.goal_step.new.sink) c.requires.goal c.in-Ok.ensures.ok c.requires.some)
+    turn_still c.args.tables.now c.args.code.now c.args.memory.now c.next_goal.new.memory c.settle.new.memory c.args.outside.now c.next_goal.new.outside c.settle.new.outside c.args.ops c.in-Ok.now c.settle.result c.args.spacer.now c.next_goal.new.spacer (g.K.Sink.view c.args.sink.now) (g.K.Sink.view c.next_goal.new.sink) (g.S.Source.view c.args.source.now) (g.S.Source.view c.next_goal.new.source) c.requires.goal c.in-Ok.ensures.ok c.settle.ensures.comes c.settle.ensures.stays c.requires.some
 
 pub returns-in-Ok-clause-once : goal.returns-in-Ok-clause-once
-returns-in-Ok-clause-once g c times may = may_on times c.goal_step.new.outside c.settle.new.outside c.settle.ensures.sites (c.goal_step.ensures.once times may)
+returns-in-Ok-clause-once g c times may = may_on times c.next_goal.new.outside c.settle.new.outside c.settle.ensures.sites (c.next_goal.ensures.once times may)

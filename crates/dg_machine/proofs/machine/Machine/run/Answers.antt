@@ -1,7 +1,8 @@
-use Rattle.std.proofs.Common.{[], arith}
+use Rattle.std.proofs.Common.{◌-◌, arith}
+use Rattle.dg_meaning.specs.Engines.{game, left_told, HasShown, HasLostInput, HasLostOutput}
+use Rattle.dg_meaning.proofs.Engines.{for_given}
 use Rattle.dg_machine.specs.declared.now.Now.TheVariants.{Runs}
-use Rattle.dg_meaning.specs.Engines.{game}
-use Rattle.dg_machine.proofs.Runs.{shown, closing_lost, text_lost}
+use Rattle.dg_machine.proofs.Runs.{shown, closing_lost, text_lost, input_lost, fault_lost}
 use Rattle.dg_machine.proofs.Starts.{at_start, somewhere_first, roomy_after}
 use Rattle.dg_machine.proofs.machine.Machine.run.Goals as goal
 
@@ -9,7 +10,7 @@ pub go-requires-clause-some : goal.go-requires-clause-some
 go-requires-clause-some g c =
     let m = c.args.self.now in
     let some = c.requires.outside in
-    somewhere_first m.tables m.code some.0 some.1 m.limits c.clear.new.self c.args.outside.now c.code_at.result some.2 c.requires.built c.code_at.ensures (c.clear.ensures.held m.code m.limits m.roomy) c.clear.ensures.none some.3
+    somewhere_first m.tables m.code some.0 some.1 m.limits c.clear.new.self c.args.outside.now c.code_at.result (g.S.Source.view c.args.source.now) some.2 c.requires.built c.code_at.ensures (c.clear.ensures.held m.code m.limits m.roomy) c.clear.ensures.none some.3
 
 pub go-requires-clause-may : goal.go-requires-clause-may
 go-requires-clause-may g c = c.requires.outside.3.may c.args.self.now.limits.steps (omega arith)
@@ -19,39 +20,71 @@ invariant_of-self g c =
     let m = c.args.self.now in
     let k = g.K.Sink.view c.args.sink.now in
     let some = c.requires.outside in
-    let at = at_start m.code some.0 some.1 m.limits [] c.clear.new.self c.args.outside.now c.code_at.result c.new-spacer.result k c.requires.built c.code_at.ensures (c.clear.ensures.held m.code m.limits m.roomy) c.clear.ensures.none c.new-spacer.ensures some.3 in
-    record { roomy = roomy_after m.tables m.code (game some.0 some.1) m.limits c.clear.new.self c.go.new.memory c.args.outside.now (Runs c.code_at.result) m.limits.steps c.new-spacer.result c.go.new.spacer k (g.K.Sink.view c.go.new.sink) c.go.result some.2 c.go.ensures.ok c.go.ensures.err at }
+    record {
+      roomy = roomy_after m.tables m.code (game some.0 some.1) m.limits c.clear.new.self c.go.new.memory c.args.outside.now (Runs c.code_at.result) m.limits.steps c.new-spacer.result c.go.new.spacer k (g.K.Sink.view c.go.new.sink) (g.S.Source.view c.args.source.now) (g.S.Source.view c.go.new.source) c.go.result some.2 c.go.ensures.ok c.go.ensures.err
+          (λ typed. at_start m.code some.0 some.1 m.limits typed c.clear.new.self c.args.outside.now c.code_at.result c.new-spacer.result k c.requires.built c.code_at.ensures (c.clear.ensures.held m.code m.limits m.roomy) c.clear.ensures.none c.new-spacer.ensures some.3);
+    }
 
 pub overflow_sub-result : goal.overflow_sub-result
-overflow_sub-result g c =
-    let m = c.args.self.now in
-    let k = g.K.Sink.view c.args.sink.now in
-    let some = c.requires.outside in
-    let at = at_start m.code some.0 some.1 m.limits [] c.clear.new.self c.args.outside.now c.code_at.result c.new-spacer.result k c.requires.built c.code_at.ensures (c.clear.ensures.held m.code m.limits m.roomy) c.clear.ensures.none c.new-spacer.ensures some.3 in
-    (c.in-Ok.ensures.ok (game some.0 some.1) some.2 m.limits [] k at).1
+overflow_sub-result g c = let h = c.in-Ok.ensures.ok.within in omega (arith, h)
 
-pub returns-in-Err-clause-err : goal.returns-in-Err-clause-err
-returns-in-Err-clause-err g c p dice codes is_of starts typed =
+pub returns-in-Ok-close-2-clause-shows : goal.returns-in-Ok-close-2-clause-shows
+returns-in-Ok-close-2-clause-shows g c p dice codes is_of starts =
     let m = c.args.self.now in
     let k = g.K.Sink.view c.args.sink.now in
+    let i = g.S.Source.view c.args.source.now in
     let x = game p dice in
-    let at = at_start m.code p dice m.limits typed c.clear.new.self c.args.outside.now c.code_at.result c.new-spacer.result k c.requires.built c.code_at.ensures (c.clear.ensures.held m.code m.limits m.roomy) c.clear.ensures.none c.new-spacer.ensures starts in
-    text_lost m.code x m.limits codes typed c.go.new.memory k (g.K.Sink.view c.go.new.sink) (c.in-Err.ensures.err x is_of m.limits typed k at)
+    let h = c.in-Ok.ensures.ok in
+    let at = at_start m.code p dice m.limits h.typed c.clear.new.self c.args.outside.now c.code_at.result c.new-spacer.result k c.requires.built c.code_at.ensures (c.clear.ensures.held m.code m.limits m.roomy) c.clear.ensures.none c.new-spacer.ensures starts in
+    let told = left_told i (g.S.Source.view c.go.new.source) in
+    let k' = g.K.Sink.view c.close-in-Ok.new.sink in
+    for_given i.left h.typed (λ typed. HasShown x typed m.limits (record { ending = c.in-Ok.ending; goals = m.limits.steps - c.in-Ok.left }) told k k') h.is_typed
+    (shown m.code x m.limits codes h.typed c.in-Ok.ending c.in-Ok.left c.go.new.memory c.go.new.spacer k (g.K.Sink.view c.go.new.sink) k' h.rest told h.is_rest (h.ends x is_of m.limits h.typed k at) h.within (rw c.line.ensures at c.in-Ok-close-2.ensures.ok))
 
-pub returns-in-Err-close-clause-err : goal.returns-in-Err-close-clause-err
-returns-in-Err-close-clause-err g c p dice codes is_of starts typed =
+pub returns-in-Err-close-clause-output : goal.returns-in-Err-close-clause-output
+returns-in-Err-close-clause-output g c e p dice codes is_of starts =
     let m = c.args.self.now in
     let k = g.K.Sink.view c.args.sink.now in
+    let i = g.S.Source.view c.args.source.now in
     let x = game p dice in
-    let at = at_start m.code p dice m.limits typed c.clear.new.self c.args.outside.now c.code_at.result c.new-spacer.result k c.requires.built c.code_at.ensures (c.clear.ensures.held m.code m.limits m.roomy) c.clear.ensures.none c.new-spacer.ensures starts in
-    let end = c.in-Ok.ensures.ok x is_of m.limits typed k at in
-    closing_lost m.code x m.limits codes typed c.in-Ok.ending c.in-Ok.left c.go.new.memory c.go.new.spacer k (g.K.Sink.view c.go.new.sink) (g.K.Sink.view c.close.new.sink) end.0 end.1 (rw c.line.ensures at c.in-Err-close.ensures.err)
+    let h = c.in-Ok.ensures.ok in
+    let at = at_start m.code p dice m.limits h.typed c.clear.new.self c.args.outside.now c.code_at.result c.new-spacer.result k c.requires.built c.code_at.ensures (c.clear.ensures.held m.code m.limits m.roomy) c.clear.ensures.none c.new-spacer.ensures starts in
+    let k' = g.K.Sink.view c.close-in-Ok.new.sink in
+    for_given i.left h.typed (λ typed. HasLostOutput x typed m.limits k k') h.is_typed
+    (closing_lost m.code x m.limits codes h.typed c.in-Ok.ending c.in-Ok.left c.go.new.memory c.go.new.spacer k (g.K.Sink.view c.go.new.sink) k' h.rest (h.ends x is_of m.limits h.typed k at) h.within (rw c.line.ensures at c.in-Err-close.ensures.err))
 
-pub returns-in-Ok-close-clause-shows : goal.returns-in-Ok-close-clause-shows
-returns-in-Ok-close-clause-shows g c p dice codes is_of starts typed =
+pub returns-in-Err-Write-clause-output : goal.returns-in-Err-Write-clause-output
+returns-in-Err-Write-clause-output g c e p dice codes is_of starts =
     let m = c.args.self.now in
     let k = g.K.Sink.view c.args.sink.now in
+    let i = g.S.Source.view c.args.source.now in
     let x = game p dice in
-    let at = at_start m.code p dice m.limits typed c.clear.new.self c.args.outside.now c.code_at.result c.new-spacer.result k c.requires.built c.code_at.ensures (c.clear.ensures.held m.code m.limits m.roomy) c.clear.ensures.none c.new-spacer.ensures starts in
-    let end = c.in-Ok.ensures.ok x is_of m.limits typed k at in
-    shown m.code x m.limits codes typed c.in-Ok.ending c.in-Ok.left c.go.new.memory c.go.new.spacer k (g.K.Sink.view c.go.new.sink) (g.K.Sink.view c.close.new.sink) end.0 end.1 (rw c.line.ensures at c.in-Ok-close.ensures.ok)
+    let h = rw c.in-Err-Write.field-0-is at c.in-Err-Write.ensures.err in
+    let at = at_start m.code p dice m.limits h.typed c.clear.new.self c.args.outside.now c.code_at.result c.new-spacer.result k c.requires.built c.code_at.ensures (c.clear.ensures.held m.code m.limits m.roomy) c.clear.ensures.none c.new-spacer.ensures starts in
+    let k' = g.K.Sink.view c.go.new.sink in
+    for_given i.left h.typed (λ typed. HasLostOutput x typed m.limits k k') h.is_typed (text_lost m.code x m.limits codes h.typed c.go.new.memory k k' (h.loses x is_of m.limits h.typed k at))
+
+pub returns-in-Err-clause-output : goal.returns-in-Err-clause-output
+returns-in-Err-clause-output g c e p dice codes is_of starts =
+    let m = c.args.self.now in
+    let k = g.K.Sink.view c.args.sink.now in
+    let i = g.S.Source.view c.args.source.now in
+    let x = game p dice in
+    let h = rw c.in-Err-Read.field-0-is at c.in-Err-Read.ensures.err in
+    let at = at_start m.code p dice m.limits h.typed c.clear.new.self c.args.outside.now c.code_at.result c.new-spacer.result k c.requires.built c.code_at.ensures (c.clear.ensures.held m.code m.limits m.roomy) c.clear.ensures.none c.new-spacer.ensures starts in
+    let k' = g.K.Sink.view c.close.new.sink in
+    for_given i.left h.typed (λ typed. HasLostOutput x typed m.limits k k') h.is_typed
+    (fault_lost m.code x m.limits codes h.typed c.go.new.memory c.go.new.spacer k (g.K.Sink.view c.go.new.sink) k' h.taken h.rest (h.fails x is_of m.limits h.typed k at) h.short c.in-Err.ensures.err)
+
+pub returns-in-Ok-close-clause-input : goal.returns-in-Ok-close-clause-input
+returns-in-Ok-close-clause-input g c e p dice codes is_of starts =
+    let m = c.args.self.now in
+    let k = g.K.Sink.view c.args.sink.now in
+    let i = g.S.Source.view c.args.source.now in
+    let x = game p dice in
+    let h = rw c.in-Err-Read.field-0-is at c.in-Err-Read.ensures.err in
+    let at = at_start m.code p dice m.limits h.typed c.clear.new.self c.args.outside.now c.code_at.result c.new-spacer.result k c.requires.built c.code_at.ensures (c.clear.ensures.held m.code m.limits m.roomy) c.clear.ensures.none c.new-spacer.ensures starts in
+    let told = (g.S.Source.view c.go.new.source).left in
+    let k' = g.K.Sink.view c.close.new.sink in
+    for_given i.left h.typed (λ typed. HasLostInput x typed m.limits told k k') h.is_typed
+    (input_lost m.code x m.limits codes h.typed c.go.new.memory c.go.new.spacer k (g.K.Sink.view c.go.new.sink) k' h.taken h.rest told h.is_rest (h.fails x is_of m.limits h.typed k at) h.short c.in-Ok-close.ensures.ok)
