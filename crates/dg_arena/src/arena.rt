@@ -173,7 +173,23 @@ impl Arena {
         }
     }
 
+    // The same; a value without parts and one before the fence are looked at here.
+    #[inline(always)]
+    fn top_for(&self, at: Ref) -> usize
+        requires { TellsOf (fields_of self.now) at }
+        ensures { top (told_in (fields_of self.now) at) ≤ result }
+    {
+        if at.0 < FIRST_SIMPLE && (at.0 as usize) < self.fence.slots {
+            return self.fence.vars;
+        }
+        if at.0 >= FIRST_SIMPLE {
+            return 0;
+        }
+        self.top_of(at, 3)
+    }
+
     // Whether a value has no parts, or is marked as one without variables.
+    #[inline(always)]
     fn is_constant(&self, at: Ref) -> bool
         requires { TellsOf (fields_of self.now) at }
         ensures { result ≡ is_constant self.now.cells.items at }
@@ -197,6 +213,7 @@ impl Arena {
     }
 
     // Where a value leads, if it is a bound variable.
+    #[inline(always)]
     fn link_of(&self, at: Ref) -> Option<Ref>
         requires { TellsOf (fields_of self.now) at }
         ensures { Leads (fields_of self.now) at result }
@@ -211,6 +228,7 @@ impl Arena {
     }
 
     // The end to which a value leads.
+    #[inline(always)]
     fn end_of(&self, at: Ref) -> Ref
         requires { TellsOf (fields_of self.now) at }
         ensures { EndsAt (fields_of self.now) at result }
@@ -223,6 +241,7 @@ impl Arena {
     }
 
     // What a value is that is no bound variable.
+    #[inline(always)]
     fn view_of(&self, at: Ref) -> View
         requires told { TellsOf (fields_of self.now) at }
         requires end { IsEnd (fields_of self.now) at }
@@ -242,6 +261,7 @@ impl Arena {
     }
 
     // Binds a variable to an end.
+    #[inline(always)]
     fn link(&mut self, var: u32, to: Ref) -> Result<(), Full>
         requires { MayLink (fields_of self.old) var to }
         ensures kept { Kept (meaning_of self.old) (meaning_of self.new) }
@@ -254,9 +274,7 @@ impl Arena {
         if self.trail_limit - self.trail < more {
             return Err(Full::Trail);
         }
-        let fence = self
-            .fence
-            .for_link(var, self.top_of(to, 3), self.fence_now());
+        let fence = self.fence.for_link(var, self.top_for(to), self.fence_now());
         self.links.bind_reserved(var, to);
         self.trail += more;
         self.fence = fence;
@@ -286,6 +304,7 @@ impl Bindings for Arena {
 
     ghost drops = { λ s m ms h. (saves_drops false (fields_of s) m ms h.0, h.1.1) };
 
+    #[inline(always)]
     fn fresh(&mut self) -> Result<Ref, Full> {
         if self.heap == self.heap_limit {
             return Err(Full::Heap);
@@ -347,11 +366,13 @@ impl Bindings for Arena {
         Ok(())
     }
 
+    #[inline(always)]
     fn walk(&self, at: Ref) -> View {
         let end = self.end_of(at);
         self.view_of(end)
     }
 
+    #[inline(always)]
     fn is_clear(&self, x: Ref, at: Ref) -> bool {
         match self.cells[x.0 as usize] {
             Slot::Var(number) => self.fence.stands_between(at, number) || self.is_constant(at),

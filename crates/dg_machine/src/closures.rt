@@ -97,6 +97,7 @@ fn closure_value(
 }
 
 /// The value of a term that is no pair, among variables in a row.
+#[inline(always)]
 pub fn leaf_value(
     arena: &mut Arena,
     tables: &Tables,

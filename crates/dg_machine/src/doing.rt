@@ -340,6 +340,7 @@ impl Memory {
     }
 
     /// A call enters the rule of a block, with the last so many rules of its predicate left.
+    #[inline(always)]
     fn enter_with<'p>(
         &mut self,
         code: &'p Code,
@@ -384,6 +385,7 @@ impl Memory {
     }
 
     /// A predicate is asked with the arguments at hand.
+    #[inline(always)]
     fn ask_rules<'p>(&mut self, code: &'p Code, pred: u16, many: bool, next: u32) -> Now<'p>
         requires room { HasRoom self.old }
         requires built { IsBuilt code.now }
@@ -459,6 +461,7 @@ impl Memory {
     }
 
     /// A rule of so many variables and this head is entered.
+    #[inline(always)]
     fn enter<'p>(
         &mut self,
         tables: &Tables,

@@ -255,6 +255,7 @@ impl Memory {
     }
 
     /// The variables at hand.
+    #[inline(always)]
     fn row_at_hand(&self) -> Row
         ensures { (code : Code) → (l : Limits) → (m : Mid) → Holds code l self.now m → RowAt (meaning_of self.now.arena) result (vars_of m.frames) }
     {
@@ -535,6 +536,7 @@ impl Memory {
     }
 
     /// Takes a rule's six cells, and makes its variables in a row.
+    #[inline(always)]
     pub fn make_rule(&mut self, vars: u16) -> Result<Row, Full>
         requires room { HasRoom self.old }
         ensures held { (code : Code) → (l : Limits) → (m : Mid) → Holds code l self.old m →

@@ -16,6 +16,7 @@ use dg_base::Term;
 use dg_unify::{Full, Ref};
 
 /// Puts the value of a term, among variables in a row, behind others.
+#[inline(always)]
 fn write_next(
     arena: &mut Arena,
     tables: &Tables,

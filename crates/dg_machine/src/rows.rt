@@ -10,6 +10,7 @@ use dg_unify::{Bindings, Full, Ref};
 
 impl Row {
     /// The variable of that number, if there is one.
+    #[inline(always)]
     pub fn at(&self, arena: &Arena, number: u16) -> Option<Ref>
         requires { (vs : List Value) × RowAt (meaning_of arena.now) self.now vs }
         ensures { (vs : List Value) → RowAt (meaning_of arena.now) self.now vs → IsVarAt (meaning_of arena.now) vs number result }
@@ -30,6 +31,7 @@ impl Row {
 }
 
 /// Makes so many new variables in a row.
+#[inline(always)]
 pub fn make_row(arena: &mut Arena, count: u16) -> Result<Row, Full>
     ensures keeps { Keeps arena.old arena.new }
     ensures made { MatchResult result (λ row. MadeRow count (meaning_of arena.old) (meaning_of arena.new) row)

@@ -27,6 +27,7 @@ pub fn simple_value(arena: &mut Arena, simple: Simple) -> Ref
 }
 
 /// The value of a variable in a row; one without a value is the empty list.
+#[inline(always)]
 pub fn var_value(arena: &mut Arena, row: Row, var: u16) -> Ref
     requires { (vs : List Value) × RowAt (meaning_of arena.old) row vs }
     ensures stays { Stays arena.old arena.new }
@@ -39,6 +40,7 @@ pub fn var_value(arena: &mut Arena, row: Row, var: u16) -> Ref
 }
 
 /// The value of a term without parts, among variables in a row.
+#[inline(always)]
 pub fn plain_value(arena: &mut Arena, row: Row, term: &Term) -> Ref
     requires plain { IsPlain (out-Term term.now) }
     requires row { (vs : List Value) × RowAt (meaning_of arena.old) row vs }
@@ -59,6 +61,7 @@ pub fn plain_value(arena: &mut Arena, row: Row, term: &Term) -> Ref
 
 /// Unifies each argument with the head's value at its place, from left to right up to the end of the shorter list or a clash,
 /// and answers whether all agree. What was bound stays bound.
+#[inline(always)]
 pub fn match_heads(arena: &mut Arena, args: &[Ref], heads: &[Ref]) -> Result<bool, Full>
     requires args { AreRefs (meaning_of arena.old) args.now }
     requires heads { AreRefs (meaning_of arena.old) heads.now }

@@ -62,6 +62,7 @@ fn is_sought(x: Option<Ref>, y: Ref) -> bool
 }
 
 // Looks whether what is looked for stands in a value, up to its parts.
+#[inline(always)]
 fn look_into<B: Bindings>(store: &B, x: Option<Ref>, at: Ref, seen: &Seen) -> Look
     requires x_in { (o : Option ℕ) × IsSought (B.meaning store.now) x o }
     requires at_in { Holds (B.meaning store.now) at }

@@ -156,6 +156,7 @@ fn done(agreed: Result<bool, Full>) -> Result<Met, Full>
 }
 
 // Binds an unbound variable, which agrees.
+#[inline(always)]
 fn link<B: Bindings>(store: &mut B, var: Ref, to: Ref) -> Result<bool, Full>
     requires { MayBind (B.meaning store.old) var to }
     ensures kept { Kept (B.meaning store.old) (B.meaning store.new) }
@@ -171,6 +172,7 @@ fn link<B: Bindings>(store: &mut B, var: Ref, to: Ref) -> Result<bool, Full>
 }
 
 // Unifies two unbound variables: the younger is bound to the older.
+#[inline(always)]
 fn tie<B: Bindings>(store: &mut B, x: Ref, y: Ref) -> Result<bool, Full>
     requires x_in { IsUnbound (B.meaning store.old) x }
     requires y_in { IsUnbound (B.meaning store.old) y }
@@ -191,6 +193,7 @@ fn tie<B: Bindings>(store: &mut B, x: Ref, y: Ref) -> Result<bool, Full>
 }
 
 // Unifies an unbound variable and a value that is none.
+#[inline(always)]
 fn point<B: Bindings>(store: &mut B, x: Ref, to: Ref) -> Result<bool, Full>
     requires x_in { IsUnbound (B.meaning store.old) x }
     requires to_in { Holds (B.meaning store.old) to }

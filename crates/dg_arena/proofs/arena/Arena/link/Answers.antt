@@ -12,7 +12,7 @@ invariant_of-self c =
     let made = binds f (log_of c.bind_reserved.new.self) (vars_of c.bind_reserved.new.self) c.trail_for-more.result c.args.var c.args.to (record { sound = c.args.self.now.sound; counted = c.args.self.now.roomy.counted; small = c.args.self.now.roomy.small }) c.requires c.bind_reserved.ensures.log c.bind_reserved.ensures.vars c.trail_for-more.ensures (omega (arith, c.args.self.now.sound.trail_fits)) in
     record {
       sound = made.leaves.sound;
-      fenced = made.fenced c.args.self.now.fence c.fence_now.result c.for_link-fence.result c.top_of.result c.top_of.ensures (rw c.bind_reserved.ensures.vars c.fence_now.ensures) c.for_link-fence.ensures c.args.self.now.fenced;
+      fenced = made.fenced c.args.self.now.fence c.fence_now.result c.for_link-fence.result c.top_for.result c.top_for.ensures (rw c.bind_reserved.ensures.vars c.fence_now.ensures) c.for_link-fence.ensures c.args.self.now.fenced;
       roomy = record {
         cells_fit = omega (arith, c.args.self.now.roomy.cells_fit, c.args.self.now.roomy.cells_fit);
         vars_fit = omega (arith, c.args.self.now.roomy.vars_fit, c.bind_reserved.ensures.room.vars);
