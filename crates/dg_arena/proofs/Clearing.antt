@@ -1,7 +1,7 @@
 -- An empty store may be gone back to always.
-use Rattle.std.proofs.Common.{rules, ℕ, [], ◌∷◌, false, refl, arith}
-use Rattle.dg_unify.specs.Store.{Store, Saved}
-use Rattle.dg_unify.specs.Slots.{Fields, Fits, AreSound, store_of, fields_at}
+use Rattle.std.proofs.Common.{rules, [], ◌∷◌, false, refl, arith}
+use Rattle.dg_unify.specs.Store.{Store}
+use Rattle.dg_unify.specs.Slots.{Fields, Fits, store_of, fields_at}
 use Rattle.dg_unify.specs.declared.bindings.Mark.{Mark}
 use Rattle.dg_arena.specs.declared.arena.Arena.{Arena}
 use Rattle.dg_arena.specs.Held.{fields_of, saves_of}

@@ -1,3 +1,4 @@
 pub mod Rooms
 pub mod Making
 pub mod Clearing
+pub mod Joining

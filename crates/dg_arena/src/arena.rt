@@ -1,13 +1,14 @@
 // A store that takes its room once.
 
-ghost use Rattle.std.specs.Prelude.{vec_capacity, ◌≡◌, ◌&&◌, ◌≤◌, ℕ, List, [], Some, None, false, IfOk, MatchResult, length, reverse};
-ghost use Rattle.dg_unify.specs.Store.{Saved, Kept, Shows, HeapFull, TrailFull, Blocked, Bound};
+ghost use Rattle.std.specs.Prelude.{vec_capacity, ◌≡◌, ◌&&◌, ◌+◌, ◌≤◌, ℕ, List, [], Some, None, true, false, IfOk, IfSome, MatchResult, length, reverse};
+ghost use Rattle.dg_unify.specs.Store.{Holds, Saved, Kept, Shows, HeapFull, TrailFull, Blocked, Bound};
 ghost use Rattle.dg_unify.specs.Linked.{log_of, vars_of, var_room, link_room};
 ghost use Rattle.dg_unify.specs.Slots.{AreSound, is_constant, store_of};
 ghost use Rattle.dg_unify.specs.Ends.{TellsOf, told_in, IsEnd, Leads, EndsAt, MayLink};
 ghost use Rattle.dg_unify.specs.Fences.{IsFenced};
 ghost use Rattle.dg_unify.specs.Props.{are_sound_prop, is_fenced_prop};
 ghost use Rattle.dg_arena.specs.Room.{HasRoom};
+ghost use Rattle.dg_arena.specs.Joins.{IsFree, IsBefore, Joins};
 
 use crate::words::push_words;
 use dg_base::Simple;
@@ -131,11 +132,43 @@ impl Arena {
         });
     }
 
+    /// Unifies a value with an unbound variable, where it is clear at once that the variable is the younger and doesn't stand in the
+    /// value: then it is bound. Else nothing is done.
+    #[inline(always)]
+    pub fn join(&mut self, to: Ref, var: Ref) -> Option<Result<bool, Full>>
+        requires to_in { Holds (meaning_of self.old) to }
+        requires var_in { Holds (meaning_of self.old) var }
+        ensures kept { Kept (meaning_of self.old) (meaning_of self.new) }
+        ensures saved { (ms : List Saved) → saves_of self.old ms → saves_of self.new ms }
+        ensures joined { Joins (meaning_of self.old) (meaning_of self.new) to var result }
+    {
+        let number = match self.free_at(var) {
+            None => return None,
+            Some(number) => number,
+        };
+        let end = self.end_of(to);
+        if !self.is_before(end, var, number) {
+            return None;
+        }
+        match self.link(number, end) {
+            Ok(()) => Some(Ok(true)),
+            Err(full) => Some(Err(full)),
+        }
+    }
+
     /// What was taken of the heap.
     pub fn heap(&self) -> u32
         ensures { result ≡ (meaning_of self.now).state.heap }
     {
         self.heap
+    }
+
+    /// How much of the heap is left.
+    #[inline(always)]
+    pub fn room(&self) -> u32
+        ensures { (meaning_of self.now).state.heap + result ≡ (meaning_of self.now).heap_limit }
+    {
+        self.heap_limit - self.heap
     }
 
     // The fence behind all cells and variables.
@@ -210,6 +243,36 @@ impl Arena {
         ensures { result ≡ (is_constant self.now.cells.items a && is_constant self.now.cells.items b) }
     {
         self.is_constant(a) && self.is_constant(b)
+    }
+
+    // The number of an unbound variable, if a value is one.
+    #[inline(always)]
+    fn free_at(&self, at: Ref) -> Option<u32>
+        requires { TellsOf (fields_of self.now) at }
+        ensures { IfSome result (λ n. IsFree (fields_of self.now) at n) }
+    {
+        if at.0 >= FIRST_SIMPLE {
+            return None;
+        }
+        match self.cells[at.0 as usize] {
+            Slot::Var(number) => match self.links.to(number) {
+                None => Some(number),
+                Some(_) => None,
+            },
+            _ => None,
+        }
+    }
+
+    // Whether it is clear at once that a variable of this number doesn't stand in an end, and is younger than it.
+    #[inline(always)]
+    fn is_before(&self, end: Ref, var: Ref, number: u32) -> bool
+        requires { TellsOf (fields_of self.now) end }
+        ensures { result ≡ true → IsBefore (fields_of self.now) end var number }
+    {
+        if end.0 >= FIRST_SIMPLE {
+            return true;
+        }
+        end.0 < var.0 && self.fence.stands_between(end, number)
     }
 
     // Where a value leads, if it is a bound variable.

@@ -62,13 +62,13 @@ module _ (old now : Arena) (keeps : Keeps old now) (args heads : List Ref) (n : 
     told_head = told_is (meaning_of now) head (get_or ws n nothing) (head_value ws hb)
 
     pub head_full : (new : Arena) (e : Full) → BrokeOff (meaning_of now) (meaning_of new) (unify (meaning_of now).state.subst (told (meaning_of now) arg) (told (meaning_of now) head)) e → Follows (meaning_of old) (meaning_of new) (solve (meaning_of old).state.subst (zip us ws)) (Err e)
-    head_full new e h = match_full (meaning_of old) (meaning_of now) keeps.kept now.sound.fits.sound us ws n nothing few_us few_ws arg head told_arg told_head m (meaning_of new) e h
+    head_full new e h = match_full (meaning_of old) (meaning_of now) keeps.kept now.sound.fits.sound us ws n nothing few_us few_ws arg (told (meaning_of now) head) told_arg told_head m (meaning_of new) e h
 
     pub head_clash : (new : Arena) (b : Bool) → b ≡ false → Does (meaning_of now) (meaning_of new) (unify (meaning_of now).state.subst (told (meaning_of now) arg) (told (meaning_of now) head)) b → Follows (meaning_of old) (meaning_of new) (solve (meaning_of old).state.subst (zip us ws)) (Ok false)
-    head_clash new b e h = match_clash (meaning_of old) (meaning_of now) keeps.kept now.sound.fits.sound us ws n nothing few_us few_ws arg head told_arg told_head m (meaning_of new) b e h
+    head_clash new b e h = match_clash (meaning_of old) (meaning_of now) keeps.kept now.sound.fits.sound us ws n nothing few_us few_ws arg (told (meaning_of now) head) told_arg told_head m (meaning_of new) b e h
 
     pub head_on : (new : Arena) (b : Bool) → b ≡ true → Does (meaning_of now) (meaning_of new) (unify (meaning_of now).state.subst (told (meaning_of now) arg) (told (meaning_of now) head)) b → Matching (meaning_of old).state (meaning_of new).state us ws (n + 1)
-    head_on new b e h = match_on (meaning_of old) (meaning_of now) keeps.kept now.sound.fits.sound us ws n nothing few_us few_ws arg head told_arg told_head m (meaning_of new) b e h
+    head_on new b e h = match_on (meaning_of old) (meaning_of now) keeps.kept now.sound.fits.sound us ws n nothing few_us few_ws arg (told (meaning_of now) head) told_arg told_head m (meaning_of new) b e h
 
 -- ## Two values
 

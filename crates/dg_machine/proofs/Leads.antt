@@ -43,10 +43,13 @@ charged_stands code g l n m m' next new after h heap stands =
     subst (Stands code l new after) (sym (charged_on (setting g code l) n m next (omega (arith, within, heap)))) stands
 
 -- the same, where cells were taken on the way
+pub charged_within : (code : Code) (g : Game) (l : Limits) (n : ℕ) (m : Mid) (next : Status) (new : Memory) (after : Now) → m.state.heap + n ≤ l.heap → Stands code l new after next → Stands code l new after (charged (setting g code l) n m next)
+charged_within code g l n m next new after within stands = subst (Stands code l new after) (sym (charged_on (setting g code l) n m next within)) stands
+
 pub charged_led : (code : Code) (g : Game) (l : Limits) (n : ℕ) (m m' : Mid) (next : Status) (mid new : Memory) (after : Now) → Holds code l mid m' → m'.state.heap ≡ m.state.heap + n → Stands code l new after next → Stands code l new after (charged (setting g code l) n m next)
 charged_led code g l n m m' next mid new after h heap stands =
     let within = fits code l m' mid h in
-    subst (Stands code l new after) (sym (charged_on (setting g code l) n m next (omega (arith, within, heap)))) stands
+    charged_within code g l n m next new after (omega (arith, within, heap)) stands
 
 pub full_stands : (code : Code) (g : Game) (l : Limits) (n : ℕ) (m : Mid) (next : Status) (old new : Memory) → Holds code l old m → Lacks n l m.state.heap new → Stands code l new (EndedNow ending.HeapLimit) (charged (setting g code l) n m next)
 full_stands code g l n m next old new h lacks =

@@ -47,7 +47,7 @@ use Rattle.dg_machine.proofs.Kept.{call_kept}
 use Rattle.dg_machine.proofs.Opens.{left_more}
 use Rattle.dg_machine.proofs.PassedRules.{codes_selected, EndsIn, ends_on, selected_end, last_end, next_end, AreLast, are_last, no_longer}
 use Rattle.dg_machine.proofs.Hands.{some_frame, no_frame, no_jump, few, at_most_one}
-use Rattle.dg_machine.proofs.Leads.{was_cut, charged_led, charged_stands, full_stands, height_now}
+use Rattle.dg_machine.proofs.Leads.{was_cut, charged_led, charged_within, charged_stands, full_stands, height_now}
 
 -- ## The answer of a rule
 
@@ -202,30 +202,30 @@ module _ (code : Code) (g : Game) (l : Limits) (m : Mid) (k : Call) (c : CallOf)
   enters_full over = record { stands = full_stands code g l cells_c m (unified set_c u_c made_mid next_c) r new h over; falls = omega arith }
 
   -- what the unification leads to is stood for, where its cells were taken
-  led_to : (mid : Memory) (now : Now) → Holds code l mid made_mid → Stands code l new now (unified set_c u_c made_mid next_c) → Stands code l new now (enter set_c c vars head m)
-  led_to mid now held stands = charged_led code g l cells_c m made_mid (unified set_c u_c made_mid next_c) mid new now held refl stands
+  led_to : (now : Now) → m.state.heap + cells_c ≤ l.heap → Stands code l new now (unified set_c u_c made_mid next_c) → Stands code l new now (enter set_c c vars head m)
+  led_to now within stands = charged_within code g l cells_c m (unified set_c u_c made_mid next_c) new now within stands
 
-  pub enters_unmatched : (mid : Memory) → Holds code l mid made_mid → Unmatched l u_c made_mid new → Falls code l r (Enters k ops) new (Ended ending.TrailLimit) (enter set_c c vars head m)
-  enters_unmatched mid held x = record {
-    stands = led_to mid (Ended ending.TrailLimit) held (subst (Stands code l new (Ended ending.TrailLimit)) (sym (unified_off set_c u_c made_mid next_c x.over)) (refl, x.roomy));
+  pub enters_unmatched : m.state.heap + cells_c ≤ l.heap → Unmatched l u_c made_mid new → Falls code l r (Enters k ops) new (Ended ending.TrailLimit) (enter set_c c vars head m)
+  enters_unmatched within x = record {
+    stands = led_to (Ended ending.TrailLimit) within (subst (Stands code l new (Ended ending.TrailLimit)) (sym (unified_off set_c u_c made_mid next_c x.over)) (refl, x.roomy));
     falls = omega arith;
   }
 
-  pub enters_clash : (mid : Memory) (b : Bool) → b ≡ false → Holds code l mid made_mid → Matched code l u_c made_mid new b → new.choices ≡ r.choices → Falls code l r (Enters k ops) new Fails (enter set_c c vars head m)
-  enters_clash mid b e held x same =
+  pub enters_clash : (b : Bool) → b ≡ false → m.state.heap + cells_c ≤ l.heap → Matched code l u_c made_mid new b → new.choices ≡ r.choices → Falls code l r (Enters k ops) new Fails (enter set_c c vars head m)
+  enters_clash b e within x same =
       let left_now : choices_left new.choices.items ≡ choices_left r.choices.items = ap (λ v. choices_left v.items) same in
       let failed : unified set_c u_c made_mid next_c ≡ FailsOf (bound u_c made_mid) = unified_on set_c u_c made_mid next_c x.fits ∙ ap (λ a. if_agreed a (bound u_c made_mid) next_c) (sym x.agrees ∙ e) in
-      record { stands = led_to mid Fails held (subst (Stands code l new Fails) (sym failed) x.held); falls = omega (arith, left_now) }
+      record { stands = led_to Fails within (subst (Stands code l new Fails) (sym failed) x.held); falls = omega (arith, left_now) }
 
-  pub enters : (mid last : Memory) (b : Bool) → b ≡ true → Holds code l mid made_mid → Matched code l u_c made_mid last b → Holds code l new (in_frame c made (bound u_c made_mid)) → new.choices ≡ r.choices → Falls code l r (Enters k ops) new (Runs rest) (enter set_c c vars head m)
-  enters mid last b agree held x here same =
+  pub enters : (last : Memory) (b : Bool) → b ≡ true → m.state.heap + cells_c ≤ l.heap → Matched code l u_c made_mid last b → Holds code l new (in_frame c made (bound u_c made_mid)) → new.choices ≡ r.choices → Falls code l r (Enters k ops) new (Runs rest) (enter set_c c vars head m)
+  enters last b agree within x here same =
       let bounds = few code l new (in_frame c made (bound u_c made_mid)) here in
       let frame = bounds.frame in
       let inner = bounds.inner in
       let jumps = at_most_one rest.now in
       let left_now : choices_left new.choices.items ≡ choices_left r.choices.items = ap (λ v. choices_left v.items) same in
       let agreed : unified set_c u_c made_mid next_c ≡ next_c = unified_on set_c u_c made_mid next_c x.fits ∙ ap (λ a. if_agreed a (bound u_c made_mid) next_c) (sym x.agrees ∙ agree) in
-      record { stands = led_to mid (Runs rest) held (subst (Stands code l new (Runs rest)) (sym agreed) (at, here)); falls = omega (arith, left_now, frame, inner, jumps) }
+      record { stands = led_to (Runs rest) within (subst (Stands code l new (Runs rest)) (sym agreed) (at, here)); falls = omega (arith, left_now, frame, inner, jumps) }
 
 -- ## Going on
 

@@ -12,6 +12,8 @@ pub mod WriteSteps
 pub mod RegisterLemmas
 pub mod Matching
 pub mod HeadLemmas
+pub mod HeadMatching
+pub mod FlatHeads
 pub mod PassedRules
 pub mod Hands
 pub mod Leads

@@ -22,9 +22,10 @@ use Rattle.dg_arena.specs.declared.arena.Arena.{Arena}
 use Rattle.dg_arena.specs.Held.{meaning_of}
 use Rattle.dg_mid.specs.declared.code.Code.{Code}
 use Rattle.dg_mid.specs.State.{Mid}
-use Rattle.dg_mid.specs.Step.{bound, trail_more}
+use Rattle.dg_mid.specs.Step.{bound, more, trail_more}
 use Rattle.dg_machine.specs.declared.memory.Memory.{Memory}
 use Rattle.dg_machine.specs.Refs.{Keeps}
+use Rattle.dg_machine.specs.Heads.{Matches}
 use Rattle.dg_machine.specs.Layout.{Holds, HasRoom, Matched, Unmatched, heap_in}
 use Rattle.dg_machine.proofs.Opens.{roomy, roomy_on, on_arena, grows_not, refs_on}
 
@@ -67,12 +68,12 @@ matched old now us ws n kept sound m le =
     let e : solve now.state.subst (pairs_from us ws n) ≡ agreed now.state.subst = ap (solve now.state.subst) (none_left us ws n le) ∙ solve_none now.state.subst sound in
     matching_ends old now now us ws n kept m (Ok true) (rw e (record { agrees = refl; subst = refl; binds = more_same now.state }))
 
-module _ (old now : Store) (kept : Kept old now) (sound : IsSubstitution now.state.subst) (us ws : List Value) (n : ℕ) (d : Value) (la : n < length us) (lb : n < length ws) (a b : Ref) (ea : told now a ≡ get_or us n d) (eb : told now b ≡ get_or ws n d) (m : Matching old.state now.state us ws n) where
+module _ (old now : Store) (kept : Kept old now) (sound : IsSubstitution now.state.subst) (us ws : List Value) (n : ℕ) (d : Value) (la : n < length us) (lb : n < length ws) (a : Ref) (w : Value) (ea : told now a ≡ get_or us n d) (eb : w ≡ get_or ws n d) (m : Matching old.state now.state us ws n) where
   abbrev S : Substitution
   S = now.state.subst
 
   abbrev one : Unified
-  one = unify S (told now a) (told now b)
+  one = unify S (told now a) (w)
 
   abbrev rest : Equations
   rest = pairs_from us ws (n + 1)
@@ -87,11 +88,11 @@ module _ (old now : Store) (kept : Kept old now) (sound : IsSubstitution now.sta
       ∙ ap (λ (l : List Value). solve S (zip (get_or us n d ∷ drop (n + 1) us) l)) (drop_more ws n d lb)
       ∙ ap (λ v. solve S ((v, get_or ws n d) ∷ rest)) (sym ea)
       ∙ ap (λ v. solve S ((told now a, v) ∷ rest)) (sym eb)
-      ∙ solve_first S (told now a, told now b) rest sound
+      ∙ solve_first S (told now a, w) rest sound
 
   pub match_full : (new : Store) (e : Full) → BrokeOff now new one e → Follows old new (solve old.state.subst (pairs_from us ws 0)) (Err e)
   match_full new e h =
-      let grew = solve_extends S ((told now a, told now b) ∷ []) sound in
+      let grew = solve_extends S ((told now a, w) ∷ []) sound in
       let w = then_extends one next (λ S' is. solve_extends S' rest (subst IsSubstitution (sym is) grew.sound)) in
       matching_ends old now new us ws n kept m (Err e) (broke_later now now new (kept_same now) (more_same now.state) [] refl one (solve S (pairs_from us ws n)) w.0 (ap (λ (x : Unified). x.subst) first_then ∙ w.1) e h)
 
@@ -108,7 +109,7 @@ module _ (old now : Store) (kept : Kept old now) (sound : IsSubstitution now.sta
   match_on new answer is h =
       let same : solve S (pairs_from us ws n) ≡ counted one.count (solve new.state.subst rest) =
       first_then ∙ cond-true one.agrees (counted one.count (next one.subst)) one (sym h.agrees ∙ is) ∙ ap (λ S'. counted one.count (solve S' rest)) (sym h.subst) in
-      let grew = solve_extends S ((told now a, told now b) ∷ []) sound in
+      let grew = solve_extends S ((told now a, w) ∷ []) sound in
       record {
         binds = binds_on old.state now.state new.state m.binds h.binds;
         made = grew.made ++ m.made;
@@ -177,12 +178,29 @@ module _ (code : Code) (l : Limits) (m : Mid) (r : Memory) (a : Arena) (es : Equ
       let f' = subst (λ (s : State). BrokeOff (meaning_of r.arena) (meaning_of a) (solve s.subst es) e) was f in
       record { over = over_trail e f'.cause; roomy = roomy_on l r a (roomy code l m r h) keeps.kept }
 
+  -- the same, with so many cells more taken
+  pub matched_at : (n : ℕ) (result : Result Bool Full) → Matches (heap_in r + n) (meaning_of r.arena) (meaning_of a) (solve (meaning_of r.arena).state.subst es) result → MatchResult result (Matched code l u (more n m) (record r { arena = a })) (λ _. Unmatched l u (more n m) (record r { arena = a }))
+  matched_at n (Ok b) f =
+      let binds : OnlyBinds (more n m).state (meaning_of a).state = subst (λ (s : State). OnlyBinds (record s { heap = s.heap + n }) (meaning_of a).state) was f.binds in
+      let made = f.subst ∙ ap (λ (s : State). (solve s.subst es).subst) was in
+      let meant = meant_trail m.state es sound_here in
+      let now = ap (trail_of m.state.since) made in
+      let trail : (meaning_of a).state.trail ≡ trail_more m.state u = omega (arith, meant, now, binds.trail) in
+      let fits : (meaning_of a).state.trail ≤ (meaning_of a).trail_limit = a.sound.trail_fits in
+      let state : (meaning_of a).state ≡ (bound u (more n m)).state = state_bound (meaning_of a).state (more n m).state u.subst (trail_more m.state u) binds made trail in
+      record {
+        agrees = f.agrees ∙ ap (λ (s : State). (solve s.subst es).agrees) was;
+        held = on_arena code l m (bound u (more n m)).state r a h keeps.kept keeps.saved state (omega arith);
+        fits = omega (arith, fits, trail, keeps.kept.trail_limit, h.0.limits.trail);
+      }
+  matched_at n (Err e) f = record { over = over_trail e (subst (λ (s : State). UnifyFull (meaning_of r.arena) (solve s.subst es) e) was f); roomy = roomy_on l r a (roomy code l m r h) keeps.kept }
+
 -- what a unification leaves of the heap, it leaves of room
 pub heap_after : (r : Memory) (a : Arena) (es : Equations) (b : Bool) → Follows (meaning_of r.arena) (meaning_of a) (solve (meaning_of r.arena).state.subst es) (Ok b) → heap_in (record r { arena = a }) ≡ heap_in r
 heap_after r a es b f = f.binds.heap
 
-pub room_after : (r : Memory) (a : Arena) → HasRoom r → Keeps r.arena a → heap_in (record r { arena = a }) ≡ heap_in r → HasRoom (record r { arena = a })
-room_after r a h keeps heap =
+pub room_grown : (r : Memory) (a : Arena) → HasRoom r → Keeps r.arena a → heap_in r ≤ heap_in (record r { arena = a }) → HasRoom (record r { arena = a })
+room_grown r a h keeps heap =
     let limit = keeps.kept.heap_limit in
     record {
       frames_fit = omega (arith, limit, h.frames_fit);
@@ -195,3 +213,6 @@ room_after r a h keeps heap =
       stops_few = omega (arith, heap, h.stops_few);
       refs = refs_on r a h keeps.kept (omega (arith, heap));
     }
+
+pub room_after : (r : Memory) (a : Arena) → HasRoom r → Keeps r.arena a → heap_in (record r { arena = a }) ≡ heap_in r → HasRoom (record r { arena = a })
+room_after r a h keeps heap = room_grown r a h keeps (omega (arith, heap))

@@ -14,6 +14,7 @@ ghost use Rattle.dg_mid.specs.Potential.{Tidy};
 ghost use Rattle.dg_arena.specs.Held.{meaning_of};
 ghost use Rattle.dg_machine.specs.Built.{AreArguments, OpsBuilt, IsBuilt};
 ghost use Rattle.dg_machine.specs.declared.tables.Tables.{Tables as TheTables};
+ghost use Rattle.dg_machine.specs.Heads.{FlatTerms};
 ghost use Rattle.dg_machine.specs.Refs.{RefsAt, AreRefs};
 ghost use Rattle.dg_machine.specs.Layout.{HasRoom, Holds};
 ghost use Rattle.dg_machine.specs.Standing.{DoesOp, DoesMark, CallsRules, EntersWith, Asks, AsksLast, Calculates, EntersBody, IsAsked, QueriesFirst};
@@ -21,6 +22,7 @@ ghost use Rattle.dg_machine.specs.Standing.{DoesWith, ThrowsDie, ChangesPlace};
 ghost use Rattle.dg_machine.specs.Standing.{EntersLastBody, QueriesLast, EntersRule, EntersIn, IsThere, GoesOnAt, GoesOn, FailsTo};
 
 use crate::closures::body_row;
+use crate::heads::flat_cells;
 use crate::memory::Memory;
 use crate::now::{Call, Now, Way};
 use crate::passing::pass;
@@ -460,9 +462,41 @@ impl Memory {
         }
     }
 
-    /// A rule of so many variables and this head is entered.
+    /// A rule of so many variables and a head of flat terms that take so many cells is entered.
     #[inline(always)]
-    fn enter<'p>(
+    fn enter_flat<'p>(
+        &mut self,
+        call: Call,
+        vars: u16,
+        head: &[Term],
+        cells: u32,
+        rest: &'p [Op],
+    ) -> Now<'p>
+        requires room { HasRoom self.old }
+        requires args { AreRefs (meaning_of self.old.arena) self.old.args.items }
+        requires flat { FlatTerms head.now cells }
+        ensures { (t : TheTables) → (code : TheCode) → EntersIn t code self.old call vars head.now rest.now self.new result }
+    {
+        match self.make_rule(vars) {
+            Err(_) => Now::Ended(Ending::HeapLimit),
+            Ok(row) => {
+                if self.arena.room() < cells {
+                    return Now::Ended(Ending::HeapLimit);
+                }
+                match self.match_head(row, head, cells) {
+                    Err(_) => Now::Ended(Ending::TrailLimit),
+                    Ok(false) => Now::Fails,
+                    Ok(true) => {
+                        self.push_frame(call, row);
+                        Now::Runs(rest)
+                    }
+                }
+            }
+        }
+    }
+
+    /// A rule of so many variables and this head is entered; the values of its head are written first.
+    fn enter_written<'p>(
         &mut self,
         tables: &Tables,
         call: Call,
@@ -485,6 +519,27 @@ impl Memory {
                     Now::Runs(rest)
                 }
             },
+        }
+    }
+
+    /// A rule of so many variables and this head is entered.
+    #[inline(always)]
+    fn enter<'p>(
+        &mut self,
+        tables: &Tables,
+        call: Call,
+        vars: u16,
+        head: &[Term],
+        rest: &'p [Op],
+    ) -> Now<'p>
+        requires room { HasRoom self.old }
+        requires args { AreRefs (meaning_of self.old.arena) self.old.args.items }
+        requires head { AreArguments head.now }
+        ensures { (code : TheCode) → EntersIn tables.now code self.old call vars head.now rest.now self.new result }
+    {
+        match flat_cells(head) {
+            Some(cells) => self.enter_flat(call, vars, head, cells, rest),
+            None => self.enter_written(tables, call, vars, head, rest),
         }
     }
 

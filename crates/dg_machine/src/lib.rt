@@ -4,6 +4,7 @@
 mod closures;
 mod doing;
 mod gathering;
+mod heads;
 mod machine;
 mod memory;
 mod now;

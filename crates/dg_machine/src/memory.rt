@@ -26,8 +26,10 @@ ghost use Rattle.dg_machine.specs.Tables.{IsOf};
 ghost use Rattle.dg_machine.specs.Links.{named, below};
 ghost use Rattle.dg_machine.specs.Measure.{way_left, choices_left};
 ghost use Rattle.dg_machine.specs.Passing.{IsFirst};
+ghost use Rattle.dg_machine.specs.Heads.{FlatTerms};
 ghost use Rattle.dg_machine.specs.Refs.{RowAt, RefsAt, AreRefs, IsClosureOf};
 
+use crate::heads::match_flats;
 use crate::now::{Call, Choice, Frame, Inner, Row, Side, Way};
 use crate::refs::{MOST_ARGS, move_refs, push_refs};
 use crate::register::{write_both, write_one, write_terms, write_three};
@@ -79,7 +81,7 @@ impl Memory {
     ghost use Rattle.dg_machine.specs.Layout.{at_rest, HoldsWith, KeptAt, WayAt, CallAt, HasRoom, Holds, Took, Opened, WentBack, Roomy, Lacks, heap_in, MadeRule};
     ghost use Rattle.dg_machine.specs.Layout.{CanRestore, choice_here};
     ghost use Rattle.dg_machine.specs.Stops.{tags_of, StopIs};
-    ghost use Rattle.dg_machine.specs.Layout.{HasFrameRoom, in_frame, Matched, Unmatched, MadeHead, HasPut, HasHeads, HasNumber, parameter_equations};
+    ghost use Rattle.dg_machine.specs.Layout.{limit_in, HasFrameRoom, in_frame, Matched, Unmatched, MadeHead, HasPut, HasHeads, HasNumber, parameter_equations};
     ghost use Rattle.dg_machine.specs.Measure.{left_by};
 
     /// Memory for runs with these limits of heap and trail, which is taken at once.
@@ -626,6 +628,31 @@ impl Memory {
         ensures choices { self.new.choices ≡ self.old.choices }
     {
         match match_heads(&mut self.arena, self.args.as_slice(), self.heads.as_slice()) {
+            Err(full) => Err(full),
+            Ok(agreed) => Ok(agreed),
+        }
+    }
+
+    /// Unifies the arguments with the flat terms of a head, among variables in a row, for whose cells there is room, and answers whether
+    /// they agree.
+    #[inline(always)]
+    pub fn match_head(&mut self, row: Row, head: &[Term], cells: u32) -> Result<bool, Full>
+        requires room { HasRoom self.old }
+        requires few { HasFrameRoom self.old }
+        requires args { AreRefs (meaning_of self.old.arena) self.old.args.items }
+        requires row { (vs : List Value) × RowAt (meaning_of self.old.arena) row vs }
+        requires flat { FlatTerms head.now cells }
+        requires fits { heap_in self.old + cells ≤ limit_in self.old }
+        ensures matched { (code : Code) → (l : Limits) → (m : Mid) → (p : CoreProgram) → (us vs : List Value) → Holds code l self.old m →
+            RefsAt (meaning_of self.old.arena) self.old.args.items us → RowAt (meaning_of self.old.arena) row vs →
+            MatchResult result (Matched code l (solve m.state.subst (zip us (map (value_of p vs) head.now))) (more cells m) self.new)
+            (λ _. Unmatched l (solve m.state.subst (zip us (map (value_of p vs) head.now))) (more cells m) self.new) }
+        ensures room { OnOk result (HasRoom self.new) }
+        ensures few { OnOk result (HasFrameRoom self.new) }
+        ensures values { Kept (meaning_of self.old.arena) (meaning_of self.new.arena) }
+        ensures choices { self.new.choices ≡ self.old.choices }
+    {
+        match match_flats(&mut self.arena, row, self.args.as_slice(), head, cells) {
             Err(full) => Err(full),
             Ok(agreed) => Ok(agreed),
         }

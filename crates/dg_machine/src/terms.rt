@@ -4,8 +4,8 @@ ghost use Rattle.std.specs.List.{zip};
 ghost use Rattle.dg_base.specs.declared.program.Term.{out-Term};
 ghost use Rattle.dg_base.specs.declared.program.CoreProgram.{CoreProgram};
 ghost use Rattle.dg_meaning.specs.Values.{Value, leaf, value_of, value_of_var};
-ghost use Rattle.dg_meaning.specs.Unify.{solve};
-ghost use Rattle.dg_unify.specs.Store.{Follows, label_of};
+ghost use Rattle.dg_meaning.specs.Unify.{solve, unify as unified};
+ghost use Rattle.dg_unify.specs.Store.{Follows, Holds, told, label_of};
 ghost use Rattle.dg_arena.specs.Held.{meaning_of};
 ghost use Rattle.dg_machine.specs.Built.{IsPlain};
 ghost use Rattle.dg_machine.specs.Refs.{RowAt, RefsAt, AreRefs, Keeps, Stays};
@@ -59,6 +59,21 @@ pub fn plain_value(arena: &mut Arena, row: Row, term: &Term) -> Ref
     }
 }
 
+/// Unifies two values, of which the second may be a new variable.
+#[inline(always)]
+pub fn join(arena: &mut Arena, a: Ref, b: Ref) -> Result<bool, Full>
+    requires a_in { Holds (meaning_of arena.old) a }
+    requires b_in { Holds (meaning_of arena.old) b }
+    ensures keeps { Keeps arena.old arena.new }
+    ensures unified { Follows (meaning_of arena.old) (meaning_of arena.new)
+        (unified (meaning_of arena.old).state.subst (told (meaning_of arena.old) a) (told (meaning_of arena.old) b)) result }
+{
+    match arena.join(a, b) {
+        Some(joined) => joined,
+        None => unify(arena, a, b),
+    }
+}
+
 /// Unifies each argument with the head's value at its place, from left to right up to the end of the shorter list or a clash,
 /// and answers whether all agree. What was bound stays bound.
 #[inline(always)]
@@ -73,7 +88,7 @@ pub fn match_heads(arena: &mut Arena, args: &[Ref], heads: &[Ref]) -> Result<boo
     'pairs: while at < args.len() && at < heads.len() {
         let arg = args[at];
         let head = heads[at];
-        match unify(arena, arg, head) {
+        match join(arena, arg, head) {
             Err(full) => return Err(full),
             Ok(false) => return Ok(false),
             Ok(true) => at += 1,

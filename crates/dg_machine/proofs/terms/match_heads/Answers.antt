@@ -9,24 +9,24 @@ use Rattle.dg_machine.proofs.terms.match_heads.Goals as goal
 pub pairs-init : goal.pairs-init
 pairs-init c = record { keeps = keeps_same c.args.arena.now; matching = λ us ws ha hb. matching_starts (meaning_of c.args.arena.now).state us ws }
 
-pub unify-requires-clause-a_in : goal.unify-requires-clause-a_in
-unify-requires-clause-a_in c = arg_holds c.args.arena.now c.pairs.arena c.pairs.invariant.keeps c.args.args.now c.args.heads.now c.pairs.at c.pairs-test.true c.if-at-heads.true c.requires.args
+pub join-requires-clause-a_in : goal.join-requires-clause-a_in
+join-requires-clause-a_in c = arg_holds c.args.arena.now c.pairs.arena c.pairs.invariant.keeps c.args.args.now c.args.heads.now c.pairs.at c.pairs-test.true c.if-at-heads.true c.requires.args
 
-pub unify-requires-clause-b_in : goal.unify-requires-clause-b_in
-unify-requires-clause-b_in c = head_holds c.args.arena.now c.pairs.arena c.pairs.invariant.keeps c.args.args.now c.args.heads.now c.pairs.at c.pairs-test.true c.if-at-heads.true c.requires.heads
+pub join-requires-clause-b_in : goal.join-requires-clause-b_in
+join-requires-clause-b_in c = head_holds c.args.arena.now c.pairs.arena c.pairs.invariant.keeps c.args.args.now c.args.heads.now c.pairs.at c.pairs-test.true c.if-at-heads.true c.requires.heads
 
 pub returns-in-Err-clause-matched : goal.returns-in-Err-clause-matched
-returns-in-Err-clause-matched c us ws ha hb = head_full c.args.arena.now c.pairs.arena c.pairs.invariant.keeps c.args.args.now c.args.heads.now c.pairs.at c.pairs-test.true c.if-at-heads.true us ws ha hb (c.pairs.invariant.matching us ws ha hb) c.unify.new.store c.in-Err.full c.in-Err.ensures.unified
+returns-in-Err-clause-matched c us ws ha hb = head_full c.args.arena.now c.pairs.arena c.pairs.invariant.keeps c.args.args.now c.args.heads.now c.pairs.at c.pairs-test.true c.if-at-heads.true us ws ha hb (c.pairs.invariant.matching us ws ha hb) c.join.new.arena c.in-Err.full c.in-Err.ensures.unified
 
 pub returns-in-Ok-false-clause-matched : goal.returns-in-Ok-false-clause-matched
-returns-in-Ok-false-clause-matched c us ws ha hb = head_clash c.args.arena.now c.pairs.arena c.pairs.invariant.keeps c.args.args.now c.args.heads.now c.pairs.at c.pairs-test.true c.if-at-heads.true us ws ha hb (c.pairs.invariant.matching us ws ha hb) c.unify.new.store c.in-Ok-false.field-0 c.in-Ok-false.field-0-test c.in-Ok-false.ensures.unified
+returns-in-Ok-false-clause-matched c us ws ha hb = head_clash c.args.arena.now c.pairs.arena c.pairs.invariant.keeps c.args.args.now c.args.heads.now c.pairs.at c.pairs-test.true c.if-at-heads.true us ws ha hb (c.pairs.invariant.matching us ws ha hb) c.join.new.arena c.in-Ok-false.field-0 c.in-Ok-false.field-0-test c.in-Ok-false.ensures.unified
 
 pub pairs-preserved : goal.pairs-preserved
 pairs-preserved c =
-    let further : Keeps c.pairs.arena c.unify.new.store = record { kept = c.in-Ok-true.ensures.kept; saved = c.in-Ok-true.ensures.saved } in
+    let further : Keeps c.pairs.arena c.join.new.arena = c.in-Ok-true.ensures.keeps in
     record {
-      keeps = keeps_on c.args.arena.now c.pairs.arena c.unify.new.store c.pairs.invariant.keeps further;
-      matching = λ us ws ha hb. head_on c.args.arena.now c.pairs.arena c.pairs.invariant.keeps c.args.args.now c.args.heads.now c.pairs.at c.pairs-test.true c.if-at-heads.true us ws ha hb (c.pairs.invariant.matching us ws ha hb) c.unify.new.store c.in-Ok-true.field-0 c.in-Ok-true.field-0-test c.in-Ok-true.ensures.unified;
+      keeps = keeps_on c.args.arena.now c.pairs.arena c.join.new.arena c.pairs.invariant.keeps further;
+      matching = λ us ws ha hb. head_on c.args.arena.now c.pairs.arena c.pairs.invariant.keeps c.args.args.now c.args.heads.now c.pairs.at c.pairs-test.true c.if-at-heads.true us ws ha hb (c.pairs.invariant.matching us ws ha hb) c.join.new.arena c.in-Ok-true.field-0 c.in-Ok-true.field-0-test c.in-Ok-true.ensures.unified;
     }
 
 pub returns-else-at-heads-clause-matched : goal.returns-else-at-heads-clause-matched

@@ -1,6 +1,4 @@
-use Rattle.std.proofs.Common.{ap, refl, []}
-use Rattle.dg_unify.specs.Store.{Store}
-use Rattle.dg_unify.specs.declared.bindings.Mark.{Mark}
+use Rattle.std.proofs.Common.{[]}
 use Rattle.dg_arena.specs.Held.{fields_of}
 use Rattle.dg_arena.proofs.Clearing.{emptied, stands_empty}
 use Rattle.dg_arena.proofs.arena.Arena.clear.Goals as goal
