@@ -64,13 +64,7 @@ pub fn flat_cells(head: &[Term]) -> Option<u32>
 
 /// Unifies a value with a pair of two terms: its parts with them, where it is a pair.
 #[inline(always)]
-fn match_pair(
-    arena: &mut Arena,
-    row: Row,
-    head: &Term,
-    tail: &Term,
-    arg: Ref,
-) -> Result<bool, Full>
+fn match_pair(arena: &mut Arena, row: Row, head: &Term, tail: &Term, arg: Ref) -> Result<bool, Full>
     requires head { IsPlain (out-Term head.now) }
     requires tail { IsPlain (out-Term tail.now) }
     requires row { (vs : List Value) × RowAt (meaning_of arena.old) row vs }

@@ -3,17 +3,45 @@ ghost use Rattle.std.specs.Prelude.{◌≡◌, ◌<◌, ◌≤◌, ◌+◌, ◌*
 ghost use Rattle.dg_base.specs.declared.program.CoreProgram.{CoreProgram};
 ghost use Rattle.dg_meaning.specs.Values.{Value, value_of};
 ghost use Rattle.dg_meaning.specs.Cells.{cells};
+ghost use Rattle.dg_unify.specs.Store.{Made};
 ghost use Rattle.dg_arena.specs.Held.{meaning_of};
 ghost use Rattle.dg_machine.specs.Tables.{IsOf};
 ghost use Rattle.dg_machine.specs.Refs.{RowAt, RefsAt, Keeps, Puts};
 ghost use Rattle.dg_machine.specs.Writing.{Overflows, SpareFits};
 
+use crate::closures::leaf_value;
 use crate::now::{Row, Side};
 use crate::tables::Tables;
 use crate::writing::write_term;
 use dg_arena::Arena;
 use dg_base::Term;
 use dg_unify::{Full, Ref};
+
+/// The value of a term, among variables in a row; one that is no pair needs no path.
+fn write_value(
+    arena: &mut Arena,
+    tables: &Tables,
+    row: Row,
+    term: &Term,
+    path: &mut Vec<Side>,
+    spare: &mut Vec<Ref>,
+) -> Result<Ref, Full>
+    requires fits { (meaning_of arena.old).heap_limit < 3 * vec_capacity path.old + 3 }
+    requires row { (vs : List Value) × RowAt (meaning_of arena.old) row vs }
+    requires spare { SpareFits (meaning_of arena.old) (vec_capacity spare.old) spare.old.items }
+    ensures keeps { Keeps arena.old arena.new }
+    ensures capacity { vec_capacity path.new ≡ vec_capacity path.old }
+    ensures written { (p : CoreProgram) → (vs : List Value) → IsOf p tables.now → RowAt (meaning_of arena.old) row vs →
+        MatchResult result (λ r. Made (cells p (term.now ∷ [])) (meaning_of arena.old) (meaning_of arena.new) r (value_of p vs term.now))
+        (λ _. Overflows (cells p (term.now ∷ [])) (meaning_of arena.old)) }
+    ensures spare { OnOk result (spare.new.items ≡ spare.old.items) }
+    ensures spare_room { vec_capacity spare.new ≡ vec_capacity spare.old }
+{
+    match term {
+        Term::Pair(_, _) => write_term(arena, tables, row, term, path, spare),
+        _ => leaf_value(arena, tables, row, term, spare),
+    }
+}
 
 /// Puts the value of a term, among variables in a row, behind others.
 #[inline(always)]
@@ -42,7 +70,7 @@ fn write_next(
     ensures spare { OnOk result (spare.new.items ≡ spare.old.items) }
     ensures spare_room { vec_capacity spare.new ≡ vec_capacity spare.old }
 {
-    match write_term(arena, tables, row, term, path, spare) {
+    match write_value(arena, tables, row, term, path, spare) {
         Err(full) => Err(full),
         Ok(value) => {
             to.push_reserved(value);
