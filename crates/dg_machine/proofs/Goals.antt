@@ -36,8 +36,8 @@ use Rattle.dg_mid.specs.declared.code.Action.{Action}
 use Rattle.dg_mid.specs.declared.code.Action.TheVariants as action
 use Rattle.dg_mid.specs.declared.code.Code.{Code}
 use Rattle.dg_mid.specs.Code.{block_at}
-use Rattle.dg_mid.specs.State.{Mid, Takes as TakesOf, Calls as CallsOf, Status, Runs as RunsOf, Enters as EntersOf, Resumes as ResumesOf, Fails as FailsOf, Ended as EndedOf}
-use Rattle.dg_mid.specs.Step.{Setting, setting, more, does, runs, step, said, said_in, said_to, followed, is_goal, at_goal, keeps_within}
+use Rattle.dg_mid.specs.State.{Mid, Place, Takes as TakesOf, Calls as CallsOf, Tries as TriesOf, Choice as ChoiceOf, Status, Runs as RunsOf, Enters as EntersOf, Resumes as ResumesOf, Fails as FailsOf, Ended as EndedOf}
+use Rattle.dg_mid.specs.Step.{Setting, setting, more, does, runs, step, said, said_in, said_to, followed, is_goal, at_goal, keeps_within, goes_back}
 use Rattle.dg_mid.specs.Heights.{MidOrdered}
 use Rattle.dg_mid.specs.Falling.{jumping}
 use Rattle.dg_mid.specs.Potential.{Tidy, begins_goto}
@@ -45,15 +45,16 @@ use Rattle.dg_spacing.specs.declared.spacer.Spacer.{Spacer}
 use Rattle.dg_spacing.specs.Spacer.{StandsFor}
 use Rattle.dg_machine.specs.declared.now.Call.{Call}
 use Rattle.dg_machine.specs.declared.now.Way.{Way}
-use Rattle.dg_machine.specs.declared.now.Way.TheVariants.{Goes, Takes, Calls}
+use Rattle.dg_machine.specs.declared.now.Way.TheVariants.{Goes, Takes, Calls, Tries}
+use Rattle.dg_machine.specs.declared.now.Search.{Search}
 use Rattle.dg_machine.specs.declared.now.Now.{Now}
-use Rattle.dg_machine.specs.declared.now.Now.TheVariants.{Runs, Enters, Resumes, Fails, Ended}
+use Rattle.dg_machine.specs.declared.now.Now.TheVariants.{Runs, Enters, Resumes, Leaves, Misses, Fails, Ended}
 use Rattle.dg_machine.specs.declared.memory.Memory.{Memory}
 use Rattle.dg_machine.specs.declared.tables.Tables.{Tables}
 use Rattle.dg_machine.specs.Tables.{IsOf}
 use Rattle.dg_machine.specs.Built.{OpBuilt, OpsBuilt, IsBuilt, IsQuiet, IsQuietOp}
 use Rattle.dg_machine.specs.Layout.{HasRoom, HasPut, Holds, Roomy}
-use Rattle.dg_machine.specs.Standing.{CodeIs, Stands, Falls, DoesOp, DoesMark, Asks, AsksLast, EntersRule, IsThere, GoesOn, KeepsOne, FailsTo, HasStatus, Around, HasOutside, StandsWith}
+use Rattle.dg_machine.specs.Standing.{CodeIs, Stands, Falls, DoesOp, DoesMark, Asks, AsksLast, EntersRule, IsThere, GoesOn, KeepsOne, FailsTo, LeavesAround, HasStatus, Around, HasOutside, StandsWith}
 use Rattle.dg_machine.specs.Running.{rests, DoesMarks, HasText, GoalDone, GoalLost}
 use Rattle.std.proofs.Common.{map}
 use Rattle.dg_base.specs.declared.program.CoreProgram.{CoreProgram}
@@ -110,6 +111,7 @@ quiet_mark_op (op.Do a) e k = absurd (cc)
 quiet_mark_op (op.Select site mode blocks behind) e k = absurd (cc)
 quiet_mark_op (op.Collect term into alt) e k = absurd (cc)
 quiet_mark_op (op.Keep term) e k = absurd (k term refl)
+quiet_mark_op (op.Find place terms many next) e k = absurd (cc)
 quiet_mark_op x e k = tt
 
 quiet_mark : (g : Setting) (m : Mid) (x : Op) (rest : List Op) → is_goal x ≡ false → said_in g m (x ∷ rest) ≡ []
@@ -117,7 +119,7 @@ quiet_mark g m (op.Do a) rest e = absurd (cc)
 quiet_mark g m x rest e = refl
 
 pub marks_run : (tb : Tables) (code : Code) (old new : Memory) (out : Outside) (now : Now) (ops : Bor (List Op)) (x : Op) (rest : List Op) → ops.now ≡ x ∷ rest → is_goal x ≡ false → IsQuietOp x → DoesMark code old ops x rest new now → DoesMarks tb code old out (Runs ops) new out now
-marks_run tb code old new out now ops x rest split e quiet does g is_of l (RunsOf m) o t h w =
+marks_run tb code old new out now ops x rest split e quiet does g is_of l (RunsOf m) o sk t h w =
     let is : m.ops ≡ x ∷ rest = h.0.0 ∙ split in
     let built : OpsBuilt (x ∷ rest) = subst OpsBuilt split h.0.1 in
     let done = does g l (record m { ops = rest }) o built.0 (refl, built.1) h.1 in
@@ -127,11 +129,11 @@ marks_run tb code old new out now ops x rest split e quiet does g is_of l (RunsO
       falls = λ over. done.falls;
       quiet = ap (λ ps. said_to ps (step (setting g code l) (RunsOf m))) (ap (said_in (setting g code l) m) is ∙ quiet_mark (setting g code l) m x rest e);
     }
-marks_run tb code old new out now ops x rest split e quiet does g is_of l s o t h w = absurd h
+marks_run tb code old new out now ops x rest split e quiet does g is_of l s o sk t h w = absurd h
 
 -- what is gathered is kept
 pub marks_keep : (tb : Tables) (code : Code) (old new : Memory) (out out' : Outside) (now : Now) (ops : Bor (List Op)) (t : Term) (rest : List Op) → ops.now ≡ op.Keep t ∷ rest → KeepsOne code old out ops new now out' → DoesMarks tb code old out (Runs ops) new out' now
-marks_keep tb code old new out out' now ops t rest split keeps g is_of l (RunsOf m) o e h w =
+marks_keep tb code old new out out' now ops t rest split keeps g is_of l (RunsOf m) o sk e h w =
     let is : m.ops ≡ op.Keep t ∷ rest = h.0.0 ∙ split in
     let kept = keeps g l (record m { ops = rest }) h.1 w in
     record {
@@ -140,10 +142,10 @@ marks_keep tb code old new out out' now ops t rest split keeps g is_of l (RunsOf
       falls = λ over. kept.done.falls;
       quiet = ap (λ ps. said_to ps (step (setting g code l) (RunsOf m))) (ap (said_in (setting g code l) m) is);
     }
-marks_keep tb code old new out out' now ops t rest split keeps g is_of l s o e h w = absurd h
+marks_keep tb code old new out out' now ops t rest split keeps g is_of l s o sk e h w = absurd h
 
 pub marks_none : (tb : Tables) (code : Code) (r : Memory) (out : Outside) (ops : Bor (List Op)) → length ops.now < 1 → DoesMarks tb code r out (Runs ops) r out Fails
-marks_none tb code r out ops lt g is_of l (RunsOf m) o t h w =
+marks_none tb code r out ops lt g is_of l (RunsOf m) o sk t h w =
     let none : m.ops ≡ [] = h.0.0 ∙ empty_list ops.now lt in
     record {
       stands = subst (λ xs. Stands code l r Fails (runs (setting g code l) xs m)) (sym none) h.1;
@@ -151,19 +153,42 @@ marks_none tb code r out ops lt g is_of l (RunsOf m) o t h w =
       falls = λ over. omega arith;
       quiet = ap (λ ps. said_to ps (step (setting g code l) (RunsOf m))) (ap (said_in (setting g code l) m) none);
     }
-marks_none tb code r out ops lt g is_of l s o t h w = absurd h
+marks_none tb code r out ops lt g is_of l s o sk t h w = absurd h
 
 pub marks_enter : (tb : Tables) (code : Code) (old new : Memory) (out : Outside) (now : Now) (k : Call) (ops : Bor (List Op)) → EntersRule tb code old k ops new now → DoesMarks tb code old out (Enters k ops) new out now
-marks_enter tb code old new out now k ops enters g is_of l (EntersOf c m) o t h w = let done = enters g is_of l m c h.0 h.1 h.2 in record { stands = done.stands; outside = enter_outside out g l code c m w; falls = λ over. done.falls; quiet = refl }
-marks_enter tb code old new out now k ops enters g is_of l s o t h w = absurd h
+marks_enter tb code old new out now k ops enters g is_of l (EntersOf c m) o sk t h w = let done = enters g is_of l m c h.0 h.1 h.2 in record { stands = done.stands; outside = enter_outside out g l code c m w; falls = λ over. done.falls; quiet = refl }
+marks_enter tb code old new out now k ops enters g is_of l s o sk t h w = absurd h
 
 pub marks_resume : (tb : Tables) (code : Code) (old new : Memory) (out out' : Outside) (now : Now) (way : Way) → GoesOn code old out way new now out' → DoesMarks tb code old out (Resumes way) new out' now
-marks_resume tb code old new out out' now way goes g is_of l (ResumesOf on m) o t h w = let gone = goes g l m on h.0 h.1 w in record { stands = gone.done.stands; outside = gone.outside; falls = λ over. gone.done.falls; quiet = refl }
-marks_resume tb code old new out out' now way goes g is_of l s o t h w = absurd h
+marks_resume tb code old new out out' now way goes g is_of l (ResumesOf on m) o sk t h w = let gone = goes g l m on sk.0 h.0 h.1 w in record { stands = gone.done.stands; outside = gone.outside; falls = λ over. gone.done.falls; quiet = refl }
+marks_resume tb code old new out out' now way goes g is_of l s o sk t h w = absurd h
 
 pub marks_fail : (tb : Tables) (code : Code) (old new : Memory) (out out' : Outside) (now : Now) → FailsTo code old out new now out' → DoesMarks tb code old out Fails new out' now
-marks_fail tb code old new out out' now fails g is_of l (FailsOf m) o t h w = let failed = fails g l m h w in record { stands = failed.done.stands; outside = failed.outside; falls = λ over. failed.done.falls; quiet = refl }
-marks_fail tb code old new out out' now fails g is_of l s o t h w = absurd h
+marks_fail tb code old new out out' now fails g is_of l (FailsOf m) o sk t h w = let failed = fails g l m h w in record { stands = failed.done.stands; outside = failed.outside; falls = λ over. failed.done.falls; quiet = refl }
+marks_fail tb code old new out out' now fails g is_of l s o sk t h w = absurd h
+
+pub marks_leave : (tb : Tables) (code : Code) (old new : Memory) (out : Outside) (now : Now) (height : ℕ) (ops : Bor (List Op)) → LeavesAround code old height ops new now → DoesMarks tb code old out (Leaves height ops) new out now
+marks_leave tb code old new out now height ops leaves g is_of l (RunsOf m) o sk t h w =
+    let done = leaves g l m o h in
+    record {
+      stands = done.stands;
+      outside = subst (λ xs. HasOutside out g l (runs (setting g code l) xs m)) (sym h.0.0) (run_outside out g l code op.Commit (record m { ops = ops.now }) tt tt w);
+      falls = λ over. done.falls;
+      quiet = ap (λ ps. said_to ps (step (setting g code l) (RunsOf m))) (ap (said_in (setting g code l) m) h.0.0);
+    }
+marks_leave tb code old new out now height ops leaves g is_of l s o sk t h w = absurd h
+
+-- in which inner construct it fails doesn't matter
+back_within : (cs : List ChoiceOf) (ps : List Place) (m : Mid) → goes_back cs (record m { inner = ps }) ≡ goes_back cs m
+back_within [] ps m = refl
+back_within (c ∷ cs) ps m = refl
+
+pub marks_miss : (tb : Tables) (code : Code) (old new : Memory) (out out' : Outside) (now : Now) → FailsTo code old out new now out' → DoesMarks tb code old out Misses new out' now
+marks_miss tb code old new out out' now fails g is_of l (FailsOf m) o sk t h w =
+    let failed = fails g l (record m { inner = h.around }) h.held w in
+    let same = back_within m.choices h.around m in
+    record { stands = subst (Stands code l new now) same failed.done.stands; outside = subst (HasOutside out' g l) same failed.outside; falls = λ over. failed.done.falls; quiet = refl }
+marks_miss tb code old new out out' now fails g is_of l s o sk t h w = absurd h
 
 -- ## What memory holds before a step
 
@@ -176,6 +201,8 @@ held_in : (code : Code) (l : Limits) (r : Memory) (now : Now) (s : Status) → r
 held_in code l r (Runs ops) (RunsOf m) e h = record { limits = l; mid = m; held = h.1 }
 held_in code l r (Enters k ops) (EntersOf c m) e h = record { limits = l; mid = m; held = h.2 }
 held_in code l r (Resumes way) (ResumesOf on m) e h = record { limits = l; mid = m; held = h.1 }
+held_in code l r (Leaves height ops) (RunsOf m) e h = record { limits = l; mid = record m { inner = h.1.around }; held = h.1.held }
+held_in code l r Misses (FailsOf m) e h = record { limits = l; mid = record m { inner = h.around }; held = h.held }
 held_in code l r Fails (FailsOf m) e h = record { limits = l; mid = m; held = h }
 held_in code l r (Ended x) s e h = absurd (cc)
 held_in code l r now s e h = absurd h
@@ -193,10 +220,16 @@ there_in code l r (Takes b) (ResumesOf on m) h = absurd h.0
 there_in code l r (Takes b) s h = absurd h
 there_in code l r (Calls k pred left) (ResumesOf (CallsOf c rules) m) h = (h.0.there, (c.args, h.0.call.args))
 there_in code l r (Calls k pred left) (ResumesOf on m) h = absurd h.0
+there_in code l r (Tries k from end) (ResumesOf (TriesOf f objects) m) h = (f.args, h.0.0.args)
+there_in code l r (Tries k from end) (ResumesOf on m) h = absurd h.0
+there_in code l r (Tries k from end) s h = absurd h
 there_in code l r (Calls k pred left) s h = absurd h
 
 pub there_of : (code : Code) (r : Memory) (now : Now) (way : Way) → HasStatus code r now → now ≡ Resumes way → IsThere code r way
 there_of code r now way s is = there_in code s.limits r way s.status (subst (λ n. Stands code s.limits r n s.status) is s.stands)
+
+pub are_there : (code : Code) (r : Memory) (way : Way) (k : Search) (from end : ℕ) → way ≡ Tries k from end → IsThere code r way → AreRefs (meaning_of r.arena) r.args.items
+are_there code r way k from end is h = subst (IsThere code r) is h
 
 pub is_there : (code : Code) (r : Memory) (way : Way) (k : Call) (pred left : ℕ) → way ≡ Calls k pred left → IsThere code r way → IsThere code r (Calls k pred left)
 is_there code r way k pred left is h = subst (IsThere code r) is h
@@ -270,7 +303,7 @@ other_goal op.Once e b q d k la t br on tr sh qu lq = on refl
 other_goal (op.Try alt) e b q d k la t br on tr sh qu lq = tr alt refl
 other_goal (op.Query x y many next) e b q d k la t br on tr sh qu lq = qu x y many next refl
 other_goal (op.LastQuery x y many) e b q d k la t br on tr sh qu lq = lq x y many refl
-other_goal (op.Find place ts many next) e b q d k la t br on tr sh qu lq = b
+other_goal (op.Find place ts many next) e b q d k la t br on tr sh qu lq = q
 other_goal (op.Select site mode bs behind) e b q d k la t br on tr sh qu lq = q
 other_goal (op.Shield alt) e b q d k la t br on tr sh qu lq = sh alt refl
 other_goal (op.Collect x y alt) e b q d k la t br on tr sh qu lq = q
@@ -289,12 +322,13 @@ quiet_else a t g n p d w v = tt
 pub first_goal : (all : List Op) (x : Op) (rest : List Op) → all ≡ x ∷ rest → at_goal all ≡ true → is_goal x ≡ true
 first_goal all x rest is e = sym (ap at_goal is) ∙ e
 
-pub quiet_op : (x : Op) → is_goal x ≡ true → ((a : Action) → x ≡ op.Do a → ⊥) → ((site : ℕ) (mode : Mode) (blocks : List ℕ) (behind : ℕ) → x ≡ op.Select site mode blocks behind → ⊥) → ((term into : Term) (alt : ℕ) → x ≡ op.Collect term into alt → ⊥) → IsQuietOp x
-quiet_op (op.Do a) e d s c = absurd (d a refl)
-quiet_op (op.Select site mode blocks behind) e d s c = absurd (s site mode blocks behind refl)
-quiet_op (op.Collect term into alt) e d s c = absurd (c term into alt refl)
-quiet_op (op.Keep term) e d s c = absurd (cc)
-quiet_op x e d s c = tt
+pub quiet_op : (x : Op) → is_goal x ≡ true → ((a : Action) → x ≡ op.Do a → ⊥) → ((site : ℕ) (mode : Mode) (blocks : List ℕ) (behind : ℕ) → x ≡ op.Select site mode blocks behind → ⊥) → ((term into : Term) (alt : ℕ) → x ≡ op.Collect term into alt → ⊥) → ((place : Option ℕ) (terms : List Term) (many : Bool) (next : ℕ) → x ≡ op.Find place terms many next → ⊥) → IsQuietOp x
+quiet_op (op.Do a) e d s c f = absurd (d a refl)
+quiet_op (op.Select site mode blocks behind) e d s c f = absurd (s site mode blocks behind refl)
+quiet_op (op.Collect term into alt) e d s c f = absurd (c term into alt refl)
+quiet_op (op.Keep term) e d s c f = absurd (cc)
+quiet_op (op.Find place terms many next) e d s c f = absurd (f place terms many next refl)
+quiet_op x e d s c f = tt
 
 quiet_gives : (o : Option ℕ) (v : Value) (r : Registers) (w : World) → said_by (gives_number o v r w) ≡ prints w.events
 quiet_gives None v r w = refl

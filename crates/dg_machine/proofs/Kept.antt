@@ -7,12 +7,12 @@ use Rattle.dg_meaning.proofs.OneRun.{begins_on, begins_same}
 use Rattle.dg_unify.specs.Store.{Store, Saved, Kept, IsClosureAt}
 use Rattle.dg_unify.proofs.Lists.{get_append}
 use Rattle.dg_mid.specs.declared.code.Code.{Code}
-use Rattle.dg_mid.specs.State.{Place, Stop, Frame as FrameOf, Choice as ChoiceOf, Call as CallOf, Way as WayOf, Goes as GoesOf, Takes as TakesOf, Calls as CallsOf}
+use Rattle.dg_mid.specs.State.{Place, Stop, Frame as FrameOf, Choice as ChoiceOf, Call as CallOf, Way as WayOf, Goes as GoesOf, Takes as TakesOf, Calls as CallsOf, Tries as TriesOf}
 use Rattle.dg_unify.specs.declared.bindings.Ref.{Ref}
 use Rattle.dg_machine.specs.declared.now.Row.{Row}
 use Rattle.dg_machine.specs.declared.now.Call.{Call}
 use Rattle.dg_machine.specs.declared.now.Way.{Way}
-use Rattle.dg_machine.specs.declared.now.Way.TheVariants.{Goes, Takes, Calls}
+use Rattle.dg_machine.specs.declared.now.Way.TheVariants.{Goes, Takes, Calls, Tries}
 use Rattle.dg_machine.specs.declared.now.Frame.{Frame}
 use Rattle.dg_machine.specs.declared.now.Inner.{Inner}
 use Rattle.dg_machine.specs.declared.now.Choice.{Choice}
@@ -81,9 +81,11 @@ pub way_kept : (code : Code) (s t : Store) (rs : List Ref) (way : Way) (on : Way
 way_kept code s t rs (Goes b) (GoesOf b') kept h = h
 way_kept code s t rs (Takes b) (TakesOf b' v) kept h = (h.0, h.1, refs_kept s t rs (h.1 ∷ v ∷ []) kept h.2)
 way_kept code s t rs (Calls k pred left) (CallsOf c rules) kept h = record { call = call_kept s t rs k c kept h.call; there = h.there; rules_are = h.rules_are }
+way_kept code s t rs (Tries k from end) (TriesOf f objects) kept h = (record { place = h.0.place; args = refs_kept s t rs f.args kept h.0.args; many = h.0.many; next = h.0.next }, h.1)
 way_kept code s t rs (Goes b) on kept h = absurd h
 way_kept code s t rs (Takes b) on kept h = absurd h
 way_kept code s t rs (Calls k pred left) on kept h = absurd h
+way_kept code s t rs (Tries k from end) on kept h = absurd h
 
 pub frames_kept : (s t : Store) (us vs : List ℕ) (is js : List Inner) (xs ys : List Frame) (e : ℕ) (fs : List FrameOf) → Kept s t → Begins us vs → Begins is js → Begins xs ys → FramesAt s us is xs e fs → FramesAt t vs js ys e fs
 frames_kept s t us vs is js xs ys e [] k d a b h = h

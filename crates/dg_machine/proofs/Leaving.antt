@@ -81,7 +81,7 @@ left_frame code l m frame r o h is =
 
 -- the code of a block that is built
 pub block_is : (code : Code) (b : ℕ) (ops : List Op) (m : Mid) → IsBuilt code → ops ≡ block_at code b → m.ops ≡ block_at code b → CodeIs ops m
-block_is code b ops m built is at = (at ∙ sym is, subst OpsBuilt (sym is) (built b))
+block_is code b ops m built is at = (at ∙ sym is, subst OpsBuilt (sym is) (built.blocks b))
 
 no_jump_at : (code : Code) (b : ℕ) (ops : List Op) → Tidy code → ops ≡ block_at code b → begins_goto ops ≡ false
 no_jump_at code b ops tidy is = subst (λ l. begins_goto l ≡ false) (sym is) (tidy.no_jumps b)
@@ -256,7 +256,7 @@ module _ (code : Code) (g : Game) (l : Limits) (b : ℕ) (m : Mid) (r new : Memo
       let frame = bounds.frame in
       let inner = bounds.inner in
       subst (λ xs. Falls code l r (Resumes (Goes b)) r (Runs ops) (resumed set_d xs m)) is
-      (subst (Falls code l r (Resumes (Goes b)) r (Runs ops)) (sym same) (record { stands = ((refl, subst OpsBuilt (sym is) (built b)), h); falls = omega (arith, none, frame, inner) }))
+      (subst (Falls code l r (Resumes (Goes b)) r (Runs ops)) (sym same) (record { stands = ((refl, subst OpsBuilt (sym is) (built.blocks b)), h); falls = omega (arith, none, frame, inner) }))
 
   -- it is kept with an earlier block
   pub goes_kept : (alt : ℕ) (rest : Bor (List Op)) → ops.now ≡ op.Retry alt ∷ rest.now → Holds code l new (inside (GoesOf alt) 0 (record m { ops = rest.now })) → Opened (Goes alt) 0 r new → Falls code l r (Resumes (Goes b)) new (Runs rest) (resumed set_d (block_at code b) m)
@@ -269,7 +269,7 @@ module _ (code : Code) (g : Game) (l : Limits) (b : ℕ) (m : Mid) (r new : Memo
       let inner = bounds.inner in
       let jumps = at_most_one rest.now in
       let m' = inside (GoesOf alt) 0 (record m { ops = rest.now }) in
-      let all_built : OpsBuilt (op.Retry alt ∷ rest.now) = subst OpsBuilt block (built b) in
+      let all_built : OpsBuilt (op.Retry alt ∷ rest.now) = subst OpsBuilt block (built.blocks b) in
       subst (λ xs. Falls code l r (Resumes (Goes b)) new (Runs rest) (resumed set_d xs m)) (sym block)
       (record {
         stands = charged_stands code g l 10 (record m { ops = rest.now }) m' (RunsOf m') new (Runs rest) held refl ((refl, all_built.1), held);

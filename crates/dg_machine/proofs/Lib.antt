@@ -25,7 +25,12 @@ pub mod Compares
 pub mod Throws
 pub mod Changes
 pub mod Selects
+pub mod Seeks
+pub mod CellLemmas
+pub mod Trying
+pub mod Answered
 pub mod Prints
+pub mod Asked
 pub mod Outsides
 pub mod Gatherings
 mod Goals

@@ -54,7 +54,7 @@ matching_ends old now new us ws n kept m (Ok d) u = record {
 matching_ends old now new us ws n kept m (Err e) h =
     broke_later old now new kept m.binds m.made m.grown (solve now.state.subst (pairs_from us ws n)) (solve old.state.subst (pairs_from us ws 0)) [] (ap (λ (x : Unified). x.subst) m.same) e h
 
-zip_none : {A B : Type 0} (xs : List A) → zip {K = A} {X = B} xs [] ≡ []
+pub zip_none : {A B : Type 0} (xs : List A) → zip {K = A} {X = B} xs [] ≡ []
 zip_none [] = refl
 zip_none (x ∷ xs) = refl
 

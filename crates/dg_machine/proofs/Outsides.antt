@@ -11,7 +11,7 @@ use Rattle.dg_meaning.specs.Cells.{cells}
 use Rattle.dg_meaning.specs.Numbers.{of_numbers, calculated}
 use Rattle.dg_meaning.specs.Substitutions.{walk, resolved}
 use Rattle.dg_meaning.specs.Moves.{gives_number, splits, joins, looked_up, whole_looks, spaces, printed, all_printed}
-use Rattle.dg_meaning.specs.Path.{Registers, Act, Goes, Tests, Unifies, Ends, Fails as FailsNow, Stops}
+use Rattle.dg_meaning.specs.Path.{Registers, Act, Goes, Tests, Unifies, Ends, Fails as FailsNow, Stops, Effect, Acts, Offers}
 use Rattle.dg_meaning.specs.Unify.{Equations, Unified, solve}
 use Rattle.dg_meaning.specs.World.{Game, World, Gathering, Piece, worked}
 use Rattle.dg_outside.specs.Outside.{Closes}
@@ -28,17 +28,18 @@ use Rattle.dg_mid.specs.Code.{block_at, rules_at, selected}
 use Rattle.dg_mid.specs.Reads.{outside_of}
 use Rattle.dg_meaning.specs.Pieces.{pieces}
 use Rattle.dg_meaning.specs.Words.{letters_in_word, joined_letters}
-use Rattle.dg_mid.specs.Actions.{terms_of, act_at, registers_of, world_of, world_by, outside_in}
-use Rattle.dg_mid.specs.State.{Outside as OutsideOf, Mid, Frame as FrameOf, Place, Call as CallOf, Target, ToPred, ToBody, Way as WayOf, Goes as GoesOf, Calls as CallsOf, Choice as ChoiceOf, vars_of}
+use Rattle.dg_mid.specs.Actions.{terms_of, act_at, asked_at, found_at, registers_of, world_of, world_by, outside_in}
+use Rattle.dg_mid.specs.State.{Outside as OutsideOf, Mid, Frame as FrameOf, Place, Call as CallOf, Target, ToPred, ToBody, Find as FindOf, Way as WayOf, Goes as GoesOf, Calls as CallsOf, Tries as TriesOf, Choice as ChoiceOf, vars_of}
 use Rattle.dg_mid.specs.State.{Status, Runs as RunsOf, Enters as EntersOf, Resumes as ResumesOf, Fails as FailsOf, Ended as EndedOf}
 use Rattle.dg_mid.specs.Step.{Setting, setting, more, charged, bound, unified, if_agreed, if_passed, made_in, done, begins, enters, asks, calls, call_of, asks_last, last, queries, queries_last, asked_by, values}
-use Rattle.dg_mid.specs.Step.{does, commits, refuses, leaves, returns, returned, entered, resumed, goes_on, goes_back, back_at, passed, inside, parameter, body_equations, body_frame, new_frame, first_of}
+use Rattle.dg_mid.specs.Step.{does, commits, refuses, leaves, returns, returned, entered, resumed, goes_on, goes_back, back_at, passed, inside, parameter, body_equations, body_frame, new_frame, first_of, seeks, trying, trying_cells, tries}
 use Rattle.dg_machine.specs.declared.now.Way.{Way}
-use Rattle.dg_machine.specs.declared.now.Way.TheVariants.{Goes, Takes, Calls}
+use Rattle.dg_machine.specs.declared.now.Way.TheVariants.{Goes, Takes, Calls, Tries}
 use Rattle.dg_machine.specs.declared.memory.Memory.{Memory}
 use Rattle.dg_machine.specs.Built.{ActionBuilt, OpBuilt, IsQuietOp}
 use Rattle.dg_machine.specs.Layout.{WayAt, WentBack}
 use Rattle.dg_machine.specs.Standing.{Around, HasOutside}
+use Rattle.dg_machine.proofs.Asked.{ActKeeps, EffectKeeps, asked_keeps, found_keeps, trying_keeps, trying_gathered}
 
 -- a machine has this outside, with these gatherings, and so has a status
 abbrev pub Same : OutsideOf → List Gathering → Mid → Type 0
@@ -153,6 +154,26 @@ module _ (o : OutsideOf) (gs : List Gathering) (g : Setting) where
   has_queries_last None vs many m e = e
   has_queries_last (Some t) vs many m e = has_last t vs many m.frames m e
 
+  has_kept : (act : Act) (m : Mid) → ActKeeps o act → Same o gs m → Has o gs (done g act m)
+  has_kept (Goes [] w) m e h = has_if _ ending.KeepLimit (RunsOf (outside_in w m)) (e, h.1)
+  has_kept (Goes (s ∷ steps) w) m e h = h
+  has_kept (Tests passed w) m e h = has_passed passed (outside_in w m) (e, h.1)
+  has_kept (Unifies made es w) m e h = has_unifies made es w m e h.1
+  has_kept (Ends x w) m e h = tt
+  has_kept (FailsNow w) m e h = (e, h.1)
+  has_kept (Stops w) m e h = absurd e
+
+  has_seeks : (f : FindOf) (x : Effect) (m : Mid) → EffectKeeps o x → Same o gs m → Has o gs (seeks g f x m)
+  has_seeks f (Acts act) m k e = has_kept act m k e
+  has_seeks f (Offers k' bs w) m k e = e
+
+  has_tries : (f : FindOf) (objects : List ℕ) (m : Mid) → Same o gs m → Has o gs (tries g f objects m)
+  has_tries f [] m e = e
+  has_tries f (i ∷ objects) m e =
+      let m' = trying g f objects m in
+      let same : m'.outside ≡ o = trying_keeps g f objects m ∙ e.0 in
+      has_charged (trying_cells f objects) m (done g (found_at [] f i m') m') (has_kept (found_at [] f i m') m' (subst (λ x. ActKeeps x (found_at [] f i m')) same (found_keeps f i m')) (same, trying_gathered g f objects m ∙ e.1))
+
   -- ## Instructions that take no goal
 
   has_commits : (ps : List Place) (m : Mid) → Same o gs m → Has o gs (commits ps m)
@@ -193,6 +214,7 @@ module _ (o : OutsideOf) (gs : List Gathering) (g : Setting) where
   has_goes_on : (s : Store) (refs : List Ref) (way : Way) (on : WayOf) (m : Mid) → LeavesGathered way → WayAt g.code s refs way on → Same o gs m → Has o gs (goes_on g on m)
   has_goes_on s refs (Goes b) (GoesOf b') m plain h e = has_resumed (block_at g.code b') m e
   has_goes_on s refs (Calls k pred left) (CallsOf c rules) m plain h e = has_begins c rules m e
+  has_goes_on s refs (Tries k from end) (TriesOf f objects) m plain h e = has_tries f objects m e
   has_goes_on s refs (Takes b) on m plain h e = absurd plain
   has_goes_on s refs way on m plain h e = absurd h
 
@@ -304,6 +326,11 @@ has_does g (op.Query a t many next) m b d =
 has_does g (op.LastQuery a t many) m b d =
     let n = cells g.game.program (a ∷ option_terms t) in
     has_charged m.outside m.gathered g n m (queries_last g (asked_by g a m) (values g m (option_terms t)) many (more n m)) (has_queries_last m.outside m.gathered g (asked_by g a m) (values g m (option_terms t)) many (more n m) (refl, refl))
+has_does g (op.Find place terms many next) m b d =
+    let n = cells g.game.program terms in
+    let f : FindOf = record { place = place; args = values g m terms; many = many; next = next } in
+    let x = asked_at g.game [] place f.args (more n m) in
+    has_charged m.outside m.gathered g n m (seeks g f x (more n m)) (has_seeks m.outside m.gathered g f x (more n m) (asked_keeps g.game true [] (registers_of (more n m)) place f.args (world_of [] (more n m))) (refl, refl))
 has_does g op.Take m b d = (refl, refl)
 has_does g (op.Branch alt) m b d = has_charged m.outside m.gathered g 10 m _ (refl, refl)
 has_does g (op.Select site mode blocks behind) m b d = absurd d

@@ -15,7 +15,7 @@ use Rattle.dg_mid.specs.Heights.{AgreeAll, StopsNamed, PlacesNamed, MidOrdered}
 use Rattle.dg_machine.specs.declared.now.Inner.{Inner}
 use Rattle.dg_machine.specs.declared.now.Choice.{Choice}
 use Rattle.dg_machine.specs.declared.now.Way.{Way}
-use Rattle.dg_machine.specs.declared.now.Way.TheVariants.{Goes, Takes, Calls}
+use Rattle.dg_machine.specs.declared.now.Way.TheVariants.{Goes, Takes, Calls, Tries}
 use Rattle.dg_machine.specs.declared.now.Now.TheVariants.{Runs, Fails}
 use Rattle.dg_machine.specs.declared.memory.Memory.{Memory}
 use Rattle.dg_machine.specs.Links.{named, below}
@@ -217,6 +217,7 @@ module _ (code : Code) (l : Limits) (m : Mid) (r mid : Memory) (k : Choice) (h :
     goes_at (Goes n) b at = (n, refl)
     goes_at (Takes n) b at = absurd at
     goes_at (Calls c pred count) b at = absurd at
+    goes_at (Tries c from end) b at = absurd at
 
     pub stops_else : ((b : ℕ) → k.way ≡ Goes b → ⊥) → StandsWith code g l new Fails out' (stops (setting g code l) m.stop (more 0 m))
     stops_else other = let x = goes_at k.way kept.part.block went.0 in absurd (other x.0 x.1)

@@ -38,12 +38,14 @@ use Rattle.dg_mid.proofs.Heights.{all_ordered}
 use Rattle.dg_spacing.specs.declared.spacer.Spacer.{Spacer}
 use Rattle.dg_spacing.specs.Spacer.{StandsFor}
 use Rattle.dg_machine.specs.declared.now.Now.{Now}
-use Rattle.dg_machine.specs.declared.now.Now.TheVariants.{Runs, Enters, Resumes, Fails, Ended}
+use Rattle.dg_machine.specs.declared.now.Now.TheVariants.{Runs, Enters, Resumes, Leaves, Misses, Fails, Ended}
 use Rattle.dg_machine.specs.declared.memory.Memory.{Memory}
 use Rattle.dg_machine.specs.Layout.{Holds}
 use Rattle.dg_machine.specs.Measure.{left_of}
 use Rattle.dg_machine.specs.Standing.{CodeIs, Stands, HasOutside}
 use Rattle.dg_outside.specs.declared.outside.Outside.{Outside}
+use Rattle.dg_machine.proofs.Seeks.{all_seek}
+use Rattle.dg_machine.specs.Built.{IsBuilt}
 use Rattle.dg_machine.specs.declared.tables.Tables.{Tables}
 use Rattle.dg_machine.specs.Tables.{IsOf}
 use Rattle.dg_machine.specs.Running.{rests, MarkDone, DoesMarks, ReadsGoal, LosesText, LosesLine, HasText, HasSettled, Settles, IsAt, IsLost, IsUnread, EndsSo, HasEnded, IsLostWithin, IsUnreadWithin}
@@ -69,6 +71,8 @@ pub at_mark : (code : Code) (l : Limits) (r : Memory) (now : Now) (s : Status) �
 at_mark code l r (Runs ops) (RunsOf m) e h = record { no_goal = ap at_goal h.0.0 ∙ e; goes_on = λ o. o }
 at_mark code l r (Enters k ops) (EntersOf c m) e h = record { no_goal = refl; goes_on = λ o. o }
 at_mark code l r (Resumes way) (ResumesOf on m) e h = record { no_goal = refl; goes_on = λ o. o }
+at_mark code l r (Leaves height ops) (RunsOf m) e h = record { no_goal = ap at_goal h.0.0; goes_on = λ o. o }
+at_mark code l r Misses (FailsOf m) e h = record { no_goal = refl; goes_on = λ o. o }
 at_mark code l r Fails (FailsOf m) e h = record { no_goal = refl; goes_on = λ o. o }
 at_mark code l r (Ended x) s e h = absurd (cc)
 at_mark code l r now s e h = absurd h
@@ -81,12 +85,12 @@ module _ (code : Code) (g : Game) (l : Limits) (typed : List ℕ) where
   settled_nowhere r out now steps h w = record { further = steps; stands = h; outside = w; goals = refl; prints = refl; left = refl }
 
   -- one more step
-  pub one_mark : (tb : Tables) → IsOf g.program tb → (r new : Memory) (out out' : Outside) (now next : Now) (steps : ℕ) → rests now ≡ false → DoesMarks tb code r out now new out' next → Stands code l r now (after set typed steps).now → HasOutside out g l (after set typed steps).now → MarkDone code g l r now new out' next (after set typed steps).now
-  one_mark tb is_of r new out out' now next steps e does h w = does g is_of l (after set typed steps).now (all_ordered set typed steps) (at_mark code l r now (after set typed steps).now e h).no_goal h w
+  pub one_mark : IsBuilt code → (tb : Tables) → IsOf g.program tb → (r new : Memory) (out out' : Outside) (now next : Now) (steps : ℕ) → rests now ≡ false → DoesMarks tb code r out now new out' next → Stands code l r now (after set typed steps).now → HasOutside out g l (after set typed steps).now → MarkDone code g l r now new out' next (after set typed steps).now
+  one_mark built tb is_of r new out out' now next steps e does h w = does g is_of l (after set typed steps).now (all_ordered set typed steps) (all_seek set built.leave typed steps) (at_mark code l r now (after set typed steps).now e h).no_goal h w
 
-  pub settled_on : (tb : Tables) → IsOf g.program tb → (mid new : Memory) (out out' : Outside) (now next : Now) (steps : ℕ) → rests now ≡ false → DoesMarks tb code mid out now new out' next → HasSettled code g l typed steps mid out now → HasSettled code g l typed steps new out' next
-  settled_on tb is_of mid new out out' now next steps e does h =
-      let done = one_mark tb is_of mid new out out' now next h.further e does h.stands h.outside in
+  pub settled_on : IsBuilt code → (tb : Tables) → IsOf g.program tb → (mid new : Memory) (out out' : Outside) (now next : Now) (steps : ℕ) → rests now ≡ false → DoesMarks tb code mid out now new out' next → HasSettled code g l typed steps mid out now → HasSettled code g l typed steps new out' next
+  settled_on built tb is_of mid new out out' now next steps e does h =
+      let done = one_mark built tb is_of mid new out out' now next h.further e does h.stands h.outside in
       let mark = at_mark code l mid now (after set typed h.further).now e h.stands in
       record {
         further = suc h.further;
@@ -97,8 +101,8 @@ module _ (code : Code) (g : Game) (l : Limits) (typed : List ℕ) where
         left = mark_leaves set (after set typed h.further).now (left_after set typed h.further) mark.no_goal ∙ h.left;
       }
 
-  pub mark_falls : (tb : Tables) → IsOf g.program tb → (r new : Memory) (out out' : Outside) (now next : Now) (steps : ℕ) → rests now ≡ false → DoesMarks tb code r out now new out' next → Stands code l r now (after set typed steps).now → HasOutside out g l (after set typed steps).now → left_of new next < left_of r now
-  mark_falls tb is_of r new out out' now next steps e does h w = (one_mark tb is_of r new out out' now next steps e does h w).falls (at_mark code l r now (after set typed steps).now e h).goes_on
+  pub mark_falls : IsBuilt code → (tb : Tables) → IsOf g.program tb → (r new : Memory) (out out' : Outside) (now next : Now) (steps : ℕ) → rests now ≡ false → DoesMarks tb code r out now new out' next → Stands code l r now (after set typed steps).now → HasOutside out g l (after set typed steps).now → left_of new next < left_of r now
+  mark_falls built tb is_of r new out out' now next steps e does h w = (one_mark built tb is_of r new out out' now next steps e does h w).falls (at_mark code l r now (after set typed steps).now e h).goes_on
 
   -- ## Goals
 

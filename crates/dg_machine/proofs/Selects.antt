@@ -38,6 +38,6 @@ keeps_sites old new same times may = may_on times old new same (may_fewer times 
 pub picked_stands : (code : Code) (g : Game) (l : Limits) (m : Mid) (r : Memory) (out out' : Outside) (site : ℕ) (mode : Mode) (blocks : List ℕ) (behind branch : ℕ) (ops : Bor (List Op)) → IsBuilt code → PicksOne site mode (length blocks) branch out out' → ops.now ≡ block_at code (get_or blocks branch behind) → Holds code l r m → Around out g l m →
     StandsWith code g l r (Runs ops) out' (RunsOf (at_choice (setting g code l) (selects g site mode (length blocks) (world_of [] m)) site blocks behind m))
 picked_stands code g l m r out out' site mode blocks behind branch ops built one is h w = record {
-  stands = ((sym (is ∙ ap (λ b. block_at code (get_or blocks b behind)) (one.chosen g (world_of [] m) w.0)), subst OpsBuilt (sym is) (built (get_or blocks branch behind))), h);
+  stands = ((sym (is ∙ ap (λ b. block_at code (get_or blocks b behind)) (one.chosen g (world_of [] m) w.0)), subst OpsBuilt (sym is) (built.blocks (get_or blocks branch behind))), h);
   outside = (one.stands g (world_of [] m) w.0, ap (λ (x : FactsWorld). x.area.keep) one.world ∙ w.1, ap (λ (x : Gathered). x.aux) one.gathered ∙ w.2);
 }

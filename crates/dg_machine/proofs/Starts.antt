@@ -99,7 +99,7 @@ pub at_start : (code : Code) (p : CoreProgram) (dice : List ℕ) (l : Limits) (t
 at_start code p dice l typed r out block s k built is held none new starts = record {
   steps = 0;
   outside = (starts.stands (game p dice) typed refl refl, starts.keep, starts.aux);
-  stands = ((sym is, subst OpsBuilt (sym is) (built 1)), (held, sym none));
+  stands = ((sym is, subst OpsBuilt (sym is) (built.blocks 1)), (held, sym none));
   goals_is = refl;
   text = no_text s k new;
   left_is = refl;
@@ -114,7 +114,7 @@ somewhere_first tb code p dice l r out block i is_of built is held none starts t
       limits = l;
       typed = typed;
       steps = 0;
-      stands = ((sym is, subst OpsBuilt (sym is) (built 1)), (held, sym none));
+      stands = ((sym is, subst OpsBuilt (sym is) (built.blocks 1)), (held, sym none));
     };
     outside = (starts.stands (game p dice) typed refl refl, starts.keep, starts.aux);
   };

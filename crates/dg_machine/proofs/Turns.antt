@@ -21,9 +21,9 @@ use Rattle.dg_mid.specs.Runs.{after, left_after}
 use Rattle.dg_mid.proofs.Heights.{all_ordered}
 use Rattle.dg_spacing.specs.declared.spacer.Spacer.{Spacer}
 use Rattle.dg_machine.specs.declared.now.Now.{Now}
-use Rattle.dg_machine.specs.declared.now.Now.TheVariants.{Runs, Enters, Resumes, Fails, Ended}
+use Rattle.dg_machine.specs.declared.now.Now.TheVariants.{Runs, Enters, Resumes, Leaves, Misses, Fails, Ended}
 use Rattle.dg_machine.specs.declared.memory.Memory.{Memory}
-use Rattle.dg_machine.specs.Built.{OpsBuilt}
+use Rattle.dg_machine.specs.Built.{OpsBuilt, IsBuilt}
 use Rattle.dg_machine.specs.Layout.{HasRoom, Holds, Roomy}
 use Rattle.dg_machine.specs.Standing.{Stands, HasOutside}
 use Rattle.dg_outside.specs.declared.outside.Outside.{Outside}
@@ -73,10 +73,10 @@ pub somewhere_first : (tb : Tables) (code : Code) (r : Memory) (out : Outside) (
 somewhere_first tb code r out now i h = let rest = some_left i.left in (h rest.0 rest.1).found
 
 -- and behind a step that takes none
-pub somewhere_marked : (tb : Tables) (code : Code) (r new : Memory) (out out' : Outside) (now next : Now) → rests now ≡ false → DoesMarks tb code r out now new out' next → IsSomewhereWith tb code r out now → IsSomewhereWith tb code new out' next
-somewhere_marked tb code r new out out' now next e does found =
+pub somewhere_marked : (tb : Tables) (code : Code) → IsBuilt code → (r new : Memory) (out out' : Outside) (now next : Now) → rests now ≡ false → DoesMarks tb code r out now new out' next → IsSomewhereWith tb code r out now → IsSomewhereWith tb code new out' next
+somewhere_marked tb code built r new out out' now next e does found =
     let h = found.somewhere in
-    let done = one_mark code h.game h.limits h.typed tb h.tabled r new out out' now next h.steps e does h.stands found.outside in
+    let done = one_mark code h.game h.limits h.typed built tb h.tabled r new out out' now next h.steps e does h.stands found.outside in
     record { somewhere = record { game = h.game; tabled = h.tabled; limits = h.limits; typed = h.typed; steps = suc h.steps; stands = done.stands }; outside = done.outside }
 
 -- and behind steps that take no goal
@@ -116,6 +116,8 @@ module _ (code : Code) (g : Game) (l : Limits) (typed : List ℕ) where
   limited_at r out (Ended x) goals left s start k rest e other none h = absurd (other x refl)
   limited_at r out (Enters c ops) goals left s start k rest e other none h = absurd (cc)
   limited_at r out (Resumes way) goals left s start k rest e other none h = absurd (cc)
+  limited_at r out (Leaves height ops) goals left s start k rest e other none h = absurd (cc)
+  limited_at r out Misses goals left s start k rest e other none h = absurd (cc)
   limited_at r out Fails goals left s start k rest e other none h = absurd (cc)
 
   no_more : (r : Memory) (out : Outside) (now : Now) (n : ℕ) (s : Spacer) (start k : SinkView) (rest : List ℕ) → IsAt code g l typed r out now (n + 0) s start k rest → IsAt code g l typed r out now n s start k rest
@@ -258,4 +260,6 @@ rests_else (Runs ops) e r x = r ops refl
 rests_else (Ended y) e r x = x y refl
 rests_else (Enters c ops) e r x = absurd (cc)
 rests_else (Resumes way) e r x = absurd (cc)
+rests_else (Leaves height ops) e r x = absurd (cc)
+rests_else Misses e r x = absurd (cc)
 rests_else Fails e r x = absurd (cc)

@@ -1,5 +1,5 @@
 -- The instructions that a machine runs so far. Hold it against the README.
-use Rattle.std.specs.Prelude.{ℕ, ◌≤◌, List, [], ◌∷◌, length}
+use Rattle.std.specs.Prelude.{ℕ, ◌≡◌, ◌≤◌, List, [], ◌∷◌, Bool, true, false, length}
 use Rattle.dg_base.specs.declared.program.Term.{Term}
 use Rattle.dg_base.specs.declared.program.Term.TheOpen as term
 use Rattle.dg_mid.specs.declared.code.Op.{Op}
@@ -59,6 +59,7 @@ OpBuilt (op.Ask pred terms many next) = AreArguments terms
 OpBuilt (op.LastAsk pred terms many) = AreArguments terms
 OpBuilt (op.Query a b many next) = Unit {0}
 OpBuilt (op.LastQuery a b many) = Unit {0}
+OpBuilt (op.Find place terms many next) = AreArguments terms
 OpBuilt op.Take = Unit {0}
 OpBuilt (op.Branch alt) = Unit {0}
 OpBuilt (op.Select site mode blocks behind) = AreBranches blocks
@@ -83,9 +84,30 @@ abbrev pub OpsBuilt : List Op → Type 0
 OpsBuilt [] = Unit {0}
 OpsBuilt (x ∷ ops) = OpBuilt x × OpsBuilt ops
 
--- Code has no other instructions.
-abbrev pub IsBuilt : Code → Type 0
-IsBuilt code = (b : ℕ) → OpsBuilt (block_at code b)
+-- Code begins with the leaving of an inner construct.
+abbrev pub begins_commit : List Op → Bool
+begins_commit (op.Commit ∷ ops) = true
+begins_commit ops = false
+
+-- Where one answer of a query of objects is wanted, it goes on at a block that leaves an inner construct first.
+abbrev pub LeavesFirst : Code → Bool → ℕ → Type 0
+LeavesFirst code true next = Unit {0}
+LeavesFirst code false next = begins_commit (block_at code next) ≡ true
+
+-- So does an instruction.
+abbrev pub OpLeaves : Code → Op → Type 0
+OpLeaves code (op.Find place terms many next) = LeavesFirst code many next
+OpLeaves code x = Unit {0}
+
+-- So does each of some instructions.
+abbrev pub OpsLeave : Code → List Op → Type 0
+OpsLeave code [] = Unit {0}
+OpsLeave code (x ∷ ops) = OpLeaves code x × OpsLeave code ops
+
+-- Code has no other instructions, and queries of objects in it go on so.
+pub record IsBuilt (code : Code) : Type 0 where
+  pub blocks : (b : ℕ) → OpsBuilt (block_at code b)
+  pub leave : (b : ℕ) → OpsLeave code (block_at code b)
 
 -- An action prints nothing, leaves what is outside, and stops no part.
 abbrev pub IsQuiet : Action → Type 0
@@ -98,10 +120,11 @@ IsQuiet (action.Now place terms sets) = ⊥
 IsQuiet action.Stop = ⊥
 IsQuiet a = Unit {0}
 
--- So does an instruction.
+-- So does an instruction, and it reads nothing of that.
 abbrev pub IsQuietOp : Op → Type 0
 IsQuietOp (op.Do a) = IsQuiet a
 IsQuietOp (op.Select site mode blocks behind) = ⊥
 IsQuietOp (op.Collect term into alt) = ⊥
 IsQuietOp (op.Keep term) = ⊥
+IsQuietOp (op.Find place terms many next) = ⊥
 IsQuietOp x = Unit {0}

@@ -11,7 +11,8 @@ use Rattle.dg_arena.specs.Held.{meaning_of, saves_of}
 use Rattle.dg_mid.specs.declared.code.Code.{Code}
 use Rattle.dg_mid.specs.declared.code.RuleCode.{RuleCode}
 use Rattle.dg_mid.specs.Code.{rules_at}
-use Rattle.dg_mid.specs.State.{Place, Mid, Stop, Frame as FrameOf, Call as CallOf, Way as WayOf, Goes as GoesOf, Takes as TakesOf, Calls as CallsOf, Choice as ChoiceOf}
+use Rattle.dg_outside.specs.Finding.{counted}
+use Rattle.dg_mid.specs.State.{Place, Mid, Stop, Frame as FrameOf, Call as CallOf, Find as FindOf, Way as WayOf, Goes as GoesOf, Takes as TakesOf, Calls as CallsOf, Tries as TriesOf, Choice as ChoiceOf}
 use Rattle.dg_mid.specs.Step.{more, inside, new_stop, back_at, bound, trail_more}
 use Rattle.dg_unify.specs.declared.bindings.Ref.{Ref}
 use Rattle.dg_unify.specs.declared.bindings.Mark.{Mark}
@@ -21,7 +22,8 @@ use Rattle.dg_machine.specs.declared.now.Inner.{Inner}
 use Rattle.dg_machine.specs.declared.now.Call.{Call}
 use Rattle.dg_machine.specs.declared.now.Choice.{Choice}
 use Rattle.dg_machine.specs.declared.now.Way.{Way}
-use Rattle.dg_machine.specs.declared.now.Way.TheVariants.{Goes, Takes, Calls}
+use Rattle.dg_machine.specs.declared.now.Search.{Search}
+use Rattle.dg_machine.specs.declared.now.Way.TheVariants.{Goes, Takes, Calls, Tries}
 use Rattle.dg_machine.specs.declared.memory.Memory.{Memory}
 use Rattle.dg_machine.specs.Links.{named}
 use Rattle.dg_machine.specs.Refs.{RowAt, RefsAt}
@@ -88,11 +90,19 @@ pub record RulesAt (code : Code) (s : Store) (refs : List Ref) (k : Call) (pred 
   pub there : left ≤ length (rules_at code pred)
   pub rules_are : rules ≡ last_rules code pred left
 
+-- A query of objects is kept, and Refs of its arguments.
+pub record FindAt (s : Store) (refs : List Ref) (k : Search) (f : FindOf) : Type 0 where
+  pub place : f.place ≡ k.place
+  pub args : RefsAt s refs f.args
+  pub many : f.many ≡ k.many
+  pub next : f.next ≡ k.next
+
 -- What a choice goes on with is kept, with Refs of its arguments; those of a gathering are its value, and what it is taken out for.
 abbrev pub WayAt : Code → Store → List Ref → Way → WayOf → Type 0
 WayAt code s refs (Goes b) (GoesOf b') = b' ≡ b
 WayAt code s refs (Takes b) (TakesOf b' into) = (b' ≡ b) × (v : Value) × RefsAt s refs (v ∷ into ∷ [])
 WayAt code s refs (Calls k pred left) (CallsOf c rules) = RulesAt code s refs k pred left c rules
+WayAt code s refs (Tries k from end) (TriesOf f objects) = FindAt s refs k f × (objects ≡ counted from (end - from))
 WayAt code s refs way other = ⊥
 
 -- A choice keeps where it goes back to: of the store a mark that stands, and of frames, inner constructs, stoppable parts, Refs and open gatherings how

@@ -7,8 +7,10 @@ pub mod Stops
 pub mod Heads
 pub mod Layout
 pub mod Built
+pub mod Seeking
 pub mod Measure
 pub mod Standing
 pub mod Wording
 pub mod Reading
+pub mod Finding
 pub mod Running

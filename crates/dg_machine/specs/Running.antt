@@ -30,6 +30,7 @@ use Rattle.dg_machine.specs.declared.memory.Memory.{Memory}
 use Rattle.dg_machine.specs.declared.tables.Tables.{Tables}
 use Rattle.dg_machine.specs.Tables.{IsOf}
 use Rattle.dg_machine.specs.Layout.{Roomy, Holds}
+use Rattle.dg_machine.specs.Seeking.{StatusSeeks}
 use Rattle.dg_machine.specs.Standing.{CodeIs, Stands, Around, HasOutside}
 use Rattle.dg_machine.specs.Measure.{left_of}
 use Rattle.dg_machine.specs.Reading.{IsEnd, LeftBehind, Gave, Failed}
@@ -46,8 +47,8 @@ pub record MarkDone (code : Code) (g : Game) (l : Limits) (old : Memory) (before
 
 abbrev pub DoesMarks : Tables → Code → Memory → Outside → Now → Memory → Outside → Now → Type 0
 DoesMarks t code old out before new out' after =
-    (g : Game) → IsOf g.program t → (l : Limits) (s : Status) → StatusOrdered s → takes_goal s ≡ false → Stands code l old before s →
-    HasOutside out g l s → MarkDone code g l old before new out' after s
+    (g : Game) → IsOf g.program t → (l : Limits) (s : Status) → StatusOrdered s → StatusSeeks g code s → takes_goal s ≡ false →
+    Stands code l old before s → HasOutside out g l s → MarkDone code g l old before new out' after s
 
 -- A machine that needs no step before its next goal, or has ended.
 abbrev pub rests : Now → Bool

@@ -25,7 +25,8 @@ use Rattle.dg_meaning.specs.Copies.{values_of}
 use Rattle.dg_unify.specs.Store.{Store, IsClosureAt}
 use Rattle.dg_unify.specs.declared.bindings.Ref.{Ref}
 use Rattle.dg_mid.specs.Code.{block_at, rules_at}
-use Rattle.dg_mid.specs.State.{Mid, Call as CallOf, Way as WayOf, Goes as GoesOf, Takes as TakesOf, ToPred, ToBody}
+use Rattle.dg_mid.specs.declared.code.Op.TheVariants as op
+use Rattle.dg_mid.specs.State.{Mid, Place, Call as CallOf, Way as WayOf, Goes as GoesOf, Takes as TakesOf, ToPred, ToBody}
 use Rattle.dg_mid.specs.State.{Status, Runs as RunsOf, Enters as EntersOf, Resumes as ResumesOf, Fails as FailsOf, Ended as EndedOf}
 use Rattle.dg_mid.specs.Heights.{MidOrdered, StatusOrdered}
 use Rattle.dg_mid.specs.Potential.{Tidy}
@@ -33,9 +34,9 @@ use Rattle.dg_mid.specs.Step.{setting, call_of, begins, enters, asks, last, does
 use Rattle.dg_mid.specs.Step.{queries_last, enter, entered, goes_on, goes_back, step, charged, gathering, gathers, keeps, takes}
 use Rattle.dg_machine.specs.declared.now.Call.{Call}
 use Rattle.dg_machine.specs.declared.now.Way.{Way}
-use Rattle.dg_machine.specs.declared.now.Way.TheVariants.{Goes, Takes, Calls}
+use Rattle.dg_machine.specs.declared.now.Way.TheVariants.{Goes, Takes, Calls, Tries}
 use Rattle.dg_machine.specs.declared.now.Now.{Now}
-use Rattle.dg_machine.specs.declared.now.Now.TheVariants.{Runs, Enters, Resumes, Fails, Ended}
+use Rattle.dg_machine.specs.declared.now.Now.TheVariants.{Runs, Enters, Resumes, Leaves, Misses, Fails, Ended}
 use Rattle.dg_machine.specs.declared.memory.Memory.{Memory}
 use Rattle.dg_machine.specs.Refs.{RefsAt, AreRefs}
 use Rattle.dg_machine.specs.Layout.{CallAt, RulesAt, WayAt, Roomy, Holds}
@@ -43,16 +44,30 @@ use Rattle.dg_machine.specs.Measure.{left_of}
 use Rattle.dg_machine.specs.declared.tables.Tables.{Tables}
 use Rattle.dg_machine.specs.Tables.{IsOf}
 use Rattle.dg_machine.specs.Built.{OpBuilt, OpsBuilt, IsBuilt}
+use Rattle.dg_machine.specs.Seeking.{WaySeeks}
 
 -- The code at hand is that of a machine, and all of it is built.
 abbrev pub CodeIs : List Op → Mid → Type 0
 CodeIs ops m = (m.ops ≡ ops) × OpsBuilt ops
+
+-- Memory holds what is around the innermost construct.
+pub record HoldsAround (code : Code) (l : Limits) (r : Memory) (m : Mid) : Type 0 where
+  pub innermost : Place
+  pub around : List Place
+  pub is : m.inner ≡ innermost ∷ around
+  pub held : Holds code l r (record m { inner = around })
+
+-- The code at hand leaves an inner construct, and then goes on so.
+abbrev pub LeadsOut : List Op → Mid → Type 0
+LeadsOut ops m = (m.ops ≡ op.Commit ∷ ops) × OpsBuilt ops
 
 -- What is done next is what a status is in, and memory holds it; where the run has ended it has room still.
 abbrev pub Stands : Code → Limits → Memory → Now → Status → Type 0
 Stands code l r (Runs ops) (RunsOf m) = CodeIs ops.now m × Holds code l r m
 Stands code l r (Enters k ops) (EntersOf c m) = CodeIs ops.now m × CallAt (meaning_of r.arena) r.args.items k c × Holds code l r m
 Stands code l r (Resumes way) (ResumesOf way' m) = WayAt code (meaning_of r.arena) r.args.items way way' × Holds code l r m
+Stands code l r (Leaves height ops) (RunsOf m) = LeadsOut ops.now m × (x : HoldsAround code l r m) × (x.innermost.height ≡ height)
+Stands code l r Misses (FailsOf m) = HoldsAround code l r m
 Stands code l r Fails (FailsOf m) = Holds code l r m
 Stands code l r (Ended e) (EndedOf e') = (e' ≡ e) × Roomy l r
 Stands code l r now s = ⊥
@@ -155,6 +170,7 @@ abbrev pub IsThere : Code → Memory → Way → Type 0
 IsThere code r (Goes b) = Unit {0}
 IsThere code r (Takes b) = (v into : Value) × RefsAt (meaning_of r.arena) r.args.items (v ∷ into ∷ [])
 IsThere code r (Calls k pred left) = (left ≤ length (rules_at code pred)) × AreRefs (meaning_of r.arena) r.args.items
+IsThere code r (Tries k from end) = AreRefs (meaning_of r.arena) r.args.items
 
 -- A choice goes on at a block, with a number of an earlier block where that begins with it.
 abbrev pub GoesOnAt : Code → ℕ → Memory → Bor (List Op) → Memory → Now → Type 0
@@ -169,8 +185,8 @@ TakesOut code b old out ops new after out' = (g : Game) (l : Limits) (m : Mid) (
 
 -- A choice goes on.
 abbrev pub GoesOn : Code → Memory → Outside → Way → Memory → Now → Outside → Type 0
-GoesOn code old out way new after out' = (g : Game) (l : Limits) (m : Mid) (on : WayOf) → WayAt code (meaning_of old.arena) old.args.items way on →
-    Holds code l old m → Around out g l m → FallsWith code g l old (Resumes way) new after out' (goes_on (setting g code l) on m)
+GoesOn code old out way new after out' = (g : Game) (l : Limits) (m : Mid) (on : WayOf) → WaySeeks g code on →
+    WayAt code (meaning_of old.arena) old.args.items way on → Holds code l old m → Around out g l m → FallsWith code g l old (Resumes way) new after out' (goes_on (setting g code l) on m)
 
 -- A choice opens inside which the first value at hand is gathered, to be taken out for the second.
 abbrev pub GathersFor : Code → Memory → Outside → ℕ → List Op → Memory → Now → Outside → Type 0
@@ -238,6 +254,11 @@ QueriesLast code old many new after = (g : Game) (l : Limits) (m : Mid) (v : Val
 abbrev pub FailsTo : Code → Memory → Outside → Memory → Now → Outside → Type 0
 FailsTo code old out new after out' = (g : Game) (l : Limits) (m : Mid) → Holds code l old m → Around out g l m →
     FallsWith code g l old Fails new after out' (goes_back m.choices m)
+
+-- An inner construct that isn't kept is left.
+abbrev pub LeavesAround : Code → Memory → ℕ → Bor (List Op) → Memory → Now → Type 0
+LeavesAround code old height ops new after = (g : Game) (l : Limits) (m : Mid) → MidOrdered m → Stands code l old (Leaves height ops) (RunsOf m) →
+    Falls code l old (Leaves height ops) new after (step (setting g code l) (RunsOf m))
 
 -- A machine stands for some status.
 pub record HasStatus (code : Code) (r : Memory) (now : Now) : Type 0 where

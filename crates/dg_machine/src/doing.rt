@@ -18,7 +18,7 @@ ghost use Rattle.dg_machine.specs.Heads.{FlatTerms};
 ghost use Rattle.dg_machine.specs.Refs.{RefsAt, AreRefs};
 ghost use Rattle.dg_machine.specs.Layout.{HasRoom, Holds};
 ghost use Rattle.dg_machine.specs.Standing.{DoesOp, DoesMark, CallsRules, EntersWith, Asks, AsksLast, Calculates, EntersBody, IsAsked, QueriesFirst};
-ghost use Rattle.dg_machine.specs.Standing.{DoesWith, ThrowsDie, ChangesPlace};
+ghost use Rattle.dg_machine.specs.Standing.{DoesWith, ThrowsDie, ChangesPlace, LeavesAround};
 ghost use Rattle.dg_machine.specs.Standing.{EntersLastBody, QueriesLast, EntersRule, EntersIn, IsThere, GoesOnAt, GoesOn, FailsTo};
 
 use crate::closures::body_row;
@@ -740,7 +740,16 @@ impl Memory {
             Way::Calls(call, pred, left) => self.call(code, call, pred, left),
             Way::Goes(block) => self.go_on_at(code_at(code, block)),
             Way::Takes(_) => Now::Fails,
+            Way::Tries(search, from, end) => self.try_first(code, outside, search, from, end),
         }
+    }
+
+    /// An inner construct of this height is left that isn't kept.
+    pub fn leave_around<'p>(&mut self, height: u32, ops: &'p [Op]) -> Now<'p>
+        ensures { (code : TheCode) → LeavesAround code self.old height ops.entry self.new result }
+    {
+        self.cut(height);
+        Now::Runs(ops)
     }
 
     /// It fails, and goes back to the newest choice; what was gathered inside that is dropped.

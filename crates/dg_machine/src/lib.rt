@@ -2,6 +2,7 @@
 #![tactic(auto)]
 
 mod closures;
+mod copies;
 mod doing;
 mod gathering;
 mod heads;
@@ -12,6 +13,7 @@ mod passing;
 mod refs;
 mod register;
 mod rows;
+mod seeking;
 mod selecting;
 mod steps;
 mod stopping;
@@ -23,5 +25,5 @@ mod writing;
 
 pub use machine::Machine;
 pub use memory::Memory;
-pub use now::{Call, Captured, Choice, Frame, Inner, Now, Row, Side, Way};
+pub use now::{Call, Captured, Choice, Frame, Inner, Now, Row, Search, Side, Way};
 pub use tables::Tables;

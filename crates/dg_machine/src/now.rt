@@ -56,12 +56,23 @@ pub struct Call {
     pub cut: u32,
 }
 
-/// What a choice goes on with: a block, a block that takes a gathering out, or the last so many rules of a predicate.
+/// A query of objects that are tried: the place that is asked, if there is one, whether all its answers are wanted, and the block
+/// behind an object that is found. Its arguments are in the register.
+#[derive(Clone, Copy, Drop)]
+pub struct Search {
+    pub place: Option<u16>,
+    pub many: bool,
+    pub next: u32,
+}
+
+/// What a choice goes on with: a block, a block that takes a gathering out, the last so many rules of a predicate, or the objects
+/// from one up to another.
 #[derive(Clone, Copy, Drop)]
 pub enum Way {
     Goes(u32),
     Takes(u32),
     Calls(Call, u16, usize),
+    Tries(Search, u16, u16),
 }
 
 /// A choice: what it goes on with, the frame, the inner construct and the stoppable part there, how many of them there were, how
@@ -89,12 +100,16 @@ pub enum Side {
     Tail(Ref),
 }
 
-/// What is done next: the code at hand, a rule is entered, what a choice had left goes on, it fails, or the run has ended.
+/// What is done next: the code at hand, a rule is entered, what a choice had left goes on, it fails, or the run has ended. Where one
+/// object is wanted and was tried, an inner construct is around that took no cells and isn't kept: it is left, and code goes on, or
+/// it fails.
 #[derive(Clone, Copy, Drop)]
 pub enum Now<'p> {
     Runs(&'p [Op]),
     Enters(Call, &'p [Op]),
     Resumes(Way),
+    Leaves(u32, &'p [Op]),
+    Misses,
     Fails,
     Ended(Ending),
 }

@@ -22,7 +22,7 @@ ghost use Rattle.dg_machine.specs.Running.{IsSomewhereWith, IsSomewhereAt, IsSom
 
 use crate::doing::code_at;
 use crate::memory::Memory;
-use crate::now::Now;
+use crate::now::{Now, Search};
 use crate::selecting::select;
 use crate::tables::Tables;
 use dg_base::{Ending, Fault, GapKind, Sink, Source, Term, WriteFault};
@@ -124,6 +124,8 @@ fn mark_step<'p>(
         },
         Now::Enters(call, ops) => memory.enter_rule(tables, call, ops),
         Now::Resumes(way) => memory.go_on(code, outside, way),
+        Now::Leaves(height, ops) => memory.leave_around(height, ops),
+        Now::Misses => memory.fail(outside),
         Now::Fails => memory.fail(outside),
         Now::Ended(ending) => Now::Ended(ending),
     }
@@ -339,6 +341,14 @@ fn goal_step<'p, K: Sink>(
             }
             Op::Collect(term, into, alt) => {
                 Ok(memory.collect(tables, outside, term, into, *alt, rest))
+            }
+            Op::Find(place, terms, many, next) => {
+                let search = Search {
+                    place: *place,
+                    many: *many,
+                    next: *next,
+                };
+                Ok(memory.find(tables, outside, search, terms.as_slice(), rest))
             }
             op => Ok(do_quiet(memory, code, tables, op, rest)),
         },

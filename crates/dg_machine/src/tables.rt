@@ -16,6 +16,7 @@ pub struct Tables {
     pub captured: Vec<Captured>,
     ghost spelled: { All IsSpelled words.items },
     ghost few: { length words.items ≤ 65535 },
+    ghost few_objects: { length objects.items ≤ 65535 },
 }
 
 /// A copy of a list of variables.

@@ -4,13 +4,15 @@ use Rattle.dg_mid.specs.declared.code.Action.TheVariants as action
 use Rattle.dg_machine.specs.Built.{OpBuilt, OpsBuilt}
 use Rattle.dg_machine.proofs.Leaving.{split_list}
 use Rattle.dg_machine.proofs.Goals.{quiet_done, quiet_op, first_goal, silent_with, built_first}
+use Rattle.dg_machine.proofs.Outsides.{has_outside, has_does}
 use Rattle.dg_machine.proofs.Selects.{keeps_sites}
+use Rattle.dg_mid.specs.Step.{setting, does}
 use Rattle.dg_machine.proofs.steps.goal_step.Goals as goal
 
 pub returns-in_default-clause-ok : goal.returns-in_default-clause-ok
 returns-in_default-clause-ok g c game is_of l m o e at h w =
     let all = c.args.ops.now in
-    quiet_done c.args.tables.now c.args.code.now game is_of l m c.args.memory.now c.do_quiet.new.memory c.do_quiet.result all c.op-item.result (take (length all - 1) (drop 1 all)) (split_list all c.op-item.result c.in-len1-up.len_at_least c.op-item.is) at h c.args.spacer.now (g.K.Sink.view c.args.sink.now) c.args.outside.now o w (quiet_op c.op-item.result (first_goal all c.op-item.result (take (length all - 1) (drop 1 all)) (split_list all c.op-item.result c.in-len1-up.len_at_least c.op-item.is) c.requires.goal) c.in_default.not-Do c.in_default.not-Select c.in_default.not-Collect) c.do_quiet.ensures
+    quiet_done c.args.tables.now c.args.code.now game is_of l m c.args.memory.now c.do_quiet.new.memory c.do_quiet.result all c.op-item.result (take (length all - 1) (drop 1 all)) (split_list all c.op-item.result c.in-len1-up.len_at_least c.op-item.is) at h c.args.spacer.now (g.K.Sink.view c.args.sink.now) c.args.outside.now o w (quiet_op c.op-item.result (first_goal all c.op-item.result (take (length all - 1) (drop 1 all)) (split_list all c.op-item.result c.in-len1-up.len_at_least c.op-item.is) c.requires.goal) c.in_default.not-Do c.in_default.not-Select c.in_default.not-Collect c.in_default.not-Find) c.do_quiet.ensures
 
 pub returns-in-Ok-clause-ok : goal.returns-in-Ok-clause-ok
 returns-in-Ok-clause-ok g c = c.in-Ok.ensures.ok c.args.code.now
@@ -42,7 +44,7 @@ returns-in-Select-clause-ok g c game is_of l m o e at h w =
 pub do_quiet-requires-clause-quiet : goal.do_quiet-requires-clause-quiet
 do_quiet-requires-clause-quiet g c =
     let all = c.args.ops.now in
-    quiet_op c.op-item.result (first_goal all c.op-item.result (take (length all - 1) (drop 1 all)) (split_list all c.op-item.result c.in-len1-up.len_at_least c.op-item.is) c.requires.goal) c.in_default.not-Do c.in_default.not-Select c.in_default.not-Collect
+    quiet_op c.op-item.result (first_goal all c.op-item.result (take (length all - 1) (drop 1 all)) (split_list all c.op-item.result c.in-len1-up.len_at_least c.op-item.is) c.requires.goal) c.in_default.not-Do c.in_default.not-Select c.in_default.not-Collect c.in_default.not-Find
 
 pub returns-in-Collect-clause-ok : goal.returns-in-Collect-clause-ok
 returns-in-Collect-clause-ok g c game is_of l m o e at h w =
@@ -74,3 +76,28 @@ returns-in-Stop-clause-ok g c game is_of l m o e at h w =
     let split = split_list all c.op-item.result c.in-len1-up.len_at_least c.op-item.is ∙ ap (λ y. y ∷ rest) (c.in-Do.is ∙ ap op.Do c.in-Stop.is) in
     silent_with c.args.tables.now c.args.code.now game is_of l m c.args.memory.now c.stop.new.self c.stop.result all (op.Do action.Stop) rest split at h c.args.spacer.now (g.K.Sink.view c.args.sink.now) c.stop.new.outside refl
     (c.stop.ensures.does game l (record m { ops = rest }) o h w)
+
+pub returns-in-Find-clause-ok : goal.returns-in-Find-clause-ok
+returns-in-Find-clause-ok g c game is_of l m o e at h w =
+    let set = setting game c.args.code.now l in
+    let all = c.args.ops.now in
+    let x = c.in-Find in
+    let terms = c.as_slice.result.now in
+    let rest = take (length all - 1) (drop 1 all) in
+    let first = op.Find x.place terms x.many x.next in
+    let split = split_list all c.op-item.result c.in-len1-up.len_at_least c.op-item.is ∙ ap (λ y. y ∷ rest) (x.is ∙ ap (λ ts. op.Find x.place ts x.many x.next) (sym c.as_slice.ensures)) in
+    let built : OpsBuilt (first ∷ rest) = subst OpsBuilt split at.1 in
+    let m' = record m { ops = rest } in
+    let stands = c.find.ensures c.args.code.now game is_of l m' built.0 (refl, built.1) h w in
+    silent_with c.args.tables.now c.args.code.now game is_of l m c.args.memory.now c.find.new.self c.find.result all first rest split at h c.args.spacer.now (g.K.Sink.view c.args.sink.now) c.args.outside.now refl
+    (record { stands = stands; outside = has_outside c.args.outside.now game l m' (does set first m') (has_does set first m' built.0 tt) w })
+
+pub returns-in-Find-clause-once : goal.returns-in-Find-clause-once
+returns-in-Find-clause-once g c = keeps_sites c.args.outside.now c.args.outside.now refl
+
+pub find-requires-clause-terms : goal.find-requires-clause-terms
+find-requires-clause-terms g c =
+    let all = c.args.ops.now in
+    let x = c.in-Find in
+    let built = built_first all c.op-item.result (take (length all - 1) (drop 1 all)) (split_list all c.op-item.result c.in-len1-up.len_at_least c.op-item.is) c.requires.ops_built in
+    subst OpBuilt (x.is ∙ ap (λ ts. op.Find x.place ts x.many x.next) (sym c.as_slice.ensures)) built

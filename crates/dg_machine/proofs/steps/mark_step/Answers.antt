@@ -2,7 +2,7 @@ use Rattle.std.proofs.Common.{sym, subst, ap, ◌∙◌, ◌≡◌, ◌∷◌, f
 use Rattle.dg_mid.specs.Step.{at_goal, is_goal}
 use Rattle.dg_machine.specs.Running.{rests, DoesMarks}
 use Rattle.dg_machine.proofs.Leaving.{split_list}
-use Rattle.dg_machine.proofs.Goals.{marks_run, marks_keep, quiet_mark_op, marks_enter, marks_resume, marks_fail}
+use Rattle.dg_machine.proofs.Goals.{held_of, marks_run, marks_keep, quiet_mark_op, marks_enter, marks_resume, marks_leave, marks_miss, marks_fail}
 use Rattle.dg_machine.proofs.steps.mark_step.Goals as goal
 
 pub returns-in_default-clause-done : goal.returns-in_default-clause-done
@@ -34,5 +34,18 @@ returns-in-Resumes-clause-done c =
 
 pub returns-in-Fails-clause-done : goal.returns-in-Fails-clause-done
 returns-in-Fails-clause-done c =
-    subst (λ n. DoesMarks c.args.tables.now c.args.code.now c.args.memory.now c.args.outside.now n c.fail.new.self c.fail.new.outside c.fail.result) (sym c.in-Fails.is)
-    (marks_fail c.args.tables.now c.args.code.now c.args.memory.now c.fail.new.self c.args.outside.now c.fail.new.outside c.fail.result (c.fail.ensures.fails c.args.code.now))
+    subst (λ n. DoesMarks c.args.tables.now c.args.code.now c.args.memory.now c.args.outside.now n c.fail-in-Fails.new.self c.fail-in-Fails.new.outside c.fail-in-Fails.result) (sym c.in-Fails.is)
+    (marks_fail c.args.tables.now c.args.code.now c.args.memory.now c.fail-in-Fails.new.self c.args.outside.now c.fail-in-Fails.new.outside c.fail-in-Fails.result (c.fail-in-Fails.ensures.fails c.args.code.now))
+
+pub returns-in-Leaves-clause-done : goal.returns-in-Leaves-clause-done
+returns-in-Leaves-clause-done c =
+    subst (λ n. DoesMarks c.args.tables.now c.args.code.now c.args.memory.now c.args.outside.now n c.leave_around.new.self c.args.outside.now c.leave_around.result) (sym c.in-Leaves.is)
+    (marks_leave c.args.tables.now c.args.code.now c.args.memory.now c.leave_around.new.self c.args.outside.now c.leave_around.result c.in-Leaves.height c.in-Leaves.ops (c.leave_around.ensures c.args.code.now))
+
+pub returns-in-Misses-clause-done : goal.returns-in-Misses-clause-done
+returns-in-Misses-clause-done c =
+    subst (λ n. DoesMarks c.args.tables.now c.args.code.now c.args.memory.now c.args.outside.now n c.fail.new.self c.fail.new.outside c.fail.result) (sym c.in-Misses.is)
+    (marks_miss c.args.tables.now c.args.code.now c.args.memory.now c.fail.new.self c.args.outside.now c.fail.new.outside c.fail.result (c.fail.ensures.fails c.args.code.now))
+
+pub fail-requires : goal.fail-requires
+fail-requires c = let x = held_of c.args.code.now c.args.memory.now c.args.now c.requires.some c.requires.mark in record { some = (c.args.code.now, x.limits, x.mid, x.held) }

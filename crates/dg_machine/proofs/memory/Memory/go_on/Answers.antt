@@ -1,16 +1,17 @@
 use Rattle.std.proofs.Common.{sym, subst}
 use Rattle.dg_mid.specs.Step.{setting, goes_on}
 use Rattle.dg_machine.specs.declared.now.Now.TheVariants.{Resumes}
-use Rattle.dg_machine.specs.declared.now.Way.TheVariants.{Goes, Calls}
+use Rattle.dg_machine.specs.declared.now.Way.TheVariants.{Goes, Calls, Tries}
 use Rattle.dg_arena.specs.Held.{meaning_of}
 use Rattle.dg_machine.specs.Layout.{WayAt}
 use Rattle.dg_machine.specs.Standing.{FallsWith}
 use Rattle.dg_machine.proofs.Leaving.{go_calls, go_goes}
 use Rattle.dg_machine.proofs.Outsides.{resume_outside}
+use Rattle.dg_machine.proofs.Trying.{go_tries}
 use Rattle.dg_machine.proofs.memory.Memory.go_on.Goals as goal
 
 pub returns-in-Calls-clause-goes_on : goal.returns-in-Calls-clause-goes_on
-returns-in-Calls-clause-goes_on c g l m on at h w =
+returns-in-Calls-clause-goes_on c g l m on seeks at h w =
     let code = c.args.code.now in
     let r = c.args.self.now in
     let there = subst (λ x. WayAt code (meaning_of r.arena) r.args.items x on) c.in-Calls.is at in
@@ -20,11 +21,22 @@ returns-in-Calls-clause-goes_on c g l m on at h w =
     })
 
 pub returns-in-Goes-clause-goes_on : goal.returns-in-Goes-clause-goes_on
-returns-in-Goes-clause-goes_on c g l m on at h w =
+returns-in-Goes-clause-goes_on c g l m on seeks at h w =
     let code = c.args.code.now in
     let r = c.args.self.now in
     let there = subst (λ x. WayAt code (meaning_of r.arena) r.args.items x on) c.in-Goes.is at in
     subst (λ x. FallsWith code g l r (Resumes x) c.go_on_at.new.self c.go_on_at.result c.args.outside.now (goes_on (setting g code l) on m)) (sym c.in-Goes.is) (record {
       done = go_goes code g l m c.in-Goes.block r c.go_on_at.new.self c.go_on_at.result on there (c.go_on_at.ensures code c.in-Goes.block g l m c.requires.tidy c.requires.built c.code_at.ensures h);
       outside = resume_outside c.args.outside.now g l code (meaning_of r.arena) r.args.items (Goes c.in-Goes.block) on m tt there w;
+    })
+
+pub returns-in-Tries-clause-goes_on : goal.returns-in-Tries-clause-goes_on
+returns-in-Tries-clause-goes_on c g l m on seeks at h w =
+    let code = c.args.code.now in
+    let r = c.args.self.now in
+    let x = c.in-Tries in
+    let there = subst (λ y. WayAt code (meaning_of r.arena) r.args.items y on) x.is at in
+    subst (λ y. FallsWith code g l r (Resumes y) c.try_first.new.self c.try_first.result c.args.outside.now (goes_on (setting g code l) on m)) (sym x.is) (record {
+      done = go_tries code g l m c.args.outside.now x.search x.from x.end r c.try_first.new.self c.try_first.result on seeks w there c.try_first.ensures h;
+      outside = resume_outside c.args.outside.now g l code (meaning_of r.arena) r.args.items (Tries x.search x.from x.end) on m tt there w;
     })

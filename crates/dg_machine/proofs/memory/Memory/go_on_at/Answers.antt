@@ -27,4 +27,4 @@ returns-in_default c code block g l m tidy built is h =
     let all = c.args.ops.now in
     let split = split_list all c.op-item.result c.in-len1-up.len_at_least c.op-item.is in
     goes_as_is code g l block m c.args.self.now c.args.self.now c.args.ops tidy built is h
-    (resumed_else (setting g code l) all c.op-item.result (take (length all - 1) (drop 1 all)) m split (subst OpsBuilt (sym is) (built block)) c.in_default.not-Retry)
+    (resumed_else (setting g code l) all c.op-item.result (take (length all - 1) (drop 1 all)) m split (subst OpsBuilt (sym is) (built.blocks block)) c.in_default.not-Retry)

@@ -1,0 +1,29 @@
+-- What choices of objects may try, and where they go on. Hold it against the Dialog manual, chapter "Choice points".
+use Rattle.std.specs.Prelude.{◌≡◌, List, [], ◌∷◌, true}
+use Rattle.dg_meaning.specs.Facts.{kinds_of}
+use Rattle.dg_meaning.specs.World.{Game}
+use Rattle.dg_outside.specs.Finding.{may_find}
+use Rattle.dg_mid.specs.declared.code.Code.{Code}
+use Rattle.dg_mid.specs.State.{Way, Tries, Choice, Mid, Status, Runs, Enters, Resumes, Fails, Ended}
+use Rattle.dg_machine.specs.Built.{LeavesFirst, OpsLeave}
+
+-- Objects are tried at a place that speaks of them, and where one answer is wanted an inner construct is left first.
+abbrev pub WaySeeks : Game → Code → Way → Type 0
+WaySeeks g code (Tries f objects) = (may_find (kinds_of g.program) f.place ≡ true) × LeavesFirst code f.many f.next
+WaySeeks g code way = Unit {0}
+
+-- So it is with each of some choices.
+abbrev pub ChoicesSeek : Game → Code → List Choice → Type 0
+ChoicesSeek g code [] = Unit {0}
+ChoicesSeek g code (c ∷ cs) = WaySeeks g code c.way × ChoicesSeek g code cs
+
+-- So it is with what a machine may still do.
+abbrev pub MidSeeks : Game → Code → Mid → Type 0
+MidSeeks g code m = OpsLeave code m.ops × ChoicesSeek g code m.choices
+
+abbrev pub StatusSeeks : Game → Code → Status → Type 0
+StatusSeeks g code (Runs m) = MidSeeks g code m
+StatusSeeks g code (Enters call m) = MidSeeks g code m
+StatusSeeks g code (Resumes way m) = WaySeeks g code way × MidSeeks g code m
+StatusSeeks g code (Fails m) = MidSeeks g code m
+StatusSeeks g code (Ended ending) = Unit {0}
