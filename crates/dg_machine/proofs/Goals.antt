@@ -97,7 +97,7 @@ other_fails g (op.Enter vars head) m e b q c f v r t d = refl
 other_fails g op.Back m e b q c f v r t d = refl
 other_fails g op.Leave m e b q c f v r t d = absurd (v refl)
 other_fails g (op.Keep term) m e b q c f v r t d = absurd q
-other_fails g (op.TakeOut whole into) m e b q c f v r t d = absurd b
+other_fails g (op.TakeOut whole into) m e b q c f v r t d = refl
 other_fails g x m e b q c f v r t d = absurd (cc)
 
 pub fails_else : (code : Code) (r : Memory) (ops : Bor (List Op)) (x : Op) (rest : List Op) → is_goal x ≡ false → IsQuietOp x → (x ≡ op.Commit → ⊥) → (x ≡ op.Refuse → ⊥) → (x ≡ op.Leave → ⊥) → (x ≡ op.Return → ⊥) → ((b : ℕ) → x ≡ op.Goto b → ⊥) → (x ≡ op.Done → ⊥) → DoesMark code r ops x rest r Fails

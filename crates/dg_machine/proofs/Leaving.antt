@@ -232,7 +232,6 @@ module _ (code : Code) (g : Game) (l : Limits) (m : Mid) (k : Call) (c : CallOf)
 -- code that begins otherwise than with a kept choice goes on as it is
 pub resumed_as_is : (g : Setting) (x : Op) (ops : List Op) (m : Mid) → OpBuilt x → ((alt : ℕ) → x ≡ op.Retry alt → ⊥) → resumed g (x ∷ ops) m ≡ RunsOf (passed (record m { ops = x ∷ ops }))
 resumed_as_is g (op.Retry alt) ops m built other = absurd (other alt refl)
-resumed_as_is g (op.TakeOut whole into) ops m built other = absurd built
 resumed_as_is g x ops m built other = refl
 
 pub resumed_none : (g : Setting) (ops : List Op) (m : Mid) → length ops < 1 → resumed g ops m ≡ RunsOf (passed (record m { ops = ops }))

@@ -33,6 +33,7 @@ pub mod Prints
 pub mod Asked
 pub mod Outsides
 pub mod Gatherings
+mod Takings
 mod Goals
 pub mod Spaces
 pub mod Pieces

@@ -340,6 +340,7 @@ has_does g op.Once m b d = has_charged m.outside m.gathered g 10 m _ (refl, refl
 has_does g (op.Try alt) m b d = has_charged m.outside m.gathered g 10 m _ (refl, refl)
 has_does g (op.Shield alt) m b d = has_charged m.outside m.gathered g 10 m _ (refl, refl)
 has_does g (op.Retry alt) m b d = (refl, refl)
+has_does g (op.TakeOut whole into) m b d = (refl, refl)
 has_does g op.Commit m b d = has_commits m.outside m.gathered g m.inner m (refl, refl)
 has_does g op.Refuse m b d = has_refuses m.outside m.gathered g m.inner m (refl, refl)
 has_does g op.Leave m b d = has_leaves m.outside m.gathered g m.inner m (refl, refl)

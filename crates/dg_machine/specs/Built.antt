@@ -6,6 +6,7 @@ use Rattle.dg_mid.specs.declared.code.Op.{Op}
 use Rattle.dg_mid.specs.declared.code.Op.TheVariants as op
 use Rattle.dg_mid.specs.declared.code.Action.{Action}
 use Rattle.dg_mid.specs.declared.code.Action.TheVariants as action
+use Rattle.dg_mid.specs.declared.code.Gathered.TheVariants as gathered
 use Rattle.dg_mid.specs.declared.code.Code.{Code}
 use Rattle.dg_mid.specs.Code.{block_at}
 
@@ -70,6 +71,7 @@ OpBuilt (op.Keep term) = Unit {0}
 OpBuilt (op.Shield alt) = Unit {0}
 OpBuilt (op.Retry alt) = Unit {0}
 OpBuilt op.Commit = Unit {0}
+OpBuilt (op.TakeOut gathered.Sum into) = Unit {0}
 OpBuilt op.Refuse = Unit {0}
 OpBuilt op.Leave = Unit {0}
 OpBuilt op.Back = Unit {0}

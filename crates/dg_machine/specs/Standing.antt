@@ -19,6 +19,7 @@ use Rattle.dg_mid.specs.declared.code.Op.{Op}
 use Rattle.dg_mid.specs.declared.code.Op.TheVariants as op
 use Rattle.dg_mid.specs.declared.code.Action.TheVariants as action
 use Rattle.dg_mid.specs.declared.code.Code.{Code}
+use Rattle.dg_mid.specs.declared.code.Gathered.{Gathered}
 use Rattle.dg_mid.specs.declared.code.RuleCode.{RuleCode}
 use Rattle.dg_mid.specs.declared.code.BodyCode.{BodyCode}
 use Rattle.dg_meaning.specs.Copies.{values_of}
@@ -31,7 +32,7 @@ use Rattle.dg_mid.specs.State.{Status, Runs as RunsOf, Enters as EntersOf, Resum
 use Rattle.dg_mid.specs.Heights.{MidOrdered, StatusOrdered}
 use Rattle.dg_mid.specs.Potential.{Tidy}
 use Rattle.dg_mid.specs.Step.{setting, call_of, begins, enters, asks, last, does, done, enters_body, closure_at, queries}
-use Rattle.dg_mid.specs.Step.{queries_last, enter, entered, goes_on, goes_back, step, charged, gathering, gathers, keeps, takes}
+use Rattle.dg_mid.specs.Step.{queries_last, enter, entered, goes_on, goes_back, step, charged, gathering, gathers, keeps, takes, takes_newest}
 use Rattle.dg_machine.specs.declared.now.Call.{Call}
 use Rattle.dg_machine.specs.declared.now.Way.{Way}
 use Rattle.dg_machine.specs.declared.now.Way.TheVariants.{Goes, Takes, Calls, Tries}
@@ -176,6 +177,12 @@ IsThere code r (Tries k from end) = AreRefs (meaning_of r.arena) r.args.items
 abbrev pub GoesOnAt : Code → ℕ → Memory → Bor (List Op) → Memory → Now → Type 0
 GoesOnAt code b old ops new after = (g : Game) (l : Limits) (m : Mid) → Tidy code → IsBuilt code → ops.now ≡ block_at code b → Holds code l old m →
     Falls code l old (Resumes (Goes b)) new after (goes_on (setting g code l) (GoesOf b) m)
+
+-- The newest gathering is taken out so, for the second value at hand.
+abbrev pub TakesNewest : Code → Gathered → ℕ → Memory → Outside → List Op → Memory → Now → Outside → Type 0
+TakesNewest code whole b old out rest new after out' = (g : Game) (l : Limits) (m : Mid) (v into : Value) → CodeIs rest m → Holds code l old m →
+    RefsAt (meaning_of old.arena) old.args.items (v ∷ into ∷ []) → Around out g l m →
+    FallsWith code g l old (Resumes (Takes b)) new after out' (takes_newest (setting g code l) whole into m.gathered m)
 
 -- A gathering is taken out at these instructions.
 abbrev pub TakesOut : Code → ℕ → Memory → Outside → List Op → Memory → Now → Outside → Type 0

@@ -739,7 +739,7 @@ impl Memory {
         match way {
             Way::Calls(call, pred, left) => self.call(code, call, pred, left),
             Way::Goes(block) => self.go_on_at(code_at(code, block)),
-            Way::Takes(_) => Now::Fails,
+            Way::Takes(block) => self.take_out(outside, code_at(code, block)),
             Way::Tries(search, from, end) => self.try_first(code, outside, search, from, end),
         }
     }

@@ -18,6 +18,7 @@ mod selecting;
 mod steps;
 mod stopping;
 mod tables;
+mod taking;
 mod terms;
 mod texts;
 mod wording;

@@ -107,7 +107,7 @@ impl Memory {
     }
 
     /// Unifies the first two arguments, as far as they are there, with an object and a value.
-    fn meet(&mut self, object: u16, value: Simple) -> Result<bool, Full>
+    fn meet_object(&mut self, object: u16, value: Simple) -> Result<bool, Full>
         requires { AreRefs (meaning_of self.old.arena) self.old.args.items }
         ensures matched { (code : TheCode) → (l : Limits) → (m : Mid) → (vs : List Value) → Holds code l self.old m →
             RefsAt (meaning_of self.old.arena) self.old.args.items vs → MatchResult result
@@ -263,7 +263,7 @@ impl Memory {
         let Some(value) = found(&outside.world, search.place, object) else {
             return missed(search.many);
         };
-        match self.meet(object, value) {
+        match self.meet_object(object, value) {
             Err(_) => Now::Ended(Ending::TrailLimit),
             Ok(false) => missed(search.many),
             Ok(true) => landed(code, search, height),

@@ -8,6 +8,7 @@ use Rattle.dg_machine.specs.Standing.{FallsWith}
 use Rattle.dg_machine.proofs.Leaving.{go_calls, go_goes}
 use Rattle.dg_machine.proofs.Outsides.{resume_outside}
 use Rattle.dg_machine.proofs.Trying.{go_tries}
+use Rattle.dg_machine.proofs.Takings.{goes_takes}
 use Rattle.dg_machine.proofs.memory.Memory.go_on.Goals as goal
 
 pub returns-in-Calls-clause-goes_on : goal.returns-in-Calls-clause-goes_on
@@ -40,3 +41,11 @@ returns-in-Tries-clause-goes_on c g l m on seeks at h w =
       done = go_tries code g l m c.args.outside.now x.search x.from x.end r c.try_first.new.self c.try_first.result on seeks w there c.try_first.ensures h;
       outside = resume_outside c.args.outside.now g l code (meaning_of r.arena) r.args.items (Tries x.search x.from x.end) on m tt there w;
     })
+pub returns-in-Takes-clause-goes_on : goal.returns-in-Takes-clause-goes_on
+returns-in-Takes-clause-goes_on c g l m on seeks at h w =
+    let code = c.args.code.now in
+    let r = c.args.self.now in
+    let b = c.in-Takes.block in
+    let there = subst (λ x. WayAt code (meaning_of r.arena) r.args.items x on) c.in-Takes.is at in
+    subst (λ x. FallsWith code g l r (Resumes x) c.take_out.new.self c.take_out.result c.take_out.new.outside (goes_on (setting g code l) on m)) (sym c.in-Takes.is)
+    (goes_takes code g l m b r c.take_out.new.self c.take_out.result c.args.outside.now c.take_out.new.outside c.code_at-in-Takes.result.now on there c.requires.built c.code_at-in-Takes.ensures (c.take_out.ensures.takes code b) h w)

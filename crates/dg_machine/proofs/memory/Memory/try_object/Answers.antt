@@ -33,8 +33,8 @@ returns-in-Err c g l m f p seeks around at high h =
     let is = found_here g l m c.args.outside.now f.place c.args.search.place c.args.object (Some (simple_value c.in-Some.value)) c.in-Some.ensures at.place seeks.0 around in
     let some = args_some (meaning_of r.arena) r.args.items f.args (vec_len r.args) c.is_empty.result at.args (omega (arith, r.args.ok.0)) c.is_empty.ensures c.if-is_empty.false in
     record {
-      stands = tried_over code g l m f p c.args.object c.in-Some.value is some c.meet.new.self (c.in-Err.ensures.matched code l m f.args h at.args);
-      falls = light_left code l r c.meet.new.self m (Ended TrailLimit) h c.in-Err.ensures.others tt;
+      stands = tried_over code g l m f p c.args.object c.in-Some.value is some c.meet_object.new.self (c.in-Err.ensures.matched code l m f.args h at.args);
+      falls = light_left code l r c.meet_object.new.self m (Ended TrailLimit) h c.in-Err.ensures.others tt;
     }
 
 pub returns-in-Ok-true : goal.returns-in-Ok-true
@@ -44,8 +44,8 @@ returns-in-Ok-true c g l m f p seeks around at high h =
     let is = found_here g l m c.args.outside.now f.place c.args.search.place c.args.object (Some (simple_value c.in-Some.value)) c.in-Some.ensures at.place seeks.0 around in
     let some = args_some (meaning_of r.arena) r.args.items f.args (vec_len r.args) c.is_empty.result at.args (omega (arith, r.args.ok.0)) c.is_empty.ensures c.if-is_empty.false in
     record {
-      stands = tried_on code g l m f p c.args.object c.in-Some.value is some c.meet.new.self c.args.search c.args.height c.in-Ok-true.field-0 c.landed.result c.in-Ok-true.field-0-test c.landed.ensures.lands seeks.1 at.many at.next high (c.in-Ok-true.ensures.matched code l m f.args h at.args);
-      falls = light_left code l r c.meet.new.self m c.landed.result h c.in-Ok-true.ensures.others c.landed.ensures.light;
+      stands = tried_on code g l m f p c.args.object c.in-Some.value is some c.meet_object.new.self c.args.search c.args.height c.in-Ok-true.field-0 c.landed.result c.in-Ok-true.field-0-test c.landed.ensures.lands seeks.1 at.many at.next high (c.in-Ok-true.ensures.matched code l m f.args h at.args);
+      falls = light_left code l r c.meet_object.new.self m c.landed.result h c.in-Ok-true.ensures.others c.landed.ensures.light;
     }
 
 pub returns-in-Ok-false : goal.returns-in-Ok-false
@@ -55,6 +55,6 @@ returns-in-Ok-false c g l m f p seeks around at high h =
     let is = found_here g l m c.args.outside.now f.place c.args.search.place c.args.object (Some (simple_value c.in-Some.value)) c.in-Some.ensures at.place seeks.0 around in
     let some = args_some (meaning_of r.arena) r.args.items f.args (vec_len r.args) c.is_empty.result at.args (omega (arith, r.args.ok.0)) c.is_empty.ensures c.if-is_empty.false in
     record {
-      stands = tried_clash code g l m f p c.args.object c.in-Some.value is some c.meet.new.self c.args.search c.in-Ok-false.field-0 c.missed-in-Ok-false.result at.many c.in-Ok-false.field-0-test c.missed-in-Ok-false.ensures.misses (c.in-Ok-false.ensures.matched code l m f.args h at.args);
-      falls = light_left code l r c.meet.new.self m c.missed-in-Ok-false.result h c.in-Ok-false.ensures.others c.missed-in-Ok-false.ensures.light;
+      stands = tried_clash code g l m f p c.args.object c.in-Some.value is some c.meet_object.new.self c.args.search c.in-Ok-false.field-0 c.missed-in-Ok-false.result at.many c.in-Ok-false.field-0-test c.missed-in-Ok-false.ensures.misses (c.in-Ok-false.ensures.matched code l m f.args h at.args);
+      falls = light_left code l r c.meet_object.new.self m c.missed-in-Ok-false.result h c.in-Ok-false.ensures.others c.missed-in-Ok-false.ensures.light;
     }

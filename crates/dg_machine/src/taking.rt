@@ -1,0 +1,83 @@
+// Gatherings that are taken out.
+ghost use Rattle.std.specs.Prelude.{◌≡◌, MatchResult, List, [], ◌∷◌, Some, ℕ};
+ghost use Rattle.dg_base.specs.declared.run.Limits.{Limits};
+ghost use Rattle.dg_meaning.specs.Unify.{unify as unified};
+ghost use Rattle.dg_meaning.specs.Values.{Value};
+ghost use Rattle.dg_unify.specs.Store.{Holds as HoldsRef};
+ghost use Rattle.dg_mid.specs.declared.code.Code.{Code as TheCode};
+ghost use Rattle.dg_mid.specs.declared.code.Gathered.TheVariants.{Sum};
+ghost use Rattle.dg_mid.specs.State.{Mid};
+ghost use Rattle.dg_arena.specs.Held.{meaning_of};
+ghost use Rattle.dg_machine.specs.Refs.{RefsAt};
+ghost use Rattle.dg_machine.specs.Layout.{Holds, Matched, Unmatched};
+ghost use Rattle.dg_machine.specs.Standing.{TakesNewest, TakesOut};
+
+use crate::memory::Memory;
+use crate::now::Now;
+use crate::terms::simple_value;
+use dg_base::{Ending, Simple};
+use dg_lists::sum;
+use dg_mid::{Gathered, Op};
+use dg_outside::Outside;
+use dg_unify::{Full, Ref, unify};
+
+impl Memory {
+    /// Unifies two values.
+    fn meet(&mut self, a: Ref, b: Ref) -> Result<bool, Full>
+        requires { HoldsRef (meaning_of self.old.arena) a × HoldsRef (meaning_of self.old.arena) b }
+        ensures met { (code : TheCode) → (l : Limits) → (m : Mid) → (u v : Value) → Holds code l self.old m → (meaning_of self.old.arena).value a ≡ Some u →
+            (meaning_of self.old.arena).value b ≡ Some v → MatchResult result (Matched code l (unified m.state.subst u v) m self.new)
+            (λ _. Unmatched l (unified m.state.subst u v) m self.new) }
+        ensures choices { self.new.choices ≡ self.old.choices }
+    {
+        match unify(&mut self.arena, a, b) {
+            Err(full) => Err(full),
+            Ok(agreed) => Ok(agreed),
+        }
+    }
+
+    /// The sum of the newest gathering, which is dropped, is unified with the second value at hand.
+    fn take_sum<'p>(&mut self, outside: &mut Outside<'_>, rest: &'p [Op]) -> Now<'p>
+        requires { (v into : Value) × RefsAt (meaning_of self.old.arena) self.old.args.items (v ∷ into ∷ []) }
+        ensures takes { (code : TheCode) → (block : ℕ) → TakesNewest code Sum block self.old outside.old rest.now self.new result outside.new }
+        ensures sites { outside.new.sites ≡ outside.old.sites }
+    {
+        let Some(cells) = outside.gathered.newest() else {
+            return Now::Fails;
+        };
+        let total = sum(cells);
+        let height = outside.gathered.height().0 - 1;
+        outside.close_to(height);
+        self.gathered = height;
+        match total {
+            None => Now::Fails,
+            Some(n) => {
+                let into = self.arg(1);
+                let number = simple_value(&mut self.arena, Simple::Num(n));
+                match self.meet(into, number) {
+                    Err(_) => Now::Ended(Ending::TrailLimit),
+                    Ok(false) => Now::Fails,
+                    Ok(true) => Now::Runs(rest),
+                }
+            }
+        }
+    }
+
+    /// The newest gathering is taken out at these instructions, for the second value at hand.
+    pub fn take_out<'p>(&mut self, outside: &mut Outside<'_>, ops: &'p [Op]) -> Now<'p>
+        requires { (v into : Value) × RefsAt (meaning_of self.old.arena) self.old.args.items (v ∷ into ∷ []) }
+        ensures takes { (code : TheCode) → (block : ℕ) → TakesOut code block self.old outside.old ops.now self.new result outside.new }
+        ensures sites { outside.new.sites ≡ outside.old.sites }
+    {
+        match ops {
+            [] => Now::Fails,
+            [op, rest @ ..] => match op {
+                Op::TakeOut(whole, _) => match whole {
+                    Gathered::Sum => self.take_sum(outside, rest),
+                    Gathered::List => Now::Fails,
+                },
+                _ => Now::Fails,
+            },
+        }
+    }
+}
