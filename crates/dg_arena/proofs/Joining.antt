@@ -1,20 +1,51 @@
--- A variable that is joined to the end of a value.
-use Rattle.std.proofs.Common.{◌≡◌, ℕ, ◌<◌, refl, sym, ap, ◌∙◌, subst, arith, Some, false}
+-- A variable that is joined to the end of a value, and values in which it doesn't stand.
+use Rattle.std.proofs.lemmas.Bool.{ne_eqb}
+use Rattle.std.proofs.Common.{◌-◌, ◌≤◌, ◌≡◌, ℕ, ◌<◌, refl, sym, ap, ◌∙◌, subst, arith, Some, false}
 use Rattle.std.specs.Prelude.{Bool, Result, Ok, Err}
-use Rattle.dg_meaning.specs.Values.{Value, Var, Node}
-use Rattle.dg_meaning.specs.Substitutions.{walk, is_bound, IsSubstitution}
+use Rattle.dg_meaning.specs.Values.{Value, Var, Node, Pair, More, NoMore}
+use Rattle.dg_meaning.specs.Substitutions.{walk, resolved, contains, is_bound, IsSubstitution}
 use Rattle.dg_meaning.specs.Unify.{unify, Binds, binds}
-use Rattle.dg_meaning.proofs.Walks.{walked}
-use Rattle.dg_unify.specs.Store.{Store, told, or_nil, ShowsVar, Follows}
-use Rattle.dg_unify.specs.Slots.{Fields, AreSound, store_of}
-use Rattle.dg_unify.specs.Ends.{subst_in, told_in, EndsAt, MayLink}
+use Rattle.dg_meaning.proofs.Walks.{walked, resolved_node}
+use Rattle.dg_unify.specs.Store.{Store, told, or_nil, ShowsVar, ShowsPair, Follows}
+use Rattle.dg_unify.specs.Slots.{label_at, value_in, Fields, AreSound, store_of}
+use Rattle.dg_unify.specs.Ends.{subst_in, told_in, TellsOf, IsEnd, EndsAt, MayLink}
 use Rattle.dg_unify.specs.Turns.{FollowsTurn, TurnsInto, met_of}
 use Rattle.dg_unify.specs.declared.bindings.Ref.{Ref}
 use Rattle.dg_unify.specs.declared.bindings.Full.{Full}
-use Rattle.dg_unify.proofs.StoreLemmas.{Younger, walked_to, holds_told}
+use Rattle.dg_unify.proofs.StoreLemmas.{Younger, walked_to, holds_told, contains_var}
+use Rattle.dg_unify.proofs.Reading.{simple_told}
 use Rattle.dg_unify.proofs.Meets.{met_vars, met_right, tie_younger, point_follows, unbound_at}
 use Rattle.dg_unify.proofs.Goings.{stays_broke}
-use Rattle.dg_arena.specs.Joins.{IsFree, IsBefore}
+use Rattle.dg_arena.specs.Joins.{IsFree, IsAbsent, IsBefore}
+
+-- ## Values in which a variable doesn't stand
+
+pub simple_absent : (f : Fields) → AreSound f → (at : Ref) → TellsOf f at → 2147483648 ≤ at.0 → (n : ℕ) → IsAbsent f at n
+simple_absent f sound at told le n =
+    let S = subst_in f in
+    ap (λ (v : Value). contains n (resolved S v)) (simple_told f sound at told le) ∙ ap (contains n) (resolved_node S (label_at (at.0 - 2147483648)) NoMore)
+
+-- what doesn't stand in the end of a value doesn't stand in it
+pub end_absent : (f : Fields) → AreSound f → (at end : Ref) → EndsAt f at end → (n : ℕ) → IsAbsent f end n → IsAbsent f at n
+end_absent f sound at end ends n h =
+    let S = subst_in f in
+    let w = walked S sound.fits.sound (told_in f at) in
+    ap (contains n) (sym w.same) ∙ ap (λ (v : Value). contains n (resolved S v)) (sym ends.is) ∙ h
+
+-- nor does it stand in another variable
+pub other_absent : (f : Fields) → AreSound f → (end : Ref) (m n : ℕ) → value_in f.slots end.0 ≡ Some (Var m) → IsEnd f end → (m ≡ n → ⊥) → IsAbsent f end n
+other_absent f sound end m n value is ne =
+    contains_var (subst_in f) sound.fits.sound (told_in f end) m n (is ∙ ap or_nil value) ∙ ne_eqb m n ne
+
+-- nor in a pair of two in which it doesn't
+pub pair_absent : (f : Fields) (at h t : Ref) (n : ℕ) → ShowsPair (store_of false f) (told_in f at) h t → IsAbsent f h n → IsAbsent f t n → IsAbsent f at n
+pair_absent f at h t n sh ha hb =
+    let S = subst_in f in
+    let ea : contains n (resolved S sh.head) ≡ false = ap (λ (v : Value). contains n (resolved S v)) (sym (ap or_nil sh.head_is)) ∙ ha in
+    let eb : contains n (resolved S sh.tail) ≡ false = ap (λ (v : Value). contains n (resolved S v)) (sym (ap or_nil sh.tail_is)) ∙ hb in
+    ap (λ (v : Value). contains n (resolved S v)) sh.is ∙ ap (contains n) (resolved_node S Pair (More sh.head (More sh.tail NoMore))) ∙ rw (ea, eb) refl
+
+-- ## Joining
 
 -- a turn behind which nothing is left is the whole
 turn_ends : (old new : Store) → IsSubstitution old.state.subst → (a b : Ref) (r : Result Bool Full) → TurnsInto old new a b (met_of r) → Follows old new (unify old.state.subst (told old a) (told old b)) r

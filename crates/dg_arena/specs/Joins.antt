@@ -15,9 +15,13 @@ pub record IsFree (f : Fields) (at : Ref) (n : ℕ) : Type 0 where
   pub end_is : IsEnd f at
   pub within : n < f.vars
 
+-- A variable of this number doesn't stand in a value.
+abbrev pub IsAbsent : Fields → Ref → ℕ → Type 0
+IsAbsent f at n = contains n (resolved (subst_in f) (told_in f at)) ≡ false
+
 -- A variable of this number doesn't stand in an end, and has the greater Ref where that is a variable.
 pub record IsBefore (f : Fields) (end var : Ref) (n : ℕ) : Type 0 where
-  pub absent : contains n (resolved (subst_in f) (told_in f end)) ≡ false
+  pub absent : IsAbsent f end n
   pub older : (m : ℕ) → told_in f end ≡ Var m → end.0 < var.0
 
 -- A value and a variable were unified, or nothing was done.

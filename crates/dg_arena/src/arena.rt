@@ -1,6 +1,7 @@
 // A store that takes its room once.
 
-ghost use Rattle.std.specs.Prelude.{vec_capacity, ◌≡◌, ◌&&◌, ◌+◌, ◌≤◌, ℕ, List, [], Some, None, true, false, IfOk, IfSome, MatchResult, length, reverse};
+ghost use Rattle.std.specs.Prelude.{vec_capacity, ◌≡◌, ◌&&◌, ◌+◌, ◌≤◌, ℕ, List, [], Some, None, true, false};
+ghost use Rattle.std.specs.Prelude.{IfOk, IfSome, MatchResult, length, reverse};
 ghost use Rattle.dg_unify.specs.Store.{Holds, Saved, Kept, Shows, HeapFull, TrailFull, Blocked, Bound};
 ghost use Rattle.dg_unify.specs.Linked.{log_of, vars_of, var_room, link_room};
 ghost use Rattle.dg_unify.specs.Slots.{AreSound, is_constant, store_of};
@@ -8,7 +9,7 @@ ghost use Rattle.dg_unify.specs.Ends.{TellsOf, told_in, IsEnd, Leads, EndsAt, Ma
 ghost use Rattle.dg_unify.specs.Fences.{IsFenced};
 ghost use Rattle.dg_unify.specs.Props.{are_sound_prop, is_fenced_prop};
 ghost use Rattle.dg_arena.specs.Room.{HasRoom};
-ghost use Rattle.dg_arena.specs.Joins.{IsFree, IsBefore, Joins};
+ghost use Rattle.dg_arena.specs.Joins.{IsFree, IsAbsent, IsBefore, Joins};
 
 use crate::words::push_words;
 use dg_base::Simple;
@@ -275,6 +276,46 @@ impl Arena {
         end.0 < var.0 && self.fence.stands_between(end, number)
     }
 
+    // Whether it is clear at once that a variable of this number doesn't stand in a value, up to its parts.
+    #[inline(always)]
+    fn part_clear(&self, at: Ref, number: u32) -> bool
+        requires { TellsOf (fields_of self.now) at }
+        ensures { result ≡ true → IsAbsent (fields_of self.now) at number }
+    {
+        let end = self.end_of(at);
+        if end.0 >= FIRST_SIMPLE {
+            return true;
+        }
+        if self.fence.stands_between(end, number) {
+            return true;
+        }
+        match self.cells[end.0 as usize] {
+            Slot::Var(other) => {
+                if other == number {
+                    return false;
+                }
+                true
+            }
+            _ => false,
+        }
+    }
+
+    // The same of a pair, by its parts.
+    fn parts_clear(&self, at: Ref, number: u32) -> bool
+        requires { TellsOf (fields_of self.now) at }
+        ensures { result ≡ true → IsAbsent (fields_of self.now) at number }
+    {
+        if at.0 >= FIRST_SIMPLE {
+            return true;
+        }
+        match self.cells[at.0 as usize] {
+            Slot::Pair(head, tail, _) => {
+                self.part_clear(head, number) && self.part_clear(tail, number)
+            }
+            _ => false,
+        }
+    }
+
     // Where a value leads, if it is a bound variable.
     #[inline(always)]
     fn link_of(&self, at: Ref) -> Option<Ref>
@@ -438,7 +479,15 @@ impl Bindings for Arena {
     #[inline(always)]
     fn is_clear(&self, x: Ref, at: Ref) -> bool {
         match self.cells[x.0 as usize] {
-            Slot::Var(number) => self.fence.stands_between(at, number) || self.is_constant(at),
+            Slot::Var(number) => {
+                if self.fence.stands_between(at, number) {
+                    return true;
+                }
+                if self.is_constant(at) {
+                    return true;
+                }
+                self.parts_clear(at, number)
+            }
             _ => false,
         }
     }

@@ -1,23 +1,20 @@
-use Rattle.std.proofs.Common.{◌≡◌, ◌-◌, arith, sym, ap, ◌∙◌, reverse}
-use Rattle.dg_meaning.specs.Values.{Value, Var, NoMore, leaf}
-use Rattle.dg_meaning.specs.Substitutions.{resolved, contains}
-use Rattle.dg_meaning.proofs.Walks.{resolved_node}
+use Rattle.std.proofs.Common.{◌≡◌, ◌-◌, arith, sym, ◌∙◌, reverse}
+use Rattle.dg_meaning.specs.Values.{Var, leaf}
 use Rattle.dg_unify.specs.Linked.{log_of, vars_of}
 use Rattle.dg_unify.specs.Slots.{label_at}
-use Rattle.dg_unify.specs.Ends.{subst_in}
 use Rattle.dg_unify.proofs.Reading.{simple_told}
 use Rattle.dg_unify.proofs.FenceLemmas.{between_absent}
 use Rattle.dg_arena.specs.Held.{fields_of}
+use Rattle.dg_arena.proofs.Joining.{simple_absent}
 use Rattle.dg_arena.proofs.arena.Arena.is_before.Goals as goal
 
 pub returns-then-end-ge-FIRST_SIMPLE : goal.returns-then-end-ge-FIRST_SIMPLE
 returns-then-end-ge-FIRST_SIMPLE c = λ yes.
     let f = fields_of c.args.self.now in
-    let n = c.args.number in
-    let told = simple_told f c.args.self.now.sound c.args.end c.requires (omega arith) in
+    let sound = c.args.self.now.sound in
     record {
-      absent = ap (λ (v : Value). contains n (resolved (subst_in f) v)) told ∙ ap (contains n) (resolved_node (subst_in f) (label_at (c.args.end.0 - 2147483648)) NoMore);
-      older = λ m e. let clash : leaf (label_at (c.args.end.0 - 2147483648)) ≡ Var m = sym told ∙ e in absurd (cc clash);
+      absent = simple_absent f sound c.args.end c.requires (omega arith) c.args.number;
+      older = λ m e. let clash : leaf (label_at (c.args.end.0 - 2147483648)) ≡ Var m = sym (simple_told f sound c.args.end c.requires (omega arith)) ∙ e in absurd (cc clash);
     }
 
 pub returns-then-end-var : goal.returns-then-end-var
