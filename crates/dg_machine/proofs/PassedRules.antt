@@ -3,7 +3,7 @@ use Rattle.std.proofs.Common.{◌≡◌, ℕ, ◌≤◌, ◌-◌, List, [], ◌�
 use Rattle.std.specs.Prelude.{if◌then◌else◌}
 use Rattle.std.specs.List.{slice_get}
 use Rattle.std.proofs.lemmas.Bool.{cond_both}
-use Rattle.std.proofs.lemmas.List.{take-append-drop, length-append}
+use Rattle.std.proofs.lemmas.List.{take-append-drop, length-append, length-drop}
 use Rattle.std.proofs.Math.Seq.{drop-append_seam}
 use Rattle.dg_meaning.specs.Values.{Unknown, Value}
 use Rattle.dg_meaning.specs.Substitutions.{walk}
@@ -103,8 +103,12 @@ are_last code pred rules h =
 pub no_longer : (all rules : List RuleCode) → EndsIn all rules → length rules ≤ length all
 no_longer all rules h = let len = ap length h.is ∙ length-append h.front rules in omega (arith, len)
 
+pub passed_end : (first : Option View) (rules : List RuleCode) → EndsIn rules (codes_from first rules)
+passed_end first [] = ends_here []
+passed_end first (r ∷ rs) = cond_both (view_excludes first r.key) (codes_from first rs) (r ∷ rs) (EndsIn (r ∷ rs)) (λ e. ends_later r rs (codes_from first rs) (passed_end first rs)) (λ e. ends_here (r ∷ rs))
+
 pub passed_few : (first : Option View) (rules : List RuleCode) → length (codes_from first rules) ≤ length rules
-passed_few first [] = omega arith
-passed_few first (r ∷ rs) =
-    let rest = passed_few first rs in
-    cond_both (view_excludes first r.key) (codes_from first rs) (r ∷ rs) (λ l. length l ≤ length (r ∷ rs)) (λ e. omega (arith, rest)) (λ e. omega arith)
+passed_few first rules = no_longer rules (codes_from first rules) (passed_end first rules)
+
+pub last_count : (code : Code) (pred left : ℕ) → left ≤ length (rules_at code pred) → length (last_rules code pred left) ≡ left
+last_count code pred left le = let all = rules_at code pred in omega (arith, le, length-drop (length all - left) all)

@@ -16,7 +16,8 @@ ghost use Rattle.dg_machine.specs.Built.{AreArguments, OpsBuilt, IsBuilt};
 ghost use Rattle.dg_machine.specs.declared.tables.Tables.{Tables as TheTables};
 ghost use Rattle.dg_machine.specs.Heads.{FlatTerms};
 ghost use Rattle.dg_machine.specs.Refs.{RefsAt, AreRefs};
-ghost use Rattle.dg_machine.specs.Layout.{HasRoom, Holds};
+ghost use Rattle.dg_machine.specs.Layout.{HasRoom, Holds, last_rules};
+ghost use Rattle.dg_machine.specs.Passing.{IsFirst};
 ghost use Rattle.dg_machine.specs.Standing.{DoesOp, DoesMark, CallsRules, EntersWith, Asks, AsksLast, Calculates, EntersBody, IsAsked, QueriesFirst};
 ghost use Rattle.dg_machine.specs.Standing.{DoesWith, ThrowsDie, ChangesPlace, LeavesAround};
 ghost use Rattle.dg_machine.specs.Standing.{EntersLastBody, QueriesLast, EntersRule, EntersIn, IsThere, GoesOnAt, GoesOn, FailsTo};
@@ -30,7 +31,7 @@ use crate::tables::Tables;
 use dg_base::{ArithOp, CompareOp, Ending, Term, TestKind};
 use dg_mid::{BodyCode, Code, Op, RuleCode};
 use dg_outside::Outside;
-use dg_unify::Ref;
+use dg_unify::{Ref, View};
 
 /// The instructions of a block.
 pub fn code_at(code: &Code, block: u32) -> &[Op]
@@ -366,6 +367,32 @@ impl Memory {
         }
     }
 
+    /// A call enters the first of some rules, the last of a predicate; those that its first argument excludes aren't left.
+    #[inline(always)]
+    fn call_first<'p>(
+        &mut self,
+        code: &'p Code,
+        call: Call,
+        pred: u16,
+        first: Option<View>,
+        rules: &[RuleCode],
+    ) -> Now<'p>
+        requires room { HasRoom self.old }
+        requires built { IsBuilt code.now }
+        requires there { length rules.now ≤ length (rules_at code.now pred) }
+        requires rules { rules.now ≡ last_rules code.now pred (length rules.now) }
+        requires first { IsFirst (meaning_of self.old.arena) self.old.args.items first }
+        ensures { CallsRules code.now self.old call pred (length rules.now) self.new result }
+    {
+        match rules {
+            [] => Now::Fails,
+            [rule, others @ ..] => {
+                let further = pass(first, others).len();
+                self.enter_with(code, call, rule.block, pred, further)
+            }
+        }
+    }
+
     /// A call enters the first of the last so many rules of a predicate; those that its first argument excludes aren't left.
     pub fn call<'p>(&mut self, code: &'p Code, call: Call, pred: u16, left: usize) -> Now<'p>
         requires room { HasRoom self.old }
@@ -375,15 +402,8 @@ impl Memory {
         ensures { CallsRules code.now self.old call pred left self.new result }
     {
         let all = rules_of(code, pred);
-        let rules = &all[all.len() - left..];
-        match rules {
-            [] => Now::Fails,
-            [rule, others @ ..] => {
-                let first = self.first_argument();
-                let further = pass(first, others).len();
-                self.enter_with(code, call, rule.block, pred, further)
-            }
-        }
+        let first = self.first_argument();
+        self.call_first(code, call, pred, first, &all[all.len() - left..])
     }
 
     /// A predicate is asked with the arguments at hand.
@@ -396,8 +416,8 @@ impl Memory {
     {
         let cut = self.arena.heap();
         let first = self.first_argument();
-        let left = pass(first, rules_of(code, pred)).len();
-        self.call(code, Call { next, many, cut }, pred, left)
+        let rules = pass(first, rules_of(code, pred));
+        self.call_first(code, Call { next, many, cut }, pred, first, rules)
     }
 
     /// A predicate is asked with the arguments at hand in the last query of a rule, which goes on where the rule does, unless the

@@ -1,21 +1,31 @@
-use Rattle.std.proofs.Common.{ap, take, drop, length, ◌-◌, get_or}
-use Rattle.dg_mid.specs.declared.code.RuleCode.{RuleCode}
-use Rattle.dg_mid.specs.declared.code.Key.TheVariants.{Any}
-use Rattle.dg_machine.proofs.Leaving.{split_first, slice_is, further_in, further_begins}
+use Rattle.std.proofs.Common.{◌≡◌, sym, ap, ◌∙◌, subst, arith, take, drop, length, ◌-◌}
+use Rattle.dg_mid.specs.Step.{setting, begins}
+use Rattle.dg_machine.specs.Layout.{last_rules}
+use Rattle.dg_machine.specs.Standing.{CallBegins}
+use Rattle.dg_machine.proofs.Leaving.{slice_is}
+use Rattle.dg_machine.proofs.PassedRules.{last_count}
 use Rattle.dg_machine.proofs.memory.Memory.call.Goals as goal
 
-pub returns-in-len1-up : goal.returns-in-len1-up
-returns-in-len1-up c g l m call rules h at =
+pub call_first-requires-clause-there : goal.call_first-requires-clause-there
+call_first-requires-clause-there c =
     let code = c.args.code.now in
-    let k = c.args.call in
-    let r = c.args.self.now in
     let all = c.rules_of-all.result.now in
-    let xs = take (length all - (length all - c.args.left)) (drop (length all - c.args.left) all) in
-    let none : RuleCode = record { key = Any; block = 0 } in
-    let rule = get_or xs 0 none in
-    let others = take (length xs - 1) (drop 1 xs) in
-    let slice = slice_is code c.args.pred c.args.left all c.rules_of-all.ensures at.there in
-    let split = split_first xs none c.in-len1-up.len_at_least in
-    let n = length c.pass-further.result.now in
-    let further = further_in code l m r c.first_argument-first.result call k c.args.pred c.args.left n rules xs others rule h c.first_argument-first.ensures at slice split (ap length c.pass-further.ensures) in
-    further_begins code g l m r c.enter_with.new.self call k c.args.pred c.args.left n rules rule c.enter_with.result h at.call further c.enter_with.ensures
+    let slice = slice_is code c.args.pred c.args.left all c.rules_of-all.ensures c.requires.there in
+    omega (arith, ap length slice, last_count code c.args.pred c.args.left c.requires.there, c.requires.there)
+
+pub call_first-requires-clause-rules : goal.call_first-requires-clause-rules
+call_first-requires-clause-rules c =
+    let code = c.args.code.now in
+    let all = c.rules_of-all.result.now in
+    let slice = slice_is code c.args.pred c.args.left all c.rules_of-all.ensures c.requires.there in
+    let count = ap length slice ∙ last_count code c.args.pred c.args.left c.requires.there in
+    slice ∙ ap (last_rules code c.args.pred) (sym count)
+
+pub returns : goal.returns
+returns c g l m call rules h at =
+    let code = c.args.code.now in
+    let all = c.rules_of-all.result.now in
+    let slice = slice_is code c.args.pred c.args.left all c.rules_of-all.ensures c.requires.there in
+    let count = ap length slice ∙ last_count code c.args.pred c.args.left c.requires.there in
+    subst (λ n. CallBegins code l c.args.self.now c.args.call c.args.pred n c.call_first.new.self c.call_first.result (begins (setting g code l) call rules m)) count
+    (c.call_first.ensures g l m call rules h (record { call = at.call; there = omega (arith, count, at.there); rules_are = at.rules_are ∙ ap (last_rules code c.args.pred) (sym count) }))
