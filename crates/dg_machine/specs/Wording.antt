@@ -1,4 +1,5 @@
--- What comes of values that are made for others. Hold it against docs/LANGUAGE.md, "Typed lines and words", and "Built-in queries" on splitting and joining words.
+-- What comes of values that are made for others. Hold it against docs/LANGUAGE.md, "Typed lines and words", and "Built-in queries" on splitting and
+-- joining words.
 use Rattle.std.specs.Prelude.{◌≡◌, List, [], ◌∷◌, Some}
 use Rattle.dg_base.specs.declared.run.Limits.{Limits}
 use Rattle.dg_meaning.specs.Values.{Value}

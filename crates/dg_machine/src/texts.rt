@@ -29,8 +29,8 @@ impl Memory {
     ) -> Result<(), WriteFault>
         requires { (v : Value) × RefsAt (meaning_of self.old.arena) self.old.args.items (v ∷ []) }
         ensures held { (code : Code) → (l : Limits) → (m : Mid) → Holds code l self.old m → Holds code l self.new m }
-        ensures printed { (code : Code) → (l : Limits) → (m : Mid) → (p : CoreProgram) → (v : Value) → IsOf p tables.now → Holds code l self.old m →
-            RefsAt (meaning_of self.old.arena) self.old.args.items (v ∷ []) →
+        ensures printed { (code : Code) → (l : Limits) → (m : Mid) → (p : CoreProgram) → (v : Value) → IsOf p tables.now →
+            Holds code l self.old m → RefsAt (meaning_of self.old.arena) self.old.args.items (v ∷ []) →
             Printed (pieces p (resolved m.state.subst v)) spacer.old spacer.new (K.view sink.old) (K.view sink.new) result }
     {
         let value = self.arg(0);

@@ -191,7 +191,8 @@ fn print_tail<B: Bindings, K: Sink>(
 ) -> Result<(), WriteFault>
     requires { (w : Value) × Shows (B.meaning store.now) w tail }
     ensures { (w : Value) → Shows (B.meaning store.now) w tail →
-        Printed (codes "|" ∷ first_piece (named words.now objects.now) w ∷ codes "]" ∷ []) spacer.old spacer.new (K.view sink.old) (K.view sink.new) result }
+        Printed (codes "|" ∷ first_piece (named words.now objects.now) w ∷ codes "]" ∷ []) spacer.old spacer.new (K.view sink.old)
+        (K.view sink.new) result }
 {
     match print_piece(spacer, sink, b"|") {
         Err(fault) => Err(fault),
