@@ -39,7 +39,7 @@ use Rattle.dg_interp.specs.Frames.{stretch, values_in, steps_behind, AreChoices,
 use Rattle.dg_interp.specs.Engine.{store_in, open_in, KeepsPlaces, HasPlace, IsPlace, Point, IsSound, IsReady, TakesAt, FailsAt, BeginsAt, FullAt, Adds, Leads, SameLimits, steps_of}
 use Rattle.dg_unify.specs.Engines.{Agrees}
 use Rattle.dg_interp.proofs.Links.{SameBy, same_here, same_append, behind_new, at_same, frame_raise, frames_append, choices_same, stand_raise, stand_same}
-use Rattle.dg_terms.proofs.Stores.{kept_here, all_hold}
+use Rattle.dg_unify.proofs.StoreLemmas.{kept_same, all_hold}
 use Rattle.dg_interp.proofs.Stores.{values_kept, hold_front, appended_stretch}
 use Rattle.dg_interp.proofs.Kept.{back_limits}
 use Rattle.dg_interp.proofs.Grown.{grown_front, grown_longer, grown_values, grown_hold, grown_back, grown_base, grown_choices}
@@ -211,7 +211,7 @@ module _ (old : Engine) (query : Query) (terms : List Term) (store1 : ListBindin
       stand = stand_raise gs (length fs) (length gs) (length ys) (length ys) old.newest (old.newest + 1) os (omega (arith, count)) (omega arith) (omega arith) (stand_same fs gs (length fs) (length ys) old.newest os (same_append fs old.here) failing_sound.base.choices)
 
       place_now : (ms : List Saved) → KeepsPlaces store1 ms → IsPlace asking place (record { mark = place; store = s2 }) ms
-      place_now ms h = record { keeps = saved2 ms h; place_is = refl; hold = all_hold s1 s2 ys k2 hold; kept = kept_here s2 }
+      place_now ms h = record { keeps = saved2 ms h; place_is = refl; hold = all_hold s1 s2 ys k2 hold; kept = kept_same s2 }
 
       back_now : GoBackTo ys s2.heap_limit s2.trail_limit os ready.sound.base.places.saved
       back_now = back_limits ys s1.heap_limit s1.trail_limit s2.heap_limit s2.trail_limit os ready.sound.base.places.saved (sym k2.heap_limit) (sym k2.trail_limit) failing_back

@@ -44,7 +44,7 @@ use Rattle.dg_interp.specs.Frames.{values_in, frame_steps, steps_behind, steps_a
 use Rattle.dg_interp.specs.Engine.{store_in, KeepsPlaces, HasPlace, Point, IsSound, BeginsAt, FullAt, Adds, SameLimits, WentOn, WentWrong, kept_if, open_in}
 use Rattle.dg_unify.specs.Engines.{Agrees}
 use Rattle.dg_interp.proofs.Links.{SameBy, same_here, behind_same}
-use Rattle.dg_terms.proofs.Stores.{kept_on}
+use Rattle.dg_unify.proofs.StoreLemmas.{kept_on}
 use Rattle.dg_interp.proofs.Stores.{values_kept, hold_front, appended_stretch, values_count, trail_append, trail_older, made_is}
 use Rattle.dg_interp.proofs.Begun.{begun_values, begun_sound, begun_stands, begun_fails}
 use Rattle.dg_interp.proofs.Turns.{all_first, all_rest, reverse_pop}

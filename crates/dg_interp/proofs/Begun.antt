@@ -24,7 +24,7 @@ use Rattle.dg_interp.specs.Frames.{values_in, kind_of, branches_of, lives_of, wa
 use Rattle.dg_interp.specs.Engine.{store_in, KeepsPlaces, HasPlace, Within, There, IsSound, StandsAt, FailsAt, BeginsAt, SameLimits, steps_of, kept_if, open_in}
 use Rattle.dg_outside.specs.Outside.{InWorld}
 use Rattle.dg_interp.proofs.Links.{SameBy, same_here, branches_same, choices_same, back_same, frames_raise, stand_raise}
-use Rattle.dg_terms.proofs.Stores.{all_hold}
+use Rattle.dg_unify.proofs.StoreLemmas.{all_hold}
 use Rattle.dg_interp.proofs.Stores.{values_kept, hold_front, front_same}
 use Rattle.dg_interp.proofs.Kept.{branches_open, kept_places, kept_stand, kept_back, back_limits, kept_choices, kept_lives, kept_ways, branches_stay}
 

@@ -9,7 +9,7 @@ use Rattle.dg_meaning.specs.Copies.{values_of}
 use Rattle.dg_meaning.specs.Unify.{Unified, solve}
 use Rattle.dg_meaning.specs.Moves.{new_vars}
 use Rattle.dg_unify.specs.Store.{State, Store, count_of, told, Holds, IsTold, IsClosureAt, Kept, Charged, HeapFull, Does, UnifyFull, Follows, part_at, IsPart, trail_of}
-use Rattle.dg_unify.proofs.StoreLemmas.{kept_same}
+use Rattle.dg_unify.proofs.StoreLemmas.{kept_same, kept_on, all_hold, all_told}
 use Rattle.dg_unify.specs.declared.bindings.Ref.{Ref}
 use Rattle.dg_unify.specs.declared.bindings.Full.{Full}
 use Rattle.dg_unify.specs.declared.bindings.Full.TheVariants as full
@@ -17,7 +17,6 @@ use Rattle.dg_interp.specs.Bodies.{body_vars, parameters, matched_body, EntersBo
 use Rattle.dg_terms.specs.Terms.{Overflows, Appended, MadeVars}
 use Rattle.dg_terms.proofs.TermLemmas.{appended_on}
 use Rattle.dg_interp.proofs.Entering.{vars_are_made, vars_hold}
-use Rattle.dg_terms.proofs.Stores.{kept_on, all_hold, all_told}
 
 -- ## The parameter
 

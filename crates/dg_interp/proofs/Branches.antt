@@ -29,7 +29,7 @@ use Rattle.dg_outside.specs.declared.outside.Outside.{Outside}
 use Rattle.dg_outside.specs.Outside.{InWorld, MayPick, Closes, picks_in}
 use Rattle.dg_interp.specs.Engine.{store_in, KeepsPlaces, open_in, HasPlaces, Sound, Within, HasPlace, IsPlace, Cuts, Retries, Point, IsSound, StandsAt, FailsAt, BeginsAt, Adds, Then, Leads, FullAt, SameLimits, WentOn, WentWrong, HasEndedSo, AtGoal, Branches, GoesBack, Tries, branches_left}
 use Rattle.dg_interp.proofs.Links.{SameBy, same_take, branches_same, frames_take, stand_raise, stand_same, choices_same, back_same, cut_gone, cut_fewer}
-use Rattle.dg_terms.proofs.Stores.{all_hold}
+use Rattle.dg_unify.proofs.StoreLemmas.{all_hold}
 use Rattle.dg_interp.proofs.Stores.{values_kept, take_all}
 use Rattle.dg_interp.proofs.Kept.{back_limits, tried_inside}
 use Rattle.dg_interp.proofs.Places.{went_further, went_wrong, cut_base, cut_inside, adds_nothing, open_still, world_tried, adds_on, adds_drops, adds_tried, leads_on, limits_on}

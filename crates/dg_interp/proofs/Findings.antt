@@ -52,7 +52,7 @@ use Rattle.dg_outside.proofs.Finds.{no_copy, same_copy, KeptAs, value_formed, ke
 use Rattle.dg_interp.specs.Giving.{ActsAt, UnifiesAt}
 use Rattle.dg_interp.specs.Finding.{EffectAt, made_values, AsksPlaceAt, AsksObjectsAt, TriesObjectsAt, ReadsAt}
 use Rattle.dg_interp.specs.Engine.{Point, store_in, KeepsPlaces, steps_of, IsReady, TakesAt, FailsAt, FullAt, Leads, SameLimits, WentOn}
-use Rattle.dg_terms.proofs.Stores.{told_kept}
+use Rattle.dg_unify.proofs.StoreLemmas.{kept_told}
 use Rattle.dg_interp.proofs.Places.{adds_nothing, inside_in, inside_kept, limits_here}
 use Rattle.dg_interp.proofs.Takes.{behind, taken_in, comes_of, adds_taken}
 use Rattle.dg_interp.proofs.Giving.{with_store, steps_kept, kept_limits, acts_on, written_agrees}
@@ -163,7 +163,7 @@ module _ (fact : List Fact → Option Value) (args : List Value) (old : Engine) 
       let q = behind_copy c.v r in
       let v = worked (copied c.v) w in
       let values : Unifies q ((told s into, copy_of c.v r) ∷ []) v ≡ Unifies q ((told t into, told t made) ∷ []) v =
-      ap (λ x. Unifies q ((x, copy_of c.v r) ∷ []) v) (sym (told_kept s t into k hold)) ∙ ap (λ y. Unifies q ((told t into, y) ∷ []) v) (copy_told s t c.v made r c.copy st.at.agrees) in
+      ap (λ x. Unifies q ((x, copy_of c.v r) ∷ []) v) (sym (kept_told s t into k hold)) ∙ ap (λ y. Unifies q ((told t into, y) ∷ []) v) (copy_told s t c.v made r c.copy st.at.agrees) in
       record {
         world = v;
         adds = record { prints_are = (adds_nothing w).prints_are; typed = refl };

@@ -47,7 +47,7 @@ use Rattle.dg_interp.specs.Gathering.{gathering_goal, gathering_live, GathersAt}
 use Rattle.dg_interp.specs.Engine.{Point, store_in, KeepsPlaces, IsReady, TakesAt, Leads, WentOn, FullAt, PassesLimit, steps_of, open_in}
 use Rattle.dg_interp.proofs.Links.{SameBy, SameTo, same_append, at_same, behind_new, frame_raise, frames_raise, frames_append, stand_raise, stand_same, choices_same, back_same}
 use Rattle.dg_interp.proofs.Places.{adds_nothing, open_still, inside_kept}
-use Rattle.dg_terms.proofs.Stores.{kept_on, all_hold, told_kept}
+use Rattle.dg_unify.proofs.StoreLemmas.{kept_on, all_hold, kept_told}
 use Rattle.dg_interp.proofs.Stores.{values_kept, hold_front, front_same}
 use Rattle.dg_interp.proofs.Kept.{back_limits}
 use Rattle.dg_interp.proofs.Takes.{behind, taken_in, comes_of, adds_taken}
@@ -284,7 +284,7 @@ module _ (whole : Whole) (value into : Ref) (goals : Bor (List Goal)) (old : Eng
           ∙ ap (λ i. goals_at env old.here.tag goals.now ++ steps_behind (values_in s1 ys) (fs ++ behind_goals ∷ []) i) (length-append fs (behind_goals ∷ []))
           ∙ ap (λ l. goals_at env old.here.tag goals.now ++ l) (behind_new (length ys) (values_in s1 ys) fs behind_goals (frames_raise (length fs) (length xs) (length ys) fs (omega (arith, more_refs)) ready.sound.base.frames) (omega arith))
           ∙ ap (λ (l : List Goal). goals_at env old.here.tag goals.now ++ (goals_at (values_in s1 ys behind_goals.env) old.here.tag l ++ Keep t (Var-Term 0) (values_in s1 ys behind_goals.env) ∷ [])) empty
-          ∙ ap (λ vs. goals_at env old.here.tag goals.now ++ Keep t (Var-Term 0) vs ∷ []) (value_there s1 ∙ ap (λ v. v ∷ []) (told_kept s s1 value k holds.0))
+          ∙ ap (λ vs. goals_at env old.here.tag goals.now ++ Keep t (Var-Term 0) vs ∷ []) (value_there s1 ∙ ap (λ v. v ∷ []) (kept_told s s1 value k holds.0))
           ∙ ap (λ vs. goals_at vs old.here.tag goals.now ++ Keep t (Var-Term 0) (told s value ∷ []) ∷ []) (values1 old.here.env ready.here.env)
 
       agrees0 : (r : Registers) → Agrees s r → Agrees s0 r
@@ -310,7 +310,7 @@ module _ (whole : Whole) (value into : Ref) (goals : Bor (List Goal)) (old : Eng
 
       branch_is : (r : Registers) → TakeOutBranch r.next_tag (whole_of whole) (told s into) (path_of (steps_of old) (inside 0 r)) ∷ [] ≡ TakeOutBranch r.next_tag (whole_of whole) (value_of_var (values_in s0 ys taken_env) 0) (path_of (steps_at (values_in s0 ys) gs old.here) (inside 0 r)) ∷ []
       branch_is r =
-          ap (λ v. TakeOutBranch r.next_tag (whole_of whole) v (path_of (steps_of old) (inside 0 r)) ∷ []) (sym (ap (λ vs. value_of_var vs 0) (into_there s0) ∙ told_kept s s0 into k0 holds.1))
+          ap (λ v. TakeOutBranch r.next_tag (whole_of whole) v (path_of (steps_of old) (inside 0 r)) ∷ []) (sym (ap (λ vs. value_of_var vs 0) (into_there s0) ∙ kept_told s s0 into k0 holds.1))
           ∙ ap (λ l. TakeOutBranch r.next_tag (whole_of whole) (value_of_var (values_in s0 ys taken_env) 0) (path_of l (inside 0 r)) ∷ []) (sym same_out)
 
       count_open : length out.gathered.rows ≡ open_in old + 1

@@ -32,7 +32,7 @@ use Rattle.dg_interp.specs.Frames.{values_in}
 use Rattle.dg_interp.specs.Engine.{Point, store_in, KeepsPlaces, steps_of, There, IsReady, TakesAt, StandsAt, FailsAt, FullAt, Leads, SameLimits, WentOn, Branches}
 use Rattle.dg_outside.specs.Outside.{InWorld}
 use Rattle.dg_interp.specs.Giving.{ActsAt, SolvesAt, UnifiesAt, GivesAt}
-use Rattle.dg_terms.proofs.Stores.{told_kept}
+use Rattle.dg_unify.proofs.StoreLemmas.{kept_told}
 use Rattle.dg_interp.proofs.Stores.{trail_append, trail_within, made_is, values_kept, hold_front}
 use Rattle.dg_interp.proofs.Places.{inside_kept, adds_nothing}
 use Rattle.dg_interp.proofs.Links.{same_here, at_same}
@@ -230,7 +230,7 @@ number_given m into made old store ready k saved hold same is g n w run st =
     let s = store_in old.store in
     let t = store_in store in
     let values : gives_number (Some m) (told s into) st.at.registers w ≡ Unifies st.at.registers ((told t into, told t made) ∷ []) w =
-    ap (λ v. Unifies st.at.registers ((v, leaf (Num m)) ∷ []) w) (sym (told_kept s t into k hold))
+    ap (λ v. Unifies st.at.registers ((v, leaf (Num m)) ∷ []) w) (sym (kept_told s t into k hold))
     ∙ ap (λ o. Unifies st.at.registers ((told t into, or_nil o) ∷ []) w) (sym is) in
     record {
       world = w;

@@ -16,7 +16,7 @@ use Rattle.dg_interp.specs.declared.engine.Engine.{Engine}
 use Rattle.dg_interp.specs.Frames.{values_in, AreChoices, GoBackTo}
 use Rattle.dg_interp.specs.Engine.{store_in, KeepsPlaces, Sound, IsReady}
 use Rattle.dg_interp.proofs.Links.{SameBy, same_here, frames_raise, choices_same, back_same, stand_raise}
-use Rattle.dg_terms.proofs.Stores.{all_hold}
+use Rattle.dg_unify.proofs.StoreLemmas.{all_hold}
 use Rattle.dg_interp.proofs.Stores.{values_kept, hold_front, front_same}
 use Rattle.dg_interp.proofs.Kept.{back_limits}
 

@@ -30,7 +30,7 @@ use Rattle.dg_interp.specs.Frames.{values_in, steps_behind, steps_at, kind_of, b
 use Rattle.dg_unify.specs.Engines.{Agrees}
 use Rattle.dg_interp.specs.Engine.{store_in, KeepsPlaces, HasPlace, IsPlace, BeginsAt, steps_of, IsSound, IsReady, There, TakesAt, OpensAt, open_in, IsPushed, Leads, SameLimits}
 use Rattle.dg_interp.proofs.Links.{same_here, same_append, same_values, behind_new, at_same, frame_raise, frames_append, choices_same, stand_raise, stand_same, branches_same}
-use Rattle.dg_terms.proofs.Stores.{kept_here, all_hold}
+use Rattle.dg_unify.proofs.StoreLemmas.{kept_same, all_hold}
 use Rattle.dg_interp.proofs.Stores.{values_kept, hold_front}
 use Rattle.dg_interp.proofs.Kept.{back_limits}
 use Rattle.dg_interp.proofs.Places.{inside_in, open_still, adds_nothing}
@@ -189,7 +189,7 @@ module _ (old : Engine) (left : Left) (place : Place) (store : ListBindings) (re
   hold = all_hold (store_in old.store) t refs k ready.sound.base.hold
 
   place_now : (ms : List Saved) → KeepsPlaces old.store ms → IsPlace opened place (record { mark = place; store = t }) ms
-  place_now ms h = record { keeps = saved ms h; place_is = refl; hold = hold; kept = kept_here t }
+  place_now ms h = record { keeps = saved ms h; place_is = refl; hold = hold; kept = kept_same t }
 
   back_now : GoBackTo refs t.heap_limit t.trail_limit (reverse old.choices.items) ready.sound.base.places.saved
   back_now = back_limits refs _ _ _ _ (reverse old.choices.items) ready.sound.base.places.saved (sym k.heap_limit) (sym k.trail_limit) ready.sound.base.places.back_to

@@ -32,7 +32,7 @@ use Rattle.dg_interp.specs.Frames.{values_in, steps_at, lives_of, ways_of, IsCho
 use Rattle.dg_interp.specs.Engine.{store_in, KeepsPlaces, IsReady, TakesAt, WentOn, FullAt, steps_of, open_in}
 use Rattle.dg_interp.proofs.Links.{same_here, at_same, stand_raise}
 use Rattle.dg_interp.proofs.Places.{open_still}
-use Rattle.dg_terms.proofs.Stores.{kept_on, all_hold}
+use Rattle.dg_unify.proofs.StoreLemmas.{kept_on, all_hold}
 use Rattle.dg_interp.proofs.Stores.{values_kept, hold_front}
 use Rattle.dg_interp.proofs.Kept.{back_limits}
 use Rattle.dg_interp.proofs.Opens.{agrees_here}

@@ -16,7 +16,7 @@ use Rattle.dg_interp.specs.declared.frames.Env.{Env}
 use Rattle.dg_interp.specs.Frames.{stretch, values_in, EndsBy}
 use Rattle.dg_interp.proofs.Links.{SameBy, stretch_same}
 use Rattle.dg_terms.specs.Terms.{BothMade}
-use Rattle.dg_terms.proofs.Stores.{all_told}
+use Rattle.dg_unify.proofs.StoreLemmas.{all_told}
 
 pub stretch_holds : (s : Store) (rs : List Ref) (env : Env) → All (Holds s) rs → All (Holds s) (stretch rs env)
 stretch_holds s rs env h = All-take (Holds s) env.len (drop env.from rs) (All-drop (Holds s) env.from rs h)

@@ -26,7 +26,7 @@ use Rattle.dg_interp.specs.declared.engine.Engine.{Engine}
 use Rattle.dg_terms.specs.Terms.{Overflows}
 use Rattle.dg_interp.specs.Frames.{values_in}
 use Rattle.dg_interp.specs.Engine.{store_in, KeepsPlaces, steps_of, IsSound, IsReady, TakesAt, FullAt, Adds}
-use Rattle.dg_terms.proofs.Stores.{all_hold}
+use Rattle.dg_unify.proofs.StoreLemmas.{all_hold}
 use Rattle.dg_interp.proofs.Kept.{back_limits}
 
 -- ## A goal

@@ -44,7 +44,7 @@ use Rattle.dg_interp.specs.Frames.{values_in, steps_at, whole_of, IsLeft}
 use Rattle.dg_interp.specs.Giving.{SolvesAt, UnifiesAt, GivesAt}
 use Rattle.dg_interp.specs.Gathering.{TakesOutAt}
 use Rattle.dg_interp.specs.Engine.{Point, store_in, steps_of, KeepsPlaces, open_in, IsSound, IsReady, FailsAt, FullAt, BeginsAt, Leads, SameLimits, WentWrong, Tries}
-use Rattle.dg_terms.proofs.Stores.{told_kept}
+use Rattle.dg_unify.proofs.StoreLemmas.{kept_told}
 use Rattle.dg_interp.proofs.Stores.{values_kept, hold_front}
 use Rattle.dg_interp.proofs.Links.{same_here, at_same}
 use Rattle.dg_interp.proofs.Places.{adds_nothing, open_still}
@@ -299,7 +299,7 @@ module _ (into : Ref) (old : Engine) (ready : IsReady old) (hold : Holds (store_
         let is_list : copy_of (list_of vs) q ≡ told ls2 list = list_copy q.next_var vs ∙ ap (λ i. list_of (values_of (copies_from i (parts_of vs)))) a.vars ∙ ap or_nil (sym c.value) in
         let on : (x y : Value) (l : List Step) → Move = λ x y l. unified ((x, y) ∷ []) l r v in
         let here : on (told ls into) (copy_of (list_of vs) q) (steps_of old) ≡ on (told ls2 into) (told ls2 list) (steps_of listed_engine) =
-        ap (λ x. on x (copy_of (list_of vs) q) (steps_of old)) (sym (told_kept ls ls2 into k2 hold)) ∙ ap (λ y. on (told ls2 into) y (steps_of old)) is_list ∙ ap (on (told ls2 into) (told ls2 list)) (sym (steps_kept old store2 stack ready k2 saved2)) in
+        ap (λ x. on x (copy_of (list_of vs) q) (steps_of old)) (sym (kept_told ls ls2 into k2 hold)) ∙ ap (λ y. on (told ls2 into) y (steps_of old)) is_list ∙ ap (on (told ls2 into) (told ls2 list)) (sym (steps_kept old store2 stack ready k2 saved2)) in
         record {
           world = v;
           adds = record { prints_are = (adds_nothing w).prints_are; typed = refl };

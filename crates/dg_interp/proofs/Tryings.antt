@@ -48,7 +48,7 @@ use Rattle.dg_interp.specs.Finding.{made_values, TriesObjectsAt, FindsAt}
 use Rattle.dg_interp.specs.Engine.{Point, store_in, KeepsPlaces, steps_of, HasPlace, IsSound, IsReady, IsPushed, FailsAt, FullAt, BeginsAt, OpensAt, Leads, SameLimits, WentWrong, kept_if, open_in}
 use Rattle.dg_outside.proofs.Finds.{numbers_counted, counted_first, same_copy, behind_simple}
 use Rattle.dg_interp.proofs.Trials.{counted_some, trials_all}
-use Rattle.dg_terms.proofs.Stores.{kept_here}
+use Rattle.dg_unify.proofs.StoreLemmas.{kept_same}
 use Rattle.dg_interp.proofs.Stores.{values_kept, values_count, hold_front, appended_stretch}
 use Rattle.dg_interp.proofs.Links.{SameBy, same_here, behind_same, at_same, frame_raise}
 use Rattle.dg_interp.proofs.Grown.{grown_longer, grown_values, grown_base, grown_choices}
@@ -341,12 +341,12 @@ module _ (old : Engine) (refs1 : Vec Ref Global) (made : List Ref) (ready : IsRe
 
   pub grown_ready : IsReady grown
   grown_ready = record {
-    sound = record { base = grown_base old old.store refs1 made ready (kept_here s2) (λ ms h. h) is hold; room = ready.sound.room; picks = ready.sound.picks };
-    here = frame_raise (length all_frames) (length all_frames) (length before) (length after) old.here (omega arith) (grown_longer old old.store refs1 made ready (kept_here s2) (λ ms h. h) is hold) ready.here;
+    sound = record { base = grown_base old old.store refs1 made ready (kept_same s2) (λ ms h. h) is hold; room = ready.sound.room; picks = ready.sound.picks };
+    here = frame_raise (length all_frames) (length all_frames) (length before) (length after) old.here (omega arith) (grown_longer old old.store refs1 made ready (kept_same s2) (λ ms h. h) is hold) ready.here;
   }
 
   grown_steps : steps_of grown ≡ steps_of old
-  grown_steps = at_same (length before) (values_in s2 before) (values_in s2 after) all_frames all_frames (length all_frames) old.here ready.here (grown_values old old.store refs1 made ready (kept_here s2) (λ ms h. h) is hold) ready.sound.base.frames (same_here (length all_frames) all_frames)
+  grown_steps = at_same (length before) (values_in s2 before) (values_in s2 after) all_frames all_frames (length all_frames) old.here ready.here (grown_values old old.store refs1 made ready (kept_same s2) (λ ms h. h) is hold) ready.sound.base.frames (same_here (length all_frames) all_frames)
 
   module _ (place : Option ℕ) (many : Bool) (next : Engine) (end : ℕ) (push : IsPushed grown.here grown next) (may : may_find (kinds_of old.program.now) place ≡ true) (end_is : end ≡ length old.program.now.objects) (made_is : made ≡ old.made.items) where
     abbrev pub all_tried : Trial
@@ -404,7 +404,7 @@ module _ (old : Engine) (refs1 : Vec Ref Global) (made : List Ref) (ready : IsRe
                 lives_are = at.inside.lives_are;
                 saved = at.inside.saved;
                 keeps = at.inside.keeps;
-                choices = grown_choices old old.store refs1 made ready (kept_here s2) (λ ms h. h) is hold g at.inside.saved at.inside.entries at.inside.choices;
+                choices = grown_choices old old.store refs1 made ready (kept_same s2) (λ ms h. h) is hold g at.inside.saved at.inside.entries at.inside.choices;
                 world = at.inside.world;
               };
               ways = at.ways;

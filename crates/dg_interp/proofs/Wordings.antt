@@ -38,10 +38,9 @@ use Rattle.dg_interp.specs.Giving.{UnifiesAt}
 use Rattle.dg_meaning.specs.Engines.{game}
 use Rattle.dg_interp.specs.Wording.{words_in, MakesAt, AwaitsInput}
 use Rattle.dg_meaning.proofs.OneRun.{grows_on, begun_grows}
-use Rattle.dg_terms.proofs.Stores.{told_kept}
 use Rattle.dg_interp.proofs.Takes.{store_ready}
 use Rattle.dg_interp.proofs.Places.{adds_nothing}
-use Rattle.dg_unify.proofs.StoreLemmas.{holds_some}
+use Rattle.dg_unify.proofs.StoreLemmas.{holds_some, kept_told}
 use Rattle.dg_interp.proofs.Giving.{with_store, kept_limits, acts_on, written_acts, branches_made}
 use Rattle.dg_interp.proofs.Branches.{full_made}
 
@@ -98,7 +97,7 @@ module _ (v : Value) (into : Ref) (old : Engine) where
         let t = store_in store in
         let r = st.at.registers in
         let values : gives (told s into) v r w ≡ Unifies (more_heap (copy_cells v) r) ((told t into, told t made) ∷ []) w =
-        ap (λ x. Unifies (more_heap (copy_cells v) r) ((x, v) ∷ []) w) (sym (told_kept s t into k hold))
+        ap (λ x. Unifies (more_heap (copy_cells v) r) ((x, v) ∷ []) w) (sym (kept_told s t into k hold))
         ∙ ap (λ o. Unifies (more_heap (copy_cells v) r) ((told t into, or_nil o) ∷ []) w) (sym m.value) in
         record {
           world = w;

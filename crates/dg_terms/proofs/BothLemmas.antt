@@ -9,7 +9,7 @@ use Rattle.dg_unify.specs.declared.bindings.Ref.{Ref}
 use Rattle.dg_unify.specs.declared.bindings.Full.{Full}
 use Rattle.dg_unify.specs.declared.bindings.Full.TheVariants as full
 use Rattle.dg_terms.specs.Terms.{Overflows, BothMade}
-use Rattle.dg_terms.proofs.Stores.{kept_on, told_kept, holds_kept}
+use Rattle.dg_unify.proofs.StoreLemmas.{kept_on, kept_told, kept_holds}
 use Rattle.dg_terms.proofs.TermLemmas.{cells_append}
 
 pub made_holds : (n : ℕ) (s t : Store) (r : Ref) (v : Value) → Made n s t r v → Holds t r
@@ -21,9 +21,9 @@ both_made program a b env s s1 t ra rb k k' ma mb = record {
   state =
       mb.charged.state ∙ ap (λ (x : State). record x { heap = x.heap + cells program (b ∷ []) }) ma.charged.state
       ∙ ap (λ n. record s.state { heap = n }) (omega (arith, cells_append program (a ∷ []) (b ∷ [])));
-  left_is = told_kept s1 t ra k' (made_holds _ s s1 ra _ ma) ∙ ap or_nil ma.value;
+  left_is = kept_told s1 t ra k' (made_holds _ s s1 ra _ ma) ∙ ap or_nil ma.value;
   right_is = ap or_nil mb.value;
-  left_in = holds_kept s1 t ra k' (made_holds _ s s1 ra _ ma);
+  left_in = kept_holds s1 t ra k' (made_holds _ s s1 ra _ ma);
   right_in = made_holds _ s1 t rb _ mb;
 }
 

@@ -1,4 +1,3 @@
-pub mod Stores
 pub mod TermLemmas
 pub mod NestLemmas
 pub mod BothLemmas

@@ -9,7 +9,7 @@ use Rattle.dg_unify.specs.declared.bindings.Ref.{Ref}
 use Rattle.dg_unify.specs.declared.bindings.Full.{Full}
 use Rattle.dg_unify.specs.declared.bindings.Full.TheVariants as full
 use Rattle.dg_terms.specs.Terms.{Overflows, BothMade, ThreeMade}
-use Rattle.dg_terms.proofs.Stores.{kept_on, told_kept, holds_kept}
+use Rattle.dg_unify.proofs.StoreLemmas.{kept_on, kept_told, kept_holds}
 use Rattle.dg_terms.proofs.TermLemmas.{cells_append}
 use Rattle.dg_terms.proofs.BothLemmas.{made_holds}
 
@@ -19,11 +19,11 @@ three_made program a b c env s s1 t ra rb rc k both made = record {
   state =
       made.charged.state ∙ ap (λ (x : State). record x { heap = x.heap + cells program (c ∷ []) }) both.state
       ∙ ap (λ n. record s.state { heap = n }) (omega (arith, cells_append program (a ∷ b ∷ []) (c ∷ [])));
-  first_is = told_kept s1 t ra k both.left_in ∙ both.left_is;
-  second_is = told_kept s1 t rb k both.right_in ∙ both.right_is;
+  first_is = kept_told s1 t ra k both.left_in ∙ both.left_is;
+  second_is = kept_told s1 t rb k both.right_in ∙ both.right_is;
   third_is = ap or_nil made.value;
-  first_in = holds_kept s1 t ra k both.left_in;
-  second_in = holds_kept s1 t rb k both.right_in;
+  first_in = kept_holds s1 t ra k both.left_in;
+  second_in = kept_holds s1 t rb k both.right_in;
   third_in = made_holds _ s1 t rc _ made;
 }
 

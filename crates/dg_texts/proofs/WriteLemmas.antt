@@ -14,12 +14,11 @@ use Rattle.dg_unify.specs.Store.{State, Store, Kept, Charged, Made, HeapFull, Ho
 use Rattle.dg_unify.specs.declared.bindings.Ref.{Ref}
 use Rattle.dg_unify.specs.declared.bindings.Full.{Full}
 use Rattle.dg_unify.specs.declared.bindings.Full.TheVariants as full
-use Rattle.dg_unify.proofs.StoreLemmas.{told_is}
+use Rattle.dg_unify.proofs.StoreLemmas.{told_is, kept_told}
 use Rattle.dg_words.specs.Letters.{AreSmall}
 use Rattle.dg_words.specs.Cutting.{between, words_before, IsWord}
 use Rattle.dg_words.proofs.CharLemmas.{is_within}
 use Rattle.dg_words.proofs.WordLemmas.{words_again}
-use Rattle.dg_terms.proofs.Stores.{told_kept}
 use Rattle.dg_terms.proofs.TermLemmas.{charged_on}
 use Rattle.dg_texts.specs.Spelling.{IsShort, TooMany, MakesValue, MakesBefore}
 use Rattle.dg_texts.proofs.SpellLemmas.{words_short}
@@ -48,7 +47,7 @@ too_many n s t full.OutOfMemory h = h.0
 pub before_made : (v : Value) (list value longer : Ref) (s t u : Store) → Kept s t → Holds s list → Made (copy_cells v) s t value v → Made 3 t u longer (pair (told t value) (told t list)) → MakesBefore v list s u (Ok longer)
 before_made v list value longer s t u k hold a b = record {
   charged = charged_on (copy_cells v) 3 (copy_cells v + 3) s t u refl k a.charged b.charged;
-  value = b.value ∙ ap (λ w. Some (pair w (told t list))) (told_is t value v a.value) ∙ ap (λ w. Some (pair v w)) (told_kept s t list k hold);
+  value = b.value ∙ ap (λ w. Some (pair w (told t list))) (told_is t value v a.value) ∙ ap (λ w. Some (pair v w)) (kept_told s t list k hold);
 }
 
 pub before_full : (v : Value) (s : Store) (e : Full) → TooMany (copy_cells v) s e → TooMany (copy_cells v + 3) s e

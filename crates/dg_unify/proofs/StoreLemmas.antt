@@ -1,5 +1,7 @@
 -- What Refs of a store stand for, before and behind a call, and which variable is which.
-use Rattle.std.proofs.Common.{◌≡◌, ℕ, ◌<◌, refl, sym, ap, ◌∙◌, arith, subst, Option, Some, None, inl, inr}
+use Rattle.std.proofs.Common.{◌≡◌, ℕ, ◌<◌, refl, sym, ap, ◌∙◌, arith, subst, Option, Some, None, inl, inr, List, [], ◌∷◌, map}
+use Rattle.std.specs.List.{All}
+use Rattle.std.proofs.lemmas.List.Elements.{All-head, All-tail}
 use Rattle.std.specs.Prelude.{eqb, nat_lt}
 use Rattle.std.proofs.lemmas.Bool.{lt-ltb, le-ltb, cases_lt, cases_eq, eq-eqb, ne_eqb}
 use Rattle.dg_meaning.specs.Values.{Value, Var}
@@ -44,6 +46,13 @@ kept_holds old new r k h = kept_some old new r (told old r) k (holds_told old r 
 
 pub kept_told : (old new : Store) (r : Ref) → Kept old new → Holds old r → told new r ≡ told old r
 kept_told old new r k h = told_is new r (told old r) (k.values r (told old r) (holds_told old r h))
+
+pub all_hold : (s t : Store) (rs : List Ref) → Kept s t → All (Holds s) rs → All (Holds t) rs
+all_hold s t rs k h i d lt = kept_holds s t _ k (h i d lt)
+
+pub all_told : (s t : Store) (rs : List Ref) → Kept s t → All (Holds s) rs → map (told t) rs ≡ map (told s) rs
+all_told s t [] k h = refl
+all_told s t (r ∷ rs) k h = ap (λ v. v ∷ map (told t) rs) (kept_told s t r k (All-head (Holds s) r rs h)) ∙ ap (λ vs. told s r ∷ vs) (all_told s t rs k (All-tail (Holds s) r rs h))
 
 -- ## Variables
 

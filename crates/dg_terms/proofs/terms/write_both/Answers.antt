@@ -2,9 +2,8 @@ use Rattle.std.proofs.Common.{map, subst, [], ◌∷◌}
 use Rattle.dg_meaning.specs.Values.{value_of}
 use Rattle.dg_meaning.specs.Cells.{cells}
 use Rattle.dg_unify.specs.Store.{Made, told}
-use Rattle.dg_unify.proofs.StoreLemmas.{kept_on}
+use Rattle.dg_unify.proofs.StoreLemmas.{kept_on, all_told, all_hold}
 use Rattle.dg_terms.proofs.BothLemmas.{both_made, first_full, second_full}
-use Rattle.dg_terms.proofs.Stores.{all_told, all_hold}
 use Rattle.dg_terms.proofs.terms.write_both.Goals as goal
 
 pub returns-in-Err-clause-written : goal.returns-in-Err-clause-written

@@ -3,7 +3,7 @@ use Rattle.dg_meaning.specs.Values.{value_of}
 use Rattle.dg_meaning.specs.Cells.{cells}
 use Rattle.dg_unify.specs.Store.{Made, told}
 use Rattle.dg_terms.proofs.ThreeLemmas.{three_made, both_full, third_full}
-use Rattle.dg_terms.proofs.Stores.{all_told}
+use Rattle.dg_unify.proofs.StoreLemmas.{all_told}
 use Rattle.dg_terms.proofs.terms.write_three.Goals as goal
 
 pub returns-in-Err-clause-written : goal.returns-in-Err-clause-written

@@ -3,7 +3,7 @@ use Rattle.dg_base.specs.declared.program.Goal.TheVariants.{Equal}
 use Rattle.dg_interp.specs.Frames.{stretch}
 use Rattle.dg_interp.specs.Engine.{store_in, FailsAt, TakesAt}
 use Rattle.dg_interp.proofs.Takes.{store_sound}
-use Rattle.dg_terms.proofs.Stores.{kept_on}
+use Rattle.dg_unify.proofs.StoreLemmas.{kept_on}
 use Rattle.dg_interp.proofs.Values.{grown_limits}
 use Rattle.dg_interp.proofs.Stores.{both_among}
 use Rattle.dg_interp.proofs.Equals.{equal_full, equal_trail_full, equal_passed, equal_failed}

@@ -7,7 +7,7 @@ use Rattle.dg_interp.specs.Frames.{stretch}
 use Rattle.dg_interp.specs.Finding.{FindsAt}
 use Rattle.dg_interp.specs.Giving.{SolvesAt}
 use Rattle.dg_interp.specs.Engine.{store_in, KeepsPlaces}
-use Rattle.dg_terms.proofs.Stores.{kept_on}
+use Rattle.dg_unify.proofs.StoreLemmas.{kept_on}
 use Rattle.dg_interp.proofs.Giving.{kept_limits}
 use Rattle.dg_interp.proofs.Takes.{store_ready}
 use Rattle.dg_interp.proofs.TakingOut.{met, met_full}

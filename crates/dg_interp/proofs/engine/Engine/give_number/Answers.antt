@@ -2,7 +2,7 @@ use Rattle.std.proofs.Common.{refl, subst, sym}
 use Rattle.dg_interp.specs.Engine.{store_in, FailsAt, Leads}
 use Rattle.dg_interp.specs.Giving.{GivesAt, UnifiesAt}
 use Rattle.dg_interp.proofs.Takes.{store_ready}
-use Rattle.dg_terms.proofs.Stores.{holds_kept}
+use Rattle.dg_unify.proofs.StoreLemmas.{kept_holds}
 use Rattle.dg_unify.proofs.StoreLemmas.{holds_some}
 use Rattle.dg_interp.proofs.Giving.{kept_limits, same_limits, none_given, number_given, branches_made}
 use Rattle.dg_interp.proofs.Branches.{full_made, back_made}
@@ -25,7 +25,7 @@ unify_both-requires-clause-ready c = store_ready c.args.self.now c.number-made.n
 
 pub unify_both-requires-clause-hold : goal.unify_both-requires-clause-hold
 unify_both-requires-clause-hold c = (
-  holds_kept (store_in c.args.self.now.store) (store_in c.number-made.new.store) c.args.into c.number-made.ensures.kept c.requires.hold,
+  kept_holds (store_in c.args.self.now.store) (store_in c.number-made.new.store) c.args.into c.number-made.ensures.kept c.requires.hold,
   holds_some (store_in c.number-made.new.store) c.number-made.result _ c.number-made.ensures.made,
 )
 

@@ -6,7 +6,7 @@ use Rattle.dg_unify.specs.Store.{Made}
 use Rattle.dg_texts.specs.Spelling.{TooMany}
 use Rattle.dg_interp.specs.Wording.{words_in}
 use Rattle.dg_interp.proofs.Takes.{store_ready}
-use Rattle.dg_terms.proofs.Stores.{holds_kept}
+use Rattle.dg_unify.proofs.StoreLemmas.{kept_holds}
 use Rattle.dg_unify.proofs.StoreLemmas.{holds_some}
 use Rattle.dg_interp.proofs.Wordings.{made_full, made_done, made_stops}
 use Rattle.dg_interp.proofs.engine.Engine.give_spelled.Goals as goal
@@ -30,4 +30,4 @@ unify_both-requires-clause-hold c =
     let old = store_in c.args.self.now.store in
     let new = store_in c.write_spelled.new.store in
     let r = c.requires.spelling in
-    (holds_kept old new c.args.into c.write_spelled.ensures.kept c.requires.hold, holds_some new c.in-Ok.made _ (c.in-Ok.ensures.made r.letters r.hold r.is).value)
+    (kept_holds old new c.args.into c.write_spelled.ensures.kept c.requires.hold, holds_some new c.in-Ok.made _ (c.in-Ok.ensures.made r.letters r.hold r.is).value)

@@ -4,7 +4,7 @@ use Rattle.dg_meaning.specs.Values.{Value}
 use Rattle.dg_unify.specs.Store.{Holds, told}
 use Rattle.dg_interp.specs.Giving.{UnifiesAt}
 use Rattle.dg_interp.specs.Finding.{made_values, ReadsAt}
-use Rattle.dg_terms.proofs.Stores.{holds_kept}
+use Rattle.dg_unify.proofs.StoreLemmas.{kept_holds}
 use Rattle.dg_interp.specs.Engine.{store_in, FailsAt}
 use Rattle.dg_interp.proofs.Places.{limits_here}
 use Rattle.dg_interp.proofs.Giving.{kept_limits, branches_made}
@@ -34,7 +34,7 @@ returns-in_default-first_of-clause-read c =
 pub unify_both-requires-clause-hold : goal.unify_both-requires-clause-hold
 unify_both-requires-clause-hold c =
     let s = store_in c.args.self.now.store in
-    (holds_kept s (store_in c.copy.new.store) c.in-Some-first_of.into c.copy.ensures.kept (holds_at (Holds s) c.args.self.now.made.items 0 c.in-Some-first_of.into (rw c.as_slice.ensures.value at c.in-Some-first_of.ensures) c.requires.args), c.in-Ok.ensures.holds)
+    (kept_holds s (store_in c.copy.new.store) c.in-Some-first_of.into c.copy.ensures.kept (holds_at (Holds s) c.args.self.now.made.items 0 c.in-Some-first_of.into (rw c.as_slice.ensures.value at c.in-Some-first_of.ensures) c.requires.args), c.in-Ok.ensures.holds)
 
 pub returns-in-Err-clause-full : goal.returns-in-Err-clause-full
 returns-in-Err-clause-full c =

@@ -3,12 +3,11 @@ use Rattle.dg_meaning.specs.Facts.{Fact}
 use Rattle.dg_meaning.specs.Values.{Value}
 use Rattle.dg_meaning.specs.Changes.{found}
 use Rattle.dg_unify.specs.Store.{Holds}
-use Rattle.dg_unify.proofs.StoreLemmas.{holds_some}
+use Rattle.dg_unify.proofs.StoreLemmas.{holds_some, kept_holds}
 use Rattle.dg_world.specs.Tables.{simple_value}
 use Rattle.dg_interp.specs.Giving.{UnifiesAt}
 use Rattle.dg_interp.specs.Finding.{made_values, ReadsAt}
 use Rattle.dg_interp.specs.Engine.{store_in, FailsAt}
-use Rattle.dg_terms.proofs.Stores.{holds_kept}
 use Rattle.dg_interp.proofs.Places.{limits_here}
 use Rattle.dg_interp.proofs.Giving.{kept_limits, branches_made}
 use Rattle.dg_interp.proofs.Branches.{full_made, back_made}
@@ -40,7 +39,7 @@ pub unify_both-requires-clause-hold : goal.unify_both-requires-clause-hold
 unify_both-requires-clause-hold c =
     let s = store_in c.args.self.now.store in
     let t = store_in c.simple-made.new.store in (
-      holds_kept s t c.in-Some-second_of.into c.simple-made.ensures.kept (holds_at (Holds s) c.args.self.now.made.items 1 c.in-Some-second_of.into (rw c.as_slice.ensures.value at c.in-Some-second_of.ensures) c.requires.args),
+      kept_holds s t c.in-Some-second_of.into c.simple-made.ensures.kept (holds_at (Holds s) c.args.self.now.made.items 1 c.in-Some-second_of.into (rw c.as_slice.ensures.value at c.in-Some-second_of.ensures) c.requires.args),
       holds_some t c.simple-made.result _ c.simple-made.ensures.copied.value,
     )
 

@@ -4,7 +4,7 @@ use Rattle.dg_outside.specs.Outside.{Closes}
 use Rattle.dg_interp.specs.Giving.{UnifiesAt}
 use Rattle.dg_interp.specs.Gathering.{TakesOutAt}
 use Rattle.dg_interp.specs.Engine.{store_in}
-use Rattle.dg_terms.proofs.Stores.{holds_kept}
+use Rattle.dg_unify.proofs.StoreLemmas.{kept_holds}
 use Rattle.dg_interp.proofs.Branches.{tries_made, full_made}
 use Rattle.dg_interp.proofs.TakingOut.{none_wrong, some_first, list_full, list_ready, list_limits, list_taken}
 use Rattle.dg_interp.proofs.engine.Engine.take_list.Goals as goal
@@ -26,7 +26,7 @@ meet-requires-clause-ready c =
     (subst (λ n. Closes (n - 1) old.outside c.close_to.new.self) c.gatherings-outside.ensures c.close_to.ensures) c.in-Ok.ensures.copied
 
 pub meet-requires-clause-hold : goal.meet-requires-clause-hold
-meet-requires-clause-hold c = (holds_kept (store_in c.args.self.now.store) (store_in c.list_of.new.store) c.args.into c.list_of.ensures.kept c.requires.value, c.in-Ok.ensures.holds)
+meet-requires-clause-hold c = (kept_holds (store_in c.args.self.now.store) (store_in c.list_of.new.store) c.args.into c.list_of.ensures.kept c.requires.value, c.in-Ok.ensures.holds)
 
 pub returns-in-Ok-clause-tried : goal.returns-in-Ok-clause-tried
 returns-in-Ok-clause-tried c =

@@ -1,11 +1,10 @@
 use Rattle.std.proofs.Common.{◌-◌, subst, arith, refl, Some, None}
-use Rattle.dg_unify.proofs.StoreLemmas.{holds_some}
+use Rattle.dg_unify.proofs.StoreLemmas.{holds_some, kept_holds}
 use Rattle.dg_interp.specs.declared.frames.Whole.TheVariants.{Sum as InSum}
 use Rattle.dg_outside.specs.Outside.{Closes}
 use Rattle.dg_interp.specs.Giving.{UnifiesAt, GivesAt}
 use Rattle.dg_interp.specs.Gathering.{TakesOutAt}
 use Rattle.dg_interp.specs.Engine.{store_in, FailsAt, Leads}
-use Rattle.dg_terms.proofs.Stores.{holds_kept}
 use Rattle.dg_interp.proofs.Takes.{store_ready}
 use Rattle.dg_interp.proofs.Places.{leads_on, limits_on}
 use Rattle.dg_interp.proofs.Giving.{kept_limits, none_given, number_given}
@@ -41,7 +40,7 @@ meet-requires-clause-ready c =
 
 pub meet-requires-clause-hold : goal.meet-requires-clause-hold
 meet-requires-clause-hold c = (
-  holds_kept (store_in c.args.self.now.store) (store_in c.number-made.new.store) c.args.into c.number-made.ensures.kept c.requires.value,
+  kept_holds (store_in c.args.self.now.store) (store_in c.number-made.new.store) c.args.into c.number-made.ensures.kept c.requires.value,
   holds_some (store_in c.number-made.new.store) c.number-made.result _ c.number-made.ensures.made,
 )
 

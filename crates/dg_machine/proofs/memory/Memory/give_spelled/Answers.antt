@@ -2,8 +2,7 @@ use Rattle.std.proofs.Common.{◌≤◌, List, ℕ, sym, subst, length}
 use Rattle.dg_meaning.specs.Copies.{copy_cells}
 use Rattle.dg_meaning.specs.Words.{spelled_value}
 use Rattle.dg_unify.specs.Store.{Made}
-use Rattle.dg_unify.proofs.StoreLemmas.{holds_some}
-use Rattle.dg_terms.proofs.Stores.{holds_kept}
+use Rattle.dg_unify.proofs.StoreLemmas.{holds_some, kept_holds}
 use Rattle.dg_texts.specs.Spelling.{TooMany}
 use Rattle.dg_arena.specs.Held.{meaning_of}
 use Rattle.dg_machine.proofs.Opens.{took}
@@ -14,7 +13,7 @@ pub write_spelled-requires : goal.write_spelled-requires
 write_spelled-requires c = record { few = subst (λ (ws : List (List ℕ)). length ws ≤ 65535) (sym c.as_slice.ensures.value) c.args.tables.now.few }
 
 pub unify_made-requires-clause-into : goal.unify_made-requires-clause-into
-unify_made-requires-clause-into c = holds_kept (meaning_of c.args.self.now.arena) (meaning_of c.write_spelled.new.store) c.args.into c.write_spelled.ensures.kept c.requires.into
+unify_made-requires-clause-into c = kept_holds (meaning_of c.args.self.now.arena) (meaning_of c.write_spelled.new.store) c.args.into c.write_spelled.ensures.kept c.requires.into
 
 pub unify_made-requires-clause-made : goal.unify_made-requires-clause-made
 unify_made-requires-clause-made c = let r = c.requires.spelling in holds_some (meaning_of c.write_spelled.new.store) c.in-Ok.made _ (c.in-Ok.ensures.made r.letters r.hold r.is).value
