@@ -349,7 +349,6 @@ has_does g op.Return m b d = has_returns m.outside m.gathered g m.frames m (refl
 has_does g (op.Goto block) m b d = (refl, refl)
 has_does g (op.Enter vars head) m b d = (refl, refl)
 has_does g op.Done m b d = tt
-has_does g x m b d = absurd b
 
 -- ## What stands for what
 

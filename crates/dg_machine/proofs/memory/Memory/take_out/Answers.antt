@@ -15,6 +15,6 @@ returns-in-Sum-clause-takes c code block g l m into built is there h w =
     let rest = take (length all - 1) (drop 1 all) in
     let x = c.in-TakeOut in
     let split = split_list all c.op-item.result c.in-len1-up.len_at_least c.op-item.is ∙ ap (λ y. y ∷ rest) (x.is ∙ ap (λ k. op.TakeOut k x.field-1) c.in-Sum.is) in
-    let parts : OpsBuilt (op.TakeOut Sum x.field-1 ∷ rest) = subst OpsBuilt split (subst OpsBuilt (sym is) (built block)) in
+    let parts : OpsBuilt (op.TakeOut Sum x.field-1 ∷ rest) = subst OpsBuilt split (subst OpsBuilt (sym is) (built.blocks block)) in
     subst (λ xs. FallsWith code g l c.args.self.now (Resumes (Takes block)) c.take_sum.new.self c.take_sum.result c.take_sum.new.outside (takes (setting g code l) into xs m)) (sym split)
     (c.take_sum.ensures.takes code block g l (record m { ops = rest }) there.1 into (refl, parts.1) h there.2 w)
