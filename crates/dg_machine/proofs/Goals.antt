@@ -55,6 +55,7 @@ use Rattle.dg_machine.specs.Tables.{IsOf}
 use Rattle.dg_machine.specs.Built.{OpBuilt, OpsBuilt, IsBuilt, IsQuiet, IsQuietOp}
 use Rattle.dg_machine.specs.Layout.{HasRoom, HasPut, Holds, Roomy}
 use Rattle.dg_machine.specs.Standing.{CodeIs, Stands, Falls, DoesOp, DoesMark, Asks, AsksLast, EntersRule, IsThere, GoesOn, KeepsOne, FailsTo, LeavesAround, HasStatus, Around, HasOutside, StandsWith}
+use Rattle.dg_machine.specs.Reading.{ReadsNone}
 use Rattle.dg_machine.specs.Running.{rests, DoesMarks, HasText, GoalDone, GoalLost}
 use Rattle.std.proofs.Common.{map}
 use Rattle.dg_base.specs.declared.program.CoreProgram.{CoreProgram}
@@ -277,6 +278,7 @@ pub fails_act : (tb : Tables) (code : Code) (r : Memory) (a : Action) (rest : Li
 fails_act tb code r action.Fail rest q j u k d v t sw jw g is_of l m o b at h = nothing_more code l r m h
 fails_act tb code r action.Just rest q j u k d v t sw jw g is_of l m o b at h = absurd (j refl)
 fails_act tb code r action.Quit rest q j u k d v t sw jw g is_of l m o b at h = absurd (u refl)
+fails_act tb code r (action.Input x) rest q j u k d v t sw jw g is_of l m o b at h = absurd q
 fails_act tb code r action.Stop rest q j u k d v t sw jw g is_of l m o b at h = absurd q
 fails_act tb code r (action.Text name) rest q j u k d v t sw jw g is_of l m o b at h = absurd q
 fails_act tb code r (action.Gap kind) rest q j u k d v t sw jw g is_of l m o b at h = absurd q
@@ -290,7 +292,6 @@ fails_act tb code r (action.Compare f x y) rest q j u k d v t sw jw g is_of l m 
 fails_act tb code r (action.Equal x y) rest q j u k d v t sw jw g is_of l m o b at h = absurd (k x y refl)
 fails_act tb code r (action.SplitWord x y) rest q j u k d v t sw jw g is_of l m o b at h = absurd (sw x y refl)
 fails_act tb code r (action.JoinWords x y) rest q j u k d v t sw jw g is_of l m o b at h = absurd (jw x y refl)
-fails_act tb code r a rest q j u k d v t sw jw g is_of l m o b at h = absurd b
 
 pub other_goal : (x : Op) → is_goal x ≡ true → OpBuilt x → IsQuietOp x → ((a : Action) → x ≡ op.Do a → ⊥) → ((pred : ℕ) (ts : List Term) (many : Bool) (next : ℕ) → x ≡ op.Ask pred ts many next → ⊥) → ((pred : ℕ) (ts : List Term) (many : Bool) → x ≡ op.LastAsk pred ts many → ⊥) →
     (x ≡ op.Take → ⊥) → ((alt : ℕ) → x ≡ op.Branch alt → ⊥) → (x ≡ op.Once → ⊥) → ((alt : ℕ) → x ≡ op.Try alt → ⊥) → ((alt : ℕ) → x ≡ op.Shield alt → ⊥) → ((a : Term) (o : Option Term) (many : Bool) (next : ℕ) → x ≡ op.Query a o many next → ⊥) → ((a : Term) (o : Option Term) (many : Bool) → x ≡ op.LastQuery a o many → ⊥) → ⊥
@@ -309,15 +310,16 @@ other_goal (op.Shield alt) e b q d k la t br on tr sh qu lq = sh alt refl
 other_goal (op.Collect x y alt) e b q d k la t br on tr sh qu lq = q
 other_goal x e b q d k la t br on tr sh qu lq = absurd (cc)
 
-pub quiet_else : (a : Action) → ((name : _) → a ≡ action.Text name → ⊥) → ((kind : _) → a ≡ action.Gap kind → ⊥) → ((x : Term) → a ≡ action.GapN x → ⊥) → ((x : Term) → a ≡ action.Print x → ⊥) → ((x y z : Term) → a ≡ action.Random x y z → ⊥) → ((place : ℕ) (xs : List Term) (sets : Bool) → a ≡ action.Now place xs sets → ⊥) → (a ≡ action.Stop → ⊥) → IsQuiet a
-quiet_else (action.Text name) t g n p d w v = t name refl
-quiet_else (action.Gap kind) t g n p d w v = g kind refl
-quiet_else (action.GapN x) t g n p d w v = n x refl
-quiet_else (action.Print x) t g n p d w v = p x refl
-quiet_else (action.Random x y z) t g n p d w v = d x y z refl
-quiet_else (action.Now place xs sets) t g n p d w v = w place xs sets refl
-quiet_else action.Stop t g n p d w v = absurd (v refl)
-quiet_else a t g n p d w v = tt
+pub quiet_else : (a : Action) → ((name : _) → a ≡ action.Text name → ⊥) → ((kind : _) → a ≡ action.Gap kind → ⊥) → ((x : Term) → a ≡ action.GapN x → ⊥) → ((x : Term) → a ≡ action.Print x → ⊥) → ((x y z : Term) → a ≡ action.Random x y z → ⊥) → ((place : ℕ) (xs : List Term) (sets : Bool) → a ≡ action.Now place xs sets → ⊥) → (a ≡ action.Stop → ⊥) → ReadsNone (op.Do a) → IsQuiet a
+quiet_else (action.Text name) t g n p d w v r = t name refl
+quiet_else (action.Gap kind) t g n p d w v r = g kind refl
+quiet_else (action.GapN x) t g n p d w v r = n x refl
+quiet_else (action.Print x) t g n p d w v r = p x refl
+quiet_else (action.Random x y z) t g n p d w v r = d x y z refl
+quiet_else (action.Now place xs sets) t g n p d w v r = w place xs sets refl
+quiet_else (action.Input x) t g n p d w v r = absurd r
+quiet_else action.Stop t g n p d w v r = absurd (v refl)
+quiet_else a t g n p d w v r = tt
 
 pub first_goal : (all : List Op) (x : Op) (rest : List Op) → all ≡ x ∷ rest → at_goal all ≡ true → is_goal x ≡ true
 first_goal all x rest is e = sym (ap at_goal is) ∙ e
@@ -388,6 +390,7 @@ quiet_goal g m (op.Do (action.Test f x)) rest q b = refl
 quiet_goal g m (op.Do (action.Compare f x y)) rest q b = refl
 quiet_goal g m (op.Do action.Fail) rest q b = refl
 quiet_goal g m (op.Do action.Quit) rest q b = refl
+quiet_goal g m (op.Do (action.Input x)) rest q b = absurd q
 quiet_goal g m (op.Do action.Stop) rest q b = absurd q
 quiet_goal g m (op.Do (action.Text name)) rest q b = absurd q
 quiet_goal g m (op.Do (action.Gap kind)) rest q b = absurd q
@@ -395,7 +398,6 @@ quiet_goal g m (op.Do (action.GapN x)) rest q b = absurd q
 quiet_goal g m (op.Do (action.Print x)) rest q b = absurd q
 quiet_goal g m (op.Do (action.Random x y z)) rest q b = absurd q
 quiet_goal g m (op.Do (action.Now place xs sets)) rest q b = absurd q
-quiet_goal g m (op.Do a) rest q b = absurd b
 quiet_goal g m x rest q b = refl
 
 module _ (tb : Tables) (code : Code) (g : Game) (is_of : IsOf g.program tb) (l : Limits) (m : Mid) (old new : Memory) (now : Now) (ops : List Op) (x : Op) (rest : List Op) (split : ops ≡ x ∷ rest) (at : CodeIs ops m) (h : Holds code l old m) where

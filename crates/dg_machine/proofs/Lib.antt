@@ -39,6 +39,7 @@ pub mod Spaces
 pub mod Pieces
 pub mod Wordings
 pub mod Readings
+pub mod Lines
 pub mod Runs
 pub mod Turns
 pub mod Starts

@@ -56,6 +56,7 @@ Has o gs (EndedOf e) = Unit {0}
 abbrev pub DrawsNone : Op → Type 0
 DrawsNone (op.Do (action.Random a b c)) = ⊥
 DrawsNone (op.Do (action.Now place xs sets)) = ⊥
+DrawsNone (op.Do (action.Input a)) = ⊥
 DrawsNone (op.Do action.Stop) = ⊥
 DrawsNone (op.Select site mode blocks behind) = ⊥
 DrawsNone (op.Collect term into alt) = ⊥
@@ -65,6 +66,7 @@ DrawsNone x = Unit {0}
 pub quiet_draws : (x : Op) → IsQuietOp x → DrawsNone x
 quiet_draws (op.Do (action.Random a b c)) q = absurd q
 quiet_draws (op.Do (action.Now place xs sets)) q = absurd q
+quiet_draws (op.Do (action.Input a)) q = absurd q
 quiet_draws (op.Do action.Stop) q = absurd q
 quiet_draws (op.Do a) q = tt
 quiet_draws (op.Select site mode blocks behind) q = absurd q
@@ -89,7 +91,7 @@ module _ (o : OutsideOf) (gs : List Gathering) (g : Setting) where
   has_if true e s h = tt
   has_if false e s h = h
 
-  has_charged : (n : ℕ) (m : Mid) (s : Status) → Has o gs s → Has o gs (charged g n m s)
+  pub has_charged : (n : ℕ) (m : Mid) (s : Status) → Has o gs s → Has o gs (charged g n m s)
   has_charged zero m s h = h
   has_charged (suc n) m s h = has_if (nat_lt g.limits.heap (m.state.heap + suc n)) ending.HeapLimit s h
 
@@ -262,10 +264,10 @@ same_act g (action.JoinWords x y) m b d =
 same_act g action.Just m b d = refl
 same_act g action.Fail m b d = refl
 same_act g action.Quit m b d = refl
+same_act g (action.Input x) m b d = absurd d
 same_act g action.Stop m b d = absurd d
 same_act g (action.Random x y z) m b d = absurd d
 same_act g (action.Now place xs sets) m b d = absurd d
-same_act g a m b d = absurd b
 
 spaces_stop : (v : Value) (w : World) → StopsNone (spaces v [] w)
 spaces_stop (Node (Num n) vs) w = tt
@@ -305,10 +307,10 @@ stops_none g (action.JoinWords x y) m b d =
 stops_none g action.Just m b d = tt
 stops_none g action.Fail m b d = tt
 stops_none g action.Quit m b d = tt
+stops_none g (action.Input x) m b d = absurd d
 stops_none g action.Stop m b d = absurd d
 stops_none g (action.Random x y z) m b d = absurd d
 stops_none g (action.Now place xs sets) m b d = absurd d
-stops_none g a m b d = absurd b
 
 pub has_does : (g : Setting) (x : Op) (m : Mid) → OpBuilt x → DrawsNone x → Has m.outside m.gathered (does g x m)
 has_does g (op.Do a) m b d =

@@ -19,8 +19,7 @@ use Rattle.dg_spacing.specs.declared.spacer.Spacer.{Spacer}
 use Rattle.dg_machine.specs.declared.now.Now.{Now}
 use Rattle.dg_machine.specs.declared.memory.Memory.{Memory}
 use Rattle.dg_machine.specs.declared.tables.Tables.{Tables}
-use Rattle.dg_machine.specs.Built.{OpsBuilt}
-use Rattle.dg_machine.specs.Reading.{IsEnd, LeftBehind, Gave}
+use Rattle.dg_machine.specs.Reading.{IsEnd, LeftBehind, Gave, ReadsNone, NoLine}
 use Rattle.dg_machine.specs.Running.{DoesGoal, ReadsGoal}
 
 -- ## Steps that read nothing
@@ -44,22 +43,22 @@ left_as s now rest e = ap (λ b. if b then behind_first rest else rest) e
 pub mark_leaves : (s : Setting) (now : Status) (rest : List ℕ) → takes_goal now ≡ false → left_behind s now rest ≡ rest
 mark_leaves s now rest e = left_as s now rest (unread s now e)
 
--- so does code that has no typed input
-built_reads : (s : Setting) (m : Mid) (ops : List Op) → OpsBuilt ops → reads_in s m ops ≡ false
-built_reads s m [] b = refl
-built_reads s m (op.Do (action.Input t) ∷ ops) b = absurd b.0
-built_reads s m (x ∷ ops) b = refl
+-- so does code whose first instruction reads no line
+line_reads : (s : Setting) (m : Mid) (ops : List Op) → NoLine ops → reads_in s m ops ≡ false
+line_reads s m [] b = refl
+line_reads s m (op.Do (action.Input t) ∷ ops) b = absurd b
+line_reads s m (x ∷ ops) b = refl
 
 -- ## What a source gave
 
 unfoldable pub gave_nothing : (i : SourceView) (now : Now) → Gave i i now
 gave_nothing i now = record { taken = []; ended = false; over = λ e. absurd (cc (e)); left = λ rest h. h; told = λ rest h. as_told i i rest h; later = omega arith }
 
-pub goes_unread : (t : Tables) (code : Code) (old : Memory) (out : Outside) (ops : List Op) (new : Memory) (out' : Outside) (after : Now) (s s' : Spacer) (k k' : SinkView) (i : SourceView) → OpsBuilt ops → DoesGoal t code old out ops new out' after s s' k k' → ReadsGoal t code old out ops new out' after s s' k k' i i
+pub goes_unread : (t : Tables) (code : Code) (old : Memory) (out : Outside) (ops : List Op) (new : Memory) (out' : Outside) (after : Now) (s s' : Spacer) (k k' : SinkView) (i : SourceView) → NoLine ops → DoesGoal t code old out ops new out' after s s' k k' → ReadsGoal t code old out ops new out' after s s' k k' i i
 unfolding gave_nothing
-goes_unread t code old out ops new out' after s s' k k' i built does = record {
+goes_unread t code old out ops new out' after s s' k k' i none does = record {
   gave = gave_nothing i after;
-  does = λ rest h g is_of l m o e at held w typed. (does g is_of l m o e at held w, left_as (setting g code l) (RunsOf m) m.outside.typed (built_reads (setting g code l) m m.ops (subst OpsBuilt (sym at.0) built)) ∙ typed);
+  does = λ rest h g is_of l m o e at held w typed. (does g is_of l m o e at held w, left_as (setting g code l) (RunsOf m) m.outside.typed (line_reads (setting g code l) m m.ops (subst NoLine (sym at.0) none)) ∙ typed);
 }
 
 -- bytes that may be left
@@ -90,3 +89,9 @@ gave_on i mid i' now next goes first second =
       told = λ rest h. told_on i.left mid.left i'.left first.taken rest (λ bytes is. first.left bytes (still bytes is)) (second.told rest h);
       later = let x = first.later in let y = second.later in omega (arith, x, y);
     }
+
+pub unread_first : (all : List Op) (x : Op) (rest : List Op) → all ≡ x ∷ rest → NoLine all → ReadsNone x
+unread_first all x rest is none = subst NoLine is none
+
+pub none_first : (all : List Op) (x : Op) (rest : List Op) → all ≡ x ∷ rest → ReadsNone x → NoLine all
+none_first all x rest is none = subst NoLine (sym is) none

@@ -45,13 +45,13 @@ ActionBuilt (action.Arith f a b c) = Unit {0}
 ActionBuilt (action.Compare f a b) = Unit {0}
 ActionBuilt (action.Random a b c) = Unit {0}
 ActionBuilt (action.Now place terms sets) = AreArguments terms
+ActionBuilt (action.Input a) = Unit {0}
 ActionBuilt (action.SplitWord a b) = Unit {0}
 ActionBuilt (action.JoinWords a b) = Unit {0}
 ActionBuilt action.Just = Unit {0}
 ActionBuilt action.Fail = Unit {0}
 ActionBuilt action.Quit = Unit {0}
 ActionBuilt action.Stop = Unit {0}
-ActionBuilt a = ⊥
 
 -- An instruction.
 abbrev pub OpBuilt : Op → Type 0
@@ -111,7 +111,7 @@ pub record IsBuilt (code : Code) : Type 0 where
   pub blocks : (b : ℕ) → OpsBuilt (block_at code b)
   pub leave : (b : ℕ) → OpsLeave code (block_at code b)
 
--- An action prints nothing, leaves what is outside, and stops no part.
+-- An action prints nothing, reads nothing, leaves what is outside, and stops no part.
 abbrev pub IsQuiet : Action → Type 0
 IsQuiet (action.Text name) = ⊥
 IsQuiet (action.Gap kind) = ⊥
@@ -119,6 +119,7 @@ IsQuiet (action.GapN a) = ⊥
 IsQuiet (action.Print a) = ⊥
 IsQuiet (action.Random a b c) = ⊥
 IsQuiet (action.Now place terms sets) = ⊥
+IsQuiet (action.Input a) = ⊥
 IsQuiet action.Stop = ⊥
 IsQuiet a = Unit {0}
 

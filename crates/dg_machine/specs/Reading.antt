@@ -1,8 +1,13 @@
 -- What a machine takes of typed bytes. Hold it against the Dialog manual, chapter "Beyond the program", on input, and docs/LANGUAGE.md, "Typed lines
 -- and words".
-use Rattle.std.specs.Prelude.{ℕ, ◌≡◌, ◌≤◌, ◌++◌, List, [], length, Bool, true, false}
+use Rattle.std.specs.Prelude.{ℕ, ◌≡◌, ◌≤◌, ◌++◌, List, [], ◌∷◌, length, Bool, true, false}
 use Rattle.dg_base.specs.Causes.{Rose}
 use Rattle.dg_base.specs.Streams.{SourceView}
+use Rattle.dg_base.specs.declared.program.GapKind.TheVariants.{Line}
+use Rattle.dg_meaning.specs.World.{Print, GapOf}
+use Rattle.dg_mid.specs.declared.code.Op.{Op}
+use Rattle.dg_mid.specs.declared.code.Op.TheVariants as op
+use Rattle.dg_mid.specs.declared.code.Action.TheVariants as action
 use Rattle.dg_meaning.specs.Words.{behind_first}
 use Rattle.dg_meaning.specs.Shows.{IsLeft}
 use Rattle.dg_meaning.specs.Engines.{left_told}
@@ -35,3 +40,18 @@ pub record Failed (old new : SourceView) : Type 0 where
   pub short : (rest : List ℕ) → IsLeft new.left rest → length (behind_first (taken ++ rest)) ≤ length rest
   pub later : old.faults ≤ new.faults
   pub rose : Rose old.faults new.faults
+
+-- An instruction reads no line.
+abbrev pub ReadsNone : Op → Type 0
+ReadsNone (op.Do (action.Input t)) = ⊥
+ReadsNone x = Unit {0}
+
+-- The first of some instructions reads no line.
+abbrev pub NoLine : List Op → Type 0
+NoLine [] = Unit {0}
+NoLine (x ∷ ops) = ReadsNone x
+
+-- What is printed behind a line that was read: a newline where the run goes on.
+abbrev pub line_behind : Now → List Print
+line_behind (Ended e) = []
+line_behind now = GapOf Line ∷ []

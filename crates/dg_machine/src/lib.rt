@@ -10,6 +10,7 @@ mod machine;
 mod memory;
 mod now;
 mod passing;
+mod reading;
 mod refs;
 mod register;
 mod rows;

@@ -16,13 +16,14 @@ ghost use Rattle.dg_outside.specs.declared.outside.Outside.{Outside as TheOutsid
 ghost use Rattle.dg_outside.specs.Outside.{MayPick, picks_in};
 ghost use Rattle.dg_machine.specs.Layout.{HasRoom, Holds, Roomy};
 ghost use Rattle.dg_machine.specs.Standing.{DoesOp, DoesMark, HasStatus, PicksOnce};
-ghost use Rattle.dg_machine.specs.Reading.{IsEnd};
+ghost use Rattle.dg_machine.specs.Reading.{IsEnd, ReadsNone, NoLine};
 ghost use Rattle.dg_machine.specs.Running.{rests, DoesMarks, DoesGoal, LosesGoal, ReadsGoal, BreaksGoal, Settles, Takes, BreaksTurn, Finishes, BreaksRun};
 ghost use Rattle.dg_machine.specs.Running.{IsSomewhereWith, IsSomewhereAt, IsSomewhereStill};
 
 use crate::doing::code_at;
 use crate::memory::Memory;
 use crate::now::{Now, Search};
+use crate::reading::{line_term, read_line};
 use crate::selecting::select;
 use crate::tables::Tables;
 use dg_base::{Ending, Fault, GapKind, Sink, Source, Term, WriteFault};
@@ -275,6 +276,7 @@ fn do_action<'p, K: Sink>(
     requires some { (code : TheCode) × (l : Limits) × (m : Mid) × Holds code l memory.old m }
     requires built { ActionBuilt action.now }
     requires no_stop { action.now ≡ Stop → ⊥ }
+    requires unread { ReadsNone (op.Do action.now) }
     requires whole { ops.now ≡ op.Do action.now ∷ rest.now }
     ensures ok { IfOk result (λ now. (code : TheCode) → DoesGoal tables.now code memory.old outside.old ops.now memory.new outside.new now spacer.old
         spacer.new (K.view sink.old) (K.view sink.new)) }
@@ -301,7 +303,7 @@ fn do_action<'p, K: Sink>(
     }
 }
 
-/// Does the instruction at hand, which takes a goal.
+/// Does the instruction at hand, which takes a goal, and reads no line.
 fn goal_step<'p, K: Sink>(
     memory: &mut Memory,
     code: &'p Code,
@@ -317,6 +319,7 @@ fn goal_step<'p, K: Sink>(
     requires ops_built { OpsBuilt ops.now }
     requires goal { at_goal ops.now ≡ true }
     requires may { MayPick 1 (picks_in outside.old) }
+    requires unread { NoLine ops.now }
     ensures ok { IfOk result (λ now. DoesGoal tables.now code.now memory.old outside.old ops.now memory.new outside.new now spacer.old spacer.new
         (K.view sink.old) (K.view sink.new)) }
     ensures err { OnErr result (LosesGoal tables.now code.now memory.old ops.now spacer.old (K.view sink.old) (K.view sink.new)) }
@@ -379,9 +382,15 @@ fn next_goal<'p, S: Source, K: Sink>(
     ensures roomy { OnErr result ((l : Limits) → (m : Mid) → Holds code.now l memory.old m → Roomy l memory.new) }
     ensures once { PicksOnce outside.old outside.new }
 {
-    match goal_step(memory, code, tables, outside, ops, spacer, sink) {
-        Ok(now) => Ok(now),
-        Err(_) => Err(Fault::Write),
+    match ops {
+        [] => Ok(Now::Fails),
+        [op, rest @ ..] => match line_term(op) {
+            Some(term) => read_line(memory, tables, ops, term, rest, source, spacer, sink),
+            None => match goal_step(memory, code, tables, outside, ops, spacer, sink) {
+                Ok(now) => Ok(now),
+                Err(_) => Err(Fault::Write),
+            },
+        },
     }
 }
 

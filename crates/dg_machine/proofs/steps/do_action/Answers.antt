@@ -41,7 +41,7 @@ returns-in-Err-event-clause-err g c code game is_of l m at h start ps text =
 
 pub returns-in_default-clause-ok : goal.returns-in_default-clause-ok
 returns-in_default-clause-ok g c code game is_of l m o e at h w =
-    quiet_done c.args.tables.now code game is_of l m c.args.memory.now c.act.new.memory c.act.result c.args.ops.now (op.Do c.args.action.now) c.args.rest.now c.requires.whole at h c.args.spacer.now (g.K.Sink.view c.args.sink.now) c.args.outside.now o w (quiet_else c.args.action.now c.in_default.not-Text c.in_default.not-Gap c.in_default.not-GapN c.in_default.not-Print c.in_default.not-Random c.in_default.not-Now c.requires.no_stop) (c.act.ensures code)
+    quiet_done c.args.tables.now code game is_of l m c.args.memory.now c.act.new.memory c.act.result c.args.ops.now (op.Do c.args.action.now) c.args.rest.now c.requires.whole at h c.args.spacer.now (g.K.Sink.view c.args.sink.now) c.args.outside.now o w (quiet_else c.args.action.now c.in_default.not-Text c.in_default.not-Gap c.in_default.not-GapN c.in_default.not-Print c.in_default.not-Random c.in_default.not-Now c.requires.no_stop c.requires.unread) (c.act.ensures code)
 
 pub returns-in-Random-clause-ok : goal.returns-in-Random-clause-ok
 returns-in-Random-clause-ok g c code game is_of l m o e at h w =

@@ -2,6 +2,8 @@ use Rattle.std.proofs.Common.{◌∷◌, take, drop, length, ◌-◌, refl, sym,
 use Rattle.dg_mid.specs.declared.code.Op.TheVariants as op
 use Rattle.dg_mid.specs.declared.code.Action.TheVariants as action
 use Rattle.dg_machine.specs.Built.{OpBuilt, OpsBuilt}
+use Rattle.dg_machine.specs.Reading.{ReadsNone}
+use Rattle.dg_machine.proofs.Readings.{unread_first}
 use Rattle.dg_machine.proofs.Leaving.{split_list}
 use Rattle.dg_machine.proofs.Goals.{quiet_done, quiet_op, first_goal, silent_with, built_first}
 use Rattle.dg_machine.proofs.Outsides.{has_outside, has_does}
@@ -101,3 +103,8 @@ find-requires-clause-terms g c =
     let x = c.in-Find in
     let built = built_first all c.op-item.result (take (length all - 1) (drop 1 all)) (split_list all c.op-item.result c.in-len1-up.len_at_least c.op-item.is) c.requires.ops_built in
     subst OpBuilt (x.is ∙ ap (λ ts. op.Find x.place ts x.many x.next) (sym c.as_slice.ensures)) built
+
+pub do_action-requires-clause-unread : goal.do_action-requires-clause-unread
+do_action-requires-clause-unread g c =
+    let all = c.args.ops.now in
+    subst ReadsNone c.in-Do.is (unread_first all c.op-item.result (take (length all - 1) (drop 1 all)) (split_list all c.op-item.result c.in-len1-up.len_at_least c.op-item.is) c.requires.unread)
