@@ -1,6 +1,6 @@
 -- What is read of the world at once.
 use Rattle.std.specs.Prelude.{is_some, slice_get}
-use Rattle.std.proofs.Common.{◌≡◌, ℕ, ◌+◌, ◌-◌, ◌<◌, ◌≤◌, List, [], ◌∷◌, Option, Some, None, Bool, true, false, refl, sym, ap, ◌∙◌, subst, arith, length, get_or}
+use Rattle.std.proofs.Common.{◌≡◌, ℕ, ◌+◌, ◌-◌, ◌<◌, ◌≤◌, List, [], ◌∷◌, Option, Some, None, Bool, true, false, refl, sym, ap, ◌∙◌, subst, arith, length, get_or, vec_capacity}
 use Rattle.std.specs.Borrow.{Bor}
 use Rattle.std.specs.Option.{option_map}
 use Rattle.dg_arena.specs.Held.{meaning_of}
@@ -52,8 +52,8 @@ use Rattle.dg_machine.specs.declared.tables.Tables.{Tables}
 use Rattle.dg_machine.specs.Layout.{Holds, Lacks}
 use Rattle.dg_machine.specs.Refs.{RefsAt, Keeps}
 use Rattle.dg_machine.specs.Standing.{CodeIs, Stands, Around}
-use Rattle.dg_machine.specs.Writing.{Overflows}
-use Rattle.dg_machine.proofs.Opens.{on_arena, roomy, roomy_on}
+use Rattle.dg_machine.specs.Writing.{Overflows, SpareFits}
+use Rattle.dg_machine.proofs.Opens.{on_arena, registers_held, registers_roomy, roomy, roomy_on}
 use Rattle.dg_machine.proofs.Unifying.{done_unifies}
 
 -- ## Copies
@@ -81,6 +81,22 @@ no_copy_room code l m n r a h keeps over =
     let limit = h.0.limits.heap in
     let heap = ap (λ (s : State). s.heap) h.0.state_is in
     record { over = omega (arith, over, limit, heap); roomy = roomy_on l r a (roomy code l m r h) keeps.kept }
+
+-- the same, where Refs were kept behind others meanwhile
+module _ (code : Code) (l : Limits) (m : Mid) (r new : Memory) (h : Holds code l r m) (keeps : Keeps r.arena new.arena) (room : vec_capacity new.kept ≡ vec_capacity r.kept) where
+  pub kept_copied : (v : Value) (made : Ref) → new.kept.items ≡ r.kept.items → Copied (meaning_of r.arena) (meaning_of new.arena) v made → HasCopied code l v m (record r { arena = new.arena; kept = new.kept }) made
+  kept_copied v made same c =
+      let x = was_copied code l m v r new.arena made h keeps c in
+      record { held = registers_held code l (copied_in v m) (record r { arena = new.arena }) (record r { arena = new.arena; kept = new.kept }) x.held refl h.0.room.refs.args_few refl refl same room; value = x.value }
+
+  pub no_kept_room : (n : ℕ) → Overflows n (meaning_of r.arena) → Lacks n l m.state.heap (record r { arena = new.arena; kept = new.kept })
+  no_kept_room n over =
+      let x = no_copy_room code l m n r new.arena h keeps over in
+      record { over = x.over; roomy = registers_roomy l (record r { arena = new.arena }) (record r { arena = new.arena; kept = new.kept }) x.roomy refl refl refl room }
+
+-- there is room behind the Refs that choices keep
+pub spare_fits : (code : Code) (l : Limits) (m : Mid) (r : Memory) → Holds code l r m → SpareFits (meaning_of r.arena) (vec_capacity r.kept) r.kept.items
+spare_fits code l m r h = record { fits = h.0.room.refs.kept_fit; few = h.0.room.refs.kept_few }
 
 -- ## What is set
 

@@ -27,7 +27,7 @@ node_cells f vs = length-append (label_cells f (count_of vs)) (cells_of_all vs)
 
 mutual
   -- one more than it takes of the heap
-  few_cells : (v : Value) → IsFormed v → length (cells_of v) ≤ 1 + copy_cells v
+  pub few_cells : (v : Value) → IsFormed v → length (cells_of v) ≤ 1 + copy_cells v
   few_cells (Var x) h = omega arith
   few_cells (Node (Num n) vs) h = let all = few_all vs h.1 in let whole = node_cells (Num n) vs in let none = parts_none vs h.0 in omega (arith, all, whole, none)
   few_cells (Node (Word n) vs) h = let all = few_all vs h.1 in let whole = node_cells (Word n) vs in let none = parts_none vs h.0 in omega (arith, all, whole, none)

@@ -27,6 +27,7 @@ pub mod Changes
 pub mod Selects
 pub mod Seeks
 pub mod CellLemmas
+pub mod ListCopies
 pub mod Trying
 pub mod Answered
 pub mod Prints
@@ -34,6 +35,7 @@ pub mod Asked
 pub mod Outsides
 pub mod Gatherings
 mod Takings
+mod Listings
 mod Goals
 pub mod Spaces
 pub mod Pieces

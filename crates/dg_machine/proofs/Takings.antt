@@ -105,7 +105,7 @@ module _ (code : Code) (g : Game) (l : Limits) (m : Mid) (r : Memory) (out out' 
   abbrev pub left_m : Mid
   left_m = passed (record m { gathered = x.others })
 
-  many : length x.others ≡ height
+  pub many : length x.others ≡ height
   many =
       let rows = ap length w.0.1.0 in
       let each = length-map m.gathered row_of in

@@ -1,4 +1,4 @@
--- The instructions that a machine runs so far. Hold it against the README.
+-- The code that a machine runs. Hold it against the README.
 use Rattle.std.specs.Prelude.{ℕ, ◌≡◌, ◌≤◌, List, [], ◌∷◌, Bool, true, false, length}
 use Rattle.dg_base.specs.declared.program.Term.{Term}
 use Rattle.dg_base.specs.declared.program.Term.TheOpen as term
@@ -6,7 +6,6 @@ use Rattle.dg_mid.specs.declared.code.Op.{Op}
 use Rattle.dg_mid.specs.declared.code.Op.TheVariants as op
 use Rattle.dg_mid.specs.declared.code.Action.{Action}
 use Rattle.dg_mid.specs.declared.code.Action.TheVariants as action
-use Rattle.dg_mid.specs.declared.code.Gathered.TheVariants as gathered
 use Rattle.dg_mid.specs.declared.code.Code.{Code}
 use Rattle.dg_mid.specs.Code.{block_at}
 
@@ -71,7 +70,7 @@ OpBuilt (op.Keep term) = Unit {0}
 OpBuilt (op.Shield alt) = Unit {0}
 OpBuilt (op.Retry alt) = Unit {0}
 OpBuilt op.Commit = Unit {0}
-OpBuilt (op.TakeOut gathered.Sum into) = Unit {0}
+OpBuilt (op.TakeOut whole into) = Unit {0}
 OpBuilt op.Refuse = Unit {0}
 OpBuilt op.Leave = Unit {0}
 OpBuilt op.Back = Unit {0}
@@ -79,7 +78,6 @@ OpBuilt op.Return = Unit {0}
 OpBuilt (op.Goto b) = Unit {0}
 OpBuilt (op.Enter vars head) = AreArguments head
 OpBuilt op.Done = Unit {0}
-OpBuilt x = ⊥
 
 -- Each of some instructions.
 abbrev pub OpsBuilt : List Op → Type 0

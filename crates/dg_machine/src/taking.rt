@@ -1,21 +1,27 @@
 // Gatherings that are taken out.
-ghost use Rattle.std.specs.Prelude.{◌≡◌, MatchResult, List, [], ◌∷◌, Some, ℕ};
+ghost use Rattle.std.specs.Prelude.{◌≡◌, IfOk, MatchResult, List, [], ◌∷◌, Some, ℕ};
+ghost use Rattle.std.specs.List.{All, flat_map};
 ghost use Rattle.dg_base.specs.declared.run.Limits.{Limits};
+ghost use Rattle.dg_meaning.specs.Copies.{copy_cells, list_of};
 ghost use Rattle.dg_meaning.specs.Unify.{unify as unified};
 ghost use Rattle.dg_meaning.specs.Values.{Value};
-ghost use Rattle.dg_unify.specs.Store.{Holds as HoldsRef};
+ghost use Rattle.dg_meaning.specs.ValueCells.{cells_of};
+ghost use Rattle.dg_lists.specs.Formed.{IsFormed};
+ghost use Rattle.dg_unify.specs.Store.{Kept, Holds as HoldsRef};
 ghost use Rattle.dg_mid.specs.declared.code.Code.{Code as TheCode};
-ghost use Rattle.dg_mid.specs.declared.code.Gathered.TheVariants.{Sum};
+ghost use Rattle.dg_mid.specs.declared.code.Gathered.TheVariants.{List as InList, Sum};
 ghost use Rattle.dg_mid.specs.State.{Mid};
 ghost use Rattle.dg_arena.specs.Held.{meaning_of};
 ghost use Rattle.dg_machine.specs.Refs.{RefsAt};
-ghost use Rattle.dg_machine.specs.Layout.{Holds, Matched, Unmatched};
+ghost use Rattle.dg_machine.specs.Layout.{Holds, Lacks, Matched, Unmatched};
+ghost use Rattle.dg_machine.specs.Finding.{HasCopied};
 ghost use Rattle.dg_machine.specs.Standing.{TakesNewest, TakesOut};
 
+use crate::copies::copy_list;
 use crate::memory::Memory;
 use crate::now::Now;
 use crate::terms::simple_value;
-use dg_base::{Ending, Simple};
+use dg_base::{Cell, Ending, Simple};
 use dg_lists::sum;
 use dg_mid::{Gathered, Op};
 use dg_outside::Outside;
@@ -33,6 +39,46 @@ impl Memory {
         match unify(&mut self.arena, a, b) {
             Err(full) => Err(full),
             Ok(agreed) => Ok(agreed),
+        }
+    }
+
+    /// The list of copies of the values that stand in cells.
+    fn make_list(&mut self, cells: &[Cell]) -> Result<Ref, Full>
+        ensures made { (code : TheCode) → (l : Limits) → (m : Mid) → (vs : List Value) → Holds code l self.old m → cells.now ≡ flat_map cells_of vs →
+            All IsFormed vs → MatchResult result (HasCopied code l (list_of vs) m self.new)
+            (λ _. Lacks (copy_cells (list_of vs)) l m.state.heap self.new) }
+        ensures kept { Kept (meaning_of self.old.arena) (meaning_of self.new.arena) }
+        ensures holds { IfOk result (λ made. HoldsRef (meaning_of self.new.arena) made) }
+        ensures choices { self.new.choices ≡ self.old.choices }
+    {
+        match copy_list(&mut self.arena, cells, &mut self.kept) {
+            Err(full) => Err(full),
+            Ok(made) => Ok(made),
+        }
+    }
+
+    /// The list of the newest gathering, which is dropped, is unified with the second value at hand.
+    fn take_list<'p>(&mut self, outside: &mut Outside<'_>, rest: &'p [Op]) -> Now<'p>
+        requires { (v into : Value) × RefsAt (meaning_of self.old.arena) self.old.args.items (v ∷ into ∷ []) }
+        ensures takes { (code : TheCode) → (block : ℕ) → TakesNewest code InList block self.old outside.old rest.now self.new result outside.new }
+        ensures sites { outside.new.sites ≡ outside.old.sites }
+    {
+        let Some(cells) = outside.gathered.newest() else {
+            return Now::Fails;
+        };
+        let into = self.arg(1);
+        match self.make_list(cells) {
+            Err(_) => Now::Ended(Ending::HeapLimit),
+            Ok(list) => {
+                let height = outside.gathered.height().0 - 1;
+                outside.close_to(height);
+                self.gathered = height;
+                match self.meet(into, list) {
+                    Err(_) => Now::Ended(Ending::TrailLimit),
+                    Ok(false) => Now::Fails,
+                    Ok(true) => Now::Runs(rest),
+                }
+            }
         }
     }
 
@@ -74,7 +120,7 @@ impl Memory {
             [op, rest @ ..] => match op {
                 Op::TakeOut(whole, _) => match whole {
                     Gathered::Sum => self.take_sum(outside, rest),
-                    Gathered::List => Now::Fails,
+                    Gathered::List => self.take_list(outside, rest),
                 },
                 _ => Now::Fails,
             },

@@ -41,6 +41,7 @@ returns-in-Tries-clause-goes_on c g l m on seeks at h w =
       done = go_tries code g l m c.args.outside.now x.search x.from x.end r c.try_first.new.self c.try_first.result on seeks w there c.try_first.ensures h;
       outside = resume_outside c.args.outside.now g l code (meaning_of r.arena) r.args.items (Tries x.search x.from x.end) on m tt there w;
     })
+
 pub returns-in-Takes-clause-goes_on : goal.returns-in-Takes-clause-goes_on
 returns-in-Takes-clause-goes_on c g l m on seeks at h w =
     let code = c.args.code.now in

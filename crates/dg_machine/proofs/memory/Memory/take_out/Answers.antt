@@ -1,6 +1,6 @@
 use Rattle.std.proofs.Common.{◌∷◌, take, drop, length, ◌-◌, refl, ap, sym, ◌∙◌, subst}
 use Rattle.dg_mid.specs.declared.code.Op.TheVariants as op
-use Rattle.dg_mid.specs.declared.code.Gathered.TheVariants.{Sum}
+use Rattle.dg_mid.specs.declared.code.Gathered.TheVariants.{List as InList, Sum}
 use Rattle.dg_mid.specs.Step.{setting, takes}
 use Rattle.dg_machine.specs.declared.now.Now.TheVariants.{Resumes}
 use Rattle.dg_machine.specs.declared.now.Way.TheVariants.{Takes}
@@ -18,3 +18,13 @@ returns-in-Sum-clause-takes c code block g l m into built is there h w =
     let parts : OpsBuilt (op.TakeOut Sum x.field-1 ∷ rest) = subst OpsBuilt split (subst OpsBuilt (sym is) (built.blocks block)) in
     subst (λ xs. FallsWith code g l c.args.self.now (Resumes (Takes block)) c.take_sum.new.self c.take_sum.result c.take_sum.new.outside (takes (setting g code l) into xs m)) (sym split)
     (c.take_sum.ensures.takes code block g l (record m { ops = rest }) there.1 into (refl, parts.1) h there.2 w)
+
+pub returns-in-List-clause-takes : goal.returns-in-List-clause-takes
+returns-in-List-clause-takes c code block g l m into built is there h w =
+    let all = c.args.ops.now in
+    let rest = take (length all - 1) (drop 1 all) in
+    let x = c.in-TakeOut in
+    let split = split_list all c.op-item.result c.in-len1-up.len_at_least c.op-item.is ∙ ap (λ y. y ∷ rest) (x.is ∙ ap (λ k. op.TakeOut k x.field-1) c.in-List.is) in
+    let parts : OpsBuilt (op.TakeOut InList x.field-1 ∷ rest) = subst OpsBuilt split (subst OpsBuilt (sym is) (built.blocks block)) in
+    subst (λ xs. FallsWith code g l c.args.self.now (Resumes (Takes block)) c.take_list.new.self c.take_list.result c.take_list.new.outside (takes (setting g code l) into xs m)) (sym split)
+    (c.take_list.ensures.takes code block g l (record m { ops = rest }) there.1 into (refl, parts.1) h there.2 w)
