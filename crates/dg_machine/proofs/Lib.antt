@@ -45,3 +45,5 @@ pub mod Lines
 pub mod Runs
 pub mod Turns
 pub mod Starts
+pub mod BuiltLemmas
+pub mod Lacking

@@ -14,3 +14,4 @@ pub mod Wording
 pub mod Reading
 pub mod Finding
 pub mod Running
+pub mod Program

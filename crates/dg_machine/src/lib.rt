@@ -1,6 +1,7 @@
 //! A machine that runs register code in a memory that is taken once.
 #![tactic(auto)]
 
+mod built;
 mod closures;
 mod copies;
 mod doing;
@@ -10,6 +11,7 @@ mod machine;
 mod memory;
 mod now;
 mod passing;
+mod program;
 mod reading;
 mod refs;
 mod register;
@@ -28,4 +30,5 @@ mod writing;
 pub use machine::Machine;
 pub use memory::Memory;
 pub use now::{Call, Captured, Choice, Frame, Inner, Now, Row, Search, Side, Way};
+pub use program::run_program;
 pub use tables::Tables;

@@ -11,13 +11,14 @@ ghost use Rattle.dg_machine.specs.Tables.{IsOf};
 ghost use Rattle.dg_machine.specs.Layout.{Roomy};
 ghost use Rattle.dg_meaning.specs.Engines.{game, left_told, ForTyped, HasShown, HasLostInput, HasLostOutput};
 
+use crate::built::is_built;
 use crate::doing::code_at;
 use crate::memory::Memory;
 use crate::now::Now;
 use crate::steps::go;
 use crate::tables::Tables;
 use dg_base::{Ending, Fault, Limits, Outcome, Sink, Source};
-use dg_mid::Code;
+use dg_mid::{Code, let_go};
 use dg_outside::Outside;
 use dg_spacing::Spacer;
 use std::alloc::{AllocError, Global};
@@ -49,24 +50,40 @@ fn line(ending: Ending) -> &'static [u8]
 }
 
 impl Machine {
-    /// A machine for this code, these tables and these limits, which takes all its memory.
+    /// A machine for this code, these tables and these limits, which takes all its memory. There is none for code with an instruction that isn't built, or
+    /// with more arguments than a register has room for.
     pub fn new(
         alloc: Global,
         code: Code,
         tables: Tables,
         limits: &Limits,
     ) -> Result<Machine, AllocError>
+        ensures built { IfOk result (λ m. IsBuilt m.code) }
         ensures code { IfOk result (λ m. m.code ≡ code) }
         ensures tables { IfOk result (λ m. m.tables ≡ tables) }
         ensures limits { IfOk result (λ m. m.limits ≡ limits.now) }
     {
-        let memory = Memory::new(alloc, limits.heap, limits.trail)?;
-        Ok(Machine {
-            code,
-            tables,
-            limits: *limits,
-            memory,
-        })
+        if !is_built(&code) {
+            let_go(alloc, code);
+            return Err(AllocError);
+        }
+        match Memory::new(alloc, limits.heap, limits.trail) {
+            Ok(memory) => Ok(Machine {
+                code,
+                tables,
+                limits: *limits,
+                memory,
+            }),
+            Err(error) => {
+                let_go(alloc, code);
+                Err(error)
+            }
+        }
+    }
+
+    /// Lets go of its code without recursion, and of its memory.
+    pub fn let_go(self, alloc: Global) {
+        let_go(alloc, self.code);
     }
 
     /// Runs the code from its start, with what is outside at the start, on the typed bytes of a source, and writes the transcript. It takes no memory.

@@ -1,0 +1,22 @@
+use Rattle.std.proofs.Common.{◌≡◌, ◌∙◌, Err, ap, sym, subst}
+use Rattle.dg_base.specs.declared.run.Fault.TheVariants.{Read, Write}
+use Rattle.dg_mid.specs.Codes.{Codes}
+use Rattle.dg_machine.specs.Tables.{IsOf}
+use Rattle.dg_machine.proofs.program.run_code.Goals as goal
+
+pub returns-in-Ok-result-clause-shows : goal.returns-in-Ok-result-clause-shows
+returns-in-Ok-result-clause-shows g c = λ p dice ready.
+    let shown = rw c.in-Ok.ensures.limits at c.in-Ok-result.ensures.shows in
+    shown p dice (subst (Codes p) (sym c.in-Ok.ensures.code) ready.codes) (subst (IsOf p) (sym c.in-Ok.ensures.tables) ready.tabled) ready.starts
+
+pub returns-in-Err-Read-clause-input : goal.returns-in-Err-Read-clause-input
+returns-in-Err-Read-clause-input g c = λ is p dice ready.
+    let lost = rw c.in-Ok.ensures.limits at c.run-result.ensures.input in
+    let fault : c.in-Err-Read.field-0 ≡ Read = rw c.in-Err-Read.is at c.in-Err-Read.field-0-is in
+    lost (c.in-Err-Read.is ∙ ap Err fault) p dice (subst (Codes p) (sym c.in-Ok.ensures.code) ready.codes) (subst (IsOf p) (sym c.in-Ok.ensures.tables) ready.tabled) ready.starts
+
+pub returns-in-Err-Write-clause-output : goal.returns-in-Err-Write-clause-output
+returns-in-Err-Write-clause-output g c = λ is p dice ready.
+    let lost = rw c.in-Ok.ensures.limits at c.run-result.ensures.output in
+    let fault : c.in-Err-Write.field-0 ≡ Write = rw c.in-Err-Write.is at c.in-Err-Write.field-0-is in
+    lost (c.in-Err-Write.is ∙ ap Err fault) p dice (subst (Codes p) (sym c.in-Ok.ensures.code) ready.codes) (subst (IsOf p) (sym c.in-Ok.ensures.tables) ready.tabled) ready.starts

@@ -1,0 +1,12 @@
+use Rattle.std.proofs.Common.{subst}
+use Rattle.dg_outside.specs.Outside.{LacksAtStart}
+use Rattle.dg_machine.proofs.Lacking.{lack_shown, lack_lost}
+use Rattle.dg_machine.proofs.program.write_lack.Goals as goal
+
+pub returns-in-Ok-clause-shows : goal.returns-in-Ok-clause-shows
+returns-in-Ok-clause-shows g c = λ p dice l lacks i.
+    lack_shown p dice l (subst (LacksAtStart p l.keep) c.in-Keep.is lacks) i _ _ c.in-Ok.ensures.ok
+
+pub returns-in-Err-clause-output : goal.returns-in-Err-clause-output
+returns-in-Err-clause-output g c = λ is p dice l lacks i.
+    lack_lost p dice l (subst (LacksAtStart p l.keep) c.in-Keep.is lacks) i _ _ c.in-Err.ensures.err

@@ -1,0 +1,95 @@
+// Whether a machine runs each instruction of some code.
+ghost use Rattle.std.specs.Prelude.{◌≡◌, IsTrue};
+ghost use Rattle.dg_machine.specs.Built as spec;
+ghost use Rattle.dg_machine.specs.Built.{AreArguments, AreBranches, ActionBuilt, OpBuilt, OpsBuilt, LeavesFirst, OpLeaves, OpsLeave, IsBuilt};
+
+use crate::doing::code_at;
+use crate::refs::MOST_ARGS;
+use dg_base::Term;
+use dg_mid::{Action, Code, Gathered, Op};
+
+fn are_arguments(terms: &[Term]) -> bool
+    ensures { IsTrue result → AreArguments terms.now }
+{
+    terms.len() <= MOST_ARGS
+}
+
+fn are_branches(blocks: &[u32]) -> bool
+    ensures { IsTrue result → AreBranches blocks.now }
+{
+    blocks.len() <= 65535
+}
+
+fn action_built(action: &Action) -> bool
+    ensures { IsTrue result → ActionBuilt action.now }
+{
+    match action {
+        Action::Now(_, terms, _) => are_arguments(terms.as_slice()),
+        _ => true,
+    }
+}
+
+fn op_built(op: &Op) -> bool
+    ensures { IsTrue result → OpBuilt op.now }
+{
+    match op {
+        Op::Do(action) => action_built(action),
+        Op::Ask(_, terms, _, _) => are_arguments(terms.as_slice()),
+        Op::LastAsk(_, terms, _) => are_arguments(terms.as_slice()),
+        Op::Enter(_, terms) => are_arguments(terms.as_slice()),
+        Op::Find(_, terms, _, _) => are_arguments(terms.as_slice()),
+        Op::Select(_, _, blocks, _) => are_branches(blocks.as_slice()),
+        Op::TakeOut(Gathered::List, _) => false,
+        _ => true,
+    }
+}
+
+fn begins_commit(ops: &[Op]) -> bool
+    ensures { result ≡ spec.begins_commit ops.now }
+{
+    match ops {
+        [Op::Commit, ..] => true,
+        _ => false,
+    }
+}
+
+fn leaves_first(code: &Code, many: bool, next: u32) -> bool
+    ensures { IsTrue result → LeavesFirst code.now many next }
+{
+    many || begins_commit(code_at(code, next))
+}
+
+fn op_leaves(code: &Code, op: &Op) -> bool
+    ensures { IsTrue result → OpLeaves code.now op.now }
+{
+    match op {
+        Op::Find(_, _, many, next) => leaves_first(code, *many, *next),
+        _ => true,
+    }
+}
+
+fn ops_built(code: &Code, ops: &[Op]) -> bool
+    ensures built { IsTrue result → OpsBuilt ops.now }
+    ensures leave { IsTrue result → OpsLeave code.now ops.now }
+{
+    for op in ops {
+        if !op_built(op) || !op_leaves(code, op) {
+            return false;
+        }
+    }
+    true
+}
+
+/// Whether a machine runs each instruction.
+pub fn is_built(code: &Code) -> bool
+    ensures { IsTrue result → IsBuilt code.now }
+{
+    let blocks = code.blocks.as_slice();
+    for block in blocks {
+        let ops = block.ops.as_slice();
+        if !ops_built(code, ops) {
+            return false;
+        }
+    }
+    true
+}
