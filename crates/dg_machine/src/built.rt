@@ -6,7 +6,7 @@ ghost use Rattle.dg_machine.specs.Built.{AreArguments, AreBranches, ActionBuilt,
 use crate::doing::code_at;
 use crate::refs::MOST_ARGS;
 use dg_base::Term;
-use dg_mid::{Action, Code, Gathered, Op};
+use dg_mid::{Action, Code, Op};
 
 fn are_arguments(terms: &[Term]) -> bool
     ensures { IsTrue result → AreArguments terms.now }
@@ -39,7 +39,6 @@ fn op_built(op: &Op) -> bool
         Op::Enter(_, terms) => are_arguments(terms.as_slice()),
         Op::Find(_, terms, _, _) => are_arguments(terms.as_slice()),
         Op::Select(_, _, blocks, _) => are_branches(blocks.as_slice()),
-        Op::TakeOut(Gathered::List, _) => false,
         _ => true,
     }
 }
