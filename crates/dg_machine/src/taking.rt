@@ -31,8 +31,8 @@ impl Memory {
     /// Unifies two values.
     fn meet(&mut self, a: Ref, b: Ref) -> Result<bool, Full>
         requires { HoldsRef (meaning_of self.old.arena) a × HoldsRef (meaning_of self.old.arena) b }
-        ensures met { (code : TheCode) → (l : Limits) → (m : Mid) → (u v : Value) → Holds code l self.old m → (meaning_of self.old.arena).value a ≡ Some u →
-            (meaning_of self.old.arena).value b ≡ Some v → MatchResult result (Matched code l (unified m.state.subst u v) m self.new)
+        ensures met { (code : TheCode) → (l : Limits) → (m : Mid) → (u v : Value) → Holds code l self.old m →
+            (meaning_of self.old.arena).value a ≡ Some u → (meaning_of self.old.arena).value b ≡ Some v → MatchResult result (Matched code l (unified m.state.subst u v) m self.new)
             (λ _. Unmatched l (unified m.state.subst u v) m self.new) }
         ensures choices { self.new.choices ≡ self.old.choices }
     {
@@ -44,8 +44,8 @@ impl Memory {
 
     /// The list of copies of the values that stand in cells.
     fn make_list(&mut self, cells: &[Cell]) -> Result<Ref, Full>
-        ensures made { (code : TheCode) → (l : Limits) → (m : Mid) → (vs : List Value) → Holds code l self.old m → cells.now ≡ flat_map cells_of vs →
-            All IsFormed vs → MatchResult result (HasCopied code l (list_of vs) m self.new)
+        ensures made { (code : TheCode) → (l : Limits) → (m : Mid) → (vs : List Value) → Holds code l self.old m →
+            cells.now ≡ flat_map cells_of vs → All IsFormed vs → MatchResult result (HasCopied code l (list_of vs) m self.new)
             (λ _. Lacks (copy_cells (list_of vs)) l m.state.heap self.new) }
         ensures kept { Kept (meaning_of self.old.arena) (meaning_of self.new.arena) }
         ensures holds { IfOk result (λ made. HoldsRef (meaning_of self.new.arena) made) }
