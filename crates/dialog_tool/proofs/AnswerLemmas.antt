@@ -5,22 +5,23 @@ use Rattle.std.proofs.lemmas.Bool.Decides.{nat_tests}
 use Rattle.dg_base.specs.Causes.{Rose}
 use Rattle.dg_base.specs.Shelves.{Told, ShelfView, held, WhereTold, KeepsAll}
 use Rattle.dg_base.specs.declared.program.CoreProgram.{CoreProgram as Core}
+use Rattle.dg_base.specs.Written.{SinkView}
 use Rattle.dg_base.specs.declared.refusal.Refusal.{Refusal}
 use Rattle.dg_base.specs.declared.refusal.Kind.TheVariants.{SourceTooLong}
-use Rattle.dg_base.specs.declared.run.Outcome.{Outcome}
 use Rattle.dg_meaning.specs.Transcript.{no_memory_line}
 use Rattle.dg_single.specs.Singles.{AreSingles}
-use Rattle.dg_meaning.specs.Engines.{left_told, ForTyped, HasShown, HasLostInput, HasLostOutput, HasLostMemory}
+use Rattle.dg_meaning.specs.Engines.{ForTyped}
+use Rattle.dg_machine.specs.Program.{IsUntouched}
 use Rattle.z_model.specs.Story.{refusal_of}
 use Rattle.z_model.specs.declared.story.StoryRefusal.{StoryRefusal}
 use Rattle.z_model.specs.declared.story.StoryRefusal.TheVariants.{BadLength}
-use Rattle.dialog_tool.specs.Command.{Command, debug, play, run, build, singles, make, Task, limits_of, source_named}
-use Rattle.dialog_tool.specs.Call.{Call, Outside, Finds, IsAsTold, IsFetched, file_at}
+use Rattle.dialog_tool.specs.Command.{Command, debug, play, run, build, singles, make, Task, source_named}
+use Rattle.dialog_tool.specs.Call.{Call, Outside, Finds, IsAsTold, IsFetched}
 use Rattle.dialog_tool.specs.Lines.{Says, usage_line, refusal_line, story_line, file_fault_line}
 use Rattle.dialog_tool.specs.Report.{report}
 use Rattle.dg_compile.specs.Source.{Compiles, refusal_at}
 use Rattle.dialog_tool.specs.Answers
-use Rattle.dialog_tool.specs.Answers.{Keeps, Prints, LostFile, Reads, Runs, Loads, Does, ComesTo, lost, refused, program, lost_story, no_story, no_memory, does}
+use Rattle.dialog_tool.specs.Answers.{Keeps, Prints, Reads, Runs, Does, ComesTo, lost, refused, program, lost_story, no_story, no_memory, does}
 use Rattle.dialog_tool.proofs.Never.{never}
 
 -- ## What is told
@@ -186,6 +187,10 @@ no_words c result none shelf input says =
 -- no memory was found
 pub no_room : (c : Call) (result : ℕ) → Keeps c → c.input_after ≡ c.input → Says 6 no_memory_line c.out c.out_after result → Answers.Answers c result
 no_room c result kept same says = let n = nothing_here c in answers c n.0 result n.1 (no_memory kept (prints c 6 no_memory_line result same says))
+
+-- no memory was found for a run
+pub no_room_to_run : (c : Call) (name file : List ℕ) (mid : SinkView) (result : ℕ) → IsFetched c.shelf c.shelf_after name file → IsUntouched c.input c.input_after c.out mid → Says 6 no_memory_line mid c.out_after result → Answers.Answers c result
+no_room_to_run c name file mid result f untouched says = no_room c result f.kept untouched.source (subst (λ (k : SinkView). Says 6 no_memory_line k c.out_after result) untouched.sink says)
 
 -- no memory was found for the words
 pub no_room_first : (c : Call) (result : ℕ) → c.shelf_after ≡ c.shelf → c.input_after ≡ c.input → Says 6 no_memory_line c.out c.out_after result → Answers.Answers c result

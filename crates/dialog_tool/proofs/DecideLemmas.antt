@@ -12,9 +12,9 @@ use Rattle.z_model.specs.declared.story.StoryRefusal.{StoryRefusal}
 use Rattle.dialog_tool.specs.Command.{debug, play, run, build, singles, make, Command, Task, source_named}
 use Rattle.dialog_tool.specs.Call.{Call, Outside, IsAsTold, file_at, file_of}
 use Rattle.dialog_tool.specs.Lines.{Says, said, unsaid}
-use Rattle.dialog_tool.specs.Playing.{status_of_end, run_of, PlaysStory, played, unread, unwritten}
+use Rattle.dialog_tool.specs.Playing.{status_of_end, run_of, played, unread, unwritten}
 use Rattle.dg_compile.specs.Source.{Compiles}
-use Rattle.dialog_tool.specs.Answers.{Answers, Comes, Decides, Prints, Reads, lost, refused, program, Runs, ran, input_lost, out_lost, no_room, Lists, Makes, reports, overflows, refuses, Reports, Loads, lost_story, no_story, story, HasStory, Builds, no_story_of, plays, HasNone, IsStored, held, not_held, no_room_for_it, Stores, Does, ComesTo, no_memory, does, stores, status_of}
+use Rattle.dialog_tool.specs.Answers.{Answers, Comes, Decides, Prints, Reads, lost, refused, program, Runs, ran, input_lost, out_lost, Lists, Makes, reports, overflows, refuses, Loads, lost_story, no_story, story, Builds, no_story_of, plays, HasNone, IsStored, held, not_held, no_room_for_it, Stores, Does, ComesTo, no_memory, does, stores, status_of}
 
 -- a source has one answer
 abbrev IsOne : Type 0
@@ -103,7 +103,6 @@ run_ended c o t p result (inl e) = inr (early e)
 run_ended c o t p result (inr (ran outcome e shown)) = ended outcome.ending e
 run_ended c o t p result (inr (input_lost e rose h)) = inr (early e)
 run_ended c o t p result (inr (out_lost e h)) = inr (early e)
-run_ended c o t p result (inr (no_room e h)) = inr (inr (inr e))
 
 listed : (c : Call) (p : Core) (result : ℕ) → (result ≡ 5) ⊎ Lists c p result → Comes 0 result
 listed c p result (inl e) = early e

@@ -1,5 +1,5 @@
 -- The answers of the program, command by command: hold them against the table of statuses in man/dialog.1.
-use Rattle.std.specs.Prelude.{◌≡◌, ◌⊎◌, ◌<◌, ℕ, List, [], length, codes, Option, Some, None, Bool, IsTrue, IsSome, Result, Ok, Err}
+use Rattle.std.specs.Prelude.{◌≡◌, ◌⊎◌, ◌<◌, ℕ, List, [], length, codes, Option, Some, None, Bool, IsTrue, IsSome, Ok, Err}
 use Rattle.dg_base.specs.Causes.{Rose}
 use Rattle.dg_base.specs.Shelves.{WhereTold, KeepsAll, KeepsOthers}
 use Rattle.dg_base.specs.declared.program.CoreProgram.{CoreProgram as Core}
@@ -11,7 +11,7 @@ use Rattle.dg_make.specs.Made.{made_source}
 use Rattle.dg_meaning.specs.Shows.{MayWrite, Shows}
 use Rattle.dg_meaning.specs.Transcript.{no_memory_line}
 use Rattle.dg_meaning.specs.World.{Game}
-use Rattle.dg_meaning.specs.Engines.{game, left_told, HasShown, HasLostInput, HasLostOutput, HasLostMemory}
+use Rattle.dg_meaning.specs.Engines.{game, left_told, HasShown, HasLostInput, HasLostOutput}
 use Rattle.dg_single.specs.Singles.{AreSingles}
 use Rattle.dg_story.specs.Agrees.{Agrees}
 use Rattle.dg_story.specs.Built.{IsBuilt}
@@ -76,15 +76,13 @@ abbrev pub game_of : Call → Task → Core → Game
 game_of c t p = game p (dice_for c t)
 
 -- A program is run: at 0 and 3 out took a text that shows a run of it on the typed bytes; at 5 the input failed, and out took the text up to
--- there with its closing, or out failed within a text that it may be writing; at 6 no memory was found, and out took what was printed up to
--- there with its closing.
+-- there with its closing, or out failed within a text that it may be writing.
 pub data Runs (c : Call) (o : Outside) (t : Task) (p : Core) (result : ℕ) : Type 0 where
   ran : (outcome : Outcome) → result ≡ status_of outcome.ending
       → HasShown (game_of c t p) o.typed (limits_of t) outcome (left_told c.input c.input_after) c.out c.out_after → Runs c o t p result
   input_lost : result ≡ 5 → Rose c.input.faults c.input_after.faults
       → HasLostInput (game_of c t p) o.typed (limits_of t) c.input_after.left c.out c.out_after → Runs c o t p result
   out_lost : result ≡ 5 → HasLostOutput (game_of c t p) o.typed (limits_of t) c.out c.out_after → Runs c o t p result
-  no_room : result ≡ 6 → HasLostMemory (game_of c t p) o.typed (limits_of t) c.input_after.left c.out c.out_after → Runs c o t p result
 
 -- The predicates of a program are listed, at 0: out took the report, by which those of the set are single.
 pub record Lists (c : Call) (p : Core) (result : ℕ) : Type 0 where

@@ -10,7 +10,7 @@ ghost use Rattle.dg_compile.specs.Source.{Compiles};
 
 use crate::building::{build, run};
 use crate::command::{Command, Task, command_of};
-use crate::lines::{FAULT, NO_MEMORY, no_memory, usage};
+use crate::lines::{FAULT, no_memory, usage};
 use crate::listing::list_file;
 use crate::making::make;
 use crate::playing::{play, thrown};
@@ -18,8 +18,7 @@ use crate::reading::program_in;
 use crate::statuses::status_of;
 use dg_base::{CoreProgram, Limits, RunFault, Shelf, Sink, Source};
 use dg_compile::sources_have_one_answer;
-use dg_core::let_go;
-use dg_interp::interpret;
+use dg_machine::run_program;
 use std::alloc::Global;
 
 fn limits_of(task: &Task<'_>) -> Limits
@@ -34,27 +33,27 @@ fn limits_of(task: &Task<'_>) -> Limits
 }
 
 // Runs the program of a source.
-fn run_program<S: Source, K: Sink>(
+fn run_source<S: Source, K: Sink>(
     alloc: Global,
     task: &Task<'_>,
-    program: &CoreProgram,
+    program: CoreProgram,
     input: &mut S,
     out: &mut K,
     dice: &[u16],
 ) -> u8
-    requires sound { IsSound program.now }
+    requires sound { IsSound program }
     requires own { HasDice task.now }
     requires dice { 0 < length dice.now }
-    ensures { (before after : ShelfView) → (file : List ℕ) → IsFetched before after task.now.name.now file → Compiles file (Ok program.now) →
+    ensures { (before after : ShelfView) → (file : List ℕ) → IsFetched before after task.now.name.now file → Compiles file (Ok program) →
         Answers (call (Some (debug_command (task_view task.now))) dice.now before after
         (S.view input.old) (S.view input.new) (K.view out.old) (K.view out.new)) result }
 {
     let dice = thrown(&task.dice, dice);
-    match interpret(alloc, program, &limits_of(task), input, dice, out) {
+    match run_program(alloc, program, &limits_of(task), input, dice, out) {
         Ok(outcome) => status_of(outcome.ending),
         Err(RunFault::Read) => FAULT,
         Err(RunFault::Write) => FAULT,
-        Err(RunFault::OutOfMemory) => NO_MEMORY,
+        Err(RunFault::OutOfMemory) => no_memory(out),
     }
 }
 
@@ -73,11 +72,7 @@ fn debug<F: Shelf, S: Source, K: Sink>(
         (F.view shelf.old) (F.view shelf.new) (S.view input.old) (S.view input.new) (K.view out.old) (K.view out.new)) result }
 {
     match program_in(alloc, task.name, shelf, out) {
-        Ok(program) => {
-            let status = run_program(alloc, task, &program, input, out, dice);
-            let_go(alloc, program);
-            status
-        }
+        Ok(program) => run_source(alloc, task, program, input, out, dice),
         Err(status) => status,
     }
 }

@@ -19,8 +19,7 @@ use dg_base::{
     write_all,
 };
 use dg_compile::compile;
-use dg_core::let_go;
-use dg_interp::interpret;
+use dg_machine::run_program;
 use dg_make::make_source;
 use itoa::Buffer;
 use std::alloc::{AllocError, Global};
@@ -138,18 +137,18 @@ fn too_long(alloc: Global) -> Result<Report, AllocError>
 fn report_of(
     alloc: Global,
     source: &[u8],
-    program: &CoreProgram,
+    program: CoreProgram,
     dice: &[u16],
 ) -> Result<Report, AllocError>
-    requires sound { IsSound program.now }
+    requires sound { IsSound program }
     requires dice { 0 < length dice.now }
-    ensures { IfOk result (λ report. (n : ℕ) → source.now ≡ made_source n → Compiles (made_source n) (Ok program.now)
+    ensures { IfOk result (λ report. (n : ℕ) → source.now ≡ made_source n → Compiles (made_source n) (Ok program)
         → Makes dice.now n report.status report.text.items) }
 {
     let mut output = SureSink::new(alloc, MOST_OUTPUT)?;
     let mut input = SureSource::new(Vec::new(alloc));
     let limits = Limits::debug();
-    match interpret(alloc, program, &limits, &mut input, dice, &mut output) {
+    match run_program(alloc, program, &limits, &mut input, dice, &mut output) {
         Ok(outcome) => whole(alloc, source, output.taken(), outcome),
         Err(RunFault::Write) => too_long(alloc),
         Err(_) => Err(AllocError),
@@ -169,13 +168,13 @@ fn say_report<K: Sink>(status: u8, text: &[u8], out: &mut K) -> u8
 fn make_program<K: Sink>(
     alloc: Global,
     source: &[u8],
-    program: &CoreProgram,
+    program: CoreProgram,
     out: &mut K,
     dice: &[u16],
 ) -> u8
-    requires sound { IsSound program.now }
+    requires sound { IsSound program }
     requires dice { 0 < length dice.now }
-    ensures { (n : ℕ) → (shelf : ShelfView) → (input : SourceView) → source.now ≡ made_source n → Compiles (made_source n) (Ok program.now) →
+    ensures { (n : ℕ) → (shelf : ShelfView) → (input : SourceView) → source.now ≡ made_source n → Compiles (made_source n) (Ok program) →
         Answers (call (Some (make_command n)) dice.now shelf shelf input input (K.view out.old) (K.view out.new)) result }
 {
     match report_of(alloc, source, program, dice) {
@@ -195,11 +194,7 @@ pub fn make<K: Sink>(alloc: Global, n: u16, out: &mut K, dice: &[u16]) -> u8
         Err(_) => return no_memory(out),
     };
     match compile(alloc, &source) {
-        Ok(program) => {
-            let status = make_program(alloc, &source, &program, out, dice);
-            let_go(alloc, program);
-            status
-        }
+        Ok(program) => make_program(alloc, &source, program, out, dice),
         Err(ReadFault::Refused(refusal)) => refuse("make", &refusal, out),
         Err(ReadFault::OutOfMemory) => no_memory(out),
     }

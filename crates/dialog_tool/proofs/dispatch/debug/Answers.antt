@@ -9,6 +9,6 @@ use Rattle.dialog_tool.proofs.dispatch.debug.Goals as goal
 pub returns-in-Ok : goal.returns-in-Ok
 returns-in-Ok g c =
     let from = c.in-Ok.ensures.program in
-    let runs = c.run_program-status.ensures (g.F.Shelf.view c.args.shelf.now) (g.F.Shelf.view c.program_in.new.shelf) from.0 from.1 from.2 in
+    let runs = c.run_source.ensures (g.F.Shelf.view c.args.shelf.now) (g.F.Shelf.view c.program_in.new.shelf) from.0 from.1 from.2 in
     subst (λ (before : SinkView). Answers (call (Some (debug_command (task_view c.args.task.now))) c.args.dice.now (g.F.Shelf.view c.args.shelf.now) (g.F.Shelf.view c.program_in.new.shelf)
-    (g.S.Source.view c.args.input.now) (g.S.Source.view c.run_program-status.new.input) before (g.K.Sink.view c.run_program-status.new.out)) c.run_program-status.result) c.in-Ok.ensures.silent runs
+    (g.S.Source.view c.args.input.now) (g.S.Source.view c.run_source.new.input) before (g.K.Sink.view c.run_source.new.out)) c.run_source.result) c.in-Ok.ensures.silent runs

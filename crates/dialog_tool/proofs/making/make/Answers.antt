@@ -9,7 +9,7 @@ returns-in-Err g c = λ shelf input. lacks_made c.args.n c.args.dice.now shelf i
 pub returns-in-Ok-compile : goal.returns-in-Ok-compile
 returns-in-Ok-compile g c = λ shelf input.
     let source = c.deref.ensures.value ∙ c.in-Ok.ensures in
-    c.make_program-status.ensures c.args.n shelf input (c.deref-in-Ok-compile.ensures.value ∙ c.in-Ok.ensures)
+    c.make_program.ensures c.args.n shelf input (c.deref-in-Ok-compile.ensures.value ∙ c.in-Ok.ensures)
     (subst (λ (l : List ℕ). Compiles l (Ok c.in-Ok-compile.program)) source c.in-Ok-compile.ensures.program)
 
 pub returns-in-Err-Refused : goal.returns-in-Err-Refused
