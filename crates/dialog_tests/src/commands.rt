@@ -16,7 +16,7 @@ fn words(alloc: Global, line: &str) -> Result<Vec<String>, Fail> {
 }
 
 // Calls the tool with this one file, and compares the status and all that was written.
-fn gives(
+pub fn gives(
     rt: &impl Abort,
     alloc: Global,
     line: &str,

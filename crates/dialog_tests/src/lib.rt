@@ -12,6 +12,8 @@ mod images;
 #[cfg(test)]
 mod instructions;
 #[cfg(test)]
+mod lasting;
+#[cfg(test)]
 mod spacing;
 #[cfg(test)]
 mod stories;
