@@ -193,7 +193,8 @@ TakesOut code b old out ops new after out' = (g : Game) (l : Limits) (m : Mid) (
 -- A choice goes on.
 abbrev pub GoesOn : Code → Memory → Outside → Way → Memory → Now → Outside → Type 0
 GoesOn code old out way new after out' = (g : Game) (l : Limits) (m : Mid) (on : WayOf) → WaySeeks g code on →
-    WayAt code (meaning_of old.arena) old.args.items way on → Holds code l old m → Around out g l m → FallsWith code g l old (Resumes way) new after out' (goes_on (setting g code l) on m)
+    WayAt code (meaning_of old.arena) old.args.items way on → Holds code l old m → Around out g l m →
+    FallsWith code g l old (Resumes way) new after out' (goes_on (setting g code l) on m)
 
 -- A choice opens inside which the first value at hand is gathered, to be taken out for the second.
 abbrev pub GathersFor : Code → Memory → Outside → ℕ → List Op → Memory → Now → Outside → Type 0

@@ -32,7 +32,8 @@ impl Memory {
     fn meet(&mut self, a: Ref, b: Ref) -> Result<bool, Full>
         requires { HoldsRef (meaning_of self.old.arena) a × HoldsRef (meaning_of self.old.arena) b }
         ensures met { (code : TheCode) → (l : Limits) → (m : Mid) → (u v : Value) → Holds code l self.old m →
-            (meaning_of self.old.arena).value a ≡ Some u → (meaning_of self.old.arena).value b ≡ Some v → MatchResult result (Matched code l (unified m.state.subst u v) m self.new)
+            (meaning_of self.old.arena).value a ≡ Some u → (meaning_of self.old.arena).value b ≡ Some v →
+            MatchResult result (Matched code l (unified m.state.subst u v) m self.new)
             (λ _. Unmatched l (unified m.state.subst u v) m self.new) }
         ensures choices { self.new.choices ≡ self.old.choices }
     {
